@@ -1,0 +1,5 @@
+//! The program's top call.
+#![tactic(auto)]
+
+pub mod built;
+pub mod reader;
