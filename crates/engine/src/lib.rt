@@ -3,3 +3,4 @@
 
 pub mod built;
 pub mod reader;
+pub mod words;
