@@ -1,2 +1,6 @@
 pub mod Built
+pub mod Promise
+pub mod Refusal
+pub mod Report
+pub mod Status
 pub mod Words

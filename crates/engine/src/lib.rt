@@ -2,5 +2,11 @@
 #![tactic(auto)]
 
 pub mod built;
+pub mod call;
 pub mod reader;
+pub mod report;
+pub mod status;
 pub mod words;
+
+pub use call::pedrun;
+pub use status::Status;

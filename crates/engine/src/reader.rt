@@ -272,7 +272,7 @@ fn read_functions(alloc: Global, tokens: &[Token<'_>]) -> Result<Vec<Function>, 
 
 /// The script that the bytes are the text of, in time linear in their number.
 pub fn read_script(alloc: Global, bytes: &[u8]) -> Result<Script, Unread>
-    requires { length bytes.now < 2 ^ 32 }
+    requires { length bytes.now ≤ 1048576 }
 {
     let tokens = read_tokens(alloc, bytes)?;
     let functions = Items(read_functions(alloc, &tokens)?);

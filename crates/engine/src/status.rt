@@ -1,0 +1,34 @@
+// How a call ends.
+
+ghost use Rattle.std.specs.Prelude.{◌≡◌};
+ghost use Rattle.engine.specs.Status.{code_of};
+
+/// How a call ends. The program's exit status is its code.
+#[derive(Clone, Copy, Debug, PartialEq, Eq)]
+pub enum Status {
+    /// The whole output was written.
+    Done,
+    /// The whole output was written, and its last line is a fault's.
+    Faulted,
+    /// The words are no command. Nothing was read.
+    Words,
+    /// The script is too long, or none that runs.
+    Script,
+    /// A read of the script failed.
+    Read,
+    /// A write of the output failed. A prefix of it was written.
+    Write,
+    /// There was no memory. Nothing was written to the output.
+    Memory,
+    /// No strand has the pedigree that was asked for.
+    NoStrand,
+}
+
+impl Status {
+    /// 0 to 7, in the order of the variants.
+    pub fn code(self) -> u8
+        ensures { result ≡ code_of self }
+    {
+        self as u8
+    }
+}
