@@ -1,0 +1,26 @@
+//! Paths and pedigrees of strands.
+//!
+//! A strand of a fork-join program is named by the ranks along the path of spawns that leads to it, and by its own rank behind them:
+//! its pedigree, after Leiserson, Schardl and Sukha, "Deterministic Parallel Random-Number Generation for Dynamic-Multithreading
+//! Platforms" (PPoPP 2012). The names don't depend on how the program was scheduled.
+#![tactic(auto)]
+
+mod memory;
+mod ped;
+mod pedigree;
+mod ranks;
+#[cfg(test)]
+mod tests;
+
+pub use memory::Memory;
+pub use ped::Ped;
+pub use pedigree::Pedigree;
+
+fn is_shared<T: Send + Sync>() {}
+
+/// Paths and pedigrees may be sent to other threads and read by several at once. The body asks for it, so that a field which
+/// forbids it fails the build.
+pub fn all_are_shared() {
+    is_shared::<Ped>();
+    is_shared::<Pedigree>();
+}

@@ -1,0 +1,91 @@
+ghost use Rattle.std.specs.Prelude.{◌≡◌, ◌≤◌, ◌^◌, ◌↔◌, ℕ, List, [], ◌∷◌, ◌++◌, length, All, IfOk, IfSome, IsTrue, slice_get, slice_index};
+ghost use Rattle.ped_path.specs.Path.{IsRank, IsBefore};
+
+use crate::memory::Memory;
+use crate::ped::Ped;
+use crate::ranks::{Ranks, compare};
+use std::marker::Model;
+
+/// The pedigree of a strand: the path of its function's instance, and its rank there. It is seen as the list of the path's ranks
+/// and this one, each below 2^32.
+#[derive(Drop)]
+pub struct Pedigree {
+    pub path: Ped,
+    pub rank: u64,
+}
+
+impl Model for Pedigree {
+    ghost use Rattle.std.specs.Prelude.{ℕ, List, [], ◌∷◌, ◌++◌};
+    ghost use Rattle.ped_path.specs.Path.{IsRank};
+
+    ghost Value = { List ℕ };
+
+    ghost view = { λ j. j.path ++ j.rank ∷ [] };
+
+    ghost invariant = { λ j. IsRank j.rank };
+}
+
+impl Pedigree {
+    /// The same pedigree, over the same memory.
+    pub fn share(&self) -> Result<Pedigree, Memory>
+        ensures { IfOk result (λ j. j ≡ self.now) }
+    {
+        Ok(Pedigree {
+            path: self.path.share()?,
+            rank: self.rank,
+        })
+    }
+
+    /// How many ranks there are, at least one.
+    pub fn len(&self) -> u64
+        ensures length { result ≡ length self.now }
+
+        // What holds of every pedigree.
+        ensures small { length self.now ≤ 2 ^ 63 }
+        ensures ranks { All IsRank self.now }
+    {
+        self.path.len() + 1
+    }
+
+    /// The rank at this index, from 0 at the program's start. There is none exactly where the index is not below the length.
+    pub fn rank_at(&self, i: u64) -> Option<u64>
+        ensures value { result ≡ slice_get self.now i }
+        ensures rank { IfSome result IsRank }
+    {
+        if i == self.path.len() {
+            Some(self.rank)
+        } else {
+            self.path.rank_at(i)
+        }
+    }
+
+    /// Whether both have the same ranks.
+    pub fn same(&self, other: &Pedigree) -> bool
+        ensures { IsTrue result ↔ (self.now ≡ other.now) }
+    {
+        compare(self, other).is_eq()
+    }
+
+    /// Whether this pedigree stands strictly before the other one, in the order in which the strands run where nothing is stolen.
+    pub fn before(&self, other: &Pedigree) -> bool
+        ensures { IsTrue result ↔ IsBefore self.now other.now }
+    {
+        compare(self, other).is_lt()
+    }
+}
+
+impl Ranks for Pedigree {
+    ghost ranks = { λ j. j };
+
+    fn count(&self) -> u64 {
+        self.len()
+    }
+
+    fn rank(&self, i: u64) -> u64 {
+        if i < self.path.len() {
+            self.path.rank(i)
+        } else {
+            self.rank
+        }
+    }
+}

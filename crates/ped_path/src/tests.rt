@@ -1,0 +1,60 @@
+use crate::{Ped, Pedigree};
+use std::test::Fail;
+
+#[test]
+fn paths_are_lists_of_ranks(rt: HostRuntime) -> Result<(), Fail> {
+    let alloc = rt.alloc();
+    let root = Ped::root(alloc)?;
+    let parent = root.child(alloc, 3)?;
+    let first = parent.child(alloc, 0)?;
+    let second = parent.child(alloc, 1)?;
+    assert_eq!(rt; root.len(), 0);
+    assert_eq!(rt; first.len(), 2);
+    assert_eq!(rt; first.rank_at(0), Some(3));
+    assert_eq!(rt; first.rank_at(1), Some(0));
+    assert_eq!(rt; first.rank_at(2), None);
+    assert!(rt; first.before(&second));
+    assert!(rt; !second.before(&first));
+    assert!(rt; parent.before(&first));
+    assert!(rt; !first.before(&parent));
+    assert!(rt; first.same(&first.share()?));
+    assert!(rt; !first.same(&parent));
+    Ok(())
+}
+
+// 0 is before 0.0, which is before 0.1, which is before 1.
+#[test]
+fn pedigrees_stand_in_serial_order(rt: HostRuntime) -> Result<(), Fail> {
+    let alloc = rt.alloc();
+    let root = Ped::root(alloc)?;
+    let ordered = [
+        Pedigree {
+            path: root.share()?,
+            rank: 0,
+        },
+        Pedigree {
+            path: root.child(alloc, 0)?,
+            rank: 0,
+        },
+        Pedigree {
+            path: root.child(alloc, 0)?,
+            rank: 1,
+        },
+        Pedigree {
+            path: root,
+            rank: 1,
+        },
+    ];
+    for i in 0..ordered.len() {
+        for k in 0..ordered.len() {
+            assert_eq!(rt; ordered[i].before(&ordered[k]), i < k, "{i} and {k}");
+            assert_eq!(rt; ordered[i].same(&ordered[k]), i == k, "{i} and {k}");
+        }
+        assert!(rt; ordered[i].same(&ordered[i].share()?));
+    }
+    assert_eq!(rt; ordered[2].len(), 2);
+    assert_eq!(rt; ordered[2].rank_at(0), Some(0));
+    assert_eq!(rt; ordered[2].rank_at(1), Some(1));
+    assert_eq!(rt; ordered[2].rank_at(2), None);
+    Ok(())
+}
