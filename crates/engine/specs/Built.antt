@@ -1,5 +1,5 @@
 -- Which scripts run today: the valid ones of the part of the language that is built (docs/LANGUAGE.md, "What runs today").
-use Rattle.std.specs.Prelude.{ℕ, ◌+◌, Bool, true, false, ◌&&◌, ◌||◌, nat_lt, nat_le, List, [], ◌∷◌, ◌++◌, length, codes, if◌then◌else◌}
+use Rattle.std.specs.Prelude.{ℕ, ◌+◌, Bool, true, false, ◌&&◌, ◌||◌, nat_lt, nat_le, List, [], ◌∷◌, ◌++◌, length, codes, IsTrue, All, ◌≡◌}
 use Rattle.std.specs.Str.{bytes_eq}
 use Rattle.script_text.specs.declared.tree.Expr.{Expr, out-Expr}
 use Rattle.script_text.specs.declared.tree.Expr.TheOpen as node
@@ -118,3 +118,28 @@ are_functions earlier (f ∷ fs) = is_function earlier f && are_functions (earli
 abbrev pub is_built : Script → Bool
 is_built script =
     nat_le (length script.functions) 64 && are_functions [] script.functions && is_named (codes "main") script.functions
+
+-- What a built script's parts are, whatever is known in front of them.
+
+abbrev pub IsAtom : Expr → Type 0
+IsAtom e = (known : Known) × IsTrue (is_atom known (out-Expr e))
+
+pub record IsAdded (part : SumPart) : Type 0 where
+  pub plus : (out-SumPart part).minus ≡ false
+  pub atom : IsAtom (out-SumPart part).operand
+
+abbrev pub IsSum : Expr → Type 0
+IsSum e = (known : Known) × IsTrue (is_sum known (out-Expr e))
+
+abbrev pub IsSpawned : CallText → Type 0
+IsSpawned call = (earlier : List Function) × IsTrue (is_spawned earlier call)
+
+abbrev pub IsRight : Right → Type 0
+IsRight right = (earlier : List Function) × (known : Known) × IsTrue (is_right_side earlier known right)
+
+abbrev pub IsStatement : Stmt → Type 0
+IsStatement st = (earlier : List Function) × (known : Known) × IsTrue (is_statement earlier known (out-Act (out-Stmt st).act))
+
+pub record IsFunction (f : Function) : Type 0 where
+  pub statements : All IsStatement f.body
+  pub result : IsSum f.result

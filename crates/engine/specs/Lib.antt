@@ -1,5 +1,6 @@
 pub mod Built
 pub mod Promise
+pub mod Ran
 pub mod Refusal
 pub mod Report
 pub mod Status

@@ -5,7 +5,9 @@ pub mod built;
 pub mod call;
 pub mod reader;
 pub mod report;
+pub mod runner;
 pub mod status;
+pub mod variables;
 pub mod words;
 
 pub use call::pedrun;
