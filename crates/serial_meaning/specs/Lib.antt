@@ -1,0 +1,10 @@
+pub mod Answer
+pub mod Eval
+pub mod Exec
+pub mod Functions
+pub mod Open
+pub mod Plan
+pub mod Render
+pub mod Runs
+pub mod Segments
+pub mod Values
