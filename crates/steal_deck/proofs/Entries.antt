@@ -1,8 +1,8 @@
 -- Facts about lists of entries.
-use Rattle.std.proofs.Common.{◌≡◌, ◌≢◌, ℕ, zero, suc, ◌+◌, ◌<◌, ◌≤◌, Bool, true, false, List, [], ◌∷◌, ◌++◌, map, length, set, sym, refl, ap, ◌∙◌, subst, arith, length-append, append_assoc}
-use mathlib.Core.Option.{some, none, some-injective, some-ne-none}
+use Rattle.std.proofs.Common.{◌≡◌, ℕ, zero, suc, ◌+◌, ◌<◌, Bool, true, false, List, [], ◌∷◌, ◌++◌, map, length, set, sym, refl, ap, subst, arith}
+use mathlib.Core.Option.{some, some-injective, some-ne-none}
 use lib.ListN.{get_elem?}
-use Rattle.crossbeam_deque.proofs.Lists.{at_longer, at_last}
+use Rattle.crossbeam_deque.proofs.Lists.{at_longer}
 use Rattle.steal_deck.specs.declared.rule.Party.{Party}
 use Rattle.steal_deck.specs.Accounts.{one_if, AreOf}
 use Rattle.steal_deck.proofs.Weights.{below, weigh, taken_by, thieves, AllAreOf, Above, Rising, Idle}

@@ -1,11 +1,11 @@
 -- Each state of a history is lawful.
-use Rattle.std.proofs.Common.{◌≡◌, ℕ, ◌+◌, Bool, true, false, List, [], ◌∷◌, ◌++◌, length, set, sym, refl, ap, ◌∙◌, subst, arith}
+use Rattle.std.proofs.Common.{◌≡◌, ℕ, true, false, List, [], ◌∷◌, ◌++◌, length, set, sym, refl, ap, ◌∙◌, subst, arith}
 use mathlib.Core.Option.{some}
 use lib.ListN.{get_elem?}
 use Rattle.crossbeam_deque.proofs.Lists.{at_last}
 use Rattle.steal_deck.specs.declared.rule.Party.{Party}
 use Rattle.steal_deck.specs.Accounts.{one_if, AreOf}
-use Rattle.steal_deck.specs.History.{Event, State, push, pop, steal, make_thief, take_back, state, owner, thief, retired, with_push, with_entry, with_thief, with_back, Leads, IsHistory}
+use Rattle.steal_deck.specs.History.{Event, State, push, pop, steal, make_thief, take_back, owner, thief, retired, with_push, with_entry, with_thief, with_back, Leads, IsHistory}
 use Rattle.steal_deck.proofs.Weights.{weigh, Rising, IsLawful, Lawful}
 use Rattle.steal_deck.proofs.Entries.{below_more, weigh_more, weigh_both, named_longer, all_named_longer, named_more, named_both, named_front, rising_more, rising_front, taken_set, thieves_set, named_at, named_set, idle_set, taken_more, thieves_more, all_named_more, idle_more}
 

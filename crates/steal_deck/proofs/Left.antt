@@ -7,7 +7,7 @@ use lib.ListN.{get_elem?}
 use Rattle.steal_deck.specs.Accounts.{one_if, times, EachOnce, AreOf, unless, left_from, left_of}
 use Rattle.steal_deck.specs.History.{State}
 use Rattle.steal_deck.specs.Steps.{party_taken}
-use Rattle.steal_deck.proofs.Weights.{only, below, weigh, thieves, taken_by, Above, Rising, Lawful}
+use Rattle.steal_deck.proofs.Weights.{only, below, weigh, thieves, Above, Rising, Lawful}
 use Rattle.steal_deck.proofs.Entries.{in_range, weigh_both, weigh_more, named_both, none_out}
 
 only_same : (n k : ℕ) → k ≡ n → only n k ≡ 1

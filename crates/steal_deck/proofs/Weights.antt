@@ -1,5 +1,5 @@
 -- What the entries of a deck weigh, where each number has a weight, and what holds of each list of them.
-use Rattle.std.proofs.Common.{◌≡◌, ℕ, zero, suc, ◌+◌, ◌<◌, Bool, true, false, List, [], ◌∷◌, length, nat_eq}
+use Rattle.std.proofs.Common.{◌≡◌, ℕ, zero, suc, ◌+◌, ◌<◌, false, List, [], ◌∷◌, length, nat_eq}
 use Rattle.steal_deck.specs.declared.rule.Party.{Party}
 use Rattle.steal_deck.specs.Accounts.{one_if, AreOf}
 use Rattle.steal_deck.specs.History.{State}

@@ -1,5 +1,5 @@
 -- What lists of entries account for: which pushes are in them, and how often.
-use Rattle.std.specs.Prelude.{◌≡◌, ℕ, zero, suc, ◌+◌, ◌<◌, Bool, true, false, List, [], ◌∷◌, length, nat_eq}
+use Rattle.std.specs.Prelude.{◌≡◌, ℕ, zero, suc, ◌+◌, ◌<◌, Bool, true, false, List, [], ◌∷◌, nat_eq}
 use mathlib.Core.Option.{some}
 use lib.ListN.{get_elem?}
 

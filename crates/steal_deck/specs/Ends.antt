@@ -4,7 +4,7 @@ use Rattle.std.specs.declared.alloc.Global.{Global}
 use mathlib.Core.Option.{some}
 use lib.ListN.{get_elem?}
 use Rattle.steal_deck.specs.declared.rule.Party.{Party}
-use Rattle.steal_deck.specs.History.{owner, thief, push, pop, OwnerDoes, ThiefTakes, OwnerFindsNone, ThiefFindsFew}
+use Rattle.steal_deck.specs.History.{owner, thief, push, pop, OwnerDoes, ThiefTakes, OwnerFindsNone}
 use Rattle.steal_deck.specs.Accounts.{times, left_of}
 
 -- which deck it is

@@ -1,6 +1,6 @@
 -- The history of a deck: what its parties did, one event after another, and the state to which that leads.
 -- Pushes are numbered from 0. An entry is a task with the number of its push.
-use Rattle.std.specs.Prelude.{◌≡◌, ℕ, ◌+◌, ◌≤◌, Bool, true, false, List, [], ◌∷◌, ◌++◌, map, length, set}
+use Rattle.std.specs.Prelude.{◌≡◌, ℕ, ◌+◌, ◌≤◌, true, false, List, [], ◌∷◌, ◌++◌, map, length, set}
 use mathlib.Core.Option.{some}
 use lib.ListN.{get_elem?}
 use Rattle.steal_deck.specs.declared.rule.Party.{Party}

@@ -45,10 +45,9 @@ fn closed_deck_gives_what_is_left(rt: HostRuntime) -> Result<(), Memory> {
 }
 
 // A thief that has stolen until it met `Nothing` 1000 times, and what it stole.
-fn stolen(alloc: Global, thief: Thief<u32>) -> Result<(Thief<u32>, Vec<u32>), Memory>
+fn stolen(alloc: Global, mut thief: Thief<u32>) -> Result<(Thief<u32>, Vec<u32>), Memory>
     ensures { IfOk result (λ done. done.0.deck ≡ thief.deck) }
 {
-    let mut thief = thief;
     let mut numbers = Vec::new(alloc);
     let mut idle = 0u32;
     for _ in 0..50000000 {
@@ -65,11 +64,10 @@ fn stolen(alloc: Global, thief: Thief<u32>) -> Result<(Thief<u32>, Vec<u32>), Me
 }
 
 // The owner that has pushed 0 to 999 and popped after each third, and what it popped.
-fn pushed(alloc: Global, deck: Deck<u32>) -> Result<(Deck<u32>, Vec<u32>), Memory>
+fn pushed(alloc: Global, mut deck: Deck<u32>) -> Result<(Deck<u32>, Vec<u32>), Memory>
     ensures deck { IfOk result (λ done. done.0.deck ≡ deck.deck) }
     ensures thieves { IfOk result (λ done. (done.0.made ≡ deck.made) × (done.0.came ≡ deck.came)) }
 {
-    let mut deck = deck;
     let mut numbers = Vec::new(alloc);
     for number in 0..1000 {
         deck.push(number).map_err(|_| Memory)?;

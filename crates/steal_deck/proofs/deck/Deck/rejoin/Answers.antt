@@ -1,4 +1,4 @@
-use Rattle.std.proofs.Common.{sym, subst, ap, ◌∙◌}
+use Rattle.std.proofs.Common.{sym, subst, ap}
 use Rattle.crossbeam_deque.specs.Tasks.{Merges}
 use Rattle.crossbeam_deque.specs.Handles.{worker_view, view}
 use Rattle.steal_deck.specs.History.{HasHistory, with_back, retired}
