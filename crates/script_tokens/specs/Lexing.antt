@@ -4,7 +4,11 @@ use Rattle.script_tokens.specs.declared.token.Word.{Word}
 use Rattle.script_tokens.specs.declared.token.Lexeme.{Lexeme}
 use Rattle.script_tokens.specs.declared.lexing.Stop.{Stop}
 use Rattle.script_tokens.specs.declared.lexing.Stop.TheVariants.{End, NotAscii, NoToken}
-use Rattle.script_tokens.specs.Word.{word_of}
+use Rattle.script_tokens.specs.declared.lexing.Misfit.{Misfit}
+use Rattle.script_tokens.specs.declared.lexing.Misfit.TheVariants as misfit
+use Rattle.script_tokens.specs.declared.token.Token.{Token}
+use Rattle.script_tokens.specs.declared.token.TokenKind.TheVariants as kinds
+use Rattle.script_tokens.specs.Word.{word_of, kind_of}
 
 -- space, tab, carriage return, line feed
 abbrev pub is_blank : ℕ → Bool
@@ -32,6 +36,11 @@ pub record IsLongest (bytes : List ℕ) (n : ℕ) (word : Word) : Type 0 where
 abbrev pub BeginsNoToken : List ℕ → Type 0
 BeginsNoToken bytes = (m : ℕ) → m ≤ length bytes → word_of (take m bytes) ≡ None
 
+-- the longest token at the front and its length, or none
+abbrev pub Fronts : List ℕ → Option (Word × ℕ) → Type 0
+Fronts bytes None = BeginsNoToken bytes
+Fronts bytes (Some front) = IsLongest bytes front.1 front.0
+
 abbrev pub lexeme : Word → ℕ → ℕ → Lexeme
 lexeme word start end = record { word = word; start = start; end = end }
 
@@ -55,3 +64,14 @@ pub data Lexes : (from : ℕ) → (left : List ℕ) → List Lexeme → Stop →
 -- the text of a lexeme
 abbrev pub text_of : List ℕ → Lexeme → List ℕ
 text_of bytes l = slice_range bytes l.start l.end
+
+-- what `next_token` answers, from what comes next in a text of that length
+abbrev pub token_of : (length : ℕ) → Result Lexeme Stop → Result Token Misfit
+token_of length (Ok l) = Ok (record { kind = kind_of l.word; start = l.start; end = l.end })
+token_of length (Err End) = Ok (record { kind = kinds.End; start = length; end = length })
+token_of length (Err (NotAscii at)) = Err (misfit.NotAscii at)
+token_of length (Err (NoToken at)) = Err (misfit.NoToken at)
+
+abbrev pub NextToken : (bytes : List ℕ) → (from : ℕ) → Result Token Misfit → Type 0
+NextToken bytes from result =
+    (next : Result Lexeme Stop) × Comes from (drop from bytes) next × (result ≡ token_of (length bytes) next)

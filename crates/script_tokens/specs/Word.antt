@@ -3,6 +3,8 @@ use Rattle.std.specs.Prelude.{ℕ, Bool, true, false, List, [], ◌∷◌, Optio
 use Rattle.std.specs.List.{list_all}
 use Rattle.std.specs.Char.{is_ascii_alphabetic, is_ascii_digit}
 use Rattle.script_tokens.specs.declared.token.Word.{Word}
+use Rattle.script_tokens.specs.declared.token.TokenKind.{TokenKind}
+use Rattle.script_tokens.specs.declared.token.TokenKind.TheVariants as kinds
 use Rattle.script_tokens.specs.declared.token.Word.TheVariants.{Name, Number, Fn, Id, Let, Spawn, Call, Sync, Print, If, Else, While, Pfor, In, Into, Draw, New, Return, Same, Older, Open, Close, OpenBlock, CloseBlock, OpenItem, CloseItem, Comma, Semicolon, Assign, Plus, Minus, Times, Over, Modulo, Eq, Ne, Lt, Le, Gt, Ge, Arrow, Range}
 
 abbrev pub Spelling : Type 0
@@ -51,3 +53,27 @@ word_of text =
     if is_name text then Some (unwrap_or (word_spelled keywords text) Name)
     else if is_number text then Some Number
     else word_spelled symbols text
+
+-- the sort of the token
+abbrev pub kind_of : Word → TokenKind
+kind_of Name = kinds.Name
+kind_of Number = kinds.Number
+kind_of Fn = kinds.Keyword
+kind_of Id = kinds.Keyword
+kind_of Let = kinds.Keyword
+kind_of Spawn = kinds.Keyword
+kind_of Call = kinds.Keyword
+kind_of Sync = kinds.Keyword
+kind_of Print = kinds.Keyword
+kind_of If = kinds.Keyword
+kind_of Else = kinds.Keyword
+kind_of While = kinds.Keyword
+kind_of Pfor = kinds.Keyword
+kind_of In = kinds.Keyword
+kind_of Into = kinds.Keyword
+kind_of Draw = kinds.Keyword
+kind_of New = kinds.Keyword
+kind_of Return = kinds.Keyword
+kind_of Same = kinds.Keyword
+kind_of Older = kinds.Keyword
+kind_of _ = kinds.Symbol

@@ -1,6 +1,15 @@
 // How a text is cut into tokens.
 
-use crate::token::Lexeme;
+ghost use Rattle.std.specs.Prelude.{◌≡◌, ◌≤◌, ◌+◌, length, drop, IfOk};
+ghost use Rattle.script_tokens.specs.Lexing.{Comes, Lexes, NextToken, Stands};
+
+use crate::front::{front, gap_length};
+use crate::memory::Memory;
+use crate::token::{Lexeme, Token, TokenKind};
+use std::alloc::Global;
+
+/// The most bytes that a text may have.
+pub const MAX_BYTES: usize = 1_048_576;
 
 /// Why the lexemes of a text end.
 #[derive(Clone, Copy, Debug, PartialEq, Eq)]
@@ -27,4 +36,79 @@ pub enum Misfit {
 pub struct Lexed {
     pub lexemes: Vec<Lexeme>,
     pub stop: Stop,
+}
+
+// The lexeme at the offset `at`, of which `rest` is the text from there on, or why there is none.
+fn lexeme_at(at: u32, rest: &[u8]) -> Result<Lexeme, Stop>
+    requires { at + length rest.now ≤ MAX_BYTES }
+    ensures { Stands at rest.now result }
+{
+    let Some((first, _)) = rest.split_first() else {
+        return Err(Stop::End);
+    };
+    if !first.is_ascii() {
+        return Err(Stop::NotAscii(at));
+    }
+    match front(rest) {
+        Some((word, length)) => Ok(Lexeme {
+            word,
+            start: at,
+            end: at + length as u32,
+        }),
+        None => Err(Stop::NoToken(at)),
+    }
+}
+
+// The lexeme that comes next behind the offset `from`, or why there is none.
+fn next_lexeme(bytes: &[u8], from: u32) -> Result<Lexeme, Stop>
+    requires size { length bytes.now ≤ MAX_BYTES }
+    requires within { from ≤ length bytes.now }
+    ensures { Comes from (drop from bytes.now) result }
+{
+    let left = &bytes[from as usize..];
+    let gap = gap_length(left);
+    lexeme_at(from + gap as u32, &left[gap..])
+}
+
+/// Cuts a text into its lexemes, up to its end or to the first byte that fits none.
+pub fn lexemes(alloc: Global, bytes: &[u8]) -> Result<Lexed, Memory>
+    requires { length bytes.now ≤ MAX_BYTES }
+    ensures { IfOk result (λ lexed. Lexes 0 bytes.now lexed.lexemes.items lexed.stop) }
+{
+    let mut lexemes = Vec::new(alloc);
+    let mut from = 0;
+    loop {
+        match next_lexeme(bytes, from) {
+            Ok(lexeme) => {
+                lexemes.push(lexeme)?;
+                from = lexeme.end;
+            }
+            Err(stop) => return Ok(Lexed { lexemes, stop }),
+        }
+    }
+}
+
+/// The token that comes next behind the offset `from`, past blanks and comments.
+pub fn next_token(bytes: &[u8], from: u32) -> Result<Token, Misfit>
+    requires size { length bytes.now ≤ MAX_BYTES }
+    requires within { from ≤ length bytes.now }
+    ensures { NextToken bytes.now from result }
+{
+    match next_lexeme(bytes, from) {
+        Ok(lexeme) => Ok(Token {
+            kind: lexeme.word.kind(),
+            start: lexeme.start,
+            end: lexeme.end,
+        }),
+        Err(Stop::End) => {
+            let end = bytes.len() as u32;
+            Ok(Token {
+                kind: TokenKind::End,
+                start: end,
+                end,
+            })
+        }
+        Err(Stop::NotAscii(at)) => Err(Misfit::NotAscii(at)),
+        Err(Stop::NoToken(at)) => Err(Misfit::NoToken(at)),
+    }
 }
