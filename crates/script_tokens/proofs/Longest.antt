@@ -59,7 +59,7 @@ choose name number keyword symbol = if name then keyword else if number then Som
 chosen : (x y x' y' : Bool) (k s : Option Word) → x ≡ x' → y ≡ y' → choose x y k s ≡ choose x' y' k s
 chosen x y x' y' k s e f = ap (λ z. choose z y k s) e ∙ ap (λ z. choose x' z k s) f
 
-abbrev keyword_or_name : List ℕ → Word
+abbrev pub keyword_or_name : List ℕ → Word
 keyword_or_name text = unwrap_or (word_spelled keywords text) Name
 
 no_digit : (b : ℕ) → is_letter b ≡ true → is_ascii_digit b ≡ false
@@ -68,7 +68,7 @@ no_digit b h = grind (arith, nat_tests)
 starts_and : (x : Bool) (y : Bool) (c : Bool) → x ≡ c → (x && y) ≡ (c && y)
 starts_and x y c e = ap (λ z. z && y) e
 
-word_of-letter : (b : ℕ) (bs : List ℕ) (c : Bool) → is_letter b ≡ true → list_all is_name_byte bs ≡ c →
+pub word_of-letter : (b : ℕ) (bs : List ℕ) (c : Bool) → is_letter b ≡ true → list_all is_name_byte bs ≡ c →
     word_of (b ∷ bs) ≡ (if c then Some (keyword_or_name (b ∷ bs)) else None)
 word_of-letter b bs c h e =
     chosen _ _ _ _ _ _ (starts_and (is_letter b) _ true h ∙ e) (starts_and (is_ascii_digit b) _ false (no_digit b h)) ∙ go c
@@ -77,7 +77,7 @@ word_of-letter b bs c h e =
     go true = refl
     go false = word_spelled-none (first_passes is_letter) symbols (b ∷ bs) refl h
 
-word_of-digit : (b : ℕ) (bs : List ℕ) (c : Bool) → is_letter b ≡ false → is_ascii_digit b ≡ true → list_all is_ascii_digit bs ≡ c →
+pub word_of-digit : (b : ℕ) (bs : List ℕ) (c : Bool) → is_letter b ≡ false → is_ascii_digit b ≡ true → list_all is_ascii_digit bs ≡ c →
     word_of (b ∷ bs) ≡ (if c then Some Number else None)
 word_of-digit b bs c f h e =
     chosen _ _ _ _ _ _ (starts_and (is_letter b) _ false f) (starts_and (is_ascii_digit b) _ true h ∙ e) ∙ go c
@@ -86,7 +86,7 @@ word_of-digit b bs c f h e =
     go true = refl
     go false = word_spelled-none (first_passes is_ascii_digit) symbols (b ∷ bs) refl h
 
-word_of-other : (b : ℕ) (bs : List ℕ) → is_letter b ≡ false → is_ascii_digit b ≡ false → word_of (b ∷ bs) ≡ word_spelled symbols (b ∷ bs)
+pub word_of-other : (b : ℕ) (bs : List ℕ) → is_letter b ≡ false → is_ascii_digit b ≡ false → word_of (b ∷ bs) ≡ word_spelled symbols (b ∷ bs)
 word_of-other b bs f g = chosen _ _ _ _ _ _ (starts_and (is_letter b) _ false f) (starts_and (is_ascii_digit b) _ false g)
 
 -- no token begins with a byte from 128 on
@@ -95,7 +95,7 @@ word_of-not_ascii b bs h =
     word_of-other b bs (grind (arith, nat_tests)) (grind (arith, nat_tests))
     ∙ word_spelled-none (first_passes (nat_le 128)) symbols (b ∷ bs) refl (grind (arith, nat_tests))
 
-no_long_symbol : (text : List ℕ) → 2 < length text → word_spelled symbols text ≡ None
+pub no_long_symbol : (text : List ℕ) → 2 < length text → word_spelled symbols text ≡ None
 no_long_symbol text h = word_spelled-none (λ t. nat_lt 2 (length t)) symbols text refl (grind (arith, nat_tests))
 
 -- the longest token, by its first byte

@@ -1,11 +1,18 @@
 -- What holds of the lexemes of every text.
-use Rattle.std.specs.Prelude.{◌≡◌, ℕ, ◌<◌, ◌≤◌, List, [], ◌∷◌, length, All, Some, Result}
+use Rattle.std.specs.Prelude.{◌≡◌, ℕ, suc, ◌<◌, ◌≤◌, List, [], ◌∷◌, length, take, All, Some, None, Result}
+use Rattle.script_tokens.specs.declared.token.Word.{Word}
 use Rattle.script_tokens.specs.declared.token.Lexeme.{Lexeme}
 use Rattle.script_tokens.specs.declared.token.Token.{Token}
 use Rattle.script_tokens.specs.declared.lexing.Stop.{Stop}
 use Rattle.script_tokens.specs.declared.lexing.Misfit.{Misfit}
 use Rattle.script_tokens.specs.Word.{word_of}
-use Rattle.script_tokens.specs.Lexing.{Lexes, NextToken, text_of}
+use Rattle.script_tokens.specs.Lexing.{IsLongest, Lexes, NextToken, text_of}
+
+-- a token at the front is the longest, where one more byte makes no token of it
+abbrev pub OneMoreByteDecides : Type 0
+OneMoreByteDecides =
+    (bytes : List ℕ) (n : ℕ) (w : Word) → n ≤ length bytes → word_of (take n bytes) ≡ Some w →
+    (n < length bytes → word_of (take (suc n) bytes) ≡ None) → IsLongest bytes n w
 
 -- a text is cut in one way
 abbrev pub LexingIsUnique : Type 0

@@ -1,6 +1,11 @@
 //! What holds of the lexemes of every text, as functions that do nothing: each is proved to ensure its law.
 
-ghost use Rattle.script_tokens.specs.Laws.{LexemesAreTokens, LexemesStandInOrder, LexingIsUnique, NextTokenIsUnique};
+ghost use Rattle.script_tokens.specs.Laws.{LexemesAreTokens, LexemesStandInOrder, LexingIsUnique, NextTokenIsUnique, OneMoreByteDecides};
+
+/// A token at the front of some bytes is the longest there, where one more byte makes no token of it.
+pub fn one_more_byte_decides()
+    ensures { OneMoreByteDecides }
+{}
 
 /// A text is cut into lexemes in one way, and they end for one reason.
 pub fn lexing_is_unique()
