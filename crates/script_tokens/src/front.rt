@@ -72,7 +72,6 @@ fn long_symbol_at(first: u8, rest: &[u8]) -> Option<Word>
 
 // The longest token at the front, and its length.
 pub(crate) fn front(bytes: &[u8]) -> Option<(Word, usize)>
-    requires { length bytes.now ≤ 1048576 }
     ensures { Fronts bytes.now result }
 {
     let (first, rest) = bytes.split_first()?;

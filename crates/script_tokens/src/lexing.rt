@@ -8,7 +8,7 @@ use crate::memory::Memory;
 use crate::token::{Lexeme, Token, TokenKind};
 use std::alloc::Global;
 
-/// The most bytes that a text may have.
+/// The most bytes that a text may have, one mebibyte. So every offset is a `u32`.
 pub const MAX_BYTES: usize = 1_048_576;
 
 /// Why the lexemes of a text end.
@@ -31,7 +31,7 @@ pub enum Misfit {
     NoToken(u32),
 }
 
-/// The lexemes of a text in order, and why they end.
+/// The lexemes of a text in order, and why they end. Their texts, and the gaps between, make up the text up to the stop.
 #[derive(Debug, Drop)]
 pub struct Lexed {
     pub lexemes: Vec<Lexeme>,
@@ -70,7 +70,10 @@ fn next_lexeme(bytes: &[u8], from: u32) -> Result<Lexeme, Stop>
     lexeme_at(from + gap as u32, &left[gap..])
 }
 
-/// Cuts a text into its lexemes, up to its end or to the first byte that fits none.
+/// Cuts a text into its lexemes, up to its end or to the first byte that fits nowhere.
+///
+/// The time is linear in the length of the text, and the memory in the number of its lexemes. `Err` is want of memory alone: a text that
+/// can't be read to its end gives the lexemes in front of the byte that stopped it, and that byte's offset in `stop`.
 pub fn lexemes(alloc: Global, bytes: &[u8]) -> Result<Lexed, Memory>
     requires { length bytes.now ≤ MAX_BYTES }
     ensures { IfOk result (λ lexed. Lexes 0 bytes.now lexed.lexemes.items lexed.stop) }
@@ -88,7 +91,12 @@ pub fn lexemes(alloc: Global, bytes: &[u8]) -> Result<Lexed, Memory>
     }
 }
 
-/// The token that comes next behind the offset `from`, past blanks and comments.
+/// The token that comes next from the offset `from` on, behind the blanks and comments that stand there. It takes no memory.
+///
+/// At the end of the text this is the token [`TokenKind::End`], whose `start` and `end` are the text's length. There is none exactly where a
+/// byte from 128 on stands among these blanks and comments or directly behind them (`NotAscii`, with the offset of the first such byte), or
+/// else where the byte directly behind them begins no token (`NoToken`, with its offset). An offset inside a token or a comment is taken
+/// as the start of a text.
 pub fn next_token(bytes: &[u8], from: u32) -> Result<Token, Misfit>
     requires size { length bytes.now ≤ MAX_BYTES }
     requires within { from ≤ length bytes.now }

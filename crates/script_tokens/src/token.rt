@@ -92,7 +92,7 @@ pub enum Word {
 impl Word {
     ghost use Rattle.script_tokens.specs.Word.{kind_of};
 
-    /// The sort of the token.
+    /// The sort of the token: `Name` or `Number`, else `Keyword` or `Symbol`, and never `End`.
     pub fn kind(self) -> TokenKind
         ensures { result ≡ kind_of self }
     {
@@ -133,7 +133,7 @@ pub struct Lexeme {
 impl Lexeme {
     ghost use Rattle.script_tokens.specs.Lexing.{text_of};
 
-    /// The lexeme's bytes, in the text in which it stands.
+    /// The lexeme's bytes, where `bytes` is the text in which it stands.
     pub fn text<'a>(&self, bytes: &'a [u8]) -> &'a [u8]
         requires order { self.now.start ≤ self.now.end }
         requires within { self.now.end ≤ length bytes.now }
