@@ -11,10 +11,12 @@ mod pedigree;
 mod ranks;
 #[cfg(test)]
 mod tests;
+mod text;
 
 pub use memory::Memory;
 pub use ped::Ped;
 pub use pedigree::Pedigree;
+pub use text::write_pedigree;
 
 fn is_shared<T: Send + Sync>() {}
 

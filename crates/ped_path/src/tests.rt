@@ -1,4 +1,4 @@
-use crate::{Ped, Pedigree};
+use crate::{Ped, Pedigree, write_pedigree};
 use std::test::Fail;
 
 #[test]
@@ -56,5 +56,21 @@ fn pedigrees_stand_in_serial_order(rt: HostRuntime) -> Result<(), Fail> {
     assert_eq!(rt; ordered[2].rank_at(0), Some(0));
     assert_eq!(rt; ordered[2].rank_at(1), Some(1));
     assert_eq!(rt; ordered[2].rank_at(2), None);
+    Ok(())
+}
+
+#[test]
+fn texts_join_the_ranks_by_full_stops(rt: HostRuntime) -> Result<(), Fail> {
+    let alloc = rt.alloc();
+    let mut out = Vec::from_slice(alloc, b"at ")?;
+    let path = Ped::root(alloc)?
+        .child(alloc, 0)?
+        .child(alloc, 4_294_967_295)?;
+    write_pedigree(&Pedigree { path, rank: 10 }, &mut out)?;
+    assert_eq!(rt; out.as_slice(), b"at 0.4294967295.10".as_slice());
+    let mut out = Vec::new(alloc);
+    let path = Ped::root(alloc)?;
+    write_pedigree(&Pedigree { path, rank: 7 }, &mut out)?;
+    assert_eq!(rt; out.as_slice(), b"7".as_slice());
     Ok(())
 }
