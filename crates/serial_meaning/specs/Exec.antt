@@ -26,7 +26,6 @@ use Rattle.serial_meaning.specs.declared.value.Value.{Value}
 use Rattle.serial_meaning.specs.declared.value.Value.TheVariants.{Int, Id}
 use Rattle.serial_meaning.specs.declared.environment.Slot.{Slot}
 use Rattle.serial_meaning.specs.declared.environment.Slot.TheVariants.{Scalar, Array}
-use Rattle.serial_meaning.specs.declared.environment.Variable.{Variable}
 use Rattle.serial_meaning.specs.declared.event.FaultKind.{FaultKind}
 use Rattle.serial_meaning.specs.declared.event.FaultKind.TheVariants.{Index, Depth, Calls, Budget}
 use Rattle.serial_meaning.specs.declared.event.Fault.{Fault}

@@ -2,6 +2,8 @@ pub mod Answer
 pub mod Eval
 pub mod Exec
 pub mod Functions
+pub mod Laws
+pub mod Names
 pub mod Open
 pub mod Plan
 pub mod Render

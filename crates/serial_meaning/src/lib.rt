@@ -6,6 +6,7 @@
 pub mod answer;
 pub mod environment;
 pub mod event;
+pub mod laws;
 pub mod memory;
 pub mod origin;
 pub mod out;
