@@ -5,7 +5,7 @@ use Rattle.script_text.specs.declared.tree.CallText.{CallText}
 use Rattle.script_text.specs.declared.tree.Function.{Function}
 use Rattle.script_text.specs.declared.tree.Right.{Right}
 use Rattle.serial_meaning.specs.Runs.{Run, behind}
-use Rattle.serial_meaning.specs.Plan.{PlanView, IsPlan}
+use Rattle.serial_meaning.specs.Plan.{PlanView, IsPlan, functions_of}
 use Rattle.serial_meaning.specs.Exec.{State, Manner, Block, statement, statements, right_side, spawn, returned}
 use Rattle.serial_meaning.specs.Eval.{Evaluation, serial, eval_at}
 use Rattle.serial_meaning.specs.declared.origin.Origin.TheVariants.{Instance}
@@ -61,7 +61,7 @@ evaluated plan left function path = eval_at plan left (Instance function [] path
 -- where an instance may stand: all functions are built, and so many ranks are left below the depth
 pub record Stands (plan : PlanView) (left : ℕ) (path : List ℕ) : Type 0 where
   pub plan_is : IsPlan plan.script plan.gamma plan.limits
-  pub built : All IsFunction plan.script.functions
+  pub built : All IsFunction (functions_of plan)
   pub depth : left + length path ≡ plan.limits.depth
   pub some : 0 < left
   pub budget_fits : plan.limits.budget < 2 ^ 32

@@ -1,8 +1,9 @@
 // Runs a script of the part of the language that is built, in serial order, on one worker.
 
-ghost use Rattle.std.specs.Prelude.{◌≡◌, ◌+◌, ◌<◌, ◌≤◌, ◌^◌, [], ◌∷◌, ◌++◌, length, All, IfOk, IfErr, OnOk, slice_get};
+ghost use Rattle.std.specs.Prelude.{◌≡◌, ◌+◌, ◌<◌, ◌≤◌, ◌^◌, [], ◌∷◌, ◌++◌, length, All, IfOk, IfErr, IfSome, OnOk, slice_get};
 ghost use Rattle.std.specs.Option.{option_copied};
 ghost use Rattle.dotmix.specs.Draws.{dotmix};
+ghost use Rattle.serial_meaning.specs.Plan.{functions_of};
 ghost use Rattle.serial_meaning.specs.Functions.{number_of, any_spawns, spawns, is_spawn};
 ghost use Rattle.serial_meaning.specs.Eval.{elision};
 ghost use Rattle.engine.specs.Built.{IsFunction, IsRight, IsSpawned, IsStatement, IsSum};
@@ -58,13 +59,7 @@ fn pedigree(path: &Ped, rank: u64) -> Result<Pedigree, Memory>
     Ok(Pedigree { path, rank })
 }
 
-fn function_at(functions: &[Function], n: usize) -> Option<&Function>
-    ensures { option_copied result ≡ slice_get functions.now n }
-{
-    functions.get(n)
-}
-
-fn number(functions: &[Function], name: &[u8]) -> usize
+fn number_of_name(functions: &[Function], name: &[u8]) -> usize
     ensures { result ≡ number_of functions.now name.now }
 {
     for i in 0..functions.len() {
@@ -73,6 +68,46 @@ fn number(functions: &[Function], name: &[u8]) -> usize
         }
     }
     functions.len()
+}
+
+// What the runner reads of its plan.
+
+fn number(plan: &Plan, name: &[u8]) -> usize
+    ensures { result ≡ number_of (functions_of plan.now) name.now }
+{
+    number_of_name(plan.script.functions.as_slice(), name)
+}
+
+fn function_at(plan: &Plan, n: usize) -> Option<&Function>
+    requires { All IsFunction (functions_of plan.now) }
+    ensures found { option_copied result ≡ slice_get (functions_of plan.now) n }
+    ensures built { IfSome result (λ f. IsFunction f.now) }
+{
+    let functions = plan.script.functions.as_slice();
+    if n < functions.len() {
+        Some(&functions[n])
+    } else {
+        None
+    }
+}
+
+fn depth(plan: &Plan) -> u64
+    ensures { result ≡ plan.now.limits.depth }
+{
+    plan.limits.depth as u64
+}
+
+fn budget(plan: &Plan) -> u64
+    ensures { result ≡ plan.now.limits.budget }
+{
+    plan.limits.budget as u64
+}
+
+fn draw(plan: &Plan, at: &Pedigree) -> u64
+    requires { length at.now ≤ plan.now.limits.depth }
+    ensures { result ≡ dotmix plan.now.gamma at.now }
+{
+    dotmix(&plan.gamma, at)
 }
 
 // A fault of the strand at this rank.
@@ -142,12 +177,12 @@ fn spawn(
     ensures stopped { IfErr result (λ e. Stopped out.old (spawn_of plan.now left path.now call.now (here spot.old)) out.new e) }
     ensures rank { OnOk result (spot.new.rank + spot.new.steps ≡ spot.old.rank + spot.old.steps + 1) }
 {
-    if path.len() + 1 >= plan.limits.depth as u64 {
+    if path.len() + 1 >= depth(plan) {
         return Err(fault(FaultKind::Depth, path, spot.rank));
     }
     let child = path.child(alloc, spot.rank)?;
     emit(alloc, out, Event::Spawn(pedigree(path, spot.rank)?))?;
-    let n = number(plan.script.functions.as_slice(), call.name.bytes.as_slice());
+    let n = number(plan, call.name.bytes.as_slice());
     let value = instance(alloc, plan, left - 1, n, &child, out)?;
     spot.rank += 1;
     Ok(value)
@@ -174,7 +209,7 @@ fn right_side(
         Right::Value(e) => Ok(sum_value(spot.variables.as_slice(), e)?),
         Right::Draw(_) => {
             let at = pedigree(path, spot.rank)?;
-            let n = dotmix(&plan.gamma, &at);
+            let n = draw(plan, &at);
             emit(alloc, out, Event::Draw(at, n))?;
             spot.rank += 1;
             Ok(Value::Int(n.cast_signed()))
@@ -291,14 +326,25 @@ fn instance(
     ensures ended { IfOk result (λ v. Ended out.old (evaluated plan.now left number path.now) out.new (v ∷ [])) }
     ensures stopped { IfErr result (λ e. Stopped out.old (evaluated plan.now left number path.now) out.new e) }
 {
-    let Some(function) = function_at(plan.script.functions.as_slice(), number) else {
+    let Some(function) = function_at(plan, number) else {
         return Ok(Value::Int(0));
     };
     let mut spot = Spot {
         variables: Items(Vec::new(alloc)),
         rank: 0,
-        steps: plan.limits.budget as u64,
+        steps: budget(plan),
     };
     statements(alloc, plan, left, path, function.body.as_slice(), &mut spot, out)?;
     returned(alloc, plan, left, path, function, &mut spot, out)
+}
+
+/// What main gives where every child runs at its spawn: the events at the end of `out`, and main's value or the fault.
+pub fn run(alloc: Global, plan: &Plan, out: &mut Out) -> Result<Value, Halt>
+    requires { All IsFunction (functions_of plan.now) }
+    ensures ended { IfOk result (λ v. Ended out.old (elision plan.now) out.new (v ∷ [])) }
+    ensures stopped { IfErr result (λ e. Stopped out.old (elision plan.now) out.new e) }
+{
+    let left = depth(plan);
+    let main = number(plan, b"main");
+    instance(alloc, plan, left, main, &Ped::root(alloc)?, out)
 }
