@@ -5,16 +5,19 @@
 //! Platforms" (PPoPP 2012). The names don't depend on how the program was scheduled.
 #![tactic(auto)]
 
+mod block;
 mod memory;
 mod ped;
 mod pedigree;
 mod ranks;
 #[cfg(test)]
 mod tests;
+mod text;
 
 pub use memory::Memory;
 pub use ped::Ped;
 pub use pedigree::Pedigree;
+pub use text::write_pedigree;
 
 fn is_shared<T: Send + Sync>() {}
 

@@ -1,4 +1,4 @@
-use crate::{Ped, Pedigree};
+use crate::{Ped, Pedigree, write_pedigree};
 use std::test::Fail;
 
 #[test]
@@ -56,5 +56,41 @@ fn pedigrees_stand_in_serial_order(rt: HostRuntime) -> Result<(), Fail> {
     assert_eq!(rt; ordered[2].rank_at(0), Some(0));
     assert_eq!(rt; ordered[2].rank_at(1), Some(1));
     assert_eq!(rt; ordered[2].rank_at(2), None);
+    Ok(())
+}
+
+// The lengths about the end of a block of 16 ranks.
+#[test]
+fn long_paths_are_lists_of_ranks(rt: HostRuntime) -> Result<(), Fail> {
+    let alloc = rt.alloc();
+    let mut path = Ped::root(alloc)?;
+    for len in 1..=49 {
+        let child = path.child(alloc, 1000 + len)?;
+        assert_eq!(rt; child.len(), len);
+        for i in 0..len {
+            assert_eq!(rt; child.rank_at(i), Some(1001 + i), "rank {i} of {len}");
+        }
+        assert_eq!(rt; child.rank_at(len), None);
+        assert!(rt; path.before(&child));
+        assert!(rt; child.before(&path.child(alloc, 1001 + len)?));
+        assert!(rt; child.same(&path.child(alloc, 1000 + len)?));
+        path = child;
+    }
+    Ok(())
+}
+
+#[test]
+fn texts_join_the_ranks_by_full_stops(rt: HostRuntime) -> Result<(), Fail> {
+    let alloc = rt.alloc();
+    let mut out = Vec::from_slice(alloc, b"at ")?;
+    let path = Ped::root(alloc)?
+        .child(alloc, 0)?
+        .child(alloc, 4_294_967_295)?;
+    write_pedigree(&Pedigree { path, rank: 10 }, &mut out)?;
+    assert_eq!(rt; out.as_slice(), b"at 0.4294967295.10".as_slice());
+    let mut out = Vec::new(alloc);
+    let path = Ped::root(alloc)?;
+    write_pedigree(&Pedigree { path, rank: 7 }, &mut out)?;
+    assert_eq!(rt; out.as_slice(), b"7".as_slice());
     Ok(())
 }

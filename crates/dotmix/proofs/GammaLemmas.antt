@@ -1,0 +1,37 @@
+-- The state of SplitMix64 after so many words, and the list that the words make.
+use Rattle.std.proofs.Common.{◌≡◌, ℕ, ◌<◌, ◌+◌, ◌*◌, ◌%◌, ◌^◌, List, [], ◌∷◌, ◌++◌, sym, ap, ◌∙◌, arith}
+use Rattle.std.proofs.Math.Nat.{mod-add-mod}
+use Rattle.std.proofs.lemmas.List.Elements.{All-map}
+use Rattle.std.proofs.lemmas.List.FromFn.{length-map-range_with_len, map-range_with_len_more}
+use Rattle.std.specs.List.{range_with_len, slice_index_or}
+use Rattle.rand_xoshiro.specs.SplitMix64.{mix_u64, next_state}
+use Rattle.dotmix.specs.Draws.{modulus, IsResidue}
+use Rattle.dotmix.specs.GammaState.{IsGamma}
+use Rattle.dotmix.specs.Words.{word, output, coefficients}
+
+-- the state behind i words
+abbrev pub state_after : ℕ → ℕ → ℕ
+state_after seed i = (seed + i * 0x9E3779B97F4A7C15) % 2 ^ 64
+
+next_state-after : (seed i : ℕ) → next_state (state_after seed i) ≡ state_after seed (i + 1)
+next_state-after seed i =
+    mod-add-mod (seed + i * 0x9E3779B97F4A7C15) (2 ^ 64) 0x9E3779B97F4A7C15 ∙ ap (λ n. n % 2 ^ 64) (omega arith)
+
+pub state_after_word : (seed i x s new : ℕ) → (x, new) ≡ mix_u64 s → s ≡ state_after seed i → new ≡ state_after seed (i + 1)
+state_after_word seed i x s new e h = ap (λ (p : ℕ × ℕ). p.1) e ∙ ap next_state h ∙ next_state-after seed i
+
+word_given : (seed i x s new : ℕ) → (x, new) ≡ mix_u64 s → s ≡ state_after seed i → x ≡ word seed (i + 1)
+word_given seed i x s new e h = ap (λ (p : ℕ × ℕ). p.0) e ∙ ap output (ap next_state h ∙ next_state-after seed i)
+
+pub coefficients_after_word : (seed i x s new : ℕ) (xs ys : List ℕ) → (x, new) ≡ mix_u64 s → s ≡ state_after seed i → xs ≡ coefficients seed i → ys ≡ xs ++ x % modulus ∷ [] → ys ≡ coefficients seed (i + 1)
+coefficients_after_word seed i x s new xs ys e h k f =
+    f ∙ rw (word_given seed i x s new e h, k) (sym (map-range_with_len_more (λ j. word seed j % modulus) 1 i (i + 1) (omega arith)))
+
+mod-IsResidue : (n : ℕ) → IsResidue (n % modulus)
+mod-IsResidue n = omega arith
+
+pub coefficients-IsGamma : (seed depth : ℕ) → depth < 2 ^ 32 → IsGamma (coefficients seed depth)
+coefficients-IsGamma seed depth h = record {
+  few = rw (length-map-range_with_len (λ i. word seed i % modulus) 1 depth) h;
+  small = All-map IsResidue (λ i. word seed i % modulus) (range_with_len 1 depth) (λ k d h. mod-IsResidue (word seed (slice_index_or (range_with_len 1 depth) k d)));
+}

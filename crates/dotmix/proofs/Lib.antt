@@ -1,0 +1,3 @@
+pub mod GammaLemmas
+pub mod MixLemmas
+pub mod ProductLemmas

@@ -1,0 +1,75 @@
+ghost use Rattle.std.specs.Prelude.{◌≡◌, ◌+◌, ◌<◌, ◌≤◌, ◌^◌, ℕ, List, length, All, IfOk};
+ghost use Rattle.dotmix.specs.Draws.{coefficient, modulus, IsResidue};
+ghost use Rattle.dotmix.specs.Words.{coefficients};
+
+use crate::memory::Memory;
+use ped_path::Ped;
+use rand_core::SeedableRng;
+use rand_core::utils::NextWord;
+use rand_xoshiro::SplitMix64;
+use std::alloc::Global;
+use std::marker::Model;
+
+/// The prime 2^64 - 59.
+pub const MODULUS: u64 = 18_446_744_073_709_551_557;
+
+/// The coefficients of a plan, one for each place of a pedigree. They are seen as a list of fewer than 2^32 numbers, each below
+/// the modulus.
+#[derive(Drop)]
+pub struct Gamma {
+    coefficients: Vec<u64>,
+}
+
+impl Model for Gamma {
+    ghost use Rattle.std.specs.Prelude.{ℕ, List, ◌<◌, ◌^◌, length, All};
+    ghost use Rattle.dotmix.specs.GammaState.{IsGamma};
+
+    ghost Value = { List ℕ };
+
+    ghost view = { λ g. g.coefficients.items };
+
+    ghost invariant = { λ g. IsGamma g.coefficients.items };
+}
+
+impl Gamma {
+    /// The coefficients that a seed gives: the first words of SplitMix64, each modulo the prime.
+    pub fn of_seed(alloc: Global, seed: u64, depth: u32) -> Result<Gamma, Memory>
+        ensures { IfOk result (λ gamma. gamma ≡ coefficients seed depth) }
+    {
+        let mut words = SplitMix64::from_seed(seed.to_le_bytes());
+        let mut coefficients = Vec::with_capacity(alloc, depth as usize)?;
+        for _i in 0..depth {
+            coefficients.push(words.next_word() % MODULUS)?;
+        }
+        Ok(Gamma { coefficients })
+    }
+
+    /// The coefficient of this place of a pedigree, from 1.
+    pub fn coeff(&self, i: u32) -> u64
+        requires from_one { 0 < i }
+        requires within { i ≤ length self.now }
+        ensures value { result ≡ coefficient self.now i }
+        ensures small { result < modulus }
+    {
+        self.coefficients[i as usize - 1]
+    }
+
+    /// How many coefficients there are.
+    pub fn len(&self) -> u32
+        ensures length { result ≡ length self.now }
+
+        // What holds of all coefficients.
+        ensures small { All IsResidue self.now }
+    {
+        self.coefficients.len() as u32
+    }
+
+    /// The place of a rank that stands behind this path.
+    pub(crate) fn place_behind(&self, path: &Ped) -> u32
+        requires { length path.now < length self.now }
+        ensures { result ≡ length path.now + 1 }
+    {
+        let _ = &self.coefficients;
+        path.len() as u32 + 1
+    }
+}

@@ -1,0 +1,11 @@
+-- The text of a pedigree, such as 0.3.1.
+use Rattle.std.specs.Prelude.{◌≡◌, ℕ, ◌++◌, List, codes, decimal, take}
+use Rattle.std.specs.List.{join_by}
+
+-- the ranks in decimal, joined by full stops
+abbrev pub ped_text : List ℕ → List ℕ
+ped_text ranks = join_by decimal (codes ".") ranks
+
+-- The new bytes are the old ones and a front of the text.
+abbrev pub AppendsFront : List ℕ → List ℕ → List ℕ → Type 0
+AppendsFront old new text = (k : ℕ) × (new ≡ old ++ take k text)
