@@ -1,0 +1,13 @@
+//! The iterations of a parallel loop, and their paths.
+//!
+//! A loop's iterations are numbered from 0. A worker that runs a loop hands out the lower half of what is left and keeps the upper
+//! half, so that a loop of n iterations is shared out in about log n steps.
+#![tactic(auto)]
+
+mod memory;
+mod range;
+#[cfg(test)]
+mod tests;
+
+pub use memory::Memory;
+pub use range::{IterRange, cover, iteration_path};

@@ -1,0 +1,17 @@
+use std::alloc::AllocError;
+
+/// There was no memory for the call.
+#[derive(Clone, Copy, Debug, PartialEq, Eq)]
+pub struct Memory;
+
+impl From<AllocError> for Memory {
+    fn from(_: AllocError) -> Self {
+        Memory
+    }
+}
+
+impl From<ped_path::Memory> for Memory {
+    fn from(_: ped_path::Memory) -> Self {
+        Memory
+    }
+}

@@ -1,0 +1,14 @@
+pub mod Children
+pub mod Closed
+pub mod Cut
+pub mod Draws
+pub mod Each
+pub mod ExecLaws
+pub mod Least
+pub mod Order
+pub mod Origins
+pub mod Rising
+pub mod RisingExec
+pub mod RunLaws
+pub mod SegmentLemmas
+pub mod Sim

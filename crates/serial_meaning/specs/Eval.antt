@@ -1,0 +1,71 @@
+-- What an origin gives where its children run at once, and the serial elision (docs/LANGUAGE.md, "The serial elision").
+use Rattle.std.specs.Prelude.{ℕ, zero, suc, ◌+◌, ◌-◌, List, [], ◌∷◌, ◌++◌, length}
+use Rattle.std.specs.Prelude.{pos, ◌+ℤ◌, ℤ}
+use Rattle.serial_meaning.specs.Runs.{Run, done, ◌then◌}
+use Rattle.serial_meaning.specs.Functions.{function_at, number_of, main_name}
+use Rattle.serial_meaning.specs.Plan.{PlanView, functions_of}
+use Rattle.serial_meaning.specs.Exec.{Manner, instance}
+use Rattle.serial_meaning.specs.declared.value.Value.{Value}
+use Rattle.serial_meaning.specs.declared.value.Value.TheVariants.{Int}
+use Rattle.serial_meaning.specs.declared.event.Fault.{Fault}
+use Rattle.serial_meaning.specs.declared.event.Event.{Event}
+use Rattle.serial_meaning.specs.declared.origin.Origin.{Origin}
+use Rattle.serial_meaning.specs.declared.origin.Origin.TheVariants.{Instance, Loop}
+
+-- an origin's events, and its values, one for an instance and one for each iteration of a loop, or its fault
+abbrev pub Evaluation : Type 0
+Evaluation = Run Event Fault (List Value)
+
+abbrev pub first_of : List Value → Value
+first_of [] = Int (pos 0)
+first_of (v ∷ vs) = v
+
+-- A spawn runs its child at once and takes its value, a loop runs its iterations, a sync has nothing to wait for, and the first fault
+-- ends everything.
+abbrev pub serial : (Origin → Evaluation) → Manner Event Fault (Unit {0})
+serial child = record {
+  event = λ e. e;
+  own = λ f. f;
+  none = tt;
+  spawn = λ o k. child o then λ vs. done (first_of vs, k);
+  loop = child;
+  sync = λ k. done k;
+}
+
+-- iteration k of a loop
+abbrev pub iteration : ℕ → List Value → ℤ → List ℕ → ℕ → Origin
+iteration function rest first path k = Instance function (Int (first +ℤ pos k) ∷ rest) (path ++ k ∷ [])
+
+-- n iterations from the k-th on, in order, up to the first fault
+abbrev pub turns : (Origin → Evaluation) → ℕ → List Value → ℤ → List ℕ → ℕ → ℕ → Evaluation
+turns child function rest first path k zero = done []
+turns child function rest first path k (suc n) =
+    child (iteration function rest first path k) then λ vs. turns child function rest first path (k + 1) n then λ ws. done (vs ++ ws)
+
+-- an origin, where children give what child says
+abbrev pub eval_with : PlanView → (Origin → Evaluation) → Origin → Evaluation
+eval_with plan child (Instance function args path) =
+    instance (serial child) plan path (function_at (functions_of plan) function) args then λ v. done (v ∷ [])
+eval_with plan child (Loop function rest first path range) = turns child function rest first path range.lo (range.hi - range.lo)
+
+-- With so many ranks left below the depth. A child's path is one rank longer. Where no rank is left nothing is spawned, by the test of
+-- the depth.
+abbrev pub eval_at : PlanView → ℕ → Origin → Evaluation
+eval_at plan zero = eval_with plan (λ o. done [])
+eval_at plan (suc left) = eval_with plan (eval_at plan left)
+
+abbrev pub path_of : Origin → List ℕ
+path_of (Instance function args path) = path
+path_of (Loop function rest first path range) = path
+
+abbrev pub depth_left : PlanView → Origin → ℕ
+depth_left plan o = plan.limits.depth - length (path_of o)
+
+abbrev pub eval : PlanView → Origin → Evaluation
+eval plan o = eval_at plan (depth_left plan o) o
+
+abbrev pub main_origin : PlanView → Origin
+main_origin plan = Instance (number_of (functions_of plan) main_name) [] []
+
+abbrev pub elision : PlanView → Evaluation
+elision plan = eval plan (main_origin plan)

@@ -1,0 +1,239 @@
+-- What statements do (docs/LANGUAGE.md, "Steps", "Instances and ranks" and "Parallel loops").
+--
+-- There is one text for the serial elision and for the open tree. They differ in how children, loops and syncs are taken, which is
+-- a `Manner`.
+use Rattle.std.specs.Prelude.{ℕ, zero, suc, ◌+◌, ◌-◌, Bool, true, false, nat_lt, List, [], ◌∷◌, ◌++◌, Option, Some, None, Result, Ok, Err, length, if◌then◌else◌}
+use Rattle.std.specs.Prelude.{ℤ, pos, negsuc, ◌-ℤ◌}
+use Rattle.std.specs.Int.{w64, cast_signed}
+use Rattle.std.specs.Str.{bytes_eq}
+use Rattle.dotmix.specs.Draws.{dotmix}
+use Rattle.script_text.specs.declared.tree.Name.{Name}
+use Rattle.script_text.specs.declared.tree.Param.{Param}
+use Rattle.script_text.specs.declared.tree.Function.{Function}
+use Rattle.script_text.specs.declared.tree.CallText.{CallText}
+use Rattle.script_text.specs.declared.tree.Expr.{Expr}
+use Rattle.script_text.specs.declared.tree.Right.{Right}
+use Rattle.script_text.specs.declared.tree.Right.TheVariants as right
+use Rattle.script_text.specs.declared.tree.Stmt.{Stmt, out-Stmt}
+use Rattle.script_text.specs.declared.tree.Act.{Act, out-Act}
+use Rattle.script_text.specs.declared.tree.Act.TheOpen as act
+use Rattle.script_text.specs.declared.tree.Act.TheOpen.{Act-F}
+use Rattle.serial_meaning.specs.Runs.{Run, done, stopped, happens, ◌then◌}
+use Rattle.serial_meaning.specs.Values.{Env, slot_of, items_of, number, is_true, at_index, value_of, values_of}
+use Rattle.serial_meaning.specs.Functions.{number_of, function_at, any_spawns}
+use Rattle.serial_meaning.specs.Plan.{PlanView, functions_of}
+use Rattle.serial_meaning.specs.declared.value.Value.{Value}
+use Rattle.serial_meaning.specs.declared.value.Value.TheVariants.{Int, Id}
+use Rattle.serial_meaning.specs.declared.environment.Slot.{Slot}
+use Rattle.serial_meaning.specs.declared.environment.Slot.TheVariants.{Scalar, Array}
+use Rattle.serial_meaning.specs.declared.event.FaultKind.{FaultKind}
+use Rattle.serial_meaning.specs.declared.event.FaultKind.TheVariants.{Index, Depth, Calls, Budget}
+use Rattle.serial_meaning.specs.declared.event.Fault.{Fault}
+use Rattle.serial_meaning.specs.declared.event.Event.{Event}
+use Rattle.serial_meaning.specs.declared.event.Event.TheVariants as event
+use Rattle.serial_meaning.specs.declared.origin.Origin.{Origin}
+use Rattle.serial_meaning.specs.declared.origin.Origin.TheVariants as origin
+
+-- where an activation stands: its variables, its instance's rank and steps left, and what it knows of the children that it spawned
+-- since its last sync
+pub record State (K : Type 0) : Type 0 where
+  pub env : Env
+  pub rank : ℕ
+  pub steps : ℕ
+  pub spawned : K
+
+-- how events, faults, children, loops and syncs are taken: I are a run's items, E its bad ends, and K what is known of spawned
+-- children
+pub record Manner (I E K : Type 0) : Type 0 where
+  pub event : Event → I
+  pub own : Fault → E
+  pub none : K
+  pub spawn : Origin → K → Run I E (Value × K)
+  pub loop : Origin → Run I E (List Value)
+  pub sync : K → Run I E K
+
+-- Variables
+
+-- a variable's new value; a new name stands at the end
+abbrev pub with_slot : Env → List ℕ → Slot → Env
+with_slot [] name slot = record { name = name; slot = slot } ∷ []
+with_slot (v ∷ vs) name slot = if bytes_eq v.name name then record v { slot = slot } ∷ vs else v ∷ with_slot vs name slot
+
+abbrev pub zeros : ℕ → List ℤ
+zeros zero = []
+zeros (suc n) = pos 0 ∷ zeros n
+
+abbrev pub with_item : List ℤ → ℕ → ℤ → List ℤ
+with_item [] i n = []
+with_item (x ∷ xs) zero n = n ∷ xs
+with_item (x ∷ xs) (suc i) n = x ∷ with_item xs i n
+
+abbrev pub set_item : List ℤ → ℤ → Value → List ℤ
+set_item xs (pos i) v = with_item xs i (number v)
+set_item xs (negsuc i) v = xs
+
+-- the first items replaced by values
+abbrev pub with_front : List ℤ → List Value → List ℤ
+with_front xs [] = xs
+with_front [] (v ∷ vs) = []
+with_front (x ∷ xs) (v ∷ vs) = number v ∷ with_front xs vs
+
+-- the parameters with their arguments
+abbrev pub bound : List Param → List Value → Env
+bound [] vs = []
+bound (p ∷ ps) [] = []
+bound (p ∷ ps) (v ∷ vs) = record { name = p.name.bytes; slot = Scalar v } ∷ bound ps vs
+
+-- a number that isn't negative, and 0 for the others
+abbrev pub count_of : ℤ → ℕ
+count_of (pos n) = n
+count_of (negsuc n) = 0
+
+-- whether a loop's target, if there is one, has at least n items
+abbrev pub has_room : Option Name → ℕ → Env → Bool
+has_room None n env = true
+has_room (Some x) n env = nat_lt n (length (items_of (slot_of env x.bytes)) + 1)
+
+-- the target's items replaced by the iterations' values
+abbrev pub filled : Option Name → List Value → Env → Env
+filled None vs env = env
+filled (Some x) vs env = with_slot env x.bytes (Array (with_front (items_of (slot_of env x.bytes)) vs))
+
+module _ {K : Type 0} where
+  abbrev pub set_scalar : State K → Name → Value → State K
+  set_scalar s x v = record s { env = with_slot s.env x.bytes (Scalar v) }
+
+  abbrev pub set_array : State K → Name → List ℤ → State K
+  set_array s x xs = record s { env = with_slot s.env x.bytes (Array xs) }
+
+  -- the pedigree of the strand
+  abbrev pub strand : List ℕ → State K → List ℕ
+  strand path s = path ++ s.rank ∷ []
+
+module _ {I E K : Type 0} (how : Manner I E K) (plan : PlanView) (path : List ℕ) where
+  -- the instance ends by a fault of its own
+  abbrev pub fault : {A : Type 0} → FaultKind → State K → Run I E A
+  fault kind s = stopped (how.own (record { kind = kind; at = strand path s }))
+
+  -- an event of this strand, and then the next rank
+  abbrev pub emit : (List ℕ → Event) → State K → Run I E (State K)
+  emit e s = happens (how.event (e (strand path s))) (record s { rank = s.rank + 1 })
+
+  -- goes on with what a calculation gives here, unless that is a fault
+  abbrev pub given : {A B : Type 0} → Result A FaultKind → State K → (A → Run I E B) → Run I E B
+  given (Ok v) s go = go v
+  given (Err kind) s go = fault kind s
+
+  -- goes on with one step less, unless there is none
+  abbrev pub paid_from : {A : Type 0} → ℕ → State K → (State K → Run I E A) → Run I E A
+  paid_from zero s go = fault Budget s
+  paid_from (suc n) s go = go (record s { steps = n })
+
+  abbrev pub paid : {A : Type 0} → State K → (State K → Run I E A) → Run I E A
+  paid s go = paid_from s.steps s go
+
+  -- goes on where a test holds
+  abbrev pub tested : {A : Type 0} → Bool → FaultKind → State K → Run I E A → Run I E A
+  tested true kind s go = go
+  tested false kind s go = fault kind s
+
+  -- arguments, the depth, the event, the child
+  abbrev pub spawn : CallText → State K → Run I E (Value × State K)
+  spawn c s =
+      given (values_of c.args s.env) s λ vs. tested (nat_lt (length path + 1) plan.limits.depth) Depth s (happens (how.event (event.Spawn (strand path s))) s then λ s. how.spawn (origin.Instance (number_of (functions_of plan) c.name.bytes) vs (strand path s)) s.spawned then λ r. done (r.0, record s { rank = s.rank + 1; spawned = r.1 }))
+
+  -- a sync, written or implied
+  abbrev pub join : State K → Run I E (State K)
+  join s =
+      happens (how.event (event.Sync (strand path s))) s then λ s. how.sync s.spawned then λ k. done (record s { rank = s.rank + 1; spawned = k })
+
+  abbrev pub implied : Bool → State K → Run I E (State K)
+  implied true s = join s
+  implied false s = done s
+
+  -- a function's end: its return pays a step, then comes the sync that is implied where the text holds a spawn, then the value
+  abbrev pub returned : Function → State K → Run I E (Value × State K)
+  returned f s =
+      paid s λ s. implied (any_spawns f.body) s then λ s. given (value_of f.result s.env) s λ v. done (v, s)
+
+  -- what statements do, with so many open calls
+  abbrev pub Block : Type 0
+  Block = ℕ → List Stmt → State K → Run I E (State K)
+
+  -- an activation of a function in this instance: variables and syncs of its own, and the instance's rank and steps; a valid script
+  -- calls only functions that there are
+  abbrev pub activation : Block → ℕ → Option Function → List Value → State K → Run I E (Value × State K)
+  activation block calls (Some f) vs s =
+      block calls f.body (record s { env = bound f.params vs; spawned = how.none }) then returned f
+  activation block calls None vs s = done (Int (pos 0), s)
+
+  -- a call goes on from the caller's rank and steps, and the caller from the callee's last ones
+  abbrev pub called : Block → ℕ → CallText → State K → Run I E (Value × State K)
+  called block calls c s =
+      given (values_of c.args s.env) s λ vs. tested (nat_lt calls 256) Calls s (activation block (calls + 1) (function_at (functions_of plan) (number_of (functions_of plan) c.name.bytes)) vs s then λ r. done (r.0, record s { rank = r.1.rank; steps = r.1.steps }))
+
+  -- the right side of a let or an assignment
+  abbrev pub right_side : Block → ℕ → Right → State K → Run I E (Value × State K)
+  right_side block calls (right.Value e) s = given (value_of e s.env) s λ v. done (v, s)
+  right_side block calls (right.Draw at) s =
+      let n = dotmix plan.gamma (strand path s) in emit (λ j. event.Draw j n) s then λ s'. done (Int (cast_signed w64 n), s')
+  right_side block calls (right.New at) s = emit event.New s then λ s'. done (Id (strand path s), s')
+  right_side block calls (right.Call at c) s = called block calls c s
+  right_side block calls (right.Spawn at c) s = spawn c s
+
+  -- an array's item: its index, the test of the index, its value
+  abbrev pub found : {A : Type 0} → Option ℤ → State K → Run I E A → Run I E A
+  found None s go = fault Index s
+  found (Some old) s go = go
+
+  abbrev pub store : Name → Expr → Expr → State K → Run I E (State K)
+  store x i e s =
+      given (value_of i s.env) s λ k. let xs = items_of (slot_of s.env x.bytes) in found (at_index xs (number k)) s (given (value_of e s.env) s λ v. done (set_array s x (set_item xs (number k) v)))
+
+  abbrev pub fits_depth : ℕ → Bool
+  fits_depth zero = true
+  fits_depth (suc n) = nat_lt (length path + 2) plan.limits.depth
+
+  -- a loop of n iterations whose bounds and arguments are known: its steps, the target's room, the depth, the event, the iterations
+  abbrev pub looped : ℤ → ℕ → List Value → Option Name → CallText → State K → Run I E (State K)
+  looped lo n vs target c s =
+      tested (nat_lt n (s.steps + 1)) Budget s (let paid_s : State K = record s { steps = s.steps - n } in tested (has_room target n s.env) Index paid_s (tested (fits_depth n) Depth paid_s (happens (how.event (event.Loop (strand path s))) paid_s then λ s. how.loop (origin.Loop (number_of (functions_of plan) c.name.bytes) vs lo (strand path s) (record { lo = 0; hi = n })) then λ ws. done (record s { rank = s.rank + 1; env = filled target ws s.env }))))
+
+  -- one statement whose step is paid; block runs what stands inside it
+  abbrev pub does : Block → ℕ → Stmt → Act-F Act Stmt → State K → Run I E (State K)
+  does block calls st (act.Let x r) s = right_side block calls r s then λ p. done (set_scalar p.1 x p.0)
+  does block calls st (act.Array x n) s = done (set_array s x (zeros (count_of n.value)))
+  does block calls st (act.Set x r) s = right_side block calls r s then λ p. done (set_scalar p.1 x p.0)
+  does block calls st (act.Store x i e) s = store x i e s
+  does block calls st (act.Spawn c) s = spawn c s then λ p. done p.1
+  does block calls st (act.Call c) s = called block calls c s then λ p. done p.1
+  does block calls st act.Sync s = join s
+  does block calls st (act.Print e) s = given (value_of e s.env) s λ v. happens (how.event (event.Print (strand path s) v)) s
+  does block calls st (act.If e a b) s = given (value_of e s.env) s λ v. block calls (if is_true v then a else b) s
+  does block calls st (act.While e a) s =
+      given (value_of e s.env) s λ v. (if is_true v then (block calls a s then block calls (st ∷ [])) else done s)
+  does block calls st (act.Pfor x lo hi target c) s =
+      given (value_of lo s.env) s λ l. given (value_of hi s.env) s λ h. given (values_of c.args s.env) s λ vs. looped (number l) (count_of (number h -ℤ number l)) vs target c s
+
+  abbrev pub statement : Block → ℕ → Stmt → State K → Run I E (State K)
+  statement block calls st s = paid s λ s. does block calls st (out-Act (out-Stmt st).act) s
+
+  abbrev pub each : (Stmt → State K → Run I E (State K)) → List Stmt → State K → Run I E (State K)
+  each one [] s = done s
+  each one (st ∷ sts) s = one st s then each one sts
+
+  -- A statement pays a step before it enters a block, a turn or a call. So n levels of these are enough for n steps, and one more
+  -- statement finds no step. That makes the meaning total, whatever the script. Nothing above depends on the levels: the laws of
+  -- `exec` give its equations without them.
+  abbrev pub statements : ℕ → Block
+  statements zero calls = each (λ st s. fault Budget s)
+  statements (suc n) calls = each (statement (statements n) calls)
+
+  -- the statements, from a state
+  abbrev pub exec : Block
+  exec calls sts s = statements s.steps calls sts s
+
+  -- a whole instance: rank 0, the whole budget, no open call
+  abbrev pub instance : Option Function → List Value → Run I E Value
+  instance f vs =
+      activation exec 0 f vs (record { env = []; rank = 0; steps = plan.limits.budget; spawned = how.none }) then λ r. done r.0

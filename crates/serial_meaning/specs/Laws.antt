@@ -1,0 +1,94 @@
+-- Laws of the meaning. Each is the contract of a function of the module `laws`.
+use Rattle.std.specs.Prelude.{◌≡◌, ◌≤◌, ℕ, List, [], ◌∷◌, ◌++◌, Result, Ok, Err, All, AllPairs, Contains}
+use Rattle.std.specs.Prelude.{ℤ}
+use Rattle.ped_path.specs.Path.{IsBefore}
+use Rattle.dotmix.specs.Draws.{dotmix}
+use Rattle.loop_range.specs.Range.{Range}
+use Rattle.script_text.specs.declared.tree.Expr.{Expr}
+use Rattle.script_text.specs.declared.tree.Stmt.{Stmt}
+use Rattle.serial_meaning.specs.Runs.{done, ◌then◌}
+use Rattle.serial_meaning.specs.Values.{Env, slot_of, value_of}
+use Rattle.serial_meaning.specs.Names.{names_in}
+use Rattle.serial_meaning.specs.Plan.{PlanView}
+use Rattle.serial_meaning.specs.Exec.{State, Manner, statement, exec}
+use Rattle.serial_meaning.specs.Eval.{Evaluation, serial, eval, main_origin, elision}
+use Rattle.serial_meaning.specs.Open.{Child, put_off_all, opened, faults}
+use Rattle.serial_meaning.specs.declared.value.Value.{Value}
+use Rattle.serial_meaning.specs.declared.event.Fault.{Fault}
+use Rattle.serial_meaning.specs.declared.event.Event.{Event}
+use Rattle.serial_meaning.specs.declared.event.Event.TheVariants as event
+use Rattle.serial_meaning.specs.declared.origin.Origin.{Origin}
+use Rattle.serial_meaning.specs.declared.origin.Origin.TheVariants.{Loop}
+
+-- The equations of statements
+
+-- Statements in a row are the first and then the others, and a turn of a loop puts its body and the loop in front of them. No number
+-- of levels stands here.
+pub record Equations {I E K : Type 0} (how : Manner I E K) (plan : PlanView) (path : List ℕ) : Type 0 where
+  pub nothing : (calls : ℕ) (s : State K) → exec how plan path calls [] s ≡ done s
+  pub first : (calls : ℕ) (st : Stmt) (sts : List Stmt) (s : State K) →
+      exec how plan path calls (st ∷ sts) s ≡ (statement how plan path (exec how plan path) calls st s then exec how plan path calls sts)
+  pub in_a_row : (calls : ℕ) (xs ys : List Stmt) (s : State K) →
+      exec how plan path calls (xs ++ ys) s ≡ (exec how plan path calls xs s then exec how plan path calls ys)
+  pub turn : (calls : ℕ) (loop : Stmt) (body sts : List Stmt) (s : State K) →
+      ((exec how plan path calls body s then exec how plan path calls (loop ∷ [])) then exec how plan path calls sts) ≡ exec how plan path calls (body ++ (loop ∷ sts)) s
+
+abbrev pub ElisionHasEquations : Type 0
+ElisionHasEquations = (plan : PlanView) (path : List ℕ) (child : Origin → Evaluation) → Equations (serial child) plan path
+
+abbrev pub OpenTreeHasEquations : Type 0
+OpenTreeHasEquations = (plan : PlanView) (path : List ℕ) (child : Origin → Evaluation) → Equations (put_off_all plan child) plan path
+
+-- Pedigrees
+
+-- the pedigrees of all events but printing
+abbrev pub places : List Event → List (List ℕ)
+places [] = []
+places (event.Print j v ∷ es) = places es
+places (event.Draw j n ∷ es) = j ∷ places es
+places (event.New j ∷ es) = j ∷ places es
+places (event.Spawn j ∷ es) = j ∷ places es
+places (event.Sync j ∷ es) = j ∷ places es
+places (event.Loop j ∷ es) = j ∷ places es
+
+-- Of two events of the elision that are no printing, the earlier one's pedigree is before the later one's.
+abbrev pub PedigreesRise : Type 0
+PedigreesRise = (plan : PlanView) → AllPairs IsBefore (places (elision plan).items)
+
+-- Each draw of the elision is DotMix of its pedigree.
+abbrev pub DrawsAreDotMix : Type 0
+DrawsAreDotMix = (plan : PlanView) (j : List ℕ) (n : ℕ) → Contains (elision plan).items (event.Draw j n) → n ≡ dotmix plan.gamma j
+
+-- Expressions
+
+-- Two environments that agree on the variables that an expression names give it the same value or fault.
+abbrev pub ValuesDependOnNames : Type 0
+ValuesDependOnNames =
+    (e : Expr) (env other : Env) → All (λ name. slot_of env name ≡ slot_of other name) (names_in e) → value_of e env ≡ value_of e other
+
+-- Faults
+
+-- No fault where the list has none, and else one of the list that none of it is before.
+abbrev pub EndsByLeast : List Fault → Result (List Value) Fault → Type 0
+EndsByLeast fs (Ok vs) = fs ≡ []
+EndsByLeast fs (Err f) = Contains fs f × All (λ g. IsBefore g.at f.at → ⊥) fs
+
+-- The elision ends by the least of all faults of the open tree, and without a fault exactly where there is none.
+abbrev pub FaultIsLeast : Type 0
+FaultIsLeast = (plan : PlanView) → EndsByLeast (faults plan) (elision plan).ending
+
+-- main's origin; a child of an origin of the plan; or a loop's origin with only a part of such a child's iterations
+pub data IsOriginOf (plan : PlanView) : Origin → Type 0 where
+  Main : IsOriginOf plan (main_origin plan)
+  ChildOf : (parent child : Origin) → IsOriginOf plan parent → Contains (opened plan parent).items (Child child) → IsOriginOf plan child
+  PartOf : (parent : Origin) (function : ℕ) (rest : List Value) (first : ℤ) (path : List ℕ) (whole part : Range) → IsOriginOf plan parent →
+      Contains (opened plan parent).items (Child (Loop function rest first path whole)) → whole.lo ≤ part.lo → part.lo ≤ part.hi → part.hi ≤ whole.hi →
+      IsOriginOf plan (Loop function rest first path part)
+
+abbrev pub EndsWithin : List Fault → Result (List Value) Fault → Type 0
+EndsWithin fs (Ok vs) = Unit {0}
+EndsWithin fs (Err f) = Contains fs f
+
+-- A fault by which an origin of the plan ends is one of the open tree.
+abbrev pub OriginsEndWithinFaults : Type 0
+OriginsEndWithinFaults = (plan : PlanView) (o : Origin) → IsOriginOf plan o → EndsWithin (faults plan) (eval plan o).ending

@@ -1,0 +1,13 @@
+pub mod Answer
+pub mod Columns
+pub mod Eval
+pub mod Exec
+pub mod Functions
+pub mod Laws
+pub mod Names
+pub mod Open
+pub mod Plan
+pub mod Render
+pub mod Runs
+pub mod Segments
+pub mod Values

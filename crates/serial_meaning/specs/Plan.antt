@@ -1,0 +1,23 @@
+-- What is run.
+use Rattle.std.specs.Prelude.{◌≡◌, ◌≤◌, ℕ, List, length}
+use Rattle.script_text.specs.declared.tree.Script.{Script}
+use Rattle.script_text.specs.declared.tree.Function.{Function}
+use Rattle.serial_meaning.specs.declared.plan.Limits.{Limits}
+use Rattle.serial_meaning.specs.declared.plan.Show.{Show}
+
+-- A plan as contracts and the definitions see it.
+pub record PlanView : Type 0 where
+  pub script : Script
+  pub gamma : List ℕ
+  pub limits : Limits
+  pub show : Show
+
+pub record IsPlan (script : Script) (gamma : List ℕ) (limits : Limits) : Type 0 where
+  pub coefficients : length gamma ≡ limits.depth
+  pub some_depth : 1 ≤ limits.depth
+  pub depth_limit : limits.depth ≤ 256
+  pub some_step : 1 ≤ limits.budget
+  pub functions_limit : length script.functions ≤ 1024
+
+abbrev pub functions_of : PlanView → List Function
+functions_of plan = plan.script.functions

@@ -1,0 +1,34 @@
+-- A run so far: what happened, in order, and how it ended. Definitions of a script's meaning put runs one after another.
+use Rattle.std.specs.Prelude.{List, [], ◌∷◌, ◌++◌, Result, Ok, Err}
+
+pub record Run (I E A : Type 0) : Type 0 where
+  pub items : List I
+  pub ending : Result A E
+
+abbrev pub done : {I E A : Type 0} → A → Run I E A
+done a = record { items = []; ending = Ok a }
+
+abbrev pub stopped : {I E A : Type 0} → E → Run I E A
+stopped e = record { items = []; ending = Err e }
+
+abbrev pub happens : {I E A : Type 0} → I → A → Run I E A
+happens i a = record { items = i ∷ []; ending = Ok a }
+
+-- a run with items in front
+abbrev pub behind : {I E A : Type 0} → List I → Run I E A → Run I E A
+behind items r = record { items = items ++ r.items; ending = r.ending }
+
+-- goes on after a run, unless it was stopped
+infixl 10 ◌then◌
+abbrev pub goes_on : {I E A B : Type 0} → List I → Result A E → (A → Run I E B) → Run I E B
+goes_on items (Ok a) go = behind items (go a)
+goes_on items (Err e) go = record { items = items; ending = Err e }
+
+abbrev pub ◌then◌ : {I E A B : Type 0} → Run I E A → (A → Run I E B) → Run I E B
+r then go = goes_on r.items r.ending go
+
+-- the same for a calculation, in which nothing happens
+infixl 10 ◌>>=◌
+abbrev pub ◌>>=◌ : {A B E : Type 0} → Result A E → (A → Result B E) → Result B E
+(Ok x) >>= f = f x
+(Err e) >>= f = Err e

@@ -1,0 +1,16 @@
+-- Segments of events, one after another.
+use Rattle.std.specs.Prelude.{List, [], ◌∷◌, ◌++◌, Vec, Option, Some, None}
+use Rattle.std.specs.declared.alloc.Global.{Global}
+use Rattle.serial_meaning.specs.declared.event.Event.{Event}
+use Rattle.serial_meaning.specs.declared.out.Segments.{Segments}
+
+abbrev pub joined : List (Vec Event Global) → List Event
+joined [] = []
+joined (segment ∷ segments) = segment.items ++ joined segments
+
+abbrev pub segments_events : Segments → List Event
+segments_events s = joined s.full.items ++ s.last.items
+
+abbrev pub all_events : Option Segments → List Event
+all_events None = []
+all_events (Some s) = segments_events s

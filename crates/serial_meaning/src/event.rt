@@ -1,0 +1,55 @@
+ghost use Rattle.std.specs.Prelude.{◌≡◌, IfOk};
+
+use crate::memory::Memory;
+use crate::value::Value;
+use ped_path::Pedigree;
+
+/// What a strand did, with its pedigree at that moment.
+#[derive(Drop)]
+pub enum Event {
+    Print(Pedigree, Value),
+    /// A random number and the pedigree that it is DotMix of.
+    Draw(Pedigree, u64),
+    /// An object, whose id is this pedigree.
+    New(Pedigree),
+    /// A child was spawned. Its instance has this pedigree as its path.
+    Spawn(Pedigree),
+    /// A sync, written or implied by a `return`.
+    Sync(Pedigree),
+    /// A parallel loop began. Its iterations have this pedigree and their number as their paths.
+    Loop(Pedigree),
+}
+
+/// Why a strand can't go on.
+#[derive(Clone, Copy, Debug, PartialEq, Eq)]
+pub enum FaultKind {
+    /// A divisor was 0.
+    Divide,
+    /// An array has no item at this index, or too few for the loop that fills it.
+    Index,
+    /// A spawn or loop whose pedigrees would be longer than the plan allows.
+    Depth,
+    /// One call more than 256 open ones in an instance.
+    Calls,
+    /// A statement that costs a step where none is left.
+    Budget,
+}
+
+/// A fault, with the pedigree of its strand.
+#[derive(Drop)]
+pub struct Fault {
+    pub kind: FaultKind,
+    pub at: Pedigree,
+}
+
+impl Fault {
+    /// The same fault, over the same memory.
+    pub fn share(&self) -> Result<Fault, Memory>
+        ensures { IfOk result (λ fault. fault ≡ self.now) }
+    {
+        Ok(Fault {
+            kind: self.kind,
+            at: self.at.share()?,
+        })
+    }
+}

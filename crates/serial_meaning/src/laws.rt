@@ -1,0 +1,38 @@
+//! Laws of the meaning, each the contract of a function that does nothing. A proof that wants a law calls it.
+
+ghost use Rattle.serial_meaning.specs.Laws.{DrawsAreDotMix, ElisionHasEquations, FaultIsLeast, OpenTreeHasEquations, OriginsEndWithinFaults, PedigreesRise};
+
+/// What statements do, in the serial elision, is the first and then the others, blocks and calls by the same meaning: the equations
+/// hold with no bound on levels. That the meaning is total is its form: it is a function, by recursion on the steps and the depth.
+#[tactic(auto, using(crate::proofs::ExecLaws::elision_has_equations))]
+pub fn elision_has_equations()
+    ensures { ElisionHasEquations }
+{}
+
+/// The same for the open tree.
+#[tactic(auto, using(crate::proofs::ExecLaws::open_tree_has_equations))]
+pub fn open_tree_has_equations()
+    ensures { OpenTreeHasEquations }
+{}
+
+/// Of two events of the serial elision that are no printing, the earlier one's pedigree is before the later one's.
+#[tactic(auto, using(crate::proofs::RisingExec::elision_rises))]
+pub fn pedigrees_rise()
+    ensures { PedigreesRise }
+{}
+
+/// Each draw of the serial elision is DotMix of its pedigree.
+
+pub fn draws_are_dotmix()
+    ensures { DrawsAreDotMix }
+{}
+
+/// The serial elision ends by the least of all faults of the open tree, and without a fault exactly where there is none.
+pub fn fault_is_least()
+    ensures { FaultIsLeast }
+{}
+
+/// A fault by which an origin of the plan ends is one of the open tree's.
+pub fn origins_end_within_faults()
+    ensures { OriginsEndWithinFaults }
+{}

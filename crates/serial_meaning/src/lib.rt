@@ -1,0 +1,36 @@
+//! What a script means: the types in which runs are told, the definitions of their meaning, and the printed lines.
+//!
+//! The definitions stand in `specs/`, and docs/LANGUAGE.md says the same for people.
+#![tactic(auto)]
+
+pub mod answer;
+pub mod environment;
+pub mod event;
+pub mod laws;
+pub mod memory;
+pub mod origin;
+pub mod out;
+pub mod plan;
+pub mod render;
+pub mod value;
+
+pub use answer::{Answer, Outcome, Strand};
+pub use environment::{Slot, Variable};
+pub use event::{Event, Fault, FaultKind};
+pub use memory::Memory;
+pub use origin::Origin;
+pub use out::Out;
+pub use plan::{Limits, Plan, Show};
+pub use render::{render_run, render_strand};
+pub use value::Value;
+
+fn is_shared<T: Send + Sync>() {}
+
+/// Events and origins may be sent to other threads and read by several at once. The body asks for it, so that a field which
+/// forbids it fails the build.
+pub fn all_are_shared() {
+    is_shared::<Out>();
+    is_shared::<Fault>();
+    is_shared::<Origin>();
+    is_shared::<Strand>();
+}

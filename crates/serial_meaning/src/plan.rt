@@ -1,0 +1,94 @@
+ghost use Rattle.std.specs.Prelude.{◌≡◌, ◌≤◌, length, IfOk};
+ghost use Rattle.serial_meaning.specs.Plan.{IsPlan};
+ghost use Rattle.serial_meaning.specs.Functions.{number_of};
+ghost use Rattle.serial_meaning.specs.Eval.{main_origin};
+
+use crate::memory::Memory;
+use crate::origin::Origin;
+use dotmix::Gamma;
+use ped_path::Ped;
+use script_text::{Function, Items, Script};
+use std::alloc::Global;
+use std::marker::Model;
+
+/// The limits of a run.
+#[derive(Clone, Copy, Debug, PartialEq, Eq)]
+pub struct Limits {
+    /// How long a pedigree may be, from 1 to 256.
+    pub depth: u32,
+    /// How many steps an instance has, from 1 to 4294967295.
+    pub budget: u32,
+}
+
+/// Which events are printed.
+#[derive(Clone, Copy, Debug, PartialEq, Eq)]
+pub enum Show {
+    /// What the script prints.
+    Plain,
+    /// Also the draws and the objects.
+    Log,
+}
+
+/// All that the meaning of a run depends on. There are as many coefficients as the depth, and the limits are in range. No number
+/// of workers stands here, nor anything else that could let the answer depend on them.
+#[derive(Drop)]
+pub struct Plan {
+    pub script: Script,
+    pub gamma: Gamma,
+    pub limits: Limits,
+    pub show: Show,
+}
+
+impl Model for Plan {
+    ghost use Rattle.std.specs.Coded.{codes};
+    ghost use Rattle.script_text.specs.contracts.tree.Script as script_type;
+    ghost use Rattle.serial_meaning.specs.Plan.{PlanView, IsPlan};
+
+    ghost Value = { PlanView };
+
+    ghost coded = { Prim.hlevel (codes, script_type.the_row.coded) };
+
+    ghost view = { λ p. record { script = p.script; gamma = p.gamma; limits = p.limits; show = p.show } };
+
+    ghost invariant = { λ p. IsPlan p.script p.gamma p.limits };
+}
+
+impl Plan {
+    pub fn new(script: Script, gamma: Gamma, limits: Limits, show: Show) -> Plan
+        requires { IsPlan script gamma limits }
+        ensures { result ≡ record { script = script; gamma = gamma; limits = limits; show = show } }
+    {
+        Plan {
+            script,
+            gamma,
+            limits,
+            show,
+        }
+    }
+
+    /// The origin of a whole run: `main` at the empty path. Where there is no `main` it is a function that doesn't exist.
+    pub fn main_origin(&self, alloc: Global) -> Result<Origin, Memory>
+        ensures { IfOk result (λ origin. origin ≡ main_origin self.now) }
+    {
+        Ok(Origin::Instance {
+            function: function_number(self.script.functions.as_slice(), b"main"),
+            args: Items(Vec::new(alloc)),
+            path: Ped::root(alloc)?,
+        })
+    }
+}
+
+/// The place of the first function of this name, or the number of functions where there is none.
+pub fn function_number(functions: &[Function], name: &[u8]) -> u32
+    requires { length functions.now ≤ 1024 }
+    ensures { result ≡ number_of functions.now name.now }
+{
+    let mut number = 0;
+    for function in functions {
+        if function.name.bytes.as_slice() == name {
+            return number;
+        }
+        number += 1;
+    }
+    number
+}
