@@ -1,18 +1,17 @@
 -- Rules by which the lexemes of a text that is known in parts are found: a token is the longest where one more byte makes none,
 -- a blank in front moves the lexemes by one, and a token in front is the first lexeme.
-use Rattle.std.proofs.Common.{◌≡◌, ℕ, zero, suc, ◌+◌, ◌-◌, ◌<◌, ◌≤◌, List, [], ◌∷◌, ◌++◌, length, take, drop, Option, Some, None, Bool, true, false, ◌&&◌, ◌||◌, not, nat_eq, nat_lt, Result, Ok, Err, refl, sym, ap, ◌∙◌, subst, arith, add-zero, if◌then◌else◌}
+use Rattle.std.proofs.Common.{◌≡◌, ℕ, zero, suc, ◌+◌, ◌-◌, ◌<◌, ◌≤◌, List, [], ◌∷◌, ◌++◌, length, take, drop, Option, Some, None, Bool, true, false, ◌&&◌, ◌||◌, nat_eq, Result, Ok, Err, refl, sym, ap, ◌∙◌, subst, arith, add-zero, if◌then◌else◌}
 use Rattle.std.specs.List.{list_all}
 use Rattle.std.specs.Char.{is_ascii_digit}
 use Rattle.std.proofs.Math.Seq.{drop-append_seam}
 use Rattle.std.proofs.lemmas.Bool.Decides.{nat_tests}
 use Rattle.script_tokens.specs.declared.token.Word.{Word}
-use Rattle.script_tokens.specs.declared.token.Word.TheVariants.{Number}
 use Rattle.script_tokens.specs.declared.token.Lexeme.{Lexeme}
 use Rattle.script_tokens.specs.declared.lexing.Stop.{Stop}
-use Rattle.script_tokens.specs.Word.{symbols, word_spelled, is_letter, is_name_byte, word_of}
+use Rattle.script_tokens.specs.Word.{symbols, is_letter, is_name_byte, word_of}
 use Rattle.script_tokens.specs.Lexing.{is_blank, gap_length, comment_length, IsLongest, Stands, token, Comes, Lexes, stops, goes_on, lexeme}
 use Rattle.script_tokens.specs.Laws.{OneMoreByteDecides}
-use Rattle.script_tokens.proofs.Longest.{word_of-letter, word_of-digit, word_of-other, no_long_symbol, keyword_or_name, word_spelled-none, first_passes}
+use Rattle.script_tokens.proofs.Longest.{word_of-letter, word_of-digit, word_of-other, no_long_symbol, word_spelled-none, first_passes}
 use Rattle.script_tokens.proofs.LexingLemmas.{IsNext, lexeme_is_next}
 
 -- what fails on a front fails on each longer front

@@ -1,5 +1,5 @@
 -- The longest token at the front of some bytes, by its first byte.
-use Rattle.std.proofs.Common.{◌≡◌, ℕ, zero, suc, ◌+◌, ◌<◌, ◌≤◌, List, [], ◌∷◌, length, take, Option, Some, None, Bool, true, false, not, ◌&&◌, ◌||◌, nat_lt, nat_le, if◌then◌else◌, refl, sym, ap, ◌∙◌, subst, arith, bytes_eq, cond}
+use Rattle.std.proofs.Common.{◌≡◌, ℕ, zero, suc, ◌+◌, ◌<◌, ◌≤◌, List, [], ◌∷◌, length, take, Option, Some, None, Bool, true, false, not, ◌&&◌, nat_lt, nat_le, if◌then◌else◌, refl, sym, ap, ◌∙◌, subst, arith, bytes_eq, cond}
 use Rattle.std.proofs.Math.Numerals.{one-add}
 use Rattle.std.specs.Prelude.{unwrap_or, option_and_then, slice_get}
 use Rattle.std.specs.List.{list_all, prefix_len}
@@ -9,7 +9,7 @@ use Rattle.std.proofs.lemmas.Bool.Decides.{nat_tests}
 use Rattle.std.proofs.lemmas.List.Sums.{prefix_len-le-length}
 use Rattle.script_tokens.specs.declared.token.Word.{Word}
 use Rattle.script_tokens.specs.declared.token.Word.TheVariants.{Name, Number}
-use Rattle.script_tokens.specs.Word.{Spelling, keywords, symbols, word_spelled, is_letter, is_name_byte, is_name, is_number, word_of}
+use Rattle.script_tokens.specs.Word.{Spelling, keywords, symbols, word_spelled, is_letter, is_name_byte, word_of}
 use Rattle.script_tokens.specs.Lexing.{IsLongest, BeginsNoToken}
 
 both : (x y : Bool) → (x && y) ≡ true → (x ≡ true) × (y ≡ true)
@@ -99,7 +99,7 @@ pub no_long_symbol : (text : List ℕ) → 2 < length text → word_spelled symb
 no_long_symbol text h = word_spelled-none (λ t. nat_lt 2 (length t)) symbols text refl (grind (arith, nat_tests))
 
 -- the longest token, by its first byte
-letter_longest : (b : ℕ) (bs : List ℕ) → is_letter b ≡ true →
+pub letter_longest : (b : ℕ) (bs : List ℕ) → is_letter b ≡ true →
     IsLongest (b ∷ bs) (suc (prefix_len is_name_byte bs)) (keyword_or_name (take (suc (prefix_len is_name_byte bs)) (b ∷ bs)))
 letter_longest b bs h = record {
   within = omega (arith, prefix_len-le-length is_name_byte bs);
@@ -111,7 +111,7 @@ letter_longest b bs h = record {
     past zero g l = absurd (omega arith)
     past (suc m) g l = word_of-letter b (take m bs) false h (past_run is_name_byte bs m (omega arith) (omega arith))
 
-digit_longest : (b : ℕ) (bs : List ℕ) → is_letter b ≡ false → is_ascii_digit b ≡ true → IsLongest (b ∷ bs) (suc (prefix_len is_ascii_digit bs)) Number
+pub digit_longest : (b : ℕ) (bs : List ℕ) → is_letter b ≡ false → is_ascii_digit b ≡ true → IsLongest (b ∷ bs) (suc (prefix_len is_ascii_digit bs)) Number
 digit_longest b bs f h = record {
   within = omega (arith, prefix_len-le-length is_ascii_digit bs);
   token = word_of-digit b (take (prefix_len is_ascii_digit bs) bs) true f h (all_run is_ascii_digit bs);
@@ -130,7 +130,7 @@ past_two b c (d ∷ bs) f g (suc (suc zero)) h l = absurd (omega arith)
 past_two b c (d ∷ bs) f g (suc (suc (suc m))) h l = word_of-other b (c ∷ d ∷ take m bs) f g ∙ no_long_symbol (b ∷ c ∷ d ∷ take m bs) (omega arith)
 
 -- the symbols that the first bytes are
-abbrev NoLongSymbol : ℕ → List ℕ → Type 0
+abbrev pub NoLongSymbol : ℕ → List ℕ → Type 0
 NoLongSymbol b bs = (c : ℕ) (cs : List ℕ) → bs ≡ c ∷ cs → word_spelled symbols (b ∷ c ∷ []) ≡ None
 
 past_one : (b : ℕ) (bs : List ℕ) → is_letter b ≡ false → is_ascii_digit b ≡ false → NoLongSymbol b bs → (m : ℕ) → 1 < m → m ≤ length (b ∷ bs) → word_of (take m (b ∷ bs)) ≡ None
@@ -145,12 +145,12 @@ long_symbol_longest : (b c : ℕ) (bs : List ℕ) (w : Word) → is_letter b ≡
 long_symbol_longest b c bs w f g h =
     record { within = omega arith; token = word_of-other b (c ∷ []) f g ∙ h; longest = past_two b c bs f g }
 
-short_symbol_longest : (b : ℕ) (bs : List ℕ) (w : Word) → is_letter b ≡ false → is_ascii_digit b ≡ false → NoLongSymbol b bs →
+pub short_symbol_longest : (b : ℕ) (bs : List ℕ) (w : Word) → is_letter b ≡ false → is_ascii_digit b ≡ false → NoLongSymbol b bs →
     word_spelled symbols (b ∷ []) ≡ Some w → IsLongest (b ∷ bs) 1 w
 short_symbol_longest b bs w f g k h =
     record { within = omega arith; token = word_of-other b [] f g ∙ h; longest = past_one b bs f g k }
 
-no_front : (b : ℕ) (bs : List ℕ) → is_letter b ≡ false → is_ascii_digit b ≡ false → NoLongSymbol b bs →
+pub no_front : (b : ℕ) (bs : List ℕ) → is_letter b ≡ false → is_ascii_digit b ≡ false → NoLongSymbol b bs →
     word_spelled symbols (b ∷ []) ≡ None → BeginsNoToken (b ∷ bs)
 no_front b bs f g k h zero l = refl
 no_front b bs f g k h (suc zero) l = word_of-other b [] f g ∙ h
@@ -172,13 +172,13 @@ digit_front bytes b bs n e f h g =
     rw (e, count) (digit_longest b bs f h)
 
 -- the symbol of the first byte and the next
-abbrev long_symbol_at : ℕ → List ℕ → Option Word
+abbrev pub long_symbol_at : ℕ → List ℕ → Option Word
 long_symbol_at b bs = option_and_then (λ c. word_spelled symbols (b ∷ c ∷ [])) (slice_get bs 0)
 
-no_long : (b : ℕ) (bs : List ℕ) → None ≡ long_symbol_at b bs → NoLongSymbol b bs
+pub no_long : (b : ℕ) (bs : List ℕ) → None ≡ long_symbol_at b bs → NoLongSymbol b bs
 no_long b bs h c cs e = sym (subst (λ z. None ≡ long_symbol_at b z) e h)
 
-long_longest : (b : ℕ) (bs : List ℕ) (w : Word) → is_letter b ≡ false → is_ascii_digit b ≡ false → Some w ≡ long_symbol_at b bs → IsLongest (b ∷ bs) 2 w
+pub long_longest : (b : ℕ) (bs : List ℕ) (w : Word) → is_letter b ≡ false → is_ascii_digit b ≡ false → Some w ≡ long_symbol_at b bs → IsLongest (b ∷ bs) 2 w
 long_longest b [] w f g h = cc
 long_longest b (c ∷ cs) w f g h = long_symbol_longest b c cs w f g (sym h)
 

@@ -14,6 +14,10 @@ OneMoreByteDecides =
     (bytes : List ℕ) (n : ℕ) (w : Word) → n ≤ length bytes → word_of (take n bytes) ≡ Some w →
     (n < length bytes → word_of (take (suc n) bytes) ≡ None) → IsLongest bytes n w
 
+-- every text is cut
+abbrev pub EveryTextIsCut : Type 0
+EveryTextIsCut = (text : List ℕ) → (ls : List Lexeme) × (stop : Stop) × Lexes 0 text ls stop
+
 -- a text is cut in one way
 abbrev pub LexingIsUnique : Type 0
 LexingIsUnique =

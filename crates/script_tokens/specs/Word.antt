@@ -1,5 +1,5 @@
 -- Which texts are tokens, and which token each is. A token is a name, a keyword, a number or a symbol, and `Word` says which.
-use Rattle.std.specs.Prelude.{ℕ, Bool, true, false, List, [], ◌∷◌, Option, Some, None, ◌||◌, ◌&&◌, ◌==◌, if◌then◌else◌, unwrap_or, codes, bytes_eq}
+use Rattle.std.specs.Prelude.{ℕ, Bool, false, List, [], ◌∷◌, Option, Some, None, ◌||◌, ◌&&◌, ◌==◌, if◌then◌else◌, unwrap_or, codes, bytes_eq}
 use Rattle.std.specs.List.{list_all}
 use Rattle.std.specs.Char.{is_ascii_alphabetic, is_ascii_digit}
 use Rattle.script_tokens.specs.declared.token.Word.{Word}

@@ -1,10 +1,15 @@
 //! What holds of the lexemes of every text, as functions that do nothing: each is proved to ensure its law.
 
-ghost use Rattle.script_tokens.specs.Laws.{LexemesAreTokens, LexemesStandInOrder, LexingIsUnique, NextTokenIsUnique, OneMoreByteDecides};
+ghost use Rattle.script_tokens.specs.Laws.{EveryTextIsCut, LexemesAreTokens, LexemesStandInOrder, LexingIsUnique, NextTokenIsUnique, OneMoreByteDecides};
 
 /// A token at the front of some bytes is the longest there, where one more byte makes no token of it.
 pub fn one_more_byte_decides()
     ensures { OneMoreByteDecides }
+{}
+
+/// Every text is cut into lexemes.
+pub fn every_text_is_cut()
+    ensures { EveryTextIsCut }
 {}
 
 /// A text is cut into lexemes in one way, and they end for one reason.

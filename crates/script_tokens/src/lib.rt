@@ -16,7 +16,7 @@
 //! a number is isn't judged here.
 //!
 //! The definitions stand in `specs/`: `Word` says which texts are tokens, and `Lexing` how a text is cut. The laws of [`laws`] say that
-//! this can be done in one way only.
+//! this can always be done, and in one way only.
 #![tactic(auto)]
 
 mod front;

@@ -1,4 +1,5 @@
 pub mod Answer
+pub mod Columns
 pub mod Eval
 pub mod Exec
 pub mod Functions

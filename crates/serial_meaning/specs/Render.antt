@@ -1,7 +1,7 @@
 -- The printed lines of a run (docs/LANGUAGE.md, "Printed lines"). Each ends with a line feed.
 use Rattle.std.specs.Prelude.{ℕ, List, [], ◌++◌, Option, Some, None, codes, decimal, flat_map}
 use Rattle.std.specs.Fmt.{signed_decimal}
-use Rattle.std.specs.List.{join_by}
+use Rattle.ped_path.specs.Text.{ped_text}
 use Rattle.serial_meaning.specs.Answer.{AnswerView}
 use Rattle.serial_meaning.specs.declared.value.Value.{Value}
 use Rattle.serial_meaning.specs.declared.value.Value.TheVariants.{Int, Id}
@@ -15,9 +15,6 @@ use Rattle.serial_meaning.specs.declared.plan.Show.TheVariants.{Plain, Log}
 use Rattle.serial_meaning.specs.declared.answer.Outcome.{Outcome}
 use Rattle.serial_meaning.specs.declared.answer.Outcome.TheVariants as outcome
 use Rattle.serial_meaning.specs.declared.answer.Strand.{Strand}
-
-abbrev pub ped_text : List ℕ → List ℕ
-ped_text ranks = join_by decimal (codes ".") ranks
 
 abbrev pub line : List ℕ → List ℕ
 line text = text ++ codes "\n"
@@ -64,6 +61,13 @@ end_line (outcome.Value v) = []
 end_line (outcome.Values vs) = []
 end_line (outcome.Fault f) = fault_line f
 end_line (outcome.Cut f) = []
+
+-- The origin was run to its end.
+abbrev pub IsWhole : Outcome → Type 0
+IsWhole (outcome.Value v) = Unit {0}
+IsWhole (outcome.Values vs) = Unit {0}
+IsWhole (outcome.Fault f) = Unit {0}
+IsWhole (outcome.Cut f) = ⊥
 
 -- the lines of the events in order, and then a line of the fault
 abbrev pub rendered : Show → List Event → Outcome → List ℕ

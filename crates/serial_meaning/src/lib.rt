@@ -11,6 +11,7 @@ pub mod memory;
 pub mod origin;
 pub mod out;
 pub mod plan;
+pub mod render;
 pub mod value;
 
 pub use answer::{Answer, Outcome, Strand};
@@ -20,6 +21,7 @@ pub use memory::Memory;
 pub use origin::Origin;
 pub use out::Out;
 pub use plan::{Limits, Plan, Show};
+pub use render::{render_run, render_strand};
 pub use value::Value;
 
 fn is_shared<T: Send + Sync>() {}

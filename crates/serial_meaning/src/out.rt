@@ -1,4 +1,5 @@
-ghost use Rattle.std.specs.Prelude.{◌≡◌, [], ◌∷◌, ◌++◌, length, OnOk, OnErr, slice_get, option_copied};
+ghost use Rattle.std.specs.Prelude.{◌≡◌, [], ◌∷◌, ◌++◌, length, OnOk, OnErr, slice_get, option_copied, IfSome, IfNone};
+ghost use Rattle.serial_meaning.specs.Segments.{joined};
 
 use crate::event::Event;
 use crate::memory::Memory;
@@ -101,10 +102,21 @@ impl Out {
             None => None,
         }
     }
+
+    /// The full segments and the last one, where there is any event.
+    pub(crate) fn segments(&self) -> Option<(&[Vec<Event>], &[Event])>
+        ensures some { IfSome result (λ parts. joined parts.0.now ++ parts.1.now ≡ self.now) }
+        ensures none { IfNone result (self.now ≡ []) }
+    {
+        match &self.segments {
+            Some(segments) => Some((segments.full.as_slice(), segments.last.as_slice())),
+            None => None,
+        }
+    }
 }
 
 impl Segments {
-    ghost use Rattle.serial_meaning.specs.Segments.{joined, segments_events};
+    ghost use Rattle.serial_meaning.specs.Segments.{segments_events};
 
     /// Puts the other segments behind these, whose last one grows no more.
     #[tactic(auto, using(crate::proofs::SegmentLemmas::joined_after))]

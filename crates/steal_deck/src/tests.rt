@@ -20,11 +20,11 @@ fn owner_takes_the_newest_and_thief_the_oldest(rt: HostRuntime) -> Result<(), Me
     for task in ['a', 'b', 'c'] {
         assert!(rt; deck.push(task).is_ok(), "a push among the first 64");
     }
-    assert!(rt; matches!(thief.steal(), Steal::Took('a')), "the oldest");
-    assert!(rt; deck.pop() == Some('c'), "the newest");
-    assert!(rt; deck.pop() == Some('b'), "the newest but one");
-    assert!(rt; deck.pop() == None, "none is left");
-    assert!(rt; matches!(thief.steal(), Steal::Nothing), "nothing is left");
+    assert_eq!(rt; thief.steal(), Steal::Took('a'), "the oldest");
+    assert_eq!(rt; deck.pop(), Some('c'), "the newest");
+    assert_eq!(rt; deck.pop(), Some('b'), "the newest but one");
+    assert_eq!(rt; deck.pop(), None, "none is left");
+    assert_eq!(rt; thief.steal(), Steal::Nothing, "nothing is left");
     Ok(())
 }
 
@@ -35,12 +35,12 @@ fn closed_deck_gives_what_is_left(rt: HostRuntime) -> Result<(), Memory> {
     assert!(rt; deck.push('a').is_ok(), "a push among the first 64");
     assert!(rt; deck.push('b').is_ok(), "a push among the first 64");
     assert!(rt; deck.push('c').is_ok(), "a push among the first 64");
-    assert!(rt; matches!(thief.steal(), Steal::Took('a')), "the oldest");
+    assert_eq!(rt; thief.steal(), Steal::Took('a'), "the oldest");
     deck.rejoin(thief);
     let mut left = deck.close();
-    assert!(rt; left.pop() == Some('c'), "the last");
-    assert!(rt; left.pop() == Some('b'), "the first");
-    assert!(rt; left.pop() == None, "none is left");
+    assert_eq!(rt; left.pop(), Some('c'), "the last");
+    assert_eq!(rt; left.pop(), Some('b'), "the first");
+    assert_eq!(rt; left.pop(), None, "none is left");
     Ok(())
 }
 

@@ -1,0 +1,147 @@
+ghost use Rattle.std.specs.Prelude.{◌≡◌, ◌++◌, ◌∷◌, List, [], IfOk, OnOk, codes, decimal, flat_map};
+ghost use Rattle.std.specs.Fmt.{signed_decimal};
+ghost use Rattle.ped_path.specs.Text.{ped_text};
+ghost use Rattle.serial_meaning.specs.Segments.{joined};
+ghost use Rattle.serial_meaning.specs.Render.{IsWhole, answer_text, strand_text, event_line, strand_line, line, draw_line, value_text, kind_text, fault_line};
+ghost use Rattle.serial_meaning.specs.Columns.{line_in};
+
+use crate::answer::{Answer, Outcome, Strand};
+use crate::event::{Event, Fault, FaultKind};
+use crate::memory::Memory;
+use crate::out::Out;
+use crate::plan::{Plan, Show};
+use crate::value::Value;
+use itoa::Buffer;
+use ped_path::{Pedigree, write_pedigree};
+use std::alloc::Global;
+
+/// The three forms in which events are printed.
+#[derive(Clone, Copy, Debug, PartialEq, Eq)]
+enum Column {
+    Run(Show),
+    Strand,
+}
+
+/// What a run prints: the lines of its events in order, and at the end a line of its fault. Which events have a line is for the
+/// plan's show to say.
+pub fn render_run(alloc: Global, answer: &Answer) -> Result<Vec<u8>, Memory>
+    requires { IsWhole answer.now.outcome }
+    ensures { IfOk result (λ text. text.items ≡ answer_text answer.now) }
+{
+    let plan: &Plan = &answer.plan;
+    let mut text = Vec::new(alloc);
+    write_events(Column::Run(plan.show), &answer.out, &mut text)?;
+    if let Outcome::Fault(fault) = &answer.outcome {
+        write_fault(fault, &mut text)?;
+    }
+    Ok(text)
+}
+
+/// What a strand prints: a line of each of its events, and at the end a line of its own fault.
+pub fn render_strand(alloc: Global, strand: &Strand) -> Result<Vec<u8>, Memory>
+    ensures { IfOk result (λ text. text.items ≡ strand_text strand.now) }
+{
+    let mut text = Vec::new(alloc);
+    write_events(Column::Strand, &strand.events, &mut text)?;
+    if let Some(fault) = &strand.fault {
+        write_fault(fault, &mut text)?;
+    }
+    Ok(text)
+}
+
+fn write_events(column: Column, events: &Out, text: &mut Vec<u8>) -> Result<(), Memory>
+    ensures { OnOk result (text.new.items ≡ text.old.items ++ flat_map (line_in column) events.now) }
+{
+    if let Some((full, last)) = events.segments() {
+        write_segments(column, full, text)?;
+        write_segment(column, last, text)?;
+    }
+    Ok(())
+}
+
+fn write_segments(column: Column, segments: &[Vec<Event>], text: &mut Vec<u8>) -> Result<(), Memory>
+    ensures { OnOk result (text.new.items ≡ text.old.items ++ flat_map (line_in column) (joined segments.now)) }
+{
+    for segment in segments {
+        write_segment(column, segment, text)?;
+    }
+    Ok(())
+}
+
+fn write_segment(column: Column, events: &[Event], text: &mut Vec<u8>) -> Result<(), Memory>
+    ensures { OnOk result (text.new.items ≡ text.old.items ++ flat_map (line_in column) events.now) }
+{
+    for event in events {
+        write_event(column, event, text)?;
+    }
+    Ok(())
+}
+
+fn write_event(column: Column, event: &Event, text: &mut Vec<u8>) -> Result<(), Memory>
+    ensures { OnOk result (text.new.items ≡ text.old.items ++ line_in column event.now) }
+{
+    match (column, event) {
+        (_, Event::Print(_, value)) => write_value(value, text),
+        (Column::Run(Show::Plain), _) => Ok(()),
+        (_, Event::Draw(at, number)) => write_draw(at, *number, text),
+        (_, Event::New(at)) => write_named(b"new ", at, text),
+        (Column::Run(Show::Log), _) => Ok(()),
+        (Column::Strand, Event::Spawn(at)) => write_named(b"spawn ", at, text),
+        (Column::Strand, Event::Sync(at)) => write_named(b"sync ", at, text),
+        (Column::Strand, Event::Loop(at)) => write_named(b"loop ", at, text),
+    }
+}
+
+fn write_value(value: &Value, text: &mut Vec<u8>) -> Result<(), Memory>
+    ensures { OnOk result (text.new.items ≡ text.old.items ++ line (value_text value.now)) }
+{
+    match value {
+        Value::Int(number) => text.extend_from_slice(Buffer::new().format(*number).as_bytes())?,
+        Value::Id(object) => write_pedigree(object, text)?,
+    }
+    text.push(b'\n')?;
+    Ok(())
+}
+
+fn write_named(name: &[u8], at: &Pedigree, text: &mut Vec<u8>) -> Result<(), Memory>
+    ensures { OnOk result (text.new.items ≡ text.old.items ++ line (name.now ++ ped_text at.now)) }
+{
+    text.extend_from_slice(name)?;
+    write_pedigree(at, text)?;
+    text.push(b'\n')?;
+    Ok(())
+}
+
+fn write_draw(at: &Pedigree, number: u64, text: &mut Vec<u8>) -> Result<(), Memory>
+    ensures { OnOk result (text.new.items ≡ text.old.items ++ draw_line at.now number) }
+{
+    text.extend_from_slice(b"draw ")?;
+    write_pedigree(at, text)?;
+    text.extend_from_slice(b" = ")?;
+    text.extend_from_slice(Buffer::new().format(number).as_bytes())?;
+    text.push(b'\n')?;
+    Ok(())
+}
+
+fn write_fault(fault: &Fault, text: &mut Vec<u8>) -> Result<(), Memory>
+    ensures { OnOk result (text.new.items ≡ text.old.items ++ fault_line fault.now) }
+{
+    text.extend_from_slice(b"fault ")?;
+    write_pedigree(&fault.at, text)?;
+    text.extend_from_slice(b": ")?;
+    text.extend_from_slice(kind_name(fault.kind).as_bytes())?;
+    text.push(b'\n')?;
+    Ok(())
+}
+
+fn kind_name(kind: FaultKind) -> &'static str
+    ensures { result.now ≡ kind_text kind }
+{
+    match kind {
+        FaultKind::Divide => "division by zero",
+        FaultKind::Index => "index out of range",
+        FaultKind::Depth => "depth",
+        FaultKind::Calls => "calls",
+        FaultKind::Budget => "budget spent",
+    }
+}
