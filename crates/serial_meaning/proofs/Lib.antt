@@ -1,14 +1,17 @@
 pub mod Children
 pub mod Closed
+pub mod Computing
 pub mod Cut
 pub mod Draws
 pub mod Each
 pub mod ExecLaws
 pub mod Least
+pub mod Named
 pub mod Order
 pub mod Origins
 pub mod Rising
 pub mod RisingExec
 pub mod RunLaws
+pub mod ScriptRuns
 pub mod SegmentLemmas
 pub mod Sim

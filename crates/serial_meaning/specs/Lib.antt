@@ -1,6 +1,7 @@
 pub mod Answer
 pub mod Columns
 pub mod Eval
+pub mod Examples
 pub mod Exec
 pub mod Functions
 pub mod Laws
@@ -10,4 +11,5 @@ pub mod Plan
 pub mod Render
 pub mod Runs
 pub mod Segments
+pub mod Trees
 pub mod Values

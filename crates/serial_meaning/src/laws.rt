@@ -1,6 +1,6 @@
 //! Laws of the meaning, each the contract of a function that does nothing. A proof that wants a law calls it.
 
-ghost use Rattle.serial_meaning.specs.Laws.{DrawsAreDotMix, ElisionHasEquations, FaultIsLeast, OpenTreeHasEquations, OriginsEndWithinFaults, PedigreesRise};
+ghost use Rattle.serial_meaning.specs.Laws.{DrawsAreDotMix, ElisionHasEquations, FaultIsLeast, OpenTreeHasEquations, OriginsEndWithinFaults, PedigreesRise, ValuesDependOnNames};
 
 /// What statements do, in the serial elision, is the first and then the others, blocks and calls by the same meaning: the equations
 /// hold with no bound on levels. That the meaning is total is its form: it is a function, by recursion on the steps and the depth.
@@ -35,4 +35,9 @@ pub fn fault_is_least()
 /// A fault by which an origin of the plan ends is one of the open tree's.
 pub fn origins_end_within_faults()
     ensures { OriginsEndWithinFaults }
+{}
+
+/// An expression's value depends on no variable that it doesn't name.
+pub fn values_depend_on_names()
+    ensures { ValuesDependOnNames }
 {}

@@ -6,12 +6,15 @@
 pub mod answer;
 pub mod environment;
 pub mod event;
+pub mod examples;
 pub mod laws;
 pub mod memory;
 pub mod origin;
 pub mod out;
 pub mod plan;
 pub mod render;
+#[cfg(test)]
+mod tests;
 pub mod value;
 
 pub use answer::{Answer, Outcome, Strand};

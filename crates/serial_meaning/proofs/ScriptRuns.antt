@@ -1,0 +1,41 @@
+-- Proofs of the examples: the meaning of each script is computed.
+use Rattle.std.proofs.Common.{refl}
+use Rattle.script_text.specs.declared.tree.Act.{out-Act}
+use Rattle.serial_meaning.specs.Examples.{ThreeStepsAreTooFew, FourStepsAreEnough, SpawnNeedsDepthTwo, DepthTwoIsEnoughForASpawn, EmptyLoopRaisesTheRank, TargetMustHaveRoom, CallsShareTheRank, ImpliedSyncRaisesTheRank, CallsEndAt256}
+use Rattle.serial_meaning.proofs.Computing.{value_of-number, value_of-variable, spawns-out}
+
+pub three_steps_are_too_few : ThreeStepsAreTooFew
+unfolding out-Act denote.Hole.Carrier.out
+three_steps_are_too_few = simp value_of-number
+
+pub four_steps_are_enough : FourStepsAreEnough
+unfolding out-Act denote.Hole.Carrier.out
+four_steps_are_enough = simp (value_of-number, spawns-out)
+
+pub spawn_needs_depth_two : SpawnNeedsDepthTwo
+unfolding out-Act denote.Hole.Carrier.out
+spawn_needs_depth_two = refl
+
+pub depth_two_is_enough_for_a_spawn : DepthTwoIsEnoughForASpawn
+unfolding out-Act denote.Hole.Carrier.out
+depth_two_is_enough_for_a_spawn = simp (value_of-number, spawns-out)
+
+pub empty_loop_raises_the_rank : EmptyLoopRaisesTheRank
+unfolding out-Act denote.Hole.Carrier.out
+empty_loop_raises_the_rank = simp (value_of-number, value_of-variable, spawns-out)
+
+pub target_must_have_room : TargetMustHaveRoom
+unfolding out-Act denote.Hole.Carrier.out
+target_must_have_room = simp value_of-number
+
+pub calls_share_the_rank : CallsShareTheRank
+unfolding out-Act denote.Hole.Carrier.out
+calls_share_the_rank = simp (value_of-number, value_of-variable, spawns-out)
+
+pub implied_sync_raises_the_rank : ImpliedSyncRaisesTheRank
+unfolding out-Act denote.Hole.Carrier.out
+implied_sync_raises_the_rank = simp (value_of-number, value_of-variable, spawns-out)
+
+pub calls_end_at_256 : CallsEndAt256
+unfolding out-Act denote.Hole.Carrier.out
+calls_end_at_256 = refl

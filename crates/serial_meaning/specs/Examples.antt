@@ -1,0 +1,124 @@
+-- What the definitions say of small scripts. Each is the contract of a function of the module `examples`, which shows the script.
+use Rattle.std.specs.Prelude.{◌≡◌, ℕ, List, [], ◌∷◌, Option, Some, None, Ok, Err, codes}
+use Rattle.std.specs.Prelude.{ℤ, pos}
+use Rattle.script_text.specs.declared.tree.Function.{Function}
+use Rattle.script_text.specs.declared.tree.ProductSign.TheVariants as sign
+use Rattle.script_text.specs.declared.tree.Right.TheVariants as right
+use Rattle.script_text.specs.declared.tree.Act.TheVariants as act
+use Rattle.serial_meaning.specs.Trees.{named, number, variable, product, applied, call, stated, int_param, function}
+use Rattle.serial_meaning.specs.Runs.{Run}
+use Rattle.serial_meaning.specs.Plan.{PlanView}
+use Rattle.serial_meaning.specs.Eval.{elision}
+use Rattle.serial_meaning.specs.declared.plan.Show.TheVariants.{Plain}
+use Rattle.serial_meaning.specs.declared.value.Value.TheVariants.{Int}
+use Rattle.serial_meaning.specs.declared.event.FaultKind.TheVariants as fault
+use Rattle.serial_meaning.specs.declared.event.Event.TheVariants as event
+
+-- a plan with the coefficients 1, 0, 0
+abbrev pub plan_of : List Function → ℕ → PlanView
+plan_of functions budget = record { script = record { functions = functions }; gamma = 1 ∷ 0 ∷ 0 ∷ []; limits = record { depth = 3; budget = budget }; show = Plain }
+
+abbrev pub three_prints : List Function
+three_prints =
+    function (codes "main") [] (stated (act.Print (number 1)) ∷ stated (act.Print (number 2)) ∷ stated (act.Print (number 3)) ∷ []) (number 0) ∷ []
+
+-- With three steps the three statements are done, and the return finds none.
+abbrev pub ThreeStepsAreTooFew : Type 0
+ThreeStepsAreTooFew =
+    elision (plan_of three_prints 3) ≡ record { items = event.Print (0 ∷ []) (Int (pos 1)) ∷ event.Print (0 ∷ []) (Int (pos 2)) ∷ event.Print (0 ∷ []) (Int (pos 3)) ∷ []; ending = Err (record { kind = fault.Budget; at = 0 ∷ [] }) }
+
+abbrev pub FourStepsAreEnough : Type 0
+FourStepsAreEnough =
+    elision (plan_of three_prints 4) ≡ record { items = event.Print (0 ∷ []) (Int (pos 1)) ∷ event.Print (0 ∷ []) (Int (pos 2)) ∷ event.Print (0 ∷ []) (Int (pos 3)) ∷ []; ending = Ok (Int (pos 0) ∷ []) }
+
+abbrev pub one_spawn : List Function
+one_spawn =
+    function (codes "f") [] [] (number 0)
+    ∷ function (codes "main") [] (stated (act.Spawn (applied (codes "f") [])) ∷ []) (number 0)
+    ∷ []
+
+abbrev pub with_depth : ℕ → List ℕ → PlanView → PlanView
+with_depth depth gamma plan = record plan { gamma = gamma; limits = record { depth = depth; budget = plan.limits.budget } }
+
+-- A child's pedigrees have two ranks.
+abbrev pub SpawnNeedsDepthTwo : Type 0
+SpawnNeedsDepthTwo = elision (with_depth 1 (1 ∷ []) (plan_of one_spawn 20)) ≡ record { items = []; ending = Err (record { kind = fault.Depth; at = 0 ∷ [] }) }
+
+-- The spawn is an event, and so is the sync that the return implies.
+abbrev pub DepthTwoIsEnoughForASpawn : Type 0
+DepthTwoIsEnoughForASpawn =
+    elision (with_depth 2 (1 ∷ 0 ∷ []) (plan_of one_spawn 20)) ≡ record { items = event.Spawn (0 ∷ []) ∷ event.Sync (1 ∷ []) ∷ []; ending = Ok (Int (pos 0) ∷ []) }
+
+abbrev pub empty_loop : List Function
+empty_loop =
+    function (codes "f") (int_param (codes "i") ∷ []) [] (variable (codes "i"))
+    ∷ function (codes "main") []
+    (stated (act.Pfor (named (codes "i")) (number 3) (number 3) None (applied (codes "f") []))
+    ∷ stated (act.Let (named (codes "x")) (right.Draw 0))
+    ∷ stated (act.Print (variable (codes "x")))
+    ∷ [])
+    (number 0)
+    ∷ []
+
+-- A loop of no iteration raises the rank too, so that the draw is the one of rank 1.
+abbrev pub EmptyLoopRaisesTheRank : Type 0
+EmptyLoopRaisesTheRank =
+    elision (plan_of empty_loop 20) ≡ record { items = event.Loop (0 ∷ []) ∷ event.Draw (1 ∷ []) 210 ∷ event.Print (2 ∷ []) (Int (pos 210)) ∷ []; ending = Ok (Int (pos 0) ∷ []) }
+
+abbrev pub six_squares_into_five : List Function
+six_squares_into_five =
+    function (codes "sq") (int_param (codes "i") ∷ []) [] (product (variable (codes "i")) sign.Times (variable (codes "i")))
+    ∷ function (codes "main") []
+    (stated (act.Array (named (codes "a")) (record { at = 0; value = pos 5 }))
+    ∷ stated (act.Pfor (named (codes "i")) (number 0) (number 6) (Some (named (codes "a"))) (applied (codes "sq") []))
+    ∷ [])
+    (number 0)
+    ∷ []
+
+-- A loop whose target has too few items does nothing else.
+abbrev pub TargetMustHaveRoom : Type 0
+TargetMustHaveRoom = elision (plan_of six_squares_into_five 20) ≡ record { items = []; ending = Err (record { kind = fault.Index; at = 0 ∷ [] }) }
+
+abbrev pub two_calls : List Function
+two_calls =
+    function (codes "f") [] (stated (act.Let (named (codes "x")) (right.Draw 0)) ∷ []) (variable (codes "x"))
+    ∷ function (codes "main") []
+    (stated (act.Let (named (codes "a")) (call (codes "f") []))
+    ∷ stated (act.Let (named (codes "b")) (call (codes "f") []))
+    ∷ stated (act.Print (variable (codes "a")))
+    ∷ stated (act.Print (variable (codes "b")))
+    ∷ [])
+    (number 0)
+    ∷ []
+
+-- A call goes on from the caller's rank.
+abbrev pub CallsShareTheRank : Type 0
+CallsShareTheRank =
+    elision (plan_of two_calls 20) ≡ record { items = event.Draw (0 ∷ []) 21 ∷ event.Draw (1 ∷ []) 210 ∷ event.Print (2 ∷ []) (Int (pos 21)) ∷ event.Print (2 ∷ []) (Int (pos 210)) ∷ []; ending = Ok (Int (pos 0) ∷ []) }
+
+abbrev pub spawn_in_a_callee : List Function
+spawn_in_a_callee =
+    function (codes "h") [] [] (number 0)
+    ∷ function (codes "g") [] (stated (act.Spawn (applied (codes "h") [])) ∷ []) (number 0)
+    ∷ function (codes "main") []
+    (stated (act.Call (applied (codes "g") []))
+    ∷ stated (act.Let (named (codes "x")) (right.Draw 0))
+    ∷ stated (act.Print (variable (codes "x")))
+    ∷ [])
+    (number 0)
+    ∷ []
+
+-- The return of a function with a spawn in it implies a sync, which raises the rank.
+abbrev pub ImpliedSyncRaisesTheRank : Type 0
+ImpliedSyncRaisesTheRank =
+    elision (plan_of spawn_in_a_callee 20) ≡ record { items = event.Spawn (0 ∷ []) ∷ event.Sync (1 ∷ []) ∷ event.Draw (2 ∷ []) 903 ∷ event.Print (3 ∷ []) (Int (pos 903)) ∷ []; ending = Ok (Int (pos 0) ∷ []) }
+
+abbrev pub endless_calls : List Function
+endless_calls =
+    function (codes "f") [] (stated (act.Call (applied (codes "f") [])) ∷ []) (number 0)
+    ∷ function (codes "main") [] (stated (act.Call (applied (codes "f") [])) ∷ []) (number 0)
+    ∷ []
+
+-- The call behind 256 open ones is a fault.
+abbrev pub CallsEndAt256 : Type 0
+CallsEndAt256 = elision (plan_of endless_calls 300) ≡ record { items = []; ending = Err (record { kind = fault.Calls; at = 0 ∷ [] }) }

@@ -1,0 +1,59 @@
+//! What the definitions say of small scripts. Each function does nothing; its contract is the example. The coefficients are 1, 0
+//! and 0, so that a draw at rank r of main is `mix` of r + 1.
+
+ghost use Rattle.serial_meaning.specs.Examples.{CallsEndAt256, CallsShareTheRank, DepthTwoIsEnoughForASpawn, EmptyLoopRaisesTheRank, FourStepsAreEnough, ImpliedSyncRaisesTheRank, SpawnNeedsDepthTwo, TargetMustHaveRoom, ThreeStepsAreTooFew};
+
+/// `fn main() { print 1; print 2; print 3; return 0; }` with a budget of 3 prints 1, 2 and 3 and ends by the fault Budget at 0.
+#[tactic(auto, using(crate::proofs::ScriptRuns::three_steps_are_too_few))]
+pub fn three_steps_are_too_few()
+    ensures { ThreeStepsAreTooFew }
+{}
+
+/// The same with a budget of 4 ends well.
+#[tactic(auto, using(crate::proofs::ScriptRuns::four_steps_are_enough))]
+pub fn four_steps_are_enough()
+    ensures { FourStepsAreEnough }
+{}
+
+/// `fn f() { return 0; } fn main() { spawn f(); return 0; }` at depth 1 ends by the fault Depth at 0.
+#[tactic(auto, using(crate::proofs::ScriptRuns::spawn_needs_depth_two))]
+pub fn spawn_needs_depth_two()
+    ensures { SpawnNeedsDepthTwo }
+{}
+
+/// The same at depth 2 ends well, with the events Spawn at 0 and Sync at 1.
+#[tactic(auto, using(crate::proofs::ScriptRuns::depth_two_is_enough_for_a_spawn))]
+pub fn depth_two_is_enough_for_a_spawn()
+    ensures { DepthTwoIsEnoughForASpawn }
+{}
+
+/// `fn f(i) { return i; } fn main() { pfor i in 3..3 call f(i); let x = draw; print x; return 0; }` prints 210.
+#[tactic(auto, using(crate::proofs::ScriptRuns::empty_loop_raises_the_rank))]
+pub fn empty_loop_raises_the_rank()
+    ensures { EmptyLoopRaisesTheRank }
+{}
+
+/// `fn sq(i) { return i * i; } fn main() { let a[5]; pfor i in 0..6 into a call sq(i); return 0; }` ends by the fault Index at 0.
+#[tactic(auto, using(crate::proofs::ScriptRuns::target_must_have_room))]
+pub fn target_must_have_room()
+    ensures { TargetMustHaveRoom }
+{}
+
+/// `fn f() { let x = draw; return x; } fn main() { let a = call f(); let b = call f(); print a; print b; return 0; }` prints 21 and
+/// 210.
+#[tactic(auto, using(crate::proofs::ScriptRuns::calls_share_the_rank))]
+pub fn calls_share_the_rank()
+    ensures { CallsShareTheRank }
+{}
+
+/// `fn h() { return 0; } fn g() { spawn h(); return 0; } fn main() { call g(); let x = draw; print x; return 0; }` prints 903.
+#[tactic(auto, using(crate::proofs::ScriptRuns::implied_sync_raises_the_rank))]
+pub fn implied_sync_raises_the_rank()
+    ensures { ImpliedSyncRaisesTheRank }
+{}
+
+/// `fn f() { call f(); return 0; } fn main() { call f(); return 0; }` ends by the fault Calls at 0.
+#[tactic(auto, using(crate::proofs::ScriptRuns::calls_end_at_256))]
+pub fn calls_end_at_256()
+    ensures { CallsEndAt256 }
+{}

@@ -1,0 +1,42 @@
+ghost use Rattle.std.specs.Prelude.{◌≡◌, ◌++◌, ◌<◌, ◌^◌, []};
+
+use crate::{Event, Fault, FaultKind, Memory, Out, Strand, Value, render_strand};
+use ped_path::{Ped, Pedigree};
+use std::alloc::Global;
+use std::test::Fail;
+
+/// The pedigree of the strand with this rank in main's instance.
+fn strand(alloc: Global, rank: u32) -> Result<Pedigree, Memory> {
+    Ok(Pedigree {
+        path: Ped::root(alloc)?,
+        rank: rank as u64,
+    })
+}
+
+#[test]
+fn a_strand_prints_a_line_of_each_event_and_its_fault(rt: HostRuntime) -> Result<(), Fail> {
+    let alloc = rt.alloc();
+    let mut events = Out::new();
+    events.push(alloc, Event::Print(strand(alloc, 0)?, Value::Int(-3)))?;
+    events.push(alloc, Event::Draw(strand(alloc, 1)?, 21))?;
+    events.push(alloc, Event::New(strand(alloc, 2)?))?;
+    events.push(alloc, Event::Spawn(strand(alloc, 3)?))?;
+    events.push(alloc, Event::Sync(strand(alloc, 4)?))?;
+    events.push(alloc, Event::Loop(strand(alloc, 5)?))?;
+    let fault = Fault {
+        kind: FaultKind::Index,
+        at: strand(alloc, 6)?,
+    };
+    let text = render_strand(
+        alloc,
+        &Strand {
+            events,
+            fault: Some(fault),
+        },
+    )?;
+    assert_eq!(rt;
+        text.as_slice(),
+        b"-3\ndraw 1 = 21\nnew 2\nspawn 3\nsync 4\nloop 5\nfault 6: index out of range\n".as_slice()
+    );
+    Ok(())
+}
