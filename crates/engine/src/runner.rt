@@ -3,7 +3,7 @@
 ghost use Rattle.std.specs.Prelude.{◌≡◌, ◌+◌, ◌<◌, ◌≤◌, ◌^◌, [], ◌∷◌, ◌++◌, length, All, IfOk, IfErr, IfSome, OnOk, slice_get};
 ghost use Rattle.std.specs.Option.{option_copied};
 ghost use Rattle.dotmix.specs.Draws.{dotmix};
-ghost use Rattle.serial_meaning.specs.Plan.{functions_of};
+ghost use Rattle.serial_meaning.specs.Plan.{IsPlan, functions_of};
 ghost use Rattle.serial_meaning.specs.Functions.{number_of, any_spawns, spawns, is_spawn};
 ghost use Rattle.serial_meaning.specs.Eval.{elision};
 ghost use Rattle.engine.specs.Built.{IsFunction, IsRight, IsSpawned, IsStatement, IsSum};
@@ -59,7 +59,7 @@ fn pedigree(path: &Ped, rank: u64) -> Result<Pedigree, Memory>
     Ok(Pedigree { path, rank })
 }
 
-fn number_of_name(functions: &[Function], name: &[u8]) -> usize
+fn number(functions: &[Function], name: &[u8]) -> usize
     ensures { result ≡ number_of functions.now name.now }
 {
     for i in 0..functions.len() {
@@ -70,20 +70,11 @@ fn number_of_name(functions: &[Function], name: &[u8]) -> usize
     functions.len()
 }
 
-// What the runner reads of its plan.
-
-fn number(plan: &Plan, name: &[u8]) -> usize
-    ensures { result ≡ number_of (functions_of plan.now) name.now }
-{
-    number_of_name(plan.script.functions.as_slice(), name)
-}
-
-fn function_at(plan: &Plan, n: usize) -> Option<&Function>
-    requires { All IsFunction (functions_of plan.now) }
-    ensures found { option_copied result ≡ slice_get (functions_of plan.now) n }
+fn function_at(functions: &[Function], n: usize) -> Option<&Function>
+    requires { All IsFunction functions.now }
+    ensures found { option_copied result ≡ slice_get functions.now n }
     ensures built { IfSome result (λ f. IsFunction f.now) }
 {
-    let functions = plan.script.functions.as_slice();
     if n < functions.len() {
         Some(&functions[n])
     } else {
@@ -91,9 +82,22 @@ fn function_at(plan: &Plan, n: usize) -> Option<&Function>
     }
 }
 
-fn depth(plan: &Plan) -> u64
-    ensures { result ≡ plan.now.limits.depth }
+// What the runner reads of its plan.
+
+fn functions(plan: &Plan) -> &[Function]
+    ensures { result.now ≡ functions_of plan.now }
 {
+    plan.script.functions.as_slice()
+}
+
+fn depth(plan: &Plan) -> u64
+    ensures value { result ≡ plan.now.limits.depth }
+
+    // What holds of every plan.
+    ensures plan { IsPlan plan.now.script plan.now.gamma plan.now.limits }
+    ensures fits { plan.now.limits.budget < 2 ^ 32 }
+{
+    let _budget = plan.limits.budget;
     plan.limits.depth as u64
 }
 
@@ -182,7 +186,7 @@ fn spawn(
     }
     let child = path.child(alloc, spot.rank)?;
     emit(alloc, out, Event::Spawn(pedigree(path, spot.rank)?))?;
-    let n = number(plan, call.name.bytes.as_slice());
+    let n = number(functions(plan), call.name.bytes.as_slice());
     let value = instance(alloc, plan, left - 1, n, &child, out)?;
     spot.rank += 1;
     Ok(value)
@@ -326,7 +330,7 @@ fn instance(
     ensures ended { IfOk result (λ v. Ended out.old (evaluated plan.now left number path.now) out.new (v ∷ [])) }
     ensures stopped { IfErr result (λ e. Stopped out.old (evaluated plan.now left number path.now) out.new e) }
 {
-    let Some(function) = function_at(plan, number) else {
+    let Some(function) = function_at(functions(plan), number) else {
         return Ok(Value::Int(0));
     };
     let mut spot = Spot {
@@ -345,6 +349,6 @@ pub fn run(alloc: Global, plan: &Plan, out: &mut Out) -> Result<Value, Halt>
     ensures stopped { IfErr result (λ e. Stopped out.old (elision plan.now) out.new e) }
 {
     let left = depth(plan);
-    let main = number(plan, b"main");
+    let main = number(functions(plan), b"main");
     instance(alloc, plan, left, main, &Ped::root(alloc)?, out)
 }
