@@ -1,3 +1,4 @@
 pub mod Draws
 pub mod Words
 pub mod GammaState
+pub mod Trails

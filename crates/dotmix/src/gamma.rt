@@ -1,5 +1,6 @@
-ghost use Rattle.std.specs.Prelude.{◌≡◌, ◌+◌, ◌<◌, ◌≤◌, ◌^◌, ℕ, List, length, All, IfOk};
+ghost use Rattle.std.specs.Prelude.{◌≡◌, ◌+◌, ◌<◌, ◌≤◌, ◌^◌, ◌↔◌, ℕ, List, length, All, IfOk, position};
 ghost use Rattle.dotmix.specs.Draws.{coefficient, modulus, IsResidue};
+ghost use Rattle.dotmix.specs.GammaState.{is_too_big, padded, IsFirstTooBig};
 ghost use Rattle.dotmix.specs.Words.{coefficients};
 
 use crate::memory::Memory;
@@ -7,11 +8,39 @@ use ped_path::Ped;
 use rand_core::SeedableRng;
 use rand_core::utils::NextWord;
 use rand_xoshiro::SplitMix64;
-use std::alloc::Global;
+use std::alloc::{AllocError, Global};
 use std::marker::Model;
 
 /// The prime 2^64 - 59.
 pub const MODULUS: u64 = 18_446_744_073_709_551_557;
+
+/// Why a list of numbers makes no coefficients.
+#[derive(Clone, Copy, Debug, PartialEq, Eq)]
+pub enum GammaError {
+    /// The list is longer than the depth.
+    TooMany,
+    /// The number at this index, from 0, is not below the modulus. It is the first such number.
+    TooBig(u32),
+    /// There was no memory for the call.
+    Memory,
+}
+
+impl From<AllocError> for GammaError {
+    ghost use Rattle.dotmix.specs.declared.gamma.GammaError.TheVariants as E;
+
+    ghost from_gives = { λ _ e. e ≡ E.Memory };
+
+    fn from(_: AllocError) -> Self {
+        GammaError::Memory
+    }
+}
+
+/// The index of the first number that is no coefficient.
+fn first_too_big(list: &[u64]) -> Option<usize>
+    ensures { result ≡ position is_too_big list.now }
+{
+    list.iter().position(|&number| number >= MODULUS)
+}
 
 /// The coefficients of a plan, one for each place of a pedigree. They are seen as a list of fewer than 2^32 numbers, each below
 /// the modulus.
@@ -41,6 +70,24 @@ impl Gamma {
         for _i in 0..depth {
             coefficients.push(words.next_word() % MODULUS)?;
         }
+        Ok(Gamma { coefficients })
+    }
+
+    /// The numbers of a list, and zeros behind them up to the depth. `TooMany` is judged first.
+    pub fn of_list(alloc: Global, list: &[u64], depth: u32) -> Result<Gamma, GammaError>
+        ensures ok { IfOk result (λ gamma. gamma ≡ padded list.now depth) }
+        ensures too_many { (result ≡ Err GammaError.TooMany) ↔ (depth < length list.now) }
+        ensures too_big { (i : ℕ) → (result ≡ Err (GammaError.TooBig i)) ↔ IsFirstTooBig list.now depth i }
+    {
+        if list.len() > depth as usize {
+            return Err(GammaError::TooMany);
+        }
+        if let Some(i) = first_too_big(list) {
+            return Err(GammaError::TooBig(i as u32));
+        }
+        let mut coefficients = Vec::with_capacity(alloc, depth as usize)?;
+        coefficients.extend_from_slice(list)?;
+        coefficients.resize(depth as usize, 0)?;
         Ok(Gamma { coefficients })
     }
 

@@ -12,16 +12,19 @@ mod mixing;
 mod product;
 #[cfg(test)]
 mod tests;
+mod trail;
 
-pub use gamma::{Gamma, MODULUS};
+pub use gamma::{Gamma, GammaError, MODULUS};
 pub use memory::Memory;
 pub use mixing::mix;
 pub use product::{add_term, dot, dotmix};
+pub use trail::Trail;
 
 fn is_shared<T: Send + Sync>() {}
 
-/// Coefficients may be sent to other threads and read by several at once. The body asks for it, so that a field which forbids it
+/// Coefficients and trails may be sent to other threads and read by several at once. The body asks for it, so that a field which forbids it
 /// fails the build.
 pub fn all_are_shared() {
     is_shared::<Gamma>();
+    is_shared::<Trail>();
 }

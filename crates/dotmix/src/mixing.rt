@@ -1,6 +1,9 @@
 ghost use Rattle.std.specs.Prelude.{◌≡◌};
 ghost use Rattle.dotmix.specs.Draws.{mix, round, swap_halves};
 
+/// How often a draw is mixed.
+pub(crate) const ROUNDS: u32 = 4;
+
 const HALF: u64 = 1 << 32;
 
 /// The upper and the lower 32 bits exchanged.

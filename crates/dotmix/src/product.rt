@@ -4,11 +4,8 @@ ghost use Rattle.dotmix.specs.Draws.{coefficient, modulus, IsResidue};
 ghost use Rattle.dotmix.specs.Draws as draws;
 
 use crate::gamma::{Gamma, MODULUS};
-use crate::mixing::mix;
+use crate::mixing::{ROUNDS, mix};
 use ped_path::{Ped, Pedigree};
-
-/// How often a draw is mixed.
-const ROUNDS: u32 = 4;
 
 /// A dot product with one more term: that of place `i`, from 1, where the pedigree has this rank. It is reduced by the modulus, so
 /// it needs 128 bits only inside.

@@ -1,4 +1,4 @@
-use crate::{Gamma, dot, dotmix, mix};
+use crate::{Gamma, GammaError, Trail, dot, dotmix, mix};
 use ped_path::{Ped, Pedigree};
 use std::test::Fail;
 
@@ -63,5 +63,69 @@ fn dot_products_of_seed_0(rt: HostRuntime) -> Result<(), Fail> {
     assert_eq!(rt; child.len(), 2);
     assert_eq!(rt; dot(&gamma, &child), 5_807_750_865_143_411_678);
     assert_eq!(rt; dotmix(&gamma, &child), mix(5_807_750_865_143_411_678, 4));
+    Ok(())
+}
+
+#[test]
+fn coefficients_of_a_list_end_with_zeros(rt: HostRuntime) -> Result<(), Fail> {
+    let alloc = rt.alloc();
+    let gamma = Gamma::of_list(alloc, &[7], 2)?;
+    assert_eq!(rt; gamma.len(), 2);
+    assert_eq!(rt; gamma.coeff(1), 7);
+    assert_eq!(rt; gamma.coeff(2), 0);
+    for (list, refusal) in [
+        ([1, 2].as_slice(), GammaError::TooMany),
+        (
+            [18_446_744_073_709_551_557].as_slice(),
+            GammaError::TooBig(0),
+        ),
+    ] {
+        assert_eq!(rt; Gamma::of_list(alloc, list, 1).err(), Some(refusal));
+    }
+    Ok(())
+}
+
+// The draws of one coefficient, for a pedigree of this rank alone.
+#[test]
+fn draws_of_one_coefficient(rt: HostRuntime) -> Result<(), Fail> {
+    let alloc = rt.alloc();
+    for (coefficient, rank, product, drawn) in [
+        (4_294_967_296, 0, 4_294_967_296, 90_194_313_216),
+        (
+            18_446_744_073_709_551_556,
+            1,
+            18_446_744_073_709_551_555,
+            108_965_703,
+        ),
+    ] {
+        let gamma = Gamma::of_list(alloc, &[coefficient], 1)?;
+        let path = Ped::root(alloc)?;
+        let j = Pedigree { path, rank };
+        assert_eq!(rt; gamma.len(), 1);
+        assert_eq!(rt; j.len(), 1);
+        assert_eq!(rt; dot(&gamma, &j), product);
+        assert_eq!(rt; dotmix(&gamma, &j), drawn);
+    }
+    Ok(())
+}
+
+#[test]
+fn a_trail_draws_what_its_pedigree_draws(rt: HostRuntime) -> Result<(), Fail> {
+    let alloc = rt.alloc();
+    let gamma = Gamma::of_list(alloc, &[1, 10], 2)?;
+    let path = Ped::root(alloc)?.child(alloc, 0)?;
+    assert_eq!(rt; gamma.len(), 2);
+    assert_eq!(rt; path.len(), 1);
+    let trail = Trail::of(&gamma, path);
+    assert_eq!(rt; trail.draw(&gamma, 0), 128_271);
+    let child = trail.child(alloc, &gamma, 0)?;
+    assert_eq!(rt; child.path.len(), 2);
+    assert_eq!(rt; child.path.rank_at(0), Some(0));
+    assert_eq!(rt; child.path.rank_at(1), Some(0));
+    assert_eq!(rt; child.sum, 11);
+    let copy = trail.share()?;
+    assert!(rt; copy.path.same(&trail.path));
+    assert_eq!(rt; copy.path.len(), 1);
+    assert_eq!(rt; copy.sum, 1);
     Ok(())
 }
