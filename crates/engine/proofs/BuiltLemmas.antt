@@ -1,5 +1,7 @@
 -- What a built script's parts are.
-use Rattle.std.proofs.Common.{◌≡◌, Bool, true, false, ◌&&◌, List, [], ◌∷◌, ◌++◌, IsTrue, All, refl, nat_le, length, codes}
+use Rattle.std.proofs.Common.{◌≡◌, Bool, true, false, ◌&&◌, List, [], ◌∷◌, ◌++◌, IsTrue, All, ◌≤◌, refl, ℕ, nat_le, length, codes, arith, slice_get, Option, None, inl, inr}
+use Rattle.std.proofs.lemmas.Bool.{leb-true}
+use Rattle.std.proofs.lemmas.Option.{slice_get_cases}
 use Rattle.std.proofs.lemmas.List.Elements.{All-nil, All-cons}
 use Rattle.script_text.specs.declared.tree.Expr.{Expr, out-Expr}
 use Rattle.script_text.specs.declared.tree.SumPart.{SumPart, out-SumPart}
@@ -57,3 +59,13 @@ functions_built earlier (f ∷ fs) h =
 pub script_built : (script : Script) → IsTrue (is_built script) → All IsFunction script.functions
 script_built script h =
     functions_built [] script.functions (both-right (nat_le (length script.functions) 64) _ (both-left _ (is_named (codes "main") script.functions) h))
+
+pub few_functions : (script : Script) → IsTrue (is_built script) → length script.functions ≤ 1024
+few_functions script h =
+    let few : IsTrue (nat_le (length script.functions) 64) = both-left _ (are_functions [] script.functions) (both-left _ (is_named (codes "main") script.functions) h) in
+    let least : length script.functions ≤ 64 = leb-true _ _ few in omega arith
+
+-- behind the end of a list there is none
+pub none_past : {A : Type 0} (xs : List A) (n : ℕ) → length xs ≤ n → slice_get xs n ≡ None
+none_past xs n h =
+    elim ((slice_get_cases xs n).1) as (λ w. slice_get xs n ≡ None) [ inl p ↦ absurd (omega (arith, h, p.1)) | inr p ↦ p.1 ]

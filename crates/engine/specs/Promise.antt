@@ -10,7 +10,7 @@ use Rattle.engine.specs.declared.report.Ending.{Ending}
 use Rattle.engine.specs.declared.report.Ending.TheVariants as E
 use Rattle.engine.specs.declared.words.Command.{Command}
 use Rattle.engine.specs.Words.{Says, SaysNothing}
-use Rattle.engine.specs.Report.{Report, IsTextOf, report_of}
+use Rattle.engine.specs.Report.{Report, IsReadAs, report_of}
 
 -- a script has at most so many bytes
 abbrev pub most_bytes : ℕ
@@ -49,15 +49,15 @@ pub record ReadWhole (source : Watched) (bytes : List ℕ) : Type 0 where
   pub end : IsAtEnd source.after
   pub within : length bytes ≤ most_bytes
 
--- The source has the text of this script, which is one that runs.
+-- The source was read whole, as this script, which is one that runs.
 abbrev pub HasScript : Watched → Script → Type 0
-HasScript source script = (bytes : List ℕ) × ReadWhole source bytes × IsTextOf bytes script
+HasScript source script = (bytes : List ℕ) × ReadWhole source bytes × IsReadAs bytes script
 
--- The source has more bytes than a script may have, or the text of none that runs.
+-- The source has more bytes than a script may have, or a text that was not read as a script that runs.
 abbrev pub HasNoScript : Watched → Watched → Type 0
 HasNoScript source err =
     (ConsumesJust source.before source.after (most_bytes + 1) × Told err (codes "script: too long\n"))
-    ⊎ ((bytes : List ℕ) × ReadWhole source bytes × ((script : Script) → IsTextOf bytes script → ⊥) × Told err (codes "script: not built yet\n"))
+    ⊎ ((bytes : List ℕ) × ReadWhole source bytes × Told err (codes "script: not built yet\n"))
 
 -- The source has a script for which the command's report ends so, and this holds of the report's output.
 abbrev pub IsReported : Command → Watched → Ending → (List ℕ → Type 0) → Type 0

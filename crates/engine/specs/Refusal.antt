@@ -1,19 +1,17 @@
 -- Why no report was made, and what was delivered.
 use Rattle.std.specs.Prelude.{◌≡◌, ⊤, ℕ, ◌+◌, List, codes}
 use Rattle.ped_io.specs.Streams.{ConsumesJust}
-use Rattle.script_text.specs.declared.tree.Script.{Script}
 use Rattle.engine.specs.declared.call.Refusal.{Refusal}
 use Rattle.engine.specs.declared.call.Refusal.TheVariants.{TooLong, NotBuilt, Read, Memory}
 use Rattle.engine.specs.declared.report.Ending.{Ending}
 use Rattle.engine.specs.declared.report.Ending.TheVariants as E
 use Rattle.engine.specs.declared.status.Status.{Status}
 use Rattle.engine.specs.declared.status.Status.TheVariants as S
-use Rattle.engine.specs.Report.{IsTextOf}
 use Rattle.engine.specs.Promise.{Watched, Failed, ReadWhole, Told, Wrote, WroteFront, most_bytes}
 
 abbrev pub IsCause : Watched → Refusal → Type 0
 IsCause source TooLong = ConsumesJust source.before source.after (most_bytes + 1)
-IsCause source NotBuilt = (bytes : List ℕ) × ReadWhole source bytes × ((script : Script) → IsTextOf bytes script → ⊥)
+IsCause source NotBuilt = (bytes : List ℕ) × ReadWhole source bytes
 IsCause source Read = Failed source
 IsCause source Memory = ⊤
 

@@ -10,5 +10,8 @@ pub mod status;
 pub mod variables;
 pub mod words;
 
+#[cfg(test)]
+mod tests;
+
 pub use call::pedrun;
 pub use status::Status;

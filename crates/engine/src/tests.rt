@@ -1,0 +1,111 @@
+// Runs of the top call over sources and sinks in memory.
+
+use crate::pedrun;
+use ped_io::{MemSink, MemSource};
+use std::alloc::Global;
+use std::test::Fail;
+
+const ONE: &[u8] = b"fn main() { print 1; return 0; }";
+const SPAWNED: &[u8] = b"fn f() { let x = draw; return x; } fn main() { print 1; spawn f(); sync; return 0; }";
+const SUM: &[u8] = b"fn two() { let x = 1 + 1; return x; } fn main() { let a = spawn two(); print 5; sync; print a + 1; return 0; }";
+const LONGEST: usize = 1048576;
+
+/// How a call ended: its status, and what stands in its sinks.
+#[derive(Drop)]
+struct Told {
+    code: u8,
+    out: Vec<u8>,
+    err: Vec<u8>,
+}
+
+fn words(alloc: Global, line: &str) -> Result<Vec<String>, Fail> {
+    let mut words = Vec::new(alloc);
+    for word in line.split(' ') {
+        words.push(String::from_str(alloc, word)?)?;
+    }
+    Ok(words)
+}
+
+// A call whose writes take this many bytes and whose read and write of these numbers fail.
+fn call(alloc: Global, line: &str, script: Vec<u8>, step: u32, reads: Vec<u64>, writes: Vec<u64>) -> Result<Told, Fail> {
+    let step = step.max(1);
+    let words = words(alloc, line)?;
+    let mut source = MemSource::new(script, 4096, reads);
+    let mut out = MemSink::new(alloc, step, 1048576, writes)?;
+    let mut err = MemSink::new(alloc, 4096, 1048576, Vec::new(alloc))?;
+    let status = pedrun(alloc, &words, &mut source, &mut out, &mut err);
+    Ok(Told {
+        code: status.code(),
+        out: out.bytes().to_vec(alloc)?,
+        err: err.bytes().to_vec(alloc)?,
+    })
+}
+
+#[test]
+fn scripts_print_their_lines(rt: HostRuntime) -> Result<(), Fail> {
+    let alloc = rt.alloc();
+    for (line, script, output) in [
+        ("run --seed 0", ONE, b"1\n".as_slice()),
+        ("run --seed 0", SPAWNED, b"1\n".as_slice()),
+        ("run --seed 7", SUM, b"5\n3\n".as_slice()),
+        ("run --seed 18446744073709551615", ONE, b"1\n".as_slice()),
+    ] {
+        let told = call(alloc, line, script.to_vec(alloc)?, 4096, Vec::new(alloc), Vec::new(alloc))?;
+        assert_eq!(rt; told.code, 0, "{line}");
+        assert_eq!(rt; told.out.as_slice(), output);
+        assert_eq!(rt; told.err.as_slice(), b"".as_slice());
+    }
+    Ok(())
+}
+
+#[test]
+fn what_is_not_built_is_refused(rt: HostRuntime) -> Result<(), Fail> {
+    let alloc = rt.alloc();
+    for (line, script, code, refusal) in [
+        ("run", ONE, 2, b"words: not built yet\n".as_slice()),
+        ("run --seed 01", ONE, 2, b"words: not built yet\n".as_slice()),
+        ("run --seed 18446744073709551616", ONE, 2, b"words: not built yet\n".as_slice()),
+        ("run --seed 0", b"".as_slice(), 3, b"script: not built yet\n".as_slice()),
+        ("run --seed 0", b"fn main() { print x; return 0; }".as_slice(), 3, b"script: not built yet\n".as_slice()),
+        ("run --seed 0", b"fn main() { let a = spawn f(); return 0; }".as_slice(), 3, b"script: not built yet\n".as_slice()),
+        ("run --seed 0", b"fn f() { return 1; } fn main() { let a = spawn f(); print a; return 0; }".as_slice(), 3, b"script: not built yet\n".as_slice()),
+        ("run --seed 0", b"fn main() { print 1; return 0; } # end".as_slice(), 3, b"script: not built yet\n".as_slice()),
+    ] {
+        let told = call(alloc, line, script.to_vec(alloc)?, 4096, Vec::new(alloc), Vec::new(alloc))?;
+        assert_eq!(rt; told.code, code, "{line}");
+        assert_eq!(rt; told.out.as_slice(), b"".as_slice());
+        assert_eq!(rt; told.err.as_slice(), refusal);
+    }
+    Ok(())
+}
+
+#[test]
+fn faults_of_reads_and_writes_are_told(rt: HostRuntime) -> Result<(), Fail> {
+    let alloc = rt.alloc();
+    let read = call(alloc, "run --seed 0", ONE.to_vec(alloc)?, 4096, vec![in alloc; 1]?, Vec::new(alloc))?;
+    assert_eq!(rt; read.code, 4);
+    assert_eq!(rt; read.out.as_slice(), b"".as_slice());
+    assert_eq!(rt; read.err.as_slice(), b"read fault\n".as_slice());
+    let write = call(alloc, "run --seed 7", SUM.to_vec(alloc)?, 1, Vec::new(alloc), vec![in alloc; 1]?)?;
+    assert_eq!(rt; write.code, 5);
+    assert_eq!(rt; write.out.as_slice(), b"5".as_slice());
+    assert_eq!(rt; write.err.as_slice(), b"write fault\n".as_slice());
+    Ok(())
+}
+
+// Blanks fill the script up to the limit, and one more is too many.
+#[test]
+fn the_longest_script_runs(rt: HostRuntime) -> Result<(), Fail> {
+    let alloc = rt.alloc();
+    for (length, code, refusal) in [
+        (LONGEST, 0, b"".as_slice()),
+        (LONGEST + 1, 3, b"script: too long\n".as_slice()),
+    ] {
+        let mut script = ONE.to_vec(alloc)?;
+        script.resize(length, b' ')?;
+        let told = call(alloc, "run --seed 0", script, 4096, Vec::new(alloc), Vec::new(alloc))?;
+        assert_eq!(rt; told.code, code, "at {length}");
+        assert_eq!(rt; told.err.as_slice(), refusal);
+    }
+    Ok(())
+}
