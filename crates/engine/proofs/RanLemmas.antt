@@ -109,10 +109,13 @@ module _ (plan : PlanView) (left function : ℕ) (path : List ℕ) (some : 0 < l
       where
         ends0 : behind old (all plan left path f.body (begins plan) then returned_of plan left path f) ≡ record { items = new; ending = Ok (v, s') }
         ends0 = behind-go old mid _ s (returned_of plan left path f) h ∙ k
+
         nil : {A : Type 0} (a : A) → behind {I = Event} {E = Fault} new (done a) ≡ record { items = new; ending = Ok a }
         nil a = ap (λ l. record { items = l; ending = Ok a }) (append-nil new)
+
         ends1 : behind old ((all plan left path f.body (begins plan) then returned_of plan left path f) then λ r. done r.0) ≡ record { items = new; ending = Ok v }
         ends1 = behind-go old new _ (v, s') (λ r. done r.0) ends0 ∙ nil v
+
         ends2 : behind old (body_run f) ≡ record { items = new; ending = Ok (v ∷ []) }
         ends2 = behind-go old new _ v (λ v. done (v ∷ [])) ends1 ∙ nil (v ∷ [])
 

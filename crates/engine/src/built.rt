@@ -10,6 +10,7 @@ use script_text::{Act, CallText, Expr, Function, Items, Kind, Right, Script, Stm
 use std::alloc::{AllocError, Global};
 
 const MOST_FUNCTIONS: usize = 64;
+
 const MOST_VARIABLES: usize = 256;
 
 /// The names of the variables that are known in front of a statement, and of those that are pending there.
@@ -63,7 +64,8 @@ fn is_sum(known: &Known, e: &Expr) -> bool
     match e {
         Expr::Number(_) => true,
         Expr::Var(name) => is_readable(known, name.bytes.as_slice()),
-        Expr::Sum(first, parts) => is_atom(known, first.get()) && are_added(known, parts.as_slice()),
+        Expr::Sum(first, parts) => is_atom(known, first.get())
+            && are_added(known, parts.as_slice()),
         _ => false,
     }
 }

@@ -7,11 +7,10 @@ pub mod reader;
 pub mod report;
 pub mod runner;
 pub mod status;
-pub mod variables;
-pub mod words;
-
 #[cfg(test)]
 mod tests;
+pub mod variables;
+pub mod words;
 
 pub use call::pedrun;
 pub use status::Status;

@@ -138,7 +138,10 @@ fn keyword<'a, 't>(tokens: &'t [Token<'a>], wanted: &[u8]) -> Option<(u32, &'t [
     }
 }
 
-fn read_name<'a, 't>(alloc: Global, tokens: &'t [Token<'a>]) -> Result<(Name, &'t [Token<'a>]), Unread>
+fn read_name<'a, 't>(
+    alloc: Global,
+    tokens: &'t [Token<'a>],
+) -> Result<(Name, &'t [Token<'a>]), Unread>
     ensures { IfOk result (λ p. length p.1.now < length tokens.now) }
 {
     match tokens {
@@ -150,7 +153,10 @@ fn read_name<'a, 't>(alloc: Global, tokens: &'t [Token<'a>]) -> Result<(Name, &'
     }
 }
 
-fn read_atom<'a, 't>(alloc: Global, tokens: &'t [Token<'a>]) -> Result<(Expr, &'t [Token<'a>]), Unread>
+fn read_atom<'a, 't>(
+    alloc: Global,
+    tokens: &'t [Token<'a>],
+) -> Result<(Expr, &'t [Token<'a>]), Unread>
     ensures { IfOk result (λ p. length p.1.now < length tokens.now) }
 {
     if let [Token::Number(value, at), rest @ ..] = tokens {
@@ -164,7 +170,10 @@ fn read_atom<'a, 't>(alloc: Global, tokens: &'t [Token<'a>]) -> Result<(Expr, &'
     Ok((Expr::Var(name), rest))
 }
 
-fn read_sum<'a, 't>(alloc: Global, tokens: &'t [Token<'a>]) -> Result<(Expr, &'t [Token<'a>]), Unread>
+fn read_sum<'a, 't>(
+    alloc: Global,
+    tokens: &'t [Token<'a>],
+) -> Result<(Expr, &'t [Token<'a>]), Unread>
     ensures { IfOk result (λ p. length p.1.now < length tokens.now) }
 {
     let (first, mut rest) = read_atom(alloc, tokens)?;
@@ -185,7 +194,10 @@ fn read_sum<'a, 't>(alloc: Global, tokens: &'t [Token<'a>]) -> Result<(Expr, &'t
 }
 
 // A name and `()`.
-fn read_call<'a, 't>(alloc: Global, tokens: &'t [Token<'a>]) -> Result<(CallText, &'t [Token<'a>]), Unread>
+fn read_call<'a, 't>(
+    alloc: Global,
+    tokens: &'t [Token<'a>],
+) -> Result<(CallText, &'t [Token<'a>]), Unread>
     ensures { IfOk result (λ p. length p.1.now < length tokens.now) }
 {
     let (name, rest) = read_name(alloc, tokens)?;
@@ -194,7 +206,10 @@ fn read_call<'a, 't>(alloc: Global, tokens: &'t [Token<'a>]) -> Result<(CallText
     Ok((CallText { name, args }, rest))
 }
 
-fn read_right<'a, 't>(alloc: Global, tokens: &'t [Token<'a>]) -> Result<(Right, &'t [Token<'a>]), Unread>
+fn read_right<'a, 't>(
+    alloc: Global,
+    tokens: &'t [Token<'a>],
+) -> Result<(Right, &'t [Token<'a>]), Unread>
     ensures { IfOk result (λ p. length p.1.now < length tokens.now) }
 {
     if let Some((at, rest)) = keyword(tokens, b"draw") {
@@ -208,7 +223,10 @@ fn read_right<'a, 't>(alloc: Global, tokens: &'t [Token<'a>]) -> Result<(Right, 
     Ok((Right::Value(value), rest))
 }
 
-fn read_statement<'a, 't>(alloc: Global, tokens: &'t [Token<'a>]) -> Result<(Stmt, &'t [Token<'a>]), Unread>
+fn read_statement<'a, 't>(
+    alloc: Global,
+    tokens: &'t [Token<'a>],
+) -> Result<(Stmt, &'t [Token<'a>]), Unread>
     ensures { IfOk result (λ p. length p.1.now < length tokens.now) }
 {
     if let Some((at, rest)) = keyword(tokens, b"let") {
@@ -232,7 +250,10 @@ fn read_statement<'a, 't>(alloc: Global, tokens: &'t [Token<'a>]) -> Result<(Stm
     Ok((Stmt { at, act }, rest))
 }
 
-fn read_function<'a, 't>(alloc: Global, tokens: &'t [Token<'a>]) -> Result<(Function, &'t [Token<'a>]), Unread>
+fn read_function<'a, 't>(
+    alloc: Global,
+    tokens: &'t [Token<'a>],
+) -> Result<(Function, &'t [Token<'a>]), Unread>
     ensures { IfOk result (λ p. length p.1.now < length tokens.now) }
 {
     let (_, rest) = keyword(tokens, b"fn").ok_or(Unread::NotBuilt)?;

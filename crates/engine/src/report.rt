@@ -35,7 +35,6 @@ const LIMITS: Limits = Limits {
 };
 
 // The plan of a run.
-#[tactic(auto, using(crate::proofs::BuiltLemmas::few_functions))]
 fn make_plan(alloc: Global, seed: u64, script: Script) -> Result<Plan, Memory>
     requires { IsTrue (is_built script) }
     ensures { IfOk result (λ plan. plan ≡ plan_of seed script) }
@@ -78,13 +77,20 @@ fn run_report(alloc: Global, plan: Plan) -> Result<Report, Memory>
     Ok(Report { output, ending })
 }
 
+fn seed_of(command: Command) -> u64
+    ensures { command ≡ Command.Run result }
+{
+    let Command::Run { seed } = command;
+    seed
+}
+
 /// What a command writes for a script that runs.
 pub fn make_report(alloc: Global, command: Command, script: Script) -> Result<Report, Memory>
     requires { IsTrue (is_built script) }
     ensures output { IfOk result (λ report. report.output.items ≡ (report_of command script).output) }
     ensures ending { IfOk result (λ report. report.ending ≡ (report_of command script).ending) }
 {
-    match command {
-        Command::Run { seed } => run_report(alloc, make_plan(alloc, seed, script)?),
-    }
+    let seed = seed_of(command);
+    let plan = make_plan(alloc, seed, script)?;
+    run_report(alloc, plan)
 }

@@ -338,7 +338,15 @@ fn instance(
         rank: 0,
         steps: budget(plan),
     };
-    statements(alloc, plan, left, path, function.body.as_slice(), &mut spot, out)?;
+    statements(
+        alloc,
+        plan,
+        left,
+        path,
+        function.body.as_slice(),
+        &mut spot,
+        out,
+    )?;
     returned(alloc, plan, left, path, function, &mut spot, out)
 }
 

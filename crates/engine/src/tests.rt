@@ -6,8 +6,13 @@ use std::alloc::Global;
 use std::test::Fail;
 
 const ONE: &[u8] = b"fn main() { print 1; return 0; }";
-const SPAWNED: &[u8] = b"fn f() { let x = draw; return x; } fn main() { print 1; spawn f(); sync; return 0; }";
-const SUM: &[u8] = b"fn two() { let x = 1 + 1; return x; } fn main() { let a = spawn two(); print 5; sync; print a + 1; return 0; }";
+
+const SPAWNED: &[u8] =
+    b"fn f() { let x = draw; return x; } fn main() { print 1; spawn f(); sync; return 0; }";
+
+const SUM: &[u8] =
+    b"fn two() { let x = 1 + 1; return x; } fn main() { let a = spawn two(); print 5; sync; print a + 1; return 0; }";
+
 const LONGEST: usize = 1048576;
 
 /// How a call ended: its status, and what stands in its sinks.
@@ -27,7 +32,14 @@ fn words(alloc: Global, line: &str) -> Result<Vec<String>, Fail> {
 }
 
 // A call whose writes take this many bytes and whose read and write of these numbers fail.
-fn call(alloc: Global, line: &str, script: Vec<u8>, step: u32, reads: Vec<u64>, writes: Vec<u64>) -> Result<Told, Fail> {
+fn call(
+    alloc: Global,
+    line: &str,
+    script: Vec<u8>,
+    step: u32,
+    reads: Vec<u64>,
+    writes: Vec<u64>,
+) -> Result<Told, Fail> {
     let step = step.max(1);
     let words = words(alloc, line)?;
     let mut source = MemSource::new(script, 4096, reads);
@@ -50,7 +62,14 @@ fn scripts_print_their_lines(rt: HostRuntime) -> Result<(), Fail> {
         ("run --seed 7", SUM, b"5\n3\n".as_slice()),
         ("run --seed 18446744073709551615", ONE, b"1\n".as_slice()),
     ] {
-        let told = call(alloc, line, script.to_vec(alloc)?, 4096, Vec::new(alloc), Vec::new(alloc))?;
+        let told = call(
+            alloc,
+            line,
+            script.to_vec(alloc)?,
+            4096,
+            Vec::new(alloc),
+            Vec::new(alloc),
+        )?;
         assert_eq!(rt; told.code, 0, "{line}");
         assert_eq!(rt; told.out.as_slice(), output);
         assert_eq!(rt; told.err.as_slice(), b"".as_slice());
@@ -63,15 +82,57 @@ fn what_is_not_built_is_refused(rt: HostRuntime) -> Result<(), Fail> {
     let alloc = rt.alloc();
     for (line, script, code, refusal) in [
         ("run", ONE, 2, b"words: not built yet\n".as_slice()),
-        ("run --seed 01", ONE, 2, b"words: not built yet\n".as_slice()),
-        ("run --seed 18446744073709551616", ONE, 2, b"words: not built yet\n".as_slice()),
-        ("run --seed 0", b"".as_slice(), 3, b"script: not built yet\n".as_slice()),
-        ("run --seed 0", b"fn main() { print x; return 0; }".as_slice(), 3, b"script: not built yet\n".as_slice()),
-        ("run --seed 0", b"fn main() { let a = spawn f(); return 0; }".as_slice(), 3, b"script: not built yet\n".as_slice()),
-        ("run --seed 0", b"fn f() { return 1; } fn main() { let a = spawn f(); print a; return 0; }".as_slice(), 3, b"script: not built yet\n".as_slice()),
-        ("run --seed 0", b"fn main() { print 1; return 0; } # end".as_slice(), 3, b"script: not built yet\n".as_slice()),
+        (
+            "run --seed 01",
+            ONE,
+            2,
+            b"words: not built yet\n".as_slice(),
+        ),
+        (
+            "run --seed 18446744073709551616",
+            ONE,
+            2,
+            b"words: not built yet\n".as_slice(),
+        ),
+        (
+            "run --seed 0",
+            b"".as_slice(),
+            3,
+            b"script: not built yet\n".as_slice(),
+        ),
+        (
+            "run --seed 0",
+            b"fn main() { print x; return 0; }".as_slice(),
+            3,
+            b"script: not built yet\n".as_slice(),
+        ),
+        (
+            "run --seed 0",
+            b"fn main() { let a = spawn f(); return 0; }".as_slice(),
+            3,
+            b"script: not built yet\n".as_slice(),
+        ),
+        (
+            "run --seed 0",
+            b"fn f() { return 1; } fn main() { let a = spawn f(); print a; return 0; }".as_slice(),
+            3,
+            b"script: not built yet\n".as_slice(),
+        ),
+        (
+            "run --seed 0",
+            b"fn main() { print 1; return 0; } # end".as_slice(),
+            3,
+            b"script: not built yet\n".as_slice(),
+        ),
     ] {
-        let told = call(alloc, line, script.to_vec(alloc)?, 4096, Vec::new(alloc), Vec::new(alloc))?;
+        let told = call(
+            alloc,
+            line,
+            script.to_vec(alloc)?,
+            4096,
+            Vec::new(alloc),
+            Vec::new(alloc),
+        )?;
         assert_eq!(rt; told.code, code, "{line}");
         assert_eq!(rt; told.out.as_slice(), b"".as_slice());
         assert_eq!(rt; told.err.as_slice(), refusal);
@@ -82,11 +143,25 @@ fn what_is_not_built_is_refused(rt: HostRuntime) -> Result<(), Fail> {
 #[test]
 fn faults_of_reads_and_writes_are_told(rt: HostRuntime) -> Result<(), Fail> {
     let alloc = rt.alloc();
-    let read = call(alloc, "run --seed 0", ONE.to_vec(alloc)?, 4096, vec![in alloc; 1]?, Vec::new(alloc))?;
+    let read = call(
+        alloc,
+        "run --seed 0",
+        ONE.to_vec(alloc)?,
+        4096,
+        vec![in alloc; 1]?,
+        Vec::new(alloc),
+    )?;
     assert_eq!(rt; read.code, 4);
     assert_eq!(rt; read.out.as_slice(), b"".as_slice());
     assert_eq!(rt; read.err.as_slice(), b"read fault\n".as_slice());
-    let write = call(alloc, "run --seed 7", SUM.to_vec(alloc)?, 1, Vec::new(alloc), vec![in alloc; 1]?)?;
+    let write = call(
+        alloc,
+        "run --seed 7",
+        SUM.to_vec(alloc)?,
+        1,
+        Vec::new(alloc),
+        vec![in alloc; 1]?,
+    )?;
     assert_eq!(rt; write.code, 5);
     assert_eq!(rt; write.out.as_slice(), b"5".as_slice());
     assert_eq!(rt; write.err.as_slice(), b"write fault\n".as_slice());
@@ -103,7 +178,14 @@ fn the_longest_script_runs(rt: HostRuntime) -> Result<(), Fail> {
     ] {
         let mut script = ONE.to_vec(alloc)?;
         script.resize(length, b' ')?;
-        let told = call(alloc, "run --seed 0", script, 4096, Vec::new(alloc), Vec::new(alloc))?;
+        let told = call(
+            alloc,
+            "run --seed 0",
+            script,
+            4096,
+            Vec::new(alloc),
+            Vec::new(alloc),
+        )?;
         assert_eq!(rt; told.code, code, "at {length}");
         assert_eq!(rt; told.err.as_slice(), refusal);
     }

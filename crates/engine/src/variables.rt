@@ -33,7 +33,12 @@ fn read(variables: &[Variable], name: &[u8]) -> Result<Value, Memory>
 }
 
 /// Gives a scalar a value.
-pub fn set(alloc: Global, variables: &mut Vec<Variable>, name: &[u8], value: Value) -> Result<(), Memory>
+pub fn set(
+    alloc: Global,
+    variables: &mut Vec<Variable>,
+    name: &[u8],
+    value: Value,
+) -> Result<(), Memory>
     ensures { OnOk result (variables.new.items ≡ with_slot variables.old.items name.now (Scalar value)) }
 {
     for i in 0..variables.len() {
@@ -64,7 +69,8 @@ fn atom_value(variables: &[Variable], e: &Expr) -> Result<Value, Memory>
     match e {
         Expr::Number(number) => Ok(Value::Int(number.value)),
         Expr::Var(name) => read(variables, name.bytes.as_slice()),
-        Expr::Item(_, _) | Expr::Neg(_, _) | Expr::Same(_, _, _) | Expr::Older(_, _, _) => unreachable!(),
+        Expr::Item(_, _) | Expr::Neg(_, _) | Expr::Same(_, _, _) | Expr::Older(_, _, _) =>
+            unreachable!(),
         Expr::Compare(_, _, _) | Expr::Sum(_, _) | Expr::Product(_, _) => unreachable!(),
     }
 }

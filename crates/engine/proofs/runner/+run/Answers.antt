@@ -34,13 +34,13 @@ pub instance-returns-in_err-statements-clause-stopped : goal.instance-returns-in
 instance-returns-in_err-statements-clause-stopped t c =
     let p = err_from_is_err_and c.from_residual.result c.from_residual.ensures.1 in
     let h : Stopped c.args.out.now (all c.args.plan.now c.args.left c.args.path.now c.in-Some.function.now.body (begins c.args.plan.now)) c.statements.new.out c.in_err-statements.field-0.0 =
-        rw (c.as_slice.ensures, c.new.ensures.items, c.budget.ensures) at c.in_err-statements.ensures.stopped in rw (p.1, p.2)
+    rw (c.as_slice.ensures, c.new.ensures.items, c.budget.ensures) at c.in_err-statements.ensures.stopped in rw (p.1, p.2)
     (instance_body c.args.plan.now c.args.left c.args.number c.args.path.now c.requires.stands.some c.in-Some.function.now (sym (c.in-Some.ensures.found ∙ ap (λ l. slice_get l c.args.number) c.functions.ensures)) c.args.out.now [] c.statements.new.out c.in_err-statements.field-0.0 h)
 
 pub instance-returns-clause-ended : goal.instance-returns-clause-ended
 instance-returns-clause-ended t c =
     let h : Ended c.args.out.now (all c.args.plan.now c.args.left c.args.path.now c.in-Some.function.now.body (begins c.args.plan.now)) c.statements.new.out (here c.statements.new.spot) =
-        rw (c.as_slice.ensures, c.new.ensures.items, c.budget.ensures) at c.in_ok-statements.ensures.ended in IfOk-weaker c.returned.result
+    rw (c.as_slice.ensures, c.new.ensures.items, c.budget.ensures) at c.in_ok-statements.ensures.ended in IfOk-weaker c.returned.result
     (λ v. Ended c.statements.new.out (returned_of c.args.plan.now c.args.left c.args.path.now c.in-Some.function.now (here c.statements.new.spot)) c.returned.new.out (v, here c.returned.new.spot)) _
     (λ v g. instance_ends c.args.plan.now c.args.left c.args.number c.args.path.now c.requires.stands.some c.in-Some.function.now (sym (c.in-Some.ensures.found ∙ ap (λ l. slice_get l c.args.number) c.functions.ensures)) c.args.out.now c.statements.new.out c.returned.new.out (here c.statements.new.spot) v (here c.returned.new.spot) h g)
     c.returned.ensures.ended
@@ -48,7 +48,7 @@ instance-returns-clause-ended t c =
 pub instance-returns-clause-stopped : goal.instance-returns-clause-stopped
 instance-returns-clause-stopped t c =
     let h : Ended c.args.out.now (all c.args.plan.now c.args.left c.args.path.now c.in-Some.function.now.body (begins c.args.plan.now)) c.statements.new.out (here c.statements.new.spot) =
-        rw (c.as_slice.ensures, c.new.ensures.items, c.budget.ensures) at c.in_ok-statements.ensures.ended in MatchResult-weaker c.returned.result {Q = λ e. Stopped c.statements.new.out (returned_of c.args.plan.now c.args.left c.args.path.now c.in-Some.function.now (here c.statements.new.spot)) c.returned.new.out e}
+    rw (c.as_slice.ensures, c.new.ensures.items, c.budget.ensures) at c.in_ok-statements.ensures.ended in MatchResult-weaker c.returned.result {Q = λ e. Stopped c.statements.new.out (returned_of c.args.plan.now c.args.left c.args.path.now c.in-Some.function.now (here c.statements.new.spot)) c.returned.new.out e}
     c.returned.ensures.stopped (λ v g. g)
     (λ e g. instance_return c.args.plan.now c.args.left c.args.number c.args.path.now c.requires.stands.some c.in-Some.function.now (sym (c.in-Some.ensures.found ∙ ap (λ l. slice_get l c.args.number) c.functions.ensures)) c.args.out.now c.statements.new.out c.returned.new.out (here c.statements.new.spot) e h g)
 
