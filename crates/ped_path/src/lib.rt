@@ -5,6 +5,7 @@
 //! Platforms" (PPoPP 2012). The names don't depend on how the program was scheduled.
 #![tactic(auto)]
 
+mod block;
 mod memory;
 mod ped;
 mod pedigree;

@@ -59,6 +59,26 @@ fn pedigrees_stand_in_serial_order(rt: HostRuntime) -> Result<(), Fail> {
     Ok(())
 }
 
+// The lengths about the end of a block of 16 ranks.
+#[test]
+fn long_paths_are_lists_of_ranks(rt: HostRuntime) -> Result<(), Fail> {
+    let alloc = rt.alloc();
+    let mut path = Ped::root(alloc)?;
+    for len in 1..=49 {
+        let child = path.child(alloc, 1000 + len)?;
+        assert_eq!(rt; child.len(), len);
+        for i in 0..len {
+            assert_eq!(rt; child.rank_at(i), Some(1001 + i), "rank {i} of {len}");
+        }
+        assert_eq!(rt; child.rank_at(len), None);
+        assert!(rt; path.before(&child));
+        assert!(rt; child.before(&path.child(alloc, 1001 + len)?));
+        assert!(rt; child.same(&path.child(alloc, 1000 + len)?));
+        path = child;
+    }
+    Ok(())
+}
+
 #[test]
 fn texts_join_the_ranks_by_full_stops(rt: HostRuntime) -> Result<(), Fail> {
     let alloc = rt.alloc();

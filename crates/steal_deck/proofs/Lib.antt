@@ -1,0 +1,5 @@
+pub mod Weights
+pub mod Entries
+pub mod Lawful
+pub mod Left
+pub mod Moves

@@ -1,0 +1,5 @@
+pub mod History
+pub mod Accounts
+pub mod Ends
+pub mod Steps
+pub mod Answers

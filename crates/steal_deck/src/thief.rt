@@ -1,0 +1,60 @@
+ghost use Rattle.std.specs.Prelude.{◌≡◌};
+ghost use Rattle.steal_deck.specs.Answers.{Answers};
+
+use crate::rule::{OneHistory, Party, StealStep};
+use crossbeam_deque::{Pass, Stealer};
+use std::alloc::Global;
+use std::marker::Model;
+
+/// What a steal answers.
+#[derive(Clone, Copy, Debug, Drop, PartialEq, Eq)]
+pub enum Steal<T> {
+    /// The oldest entry left.
+    Took(T),
+    /// No entry was taken, and at one moment of the call the deck had at most one: the owner may have been about to pop it.
+    Nothing,
+    /// No entry was taken, and the steal may be tried again, as where another thief was faster.
+    Lost,
+}
+
+/// The end of a deck for one party beside the owner.
+///
+/// A clause sees it as what the thief knows: which deck it is of, the entries that it has `taken`, and how many of its
+/// steals answered `Nothing` or `Lost` (`misses`). It is `Send` where `T` is.
+#[derive(Drop)]
+pub struct Thief<T> {
+    pub(crate) stealer: Stealer<T, Global, Party<T>, OneHistory>,
+    pub(crate) pass: Pass<T, Party<T>>,
+    pub(crate) misses: u64,
+}
+
+impl<T> Model for Thief<T> {
+    ghost use Rattle.std.specs.Prelude.{◌≡◌};
+    ghost use Rattle.crossbeam_deque.specs.Handles.{stealer_deque, stealer_flavor, view as pass_view, IsPassOf};
+    ghost use Rattle.steal_deck.specs.History.{thief};
+    ghost use Rattle.steal_deck.specs.Ends.{ThiefEnd, thief_end};
+
+    ghost Value = { ThiefEnd T };
+
+    ghost view = { λ t. thief_end (stealer_deque t.stealer) (pass_view t.pass) t.misses };
+
+    ghost invariant = { λ t. IsPassOf (stealer_deque t.stealer) t.pass × (stealer_flavor t.stealer ≡ 1) × (pass_view t.pass ≡ thief (pass_view t.pass).taken) };
+}
+
+impl<T> Thief<T> {
+    /// Takes the oldest entry left.
+    ///
+    /// Each `Nothing` and each `Lost` is counted, up to the last value of the count.
+    pub fn steal(&mut self) -> Steal<T>
+        ensures kept { self.new ≡ record self.old { taken = self.new.taken; misses = self.new.misses } }
+        ensures answer { Answers self.old result self.new }
+    {
+        let miss = match self.stealer.steal_as::<StealStep>(&mut self.pass) {
+            crossbeam_deque::Steal::Success(task) => return Steal::Took(task),
+            crossbeam_deque::Steal::Empty => Steal::Nothing,
+            crossbeam_deque::Steal::Retry => Steal::Lost,
+        };
+        self.misses = self.misses.saturating_add(1);
+        miss
+    }
+}
