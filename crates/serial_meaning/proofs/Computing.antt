@@ -14,7 +14,7 @@ use Rattle.script_text.specs.declared.tree.Expr.TheVariants as expr
 use Rattle.script_text.specs.declared.tree.SumPart.{SumPart}
 use Rattle.script_text.specs.declared.tree.ProductPart.{ProductPart}
 use Rattle.script_text.specs.declared.tree.ProductSign.{ProductSign}
-use Rattle.script_text.specs.declared.tree.Stmt.{Stmt, out-Stmt, map-Stmt, fold_out-Stmt}
+use Rattle.script_text.specs.declared.tree.Stmt.{Stmt, out-Stmt, fold_out-Stmt}
 use Rattle.script_text.specs.declared.tree.Act.{Act, out-Act, map-Act, fold_out-Act}
 use Rattle.script_text.specs.declared.tree.Act.TheFolds.{fold-Act}
 use Rattle.serial_meaning.specs.Runs.{◌>>=◌}

@@ -4,6 +4,7 @@ pub mod Computing
 pub mod Cut
 pub mod Draws
 pub mod Each
+pub mod Endless
 pub mod ExecLaws
 pub mod Least
 pub mod Named

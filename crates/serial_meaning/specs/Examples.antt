@@ -1,14 +1,17 @@
 -- What the definitions say of small scripts. Each is the contract of a function of the module `examples`, which shows the script.
-use Rattle.std.specs.Prelude.{◌≡◌, ℕ, List, [], ◌∷◌, Option, Some, None, Ok, Err, codes}
-use Rattle.std.specs.Prelude.{ℤ, pos}
+use Rattle.std.specs.Prelude.{◌≡◌, ℕ, suc, List, [], ◌∷◌, Some, None, Ok, Err, codes}
+use Rattle.std.specs.Prelude.{pos}
 use Rattle.script_text.specs.declared.tree.Function.{Function}
+use Rattle.script_text.specs.declared.tree.Comparison.TheVariants as compares
+use Rattle.script_text.specs.declared.tree.Expr.TheVariants as expr
+use Rattle.script_text.specs.declared.tree.Stmt.{Stmt}
 use Rattle.script_text.specs.declared.tree.ProductSign.TheVariants as sign
 use Rattle.script_text.specs.declared.tree.Right.TheVariants as right
 use Rattle.script_text.specs.declared.tree.Act.TheVariants as act
-use Rattle.serial_meaning.specs.Trees.{named, number, variable, product, applied, call, stated, int_param, function}
-use Rattle.serial_meaning.specs.Runs.{Run}
+use Rattle.serial_meaning.specs.Trees.{named, number, variable, product, applied, call, spawn, stated, int_param, function}
 use Rattle.serial_meaning.specs.Plan.{PlanView}
 use Rattle.serial_meaning.specs.Eval.{elision}
+use Rattle.serial_meaning.specs.Open.{faults}
 use Rattle.serial_meaning.specs.declared.plan.Show.TheVariants.{Plain}
 use Rattle.serial_meaning.specs.declared.value.Value.TheVariants.{Int}
 use Rattle.serial_meaning.specs.declared.event.FaultKind.TheVariants as fault
@@ -122,3 +125,37 @@ endless_calls =
 -- The call behind 256 open ones is a fault.
 abbrev pub CallsEndAt256 : Type 0
 CallsEndAt256 = elision (plan_of endless_calls 300) ≡ record { items = []; ending = Err (record { kind = fault.Calls; at = 0 ∷ [] }) }
+
+abbrev pub bad : Function
+bad = function (codes "bad") [] (stated (act.Let (named (codes "z")) (right.Value (number 0))) ∷ []) (product (number 1) sign.Over (variable (codes "z")))
+
+abbrev pub never_reached : List Stmt
+never_reached = stated act.Sync ∷ stated (act.Print (variable (codes "a"))) ∷ []
+
+abbrev pub endless_body : List Stmt
+endless_body =
+    stated (act.While (expr.Compare (variable (codes "i")) compares.Eq (number 0)) (stated (act.Set (named (codes "i")) (right.Value (number 0))) ∷ []))
+    ∷ never_reached
+
+abbrev pub endless_main : Function
+endless_main =
+    function (codes "main") []
+    (stated (act.Print (number 7))
+    ∷ stated (act.Let (named (codes "a")) (spawn (codes "bad") []))
+    ∷ stated (act.Let (named (codes "i")) (right.Value (number 0)))
+    ∷ endless_body)
+    (number 0)
+
+-- with any number of steps from three on
+abbrev pub endless_plan : ℕ → PlanView
+endless_plan n = plan_of (bad ∷ endless_main ∷ []) (suc (suc (suc n)))
+
+-- The elision ends at the child's fault.
+abbrev pub ElisionEndsAtTheChildsFault : Type 0
+ElisionEndsAtTheChildsFault =
+    (n : ℕ) → elision (endless_plan n) ≡ record { items = event.Print (0 ∷ []) (Int (pos 7)) ∷ event.Spawn (0 ∷ []) ∷ []; ending = Err (record { kind = fault.Divide; at = 0 ∷ 0 ∷ [] }) }
+
+-- The open tree also has the fault of the parent, which goes on until its budget is spent.
+abbrev pub OpenTreeHasBothFaults : Type 0
+OpenTreeHasBothFaults =
+    (n : ℕ) → faults (endless_plan n) ≡ record { kind = fault.Divide; at = 0 ∷ 0 ∷ [] } ∷ record { kind = fault.Budget; at = 1 ∷ [] } ∷ []

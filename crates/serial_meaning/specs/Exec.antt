@@ -140,12 +140,18 @@ module _ {I E K : Type 0} (how : Manner I E K) (plan : PlanView) (path : List �
   -- arguments, the depth, the event, the child
   abbrev pub spawn : CallText → State K → Run I E (Value × State K)
   spawn c s =
-      given (values_of c.args s.env) s λ vs. tested (nat_lt (length path + 1) plan.limits.depth) Depth s (happens (how.event (event.Spawn (strand path s))) s then λ s. how.spawn (origin.Instance (number_of (functions_of plan) c.name.bytes) vs (strand path s)) s.spawned then λ r. done (r.0, record s { rank = s.rank + 1; spawned = r.1 }))
+      given (values_of c.args s.env) s λ vs.
+      tested (nat_lt (length path + 1) plan.limits.depth) Depth s
+      (happens (how.event (event.Spawn (strand path s))) s then λ s.
+      how.spawn (origin.Instance (number_of (functions_of plan) c.name.bytes) vs (strand path s)) s.spawned then λ r.
+      done (r.0, record s { rank = s.rank + 1; spawned = r.1 }))
 
   -- a sync, written or implied
   abbrev pub join : State K → Run I E (State K)
   join s =
-      happens (how.event (event.Sync (strand path s))) s then λ s. how.sync s.spawned then λ k. done (record s { rank = s.rank + 1; spawned = k })
+      happens (how.event (event.Sync (strand path s))) s then λ s.
+      how.sync s.spawned then λ k.
+      done (record s { rank = s.rank + 1; spawned = k })
 
   abbrev pub implied : Bool → State K → Run I E (State K)
   implied true s = join s
@@ -154,7 +160,10 @@ module _ {I E K : Type 0} (how : Manner I E K) (plan : PlanView) (path : List �
   -- a function's end: its return pays a step, then comes the sync that is implied where the text holds a spawn, then the value
   abbrev pub returned : Function → State K → Run I E (Value × State K)
   returned f s =
-      paid s λ s. implied (any_spawns f.body) s then λ s. given (value_of f.result s.env) s λ v. done (v, s)
+      paid s λ s.
+      implied (any_spawns f.body) s then λ s.
+      given (value_of f.result s.env) s λ v.
+      done (v, s)
 
   -- what statements do, with so many open calls
   abbrev pub Block : Type 0
@@ -170,13 +179,18 @@ module _ {I E K : Type 0} (how : Manner I E K) (plan : PlanView) (path : List �
   -- a call goes on from the caller's rank and steps, and the caller from the callee's last ones
   abbrev pub called : Block → ℕ → CallText → State K → Run I E (Value × State K)
   called block calls c s =
-      given (values_of c.args s.env) s λ vs. tested (nat_lt calls 256) Calls s (activation block (calls + 1) (function_at (functions_of plan) (number_of (functions_of plan) c.name.bytes)) vs s then λ r. done (r.0, record s { rank = r.1.rank; steps = r.1.steps }))
+      given (values_of c.args s.env) s λ vs.
+      tested (nat_lt calls 256) Calls s
+      (activation block (calls + 1) (function_at (functions_of plan) (number_of (functions_of plan) c.name.bytes)) vs s then λ r.
+      done (r.0, record s { rank = r.1.rank; steps = r.1.steps }))
 
   -- the right side of a let or an assignment
   abbrev pub right_side : Block → ℕ → Right → State K → Run I E (Value × State K)
   right_side block calls (right.Value e) s = given (value_of e s.env) s λ v. done (v, s)
   right_side block calls (right.Draw at) s =
-      let n = dotmix plan.gamma (strand path s) in emit (λ j. event.Draw j n) s then λ s'. done (Int (cast_signed w64 n), s')
+      let n = dotmix plan.gamma (strand path s) in
+      emit (λ j. event.Draw j n) s then λ s'.
+      done (Int (cast_signed w64 n), s')
   right_side block calls (right.New at) s = emit event.New s then λ s'. done (Id (strand path s), s')
   right_side block calls (right.Call at c) s = called block calls c s
   right_side block calls (right.Spawn at c) s = spawn c s
@@ -188,7 +202,11 @@ module _ {I E K : Type 0} (how : Manner I E K) (plan : PlanView) (path : List �
 
   abbrev pub store : Name → Expr → Expr → State K → Run I E (State K)
   store x i e s =
-      given (value_of i s.env) s λ k. let xs = items_of (slot_of s.env x.bytes) in found (at_index xs (number k)) s (given (value_of e s.env) s λ v. done (set_array s x (set_item xs (number k) v)))
+      given (value_of i s.env) s λ k.
+      let xs = items_of (slot_of s.env x.bytes) in
+      found (at_index xs (number k)) s
+      (given (value_of e s.env) s λ v.
+      done (set_array s x (set_item xs (number k) v)))
 
   abbrev pub fits_depth : ℕ → Bool
   fits_depth zero = true
@@ -197,7 +215,13 @@ module _ {I E K : Type 0} (how : Manner I E K) (plan : PlanView) (path : List �
   -- a loop of n iterations whose bounds and arguments are known: its steps, the target's room, the depth, the event, the iterations
   abbrev pub looped : ℤ → ℕ → List Value → Option Name → CallText → State K → Run I E (State K)
   looped lo n vs target c s =
-      tested (nat_lt n (s.steps + 1)) Budget s (let paid_s : State K = record s { steps = s.steps - n } in tested (has_room target n s.env) Index paid_s (tested (fits_depth n) Depth paid_s (happens (how.event (event.Loop (strand path s))) paid_s then λ s. how.loop (origin.Loop (number_of (functions_of plan) c.name.bytes) vs lo (strand path s) (record { lo = 0; hi = n })) then λ ws. done (record s { rank = s.rank + 1; env = filled target ws s.env }))))
+      tested (nat_lt n (s.steps + 1)) Budget s
+      (let s' : State K = record s { steps = s.steps - n } in
+      tested (has_room target n s'.env) Index s'
+      (tested (fits_depth n) Depth s'
+      (happens (how.event (event.Loop (strand path s'))) s' then λ s.
+      how.loop (origin.Loop (number_of (functions_of plan) c.name.bytes) vs lo (strand path s) (record { lo = 0; hi = n })) then λ ws.
+      done (record s { rank = s.rank + 1; env = filled target ws s.env }))))
 
   -- one statement whose step is paid; block runs what stands inside it
   abbrev pub does : Block → ℕ → Stmt → Act-F Act Stmt → State K → Run I E (State K)
@@ -213,7 +237,10 @@ module _ {I E K : Type 0} (how : Manner I E K) (plan : PlanView) (path : List �
   does block calls st (act.While e a) s =
       given (value_of e s.env) s λ v. (if is_true v then (block calls a s then block calls (st ∷ [])) else done s)
   does block calls st (act.Pfor x lo hi target c) s =
-      given (value_of lo s.env) s λ l. given (value_of hi s.env) s λ h. given (values_of c.args s.env) s λ vs. looped (number l) (count_of (number h -ℤ number l)) vs target c s
+      given (value_of lo s.env) s λ l.
+      given (value_of hi s.env) s λ h.
+      given (values_of c.args s.env) s λ vs.
+      looped (number l) (count_of (number h -ℤ number l)) vs target c s
 
   abbrev pub statement : Block → ℕ → Stmt → State K → Run I E (State K)
   statement block calls st s = paid s λ s. does block calls st (out-Act (out-Stmt st).act) s

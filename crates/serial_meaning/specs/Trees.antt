@@ -1,6 +1,6 @@
 -- Scripts as trees, in short. All offsets are 0.
-use Rattle.std.specs.Prelude.{ℕ, List, [], ◌∷◌, false}
-use Rattle.std.specs.Prelude.{ℤ, pos}
+use Rattle.std.specs.Prelude.{ℕ, List, [], ◌∷◌}
+use Rattle.std.specs.Prelude.{pos}
 use Rattle.script_text.specs.declared.tree.Name.{Name}
 use Rattle.script_text.specs.declared.tree.Param.{Param}
 use Rattle.script_text.specs.declared.tree.CallText.{CallText}

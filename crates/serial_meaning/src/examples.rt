@@ -1,7 +1,7 @@
 //! What the definitions say of small scripts. Each function does nothing; its contract is the example. The coefficients are 1, 0
 //! and 0, so that a draw at rank r of main is `mix` of r + 1.
 
-ghost use Rattle.serial_meaning.specs.Examples.{CallsEndAt256, CallsShareTheRank, DepthTwoIsEnoughForASpawn, EmptyLoopRaisesTheRank, FourStepsAreEnough, ImpliedSyncRaisesTheRank, SpawnNeedsDepthTwo, TargetMustHaveRoom, ThreeStepsAreTooFew};
+ghost use Rattle.serial_meaning.specs.Examples.{CallsEndAt256, CallsShareTheRank, DepthTwoIsEnoughForASpawn, ElisionEndsAtTheChildsFault, EmptyLoopRaisesTheRank, FourStepsAreEnough, ImpliedSyncRaisesTheRank, OpenTreeHasBothFaults, SpawnNeedsDepthTwo, TargetMustHaveRoom, ThreeStepsAreTooFew};
 
 /// `fn main() { print 1; print 2; print 3; return 0; }` with a budget of 3 prints 1, 2 and 3 and ends by the fault Budget at 0.
 #[tactic(auto, using(crate::proofs::ScriptRuns::three_steps_are_too_few))]
@@ -56,4 +56,15 @@ pub fn implied_sync_raises_the_rank()
 #[tactic(auto, using(crate::proofs::ScriptRuns::calls_end_at_256))]
 pub fn calls_end_at_256()
     ensures { CallsEndAt256 }
+{}
+
+/// `fn bad() { let z = 0; return 1 / z; } fn main() { print 7; let a = spawn bad(); let i = 0; while i == 0 { i = 0; } sync; print a;
+/// return 0; }` prints 7 and ends by the fault Divide at 0.0, with any budget from 3 on.
+pub fn elision_ends_at_the_childs_fault()
+    ensures { ElisionEndsAtTheChildsFault }
+{}
+
+/// The faults of that plan are Divide at 0.0 and Budget at 1.
+pub fn open_tree_has_both_faults()
+    ensures { OpenTreeHasBothFaults }
 {}

@@ -1,7 +1,9 @@
-ghost use Rattle.std.specs.Prelude.{◌≡◌, ◌++◌, ◌<◌, ◌^◌, []};
-
-use crate::{Event, Fault, FaultKind, Memory, Out, Strand, Value, render_strand};
+use crate::{
+    Event, Fault, FaultKind, Limits, Memory, Origin, Out, Plan, Show, Strand, Value, render_strand,
+};
+use dotmix::Gamma;
 use ped_path::{Ped, Pedigree};
+use script_text::{Items, Script};
 use std::alloc::Global;
 use std::test::Fail;
 
@@ -38,5 +40,72 @@ fn a_strand_prints_a_line_of_each_event_and_its_fault(rt: HostRuntime) -> Result
         text.as_slice(),
         b"-3\ndraw 1 = 21\nnew 2\nspawn 3\nsync 4\nloop 5\nfault 6: index out of range\n".as_slice()
     );
+    Ok(())
+}
+
+#[test]
+fn appended_events_stand_behind_the_others(rt: HostRuntime) -> Result<(), Fail> {
+    let alloc = rt.alloc();
+    let mut all = Out::new();
+    for part in 0u32..3 {
+        let mut events = Out::new();
+        for rank in part * 2..part * 2 + 2 {
+            events.push(alloc, Event::New(strand(alloc, rank)?))?;
+        }
+        all.append(events)?;
+        all.append(Out::new())?;
+    }
+    assert_eq!(rt; all.len(), 6);
+    for i in 0u64..6 {
+        let rank = match all.get(i) {
+            Some(Event::New(at)) => Some(at.rank),
+            _ => None,
+        };
+        assert_eq!(rt; rank, Some(i));
+    }
+    assert!(rt; all.get(6).is_none());
+    Ok(())
+}
+
+#[test]
+fn a_plan_begins_with_main_at_the_empty_path(rt: HostRuntime) -> Result<(), Fail> {
+    let alloc = rt.alloc();
+    let script = Script {
+        functions: Items(Vec::new(alloc)),
+    };
+    let gamma = Gamma::of_seed(alloc, 7, 2)?;
+    let limits = Limits {
+        depth: 2,
+        budget: 9,
+    };
+    let plan = Plan::new(script, gamma, limits, Show::Plain);
+    match plan.main_origin(alloc)? {
+        Origin::Instance {
+            function,
+            args,
+            path,
+        } => {
+            assert_eq!(rt; function, 0);
+            assert_eq!(rt; args.as_slice().len(), 0);
+            assert_eq!(rt; path.len(), 0);
+        }
+        Origin::Loop { .. } => assert!(rt; false),
+    }
+    Ok(())
+}
+
+#[test]
+fn shared_values_are_the_same(rt: HostRuntime) -> Result<(), Fail> {
+    let alloc = rt.alloc();
+    let fault = Fault {
+        kind: FaultKind::Calls,
+        at: strand(alloc, 3)?,
+    };
+    assert!(rt; fault.share()?.at.same(&fault.at));
+    let object = Value::Id(strand(alloc, 4)?);
+    match object.share()? {
+        Value::Id(at) => assert_eq!(rt; at.rank, 4),
+        Value::Int(_) => assert!(rt; false),
+    }
     Ok(())
 }
