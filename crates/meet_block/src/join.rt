@@ -123,7 +123,7 @@ fn close_last<A: Tagged + Drop>(blocks: &mut [Block<A>])
 }
 
 // A look: gives up the parent's party where the last block is open, and goes on from the block `found`.
-fn search<A: Tagged + Drop>(blocks: &mut [Block<A>], found: usize) -> Option<(usize, u64)>
+fn look_from<A: Tagged + Drop>(blocks: &mut [Block<A>], found: usize) -> Option<(usize, u64)>
     requires { InOrder found (length blocks.old) blocks.old }
     ensures ready { IfNone result (FindsAll blocks.old blocks.new) }
     ensures owing { IfSome result (λ r. FindsOwing blocks.old blocks.new r.0 r.1) }
@@ -176,7 +176,7 @@ impl<A: Tagged + Drop> Join<A> {
         ensures tags { self.new.tags ≡ self.old.tags }
         ensures taken { self.new.taken ≡ self.old.taken }
     {
-        match search(self.blocks.as_mut_slice(), self.found) {
+        match look_from(self.blocks.as_mut_slice(), self.found) {
             Some((at, owing)) => {
                 self.found = at;
                 Look::NotYet(owing)
