@@ -1,9 +1,9 @@
 -- What a block keeps of its counter, after each step of the parent.
-use Rattle.std.proofs.Common.{◌≡◌, ◌≢◌, ℕ, zero, suc, ◌+◌, ◌-◌, ◌<◌, ◌≤◌, Bool, true, false, Option, List, [], ◌∷◌, ◌++◌, length, set, sym, refl, ap, ◌∙◌, subst, arith, length-append}
+use Rattle.std.proofs.Common.{◌≡◌, ◌≢◌, ℕ, zero, suc, ◌+◌, ◌-◌, Bool, true, false, Option, List, [], ◌∷◌, ◌++◌, length, set, sym, refl, ap, ◌∙◌, subst, arith, length-append}
 use mathlib.Core.Option.{some, some-injective, some-ne-none}
 use lib.ListN.{get_elem?}
 use Rattle.atomic_table.specs.Table.{Me}
-use Rattle.meet_block.specs.declared.view.Stage.TheVariants.{Open, Waiting, Ready}
+use Rattle.meet_block.specs.declared.view.Stage.TheVariants.{Open, Ready}
 use Rattle.meet_block.specs.declared.view.View.{View}
 use Rattle.meet_block.specs.Counter.{parent, untaken, holds_party, closed}
 use Rattle.meet_block.specs.Blocks.{Keeps}

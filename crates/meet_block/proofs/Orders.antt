@@ -1,16 +1,16 @@
 -- Facts about the blocks of a join.
-use Rattle.std.proofs.Common.{◌≡◌, ◌≢◌, ℕ, zero, suc, ◌+◌, ◌-◌, ◌<◌, ◌≤◌, Bool, true, false, ◌&&◌, ◌⊎◌, inl, inr, ⊎_elim, List, [], ◌∷◌, ◌++◌, length, get_or, replicate, set, sym, refl, ap, ◌∙◌, subst, arith, append_assoc, append-nil, length-set, length-append, Some, None, slice_get}
+use Rattle.std.proofs.Common.{◌≡◌, ◌≢◌, ℕ, zero, suc, ◌+◌, ◌-◌, ◌<◌, ◌≤◌, Bool, true, false, ◌&&◌, ◌⊎◌, inl, ⊎_elim, List, [], ◌∷◌, ◌++◌, length, get_or, replicate, set, sym, refl, ap, ◌∙◌, subst, arith, append_assoc, append-nil, length-set, length-append, Some, slice_get}
 use mathlib.Core.Option.{some, some-injective, some-ne-none}
 use mathlib.Core.Logic.{dite}
 use native.Mathlib.Decide.{ℕ_discrete}
 use lib.ListN.{get_elem?}
 use Rattle.std.proofs.lemmas.List.{replicate_more}
-use Rattle.atomic_table.proofs.Lists.{at_set, set_here, at_last, at_snoc}
+use Rattle.atomic_table.proofs.Lists.{at_set}
 use Rattle.meet_block.specs.declared.view.Stage.{Stage}
 use Rattle.meet_block.specs.declared.view.Stage.TheVariants.{Open, Waiting, Ready}
 use Rattle.meet_block.specs.Counter.{holds_party}
-use Rattle.meet_block.specs.Joined.{Joined, joined}
-use Rattle.meet_block.specs.Blocks.{Part, is_ready, stage_given, handed, tags_of, taken_of, all_ready, loads_of, known, offset, Numbered, Stands, InOrder, Searched, FindsAll, FindsOwing}
+use Rattle.meet_block.specs.Joined.{joined}
+use Rattle.meet_block.specs.Blocks.{Part, is_ready, tags_of, taken_of, all_ready, loads_of, known, Numbered, Stands, InOrder, Searched, FindsAll, FindsOwing}
 
 and_false : (b : Bool) → (b && false) ≡ false
 and_false true = refl

@@ -1,5 +1,5 @@
 -- Where a child has its place: facts for a hand, and for a take.
-use Rattle.std.proofs.Common.{◌≡◌, ◌≢◌, ℕ, zero, suc, ◌+◌, ◌-◌, ◌<◌, ◌≤◌, Bool, true, false, ◌⊎◌, inl, inr, ⊎_elim, List, [], ◌∷◌, ◌++◌, length, get_or, set, sym, refl, ap, ◌∙◌, subst, arith, leb, leb-true, leb-false, append-nil, length-set, length-append, if◌then◌else◌}
+use Rattle.std.proofs.Common.{◌≡◌, ◌≢◌, ℕ, zero, suc, ◌+◌, ◌-◌, ◌<◌, ◌≤◌, Bool, true, false, ◌⊎◌, inl, inr, ⊎_elim, List, [], ◌∷◌, ◌++◌, length, get_or, set, sym, refl, ap, ◌∙◌, subst, arith, leb, leb-true, leb-false, length-set, length-append, if◌then◌else◌}
 use Rattle.std.specs.List.Sorted.{IsNonDecreasingBy, IsPartitionPoint}
 use mathlib.Core.Option.{some, some-injective, some-ne-none}
 use mathlib.Core.Logic.{dite}
@@ -7,7 +7,7 @@ use native.Mathlib.Decide.{ℕ_discrete}
 use lib.ListN.{get_elem?}
 use Rattle.atomic_table.proofs.Lists.{set_here, at_last}
 use Rattle.meet_block.specs.declared.view.Stage.{Stage}
-use Rattle.meet_block.specs.declared.view.Stage.TheVariants.{Open, Waiting, Ready}
+use Rattle.meet_block.specs.declared.view.Stage.TheVariants.{Open, Waiting}
 use Rattle.meet_block.specs.Counter.{holds_party}
 use Rattle.meet_block.specs.Joined.{joined}
 use Rattle.meet_block.specs.Blocks.{Part, is_ready, stage_given, handed, tags_of, taken_of, all_ready, loads_of, known, offset, Numbered, Stands, InOrder, HandsOut, Holds, ends_open}

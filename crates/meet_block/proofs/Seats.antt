@@ -1,11 +1,11 @@
 -- Facts about the places of a counter.
-use Rattle.std.proofs.Common.{◌≡◌, ◌≢◌, ℕ, zero, suc, ◌+◌, ◌-◌, ◌<◌, ◌≤◌, Bool, true, false, List, [], ◌∷◌, ◌++◌, length, set, sym, refl, ap, ◌∙◌, subst, Option, Some, None, arith, length-set, length-append, append_assoc, append-nil}
+use Rattle.std.proofs.Common.{◌≡◌, ℕ, zero, suc, ◌+◌, ◌<◌, ◌≤◌, Bool, true, false, List, [], ◌∷◌, ◌++◌, length, set, sym, refl, ap, ◌∙◌, subst, Option, arith, length-append, append_assoc, append-nil}
 use mathlib.Core.Option.{some, none, some-injective, some-ne-none, Option as Maybe}
 use lib.ListN.{get_elem?}
 use Rattle.meet_block.specs.declared.view.Stage.{Stage}
-use Rattle.meet_block.specs.declared.view.Stage.TheVariants.{Open, Waiting, Ready, Owes, Claimed, Arrived}
+use Rattle.meet_block.specs.declared.view.Stage.TheVariants.{Owes, Arrived}
 use Rattle.meet_block.specs.declared.view.View.{View}
-use Rattle.meet_block.specs.Counter.{child, has_arrived, arrivals, IsFull, Place, Vacant, Places}
+use Rattle.meet_block.specs.Counter.{child, has_arrived, arrivals, Place, Places}
 
 pub stage_arrived : (s : Stage) → has_arrived s ≡ 1 → s ≡ Arrived
 stage_arrived Arrived e = refl

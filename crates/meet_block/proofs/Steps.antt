@@ -1,15 +1,15 @@
 -- Each step of a join counter keeps its rule.
-use Rattle.std.proofs.Common.{◌≡◌, ◌≢◌, ℕ, zero, suc, ◌+◌, ◌-◌, ◌%◌, ◌^◌, ◌<◌, ◌≤◌, Bool, true, false, List, [], ◌∷◌, ◌++◌, length, slice_index, slice_set, set, sym, refl, ap, ◌∙◌, subst, Option, Some, None, ◌⊎◌, inl, inr, arith, length-set, length-append}
-use mathlib.Core.Option.{some, none, some-injective, some-ne-none, Option as Maybe}
+use Rattle.std.proofs.Common.{◌≡◌, ℕ, zero, suc, ◌+◌, ◌-◌, ◌%◌, ◌^◌, ◌<◌, ◌≤◌, Bool, true, false, List, [], ◌∷◌, ◌++◌, length, slice_index, slice_set, set, sym, refl, ap, ◌∙◌, subst, Option, Some, None, arith, length-set, length-append}
+use mathlib.Core.Option.{some, none, some-injective, Option as Maybe}
 use mathlib.Core.Logic.{dite}
 use native.Mathlib.Decide.{ℕ_discrete}
 use lib.ListN.{get_elem?}
-use Rattle.atomic_table.specs.Table.{State, Me, Act, keeps, takes, gives, Valid, Allows, Splits, homes_after, carried_after}
+use Rattle.atomic_table.specs.Table.{Me, Act, keeps, takes, gives, Valid, Allows, Splits, homes_after, carried_after}
 use Rattle.meet_block.specs.declared.view.Stage.{Stage}
 use Rattle.meet_block.specs.declared.view.Stage.TheVariants.{Open, Waiting, Ready, Owes, Claimed, Arrived}
 use Rattle.meet_block.specs.declared.view.View.{View}
 use Rattle.meet_block.specs.Counter.{parent, child, has_arrived, arrivals, Counts, IsFull, Place, Places, Fits, Obeys, opened, given, claimed, arrived, closed, Looked, Took}
-use Rattle.meet_block.proofs.Seats.{stage_arrived, arrived_one, arrivals_set, arrivals_more, arrivals_most, arrivals_less, Spot, spot, places_set, places_take, places_more, as_many, seat_at}
+use Rattle.meet_block.proofs.Seats.{stage_arrived, arrived_one, arrivals_set, arrivals_more, arrivals_most, arrivals_less, spot, places_set, places_take, places_more, as_many, seat_at}
 
 abbrev IsChild : Stage → Type 0
 IsChild Owes = Unit {0}

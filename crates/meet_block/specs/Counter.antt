@@ -1,6 +1,6 @@
 -- The rule of a join counter: a table of one word and 16 slots. The parent's seat comes first, and then a seat for each place given, in order.
 use Rattle.std.specs.Prelude.{◌≡◌, ◌≢◌, ℕ, ◌+◌, ◌-◌, ◌≤◌, Bool, true, false, List, [], ◌∷◌, ◌++◌, length, slice_set, Option, Some, None}
-use mathlib.Core.Option.{some, none, Option as Maybe}
+use mathlib.Core.Option.{some, Option as Maybe}
 use lib.ListN.{get_elem?}
 use Rattle.atomic_table.specs.Table.{State, Me}
 use Rattle.meet_block.specs.declared.view.Stage.{Stage}

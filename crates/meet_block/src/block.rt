@@ -1,9 +1,9 @@
 // The parent's end of one join counter.
-ghost use Rattle.std.specs.Prelude.{◌≡◌, ◌≢◌, ◌+◌, ◌<◌, ◌≤◌, ◌++◌, ◌∷◌, [], IfOk, IfErr, Some, None, true, false, length, slice_set, is_none};
+ghost use Rattle.std.specs.Prelude.{◌≡◌, ◌≢◌, ◌+◌, ◌<◌, ◌≤◌, ◌++◌, ◌∷◌, [], IfOk, OnOk, OnErr, Some, None, true, false, length, slice_set, is_none};
 ghost use mathlib.Core.Option.{some};
 ghost use lib.ListN.{get_elem?};
-ghost use Rattle.meet_block.specs.declared.view.Stage.TheVariants.{Open, Waiting, Ready, Owes, Arrived};
-ghost use Rattle.meet_block.specs.Counter.{parent, child, closed, untaken, holds_party};
+ghost use Rattle.meet_block.specs.declared.view.Stage.TheVariants.{Open, Waiting, Ready};
+ghost use Rattle.meet_block.specs.Counter.{parent, opened, given, closed, holds_party};
 ghost use Rattle.meet_block.specs.Blocks.{part, handed};
 
 use crate::give::{Counter, Give};
@@ -16,6 +16,7 @@ use std::alloc::Global;
 use std::marker::{Brand, Model};
 use std::sync::Arc;
 
+// A counter's places. The parent's own party is one more.
 const PLACES: usize = 16;
 
 /// The parent's end of one join counter. Contracts see it as a `Part`.
@@ -24,9 +25,11 @@ pub struct Block<A: Tagged> {
     // None once all of its values were taken.
     counter: Option<Arc<Counter<A>, Global>>,
     seat: Seat<Option<A>, View<A::Key>>,
+    // The number of its first child, the places given, and the values that weren't taken.
     first: u64,
     given: usize,
     left: usize,
+    // Whether the parent still holds its own party, and so may give more places.
     own_party: bool,
 }
 
@@ -40,7 +43,10 @@ impl<A: Tagged> Model for Block<A> {
 
     ghost view = { λ b. part b.first b.seat.me.0 };
 
-    ghost invariant = { λ b. ForSome b.counter (λ c. (b.seat.table_id ≡ (arc_value c).shared.table_id) × ((arc_value c).shared.table_id.words ≡ 1)) × Keeps (is_none b.counter) b.given b.left b.own_party b.seat.me };
+    ghost invariant = { λ b.
+        ForSome b.counter (λ c. (b.seat.table_id ≡ (arc_value c).shared.table_id)
+        × ((arc_value c).shared.table_id.words ≡ 1))
+        × Keeps (is_none b.counter) b.given b.left b.own_party b.seat.me };
 }
 
 // Gives a place to a child.
@@ -50,20 +56,23 @@ fn split<A: Tagged, W: TagOf<A::Key>>(
     tag: &A::Key,
 ) -> Seat<Option<A>, View<A::Key>>
     requires told { W.told ≡ Some tag.now }
-    requires here { (seat.old.table_id ≡ counter.now.shared.table_id) × (counter.now.shared.table_id.words ≡ 1) }
+    requires here { seat.old.table_id ≡ counter.now.shared.table_id }
+    requires sized { counter.now.shared.table_id.words ≡ 1 }
     requires open { seat.old.me.0.stage ≡ Open }
     requires room { length seat.old.me.0.tags < 16 }
-    ensures parent { seat.new.me ≡ (parent seat.old.me.0.own Open (seat.old.me.0.tags ++ tag.now ∷ []) (seat.old.me.0.taken ++ false ∷ []) seat.old.me.0.loads, seat.old.me.1) }
-    ensures child { result.me ≡ (child tag.now Owes (seat.old.me.0.tags ++ tag.now ∷ []), []) }
+    ensures parent { seat.new.me ≡ (opened (Some tag.now) seat.old.me.0, seat.old.me.1) }
+    ensures child { result.me ≡ (given (Some tag.now) seat.old.me.0, []) }
     ensures same { (seat.new.table_id ≡ seat.old.table_id) × (result.table_id ≡ seat.old.table_id) }
 {
+    // The step is told the tag by a ghost member.
     let _ = tag;
     counter.shared.split_seat::<Hands<W>>(seat)
 }
 
 // Gives up the parent's party, and with it the places that were not given.
 fn give_up<A: Tagged>(counter: &Counter<A>, seat: &mut Seat<Option<A>, View<A::Key>>, given: usize)
-    requires here { (seat.old.table_id ≡ counter.now.shared.table_id) × (counter.now.shared.table_id.words ≡ 1) }
+    requires here { seat.old.table_id ≡ counter.now.shared.table_id }
+    requires sized { counter.now.shared.table_id.words ≡ 1 }
     requires open { (seat.old.me.0.stage ≡ Open) × (seat.old.me.1 ≡ []) }
     requires given { (given ≡ length seat.old.me.0.tags) × (given ≤ 16) }
     ensures closed { seat.new.me ≡ closed seat.old.me }
@@ -80,11 +89,13 @@ fn move_out<A: Tagged, W: PlaceOf>(
     place: usize,
 ) -> A
     requires place { W.place ≡ place }
-    requires here { (seat.old.table_id ≡ counter.now.shared.table_id) × (counter.now.shared.table_id.words ≡ 1) }
+    requires here { seat.old.table_id ≡ counter.now.shared.table_id }
+    requires sized { counter.now.shared.table_id.words ≡ 1 }
     requires ready { seat.old.me.0.stage ≡ Ready }
     requires left { get_elem? seat.old.me.0.taken place ≡ some false }
     ensures value { get_elem? seat.old.me.0.tags place ≡ some (A.tag result) }
-    ensures taken { seat.new.me.0 ≡ parent seat.old.me.0.own Ready seat.old.me.0.tags (slice_set seat.old.me.0.taken place true) seat.old.me.0.loads }
+    ensures taken { seat.new.me.0
+        ≡ record seat.old.me.0 { stage = Ready; taken = slice_set seat.old.me.0.taken place true } }
     ensures same { seat.new.table_id ≡ seat.old.table_id }
 {
     counter.shared.load::<Takes<A, W>>(seat, 0);
@@ -94,7 +105,7 @@ fn move_out<A: Tagged, W: PlaceOf>(
 impl<A: Tagged + Drop> Block<A> {
     /// A block with no place given, whose first child will have the number `first`.
     pub fn new(alloc: Global, first: u64, tag: &A::Key) -> Result<Block<A>, Memory>
-        ensures { IfOk result (λ b. b ≡ part first (parent tag.now Open [] [] [])) }
+        ensures { IfOk result (λ block. block ≡ part first (parent tag.now Open [] [] [])) }
     {
         let (counter, seat) = Table::vacant(alloc, &[17], PLACES, tag)?;
         let counter = Arc::new(alloc, counter)?;
@@ -123,8 +134,9 @@ impl<A: Tagged + Drop> Block<A> {
     /// Gives the next place to a child, and with the 16th gives up the parent's party.
     pub fn hand(&mut self, tag: &A::Key) -> Result<Give<A>, Memory>
         requires { self.old.stage ≡ Open }
-        ensures ok { IfOk result (λ give. (give ≡ tag.now) × (self.new ≡ handed self.old tag.now)) }
-        ensures err { IfErr result (λ _. self.new ≡ self.old) }
+        ensures give { IfOk result (λ give. give ≡ tag.now) }
+        ensures handed { OnOk result (self.new ≡ handed self.old tag.now) }
+        ensures err { OnErr result (self.new ≡ self.old) }
     {
         let Some(counter) = &self.counter else {
             unreachable!()
@@ -157,8 +169,10 @@ impl<A: Tagged + Drop> Block<A> {
     pub fn look(&mut self) -> u64
         requires { self.old.stage ≡ Waiting }
         ensures few { result ≤ length self.old.tags }
-        ensures ready { result ≡ 0 → self.new ≡ record self.old { stage = Ready; loads = self.old.loads ++ 0 ∷ [] } }
-        ensures owing { result ≢ 0 → self.new ≡ record self.old { loads = self.old.loads ++ result ∷ [] } }
+        ensures ready { result ≡ 0
+            → self.new ≡ record self.old { stage = Ready; loads = self.old.loads ++ 0 ∷ [] } }
+        ensures owing { result ≢ 0
+            → self.new ≡ record self.old { loads = self.old.loads ++ result ∷ [] } }
     {
         let Some(counter) = &self.counter else {
             unreachable!()

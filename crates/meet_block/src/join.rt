@@ -1,4 +1,4 @@
-ghost use Rattle.std.specs.Prelude.{◌≡◌, ℕ, ◌+◌, ◌<◌, ◌≤◌, [], ◌∷◌, ◌++◌, IfOk, IfErr, IfSome, IfNone, Some, length, replicate, slice_get, slice_set, true, false};
+ghost use Rattle.std.specs.Prelude.{◌≡◌, ℕ, ◌+◌, ◌<◌, ◌≤◌, [], ◌∷◌, ◌++◌, IfOk, OnOk, OnErr, IfSome, IfNone, Some, length, slice_get, slice_set, true, false};
 ghost use Rattle.meet_block.specs.Joined.{joined, Answers};
 ghost use Rattle.meet_block.specs.Blocks.{Part, InOrder, Numbered, HandsOut, Searched, FindsAll, FindsOwing, Holds, tags_of, ends_open};
 
@@ -31,7 +31,8 @@ impl<A: Tagged> Model for Join<A> {
 
     ghost view = { λ j. known j.blocks.items };
 
-    ghost invariant = { λ j. InOrder j.found (length j.blocks.items) j.blocks.items × (j.count ≡ length (tags_of j.blocks.items)) };
+    ghost invariant = { λ j. InOrder j.found (length j.blocks.items) j.blocks.items
+        × (j.count ≡ length (tags_of j.blocks.items)) };
 }
 
 /// What a look found.
@@ -39,7 +40,7 @@ impl<A: Tagged> Model for Join<A> {
 pub enum Look {
     /// Each child of the join has put its value, and the values that weren't taken may be taken.
     Ready,
-    /// So many children of one counter hadn't put their values when this look read it: at least 1, and at most 16. The parent's own party isn't counted.
+    /// So many children of one counter hadn't put their values when this look read it, at least 1. The parent's own party isn't counted.
     NotYet(u64),
 }
 
@@ -79,8 +80,9 @@ fn hand_anew<A: Tagged + Drop>(
 ) -> Result<Give<A>, Memory>
     requires count { count ≡ length (tags_of blocks.old.items) }
     requires closed { ends_open blocks.old.items ≡ false }
-    ensures ok { IfOk result (λ give. (give ≡ tag.now) × HandsOut blocks.old.items blocks.new.items tag.now) }
-    ensures err { IfErr result (λ _. blocks.new.items ≡ blocks.old.items) }
+    ensures give { IfOk result (λ give. give ≡ tag.now) }
+    ensures handed { OnOk result (HandsOut blocks.old.items blocks.new.items tag.now) }
+    ensures err { OnErr result (blocks.new.items ≡ blocks.old.items) }
 {
     blocks.reserve(1)?;
     let mut block = Block::new(alloc, count, tag)?;
@@ -97,8 +99,9 @@ fn hand_next<A: Tagged + Drop>(
     tag: &A::Key,
 ) -> Result<Give<A>, Memory>
     requires { count ≡ length (tags_of blocks.old.items) }
-    ensures ok { IfOk result (λ give. (give ≡ tag.now) × HandsOut blocks.old.items blocks.new.items tag.now) }
-    ensures err { IfErr result (λ _. blocks.new.items ≡ blocks.old.items) }
+    ensures give { IfOk result (λ give. give ≡ tag.now) }
+    ensures handed { OnOk result (HandsOut blocks.old.items blocks.new.items tag.now) }
+    ensures err { OnErr result (blocks.new.items ≡ blocks.old.items) }
 {
     let Some(last) = blocks.last_mut() else {
         return hand_anew(blocks, alloc, count, tag);
@@ -111,7 +114,8 @@ fn hand_next<A: Tagged + Drop>(
 
 // Gives up the parent's party in the last block, where the parent still holds it.
 fn close_last<A: Tagged + Drop>(blocks: &mut [Block<A>])
-    ensures order { (found : ℕ) → InOrder found (length blocks.old) blocks.old → InOrder found 0 blocks.new }
+    ensures order { (found : ℕ) → InOrder found (length blocks.old) blocks.old
+        → InOrder found 0 blocks.new }
     ensures same { Searched blocks.old blocks.new [] }
 {
     let Some(last) = blocks.last_mut() else {
@@ -155,8 +159,10 @@ impl<A: Tagged + Drop> Join<A> {
     ///
     /// A new counter is made where the last one has given its 16 places, or a look has closed it. `Memory` leaves the join as it was.
     pub fn hand(&mut self, alloc: Global, tag: &A::Key) -> Result<Give<A>, Memory>
-        ensures ok { IfOk result (λ give. (give ≡ tag.now) × (self.new ≡ joined (self.old.tags ++ tag.now ∷ []) (self.old.taken ++ false ∷ []) false self.old.loads)) }
-        ensures err { IfErr result (λ _. self.new ≡ self.old) }
+        ensures give { IfOk result (λ give. give ≡ tag.now) }
+        ensures handed { OnOk result (self.new
+            ≡ joined (self.old.tags ++ tag.now ∷ []) (self.old.taken ++ false ∷ []) false self.old.loads) }
+        ensures err { OnErr result (self.new ≡ self.old) }
     {
         let Some(count) = self.count.checked_add(1) else {
             return Err(Memory);
@@ -194,7 +200,8 @@ impl<A: Tagged + Drop> Join<A> {
         requires ready { self.old.ready ≡ true }
         requires left { slice_get self.old.taken i ≡ Some false }
         ensures tag { slice_get self.old.tags i ≡ Some (A.tag result) }
-        ensures taken { self.new ≡ joined self.old.tags (slice_set self.old.taken i true) true self.old.loads }
+        ensures taken { self.new
+            ≡ joined self.old.tags (slice_set self.old.taken i true) true self.old.loads }
     {
         let at = block_of(self.blocks.as_slice(), i);
         let block = &mut self.blocks[at];

@@ -1,4 +1,4 @@
-use Rattle.std.proofs.Common.{arith, ◌≤◌, ◌+◌, length, length-set}
+use Rattle.std.proofs.Common.{arith, ◌+◌, length-set}
 use Rattle.meet_block.proofs.Orders.{at_or, reads_ready, reads_owing, few_owe, is_waiting}
 use Rattle.meet_block.proofs.join.first_owing.Goals as goal
 

@@ -6,13 +6,13 @@ use Rattle.meet_block.proofs.Orders.{open_of}
 use Rattle.meet_block.proofs.Places.{closed_end, hands_last}
 use Rattle.meet_block.proofs.join.hand_next.Goals as goal
 
-pub returns-then-is_open-clause-ok : goal.returns-then-is_open-clause-ok
-returns-then-is_open-clause-ok g c =
+pub returns-then-is_open-clause-handed : goal.returns-then-is_open-clause-handed
+returns-then-is_open-clause-handed g c =
     let ps = c.args.blocks.now.items in let k = c.args.blocks.now.len - 1 in let last = c.in-Some.last.now in let item = c.in-Some.ensures.item in
     let at = at_index ps k last (omega (arith, item.3.0)) item.1 in
     let opens = open_of last.stage (sym c.is_open.ensures ∙ c.if-is_open.true) in
     let new = c.hand.new.self in let t = c.args.tag.now in
-    IfOk-weaker c.hand.result (λ give. (give ≡ t) × (new ≡ handed last t)) (λ give. (give ≡ t) × HandsOut ps (set ps k new) t) (λ give h. (h.0, hands_last ps k last new t (omega (arith, item.3.0)) at opens h.1)) c.hand.ensures.ok
+    IfOk-weaker c.hand.result (λ _. new ≡ handed last t) (λ _. HandsOut ps (set ps k new) t) (λ _ is. hands_last ps k last new t (omega (arith, item.3.0)) at opens is) c.hand.ensures.handed
 
 pub hand_anew-requires-2-clause-closed : goal.hand_anew-requires-2-clause-closed
 hand_anew-requires-2-clause-closed g c =

@@ -1,4 +1,4 @@
-use Rattle.std.proofs.Common.{sym, ap, ◌∙◌}
+use Rattle.std.proofs.Common.{ap, ◌∙◌}
 use Rattle.std.specs.Prelude.{is_none}
 use Rattle.meet_block.specs.Counter.{closed}
 use Rattle.meet_block.proofs.Kept.{hands, last}

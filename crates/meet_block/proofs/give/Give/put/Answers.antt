@@ -1,4 +1,4 @@
-use Rattle.std.proofs.Common.{rules, ◌≡◌, ◌∷◌, [], ap, ◌∙◌, refl, sym, Some}
+use Rattle.std.proofs.Common.{rules, ◌∷◌, ap, ◌∙◌, refl, sym, Some}
 use Rattle.atomic_table.specs.Table.{rest}
 use Rattle.meet_block.specs.declared.view.Stage.TheVariants.{Claimed}
 use Rattle.meet_block.specs.Counter.{child}

@@ -1,9 +1,8 @@
-use Rattle.std.proofs.Common.{◌≡◌, ◌-◌, ap, ◌∙◌, sym, subst, length, true, false, set, Some, arith}
-use mathlib.Core.Option.{some}
+use Rattle.std.proofs.Common.{◌-◌, ap, ◌∙◌, sym, length, true, false, set, arith}
 use lib.ListN.{get_elem?}
 use Rattle.std.specs.Prelude.{slice_get}
 use Rattle.meet_block.specs.Joined.{joined}
-use Rattle.meet_block.specs.Blocks.{Part, Holds, tags_of, taken_of, known}
+use Rattle.meet_block.specs.Blocks.{tags_of, taken_of}
 use Rattle.meet_block.proofs.Orders.{at_of_get, get_of_at, below, each_ready}
 use Rattle.meet_block.proofs.Places.{holds_here, taken_at, tag_at, takes_known, takes_order, takes_tags, within_tags}
 use Rattle.meet_block.proofs.join.Join.take.Goals as goal
