@@ -95,7 +95,7 @@ module _ {A T : Type 0} (tag : A → T) where
       → Places tag before ts (set bs j true) cs (set hs j none)
   places_take before [] [] [] hs j b p at all = absurd (some-ne-none b (sym at))
   places_take before (t ∷ ts) (b' ∷ bs) (c ∷ cs) (h ∷ hs) zero b p at all =
-      (p.0, p.1, subst (λ (s : Stage). Place tag t true s none) (sym (all 0 c refl)) (λ e. absurd (cc)), p.3)
+      (p.0, p.1, subst (λ (s : Stage). Place tag t true s none) (sym (all 0 c refl)) refl, p.3)
   places_take before (t ∷ ts) (b' ∷ bs) (c ∷ cs) (h ∷ hs) (suc j) b p at all = (p.0, p.1, p.2, places_take (before ++ t ∷ []) ts bs cs hs j b p.3 at (λ k v q. all (suc k) v q))
   places_take before _ _ _ _ j b p at all = absurd p
 

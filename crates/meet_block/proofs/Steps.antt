@@ -1,5 +1,5 @@
 -- Each step of a join counter keeps its rule.
-use Rattle.std.proofs.Common.{◌≡◌, ℕ, zero, suc, ◌+◌, ◌-◌, ◌%◌, ◌^◌, ◌<◌, ◌≤◌, Bool, true, false, List, [], ◌∷◌, ◌++◌, length, slice_index, slice_set, set, sym, refl, ap, ◌∙◌, subst, Option, Some, None, arith, length-set, length-append}
+use Rattle.std.proofs.Common.{◌≡◌, ◌≢◌, ℕ, zero, suc, ◌+◌, ◌-◌, ◌%◌, ◌^◌, ◌<◌, ◌≤◌, Bool, true, false, List, [], ◌∷◌, ◌++◌, length, slice_index, slice_set, set, sym, refl, ap, ◌∙◌, subst, Option, Some, None, arith, length-set, length-append}
 use mathlib.Core.Option.{some, none, some-injective, Option as Maybe}
 use mathlib.Core.Logic.{dite}
 use native.Mathlib.Decide.{ℕ_discrete}
@@ -56,10 +56,17 @@ arrived_at cs k v e at le = dite (ℕ_discrete (has_arrived v.stage) 0) (λ z. l
 
 module _ {A T : Type 0} (tag : A → T) where
   place_child : (t : T) (b : Bool) (s : Stage) (h : Maybe (Option A)) → Place tag t b s h → IsChild s
-  place_child t b Owes h p = tt
-  place_child t b Claimed h p = tt
-  place_child t b Arrived h p = tt
-  place_child t b _ h p = p
+  place_child t false Owes h p = tt
+  place_child t false Claimed h p = tt
+  place_child t false Arrived h p = tt
+  place_child t true Arrived h p = tt
+  place_child t _ _ h p = absurd p
+
+  -- no value was taken before its child arrived
+  not_taken : (t : T) (b : Bool) (s : Stage) (h : Maybe (Option A)) → s ≢ Arrived → Place tag t b s h → b ≡ false
+  not_taken t false s h ne p = refl
+  not_taken t true Arrived h ne p = absurd (ne refl)
+  not_taken t true _ h ne p = absurd p
 
   child_case : (v : View T) → IsChild v.stage → (G : List ℕ → List (View T) → ℕ → Type 0) → (homes : List (Maybe (Option A)))
       → ((w j : ℕ) (p : View T) (cs : List (View T)) → length homes ≡ 16 → Counts p.stage w (arrivals cs) (length cs) → Places tag [] p.tags p.taken cs homes → get_elem? cs j ≡ some v → G (w ∷ []) (p ∷ cs) (suc j))
@@ -103,10 +110,11 @@ module _ {A T : Type 0} (tag : A → T) where
   at_place v j pre t e m = omega (arith, ap length e, length-append pre (t ∷ []))
 
   claim_place : (t : T) (b : Bool) (s : Stage) (h : Maybe (Option A)) → s ≡ Owes → Place tag t b s h → h ≡ some None
-  claim_place t b Owes h e p = p
-  claim_place t b Claimed h e p = absurd (cc)
-  claim_place t b Arrived h e p = absurd (cc)
-  claim_place t b _ h e p = absurd p
+  claim_place t false Owes h e p = p
+  claim_place t false Claimed h e p = absurd (cc)
+  claim_place t false Arrived h e p = absurd (cc)
+  claim_place t true Arrived h e p = absurd (cc)
+  claim_place t _ _ h e p = absurd p
 
   claims_on : (n id : ℕ) (v : View T) → v.stage ≡ Owes → Allows (Obeys tag) n id (v, []) 0 (λ w. w) (λ _ k. k ≡ claimed (v, []))
   claims_on n id v o s holds wide at small =
@@ -126,7 +134,7 @@ module _ {A T : Type 0} (tag : A → T) where
         subst (λ (i : ℕ). Fits tag (w ∷ []) (set homes i none) (p ∷ set cs j w')) (sym at_j) (
           omega (arith, length-set homes j none),
           counts_same p.stage w (arrivals cs) (arrivals (set cs j w')) (length cs) (length (set cs j w')) (omega (arith, arrivals_set cs j v w' here)) (length-set cs j w') c,
-          places_set tag [] p.tags p.taken cs homes j v w' none pl here refl refl (λ t b h e q. tt),
+          places_set tag [] p.tags p.taken cs homes j v w' none pl here refl refl (λ t b h e q. subst (λ (a : Bool). Place tag t a Claimed none) (sym (not_taken t b v.stage h (λ r. let k = sym o ∙ r in (cc)) q)) refl),
         ),
         refl,
       ))
@@ -157,7 +165,7 @@ module _ {A T : Type 0} (tag : A → T) where
         subst (λ (i : ℕ). Fits tag (((w + (2 ^ 64 - 1)) % 2 ^ 64) ∷ []) (set homes i (some (Some value))) (p ∷ set cs j w')) (sym at_j) (
           omega (arith, length-set homes j (some (Some value))),
           subst (λ (y : ℕ). Counts p.stage y (arrivals (set cs j w')) (length (set cs j w'))) (sym (less_one w fall.0 lt)) (counts_same p.stage (w - 1) (arrivals (set cs j w')) (arrivals (set cs j w')) (length cs) (length (set cs j w')) refl (length-set cs j w') fall.1),
-          places_set tag [] p.tags p.taken cs homes j v w' (some (Some value)) pl here refl refl (λ t b h e q. λ untaken. (value, refl, mine ∙ e)),
+          places_set tag [] p.tags p.taken cs homes j v w' (some (Some value)) pl here refl refl (λ t b h e q. subst (λ (a : Bool). Place tag t a Arrived (some (Some value))) (sym (not_taken t b v.stage h (λ r. let k = sym o ∙ r in (cc)) q)) (value, refl, mine ∙ e)),
         ),
         refl,
       ))
@@ -195,7 +203,7 @@ module _ {A T : Type 0} (tag : A → T) where
   take_place : (t : T) (s : Stage) (h : Maybe (Option A)) → s ≡ Arrived → Place tag t false s h → IsFull tag t h
   take_place t Owes h e p = absurd (cc)
   take_place t Claimed h e p = absurd (cc)
-  take_place t Arrived h e p = p refl
+  take_place t Arrived h e p = p
   take_place t _ h e p = absurd p
 
   all_arrived : (cs : List (View T)) (k : ℕ) (v : View T) → arrivals cs ≡ length cs → get_elem? cs k ≡ some v → v.stage ≡ Arrived

@@ -1,6 +1,6 @@
 -- The rule of a join counter: a table of one word and 16 slots. The parent's seat comes first, and then a seat for each place given, in order.
 use Rattle.std.specs.Prelude.{◌≡◌, ◌≢◌, ℕ, ◌+◌, ◌-◌, ◌≤◌, Bool, true, false, List, [], ◌∷◌, ◌++◌, length, slice_set, Option, Some, None}
-use mathlib.Core.Option.{some, Option as Maybe}
+use mathlib.Core.Option.{some, none, Option as Maybe}
 use lib.ListN.{get_elem?}
 use Rattle.atomic_table.specs.Table.{State, Me}
 use Rattle.meet_block.specs.declared.view.Stage.{Stage}
@@ -45,12 +45,14 @@ module _ {A T : Type 0} (tag : A → T) where
   abbrev pub IsFull : T → Maybe (Option A) → Type 0
   IsFull t home = (value : A) × (home ≡ some (Some value)) × (tag value ≡ t)
 
-  -- A given place: its tag, whether its value was taken, the stage of its child, and its slot, which is empty until the child claims it
+  -- A given place: its tag, whether its value was taken, the stage of its child, and its slot. The slot is home and empty until the child claims it, out
+  -- with the child until that arrives, then home with a value of the tag, and out with the parent from the take on
   abbrev pub Place : T → Bool → Stage → Maybe (Option A) → Type 0
-  Place t taken Owes home = home ≡ some None
-  Place t taken Claimed home = Unit {0}
-  Place t taken Arrived home = taken ≡ false → IsFull t home
-  Place t taken _ home = ⊥
+  Place t false Owes home = home ≡ some None
+  Place t false Claimed home = home ≡ none
+  Place t false Arrived home = IsFull t home
+  Place t true Arrived home = home ≡ none
+  Place t _ _ home = ⊥
 
   -- the places that were not given
   abbrev pub Vacant : List (Maybe (Option A)) → Type 0
