@@ -1,0 +1,5 @@
+pub mod Seats
+pub mod Steps
+pub mod Kept
+pub mod Orders
+pub mod Places

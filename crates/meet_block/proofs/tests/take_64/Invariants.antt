@@ -1,0 +1,8 @@
+use Rattle.std.proofs.Common.{◌≡◌, ◌≤◌, ◌<◌, ℕ, true, false, Some, slice_get}
+use Rattle.meet_block.proofs.tests.take_64.Given as goal
+
+abbrev pub invariant-loop-i : goal.invariant-loop-i
+invariant-loop-i g l = record {
+  ready : l.join.ready ≡ true;
+  left : (k : ℕ) → l.i-counter ≤ k → k < 64 → slice_get l.join.taken k ≡ Some false;
+}

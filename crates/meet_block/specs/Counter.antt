@@ -1,0 +1,107 @@
+-- The rule of a join counter: a table of one word and 16 slots. The parent's seat comes first, and then a seat for each place given, in order.
+use Rattle.std.specs.Prelude.{◌≡◌, ◌≢◌, ℕ, ◌+◌, ◌-◌, ◌≤◌, Bool, true, false, List, [], ◌∷◌, ◌++◌, length, slice_set, Option, Some, None}
+use mathlib.Core.Option.{some, none, Option as Maybe}
+use lib.ListN.{get_elem?}
+use Rattle.atomic_table.specs.Table.{State, Me}
+use Rattle.meet_block.specs.declared.view.Stage.{Stage}
+use Rattle.meet_block.specs.declared.view.Stage.TheVariants.{Open, Waiting, Ready, Owes, Claimed, Arrived}
+use Rattle.meet_block.specs.declared.view.View.{View}
+
+abbrev pub parent : {T : Type 0} → T → Stage → List T → List Bool → List ℕ → View T
+parent t at ts bs ls = record { stage = at; own = t; tags = ts; taken = bs; loads = ls }
+
+abbrev pub child : {T : Type 0} → T → Stage → List T → View T
+child t at ts = record { stage = at; own = t; tags = ts; taken = []; loads = [] }
+
+-- whether the parent holds its own party, and so may give more places
+abbrev pub holds_party : Stage → Bool
+holds_party Open = true
+holds_party _ = false
+
+abbrev pub has_arrived : Stage → ℕ
+has_arrived Arrived = 1
+has_arrived _ = 0
+
+-- how many children have arrived
+abbrev pub arrivals : {T : Type 0} → List (View T) → ℕ
+arrivals [] = 0
+arrivals (c ∷ cs) = has_arrived c.stage + arrivals cs
+
+-- how many values the parent hasn't taken
+abbrev pub untaken : List Bool → ℕ
+untaken [] = 0
+untaken (true ∷ bs) = untaken bs
+untaken (false ∷ bs) = untaken bs + 1
+
+-- What the word says. While the parent holds its own party it is 17 less the children that have arrived, and then the number of given places that owe
+abbrev pub Counts : Stage → ℕ → ℕ → ℕ → Type 0
+Counts Open word arrived given = word + arrived ≡ 17
+Counts Waiting word arrived given = word + arrived ≡ given
+Counts Ready word arrived given = (word ≡ 0) × (arrived ≡ given)
+Counts _ word arrived given = ⊥
+
+module _ {A T : Type 0} (tag : A → T) where
+  -- the slot is at home, with a value of this tag
+  abbrev pub IsFull : T → Maybe (Option A) → Type 0
+  IsFull t home = (value : A) × (home ≡ some (Some value)) × (tag value ≡ t)
+
+  -- A given place: its tag, whether its value was taken, the stage of its child, and its slot. The slot is home and empty until the child claims it, out
+  -- with the child until that arrives, then home with a value of the tag, and out with the parent from the take on
+  abbrev pub Place : T → Bool → Stage → Maybe (Option A) → Type 0
+  Place t false Owes home = home ≡ some None
+  Place t false Claimed home = home ≡ none
+  Place t false Arrived home = IsFull t home
+  Place t true Arrived home = home ≡ none
+  Place t _ _ home = ⊥
+
+  -- the places that were not given
+  abbrev pub Vacant : List (Maybe (Option A)) → Type 0
+  Vacant [] = Unit {0}
+  Vacant (h ∷ hs) = (h ≡ some None) × Vacant hs
+
+  -- the places from the one behind `before` on, each with one seat
+  abbrev pub Places : List T → List T → List Bool → List (View T) → List (Maybe (Option A)) → Type 0
+  Places before [] [] [] homes = Vacant homes
+  Places before (t ∷ ts) (b ∷ bs) (c ∷ cs) (h ∷ hs) = (c.own ≡ t) × (c.tags ≡ before ++ t ∷ []) × Place t b c.stage h × Places (before ++ t ∷ []) ts bs cs hs
+  Places before _ _ _ _ = ⊥
+
+  abbrev pub Fits : List ℕ → List (Maybe (Option A)) → List (View T) → Type 0
+  Fits (w ∷ []) homes (p ∷ cs) = (length homes ≡ 16) × Counts p.stage w (arrivals cs) (length cs) × Places [] p.tags p.taken cs homes
+  Fits _ homes views = ⊥
+
+  abbrev pub Obeys : State (Option A) (View T) → Type 0
+  Obeys s = Fits s.words s.homes s.views
+
+-- What each step makes of the seat that steps: its view, and the slots that it has out
+module _ {T : Type 0} where
+  -- a split appends the tag to the parent's list
+  abbrev pub opened : Option T → View T → View T
+  opened None v = v
+  opened (Some t) v = parent v.own Open (v.tags ++ t ∷ []) (v.taken ++ false ∷ []) v.loads
+
+  -- and the new seat's view has that list
+  abbrev pub given : Option T → View T → View T
+  given None v = child v.own Owes v.tags
+  given (Some t) v = child t Owes (v.tags ++ t ∷ [])
+
+module _ {A T : Type 0} where
+  abbrev pub claimed : Me (Option A) (View T) → Me (Option A) (View T)
+  claimed m = (child m.0.own Claimed m.0.tags, (length m.0.tags - 1, None) ∷ [])
+
+  abbrev pub arrived : Me (Option A) (View T) → Me (Option A) (View T)
+  arrived m = (child m.0.own Arrived m.0.tags, [])
+
+  -- the parent gave up its party
+  abbrev pub closed : Me (Option A) (View T) → Me (Option A) (View T)
+  closed m = (parent m.0.own Waiting m.0.tags m.0.taken m.0.loads, [])
+
+  -- a look read n, which joins the list: n of the given places owe
+  abbrev pub Looked : Me (Option A) (View T) → ℕ → Me (Option A) (View T) → Type 0
+  Looked m n after = (n ≤ length m.0.tags)
+      × (n ≡ 0 → after ≡ (parent m.0.own Ready m.0.tags m.0.taken (m.0.loads ++ n ∷ []), []))
+      × (n ≢ 0 → after ≡ (parent m.0.own Waiting m.0.tags m.0.taken (m.0.loads ++ n ∷ []), []))
+
+  -- the slot of the place is out with the parent, and has a value of the place's tag
+  abbrev pub Took : (A → T) → ℕ → Me (Option A) (View T) → Me (Option A) (View T) → Type 0
+  Took tag k m after = (value : A) × (get_elem? m.0.tags k ≡ some (tag value))
+      × (after ≡ (parent m.0.own Ready m.0.tags (slice_set m.0.taken k true) m.0.loads, (k, Some value) ∷ m.1))

@@ -1,0 +1,211 @@
+ghost use Rattle.std.specs.Prelude.{◌≡◌, ℕ, ◌+◌, ◌<◌, ◌≤◌, [], ◌∷◌, ◌++◌, IfOk, OnOk, OnErr, IfSome, IfNone, Some, length, slice_get, slice_set, true, false};
+ghost use Rattle.meet_block.specs.Joined.{joined, Answers};
+ghost use Rattle.meet_block.specs.Blocks.{Part, InOrder, Numbered, HandsOut, Searched, FindsAll, FindsOwing, Holds, tags_of, ends_open};
+
+use crate::block::Block;
+use crate::give::Give;
+use crate::memory::Memory;
+use crate::tagged::Tagged;
+use std::alloc::Global;
+use std::marker::Model;
+
+/// The parent's end of a join. Contracts see it as a `Joined`: the tags handed out and of which of them the value was taken, both in the order of the
+/// children, whether the join is ready, and the numbers that looks have read.
+///
+/// The memory of a counter is freed when all its values were taken, or else with the join, and not before the gives of the counter are gone. Values that
+/// were put and not taken are dropped with it. A join is `Send` where the value is.
+#[derive(Drop)]
+pub struct Join<A: Tagged> {
+    blocks: Vec<Block<A>>,
+    // The blocks before this one were found ready.
+    found: usize,
+    count: u64,
+}
+
+impl<A: Tagged> Model for Join<A> {
+    ghost use Rattle.std.specs.Prelude.{◌≡◌, length};
+    ghost use Rattle.meet_block.specs.Joined.{Joined};
+    ghost use Rattle.meet_block.specs.Blocks.{InOrder, known, tags_of};
+
+    ghost Value = { Joined A.Key };
+
+    ghost view = { λ j. known j.blocks.items };
+
+    ghost invariant = { λ j. InOrder j.found (length j.blocks.items) j.blocks.items
+        × (j.count ≡ length (tags_of j.blocks.items)) };
+}
+
+/// What a look found.
+#[derive(Debug, Clone, Copy, PartialEq, Eq)]
+pub enum Look {
+    /// Each child of the join has put its value, and the values that weren't taken may be taken.
+    Ready,
+    /// So many children of one counter hadn't put their values when this look read it, at least 1. The parent's own party isn't counted.
+    NotYet(u64),
+}
+
+// Looks at the blocks from the one numbered `from` on, up to the first whose children owe: its number, and how many owe.
+fn first_owing<A: Tagged + Drop>(blocks: &mut [Block<A>], from: usize) -> Option<(usize, u64)>
+    requires { InOrder from 0 blocks.old }
+    ensures ready { IfNone result (FindsAll blocks.old blocks.new) }
+    ensures owing { IfSome result (λ r. FindsOwing blocks.old blocks.new r.0 r.1) }
+{
+    let mut at = from;
+    while at < blocks.len() {
+        let block = &mut blocks[at];
+        let owing = block.look();
+        if owing > 0 {
+            return Some((at, owing));
+        }
+        at += 1;
+    }
+    None
+}
+
+// The block in which the child i has its place.
+fn block_of<A: Tagged + Drop>(blocks: &[Block<A>], i: u64) -> usize
+    requires numbered { Numbered 0 blocks.now }
+    requires within { i < length (tags_of blocks.now) }
+    ensures { (block : Part A.Key) × Holds blocks.now i result block }
+{
+    blocks.partition_point(|block| block.first() <= i) - 1
+}
+
+// Gives the first place of a new block.
+fn hand_anew<A: Tagged + Drop>(
+    blocks: &mut Vec<Block<A>>,
+    alloc: Global,
+    count: u64,
+    tag: &A::Key,
+) -> Result<Give<A>, Memory>
+    requires count { count ≡ length (tags_of blocks.old.items) }
+    requires closed { ends_open blocks.old.items ≡ false }
+    ensures give { IfOk result (λ give. give ≡ tag.now) }
+    ensures handed { OnOk result (HandsOut blocks.old.items blocks.new.items tag.now) }
+    ensures err { OnErr result (blocks.new.items ≡ blocks.old.items) }
+{
+    blocks.reserve(1)?;
+    let mut block = Block::new(alloc, count, tag)?;
+    let give = block.hand(tag)?;
+    blocks.push_reserved(block);
+    Ok(give)
+}
+
+// Gives the next place of the last block, or the first one of a new block where the last isn't open.
+fn hand_next<A: Tagged + Drop>(
+    blocks: &mut Vec<Block<A>>,
+    alloc: Global,
+    count: u64,
+    tag: &A::Key,
+) -> Result<Give<A>, Memory>
+    requires { count ≡ length (tags_of blocks.old.items) }
+    ensures give { IfOk result (λ give. give ≡ tag.now) }
+    ensures handed { OnOk result (HandsOut blocks.old.items blocks.new.items tag.now) }
+    ensures err { OnErr result (blocks.new.items ≡ blocks.old.items) }
+{
+    let Some(last) = blocks.last_mut() else {
+        return hand_anew(blocks, alloc, count, tag);
+    };
+    if last.is_open() {
+        return last.hand(tag);
+    }
+    hand_anew(blocks, alloc, count, tag)
+}
+
+// Gives up the parent's party in the last block, where the parent still holds it.
+fn close_last<A: Tagged + Drop>(blocks: &mut [Block<A>])
+    ensures order { (found : ℕ) → InOrder found (length blocks.old) blocks.old
+        → InOrder found 0 blocks.new }
+    ensures same { Searched blocks.old blocks.new [] }
+{
+    let Some(last) = blocks.last_mut() else {
+        return;
+    };
+    if last.is_open() {
+        last.close();
+    }
+}
+
+// A look: gives up the parent's party where the last block is open, and goes on from the block `found`.
+fn look_from<A: Tagged + Drop>(blocks: &mut [Block<A>], found: usize) -> Option<(usize, u64)>
+    requires { InOrder found (length blocks.old) blocks.old }
+    ensures ready { IfNone result (FindsAll blocks.old blocks.new) }
+    ensures owing { IfSome result (λ r. FindsOwing blocks.old blocks.new r.0 r.1) }
+{
+    close_last(blocks);
+    first_owing(blocks, found)
+}
+
+impl<A: Tagged + Drop> Join<A> {
+    /// A join with no children. It takes no memory yet.
+    pub fn new(alloc: Global) -> Result<Join<A>, Memory>
+        ensures { IfOk result (λ join. join ≡ joined [] [] true []) }
+    {
+        Ok(Join {
+            blocks: Vec::new(alloc),
+            found: 0,
+            count: 0,
+        })
+    }
+
+    /// How many gives were handed out.
+    pub fn count(&self) -> u64
+        ensures { result ≡ length self.now.tags }
+    {
+        self.count
+    }
+
+    /// Hands out the give of one more child, which has the next number, from 0. The join isn't ready then, until a look finds it so again.
+    ///
+    /// A new counter is made where the last one has given its 16 places, or a look has closed it. `Memory` leaves the join as it was.
+    pub fn hand(&mut self, alloc: Global, tag: &A::Key) -> Result<Give<A>, Memory>
+        ensures give { IfOk result (λ give. give ≡ tag.now) }
+        ensures handed { OnOk result (self.new
+            ≡ joined (self.old.tags ++ tag.now ∷ []) (self.old.taken ++ false ∷ []) false self.old.loads) }
+        ensures err { OnErr result (self.new ≡ self.old) }
+    {
+        let Some(count) = self.count.checked_add(1) else {
+            return Err(Memory);
+        };
+        let give = hand_next(&mut self.blocks, alloc, self.count, tag)?;
+        self.count = count;
+        Ok(give)
+    }
+
+    /// Says whether each child has put its value. It takes no memory and doesn't wait.
+    ///
+    /// The first look after a `hand` gives up the parent's own party in the last counter. A look then reads the counters that weren't yet found ready, in
+    /// order, and stops at the first whose children haven't all arrived. Each number that it reads joins the list of loads: 0 for each counter that it
+    /// passes, and then the number that it answers.
+    pub fn look(&mut self) -> Look
+        ensures answers { Answers self.old self.new result }
+        ensures tags { self.new.tags ≡ self.old.tags }
+        ensures taken { self.new.taken ≡ self.old.taken }
+    {
+        match look_from(self.blocks.as_mut_slice(), self.found) {
+            Some((at, owing)) => {
+                self.found = at;
+                Look::NotYet(owing)
+            }
+            None => {
+                self.found = self.blocks.len();
+                Look::Ready
+            }
+        }
+    }
+
+    /// Takes the value of the child with the number `i`, whose tag is the i-th that was handed out. The join has to be ready, and the value there still.
+    /// It takes no memory, and frees that of a counter with the last of its values.
+    pub fn take(&mut self, i: u64) -> A
+        requires ready { self.old.ready ≡ true }
+        requires left { slice_get self.old.taken i ≡ Some false }
+        ensures tag { slice_get self.old.tags i ≡ Some (A.tag result) }
+        ensures taken { self.new
+            ≡ joined self.old.tags (slice_set self.old.taken i true) true self.old.loads }
+    {
+        let at = block_of(self.blocks.as_slice(), i);
+        let block = &mut self.blocks[at];
+        let place = (i - block.first()) as usize;
+        block.take(place)
+    }
+}
