@@ -64,13 +64,13 @@ fn digits_length(bytes: &[u8]) -> usize
     }
 }
 
-// The number that digits stand for.
+// The number that digits stand for. The low half of a digit's byte is its value.
 fn number(digits: &[u8]) -> Result<i64, Unread> {
     let mut value = 0i64;
     for digit in digits {
         let tens = value.checked_mul(10).ok_or(Unread::NotBuilt)?;
         value = tens
-            .checked_add((digit % 10) as i64)
+            .checked_add((digit & 0x0f) as i64)
             .ok_or(Unread::NotBuilt)?;
     }
     Ok(value)
