@@ -1,0 +1,4 @@
+mod Words
+mod Follows
+mod Sound
+mod Same
