@@ -393,12 +393,12 @@ pub functions_go : {ts rest : List Token} {fs : List Function} (d : IsFunctions 
 functions_go no_functions s = stay refl
 functions_go (one_function f fs) s = next (function_goes f s) (functions_go fs s)
 
-ending_of : Trace → Option (List Sym)
+pub ending_of : Trace → Option (List Sym)
 ending_of None = None
 ending_of (Some p) = Some p.1
 
 -- the stack in the end is that of the plain run
-run_of_trace : (ts : List Token) (s : List Sym) → ending_of (trace ts s) ≡ run ts s
+pub run_of_trace : (ts : List Token) (s : List Sym) → ending_of (trace ts s) ≡ run ts s
 unfolding ending_of
 run_of_trace [] s = refl
 run_of_trace (t ∷ ts) s = go (step t.word t.text s) (λ x. run_of_trace ts x)

@@ -2,3 +2,7 @@ mod Words
 mod Follows
 mod Sound
 mod Same
+mod Judged
+mod Steps
+mod Decimals
+mod Expressions

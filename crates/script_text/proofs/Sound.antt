@@ -288,7 +288,7 @@ of_found a k text (q ∷ qs) h r e at s ts d = go (same_word k q.first) (q.fits 
     go true false f g ih = ih (sym (ap (λ b. cond (b && q.fits text) (Some (q.rest text)) (find_rule k text qs)) f ∙ ap (λ b. cond (true && b) (Some (q.rest text)) (find_rule k text qs)) g) ∙ e)
     go false c f g ih = ih (sym (ap (λ b. cond (b && q.fits text) (Some (q.rest text)) (find_rule k text qs)) f) ∙ e)
 
-left_out : (a : Sym) → is_empty a ≡ true → (ts : List Token) → From a ts ts
+pub left_out : (a : Sym) → is_empty a ≡ true → (ts : List Token) → From a ts ts
 left_out index e ts = λ a t. (_, a_name)
 left_out more_factors e ts = (_, no_factors)
 left_out more_terms e ts = (_, no_terms)
@@ -360,14 +360,14 @@ goes_on : (s : List Sym) → (ts : List Token) × Derives s ts
 goes_on [] = ([], refl)
 goes_on (a ∷ s) = let r = goes_on s in let q = sample a r.0 in (q.0, (r.0, q.1, r.1))
 
-whole : (ts : List Token) → Derives (functions ∷ []) ts → (fs : List Function) × IsScript ts fs
+pub whole : (ts : List Token) → Derives (functions ∷ []) ts → (fs : List Function) × IsScript ts fs
 whole ts d = (d.1.0, subst (λ q. IsFunctions ts d.1.0 q) d.2 d.1.1)
 
 -- what the machine takes is viable
 pub viable : (ts : List Token) (s : List Sym) → run ts (functions ∷ []) ≡ Some s → IsViable ts
 viable ts s e = let more' = goes_on s in let r = whole _ (run_sound ts (functions ∷ []) s more'.0 e more'.1) in (more'.0, r.0, r.1)
 
-run-append : (ts us : List Token) (s : List Sym) → run (ts ++ us) s ≡ option_and_then (run us) (run ts s)
+pub run-append : (ts us : List Token) (s : List Sym) → run (ts ++ us) s ≡ option_and_then (run us) (run ts s)
 run-append [] us s = refl
 run-append (t ∷ ts) us s = go (step t.word t.text s) (run-append ts us)
   where

@@ -1,6 +1,6 @@
 -- Words are told apart by their codes.
 use Rattle.std.proofs.Common.{◌≡◌, ℕ, true, false, nat_eq, if◌then◌else◌, refl, sym, ap, ◌∙◌}
-use Rattle.std.proofs.lemmas.Bool.{eqb-true}
+use Rattle.std.proofs.lemmas.Bool.{eqb-true, eq-eqb}
 use Rattle.script_tokens.specs.declared.token.Word.{Word}
 use Rattle.script_tokens.specs.declared.token.Word.TheVariants as word
 use Rattle.script_text.specs.Machine.{code, same_word}
@@ -97,3 +97,6 @@ word_of-code word.Range = refl
 
 pub same_words : (v w : Word) → same_word v w ≡ true → v ≡ w
 same_words v w e = sym (word_of-code v) ∙ ap word_of (eqb-true (code v) (code w) e) ∙ word_of-code w
+
+pub same_word-refl : (w : Word) → same_word w w ≡ true
+same_word-refl w = eq-eqb (code w) (code w) refl

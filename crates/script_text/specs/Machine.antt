@@ -6,7 +6,10 @@
 use Rattle.std.specs.Prelude.{ℕ, suc, ◌+◌, List, [], ◌∷◌, ◌++◌, Option, Some, None, option_and_then, Bool, true, false, ◌&&◌, ◌||◌, nat_eq, nat_lt, nat_le, length, if◌then◌else◌}
 use Rattle.script_tokens.specs.declared.token.Word.{Word}
 use Rattle.script_tokens.specs.declared.token.Word.TheVariants as word
+use Rattle.script_tokens.specs.declared.lexing.Stop.{Stop}
+use Rattle.script_tokens.specs.declared.lexing.Stop.TheVariants.{End, NotAscii, NoToken}
 use Rattle.script_text.specs.Grammar.{Token, decimal}
+use Rattle.script_text.specs.Fault.{is_fn, Ending}
 
 pub data Sym : Type 0 where
   -- a token of that word, or the name with these bytes
@@ -225,11 +228,6 @@ abbrev pub trace : List Token → List Sym → Trace
 trace [] s = Some ([], s)
 trace (t ∷ ts) s = onward (step t.word t.text s) (trace ts)
 
--- what may stand behind the last token: the end of the text there, or a fault with its number and place
-pub data Ending : Type 0 where
-  the_end : ℕ → Ending
-  no_token : ℕ → ℕ → Ending
-
 -- a fault: its number and its place
 abbrev pub Fault : Type 0
 Fault = ℕ × ℕ
@@ -239,7 +237,7 @@ abbrev pub broken : ℕ → Token → ℕ → Option ℕ
 broken n t d =
     if same_word t.word word.Number && nat_lt 9223372036854775807 (decimal 0 t.text) then Some 3
     else if same_word t.word word.Name && nat_lt 32 (length t.text) then Some 4
-    else if same_word t.word word.Fn && nat_le 1024 n then Some 7
+    else if is_fn t.word && nat_lt 1023 n then Some 7
     else if nat_lt 64 d then Some 5
     else None
 
@@ -251,15 +249,16 @@ abbrev pub verdict : ℕ → Token → Option (List Sym) → (List Sym → Optio
 verdict n t None go = Some (2, t.at)
 verdict n t (Some s) go = unless_broken (broken n t (depth s)) t.at (go s)
 
-abbrev pub at_end : Ending → List Sym → Option Fault
-at_end (the_end at) s = if all_empty s then None else Some (6, at)
-at_end (no_token k at) s = Some (k, at)
+abbrev pub at_stop : ℕ → Stop → List Sym → Option Fault
+at_stop end End s = if all_empty s then None else Some (6, end)
+at_stop end (NotAscii place) s = Some (1, place)
+at_stop end (NoToken place) s = Some (2, place)
 
 -- how many functions have begun behind a token
 abbrev pub begun : Token → ℕ → ℕ
-begun t n = if same_word t.word word.Fn then suc n else n
+begun t n = if is_fn t.word then suc n else n
 
 -- the first fault of these tokens, where these symbols are expected and n functions have begun
 abbrev pub judge : Ending → ℕ → List Sym → List Token → Option Fault
-judge e n s [] = at_end e s
+judge e n s [] = at_stop e.end e.stop s
 judge e n s (t ∷ ts) = verdict n t (step t.word t.text s) (λ s'. judge e (begun t n) s' ts)

@@ -5,10 +5,13 @@
 #![tactic(auto)]
 
 pub mod boxed;
+mod error;
 pub mod items;
+mod parser;
 pub mod tree;
 
 pub use boxed::Boxed;
+pub use error::SyntaxError;
 pub use items::Items;
 pub use tree::{
     Act, CallText, Comparison, Expr, Function, Kind, Name, Number, Param, ProductPart, ProductSign,

@@ -1,0 +1,130 @@
+-- What the parser's functions say of the lexemes that they were given.
+use Rattle.std.specs.Prelude.{◌≡◌, ℕ, suc, ◌+◌, ◌<◌, ◌≤◌, Bool, true, false, List, [], ◌∷◌, ◌++◌, length, map, Option, Some, None, Result, Ok, Err, nat_lt}
+use Rattle.std.specs.Borrow.{Bor}
+use Rattle.script_tokens.specs.declared.token.Word.{Word}
+use Rattle.script_tokens.specs.declared.token.Word.TheVariants as word
+use Rattle.script_tokens.specs.declared.token.Lexeme.{Lexeme}
+use Rattle.script_tokens.specs.declared.lexing.Stop.{Stop}
+use Rattle.script_tokens.specs.declared.lexing.Stop.TheVariants.{End, NotAscii, NoToken}
+use Rattle.script_tokens.specs.Lexing.{text_of}
+use Rattle.script_text.specs.declared.tree.Name.{Name}
+use Rattle.script_text.specs.declared.tree.Number.{Number}
+use Rattle.script_text.specs.declared.tree.Comparison.{Comparison}
+use Rattle.script_text.specs.declared.tree.ProductSign.{ProductSign}
+use Rattle.script_text.specs.declared.tree.Expr.{Expr}
+use Rattle.script_text.specs.declared.error.SyntaxError.{SyntaxError}
+use Rattle.script_text.specs.declared.error.SyntaxError.TheVariants.{Bad, Memory}
+use Rattle.script_text.specs.declared.parser.source.Source.{Source}
+use Rattle.script_text.specs.Grammar.{Token, tok, name_at, number_at, decimal, IsSumSign, IsProductSign, IsComparison, IsExpr}
+use Rattle.script_text.specs.Fault.{Ending}
+use Rattle.script_text.specs.Machine.{Sym, only, pair, rules, rule, find_rule, is_empty, depth, judge, code, same_word}
+
+-- a lexeme with its bytes
+abbrev pub token_of : List ℕ → Lexeme → Token
+token_of bytes l = tok l.start l.word (text_of bytes l)
+
+abbrev pub seen : Source → List Lexeme → List Token
+seen source ls = map (token_of source.bytes.now) ls
+
+abbrev pub ending : Source → Ending
+ending source = record { end = source.end; stop = source.stop }
+
+-- the machine comes from the symbols in front to those behind, by the lexemes between
+abbrev pub Leads : List Sym → List Sym → Source → ℕ → List Lexeme → List Lexeme → Type 0
+Leads front back source d old rest =
+    (n : ℕ) (s : List Sym) → depth s ≡ d → judge (ending source) n (front ++ s) (seen source old) ≡ judge (ending source) n (back ++ s) (seen source rest)
+
+-- the machine finds that fault
+abbrev pub Finds : List Sym → Source → ℕ → List Lexeme → ℕ → ℕ → Type 0
+Finds front source d old number at =
+    (n : ℕ) (s : List Sym) → depth s ≡ d → judge (ending source) n (front ++ s) (seen source old) ≡ Some (number, at)
+
+-- the same of an error
+abbrev pub Errs : List Sym → Source → ℕ → List Lexeme → SyntaxError → Type 0
+Errs front source d old Memory = Unit {0}
+Errs front source d old (Bad number at) = Finds front source d old number at
+
+-- What was read from the front derives so, and takes the symbols in front from the machine's stack. Or the machine finds the fault.
+abbrev pub Reads : {X : Type 0} → (List Token → X → List Token → Type 0) → List Sym → Source → ℕ → List Lexeme → Result (X × Bor (List Lexeme)) SyntaxError → Type 0
+Reads R front source d old (Ok p) = R (seen source old) p.0 (seen source p.1.now) × Leads front [] source d old p.1.now
+Reads R front source d old (Err e) = Errs front source d old e
+
+-- the fault where nothing that may come next does
+abbrev pub stopped_at : ℕ → Stop → SyntaxError
+stopped_at end End = Bad 6 end
+stopped_at end (NotAscii place) = Bad 1 place
+stopped_at end (NoToken place) = Bad 2 place
+
+abbrev pub unexpected_in : Source → List Lexeme → SyntaxError
+unexpected_in source [] = stopped_at source.end source.stop
+unexpected_in source (l ∷ ls) = Bad 2 l.start
+
+-- that word comes next, at that place and with these behind it; or it doesn't
+abbrev pub NextIs : Word → ℕ → List Lexeme → List Lexeme → Type 0
+NextIs w at old rest = (l : Lexeme) × (old ≡ l ∷ rest) × (l.word ≡ w) × (l.start ≡ at)
+
+abbrev pub NextIsNot : Word → List Lexeme → Type 0
+NextIsNot w [] = Unit {0}
+NextIsNot w (l ∷ ls) = l.word ≡ w → ⊥
+
+-- a word that no limit but the nesting is about
+abbrev pub is_plain : Word → Bool
+is_plain w = nat_lt 2 (code w)
+
+abbrev pub IsPlain : Word → Type 0
+IsPlain w = is_plain w ≡ true
+
+abbrev pub Passes : Word → Source → ℕ → List Lexeme → Result (Bor (List Lexeme)) SyntaxError → Type 0
+Passes w source d old (Ok rest) = ((at : ℕ) × NextIs w at old rest.now) × Leads (only w ∷ []) [] source d old rest.now
+Passes w source d old (Err e) = Errs (only w ∷ []) source d old e
+
+-- a symbol that has to be a bracket with these behind it
+pub record IsBracket (a : Sym) (w : Word) (inside : List Sym) : Type 0 where
+  pub needed : is_empty a ≡ false
+  pub only_rule : rules a ≡ rule w inside ∷ []
+  pub one_level : (s : List Sym) → depth (inside ++ s) ≡ suc (depth s)
+
+abbrev pub Opens : Word → Source → ℕ → List Lexeme → Result (Bor (List Lexeme)) SyntaxError → Type 0
+Opens w source d old (Ok rest) =
+    ((at : ℕ) × NextIs w at old rest.now) × (d < 64) × ((a : Sym) (inside : List Sym) → IsBracket a w inside → Leads (a ∷ []) inside source d old rest.now)
+Opens w source d old (Err e) = (a : Sym) (inside : List Sym) → IsBracket a w inside → Errs (a ∷ []) source d old e
+
+abbrev pub Deepens : ℕ → ℕ → Result ℕ SyntaxError → Type 0
+Deepens d at (Ok inner) = (inner ≡ d + 1) × (d < 64)
+Deepens d at (Err Memory) = ⊥
+Deepens d at (Err (Bad number place)) = (d ≡ 64) × (number ≡ 5) × (place ≡ at)
+
+abbrev pub Names : Source → Lexeme → Result Name SyntaxError → Type 0
+Names source l (Ok name) = (name ≡ name_at l.start (text_of source.bytes.now l)) × (length (text_of source.bytes.now l) ≤ 32)
+Names source l (Err Memory) = Unit {0}
+Names source l (Err (Bad number at)) = (32 < length (text_of source.bytes.now l)) × (number ≡ 4) × (at ≡ l.start)
+
+abbrev pub IsValue : List ℕ → Option ℕ → Type 0
+IsValue digits None = 9223372036854775807 < decimal 0 digits
+IsValue digits (Some value) = (value ≡ decimal 0 digits) × (decimal 0 digits ≤ 9223372036854775807)
+
+abbrev pub Numbers : Source → Lexeme → Result Number SyntaxError → Type 0
+Numbers source l (Ok number) = (number ≡ number_at l.start (text_of source.bytes.now l)) × (decimal 0 (text_of source.bytes.now l) ≤ 9223372036854775807)
+Numbers source l (Err Memory) = ⊥
+Numbers source l (Err (Bad number at)) = (9223372036854775807 < decimal 0 (text_of source.bytes.now l)) × (number ≡ 3) × (at ≡ l.start)
+
+-- the sign that a word is, or the symbol has no rule for the word
+abbrev pub Signs : {X : Type 0} → Sym → (Word → X → Type 0) → Word → Option X → Type 0
+Signs a R w None = (text : List ℕ) → find_rule w text (rules a) ≡ None
+Signs a R w (Some sign) = R w sign
+
+-- a sign comes next, and what stands behind it; or the symbol has no rule for what comes next
+abbrev pub SignNext : {X : Type 0} → Sym → (Word → X → Type 0) → List Lexeme → Option (X × Bor (List Lexeme)) → Type 0
+SignNext a R [] None = Unit {0}
+SignNext a R (l ∷ ls) None = (text : List ℕ) → find_rule l.word text (rules a) ≡ None
+SignNext a R old (Some p) = (l : Lexeme) × (old ≡ l ∷ p.1.now) × R l.word p.0
+
+-- "(" expr "," expr ")"
+pub data IsOperands : List Token → Expr → Expr → List Token → Type 0 where
+  an_operands : {b c d : ℕ} {u v w : List ℕ} {ts us rest : List Token} {x y : Expr}
+      → IsExpr ts x (tok c word.Comma v ∷ us) → IsExpr us y (tok d word.Close w ∷ rest)
+      → IsOperands (tok b word.Open u ∷ ts) x y rest
+
+abbrev pub ReadsPair : Source → ℕ → List Lexeme → Result (Expr × Expr × Bor (List Lexeme)) SyntaxError → Type 0
+ReadsPair source d old (Ok p) = IsOperands (seen source old) p.0 p.1 (seen source p.2.now) × Leads (pair ∷ []) [] source d old p.2.now
+ReadsPair source d old (Err e) = Errs (pair ∷ []) source d old e

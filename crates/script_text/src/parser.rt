@@ -1,0 +1,4 @@
+// From the lexemes of a text to its tree, by recursive descent.
+
+mod expression;
+mod source;
