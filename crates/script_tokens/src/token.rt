@@ -1,5 +1,7 @@
 // What tokens are.
 
+ghost use Rattle.std.specs.Prelude.{◌≡◌, ◌≤◌, length};
+
 /// A token's sort. `End` is the end of the text.
 #[derive(Clone, Copy, Debug, PartialEq, Eq)]
 pub enum TokenKind {
@@ -87,10 +89,56 @@ pub enum Word {
     Range,
 }
 
+impl Word {
+    ghost use Rattle.script_tokens.specs.Word.{kind_of};
+
+    /// The sort of the token: `Name` or `Number`, else `Keyword` or `Symbol`, and never `End`.
+    pub fn kind(self) -> TokenKind
+        ensures { result ≡ kind_of self }
+    {
+        match self {
+            Word::Name => TokenKind::Name,
+            Word::Number => TokenKind::Number,
+            Word::Fn
+            | Word::Id
+            | Word::Let
+            | Word::Spawn
+            | Word::Call
+            | Word::Sync
+            | Word::Print
+            | Word::If
+            | Word::Else
+            | Word::While
+            | Word::Pfor
+            | Word::In
+            | Word::Into
+            | Word::Draw
+            | Word::New
+            | Word::Return
+            | Word::Same
+            | Word::Older => TokenKind::Keyword,
+            _ => TokenKind::Symbol,
+        }
+    }
+}
+
 /// A token of the text, told by its word: `bytes[start..end]`.
 #[derive(Clone, Copy, Debug, PartialEq, Eq)]
 pub struct Lexeme {
     pub word: Word,
     pub start: u32,
     pub end: u32,
+}
+
+impl Lexeme {
+    ghost use Rattle.script_tokens.specs.Lexing.{text_of};
+
+    /// The lexeme's bytes, where `bytes` is the text in which it stands.
+    pub fn text<'a>(&self, bytes: &'a [u8]) -> &'a [u8]
+        requires order { self.now.start ≤ self.now.end }
+        requires within { self.now.end ≤ length bytes.now }
+        ensures { result.now ≡ text_of bytes.now self.now }
+    {
+        &bytes[self.start as usize..self.end as usize]
+    }
 }

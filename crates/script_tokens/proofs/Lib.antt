@@ -1,0 +1,4 @@
+pub mod Longest
+pub mod LexingLemmas
+pub mod Building
+pub mod Cuts

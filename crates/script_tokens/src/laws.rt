@@ -1,0 +1,33 @@
+//! What holds of the lexemes of every text, as functions that do nothing: each is proved to ensure its law.
+
+ghost use Rattle.script_tokens.specs.Laws.{EveryTextIsCut, LexemesAreTokens, LexemesStandInOrder, LexingIsUnique, NextTokenIsUnique, OneMoreByteDecides};
+
+/// A token at the front of some bytes is the longest there, where one more byte makes no token of it.
+pub fn one_more_byte_decides()
+    ensures { OneMoreByteDecides }
+{}
+
+/// Every text is cut into lexemes.
+pub fn every_text_is_cut()
+    ensures { EveryTextIsCut }
+{}
+
+/// A text is cut into lexemes in one way, and they end for one reason.
+pub fn lexing_is_unique()
+    ensures { LexingIsUnique }
+{}
+
+/// [`next_token`](crate::next_token) has one answer.
+pub fn next_token_is_unique()
+    ensures { NextTokenIsUnique }
+{}
+
+/// No lexeme is empty, each begins where the one before it ended or later, and all stand in the text.
+pub fn lexemes_stand_in_order()
+    ensures { LexemesStandInOrder }
+{}
+
+/// The text of each lexeme is the token that its word says.
+pub fn lexemes_are_tokens()
+    ensures { LexemesAreTokens }
+{}

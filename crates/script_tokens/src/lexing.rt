@@ -1,0 +1,122 @@
+// How a text is cut into tokens.
+
+ghost use Rattle.std.specs.Prelude.{◌≡◌, ◌≤◌, ◌+◌, length, drop, IfOk};
+ghost use Rattle.script_tokens.specs.Lexing.{Comes, Lexes, NextToken, Stands};
+
+use crate::front::{front, gap_length};
+use crate::memory::Memory;
+use crate::token::{Lexeme, Token, TokenKind};
+use std::alloc::Global;
+
+/// The most bytes that a text may have, one mebibyte. So every offset is a `u32`.
+pub const MAX_BYTES: usize = 1_048_576;
+
+/// Why the lexemes of a text end.
+#[derive(Clone, Copy, Debug, PartialEq, Eq)]
+pub enum Stop {
+    /// The text was read to its end.
+    End,
+    /// At this offset stands a byte from 128 on, in a gap or where a token is due.
+    NotAscii(u32),
+    /// At this offset stands a byte below 128 at which no token, blank or comment begins.
+    NoToken(u32),
+}
+
+/// Why no token comes next: a [`Stop`] other than the end.
+#[derive(Clone, Copy, Debug, PartialEq, Eq)]
+pub enum Misfit {
+    /// At this offset stands a byte from 128 on, in the gap or directly behind it.
+    NotAscii(u32),
+    /// At this offset, directly behind the gap, stands a byte below 128 at which no token begins.
+    NoToken(u32),
+}
+
+/// The lexemes of a text in order, and why they end. Their texts, and the gaps between, make up the text up to the stop.
+#[derive(Debug, Drop)]
+pub struct Lexed {
+    pub lexemes: Vec<Lexeme>,
+    pub stop: Stop,
+}
+
+// The lexeme at the offset `at`, of which `rest` is the text from there on, or why there is none.
+fn lexeme_at(at: u32, rest: &[u8]) -> Result<Lexeme, Stop>
+    requires { at + length rest.now ≤ MAX_BYTES }
+    ensures { Stands at rest.now result }
+{
+    let Some((first, _)) = rest.split_first() else {
+        return Err(Stop::End);
+    };
+    if !first.is_ascii() {
+        return Err(Stop::NotAscii(at));
+    }
+    match front(rest) {
+        Some((word, length)) => Ok(Lexeme {
+            word,
+            start: at,
+            end: at + length as u32,
+        }),
+        None => Err(Stop::NoToken(at)),
+    }
+}
+
+// The lexeme that comes next behind the offset `from`, or why there is none.
+fn next_lexeme(bytes: &[u8], from: u32) -> Result<Lexeme, Stop>
+    requires size { length bytes.now ≤ MAX_BYTES }
+    requires within { from ≤ length bytes.now }
+    ensures { Comes from (drop from bytes.now) result }
+{
+    let left = &bytes[from as usize..];
+    let gap = gap_length(left);
+    lexeme_at(from + gap as u32, &left[gap..])
+}
+
+/// Cuts a text into its lexemes, up to its end or to the first byte that fits nowhere.
+///
+/// The time is linear in the length of the text, and the memory in the number of its lexemes. `Err` is want of memory alone: a text that
+/// can't be read to its end gives the lexemes in front of the byte that stopped it, and that byte's offset in `stop`.
+pub fn lexemes(alloc: Global, bytes: &[u8]) -> Result<Lexed, Memory>
+    requires { length bytes.now ≤ MAX_BYTES }
+    ensures { IfOk result (λ lexed. Lexes 0 bytes.now lexed.lexemes.items lexed.stop) }
+{
+    let mut lexemes = Vec::new(alloc);
+    let mut from = 0;
+    loop {
+        match next_lexeme(bytes, from) {
+            Ok(lexeme) => {
+                lexemes.push(lexeme)?;
+                from = lexeme.end;
+            }
+            Err(stop) => return Ok(Lexed { lexemes, stop }),
+        }
+    }
+}
+
+/// The token that comes next from the offset `from` on, behind the blanks and comments that stand there. It takes no memory.
+///
+/// At the end of the text this is the token [`TokenKind::End`], whose `start` and `end` are the text's length. There is none exactly where a
+/// byte from 128 on stands among these blanks and comments or directly behind them (`NotAscii`, with the offset of the first such byte), or
+/// else where the byte directly behind them begins no token (`NoToken`, with its offset). An offset inside a token or a comment is taken
+/// as the start of a text.
+pub fn next_token(bytes: &[u8], from: u32) -> Result<Token, Misfit>
+    requires size { length bytes.now ≤ MAX_BYTES }
+    requires within { from ≤ length bytes.now }
+    ensures { NextToken bytes.now from result }
+{
+    match next_lexeme(bytes, from) {
+        Ok(lexeme) => Ok(Token {
+            kind: lexeme.word.kind(),
+            start: lexeme.start,
+            end: lexeme.end,
+        }),
+        Err(Stop::End) => {
+            let end = bytes.len() as u32;
+            Ok(Token {
+                kind: TokenKind::End,
+                start: end,
+                end,
+            })
+        }
+        Err(Stop::NotAscii(at)) => Err(Misfit::NotAscii(at)),
+        Err(Stop::NoToken(at)) => Err(Misfit::NoToken(at)),
+    }
+}

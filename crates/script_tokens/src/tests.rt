@@ -1,0 +1,187 @@
+// Worked texts, and the largest ones.
+
+use crate::{MAX_BYTES, Memory, Misfit, Stop, Token, TokenKind, Word, lexemes, next_token};
+use std::alloc::Global;
+use std::process::Abort;
+use std::test::Fail;
+
+// A text, the texts of its lexemes joined by `|`, and why they end.
+type Cut = (&'static [u8], &'static [u8], Stop);
+
+static CUTS: [Cut; 29] = [
+    (b"", b"", Stop::End),
+    (b"12abc", b"12|abc", Stop::End),
+    (b"007", b"007", Stop::End),
+    (b"_ _1 x9_Z", b"_|_1|x9_Z", Stop::End),
+    (b"fn fnx Fn", b"fn|fnx|Fn", Stop::End),
+    (b"if(x)", b"if|(|x|)", Stop::End),
+    (b"a..b", b"a|..|b", Stop::End),
+    (b"0..5", b"0|..|5", Stop::End),
+    (b"->- >", b"->|-|>", Stop::End),
+    (b"<==", b"<=|=", Stop::End),
+    (b"= ==", b"=|==", Stop::End),
+    (b"!=>=>", b"!=|>=|>", Stop::End),
+    (b"--1", b"-|-|1", Stop::End),
+    (b" \t\r\na", b"a", Stop::End),
+    (b"a#b", b"a", Stop::End),
+    (b"#a\nb#c\n", b"b", Stop::End),
+    (b"#\x00\x01\x7f##\nb", b"b", Stop::End),
+    (b"a # \xc8", b"a", Stop::NotAscii(4)),
+    (b"# \xc8\nb", b"", Stop::NotAscii(2)),
+    (b"ab\xff", b"ab", Stop::NotAscii(2)),
+    (b"1 \x80", b"1", Stop::NotAscii(2)),
+    (b"\x80!", b"", Stop::NotAscii(0)),
+    (b"a ! \xff", b"a", Stop::NoToken(2)),
+    (b"!", b"", Stop::NoToken(0)),
+    (b"1.5", b"1", Stop::NoToken(1)),
+    (b"...", b"..", Stop::NoToken(2)),
+    (b"\x01", b"", Stop::NoToken(0)),
+    (b"a\x7f", b"a", Stop::NoToken(1)),
+    (b"\x0b", b"", Stop::NoToken(0)),
+];
+
+fn assert_cut(
+    rt: &impl Abort,
+    alloc: Global,
+    text: &[u8],
+    parts: &[u8],
+    stop: Stop,
+) -> Result<(), Memory> {
+    assert!(rt; text.len() <= MAX_BYTES);
+    let lexed = lexemes(alloc, text)?;
+    let mut joined = Vec::new(alloc);
+    for lexeme in &lexed.lexemes {
+        assert!(rt; lexeme.start <= lexeme.end);
+        assert!(rt; lexeme.end as usize <= text.len());
+        if !joined.is_empty() {
+            joined.push(b'|')?;
+        }
+        joined.extend_from_slice(lexeme.text(text))?;
+    }
+    assert_eq!(rt; joined.as_slice(), parts, "in {text:?}");
+    assert_eq!(rt; lexed.stop, stop, "in {text:?}");
+    Ok(())
+}
+
+#[test]
+fn tokens_are_the_longest_that_fit(rt: HostRuntime) -> Result<(), Fail> {
+    for &(text, parts, stop) in &CUTS {
+        assert_cut(&rt, rt.alloc(), text, parts, stop)?;
+    }
+    Ok(())
+}
+
+#[test]
+fn keywords_and_symbols_have_their_words(rt: HostRuntime) -> Result<(), Fail> {
+    let text =
+        b"fn id let spawn call sync print if else while pfor in into draw new return same older
+        ( ) { } [ ] , ; = + - * / % == != < <= > >= -> ..";
+    let wanted = [
+        Word::Fn,
+        Word::Id,
+        Word::Let,
+        Word::Spawn,
+        Word::Call,
+        Word::Sync,
+        Word::Print,
+        Word::If,
+        Word::Else,
+        Word::While,
+        Word::Pfor,
+        Word::In,
+        Word::Into,
+        Word::Draw,
+        Word::New,
+        Word::Return,
+        Word::Same,
+        Word::Older,
+        Word::Open,
+        Word::Close,
+        Word::OpenBlock,
+        Word::CloseBlock,
+        Word::OpenItem,
+        Word::CloseItem,
+        Word::Comma,
+        Word::Semicolon,
+        Word::Assign,
+        Word::Plus,
+        Word::Minus,
+        Word::Times,
+        Word::Over,
+        Word::Modulo,
+        Word::Eq,
+        Word::Ne,
+        Word::Lt,
+        Word::Le,
+        Word::Gt,
+        Word::Ge,
+        Word::Arrow,
+        Word::Range,
+    ];
+    let lexed = lexemes(rt.alloc(), text)?;
+    assert_eq!(rt; lexed.stop, Stop::End);
+    assert_eq!(rt; lexed.lexemes.len(), wanted.len());
+    for (found, word) in lexed.lexemes.iter().zip(wanted) {
+        assert_eq!(rt; found.word, word);
+        let kind = if found.start < 84 {
+            TokenKind::Keyword
+        } else {
+            TokenKind::Symbol
+        };
+        assert_eq!(rt; found.word.kind(), kind);
+    }
+    Ok(())
+}
+
+// A text, an offset, and the token that comes next there, with its start and end.
+static NEXT_TOKENS: [(&[u8], u32, TokenKind, u32, u32); 9] = [
+    (b"", 0, TokenKind::End, 0, 0),
+    (b" x ", 0, TokenKind::Name, 1, 2),
+    (b" x ", 2, TokenKind::End, 3, 3),
+    (b" x ", 3, TokenKind::End, 3, 3),
+    (b"let7", 1, TokenKind::Name, 1, 4),
+    (b"x # note", 1, TokenKind::End, 8, 8),
+    (b"x #\n99;", 1, TokenKind::Number, 4, 6),
+    (b"==", 0, TokenKind::Symbol, 0, 2),
+    (b"==", 1, TokenKind::Symbol, 1, 2),
+];
+
+static MISFITS: [(&[u8], u32, Misfit); 3] = [
+    (b"x # \xff", 1, Misfit::NotAscii(4)),
+    (b"\xff!", 0, Misfit::NotAscii(0)),
+    (b"x !\xff", 1, Misfit::NoToken(2)),
+];
+
+fn assert_next(rt: &impl Abort, text: &[u8], from: u32, wanted: Result<Token, Misfit>) {
+    assert!(rt; text.len() <= MAX_BYTES);
+    assert!(rt; from as usize <= text.len());
+    assert_eq!(rt; next_token(text, from), wanted, "at {from} in {text:?}");
+}
+
+#[test]
+fn the_next_token_stands_behind_the_gap(rt: HostRuntime) {
+    for &(text, from, kind, start, end) in &NEXT_TOKENS {
+        assert_next(&rt, text, from, Ok(Token { kind, start, end }));
+    }
+    for &(text, from, misfit) in &MISFITS {
+        assert_next(&rt, text, from, Err(misfit));
+    }
+}
+
+#[test]
+fn the_largest_texts_are_read(rt: HostRuntime) -> Result<(), Fail> {
+    for (byte, count, first) in [
+        (b'[', MAX_BYTES, Some(Word::OpenItem)),
+        (b'n', 1, Some(Word::Name)),
+        (b'7', 1, Some(Word::Number)),
+        (b'#', 0, None),
+        (b' ', 0, None),
+    ] {
+        let text = vec![in rt.alloc(); byte; MAX_BYTES]?;
+        let lexed = lexemes(rt.alloc(), &text)?;
+        assert_eq!(rt; lexed.stop, Stop::End);
+        assert_eq!(rt; lexed.lexemes.len(), count);
+        assert_eq!(rt; lexed.lexemes.first().map(|l| l.word), first);
+    }
+    Ok(())
+}
