@@ -6,3 +6,5 @@ mod Judged
 mod Steps
 mod Decimals
 mod Expressions
+mod Calls
+mod Statements

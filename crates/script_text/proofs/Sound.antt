@@ -87,7 +87,7 @@ abbrev pub Derives : List Sym → List Token → Type 0
 Derives [] ts = ts ≡ []
 Derives (a ∷ s) ts = (mid : List Token) × From a ts mid × Derives s mid
 
-same_name : (m n : List ℕ) → same_bytes m n ≡ true → m ≡ n
+pub same_name : (m n : List ℕ) → same_bytes m n ≡ true → m ≡ n
 same_name [] [] e = refl
 same_name [] (b ∷ bs) e = cc
 same_name (a ∷ xs) [] e = cc

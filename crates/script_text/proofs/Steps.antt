@@ -100,7 +100,7 @@ skipped source n a s (l ∷ ls) e h =
     ap (λ o. verdict n t (choose o (is_empty a) s (step t.word t.text s)) (λ s'. judge (ending source) (begun t n) s' (seen source ls))) h
     ∙ ap (λ b. verdict n t (choose None b s (step t.word t.text s)) (λ s'. judge (ending source) (begun t n) s' (seen source ls))) e
 
-other_word : (v w : Word) → (v ≡ w → ⊥) → same_word v w ≡ false
+pub other_word : (v w : Word) → (v ≡ w → ⊥) → same_word v w ≡ false
 other_word v w h = go (same_word v w) refl
   where
     go : (b : Bool) → same_word v w ≡ b → same_word v w ≡ false

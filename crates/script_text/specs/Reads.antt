@@ -12,10 +12,12 @@ use Rattle.script_text.specs.declared.tree.Number.{Number}
 use Rattle.script_text.specs.declared.tree.Comparison.{Comparison}
 use Rattle.script_text.specs.declared.tree.ProductSign.{ProductSign}
 use Rattle.script_text.specs.declared.tree.Expr.{Expr}
+use Rattle.script_text.specs.declared.tree.CallText.{CallText}
+use Rattle.script_text.specs.declared.tree.Right.{Right}
 use Rattle.script_text.specs.declared.error.SyntaxError.{SyntaxError}
 use Rattle.script_text.specs.declared.error.SyntaxError.TheVariants.{Bad, Memory}
 use Rattle.script_text.specs.declared.parser.source.Source.{Source}
-use Rattle.script_text.specs.Grammar.{Token, tok, name_at, number_at, decimal, IsSumSign, IsProductSign, IsComparison, IsExpr}
+use Rattle.script_text.specs.Grammar.{Token, tok, name_at, number_at, decimal, IsSumSign, IsProductSign, IsComparison, IsExpr, IsMoreArgs, IsArgs, IsCall, IsRight}
 use Rattle.script_text.specs.Fault.{Ending}
 use Rattle.script_text.specs.Machine.{Sym, only, pair, rules, rule, find_rule, is_empty, depth, judge, code, same_word}
 
@@ -128,3 +130,63 @@ pub data IsOperands : List Token → Expr → Expr → List Token → Type 0 whe
 abbrev pub ReadsPair : Source → ℕ → List Lexeme → Result (Expr × Expr × Bor (List Lexeme)) SyntaxError → Type 0
 ReadsPair source d old (Ok p) = IsOperands (seen source old) p.0 p.1 (seen source p.2.now) × Leads (pair ∷ []) [] source d old p.2.now
 ReadsPair source d old (Err e) = Errs (pair ∷ []) source d old e
+
+-- that lexeme comes next
+abbrev pub NextLexeme : Word → Lexeme → List Lexeme → List Lexeme → Type 0
+NextLexeme w l old rest = (old ≡ l ∷ rest) × (l.word ≡ w)
+
+-- a name, or a number
+pub data IsName : List Token → Name → List Token → Type 0 where
+  a_name_token : {a : ℕ} {t : List ℕ} {rest : List Token} → IsName (tok a word.Name t ∷ rest) (name_at a t) rest
+
+pub data IsNumber : List Token → Number → List Token → Type 0 where
+  a_number_token : {a : ℕ} {t : List ℕ} {rest : List Token} → IsNumber (tok a word.Number t ∷ rest) (number_at a t) rest
+
+-- { "," expr }, with these expressions in front of its own
+abbrev pub AddsArgs : List Expr → List Token → List Expr → List Token → Type 0
+AddsArgs found ts xs rest = (more : List Expr) × (xs ≡ found ++ more) × IsMoreArgs ts more rest
+
+-- args ")"
+pub data IsArguments : List Token → List Expr → List Token → Type 0 where
+  arguments : {c : ℕ} {v : List ℕ} {ts rest : List Token} {xs : List Expr} → IsArgs ts xs (tok c word.Close v ∷ rest) → IsArguments ts xs rest
+
+-- right ";"
+pub data IsValueOf : List Token → Right → List Token → Type 0 where
+  value_of : {c : ℕ} {v : List ℕ} {ts rest : List Token} {r : Right} → IsRight ts r (tok c word.Semicolon v ∷ rest) → IsValueOf ts r rest
+
+-- expr ";"
+pub data IsEnded : List Token → Expr → List Token → Type 0 where
+  ended : {c : ℕ} {v : List ℕ} {ts rest : List Token} {x : Expr} → IsExpr ts x (tok c word.Semicolon v ∷ rest) → IsEnded ts x rest
+
+-- name "(" args ")" ";"
+pub data IsCallOf : List Token → CallText → List Token → Type 0 where
+  call_of : {c : ℕ} {v : List ℕ} {ts rest : List Token} {x : CallText} → IsCall ts x (tok c word.Semicolon v ∷ rest) → IsCallOf ts x rest
+
+-- "[" number "]" ";"
+pub data IsSize : List Token → Number → List Token → Type 0 where
+  a_size : {a b c d : ℕ} {t u v w : List ℕ} {rest : List Token}
+      → IsSize (tok a word.OpenItem t ∷ tok b word.Number u ∷ tok c word.CloseItem v ∷ tok d word.Semicolon w ∷ rest) (number_at b u) rest
+
+-- "[" expr "]" "=" expr ";"
+pub data IsElement : List Token → Expr → Expr → List Token → Type 0 where
+  an_element : {a b c d : ℕ} {t u v w : List ℕ} {ts us rest : List Token} {x y : Expr}
+      → IsExpr ts x (tok b word.CloseItem u ∷ tok c word.Assign v ∷ us) → IsExpr us y (tok d word.Semicolon w ∷ rest)
+      → IsElement (tok a word.OpenItem t ∷ ts) x y rest
+
+-- a word that a statement may begin with
+abbrev pub begins_stmt : Word → Bool
+begins_stmt word.Let = true
+begins_stmt word.Name = true
+begins_stmt word.Spawn = true
+begins_stmt word.Call = true
+begins_stmt word.Sync = true
+begins_stmt word.Print = true
+begins_stmt word.If = true
+begins_stmt word.While = true
+begins_stmt word.Pfor = true
+begins_stmt _ = false
+
+-- no statement begins
+abbrev pub NoStmt : List Lexeme → Type 0
+NoStmt [] = Unit {0}
+NoStmt (l ∷ ls) = begins_stmt l.word ≡ false

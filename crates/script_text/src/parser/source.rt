@@ -1,8 +1,10 @@
 // What every part of the parser reads from, and its smallest steps.
 
-ghost use Rattle.std.specs.Prelude.{◌≡◌, ℕ, ◌≤◌, ◌<◌, ◌∷◌, true, MatchOption};
+ghost use Rattle.std.specs.Prelude.{◌≡◌, ℕ, ◌≤◌, ◌<◌, [], ◌∷◌, true, MatchOption};
 ghost use Rattle.script_tokens.specs.Lexing.{text_of};
-ghost use Rattle.script_text.specs.Reads.{IsPlain, IsValue, Names, Numbers, NextIs, NextIsNot, Passes, Opens, Deepens, unexpected_in};
+ghost use Rattle.script_tokens.specs.declared.token.Word.TheVariants as word;
+ghost use Rattle.script_text.specs.Machine.{only};
+ghost use Rattle.script_text.specs.Reads.{IsPlain, IsValue, IsName, IsNumber, Names, Numbers, NextIs, NextIsNot, NextLexeme, Passes, Opens, Deepens, Reads, unexpected_in};
 
 use crate::error::SyntaxError;
 use crate::items::Items;
@@ -82,16 +84,24 @@ fn value_of(digits: &[u8]) -> Option<u64>
     Some(value)
 }
 
+// The lexeme of that word and what stands behind it, where it comes next.
+fn next(tokens: &[Lexeme], word: Word) -> Option<(Lexeme, &[Lexeme])>
+    ensures { MatchOption result (NextIsNot word tokens.now) (λ p. NextLexeme word p.0 tokens.now p.1.now) }
+{
+    let (first, rest) = tokens.split_first()?;
+    if first.word == word {
+        Some((*first, rest))
+    } else {
+        None
+    }
+}
+
 // The place of the word and what stands behind it, where it comes next.
 pub(crate) fn after(tokens: &[Lexeme], word: Word) -> Option<(u32, &[Lexeme])>
     ensures { MatchOption result (NextIsNot word tokens.now) (λ p. NextIs word p.0 tokens.now p.1.now) }
 {
-    let (first, rest) = tokens.split_first()?;
-    if first.word == word {
-        Some((first.start, rest))
-    } else {
-        None
-    }
+    let (lexeme, rest) = next(tokens, word)?;
+    Some((lexeme.start, rest))
 }
 
 // The fault where nothing that may come next does.
@@ -152,6 +162,34 @@ pub(crate) fn open<'t>(
             deeper(depth, at)?;
             Ok(rest)
         }
+        None => Err(unexpected(source, tokens)),
+    }
+}
+
+pub(crate) fn expect_name<'t>(
+    source: &Source<'_>,
+    tokens: &'t [Lexeme],
+    depth: u8,
+) -> Result<(Name, &'t [Lexeme]), SyntaxError>
+    requires { depth ≤ 64 }
+    ensures { Reads IsName (only word.Name ∷ []) source.now depth tokens.now result }
+{
+    match next(tokens, Word::Name) {
+        Some((lexeme, rest)) => Ok((name_of(source, lexeme)?, rest)),
+        None => Err(unexpected(source, tokens)),
+    }
+}
+
+pub(crate) fn expect_number<'t>(
+    source: &Source<'_>,
+    tokens: &'t [Lexeme],
+    depth: u8,
+) -> Result<(Number, &'t [Lexeme]), SyntaxError>
+    requires { depth ≤ 64 }
+    ensures { Reads IsNumber (only word.Number ∷ []) source.now depth tokens.now result }
+{
+    match next(tokens, Word::Number) {
+        Some((lexeme, rest)) => Ok((number_of(source, lexeme)?, rest)),
         None => Err(unexpected(source, tokens)),
     }
 }
