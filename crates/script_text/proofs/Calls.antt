@@ -15,7 +15,8 @@ use Rattle.script_text.specs.declared.tree.Expr.{Expr}
 use Rattle.script_text.specs.declared.tree.CallText.{CallText}
 use Rattle.script_text.specs.Grammar.{Token, tok, name_at, number_at, IsExpr, IsMoreArgs, no_more_args, one_more_arg, IsArgs, no_args, some_args, IsCall, a_call}
 use Rattle.script_text.specs.Machine.{Sym, only, factor, more_factors, more_terms, comparison, args, more_args, call_args, expr_then, rules, is_empty, find_rule, step, depth, at_stop, verdict, begun, judge}
-use Rattle.script_text.specs.Reads.{token_of, seen, ending, Leads, Finds, Errs, NextIs, NextIsNot, NextLexeme, IsBracket, Names, Numbers, unexpected_in, IsName, a_name_token, IsNumber, a_number_token, IsArguments, arguments, AddsArgs}
+use Rattle.script_text.specs.Text.{token_of}
+use Rattle.script_text.specs.Reads.{seen, ending, Leads, Finds, Errs, NextIs, NextIsNot, NextLexeme, IsBracket, Names, Numbers, unexpected_in, IsName, a_name_token, IsNumber, a_number_token, IsArguments, arguments, AddsArgs}
 use Rattle.script_text.proofs.Steps.{taken, name_taken, name_long, number_taken, number_big, HasNone, skipped, has_none, seen-next, err_behind, unexpected_err, Comes, Passed, Opened}
 use Rattle.script_text.proofs.Expressions.{first_is, expr_shorter, length-seen}
 

@@ -17,7 +17,8 @@ use Rattle.script_text.specs.declared.tree.ProductSign.{ProductSign}
 use Rattle.script_text.specs.declared.tree.Comparison.{Comparison}
 use Rattle.script_text.specs.Grammar.{Token, tok, name_at, number_at, decimal, sum_of, product_of, IsSumSign, a_plus, a_minus, IsProductSign, a_times, an_over, a_modulo, IsComparison, an_eq, a_ne, a_lt, a_le, a_gt, a_ge, IsFactor, a_neg, a_number, a_name, an_item, a_group, a_same, an_older, IsTerm, factors, IsFactors, no_factors, one_factor, IsSum, terms, IsTerms, no_terms, one_term, IsExpr, alone, compared}
 use Rattle.script_text.specs.Machine.{Sym, only, factor, index, pair, more_factors, more_terms, comparison, minus_end, sum_then, expr_then, rules, is_empty, find_rule, step, depth, at_stop, judge}
-use Rattle.script_text.specs.Reads.{token_of, seen, ending, Leads, Finds, Errs, NextIs, NextIsNot, is_plain, SignNext, Deepens, IsBracket, Names, Numbers, IsOperands, an_operands, unexpected_in}
+use Rattle.script_text.specs.Text.{token_of}
+use Rattle.script_text.specs.Reads.{seen, ending, Leads, Finds, Errs, NextIs, NextIsNot, is_plain, SignNext, Deepens, IsBracket, Names, Numbers, IsOperands, an_operands, unexpected_in}
 use Rattle.script_text.proofs.Follows.{comparison_step, factors_step, terms_step}
 use Rattle.script_text.proofs.Steps.{taken, deep, name_taken, name_long, number_taken, number_big, HasNone, refused, skipped, has_none, seen-next, err_behind, Comes, Passed, Opened}
 

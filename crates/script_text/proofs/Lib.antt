@@ -3,8 +3,11 @@ mod Follows
 mod Sound
 mod Same
 mod Judged
-mod Steps
 mod Decimals
+mod Steps
 mod Expressions
 mod Calls
 mod Statements
+mod Loops
+mod Functions
+mod Whole

@@ -16,10 +16,11 @@ use Rattle.script_text.specs.declared.tree.Right.TheVariants as right
 use Rattle.script_text.specs.declared.tree.Act.{Act}
 use Rattle.script_text.specs.declared.tree.Act.TheVariants as act
 use Rattle.script_text.specs.declared.tree.Stmt.{Stmt}
-use Rattle.script_text.specs.Grammar.{Token, tok, name_at, number_at, IsExpr, IsMoreArgs, IsCall, IsRight, right_value, right_draw, right_new, right_call, right_spawn, IsInto, no_into, an_into, stmt_at, IsStmt, a_let, an_array, a_set, a_store, a_spawn, a_call_stmt, a_sync, a_print, an_if, a_while, a_pfor, IsStmts, no_stmts, one_stmt, IsBlock, a_block, IsElse, no_else, an_else}
+use Rattle.script_text.specs.Grammar.{Token, tok, name_at, number_at, IsExpr, IsMoreArgs, no_more_args, one_more_arg, IsArgs, no_args, some_args, IsCall, a_call, IsRight, right_value, right_draw, right_new, right_call, right_spawn, IsInto, no_into, an_into, stmt_at, IsStmt, a_let, an_array, a_set, a_store, a_spawn, a_call_stmt, a_sync, a_print, an_if, a_while, a_pfor, IsStmts, no_stmts, one_stmt, IsBlock, a_block, IsElse, no_else, an_else}
 use Rattle.script_text.specs.Machine as machine
 use Rattle.script_text.specs.Machine.{Sym, only, exactly, loop_args, call_args, more_args, into, loop_name, stmts, after_let, after_name, block, otherwise, expr_then, rules, rule, is_empty, find_rule, step, depth, at_stop, verdict, begun, judge}
-use Rattle.script_text.specs.Reads.{token_of, seen, ending, Leads, Finds, Errs, NextIs, NextIsNot, NextLexeme, IsBracket, Deepens, Names, is_plain, unexpected_in, IsName, a_name_token, IsNumber, a_number_token, IsValueOf, value_of, IsEnded, ended, IsCallOf, call_of, IsSize, a_size, IsElement, an_element, begins_stmt, NoStmt}
+use Rattle.script_text.specs.Text.{token_of}
+use Rattle.script_text.specs.Reads.{seen, ending, Leads, Finds, Errs, NextIs, NextIsNot, NextLexeme, IsBracket, Deepens, Names, is_plain, unexpected_in, IsName, a_name_token, IsNumber, a_number_token, IsValueOf, value_of, IsEnded, ended, IsCallOf, call_of, IsSize, a_size, IsElement, an_element, begins_stmt, NoStmt}
 use Rattle.script_text.proofs.Steps.{taken, deep, name_taken, name_long, HasNone, skipped, has_none, other_word, seen-next, err_behind, unexpected_err, Comes, Passed, Opened}
 use Rattle.script_text.proofs.Expressions.{first_is, expr_shorter, length-seen}
 
@@ -255,10 +256,10 @@ abbrev pub ComesAct : Source → ℕ → Lexeme → List Lexeme → Act → List
 ComesAct source d l rest x last = IsStmt (seen source (l ∷ rest)) (stmt_at l.start x) (seen source last) × Leads (stmts ∷ []) (stmts ∷ []) source d (l ∷ rest) last
 
 module _ (source : Source) (d : ℕ) (l : Lexeme) (rest : List Lexeme) where
-  stmt_token : (w : Word) → l.word ≡ w → seen source (l ∷ rest) ≡ tok l.start w (text_of source.bytes.now l) ∷ seen source rest
+  pub stmt_token : (w : Word) → l.word ≡ w → seen source (l ∷ rest) ≡ tok l.start w (text_of source.bytes.now l) ∷ seen source rest
   stmt_token w p = seen-next w source l.start (l ∷ rest) rest (first_is l (l ∷ rest) rest refl p)
 
-  stmt_enters : (w : Word) (next : List Sym) → l.word ≡ w → is_plain w ≡ true → ((text : List ℕ) (s : List Sym) → step w text (stmts ∷ s) ≡ Some (next ++ stmts ∷ s)) → ((s : List Sym) → depth (next ++ stmts ∷ s) ≡ depth s) → d ≤ 64
+  pub stmt_enters : (w : Word) (next : List Sym) → l.word ≡ w → is_plain w ≡ true → ((text : List ℕ) (s : List Sym) → step w text (stmts ∷ s) ≡ Some (next ++ stmts ∷ s)) → ((s : List Sym) → depth (next ++ stmts ∷ s) ≡ depth s) → d ≤ 64
       → (n : ℕ) (s : List Sym) → depth s ≡ d → judge (ending source) n (stmts ∷ s) (seen source (l ∷ rest)) ≡ judge (ending source) n (next ++ stmts ∷ s) (seen source rest)
   stmt_enters w next p q g k h = λ n s f.
       let same = k s in
@@ -485,3 +486,58 @@ one_more_stmt source d old left inner rest l xs ys x p i e a = record {
 
 pub stmts_err : (source : Source) (d : ℕ) (old left inner : List Lexeme) (l : Lexeme) (xs : List Stmt) (g : SyntaxError) → StmtsSoFar source d old xs left → left ≡ l ∷ inner → Errs (stmts ∷ []) source d (l ∷ inner) g → Errs (stmts ∷ []) source d old g
 stmts_err source d old left inner l xs g i e f = err_behind (stmts ∷ []) (stmts ∷ []) [] source d d old (l ∷ inner) g (λ n s r. i.goes n s r ∙ ap (λ z. judge (ending source) n (stmts ∷ s) (seen source z)) e) (λ s r. r) f
+
+-- What was read is shorter
+
+more_args_shorter : {ts rest : List Token} {xs : List Expr} → IsMoreArgs ts xs rest → length rest ≤ length ts
+more_args_shorter no_more_args = omega arith
+more_args_shorter (one_more_arg d e) = omega (arith, expr_shorter d, more_args_shorter e)
+
+args_shorter : {ts rest : List Token} {xs : List Expr} → IsArgs ts xs rest → length rest ≤ length ts
+args_shorter no_args = omega arith
+args_shorter (some_args d e) = omega (arith, expr_shorter d, more_args_shorter e)
+
+call_shorter : {ts rest : List Token} {c : CallText} → IsCall ts c rest → length rest < length ts
+call_shorter (a_call d) = omega (arith, args_shorter d)
+
+right_shorter : {ts rest : List Token} {r : Right} → IsRight ts r rest → length rest < length ts
+right_shorter (right_value d) = expr_shorter d
+right_shorter right_draw = omega arith
+right_shorter right_new = omega arith
+right_shorter (right_call d) = omega (arith, call_shorter d)
+right_shorter (right_spawn d) = omega (arith, call_shorter d)
+
+into_shorter : {ts rest : List Token} {o : Option Name} → IsInto ts o rest → length rest ≤ length ts
+into_shorter no_into = omega arith
+into_shorter an_into = omega arith
+
+mutual
+  pub stmt_shorter : {ts rest : List Token} {x : Stmt} → IsStmt ts x rest → length rest < length ts
+  stmt_shorter (a_let d) = omega (arith, right_shorter d)
+  stmt_shorter an_array = omega arith
+  stmt_shorter (a_set d) = omega (arith, right_shorter d)
+  stmt_shorter (a_store d e) = omega (arith, expr_shorter d, expr_shorter e)
+  stmt_shorter (a_spawn d) = omega (arith, call_shorter d)
+  stmt_shorter (a_call_stmt d) = omega (arith, call_shorter d)
+  stmt_shorter a_sync = omega arith
+  stmt_shorter (a_print d) = omega (arith, expr_shorter d)
+  stmt_shorter (an_if d e f) = omega (arith, expr_shorter d, block_shorter e, else_shorter f)
+  stmt_shorter (a_while d e) = omega (arith, expr_shorter d, block_shorter e)
+  stmt_shorter (a_pfor d e f g) = omega (arith, expr_shorter d, expr_shorter e, into_shorter f, more_args_shorter g)
+
+  pub stmts_shorter : {ts rest : List Token} {xs : List Stmt} → IsStmts ts xs rest → length rest ≤ length ts
+  stmts_shorter no_stmts = omega arith
+  stmts_shorter (one_stmt d e) = omega (arith, stmt_shorter d, stmts_shorter e)
+
+  block_shorter : {ts rest : List Token} {xs : List Stmt} → IsBlock ts xs rest → length rest < length ts
+  block_shorter (a_block d) = omega (arith, stmts_shorter d)
+
+  else_shorter : {ts rest : List Token} {xs : List Stmt} → IsElse ts xs rest → length rest ≤ length ts
+  else_shorter no_else = omega arith
+  else_shorter (an_else d) = omega (arith, block_shorter d)
+
+pub stmt_turn : (source : Source) (left inner rest : List Lexeme) (l : Lexeme) (x : Act) → left ≡ l ∷ inner → IsStmt (seen source (l ∷ inner)) (stmt_at l.start x) (seen source rest) → length rest < length left
+stmt_turn source left inner rest l x e a =
+    let f : length left ≡ suc (length inner) = ap length e in
+    let g : length (seen source (l ∷ inner)) ≡ suc (length inner) = length-seen source (l ∷ inner) in
+    omega (arith, f, g, stmt_shorter a, length-seen source rest)

@@ -14,7 +14,8 @@ use Rattle.script_text.specs.declared.parser.source.Source.{Source}
 use Rattle.script_text.specs.Grammar.{Token, tok, decimal}
 use Rattle.script_text.specs.Fault.{is_fn, Ending}
 use Rattle.script_text.specs.Machine.{Sym, only, Rule, rule, code, same_word, rules, is_empty, find_rule, choose, step, depth, all_empty, Fault, broken, unless_broken, verdict, at_stop, begun, judge}
-use Rattle.script_text.specs.Reads.{token_of, seen, ending, Leads, Finds, stopped_at, unexpected_in, NextIs, NextIsNot, is_plain, Errs, Passes, IsBracket, Opens, Deepens}
+use Rattle.script_text.specs.Text.{token_of}
+use Rattle.script_text.specs.Reads.{seen, ending, Leads, Finds, stopped_at, unexpected_in, NextIs, NextIsNot, is_plain, Errs, Passes, IsBracket, Opens, Deepens}
 use Rattle.script_text.proofs.Words.{same_words, same_word-refl}
 
 plain_broken : (w : Word) (n at d : ℕ) (text : List ℕ) → is_plain w ≡ true → broken n (tok at w text) d ≡ (if nat_lt 64 d then Some 5 else None)

@@ -14,19 +14,21 @@ use Rattle.script_text.specs.declared.tree.ProductSign.{ProductSign}
 use Rattle.script_text.specs.declared.tree.Expr.{Expr}
 use Rattle.script_text.specs.declared.tree.CallText.{CallText}
 use Rattle.script_text.specs.declared.tree.Right.{Right}
+use Rattle.script_text.specs.declared.tree.Act.{Act}
+use Rattle.script_text.specs.declared.tree.Stmt.{Stmt}
+use Rattle.script_text.specs.declared.tree.Param.{Param}
+use Rattle.script_text.specs.declared.tree.Function.{Function}
+use Rattle.script_text.specs.declared.tree.Script.{Script}
 use Rattle.script_text.specs.declared.error.SyntaxError.{SyntaxError}
 use Rattle.script_text.specs.declared.error.SyntaxError.TheVariants.{Bad, Memory}
 use Rattle.script_text.specs.declared.parser.source.Source.{Source}
-use Rattle.script_text.specs.Grammar.{Token, tok, name_at, number_at, decimal, IsSumSign, IsProductSign, IsComparison, IsExpr, IsMoreArgs, IsArgs, IsCall, IsRight}
+use Rattle.script_text.specs.Grammar.{Token, tok, name_at, number_at, decimal, IsSumSign, IsProductSign, IsComparison, IsExpr, IsMoreArgs, IsArgs, IsCall, IsRight, stmt_at, IsStmt, IsStmts, IsMoreParams, IsParams, IsFunction, IsFunctions, IsScript}
 use Rattle.script_text.specs.Fault.{Ending}
-use Rattle.script_text.specs.Machine.{Sym, only, pair, rules, rule, find_rule, is_empty, depth, judge, code, same_word}
-
--- a lexeme with its bytes
-abbrev pub token_of : List ℕ → Lexeme → Token
-token_of bytes l = tok l.start l.word (text_of bytes l)
+use Rattle.script_text.specs.Text.{token_of, tokens_of}
+use Rattle.script_text.specs.Machine.{Sym, only, exactly, pair, stmts, after_name, functions, body, expr_then, rules, rule, find_rule, is_empty, depth, judge, code, same_word}
 
 abbrev pub seen : Source → List Lexeme → List Token
-seen source ls = map (token_of source.bytes.now) ls
+seen source ls = tokens_of source.bytes.now ls
 
 abbrev pub ending : Source → Ending
 ending source = record { end = source.end; stop = source.stop }
@@ -190,3 +192,67 @@ begins_stmt _ = false
 abbrev pub NoStmt : List Lexeme → Type 0
 NoStmt [] = Unit {0}
 NoStmt (l ∷ ls) = begins_stmt l.word ≡ false
+
+-- What was read behind a lexeme makes with it a statement that does this.
+abbrev pub ReadsAct : Source → ℕ → Lexeme → List Lexeme → Result (Act × Bor (List Lexeme)) SyntaxError → Type 0
+ReadsAct source d first rest (Ok p) =
+    IsStmt (seen source (first ∷ rest)) (stmt_at first.start p.0) (seen source p.1.now) × Leads (stmts ∷ []) (stmts ∷ []) source d (first ∷ rest) p.1.now
+ReadsAct source d first rest (Err e) = Errs (stmts ∷ []) source d (first ∷ rest) e
+
+abbrev pub ReadsElement : Source → ℕ → List Lexeme → Result (Expr × Expr × Bor (List Lexeme)) SyntaxError → Type 0
+ReadsElement source d old (Ok p) = IsElement (seen source old) p.0 p.1 (seen source p.2.now) × Leads (after_name ∷ []) [] source d old p.2.now
+ReadsElement source d old (Err e) = Errs (after_name ∷ []) source d old e
+
+-- "in" expr ".." expr
+pub data IsBounds : List Token → Expr → Expr → List Token → Type 0 where
+  bounds : {c d : ℕ} {u v : List ℕ} {ts us vs : List Token} {lo hi : Expr} → IsExpr ts lo (tok d word.Range v ∷ us) → IsExpr us hi vs → IsBounds (tok c word.In u ∷ ts) lo hi vs
+
+abbrev pub ReadsBounds : Source → ℕ → List Lexeme → Result (Expr × Expr × Bor (List Lexeme)) SyntaxError → Type 0
+ReadsBounds source d old (Ok p) = IsBounds (seen source old) p.0 p.1 (seen source p.2.now) × Leads (only word.In ∷ expr_then (only word.Range ∷ expr_then [])) [] source d old p.2.now
+ReadsBounds source d old (Err e) = Errs (only word.In ∷ expr_then (only word.Range ∷ expr_then [])) source d old e
+
+-- "call" name "(" name { "," expr } ")" ";", where the second name has these bytes
+pub data IsLoopCall : List ℕ → List Token → CallText → List Token → Type 0 where
+  loop_call : {e f g h i j : ℕ} {w f' y n z o : List ℕ} {ws rest : List Token} {xs : List Expr}
+      → IsMoreArgs ws xs (tok i word.Close z ∷ tok j word.Semicolon o ∷ rest)
+      → IsLoopCall n (tok e word.Call w ∷ tok f word.Name f' ∷ tok g word.Open y ∷ tok h word.Name n ∷ ws) (record { name = name_at f f'; args = xs }) rest
+
+-- the name with these bytes comes next
+abbrev pub Repeats : List ℕ → Source → ℕ → List Lexeme → Result (Bor (List Lexeme)) SyntaxError → Type 0
+Repeats n source d old (Ok rest) = ((l : Lexeme) × NextLexeme word.Name l old rest.now × (text_of source.bytes.now l ≡ n)) × Leads (exactly n ∷ []) [] source d old rest.now
+Repeats n source d old (Err e) = Errs (exactly n ∷ []) source d old e
+
+-- { "," param }, with these parameters in front of its own
+abbrev pub AddsParams : List Param → List Token → List Param → List Token → Type 0
+AddsParams found ts xs rest = (more : List Param) × (xs ≡ found ++ more) × IsMoreParams ts more rest
+
+-- params ")"
+pub data IsParamList : List Token → List Param → List Token → Type 0 where
+  parameters : {c : ℕ} {v : List ℕ} {ts rest : List Token} {xs : List Param} → IsParams ts xs (tok c word.Close v ∷ rest) → IsParamList ts xs rest
+
+-- "{" { stmt } "return" expr ";" "}"
+pub data IsBody : List Token → List Stmt → ℕ → Expr → List Token → Type 0 where
+  a_body : {e f g h : ℕ} {w x y z : List ℕ} {vs ws rest : List Token} {p : List Stmt} {r : Expr}
+      → IsStmts vs p (tok f word.Return x ∷ ws) → IsExpr ws r (tok g word.Semicolon y ∷ tok h word.CloseBlock z ∷ rest)
+      → IsBody (tok e word.OpenBlock w ∷ vs) p f r rest
+
+abbrev pub ReadsBody : Source → ℕ → List Lexeme → Result (List Stmt × ℕ × Expr × Bor (List Lexeme)) SyntaxError → Type 0
+ReadsBody source d old (Ok p) = IsBody (seen source old) p.0 p.1 p.2 (seen source p.3.now) × Leads (body ∷ []) [] source d old p.3.now
+ReadsBody source d old (Err e) = Errs (body ∷ []) source d old e
+
+-- a function without its first token
+abbrev pub IsRestOfFunction : List Token → Function → List Token → Type 0
+IsRestOfFunction ts f rest = (a : ℕ) (t : List ℕ) → IsFunction (tok a word.Fn t ∷ ts) f rest
+
+-- What was read are all functions, and then the machine expects nothing. Or it finds the fault.
+abbrev pub ReadsFunctions : Source → List Lexeme → Result (List Function × Bor (List Lexeme)) SyntaxError → Type 0
+ReadsFunctions source old (Ok p) =
+    IsFunctions (seen source old) p.0 (seen source p.1.now)
+    × (judge (ending source) 0 (functions ∷ []) (seen source old) ≡ judge (ending source) (length p.0) [] (seen source p.1.now))
+ReadsFunctions source old (Err Memory) = Unit {0}
+ReadsFunctions source old (Err (Bad number at)) = judge (ending source) 0 (functions ∷ []) (seen source old) ≡ Some (number, at)
+
+abbrev pub Judges : Source → List Lexeme → Result Script SyntaxError → Type 0
+Judges source old (Ok script) = IsScript (seen source old) script.functions × (judge (ending source) 0 (functions ∷ []) (seen source old) ≡ None)
+Judges source old (Err Memory) = Unit {0}
+Judges source old (Err (Bad number at)) = judge (ending source) 0 (functions ∷ []) (seen source old) ≡ Some (number, at)

@@ -32,3 +32,11 @@ impl<T: Drop> From<AllocFailed<T>> for SyntaxError {
         SyntaxError::Memory
     }
 }
+
+impl From<script_tokens::Memory> for SyntaxError {
+    ghost from_gives = { λ _ e. e ≡ Memory };
+
+    fn from(_: script_tokens::Memory) -> SyntaxError {
+        SyntaxError::Memory
+    }
+}

@@ -13,6 +13,7 @@ use script_tokens::{Lexeme, Stop, Word};
 use std::alloc::Global;
 
 /// A text that was cut into lexemes.
+#[derive(Drop)]
 pub(crate) struct Source<'a> {
     pub(crate) alloc: Global,
     pub(crate) bytes: &'a [u8],
@@ -29,7 +30,7 @@ const LONGEST_NAME: usize = 32;
 const LARGEST_NUMBER: u64 = 9_223_372_036_854_775_807;
 
 // The bytes of a lexeme. A place past the end of the text stands for the end.
-fn text<'a>(source: &Source<'a>, lexeme: Lexeme) -> &'a [u8]
+pub(crate) fn text<'a>(source: &Source<'a>, lexeme: Lexeme) -> &'a [u8]
     ensures { result.now ≡ text_of source.now.bytes.now lexeme }
 {
     let bytes = source.bytes;
@@ -85,7 +86,7 @@ fn value_of(digits: &[u8]) -> Option<u64>
 }
 
 // The lexeme of that word and what stands behind it, where it comes next.
-fn next(tokens: &[Lexeme], word: Word) -> Option<(Lexeme, &[Lexeme])>
+pub(crate) fn next(tokens: &[Lexeme], word: Word) -> Option<(Lexeme, &[Lexeme])>
     ensures { MatchOption result (NextIsNot word tokens.now) (λ p. NextLexeme word p.0 tokens.now p.1.now) }
 {
     let (first, rest) = tokens.split_first()?;
