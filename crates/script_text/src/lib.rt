@@ -5,11 +5,16 @@
 #![tactic(auto)]
 
 pub mod boxed;
+mod error;
 pub mod items;
+mod parser;
 pub mod tree;
 
 pub use boxed::Boxed;
+pub use error::SyntaxError;
 pub use items::Items;
+pub use parser::{next_token, parse};
+pub use script_tokens::{MAX_BYTES, Token, TokenKind};
 pub use tree::{
     Act, CallText, Comparison, Expr, Function, Kind, Name, Number, Param, ProductPart, ProductSign,
     Right, Script, Stmt, SumPart,

@@ -1,0 +1,13 @@
+mod Words
+mod Follows
+mod Sound
+mod Same
+mod Judged
+mod Decimals
+mod Steps
+mod Expressions
+mod Calls
+mod Statements
+mod Loops
+mod Functions
+mod Whole

@@ -1,0 +1,264 @@
+-- A machine that reads tokens from left to right and knows what may come next. It serves the clauses of private functions and the proofs;
+-- what a script is, and what its fault is, is said without it.
+--
+-- Its state is a stack: the symbols that are still expected, the nearest first. Each rule of a symbol takes one token and puts
+-- symbols in the place of its own. A closing bracket is expected only once its opening one was taken.
+use Rattle.std.specs.Prelude.{ℕ, suc, ◌+◌, List, [], ◌∷◌, ◌++◌, Option, Some, None, option_and_then, Bool, true, false, ◌&&◌, ◌||◌, nat_eq, nat_lt, nat_le, length, if◌then◌else◌}
+use Rattle.script_tokens.specs.declared.token.Word.{Word}
+use Rattle.script_tokens.specs.declared.token.Word.TheVariants as word
+use Rattle.script_tokens.specs.declared.lexing.Stop.{Stop}
+use Rattle.script_tokens.specs.declared.lexing.Stop.TheVariants.{End, NotAscii, NoToken}
+use Rattle.script_text.specs.Grammar.{Token, decimal}
+use Rattle.script_text.specs.Fault.{is_fn, Ending}
+
+pub data Sym : Type 0 where
+  -- a token of that word, or the name with these bytes
+  only : Word → Sym
+  exactly : List ℕ → Sym
+  -- the arguments of a loop's call, whose first is that name
+  loop_args : List ℕ → Sym
+  factor index pair more_factors more_terms comparison minus_end : Sym
+  args more_args call_args right into loop_name : Sym
+  stmts after_let after_name block otherwise : Sym
+  functions param_list params more_params param answer body : Sym
+
+pub record Rule : Type 0 where
+  pub first : Word
+  pub fits : List ℕ → Bool
+  pub rest : List ℕ → List Sym
+
+-- that word, whatever its text, and then these symbols
+abbrev pub rule : Word → List Sym → Rule
+rule w r = record { first = w; fits = λ _. true; rest = λ _. r }
+
+abbrev pub code : Word → ℕ
+code word.Name = 0
+code word.Number = 1
+code word.Fn = 2
+code word.Id = 3
+code word.Let = 4
+code word.Spawn = 5
+code word.Call = 6
+code word.Sync = 7
+code word.Print = 8
+code word.If = 9
+code word.Else = 10
+code word.While = 11
+code word.Pfor = 12
+code word.In = 13
+code word.Into = 14
+code word.Draw = 15
+code word.New = 16
+code word.Return = 17
+code word.Same = 18
+code word.Older = 19
+code word.Open = 20
+code word.Close = 21
+code word.OpenBlock = 22
+code word.CloseBlock = 23
+code word.OpenItem = 24
+code word.CloseItem = 25
+code word.Comma = 26
+code word.Semicolon = 27
+code word.Assign = 28
+code word.Plus = 29
+code word.Minus = 30
+code word.Times = 31
+code word.Over = 32
+code word.Modulo = 33
+code word.Eq = 34
+code word.Ne = 35
+code word.Lt = 36
+code word.Le = 37
+code word.Gt = 38
+code word.Ge = 39
+code word.Arrow = 40
+code word.Range = 41
+
+abbrev pub same_word : Word → Word → Bool
+same_word v w = nat_eq (code v) (code w)
+
+abbrev pub same_bytes : List ℕ → List ℕ → Bool
+same_bytes [] [] = true
+same_bytes [] (b ∷ ys) = false
+same_bytes (a ∷ xs) [] = false
+same_bytes (a ∷ xs) (b ∷ ys) = nat_eq a b && same_bytes xs ys
+
+-- an expression, or a sum, is a factor with what may follow
+abbrev pub sum_then : List Sym → List Sym
+sum_then s = factor ∷ more_factors ∷ more_terms ∷ s
+
+abbrev pub expr_then : List Sym → List Sym
+expr_then s = factor ∷ more_factors ∷ more_terms ∷ comparison ∷ s
+
+-- the rules of a factor, with what stands behind it
+abbrev pub factor_rules : List Sym → List Rule
+factor_rules s =
+    rule word.Name (index ∷ s)
+    ∷ rule word.Number s
+    ∷ rule word.Minus (factor ∷ minus_end ∷ s)
+    ∷ rule word.Open (expr_then (only word.Close ∷ s))
+    ∷ rule word.Same (pair ∷ s)
+    ∷ rule word.Older (pair ∷ s)
+    ∷ []
+
+abbrev pub rules : Sym → List Rule
+rules (only w) = rule w [] ∷ []
+rules (exactly n) = record { first = word.Name; fits = same_bytes n; rest = λ _. [] } ∷ []
+rules factor = factor_rules []
+rules index = rule word.OpenItem (expr_then (only word.CloseItem ∷ [])) ∷ []
+rules pair = rule word.Open (expr_then (only word.Comma ∷ expr_then (only word.Close ∷ []))) ∷ []
+rules more_factors =
+    rule word.Times (factor ∷ more_factors ∷ [])
+    ∷ rule word.Over (factor ∷ more_factors ∷ [])
+    ∷ rule word.Modulo (factor ∷ more_factors ∷ [])
+    ∷ []
+rules more_terms = rule word.Plus (sum_then []) ∷ rule word.Minus (sum_then []) ∷ []
+rules comparison =
+    rule word.Eq (sum_then []) ∷ rule word.Ne (sum_then []) ∷ rule word.Lt (sum_then [])
+    ∷ rule word.Le (sum_then []) ∷ rule word.Gt (sum_then []) ∷ rule word.Ge (sum_then [])
+    ∷ []
+rules minus_end = []
+rules args = factor_rules (more_factors ∷ more_terms ∷ comparison ∷ more_args ∷ [])
+rules more_args = rule word.Comma (expr_then (more_args ∷ [])) ∷ []
+rules call_args = rule word.Open (args ∷ only word.Close ∷ []) ∷ []
+rules right =
+    rule word.Draw []
+    ∷ rule word.New []
+    ∷ rule word.Call (only word.Name ∷ call_args ∷ [])
+    ∷ rule word.Spawn (only word.Name ∷ call_args ∷ [])
+    ∷ factor_rules (more_factors ∷ more_terms ∷ comparison ∷ [])
+rules into = rule word.Into (only word.Name ∷ []) ∷ []
+rules loop_name =
+    record {
+      first = word.Name;
+      fits = λ _. true;
+      rest = λ n. only word.In ∷ expr_then (only word.Range ∷ expr_then (into ∷ only word.Call ∷ only word.Name ∷ loop_args n ∷ only word.Semicolon ∷ []));
+    }
+    ∷ []
+rules (loop_args n) = rule word.Open (exactly n ∷ more_args ∷ only word.Close ∷ []) ∷ []
+rules stmts =
+    rule word.Let (only word.Name ∷ after_let ∷ stmts ∷ [])
+    ∷ rule word.Name (after_name ∷ stmts ∷ [])
+    ∷ rule word.Spawn (only word.Name ∷ call_args ∷ only word.Semicolon ∷ stmts ∷ [])
+    ∷ rule word.Call (only word.Name ∷ call_args ∷ only word.Semicolon ∷ stmts ∷ [])
+    ∷ rule word.Sync (only word.Semicolon ∷ stmts ∷ [])
+    ∷ rule word.Print (expr_then (only word.Semicolon ∷ stmts ∷ []))
+    ∷ rule word.If (expr_then (block ∷ otherwise ∷ stmts ∷ []))
+    ∷ rule word.While (expr_then (block ∷ stmts ∷ []))
+    ∷ rule word.Pfor (loop_name ∷ stmts ∷ [])
+    ∷ []
+rules after_let =
+    rule word.Assign (right ∷ only word.Semicolon ∷ [])
+    ∷ rule word.OpenItem (only word.Number ∷ only word.CloseItem ∷ only word.Semicolon ∷ [])
+    ∷ []
+rules after_name =
+    rule word.Assign (right ∷ only word.Semicolon ∷ [])
+    ∷ rule word.OpenItem (expr_then (only word.CloseItem ∷ only word.Assign ∷ expr_then (only word.Semicolon ∷ [])))
+    ∷ []
+rules block = rule word.OpenBlock (stmts ∷ only word.CloseBlock ∷ []) ∷ []
+rules otherwise = rule word.Else (block ∷ []) ∷ []
+rules functions = rule word.Fn (only word.Name ∷ param_list ∷ answer ∷ body ∷ functions ∷ []) ∷ []
+rules param_list = rule word.Open (params ∷ only word.Close ∷ []) ∷ []
+rules params = rule word.Name (more_params ∷ []) ∷ rule word.Id (only word.Name ∷ more_params ∷ []) ∷ []
+rules more_params = rule word.Comma (param ∷ more_params ∷ []) ∷ []
+rules param = rule word.Name [] ∷ rule word.Id (only word.Name ∷ []) ∷ []
+rules answer = rule word.Arrow (only word.Id ∷ []) ∷ []
+rules body = rule word.OpenBlock (stmts ∷ only word.Return ∷ expr_then (only word.Semicolon ∷ only word.CloseBlock ∷ [])) ∷ []
+
+-- may be left out
+abbrev pub is_empty : Sym → Bool
+is_empty index = true
+is_empty more_factors = true
+is_empty more_terms = true
+is_empty comparison = true
+is_empty minus_end = true
+is_empty args = true
+is_empty more_args = true
+is_empty into = true
+is_empty stmts = true
+is_empty otherwise = true
+is_empty functions = true
+is_empty params = true
+is_empty more_params = true
+is_empty answer = true
+is_empty _ = false
+
+abbrev pub find_rule : Word → List ℕ → List Rule → Option (List Sym)
+find_rule w text [] = None
+find_rule w text (r ∷ rs) = if same_word w r.first && r.fits text then Some (r.rest text) else find_rule w text rs
+
+abbrev pub choose : Option (List Sym) → Bool → List Sym → Option (List Sym) → Option (List Sym)
+choose (Some r) b s o = Some (r ++ s)
+choose None true s o = o
+choose None false s o = None
+
+-- the stack behind a token, where it may come
+abbrev pub step : Word → List ℕ → List Sym → Option (List Sym)
+step w text [] = None
+step w text (a ∷ s) = choose (find_rule w text (rules a)) (is_empty a) s (step w text s)
+
+abbrev pub run : List Token → List Sym → Option (List Sym)
+run [] s = Some s
+run (t ∷ ts) s = option_and_then (run ts) (step t.word t.text s)
+
+abbrev pub all_empty : List Sym → Bool
+all_empty [] = true
+all_empty (a ∷ s) = is_empty a && all_empty s
+
+abbrev pub is_closer : Word → Bool
+is_closer w = same_word w word.Close || (same_word w word.CloseBlock || same_word w word.CloseItem)
+
+-- the nesting: closing brackets that are expected, and unary minuses whose operand hasn't ended
+abbrev pub depth : List Sym → ℕ
+depth [] = 0
+depth (only w ∷ s) = if is_closer w then suc (depth s) else depth s
+depth (minus_end ∷ s) = suc (depth s)
+depth (_ ∷ s) = depth s
+
+abbrev pub Trace : Type 0
+Trace = Option (List ℕ × List Sym)
+
+abbrev pub onward : Option (List Sym) → (List Sym → Trace) → Trace
+onward None go = None
+onward (Some s) go = option_and_then (λ p. Some (depth s ∷ p.0, p.1)) (go s)
+
+-- the nesting behind each token, and the stack in the end
+abbrev pub trace : List Token → List Sym → Trace
+trace [] s = Some ([], s)
+trace (t ∷ ts) s = onward (step t.word t.text s) (trace ts)
+
+-- a fault: its number and its place
+abbrev pub Fault : Type 0
+Fault = ℕ × ℕ
+
+-- the limit that a token breaks where it may come, with n functions in front, and nested d deep
+abbrev pub broken : ℕ → Token → ℕ → Option ℕ
+broken n t d =
+    if same_word t.word word.Number && nat_lt 9223372036854775807 (decimal 0 t.text) then Some 3
+    else if same_word t.word word.Name && nat_lt 32 (length t.text) then Some 4
+    else if is_fn t.word && nat_lt 1023 n then Some 7
+    else if nat_lt 64 d then Some 5
+    else None
+
+abbrev pub unless_broken : Option ℕ → ℕ → Option Fault → Option Fault
+unless_broken None at o = o
+unless_broken (Some k) at o = Some (k, at)
+
+abbrev pub verdict : ℕ → Token → Option (List Sym) → (List Sym → Option Fault) → Option Fault
+verdict n t None go = Some (2, t.at)
+verdict n t (Some s) go = unless_broken (broken n t (depth s)) t.at (go s)
+
+abbrev pub at_stop : ℕ → Stop → List Sym → Option Fault
+at_stop end End s = if all_empty s then None else Some (6, end)
+at_stop end (NotAscii place) s = Some (1, place)
+at_stop end (NoToken place) s = Some (2, place)
+
+-- how many functions have begun behind a token
+abbrev pub begun : Token → ℕ → ℕ
+begun t n = if is_fn t.word then suc n else n
+
+-- the first fault of these tokens, where these symbols are expected and n functions have begun
+abbrev pub judge : Ending → ℕ → List Sym → List Token → Option Fault
+judge e n s [] = at_stop e.end e.stop s
+judge e n s (t ∷ ts) = verdict n t (step t.word t.text s) (λ s'. judge e (begun t n) s' ts)

@@ -1,0 +1,71 @@
+// From the lexemes of a text to its tree, by recursive descent.
+
+mod call;
+mod expression;
+mod function;
+mod parallel_loop;
+mod source;
+mod statement;
+
+ghost use Rattle.std.specs.Prelude.{◌≡◌, ◌≢◌, ℕ, ◌≤◌, length, Err, IfOk};
+ghost use Rattle.script_tokens.specs.declared.lexing.TheConstants.{MAX_BYTES};
+ghost use Rattle.script_text.specs.declared.tree.Script.{Script};
+ghost use Rattle.script_text.specs.Text.{Text, SyntaxFault, NextAnswer};
+
+use crate::error::SyntaxError;
+use crate::parser::function::script;
+use crate::parser::source::Source;
+use crate::tree::Script;
+use script_tokens::{MAX_BYTES, Misfit, Token, lexemes};
+use std::alloc::Global;
+
+/// The tree of a script.
+///
+/// The text is at most [`MAX_BYTES`] long. The answer is the tree exactly for the texts of the grammar within the limits: names of at most 32
+/// bytes, numbers up to 9223372036854775807, at most 1024 functions, and at most 64 open brackets and unary minuses at a place. There is
+/// never more than one tree.
+///
+/// [`SyntaxError::Bad`] names the first fault: the least offset at which one stands, and the least number there. A token is unexpected
+/// where no further tokens make a script of it and those in front; limits are judged only of a token that may stand where it does.
+/// [`SyntaxError::Memory`] is want of memory.
+///
+/// The time is linear in the length of the text; the call stack is bounded by the limit of the nesting.
+pub fn parse(alloc: Global, bytes: &[u8]) -> Result<Script, SyntaxError>
+    requires { length bytes.now ≤ MAX_BYTES }
+    ensures ok { IfOk result (λ tree. Text bytes.now tree) }
+    ensures bad { (number at : ℕ) → result ≡ Err (SyntaxError.Bad number at)
+        → SyntaxFault bytes.now number at }
+
+    // A text of a script is never refused, and has one tree.
+    ensures only { (tree : Script) (number at : ℕ) → Text bytes.now tree
+        → result ≢ Err (SyntaxError.Bad number at) }
+    ensures one_tree { (first second : Script) → Text bytes.now first → Text bytes.now second
+        → first ≡ second }
+{
+    let lexed = lexemes(alloc, bytes)?;
+    let source = Source {
+        alloc,
+        bytes,
+        end: bytes.len() as u32,
+        stop: lexed.stop,
+    };
+    script(&source, lexed.lexemes.as_slice())
+}
+
+/// The token that comes next from the offset `from` on, behind blanks and comments. It takes no memory, and its error is never
+/// [`SyntaxError::Memory`].
+///
+/// The error is `Bad` 1 exactly where a byte from 128 on stands among these blanks and comments or directly behind them, at the first such
+/// byte, and else `Bad` 2 exactly where a byte stands directly behind them at which no token begins, at that byte. The length of names and
+/// the size of numbers isn't judged here.
+pub fn next_token(bytes: &[u8], from: u32) -> Result<Token, SyntaxError>
+    requires size { length bytes.now ≤ MAX_BYTES }
+    requires within { from ≤ length bytes.now }
+    ensures { NextAnswer bytes.now from result }
+{
+    match script_tokens::next_token(bytes, from) {
+        Ok(token) => Ok(token),
+        Err(Misfit::NotAscii(at)) => Err(SyntaxError::Bad { number: 1, at }),
+        Err(Misfit::NoToken(at)) => Err(SyntaxError::Bad { number: 2, at }),
+    }
+}

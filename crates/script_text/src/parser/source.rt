@@ -1,0 +1,196 @@
+// What every part of the parser reads from, and its smallest steps.
+
+ghost use Rattle.std.specs.Prelude.{◌≡◌, ℕ, ◌≤◌, ◌<◌, [], ◌∷◌, true, MatchOption};
+ghost use Rattle.script_tokens.specs.Lexing.{text_of};
+ghost use Rattle.script_tokens.specs.declared.token.Word.TheVariants as word;
+ghost use Rattle.script_text.specs.Machine.{only};
+ghost use Rattle.script_text.specs.Reads.{IsPlain, IsValue, IsName, IsNumber, Names, Numbers, NextIs, NextIsNot, NextLexeme, Passes, Opens, Deepens, Reads, unexpected_in};
+
+use crate::error::SyntaxError;
+use crate::items::Items;
+use crate::tree::{Name, Number};
+use script_tokens::{Lexeme, Stop, Word};
+use std::alloc::Global;
+
+/// A text that was cut into lexemes.
+#[derive(Drop)]
+pub(crate) struct Source<'a> {
+    pub(crate) alloc: Global,
+    pub(crate) bytes: &'a [u8],
+    /// The length of the text.
+    pub(crate) end: u32,
+    /// Why there is no further lexeme.
+    pub(crate) stop: Stop,
+}
+
+const DEEPEST: u8 = 64;
+
+const LONGEST_NAME: usize = 32;
+
+const LARGEST_NUMBER: u64 = 9_223_372_036_854_775_807;
+
+// The bytes of a lexeme. A place past the end of the text stands for the end.
+pub(crate) fn text<'a>(source: &Source<'a>, lexeme: Lexeme) -> &'a [u8]
+    ensures { result.now ≡ text_of source.now.bytes.now lexeme }
+{
+    let bytes = source.bytes;
+    let end = bytes.len().min(lexeme.end as usize);
+    let start = end.min(lexeme.start as usize);
+    &bytes[start..end]
+}
+
+pub(crate) fn name_of(source: &Source<'_>, lexeme: Lexeme) -> Result<Name, SyntaxError>
+    ensures { Names source.now lexeme result }
+{
+    let text = text(source, lexeme);
+    if text.len() > LONGEST_NAME {
+        return Err(SyntaxError::Bad {
+            number: 4,
+            at: lexeme.start,
+        });
+    }
+    Ok(Name {
+        bytes: Items(text.to_vec(source.alloc)?),
+        at: lexeme.start,
+    })
+}
+
+pub(crate) fn number_of(source: &Source<'_>, lexeme: Lexeme) -> Result<Number, SyntaxError>
+    ensures { Numbers source.now lexeme result }
+{
+    match value_of(text(source, lexeme)) {
+        Some(value) => Ok(Number {
+            at: lexeme.start,
+            value: value as i64,
+        }),
+        None => Err(SyntaxError::Bad {
+            number: 3,
+            at: lexeme.start,
+        }),
+    }
+}
+
+// The number that digits stand for, if an i64 holds it.
+fn value_of(digits: &[u8]) -> Option<u64>
+    ensures { IsValue digits.now result }
+{
+    let mut value = 0;
+    for &digit in digits {
+        let digit = u64::from(digit.saturating_sub(b'0'));
+        if value > (LARGEST_NUMBER - digit) / 10 {
+            return None;
+        }
+        value = 10 * value + digit;
+    }
+    Some(value)
+}
+
+// The lexeme of that word and what stands behind it, where it comes next.
+pub(crate) fn next(tokens: &[Lexeme], word: Word) -> Option<(Lexeme, &[Lexeme])>
+    ensures { MatchOption result (NextIsNot word tokens.now) (λ p. NextLexeme word p.0 tokens.now p.1.now) }
+{
+    let (first, rest) = tokens.split_first()?;
+    if first.word == word {
+        Some((*first, rest))
+    } else {
+        None
+    }
+}
+
+// The place of the word and what stands behind it, where it comes next.
+pub(crate) fn after(tokens: &[Lexeme], word: Word) -> Option<(u32, &[Lexeme])>
+    ensures { MatchOption result (NextIsNot word tokens.now) (λ p. NextIs word p.0 tokens.now p.1.now) }
+{
+    let (lexeme, rest) = next(tokens, word)?;
+    Some((lexeme.start, rest))
+}
+
+// The fault where nothing that may come next does.
+pub(crate) fn unexpected(source: &Source<'_>, tokens: &[Lexeme]) -> SyntaxError
+    ensures { result ≡ unexpected_in source.now tokens.now }
+{
+    let (number, at) = match (tokens, source.stop) {
+        ([first, ..], _) => (2, first.start),
+        ([], Stop::End) => (6, source.end),
+        ([], Stop::NotAscii(at)) => (1, at),
+        ([], Stop::NoToken(at)) => (2, at),
+    };
+    SyntaxError::Bad { number, at }
+}
+
+// One level further in, at the token that leads there.
+pub(crate) fn deeper(depth: u8, at: u32) -> Result<u8, SyntaxError>
+    requires { depth ≤ 64 }
+    ensures { Deepens depth at result }
+{
+    if depth == DEEPEST {
+        Err(SyntaxError::Bad { number: 5, at })
+    } else {
+        Ok(depth + 1)
+    }
+}
+
+// What stands behind the word, which has to come next.
+pub(crate) fn expect<'t>(
+    source: &Source<'_>,
+    tokens: &'t [Lexeme],
+    word: Word,
+    depth: u8,
+) -> Result<&'t [Lexeme], SyntaxError>
+    requires plain { IsPlain word }
+    requires depth { depth ≤ 64 }
+    ensures { Passes word source.now depth tokens.now result }
+{
+    match after(tokens, word) {
+        Some((_, rest)) => Ok(rest),
+        None => Err(unexpected(source, tokens)),
+    }
+}
+
+// What stands behind an opening bracket, which has to come next.
+pub(crate) fn open<'t>(
+    source: &Source<'_>,
+    tokens: &'t [Lexeme],
+    word: Word,
+    depth: u8,
+) -> Result<&'t [Lexeme], SyntaxError>
+    requires plain { IsPlain word }
+    requires depth { depth ≤ 64 }
+    ensures { Opens word source.now depth tokens.now result }
+{
+    match after(tokens, word) {
+        Some((at, rest)) => {
+            deeper(depth, at)?;
+            Ok(rest)
+        }
+        None => Err(unexpected(source, tokens)),
+    }
+}
+
+pub(crate) fn expect_name<'t>(
+    source: &Source<'_>,
+    tokens: &'t [Lexeme],
+    depth: u8,
+) -> Result<(Name, &'t [Lexeme]), SyntaxError>
+    requires { depth ≤ 64 }
+    ensures { Reads IsName (only word.Name ∷ []) source.now depth tokens.now result }
+{
+    match next(tokens, Word::Name) {
+        Some((lexeme, rest)) => Ok((name_of(source, lexeme)?, rest)),
+        None => Err(unexpected(source, tokens)),
+    }
+}
+
+pub(crate) fn expect_number<'t>(
+    source: &Source<'_>,
+    tokens: &'t [Lexeme],
+    depth: u8,
+) -> Result<(Number, &'t [Lexeme]), SyntaxError>
+    requires { depth ≤ 64 }
+    ensures { Reads IsNumber (only word.Number ∷ []) source.now depth tokens.now result }
+{
+    match next(tokens, Word::Number) {
+        Some((lexeme, rest)) => Ok((number_of(source, lexeme)?, rest)),
+        None => Err(unexpected(source, tokens)),
+    }
+}
