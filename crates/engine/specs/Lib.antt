@@ -1,4 +1,5 @@
 pub mod Built
+pub mod Clauses
 pub mod Promise
 pub mod Ran
 pub mod Refusal

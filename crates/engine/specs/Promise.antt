@@ -4,13 +4,15 @@ use Rattle.std.specs.declared.option.Option.{Option}
 use Rattle.ped_io.specs.Causes.{Rose}
 use Rattle.ped_io.specs.Streams.{Appends, AppendsFront, Consumes, ConsumesJust, IsAtEnd}
 use Rattle.script_text.specs.declared.tree.Script.{Script}
+use Rattle.script_text.specs.Text.{Text, SyntaxFault}
 use Rattle.engine.specs.declared.status.Status.{Status}
 use Rattle.engine.specs.declared.status.Status.TheVariants.{Done, Faulted, Words, Script as BadScript, Read, Write, Memory, NoStrand}
 use Rattle.engine.specs.declared.report.Ending.{Ending}
 use Rattle.engine.specs.declared.report.Ending.TheVariants as E
 use Rattle.engine.specs.declared.words.Command.{Command}
 use Rattle.engine.specs.Words.{Says, SaysNothing}
-use Rattle.engine.specs.Report.{Report, IsReadAs, report_of}
+use Rattle.engine.specs.Built.{is_built}
+use Rattle.engine.specs.Report.{Report, IsTextOf, report_of, syntax_line}
 
 -- a script has at most so many bytes
 abbrev pub most_bytes : ℕ
@@ -49,15 +51,27 @@ pub record ReadWhole (source : Watched) (bytes : List ℕ) : Type 0 where
   pub end : IsAtEnd source.after
   pub within : length bytes ≤ most_bytes
 
--- The source was read whole, as this script, which is one that runs.
+-- The source has the text of this script, which is one that runs.
 abbrev pub HasScript : Watched → Script → Type 0
-HasScript source script = (bytes : List ℕ) × ReadWhole source bytes × IsReadAs bytes script
+HasScript source script = (bytes : List ℕ) × ReadWhole source bytes × IsTextOf bytes script
 
--- The source has more bytes than a script may have, or a text that was not read as a script that runs.
+-- These bytes are the text of no script, and this is their first fault.
+pub record IsNoText (bytes : List ℕ) (number at : ℕ) : Type 0 where
+  pub fault : SyntaxFault bytes number at
+  pub none : (script : Script) → Text bytes script → ⊥
+
+-- These bytes are the text of this script, and it isn't one that runs.
+pub record IsUnbuilt (bytes : List ℕ) (script : Script) : Type 0 where
+  pub text : Text bytes script
+  pub unbuilt : IsFalse (is_built script)
+  pub none : (other : Script) → IsTextOf bytes other → ⊥
+
+-- The source has more bytes than a script may have, or the text of no script, or of one that doesn't run.
 abbrev pub HasNoScript : Watched → Watched → Type 0
 HasNoScript source err =
     (ConsumesJust source.before source.after (most_bytes + 1) × Told err (codes "script: too long\n"))
-    ⊎ ((bytes : List ℕ) × ReadWhole source bytes × Told err (codes "script: not built yet\n"))
+    ⊎ ((bytes : List ℕ) × (number : ℕ) × (at : ℕ) × ReadWhole source bytes × IsNoText bytes number at × Told err (syntax_line number at))
+    ⊎ ((bytes : List ℕ) × (script : Script) × ReadWhole source bytes × IsUnbuilt bytes script × Told err (codes "script: not built yet\n"))
 
 -- The source has a script for which the command's report ends so, and this holds of the report's output.
 abbrev pub IsReported : Command → Watched → Ending → (List ℕ → Type 0) → Type 0

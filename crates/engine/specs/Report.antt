@@ -1,6 +1,7 @@
 -- What a command writes for a script.
-use Rattle.std.specs.Prelude.{ℕ, List, IsTrue, Result, Ok, Err}
+use Rattle.std.specs.Prelude.{ℕ, List, ◌++◌, IsTrue, Result, Ok, Err, nat_eq, if◌then◌else◌, codes, decimal}
 use Rattle.script_text.specs.declared.tree.Script.{Script}
+use Rattle.script_text.specs.Text.{Text}
 use Rattle.dotmix.specs.Words.{coefficients}
 use Rattle.serial_meaning.specs.Plan.{PlanView}
 use Rattle.serial_meaning.specs.Eval.{main_origin, elision}
@@ -20,9 +21,25 @@ pub record Report : Type 0 where
   pub output : List ℕ
   pub ending : Ending
 
--- The bytes were read as this script, which is one that runs today. What the bytes must be is not said here yet.
-abbrev pub IsReadAs : List ℕ → Script → Type 0
-IsReadAs bytes script = IsTrue (is_built script)
+-- The bytes are the text of this script, and it is one that runs today.
+pub record IsTextOf (bytes : List ℕ) (script : Script) : Type 0 where
+  pub text : Text bytes script
+  pub built : IsTrue (is_built script)
+
+-- what is wrong with a text, by the number of its first fault
+abbrev pub syntax_text : ℕ → List ℕ
+syntax_text number =
+    if nat_eq number 1 then codes "not ASCII"
+    else if nat_eq number 2 then codes "unexpected token"
+    else if nat_eq number 3 then codes "number out of range"
+    else if nat_eq number 4 then codes "name too long"
+    else if nat_eq number 5 then codes "nested too deep"
+    else if nat_eq number 6 then codes "unexpected end"
+    else codes "too many functions"
+
+-- the line of a fault of the text, which tells its place
+abbrev pub syntax_line : ℕ → ℕ → List ℕ
+syntax_line number at = codes "script: " ++ syntax_text number ++ codes " at byte " ++ decimal at ++ codes "\n"
 
 -- the plan of a run: pedigrees of up to 256 ranks, 1000000 steps an instance, and what the script prints
 abbrev pub plan_of : ℕ → Script → PlanView

@@ -1,27 +1,31 @@
 // The top call.
 
-ghost use Rattle.std.specs.Prelude.{◌≡◌, ◌≤◌, List, ℕ, IfOk, IfErr, IsFalse, map, string_bytes, vec_len};
+ghost use Rattle.std.specs.Prelude.{◌≡◌, ◌≤◌, length, List, ℕ, IfOk, IfErr, IsFalse, map, string_bytes, vec_len};
+ghost use Rattle.ped_io.specs.Causes.{Rose};
 ghost use Rattle.script_text.specs.declared.tree.Script.{Script as ScriptTree};
 ghost use Rattle.engine.specs.Words.{SaysNothing};
-ghost use Rattle.engine.specs.Report.{report_of};
-ghost use Rattle.engine.specs.Promise.{KeepsPromise, Answers, Refuses, HasScript, ReadWhole, Told, watched, has_output, has_line};
-ghost use Rattle.engine.specs.Refusal.{IsCause, Delivers, Refused};
+ghost use Rattle.engine.specs.Report.{IsTextOf, plan_of, report_of};
+ghost use Rattle.engine.specs.Promise.{KeepsPromise, Answers, Refuses, HasScript, ReadWhole, Told, watched, has_output, has_line, most_bytes};
+ghost use Rattle.engine.specs.Clauses.{IsLawful, RefusesScript, RefusesWords, WritesReport};
+ghost use Rattle.engine.specs.Refusal.{IsCause, IsMisfit, Delivers, Refused};
 
 use crate::built::is_built;
-use crate::reader::{Unread, read_script};
-use crate::report::{Ending, Report, make_report};
+use crate::report::{Ending, Report, make_report, syntax_line};
 use crate::status::Status;
 use crate::words::{Command, read_words};
 use ped_io::{ReadError, Sink, Source, read_all, write_all};
-use script_text::Script;
+use serial_meaning::laws;
+use script_text::{Script, SyntaxError, parse};
 use std::alloc::Global;
 
 const MOST_BYTES: u64 = 1048576;
 
 /// Why no report was made.
-#[derive(Clone, Copy, Debug, PartialEq, Eq)]
+#[derive(Drop)]
 pub enum Refusal {
     TooLong,
+    /// The text is of no script; the line that tells it.
+    Syntax(String),
     NotBuilt,
     Read,
     Memory,
@@ -40,22 +44,36 @@ fn fetch<S: Source>(alloc: Global, source: &mut S) -> Result<Vec<u8>, Refusal>
     }
 }
 
-// The script of the source.
-fn read<S: Source>(alloc: Global, source: &mut S) -> Result<Script, Refusal>
-    ensures script { IfOk result (HasScript (watched S.left S.faults source.old source.new)) }
-    ensures refused { IfErr result (IsCause (watched S.left S.faults source.old source.new)) }
+// The script that the bytes are the text of, where it is one that runs.
+fn understand(alloc: Global, bytes: &[u8]) -> Result<Script, Refusal>
+    requires { length bytes.now ≤ most_bytes }
+    ensures script { IfOk result (IsTextOf bytes.now) }
+    ensures refused { IfErr result (IsMisfit bytes.now) }
 {
-    let bytes = fetch(alloc, source)?;
-    let script = match read_script(alloc, &bytes) {
+    let script = match parse(alloc, bytes) {
         Ok(script) => script,
-        Err(Unread::NotBuilt) => return Err(Refusal::NotBuilt),
-        Err(Unread::Memory) => return Err(Refusal::Memory),
+        Err(SyntaxError::Bad { number, at }) => {
+            return match syntax_line(alloc, number, at) {
+                Ok(line) => Err(Refusal::Syntax(line)),
+                Err(_) => Err(Refusal::Memory),
+            };
+        }
+        Err(SyntaxError::Memory) => return Err(Refusal::Memory),
     };
     match is_built(alloc, &script) {
         Ok(true) => Ok(script),
         Ok(false) => Err(Refusal::NotBuilt),
         Err(_) => Err(Refusal::Memory),
     }
+}
+
+// The script of the source.
+fn read<S: Source>(alloc: Global, source: &mut S) -> Result<Script, Refusal>
+    ensures script { IfOk result (HasScript (watched S.left S.faults source.old source.new)) }
+    ensures refused { IfErr result (IsCause (watched S.left S.faults source.old source.new)) }
+{
+    let bytes = fetch(alloc, source)?;
+    understand(alloc, &bytes)
 }
 
 // What a command writes for the script of the source.
@@ -96,12 +114,16 @@ fn deliver<K: Sink, E: Sink>(report: &Report, out: &mut K, err: &mut E) -> Statu
 }
 
 // Tells why no report was made.
-fn refuse<E: Sink>(refusal: Refusal, err: &mut E) -> Status
-    ensures told { Refused refusal (watched E.written E.faults err.old err.new) result }
+fn refuse<E: Sink>(refusal: &Refusal, err: &mut E) -> Status
+    ensures told { Refused refusal.now (watched E.written E.faults err.old err.new) result }
 {
     match refusal {
         Refusal::TooLong => {
             tell(err, b"script: too long\n");
+            Status::Script
+        }
+        Refusal::Syntax(line) => {
+            tell(err, line.as_bytes());
             Status::Script
         }
         Refusal::NotBuilt => {
@@ -134,14 +156,38 @@ fn serve<S: Source, K: Sink, E: Sink>(
 {
     match prepare(alloc, command, source) {
         Ok(report) => deliver(&report, out, err),
-        Err(refusal) => refuse(refusal, err),
+        Err(refusal) => refuse(&refusal, err),
+    }
+}
+
+// Reads the words and runs their command.
+fn perform<S: Source, K: Sink, E: Sink>(
+    alloc: Global,
+    words: &[String],
+    script: &mut S,
+    out: &mut K,
+    err: &mut E,
+) -> Status
+    ensures promise { KeepsPromise (map string_bytes words.now) (watched S.left S.faults script.old script.new)
+        (watched K.written K.faults out.old out.new) (watched E.written E.faults err.old err.new) result }
+    ensures untouched { SaysNothing (map string_bytes words.now) → script.new ≡ script.old }
+    ensures no_output { IsFalse (has_output result) → out.new ≡ out.old }
+    ensures no_line { IsFalse (has_line result) → err.new ≡ err.old }
+{
+    match read_words(words) {
+        Some(command) => serve(alloc, command, script, out, err),
+        None => {
+            tell(err, b"words: not built yet\n");
+            Status::Words
+        }
     }
 }
 
 /// All that the program does, over any source of the script, sink of the output and sink of the error line.
 ///
 /// `words` are those of the command line without the program's name. What each status means, and which bytes were read and written
-/// then, is the clause `promise`; statuses 2 to 7 come with one line on `err`. Whether `err` takes its line changes no status.
+/// then, is the clause `promise`; the clauses `words` to `write` say its parts. Statuses 2 to 7 come with one line on `err`, and whether
+/// `err` takes it changes no status. The clause `events` says what holds of each run.
 pub fn pedrun<S: Source, K: Sink, E: Sink>(
     alloc: Global,
     words: &[String],
@@ -156,12 +202,19 @@ pub fn pedrun<S: Source, K: Sink, E: Sink>(
     ensures untouched { SaysNothing (map string_bytes words.now) → script.new ≡ script.old }
     ensures no_output { IsFalse (has_output result) → out.new ≡ out.old }
     ensures no_line { IsFalse (has_line result) → err.new ≡ err.old }
+
+    // The promise, said by its parts.
+    ensures words { RefusesWords (map string_bytes words.now) result }
+    ensures script { RefusesScript (map string_bytes words.now) (S.left script.old) result }
+    ensures report { WritesReport (map string_bytes words.now) (watched S.left S.faults script.old script.new) (S.left script.old) (watched K.written K.faults out.old out.new) result }
+    ensures read { result ≡ Status.Read → Rose (S.faults script.old) (S.faults script.new) }
+    ensures write { result ≡ Status.Write → Rose (K.faults out.old) (K.faults out.new) }
+
+    // What holds of each run that is written.
+    ensures events { (seed : ℕ) (tree : ScriptTree) → IsLawful (plan_of seed tree) }
 {
-    match read_words(words) {
-        Some(command) => serve(alloc, command, script, out, err),
-        None => {
-            tell(err, b"words: not built yet\n");
-            Status::Words
-        }
-    }
+    laws::pedigrees_rise();
+    laws::draws_are_dotmix();
+    laws::fault_is_least();
+    perform(alloc, words, script, out, err)
 }

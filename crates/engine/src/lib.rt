@@ -3,7 +3,6 @@
 
 pub mod built;
 pub mod call;
-pub mod reader;
 pub mod report;
 pub mod runner;
 pub mod status;

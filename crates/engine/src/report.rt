@@ -1,18 +1,18 @@
 // What a command writes.
 
-ghost use Rattle.std.specs.Prelude.{◌≡◌, IsTrue, IfOk, All};
+ghost use Rattle.std.specs.Prelude.{◌≡◌, IsTrue, IfOk, All, string_bytes};
 ghost use Rattle.std.specs.Arc.{arc_value};
 ghost use Rattle.serial_meaning.specs.Plan.{functions_of};
 ghost use Rattle.serial_meaning.specs.Eval.{elision, main_origin};
 ghost use Rattle.engine.specs.Built.{is_built, IsFunction};
-ghost use Rattle.engine.specs.Report.{report_of, plan_of, run_report};
+ghost use Rattle.engine.specs.Report.{report_of, plan_of, run_report, syntax_line, syntax_text};
 
 use crate::runner::{Halt, run};
 use crate::words::Command;
 use dotmix::Gamma;
 use script_text::Script;
 use serial_meaning::{Answer, Limits, Memory, Out, Outcome, Plan, Show, render_run};
-use std::alloc::Global;
+use std::alloc::{AllocError, Global};
 use std::sync::Arc;
 
 /// How a report ends: the run came to its end, or ended by a fault, whose line is the last one.
@@ -93,4 +93,26 @@ pub fn make_report(alloc: Global, command: Command, script: Script) -> Result<Re
     let seed = seed_of(command);
     let plan = make_plan(alloc, seed, script)?;
     run_report(alloc, plan)
+}
+
+fn syntax_text(number: u8) -> &'static str
+    ensures { result.now ≡ syntax_text number }
+{
+    match number {
+        1 => "not ASCII",
+        2 => "unexpected token",
+        3 => "number out of range",
+        4 => "name too long",
+        5 => "nested too deep",
+        6 => "unexpected end",
+        _ => "too many functions",
+    }
+}
+
+/// The line of a fault of the text.
+pub fn syntax_line(alloc: Global, number: u8, at: u32) -> Result<String, AllocError>
+    ensures { IfOk result (λ line. string_bytes line ≡ syntax_line number at) }
+{
+    let text = syntax_text(number);
+    format!(in alloc; "script: {text} at byte {at}\n")
 }

@@ -17,6 +17,11 @@ pub record AnswerView : Type 0 where
   pub out : List Event
   pub outcome : Outcome
 
+-- what an answer answers
+pub record AnswerTag : Type 0 where
+  pub plan : PlanView
+  pub origin : Origin
+
 -- how an origin ends whose evaluation ended so
 abbrev pub outcome_of : Origin → Result (List Value) Fault → Outcome
 outcome_of (Instance function args path) (Ok vs) = outcome.Value (first_of vs)

@@ -4,6 +4,7 @@
 #![tactic(auto)]
 
 pub mod answer;
+pub mod answer_key;
 pub mod environment;
 pub mod event;
 pub mod examples;
@@ -17,6 +18,7 @@ pub mod render;
 mod tests;
 pub mod value;
 
+pub use answer_key::AnswerKey;
 pub use answer::{Answer, Outcome, Strand};
 pub use environment::{Slot, Variable};
 pub use event::{Event, Fault, FaultKind};
