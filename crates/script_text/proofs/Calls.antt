@@ -1,5 +1,5 @@
 -- What the functions on names, arguments and calls need.
-use Rattle.std.proofs.Common.{◌≡◌, ◌≢◌, ℕ, zero, suc, ◌+◌, ◌<◌, ◌≤◌, List, [], ◌∷◌, ◌++◌, length, Option, Some, None, Bool, true, false, ◌&&◌, Ok, Err, if◌then◌else◌, refl, sym, ap, ◌∙◌, subst, arith, append_assoc, append-nil}
+use Rattle.std.proofs.Common.{◌≡◌, ℕ, suc, ◌+◌, ◌<◌, ◌≤◌, List, [], ◌∷◌, ◌++◌, length, Option, Some, Ok, Err, refl, sym, ap, ◌∙◌, subst, arith, append_assoc, append-nil}
 use Rattle.script_tokens.specs.declared.token.Word.{Word}
 use Rattle.script_tokens.specs.declared.token.Word.TheVariants as word
 use Rattle.script_tokens.specs.declared.token.Lexeme.{Lexeme}
@@ -12,12 +12,11 @@ use Rattle.script_text.specs.declared.parser.source.Source.{Source}
 use Rattle.script_text.specs.declared.tree.Name.{Name}
 use Rattle.script_text.specs.declared.tree.Number.{Number}
 use Rattle.script_text.specs.declared.tree.Expr.{Expr}
-use Rattle.script_text.specs.declared.tree.CallText.{CallText}
-use Rattle.script_text.specs.Grammar.{Token, tok, name_at, number_at, IsExpr, IsMoreArgs, no_more_args, one_more_arg, IsArgs, no_args, some_args, IsCall, a_call}
-use Rattle.script_text.specs.Machine.{Sym, only, factor, more_factors, more_terms, comparison, args, more_args, call_args, expr_then, rules, is_empty, find_rule, step, depth, at_stop, verdict, begun, judge}
+use Rattle.script_text.specs.Grammar.{Token, tok, name_at, number_at, IsExpr, IsMoreArgs, no_more_args, one_more_arg, no_args, some_args, IsCall, a_call}
+use Rattle.script_text.specs.Machine.{Sym, only, args, more_args, call_args, expr_then, step, at_stop, verdict, begun, judge}
 use Rattle.script_text.specs.Text.{token_of}
-use Rattle.script_text.specs.Reads.{seen, ending, Leads, Finds, Errs, NextIs, NextIsNot, NextLexeme, IsBracket, Names, Numbers, unexpected_in, IsName, a_name_token, IsNumber, a_number_token, IsArguments, arguments, AddsArgs}
-use Rattle.script_text.proofs.Steps.{taken, name_taken, name_long, number_taken, number_big, HasNone, skipped, has_none, seen-next, err_behind, unexpected_err, Comes, Passed, Opened}
+use Rattle.script_text.specs.Reads.{seen, ending, Leads, Errs, NextIs, NextIsNot, IsBracket, Names, Numbers, unexpected_in, IsName, a_name_token, IsNumber, a_number_token, IsArguments, arguments, AddsArgs}
+use Rattle.script_text.proofs.Steps.{taken, name_taken, name_long, number_taken, number_big, skipped, has_none, seen-next, err_behind, unexpected_err, Comes, Passed, Opened}
 use Rattle.script_text.proofs.Expressions.{first_is, expr_shorter, length-seen}
 
 -- Names and numbers
@@ -150,9 +149,9 @@ call_of (a_name_token {a = b} {t = u}) {a = a} {t = t} e (arguments {rest = rest
 pub call_read : (source : Source) (d : ℕ) (old t1 t2 rest : List Lexeme) (x : Name) (xs : List Expr) → Comes IsName (only word.Name ∷ []) source d old x t1 → Opened word.Open source d t1 t2 → Comes IsArguments (args ∷ only word.Close ∷ []) source d t2 xs rest
     → Comes IsCall (only word.Name ∷ call_args ∷ []) source d old (record { name = x; args = xs }) rest
 call_read source d old t1 t2 rest x xs a o b = (
-    call_of a.0 (seen-next word.Open source o.0.0 t1 t2 o.0.1) b.0,
-    λ n s f. a.1 n (call_args ∷ s) f ∙ o.2 call_args _ args_bracket n s f ∙ b.1 n s f,
-  )
+  call_of a.0 (seen-next word.Open source o.0.0 t1 t2 o.0.1) b.0,
+  λ n s f. a.1 n (call_args ∷ s) f ∙ o.2 call_args _ args_bracket n s f ∙ b.1 n s f,
+)
 
 pub call_err_name : (source : Source) (d : ℕ) (old : List Lexeme) (e : SyntaxError) → Errs (only word.Name ∷ []) source d old e → Errs (only word.Name ∷ call_args ∷ []) source d old e
 call_err_name source d old e f = err_behind (only word.Name ∷ call_args ∷ []) (only word.Name ∷ []) (call_args ∷ []) source d d old old e (λ n s r. refl) (λ s r. r) f

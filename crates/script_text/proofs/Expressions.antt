@@ -1,5 +1,5 @@
 -- What the functions on expressions need.
-use Rattle.std.proofs.Common.{◌≡◌, ◌≢◌, ℕ, zero, suc, ◌+◌, ◌*◌, ◌-◌, ◌<◌, ◌≤◌, List, [], ◌∷◌, ◌++◌, length, map, Option, Some, None, Bool, true, false, Ok, Err, refl, sym, ap, ◌∙◌, subst, arith, append_assoc, append-nil}
+use Rattle.std.proofs.Common.{◌≡◌, ℕ, suc, ◌+◌, ◌<◌, ◌≤◌, List, [], ◌∷◌, ◌++◌, length, Option, Some, None, Bool, true, Ok, Err, refl, sym, ap, ◌∙◌, subst, arith, append_assoc, append-nil}
 use Rattle.script_tokens.specs.declared.token.Word.{Word}
 use Rattle.script_tokens.specs.declared.token.Word.TheVariants as word
 use Rattle.script_tokens.specs.declared.token.Lexeme.{Lexeme}
@@ -15,12 +15,11 @@ use Rattle.script_text.specs.declared.tree.SumPart.{SumPart}
 use Rattle.script_text.specs.declared.tree.ProductPart.{ProductPart}
 use Rattle.script_text.specs.declared.tree.ProductSign.{ProductSign}
 use Rattle.script_text.specs.declared.tree.Comparison.{Comparison}
-use Rattle.script_text.specs.Grammar.{Token, tok, name_at, number_at, decimal, sum_of, product_of, IsSumSign, a_plus, a_minus, IsProductSign, a_times, an_over, a_modulo, IsComparison, an_eq, a_ne, a_lt, a_le, a_gt, a_ge, IsFactor, a_neg, a_number, a_name, an_item, a_group, a_same, an_older, IsTerm, factors, IsFactors, no_factors, one_factor, IsSum, terms, IsTerms, no_terms, one_term, IsExpr, alone, compared}
-use Rattle.script_text.specs.Machine.{Sym, only, factor, index, pair, more_factors, more_terms, comparison, minus_end, sum_then, expr_then, rules, is_empty, find_rule, step, depth, at_stop, judge}
-use Rattle.script_text.specs.Text.{token_of}
-use Rattle.script_text.specs.Reads.{seen, ending, Leads, Finds, Errs, NextIs, NextIsNot, is_plain, SignNext, Deepens, IsBracket, Names, Numbers, IsOperands, an_operands, unexpected_in}
+use Rattle.script_text.specs.Grammar.{Token, tok, name_at, number_at, sum_of, product_of, IsSumSign, a_plus, a_minus, IsProductSign, a_times, an_over, a_modulo, IsComparison, an_eq, a_ne, a_lt, a_le, a_gt, a_ge, IsFactor, a_neg, a_number, a_name, an_item, a_group, a_same, an_older, IsTerm, factors, IsFactors, no_factors, one_factor, IsSum, terms, IsTerms, no_terms, one_term, IsExpr, alone, compared}
+use Rattle.script_text.specs.Machine.{Sym, only, factor, index, pair, more_factors, more_terms, comparison, minus_end, sum_then, expr_then, step, depth, judge}
+use Rattle.script_text.specs.Reads.{seen, ending, Leads, Errs, NextIs, NextIsNot, is_plain, SignNext, Deepens, IsBracket, Names, Numbers, IsOperands, an_operands}
 use Rattle.script_text.proofs.Follows.{comparison_step, factors_step, terms_step}
-use Rattle.script_text.proofs.Steps.{taken, deep, name_taken, name_long, number_taken, number_big, HasNone, refused, skipped, has_none, seen-next, err_behind, Comes, Passed, Opened}
+use Rattle.script_text.proofs.Steps.{taken, deep, name_taken, name_long, number_taken, number_big, HasNone, skipped, has_none, seen-next, err_behind, Comes, Passed, Opened}
 
 none_has : {X : Type 0} (a : Sym) (R : Word → X → Type 0) (source : Source) (ls : List Lexeme) → SignNext a R ls None → HasNone a ls source.bytes.now
 none_has a R source [] h = tt
@@ -57,25 +56,25 @@ compares source d old mid behind x c l h a e k = λ n s f.
 pub expr_compared : (source : Source) (d : ℕ) (old mid behind rest : List Lexeme) (x y z : Expr) (s : Comparison) → d ≤ 64 → Comes IsSum (sum_then []) source d old x mid
     → (l : Lexeme) × (mid ≡ l ∷ behind) × IsComparison l.word s → Comes IsSum (sum_then []) source d behind y rest → z ≡ expr.Compare x s y → Comes IsExpr (expr_then []) source d old z rest
 expr_compared source d old mid behind rest x y z c h a k b e = (
-    subst (λ w. IsExpr (seen source old) w (seen source rest)) (sym e) (compared (subst (IsSum (seen source old) x) (ap (seen source) k.1) a.0) k.2 b.0),
-    λ n s f. compares source d old mid behind x c k.0 h a k.1 k.2 n s f ∙ b.1 n s f,
-  )
+  subst (λ w. IsExpr (seen source old) w (seen source rest)) (sym e) (compared (subst (IsSum (seen source old) x) (ap (seen source) k.1) a.0) k.2 b.0),
+  λ n s f. compares source d old mid behind x c k.0 h a k.1 k.2 n s f ∙ b.1 n s f,
+)
 
 -- Sums and products
 
 pub sum_reads : (source : Source) (d : ℕ) (old mid rest : List Lexeme) (x y : Expr) (xs : List SumPart) → Comes IsTerm (factor ∷ more_factors ∷ []) source d old x mid → Comes IsTerms (more_terms ∷ []) source d mid xs rest → y ≡ sum_of x xs
     → Comes IsSum (sum_then []) source d old y rest
 sum_reads source d old mid rest x y xs a b e = (
-    subst (λ w. IsSum (seen source old) w (seen source rest)) (sym e) (terms a.0 b.0),
-    λ n s f. a.1 n (more_terms ∷ s) f ∙ b.1 n s f,
-  )
+  subst (λ w. IsSum (seen source old) w (seen source rest)) (sym e) (terms a.0 b.0),
+  λ n s f. a.1 n (more_terms ∷ s) f ∙ b.1 n s f,
+)
 
 pub term_reads : (source : Source) (d : ℕ) (old mid rest : List Lexeme) (x y : Expr) (xs : List ProductPart) → Comes IsFactor (factor ∷ []) source d old x mid → Comes IsFactors (more_factors ∷ []) source d mid xs rest → y ≡ product_of x xs
     → Comes IsTerm (factor ∷ more_factors ∷ []) source d old y rest
 term_reads source d old mid rest x y xs a b e = (
-    subst (λ w. IsTerm (seen source old) w (seen source rest)) (sym e) (factors a.0 b.0),
-    λ n s f. a.1 n (more_factors ∷ s) f ∙ b.1 n s f,
-  )
+  subst (λ w. IsTerm (seen source old) w (seen source rest)) (sym e) (factors a.0 b.0),
+  λ n s f. a.1 n (more_factors ∷ s) f ∙ b.1 n s f,
+)
 
 abbrev pub TermsSoFar : Source → ℕ → List Lexeme → List SumPart → List Lexeme → Type 0
 TermsSoFar source d old xs left = record {
@@ -91,15 +90,15 @@ FactorsSoFar source d old xs left = record {
 
 pub terms_end : (source : Source) (d : ℕ) (old left : List Lexeme) (xs : List SumPart) → TermsSoFar source d old xs left → SignNext more_terms IsSumSign left None → Comes IsTerms (more_terms ∷ []) source d old xs left
 terms_end source d old left xs i k = (
-    subst (λ z. IsTerms (seen source old) z (seen source left)) (append-nil xs) (i.so_far [] (seen source left) no_terms),
-    λ n s f. i.goes n s f ∙ skipped source n more_terms s left refl (none_has more_terms IsSumSign source left k),
-  )
+  subst (λ z. IsTerms (seen source old) z (seen source left)) (append-nil xs) (i.so_far [] (seen source left) no_terms),
+  λ n s f. i.goes n s f ∙ skipped source n more_terms s left refl (none_has more_terms IsSumSign source left k),
+)
 
 pub factors_end : (source : Source) (d : ℕ) (old left : List Lexeme) (xs : List ProductPart) → FactorsSoFar source d old xs left → SignNext more_factors IsProductSign left None → Comes IsFactors (more_factors ∷ []) source d old xs left
 factors_end source d old left xs i k = (
-    subst (λ z. IsFactors (seen source old) z (seen source left)) (append-nil xs) (i.so_far [] (seen source left) no_factors),
-    λ n s f. i.goes n s f ∙ skipped source n more_factors s left refl (none_has more_factors IsProductSign source left k),
-  )
+  subst (λ z. IsFactors (seen source old) z (seen source left)) (append-nil xs) (i.so_far [] (seen source left) no_factors),
+  λ n s f. i.goes n s f ∙ skipped source n more_factors s left refl (none_has more_factors IsProductSign source left k),
+)
 
 pub terms_enter : (source : Source) (d : ℕ) (old left inner : List Lexeme) (g : Bool) → d ≤ 64 → Leads (more_terms ∷ []) (more_terms ∷ []) source d old left → (l : Lexeme) × (left ≡ l ∷ inner) × IsSumSign l.word g
     → Leads (more_terms ∷ []) (factor ∷ more_factors ∷ more_terms ∷ []) source d old inner
@@ -195,7 +194,7 @@ factor_item source d inside at rest behind mid last l x y z e h k g a b p =
     let u = seen-next word.OpenItem source at rest behind g in
     let v = seen-next word.CloseItem source b.0.0 mid last b.0.1 in
     let d' : IsFactor (tok l.start word.Name (text_of source.bytes.now l) ∷ tok at word.OpenItem (text_of source.bytes.now g.0) ∷ seen source behind) (expr.Item (name_at l.start (text_of source.bytes.now l)) y) (seen source last) =
-        an_item (subst (IsExpr (seen source behind) y) v a.0) in
+    an_item (subst (IsExpr (seen source behind) y) v a.0) in
     let there : seen source (l ∷ rest) ≡ tok l.start word.Name (text_of source.bytes.now l) ∷ tok at word.OpenItem (text_of source.bytes.now g.0) ∷ seen source behind = t ∙ ap (λ q. tok l.start word.Name (text_of source.bytes.now l) ∷ q) u in (
       subst (λ q. IsFactor (seen source (l ∷ rest)) q (seen source last)) (sym (p ∙ ap (λ q. expr.Item q y) k.0)) (subst (λ q. IsFactor q (expr.Item (name_at l.start (text_of source.bytes.now l)) y) (seen source last)) (sym there) d'),
       λ n s f. item_enters source d at rest behind l x e h.1 k g n s f ∙ a.1 n (only word.CloseItem ∷ s) (omega (arith, h.0)) ∙ b.1 n s f,
@@ -264,9 +263,9 @@ word_enters source d rest l w e p g h = λ n s f.
 pub factor_same : (source : Source) (d : ℕ) (rest last : List Lexeme) (l : Lexeme) (x y : Expr) → l.word ≡ word.Same → d ≤ 64 → IsOperands (seen source rest) x y (seen source last) → Leads (pair ∷ []) [] source d rest last
     → Comes IsFactor (factor ∷ []) source d (l ∷ rest) (expr.Same l.start x y) last
 factor_same source d rest last l x y e h a b = (
-    subst (λ q. IsFactor q (expr.Same l.start x y) (seen source last)) (sym (seen-next word.Same source l.start (l ∷ rest) rest (first_is l (l ∷ rest) rest refl e))) (made a),
-    λ n s f. word_enters source d rest l word.Same e refl (λ t s. refl) h n s f ∙ b n s f,
-  )
+  subst (λ q. IsFactor q (expr.Same l.start x y) (seen source last)) (sym (seen-next word.Same source l.start (l ∷ rest) rest (first_is l (l ∷ rest) rest refl e))) (made a),
+  λ n s f. word_enters source d rest l word.Same e refl (λ t s. refl) h n s f ∙ b n s f,
+)
   where
     made : {a : ℕ} {t : List ℕ} {ts to : List Token} {x y : Expr} → IsOperands ts x y to → IsFactor (tok a word.Same t ∷ ts) (expr.Same a x y) to
     made (an_operands p q) = a_same p q
@@ -274,9 +273,9 @@ factor_same source d rest last l x y e h a b = (
 pub factor_older : (source : Source) (d : ℕ) (rest last : List Lexeme) (l : Lexeme) (x y : Expr) → l.word ≡ word.Older → d ≤ 64 → IsOperands (seen source rest) x y (seen source last) → Leads (pair ∷ []) [] source d rest last
     → Comes IsFactor (factor ∷ []) source d (l ∷ rest) (expr.Older l.start x y) last
 factor_older source d rest last l x y e h a b = (
-    subst (λ q. IsFactor q (expr.Older l.start x y) (seen source last)) (sym (seen-next word.Older source l.start (l ∷ rest) rest (first_is l (l ∷ rest) rest refl e))) (made a),
-    λ n s f. word_enters source d rest l word.Older e refl (λ t s. refl) h n s f ∙ b n s f,
-  )
+  subst (λ q. IsFactor q (expr.Older l.start x y) (seen source last)) (sym (seen-next word.Older source l.start (l ∷ rest) rest (first_is l (l ∷ rest) rest refl e))) (made a),
+  λ n s f. word_enters source d rest l word.Older e refl (λ t s. refl) h n s f ∙ b n s f,
+)
   where
     made : {a : ℕ} {t : List ℕ} {ts to : List Token} {x y : Expr} → IsOperands ts x y to → IsFactor (tok a word.Older t ∷ ts) (expr.Older a x y) to
     made (an_operands p q) = an_older p q
@@ -291,7 +290,7 @@ operands_read source d old t1 t2 t3 t4 last x y o a c b k x' y' p q =
     let u = seen-next word.Comma source c.0.0 t2 t3 c.0.1 in
     let v = seen-next word.Close source k.0.0 t4 last k.0.1 in
     let made : IsOperands (seen source old) x y (seen source last) =
-        subst (λ z. IsOperands z x y (seen source last)) (sym t) (an_operands (subst (IsExpr (seen source t1) x) u a.0) (subst (IsExpr (seen source t3) y) v b.0)) in (
+    subst (λ z. IsOperands z x y (seen source last)) (sym t) (an_operands (subst (IsExpr (seen source t1) x) u a.0) (subst (IsExpr (seen source t3) y) v b.0)) in (
       subst (λ z. IsOperands (seen source old) z y' (seen source last)) (sym p) (subst (λ z. IsOperands (seen source old) x z (seen source last)) (sym q) made),
       λ n s f. let g : suc (depth s) ≡ d + 1 = omega (arith, f) in
           o.2 pair _ pair_bracket n s f ∙ a.1 n (only word.Comma ∷ expr_then (only word.Close ∷ s)) g ∙ c.1 n (expr_then (only word.Close ∷ s)) g ∙ b.1 n (only word.Close ∷ s) g ∙ k.1 n s f,
@@ -384,7 +383,7 @@ module _ (source : Source) (d : ℕ) where
       → Comes IsExpr (expr_then []) source inside behind y mid → Errs (only word.CloseItem ∷ []) source d mid e → Errs (factor ∷ []) source d (l ∷ rest) e
   item_err_rest inside at rest behind mid l x y e q h k g a f =
       err_behind (factor ∷ []) (only word.CloseItem ∷ []) [] source d d (l ∷ rest) mid e
-          (λ n s r. item_enters source d at rest behind l x q h.1 k g n s r ∙ a.1 n (only word.CloseItem ∷ s) (omega (arith, h.0, r))) (λ s r. r) f
+      (λ n s r. item_enters source d at rest behind l x q h.1 k g n s r ∙ a.1 n (only word.CloseItem ∷ s) (omega (arith, h.0, r))) (λ s r. r) f
 
   pub minus_err : (inside : ℕ) (rest : List Lexeme) (l : Lexeme) (e : SyntaxError) → l.word ≡ word.Minus → Deepens d l.start (Ok inside) → Errs (factor ∷ []) source inside rest e → Errs (factor ∷ []) source d (l ∷ rest) e
   minus_err inside rest l e q h f = err_behind (factor ∷ []) (factor ∷ []) (minus_end ∷ []) source d inside (l ∷ rest) rest e (minus_enters source d rest l q h.1) (λ s r. omega (arith, h.0, r)) f

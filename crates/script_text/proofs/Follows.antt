@@ -1,12 +1,11 @@
 -- The machine follows each derivation, and its depth behind each token is the nesting there.
-use Rattle.std.proofs.Common.{◌≡◌, ℕ, zero, suc, ◌+◌, List, [], ◌∷◌, ◌++◌, length, Option, Some, None, Bool, true, false, ◌||◌, ◌&&◌, nat_eq, cond, if◌then◌else◌, option_and_then, refl, sym, ap, ◌∙◌, subst, append_assoc, append-nil}
+use Rattle.std.proofs.Common.{◌≡◌, ℕ, List, [], ◌∷◌, ◌++◌, Option, Some, None, Bool, true, false, ◌&&◌, cond, option_and_then, refl, sym, ap, ◌∙◌, subst, append_assoc, append-nil}
 use Rattle.std.proofs.lemmas.Bool.{eq-eqb}
 use Rattle.script_tokens.specs.declared.token.Word.{Word}
 use Rattle.script_tokens.specs.declared.token.Word.TheVariants as word
 use Rattle.script_text.specs.declared.tree.Name.{Name}
 use Rattle.script_text.specs.declared.tree.Kind.{Kind}
 use Rattle.script_text.specs.declared.tree.Expr.{Expr}
-use Rattle.script_text.specs.declared.tree.Expr.TheVariants as expr
 use Rattle.script_text.specs.declared.tree.SumPart.{SumPart}
 use Rattle.script_text.specs.declared.tree.ProductPart.{ProductPart}
 use Rattle.script_text.specs.declared.tree.ProductSign.{ProductSign}
@@ -16,9 +15,9 @@ use Rattle.script_text.specs.declared.tree.Right.{Right}
 use Rattle.script_text.specs.declared.tree.Stmt.{Stmt}
 use Rattle.script_text.specs.declared.tree.Param.{Param}
 use Rattle.script_text.specs.declared.tree.Function.{Function}
-use Rattle.script_text.specs.Grammar.{Token, tok, name_at, number_at, sum_of, product_of, IsSumSign, a_plus, a_minus, IsProductSign, a_times, an_over, a_modulo, IsComparison, an_eq, a_ne, a_lt, a_le, a_gt, a_ge, IsFactor, a_neg, a_number, a_name, an_item, a_group, a_same, an_older, IsTerm, factors, IsFactors, no_factors, one_factor, IsSum, terms, IsTerms, no_terms, one_term, IsExpr, alone, compared, IsMoreArgs, no_more_args, one_more_arg, IsArgs, no_args, some_args, IsCall, a_call, IsRight, right_value, right_draw, right_new, right_call, right_spawn, IsInto, no_into, an_into, stmt_at, IsStmt, a_let, an_array, a_set, a_store, a_spawn, a_call_stmt, a_sync, a_print, an_if, a_while, a_pfor, IsStmts, no_stmts, one_stmt, IsBlock, a_block, IsElse, no_else, an_else, IsParam, int_param, id_param, IsMoreParams, no_more_params, one_more_param, IsParams, no_params, some_params, IsAnswer, int_answer, id_answer, IsFunction, a_function, IsFunctions, no_functions, one_function, IsScript, IsViable}
+use Rattle.script_text.specs.Grammar.{Token, tok, IsSumSign, a_plus, a_minus, IsProductSign, a_times, an_over, a_modulo, IsComparison, an_eq, a_ne, a_lt, a_le, a_gt, a_ge, IsFactor, a_neg, a_number, a_name, an_item, a_group, a_same, an_older, IsTerm, factors, IsFactors, no_factors, one_factor, IsSum, terms, IsTerms, no_terms, one_term, IsExpr, alone, compared, IsMoreArgs, no_more_args, one_more_arg, IsArgs, no_args, some_args, IsCall, a_call, IsRight, right_value, right_draw, right_new, right_call, right_spawn, IsInto, no_into, an_into, IsStmt, a_let, an_array, a_set, a_store, a_spawn, a_call_stmt, a_sync, a_print, an_if, a_while, a_pfor, IsStmts, no_stmts, one_stmt, IsBlock, a_block, IsElse, no_else, an_else, IsParam, int_param, id_param, IsMoreParams, no_more_params, one_more_param, IsParams, no_params, some_params, IsAnswer, int_answer, id_answer, IsFunction, a_function, IsFunctions, no_functions, one_function, IsScript}
 use Rattle.script_text.specs.Nesting.{factor_nesting, term_nesting, factors_nesting, sum_nesting, terms_nesting, expr_nesting, more_args_nesting, args_nesting, call_nesting, right_nesting, into_nesting, stmt_nesting, stmts_nesting, block_nesting, else_nesting, param_nesting, more_params_nesting, params_nesting, answer_nesting, function_nesting, functions_nesting}
-use Rattle.script_text.specs.Machine.{Sym, only, exactly, factor, index, pair, more_factors, more_terms, comparison, minus_end, args, more_args, call_args, right, into, loop_name, loop_args, stmts, after_let, after_name, block, otherwise, functions, param_list, params, more_params, param, answer, body, same_bytes, sum_then, expr_then, rules, is_empty, find_rule, choose, step, run, depth, Trace, onward, trace}
+use Rattle.script_text.specs.Machine.{Sym, only, exactly, factor, index, more_factors, more_terms, comparison, minus_end, args, more_args, call_args, right, into, stmts, block, otherwise, functions, params, more_params, param, answer, body, same_bytes, sum_then, expr_then, rules, is_empty, find_rule, choose, step, run, depth, Trace, onward, trace}
 
 -- the symbol is skipped at that token
 abbrev pub Skips : Sym → Token → Type 0
@@ -154,10 +153,10 @@ mutual
   factor_goes (a_group d) e s = take refl (next (expr_goes d (refl, refl, refl, refl) (only word.Close ∷ s)) (take refl (stay refl)))
   factor_goes (a_same d f) e s =
       take refl (take refl (next (expr_goes d (refl, refl, refl, refl) (only word.Comma ∷ expr_then (only word.Close ∷ s)))
-          (take refl (next (expr_goes f (refl, refl, refl, refl) (only word.Close ∷ s)) (take refl (stay refl))))))
+      (take refl (next (expr_goes f (refl, refl, refl, refl) (only word.Close ∷ s)) (take refl (stay refl))))))
   factor_goes (an_older d f) e s =
       take refl (take refl (next (expr_goes d (refl, refl, refl, refl) (only word.Comma ∷ expr_then (only word.Close ∷ s)))
-          (take refl (next (expr_goes f (refl, refl, refl, refl) (only word.Close ∷ s)) (take refl (stay refl))))))
+      (take refl (next (expr_goes f (refl, refl, refl, refl) (only word.Close ∷ s)) (take refl (stay refl))))))
 
   pub term_goes : {ts rest : List Token} {x : Expr} (d : IsTerm ts x rest) → EndsTerm rest → (s : List Sym) → Goes ts (factor ∷ more_factors ∷ s) (term_nesting d (depth s)) rest s
   term_goes (factors d f) e s = next (factor_goes d (factor_ends f e) (more_factors ∷ s)) (factors_go f e s)
@@ -317,7 +316,7 @@ mutual
   stmt_goes (a_set d) e s = take refl (take refl (next (right_goes d (refl, refl, refl, refl) (only word.Semicolon ∷ stmts ∷ s)) (take refl (stay refl))))
   stmt_goes (a_store d f) e s =
       take refl (take refl (next (expr_goes d (refl, refl, refl, refl) (only word.CloseItem ∷ only word.Assign ∷ expr_then (only word.Semicolon ∷ stmts ∷ s)))
-          (take refl (take refl (next (expr_goes f (refl, refl, refl, refl) (only word.Semicolon ∷ stmts ∷ s)) (take refl (stay refl)))))))
+      (take refl (take refl (next (expr_goes f (refl, refl, refl, refl) (only word.Semicolon ∷ stmts ∷ s)) (take refl (stay refl)))))))
   stmt_goes (a_spawn d) e s = take refl (next (call_goes d (only word.Semicolon ∷ stmts ∷ s)) (take refl (stay refl)))
   stmt_goes (a_call_stmt d) e s = take refl (next (call_goes d (only word.Semicolon ∷ stmts ∷ s)) (take refl (stay refl)))
   stmt_goes a_sync e s = take refl (take refl (stay refl))
@@ -326,8 +325,8 @@ mutual
   stmt_goes (a_while d f) e s = take refl (next (expr_goes d (block_starts f) (block ∷ stmts ∷ s)) (block_goes f (stmts ∷ s)))
   stmt_goes (a_pfor {n = n} d f i m) e s =
       take refl (take refl (take refl (next (expr_goes d (refl, refl, refl, refl) _)
-          (take refl (next (expr_goes f (into_ends i (refl, (refl, refl, refl, refl))) _) (next (into_goes i (refl, (refl, refl, refl, refl)) _)
-              (take refl (take refl (take refl (take (exact_step n _) (next (more_args_go m ((refl, refl), (refl, refl, refl, refl)) (only word.Close ∷ only word.Semicolon ∷ stmts ∷ s)) (take refl (take refl (stay refl))))))))))))))
+      (take refl (next (expr_goes f (into_ends i (refl, (refl, refl, refl, refl))) _) (next (into_goes i (refl, (refl, refl, refl, refl)) _)
+      (take refl (take refl (take refl (take (exact_step n _) (next (more_args_go m ((refl, refl), (refl, refl, refl, refl)) (only word.Close ∷ only word.Semicolon ∷ stmts ∷ s)) (take refl (take refl (stay refl))))))))))))))
 
   pub stmts_go : {ts rest : List Token} {xs : List Stmt} (d : IsStmts ts xs rest) → EndsStmts rest → (s : List Sym) → Goes ts (stmts ∷ s) (stmts_nesting d (depth s)) rest s
   stmts_go {rest = rest} no_stmts e s = stay (skip_stmts rest s e)
@@ -385,9 +384,9 @@ answer_goes id_answer e s = take refl (take refl (stay refl))
 function_goes : {ts rest : List Token} {f : Function} (d : IsFunction ts f rest) → (s : List Sym) → Goes ts (functions ∷ s) (function_nesting d (depth s)) rest (functions ∷ s)
 function_goes (a_function p k d f) s =
     take refl (take refl (take refl (next (params_go p (refl, refl) (only word.Close ∷ answer ∷ body ∷ functions ∷ s))
-        (take refl (next (answer_goes k refl (body ∷ functions ∷ s))
-            (take refl (next (stmts_go d (refl, refl) (only word.Return ∷ expr_then (only word.Semicolon ∷ only word.CloseBlock ∷ functions ∷ s)))
-                (take refl (next (expr_goes f (refl, refl, refl, refl) (only word.Semicolon ∷ only word.CloseBlock ∷ functions ∷ s)) (take refl (take refl (stay refl))))))))))))
+    (take refl (next (answer_goes k refl (body ∷ functions ∷ s))
+    (take refl (next (stmts_go d (refl, refl) (only word.Return ∷ expr_then (only word.Semicolon ∷ only word.CloseBlock ∷ functions ∷ s)))
+    (take refl (next (expr_goes f (refl, refl, refl, refl) (only word.Semicolon ∷ only word.CloseBlock ∷ functions ∷ s)) (take refl (take refl (stay refl))))))))))))
 
 pub functions_go : {ts rest : List Token} {fs : List Function} (d : IsFunctions ts fs rest) → (s : List Sym) → Goes ts (functions ∷ s) (functions_nesting d (depth s)) rest (functions ∷ s)
 functions_go no_functions s = stay refl

@@ -1,5 +1,5 @@
 -- What the functions on functions and scripts need.
-use Rattle.std.proofs.Common.{◌≡◌, ◌≢◌, ℕ, zero, suc, ◌+◌, ◌<◌, ◌≤◌, List, [], ◌∷◌, ◌++◌, length, Option, Some, None, Bool, true, false, ◌&&◌, nat_lt, cond, Ok, Err, if◌then◌else◌, refl, sym, ap, ◌∙◌, subst, arith, append_assoc, append-nil, length-append}
+use Rattle.std.proofs.Common.{◌≡◌, ℕ, suc, ◌+◌, ◌<◌, ◌≤◌, List, [], ◌∷◌, ◌++◌, length, Some, None, Err, if◌then◌else◌, refl, sym, ap, ◌∙◌, subst, arith, append_assoc, append-nil, length-append}
 use Rattle.std.proofs.lemmas.Bool.{lt-ltb, le-ltb}
 use Rattle.script_tokens.specs.declared.token.Word.{Word}
 use Rattle.script_tokens.specs.declared.token.Word.TheVariants as word
@@ -19,11 +19,10 @@ use Rattle.script_text.specs.declared.tree.Stmt.{Stmt}
 use Rattle.script_text.specs.declared.tree.Function.{Function}
 use Rattle.script_text.specs.Grammar.{Token, tok, name_at, IsExpr, IsStmts, IsParam, int_param, id_param, IsMoreParams, no_more_params, one_more_param, IsParams, no_params, some_params, IsAnswer, int_answer, id_answer, IsFunction, a_function, IsFunctions, no_functions, one_function, IsScript}
 use Rattle.script_text.specs.Fault.{Ending}
-use Rattle.script_text.specs.Machine as machine
-use Rattle.script_text.specs.Machine.{Sym, only, param, params, more_params, param_list, answer, body, stmts, functions, expr_then, rules, is_empty, find_rule, step, depth, at_stop, broken, unless_broken, verdict, begun, judge}
+use Rattle.script_text.specs.Machine.{Sym, only, param, params, more_params, param_list, answer, body, stmts, functions, expr_then, step, depth, at_stop, unless_broken, verdict, begun, judge}
 use Rattle.script_text.specs.Text.{token_of}
-use Rattle.script_text.specs.Reads.{seen, ending, Leads, Finds, Errs, NextIs, NextIsNot, IsBracket, stopped_at, unexpected_in, IsName, a_name_token, IsEnded, ended, AddsParams, IsParamList, parameters, IsBody, a_body, IsRestOfFunction, ReadsFunctions, Judges}
-use Rattle.script_text.proofs.Steps.{taken, HasNone, skipped, has_none, seen-next, err_behind, unexpected_err, Comes, Passed, Opened}
+use Rattle.script_text.specs.Reads.{seen, ending, Leads, Errs, NextIs, NextIsNot, IsBracket, stopped_at, unexpected_in, IsName, a_name_token, IsEnded, ended, AddsParams, IsParamList, parameters, IsBody, a_body, IsRestOfFunction, ReadsFunctions, Judges}
+use Rattle.script_text.proofs.Steps.{taken, skipped, has_none, seen-next, err_behind, unexpected_err, Comes, Passed, Opened}
 use Rattle.script_text.proofs.Expressions.{expr_shorter, length-seen}
 use Rattle.script_text.proofs.Statements.{err_first, stmts_shorter}
 
@@ -62,9 +61,9 @@ module _ (source : Source) (d : ℕ) (old : List Lexeme) where
 
   pub id_read : (at : ℕ) (t1 rest : List Lexeme) (x : Name) → d ≤ 64 → NextIs word.Id at old t1 → Comes IsName (only word.Name ∷ []) source d t1 x rest → Comes IsParam (param ∷ []) source d old (record { kind = Id; name = x }) rest
   id_read at t1 rest x h k a = (
-      subst (λ z. IsParam z (record { kind = Id; name = x }) (seen source rest)) (sym (seen-next word.Id source at old t1 k)) (made a.0),
-      λ n s f. id_enters at t1 h k n s f ∙ a.1 n s f,
-    )
+    subst (λ z. IsParam z (record { kind = Id; name = x }) (seen source rest)) (sym (seen-next word.Id source at old t1 k)) (made a.0),
+    λ n s f. id_enters at t1 h k n s f ∙ a.1 n s f,
+  )
     where
       made : {o to : List Token} {x : Name} {a : ℕ} {t : List ℕ} → IsName o x to → IsParam (tok a word.Id t ∷ o) (record { kind = Id; name = x }) to
       made a_name_token = id_param
@@ -171,9 +170,9 @@ module _ (source : Source) (d : ℕ) (old : List Lexeme) where
 
   pub id_answer_read : (at : ℕ) (t1 rest : List Lexeme) → d ≤ 64 → NextIs word.Arrow at old t1 → Passed word.Id source d t1 rest → Comes IsAnswer (answer ∷ []) source d old Id rest
   id_answer_read at t1 rest h k a = (
-      subst (λ z. IsAnswer z Id (seen source rest)) (sym (seen-next word.Arrow source at old t1 k ∙ ap (λ z. tok at word.Arrow (text_of source.bytes.now k.0) ∷ z) (seen-next word.Id source a.0.0 t1 rest a.0.1))) id_answer,
-      λ n s f. arrow_enters at t1 h k n s f ∙ a.1 n s f,
-    )
+    subst (λ z. IsAnswer z Id (seen source rest)) (sym (seen-next word.Arrow source at old t1 k ∙ ap (λ z. tok at word.Arrow (text_of source.bytes.now k.0) ∷ z) (seen-next word.Id source a.0.0 t1 rest a.0.1))) id_answer,
+    λ n s f. arrow_enters at t1 h k n s f ∙ a.1 n s f,
+  )
 
   pub id_answer_err : (at : ℕ) (t1 : List Lexeme) (e : SyntaxError) → d ≤ 64 → NextIs word.Arrow at old t1 → Errs (only word.Id ∷ []) source d t1 e → Errs (answer ∷ []) source d old e
   id_answer_err at t1 e h k f = err_behind (answer ∷ []) (only word.Id ∷ []) [] source d d old t1 e (arrow_enters at t1 h k) (λ s r. r) f
@@ -213,9 +212,9 @@ module _ (source : Source) (d : ℕ) (old t1 : List Lexeme) (o : Opened word.Ope
 
         pub body_read : (rest : List Lexeme) → Passed word.CloseBlock source d t4 rest → IsBody (seen source old) xs at x (seen source rest) × Leads (body ∷ []) [] source d old rest
         body_read rest c = (
-            made (seen-next word.OpenBlock source o.0.0 old t1 o.0.1) a.0 (seen-next word.Return source at t2 t3 k) b.0 (seen-next word.CloseBlock source c.0.0 t4 rest c.0.1),
-            λ n s r. body_returns n s r ∙ b.1 n (only word.CloseBlock ∷ s) (omega (arith, r)) ∙ c.1 n s r,
-          )
+          made (seen-next word.OpenBlock source o.0.0 old t1 o.0.1) a.0 (seen-next word.Return source at t2 t3 k) b.0 (seen-next word.CloseBlock source c.0.0 t4 rest c.0.1),
+          λ n s r. body_returns n s r ∙ b.1 n (only word.CloseBlock ∷ s) (omega (arith, r)) ∙ c.1 n s r,
+        )
           where
             made : {s0 s1 s2 s3 s4 to : List Token} {e f h : ℕ} {w y z : List ℕ} → s0 ≡ tok e word.OpenBlock w ∷ s1 → IsStmts s1 xs s2 → s2 ≡ tok f word.Return y ∷ s3 → IsEnded s3 x s4 → s4 ≡ tok h word.CloseBlock z ∷ to → IsBody s0 xs f x to
             made {s1 = s1} {s3 = s3} {to = to} {f = f} p m q (ended {c = g} {v = v} i) r = subst (λ k. IsBody k xs f x to) (sym p) (a_body (subst (IsStmts s1 xs) q m) (subst (λ k. IsExpr s3 x (tok g word.Semicolon v ∷ k)) r i))
@@ -254,9 +253,9 @@ module _ (source : Source) (d : ℕ) (old : List Lexeme) where
           pub function_read : (rest : List Lexeme) (xs : List Stmt) (at : ℕ) (z : Expr) → IsBody (seen source t4) xs at z (seen source rest) → Leads (body ∷ []) [] source d t4 rest
               → Comes IsRestOfFunction function_front source d old (record { name = x; params = ps; answer = k; body = xs; return_at = at; result = z }) rest
           function_read rest xs at z g h = (
-              λ i t. made a.0 (seen-next word.Open source o.0.0 t1 t2 o.0.1) b.0 c.0 g,
-              λ n s r. function_opened n s r ∙ b.1 n (answer ∷ body ∷ s) r ∙ c.1 n (body ∷ s) r ∙ h n s r,
-            )
+            λ i t. made a.0 (seen-next word.Open source o.0.0 t1 t2 o.0.1) b.0 c.0 g,
+            λ n s r. function_opened n s r ∙ b.1 n (answer ∷ body ∷ s) r ∙ c.1 n (body ∷ s) r ∙ h n s r,
+          )
             where
               made : {s0 s1 s2 s3 s4 to : List Token} {x : Name} {ps : List Param} {k : Kind} {xs : List Stmt} {at : ℕ} {z : Expr} {i c : ℕ} {t u : List ℕ} → IsName s0 x s1 → s1 ≡ tok c word.Open u ∷ s2 → IsParamList s2 ps s3 → IsAnswer s3 k s4 → IsBody s4 xs at z to
                   → IsFunction (tok i word.Fn t ∷ s0) (record { name = x; params = ps; answer = k; body = xs; return_at = at; result = z }) to
@@ -282,9 +281,9 @@ module _ (source : Source) (old : List Lexeme) (found : List Function) (left : L
   pub functions_end : NextIsNot word.Fn left
       → IsFunctions (seen source old) found (seen source left) × (judge (ending source) 0 (functions ∷ []) (seen source old) ≡ judge (ending source) (length found) [] (seen source left))
   functions_end k = (
-      subst (λ z. IsFunctions (seen source old) z (seen source left)) (append-nil found) (i.so_far [] (seen source left) no_functions),
-      i.goes ∙ skipped source (length found) functions [] left refl (has_none functions word.Fn _ left source.bytes.now refl k),
-    )
+    subst (λ z. IsFunctions (seen source old) z (seen source left)) (append-nil found) (i.so_far [] (seen source left) no_functions),
+    i.goes ∙ skipped source (length found) functions [] left refl (has_none functions word.Fn _ left source.bytes.now refl k),
+  )
 
   module _ (at : ℕ) (inner : List Lexeme) (k : NextIs word.Fn at left inner) where
     pub functions_many : 1024 ≤ length found → judge (ending source) 0 (functions ∷ []) (seen source old) ≡ Some (7, at)
@@ -337,9 +336,9 @@ module _ (source : Source) (old rest : List Lexeme) (found : List Function) (a :
     (b : judge (ending source) 0 (functions ∷ []) (seen source old) ≡ judge (ending source) (length found) [] (seen source rest)) where
   pub script_read : rest ≡ [] → source.stop ≡ End → IsScript (seen source old) found × (judge (ending source) 0 (functions ∷ []) (seen source old) ≡ None)
   script_read e f = (
-      subst (λ z. IsFunctions (seen source old) found (seen source z)) e a,
-      b ∙ ap (λ z. judge (ending source) (length found) [] (seen source z)) e ∙ ap (λ z. at_stop source.end z []) f,
-    )
+    subst (λ z. IsFunctions (seen source old) found (seen source z)) e a,
+    b ∙ ap (λ z. judge (ending source) (length found) [] (seen source z)) e ∙ ap (λ z. at_stop source.end z []) f,
+  )
 
   pub script_err : (e : SyntaxError) → (rest ≡ [] → source.stop ≡ End → ⊥) → e ≡ unexpected_in source rest → Judges source old (Err e)
   script_err Memory h f = tt

@@ -1,5 +1,5 @@
 -- The machine's answer is the first fault, and there is none exactly where the tokens are a script within the limits.
-use Rattle.std.proofs.Common.{◌≡◌, ℕ, zero, suc, ◌+◌, ◌<◌, ◌≤◌, List, [], ◌∷◌, ◌++◌, length, Option, Some, None, Bool, true, false, ◌&&◌, ◌||◌, nat_eq, nat_lt, cond, if◌then◌else◌, option_and_then, refl, sym, ap, ◌∙◌, subst, inl, inr, append_assoc, append-nil, arith}
+use Rattle.std.proofs.Common.{◌≡◌, ℕ, suc, List, [], ◌∷◌, ◌++◌, length, Option, Some, None, Bool, true, false, ◌&&◌, nat_lt, if◌then◌else◌, option_and_then, refl, sym, ap, ◌∙◌, subst, inl, inr, append_assoc, append-nil, arith}
 use borrow.Author.Tests.{ltb-true, ltb-false}
 use Rattle.std.proofs.lemmas.Bool.{lt-ltb}
 use Rattle.std.proofs.lemmas.Option.{none-some, same_Some, option_and_then_some}
@@ -13,8 +13,8 @@ use Rattle.script_text.specs.Grammar.{Token, tok, decimal, IsScript, IsViable}
 use Rattle.script_text.specs.Nesting.{functions_nesting}
 use Rattle.script_text.specs.Fault.{is_fn, functions_begun, IsNested, BreaksLimit, number_out_of_range, name_too_long, nested_too_deep, too_many_functions, IsFault, unexpected, breaks_limit, Ending, FaultAtStop, FaultBehind, WithinBehind, IsProgram}
 use Rattle.script_text.specs.Machine.{Sym, functions, same_word, is_empty, step, run, depth, Trace, onward, trace, all_empty, Fault, broken, unless_broken, verdict, at_stop, begun, judge}
-use Rattle.script_text.proofs.Words.{same_words, same_word-refl}
-use Rattle.script_text.proofs.Follows.{behind, run_of_trace, ending_of, script_traced, script_runs}
+use Rattle.script_text.proofs.Words.{same_words}
+use Rattle.script_text.proofs.Follows.{behind, script_traced, script_runs}
 use Rattle.script_text.proofs.Sound.{Derives, run_sound, run-append, whole, left_out, viable, taken}
 
 -- the machine stands here behind these tokens
@@ -73,7 +73,7 @@ nested_so : (before : List Token) (t : Token) (s s' : List Sym) → Stands befor
 nested_so before t s s' st e n h =
     let r = steps before (functions ∷ []) s st in
     let split : trace (before ++ t ∷ h.0) (functions ∷ []) ≡ behind r.0 (onward (Some s') (trace h.0)) =
-        trace-append (t ∷ h.0) r.1 ∙ ap (λ o. behind r.0 (onward o (trace h.0))) e in
+    trace-append (t ∷ h.0) r.1 ∙ ap (λ o. behind r.0 (onward o (trace h.0))) e in
     go (functions_nesting h.2 0) r.0 (trace h.0 s') (length-steps r.1) (sym (script_traced h.2) ∙ split) h.3
   where
     go : (levels ns : List ℕ) (o : Trace) → length ns ≡ length before → Some (levels, functions ∷ []) ≡ behind ns (option_and_then (λ p. Some (depth s' ∷ p.0, p.1)) o) → slice_get levels (length before) ≡ Some n → n ≡ depth s'
@@ -90,7 +90,7 @@ is_nested before t s s' st e st' =
     let d : IsScript (before ++ t ∷ v.0) v.1 = subst (λ x. IsScript x v.1) (append_assoc before (t ∷ []) v.0) v.2 in
     let r = steps before (functions ∷ []) s st in
     let split : trace (before ++ t ∷ v.0) (functions ∷ []) ≡ behind r.0 (onward (Some s') (trace v.0)) =
-        trace-append (t ∷ v.0) r.1 ∙ ap (λ o. behind r.0 (onward o (trace v.0))) e in
+    trace-append (t ∷ v.0) r.1 ∙ ap (λ o. behind r.0 (onward o (trace v.0))) e in
     (v.0, v.1, d, go (functions_nesting d 0) r.0 (trace v.0 s') (length-steps r.1) (sym (script_traced d) ∙ split))
   where
     go : (levels ns : List ℕ) (o : Trace) → length ns ≡ length before → Some (levels, functions ∷ []) ≡ behind ns (option_and_then (λ p. Some (depth s' ∷ p.0, p.1)) o) → slice_get levels (length before) ≡ Some (depth s')
@@ -123,7 +123,7 @@ both false b e = cc
 is_broken : (before : List Token) (t : Token) (d k : ℕ) → IsNested before t d → broken (functions_begun before) t d ≡ Some k → BreaksLimit before t k
 is_broken before t d k nest e =
     go (same_word t.word word.Number && nat_lt 9223372036854775807 (decimal 0 t.text)) (same_word t.word word.Name && nat_lt 32 (length t.text))
-        (is_fn t.word && nat_lt 1023 (functions_begun before)) (nat_lt 64 d) refl refl refl refl e
+    (is_fn t.word && nat_lt 1023 (functions_begun before)) (nat_lt 64 d) refl refl refl refl e
   where
     go : (p q r u : Bool) → (same_word t.word word.Number && nat_lt 9223372036854775807 (decimal 0 t.text)) ≡ p → (same_word t.word word.Name && nat_lt 32 (length t.text)) ≡ q
         → (is_fn t.word && nat_lt 1023 (functions_begun before)) ≡ r → nat_lt 64 d ≡ u
@@ -185,9 +185,13 @@ judged_end ending before s st = at ending.stop refl
     at_end : (b : Bool) → all_empty s ≡ b → ending.stop ≡ End → Says ending before [] (if b then None else Some (6, ending.end))
     at_end true e f = (f, tt, whole _ (run_sound before (functions ∷ []) s [] st (ends s e)))
     at_end false e f =
-        subst (λ w. FaultAtStop ending.end w before 6 ending.end) (sym f) (refl, refl, λ fs d.
-        let same : functions ∷ [] ≡ s = same_Some _ _ (sym (script_runs d) ∙ st) in
-        let h : all_empty (functions ∷ []) ≡ false = ap all_empty same ∙ e in cc)
+        subst (λ w. FaultAtStop ending.end w before 6 ending.end) (sym f) (
+          refl,
+          refl,
+          λ fs d.
+              let same : functions ∷ [] ≡ s = same_Some _ _ (sym (script_runs d) ∙ st) in
+              let h : all_empty (functions ∷ []) ≡ false = ap all_empty same ∙ e in cc,
+        )
 
     at : (w : Stop) → ending.stop ≡ w → Says ending before [] (at_stop ending.end w s)
     at End e = at_end (all_empty s) refl e

@@ -1,6 +1,5 @@
 -- What the functions on parallel loops need.
-use Rattle.std.proofs.Common.{◌≡◌, ◌≢◌, ℕ, zero, suc, ◌+◌, ◌<◌, ◌≤◌, List, [], ◌∷◌, ◌++◌, length, Option, Some, None, Bool, true, false, ◌&&◌, cond, Ok, Err, if◌then◌else◌, refl, sym, ap, ◌∙◌, subst, arith, append_assoc, append-nil}
-use Rattle.script_tokens.specs.declared.token.Word.{Word}
+use Rattle.std.proofs.Common.{◌≡◌, ℕ, ◌+◌, ◌≤◌, List, [], ◌∷◌, ◌++◌, length, Option, Some, None, Bool, true, false, ◌&&◌, cond, Ok, Err, refl, sym, ap, ◌∙◌, subst, arith}
 use Rattle.script_tokens.specs.declared.token.Word.TheVariants as word
 use Rattle.script_tokens.specs.declared.token.Lexeme.{Lexeme}
 use Rattle.script_tokens.specs.Lexing.{text_of}
@@ -10,12 +9,10 @@ use Rattle.script_text.specs.declared.parser.source.Source.{Source}
 use Rattle.script_text.specs.declared.tree.Name.{Name}
 use Rattle.script_text.specs.declared.tree.Expr.{Expr}
 use Rattle.script_text.specs.declared.tree.CallText.{CallText}
-use Rattle.script_text.specs.declared.tree.Act.{Act}
 use Rattle.script_text.specs.declared.tree.Act.TheVariants as act
 use Rattle.script_text.specs.Grammar.{Token, tok, name_at, IsExpr, IsMoreArgs, IsInto, no_into, an_into, stmt_at, IsStmt, a_pfor}
-use Rattle.script_text.specs.Machine.{Sym, only, exactly, loop_args, more_args, into, loop_name, stmts, expr_then, same_word, same_bytes, rules, is_empty, find_rule, step, depth, judge}
-use Rattle.script_text.specs.Text.{token_of}
-use Rattle.script_text.specs.Reads.{seen, ending, Leads, Finds, Errs, NextIs, NextIsNot, NextLexeme, IsBracket, Names, unexpected_in, IsName, a_name_token, AddsArgs, IsBounds, bounds, IsLoopCall, loop_call}
+use Rattle.script_text.specs.Machine.{Sym, only, exactly, loop_args, more_args, into, loop_name, stmts, expr_then, same_bytes, rules, find_rule, depth, judge}
+use Rattle.script_text.specs.Reads.{seen, ending, Leads, Errs, NextIs, NextIsNot, NextLexeme, IsBracket, Names, unexpected_in, IsName, a_name_token, AddsArgs, IsBounds, bounds, IsLoopCall, loop_call}
 use Rattle.script_text.proofs.Sound.{same_name}
 use Rattle.script_text.proofs.Follows.{exact_step}
 use Rattle.script_text.proofs.Steps.{taken, name_taken, name_long, HasNone, skipped, has_none, other_word, seen-next, err_behind, unexpected_err, Comes, Passed, Opened}
@@ -44,9 +41,9 @@ module _ (source : Source) (d : ℕ) (old : List Lexeme) where
   pub bounds_read : (t1 t2 t3 rest : List Lexeme) (x y : Expr) → Passed word.In source d old t1 → Comes IsExpr (expr_then []) source d t1 x t2 → Passed word.Range source d t2 t3 → Comes IsExpr (expr_then []) source d t3 y rest
       → IsBounds (seen source old) x y (seen source rest) × Leads (only word.In ∷ expr_then (only word.Range ∷ expr_then [])) [] source d old rest
   bounds_read t1 t2 t3 rest x y a b c z = (
-      subst (λ q. IsBounds q x y (seen source rest)) (sym (seen-next word.In source a.0.0 old t1 a.0.1)) (bounds (subst (IsExpr (seen source t1) x) (seen-next word.Range source c.0.0 t2 t3 c.0.1) b.0) z.0),
-      λ n s r. a.1 n (expr_then (only word.Range ∷ expr_then s)) r ∙ b.1 n (only word.Range ∷ expr_then s) r ∙ c.1 n (expr_then s) r ∙ z.1 n s r,
-    )
+    subst (λ q. IsBounds q x y (seen source rest)) (sym (seen-next word.In source a.0.0 old t1 a.0.1)) (bounds (subst (IsExpr (seen source t1) x) (seen-next word.Range source c.0.0 t2 t3 c.0.1) b.0) z.0),
+    λ n s r. a.1 n (expr_then (only word.Range ∷ expr_then s)) r ∙ b.1 n (only word.Range ∷ expr_then s) r ∙ c.1 n (expr_then s) r ∙ z.1 n s r,
+  )
 
   -- Targets
 
@@ -60,9 +57,9 @@ module _ (source : Source) (d : ℕ) (old : List Lexeme) where
 
   pub target_read : (at : ℕ) (t1 rest : List Lexeme) (x : Name) → d ≤ 64 → NextIs word.Into at old t1 → Comes IsName (only word.Name ∷ []) source d t1 x rest → Comes IsInto (into ∷ []) source d old (Some x) rest
   target_read at t1 rest x h k a = (
-      subst (λ q. IsInto q (Some x) (seen source rest)) (sym (seen-next word.Into source at old t1 k)) (made a.0),
-      λ n s f. target_enters at t1 h k n s f ∙ a.1 n s f,
-    )
+    subst (λ q. IsInto q (Some x) (seen source rest)) (sym (seen-next word.Into source at old t1 k)) (made a.0),
+    λ n s f. target_enters at t1 h k n s f ∙ a.1 n s f,
+  )
     where
       made : {o to : List Token} {x : Name} {a : ℕ} {t : List ℕ} → IsName o x to → IsInto (tok a word.Into t ∷ o) (Some x) to
       made a_name_token = an_into
@@ -75,10 +72,13 @@ module _ (source : Source) (d : ℕ) (old : List Lexeme) where
 module _ (source : Source) (d : ℕ) (n : List ℕ) (old : List Lexeme) where
   pub repeats : (rest : List Lexeme) (l : Lexeme) → length n ≤ 32 → d ≤ 64 → NextLexeme word.Name l old rest → text_of source.bytes.now l ≡ n
       → ((l : Lexeme) × NextLexeme word.Name l old rest × (text_of source.bytes.now l ≡ n)) × Leads (exactly n ∷ []) [] source d old rest
-  repeats rest l short h k e = ((l, k, e), λ m s f.
-      ap (judge (ending source) m (exactly n ∷ s)) (seen-next word.Name source l.start old rest (first_is l old rest k.0 k.1))
-      ∙ ap (λ z. judge (ending source) m (exactly n ∷ s) (tok l.start word.Name z ∷ seen source rest)) e
-      ∙ name_taken (ending source) m l.start n (exactly n ∷ s) s (seen source rest) short (omega arith) (exact_step n s))
+  repeats rest l short h k e = (
+    (l, k, e),
+    λ m s f.
+        ap (judge (ending source) m (exactly n ∷ s)) (seen-next word.Name source l.start old rest (first_is l old rest k.0 k.1))
+        ∙ ap (λ z. judge (ending source) m (exactly n ∷ s) (tok l.start word.Name z ∷ seen source rest)) e
+        ∙ name_taken (ending source) m l.start n (exactly n ∷ s) s (seen source rest) short (omega arith) (exact_step n s),
+  )
 
   other_name : (text : List ℕ) → (text ≡ n → ⊥) → same_bytes n text ≡ false
   other_name text h = go (same_bytes n text) refl
@@ -151,18 +151,18 @@ module _ (source : Source) (d : ℕ) (n : List ℕ) (old t1 : List Lexeme) where
 
           pub loop_call_read : (t6 last : List Lexeme) → found ≡ [] → Passed word.Close source d t5 t6 → Passed word.Semicolon source d t6 last → Comes (IsLoopCall n) (loop_front n) source d old (record { name = x; args = xs }) last
           loop_call_read t6 last p i j = (
-              made (seen-next word.Call source a.0.0 old t1 a.0.1) b.0 (seen-next word.Open source o.0.0 t2 t3 o.0.1)
-                  (seen-next word.Name source g.0.0.start t3 t4 (first_is g.0.0 t3 t4 g.0.1.0 g.0.1.1) ∙ ap (λ z. tok g.0.0.start word.Name z ∷ seen source t4) g.0.2)
-                  (subst (λ z. IsMoreArgs (seen source t4) z (seen source t5)) (sym (h.0.1 ∙ ap (λ z. z ++ h.0.0) p)) h.0.2)
-                  (seen-next word.Close source i.0.0 t5 t6 i.0.1) (seen-next word.Semicolon source j.0.0 t6 last j.0.1),
-              λ m s r. loop_again m s r ∙ h.1 m (only word.Close ∷ only word.Semicolon ∷ s) (omega (arith, r)) ∙ i.1 m (only word.Semicolon ∷ s) r ∙ j.1 m s r,
-            )
+            made (seen-next word.Call source a.0.0 old t1 a.0.1) b.0 (seen-next word.Open source o.0.0 t2 t3 o.0.1)
+                (seen-next word.Name source g.0.0.start t3 t4 (first_is g.0.0 t3 t4 g.0.1.0 g.0.1.1) ∙ ap (λ z. tok g.0.0.start word.Name z ∷ seen source t4) g.0.2)
+                (subst (λ z. IsMoreArgs (seen source t4) z (seen source t5)) (sym (h.0.1 ∙ ap (λ z. z ++ h.0.0) p)) h.0.2)
+                (seen-next word.Close source i.0.0 t5 t6 i.0.1) (seen-next word.Semicolon source j.0.0 t6 last j.0.1),
+            λ m s r. loop_again m s r ∙ h.1 m (only word.Close ∷ only word.Semicolon ∷ s) (omega (arith, r)) ∙ i.1 m (only word.Semicolon ∷ s) r ∙ j.1 m s r,
+          )
             where
               made : {s0 s1 s2 s3 s4 s5 s6 to : List Token} {x : Name} {xs : List Expr} {e g h i j : ℕ} {w y z o : List ℕ} → s0 ≡ tok e word.Call w ∷ s1 → IsName s1 x s2 → s2 ≡ tok g word.Open y ∷ s3 → s3 ≡ tok h word.Name n ∷ s4
                   → IsMoreArgs s4 xs s5 → s5 ≡ tok i word.Close z ∷ s6 → s6 ≡ tok j word.Semicolon o ∷ to → IsLoopCall n s0 (record { name = x; args = xs }) to
               made {s4 = s4} {to = to} {xs = xs} {e = e} {g = g} {i = i} {w = w} {y = y} {z = z} p (a_name_token {a = f} {t = f'}) q r m u v =
                   subst (λ q. IsLoopCall n q (record { name = name_at f f'; args = xs }) to) (sym (p ∙ ap (λ k. tok e word.Call w ∷ tok f word.Name f' ∷ k) (q ∙ ap (λ k. tok g word.Open y ∷ k) r)))
-                      (loop_call (subst (IsMoreArgs s4 xs) (u ∙ ap (λ k. tok i word.Close z ∷ k) v) m))
+                  (loop_call (subst (IsMoreArgs s4 xs) (u ∙ ap (λ k. tok i word.Close z ∷ k) v) m))
 
 -- The statement
 
@@ -213,11 +213,11 @@ module _ (source : Source) (d : ℕ) (l : Lexeme) (rest : List Lexeme) where
 
           pub pfor_read : (call : CallText) (last : List Lexeme) → Comes (IsLoopCall x.bytes) (loop_front x.bytes) source d t2 call last → ComesAct source d l rest (act.Pfor x lo hi to call) last
           pfor_read call last g = (
-              subst (λ z. IsStmt z (stmt_at l.start (act.Pfor x lo hi to call)) (seen source last))
-                  (sym (stmt_token source d l rest word.Pfor p ∙ ap (λ z. tok l.start word.Pfor (text_of source.bytes.now l) ∷ z) (seen-next word.Name source v.start rest behind (first_is v rest behind k.0 k.1))))
-                  (named x q.0 g.0),
-              λ m s r. loop_begun m s r ∙ b m (into ∷ only word.Call ∷ only word.Name ∷ loop_args x.bytes ∷ only word.Semicolon ∷ stmts ∷ s) r ∙ c.1 m (only word.Call ∷ only word.Name ∷ loop_args x.bytes ∷ only word.Semicolon ∷ stmts ∷ s) r ∙ g.1 m (stmts ∷ s) r,
-            )
+            subst (λ z. IsStmt z (stmt_at l.start (act.Pfor x lo hi to call)) (seen source last))
+                (sym (stmt_token source d l rest word.Pfor p ∙ ap (λ z. tok l.start word.Pfor (text_of source.bytes.now l) ∷ z) (seen-next word.Name source v.start rest behind (first_is v rest behind k.0 k.1))))
+                (named x q.0 g.0),
+            λ m s r. loop_begun m s r ∙ b m (into ∷ only word.Call ∷ only word.Name ∷ loop_args x.bytes ∷ only word.Semicolon ∷ stmts ∷ s) r ∙ c.1 m (only word.Call ∷ only word.Name ∷ loop_args x.bytes ∷ only word.Semicolon ∷ stmts ∷ s) r ∙ g.1 m (stmts ∷ s) r,
+          )
             where
               made : {s0 s1 s2 to' : List Token} {lo hi : Expr} {o : Option Name} {call : CallText} {n : List ℕ} {a b : ℕ} {t : List ℕ} → IsBounds s0 lo hi s1 → IsInto s1 o s2 → IsLoopCall n s2 call to'
                   → IsStmt (tok a word.Pfor t ∷ tok b word.Name n ∷ s0) (stmt_at a (act.Pfor (name_at b n) lo hi o call)) to'
@@ -227,4 +227,4 @@ module _ (source : Source) (d : ℕ) (l : Lexeme) (rest : List Lexeme) where
                   → IsStmt (tok l.start word.Pfor (text_of source.bytes.now l) ∷ tok v.start word.Name (text_of source.bytes.now v) ∷ seen source behind) (stmt_at l.start (act.Pfor y lo hi to call)) (seen source last)
               named y e m =
                   subst (λ z. IsStmt (tok l.start word.Pfor (text_of source.bytes.now l) ∷ tok v.start word.Name (text_of source.bytes.now v) ∷ seen source behind) (stmt_at l.start (act.Pfor z lo hi to call)) (seen source last)) (sym e)
-                      (made a c.0 (subst (λ z. IsLoopCall z (seen source t2) call (seen source last)) (ap (λ z. z.bytes) e) m))
+                  (made a c.0 (subst (λ z. IsLoopCall z (seen source t2) call (seen source last)) (ap (λ z. z.bytes) e) m))

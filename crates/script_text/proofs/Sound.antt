@@ -1,5 +1,5 @@
 -- What the machine takes can be derived, and each list of symbols has some tokens: so it takes exactly what is viable.
-use Rattle.std.proofs.Common.{◌≡◌, ℕ, zero, suc, List, [], ◌∷◌, ◌++◌, Option, Some, None, Bool, true, false, ◌||◌, ◌&&◌, nat_eq, cond, if◌then◌else◌, option_and_then, refl, sym, ap, ◌∙◌, subst}
+use Rattle.std.proofs.Common.{◌≡◌, ℕ, List, [], ◌∷◌, ◌++◌, Option, Some, None, Bool, true, false, ◌&&◌, nat_eq, cond, option_and_then, refl, sym, ap, ◌∙◌, subst}
 use Rattle.std.proofs.lemmas.Bool.{eqb-true}
 use Rattle.std.proofs.lemmas.Option.{none-some, same_Some, option_and_then_some}
 use Rattle.script_tokens.specs.declared.token.Word.{Word}
@@ -17,8 +17,8 @@ use Rattle.script_text.specs.declared.tree.Right.{Right}
 use Rattle.script_text.specs.declared.tree.Stmt.{Stmt}
 use Rattle.script_text.specs.declared.tree.Param.{Param}
 use Rattle.script_text.specs.declared.tree.Function.{Function}
-use Rattle.script_text.specs.Grammar.{Token, tok, name_at, number_at, sum_of, product_of, IsSumSign, a_plus, a_minus, IsProductSign, a_times, an_over, a_modulo, IsComparison, an_eq, a_ne, a_lt, a_le, a_gt, a_ge, IsFactor, a_neg, a_number, a_name, an_item, a_group, a_same, an_older, IsTerm, factors, IsFactors, no_factors, one_factor, IsSum, terms, IsTerms, no_terms, one_term, IsExpr, alone, compared, IsMoreArgs, no_more_args, one_more_arg, IsArgs, no_args, some_args, IsCall, a_call, IsRight, right_value, right_draw, right_new, right_call, right_spawn, IsInto, no_into, an_into, stmt_at, IsStmt, a_let, an_array, a_set, a_store, a_spawn, a_call_stmt, a_sync, a_print, an_if, a_while, a_pfor, IsStmts, no_stmts, one_stmt, IsBlock, a_block, IsElse, no_else, an_else, IsParam, int_param, id_param, IsMoreParams, no_more_params, one_more_param, IsParams, no_params, some_params, IsAnswer, int_answer, id_answer, IsFunction, a_function, IsFunctions, no_functions, one_function, IsScript, IsViable}
-use Rattle.script_text.specs.Machine.{Sym, only, exactly, factor, index, pair, more_factors, more_terms, comparison, minus_end, args, more_args, call_args, right, into, loop_name, loop_args, stmts, after_let, after_name, block, otherwise, functions, param_list, params, more_params, param, answer, body, code, same_word, same_bytes, Rule, factor_rules, sum_then, expr_then, rules, is_empty, find_rule, choose, step, run, all_empty}
+use Rattle.script_text.specs.Grammar.{Token, tok, number_at, IsSumSign, a_plus, a_minus, IsProductSign, a_times, an_over, a_modulo, IsComparison, an_eq, a_ne, a_lt, a_le, a_gt, a_ge, IsFactor, a_neg, a_number, a_name, an_item, a_group, a_same, an_older, factors, IsFactors, no_factors, one_factor, IsSum, terms, IsTerms, no_terms, one_term, IsExpr, alone, compared, IsMoreArgs, no_more_args, one_more_arg, IsArgs, no_args, some_args, IsCall, a_call, IsRight, right_value, right_draw, right_new, right_call, right_spawn, IsInto, no_into, an_into, IsStmt, a_let, an_array, a_set, a_store, a_spawn, a_call_stmt, a_sync, a_print, an_if, a_while, a_pfor, IsStmts, no_stmts, one_stmt, IsBlock, a_block, IsElse, no_else, an_else, IsParam, int_param, id_param, IsMoreParams, no_more_params, one_more_param, IsParams, no_params, some_params, IsAnswer, int_answer, id_answer, a_function, IsFunctions, no_functions, one_function, IsScript, IsViable}
+use Rattle.script_text.specs.Machine.{Sym, only, exactly, factor, index, pair, more_factors, more_terms, comparison, minus_end, args, more_args, call_args, right, into, loop_name, loop_args, stmts, after_let, after_name, block, otherwise, functions, param_list, params, more_params, param, answer, body, same_word, same_bytes, Rule, factor_rules, expr_then, rules, is_empty, find_rule, choose, step, run}
 use Rattle.script_text.proofs.Words.{same_words}
 use Rattle.script_text.proofs.Follows.{script_runs}
 
@@ -136,12 +136,21 @@ neg_from f nothing = (_, a_neg f.1)
 
 factor_hold : AllRules (Holds factor) (factor_rules [])
 factor_hold = (
-    (λ a t s ts f d. (_, d.1 a t, d.2)),
-    ((λ a t s ts f d. (ts, (_, a_number), d)),
-    ((λ a t s ts f d. (_, neg_from d.1 d.2.1, d.2.2)),
-    ((λ a t s ts f d. let q = cut (only word.Close ∷ s) ts d in (_, group q.1 q.2.1, q.2.2)),
-    ((λ a t s ts f d. (_, same_from d.1, d.2)),
-    ((λ a t s ts f d. (_, older_from d.1, d.2)), tt))))))
+  (λ a t s ts f d. (_, d.1 a t, d.2)),
+  (
+    (λ a t s ts f d. (ts, (_, a_number), d)),
+    (
+      (λ a t s ts f d. (_, neg_from d.1 d.2.1, d.2.2)),
+      (
+        (λ a t s ts f d. let q = cut (only word.Close ∷ s) ts d in (_, group q.1 q.2.1, q.2.2)),
+        (
+          (λ a t s ts f d. (_, same_from d.1, d.2)),
+          ((λ a t s ts f d. (_, older_from d.1, d.2)), tt),
+        ),
+      ),
+    ),
+  ),
+)
 
 to_args : (s : List Sym) (ts : List Token) → Derives (expr_then (more_args ∷ s)) ts → Derives (args ∷ s) ts
 to_args s ts d = let q = cut (more_args ∷ s) ts d in (_, (_, some_args q.1.1 q.2.1.1), q.2.2)
@@ -230,40 +239,103 @@ rules_hold index = ((λ a t s ts f d. let q = cut (only word.CloseItem ∷ s) ts
 rules_hold pair = ((λ a t s ts f d. let q = cut (only word.Comma ∷ expr_then (only word.Close ∷ s)) ts d in let p = cut (only word.Close ∷ s) q.2.0 q.2.2 in (_, paired q.1 q.2.1 p.1 p.2.1, p.2.2)), tt)
 rules_hold more_factors = ((λ a t s ts f d. (_, factor_part a_times d.1 d.2.1, d.2.2)), ((λ a t s ts f d. (_, factor_part an_over d.1 d.2.1, d.2.2)), ((λ a t s ts f d. (_, factor_part a_modulo d.1 d.2.1, d.2.2)), tt)))
 rules_hold more_terms = ((λ a t s ts f d. (_, term_part a_plus d.1 d.2.1 d.2.2.1, d.2.2.2)), ((λ a t s ts f d. (_, term_part a_minus d.1 d.2.1 d.2.2.1, d.2.2.2)), tt))
-rules_hold comparison = ((λ a t s ts f d. (_, compare_part an_eq d.1 d.2.1 d.2.2.1, d.2.2.2)), ((λ a t s ts f d. (_, compare_part a_ne d.1 d.2.1 d.2.2.1, d.2.2.2)), ((λ a t s ts f d. (_, compare_part a_lt d.1 d.2.1 d.2.2.1, d.2.2.2)),
-    ((λ a t s ts f d. (_, compare_part a_le d.1 d.2.1 d.2.2.1, d.2.2.2)), ((λ a t s ts f d. (_, compare_part a_gt d.1 d.2.1 d.2.2.1, d.2.2.2)), ((λ a t s ts f d. (_, compare_part a_ge d.1 d.2.1 d.2.2.1, d.2.2.2)), tt))))))
+rules_hold comparison = (
+  (λ a t s ts f d. (_, compare_part an_eq d.1 d.2.1 d.2.2.1, d.2.2.2)),
+  (
+    (λ a t s ts f d. (_, compare_part a_ne d.1 d.2.1 d.2.2.1, d.2.2.2)),
+    (
+      (λ a t s ts f d. (_, compare_part a_lt d.1 d.2.1 d.2.2.1, d.2.2.2)),
+      ((λ a t s ts f d. (_, compare_part a_le d.1 d.2.1 d.2.2.1, d.2.2.2)), ((λ a t s ts f d. (_, compare_part a_gt d.1 d.2.1 d.2.2.1, d.2.2.2)), ((λ a t s ts f d. (_, compare_part a_ge d.1 d.2.1 d.2.2.1, d.2.2.2)), tt))),
+    ),
+  ),
+)
 rules_hold minus_end = tt
 rules_hold args =
-    let h = factor_hold in let more = λ (s : List Sym). more_factors ∷ more_terms ∷ comparison ∷ more_args ∷ s in
-    ((λ a t s ts f d. to_args s _ (h.0 a t (more s) ts f d)), ((λ a t s ts f d. to_args s _ (h.1.0 a t (more s) ts f d)), ((λ a t s ts f d. to_args s _ (h.1.1.0 a t (more s) ts f d)), ((λ a t s ts f d. to_args s _ (h.1.1.1.0 a t (more s) ts f d)),
-    ((λ a t s ts f d. to_args s _ (h.1.1.1.1.0 a t (more s) ts f d)), ((λ a t s ts f d. to_args s _ (h.1.1.1.1.1.0 a t (more s) ts f d)), tt))))))
+    let h = factor_hold in let more = λ (s : List Sym). more_factors ∷ more_terms ∷ comparison ∷ more_args ∷ s in (
+      (λ a t s ts f d. to_args s _ (h.0 a t (more s) ts f d)),
+      (
+        (λ a t s ts f d. to_args s _ (h.1.0 a t (more s) ts f d)),
+        (
+          (λ a t s ts f d. to_args s _ (h.1.1.0 a t (more s) ts f d)),
+          (
+            (λ a t s ts f d. to_args s _ (h.1.1.1.0 a t (more s) ts f d)),
+            ((λ a t s ts f d. to_args s _ (h.1.1.1.1.0 a t (more s) ts f d)), ((λ a t s ts f d. to_args s _ (h.1.1.1.1.1.0 a t (more s) ts f d)), tt)),
+          ),
+        ),
+      ),
+    )
 rules_hold more_args = ((λ a t s ts f d. let q = cut (more_args ∷ s) ts d in (_, (_, one_more_arg q.1.1 q.2.1.1), q.2.2)), tt)
 rules_hold call_args = ((λ a t s ts f d. (_, args_from d.1 d.2.1, d.2.2)), tt)
 rules_hold right =
-    let h = factor_hold in let more = λ (s : List Sym). more_factors ∷ more_terms ∷ comparison ∷ s in
-    ((λ a t s ts f d. (ts, (_, right_draw), d)), ((λ a t s ts f d. (ts, (_, right_new), d)), ((λ a t s ts f d. (_, (_, right_call (called d.1 d.2.1).1), d.2.2)), ((λ a t s ts f d. (_, (_, right_spawn (called d.1 d.2.1).1), d.2.2)),
-    ((λ a t s ts f d. to_right s _ (h.0 a t (more s) ts f d)), ((λ a t s ts f d. to_right s _ (h.1.0 a t (more s) ts f d)), ((λ a t s ts f d. to_right s _ (h.1.1.0 a t (more s) ts f d)), ((λ a t s ts f d. to_right s _ (h.1.1.1.0 a t (more s) ts f d)),
-    ((λ a t s ts f d. to_right s _ (h.1.1.1.1.0 a t (more s) ts f d)), ((λ a t s ts f d. to_right s _ (h.1.1.1.1.1.0 a t (more s) ts f d)), tt))))))))))
+    let h = factor_hold in let more = λ (s : List Sym). more_factors ∷ more_terms ∷ comparison ∷ s in (
+      (λ a t s ts f d. (ts, (_, right_draw), d)),
+      (
+        (λ a t s ts f d. (ts, (_, right_new), d)),
+        (
+          (λ a t s ts f d. (_, (_, right_call (called d.1 d.2.1).1), d.2.2)),
+          (
+            (λ a t s ts f d. (_, (_, right_spawn (called d.1 d.2.1).1), d.2.2)),
+            (
+              (λ a t s ts f d. to_right s _ (h.0 a t (more s) ts f d)),
+              (
+                (λ a t s ts f d. to_right s _ (h.1.0 a t (more s) ts f d)),
+                (
+                  (λ a t s ts f d. to_right s _ (h.1.1.0 a t (more s) ts f d)),
+                  (
+                    (λ a t s ts f d. to_right s _ (h.1.1.1.0 a t (more s) ts f d)),
+                    ((λ a t s ts f d. to_right s _ (h.1.1.1.1.0 a t (more s) ts f d)), ((λ a t s ts f d. to_right s _ (h.1.1.1.1.1.0 a t (more s) ts f d)), tt)),
+                  ),
+                ),
+              ),
+            ),
+          ),
+        ),
+      ),
+    )
 rules_hold into = ((λ a t s ts f d. (_, into_from d.1, d.2)), tt)
-rules_hold loop_name = ((λ a t s ts f d.
-    let q = cut (only word.Range ∷ expr_then (into ∷ only word.Call ∷ only word.Name ∷ loop_args t ∷ only word.Semicolon ∷ s)) d.0 d.2 in
-    let p = cut (into ∷ only word.Call ∷ only word.Name ∷ loop_args t ∷ only word.Semicolon ∷ s) q.2.0 q.2.2 in
-    let w = p.2 in
-    (_, looped d.1 q.1 q.2.1 p.1 w.1 w.2.1 w.2.2.1 w.2.2.2.1 w.2.2.2.2.1, w.2.2.2.2.2)), tt)
+rules_hold loop_name = (
+  (λ a t s ts f d.
+      let q = cut (only word.Range ∷ expr_then (into ∷ only word.Call ∷ only word.Name ∷ loop_args t ∷ only word.Semicolon ∷ s)) d.0 d.2 in
+      let p = cut (into ∷ only word.Call ∷ only word.Name ∷ loop_args t ∷ only word.Semicolon ∷ s) q.2.0 q.2.2 in
+      let w = p.2 in
+      (_, looped d.1 q.1 q.2.1 p.1 w.1 w.2.1 w.2.2.1 w.2.2.2.1 w.2.2.2.2.1, w.2.2.2.2.2)),
+  tt,
+)
 rules_hold (loop_args n) = ((λ a t s ts f d. (_, loop_args_from d.1 d.2.1 d.2.2.1, d.2.2.2)), tt)
-rules_hold stmts =
-    ((λ a t s ts f d. (_, then_more (let_word d.1 d.2.1 a t) d.2.2.1, d.2.2.2)),
-    ((λ a t s ts f d. (_, then_more (d.1 a t) d.2.1, d.2.2)),
-    ((λ a t s ts f d. (_, then_more (spawn_from d.1 d.2.1 d.2.2.1) d.2.2.2.1, d.2.2.2.2)),
-    ((λ a t s ts f d. (_, then_more (call_from d.1 d.2.1 d.2.2.1) d.2.2.2.1, d.2.2.2.2)),
-    ((λ a t s ts f d. (_, then_more (sync_from d.1) d.2.1, d.2.2)),
-    ((λ a t s ts f d. let q = cut (only word.Semicolon ∷ stmts ∷ s) ts d in (_, then_more (print_from q.1 q.2.1) q.2.2.1, q.2.2.2)),
-    ((λ a t s ts f d. let q = cut (block ∷ otherwise ∷ stmts ∷ s) ts d in (_, then_more (_, an_if q.1.1 q.2.1.1 q.2.2.1.1) q.2.2.2.1, q.2.2.2.2)),
-    ((λ a t s ts f d. let q = cut (block ∷ stmts ∷ s) ts d in (_, then_more (_, a_while q.1.1 q.2.1.1) q.2.2.1, q.2.2.2)),
-    ((λ a t s ts f d. (_, then_more (d.1 a t) d.2.1, d.2.2)), tt)))))))))
+rules_hold stmts = (
+  (λ a t s ts f d. (_, then_more (let_word d.1 d.2.1 a t) d.2.2.1, d.2.2.2)),
+  (
+    (λ a t s ts f d. (_, then_more (d.1 a t) d.2.1, d.2.2)),
+    (
+      (λ a t s ts f d. (_, then_more (spawn_from d.1 d.2.1 d.2.2.1) d.2.2.2.1, d.2.2.2.2)),
+      (
+        (λ a t s ts f d. (_, then_more (call_from d.1 d.2.1 d.2.2.1) d.2.2.2.1, d.2.2.2.2)),
+        (
+          (λ a t s ts f d. (_, then_more (sync_from d.1) d.2.1, d.2.2)),
+          (
+            (λ a t s ts f d. let q = cut (only word.Semicolon ∷ stmts ∷ s) ts d in (_, then_more (print_from q.1 q.2.1) q.2.2.1, q.2.2.2)),
+            (
+              (λ a t s ts f d. let q = cut (block ∷ otherwise ∷ stmts ∷ s) ts d in (_, then_more (_, an_if q.1.1 q.2.1.1 q.2.2.1.1) q.2.2.2.1, q.2.2.2.2)),
+              (
+                (λ a t s ts f d. let q = cut (block ∷ stmts ∷ s) ts d in (_, then_more (_, a_while q.1.1 q.2.1.1) q.2.2.1, q.2.2.2)),
+                ((λ a t s ts f d. (_, then_more (d.1 a t) d.2.1, d.2.2)), tt),
+              ),
+            ),
+          ),
+        ),
+      ),
+    ),
+  ),
+)
 rules_hold after_let = ((λ a t s ts f d. (_, let_right d.1 d.2.1, d.2.2)), ((λ a t s ts f d. (_, let_array d.1 d.2.1 d.2.2.1, d.2.2.2)), tt))
-rules_hold after_name = ((λ a t s ts f d. (_, name_right d.1 d.2.1, d.2.2)), ((λ a t s ts f d.
-    let q = cut (only word.CloseItem ∷ only word.Assign ∷ expr_then (only word.Semicolon ∷ s)) ts d in let p = cut (only word.Semicolon ∷ s) q.2.2.0 q.2.2.2 in (_, name_store q.1 q.2.1 q.2.2.1 p.1 p.2.1, p.2.2)), tt))
+rules_hold after_name = (
+  (λ a t s ts f d. (_, name_right d.1 d.2.1, d.2.2)),
+  (
+    (λ a t s ts f d.
+        let q = cut (only word.CloseItem ∷ only word.Assign ∷ expr_then (only word.Semicolon ∷ s)) ts d in let p = cut (only word.Semicolon ∷ s) q.2.2.0 q.2.2.2 in (_, name_store q.1 q.2.1 q.2.2.1 p.1 p.2.1, p.2.2)),
+    tt,
+  ),
+)
 rules_hold block = ((λ a t s ts f d. (_, block_from d.1 d.2.1, d.2.2)), tt)
 rules_hold otherwise = ((λ a t s ts f d. (_, (_, an_else d.1.1), d.2)), tt)
 rules_hold functions = ((λ a t s ts f d. (_, function_from d.1 d.2.1 d.2.2.1 d.2.2.2.1 d.2.2.2.2.1, d.2.2.2.2.2)), tt)

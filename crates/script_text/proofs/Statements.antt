@@ -1,5 +1,5 @@
 -- What the functions on statements need.
-use Rattle.std.proofs.Common.{◌≡◌, ◌≢◌, ℕ, zero, suc, ◌+◌, ◌<◌, ◌≤◌, List, [], ◌∷◌, ◌++◌, length, Option, Some, None, Bool, true, false, ◌&&◌, Ok, Err, if◌then◌else◌, refl, sym, ap, ◌∙◌, subst, arith, append_assoc, append-nil}
+use Rattle.std.proofs.Common.{◌≡◌, ℕ, suc, ◌+◌, ◌<◌, ◌≤◌, List, [], ◌∷◌, ◌++◌, length, Option, Some, None, true, false, ◌&&◌, Ok, Err, if◌then◌else◌, refl, sym, ap, ◌∙◌, subst, arith, append_assoc, append-nil}
 use Rattle.script_tokens.specs.declared.token.Word.{Word}
 use Rattle.script_tokens.specs.declared.token.Word.TheVariants as word
 use Rattle.script_tokens.specs.declared.token.Lexeme.{Lexeme}
@@ -20,7 +20,7 @@ use Rattle.script_text.specs.Grammar.{Token, tok, name_at, number_at, IsExpr, Is
 use Rattle.script_text.specs.Machine as machine
 use Rattle.script_text.specs.Machine.{Sym, only, exactly, loop_args, call_args, more_args, into, loop_name, stmts, after_let, after_name, block, otherwise, expr_then, rules, rule, is_empty, find_rule, step, depth, at_stop, verdict, begun, judge}
 use Rattle.script_text.specs.Text.{token_of}
-use Rattle.script_text.specs.Reads.{seen, ending, Leads, Finds, Errs, NextIs, NextIsNot, NextLexeme, IsBracket, Deepens, Names, is_plain, unexpected_in, IsName, a_name_token, IsNumber, a_number_token, IsValueOf, value_of, IsEnded, ended, IsCallOf, call_of, IsSize, a_size, IsElement, an_element, begins_stmt, NoStmt}
+use Rattle.script_text.specs.Reads.{seen, ending, Leads, Errs, NextIs, NextIsNot, IsBracket, Deepens, Names, is_plain, unexpected_in, IsName, a_name_token, IsNumber, a_number_token, IsValueOf, value_of, IsEnded, ended, IsCallOf, call_of, IsSize, a_size, IsElement, an_element, begins_stmt, NoStmt}
 use Rattle.script_text.proofs.Steps.{taken, deep, name_taken, name_long, HasNone, skipped, has_none, other_word, seen-next, err_behind, unexpected_err, Comes, Passed, Opened}
 use Rattle.script_text.proofs.Expressions.{first_is, expr_shorter, length-seen}
 
@@ -65,20 +65,28 @@ module _ (source : Source) (d : ℕ) (old rest : List Lexeme) (l : Lexeme) (e : 
       ∙ taken (ending source) n l.start w (text_of source.bytes.now l) (machine.right ∷ s) (next ++ s) (seen source rest) q (omega (arith, same)) (g (text_of source.bytes.now l) s)
 
   pub right_draw_read : l.word ≡ word.Draw → d ≤ 64 → Comes IsRight (machine.right ∷ []) source d old (right.Draw l.start) rest
-  right_draw_read p h = (subst (λ q. IsRight q (right.Draw l.start) (seen source rest)) (sym (seen-next word.Draw source l.start old rest (first_is l old rest e p))) right_draw,
-      right_enters word.Draw [] p refl (λ t s. refl) (λ s. refl) h)
+  right_draw_read p h = (
+    subst (λ q. IsRight q (right.Draw l.start) (seen source rest)) (sym (seen-next word.Draw source l.start old rest (first_is l old rest e p))) right_draw,
+    right_enters word.Draw [] p refl (λ t s. refl) (λ s. refl) h,
+  )
 
   pub right_new_read : l.word ≡ word.New → d ≤ 64 → Comes IsRight (machine.right ∷ []) source d old (right.New l.start) rest
-  right_new_read p h = (subst (λ q. IsRight q (right.New l.start) (seen source rest)) (sym (seen-next word.New source l.start old rest (first_is l old rest e p))) right_new,
-      right_enters word.New [] p refl (λ t s. refl) (λ s. refl) h)
+  right_new_read p h = (
+    subst (λ q. IsRight q (right.New l.start) (seen source rest)) (sym (seen-next word.New source l.start old rest (first_is l old rest e p))) right_new,
+    right_enters word.New [] p refl (λ t s. refl) (λ s. refl) h,
+  )
 
   pub right_call_read : (last : List Lexeme) (x : CallText) → l.word ≡ word.Call → d ≤ 64 → Comes IsCall (only word.Name ∷ call_args ∷ []) source d rest x last → Comes IsRight (machine.right ∷ []) source d old (right.Call l.start x) last
-  right_call_read last x p h a = (subst (λ q. IsRight q (right.Call l.start x) (seen source last)) (sym (seen-next word.Call source l.start old rest (first_is l old rest e p))) (right_call a.0),
-      λ n s f. right_enters word.Call (only word.Name ∷ call_args ∷ []) p refl (λ t s. refl) (λ s. refl) h n s f ∙ a.1 n s f)
+  right_call_read last x p h a = (
+    subst (λ q. IsRight q (right.Call l.start x) (seen source last)) (sym (seen-next word.Call source l.start old rest (first_is l old rest e p))) (right_call a.0),
+    λ n s f. right_enters word.Call (only word.Name ∷ call_args ∷ []) p refl (λ t s. refl) (λ s. refl) h n s f ∙ a.1 n s f,
+  )
 
   pub right_spawn_read : (last : List Lexeme) (x : CallText) → l.word ≡ word.Spawn → d ≤ 64 → Comes IsCall (only word.Name ∷ call_args ∷ []) source d rest x last → Comes IsRight (machine.right ∷ []) source d old (right.Spawn l.start x) last
-  right_spawn_read last x p h a = (subst (λ q. IsRight q (right.Spawn l.start x) (seen source last)) (sym (seen-next word.Spawn source l.start old rest (first_is l old rest e p))) (right_spawn a.0),
-      λ n s f. right_enters word.Spawn (only word.Name ∷ call_args ∷ []) p refl (λ t s. refl) (λ s. refl) h n s f ∙ a.1 n s f)
+  right_spawn_read last x p h a = (
+    subst (λ q. IsRight q (right.Spawn l.start x) (seen source last)) (sym (seen-next word.Spawn source l.start old rest (first_is l old rest e p))) (right_spawn a.0),
+    λ n s f. right_enters word.Spawn (only word.Name ∷ call_args ∷ []) p refl (λ t s. refl) (λ s. refl) h n s f ∙ a.1 n s f,
+  )
 
   pub right_call_err : (g : SyntaxError) → l.word ≡ word.Call → d ≤ 64 → Errs (only word.Name ∷ call_args ∷ []) source d rest g → Errs (machine.right ∷ []) source d old g
   right_call_err g p h f = err_behind (machine.right ∷ []) (only word.Name ∷ call_args ∷ []) [] source d d old rest g (right_enters word.Call (only word.Name ∷ call_args ∷ []) p refl (λ t s. refl) (λ s. refl) h) (λ s r. r) f
@@ -173,9 +181,9 @@ module _ (source : Source) (d at inside : ℕ) (old t1 : List Lexeme) (k : NextI
   pub size_read : (t2 t3 rest : List Lexeme) (x : Number) → Deepens d at (Ok inside) → Comes IsNumber (only word.Number ∷ []) source inside t1 x t2 → Passed word.CloseItem source d t2 t3 → Passed word.Semicolon source d t3 rest
       → Comes IsSize (after_let ∷ []) source d old x rest
   size_read t2 t3 rest x h a b c = (
-      made (seen-next word.OpenItem source at old t1 k) a.0 (seen-next word.CloseItem source b.0.0 t2 t3 b.0.1) (seen-next word.Semicolon source c.0.0 t3 rest c.0.1),
-      λ n s f. size_enters h.1 n s f ∙ a.1 n (only word.CloseItem ∷ only word.Semicolon ∷ s) (omega (arith, h.0, f)) ∙ b.1 n (only word.Semicolon ∷ s) f ∙ c.1 n s f,
-    )
+    made (seen-next word.OpenItem source at old t1 k) a.0 (seen-next word.CloseItem source b.0.0 t2 t3 b.0.1) (seen-next word.Semicolon source c.0.0 t3 rest c.0.1),
+    λ n s f. size_enters h.1 n s f ∙ a.1 n (only word.CloseItem ∷ only word.Semicolon ∷ s) (omega (arith, h.0, f)) ∙ b.1 n (only word.Semicolon ∷ s) f ∙ c.1 n s f,
+  )
     where
       made : {o s1 s2 s3 to : List Token} {x : Number} {a b c : ℕ} {t u v : List ℕ} → o ≡ tok a word.OpenItem t ∷ s1 → IsNumber s1 x s2 → s2 ≡ tok b word.CloseItem u ∷ s3 → s3 ≡ tok c word.Semicolon v ∷ to → IsSize o x to
       made {s3 = s3} {to = to} {a = a} {b = b} {c = c} {t = t} {u = u} {v = v} e (a_number_token {a = g} {t = w} {rest = s2}) p q =
@@ -196,10 +204,10 @@ module _ (source : Source) (d at inside : ℕ) (old t1 : List Lexeme) (k : NextI
   pub element_read : (t2 t3 t4 rest : List Lexeme) (x y : Expr) → Deepens d at (Ok inside) → Comes IsExpr (expr_then []) source inside t1 x t2 → Passed word.CloseItem source d t2 t3 → Passed word.Assign source d t3 t4
       → Comes IsEnded (expr_then (only word.Semicolon ∷ [])) source d t4 y rest → IsElement (seen source old) x y (seen source rest) × Leads (after_name ∷ []) [] source d old rest
   element_read t2 t3 t4 rest x y h a b c z = (
-      made (seen-next word.OpenItem source at old t1 k) a.0 (seen-next word.CloseItem source b.0.0 t2 t3 b.0.1) (seen-next word.Assign source c.0.0 t3 t4 c.0.1) z.0,
-      λ n s f. element_enters h.1 n s f ∙ a.1 n (only word.CloseItem ∷ only word.Assign ∷ expr_then (only word.Semicolon ∷ s)) (omega (arith, h.0, f)) ∙ b.1 n (only word.Assign ∷ expr_then (only word.Semicolon ∷ s)) f
-          ∙ c.1 n (expr_then (only word.Semicolon ∷ s)) f ∙ z.1 n s f,
-    )
+    made (seen-next word.OpenItem source at old t1 k) a.0 (seen-next word.CloseItem source b.0.0 t2 t3 b.0.1) (seen-next word.Assign source c.0.0 t3 t4 c.0.1) z.0,
+    λ n s f. element_enters h.1 n s f ∙ a.1 n (only word.CloseItem ∷ only word.Assign ∷ expr_then (only word.Semicolon ∷ s)) (omega (arith, h.0, f)) ∙ b.1 n (only word.Assign ∷ expr_then (only word.Semicolon ∷ s)) f
+        ∙ c.1 n (expr_then (only word.Semicolon ∷ s)) f ∙ z.1 n s f,
+  )
     where
       made : {o s1 s2 s3 s4 to : List Token} {x y : Expr} {a b c : ℕ} {t u v : List ℕ} → o ≡ tok a word.OpenItem t ∷ s1 → IsExpr s1 x s2 → s2 ≡ tok b word.CloseItem u ∷ s3 → s3 ≡ tok c word.Assign v ∷ s4 → IsEnded s4 y to → IsElement o x y to
       made {s1 = s1} {to = to} {x = x} {y = y} {b = b} {u = u} e p f g (ended q) =
@@ -220,7 +228,7 @@ module _ (source : Source) (d at inside : ℕ) (old t1 : List Lexeme) (k : NextI
       → Errs (expr_then (only word.Semicolon ∷ [])) source d t4 e → Errs (after_name ∷ []) source d old e
   element_err_value t2 t3 t4 x e h a b c f = err_behind (after_name ∷ []) (expr_then (only word.Semicolon ∷ [])) [] source d d old t4 e
       (λ n s r. element_enters h.1 n s r ∙ a.1 n (only word.CloseItem ∷ only word.Assign ∷ expr_then (only word.Semicolon ∷ s)) (omega (arith, h.0, r)) ∙ b.1 n (only word.Assign ∷ expr_then (only word.Semicolon ∷ s)) r
-          ∙ c.1 n (expr_then (only word.Semicolon ∷ s)) r) (λ s r. r) f
+      ∙ c.1 n (expr_then (only word.Semicolon ∷ s)) r) (λ s r. r) f
 
 -- What begins a statement
 
@@ -280,18 +288,18 @@ module _ (source : Source) (d : ℕ) (l : Lexeme) (rest : List Lexeme) where
   pub let_read : (at : ℕ) (t1 t2 last : List Lexeme) (x : Name) (r : Right) → l.word ≡ word.Let → d ≤ 64 → Comes IsName (only word.Name ∷ []) source d rest x t1 → NextIs word.Assign at t1 t2
       → Comes IsValueOf (machine.right ∷ only word.Semicolon ∷ []) source d t2 r last → ComesAct source d l rest (act.Let x r) last
   let_read at t1 t2 last x r p h a k b = (
-      subst (λ z. IsStmt z (stmt_at l.start (act.Let x r)) (seen source last)) (sym (stmt_token word.Let p)) (made a.0 (seen-next word.Assign source at t1 t2 k) b.0),
-      λ n s f. let_enters p h n s f ∙ a.1 n (after_let ∷ stmts ∷ s) f ∙ assign_enters after_let at t1 t2 (λ t s. refl) h k n (stmts ∷ s) f ∙ b.1 n (stmts ∷ s) f,
-    )
+    subst (λ z. IsStmt z (stmt_at l.start (act.Let x r)) (seen source last)) (sym (stmt_token word.Let p)) (made a.0 (seen-next word.Assign source at t1 t2 k) b.0),
+    λ n s f. let_enters p h n s f ∙ a.1 n (after_let ∷ stmts ∷ s) f ∙ assign_enters after_let at t1 t2 (λ t s. refl) h k n (stmts ∷ s) f ∙ b.1 n (stmts ∷ s) f,
+  )
     where
       made : {o s1 s2 to : List Token} {x : Name} {r : Right} {a c : ℕ} {t v : List ℕ} → IsName o x s1 → s1 ≡ tok c word.Assign v ∷ s2 → IsValueOf s2 r to → IsStmt (tok a word.Let t ∷ o) (stmt_at a (act.Let x r)) to
       made {to = to} {r = r} {a = a} {t = t} (a_name_token {a = b} {t = u}) e (value_of d) = subst (λ z. IsStmt (tok a word.Let t ∷ tok b word.Name u ∷ z) (stmt_at a (act.Let (name_at b u) r)) to) (sym e) (a_let d)
 
   pub array_read : (t1 last : List Lexeme) (x : Name) (m : Number) → l.word ≡ word.Let → d ≤ 64 → Comes IsName (only word.Name ∷ []) source d rest x t1 → Comes IsSize (after_let ∷ []) source d t1 m last → ComesAct source d l rest (act.Array x m) last
   array_read t1 last x m p h a b = (
-      subst (λ z. IsStmt z (stmt_at l.start (act.Array x m)) (seen source last)) (sym (stmt_token word.Let p)) (made a.0 b.0),
-      λ n s f. let_enters p h n s f ∙ a.1 n (after_let ∷ stmts ∷ s) f ∙ b.1 n (stmts ∷ s) f,
-    )
+    subst (λ z. IsStmt z (stmt_at l.start (act.Array x m)) (seen source last)) (sym (stmt_token word.Let p)) (made a.0 b.0),
+    λ n s f. let_enters p h n s f ∙ a.1 n (after_let ∷ stmts ∷ s) f ∙ b.1 n (stmts ∷ s) f,
+  )
     where
       made : {o s1 to : List Token} {x : Name} {m : Number} {a : ℕ} {t : List ℕ} → IsName o x s1 → IsSize s1 m to → IsStmt (tok a word.Let t ∷ o) (stmt_at a (act.Array x m)) to
       made a_name_token a_size = an_array
@@ -324,10 +332,10 @@ module _ (source : Source) (d : ℕ) (l : Lexeme) (rest : List Lexeme) where
   pub set_read : (at : ℕ) (t1 last : List Lexeme) (x : Name) (r : Right) → l.word ≡ word.Name → d ≤ 64 → Names source l (Ok x) → NextIs word.Assign at rest t1 → Comes IsValueOf (machine.right ∷ only word.Semicolon ∷ []) source d t1 r last
       → ComesAct source d l rest (act.Set x r) last
   set_read at t1 last x r p h k g b = (
-      subst (λ z. IsStmt z (stmt_at l.start (act.Set x r)) (seen source last)) (sym (stmt_token word.Name p))
-          (subst (λ z. IsStmt (tok l.start word.Name (text_of source.bytes.now l) ∷ seen source rest) (stmt_at l.start (act.Set z r)) (seen source last)) (sym k.0) (made (seen-next word.Assign source at rest t1 g) b.0)),
-      λ n s f. named x p h k n s f ∙ assign_enters after_name at rest t1 (λ t s. refl) h g n (stmts ∷ s) f ∙ b.1 n (stmts ∷ s) f,
-    )
+    subst (λ z. IsStmt z (stmt_at l.start (act.Set x r)) (seen source last)) (sym (stmt_token word.Name p))
+        (subst (λ z. IsStmt (tok l.start word.Name (text_of source.bytes.now l) ∷ seen source rest) (stmt_at l.start (act.Set z r)) (seen source last)) (sym k.0) (made (seen-next word.Assign source at rest t1 g) b.0)),
+    λ n s f. named x p h k n s f ∙ assign_enters after_name at rest t1 (λ t s. refl) h g n (stmts ∷ s) f ∙ b.1 n (stmts ∷ s) f,
+  )
     where
       made : {o s1 to : List Token} {r : Right} {a c : ℕ} {t v : List ℕ} → o ≡ tok c word.Assign v ∷ s1 → IsValueOf s1 r to → IsStmt (tok a word.Name t ∷ o) (stmt_at a (act.Set (name_at a t) r)) to
       made {to = to} {r = r} {a = a} {t = t} e (value_of d) = subst (λ z. IsStmt (tok a word.Name t ∷ z) (stmt_at a (act.Set (name_at a t) r)) to) (sym e) (a_set d)
@@ -335,10 +343,10 @@ module _ (source : Source) (d : ℕ) (l : Lexeme) (rest : List Lexeme) where
   pub store_read : (last : List Lexeme) (x : Name) (y z : Expr) → l.word ≡ word.Name → d ≤ 64 → Names source l (Ok x) → IsElement (seen source rest) y z (seen source last) → Leads (after_name ∷ []) [] source d rest last
       → ComesAct source d l rest (act.Store x y z) last
   store_read last x y z p h k a b = (
-      subst (λ q. IsStmt q (stmt_at l.start (act.Store x y z)) (seen source last)) (sym (stmt_token word.Name p))
-          (subst (λ q. IsStmt (tok l.start word.Name (text_of source.bytes.now l) ∷ seen source rest) (stmt_at l.start (act.Store q y z)) (seen source last)) (sym k.0) (made a)),
-      λ n s f. named x p h k n s f ∙ b n (stmts ∷ s) f,
-    )
+    subst (λ q. IsStmt q (stmt_at l.start (act.Store x y z)) (seen source last)) (sym (stmt_token word.Name p))
+        (subst (λ q. IsStmt (tok l.start word.Name (text_of source.bytes.now l) ∷ seen source rest) (stmt_at l.start (act.Store q y z)) (seen source last)) (sym k.0) (made a)),
+    λ n s f. named x p h k n s f ∙ b n (stmts ∷ s) f,
+  )
     where
       made : {o to : List Token} {y z : Expr} {a : ℕ} {t : List ℕ} → IsElement o y z to → IsStmt (tok a word.Name t ∷ o) (stmt_at a (act.Store (name_at a t) y z)) to
       made (an_element p q) = a_store p q
@@ -354,33 +362,33 @@ module _ (source : Source) (d : ℕ) (l : Lexeme) (rest : List Lexeme) where
 
   pub spawn_read : (last : List Lexeme) (x : CallText) → l.word ≡ word.Spawn → d ≤ 64 → Comes IsCallOf (only word.Name ∷ call_args ∷ only word.Semicolon ∷ []) source d rest x last → ComesAct source d l rest (act.Spawn x) last
   spawn_read last x p h a = (
-      subst (λ z. IsStmt z (stmt_at l.start (act.Spawn x)) (seen source last)) (sym (stmt_token word.Spawn p)) (made a.0),
-      λ n s f. stmt_enters word.Spawn (only word.Name ∷ call_args ∷ only word.Semicolon ∷ []) p refl (λ t s. refl) (λ s. refl) h n s f ∙ a.1 n (stmts ∷ s) f,
-    )
+    subst (λ z. IsStmt z (stmt_at l.start (act.Spawn x)) (seen source last)) (sym (stmt_token word.Spawn p)) (made a.0),
+    λ n s f. stmt_enters word.Spawn (only word.Name ∷ call_args ∷ only word.Semicolon ∷ []) p refl (λ t s. refl) (λ s. refl) h n s f ∙ a.1 n (stmts ∷ s) f,
+  )
     where
       made : {o to : List Token} {x : CallText} {a : ℕ} {t : List ℕ} → IsCallOf o x to → IsStmt (tok a word.Spawn t ∷ o) (stmt_at a (act.Spawn x)) to
       made (call_of d) = a_spawn d
 
   pub call_stmt_read : (last : List Lexeme) (x : CallText) → l.word ≡ word.Call → d ≤ 64 → Comes IsCallOf (only word.Name ∷ call_args ∷ only word.Semicolon ∷ []) source d rest x last → ComesAct source d l rest (act.Call x) last
   call_stmt_read last x p h a = (
-      subst (λ z. IsStmt z (stmt_at l.start (act.Call x)) (seen source last)) (sym (stmt_token word.Call p)) (made a.0),
-      λ n s f. stmt_enters word.Call (only word.Name ∷ call_args ∷ only word.Semicolon ∷ []) p refl (λ t s. refl) (λ s. refl) h n s f ∙ a.1 n (stmts ∷ s) f,
-    )
+    subst (λ z. IsStmt z (stmt_at l.start (act.Call x)) (seen source last)) (sym (stmt_token word.Call p)) (made a.0),
+    λ n s f. stmt_enters word.Call (only word.Name ∷ call_args ∷ only word.Semicolon ∷ []) p refl (λ t s. refl) (λ s. refl) h n s f ∙ a.1 n (stmts ∷ s) f,
+  )
     where
       made : {o to : List Token} {x : CallText} {a : ℕ} {t : List ℕ} → IsCallOf o x to → IsStmt (tok a word.Call t ∷ o) (stmt_at a (act.Call x)) to
       made (call_of d) = a_call_stmt d
 
   pub sync_read : (last : List Lexeme) → l.word ≡ word.Sync → d ≤ 64 → Passed word.Semicolon source d rest last → ComesAct source d l rest act.Sync last
   sync_read last p h a = (
-      subst (λ z. IsStmt z (stmt_at l.start act.Sync) (seen source last)) (sym (stmt_token word.Sync p ∙ ap (λ z. tok l.start word.Sync (text_of source.bytes.now l) ∷ z) (seen-next word.Semicolon source a.0.0 rest last a.0.1))) a_sync,
-      λ n s f. stmt_enters word.Sync (only word.Semicolon ∷ []) p refl (λ t s. refl) (λ s. refl) h n s f ∙ a.1 n (stmts ∷ s) f,
-    )
+    subst (λ z. IsStmt z (stmt_at l.start act.Sync) (seen source last)) (sym (stmt_token word.Sync p ∙ ap (λ z. tok l.start word.Sync (text_of source.bytes.now l) ∷ z) (seen-next word.Semicolon source a.0.0 rest last a.0.1))) a_sync,
+    λ n s f. stmt_enters word.Sync (only word.Semicolon ∷ []) p refl (λ t s. refl) (λ s. refl) h n s f ∙ a.1 n (stmts ∷ s) f,
+  )
 
   pub print_read : (last : List Lexeme) (x : Expr) → l.word ≡ word.Print → d ≤ 64 → Comes IsEnded (expr_then (only word.Semicolon ∷ [])) source d rest x last → ComesAct source d l rest (act.Print x) last
   print_read last x p h a = (
-      subst (λ z. IsStmt z (stmt_at l.start (act.Print x)) (seen source last)) (sym (stmt_token word.Print p)) (made a.0),
-      λ n s f. stmt_enters word.Print (expr_then (only word.Semicolon ∷ [])) p refl (λ t s. refl) (λ s. refl) h n s f ∙ a.1 n (stmts ∷ s) f,
-    )
+    subst (λ z. IsStmt z (stmt_at l.start (act.Print x)) (seen source last)) (sym (stmt_token word.Print p)) (made a.0),
+    λ n s f. stmt_enters word.Print (expr_then (only word.Semicolon ∷ [])) p refl (λ t s. refl) (λ s. refl) h n s f ∙ a.1 n (stmts ∷ s) f,
+  )
     where
       made : {o to : List Token} {x : Expr} {a : ℕ} {t : List ℕ} → IsEnded o x to → IsStmt (tok a word.Print t ∷ o) (stmt_at a (act.Print x)) to
       made (ended d) = a_print d
@@ -401,15 +409,15 @@ module _ (source : Source) (d : ℕ) (l : Lexeme) (rest : List Lexeme) where
   pub if_read : (t1 t2 last : List Lexeme) (x : Expr) (p q : List Stmt) → l.word ≡ word.If → d ≤ 64 → Comes IsExpr (expr_then []) source d rest x t1 → Comes IsBlock (block ∷ []) source d t1 p t2 → Comes IsElse (otherwise ∷ []) source d t2 q last
       → ComesAct source d l rest (act.If x p q) last
   if_read t1 t2 last x p q w h a b c = (
-      subst (λ z. IsStmt z (stmt_at l.start (act.If x p q)) (seen source last)) (sym (stmt_token word.If w)) (an_if a.0 b.0 c.0),
-      λ n s f. if_enters w h n s f ∙ a.1 n (block ∷ otherwise ∷ stmts ∷ s) f ∙ b.1 n (otherwise ∷ stmts ∷ s) f ∙ c.1 n (stmts ∷ s) f,
-    )
+    subst (λ z. IsStmt z (stmt_at l.start (act.If x p q)) (seen source last)) (sym (stmt_token word.If w)) (an_if a.0 b.0 c.0),
+    λ n s f. if_enters w h n s f ∙ a.1 n (block ∷ otherwise ∷ stmts ∷ s) f ∙ b.1 n (otherwise ∷ stmts ∷ s) f ∙ c.1 n (stmts ∷ s) f,
+  )
 
   pub while_read : (t1 last : List Lexeme) (x : Expr) (p : List Stmt) → l.word ≡ word.While → d ≤ 64 → Comes IsExpr (expr_then []) source d rest x t1 → Comes IsBlock (block ∷ []) source d t1 p last → ComesAct source d l rest (act.While x p) last
   while_read t1 last x p w h a b = (
-      subst (λ z. IsStmt z (stmt_at l.start (act.While x p)) (seen source last)) (sym (stmt_token word.While w)) (a_while a.0 b.0),
-      λ n s f. while_enters w h n s f ∙ a.1 n (block ∷ stmts ∷ s) f ∙ b.1 n (stmts ∷ s) f,
-    )
+    subst (λ z. IsStmt z (stmt_at l.start (act.While x p)) (seen source last)) (sym (stmt_token word.While w)) (a_while a.0 b.0),
+    λ n s f. while_enters w h n s f ∙ a.1 n (block ∷ stmts ∷ s) f ∙ b.1 n (stmts ∷ s) f,
+  )
 
   pub if_err : (e : SyntaxError) → l.word ≡ word.If → d ≤ 64 → Errs (expr_then []) source d rest e → Errs (stmts ∷ []) source d (l ∷ rest) e
   if_err e w h f = err_behind (stmts ∷ []) (expr_then []) (block ∷ otherwise ∷ stmts ∷ []) source d d (l ∷ rest) rest e (if_enters w h) (λ s r. r) f
@@ -436,9 +444,9 @@ block_bracket = record { needed = refl; only_rule = refl; one_level = λ s. refl
 module _ (source : Source) (d : ℕ) (old t1 : List Lexeme) (o : Opened word.OpenBlock source d old t1) where
   pub block_read : (t2 rest : List Lexeme) (xs : List Stmt) → Comes IsStmts (stmts ∷ []) source (d + 1) t1 xs t2 → Passed word.CloseBlock source d t2 rest → Comes IsBlock (block ∷ []) source d old xs rest
   block_read t2 rest xs a b = (
-      subst (λ z. IsBlock z xs (seen source rest)) (sym (seen-next word.OpenBlock source o.0.0 old t1 o.0.1)) (a_block (subst (IsStmts (seen source t1) xs) (seen-next word.CloseBlock source b.0.0 t2 rest b.0.1) a.0)),
-      λ n s f. o.2 block _ block_bracket n s f ∙ a.1 n (only word.CloseBlock ∷ s) (omega (arith, f)) ∙ b.1 n s f,
-    )
+    subst (λ z. IsBlock z xs (seen source rest)) (sym (seen-next word.OpenBlock source o.0.0 old t1 o.0.1)) (a_block (subst (IsStmts (seen source t1) xs) (seen-next word.CloseBlock source b.0.0 t2 rest b.0.1) a.0)),
+    λ n s f. o.2 block _ block_bracket n s f ∙ a.1 n (only word.CloseBlock ∷ s) (omega (arith, f)) ∙ b.1 n s f,
+  )
 
   pub block_err_stmts : (e : SyntaxError) → Errs (stmts ∷ []) source (d + 1) t1 e → Errs (block ∷ []) source d old e
   block_err_stmts e f = err_behind (block ∷ []) (stmts ∷ []) (only word.CloseBlock ∷ []) source d (d + 1) old t1 e (o.2 block _ block_bracket) (λ s r. omega (arith, r)) f
@@ -471,9 +479,9 @@ StmtsSoFar source d old xs left = record {
 
 pub stmts_end : (source : Source) (d : ℕ) (old left : List Lexeme) (xs : List Stmt) → StmtsSoFar source d old xs left → NoStmt left → Comes IsStmts (stmts ∷ []) source d old xs left
 stmts_end source d old left xs i k = (
-    subst (λ z. IsStmts (seen source old) z (seen source left)) (append-nil xs) (i.so_far [] (seen source left) no_stmts),
-    λ n s f. i.goes n s f ∙ skipped source n stmts s left refl (no_stmt left source.bytes.now k),
-  )
+  subst (λ z. IsStmts (seen source old) z (seen source left)) (append-nil xs) (i.so_far [] (seen source left) no_stmts),
+  λ n s f. i.goes n s f ∙ skipped source n stmts s left refl (no_stmt left source.bytes.now k),
+)
 
 pub one_more_stmt : (source : Source) (d : ℕ) (old left inner rest : List Lexeme) (l : Lexeme) (xs ys : List Stmt) (x : Act) → ys ≡ xs ++ stmt_at l.start x ∷ [] → StmtsSoFar source d old xs left → left ≡ l ∷ inner → ComesAct source d l inner x rest
     → StmtsSoFar source d old ys rest

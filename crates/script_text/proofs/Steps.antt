@@ -1,6 +1,5 @@
 -- What the machine does at one token, and what the parser's smallest steps need of it.
-use Rattle.std.proofs.Common.{◌≡◌, ◌≢◌, ℕ, zero, suc, ◌+◌, ◌*◌, ◌-◌, ◌<◌, ◌≤◌, List, [], ◌∷◌, ◌++◌, length, drop, map, Option, Some, None, Bool, true, false, ◌&&◌, nat_eq, nat_lt, cond, if◌then◌else◌, option_and_then, Ok, Err, refl, sym, ap, ◌∙◌, subst, arith, ne_eqb, append_assoc}
-use borrow.Author.Tests.{ltb-true, ltb-false}
+use Rattle.std.proofs.Common.{◌≡◌, ℕ, ◌<◌, ◌≤◌, List, [], ◌∷◌, ◌++◌, length, Option, Some, None, Bool, true, false, ◌&&◌, nat_lt, if◌then◌else◌, Err, refl, ap, ◌∙◌, arith, append_assoc}
 use Rattle.std.proofs.lemmas.Bool.{lt-ltb, le-ltb}
 use Rattle.script_tokens.specs.declared.token.Word.{Word}
 use Rattle.script_tokens.specs.declared.token.Word.TheVariants as word
@@ -12,10 +11,10 @@ use Rattle.script_text.specs.declared.error.SyntaxError.{SyntaxError}
 use Rattle.script_text.specs.declared.error.SyntaxError.TheVariants.{Bad, Memory}
 use Rattle.script_text.specs.declared.parser.source.Source.{Source}
 use Rattle.script_text.specs.Grammar.{Token, tok, decimal}
-use Rattle.script_text.specs.Fault.{is_fn, Ending}
-use Rattle.script_text.specs.Machine.{Sym, only, Rule, rule, code, same_word, rules, is_empty, find_rule, choose, step, depth, all_empty, Fault, broken, unless_broken, verdict, at_stop, begun, judge}
+use Rattle.script_text.specs.Fault.{Ending}
+use Rattle.script_text.specs.Machine.{Sym, only, rule, same_word, rules, is_empty, find_rule, choose, step, depth, all_empty, Fault, broken, unless_broken, verdict, at_stop, begun, judge}
 use Rattle.script_text.specs.Text.{token_of}
-use Rattle.script_text.specs.Reads.{seen, ending, Leads, Finds, stopped_at, unexpected_in, NextIs, NextIsNot, is_plain, Errs, Passes, IsBracket, Opens, Deepens}
+use Rattle.script_text.specs.Reads.{seen, ending, Leads, stopped_at, unexpected_in, NextIs, NextIsNot, is_plain, Errs, Passes, IsBracket, Opens, Deepens}
 use Rattle.script_text.proofs.Words.{same_words, same_word-refl}
 
 plain_broken : (w : Word) (n at d : ℕ) (text : List ℕ) → is_plain w ≡ true → broken n (tok at w text) d ≡ (if nat_lt 64 d then Some 5 else None)
@@ -148,9 +147,12 @@ unexpected_err a tail source d old (Bad number at) f h g = λ n s k. refused sou
 -- the expected word
 
 pub passes : (w : Word) (source : Source) (d at : ℕ) (old rest : List Lexeme) → is_plain w ≡ true → d ≤ 64 → NextIs w at old rest → ((at : ℕ) × NextIs w at old rest) × Leads (only w ∷ []) [] source d old rest
-passes w source d at old rest p h x = ((at, x), λ n s f.
-    ap (judge (ending source) n (only w ∷ s)) (seen-next w source at old rest x)
-    ∙ taken (ending source) n at w _ (only w ∷ s) s (seen source rest) p (omega arith) (replaced (only w) w [] s _ refl))
+passes w source d at old rest p h x = (
+  (at, x),
+  λ n s f.
+      ap (judge (ending source) n (only w ∷ s)) (seen-next w source at old rest x)
+      ∙ taken (ending source) n at w _ (only w ∷ s) s (seen source rest) p (omega arith) (replaced (only w) w [] s _ refl),
+)
 
 pub passes_not : (w : Word) (source : Source) (d : ℕ) (old : List Lexeme) (e : SyntaxError) → NextIsNot w old → e ≡ unexpected_in source old → Passes w source d old (Err e)
 passes_not w source d old Memory h f = tt
@@ -160,10 +162,14 @@ passes_not w source d old (Bad number at) h f = λ n s g. refused source n (only
 
 pub opens : (w : Word) (source : Source) (d at : ℕ) (old rest : List Lexeme) → is_plain w ≡ true → d < 64 → NextIs w at old rest
     → ((at : ℕ) × NextIs w at old rest) × (d < 64) × ((a : Sym) (inside : List Sym) → IsBracket a w inside → Leads (a ∷ []) inside source d old rest)
-opens w source d at old rest p h x = ((at, x), h, λ a inside b n s f.
-    let one = b.one_level s in
-    ap (judge (ending source) n (a ∷ s)) (seen-next w source at old rest x)
-    ∙ taken (ending source) n at w _ (a ∷ s) (inside ++ s) (seen source rest) p (omega (arith, one)) (replaced a w inside s _ b.only_rule))
+opens w source d at old rest p h x = (
+  (at, x),
+  h,
+  λ a inside b n s f.
+      let one = b.one_level s in
+      ap (judge (ending source) n (a ∷ s)) (seen-next w source at old rest x)
+      ∙ taken (ending source) n at w _ (a ∷ s) (inside ++ s) (seen source rest) p (omega (arith, one)) (replaced a w inside s _ b.only_rule),
+)
 
 pub opens_not : (w : Word) (source : Source) (d : ℕ) (old : List Lexeme) (e : SyntaxError) → NextIsNot w old → e ≡ unexpected_in source old → Opens w source d old (Err e)
 opens_not w source d old Memory h f = λ a inside b. tt

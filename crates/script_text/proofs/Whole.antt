@@ -1,16 +1,16 @@
 -- From lexemes to bytes.
-use Rattle.std.proofs.Common.{◌≡◌, ◌≢◌, ℕ, List, [], ◌∷◌, length, Some, None, Result, Ok, Err, IfOk, refl, sym, ap, ◌∙◌, subst}
+use Rattle.std.proofs.Common.{◌≡◌, ℕ, List, [], length, Result, Ok, Err, IfOk, refl, sym, ap, ◌∙◌, subst}
 use Rattle.script_tokens.specs.declared.token.Lexeme.{Lexeme}
 use Rattle.script_tokens.specs.declared.lexing.Stop.{Stop}
 use Rattle.script_tokens.specs.declared.lexing.Stop.TheVariants.{End}
 use Rattle.script_tokens.specs.Lexing.{Lexes}
 use Rattle.script_tokens.proofs.LexingLemmas.{lexing_unique}
 use Rattle.script_text.specs.declared.error.SyntaxError.{SyntaxError}
-use Rattle.script_text.specs.declared.error.SyntaxError.TheVariants.{Bad, Memory}
+use Rattle.script_text.specs.declared.error.SyntaxError.TheVariants.{Bad}
 use Rattle.script_text.specs.declared.parser.source.Source.{Source}
 use Rattle.script_text.specs.declared.tree.Script.{Script}
 use Rattle.script_text.specs.declared.tree.Function.{Function}
-use Rattle.script_text.specs.Fault.{Ending, FaultBehind, IsProgram}
+use Rattle.script_text.specs.Fault.{FaultBehind, IsProgram}
 use Rattle.script_text.specs.Text.{tokens_of, Text, SyntaxFault}
 use Rattle.script_text.specs.Reads.{seen, ending, Judges}
 use Rattle.script_text.proofs.Judged.{bad_is_fault, none_is_program, never_bad}

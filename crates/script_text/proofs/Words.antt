@@ -1,5 +1,5 @@
 -- Words are told apart by their codes.
-use Rattle.std.proofs.Common.{◌≡◌, ℕ, true, false, nat_eq, if◌then◌else◌, refl, sym, ap, ◌∙◌}
+use Rattle.std.proofs.Common.{◌≡◌, ℕ, true, nat_eq, if◌then◌else◌, refl, sym, ap, ◌∙◌}
 use Rattle.std.proofs.lemmas.Bool.{eqb-true, eq-eqb}
 use Rattle.script_tokens.specs.declared.token.Word.{Word}
 use Rattle.script_tokens.specs.declared.token.Word.TheVariants as word

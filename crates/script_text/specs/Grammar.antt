@@ -170,8 +170,8 @@ mutual
     -- "let" name "[" number "]" ";"
     an_array : {a b c d e f : ℕ} {t u v w x y : List ℕ} {rest : List Token}
         → IsStmt
-          (tok a word.Let t ∷ tok b word.Name u ∷ tok c word.OpenItem v ∷ tok d word.Number w ∷ tok e word.CloseItem x ∷ tok f word.Semicolon y ∷ rest)
-          (stmt_at a (act.Array (name_at b u) (number_at d w))) rest
+        (tok a word.Let t ∷ tok b word.Name u ∷ tok c word.OpenItem v ∷ tok d word.Number w ∷ tok e word.CloseItem x ∷ tok f word.Semicolon y ∷ rest)
+        (stmt_at a (act.Array (name_at b u) (number_at d w))) rest
     -- name "=" right ";"
     a_set : {a b c : ℕ} {t u v : List ℕ} {ts rest : List Token} {r : Right}
         → IsRight ts r (tok c word.Semicolon v ∷ rest)
@@ -210,7 +210,7 @@ mutual
         → IsInto vs into (tok e word.Call w ∷ tok f word.Name f' ∷ tok g word.Open y ∷ tok h word.Name n ∷ ws)
         → IsMoreArgs ws xs (tok i word.Close z ∷ tok j word.Semicolon o ∷ rest)
         → IsStmt (tok a word.Pfor t ∷ tok b word.Name n ∷ tok c word.In u ∷ ts)
-          (stmt_at a (act.Pfor (name_at b n) lo hi into (record { name = name_at f f'; args = xs }))) rest
+        (stmt_at a (act.Pfor (name_at b n) lo hi into (record { name = name_at f f'; args = xs }))) rest
 
   -- { stmt }
   pub data IsStmts : List Token → List Stmt → List Token → Type 0 where
@@ -263,7 +263,7 @@ pub data IsFunction : List Token → Function → List Token → Type 0 where
       → IsStmts vs body (tok f word.Return x ∷ ws)
       → IsExpr ws r (tok g word.Semicolon y ∷ tok h word.CloseBlock z ∷ rest)
       → IsFunction (tok a word.Fn t ∷ tok b word.Name n ∷ tok c word.Open u ∷ ts)
-        (record { name = name_at b n; params = ps; answer = k; body = body; return_at = f; result = r }) rest
+      (record { name = name_at b n; params = ps; answer = k; body = body; return_at = f; result = r }) rest
 
 -- { function }
 pub data IsFunctions : List Token → List Function → List Token → Type 0 where

@@ -3,7 +3,7 @@
 --
 -- Its state is a stack: the symbols that are still expected, the nearest first. Each rule of a symbol takes one token and puts
 -- symbols in the place of its own. A closing bracket is expected only once its opening one was taken.
-use Rattle.std.specs.Prelude.{ℕ, suc, ◌+◌, List, [], ◌∷◌, ◌++◌, Option, Some, None, option_and_then, Bool, true, false, ◌&&◌, ◌||◌, nat_eq, nat_lt, nat_le, length, if◌then◌else◌}
+use Rattle.std.specs.Prelude.{ℕ, suc, List, [], ◌∷◌, ◌++◌, Option, Some, None, option_and_then, Bool, true, false, ◌&&◌, ◌||◌, nat_eq, nat_lt, length, if◌then◌else◌}
 use Rattle.script_tokens.specs.declared.token.Word.{Word}
 use Rattle.script_tokens.specs.declared.token.Word.TheVariants as word
 use Rattle.script_tokens.specs.declared.lexing.Stop.{Stop}

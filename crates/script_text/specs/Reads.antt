@@ -1,5 +1,5 @@
 -- What the parser's functions say of the lexemes that they were given.
-use Rattle.std.specs.Prelude.{◌≡◌, ℕ, suc, ◌+◌, ◌<◌, ◌≤◌, Bool, true, false, List, [], ◌∷◌, ◌++◌, length, map, Option, Some, None, Result, Ok, Err, nat_lt}
+use Rattle.std.specs.Prelude.{◌≡◌, ℕ, suc, ◌+◌, ◌<◌, ◌≤◌, Bool, true, false, List, [], ◌∷◌, ◌++◌, length, Option, Some, None, Result, Ok, Err, nat_lt}
 use Rattle.std.specs.Borrow.{Bor}
 use Rattle.script_tokens.specs.declared.token.Word.{Word}
 use Rattle.script_tokens.specs.declared.token.Word.TheVariants as word
@@ -9,8 +9,6 @@ use Rattle.script_tokens.specs.declared.lexing.Stop.TheVariants.{End, NotAscii, 
 use Rattle.script_tokens.specs.Lexing.{text_of}
 use Rattle.script_text.specs.declared.tree.Name.{Name}
 use Rattle.script_text.specs.declared.tree.Number.{Number}
-use Rattle.script_text.specs.declared.tree.Comparison.{Comparison}
-use Rattle.script_text.specs.declared.tree.ProductSign.{ProductSign}
 use Rattle.script_text.specs.declared.tree.Expr.{Expr}
 use Rattle.script_text.specs.declared.tree.CallText.{CallText}
 use Rattle.script_text.specs.declared.tree.Right.{Right}
@@ -22,10 +20,10 @@ use Rattle.script_text.specs.declared.tree.Script.{Script}
 use Rattle.script_text.specs.declared.error.SyntaxError.{SyntaxError}
 use Rattle.script_text.specs.declared.error.SyntaxError.TheVariants.{Bad, Memory}
 use Rattle.script_text.specs.declared.parser.source.Source.{Source}
-use Rattle.script_text.specs.Grammar.{Token, tok, name_at, number_at, decimal, IsSumSign, IsProductSign, IsComparison, IsExpr, IsMoreArgs, IsArgs, IsCall, IsRight, stmt_at, IsStmt, IsStmts, IsMoreParams, IsParams, IsFunction, IsFunctions, IsScript}
+use Rattle.script_text.specs.Grammar.{Token, tok, name_at, number_at, decimal, IsExpr, IsMoreArgs, IsArgs, IsCall, IsRight, stmt_at, IsStmt, IsStmts, IsMoreParams, IsParams, IsFunction, IsFunctions, IsScript}
 use Rattle.script_text.specs.Fault.{Ending}
-use Rattle.script_text.specs.Text.{token_of, tokens_of}
-use Rattle.script_text.specs.Machine.{Sym, only, exactly, pair, stmts, after_name, functions, body, expr_then, rules, rule, find_rule, is_empty, depth, judge, code, same_word}
+use Rattle.script_text.specs.Text.{tokens_of}
+use Rattle.script_text.specs.Machine.{Sym, only, exactly, pair, stmts, after_name, functions, body, expr_then, rules, rule, find_rule, is_empty, depth, judge, code}
 
 abbrev pub seen : Source → List Lexeme → List Token
 seen source ls = tokens_of source.bytes.now ls

@@ -9,9 +9,7 @@ ghost use Rattle.script_tokens.specs.declared.token.Word.TheVariants as word;
 use crate::boxed::Boxed;
 use crate::error::SyntaxError;
 use crate::items::Items;
-use crate::parser::source::{
-    Source, after, deeper, expect, name_of, number_of, open, unexpected,
-};
+use crate::parser::source::{Source, after, deeper, expect, name_of, number_of, open, unexpected};
 use crate::tree::{Comparison, Expr, ProductPart, ProductSign, SumPart};
 use script_tokens::{Lexeme, Word};
 use std::alloc::{AllocError, Global};

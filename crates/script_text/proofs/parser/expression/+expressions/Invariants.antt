@@ -1,4 +1,4 @@
-use Rattle.std.proofs.Common.{◌≡◌, ℕ, List, [], ◌∷◌, ◌++◌, length, ◌+◌, ◌-◌, ◌*◌}
+use Rattle.std.proofs.Common.{List, [], ◌∷◌, ◌++◌, length, ◌+◌, ◌-◌, ◌*◌}
 use Rattle.script_text.specs.declared.tree.SumPart.{SumPart}
 use Rattle.script_text.specs.declared.tree.ProductPart.{ProductPart}
 use Rattle.script_text.specs.Grammar.{Token, IsTerms, IsFactors}

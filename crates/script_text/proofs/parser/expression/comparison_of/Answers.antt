@@ -1,6 +1,5 @@
 use Rattle.std.proofs.Common.{◌≡◌, sym, subst}
 use Rattle.script_tokens.specs.declared.token.Word.{Word}
-use Rattle.script_tokens.specs.declared.token.Word.TheVariants as word
 use Rattle.script_text.specs.declared.tree.Comparison.{Comparison}
 use Rattle.script_text.specs.Grammar.{IsComparison, an_eq, a_ne, a_lt, a_le, a_gt, a_ge}
 use Rattle.script_text.proofs.parser.expression.comparison_of.Goals as goal

@@ -1,4 +1,3 @@
-use Rattle.std.proofs.Common.{rules}
 use Rattle.std.proofs.lemmas.Result.{err_from_is_err_and}
 use Rattle.script_text.proofs.Steps.{opens, opens_not, opens_deep}
 use Rattle.script_text.proofs.parser.source.open.Goals as goal

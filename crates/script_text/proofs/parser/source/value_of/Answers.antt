@@ -1,4 +1,4 @@
-use Rattle.std.proofs.Common.{◌≡◌, ◌-◌, ◌≤◌, get_or, arith}
+use Rattle.std.proofs.Common.{◌≡◌, ◌-◌, get_or, arith}
 use Rattle.script_text.proofs.Decimals.{decimal-too_big}
 use Rattle.script_text.proofs.parser.source.value_of.Goals as goal
 
