@@ -14,8 +14,8 @@ use crate::report::{Ending, Report, make_report, syntax_line};
 use crate::status::Status;
 use crate::words::{Command, read_words};
 use ped_io::{ReadError, Sink, Source, read_all, write_all};
-use serial_meaning::laws;
 use script_text::{Script, SyntaxError, parse};
+use serial_meaning::laws;
 use std::alloc::Global;
 
 const MOST_BYTES: u64 = 1048576;

@@ -56,11 +56,23 @@ fn call(
 
 // A call in which nothing fails.
 fn plain(alloc: Global, line: &str, script: &[u8]) -> Result<Told, Fail> {
-    call(alloc, line, script.to_vec(alloc)?, 4096, Vec::new(alloc), Vec::new(alloc))
+    call(
+        alloc,
+        line,
+        script.to_vec(alloc)?,
+        4096,
+        Vec::new(alloc),
+        Vec::new(alloc),
+    )
 }
 
 // The script is run, and prints this.
-fn prints(rt: &(impl Abort + AllocGlobal), line: &str, script: &[u8], output: &[u8]) -> Result<(), Fail> {
+fn prints(
+    rt: &(impl Abort + AllocGlobal),
+    line: &str,
+    script: &[u8],
+    output: &[u8],
+) -> Result<(), Fail> {
     let told = plain(rt.alloc(), line, script)?;
     assert_eq!(rt; told.code, 0);
     assert_eq!(rt; told.out.as_slice(), output);
@@ -69,7 +81,13 @@ fn prints(rt: &(impl Abort + AllocGlobal), line: &str, script: &[u8], output: &[
 }
 
 // The words or the script are refused by this line.
-fn refuses(rt: &(impl Abort + AllocGlobal), line: &str, script: &[u8], code: u8, refusal: &[u8]) -> Result<(), Fail> {
+fn refuses(
+    rt: &(impl Abort + AllocGlobal),
+    line: &str,
+    script: &[u8],
+    code: u8,
+    refusal: &[u8],
+) -> Result<(), Fail> {
     let told = plain(rt.alloc(), line, script)?;
     assert_eq!(rt; told.code, code);
     assert_eq!(rt; told.out.as_slice(), b"".as_slice());
@@ -83,41 +101,108 @@ fn scripts_print_their_lines(rt: HostRuntime) -> Result<(), Fail> {
     prints(&rt, "run --seed 0", SPAWNED, b"1\n")?;
     prints(&rt, "run --seed 7", SUM, b"5\n3\n")?;
     prints(&rt, "run --seed 18446744073709551615", ONE, b"1\n")?;
-    prints(&rt, "run --seed 0", b"fn main() { print (1); return 0; } # end", b"1\n")
+    prints(
+        &rt,
+        "run --seed 0",
+        b"fn main() { print (1); return 0; } # end",
+        b"1\n",
+    )
 }
 
 #[test]
 fn words_that_are_not_built_are_refused(rt: HostRuntime) -> Result<(), Fail> {
     refuses(&rt, "run", ONE, 2, b"words: not built yet\n")?;
     refuses(&rt, "run --seed 01", ONE, 2, b"words: not built yet\n")?;
-    refuses(&rt, "run --seed 18446744073709551616", ONE, 2, b"words: not built yet\n")
+    refuses(
+        &rt,
+        "run --seed 18446744073709551616",
+        ONE,
+        2,
+        b"words: not built yet\n",
+    )
 }
 
 #[test]
 fn scripts_that_are_not_built_are_refused(rt: HostRuntime) -> Result<(), Fail> {
     let refusal = b"script: not built yet\n";
     refuses(&rt, "run --seed 0", b"", 3, refusal)?;
-    refuses(&rt, "run --seed 0", b"fn main() { print x; return 0; }", 3, refusal)?;
-    refuses(&rt, "run --seed 0", b"fn main() { let a = spawn f(); return 0; } fn f() { return 1; }", 3, refusal)?;
-    refuses(&rt, "run --seed 0", b"fn f() { return 1; } fn main() { let a = spawn f(); print a; return 0; }", 3, refusal)?;
-    refuses(&rt, "run --seed 0", b"fn main() { print 1 - 1; return 0; }", 3, refusal)
+    refuses(
+        &rt,
+        "run --seed 0",
+        b"fn main() { print x; return 0; }",
+        3,
+        refusal,
+    )?;
+    refuses(
+        &rt,
+        "run --seed 0",
+        b"fn main() { let a = spawn f(); return 0; } fn f() { return 1; }",
+        3,
+        refusal,
+    )?;
+    refuses(
+        &rt,
+        "run --seed 0",
+        b"fn f() { return 1; } fn main() { let a = spawn f(); print a; return 0; }",
+        3,
+        refusal,
+    )?;
+    refuses(
+        &rt,
+        "run --seed 0",
+        b"fn main() { print 1 - 1; return 0; }",
+        3,
+        refusal,
+    )
 }
 
 #[test]
 fn faults_of_the_text_have_their_places(rt: HostRuntime) -> Result<(), Fail> {
-    refuses(&rt, "run --seed 0", b"fn main() { print 1 return 0; }", 3, b"script: unexpected token at byte 20\n")?;
-    refuses(&rt, "run --seed 0", b"fn main() { print 1;", 3, b"script: unexpected end at byte 20\n")?;
-    refuses(&rt, "run --seed 0", b"fn main() { print 9223372036854775808; return 0; }", 3, b"script: number out of range at byte 18\n")
+    refuses(
+        &rt,
+        "run --seed 0",
+        b"fn main() { print 1 return 0; }",
+        3,
+        b"script: unexpected token at byte 20\n",
+    )?;
+    refuses(
+        &rt,
+        "run --seed 0",
+        b"fn main() { print 1;",
+        3,
+        b"script: unexpected end at byte 20\n",
+    )?;
+    refuses(
+        &rt,
+        "run --seed 0",
+        b"fn main() { print 9223372036854775808; return 0; }",
+        3,
+        b"script: number out of range at byte 18\n",
+    )
 }
 
 #[test]
 fn faults_of_reads_and_writes_are_told(rt: HostRuntime) -> Result<(), Fail> {
     let alloc = rt.alloc();
-    let read = call(alloc, "run --seed 0", ONE.to_vec(alloc)?, 4096, vec![in alloc; 1]?, Vec::new(alloc))?;
+    let read = call(
+        alloc,
+        "run --seed 0",
+        ONE.to_vec(alloc)?,
+        4096,
+        vec![in alloc; 1]?,
+        Vec::new(alloc),
+    )?;
     assert_eq!(rt; read.code, 4);
     assert_eq!(rt; read.out.as_slice(), b"".as_slice());
     assert_eq!(rt; read.err.as_slice(), b"read fault\n".as_slice());
-    let write = call(alloc, "run --seed 7", SUM.to_vec(alloc)?, 1, Vec::new(alloc), vec![in alloc; 1]?)?;
+    let write = call(
+        alloc,
+        "run --seed 7",
+        SUM.to_vec(alloc)?,
+        1,
+        Vec::new(alloc),
+        vec![in alloc; 1]?,
+    )?;
     assert_eq!(rt; write.code, 5);
     assert_eq!(rt; write.out.as_slice(), b"5".as_slice());
     assert_eq!(rt; write.err.as_slice(), b"write fault\n".as_slice());

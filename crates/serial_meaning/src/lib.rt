@@ -18,8 +18,8 @@ pub mod render;
 mod tests;
 pub mod value;
 
-pub use answer_key::AnswerKey;
 pub use answer::{Answer, Outcome, Strand};
+pub use answer_key::AnswerKey;
 pub use environment::{Slot, Variable};
 pub use event::{Event, Fault, FaultKind};
 pub use memory::Memory;
