@@ -8,6 +8,8 @@ pub mod boxed;
 mod error;
 pub mod items;
 mod parser;
+#[cfg(test)]
+mod tests;
 pub mod tree;
 
 pub use boxed::Boxed;
