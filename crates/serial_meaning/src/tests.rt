@@ -79,19 +79,29 @@ fn a_plan_begins_with_main_at_the_empty_path(rt: HostRuntime) -> Result<(), Fail
         budget: 9,
     };
     let plan = Plan::new(script, gamma, limits, Show::Plain);
-    match plan.main_origin(alloc)? {
+    let origin = plan.main_origin(alloc)?;
+    let (function, arguments, ranks) = shape_of(&origin);
+    assert_eq!(rt; function, 0);
+    assert_eq!(rt; arguments, 0);
+    assert_eq!(rt; ranks, 0);
+    Ok(())
+}
+
+/// The function, the number of arguments and the length of the path.
+fn shape_of(origin: &Origin) -> (u32, usize, u64) {
+    match origin {
         Origin::Instance {
             function,
             args,
             path,
-        } => {
-            assert_eq!(rt; function, 0);
-            assert_eq!(rt; args.as_slice().len(), 0);
-            assert_eq!(rt; path.len(), 0);
-        }
-        Origin::Loop { .. } => assert!(rt; false),
+        } => (*function, args.as_slice().len(), path.len()),
+        Origin::Loop {
+            function,
+            rest,
+            path,
+            ..
+        } => (*function, rest.as_slice().len() + 1, path.len()),
     }
-    Ok(())
 }
 
 #[test]
