@@ -1,4 +1,4 @@
-ghost use Rattle.std.specs.Prelude.{◌≡◌, ◌+◌, ◌<◌, ◌≤◌, ◌^◌, ◌↔◌, ℕ, List, length, All, IfOk, position};
+ghost use Rattle.std.specs.Prelude.{◌≡◌, ◌+◌, ◌<◌, ◌≤◌, ◌↔◌, ℕ, length, All, IfOk, position};
 ghost use Rattle.dotmix.specs.Draws.{coefficient, modulus, IsResidue};
 ghost use Rattle.dotmix.specs.GammaState.{is_too_big, padded, IsFirstTooBig};
 ghost use Rattle.dotmix.specs.Words.{coefficients};
@@ -50,7 +50,7 @@ pub struct Gamma {
 }
 
 impl Model for Gamma {
-    ghost use Rattle.std.specs.Prelude.{ℕ, List, ◌<◌, ◌^◌, length, All};
+    ghost use Rattle.std.specs.Prelude.{ℕ, List};
     ghost use Rattle.dotmix.specs.GammaState.{IsGamma};
 
     ghost Value = { List ℕ };
@@ -73,7 +73,8 @@ impl Gamma {
         Ok(Gamma { coefficients })
     }
 
-    /// The numbers of a list, and zeros behind them up to the depth. `TooMany` is judged first.
+    /// The numbers of a list, and zeros behind them up to the depth. `TooMany` comes exactly where the list is longer than the
+    /// depth, and else `TooBig` exactly where a number isn't below the modulus.
     pub fn of_list(alloc: Global, list: &[u64], depth: u32) -> Result<Gamma, GammaError>
         ensures ok { IfOk result (λ gamma. gamma ≡ padded list.now depth) }
         ensures too_many { (result ≡ Err GammaError.TooMany) ↔ (depth < length list.now) }

@@ -48,8 +48,7 @@ impl Trail {
 
     /// The same trail, over the same memory.
     pub fn share(&self) -> Result<Trail, Memory>
-        ensures path { IfOk result (λ trail. trail.path ≡ self.now.path) }
-        ensures sum { IfOk result (λ trail. trail.sum ≡ self.now.sum) }
+        ensures { IfOk result (λ trail. trail ≡ self.now) }
     {
         Ok(Trail {
             path: self.path.share()?,

@@ -3,12 +3,12 @@ use Rattle.std.proofs.Common.{◌≡◌, Bool, true, false, ◌&&◌, List, [], 
 use Rattle.std.proofs.lemmas.Bool.{leb-true}
 use Rattle.std.proofs.lemmas.Option.{slice_get_cases}
 use Rattle.std.proofs.lemmas.List.Elements.{All-nil, All-cons}
-use Rattle.script_text.specs.declared.tree.Expr.{Expr, out-Expr}
-use Rattle.script_text.specs.declared.tree.SumPart.{SumPart, out-SumPart}
-use Rattle.script_text.specs.declared.tree.Stmt.{Stmt, out-Stmt}
-use Rattle.script_text.specs.declared.tree.Act.{out-Act}
-use Rattle.script_text.specs.declared.tree.Function.{Function}
-use Rattle.script_text.specs.declared.tree.Script.{Script}
+use Rattle.script_grammar.specs.declared.tree.Expr.{Expr, out-Expr}
+use Rattle.script_grammar.specs.declared.tree.SumPart.{SumPart, out-SumPart}
+use Rattle.script_grammar.specs.declared.tree.Stmt.{Stmt, out-Stmt}
+use Rattle.script_grammar.specs.declared.tree.Act.{out-Act}
+use Rattle.script_grammar.specs.declared.tree.Function.{Function}
+use Rattle.script_grammar.specs.declared.tree.Script.{Script}
 use Rattle.engine.specs.declared.built.Known.{Known}
 use Rattle.engine.specs.Built.{not, is_atom, are_added, is_sum, is_statement, after, is_body, is_function, are_functions, is_built, is_named, is_none, is_int, nothing_known, IsAdded, IsStatement, IsSum, IsFunction}
 

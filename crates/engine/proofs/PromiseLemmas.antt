@@ -1,7 +1,7 @@
 -- The parts of the promise follow from it.
 use Rattle.std.proofs.Common.{◌≡◌, ℕ, ◌≤◌, ◌<◌, ◌+◌, List, [], ◌++◌, length, length-append, append-nil, Option, Some, None, ◌⊎◌, inl, inr, refl, sym, ap, ◌∙◌, subst, arith}
 use Rattle.ped_io.specs.Streams.{Consumes, ConsumesJust, IsAtEnd}
-use Rattle.script_text.specs.declared.tree.Script.{Script as Tree}
+use Rattle.script_grammar.specs.declared.tree.Script.{Script as Tree}
 use Rattle.engine.specs.declared.status.Status.{Status}
 use Rattle.engine.specs.declared.status.Status.TheVariants.{Done, Faulted, Words, Script, Read, Write, Memory, NoStrand}
 use Rattle.engine.specs.declared.words.Command.{Command}

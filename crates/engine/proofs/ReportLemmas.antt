@@ -1,7 +1,7 @@
 -- What a run's plan holds, and what an answer prints.
 use Rattle.std.proofs.Common.{◌≡◌, ℕ, ◌≤◌, ◌%◌, List, IfOk, length, IsTrue, Result, Ok, Err, refl, sym, ap, ◌∙◌, subst, arith, lit≤}
 use Rattle.std.proofs.lemmas.List.FromFn.{length-map-range_with_len}
-use Rattle.script_text.specs.declared.tree.Script.{Script}
+use Rattle.script_grammar.specs.declared.tree.Script.{Script}
 use Rattle.dotmix.specs.Words.{coefficients, word}
 use Rattle.dotmix.specs.Draws.{modulus}
 use Rattle.serial_meaning.specs.Plan.{PlanView, IsPlan}

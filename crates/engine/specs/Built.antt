@@ -1,22 +1,22 @@
 -- Which scripts run today: the valid ones of the part of the language that is built (docs/LANGUAGE.md, "What runs today").
 use Rattle.std.specs.Prelude.{ℕ, ◌+◌, Bool, true, false, ◌&&◌, ◌||◌, nat_lt, nat_le, List, [], ◌∷◌, ◌++◌, length, codes, IsTrue, All, ◌≡◌}
 use Rattle.std.specs.Str.{bytes_eq}
-use Rattle.script_text.specs.declared.tree.Expr.{Expr, out-Expr}
-use Rattle.script_text.specs.declared.tree.Expr.TheOpen as node
-use Rattle.script_text.specs.declared.tree.Expr.TheOpen.{Expr-F}
-use Rattle.script_text.specs.declared.tree.SumPart.{SumPart, out-SumPart}
-use Rattle.script_text.specs.declared.tree.ProductPart.{ProductPart}
-use Rattle.script_text.specs.declared.tree.CallText.{CallText}
-use Rattle.script_text.specs.declared.tree.Right.{Right}
-use Rattle.script_text.specs.declared.tree.Right.TheVariants as right
-use Rattle.script_text.specs.declared.tree.Stmt.{Stmt, out-Stmt}
-use Rattle.script_text.specs.declared.tree.Act.{Act, out-Act}
-use Rattle.script_text.specs.declared.tree.Act.TheOpen as act
-use Rattle.script_text.specs.declared.tree.Act.TheOpen.{Act-F}
-use Rattle.script_text.specs.declared.tree.Kind.{Kind}
-use Rattle.script_text.specs.declared.tree.Kind.TheVariants.{Int, Id}
-use Rattle.script_text.specs.declared.tree.Function.{Function}
-use Rattle.script_text.specs.declared.tree.Script.{Script}
+use Rattle.script_grammar.specs.declared.tree.Expr.{Expr, out-Expr}
+use Rattle.script_grammar.specs.declared.tree.Expr.TheOpen as node
+use Rattle.script_grammar.specs.declared.tree.Expr.TheOpen.{Expr-F}
+use Rattle.script_grammar.specs.declared.tree.SumPart.{SumPart, out-SumPart}
+use Rattle.script_grammar.specs.declared.tree.ProductPart.{ProductPart}
+use Rattle.script_grammar.specs.declared.tree.CallText.{CallText}
+use Rattle.script_grammar.specs.declared.tree.Right.{Right}
+use Rattle.script_grammar.specs.declared.tree.Right.TheVariants as right
+use Rattle.script_grammar.specs.declared.tree.Stmt.{Stmt, out-Stmt}
+use Rattle.script_grammar.specs.declared.tree.Act.{Act, out-Act}
+use Rattle.script_grammar.specs.declared.tree.Act.TheOpen as act
+use Rattle.script_grammar.specs.declared.tree.Act.TheOpen.{Act-F}
+use Rattle.script_grammar.specs.declared.tree.Kind.{Kind}
+use Rattle.script_grammar.specs.declared.tree.Kind.TheVariants.{Int, Id}
+use Rattle.script_grammar.specs.declared.tree.Function.{Function}
+use Rattle.script_grammar.specs.declared.tree.Script.{Script}
 use Rattle.engine.specs.declared.built.Known.{Known}
 
 abbrev pub nothing_known : Known

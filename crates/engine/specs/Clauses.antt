@@ -4,7 +4,7 @@ use Rattle.std.specs.declared.option.Option.{Option}
 use Rattle.ped_io.specs.Streams.{Appends, IsAtEnd}
 use Rattle.ped_path.specs.Path.{IsBefore}
 use Rattle.dotmix.specs.Draws.{dotmix}
-use Rattle.script_text.specs.declared.tree.Script.{Script as Tree}
+use Rattle.script_grammar.specs.declared.tree.Script.{Script as Tree}
 use Rattle.serial_meaning.specs.Plan.{PlanView}
 use Rattle.serial_meaning.specs.Eval.{elision}
 use Rattle.serial_meaning.specs.Open.{faults}

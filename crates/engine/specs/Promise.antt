@@ -3,8 +3,8 @@ use Rattle.std.specs.Prelude.{◌≡◌, ◌⊎◌, ℕ, ◌+◌, ◌≤◌, Lis
 use Rattle.std.specs.declared.option.Option.{Option}
 use Rattle.ped_io.specs.Causes.{Rose}
 use Rattle.ped_io.specs.Streams.{Appends, AppendsFront, Consumes, ConsumesJust, IsAtEnd}
-use Rattle.script_text.specs.declared.tree.Script.{Script}
-use Rattle.script_text.specs.Text.{Text, SyntaxFault}
+use Rattle.script_grammar.specs.declared.tree.Script.{Script}
+use Rattle.script_grammar.specs.Text.{Text, SyntaxFault}
 use Rattle.engine.specs.declared.status.Status.{Status}
 use Rattle.engine.specs.declared.status.Status.TheVariants.{Done, Faulted, Words, Script as BadScript, Read, Write, Memory, NoStrand}
 use Rattle.engine.specs.declared.report.Ending.{Ending}

@@ -1,9 +1,9 @@
 -- What a part of the runner did is what the definitions say of it, unless memory was wanting.
 use Rattle.std.specs.Prelude.{◌≡◌, ℕ, ◌+◌, ◌-◌, ◌<◌, ◌^◌, List, [], Result, Ok, Err, All, length}
-use Rattle.script_text.specs.declared.tree.Stmt.{Stmt}
-use Rattle.script_text.specs.declared.tree.CallText.{CallText}
-use Rattle.script_text.specs.declared.tree.Function.{Function}
-use Rattle.script_text.specs.declared.tree.Right.{Right}
+use Rattle.script_grammar.specs.declared.tree.Stmt.{Stmt}
+use Rattle.script_grammar.specs.declared.tree.CallText.{CallText}
+use Rattle.script_grammar.specs.declared.tree.Function.{Function}
+use Rattle.script_grammar.specs.declared.tree.Right.{Right}
 use Rattle.serial_meaning.specs.Runs.{Run, behind}
 use Rattle.serial_meaning.specs.Plan.{PlanView, IsPlan, functions_of}
 use Rattle.serial_meaning.specs.Exec.{State, Manner, Block, statement, statements, right_side, spawn, returned}

@@ -1,7 +1,7 @@
 -- Why no report was made, and what was delivered.
 use Rattle.std.specs.Prelude.{◌≡◌, ⊤, ℕ, ◌+◌, List, codes, string_bytes}
 use Rattle.ped_io.specs.Streams.{ConsumesJust}
-use Rattle.script_text.specs.declared.tree.Script.{Script}
+use Rattle.script_grammar.specs.declared.tree.Script.{Script}
 use Rattle.engine.specs.Report.{syntax_line}
 use Rattle.engine.specs.declared.call.Refusal.{Refusal}
 use Rattle.engine.specs.declared.call.Refusal.TheVariants.{TooLong, Syntax, NotBuilt, Read, Memory}

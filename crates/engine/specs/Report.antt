@@ -1,7 +1,7 @@
 -- What a command writes for a script.
 use Rattle.std.specs.Prelude.{ℕ, List, ◌++◌, IsTrue, Result, Ok, Err, nat_eq, if◌then◌else◌, codes, decimal}
-use Rattle.script_text.specs.declared.tree.Script.{Script}
-use Rattle.script_text.specs.Text.{Text}
+use Rattle.script_grammar.specs.declared.tree.Script.{Script}
+use Rattle.script_grammar.specs.Text.{Text}
 use Rattle.dotmix.specs.Words.{coefficients}
 use Rattle.serial_meaning.specs.Plan.{PlanView}
 use Rattle.serial_meaning.specs.Eval.{main_origin, elision}

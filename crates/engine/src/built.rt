@@ -1,12 +1,12 @@
 // Which scripts run today: those of the part of the language that is built, and valid.
 
 ghost use Rattle.std.specs.Prelude.{◌≡◌, [], ◌∷◌, ◌++◌, length, OnOk, IfOk};
-ghost use Rattle.script_text.specs.declared.tree.Expr.{out-Expr};
-ghost use Rattle.script_text.specs.declared.tree.Stmt.{out-Stmt};
-ghost use Rattle.script_text.specs.declared.tree.Act.{out-Act};
+ghost use Rattle.script_grammar.specs.declared.tree.Expr.{out-Expr};
+ghost use Rattle.script_grammar.specs.declared.tree.Stmt.{out-Stmt};
+ghost use Rattle.script_grammar.specs.declared.tree.Act.{out-Act};
 ghost use Rattle.engine.specs.Built.{has_name, is_readable, is_atom, are_added, is_sum, is_named, is_spawned, is_right_side, is_new, is_statement, after, with_pending, is_body, is_function, are_functions, is_built, nothing_known, is_int};
 
-use script_text::{Act, CallText, Expr, Function, Items, Kind, Right, Script, Stmt, SumPart};
+use script_grammar::{Act, CallText, Expr, Function, Items, Kind, Right, Script, Stmt, SumPart};
 use std::alloc::{AllocError, Global};
 
 const MOST_FUNCTIONS: usize = 64;

@@ -2,7 +2,7 @@
 
 ghost use Rattle.std.specs.Prelude.{◌≡◌, ◌≤◌, length, List, ℕ, IfOk, IfErr, IsFalse, map, string_bytes, vec_len};
 ghost use Rattle.ped_io.specs.Causes.{Rose};
-ghost use Rattle.script_text.specs.declared.tree.Script.{Script as ScriptTree};
+ghost use Rattle.script_grammar.specs.declared.tree.Script.{Script as ScriptTree};
 ghost use Rattle.engine.specs.Words.{SaysNothing};
 ghost use Rattle.engine.specs.Report.{IsTextOf, plan_of, report_of};
 ghost use Rattle.engine.specs.Promise.{KeepsPromise, Answers, Refuses, HasScript, ReadWhole, Told, watched, has_output, has_line, most_bytes};
@@ -14,7 +14,8 @@ use crate::report::{Ending, Report, make_report, syntax_line};
 use crate::status::Status;
 use crate::words::{Command, read_words};
 use ped_io::{ReadError, Sink, Source, read_all, write_all};
-use script_text::{Script, SyntaxError, parse};
+use script_grammar::Script;
+use script_text::{SyntaxError, parse};
 use serial_meaning::laws;
 use std::alloc::Global;
 

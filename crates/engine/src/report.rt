@@ -10,7 +10,7 @@ ghost use Rattle.engine.specs.Report.{report_of, plan_of, run_report, syntax_lin
 use crate::runner::{Halt, run};
 use crate::words::Command;
 use dotmix::Gamma;
-use script_text::Script;
+use script_grammar::Script;
 use serial_meaning::{Answer, Limits, Memory, Out, Outcome, Plan, Show, render_run};
 use std::alloc::{AllocError, Global};
 use std::sync::Arc;

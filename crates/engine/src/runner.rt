@@ -12,7 +12,7 @@ ghost use Rattle.engine.specs.Ran.{Ended, Stopped, here, one, all, right_of, spa
 use crate::variables::{set, sum_value};
 use dotmix::dotmix;
 use ped_path::{Ped, Pedigree};
-use script_text::{Act, CallText, Expr, Function, Items, Right, Stmt};
+use script_grammar::{Act, CallText, Expr, Function, Items, Right, Stmt};
 use serial_meaning::{Event, Fault, FaultKind, Memory, Out, Plan, Value, Variable};
 use std::alloc::Global;
 

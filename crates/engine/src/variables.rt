@@ -1,13 +1,13 @@
 // The variables of an instance, and the value of a sum over them.
 
 ghost use Rattle.std.specs.Prelude.{◌≡◌, List, ◌∷◌, Some, Ok, All, IfOk, OnOk, map};
-ghost use Rattle.script_text.specs.declared.tree.SumPart.{SumPart as SumPartTree};
+ghost use Rattle.script_grammar.specs.declared.tree.SumPart.{SumPart as SumPartTree};
 ghost use Rattle.serial_meaning.specs.Values.{scalar, slot_of, value_of, sums, sum_part, number, added};
 ghost use Rattle.serial_meaning.specs.declared.environment.Slot.TheVariants.{Scalar};
 ghost use Rattle.serial_meaning.specs.Exec.{with_slot};
 ghost use Rattle.engine.specs.Built.{IsAdded, IsAtom, IsSum};
 
-use script_text::{Expr, Items, SumPart};
+use script_grammar::{Expr, Items, SumPart};
 use serial_meaning::{Memory, Slot, Value, Variable};
 use std::alloc::Global;
 

@@ -5,11 +5,7 @@ use Rattle.std.specs.List.{join_by}
 use Rattle.std.proofs.Math.Seq.{take-append_seam}
 use Rattle.std.proofs.lemmas.Grind.{flat_map-append}
 use Rattle.std.proofs.lemmas.List.{append-nil, take-append-drop, take_all}
-use Rattle.ped_path.specs.Text.{ped_text, AppendsFront}
-
--- ranks with a full stop behind each
-abbrev pub stopped : List ℕ → List ℕ
-stopped ranks = flat_map (λ r. decimal r ++ codes ".") ranks
+use Rattle.ped_path.specs.Text.{ped_text, stopped, AppendsFront}
 
 module _ {X : Type 0} (f : X → List ℕ) (sep : List ℕ) where
   sep_first : (p : List X) (r : X) → flat_map (λ y. sep ++ f y) (p ++ r ∷ []) ≡ sep ++ (flat_map (λ q. f q ++ sep) p ++ f r)
@@ -20,10 +16,10 @@ module _ {X : Type 0} (f : X → List ℕ) (sep : List ℕ) where
   join_by-append [] r = append-nil (f r)
   join_by-append (q ∷ p) r = ap (λ t. f q ++ t) (sep_first p r) ∙ simp append_assoc
 
-ped_text-append : (p j : List ℕ) (r : ℕ) → p ++ r ∷ [] ≡ j → stopped p ++ decimal r ≡ ped_text j
+pub ped_text-append : (p j : List ℕ) (r : ℕ) → p ++ r ∷ [] ≡ j → stopped p ++ decimal r ≡ ped_text j
 ped_text-append p j r e = sym (join_by-append decimal (codes ".") p r) ∙ ap ped_text e
 
-stopped-append : (p q : List ℕ) → stopped (p ++ q) ≡ stopped p ++ stopped q
+pub stopped-append : (p q : List ℕ) → stopped (p ++ q) ≡ stopped p ++ stopped q
 stopped-append p q = flat_map-append (λ r. decimal r ++ codes ".") p q
 
 stopped-take_more : (p : List ℕ) (i : ℕ) → i < length p → stopped (take (i + 1) p) ≡ stopped (take i p) ++ (decimal (slice_index p i) ++ codes ".")

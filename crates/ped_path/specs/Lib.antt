@@ -1,3 +1,4 @@
 pub mod Blocks
 pub mod Path
 pub mod Text
+pub mod Parsing

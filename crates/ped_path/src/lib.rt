@@ -7,6 +7,7 @@
 
 mod block;
 mod memory;
+mod parse;
 mod ped;
 mod pedigree;
 mod ranks;
@@ -15,6 +16,7 @@ mod tests;
 mod text;
 
 pub use memory::Memory;
+pub use parse::{PedTextError, parse_pedigree};
 pub use ped::Ped;
 pub use pedigree::Pedigree;
 pub use text::write_pedigree;

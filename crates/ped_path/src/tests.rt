@@ -1,4 +1,4 @@
-use crate::{Ped, Pedigree, write_pedigree};
+use crate::{Ped, PedTextError, Pedigree, parse_pedigree, write_pedigree};
 use std::test::Fail;
 
 #[test]
@@ -92,5 +92,55 @@ fn texts_join_the_ranks_by_full_stops(rt: HostRuntime) -> Result<(), Fail> {
     let path = Ped::root(alloc)?;
     write_pedigree(&Pedigree { path, rank: 7 }, &mut out)?;
     assert_eq!(rt; out.as_slice(), b"7".as_slice());
+    Ok(())
+}
+
+#[test]
+fn other_texts_are_refused_where_they_go_wrong(rt: HostRuntime) -> Result<(), Fail> {
+    let alloc = rt.alloc();
+    let cases = [
+        ("", PedTextError::Empty),
+        ("0..1", PedTextError::BadByte(2)),
+        ("0.", PedTextError::BadByte(2)),
+        (".1", PedTextError::BadByte(0)),
+        ("1 ", PedTextError::BadByte(1)),
+        ("+1", PedTextError::BadByte(0)),
+        ("01", PedTextError::Zeros(0)),
+        ("7.00", PedTextError::Zeros(2)),
+        ("4294967296", PedTextError::TooBig(0)),
+        ("1.99999999999999999999999x", PedTextError::TooBig(2)),
+    ];
+    for (text, error) in cases {
+        assert_eq!(rt; parse_pedigree(alloc, text).err(), Some(error), "{text}");
+    }
+    Ok(())
+}
+
+#[test]
+fn texts_of_pedigrees_are_read(rt: HostRuntime) -> Result<(), Fail> {
+    let alloc = rt.alloc();
+    let j = parse_pedigree(alloc, "3.1")?;
+    assert_eq!(rt; j.len(), 2);
+    assert_eq!(rt; j.path.rank_at(0), Some(3));
+    assert_eq!(rt; j.rank, 1);
+    let j = parse_pedigree(alloc, "4294967295")?;
+    assert_eq!(rt; j.len(), 1);
+    assert_eq!(rt; j.rank, 4_294_967_295);
+    Ok(())
+}
+
+#[test]
+fn texts_have_at_most_256_ranks(rt: HostRuntime) -> Result<(), Fail> {
+    let alloc = rt.alloc();
+    let mut text = String::from_str(alloc, "0")?;
+    for _ in 0..255 {
+        text.push_str(".0")?;
+    }
+    assert_eq!(rt; parse_pedigree(alloc, text.as_str())?.len(), 256);
+    text.push_str(".")?;
+    assert_eq!(rt;
+        parse_pedigree(alloc, text.as_str()).err(),
+        Some(PedTextError::TooLong)
+    );
     Ok(())
 }

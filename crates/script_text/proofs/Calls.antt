@@ -9,12 +9,12 @@ use Rattle.script_tokens.specs.Lexing.{text_of}
 use Rattle.script_text.specs.declared.error.SyntaxError.{SyntaxError}
 use Rattle.script_text.specs.declared.error.SyntaxError.TheVariants.{Bad, Memory}
 use Rattle.script_text.specs.declared.parser.source.Source.{Source}
-use Rattle.script_text.specs.declared.tree.Name.{Name}
-use Rattle.script_text.specs.declared.tree.Number.{Number}
-use Rattle.script_text.specs.declared.tree.Expr.{Expr}
-use Rattle.script_text.specs.Grammar.{Token, tok, name_at, number_at, IsExpr, IsMoreArgs, no_more_args, one_more_arg, no_args, some_args, IsCall, a_call}
+use Rattle.script_grammar.specs.declared.tree.Name.{Name}
+use Rattle.script_grammar.specs.declared.tree.Number.{Number}
+use Rattle.script_grammar.specs.declared.tree.Expr.{Expr}
+use Rattle.script_grammar.specs.Grammar.{Token, tok, name_at, number_at, IsExpr, IsMoreArgs, no_more_args, one_more_arg, no_args, some_args, IsCall, a_call}
 use Rattle.script_text.specs.Machine.{Sym, only, args, more_args, call_args, expr_then, step, at_stop, verdict, begun, judge}
-use Rattle.script_text.specs.Text.{token_of}
+use Rattle.script_grammar.specs.Text.{token_of}
 use Rattle.script_text.specs.Reads.{seen, ending, Leads, Errs, NextIs, NextIsNot, IsBracket, Names, Numbers, unexpected_in, IsName, a_name_token, IsNumber, a_number_token, IsArguments, arguments, AddsArgs}
 use Rattle.script_text.proofs.Steps.{taken, name_taken, name_long, number_taken, number_big, skipped, has_none, seen-next, err_behind, unexpected_err, Comes, Passed, Opened}
 use Rattle.script_text.proofs.Expressions.{first_is, expr_shorter, length-seen}

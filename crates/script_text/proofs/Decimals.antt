@@ -1,6 +1,6 @@
 -- Numbers as digits.
 use Rattle.std.proofs.Common.{◌≡◌, ℕ, suc, ◌+◌, ◌*◌, ◌-◌, ◌/◌, ◌<◌, ◌≤◌, List, [], ◌∷◌, length, get_or, drop, ap, arith, drop-cons}
-use Rattle.script_text.specs.Grammar.{decimal}
+use Rattle.script_grammar.specs.Grammar.{decimal}
 
 pub decimal-above : (n : ℕ) (digits : List ℕ) → n ≤ decimal n digits
 decimal-above n [] = omega arith

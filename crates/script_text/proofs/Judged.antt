@@ -8,10 +8,10 @@ use Rattle.script_tokens.specs.declared.token.Word.{Word}
 use Rattle.script_tokens.specs.declared.token.Word.TheVariants as word
 use Rattle.script_tokens.specs.declared.lexing.Stop.{Stop}
 use Rattle.script_tokens.specs.declared.lexing.Stop.TheVariants.{End, NotAscii, NoToken}
-use Rattle.script_text.specs.declared.tree.Function.{Function}
-use Rattle.script_text.specs.Grammar.{Token, tok, decimal, IsScript, IsViable}
-use Rattle.script_text.specs.Nesting.{functions_nesting}
-use Rattle.script_text.specs.Fault.{is_fn, functions_begun, IsNested, BreaksLimit, number_out_of_range, name_too_long, nested_too_deep, too_many_functions, IsFault, unexpected, breaks_limit, Ending, FaultAtStop, FaultBehind, WithinBehind, IsProgram}
+use Rattle.script_grammar.specs.declared.tree.Function.{Function}
+use Rattle.script_grammar.specs.Grammar.{Token, tok, decimal, IsScript, IsViable}
+use Rattle.script_grammar.specs.Nesting.{functions_nesting}
+use Rattle.script_grammar.specs.Fault.{is_fn, functions_begun, IsNested, BreaksLimit, number_out_of_range, name_too_long, nested_too_deep, too_many_functions, IsFault, unexpected, breaks_limit, Ending, FaultAtStop, FaultBehind, WithinBehind, IsProgram}
 use Rattle.script_text.specs.Machine.{Sym, functions, same_word, is_empty, step, run, depth, Trace, onward, trace, all_empty, Fault, broken, unless_broken, verdict, at_stop, begun, judge}
 use Rattle.script_text.proofs.Words.{same_words}
 use Rattle.script_text.proofs.Follows.{behind, script_traced, script_runs}

@@ -6,11 +6,11 @@ use Rattle.script_tokens.specs.Lexing.{text_of}
 use Rattle.script_text.specs.declared.error.SyntaxError.{SyntaxError}
 use Rattle.script_text.specs.declared.error.SyntaxError.TheVariants.{Bad, Memory}
 use Rattle.script_text.specs.declared.parser.source.Source.{Source}
-use Rattle.script_text.specs.declared.tree.Name.{Name}
-use Rattle.script_text.specs.declared.tree.Expr.{Expr}
-use Rattle.script_text.specs.declared.tree.CallText.{CallText}
-use Rattle.script_text.specs.declared.tree.Act.TheVariants as act
-use Rattle.script_text.specs.Grammar.{Token, tok, name_at, IsExpr, IsMoreArgs, IsInto, no_into, an_into, stmt_at, IsStmt, a_pfor}
+use Rattle.script_grammar.specs.declared.tree.Name.{Name}
+use Rattle.script_grammar.specs.declared.tree.Expr.{Expr}
+use Rattle.script_grammar.specs.declared.tree.CallText.{CallText}
+use Rattle.script_grammar.specs.declared.tree.Act.TheVariants as act
+use Rattle.script_grammar.specs.Grammar.{Token, tok, name_at, IsExpr, IsMoreArgs, IsInto, no_into, an_into, stmt_at, IsStmt, a_pfor}
 use Rattle.script_text.specs.Machine.{Sym, only, exactly, loop_args, more_args, into, loop_name, stmts, expr_then, same_bytes, rules, find_rule, depth, judge}
 use Rattle.script_text.specs.Reads.{seen, ending, Leads, Errs, NextIs, NextIsNot, NextLexeme, IsBracket, Names, unexpected_in, IsName, a_name_token, AddsArgs, IsBounds, bounds, IsLoopCall, loop_call}
 use Rattle.script_text.proofs.Sound.{same_name}

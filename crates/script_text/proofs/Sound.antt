@@ -4,20 +4,20 @@ use Rattle.std.proofs.lemmas.Bool.{eqb-true}
 use Rattle.std.proofs.lemmas.Option.{none-some, same_Some, option_and_then_some}
 use Rattle.script_tokens.specs.declared.token.Word.{Word}
 use Rattle.script_tokens.specs.declared.token.Word.TheVariants as word
-use Rattle.script_text.specs.declared.tree.Name.{Name}
-use Rattle.script_text.specs.declared.tree.Kind.{Kind}
-use Rattle.script_text.specs.declared.tree.Expr.{Expr}
-use Rattle.script_text.specs.declared.tree.Expr.TheVariants as expr
-use Rattle.script_text.specs.declared.tree.SumPart.{SumPart}
-use Rattle.script_text.specs.declared.tree.ProductPart.{ProductPart}
-use Rattle.script_text.specs.declared.tree.ProductSign.{ProductSign}
-use Rattle.script_text.specs.declared.tree.Comparison.{Comparison}
-use Rattle.script_text.specs.declared.tree.CallText.{CallText}
-use Rattle.script_text.specs.declared.tree.Right.{Right}
-use Rattle.script_text.specs.declared.tree.Stmt.{Stmt}
-use Rattle.script_text.specs.declared.tree.Param.{Param}
-use Rattle.script_text.specs.declared.tree.Function.{Function}
-use Rattle.script_text.specs.Grammar.{Token, tok, number_at, IsSumSign, a_plus, a_minus, IsProductSign, a_times, an_over, a_modulo, IsComparison, an_eq, a_ne, a_lt, a_le, a_gt, a_ge, IsFactor, a_neg, a_number, a_name, an_item, a_group, a_same, an_older, factors, IsFactors, no_factors, one_factor, IsSum, terms, IsTerms, no_terms, one_term, IsExpr, alone, compared, IsMoreArgs, no_more_args, one_more_arg, IsArgs, no_args, some_args, IsCall, a_call, IsRight, right_value, right_draw, right_new, right_call, right_spawn, IsInto, no_into, an_into, IsStmt, a_let, an_array, a_set, a_store, a_spawn, a_call_stmt, a_sync, a_print, an_if, a_while, a_pfor, IsStmts, no_stmts, one_stmt, IsBlock, a_block, IsElse, no_else, an_else, IsParam, int_param, id_param, IsMoreParams, no_more_params, one_more_param, IsParams, no_params, some_params, IsAnswer, int_answer, id_answer, a_function, IsFunctions, no_functions, one_function, IsScript, IsViable}
+use Rattle.script_grammar.specs.declared.tree.Name.{Name}
+use Rattle.script_grammar.specs.declared.tree.Kind.{Kind}
+use Rattle.script_grammar.specs.declared.tree.Expr.{Expr}
+use Rattle.script_grammar.specs.declared.tree.Expr.TheVariants as expr
+use Rattle.script_grammar.specs.declared.tree.SumPart.{SumPart}
+use Rattle.script_grammar.specs.declared.tree.ProductPart.{ProductPart}
+use Rattle.script_grammar.specs.declared.tree.ProductSign.{ProductSign}
+use Rattle.script_grammar.specs.declared.tree.Comparison.{Comparison}
+use Rattle.script_grammar.specs.declared.tree.CallText.{CallText}
+use Rattle.script_grammar.specs.declared.tree.Right.{Right}
+use Rattle.script_grammar.specs.declared.tree.Stmt.{Stmt}
+use Rattle.script_grammar.specs.declared.tree.Param.{Param}
+use Rattle.script_grammar.specs.declared.tree.Function.{Function}
+use Rattle.script_grammar.specs.Grammar.{Token, tok, number_at, IsSumSign, a_plus, a_minus, IsProductSign, a_times, an_over, a_modulo, IsComparison, an_eq, a_ne, a_lt, a_le, a_gt, a_ge, IsFactor, a_neg, a_number, a_name, an_item, a_group, a_same, an_older, factors, IsFactors, no_factors, one_factor, IsSum, terms, IsTerms, no_terms, one_term, IsExpr, alone, compared, IsMoreArgs, no_more_args, one_more_arg, IsArgs, no_args, some_args, IsCall, a_call, IsRight, right_value, right_draw, right_new, right_call, right_spawn, IsInto, no_into, an_into, IsStmt, a_let, an_array, a_set, a_store, a_spawn, a_call_stmt, a_sync, a_print, an_if, a_while, a_pfor, IsStmts, no_stmts, one_stmt, IsBlock, a_block, IsElse, no_else, an_else, IsParam, int_param, id_param, IsMoreParams, no_more_params, one_more_param, IsParams, no_params, some_params, IsAnswer, int_answer, id_answer, a_function, IsFunctions, no_functions, one_function, IsScript, IsViable}
 use Rattle.script_text.specs.Machine.{Sym, only, exactly, factor, index, pair, more_factors, more_terms, comparison, minus_end, args, more_args, call_args, right, into, loop_name, loop_args, stmts, after_let, after_name, block, otherwise, functions, param_list, params, more_params, param, answer, body, same_word, same_bytes, Rule, factor_rules, expr_then, rules, is_empty, find_rule, choose, step, run}
 use Rattle.script_text.proofs.Words.{same_words}
 use Rattle.script_text.proofs.Follows.{script_runs}

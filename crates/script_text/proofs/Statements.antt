@@ -7,19 +7,19 @@ use Rattle.script_tokens.specs.Lexing.{text_of}
 use Rattle.script_text.specs.declared.error.SyntaxError.{SyntaxError}
 use Rattle.script_text.specs.declared.error.SyntaxError.TheVariants.{Bad, Memory}
 use Rattle.script_text.specs.declared.parser.source.Source.{Source}
-use Rattle.script_text.specs.declared.tree.Name.{Name}
-use Rattle.script_text.specs.declared.tree.Number.{Number}
-use Rattle.script_text.specs.declared.tree.Expr.{Expr}
-use Rattle.script_text.specs.declared.tree.CallText.{CallText}
-use Rattle.script_text.specs.declared.tree.Right.{Right}
-use Rattle.script_text.specs.declared.tree.Right.TheVariants as right
-use Rattle.script_text.specs.declared.tree.Act.{Act}
-use Rattle.script_text.specs.declared.tree.Act.TheVariants as act
-use Rattle.script_text.specs.declared.tree.Stmt.{Stmt}
-use Rattle.script_text.specs.Grammar.{Token, tok, name_at, number_at, IsExpr, IsMoreArgs, no_more_args, one_more_arg, IsArgs, no_args, some_args, IsCall, a_call, IsRight, right_value, right_draw, right_new, right_call, right_spawn, IsInto, no_into, an_into, stmt_at, IsStmt, a_let, an_array, a_set, a_store, a_spawn, a_call_stmt, a_sync, a_print, an_if, a_while, a_pfor, IsStmts, no_stmts, one_stmt, IsBlock, a_block, IsElse, no_else, an_else}
+use Rattle.script_grammar.specs.declared.tree.Name.{Name}
+use Rattle.script_grammar.specs.declared.tree.Number.{Number}
+use Rattle.script_grammar.specs.declared.tree.Expr.{Expr}
+use Rattle.script_grammar.specs.declared.tree.CallText.{CallText}
+use Rattle.script_grammar.specs.declared.tree.Right.{Right}
+use Rattle.script_grammar.specs.declared.tree.Right.TheVariants as right
+use Rattle.script_grammar.specs.declared.tree.Act.{Act}
+use Rattle.script_grammar.specs.declared.tree.Act.TheVariants as act
+use Rattle.script_grammar.specs.declared.tree.Stmt.{Stmt}
+use Rattle.script_grammar.specs.Grammar.{Token, tok, name_at, number_at, IsExpr, IsMoreArgs, no_more_args, one_more_arg, IsArgs, no_args, some_args, IsCall, a_call, IsRight, right_value, right_draw, right_new, right_call, right_spawn, IsInto, no_into, an_into, stmt_at, IsStmt, a_let, an_array, a_set, a_store, a_spawn, a_call_stmt, a_sync, a_print, an_if, a_while, a_pfor, IsStmts, no_stmts, one_stmt, IsBlock, a_block, IsElse, no_else, an_else}
 use Rattle.script_text.specs.Machine as machine
 use Rattle.script_text.specs.Machine.{Sym, only, exactly, loop_args, call_args, more_args, into, loop_name, stmts, after_let, after_name, block, otherwise, expr_then, rules, rule, is_empty, find_rule, step, depth, at_stop, verdict, begun, judge}
-use Rattle.script_text.specs.Text.{token_of}
+use Rattle.script_grammar.specs.Text.{token_of}
 use Rattle.script_text.specs.Reads.{seen, ending, Leads, Errs, NextIs, NextIsNot, IsBracket, Deepens, Names, is_plain, unexpected_in, IsName, a_name_token, IsNumber, a_number_token, IsValueOf, value_of, IsEnded, ended, IsCallOf, call_of, IsSize, a_size, IsElement, an_element, begins_stmt, NoStmt}
 use Rattle.script_text.proofs.Steps.{taken, deep, name_taken, name_long, HasNone, skipped, has_none, other_word, seen-next, err_behind, unexpected_err, Comes, Passed, Opened}
 use Rattle.script_text.proofs.Expressions.{first_is, expr_shorter, length-seen}

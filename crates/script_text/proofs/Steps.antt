@@ -10,10 +10,10 @@ use Rattle.script_tokens.specs.Lexing.{text_of}
 use Rattle.script_text.specs.declared.error.SyntaxError.{SyntaxError}
 use Rattle.script_text.specs.declared.error.SyntaxError.TheVariants.{Bad, Memory}
 use Rattle.script_text.specs.declared.parser.source.Source.{Source}
-use Rattle.script_text.specs.Grammar.{Token, tok, decimal}
-use Rattle.script_text.specs.Fault.{Ending}
+use Rattle.script_grammar.specs.Grammar.{Token, tok, decimal}
+use Rattle.script_grammar.specs.Fault.{Ending}
 use Rattle.script_text.specs.Machine.{Sym, only, rule, same_word, rules, is_empty, find_rule, choose, step, depth, all_empty, Fault, broken, unless_broken, verdict, at_stop, begun, judge}
-use Rattle.script_text.specs.Text.{token_of}
+use Rattle.script_grammar.specs.Text.{token_of}
 use Rattle.script_text.specs.Reads.{seen, ending, Leads, stopped_at, unexpected_in, NextIs, NextIsNot, is_plain, Errs, Passes, IsBracket, Opens, Deepens}
 use Rattle.script_text.proofs.Words.{same_words, same_word-refl}
 

@@ -8,10 +8,10 @@ use Rattle.script_tokens.proofs.LexingLemmas.{lexing_unique}
 use Rattle.script_text.specs.declared.error.SyntaxError.{SyntaxError}
 use Rattle.script_text.specs.declared.error.SyntaxError.TheVariants.{Bad}
 use Rattle.script_text.specs.declared.parser.source.Source.{Source}
-use Rattle.script_text.specs.declared.tree.Script.{Script}
-use Rattle.script_text.specs.declared.tree.Function.{Function}
-use Rattle.script_text.specs.Fault.{FaultBehind, IsProgram}
-use Rattle.script_text.specs.Text.{tokens_of, Text, SyntaxFault}
+use Rattle.script_grammar.specs.declared.tree.Script.{Script}
+use Rattle.script_grammar.specs.declared.tree.Function.{Function}
+use Rattle.script_grammar.specs.Fault.{FaultBehind, IsProgram}
+use Rattle.script_grammar.specs.Text.{tokens_of, Text, SyntaxFault}
 use Rattle.script_text.specs.Reads.{seen, ending, Judges}
 use Rattle.script_text.proofs.Judged.{bad_is_fault, none_is_program, never_bad}
 use Rattle.script_text.proofs.Same.{same_functions}

@@ -8,8 +8,8 @@ use Rattle.script_tokens.specs.declared.token.Word.{Word}
 use Rattle.script_tokens.specs.declared.token.Word.TheVariants as word
 use Rattle.script_tokens.specs.declared.lexing.Stop.{Stop}
 use Rattle.script_tokens.specs.declared.lexing.Stop.TheVariants.{End, NotAscii, NoToken}
-use Rattle.script_text.specs.Grammar.{Token, decimal}
-use Rattle.script_text.specs.Fault.{is_fn, Ending}
+use Rattle.script_grammar.specs.Grammar.{Token, decimal}
+use Rattle.script_grammar.specs.Fault.{is_fn, Ending}
 
 pub data Sym : Type 0 where
   -- a token of that word, or the name with these bytes

@@ -7,22 +7,22 @@ use Rattle.script_tokens.specs.declared.token.Lexeme.{Lexeme}
 use Rattle.script_tokens.specs.declared.lexing.Stop.{Stop}
 use Rattle.script_tokens.specs.declared.lexing.Stop.TheVariants.{End, NotAscii, NoToken}
 use Rattle.script_tokens.specs.Lexing.{text_of}
-use Rattle.script_text.specs.declared.tree.Name.{Name}
-use Rattle.script_text.specs.declared.tree.Number.{Number}
-use Rattle.script_text.specs.declared.tree.Expr.{Expr}
-use Rattle.script_text.specs.declared.tree.CallText.{CallText}
-use Rattle.script_text.specs.declared.tree.Right.{Right}
-use Rattle.script_text.specs.declared.tree.Act.{Act}
-use Rattle.script_text.specs.declared.tree.Stmt.{Stmt}
-use Rattle.script_text.specs.declared.tree.Param.{Param}
-use Rattle.script_text.specs.declared.tree.Function.{Function}
-use Rattle.script_text.specs.declared.tree.Script.{Script}
+use Rattle.script_grammar.specs.declared.tree.Name.{Name}
+use Rattle.script_grammar.specs.declared.tree.Number.{Number}
+use Rattle.script_grammar.specs.declared.tree.Expr.{Expr}
+use Rattle.script_grammar.specs.declared.tree.CallText.{CallText}
+use Rattle.script_grammar.specs.declared.tree.Right.{Right}
+use Rattle.script_grammar.specs.declared.tree.Act.{Act}
+use Rattle.script_grammar.specs.declared.tree.Stmt.{Stmt}
+use Rattle.script_grammar.specs.declared.tree.Param.{Param}
+use Rattle.script_grammar.specs.declared.tree.Function.{Function}
+use Rattle.script_grammar.specs.declared.tree.Script.{Script}
 use Rattle.script_text.specs.declared.error.SyntaxError.{SyntaxError}
 use Rattle.script_text.specs.declared.error.SyntaxError.TheVariants.{Bad, Memory}
 use Rattle.script_text.specs.declared.parser.source.Source.{Source}
-use Rattle.script_text.specs.Grammar.{Token, tok, name_at, number_at, decimal, IsExpr, IsMoreArgs, IsArgs, IsCall, IsRight, stmt_at, IsStmt, IsStmts, IsMoreParams, IsParams, IsFunction, IsFunctions, IsScript}
-use Rattle.script_text.specs.Fault.{Ending}
-use Rattle.script_text.specs.Text.{tokens_of}
+use Rattle.script_grammar.specs.Grammar.{Token, tok, name_at, number_at, decimal, IsExpr, IsMoreArgs, IsArgs, IsCall, IsRight, stmt_at, IsStmt, IsStmts, IsMoreParams, IsParams, IsFunction, IsFunctions, IsScript}
+use Rattle.script_grammar.specs.Fault.{Ending}
+use Rattle.script_grammar.specs.Text.{tokens_of}
 use Rattle.script_text.specs.Machine.{Sym, only, exactly, pair, stmts, after_name, functions, body, expr_then, rules, rule, find_rule, is_empty, depth, judge, code}
 
 abbrev pub seen : Source → List Lexeme → List Token

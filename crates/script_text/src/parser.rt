@@ -9,13 +9,14 @@ mod statement;
 
 ghost use Rattle.std.specs.Prelude.{◌≡◌, ◌≢◌, ℕ, ◌≤◌, length, Err, IfOk};
 ghost use Rattle.script_tokens.specs.declared.lexing.TheConstants.{MAX_BYTES};
-ghost use Rattle.script_text.specs.declared.tree.Script.{Script};
-ghost use Rattle.script_text.specs.Text.{Text, SyntaxFault, NextAnswer};
+ghost use Rattle.script_grammar.specs.declared.tree.Script.{Script};
+ghost use Rattle.script_grammar.specs.Text.{Text, SyntaxFault};
+ghost use Rattle.script_text.specs.NextAnswer.{NextAnswer};
 
 use crate::error::SyntaxError;
 use crate::parser::function::script;
 use crate::parser::source::Source;
-use crate::tree::Script;
+use script_grammar::Script;
 use script_tokens::{MAX_BYTES, Misfit, Token, lexemes};
 use std::alloc::Global;
 

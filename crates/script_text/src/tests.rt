@@ -95,6 +95,23 @@ fn scripts_have_a_tree(rt: HostRuntime) {
     }
 }
 
+// A front of a script is one itself where it ends behind a function, and else has fault 6 at its end or fault 2 in front of that.
+#[test]
+fn fronts_of_a_longer_script_are_refused(rt: HostRuntime) {
+    let text =
+        b"fn sq(i) { return i * i; } fn main() { let a[5]; pfor i in 0..5 into a call sq(i); let k = 0; while k < 5 { print a[k]; k = k + 1; } return 0; }";
+    for length in 0..text.len() {
+        match fault(&rt, rt.alloc(), &text[..length]) {
+            None => assert!(rt; length == 0 || length == 26 || length == 27, "at {length}"),
+            Some((6, at)) => assert_eq!(rt; at, length as u32),
+            Some((number, at)) => {
+                assert_eq!(rt; number, 2, "at {length}");
+                assert!(rt; (at as usize) < length, "at {length}");
+            }
+        }
+    }
+}
+
 #[test]
 fn fronts_of_a_script_are_unfinished(rt: HostRuntime) {
     let text = b"fn main() { print 1; return 0; }";

@@ -1,7 +1,7 @@
 -- The children of a node of the open tree have paths of one rank more, which rise, and its own fault stands behind them.
 use Rattle.std.proofs.Common.{◌≡◌, ℕ, zero, suc, ◌+◌, ◌-◌, ◌<◌, ◌≤◌, Bool, true, false, List, [], ◌∷◌, ◌++◌, Option, Some, None, Result, Ok, Err, map, refl, sym, subst, append-nil, if◌then◌else◌, arith}
 use Rattle.std.proofs.Common.{ℤ}
-use Rattle.script_text.specs.declared.tree.Function.{Function}
+use Rattle.script_grammar.specs.declared.tree.Function.{Function}
 use Rattle.serial_meaning.specs.Runs.{Run, done, behind, goes_on, ◌then◌}
 use Rattle.serial_meaning.specs.Values.{Env}
 use Rattle.serial_meaning.specs.Functions.{function_at}

@@ -7,15 +7,15 @@ use Rattle.serial_meaning.specs.Values.{value_of, values_of, slot_of, items_of, 
 use Rattle.dotmix.specs.Draws.{dotmix}
 use Rattle.serial_meaning.specs.Functions.{number_of, function_at, any_spawns}
 use Rattle.serial_meaning.specs.Exec.{State, Manner, Block, strand, fault, emit, given, paid_from, tested, has_room, fits_depth, filled, spawn, join, implied, returned, activation, called, right_side, found, looped, does, statement, each, statements, exec, count_of, set_scalar, set_array, bound}
-use Rattle.script_text.specs.declared.tree.Name.{Name}
-use Rattle.script_text.specs.declared.tree.Function.{Function}
-use Rattle.script_text.specs.declared.tree.CallText.{CallText}
-use Rattle.script_text.specs.declared.tree.Right.{Right}
-use Rattle.script_text.specs.declared.tree.Right.TheVariants as right
-use Rattle.script_text.specs.declared.tree.Stmt.{Stmt, out-Stmt}
-use Rattle.script_text.specs.declared.tree.Act.{Act, out-Act}
-use Rattle.script_text.specs.declared.tree.Act.TheOpen as act
-use Rattle.script_text.specs.declared.tree.Act.TheOpen.{Act-F, Stmt-F}
+use Rattle.script_grammar.specs.declared.tree.Name.{Name}
+use Rattle.script_grammar.specs.declared.tree.Function.{Function}
+use Rattle.script_grammar.specs.declared.tree.CallText.{CallText}
+use Rattle.script_grammar.specs.declared.tree.Right.{Right}
+use Rattle.script_grammar.specs.declared.tree.Right.TheVariants as right
+use Rattle.script_grammar.specs.declared.tree.Stmt.{Stmt, out-Stmt}
+use Rattle.script_grammar.specs.declared.tree.Act.{Act, out-Act}
+use Rattle.script_grammar.specs.declared.tree.Act.TheOpen as act
+use Rattle.script_grammar.specs.declared.tree.Act.TheOpen.{Act-F, Stmt-F}
 use Rattle.serial_meaning.specs.declared.value.Value.{Value}
 use Rattle.serial_meaning.specs.declared.value.Value.TheVariants.{Int, Id}
 use Rattle.serial_meaning.specs.declared.event.FaultKind.{FaultKind}

@@ -4,19 +4,19 @@ use Rattle.std.specs.Int.{w64, int_wrapping_neg}
 use Rattle.std.specs.Str.{bytes_eq}
 use Rattle.std.specs.Ordering.{nat_cmp, is_lt}
 use Rattle.std.specs.Cmp.Lexicographic.{slice_cmp}
-use Rattle.script_text.specs.declared.tree.Name.{Name}
-use Rattle.script_text.specs.declared.tree.Number.{Number}
-use Rattle.script_text.specs.declared.tree.Comparison.{Comparison}
-use Rattle.script_text.specs.declared.tree.Expr.{Expr, map-Expr, roll-Expr, fold-roll-Expr}
-use Rattle.script_text.specs.declared.tree.Expr.TheOpen as node
-use Rattle.script_text.specs.declared.tree.Expr.TheOpen.{Expr-F}
-use Rattle.script_text.specs.declared.tree.Expr.TheVariants as expr
-use Rattle.script_text.specs.declared.tree.SumPart.{SumPart}
-use Rattle.script_text.specs.declared.tree.ProductPart.{ProductPart}
-use Rattle.script_text.specs.declared.tree.ProductSign.{ProductSign}
-use Rattle.script_text.specs.declared.tree.Stmt.{Stmt, out-Stmt, fold_out-Stmt}
-use Rattle.script_text.specs.declared.tree.Act.{Act, out-Act, map-Act, fold_out-Act}
-use Rattle.script_text.specs.declared.tree.Act.TheFolds.{fold-Act}
+use Rattle.script_grammar.specs.declared.tree.Name.{Name}
+use Rattle.script_grammar.specs.declared.tree.Number.{Number}
+use Rattle.script_grammar.specs.declared.tree.Comparison.{Comparison}
+use Rattle.script_grammar.specs.declared.tree.Expr.{Expr, map-Expr, roll-Expr, fold-roll-Expr}
+use Rattle.script_grammar.specs.declared.tree.Expr.TheOpen as node
+use Rattle.script_grammar.specs.declared.tree.Expr.TheOpen.{Expr-F}
+use Rattle.script_grammar.specs.declared.tree.Expr.TheVariants as expr
+use Rattle.script_grammar.specs.declared.tree.SumPart.{SumPart}
+use Rattle.script_grammar.specs.declared.tree.ProductPart.{ProductPart}
+use Rattle.script_grammar.specs.declared.tree.ProductSign.{ProductSign}
+use Rattle.script_grammar.specs.declared.tree.Stmt.{Stmt, out-Stmt, fold_out-Stmt}
+use Rattle.script_grammar.specs.declared.tree.Act.{Act, out-Act, map-Act, fold_out-Act}
+use Rattle.script_grammar.specs.declared.tree.Act.TheFolds.{fold-Act}
 use Rattle.serial_meaning.specs.Runs.{◌>>=◌}
 use Rattle.serial_meaning.specs.Functions.{act_spawns, spawns}
 use Rattle.serial_meaning.specs.Values.{Meaning, Env, slot_of, scalar, items_of, number, object, truth, item, compared, sums, products, value_at, product_at, sum_at, value_of, sum_part, product_part}

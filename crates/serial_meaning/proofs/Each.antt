@@ -3,7 +3,7 @@ use Rattle.std.proofs.Common.{◌≡◌, ℕ, zero, suc, ◌+◌, ◌<◌, true,
 use Rattle.std.proofs.Common.{ℤ}
 use Rattle.std.specs.Prelude.{Contains}
 use Rattle.dotmix.specs.Draws.{dotmix}
-use Rattle.script_text.specs.declared.tree.Function.{Function}
+use Rattle.script_grammar.specs.declared.tree.Function.{Function}
 use Rattle.serial_meaning.specs.Runs.{Run, done, goes_on, ◌then◌}
 use Rattle.serial_meaning.specs.Plan.{PlanView}
 use Rattle.serial_meaning.specs.Exec.{State, Manner, strand, activation, exec, instance, filled, fits_depth, bound}

@@ -1,15 +1,15 @@
 -- A child that faults beside a parent that goes on until its budget is spent.
 use Rattle.std.proofs.Common.{◌≡◌, ℕ, zero, suc, false, List, [], ◌∷◌, Option, Some, None, Ok, Err, codes, refl, ap, ◌∙◌, rules}
 use Rattle.std.proofs.Common.{pos}
-use Rattle.script_text.specs.declared.tree.Expr.{Expr}
-use Rattle.script_text.specs.declared.tree.Expr.TheVariants as expr
-use Rattle.script_text.specs.declared.tree.Comparison.TheVariants as compares
-use Rattle.script_text.specs.declared.tree.ProductSign.TheVariants as sign
-use Rattle.script_text.specs.declared.tree.Right.TheVariants as right
-use Rattle.script_text.specs.declared.tree.Stmt.{Stmt, out-Stmt}
-use Rattle.script_text.specs.declared.tree.Act.{out-Act, the_lemmas}
-use Rattle.script_text.specs.declared.tree.Act.TheVariants as act
-use Rattle.script_text.specs.declared.tree.Act.TheOpen as node
+use Rattle.script_grammar.specs.declared.tree.Expr.{Expr}
+use Rattle.script_grammar.specs.declared.tree.Expr.TheVariants as expr
+use Rattle.script_grammar.specs.declared.tree.Comparison.TheVariants as compares
+use Rattle.script_grammar.specs.declared.tree.ProductSign.TheVariants as sign
+use Rattle.script_grammar.specs.declared.tree.Right.TheVariants as right
+use Rattle.script_grammar.specs.declared.tree.Stmt.{Stmt, out-Stmt}
+use Rattle.script_grammar.specs.declared.tree.Act.{out-Act, the_lemmas}
+use Rattle.script_grammar.specs.declared.tree.Act.TheVariants as act
+use Rattle.script_grammar.specs.declared.tree.Act.TheOpen as node
 use Rattle.serial_meaning.specs.Runs.{Run, done, stopped, behind, ◌then◌}
 use Rattle.serial_meaning.specs.Values.{value_of}
 use Rattle.serial_meaning.specs.Plan.{PlanView}

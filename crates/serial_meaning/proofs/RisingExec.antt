@@ -12,7 +12,7 @@ use Rattle.serial_meaning.proofs.RunLaws.{then-then}
 use Rattle.serial_meaning.proofs.Closed.{Closed, closed-exec, returned-q}
 use Rattle.serial_meaning.proofs.Order.{before-prefix}
 use Rattle.serial_meaning.proofs.Rising.{BeforeAll, Rise, rise-pairs, Within, Rising, rising-then, within-wider}
-use Rattle.script_text.specs.declared.tree.Function.{Function}
+use Rattle.script_grammar.specs.declared.tree.Function.{Function}
 use Rattle.serial_meaning.specs.declared.value.Value.{Value}
 use Rattle.serial_meaning.specs.declared.value.Value.TheVariants.{Int}
 use Rattle.serial_meaning.specs.declared.event.Fault.{Fault}

@@ -1,6 +1,6 @@
 -- Proofs of the examples: the meaning of each script is computed.
 use Rattle.std.proofs.Common.{refl}
-use Rattle.script_text.specs.declared.tree.Act.{out-Act}
+use Rattle.script_grammar.specs.declared.tree.Act.{out-Act}
 use Rattle.serial_meaning.specs.Examples.{ThreeStepsAreTooFew, FourStepsAreEnough, SpawnNeedsDepthTwo, DepthTwoIsEnoughForASpawn, EmptyLoopRaisesTheRank, TargetMustHaveRoom, CallsShareTheRank, ImpliedSyncRaisesTheRank, CallsEndAt256}
 use Rattle.serial_meaning.proofs.Computing.{value_of-number, value_of-variable, spawns-out}
 

@@ -1,14 +1,14 @@
 -- What the definitions say of small scripts. Each is the contract of a function of the module `examples`, which shows the script.
 use Rattle.std.specs.Prelude.{◌≡◌, ℕ, suc, List, [], ◌∷◌, Some, None, Ok, Err, codes}
 use Rattle.std.specs.Prelude.{pos}
-use Rattle.script_text.specs.declared.tree.Function.{Function}
-use Rattle.script_text.specs.declared.tree.Comparison.TheVariants as compares
-use Rattle.script_text.specs.declared.tree.Expr.TheVariants as expr
-use Rattle.script_text.specs.declared.tree.Stmt.{Stmt}
-use Rattle.script_text.specs.declared.tree.ProductSign.TheVariants as sign
-use Rattle.script_text.specs.declared.tree.Right.TheVariants as right
-use Rattle.script_text.specs.declared.tree.Act.TheVariants as act
-use Rattle.serial_meaning.specs.Trees.{named, number, variable, product, applied, call, spawn, stated, int_param, function}
+use Rattle.script_grammar.specs.declared.tree.Function.{Function}
+use Rattle.script_grammar.specs.declared.tree.Comparison.TheVariants as compares
+use Rattle.script_grammar.specs.declared.tree.Expr.TheVariants as expr
+use Rattle.script_grammar.specs.declared.tree.Stmt.{Stmt}
+use Rattle.script_grammar.specs.declared.tree.ProductSign.TheVariants as sign
+use Rattle.script_grammar.specs.declared.tree.Right.TheVariants as right
+use Rattle.script_grammar.specs.declared.tree.Act.TheVariants as act
+use Rattle.serial_meaning.specs.Trees.{named, number, variable, product, sum, applied, call, spawn, stated, int_param, function}
 use Rattle.serial_meaning.specs.Plan.{PlanView}
 use Rattle.serial_meaning.specs.Eval.{elision}
 use Rattle.serial_meaning.specs.Open.{faults}
@@ -68,13 +68,20 @@ abbrev pub EmptyLoopRaisesTheRank : Type 0
 EmptyLoopRaisesTheRank =
     elision (plan_of empty_loop 20) ≡ record { items = event.Loop (0 ∷ []) ∷ event.Draw (1 ∷ []) 210 ∷ event.Print (2 ∷ []) (Int (pos 210)) ∷ []; ending = Ok (Int (pos 0) ∷ []) }
 
+-- prints the five items
+abbrev pub printing_items : List Stmt
+printing_items =
+    stated (act.Let (named (codes "k")) (right.Value (number 0)))
+    ∷ stated (act.While (expr.Compare (variable (codes "k")) compares.Lt (number 5)) (stated (act.Print (expr.Item (named (codes "a")) (variable (codes "k")))) ∷ stated (act.Set (named (codes "k")) (right.Value (sum (variable (codes "k")) (number 1)))) ∷ []))
+    ∷ []
+
 abbrev pub six_squares_into_five : List Function
 six_squares_into_five =
     function (codes "sq") (int_param (codes "i") ∷ []) [] (product (variable (codes "i")) sign.Times (variable (codes "i")))
     ∷ function (codes "main") []
     (stated (act.Array (named (codes "a")) (record { at = 0; value = pos 5 }))
     ∷ stated (act.Pfor (named (codes "i")) (number 0) (number 6) (Some (named (codes "a"))) (applied (codes "sq") []))
-    ∷ [])
+    ∷ printing_items)
     (number 0)
     ∷ []
 

@@ -1,13 +1,13 @@
 -- The functions of a script.
 use Rattle.std.specs.Prelude.{ℕ, suc, Bool, true, false, ◌||◌, List, [], ◌∷◌, Option, codes, map, slice_get, if◌then◌else◌}
 use Rattle.std.specs.Str.{bytes_eq}
-use Rattle.script_text.specs.declared.tree.Function.{Function}
-use Rattle.script_text.specs.declared.tree.Right.{Right}
-use Rattle.script_text.specs.declared.tree.Right.TheVariants as right
-use Rattle.script_text.specs.declared.tree.Stmt.{Stmt}
-use Rattle.script_text.specs.declared.tree.Act.TheOpen as act
-use Rattle.script_text.specs.declared.tree.Act.TheOpen.{Act-F, Stmt-F}
-use Rattle.script_text.specs.declared.tree.Act.TheFolds.{fold-Stmt}
+use Rattle.script_grammar.specs.declared.tree.Function.{Function}
+use Rattle.script_grammar.specs.declared.tree.Right.{Right}
+use Rattle.script_grammar.specs.declared.tree.Right.TheVariants as right
+use Rattle.script_grammar.specs.declared.tree.Stmt.{Stmt}
+use Rattle.script_grammar.specs.declared.tree.Act.TheOpen as act
+use Rattle.script_grammar.specs.declared.tree.Act.TheOpen.{Act-F, Stmt-F}
+use Rattle.script_grammar.specs.declared.tree.Act.TheFolds.{fold-Stmt}
 
 -- the place of the first function of this name, or the number of functions where there is none
 abbrev pub number_of : List Function → List ℕ → ℕ

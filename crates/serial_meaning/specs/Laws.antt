@@ -4,8 +4,8 @@ use Rattle.std.specs.Prelude.{ℤ}
 use Rattle.ped_path.specs.Path.{IsBefore}
 use Rattle.dotmix.specs.Draws.{dotmix}
 use Rattle.loop_range.specs.Range.{Range}
-use Rattle.script_text.specs.declared.tree.Expr.{Expr}
-use Rattle.script_text.specs.declared.tree.Stmt.{Stmt}
+use Rattle.script_grammar.specs.declared.tree.Expr.{Expr}
+use Rattle.script_grammar.specs.declared.tree.Stmt.{Stmt}
 use Rattle.serial_meaning.specs.Runs.{done, ◌then◌}
 use Rattle.serial_meaning.specs.Values.{Env, slot_of, value_of}
 use Rattle.serial_meaning.specs.Names.{names_in}

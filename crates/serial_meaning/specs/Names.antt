@@ -1,11 +1,11 @@
 -- The variables that an expression names.
 use Rattle.std.specs.Prelude.{ℕ, List, [], ◌∷◌, ◌++◌}
-use Rattle.script_text.specs.declared.tree.Expr.{Expr}
-use Rattle.script_text.specs.declared.tree.Expr.TheFolds.{fold-Expr, fold-SumPart, fold-ProductPart}
-use Rattle.script_text.specs.declared.tree.SumPart.{SumPart}
-use Rattle.script_text.specs.declared.tree.ProductPart.{ProductPart}
-use Rattle.script_text.specs.declared.tree.Expr.TheOpen as node
-use Rattle.script_text.specs.declared.tree.Expr.TheOpen.{Expr-F, SumPart-F, ProductPart-F}
+use Rattle.script_grammar.specs.declared.tree.Expr.{Expr}
+use Rattle.script_grammar.specs.declared.tree.Expr.TheFolds.{fold-Expr, fold-SumPart, fold-ProductPart}
+use Rattle.script_grammar.specs.declared.tree.SumPart.{SumPart}
+use Rattle.script_grammar.specs.declared.tree.ProductPart.{ProductPart}
+use Rattle.script_grammar.specs.declared.tree.Expr.TheOpen as node
+use Rattle.script_grammar.specs.declared.tree.Expr.TheOpen.{Expr-F, SumPart-F, ProductPart-F}
 
 abbrev pub Names : Type 0
 Names = List (List ℕ)

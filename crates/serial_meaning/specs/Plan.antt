@@ -1,7 +1,7 @@
 -- What is run.
 use Rattle.std.specs.Prelude.{◌≡◌, ◌≤◌, ℕ, List, length}
-use Rattle.script_text.specs.declared.tree.Script.{Script}
-use Rattle.script_text.specs.declared.tree.Function.{Function}
+use Rattle.script_grammar.specs.declared.tree.Script.{Script}
+use Rattle.script_grammar.specs.declared.tree.Function.{Function}
 use Rattle.serial_meaning.specs.declared.plan.Limits.{Limits}
 use Rattle.serial_meaning.specs.declared.plan.Show.{Show}
 

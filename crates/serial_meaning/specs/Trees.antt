@@ -1,18 +1,18 @@
 -- Scripts as trees, in short. All offsets are 0.
-use Rattle.std.specs.Prelude.{ℕ, List, [], ◌∷◌}
+use Rattle.std.specs.Prelude.{ℕ, false, List, [], ◌∷◌}
 use Rattle.std.specs.Prelude.{pos}
-use Rattle.script_text.specs.declared.tree.Name.{Name}
-use Rattle.script_text.specs.declared.tree.Param.{Param}
-use Rattle.script_text.specs.declared.tree.CallText.{CallText}
-use Rattle.script_text.specs.declared.tree.Function.{Function}
-use Rattle.script_text.specs.declared.tree.Kind.TheVariants as kind
-use Rattle.script_text.specs.declared.tree.Expr.{Expr}
-use Rattle.script_text.specs.declared.tree.Expr.TheVariants as expr
-use Rattle.script_text.specs.declared.tree.ProductSign.{ProductSign}
-use Rattle.script_text.specs.declared.tree.Right.{Right}
-use Rattle.script_text.specs.declared.tree.Right.TheVariants as right
-use Rattle.script_text.specs.declared.tree.Stmt.{Stmt}
-use Rattle.script_text.specs.declared.tree.Act.{Act}
+use Rattle.script_grammar.specs.declared.tree.Name.{Name}
+use Rattle.script_grammar.specs.declared.tree.Param.{Param}
+use Rattle.script_grammar.specs.declared.tree.CallText.{CallText}
+use Rattle.script_grammar.specs.declared.tree.Function.{Function}
+use Rattle.script_grammar.specs.declared.tree.Kind.TheVariants as kind
+use Rattle.script_grammar.specs.declared.tree.Expr.{Expr}
+use Rattle.script_grammar.specs.declared.tree.Expr.TheVariants as expr
+use Rattle.script_grammar.specs.declared.tree.ProductSign.{ProductSign}
+use Rattle.script_grammar.specs.declared.tree.Right.{Right}
+use Rattle.script_grammar.specs.declared.tree.Right.TheVariants as right
+use Rattle.script_grammar.specs.declared.tree.Stmt.{Stmt}
+use Rattle.script_grammar.specs.declared.tree.Act.{Act}
 
 abbrev pub named : List ℕ → Name
 named bytes = record { bytes = bytes; at = 0 }
@@ -26,6 +26,9 @@ variable x = expr.Var (named x)
 -- a product or quotient of two
 abbrev pub product : Expr → ProductSign → Expr → Expr
 product a sign b = expr.Product a (record { sign = sign; operand = b } ∷ [])
+
+abbrev pub sum : Expr → Expr → Expr
+sum a b = expr.Sum a (record { minus = false; operand = b } ∷ [])
 
 abbrev pub applied : List ℕ → List Expr → CallText
 applied f args = record { name = named f; args = args }

@@ -5,16 +5,16 @@ use Rattle.std.specs.Int.{w64, int_wrapping_add, int_wrapping_sub, int_wrapping_
 use Rattle.std.specs.Str.{bytes_eq}
 use Rattle.std.specs.Ordering.{nat_cmp, is_lt}
 use Rattle.std.specs.Cmp.Lexicographic.{slice_cmp}
-use Rattle.script_text.specs.declared.tree.Expr.{Expr}
-use Rattle.script_text.specs.declared.tree.Expr.TheFolds.{fold-Expr, fold-SumPart, fold-ProductPart}
-use Rattle.script_text.specs.declared.tree.SumPart.{SumPart}
-use Rattle.script_text.specs.declared.tree.ProductPart.{ProductPart}
-use Rattle.script_text.specs.declared.tree.Expr.TheOpen as node
-use Rattle.script_text.specs.declared.tree.Expr.TheOpen.{Expr-F, SumPart-F, ProductPart-F}
-use Rattle.script_text.specs.declared.tree.Comparison.{Comparison}
-use Rattle.script_text.specs.declared.tree.Comparison.TheVariants as compares
-use Rattle.script_text.specs.declared.tree.ProductSign.{ProductSign}
-use Rattle.script_text.specs.declared.tree.ProductSign.TheVariants as sign
+use Rattle.script_grammar.specs.declared.tree.Expr.{Expr}
+use Rattle.script_grammar.specs.declared.tree.Expr.TheFolds.{fold-Expr, fold-SumPart, fold-ProductPart}
+use Rattle.script_grammar.specs.declared.tree.SumPart.{SumPart}
+use Rattle.script_grammar.specs.declared.tree.ProductPart.{ProductPart}
+use Rattle.script_grammar.specs.declared.tree.Expr.TheOpen as node
+use Rattle.script_grammar.specs.declared.tree.Expr.TheOpen.{Expr-F, SumPart-F, ProductPart-F}
+use Rattle.script_grammar.specs.declared.tree.Comparison.{Comparison}
+use Rattle.script_grammar.specs.declared.tree.Comparison.TheVariants as compares
+use Rattle.script_grammar.specs.declared.tree.ProductSign.{ProductSign}
+use Rattle.script_grammar.specs.declared.tree.ProductSign.TheVariants as sign
 use Rattle.serial_meaning.specs.Runs.{◌>>=◌}
 use Rattle.serial_meaning.specs.declared.value.Value.{Value}
 use Rattle.serial_meaning.specs.declared.value.Value.TheVariants.{Int, Id}

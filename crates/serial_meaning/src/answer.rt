@@ -6,7 +6,7 @@ use crate::origin::Origin;
 use crate::out::Out;
 use crate::plan::Plan;
 use crate::value::Value;
-use script_text::Items;
+use script_grammar::Items;
 use std::marker::Model;
 use std::sync::Arc;
 

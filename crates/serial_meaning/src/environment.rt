@@ -1,5 +1,5 @@
 use crate::value::Value;
-use script_text::Items;
+use script_grammar::Items;
 
 /// What a variable of a function holds.
 #[derive(Drop)]

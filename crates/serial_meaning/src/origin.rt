@@ -1,7 +1,7 @@
 use crate::value::Value;
 use loop_range::IterRange;
 use ped_path::Ped;
-use script_text::Items;
+use script_grammar::Items;
 
 /// What a task begins as: an instance of a function, or iterations of a parallel loop. Functions go by their place in the script,
 /// from 0.

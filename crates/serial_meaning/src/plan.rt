@@ -7,7 +7,7 @@ use crate::memory::Memory;
 use crate::origin::Origin;
 use dotmix::Gamma;
 use ped_path::Ped;
-use script_text::{Function, Items, Script};
+use script_grammar::{Function, Items, Script};
 use std::alloc::Global;
 use std::marker::Model;
 
@@ -41,7 +41,7 @@ pub struct Plan {
 
 impl Model for Plan {
     ghost use Rattle.std.specs.Coded.{codes};
-    ghost use Rattle.script_text.specs.contracts.tree.Script as script_type;
+    ghost use Rattle.script_grammar.specs.contracts.tree.Script as script_type;
     ghost use Rattle.serial_meaning.specs.Plan.{PlanView, IsPlan};
 
     ghost Value = { PlanView };

@@ -3,7 +3,7 @@ use crate::{
 };
 use dotmix::Gamma;
 use ped_path::{Ped, Pedigree};
-use script_text::{Items, Script};
+use script_grammar::{Items, Script};
 use std::alloc::Global;
 use std::test::Fail;
 

@@ -2,15 +2,15 @@
 
 ghost use Rattle.std.specs.Prelude.{ℕ, ◌≤◌, ◌<◌, [], ◌∷◌};
 ghost use Rattle.script_tokens.specs.declared.token.Word.TheVariants as word;
-ghost use Rattle.script_text.specs.Grammar.{IsCall};
+ghost use Rattle.script_grammar.specs.Grammar.{IsCall};
 ghost use Rattle.script_text.specs.Machine.{only, args, more_args, call_args};
 ghost use Rattle.script_text.specs.Reads.{Reads, AddsArgs, IsArguments};
 
 use crate::error::SyntaxError;
-use crate::items::Items;
+use script_grammar::Items;
 use crate::parser::expression::expr;
 use crate::parser::source::{Source, after, expect, expect_name, open};
-use crate::tree::{CallText, Expr};
+use script_grammar::{CallText, Expr};
 use script_tokens::{Lexeme, Word};
 
 // What stands behind an argument: further ones, each behind a comma. They are put behind those that were found before.

@@ -1,16 +1,16 @@
 // Expressions.
 
 ghost use Rattle.std.specs.Prelude.{◌≡◌, ℕ, ◌≤◌, [], ◌∷◌, IfOk, MatchOption};
-ghost use Rattle.script_text.specs.Grammar.{IsFactor, IsFactors, IsTerm, IsTerms, IsSum, IsExpr, IsSumSign, IsProductSign, IsComparison, sum_of, product_of};
+ghost use Rattle.script_grammar.specs.Grammar.{IsFactor, IsFactors, IsTerm, IsTerms, IsSum, IsExpr, IsSumSign, IsProductSign, IsComparison, sum_of, product_of};
 ghost use Rattle.script_text.specs.Machine.{factor, more_factors, more_terms, comparison, pair, sum_then, expr_then};
 ghost use Rattle.script_text.specs.Reads.{Reads, ReadsPair, Signs, SignNext};
 ghost use Rattle.script_tokens.specs.declared.token.Word.TheVariants as word;
 
-use crate::boxed::Boxed;
+use script_grammar::Boxed;
 use crate::error::SyntaxError;
-use crate::items::Items;
+use script_grammar::Items;
 use crate::parser::source::{Source, after, deeper, expect, name_of, number_of, open, unexpected};
-use crate::tree::{Comparison, Expr, ProductPart, ProductSign, SumPart};
+use script_grammar::{Comparison, Expr, ProductPart, ProductSign, SumPart};
 use script_tokens::{Lexeme, Word};
 use std::alloc::{AllocError, Global};
 

@@ -2,15 +2,15 @@
 
 ghost use Rattle.std.specs.Prelude.{◌≡◌, ℕ, ◌≤◌, ◌<◌, [], ◌∷◌};
 ghost use Rattle.script_tokens.specs.declared.token.Word.TheVariants as word;
-ghost use Rattle.script_text.specs.Grammar.{IsParam, IsAnswer};
+ghost use Rattle.script_grammar.specs.Grammar.{IsParam, IsAnswer};
 ghost use Rattle.script_text.specs.Machine.{only, param, params, more_params, param_list, answer, body};
 ghost use Rattle.script_text.specs.Reads.{Reads, ReadsBody, ReadsFunctions, AddsParams, IsParamList, IsRestOfFunction, Judges};
 
 use crate::error::SyntaxError;
-use crate::items::Items;
+use script_grammar::Items;
 use crate::parser::source::{Source, after, expect, expect_name, open, unexpected};
 use crate::parser::statement::{ended_expr, stmts};
-use crate::tree::{Expr, Function, Kind, Param, Script, Stmt};
+use script_grammar::{Expr, Function, Kind, Param, Script, Stmt};
 use script_tokens::{Lexeme, Stop, Word};
 
 const MOST_FUNCTIONS: usize = 1024;

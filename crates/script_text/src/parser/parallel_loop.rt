@@ -2,7 +2,7 @@
 
 ghost use Rattle.std.specs.Prelude.{◌≡◌, ℕ, ◌≤◌, [], ◌∷◌, length};
 ghost use Rattle.script_tokens.specs.declared.token.Word.TheVariants as word;
-ghost use Rattle.script_text.specs.Grammar.{IsInto};
+ghost use Rattle.script_grammar.specs.Grammar.{IsInto};
 ghost use Rattle.script_text.specs.Machine.{only, into, loop_args};
 ghost use Rattle.script_text.specs.Reads.{Reads, ReadsAct, ReadsBounds, IsLoopCall, Repeats};
 
@@ -12,7 +12,7 @@ use crate::parser::expression::expr;
 use crate::parser::source::{
     Source, after, expect, expect_name, name_of, next, open, text, unexpected,
 };
-use crate::tree::{Act, CallText, Expr, Name};
+use script_grammar::{Act, CallText, Expr, Name};
 use script_tokens::{Lexeme, Word};
 
 // A statement that begins with `pfor`.

@@ -2,19 +2,19 @@
 
 ghost use Rattle.std.specs.Prelude.{◌≡◌, ℕ, ◌≤◌, [], ◌∷◌, true, MatchOption};
 ghost use Rattle.script_tokens.specs.declared.token.Word.TheVariants as word;
-ghost use Rattle.script_text.specs.Grammar.{IsRight, IsStmts, IsBlock, IsElse};
+ghost use Rattle.script_grammar.specs.Grammar.{IsRight, IsStmts, IsBlock, IsElse};
 ghost use Rattle.script_text.specs.Machine.{only, right, call_args, after_let, stmts, block, otherwise, expr_then};
 ghost use Rattle.script_text.specs.Reads.{Reads, ReadsAct, ReadsElement, IsCallOf, IsEnded, IsSize, IsValueOf, NextIsNot, NoStmt, begins_stmt};
 
 use crate::error::SyntaxError;
-use crate::items::Items;
+use script_grammar::Items;
 use crate::parser::call::call;
 use crate::parser::expression::expr;
 use crate::parser::parallel_loop::pfor;
 use crate::parser::source::{
     Source, after, deeper, expect, expect_name, expect_number, name_of, open, unexpected,
 };
-use crate::tree::{Act, CallText, Expr, Number, Right, Stmt};
+use script_grammar::{Act, CallText, Expr, Number, Right, Stmt};
 use script_tokens::{Lexeme, Word};
 
 // The right side of `let x = ..` and `x = ..`.

@@ -1,5 +1,5 @@
 use Rattle.std.proofs.Common.{rules, ◌≡◌, Err, true, false, IsFalse, ap, sym, ◌∙◌}
-use Rattle.script_text.specs.Text.{Text}
+use Rattle.script_grammar.specs.Text.{Text}
 use Rattle.script_text.specs.declared.error.SyntaxError.TheVariants.{Bad}
 use Rattle.engine.specs.Built.{is_built}
 use Rattle.engine.proofs.call.understand.Goals as goal

@@ -1,5 +1,5 @@
 use Rattle.std.proofs.Common.{◌≡◌, rules, sym, ◌&&◌}
-use Rattle.script_text.specs.declared.tree.Expr.{out-Expr, the_lemmas}
+use Rattle.script_grammar.specs.declared.tree.Expr.{out-Expr, the_lemmas}
 use Rattle.engine.specs.Built.{is_atom, are_added, is_sum}
 use Rattle.engine.proofs.BuiltLemmas.{sum_parts_added}
 use Rattle.engine.proofs.variables.sum_value.Goals as goal

@@ -1,5 +1,5 @@
 use Rattle.std.proofs.Common.{◌≡◌, ◌++◌, take}
-use Rattle.ped_path.proofs.TextLemmas.{stopped}
+use Rattle.ped_path.specs.Text.{stopped}
 use Rattle.ped_path.proofs.text.write_pedigree.Given as goal
 
 abbrev pub invariant-loop-i : goal.invariant-loop-i

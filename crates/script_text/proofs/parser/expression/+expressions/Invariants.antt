@@ -1,7 +1,7 @@
 use Rattle.std.proofs.Common.{List, [], ◌∷◌, ◌++◌, length, ◌+◌, ◌-◌, ◌*◌}
-use Rattle.script_text.specs.declared.tree.SumPart.{SumPart}
-use Rattle.script_text.specs.declared.tree.ProductPart.{ProductPart}
-use Rattle.script_text.specs.Grammar.{Token, IsTerms, IsFactors}
+use Rattle.script_grammar.specs.declared.tree.SumPart.{SumPart}
+use Rattle.script_grammar.specs.declared.tree.ProductPart.{ProductPart}
+use Rattle.script_grammar.specs.Grammar.{Token, IsTerms, IsFactors}
 use Rattle.script_text.specs.Machine.{more_terms, more_factors}
 use Rattle.script_text.specs.Reads.{seen, Leads}
 use Rattle.script_text.proofs.parser.expression.+expressions.Given as goal

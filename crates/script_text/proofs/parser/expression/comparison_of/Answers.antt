@@ -1,7 +1,7 @@
 use Rattle.std.proofs.Common.{◌≡◌, sym, subst}
 use Rattle.script_tokens.specs.declared.token.Word.{Word}
-use Rattle.script_text.specs.declared.tree.Comparison.{Comparison}
-use Rattle.script_text.specs.Grammar.{IsComparison, an_eq, a_ne, a_lt, a_le, a_gt, a_ge}
+use Rattle.script_grammar.specs.declared.tree.Comparison.{Comparison}
+use Rattle.script_grammar.specs.Grammar.{IsComparison, an_eq, a_ne, a_lt, a_le, a_gt, a_ge}
 use Rattle.script_text.proofs.parser.expression.comparison_of.Goals as goal
 
 at_word : {v w : Word} {s : Comparison} → v ≡ w → IsComparison w s → IsComparison v s

@@ -1,7 +1,7 @@
 use Rattle.std.proofs.Common.{◌≡◌, sym, subst}
 use Rattle.script_tokens.specs.declared.token.Word.{Word}
-use Rattle.script_text.specs.declared.tree.ProductSign.{ProductSign}
-use Rattle.script_text.specs.Grammar.{IsProductSign, a_times, an_over, a_modulo}
+use Rattle.script_grammar.specs.declared.tree.ProductSign.{ProductSign}
+use Rattle.script_grammar.specs.Grammar.{IsProductSign, a_times, an_over, a_modulo}
 use Rattle.script_text.proofs.parser.expression.product_sign_of.Goals as goal
 
 at_word : {v w : Word} {s : ProductSign} → v ≡ w → IsProductSign w s → IsProductSign v s

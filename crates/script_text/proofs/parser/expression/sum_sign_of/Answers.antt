@@ -1,6 +1,6 @@
 use Rattle.std.proofs.Common.{◌≡◌, Bool, sym, subst}
 use Rattle.script_tokens.specs.declared.token.Word.{Word}
-use Rattle.script_text.specs.Grammar.{IsSumSign, a_plus, a_minus}
+use Rattle.script_grammar.specs.Grammar.{IsSumSign, a_plus, a_minus}
 use Rattle.script_text.proofs.parser.expression.sum_sign_of.Goals as goal
 
 at_word : {v w : Word} {s : Bool} → v ≡ w → IsSumSign w s → IsSumSign v s

@@ -1,5 +1,5 @@
 use Rattle.std.proofs.Common.{◌≡◌, ◌≤◌, drop}
-use Rattle.script_text.specs.Grammar.{decimal}
+use Rattle.script_grammar.specs.Grammar.{decimal}
 use Rattle.script_text.proofs.parser.source.value_of.Given as goal
 
 abbrev pub invariant-loop-digit : goal.invariant-loop-digit

@@ -7,9 +7,9 @@ use Rattle.script_tokens.specs.declared.token.Word.{Word}
 use Rattle.script_tokens.specs.declared.token.Word.TheVariants as word
 use Rattle.script_tokens.specs.declared.lexing.Stop.{Stop}
 use Rattle.script_tokens.specs.declared.lexing.Stop.TheVariants.{End, NotAscii, NoToken}
-use Rattle.script_text.specs.declared.tree.Function.{Function}
-use Rattle.script_text.specs.Grammar.{Token, IsScript, IsViable, decimal}
-use Rattle.script_text.specs.Nesting.{functions_nesting}
+use Rattle.script_grammar.specs.declared.tree.Function.{Function}
+use Rattle.script_grammar.specs.Grammar.{Token, IsScript, IsViable, decimal}
+use Rattle.script_grammar.specs.Nesting.{functions_nesting}
 
 abbrev pub is_fn : Word → Bool
 is_fn word.Fn = true

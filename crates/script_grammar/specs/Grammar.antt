@@ -5,26 +5,26 @@
 use Rattle.std.specs.Prelude.{ℕ, ◌+◌, ◌*◌, ◌-◌, pos, Bool, true, false, List, [], ◌∷◌, ◌++◌, Option, Some, None}
 use Rattle.script_tokens.specs.declared.token.Word.{Word}
 use Rattle.script_tokens.specs.declared.token.Word.TheVariants as word
-use Rattle.script_text.specs.declared.tree.Name.{Name}
-use Rattle.script_text.specs.declared.tree.Number.{Number}
-use Rattle.script_text.specs.declared.tree.Expr.{Expr}
-use Rattle.script_text.specs.declared.tree.Expr.TheVariants as expr
-use Rattle.script_text.specs.declared.tree.SumPart.{SumPart}
-use Rattle.script_text.specs.declared.tree.ProductPart.{ProductPart}
-use Rattle.script_text.specs.declared.tree.ProductSign.{ProductSign}
-use Rattle.script_text.specs.declared.tree.ProductSign.TheVariants.{Times, Over, Modulo}
-use Rattle.script_text.specs.declared.tree.Comparison.{Comparison}
-use Rattle.script_text.specs.declared.tree.Comparison.TheVariants.{Eq, Ne, Lt, Le, Gt, Ge}
-use Rattle.script_text.specs.declared.tree.CallText.{CallText}
-use Rattle.script_text.specs.declared.tree.Right.{Right}
-use Rattle.script_text.specs.declared.tree.Right.TheVariants as right
-use Rattle.script_text.specs.declared.tree.Stmt.{Stmt}
-use Rattle.script_text.specs.declared.tree.Act.{Act}
-use Rattle.script_text.specs.declared.tree.Act.TheVariants as act
-use Rattle.script_text.specs.declared.tree.Kind.{Kind}
-use Rattle.script_text.specs.declared.tree.Kind.TheVariants.{Int, Id}
-use Rattle.script_text.specs.declared.tree.Param.{Param}
-use Rattle.script_text.specs.declared.tree.Function.{Function}
+use Rattle.script_grammar.specs.declared.tree.Name.{Name}
+use Rattle.script_grammar.specs.declared.tree.Number.{Number}
+use Rattle.script_grammar.specs.declared.tree.Expr.{Expr}
+use Rattle.script_grammar.specs.declared.tree.Expr.TheVariants as expr
+use Rattle.script_grammar.specs.declared.tree.SumPart.{SumPart}
+use Rattle.script_grammar.specs.declared.tree.ProductPart.{ProductPart}
+use Rattle.script_grammar.specs.declared.tree.ProductSign.{ProductSign}
+use Rattle.script_grammar.specs.declared.tree.ProductSign.TheVariants.{Times, Over, Modulo}
+use Rattle.script_grammar.specs.declared.tree.Comparison.{Comparison}
+use Rattle.script_grammar.specs.declared.tree.Comparison.TheVariants.{Eq, Ne, Lt, Le, Gt, Ge}
+use Rattle.script_grammar.specs.declared.tree.CallText.{CallText}
+use Rattle.script_grammar.specs.declared.tree.Right.{Right}
+use Rattle.script_grammar.specs.declared.tree.Right.TheVariants as right
+use Rattle.script_grammar.specs.declared.tree.Stmt.{Stmt}
+use Rattle.script_grammar.specs.declared.tree.Act.{Act}
+use Rattle.script_grammar.specs.declared.tree.Act.TheVariants as act
+use Rattle.script_grammar.specs.declared.tree.Kind.{Kind}
+use Rattle.script_grammar.specs.declared.tree.Kind.TheVariants.{Int, Id}
+use Rattle.script_grammar.specs.declared.tree.Param.{Param}
+use Rattle.script_grammar.specs.declared.tree.Function.{Function}
 
 -- a token: the offset of its first byte, its word and its bytes
 pub record Token : Type 0 where

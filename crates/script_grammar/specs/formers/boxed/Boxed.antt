@@ -17,10 +17,10 @@ use Rattle.std.specs.contracts.boxed.Box as box
 use Rattle.std.specs.declared.alloc.Global.{Global}
 use Rattle.std.specs.contracts.alloc.Global as heap
 use Rattle.std.specs.contracts.impls.GlobalAllocator.TheImpl.{ghosts}
-use Rattle.script_text.specs.declared.boxed.Boxed.TheInside.{Inside}
-use Rattle.script_text.specs.declared.boxed.Boxed.TheView.{view, invariant}
-use Rattle.script_text.specs.contracts.boxed.Boxed as C
-use Rattle.script_text.specs.contracts.boxed.Boxed.TheInside as I
+use Rattle.script_grammar.specs.declared.boxed.Boxed.TheInside.{Inside}
+use Rattle.script_grammar.specs.declared.boxed.Boxed.TheView.{view, invariant}
+use Rattle.script_grammar.specs.contracts.boxed.Boxed as C
+use Rattle.script_grammar.specs.contracts.boxed.Boxed.TheInside as I
 
 abbrev pub the_former : Former {0} → Former {0}
 the_former g = g

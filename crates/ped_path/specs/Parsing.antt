@@ -1,0 +1,75 @@
+-- What is wrong with a text that is no pedigree's, judged from left to right.
+use Rattle.std.specs.Prelude.{◌≡◌, ◌≢◌, ℕ, ◌+◌, ◌<◌, ◌≤◌, ◌^◌, ◌⊎◌, Bool, true, false, ◌&&◌, ◌==◌, List, [], ◌∷◌, ◌++◌, length, All, decimal}
+use Rattle.std.specs.Char.{is_ascii_digit}
+use Rattle.std.specs.Str.Parse.{AllDigits, digits_value}
+use Rattle.ped_path.specs.Path.{IsRank}
+use Rattle.ped_path.specs.Text.{stopped}
+use Rattle.ped_path.specs.declared.parse.PedTextError.{PedTextError}
+use Rattle.ped_path.specs.declared.parse.PedTextError.TheVariants.{Empty, BadByte, Zeros, TooBig, TooLong, Memory}
+
+abbrev pub begins_with_digit : List ℕ → Bool
+begins_with_digit [] = false
+begins_with_digit (c ∷ cs) = is_ascii_digit c
+
+-- a 0, and a digit behind it
+abbrev pub has_needless_zero : List ℕ → Bool
+has_needless_zero [] = false
+has_needless_zero (c ∷ cs) = (c == 48) && begins_with_digit cs
+
+-- Digits stand in front, without a needless zero, and the number that they write is no rank.
+pub record BeginsTooBig (rest : List ℕ) : Type 0 where
+  pub digits : List ℕ
+  pub behind : List ℕ
+  pub split : rest ≡ digits ++ behind
+  pub numeral : AllDigits 10 digits
+  pub needed : has_needless_zero rest ≡ false
+  pub big : 2 ^ 32 ≤ digits_value 10 digits
+
+-- A rank stands in front, and what stands behind it goes on with no digit.
+pub record IsRankThen (rest : List ℕ) (rank : ℕ) (behind : List ℕ) : Type 0 where
+  pub bounded : IsRank rank
+  pub split : rest ≡ decimal rank ++ behind
+  pub ended : begins_with_digit behind ≡ false
+
+-- Here a rank is needed, which begins at this offset, and this is wrong with it.
+abbrev pub IsRankFault : List ℕ → ℕ → PedTextError → Type 0
+IsRankFault rest start (BadByte at) = (at ≡ start) × (begins_with_digit rest ≡ false)
+IsRankFault rest start (Zeros at) = (at ≡ start) × (has_needless_zero rest ≡ true)
+IsRankFault rest start (TooBig at) = (at ≡ start) × BeginsTooBig rest
+IsRankFault rest start Empty = ⊥
+IsRankFault rest start TooLong = ⊥
+IsRankFault rest start Memory = ⊥
+
+-- The text begins with so many ranks, each with a full stop behind it, and this rest stands at this offset.
+pub record IsBehindRanks (text : List ℕ) (count at : ℕ) (rest : List ℕ) : Type 0 where
+  pub ranks : List ℕ
+  pub counted : length ranks ≡ count
+  pub bounded : All IsRank ranks
+  pub whole : text ≡ stopped ranks ++ rest
+  pub offset : at ≡ length (stopped ranks)
+
+-- One of the first 256 ranks should begin at this offset, and what stands from there on is so.
+pub record StandsAt (text : List ℕ) (start : ℕ) (P : List ℕ → Type 0) : Type 0 where
+  pub count : ℕ
+  pub rest : List ℕ
+  pub few : count < 256
+  pub front : IsBehindRanks text count start rest
+  pub here : P rest
+
+-- A rank stands in front, and behind it at this offset a byte that is neither a digit nor a full stop.
+pub record LacksStop (start at : ℕ) (rest : List ℕ) : Type 0 where
+  pub rank : ℕ
+  pub byte : ℕ
+  pub behind : List ℕ
+  pub first : IsRankThen rest rank (byte ∷ behind)
+  pub other : byte ≢ 46
+  pub place : at ≡ start + length (decimal rank)
+
+-- The text is no pedigree's, and this is the first thing that is wrong with it.
+abbrev pub IsRefused : List ℕ → PedTextError → Type 0
+IsRefused text Empty = text ≡ []
+IsRefused text (BadByte at) = (text ≢ []) × (StandsAt text at (λ rest. begins_with_digit rest ≡ false) ⊎ ((start : ℕ) × StandsAt text start (LacksStop start at)))
+IsRefused text (Zeros at) = StandsAt text at (λ rest. has_needless_zero rest ≡ true)
+IsRefused text (TooBig at) = StandsAt text at BeginsTooBig
+IsRefused text TooLong = (at : ℕ) × (rest : List ℕ) × IsBehindRanks text 256 at rest
+IsRefused text Memory = Unit {0}

@@ -1,0 +1,5 @@
+pub mod formers
+pub mod Grammar
+pub mod Nesting
+pub mod Fault
+pub mod Text

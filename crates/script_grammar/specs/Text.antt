@@ -1,0 +1,36 @@
+-- What a text means: the script that it is, or its first fault.
+use Rattle.std.specs.Prelude.{◌≡◌, ℕ, ◌≤◌, List, [], length, map}
+use Rattle.script_tokens.specs.declared.token.Lexeme.{Lexeme}
+use Rattle.script_tokens.specs.declared.lexing.TheConstants.{MAX_BYTES}
+use Rattle.script_tokens.specs.declared.lexing.Stop.{Stop}
+use Rattle.script_tokens.specs.declared.lexing.Stop.TheVariants.{End}
+use Rattle.script_tokens.specs.Lexing.{Lexes, text_of}
+use Rattle.script_grammar.specs.declared.tree.Script.{Script}
+use Rattle.script_grammar.specs.Grammar.{Token, tok}
+use Rattle.script_grammar.specs.Fault.{FaultBehind, IsProgram}
+
+-- a lexeme with its bytes
+abbrev pub token_of : List ℕ → Lexeme → Token
+token_of bytes l = tok l.start l.word (text_of bytes l)
+
+abbrev pub tokens_of : List ℕ → List Lexeme → List Token
+tokens_of bytes ls = map (token_of bytes) ls
+
+-- The bytes are the text of this script: they are cut into tokens up to their end, and these are the script within the limits.
+pub record Text (bytes : List ℕ) (script : Script) : Type 0 where
+  pub lexemes : List Lexeme
+  pub cut : Lexes 0 bytes lexemes End
+  pub program : IsProgram (tokens_of bytes lexemes) script.functions
+
+-- a script that a text of at most a mebibyte is of: what a parse can give
+pub record IsOfText (script : Script) : Type 0 where
+  pub bytes : List ℕ
+  pub size : length bytes ≤ MAX_BYTES
+  pub text : Text bytes script
+
+-- the first fault of the bytes, its number and its place
+pub record SyntaxFault (bytes : List ℕ) (number at : ℕ) : Type 0 where
+  pub lexemes : List Lexeme
+  pub stop : Stop
+  pub cut : Lexes 0 bytes lexemes stop
+  pub fault : FaultBehind (record { end = length bytes; stop = stop }) [] (tokens_of bytes lexemes) number at

@@ -1,0 +1,16 @@
+//! Scripts as trees, and the grammar that says of which tree a text is.
+//!
+//! The tree types stand in [`tree`]. `Items` and `Boxed` are `Vec` and `Box` as contracts want them: seen as the list, and as
+//! the value, so that two trees are equal in a contract exactly where they are the same tree.
+#![tactic(auto)]
+
+pub mod boxed;
+pub mod items;
+pub mod tree;
+
+pub use boxed::Boxed;
+pub use items::Items;
+pub use tree::{
+    Act, CallText, Comparison, Expr, Function, Kind, Name, Number, Param, ProductPart, ProductSign,
+    Right, Script, Stmt, SumPart,
+};

@@ -1,0 +1,21 @@
+-- The answer of the call that gives the token which comes next.
+use Rattle.std.specs.Prelude.{◌≡◌, ℕ, List, Result, Ok, Err}
+use Rattle.script_tokens.specs.declared.token.Token as token
+use Rattle.script_tokens.specs.declared.lexing.Misfit.{Misfit}
+use Rattle.script_tokens.specs.declared.lexing.Misfit.TheVariants.{NotAscii, NoToken}
+use Rattle.script_tokens.specs.Lexing.{NextToken}
+use Rattle.script_text.specs.declared.error.SyntaxError.{SyntaxError}
+use Rattle.script_text.specs.declared.error.SyntaxError.TheVariants.{Bad}
+
+-- why no token comes next, as an error
+abbrev pub error_of : Misfit → SyntaxError
+error_of (NotAscii at) = Bad 1 at
+error_of (NoToken at) = Bad 2 at
+
+abbrev pub answer_of : Result token.Token Misfit → Result token.Token SyntaxError
+answer_of (Ok t) = Ok t
+answer_of (Err misfit) = Err (error_of misfit)
+
+-- the token that comes next from an offset on, or the error
+abbrev pub NextAnswer : List ℕ → ℕ → Result token.Token SyntaxError → Type 0
+NextAnswer bytes from result = (next : Result token.Token Misfit) × NextToken bytes from next × (result ≡ answer_of next)
