@@ -17,6 +17,10 @@ use Rattle.serial_meaning.specs.declared.value.Value.TheVariants.{Int}
 use Rattle.serial_meaning.specs.declared.event.FaultKind.TheVariants as fault
 use Rattle.serial_meaning.specs.declared.event.Event.TheVariants as event
 
+-- any number of steps from twenty on
+abbrev pub twenty_or_more : ℕ → ℕ
+twenty_or_more n = suc (suc (suc (suc (suc (suc (suc (suc (suc (suc (suc (suc (suc (suc (suc (suc (suc (suc (suc (suc n)))))))))))))))))))
+
 -- a plan with the coefficients 1, 0, 0
 abbrev pub plan_of : List Function → ℕ → PlanView
 plan_of functions budget = record { script = record { functions = functions }; gamma = 1 ∷ 0 ∷ 0 ∷ []; limits = record { depth = 3; budget = budget }; show = Plain }
@@ -45,12 +49,12 @@ with_depth depth gamma plan = record plan { gamma = gamma; limits = record { dep
 
 -- A child's pedigrees have two ranks.
 abbrev pub SpawnNeedsDepthTwo : Type 0
-SpawnNeedsDepthTwo = elision (with_depth 1 (1 ∷ []) (plan_of one_spawn 20)) ≡ record { items = []; ending = Err (record { kind = fault.Depth; at = 0 ∷ [] }) }
+SpawnNeedsDepthTwo = (n : ℕ) → elision (with_depth 1 (1 ∷ []) (plan_of one_spawn (twenty_or_more n))) ≡ record { items = []; ending = Err (record { kind = fault.Depth; at = 0 ∷ [] }) }
 
 -- The spawn is an event, and so is the sync that the return implies.
 abbrev pub DepthTwoIsEnoughForASpawn : Type 0
 DepthTwoIsEnoughForASpawn =
-    elision (with_depth 2 (1 ∷ 0 ∷ []) (plan_of one_spawn 20)) ≡ record { items = event.Spawn (0 ∷ []) ∷ event.Sync (1 ∷ []) ∷ []; ending = Ok (Int (pos 0) ∷ []) }
+    (n : ℕ) → elision (with_depth 2 (1 ∷ 0 ∷ []) (plan_of one_spawn (twenty_or_more n))) ≡ record { items = event.Spawn (0 ∷ []) ∷ event.Sync (1 ∷ []) ∷ []; ending = Ok (Int (pos 0) ∷ []) }
 
 abbrev pub empty_loop : List Function
 empty_loop =
@@ -66,7 +70,7 @@ empty_loop =
 -- A loop of no iteration raises the rank too, so that the draw is the one of rank 1.
 abbrev pub EmptyLoopRaisesTheRank : Type 0
 EmptyLoopRaisesTheRank =
-    elision (plan_of empty_loop 20) ≡ record { items = event.Loop (0 ∷ []) ∷ event.Draw (1 ∷ []) 210 ∷ event.Print (2 ∷ []) (Int (pos 210)) ∷ []; ending = Ok (Int (pos 0) ∷ []) }
+    (n : ℕ) → elision (plan_of empty_loop (twenty_or_more n)) ≡ record { items = event.Loop (0 ∷ []) ∷ event.Draw (1 ∷ []) 210 ∷ event.Print (2 ∷ []) (Int (pos 210)) ∷ []; ending = Ok (Int (pos 0) ∷ []) }
 
 -- prints the five items
 abbrev pub printing_items : List Stmt
@@ -87,7 +91,7 @@ six_squares_into_five =
 
 -- A loop whose target has too few items does nothing else.
 abbrev pub TargetMustHaveRoom : Type 0
-TargetMustHaveRoom = elision (plan_of six_squares_into_five 20) ≡ record { items = []; ending = Err (record { kind = fault.Index; at = 0 ∷ [] }) }
+TargetMustHaveRoom = (n : ℕ) → elision (plan_of six_squares_into_five (twenty_or_more n)) ≡ record { items = []; ending = Err (record { kind = fault.Index; at = 0 ∷ [] }) }
 
 abbrev pub two_calls : List Function
 two_calls =
@@ -104,7 +108,7 @@ two_calls =
 -- A call goes on from the caller's rank.
 abbrev pub CallsShareTheRank : Type 0
 CallsShareTheRank =
-    elision (plan_of two_calls 20) ≡ record { items = event.Draw (0 ∷ []) 21 ∷ event.Draw (1 ∷ []) 210 ∷ event.Print (2 ∷ []) (Int (pos 21)) ∷ event.Print (2 ∷ []) (Int (pos 210)) ∷ []; ending = Ok (Int (pos 0) ∷ []) }
+    (n : ℕ) → elision (plan_of two_calls (twenty_or_more n)) ≡ record { items = event.Draw (0 ∷ []) 21 ∷ event.Draw (1 ∷ []) 210 ∷ event.Print (2 ∷ []) (Int (pos 21)) ∷ event.Print (2 ∷ []) (Int (pos 210)) ∷ []; ending = Ok (Int (pos 0) ∷ []) }
 
 abbrev pub spawn_in_a_callee : List Function
 spawn_in_a_callee =
@@ -121,7 +125,7 @@ spawn_in_a_callee =
 -- The return of a function with a spawn in it implies a sync, which raises the rank.
 abbrev pub ImpliedSyncRaisesTheRank : Type 0
 ImpliedSyncRaisesTheRank =
-    elision (plan_of spawn_in_a_callee 20) ≡ record { items = event.Spawn (0 ∷ []) ∷ event.Sync (1 ∷ []) ∷ event.Draw (2 ∷ []) 903 ∷ event.Print (3 ∷ []) (Int (pos 903)) ∷ []; ending = Ok (Int (pos 0) ∷ []) }
+    (n : ℕ) → elision (plan_of spawn_in_a_callee (twenty_or_more n)) ≡ record { items = event.Spawn (0 ∷ []) ∷ event.Sync (1 ∷ []) ∷ event.Draw (2 ∷ []) 903 ∷ event.Print (3 ∷ []) (Int (pos 903)) ∷ []; ending = Ok (Int (pos 0) ∷ []) }
 
 abbrev pub endless_calls : List Function
 endless_calls =

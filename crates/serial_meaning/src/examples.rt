@@ -1,5 +1,5 @@
 //! What the definitions say of small scripts. Each function does nothing; its contract is the example. The coefficients are 1, 0
-//! and 0, so that a draw at rank r of main is `mix` of r + 1.
+//! and 0, so that a draw at rank r of main is `mix` of r + 1. Where no budget is named the example holds with any from 20 on.
 
 ghost use Rattle.serial_meaning.specs.Examples.{CallsEndAt256, CallsShareTheRank, DepthTwoIsEnoughForASpawn, ElisionEndsAtTheChildsFault, EmptyLoopRaisesTheRank, FourStepsAreEnough, ImpliedSyncRaisesTheRank, OpenTreeHasBothFaults, SpawnNeedsDepthTwo, TargetMustHaveRoom, ThreeStepsAreTooFew};
 
@@ -16,43 +16,38 @@ pub fn four_steps_are_enough()
 {}
 
 /// `fn f() { return 0; } fn main() { spawn f(); return 0; }` at depth 1 ends by the fault Depth at 0.
-#[tactic(auto, using(crate::proofs::ScriptRuns::spawn_needs_depth_two))]
 pub fn spawn_needs_depth_two()
     ensures { SpawnNeedsDepthTwo }
 {}
 
 /// The same at depth 2 ends well, with the events Spawn at 0 and Sync at 1.
-#[tactic(auto, using(crate::proofs::ScriptRuns::depth_two_is_enough_for_a_spawn))]
 pub fn depth_two_is_enough_for_a_spawn()
     ensures { DepthTwoIsEnoughForASpawn }
 {}
 
 /// `fn f(i) { return i; } fn main() { pfor i in 3..3 call f(i); let x = draw; print x; return 0; }` prints 210.
-#[tactic(auto, using(crate::proofs::ScriptRuns::empty_loop_raises_the_rank))]
 pub fn empty_loop_raises_the_rank()
     ensures { EmptyLoopRaisesTheRank }
 {}
 
-/// `fn sq(i) { return i * i; } fn main() { let a[5]; pfor i in 0..6 into a call sq(i); return 0; }` ends by the fault Index at 0.
-#[tactic(auto, using(crate::proofs::ScriptRuns::target_must_have_room))]
+/// `fn sq(i) { return i * i; } fn main() { let a[5]; pfor i in 0..6 into a call sq(i); let k = 0; while k < 5 { print a[k]; k = k + 1; }
+/// return 0; }` ends by the fault Index at 0.
 pub fn target_must_have_room()
     ensures { TargetMustHaveRoom }
 {}
 
 /// `fn f() { let x = draw; return x; } fn main() { let a = call f(); let b = call f(); print a; print b; return 0; }` prints 21 and
 /// 210.
-#[tactic(auto, using(crate::proofs::ScriptRuns::calls_share_the_rank))]
 pub fn calls_share_the_rank()
     ensures { CallsShareTheRank }
 {}
 
 /// `fn h() { return 0; } fn g() { spawn h(); return 0; } fn main() { call g(); let x = draw; print x; return 0; }` prints 903.
-#[tactic(auto, using(crate::proofs::ScriptRuns::implied_sync_raises_the_rank))]
 pub fn implied_sync_raises_the_rank()
     ensures { ImpliedSyncRaisesTheRank }
 {}
 
-/// `fn f() { call f(); return 0; } fn main() { call f(); return 0; }` ends by the fault Calls at 0.
+/// `fn f() { call f(); return 0; } fn main() { call f(); return 0; }` ends by the fault Calls at 0, with a budget of 300.
 #[tactic(auto, using(crate::proofs::ScriptRuns::calls_end_at_256))]
 pub fn calls_end_at_256()
     ensures { CallsEndAt256 }
