@@ -1,5 +1,5 @@
 -- What a text means: the script that it is, or its first fault.
-use Rattle.std.specs.Prelude.{◌≡◌, ℕ, ◌≤◌, List, [], length, map}
+use Rattle.std.specs.Prelude.{ℕ, ◌≤◌, List, [], length, map}
 use Rattle.script_tokens.specs.declared.token.Lexeme.{Lexeme}
 use Rattle.script_tokens.specs.declared.lexing.TheConstants.{MAX_BYTES}
 use Rattle.script_tokens.specs.declared.lexing.Stop.{Stop}
@@ -34,3 +34,6 @@ pub record SyntaxFault (bytes : List ℕ) (number at : ℕ) : Type 0 where
   pub stop : Stop
   pub cut : Lexes 0 bytes lexemes stop
   pub fault : FaultBehind (record { end = length bytes; stop = stop }) [] (tokens_of bytes lexemes) number at
+
+abbrev pub FunctionsAreFew : Type 0
+FunctionsAreFew = (script : Script) → IsOfText script → length script.functions ≤ 1024

@@ -6,6 +6,7 @@
 
 pub mod boxed;
 pub mod items;
+pub mod laws;
 pub mod tree;
 
 pub use boxed::Boxed;
