@@ -1,1 +1,6 @@
 pub mod Computing
+pub mod Cutting
+pub mod Forms
+pub mod Pieces
+pub mod Eats
+pub mod Placing
