@@ -4,3 +4,4 @@ pub mod Forms
 pub mod Pieces
 pub mod Eats
 pub mod Placing
+pub mod Expressions
