@@ -243,10 +243,10 @@ variable_made : (a : ℕ) (t : List ℕ) (n : ℕ) → n ≤ 64 → (us ts : Lis
 variable_made a t n h us ts (a_token {a = b}) =
     record { tree = expr.Var (name_at b t); derived = a_name; same = same_variable (name_at b t) (name_at a t) refl; low = λ k l. (omega arith, tt) }
 
-open_item : Forms (codes "[") any (IsToken word.OpenItem (codes "["))
+pub open_item : Forms (codes "[") any (IsToken word.OpenItem (codes "["))
 open_item = symbol word.OpenItem (codes "[") refl refl (λ b. refl)
 
-close_item : Forms (codes "]") any (IsToken word.CloseItem (codes "]"))
+pub close_item : Forms (codes "]") any (IsToken word.CloseItem (codes "]"))
 close_item = symbol word.CloseItem (codes "]") refl refl (λ b. refl)
 
 item_made : (a : ℕ) (t : List ℕ) (x : Expr) (n : ℕ) → suc n ≤ 64 → (us ts : List Token) →
@@ -261,7 +261,7 @@ neg_made : (a : ℕ) (x : Expr) (n : ℕ) → suc n ≤ 64 → (us ts : List Tok
 neg_made a x n h us ts (and_then (a_token {a = b}) d) =
     record { tree = expr.Neg b d.tree; derived = a_neg d.derived; same = same_negation b a d.tree x d.same; low = λ k l. (omega arith, d.low (suc k) (omega arith)) }
 
-comma : Forms (codes ", ") any (IsToken word.Comma (codes ","))
+pub comma : Forms (codes ", ") any (IsToken word.Comma (codes ","))
 comma = word_space word.Comma (codes ",") refl refl refl
 
 same_open : Forms (codes "same(") any (Then (IsToken word.Same (codes "same")) (IsToken word.Open (codes "(")))

@@ -5,3 +5,4 @@ pub mod Pieces
 pub mod Eats
 pub mod Placing
 pub mod Expressions
+pub mod Statements

@@ -15,7 +15,7 @@ use Rattle.script_tokens.specs.Word.{Spelling, keywords, symbols, word_spelled, 
 use Rattle.script_tokens.proofs.Longest.{word_of-letter, word_of-digit}
 use Rattle.script_grammar.specs.Grammar.{Token, tok, decimal}
 use Rattle.script_print.proofs.Cutting.{IsModest, starts}
-use Rattle.script_print.proofs.Forms.{Forms, Then, and_then, IsToken, IsNothing, nothing, then_, weaken, calm, no_arrow, any, anything, a_blank, token_before, is_fixed, symbol, word_before}
+use Rattle.script_print.proofs.Forms.{Forms, Then, and_then, IsToken, IsNothing, nothing, then_, weaken, calm, no_arrow, any, anything, a_blank, token_before, is_fixed, fixed_is_modest, symbol, word_before}
 
 pub nothing_behind : {D : List Token → List Token → Type 0} (us ts : List Token) → Then D IsNothing us ts → D us ts
 nothing_behind us ts (and_then d nothing) = d
@@ -86,6 +86,10 @@ name_goes_on (c ∷ cs) h b s =
 
 pub name_form : (text : List ℕ) → word_of text ≡ Some word.Name → length text ≤ 32 → Forms text calm (IsToken word.Name text)
 name_form text e short = token_before word.Name text calm e (name_goes_on text (name_is text e)) (λ at. record { number = λ e. absurd cc; name = λ e. short })
+
+-- a keyword in front of what begins no name
+pub keyword : (w : Word) (text : List ℕ) → is_fixed w ≡ true → word_of text ≡ Some w → is_name text ≡ true → Forms text calm (IsToken w text)
+keyword w text h e named = token_before w text calm e (name_goes_on text named) (λ at. fixed_is_modest at w text h)
 
 -- Numbers.
 
