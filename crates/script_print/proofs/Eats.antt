@@ -22,7 +22,7 @@ pub data Eats : List Token → List Token → Type 0 where
   eaten : {ts : List Token} → Eats ts ts
   one : {t : Token} {ts rest : List Token} → is_fn t.word ≡ false → Eats ts rest → Eats (t ∷ ts) rest
 
-also : {ts mid rest : List Token} → Eats ts mid → Eats mid rest → Eats ts rest
+pub also : {ts mid rest : List Token} → Eats ts mid → Eats mid rest → Eats ts rest
 also eaten e = e
 also (one h d) e = one h (also d e)
 

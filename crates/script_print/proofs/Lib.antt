@@ -6,3 +6,5 @@ pub mod Eats
 pub mod Placing
 pub mod Expressions
 pub mod Statements
+pub mod Functions
+pub mod Scan

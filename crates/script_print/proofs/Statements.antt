@@ -301,7 +301,7 @@ pfor_made a b c t f x y o xs n h k us ts
         (h, low_append (expr_nesting e.derived n) _ (e.low n (omega arith)) (low_append (into_nesting g.derived n) _ g.low behind)))));
     }
 
-open_block : Forms (codes "{\n") any (IsToken word.OpenBlock (codes "{"))
+pub open_block : Forms (codes "{\n") any (IsToken word.OpenBlock (codes "{"))
 open_block = weaken (then_ (symbol word.OpenBlock (codes "{") refl refl (λ b. refl)) (a_blank 10 refl) (λ r h. refl)) nothing_behind
 
 pub close_block : Forms (codes "}") any (IsToken word.CloseBlock (codes "}"))
