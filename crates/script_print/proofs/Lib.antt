@@ -8,3 +8,4 @@ pub mod Expressions
 pub mod Statements
 pub mod Functions
 pub mod Scan
+pub mod Fixed

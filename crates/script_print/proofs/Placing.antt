@@ -109,25 +109,25 @@ unplaced-stmt place a = fold_out-Stmt Act Stmt act_unplaced_at stmt_unplaced_at 
 pub same_stmt : (b c : ℕ) (x y : Act) → unplaced_act x ≡ unplaced_act y → unplaced_stmt (record { at = b; act = x }) ≡ unplaced_stmt (record { at = c; act = y })
 same_stmt b c x y e = unplaced-stmt b x ∙ ap (λ (z : Act). record { at = 0; act = z }) e ∙ sym (unplaced-stmt c y)
 
-let_is : (x : Name) (r : Right) → unplaced_act (act.Let x r) ≡ act.Let (unplaced_name x) (unplaced_right r)
+pub let_is : (x : Name) (r : Right) → unplaced_act (act.Let x r) ≡ act.Let (unplaced_name x) (unplaced_right r)
 let_is x r = ap unplaced_act (sym (act.rolls-Let x r)) ∙ act-roll (part.Let x r)
 
 pub same_let : (x y : Name) (r s : Right) → unplaced_name x ≡ unplaced_name y → unplaced_right r ≡ unplaced_right s → unplaced_act (act.Let x r) ≡ unplaced_act (act.Let y s)
 same_let x y r s e f = let_is x r ∙ ap (λ z. act.Let z (unplaced_right r)) e ∙ ap (act.Let (unplaced_name y)) f ∙ sym (let_is y s)
 
-set_is : (x : Name) (r : Right) → unplaced_act (act.Set x r) ≡ act.Set (unplaced_name x) (unplaced_right r)
+pub set_is : (x : Name) (r : Right) → unplaced_act (act.Set x r) ≡ act.Set (unplaced_name x) (unplaced_right r)
 set_is x r = ap unplaced_act (sym (act.rolls-Set x r)) ∙ act-roll (part.Set x r)
 
 pub same_set : (x y : Name) (r s : Right) → unplaced_name x ≡ unplaced_name y → unplaced_right r ≡ unplaced_right s → unplaced_act (act.Set x r) ≡ unplaced_act (act.Set y s)
 same_set x y r s e f = set_is x r ∙ ap (λ z. act.Set z (unplaced_right r)) e ∙ ap (act.Set (unplaced_name y)) f ∙ sym (set_is y s)
 
-array_is : (x : Name) (n : Number) → unplaced_act (act.Array x n) ≡ act.Array (unplaced_name x) (unplaced_number n)
+pub array_is : (x : Name) (n : Number) → unplaced_act (act.Array x n) ≡ act.Array (unplaced_name x) (unplaced_number n)
 array_is x n = ap unplaced_act (sym (act.rolls-Array x n)) ∙ act-roll (part.Array x n)
 
 pub same_array : (x y : Name) (m n : Number) → unplaced_name x ≡ unplaced_name y → unplaced_number m ≡ unplaced_number n → unplaced_act (act.Array x m) ≡ unplaced_act (act.Array y n)
 same_array x y m n e f = array_is x m ∙ ap (λ z. act.Array z (unplaced_number m)) e ∙ ap (act.Array (unplaced_name y)) f ∙ sym (array_is y n)
 
-store_is : (a : Name) (i e : Expr) → unplaced_act (act.Store a i e) ≡ act.Store (unplaced_name a) (unplaced_expr i) (unplaced_expr e)
+pub store_is : (a : Name) (i e : Expr) → unplaced_act (act.Store a i e) ≡ act.Store (unplaced_name a) (unplaced_expr i) (unplaced_expr e)
 store_is a i e = ap unplaced_act (sym (act.rolls-Store a i e)) ∙ act-roll (part.Store a i e)
 
 pub same_store : (a b : Name) (i j x y : Expr) → unplaced_name a ≡ unplaced_name b → unplaced_expr i ≡ unplaced_expr j → unplaced_expr x ≡ unplaced_expr y → unplaced_act (act.Store a i x) ≡ unplaced_act (act.Store b j y)
@@ -135,25 +135,28 @@ same_store a b i j x y e f g =
     store_is a i x ∙ ap (λ z. act.Store z (unplaced_expr i) (unplaced_expr x)) e ∙ ap (λ z. act.Store (unplaced_name b) z (unplaced_expr x)) f
     ∙ ap (act.Store (unplaced_name b) (unplaced_expr j)) g ∙ sym (store_is b j y)
 
-spawn_is : (c : CallText) → unplaced_act (act.Spawn c) ≡ act.Spawn (unplaced_call c)
+pub spawn_is : (c : CallText) → unplaced_act (act.Spawn c) ≡ act.Spawn (unplaced_call c)
 spawn_is c = ap unplaced_act (sym (act.rolls-Spawn c)) ∙ act-roll (part.Spawn c)
 
 pub same_spawn : (c d : CallText) → unplaced_call c ≡ unplaced_call d → unplaced_act (act.Spawn c) ≡ unplaced_act (act.Spawn d)
 same_spawn c d e = spawn_is c ∙ ap act.Spawn e ∙ sym (spawn_is d)
 
-call_is : (c : CallText) → unplaced_act (act.Call c) ≡ act.Call (unplaced_call c)
+pub call_is : (c : CallText) → unplaced_act (act.Call c) ≡ act.Call (unplaced_call c)
 call_is c = ap unplaced_act (sym (act.rolls-Call c)) ∙ act-roll (part.Call c)
 
 pub same_call : (c d : CallText) → unplaced_call c ≡ unplaced_call d → unplaced_act (act.Call c) ≡ unplaced_act (act.Call d)
 same_call c d e = call_is c ∙ ap act.Call e ∙ sym (call_is d)
 
-print_is : (x : Expr) → unplaced_act (act.Print x) ≡ act.Print (unplaced_expr x)
+pub sync_is : unplaced_act act.Sync ≡ act.Sync
+sync_is = ap unplaced_act (sym act.rolls-Sync) ∙ act-roll part.Sync
+
+pub print_is : (x : Expr) → unplaced_act (act.Print x) ≡ act.Print (unplaced_expr x)
 print_is x = ap unplaced_act (sym (act.rolls-Print x)) ∙ act-roll (part.Print x)
 
 pub same_print : (x y : Expr) → unplaced_expr x ≡ unplaced_expr y → unplaced_act (act.Print x) ≡ unplaced_act (act.Print y)
 same_print x y e = print_is x ∙ ap act.Print e ∙ sym (print_is y)
 
-if_is : (x : Expr) (p q : List Stmt) → unplaced_act (act.If x p q) ≡ act.If (unplaced_expr x) (map unplaced_stmt p) (map unplaced_stmt q)
+pub if_is : (x : Expr) (p q : List Stmt) → unplaced_act (act.If x p q) ≡ act.If (unplaced_expr x) (map unplaced_stmt p) (map unplaced_stmt q)
 if_is x p q = ap unplaced_act (sym (act.rolls-If x p q)) ∙ act-roll (part.If x p q)
 
 pub same_if : (x y : Expr) (p q r s : List Stmt) → unplaced_expr x ≡ unplaced_expr y → map unplaced_stmt p ≡ map unplaced_stmt q → map unplaced_stmt r ≡ map unplaced_stmt s → unplaced_act (act.If x p r) ≡ unplaced_act (act.If y q s)
@@ -161,13 +164,13 @@ same_if x y p q r s e f g =
     if_is x p r ∙ ap (λ z. act.If z (map unplaced_stmt p) (map unplaced_stmt r)) e ∙ ap (λ z. act.If (unplaced_expr y) z (map unplaced_stmt r)) f
     ∙ ap (act.If (unplaced_expr y) (map unplaced_stmt q)) g ∙ sym (if_is y q s)
 
-while_is : (x : Expr) (p : List Stmt) → unplaced_act (act.While x p) ≡ act.While (unplaced_expr x) (map unplaced_stmt p)
+pub while_is : (x : Expr) (p : List Stmt) → unplaced_act (act.While x p) ≡ act.While (unplaced_expr x) (map unplaced_stmt p)
 while_is x p = ap unplaced_act (sym (act.rolls-While x p)) ∙ act-roll (part.While x p)
 
 pub same_while : (x y : Expr) (p q : List Stmt) → unplaced_expr x ≡ unplaced_expr y → map unplaced_stmt p ≡ map unplaced_stmt q → unplaced_act (act.While x p) ≡ unplaced_act (act.While y q)
 same_while x y p q e f = while_is x p ∙ ap (λ z. act.While z (map unplaced_stmt p)) e ∙ ap (act.While (unplaced_expr y)) f ∙ sym (while_is y q)
 
-pfor_is : (i : Name) (lo hi : Expr) (t : Option Name) (c : CallText) → unplaced_act (act.Pfor i lo hi t c) ≡ act.Pfor (unplaced_name i) (unplaced_expr lo) (unplaced_expr hi) (unplaced_target t) (unplaced_call c)
+pub pfor_is : (i : Name) (lo hi : Expr) (t : Option Name) (c : CallText) → unplaced_act (act.Pfor i lo hi t c) ≡ act.Pfor (unplaced_name i) (unplaced_expr lo) (unplaced_expr hi) (unplaced_target t) (unplaced_call c)
 pfor_is i lo hi t c = ap unplaced_act (sym (act.rolls-Pfor i lo hi t c)) ∙ act-roll (part.Pfor i lo hi t c)
 
 pub same_pfor : (i j : Name) (x y z w : Expr) (t u : Option Name) (c d : CallText) →
