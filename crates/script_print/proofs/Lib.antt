@@ -9,3 +9,4 @@ pub mod Statements
 pub mod Functions
 pub mod Scan
 pub mod Fixed
+pub mod Whole

@@ -1,5 +1,5 @@
 -- A script apart from its offsets: with each of them 0.
-use Rattle.std.specs.Prelude.{ℕ, List, map, Option, Some, None}
+use Rattle.std.specs.Prelude.{◌≡◌, ℕ, List, map, Option, Some, None}
 use Rattle.script_grammar.specs.declared.tree.Name.{Name}
 use Rattle.script_grammar.specs.declared.tree.Number.{Number}
 use Rattle.script_grammar.specs.declared.tree.Expr.{Expr}
@@ -21,6 +21,7 @@ use Rattle.script_grammar.specs.declared.tree.Act.TheFolds.{fold-Act, fold-Stmt}
 use Rattle.script_grammar.specs.declared.tree.Param.{Param}
 use Rattle.script_grammar.specs.declared.tree.Function.{Function}
 use Rattle.script_grammar.specs.declared.tree.Script.{Script}
+use Rattle.script_grammar.specs.Text.{Text}
 
 abbrev pub unplaced_name : Name → Name
 unplaced_name x = record { bytes = x.bytes; at = 0 }
@@ -108,3 +109,7 @@ unplaced_function f =
 
 abbrev pub unplaced : Script → Script
 unplaced script = record { functions = map unplaced_function script.functions }
+
+-- the bytes are the text of a script that is this one apart from offsets
+abbrev pub IsTextOf : List ℕ → Script → Type 0
+IsTextOf bytes script = (same : Script) × Text bytes same × (unplaced same ≡ unplaced script)

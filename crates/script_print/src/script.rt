@@ -1,4 +1,7 @@
-ghost use Rattle.std.specs.Prelude.{◌≡◌, ◌++◌, IfOk, OnOk};
+ghost use Rattle.std.specs.Prelude.{◌≡◌, ◌++◌, IfOk, OnOk, flat_map};
+ghost use Rattle.script_grammar.specs.declared.tree.Script.{Script};
+ghost use Rattle.script_grammar.specs.Text.{IsOfText};
+ghost use Rattle.script_print.specs.Unplaced.{unplaced, IsTextOf};
 ghost use Rattle.script_print.specs.Canonical.{behind_commas, canonical, function_text, head_text, listed, param_text};
 
 use crate::expression::write_expr;
@@ -14,12 +17,25 @@ use std::alloc::Global;
 /// was read from, also more than a text may have that is read again. The time is linear in its length. `Err` is want of memory alone.
 pub fn print_script(alloc: Global, script: &Script) -> Result<Vec<u8>, Memory>
     ensures text { IfOk result (λ text. text.items ≡ canonical script.now) }
+    ensures same_tree { IfOk result (λ text. IsOfText script.now → IsTextOf text.items script.now) }
+    ensures one_text { IfOk result (λ text. (other : Script) → unplaced other ≡ unplaced script.now → canonical other ≡ text.items) }
 {
     let mut text = Vec::new(alloc);
-    for function in script.functions.as_slice() {
-        write_function(alloc, function, &mut text)?;
-    }
+    write_functions(alloc, script.functions.as_slice(), &mut text)?;
     Ok(text)
+}
+
+fn write_functions(
+    alloc: Global,
+    functions: &[Function],
+    text: &mut Vec<u8>,
+) -> Result<(), Memory>
+    ensures { OnOk result (text.new.items ≡ text.old.items ++ flat_map function_text functions.now) }
+{
+    for function in functions {
+        write_function(alloc, function, text)?;
+    }
+    Ok(())
 }
 
 fn write_function(alloc: Global, function: &Function, text: &mut Vec<u8>) -> Result<(), Memory>
