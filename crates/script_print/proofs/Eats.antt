@@ -138,9 +138,13 @@ answer_eats id_answer = one refl (one refl eaten)
 
 -- `fn`, and then these
 pub function_eats : {ts rest : List Token} {f : Function} → IsFunction ts f rest → (t : Token) × (us : List Token) × (ts ≡ t ∷ us) × (is_fn t.word ≡ true) × Eats us rest
-function_eats (a_function {a} {b} {c} {d} {e} {f} {g} {h} {t} {n} {u} {v} {w} {x} {y} {z} {ts} p k body r) =
-    (tok a word.Fn t, tok b word.Name n ∷ tok c word.Open u ∷ ts, refl, refl,
-      one refl (one refl (also (params_eats p) (one refl (also (answer_eats k) (one refl (also (stmts_eats body) (one refl (also (expr_eats r) (one refl (one refl eaten)))))))))))
+function_eats (a_function {a} {b} {c} {d} {e} {f} {g} {h} {t} {n} {u} {v} {w} {x} {y} {z} {ts} p k body r) = (
+  tok a word.Fn t,
+  tok b word.Name n ∷ tok c word.Open u ∷ ts,
+  refl,
+  refl,
+  one refl (one refl (also (params_eats p) (one refl (also (answer_eats k) (one refl (also (stmts_eats body) (one refl (also (expr_eats r) (one refl (one refl eaten)))))))))),
+)
 
 begun_behind : {ts rest : List Token} → Eats ts rest → functions_begun ts ≡ functions_begun rest
 begun_behind eaten = refl

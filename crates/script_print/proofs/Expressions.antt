@@ -136,7 +136,8 @@ lower p x m n h s = record {
 
 from_sum : (p : Printed) (x : Expr) (n : ℕ) → n ≤ 64 → ((rest : List ℕ) → starts no_arrow (p.text ++ rest) ≡ true) → nat_lt p.level 3 ≡ true → nat_lt p.level 4 ≡ true → Forms p.text calm (SumOf x n) → Shown p x n
 from_sum p x n l front e f d = record {
-  low = l; front = front;
+  low = l;
+  front = front;
   expr = weaken d (as_expr x n);
   sum_too = λ g. d;
   term = λ g. absurd cc;
@@ -145,7 +146,8 @@ from_sum p x n l front e f d = record {
 
 from_term : (p : Printed) (x : Expr) (n : ℕ) → n ≤ 64 → ((rest : List ℕ) → starts no_arrow (p.text ++ rest) ≡ true) → nat_lt p.level 4 ≡ true → Forms p.text calm (TermOf x n) → Shown p x n
 from_term p x n l front e d = record {
-  low = l; front = front;
+  low = l;
+  front = front;
   expr = weaken (weaken d (as_sum x n)) (as_expr x n);
   sum_too = λ g. weaken d (as_sum x n);
   term = λ g. d;
@@ -154,7 +156,8 @@ from_term p x n l front e d = record {
 
 from_factor : (p : Printed) (x : Expr) (n : ℕ) → n ≤ 64 → ((rest : List ℕ) → starts no_arrow (p.text ++ rest) ≡ true) → Forms p.text calm (FactorOf x n) → Shown p x n
 from_factor p x n l front d = record {
-  low = l; front = front;
+  low = l;
+  front = front;
   expr = weaken (weaken (weaken d (as_term x n)) (as_sum x n)) (as_expr x n);
   sum_too = λ g. weaken (weaken d (as_term x n)) (as_sum x n);
   term = λ g. weaken d (as_term x n);
@@ -189,7 +192,9 @@ closed = symbol word.Close (codes ")") refl refl (λ b. refl)
 group_made : (x : Expr) (n : ℕ) → suc n ≤ 64 → (us ts : List Token) → Then (Then (IsToken word.Open (codes "(")) (ExprOf x (suc n))) (IsToken word.Close (codes ")")) us ts → FactorOf x n us ts
 group_made x n h us ts (and_then (and_then a_token d) a_token) =
     record {
-      tree = d.tree; derived = a_group d.derived; same = d.same;
+      tree = d.tree;
+      derived = a_group d.derived;
+      same = d.same;
       low = λ k l. (omega arith, low_append (expr_nesting d.derived (suc k)) (k ∷ []) (d.low (suc k) (omega arith)) (omega arith, tt));
     }
 
@@ -253,7 +258,9 @@ item_made : (a : ℕ) (t : List ℕ) (x : Expr) (n : ℕ) → suc n ≤ 64 → (
     Then (Then (Then (IsToken word.Name t) (IsToken word.OpenItem (codes "["))) (ExprOf x (suc n))) (IsToken word.CloseItem (codes "]")) us ts → FactorOf (expr.Item (name_at a t) x) n us ts
 item_made a t x n h us ts (and_then (and_then (and_then (a_token {a = b}) a_token) d) a_token) =
     record {
-      tree = expr.Item (name_at b t) d.tree; derived = an_item d.derived; same = same_item (name_at b t) (name_at a t) d.tree x refl d.same;
+      tree = expr.Item (name_at b t) d.tree;
+      derived = an_item d.derived;
+      same = same_item (name_at b t) (name_at a t) d.tree x refl d.same;
       low = λ k l. (omega arith, (omega arith, low_append (expr_nesting d.derived (suc k)) (k ∷ []) (d.low (suc k) (omega arith)) (omega arith, tt)));
     }
 
@@ -277,7 +284,9 @@ same_made : (a : ℕ) (x y : Expr) (n : ℕ) → suc n ≤ 64 → (us ts : List 
     Then (Then (Then (Then (Then (IsToken word.Same (codes "same")) (IsToken word.Open (codes "("))) (ExprOf x (suc n))) (IsToken word.Comma (codes ","))) (ExprOf y (suc n))) (IsToken word.Close (codes ")")) us ts → FactorOf (expr.Same a x y) n us ts
 same_made a x y n h us ts (and_then (and_then (and_then (and_then (and_then (a_token {a = b}) a_token) d) a_token) e) a_token) =
     record {
-      tree = expr.Same b d.tree e.tree; derived = a_same d.derived e.derived; same = same_same b a d.tree x e.tree y d.same e.same;
+      tree = expr.Same b d.tree e.tree;
+      derived = a_same d.derived e.derived;
+      same = same_same b a d.tree x e.tree y d.same e.same;
       low = λ k l. pair_low (expr_nesting d.derived (suc k)) (expr_nesting e.derived (suc k)) k n h l (d.low (suc k) (omega arith)) (e.low (suc k) (omega arith));
     }
 
@@ -285,7 +294,9 @@ older_made : (a : ℕ) (x y : Expr) (n : ℕ) → suc n ≤ 64 → (us ts : List
     Then (Then (Then (Then (Then (IsToken word.Older (codes "older")) (IsToken word.Open (codes "("))) (ExprOf x (suc n))) (IsToken word.Comma (codes ","))) (ExprOf y (suc n))) (IsToken word.Close (codes ")")) us ts → FactorOf (expr.Older a x y) n us ts
 older_made a x y n h us ts (and_then (and_then (and_then (and_then (and_then (a_token {a = b}) a_token) d) a_token) e) a_token) =
     record {
-      tree = expr.Older b d.tree e.tree; derived = an_older d.derived e.derived; same = same_older b a d.tree x e.tree y d.same e.same;
+      tree = expr.Older b d.tree e.tree;
+      derived = an_older d.derived e.derived;
+      same = same_older b a d.tree x e.tree y d.same e.same;
       low = λ k l. pair_low (expr_nesting d.derived (suc k)) (expr_nesting e.derived (suc k)) k n h l (d.low (suc k) (omega arith)) (e.low (suc k) (omega arith));
     }
 
@@ -307,29 +318,29 @@ item_shown a t x n s d =
     let p : Printed = at_level 5 (t ++ codes "[" ++ expr_text x ++ codes "]") in
     settled 4 p (expr.Item (name_at a t) x) n (printed-item (name_at a t) x) refl
     (from_factor p (expr.Item (name_at a t) x) n (omega (arith, d.low))
-      (front_first (t ++ codes "[" ++ expr_text x) (codes "]") (front_first (t ++ codes "[") (expr_text x) (front_first t (codes "[") (λ r. name_starts t r s.word_is))))
-      (calmly (weaken (then_ (then_ (then_ (name_form t s.word_is (s.modest.name refl)) open_item (λ r h. refl)) d.expr (λ r h. anything (expr_text x ++ r))) close_item (λ r h. refl)) (item_made a t x n d.low))))
+    (front_first (t ++ codes "[" ++ expr_text x) (codes "]") (front_first (t ++ codes "[") (expr_text x) (front_first t (codes "[") (λ r. name_starts t r s.word_is))))
+    (calmly (weaken (then_ (then_ (then_ (name_form t s.word_is (s.modest.name refl)) open_item (λ r h. refl)) d.expr (λ r h. anything (expr_text x ++ r))) close_item (λ r h. refl)) (item_made a t x n d.low))))
 
 neg_shown : (a : ℕ) (x : Expr) (n : ℕ) → Room 4 x (suc n) → Room 4 (expr.Neg a x) n
 neg_shown a x n d =
     let p : Printed = at_level 4 (codes "-" ++ operand 4 (printed x)) in
     settled 4 p (expr.Neg a x) n (printed-negation a x) refl
     (from_factor p (expr.Neg a x) n (omega (arith, d.here.low)) (λ r. refl)
-      (weaken (then_ minus (at_factor x (suc n) d) (λ r h. operand_front 4 x (suc n) d.here r)) (neg_made a x n d.here.low)))
+    (weaken (then_ minus (at_factor x (suc n) d) (λ r h. operand_front 4 x (suc n) d.here r)) (neg_made a x n d.here.low)))
 
 same_shown : (a : ℕ) (x y : Expr) (n : ℕ) → Shown (printed x) x (suc n) → Shown (printed y) y (suc n) → Room 4 (expr.Same a x y) n
 same_shown a x y n d e =
     let p : Printed = at_level 5 (codes "same(" ++ expr_text x ++ codes ", " ++ expr_text y ++ codes ")") in
     settled 4 p (expr.Same a x y) n (printed-same a x y) refl
     (from_factor p (expr.Same a x y) n (omega (arith, d.low)) (λ r. refl)
-      (calmly (weaken (then_ (then_ (then_ (then_ same_open d.expr (λ r h. anything (expr_text x ++ r))) comma (λ r h. refl)) e.expr (λ r h. anything (expr_text y ++ r))) closed (λ r h. refl)) (same_made a x y n d.low))))
+    (calmly (weaken (then_ (then_ (then_ (then_ same_open d.expr (λ r h. anything (expr_text x ++ r))) comma (λ r h. refl)) e.expr (λ r h. anything (expr_text y ++ r))) closed (λ r h. refl)) (same_made a x y n d.low))))
 
 older_shown : (a : ℕ) (x y : Expr) (n : ℕ) → Shown (printed x) x (suc n) → Shown (printed y) y (suc n) → Room 4 (expr.Older a x y) n
 older_shown a x y n d e =
     let p : Printed = at_level 5 (codes "older(" ++ expr_text x ++ codes ", " ++ expr_text y ++ codes ")") in
     settled 4 p (expr.Older a x y) n (printed-older a x y) refl
     (from_factor p (expr.Older a x y) n (omega (arith, d.low)) (λ r. refl)
-      (calmly (weaken (then_ (then_ (then_ (then_ older_open d.expr (λ r h. anything (expr_text x ++ r))) comma (λ r h. refl)) e.expr (λ r h. anything (expr_text y ++ r))) closed (λ r h. refl)) (older_made a x y n d.low))))
+    (calmly (weaken (then_ (then_ (then_ (then_ older_open d.expr (λ r h. anything (expr_text x ++ r))) comma (λ r h. refl)) e.expr (λ r h. anything (expr_text y ++ r))) closed (λ r h. refl)) (older_made a x y n d.low))))
 
 -- Operators.
 
@@ -403,7 +414,7 @@ factors_tail : (s : ProductSign) (x : Expr) (xs : List ProductPart) (n : ℕ) �
     Tail (flat_map product_part_text (record { sign = s; operand = x } ∷ xs)) (FactorsOf (record { sign = s; operand = x } ∷ xs) n)
 factors_tail s x xs n r tail =
     let text : spaced (product_sign_text s) ++ operand 4 (printed x) ++ flat_map product_part_text xs ≡ flat_map product_part_text (record { sign = s; operand = x } ∷ xs) =
-        ap (λ z. z ++ flat_map product_part_text xs) (sym (product_part_text-part s x)) in
+    ap (λ z. z ++ flat_map product_part_text xs) (sym (product_part_text-part s x)) in
     subst (λ z. Tail z (FactorsOf (record { sign = s; operand = x } ∷ xs) n)) text (record {
       form = weaken (then_ (then_ (product_sign_form s) (at_factor x n r) (λ q h. anything (operand 4 (printed x) ++ q))) tail.form tail.front) (factors_made s x xs n r.here.low);
       front = λ q h. refl;
@@ -413,7 +424,7 @@ terms_tail : (s : Bool) (x : Expr) (xs : List SumPart) (n : ℕ) → Room 3 x n 
     Tail (flat_map sum_part_text (record { minus = s; operand = x } ∷ xs)) (TermsOf (record { minus = s; operand = x } ∷ xs) n)
 terms_tail s x xs n r tail =
     let text : spaced (sum_sign_text s) ++ operand 3 (printed x) ++ flat_map sum_part_text xs ≡ flat_map sum_part_text (record { minus = s; operand = x } ∷ xs) =
-        ap (λ z. z ++ flat_map sum_part_text xs) (sym (sum_part_text-part s x)) in
+    ap (λ z. z ++ flat_map sum_part_text xs) (sym (sum_part_text-part s x)) in
     subst (λ z. Tail z (TermsOf (record { minus = s; operand = x } ∷ xs) n)) text (record {
       form = weaken (then_ (then_ (sum_sign_form s) (at_term x n r) (λ q h. anything (operand 3 (printed x) ++ q))) tail.form tail.front) (terms_made s x xs n r.here.low);
       front = λ q h. refl;
@@ -422,14 +433,18 @@ terms_tail s x xs n r tail =
 product_made : (x : Expr) (p : ProductPart) (ps : List ProductPart) (n : ℕ) (us ts : List Token) → Then (FactorOf x n) (FactorsOf (p ∷ ps) n) us ts → TermOf (expr.Product x (p ∷ ps)) n us ts
 product_made x p ps n us ts (and_then d e) =
     record {
-      tree = product_of d.tree e.tree; derived = factors d.derived e.derived; same = same_product d.tree x e.tree p ps d.same e.same;
+      tree = product_of d.tree e.tree;
+      derived = factors d.derived e.derived;
+      same = same_product d.tree x e.tree p ps d.same e.same;
       low = λ k l. low_append (factor_nesting d.derived k) (factors_nesting e.derived k) (d.low k l) (e.low k l);
     }
 
 sum_made : (x : Expr) (p : SumPart) (ps : List SumPart) (n : ℕ) (us ts : List Token) → Then (TermOf x n) (TermsOf (p ∷ ps) n) us ts → SumOf (expr.Sum x (p ∷ ps)) n us ts
 sum_made x p ps n us ts (and_then d e) =
     record {
-      tree = sum_of d.tree e.tree; derived = terms d.derived e.derived; same = same_sum d.tree x e.tree p ps d.same e.same;
+      tree = sum_of d.tree e.tree;
+      derived = terms d.derived e.derived;
+      same = same_sum d.tree x e.tree p ps d.same e.same;
       low = λ k l. low_append (term_nesting d.derived k) (terms_nesting e.derived k) (d.low k l) (e.low k l);
     }
 
@@ -438,19 +453,21 @@ product_shown x p ps n r tail =
     let q : Printed = at_level 3 (operand 4 (printed x) ++ flat_map product_part_text (p ∷ ps)) in
     settled 3 q (expr.Product x (p ∷ ps)) n (printed-product x (p ∷ ps)) refl
     (from_term q (expr.Product x (p ∷ ps)) n r.here.low (front_first (operand 4 (printed x)) (flat_map product_part_text (p ∷ ps)) (operand_front 4 x n r.here)) refl
-      (weaken (then_ (at_factor x n r) tail.form tail.front) (product_made x p ps n)))
+    (weaken (then_ (at_factor x n r) tail.form tail.front) (product_made x p ps n)))
 
 sum_shown : (x : Expr) (p : SumPart) (ps : List SumPart) (n : ℕ) → Room 3 x n → Tail (flat_map sum_part_text (p ∷ ps)) (TermsOf (p ∷ ps) n) → Room 2 (expr.Sum x (p ∷ ps)) n
 sum_shown x p ps n r tail =
     let q : Printed = at_level 2 (operand 3 (printed x) ++ flat_map sum_part_text (p ∷ ps)) in
     settled 2 q (expr.Sum x (p ∷ ps)) n (printed-sum x (p ∷ ps)) refl
     (from_sum q (expr.Sum x (p ∷ ps)) n r.here.low (front_first (operand 3 (printed x)) (flat_map sum_part_text (p ∷ ps)) (operand_front 3 x n r.here)) refl refl
-      (weaken (then_ (at_term x n r) tail.form tail.front) (sum_made x p ps n)))
+    (weaken (then_ (at_term x n r) tail.form tail.front) (sum_made x p ps n)))
 
 comparison_made : (x : Expr) (s : Comparison) (y : Expr) (n : ℕ) → n ≤ 64 → (us ts : List Token) → Then (Then (SumOf x n) (ComparisonOf s)) (SumOf y n) us ts → ExprOf (expr.Compare x s y) n us ts
 comparison_made x s y n h us ts (and_then (and_then d (a_comparison k)) e) =
     record {
-      tree = expr.Compare d.tree s e.tree; derived = compared d.derived k e.derived; same = same_comparison s d.tree x e.tree y d.same e.same;
+      tree = expr.Compare d.tree s e.tree;
+      derived = compared d.derived k e.derived;
+      same = same_comparison s d.tree x e.tree y d.same e.same;
       low = λ k l. low_append (sum_nesting d.derived k) (k ∷ sum_nesting e.derived k) (d.low k l) (omega arith, e.low k l);
     }
 
@@ -498,7 +515,7 @@ mutual
       product_shown x (record { sign = sign; operand = y }) ys n
       (factor_shown d n (low_front (factor_nesting d n) (n ∷ (factor_nesting e n ++ factors_nesting f n)) l) s)
       (factors_tail sign y ys n (factor_shown e n (low_front (factor_nesting e n) (factors_nesting f n) behind.1) others)
-        (factors_shown f n (low_back (factor_nesting e n) (factors_nesting f n) behind.1) (sound_behind (factor_eats e) others)))
+      (factors_shown f n (low_back (factor_nesting e n) (factors_nesting f n) behind.1) (sound_behind (factor_eats e) others)))
 
   pub factors_shown : {ts rest : List Token} {xs : List ProductPart} (d : IsFactors ts xs rest) (n : ℕ) → Low (factors_nesting d n) → Sound ts → Tail (flat_map product_part_text xs) (FactorsOf xs n)
   factors_shown no_factors n l s = record { form = weaken empty (no_factors_made n); front = λ r h. h }
@@ -514,7 +531,7 @@ mutual
       sum_shown x (record { minus = sign; operand = y }) ys n
       (term_shown d n (low_front (term_nesting d n) (n ∷ (term_nesting e n ++ terms_nesting f n)) l) s)
       (terms_tail sign y ys n (term_shown e n (low_front (term_nesting e n) (terms_nesting f n) behind.1) others)
-        (terms_shown f n (low_back (term_nesting e n) (terms_nesting f n) behind.1) (sound_behind (term_eats e) others)))
+      (terms_shown f n (low_back (term_nesting e n) (terms_nesting f n) behind.1) (sound_behind (term_eats e) others)))
 
   pub terms_shown : {ts rest : List Token} {xs : List SumPart} (d : IsTerms ts xs rest) (n : ℕ) → Low (terms_nesting d n) → Sound ts → Tail (flat_map sum_part_text xs) (TermsOf xs n)
   terms_shown no_terms n l s = record { form = weaken empty (no_terms_made n); front = λ r h. h }

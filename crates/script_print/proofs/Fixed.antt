@@ -219,8 +219,8 @@ if_fixed e p q margin =
     let second = map unplaced_stmt (map (λ (s : FixedStmt). s.0) q) in
     moved _ margin (if_is e (map (λ s. s.0) p) (map (λ s. s.0) q)) (act_text-if (unplaced_expr e) first second margin)
     (ap (λ z. codes "if " ++ z ++ codes " " ++ block_text (map stmt_text first) margin ++ else_text (map stmt_text second) margin) (expr_text_fixed e)
-      ∙ ap (λ z. codes "if " ++ expr_text e ++ codes " " ++ z ++ else_text (map stmt_text second) margin) (block_fixed p margin)
-      ∙ ap (λ z. codes "if " ++ expr_text e ++ codes " " ++ block_text (map stmt_text (map (λ s. s.0) p)) margin ++ z) (else_fixed q margin))
+    ∙ ap (λ z. codes "if " ++ expr_text e ++ codes " " ++ z ++ else_text (map stmt_text second) margin) (block_fixed p margin)
+    ∙ ap (λ z. codes "if " ++ expr_text e ++ codes " " ++ block_text (map stmt_text (map (λ s. s.0) p)) margin ++ z) (else_fixed q margin))
     (act_text-if e (map (λ s. s.0) p) (map (λ s. s.0) q) margin)
 
 while_fixed : (e : Expr) (p : List FixedStmt) → ActFixed (act.While e (map (λ s. s.0) p))
@@ -234,8 +234,8 @@ pfor_fixed : (i : Name) (lo hi : Expr) (o : Option Name) (c : CallText) → ActF
 pfor_fixed i lo hi o c margin =
     moved _ margin (pfor_is i lo hi o c) (act_text-pfor (unplaced_name i) (unplaced_expr lo) (unplaced_expr hi) (unplaced_target o) (unplaced_call c) margin)
     (ap (λ z. z ++ into_text (unplaced_target o) ++ loop_call_text (unplaced_name i) (unplaced_call c)) (range_fixed i lo hi)
-      ∙ ap (λ z. range_text i lo hi ++ z ++ loop_call_text (unplaced_name i) (unplaced_call c)) (into_fixed o)
-      ∙ ap (λ z. range_text i lo hi ++ into_text o ++ z) (loop_call_fixed i c))
+    ∙ ap (λ z. range_text i lo hi ++ z ++ loop_call_text (unplaced_name i) (unplaced_call c)) (into_fixed o)
+    ∙ ap (λ z. range_text i lo hi ++ into_text o ++ z) (loop_call_fixed i c))
     (act_text-pfor i lo hi o c margin)
 
 act_step : (y : Act-F FixedAct FixedStmt) → ActFixed (roll-Act (map-Act FixedAct FixedStmt Act Stmt (λ a. a.0) (λ s. s.0) y))
@@ -270,7 +270,7 @@ function_fixed : (f : Function) → function_text (unplaced_function f) ≡ func
 function_fixed f =
     let params = listed_fixed param_text unplaced_param (λ p. refl) f.params in
     ap (λ z. codes "fn " ++ f.name.bytes ++ codes "(" ++ z ++ codes ")" ++ answer_text f.answer ++ codes " {\n"
-      ++ stmts_text (map unplaced_stmt f.body) (codes "  ") ++ codes "  return " ++ expr_text (unplaced_expr f.result) ++ codes ";\n}\n") params
+    ++ stmts_text (map unplaced_stmt f.body) (codes "  ") ++ codes "  return " ++ expr_text (unplaced_expr f.result) ++ codes ";\n}\n") params
     ∙ ap (λ z. head_text f ++ z ++ codes "  return " ++ expr_text (unplaced_expr f.result) ++ codes ";\n}\n") (body_fixed f.body (codes "  "))
     ∙ ap (λ z. head_text f ++ stmts_text f.body (codes "  ") ++ codes "  return " ++ z ++ codes ";\n}\n") (expr_text_fixed f.result)
 

@@ -63,7 +63,9 @@ no_more_params_made n us ts nothing = record { tree = []; derived = no_more_para
 more_params_made : (x : Param) (xs : List Param) (n : ℕ) → n ≤ 64 → (us ts : List Token) → Then (Then (IsToken word.Comma (codes ",")) (ParamOf x n)) (MoreParamsOf xs n) us ts → MoreParamsOf (x ∷ xs) n us ts
 more_params_made x xs n h us ts (and_then (and_then a_token d) e) =
     record {
-      tree = d.tree ∷ e.tree; derived = one_more_param d.derived e.derived; same = cons_same d.same e.same;
+      tree = d.tree ∷ e.tree;
+      derived = one_more_param d.derived e.derived;
+      same = cons_same d.same e.same;
       low = (h, low_append (param_nesting d.derived n) (more_params_nesting e.derived n) d.low e.low);
     }
 
@@ -83,7 +85,9 @@ no_params_made n us ts nothing = record { tree = []; derived = no_params; same =
 params_made : (x : Param) (xs : List Param) (n : ℕ) (us ts : List Token) → Then (ParamOf x n) (MoreParamsOf xs n) us ts → ParamsOf (x ∷ xs) n us ts
 params_made x xs n us ts (and_then d e) =
     record {
-      tree = d.tree ∷ e.tree; derived = some_params d.derived e.derived; same = cons_same d.same e.same;
+      tree = d.tree ∷ e.tree;
+      derived = some_params d.derived e.derived;
+      same = cons_same d.same e.same;
       low = low_append (param_nesting d.derived n) (more_params_nesting e.derived n) d.low e.low;
     }
 
@@ -136,8 +140,8 @@ function_made : (a b : ℕ) (t : List ℕ) (ps : List Param) (k : Kind) (body : 
     FunctionOf (record { name = name_at a t; params = ps; answer = k; body = body; return_at = b; result = x }) n us ts
 function_made a b t ps k body x n h j us ts
     (and_then (and_then (and_then (and_then
-            (and_then (and_then (and_then (and_then (and_then (and_then a_token (a_token {a = c})) a_token) p) a_token) q) a_token)
-          d) (a_token {a = e})) f) (and_then a_token a_token)) =
+    (and_then (and_then (and_then (and_then (and_then (and_then a_token (a_token {a = c})) a_token) p) a_token) q) a_token)
+    d) (a_token {a = e})) f) (and_then a_token a_token)) =
     record {
       tree = record { name = name_at c t; params = p.tree; answer = k; body = d.tree; return_at = e; result = f.tree };
       derived = a_function p.derived q.derived d.derived f.derived;
@@ -145,17 +149,30 @@ function_made a b t ps k body x n h j us ts
           ap (λ z. with_parts t z k (map unplaced_stmt d.tree) (unplaced_expr f.tree)) p.same
           ∙ ap (λ z. with_parts t (map unplaced_param ps) k z (unplaced_expr f.tree)) d.same
           ∙ ap (with_parts t (map unplaced_param ps) k (map unplaced_stmt body)) f.same;
-      low = (h, (h, (j, low_append (params_nesting p.derived (suc n)) _ p.low
-        (h, low_append (answer_nesting q.derived n) _ q.low
-          (j, low_append (stmts_nesting d.derived (suc n)) _ d.low
-            (j, low_append (expr_nesting f.derived (suc n)) (suc n ∷ n ∷ []) (f.low (suc n) (omega arith)) (j, (h, tt))))))));
+      low = (
+        h,
+        (
+          h,
+          (
+            j,
+            low_append (params_nesting p.derived (suc n)) _ p.low (
+              h,
+              low_append (answer_nesting q.derived n) _ q.low (
+                j,
+                low_append (stmts_nesting d.derived (suc n)) _ d.low
+                    (j, low_append (expr_nesting f.derived (suc n)) (suc n ∷ n ∷ []) (f.low (suc n) (omega arith)) (j, (h, tt))),
+              ),
+            ),
+          ),
+        ),
+      );
     }
 
 head_form : (t : List ℕ) (ps : List Param) (k : Kind) (n : ℕ) → Forms t calm (IsToken word.Name t) → Forms (listed param_text ps) calm (ParamsOf ps (suc n)) → Tail (answer_text k) (AnswerOf k n) →
     Forms (codes "fn " ++ t ++ codes "(" ++ listed param_text ps ++ codes ")" ++ answer_text k ++ codes " {\n") any (HeadOf t ps k n)
 head_form t ps k n name params answer =
     then_ (then_ (then_ (then_ (then_ (then_ (word_space word.Fn (codes "fn") refl refl refl) name (λ r h. anything (t ++ r))) opened (λ r h. refl)) params (λ r h. anything (listed param_text ps ++ r)))
-          closed (λ r h. refl)) answer.form (λ r h. anything (answer_text k ++ r)))
+    closed (λ r h. refl)) answer.form (λ r h. anything (answer_text k ++ r)))
     (weaken (then_ (a_blank 32 refl) open_block (λ r h. refl)) nothing_in_front) (λ r h. refl)
 
 return_word : Forms (codes "  return ") any (IsToken word.Return (codes "return"))
@@ -180,7 +197,7 @@ function_shown (a_function {b = b} {f = at} {n = t} {ps = ps} {k = k} {body = bo
     let stmts = stmts_shown d (suc n) (low_front (stmts_nesting d (suc n)) _ behind_answer.1) at_body (codes "  ") two_spaces in
     let result = expr_shown e (suc n) (low_front (expr_nesting e (suc n)) _ behind_body.1) at_result in
     weaken (then_ (then_ (then_ (then_ (head_form t ps k n name params answer) stmts (λ r h. anything (stmts_text body (codes "  ") ++ r))) return_word (λ r h. anything (codes "  return " ++ r)))
-          result.expr (λ r h. anything (expr_text x ++ r))) end_form (λ r h. refl))
+    result.expr (λ r h. anything (expr_text x ++ r))) end_form (λ r h. refl))
     (function_made b at t ps k body x n l.0 l.1.1.0)
 
 no_functions_made : (n : ℕ) (us ts : List Token) → IsNothing us ts → FunctionsOf [] n us ts
@@ -189,7 +206,9 @@ no_functions_made n us ts nothing = record { tree = []; derived = no_functions; 
 functions_made : (x : Function) (xs : List Function) (n : ℕ) (us ts : List Token) → Then (FunctionOf x n) (FunctionsOf xs n) us ts → FunctionsOf (x ∷ xs) n us ts
 functions_made x xs n us ts (and_then d e) =
     record {
-      tree = d.tree ∷ e.tree; derived = one_function d.derived e.derived; same = cons_same d.same e.same;
+      tree = d.tree ∷ e.tree;
+      derived = one_function d.derived e.derived;
+      same = cons_same d.same e.same;
       low = low_append (function_nesting d.derived n) (functions_nesting e.derived n) d.low e.low;
     }
 

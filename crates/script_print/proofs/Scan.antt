@@ -255,7 +255,7 @@ mutual
   stmt_scanned (a_while d e) b o = take (next (expr_scanned d b o (block_no_item e)) (block_scanned e b o))
   stmt_scanned (a_pfor {ws = ws} d e f g) b o =
       take (take (take (next (expr_scanned d b o refl) (take (next (expr_scanned e b o (into_no_item f refl)) (next (into_scanned f b o refl)
-        (take (take (take (take (next (next (name_done (suc b) (suc b) ((b, b) ∷ o) ws (more_args_no_item g refl)) (more_args_scanned g (suc b) ((b, b) ∷ o) refl)) (take (take stay)))))))))))))
+      (take (take (take (take (next (next (name_done (suc b) (suc b) ((b, b) ∷ o) ws (more_args_no_item g refl)) (more_args_scanned g (suc b) ((b, b) ∷ o) refl)) (take (take stay)))))))))))))
 
   stmts_scanned : {ts rest : List Token} {xs : List Stmt} (d : IsStmts ts xs rest) (b : ℕ) (o : List (ℕ × ℕ)) → Goes ts (at done b b o) (stmts_nesting d b) rest (at done b b o)
   stmts_scanned no_stmts b o = stay
@@ -300,8 +300,8 @@ function_scanned (a_function p k d e) b o =
     let result = expr_nesting e (suc b) ++ suc b ∷ b ∷ [] in
     let body = stmts_nesting d (suc b) ++ suc b ∷ result in
     take (take (take (renested (append_assoc (params_nesting p (suc b)) (b ∷ []) (answer_nesting k b ++ suc b ∷ body)) (next (params_scanned p (suc b) (b, b) o)
-      (renested (append_assoc (answer_nesting k b) (suc b ∷ []) body) (next (answer_scanned k b o)
-        (next (stmts_scanned d (suc b) ((b, b) ∷ o)) (take (next (expr_scanned e (suc b) ((b, b) ∷ o) refl) (take (take stay)))))))))))
+    (renested (append_assoc (answer_nesting k b) (suc b ∷ []) body) (next (answer_scanned k b o)
+    (next (stmts_scanned d (suc b) ((b, b) ∷ o)) (take (next (expr_scanned e (suc b) ((b, b) ∷ o) refl) (take (take stay)))))))))))
 
 functions_scanned : {ts rest : List Token} {fs : List Function} (d : IsFunctions ts fs rest) (b : ℕ) (o : List (ℕ × ℕ)) → Goes ts (at done b b o) (functions_nesting d b) rest (at done b b o)
 functions_scanned no_functions b o = stay

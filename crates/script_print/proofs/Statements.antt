@@ -52,7 +52,9 @@ no_more_args_made n us ts nothing = record { tree = []; derived = no_more_args; 
 more_args_made : (x : Expr) (xs : List Expr) (n : ℕ) → n ≤ 64 → (us ts : List Token) → Then (Then (IsToken word.Comma (codes ",")) (ExprOf x n)) (MoreArgsOf xs n) us ts → MoreArgsOf (x ∷ xs) n us ts
 more_args_made x xs n h us ts (and_then (and_then a_token d) e) =
     record {
-      tree = d.tree ∷ e.tree; derived = one_more_arg d.derived e.derived; same = cons_same d.same e.same;
+      tree = d.tree ∷ e.tree;
+      derived = one_more_arg d.derived e.derived;
+      same = cons_same d.same e.same;
       low = (h, low_append (expr_nesting d.derived n) (more_args_nesting e.derived n) (d.low n (omega arith)) e.low);
     }
 
@@ -72,7 +74,9 @@ no_args_made n us ts nothing = record { tree = []; derived = no_args; same = ref
 args_made : (x : Expr) (xs : List Expr) (n : ℕ) (us ts : List Token) → Then (ExprOf x n) (MoreArgsOf xs n) us ts → ArgsOf (x ∷ xs) n us ts
 args_made x xs n us ts (and_then d e) =
     record {
-      tree = d.tree ∷ e.tree; derived = some_args d.derived e.derived; same = cons_same d.same e.same;
+      tree = d.tree ∷ e.tree;
+      derived = some_args d.derived e.derived;
+      same = cons_same d.same e.same;
       low = low_append (expr_nesting d.derived n) (more_args_nesting e.derived n) (d.low n (omega arith)) e.low;
     }
 
@@ -199,7 +203,8 @@ let_made : (a b : ℕ) (t : List ℕ) (r : Right) (n : ℕ) → n ≤ 64 → (us
     StmtOf (stmt_at a (act.Let (name_at b t) r)) n us ts
 let_made a b t r n h us ts (and_then (and_then (and_then (and_then (a_token {a = c}) (a_token {a = e})) a_token) d) a_token) =
     record {
-      tree = stmt_at c (act.Let (name_at e t) d.tree); derived = a_let d.derived;
+      tree = stmt_at c (act.Let (name_at e t) d.tree);
+      derived = a_let d.derived;
       same = same_stmt c a _ _ (same_let (name_at e t) (name_at b t) d.tree r refl d.same);
       low = (h, (h, (h, low_append (right_nesting d.derived n) (n ∷ []) d.low (h, tt))));
     }
@@ -209,7 +214,8 @@ set_made : (a : ℕ) (t : List ℕ) (r : Right) (n : ℕ) → n ≤ 64 → (us t
     StmtOf (stmt_at a (act.Set (name_at a t) r)) n us ts
 set_made a t r n h us ts (and_then (and_then (and_then (a_token {a = c}) a_token) d) a_token) =
     record {
-      tree = stmt_at c (act.Set (name_at c t) d.tree); derived = a_set d.derived;
+      tree = stmt_at c (act.Set (name_at c t) d.tree);
+      derived = a_set d.derived;
       same = same_stmt c a _ _ (same_set (name_at c t) (name_at a t) d.tree r refl d.same);
       low = (h, (h, low_append (right_nesting d.derived n) (n ∷ []) d.low (h, tt)));
     }
@@ -220,9 +226,10 @@ array_made : (a b c : ℕ) (t w : List ℕ) (n : ℕ) → n ≤ 64 → suc n ≤
     StmtOf (stmt_at a (act.Array (name_at b t) (number_at c w))) n us ts
 array_made a b c t w n h k small us ts (and_then (and_then (and_then (and_then (a_token {a = d}) (a_token {a = e})) a_token) (a_token {a = f})) (and_then a_token a_token)) =
     record {
-      tree = stmt_at d (act.Array (name_at e t) (number_at f (fmt.decimal (decimal 0 w)))); derived = an_array;
+      tree = stmt_at d (act.Array (name_at e t) (number_at f (fmt.decimal (decimal 0 w))));
+      derived = an_array;
       same = same_stmt d a _ _ (same_array (name_at e t) (name_at b t) (number_at f (fmt.decimal (decimal 0 w))) (number_at c w) refl
-        (ap (λ (m : ℕ). record { at = 0; value = pos m }) (number_read (decimal 0 w) small)));
+          (ap (λ (m : ℕ). record { at = 0; value = pos m }) (number_read (decimal 0 w) small)));
       low = (h, (h, (k, (k, (h, (h, tt))))));
     }
 
@@ -231,23 +238,34 @@ store_made : (a : ℕ) (t : List ℕ) (x y : Expr) (n : ℕ) → n ≤ 64 → su
     StmtOf (stmt_at a (act.Store (name_at a t) x y)) n us ts
 store_made a t x y n h k us ts (and_then (and_then (and_then (and_then (and_then (a_token {a = c}) a_token) d) (and_then a_token a_token)) e) a_token) =
     record {
-      tree = stmt_at c (act.Store (name_at c t) d.tree e.tree); derived = a_store d.derived e.derived;
+      tree = stmt_at c (act.Store (name_at c t) d.tree e.tree);
+      derived = a_store d.derived e.derived;
       same = same_stmt c a _ _ (same_store (name_at c t) (name_at a t) d.tree x e.tree y refl d.same e.same);
-      low = (h, (k, low_append (expr_nesting d.derived (suc n)) (n ∷ n ∷ (expr_nesting e.derived n ++ n ∷ [])) (d.low (suc n) (omega arith))
-        (h, (h, low_append (expr_nesting e.derived n) (n ∷ []) (e.low n (omega arith)) (h, tt)))));
+      low = (
+        h,
+        (
+          k,
+          low_append (expr_nesting d.derived (suc n)) (n ∷ n ∷ (expr_nesting e.derived n ++ n ∷ [])) (d.low (suc n) (omega arith))
+              (h, (h, low_append (expr_nesting e.derived n) (n ∷ []) (e.low n (omega arith)) (h, tt))),
+        ),
+      );
     }
 
 spawn_made : (a : ℕ) (c : CallText) (n : ℕ) → n ≤ 64 → (us ts : List Token) → Then (Then (IsToken word.Spawn (codes "spawn")) (CallOf c n)) (IsToken word.Semicolon (codes ";")) us ts → StmtOf (stmt_at a (act.Spawn c)) n us ts
 spawn_made a c n h us ts (and_then (and_then (a_token {a = b}) d) a_token) =
     record {
-      tree = stmt_at b (act.Spawn d.tree); derived = a_spawn d.derived; same = same_stmt b a _ _ (same_spawn d.tree c d.same);
+      tree = stmt_at b (act.Spawn d.tree);
+      derived = a_spawn d.derived;
+      same = same_stmt b a _ _ (same_spawn d.tree c d.same);
       low = (h, low_append (call_nesting d.derived n) (n ∷ []) d.low (h, tt));
     }
 
 call_stmt_made : (a : ℕ) (c : CallText) (n : ℕ) → n ≤ 64 → (us ts : List Token) → Then (Then (IsToken word.Call (codes "call")) (CallOf c n)) (IsToken word.Semicolon (codes ";")) us ts → StmtOf (stmt_at a (act.Call c)) n us ts
 call_stmt_made a c n h us ts (and_then (and_then (a_token {a = b}) d) a_token) =
     record {
-      tree = stmt_at b (act.Call d.tree); derived = a_call_stmt d.derived; same = same_stmt b a _ _ (same_call d.tree c d.same);
+      tree = stmt_at b (act.Call d.tree);
+      derived = a_call_stmt d.derived;
+      same = same_stmt b a _ _ (same_call d.tree c d.same);
       low = (h, low_append (call_nesting d.derived n) (n ∷ []) d.low (h, tt));
     }
 
@@ -257,14 +275,17 @@ sync_made a n h us ts (and_then (a_token {a = b}) a_token) = record { tree = stm
 print_made : (a : ℕ) (x : Expr) (n : ℕ) → n ≤ 64 → (us ts : List Token) → Then (Then (IsToken word.Print (codes "print")) (ExprOf x n)) (IsToken word.Semicolon (codes ";")) us ts → StmtOf (stmt_at a (act.Print x)) n us ts
 print_made a x n h us ts (and_then (and_then (a_token {a = b}) d) a_token) =
     record {
-      tree = stmt_at b (act.Print d.tree); derived = a_print d.derived; same = same_stmt b a _ _ (same_print d.tree x d.same);
+      tree = stmt_at b (act.Print d.tree);
+      derived = a_print d.derived;
+      same = same_stmt b a _ _ (same_print d.tree x d.same);
       low = (h, low_append (expr_nesting d.derived n) (n ∷ []) (d.low n (omega arith)) (h, tt));
     }
 
 if_made : (a : ℕ) (x : Expr) (p q : List Stmt) (n : ℕ) → n ≤ 64 → (us ts : List Token) → Then (Then (Then (Then (IsToken word.If (codes "if")) (ExprOf x n)) IsNothing) (BlockOf p n)) (ElseOf q n) us ts → StmtOf (stmt_at a (act.If x p q)) n us ts
 if_made a x p q n h us ts (and_then (and_then (and_then (and_then (a_token {a = b}) d) nothing) e) f) =
     record {
-      tree = stmt_at b (act.If d.tree e.tree f.tree); derived = an_if d.derived e.derived f.derived;
+      tree = stmt_at b (act.If d.tree e.tree f.tree);
+      derived = an_if d.derived e.derived f.derived;
       same = same_stmt b a _ _ (same_if d.tree x e.tree p f.tree q d.same e.same f.same);
       low = (h, low_append (expr_nesting d.derived n) (block_nesting e.derived n ++ else_nesting f.derived n) (d.low n (omega arith)) (low_append (block_nesting e.derived n) (else_nesting f.derived n) e.low f.low));
     }
@@ -272,7 +293,9 @@ if_made a x p q n h us ts (and_then (and_then (and_then (and_then (a_token {a = 
 while_made : (a : ℕ) (x : Expr) (p : List Stmt) (n : ℕ) → n ≤ 64 → (us ts : List Token) → Then (Then (Then (IsToken word.While (codes "while")) (ExprOf x n)) IsNothing) (BlockOf p n) us ts → StmtOf (stmt_at a (act.While x p)) n us ts
 while_made a x p n h us ts (and_then (and_then (and_then (a_token {a = b}) d) nothing) e) =
     record {
-      tree = stmt_at b (act.While d.tree e.tree); derived = a_while d.derived e.derived; same = same_stmt b a _ _ (same_while d.tree x e.tree p d.same e.same);
+      tree = stmt_at b (act.While d.tree e.tree);
+      derived = a_while d.derived e.derived;
+      same = same_stmt b a _ _ (same_while d.tree x e.tree p d.same e.same);
       low = (h, low_append (expr_nesting d.derived n) (block_nesting e.derived n) (d.low n (omega arith)) e.low);
     }
 
@@ -289,16 +312,25 @@ pfor_made : (a b c : ℕ) (t f : List ℕ) (x y : Expr) (o : Option Name) (xs : 
     Then (Then (RangeOf t x y n) (IntoOf o n)) (LoopCallOf t f xs n) us ts → StmtOf (stmt_at a (act.Pfor (name_at b t) x y o (record { name = name_at c f; args = xs }))) n us ts
 pfor_made a b c t f x y o xs n h k us ts
     (and_then (and_then (and_then (and_then (and_then (and_then (and_then (a_token {a = i}) (a_token {a = j})) a_token) d) a_token) e) g)
-      (and_then (and_then (and_then (and_then (and_then a_token (a_token {a = m})) a_token) a_token) p) (and_then a_token a_token))) =
+    (and_then (and_then (and_then (and_then (and_then a_token (a_token {a = m})) a_token) a_token) p) (and_then a_token a_token))) =
     let behind : Low (n ∷ n ∷ suc n ∷ suc n ∷ (more_args_nesting p.derived (suc n) ++ n ∷ n ∷ [])) =
-        (h, (h, (k, (k, low_append (more_args_nesting p.derived (suc n)) (n ∷ n ∷ []) p.low (h, (h, tt)))))) in
+    (h, (h, (k, (k, low_append (more_args_nesting p.derived (suc n)) (n ∷ n ∷ []) p.low (h, (h, tt)))))) in
     record {
       tree = stmt_at i (act.Pfor (name_at j t) d.tree e.tree g.tree (record { name = name_at m f; args = p.tree }));
       derived = a_pfor d.derived e.derived g.derived p.derived;
       same = same_stmt i a _ _ (same_pfor (name_at j t) (name_at b t) d.tree x e.tree y g.tree o (record { name = name_at m f; args = p.tree }) (record { name = name_at c f; args = xs })
-        refl d.same e.same g.same (ap (λ (z : List Expr). record { name = name_at 0 f; args = z }) p.same));
-      low = (h, (h, (h, low_append (expr_nesting d.derived n) _ (d.low n (omega arith))
-        (h, low_append (expr_nesting e.derived n) _ (e.low n (omega arith)) (low_append (into_nesting g.derived n) _ g.low behind)))));
+          refl d.same e.same g.same (ap (λ (z : List Expr). record { name = name_at 0 f; args = z }) p.same));
+      low = (
+        h,
+        (
+          h,
+          (
+            h,
+            low_append (expr_nesting d.derived n) _ (d.low n (omega arith))
+                (h, low_append (expr_nesting e.derived n) _ (e.low n (omega arith)) (low_append (into_nesting g.derived n) _ g.low behind)),
+          ),
+        ),
+      );
     }
 
 pub open_block : Forms (codes "{\n") any (IsToken word.OpenBlock (codes "{"))
@@ -332,14 +364,18 @@ no_stmts_made n us ts nothing = record { tree = []; derived = no_stmts; same = r
 stmts_made : (x : Stmt) (xs : List Stmt) (n : ℕ) (us ts : List Token) → Then (StmtOf x n) (StmtsOf xs n) us ts → StmtsOf (x ∷ xs) n us ts
 stmts_made x xs n us ts (and_then d e) =
     record {
-      tree = d.tree ∷ e.tree; derived = one_stmt d.derived e.derived; same = cons_same d.same e.same;
+      tree = d.tree ∷ e.tree;
+      derived = one_stmt d.derived e.derived;
+      same = cons_same d.same e.same;
       low = low_append (stmt_nesting d.derived n) (stmts_nesting e.derived n) d.low e.low;
     }
 
 block_made : (xs : List Stmt) (n : ℕ) → n ≤ 64 → suc n ≤ 64 → (us ts : List Token) → Then (Then (Then (IsToken word.OpenBlock (codes "{")) (StmtsOf xs (suc n))) IsNothing) (IsToken word.CloseBlock (codes "}")) us ts → BlockOf xs n us ts
 block_made xs n h k us ts (and_then (and_then (and_then a_token d) nothing) a_token) =
     record {
-      tree = d.tree; derived = a_block d.derived; same = d.same;
+      tree = d.tree;
+      derived = a_block d.derived;
+      same = d.same;
       low = (k, low_append (stmts_nesting d.derived (suc n)) (n ∷ []) d.low (h, tt));
     }
 
@@ -358,13 +394,13 @@ else_of_block (x ∷ xs) n margin h d =
 range_form : (t : List ℕ) (x y : Expr) (n : ℕ) → Forms t calm (IsToken word.Name t) → Shown (printed x) x n → Shown (printed y) y n → Forms (codes "pfor " ++ t ++ codes " in " ++ expr_text x ++ codes ".." ++ expr_text y) calm (RangeOf t x y n)
 range_form t x y n name d e =
     then_ (then_ (then_ (then_ (then_ (word_space word.Pfor (codes "pfor") refl refl refl) name (λ r h. anything (t ++ r))) (spaced_word word.In (codes "in") refl refl refl) (λ r h. refl))
-        d.expr (λ r h. anything (expr_text x ++ r))) (symbol word.Range (codes "..") refl refl (λ b. refl)) (λ r h. refl)) e.expr (λ r h. anything (expr_text y ++ r))
+    d.expr (λ r h. anything (expr_text x ++ r))) (symbol word.Range (codes "..") refl refl (λ b. refl)) (λ r h. refl)) e.expr (λ r h. anything (expr_text y ++ r))
 
 loop_call_form : (t f : List ℕ) (xs : List Expr) (n : ℕ) → Forms t calm (IsToken word.Name t) → Forms f calm (IsToken word.Name f) → Tail (behind_commas expr_text xs) (MoreArgsOf xs (suc n)) →
     Forms (codes " call " ++ f ++ codes "(" ++ t ++ behind_commas expr_text xs ++ codes ");") any (LoopCallOf t f xs n)
 loop_call_form t f xs n name called args =
     then_ (then_ (then_ (then_ (then_ (spaced_word word.Call (codes "call") refl refl refl) called (λ r h. anything (f ++ r))) opened (λ r h. refl)) name (λ r h. anything (t ++ r)))
-        args.form args.front) (then_ closed semicolon (λ r h. refl)) (λ r h. refl)
+    args.form args.front) (then_ closed semicolon (λ r h. refl)) (λ r h. refl)
 
 mutual
   pub stmt_shown : {ts rest : List Token} {x : Stmt} (d : IsStmt ts x rest) (n : ℕ) → Low (stmt_nesting d n) → Sound ts → (margin : List ℕ) → Forms margin any IsNothing → Forms (stmt_text x margin) any (StmtOf x n)
@@ -373,27 +409,27 @@ mutual
       let value = right_shown d n (low_front (right_nesting d n) (n ∷ []) l.1.1.1) s.1.1.1 in
       lined a (act.Let (name_at b u) r) n margin _ m (act_text-let (name_at b u) r margin)
       (weaken (then_ (then_ (then_ (then_ let_word (name_form u name.word_is (name.modest.name refl)) (λ q h. anything (u ++ q))) assign (λ q h. refl)) value (λ q h. anything (right_text r ++ q))) semicolon (λ q h. refl))
-        (let_made a b u r n l.0))
+      (let_made a b u r n l.0))
   stmt_shown (an_array {a = a} {b = b} {d = d} {u = u} {w = w}) n l s margin m =
       let name = s.1.0 in
       let small : decimal 0 w ≤ 9223372036854775807 = s.1.1.1.0.modest.number refl in
       lined a (act.Array (name_at b u) (number_at d w)) n margin _ m (act_text-array (name_at b u) (number_at d w) margin)
       (weaken (then_ (then_ (then_ (then_ let_word (name_form u name.word_is (name.modest.name refl)) (λ q h. anything (u ++ q))) open_item (λ q h. refl)) (number_form (decimal 0 w) small) (λ q h. anything (fmt.decimal (decimal 0 w) ++ q)))
-          (then_ close_item semicolon (λ q h. refl)) (λ q h. refl))
-        (array_made a b d u w n l.0 l.1.1.0 small))
+      (then_ close_item semicolon (λ q h. refl)) (λ q h. refl))
+      (array_made a b d u w n l.0 l.1.1.0 small))
   stmt_shown (a_set {a = a} {t = t} {r = r} d) n l s margin m =
       let value = right_shown d n (low_front (right_nesting d n) (n ∷ []) l.1.1) s.1.1 in
       lined a (act.Set (name_at a t) r) n margin _ m (act_text-set (name_at a t) r margin)
       (weaken (then_ (then_ (then_ (name_form t s.0.word_is (s.0.modest.name refl)) assign (λ q h. refl)) value (λ q h. anything (right_text r ++ q))) semicolon (λ q h. refl))
-        (set_made a t r n l.0))
+      (set_made a t r n l.0))
   stmt_shown (a_store {a = a} {t = t} {x = x} {y = y} d e) n l s margin m =
       let behind = low_back (expr_nesting d (suc n)) (n ∷ n ∷ (expr_nesting e n ++ n ∷ [])) l.1.1 in
       let index = expr_shown d (suc n) (low_front (expr_nesting d (suc n)) (n ∷ n ∷ (expr_nesting e n ++ n ∷ [])) l.1.1) s.1.1 in
       let value = expr_shown e n (low_front (expr_nesting e n) (n ∷ []) behind.1.1) (sound_behind (expr_eats d) s.1.1).1.1 in
       lined a (act.Store (name_at a t) x y) n margin _ m (act_text-store (name_at a t) x y margin)
       (weaken (then_ (then_ (then_ (then_ (then_ (name_form t s.0.word_is (s.0.modest.name refl)) open_item (λ q h. refl)) index.expr (λ q h. anything (expr_text x ++ q)))
-            (then_ close_item assign (λ q h. refl)) (λ q h. refl)) value.expr (λ q h. anything (expr_text y ++ q))) semicolon (λ q h. refl))
-        (store_made a t x y n l.0 l.1.0))
+      (then_ close_item assign (λ q h. refl)) (λ q h. refl)) value.expr (λ q h. anything (expr_text y ++ q))) semicolon (λ q h. refl))
+      (store_made a t x y n l.0 l.1.0))
   stmt_shown (a_spawn {a = a} {c = c} d) n l s margin m =
       let call = call_shown d n (low_front (call_nesting d n) (n ∷ []) l.1) s.1 in
       lined a (act.Spawn c) n margin _ m (act_text-spawn c margin)
@@ -417,15 +453,15 @@ mutual
       let otherwise = else_shown f n (low_back (block_nesting e n) (else_nesting f n) behind) (sound_behind (block_eats e) in_block) margin m in
       lined a (act.If x p q) n margin _ m (act_text-if x p q margin)
       (weaken (then_ (then_ (then_ (then_ (word_space word.If (codes "if") refl refl refl) guard.expr (λ r h. anything (expr_text x ++ r))) (a_blank 32 refl) (λ r h. refl))
-            block (λ r h. anything (block_text (map stmt_text p) margin ++ r))) otherwise (λ r h. anything (else_text (map stmt_text q) margin ++ r)))
-        (if_made a x p q n l.0))
+      block (λ r h. anything (block_text (map stmt_text p) margin ++ r))) otherwise (λ r h. anything (else_text (map stmt_text q) margin ++ r)))
+      (if_made a x p q n l.0))
   stmt_shown (a_while {a = a} {x = x} {p = p} d e) n l s margin m =
       let guard = expr_shown d n (low_front (expr_nesting d n) (block_nesting e n) l.1) s.1 in
       let block = block_shown e n (low_back (expr_nesting d n) (block_nesting e n) l.1) (sound_behind (expr_eats d) s.1) margin m in
       lined a (act.While x p) n margin _ m (act_text-while x p margin)
       (weaken (then_ (then_ (then_ (word_space word.While (codes "while") refl refl refl) guard.expr (λ r h. anything (expr_text x ++ r))) (a_blank 32 refl) (λ r h. refl))
-            block (λ r h. anything (block_text (map stmt_text p) margin ++ r)))
-        (while_made a x p n l.0))
+      block (λ r h. anything (block_text (map stmt_text p) margin ++ r)))
+      (while_made a x p n l.0))
   stmt_shown (a_pfor {a = a} {b = b} {f = f} {n = t} {f' = f'} {lo = lo} {hi = hi} {into = o} {xs = xs} d e i g) n l s margin m =
       let behind_lo = low_back (expr_nesting d n) _ l.1.1.1 in
       let behind_hi = low_back (expr_nesting e n) _ behind_lo.1 in
@@ -442,7 +478,7 @@ mutual
       let args = more_args_shown g (suc n) (low_front (more_args_nesting g (suc n)) (n ∷ n ∷ []) behind_into.1.1.1.1) at_call.1.1.1.1 in
       lined a (act.Pfor (name_at b t) lo hi o (record { name = name_at f f'; args = xs })) n margin _ m (act_text-pfor (name_at b t) lo hi o (record { name = name_at f f'; args = xs }) margin)
       (weaken (then_ (then_ (range_form t lo hi n name first end) target.form target.front) (loop_call_form t f' xs n name called args) (λ r h. refl))
-        (pfor_made a b f t f' lo hi o xs n l.0 behind_into.1.1.0))
+      (pfor_made a b f t f' lo hi o xs n l.0 behind_into.1.1.0))
 
   pub stmts_shown : {ts rest : List Token} {xs : List Stmt} (d : IsStmts ts xs rest) (n : ℕ) → Low (stmts_nesting d n) → Sound ts → (margin : List ℕ) → Forms margin any IsNothing → Forms (stmts_text xs margin) any (StmtsOf xs n)
   stmts_shown no_stmts n l s margin m = weaken empty (no_stmts_made n)

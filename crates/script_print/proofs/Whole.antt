@@ -96,9 +96,10 @@ modest_behind before t w = record { number = λ e. number (cases_lt 922337203685
 
 sound_tokens : (bytes : List ℕ) (before : List Token) (ls : List Lexeme) → All (λ l. word_of (text_of bytes l) ≡ Some l.word) ls → WithinBehind before (tokens_of bytes ls) → Sound (tokens_of bytes ls)
 sound_tokens bytes before [] h w = tt
-sound_tokens bytes before (l ∷ ls) h w =
-    (record { word_is = h 0 l (omega arith); modest = modest_behind before (token_of bytes l) w.0 },
-      sound_tokens bytes (before ++ token_of bytes l ∷ []) ls (λ k d below. h (suc k) d (omega arith)) w.1)
+sound_tokens bytes before (l ∷ ls) h w = (
+  record { word_is = h 0 l (omega arith); modest = modest_behind before (token_of bytes l) w.0 },
+  sound_tokens bytes (before ++ token_of bytes l ∷ []) ls (λ k d below. h (suc k) d (omega arith)) w.1,
+)
 
 -- Tokens of which all that holds are a program.
 
@@ -119,9 +120,10 @@ within_behind : (before ts : List Token) → Modest ts → Low (scan (after star
 within_behind before [] m low few = tt
 within_behind before (t ∷ ts) m low few =
     let all : functions_begun ((before ++ t ∷ []) ++ ts) ≤ 1024 = subst (λ z. functions_begun z ≤ 1024) (sym (append_assoc before (t ∷ []) ts)) few in
-    let front : functions_begun before + functions_begun (t ∷ []) ≤ 1024 = omega (arith, all, begun-append (before ++ t ∷ []) ts, begun-append before (t ∷ [])) in
-    (λ n. none_breaks before t n m.0 low.0 front,
-      within_behind (before ++ t ∷ []) ts m.1 (subst (λ z. Low (scan z ts)) (sym (after-more start before t)) low.1) all)
+    let front : functions_begun before + functions_begun (t ∷ []) ≤ 1024 = omega (arith, all, begun-append (before ++ t ∷ []) ts, begun-append before (t ∷ [])) in (
+      λ n. none_breaks before t n m.0 low.0 front,
+      within_behind (before ++ t ∷ []) ts m.1 (subst (λ z. Low (scan z ts)) (sym (after-more start before t)) low.1) all,
+    )
 
 count_same : (fs gs : List Function) → map unplaced_function fs ≡ map unplaced_function gs → length fs ≡ length gs
 count_same [] [] e = refl
@@ -148,7 +150,8 @@ canonical_is_text script o =
     let few : length script.functions ≤ 1024 = omega (arith, functions_counted d, few_functions [] ts (omega arith) within) in
     let cut = (functions_shown d 0 low sound).cut [] (λ at. []) refl spells_end 0 in
     let spells : Spells 0 (canonical script) cut.tokens = subst (λ z. Spells 0 z cut.tokens) (append-nil (canonical script)) cut.spells in
-    let program : IsProgram cut.tokens cut.form.tree = program_of script.functions cut.form.tree cut.tokens cut.form.derived cut.form.low cut.form.same spells.modest few in
-    (record { functions = cut.form.tree },
+    let program : IsProgram cut.tokens cut.form.tree = program_of script.functions cut.form.tree cut.tokens cut.form.derived cut.form.low cut.form.same spells.modest few in (
+      record { functions = cut.form.tree },
       record { lexemes = spells.lexemes; cut = spells.cut; program = subst (λ z. IsProgram z cut.form.tree) (sym (spells.texts [] refl)) program },
-      ap (λ (z : List Function). record { functions = z }) cut.form.same)
+      ap (λ (z : List Function). record { functions = z }) cut.form.same,
+    )

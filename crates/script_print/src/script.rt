@@ -25,11 +25,7 @@ pub fn print_script(alloc: Global, script: &Script) -> Result<Vec<u8>, Memory>
     Ok(text)
 }
 
-fn write_functions(
-    alloc: Global,
-    functions: &[Function],
-    text: &mut Vec<u8>,
-) -> Result<(), Memory>
+fn write_functions(alloc: Global, functions: &[Function], text: &mut Vec<u8>) -> Result<(), Memory>
     ensures { OnOk result (text.new.items ≡ text.old.items ++ flat_map function_text functions.now) }
 {
     for function in functions {
