@@ -1,0 +1,12 @@
+pub mod Computing
+pub mod Cutting
+pub mod Forms
+pub mod Pieces
+pub mod Eats
+pub mod Placing
+pub mod Expressions
+pub mod Statements
+pub mod Functions
+pub mod Scan
+pub mod Fixed
+pub mod Whole

@@ -1,0 +1,157 @@
+-- The canonical text of a script that was read is the text of the same tree apart from offsets.
+use Rattle.std.proofs.Common.{◌≡◌, ℕ, zero, suc, ◌+◌, ◌<◌, ◌≤◌, List, [], ◌∷◌, ◌++◌, length, map, flat_map, All, slice_get, Option, Some, None, Bool, true, false, ◌⊎◌, inl, inr, if◌then◌else◌, refl, sym, ap, ◌∙◌, subst, arith, append_assoc, append-nil}
+use Rattle.std.proofs.lemmas.Bool.{cases_lt}
+use Rattle.std.proofs.lemmas.List.{length-append}
+use Rattle.script_tokens.specs.declared.token.Word.{Word}
+use Rattle.script_tokens.specs.declared.token.Word.TheVariants as word
+use Rattle.script_tokens.specs.declared.token.Lexeme.{Lexeme}
+use Rattle.script_tokens.specs.Word.{word_of}
+use Rattle.script_tokens.specs.Lexing.{text_of, Lexes}
+use Rattle.script_tokens.proofs.LexingLemmas.{lexemes_tokens}
+use Rattle.script_grammar.specs.declared.tree.Function.{Function}
+use Rattle.script_grammar.specs.declared.tree.Script.{Script}
+use Rattle.script_grammar.specs.Grammar.{Token, tok, decimal, IsFunctions, IsScript}
+use Rattle.script_grammar.specs.Nesting.{functions_nesting}
+use Rattle.script_grammar.specs.Fault.{is_fn, functions_begun, IsNested, BreaksLimit, number_out_of_range, name_too_long, nested_too_deep, too_many_functions, WithinBehind, IsProgram}
+use Rattle.script_grammar.specs.Text.{token_of, tokens_of, Text, IsOfText}
+use Rattle.script_print.specs.Canonical.{function_text, canonical}
+use Rattle.script_print.specs.Unplaced.{unplaced_function, unplaced, IsTextOf}
+use Rattle.script_print.proofs.Cutting.{IsModest, Modest, Spells, spells_end, starts}
+use Rattle.script_print.proofs.Forms.{Forms, any}
+use Rattle.script_print.proofs.Eats.{functions_counted}
+use Rattle.script_print.proofs.Expressions.{Low, IsSound, Sound}
+use Rattle.script_print.proofs.Functions.{FunctionsOf, functions_shown}
+use Rattle.script_print.proofs.Scan.{State, effect, nested, step, scan, start, script_scanned}
+
+-- The state behind these tokens.
+abbrev after : State → List Token → State
+after s [] = s
+after s (t ∷ ts) = after (step (effect t.word) s) ts
+
+after-more : (s : State) (before : List Token) (t : Token) → after s (before ++ t ∷ []) ≡ step (effect t.word) (after s before)
+after-more s [] t = refl
+after-more s (b ∷ bs) t = after-more (step (effect b.word) s) bs t
+
+-- the nesting at a token is told by those in front of it
+scan_at : (s : State) (before : List Token) (t : Token) (more : List Token) → slice_get (scan s (before ++ t ∷ more)) (length before) ≡ Some (nested (effect t.word) (after s before))
+scan_at s [] t more = refl
+scan_at s (b ∷ bs) t more = scan_at (step (effect b.word) s) bs t more
+
+nested_there : (before : List Token) (t : Token) (more : List Token) (fs : List Function) (d : IsScript (before ++ t ∷ more) fs) →
+    slice_get (functions_nesting d 0) (length before) ≡ Some (nested (effect t.word) (after start before))
+nested_there before t more fs d = ap (λ z. slice_get z (length before)) (script_scanned d) ∙ scan_at start before t more
+
+-- Of a program the nestings are within the limit, and it begins no more functions than it may.
+
+low_behind : (before ts : List Token) (fs : List Function) → IsScript (before ++ ts) fs → WithinBehind before ts → Low (scan (after start before) ts)
+low_behind before [] fs d w = tt
+low_behind before (t ∷ ts) fs d w =
+    let n : ℕ = nested (effect t.word) (after start before) in
+    let is : IsNested before t n = (ts, fs, d, nested_there before t ts fs d) in
+    let here : n ≤ 64 = go (cases_lt 64 n) is in
+    let others : Low (scan (after start (before ++ t ∷ [])) ts) = low_behind (before ++ t ∷ []) ts fs (subst (λ z. IsScript z fs) (sym (append_assoc before (t ∷ []) ts)) d) w.1 in
+    (here, subst (λ z. Low (scan z ts)) (after-more start before t) others)
+  where
+    go : {n : ℕ} → (64 < n) ⊎ (n ≤ 64) → IsNested before t n → n ≤ 64
+    go (inl h) is = absurd (w.0 5 (nested_too_deep is h))
+    go (inr h) is = h
+
+begun-append : (before : List Token) (ts : List Token) → functions_begun (before ++ ts) ≡ functions_begun before + functions_begun ts
+begun-append [] ts = omega arith
+begun-append (b ∷ bs) ts = go (is_fn b.word) (begun-append bs ts)
+  where
+    go : (c : Bool) → functions_begun (bs ++ ts) ≡ functions_begun bs + functions_begun ts →
+        (if c then suc (functions_begun (bs ++ ts)) else functions_begun (bs ++ ts)) ≡ (if c then suc (functions_begun bs) else functions_begun bs) + functions_begun ts
+    go true e = omega (arith, e)
+    go false e = e
+
+is_fn_word : (w : Word) → is_fn w ≡ true → w ≡ word.Fn
+is_fn_word word.Fn e = refl
+is_fn_word _ e = absurd cc
+
+few_functions : (before ts : List Token) → functions_begun before ≤ 1024 → WithinBehind before ts → functions_begun (before ++ ts) ≤ 1024
+few_functions before [] h w = subst (λ z. functions_begun z ≤ 1024) (sym (append-nil before)) h
+few_functions before (t ∷ ts) h w =
+    subst (λ z. functions_begun z ≤ 1024) (append_assoc before (t ∷ []) ts)
+    (few_functions (before ++ t ∷ []) ts (omega (arith, begun-append before (t ∷ []), here (is_fn t.word) refl)) w.1)
+  where
+    here : (c : Bool) → is_fn t.word ≡ c → functions_begun before + (if c then 1 else 0) ≤ 1024
+    here true e = go (cases_lt (functions_begun before) 1024)
+      where
+        go : (functions_begun before < 1024) ⊎ (1024 ≤ functions_begun before) → functions_begun before + 1 ≤ 1024
+        go (inl k) = omega arith
+        go (inr k) = absurd (w.0 7 (too_many_functions (is_fn_word t.word e) k))
+    here false e = omega arith
+
+modest_behind : (before : List Token) (t : Token) → ((n : ℕ) → BreaksLimit before t n → ⊥) → IsModest t
+modest_behind before t w = record { number = λ e. number (cases_lt 9223372036854775807 (decimal 0 t.text)) e; name = λ e. name (cases_lt 32 (length t.text)) e }
+  where
+    number : (9223372036854775807 < decimal 0 t.text) ⊎ (decimal 0 t.text ≤ 9223372036854775807) → t.word ≡ word.Number → decimal 0 t.text ≤ 9223372036854775807
+    number (inl h) e = absurd (w 3 (number_out_of_range e h))
+    number (inr h) e = h
+
+    name : (32 < length t.text) ⊎ (length t.text ≤ 32) → t.word ≡ word.Name → length t.text ≤ 32
+    name (inl h) e = absurd (w 4 (name_too_long e h))
+    name (inr h) e = h
+
+sound_tokens : (bytes : List ℕ) (before : List Token) (ls : List Lexeme) → All (λ l. word_of (text_of bytes l) ≡ Some l.word) ls → WithinBehind before (tokens_of bytes ls) → Sound (tokens_of bytes ls)
+sound_tokens bytes before [] h w = tt
+sound_tokens bytes before (l ∷ ls) h w = (
+  record { word_is = h 0 l (omega arith); modest = modest_behind before (token_of bytes l) w.0 },
+  sound_tokens bytes (before ++ token_of bytes l ∷ []) ls (λ k d below. h (suc k) d (omega arith)) w.1,
+)
+
+-- Tokens of which all that holds are a program.
+
+same_some : {m n : ℕ} → ◌≡◌ {A = Option ℕ} (Some m) (Some n) → m ≡ n
+same_some e = cc
+
+none_breaks : (before : List Token) (t : Token) (n : ℕ) → IsModest t → nested (effect t.word) (after start before) ≤ 64 → functions_begun before + functions_begun (t ∷ []) ≤ 1024 → BreaksLimit before t n → ⊥
+none_breaks before t n m low few (number_out_of_range e h) = omega (arith, m.number e, h)
+none_breaks before t n m low few (name_too_long e h) = omega (arith, m.name e, h)
+none_breaks before t n m low few (nested_too_deep {n = k} (more, fs, d, e) h) =
+    let same : nested (effect t.word) (after start before) ≡ k = same_some (sym (nested_there before t more fs d) ∙ e) in
+    omega (arith, low, same, h)
+none_breaks before t n m low few (too_many_functions e h) =
+    let one : functions_begun (t ∷ []) ≡ 1 = ap (λ w. if is_fn w then 1 else 0) e in
+    omega (arith, few, one, h)
+
+within_behind : (before ts : List Token) → Modest ts → Low (scan (after start before) ts) → functions_begun (before ++ ts) ≤ 1024 → WithinBehind before ts
+within_behind before [] m low few = tt
+within_behind before (t ∷ ts) m low few =
+    let all : functions_begun ((before ++ t ∷ []) ++ ts) ≤ 1024 = subst (λ z. functions_begun z ≤ 1024) (sym (append_assoc before (t ∷ []) ts)) few in
+    let front : functions_begun before + functions_begun (t ∷ []) ≤ 1024 = omega (arith, all, begun-append (before ++ t ∷ []) ts, begun-append before (t ∷ [])) in (
+      λ n. none_breaks before t n m.0 low.0 front,
+      within_behind (before ++ t ∷ []) ts m.1 (subst (λ z. Low (scan z ts)) (sym (after-more start before t)) low.1) all,
+    )
+
+count_same : (fs gs : List Function) → map unplaced_function fs ≡ map unplaced_function gs → length fs ≡ length gs
+count_same [] [] e = refl
+count_same [] (g ∷ gs) e = absurd cc
+count_same (f ∷ fs) [] e = absurd cc
+count_same (f ∷ fs) (g ∷ gs) e = let behind : map unplaced_function fs ≡ map unplaced_function gs = cc in ap suc (count_same fs gs behind)
+
+-- the tokens of the canonical text, and what they derive
+program_of : (fs gs : List Function) (us : List Token) (d : IsScript us gs) → Low (functions_nesting d 0) → map unplaced_function gs ≡ map unplaced_function fs → Modest us → length fs ≤ 1024 → IsProgram us gs
+program_of fs gs us d low same modest few = record {
+  derives = d;
+  within = within_behind [] us modest (subst Low (script_scanned d) low) (omega (arith, functions_counted d, count_same gs fs same, few));
+}
+
+pub canonical_is_text : (script : Script) → IsOfText script → IsTextOf (canonical script) script
+canonical_is_text script o =
+    let bytes = o.bytes in
+    let ls = o.text.lexemes in
+    let ts : List Token = tokens_of bytes ls in
+    let d : IsScript ts script.functions = o.text.program.derives in
+    let within : WithinBehind [] ts = o.text.program.within in
+    let low : Low (functions_nesting d 0) = subst Low (sym (script_scanned d)) (low_behind [] ts script.functions d within) in
+    let sound : Sound ts = sound_tokens bytes [] ls (lexemes_tokens bytes ls _ o.text.cut) within in
+    let few : length script.functions ≤ 1024 = omega (arith, functions_counted d, few_functions [] ts (omega arith) within) in
+    let cut = (functions_shown d 0 low sound).cut [] (λ at. []) refl spells_end 0 in
+    let spells : Spells 0 (canonical script) cut.tokens = subst (λ z. Spells 0 z cut.tokens) (append-nil (canonical script)) cut.spells in
+    let program : IsProgram cut.tokens cut.form.tree = program_of script.functions cut.form.tree cut.tokens cut.form.derived cut.form.low cut.form.same spells.modest few in (
+      record { functions = cut.form.tree },
+      record { lexemes = spells.lexemes; cut = spells.cut; program = subst (λ z. IsProgram z cut.form.tree) (sym (spells.texts [] refl)) program },
+      ap (λ (z : List Function). record { functions = z }) cut.form.same,
+    )
