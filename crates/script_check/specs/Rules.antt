@@ -1,5 +1,5 @@
 -- The rules of names, kinds and numbers, each with its violation.
-use Rattle.std.specs.Prelude.{ℕ, Bool, true, false, ◌||◌, ◌&&◌, not, nat_eq, List, [], ◌∷◌, ◌++◌, length, Option, Some, None, is_some, is_none, int_lt}
+use Rattle.std.specs.Prelude.{ℕ, Bool, true, false, ◌||◌, ◌&&◌, not, nat_eq, List, ◌++◌, Option, Some, None, is_some, is_none, int_lt}
 use Rattle.std.specs.Prelude.{ℤ, pos}
 use Rattle.script_grammar.specs.declared.tree.Name.{Name}
 use Rattle.script_grammar.specs.declared.tree.Number.{Number}
@@ -33,8 +33,9 @@ unknown_function f = broken true 5 f.at
 abbrev pub unknown_variable : Name → List Violation
 unknown_variable x = broken true 6 x.at
 
-abbrev pub wrong_number_of_arguments : ℕ → ℕ → Name → List Violation
-wrong_number_of_arguments parameters arguments f = broken (not (nat_eq parameters arguments)) 7 f.at
+-- where the call hasn't as many arguments as parameters
+abbrev pub wrong_number_of_arguments : Bool → Name → List Violation
+wrong_number_of_arguments has_as_many f = broken (not has_as_many) 7 f.at
 
 abbrev pub wrong_kind : Kind → Option Kind → ℕ → List Violation
 wrong_kind wanted kind at = broken (is_other_kind wanted kind) 8 at

@@ -1,5 +1,5 @@
 -- The violations in statements.
-use Rattle.std.specs.Prelude.{ℕ, ◌+◌, Bool, true, false, List, [], ◌∷◌, ◌++◌, length, map, Option, Some, None}
+use Rattle.std.specs.Prelude.{ℕ, Bool, true, false, nat_eq, is_some, List, [], ◌∷◌, ◌++◌, length, map, Option, Some, None}
 use Rattle.script_grammar.specs.declared.tree.Kind.{Kind}
 use Rattle.script_grammar.specs.declared.tree.Kind.TheVariants.{Int, Id}
 use Rattle.script_grammar.specs.declared.tree.Name.{Name}
@@ -33,34 +33,27 @@ arguments (q ∷ params) (e ∷ es) known p = wanted q.kind (read e) known p ++ 
 abbrev pub call_of : Option Function → CallText → Faults
 call_of None c known p = unknown_function c.name ++ arguments [] c.args known p
 call_of (Some f) c known p =
-    wrong_number_of_arguments (length f.params) (length c.args) c.name ++ arguments f.params c.args known p
+    wrong_number_of_arguments (nat_eq (length f.params) (length c.args)) c.name ++ arguments f.params c.args known p
 
 abbrev pub answer_of : Option Function → Option Kind
 answer_of None = None
 answer_of (Some f) = Some f.answer
 
--- the parameters behind the first, which takes the loop's number
-abbrev pub behind_first : List Param → List Param
-behind_first [] = []
-behind_first (q ∷ params) = params
+-- The call of a parallel loop: the loop's number is the first argument, and a target takes the values.
+abbrev pub loop_arguments : List Param → CallText → Faults
+loop_arguments [] c known p = wrong_number_of_arguments false c.name ++ arguments [] c.args known p
+loop_arguments (q ∷ params) c known p =
+    wrong_number_of_arguments (nat_eq (length params) (length c.args)) c.name
+    ++ wrong_kind Int (Some q.kind) c.name.at ++ arguments params c.args known p
 
-abbrev pub first_kind : List Param → Option Kind
-first_kind [] = None
-first_kind (q ∷ params) = Some q.kind
+abbrev pub taken_kind : Bool → Kind → Option Kind
+taken_kind true kind = Some kind
+taken_kind false kind = None
 
--- what a loop with a target takes from its function
-abbrev pub target_kind : Option Name → Function → Option Kind
-target_kind None f = None
-target_kind (Some x) f = Some f.answer
-
--- the call of a parallel loop
-abbrev pub loop_call_of : Option Function → Option Name → CallText → Faults
-loop_call_of None target c known p = unknown_function c.name ++ arguments [] c.args known p
-loop_call_of (Some f) target c known p =
-    wrong_number_of_arguments (length f.params) (length c.args + 1) c.name
-    ++ wrong_kind Int (first_kind f.params) c.name.at
-    ++ wrong_kind Int (target_kind target f) c.name.at
-    ++ arguments (behind_first f.params) c.args known p
+abbrev pub loop_call_of : Option Function → Bool → CallText → Faults
+loop_call_of None has_target c known p = unknown_function c.name ++ arguments [] c.args known p
+loop_call_of (Some f) has_target c known p =
+    wrong_kind Int (taken_kind has_target f.answer) c.name.at ++ loop_arguments f.params c known p
 
 abbrev pub target_use : Option Name → Faults
 target_use None known p = []
@@ -145,7 +138,7 @@ faults_act (act.While e a) at place known p =
     wanted Int (read e) known q ++ block_faults a place known q
 faults_act (act.Pfor x lo hi target c) at place known p =
     two_wanted Int (read lo) (read hi) known p ++ target_use target known p
-    ++ loop_call_of (function_named place.functions c.name.bytes) target c known p
+    ++ loop_call_of (function_named place.functions c.name.bytes) (is_some target) c known p
 
 -- one statement, with what is told of those inside it in their places
 abbrev pub judge_act : Act-F (ℕ → Judged) Judged → ℕ → Judged

@@ -15,6 +15,7 @@ use std::alloc::Global;
 use std::marker::Model;
 
 /// The functions of a script with the index of the first of each name. They are seen as the list of the functions.
+#[derive(Drop)]
 pub(crate) struct Functions<'s> {
     list: &'s [Function],
     first: &'s NameTable<u32>,

@@ -19,4 +19,5 @@ mod tests;
 mod variable;
 
 
+pub use checked::{Checked, check};
 pub use error::CheckError;
