@@ -1,3 +1,5 @@
 pub mod Entries
 pub mod Noted
 pub mod Reading
+pub mod Induction
+pub mod Linear

@@ -7,3 +7,4 @@ pub mod Expressions
 pub mod Statements
 pub mod Valid
 pub mod Walk
+pub mod Laws

@@ -72,6 +72,9 @@ keeps_act (act.Pfor x lo hi target c) = true
 abbrev pub keeps : Stmt → Bool
 keeps = fold-Stmt Bool Bool keeps_act (λ s. s.act)
 
+abbrev pub keeps_what : Act → Bool
+keeps_what = fold-Act Bool Bool keeps_act (λ s. s.act)
+
 abbrev pub keeps_all : List Stmt → Bool
 keeps_all ss = keeps_each (map keeps ss)
 
