@@ -13,7 +13,7 @@ use Rattle.script_check.specs.Tables.{Table, table_of}
 use Rattle.script_check.specs.Functions.{first_named}
 use Rattle.script_check.specs.Names.{Names, nobody}
 use Rattle.script_check.specs.Rules.{Known}
-use Rattle.script_check.specs.Statements.{Judged}
+use Rattle.script_check.specs.Statements.{Place, judge, judge_all, known_each, after}
 
 -- the table has the index of the first function of each name
 abbrev pub IsIndex : List Function → Table ℕ → Type 0
@@ -78,7 +78,22 @@ keeps_what = fold-Act Bool Bool keeps_act (λ s. s.act)
 abbrev pub keeps_all : List Stmt → Bool
 keeps_all ss = keeps_each (map keeps ss)
 
--- the state behind statements
-abbrev pub behind : List Function → Judged → Bool → State → State
-behind functions j kept state =
-    record { known = j.known functions state.known; names = j.after state.names; keeps = state.keeps && kept; below = state.below }
+-- the state behind a statement
+abbrev pub behind : List Function → Stmt → State → State
+behind functions s state =
+    record {
+      known = (judge s).known functions state.known;
+      names = (judge s).after state.names;
+      keeps = keeps s && state.keeps;
+      below = state.below }
+
+abbrev pub behind_all : List Function → List Stmt → State → State
+behind_all functions ss state =
+    record {
+      known = known_each (judge_all ss) functions state.known;
+      names = after ss state.names;
+      keeps = keeps_all ss && state.keeps;
+      below = state.below }
+
+abbrev pub place : List Function → Bool → Place
+place functions in_block = record { functions = functions; in_block = in_block }

@@ -1,10 +1,11 @@
 // What is known and what is pending in front of a statement.
 
-ghost use Rattle.std.specs.Prelude.{◌≡◌, Bool, false, true, OnOk, ◌||◌, ◌&&◌, [], ◌∷◌, ◌++◌};
+ghost use Rattle.std.specs.Prelude.{◌≡◌, Bool, false, true, OnOk, ◌||◌, ◌&&◌, List, [], ◌∷◌, ◌++◌};
 ghost use Rattle.script_check.specs.Names.{nobody, with_name, both};
 ghost use Rattle.script_check.specs.Tables.{no_entries, with_first, table_of};
 ghost use Rattle.script_check.specs.Rules.{declaration};
 ghost use Rattle.script_check.specs.Violations.{noted};
+ghost use Rattle.script_check.specs.declared.scope.Layer.{Layer};
 ghost use Rattle.script_check.specs.Walk.{State, names_of, state_of, known_in, pending_in};
 
 use crate::findings::Findings;
@@ -97,7 +98,8 @@ impl Scope {
 
     /// Puts an empty layer on top, for a block that begins.
     pub(crate) fn enter(&mut self, alloc: Global) -> Result<(), Memory>
-        ensures { OnOk result (state_of self.new ≡ record (state_of self.old) { names = nobody; keeps = true; below = self.old.below.items ++ self.old.top ∷ [] }) }
+        ensures state { OnOk result (state_of self.new ≡ record (state_of self.old) { names = nobody; keeps = true; below = self.old.below.items ++ self.old.top ∷ [] }) }
+        ensures pending { OnOk result (pending_in self.new ≡ pending_in self.old) }
     {
         let inner = Layer {
             names: NameTable::new(alloc),
@@ -110,7 +112,8 @@ impl Scope {
 
     /// Takes off the layer of a block that ends. The answer tells whether what was pending before the block may still be so.
     pub(crate) fn leave(&mut self) -> bool
-        ensures { result ≡ self.old.top.keeps }
+        ensures keeps { result ≡ self.old.top.keeps }
+        ensures state { (below : List Layer) (outer : Layer) → self.old.below.items ≡ below ++ outer ∷ [] → state_of self.new ≡ record { known = known_in self.old; names = names_of (table_of outer.names.map); keeps = outer.keeps; below = below } }
     {
         let keeps = self.top.keeps;
         if let Some(outer) = self.below.pop() {

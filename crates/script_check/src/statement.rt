@@ -1,11 +1,15 @@
 // The violations in statements.
 
-ghost use Rattle.std.specs.Prelude.{◌≡◌, Bool, true, false, OnOk, IfOk};
-ghost use Rattle.script_grammar.specs.declared.tree.Stmt.{out-Stmt};
+ghost use Rattle.std.specs.Prelude.{◌≡◌, Bool, true, false, ◌&&◌, ◌||◌, ◌++◌, OnOk, IfOk};
+ghost use Rattle.script_grammar.specs.declared.tree.Kind.TheVariants as kind;
+ghost use Rattle.script_check.specs.declared.variable.Variable.TheVariants.{Scalar, Array};
 ghost use Rattle.script_check.specs.Violations.{noted};
-ghost use Rattle.script_check.specs.Expressions.{Reading};
-ghost use Rattle.script_check.specs.Statements.{Place, Judged, judge, judge_what, judge_all, read_right, known_each, faults_each, after};
-ghost use Rattle.script_check.specs.Walk.{behind, keeps, keeps_all, known_in, pending_in, state_of};
+ghost use Rattle.script_check.specs.Tables.{with_first};
+ghost use Rattle.script_check.specs.Names.{both, after_right};
+ghost use Rattle.script_check.specs.Rules.{declaration, array_length, scalar_use, kind_of};
+ghost use Rattle.script_check.specs.Expressions.{read, wanted, two_wanted};
+ghost use Rattle.script_check.specs.Statements.{judge, judge_all, read_right, wanted_as, kind_or_int, known_each, faults_each, after};
+ghost use Rattle.script_check.specs.Walk.{behind, behind_all, place, keeps, keeps_all, known_in, pending_in, state_of};
 
 use crate::call::{judge_call, judge_loop_call, judge_target};
 use crate::expression::{Seen, see, use_array, use_scalar, want};
@@ -15,7 +19,7 @@ use crate::memory::Memory;
 use crate::scope::Scope;
 use crate::spawns::collect;
 use crate::variable::Variable;
-use script_grammar::{Act, Kind, Name, Number, Right, Stmt};
+use script_grammar::{Act, Expr, Kind, Name, Number, Right, Stmt};
 use std::alloc::Global;
 
 /// A right side, before it is set.
@@ -41,23 +45,108 @@ fn see_right(functions: &Functions, scope: &Scope, found: &mut Findings, right: 
     }
 }
 
-/// `x = R`, before x is pending.
-fn judge_set(functions: &Functions, scope: &Scope, found: &mut Findings, x: &Name, right: &Right) {
-    let wanted = use_scalar(scope, found, x);
+/// `let x = R`.
+#[tactic(auto, using(crate::proofs::Noted::noted_append))]
+fn judge_let(alloc: Global, functions: &Functions, scope: &mut Scope, found: &mut Findings, x: &Name, right: &Right) -> Result<(), Memory>
+    ensures state { OnOk result (state_of scope.new ≡ record (state_of scope.old) {
+        known = with_first (known_in scope.old) x.now.bytes (Scalar (kind_or_int ((read_right functions.now right.now).kind (known_in scope.old))));
+        names = after_right x.now right.now (state_of scope.old).names }) }
+    ensures found { OnOk result (found.new ≡ noted found.old ((read_right functions.now right.now).faults (known_in scope.old) (pending_in scope.old) ++ declaration (known_in scope.old) x.now)) }
+{
     let seen = see_right(functions, scope, found, right);
-    if let Some(kind) = wanted {
+    scope.declare(alloc, found, x, Variable::Scalar(kind_or_int(seen.kind)))?;
+    spawn_into(alloc, scope, x, right)
+}
+
+/// What stands for the kind where there is none.
+fn kind_or_int(kind: Option<Kind>) -> Kind
+    ensures { result ≡ kind_or_int kind }
+{
+    kind.unwrap_or(Kind::Int)
+}
+
+/// `let a[n]`.
+#[tactic(auto, using(crate::proofs::Noted::noted_append))]
+fn judge_array(alloc: Global, scope: &mut Scope, found: &mut Findings, x: &Name, n: &Number) -> Result<(), Memory>
+    ensures state { OnOk result (state_of scope.new ≡ record (state_of scope.old) { known = with_first (known_in scope.old) x.now.bytes Array }) }
+    ensures found { OnOk result (found.new ≡ noted found.old (declaration (known_in scope.old) x.now ++ array_length n.now)) }
+{
+    scope.declare(alloc, found, x, Variable::Array)?;
+    found.note_if(n.value < 1 || 4096 < n.value, 12, n.at);
+    Ok(())
+}
+
+/// `x = R`.
+fn judge_set(alloc: Global, functions: &Functions, scope: &mut Scope, found: &mut Findings, x: &Name, right: &Right) -> Result<(), Memory>
+    ensures state { OnOk result (state_of scope.new ≡ record (state_of scope.old) { names = after_right x.now right.now (state_of scope.old).names }) }
+    ensures found { OnOk result (found.new ≡ noted found.old (scalar_use ((known_in scope.old).what x.now.bytes) (pending_in scope.old) x.now
+        ++ wanted_as (kind_of ((known_in scope.old).what x.now.bytes)) (read_right functions.now right.now) (known_in scope.old) (pending_in scope.old))) }
+{
+    let kind = use_scalar(scope, found, x);
+    want_right(functions, scope, found, kind, right);
+    spawn_into(alloc, scope, x, right)
+}
+
+/// A right side that is set: where the variable has a kind, that kind.
+#[tactic(auto, using(crate::proofs::Noted::noted_append), unfolding(crate::specs::Expressions::wanted))]
+fn want_right(functions: &Functions, scope: &Scope, found: &mut Findings, kind: Option<Kind>, right: &Right)
+    ensures { found.new ≡ noted found.old (wanted_as kind (read_right functions.now right.now) (known_in scope.now) (pending_in scope.now)) }
+{
+    let seen = see_right(functions, scope, found, right);
+    if let Some(kind) = kind {
         seen.want(found, kind);
     }
 }
 
-/// `let a[n]`.
-fn judge_length(found: &mut Findings, n: &Number) {
-    found.note_if(n.value < 1 || 4096 < n.value, 12, n.at);
+/// Makes a target pending, where the right side is a spawn.
+fn spawn_into(alloc: Global, scope: &mut Scope, x: &Name, right: &Right) -> Result<(), Memory>
+    ensures { OnOk result (state_of scope.new ≡ record (state_of scope.old) { names = after_right x.now right.now (state_of scope.old).names }) }
+{
+    match right {
+        Right::Spawn(_, _) => scope.spawn_to(alloc, x),
+        _ => Ok(()),
+    }
+}
+
+/// Two expressions that have to be numbers.
+#[tactic(auto, using(crate::proofs::Noted::noted_append))]
+fn want_two(scope: &Scope, found: &mut Findings, a: &Expr, b: &Expr)
+    ensures { found.new ≡ noted found.old (two_wanted kind.Int (read a.now) (read b.now) (known_in scope.now) (pending_in scope.now)) }
+{
+    want(scope, found, Kind::Int, a);
+    want(scope, found, Kind::Int, b);
+}
+
+/// The end of an `if` with these blocks: what was pending before may still be so where one of them keeps it.
+fn end_if(alloc: Global, scope: &mut Scope, keeps: bool, a: &[Stmt], b: &[Stmt]) -> Result<(), Memory>
+    requires { keeps ≡ (keeps_all a.now || keeps_all b.now) }
+    ensures { OnOk result (state_of scope.new ≡ record (state_of scope.old) {
+        names = both (after a.now (state_of scope.old).names) (after b.now (state_of scope.old).names);
+        keeps = keeps && (state_of scope.old).keeps }) }
+{
+    if !keeps {
+        scope.sync(alloc);
+    }
+    collect(alloc, &mut scope.top.names, a)?;
+    collect(alloc, &mut scope.top.names, b)?;
+    Ok(())
+}
+
+/// The beginning of a `while`: its condition and its body are judged with all that an earlier turn may have left pending.
+fn begin_while(alloc: Global, scope: &mut Scope, body: &[Stmt]) -> Result<(), Memory>
+    ensures state { OnOk result (state_of scope.new ≡ record (state_of scope.old) { names = both (state_of scope.old).names (after body.now (state_of scope.old).names) }) }
+    ensures pending { OnOk result (pending_in scope.new ≡ both (pending_in scope.old) (after body.now (pending_in scope.old))) }
+{
+    collect(alloc, &mut scope.top.names, body)?;
+    Ok(())
 }
 
 /// Statements in a row.
 #[cycle(statements)]
-pub(crate) fn judge_each(alloc: Global, functions: &Functions, scope: &mut Scope, found: &mut Findings, in_block: bool, statements: &[Stmt]) -> Result<(), Memory> {
+pub(crate) fn judge_each(alloc: Global, functions: &Functions, scope: &mut Scope, found: &mut Findings, in_block: bool, statements: &[Stmt]) -> Result<(), Memory>
+    ensures state { OnOk result (state_of scope.new ≡ behind_all functions.now statements.now (state_of scope.old)) }
+    ensures found { OnOk result (found.new ≡ noted found.old (faults_each (judge_all statements.now) (place functions.now in_block) (known_in scope.old) (pending_in scope.old))) }
+{
     for statement in statements {
         judge(alloc, functions, scope, found, in_block, statement)?;
     }
@@ -66,7 +155,11 @@ pub(crate) fn judge_each(alloc: Global, functions: &Functions, scope: &mut Scope
 
 /// The statements of a block. What they leave pending is dropped; the answer tells whether what was pending before may still be so.
 #[cycle(statements)]
-fn judge_block(alloc: Global, functions: &Functions, scope: &mut Scope, found: &mut Findings, statements: &[Stmt]) -> Result<bool, Memory> {
+fn judge_block(alloc: Global, functions: &Functions, scope: &mut Scope, found: &mut Findings, statements: &[Stmt]) -> Result<bool, Memory>
+    ensures keeps { IfOk result (λ b. b ≡ keeps_all statements.now) }
+    ensures state { OnOk result (state_of scope.new ≡ record (state_of scope.old) { known = known_each (judge_all statements.now) functions.now (known_in scope.old) }) }
+    ensures found { OnOk result (found.new ≡ noted found.old (faults_each (judge_all statements.now) (place functions.now true) (known_in scope.old) (pending_in scope.old))) }
+{
     scope.enter(alloc)?;
     judge_each(alloc, functions, scope, found, true, statements)?;
     Ok(scope.leave())
@@ -74,63 +167,36 @@ fn judge_block(alloc: Global, functions: &Functions, scope: &mut Scope, found: &
 
 /// One statement.
 #[cycle(statements)]
-fn judge(alloc: Global, functions: &Functions, scope: &mut Scope, found: &mut Findings, in_block: bool, statement: &Stmt) -> Result<(), Memory> {
+fn judge(alloc: Global, functions: &Functions, scope: &mut Scope, found: &mut Findings, in_block: bool, statement: &Stmt) -> Result<(), Memory>
+    ensures state { OnOk result (state_of scope.new ≡ behind functions.now statement.now (state_of scope.old)) }
+    ensures found { OnOk result (found.new ≡ noted found.old ((judge statement.now).faults (place functions.now in_block) (known_in scope.old) (pending_in scope.old))) }
+{
     match &statement.act {
         Act::Let(x, right) => {
             found.note_if(in_block, 10, statement.at);
-            let seen = see_right(functions, scope, found, right);
-            scope.declare(alloc, found, x, Variable::Scalar(seen.kind.unwrap_or(Kind::Int)))?;
-            spawn_into(alloc, scope, x, right)
+            judge_let(alloc, functions, scope, found, x, right)?;
         }
         Act::Array(x, n) => {
             found.note_if(in_block, 10, statement.at);
-            scope.declare(alloc, found, x, Variable::Array)?;
-            judge_length(found, n);
-            Ok(())
+            judge_array(alloc, scope, found, x, n)?;
         }
-        Act::Set(x, right) => {
-            judge_set(functions, scope, found, x, right);
-            spawn_into(alloc, scope, x, right)
-        }
+        Act::Set(x, right) => judge_set(alloc, functions, scope, found, x, right)?,
         Act::Store(x, i, e) => {
             use_array(scope, found, x);
-            want(scope, found, Kind::Int, i);
-            want(scope, found, Kind::Int, e);
-            Ok(())
+            want_two(scope, found, i, e);
         }
         Act::Spawn(c) => {
             judge_call(functions, scope, found, c);
-            Ok(())
         }
         Act::Call(c) => {
             judge_call(functions, scope, found, c);
-            Ok(())
         }
-        Act::Sync => {
-            scope.sync(alloc);
-            Ok(())
-        }
+        Act::Sync => scope.sync(alloc),
         Act::Print(e) => {
             see(scope, found, e);
-            Ok(())
         }
-        Act::If(e, a, b) => {
-            want(scope, found, Kind::Int, e);
-            let first = judge_block(alloc, functions, scope, found, a.as_slice())?;
-            let second = judge_block(alloc, functions, scope, found, b.as_slice())?;
-            if !first && !second {
-                scope.sync(alloc);
-            }
-            collect(alloc, &mut scope.top.names, a.as_slice())?;
-            collect(alloc, &mut scope.top.names, b.as_slice())?;
-            Ok(())
-        }
-        Act::While(e, a) => {
-            collect(alloc, &mut scope.top.names, a.as_slice())?;
-            want(scope, found, Kind::Int, e);
-            judge_block(alloc, functions, scope, found, a.as_slice())?;
-            Ok(())
-        }
+        Act::If(e, a, b) => judge_if(alloc, functions, scope, found, e, a.as_slice(), b.as_slice())?,
+        Act::While(e, a) => judge_while(alloc, functions, scope, found, e, a.as_slice())?,
         Act::Pfor {
             var: _,
             lo,
@@ -138,19 +204,43 @@ fn judge(alloc: Global, functions: &Functions, scope: &mut Scope, found: &mut Fi
             target,
             call,
         } => {
-            want(scope, found, Kind::Int, lo);
-            want(scope, found, Kind::Int, hi);
+            want_two(scope, found, lo, hi);
             judge_target(scope, found, target);
             judge_loop_call(functions, scope, found, target.is_some(), call);
-            Ok(())
         }
     }
+    Ok(())
 }
 
-/// Makes a target pending, where the right side is a spawn.
-fn spawn_into(alloc: Global, scope: &mut Scope, x: &Name, right: &Right) -> Result<(), Memory> {
-    match right {
-        Right::Spawn(_, _) => scope.spawn_to(alloc, x),
-        _ => Ok(()),
-    }
+/// `if E { .. } else { .. }`: both blocks are judged with what is pending before.
+#[cycle(statements)]
+fn judge_if(alloc: Global, functions: &Functions, scope: &mut Scope, found: &mut Findings, e: &Expr, a: &[Stmt], b: &[Stmt]) -> Result<(), Memory>
+    ensures state { OnOk result (state_of scope.new ≡ record {
+        known = known_each (judge_all b.now) functions.now (known_each (judge_all a.now) functions.now (known_in scope.old));
+        names = both (after a.now (state_of scope.old).names) (after b.now (state_of scope.old).names);
+        keeps = (keeps_all a.now || keeps_all b.now) && (state_of scope.old).keeps;
+        below = (state_of scope.old).below }) }
+    ensures found { OnOk result (found.new ≡ noted found.old (wanted kind.Int (read e.now) (known_in scope.old) (pending_in scope.old)
+        ++ faults_each (judge_all a.now) (place functions.now true) (known_in scope.old) (pending_in scope.old)
+        ++ faults_each (judge_all b.now) (place functions.now true) (known_each (judge_all a.now) functions.now (known_in scope.old)) (pending_in scope.old))) }
+{
+    want(scope, found, Kind::Int, e);
+    let first = judge_block(alloc, functions, scope, found, a)?;
+    let second = judge_block(alloc, functions, scope, found, b)?;
+    end_if(alloc, scope, first || second, a, b)
+}
+
+/// `while E { .. }`: condition and body are judged once, with what an earlier turn may have left pending.
+#[cycle(statements)]
+fn judge_while(alloc: Global, functions: &Functions, scope: &mut Scope, found: &mut Findings, e: &Expr, a: &[Stmt]) -> Result<(), Memory>
+    ensures state { OnOk result (state_of scope.new ≡ record (state_of scope.old) {
+        known = known_each (judge_all a.now) functions.now (known_in scope.old);
+        names = both (state_of scope.old).names (after a.now (state_of scope.old).names) }) }
+    ensures found { OnOk result (found.new ≡ noted found.old (let q = both (pending_in scope.old) (after a.now (pending_in scope.old)) in
+        wanted kind.Int (read e.now) (known_in scope.old) q ++ faults_each (judge_all a.now) (place functions.now true) (known_in scope.old) q)) }
+{
+    begin_while(alloc, scope, a)?;
+    want(scope, found, Kind::Int, e);
+    judge_block(alloc, functions, scope, found, a)?;
+    Ok(())
 }
