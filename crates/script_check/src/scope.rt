@@ -83,7 +83,8 @@ impl Scope {
     pub(crate) fn spawn_to(&mut self, alloc: Global, name: &Name) -> Result<(), Memory>
         ensures { OnOk result (state_of self.new ≡ record (state_of self.old) { names = with_name name.now.bytes (state_of self.old).names }) }
     {
-        self.top.names.insert(alloc, name.bytes.as_slice(), ())
+        self.top.names.insert(alloc, name.bytes.as_slice(), ())?;
+        Ok(())
     }
 
     /// Nothing is pending any more.

@@ -35,7 +35,11 @@ fn collect_one(alloc: Global, names: &mut NameTable<()>, statement: &Stmt) -> Re
     ensures names { OnOk result (names_of (table_of names.new.map) ≡ both ((judge statement.now).after nobody) (names_of (table_of names.old.map))) }
 {
     match &statement.act {
-        Act::Let(x, Right::Spawn(_, _)) | Act::Set(x, Right::Spawn(_, _)) => {
+        Act::Let(x, Right::Spawn(_, _)) => {
+            names.insert(alloc, x.bytes.as_slice(), ())?;
+            Ok(true)
+        }
+        Act::Set(x, Right::Spawn(_, _)) => {
             names.insert(alloc, x.bytes.as_slice(), ())?;
             Ok(true)
         }
