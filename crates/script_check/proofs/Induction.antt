@@ -1,11 +1,13 @@
 -- Induction over statements.
-use Rattle.std.proofs.Common.{◌≡◌, ℕ, Bool, List, [], ◌∷◌, map, refl, sym, ap, subst, ◌∙◌}
+use Rattle.std.proofs.Common.{◌≡◌, ℕ, Bool, true, ◌||◌, List, [], ◌∷◌, map, refl, sym, ap, subst, ◌∙◌, rules}
 use Rattle.script_grammar.specs.declared.tree.Stmt.{Stmt, roll-Stmt, map-Stmt, ind-Stmt, fold-roll-Stmt}
-use Rattle.script_grammar.specs.declared.tree.Act.{Act, roll-Act, map-Act, fold-roll-Act}
+use Rattle.script_grammar.specs.declared.tree.Act.{Act, roll-Act, map-Act, fold-roll-Act, the_lemmas}
+use Rattle.script_grammar.specs.declared.tree.Act.TheVariants as variant
+use Rattle.script_grammar.specs.declared.tree.Expr.{Expr}
 use Rattle.script_grammar.specs.declared.tree.Act.TheOpen as act
 use Rattle.script_grammar.specs.declared.tree.Act.TheOpen.{Act-F, Stmt-F}
-use Rattle.script_check.specs.Statements.{Judged, judge_act, judge, judge_what}
-use Rattle.script_check.specs.Walk.{keeps_act, keeps, keeps_what}
+use Rattle.script_check.specs.Statements.{Judged, judge_act, judge, judge_what, judge_all}
+use Rattle.script_check.specs.Walk.{keeps_act, keeps, keeps_what, keeps_all}
 
 -- each statement of a list has it
 abbrev pub Each : (Stmt → Type 0) → List Stmt → Type 0
@@ -68,3 +70,22 @@ pub keeps_open : (at : ℕ) (d : Act-F Act Stmt) → keeps (statement at d) ≡ 
 keeps_open at d =
     fold-roll-Stmt Bool Bool keeps_act (λ s. s.act) (record { at = at; act = roll-Act d })
     ∙ fold-roll-Act Bool Bool keeps_act (λ s. s.act) d
+
+pub judge_is : (s : Stmt) → judge s ≡ judge_what s.act s.at
+judge_is s = search (rules, the_lemmas)
+
+pub keeps_is : (s : Stmt) → keeps s ≡ keeps_what s.act
+keeps_is s = search (rules, the_lemmas)
+
+-- an `if` and a `while`, with what is told of their blocks
+pub judge_if : (at : ℕ) (e : Expr) (a b : List Stmt) → judge_what (variant.If e a b) at ≡ judge_act (act.If e (judge_all a) (judge_all b)) at
+judge_if at e a b = search (rules, the_lemmas)
+
+pub keeps_if : (e : Expr) (a b : List Stmt) → keeps_what (variant.If e a b) ≡ (keeps_all a || keeps_all b)
+keeps_if e a b = search (rules, the_lemmas)
+
+pub judge_while : (at : ℕ) (e : Expr) (a : List Stmt) → judge_what (variant.While e a) at ≡ judge_act (act.While e (judge_all a)) at
+judge_while at e a = search (rules, the_lemmas)
+
+pub keeps_while : (e : Expr) (a : List Stmt) → keeps_what (variant.While e a) ≡ true
+keeps_while e a = search (rules, the_lemmas)

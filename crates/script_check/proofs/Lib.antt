@@ -6,3 +6,4 @@ pub mod Linear
 pub mod Collected
 pub mod Indexed
 pub mod Called
+pub mod Behind

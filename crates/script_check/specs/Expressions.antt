@@ -30,7 +30,7 @@ int_at at faults = record { at = at; kind = λ known. Some Int; faults = faults 
 unfoldable pub wanted : Kind → Reading → Faults
 wanted kind r known p = r.faults known p ++ wrong_kind kind (r.kind known) r.at
 
-abbrev pub two_wanted : Kind → Reading → Reading → Faults
+unfoldable pub two_wanted : Kind → Reading → Reading → Faults
 two_wanted kind a b known p = wanted kind a known p ++ wanted kind b known p
 
 abbrev pub all_wanted : Kind → List Reading → Faults

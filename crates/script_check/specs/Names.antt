@@ -1,5 +1,5 @@
 -- Sets of names, and the names that are pending behind statements.
-use Rattle.std.specs.Prelude.{◌≡◌, ℕ, Bool, true, false, ◌||◌, List, [], ◌∷◌}
+use Rattle.std.specs.Prelude.{◌≡◌, ℕ, Bool, true, false, ◌||◌, ◌&&◌, List, [], ◌∷◌}
 use Rattle.std.specs.Str.{bytes_eq}
 use Rattle.script_grammar.specs.declared.tree.Name.{Name}
 use Rattle.script_grammar.specs.declared.tree.Right.{Right}
@@ -19,6 +19,10 @@ with_name x p y = bytes_eq x y || p y
 
 abbrev pub both : Names → Names → Names
 both p q x = p x || q x
+
+-- the set where it is kept
+abbrev pub only : Bool → Names → Names
+only kept p x = kept && p x
 
 -- each name of p is one of q
 abbrev pub IsWithin : Names → Names → Type 0

@@ -1,7 +1,7 @@
 // What is known and what is pending in front of a statement.
 
 ghost use Rattle.std.specs.Prelude.{◌≡◌, Bool, false, true, OnOk, ◌||◌, ◌&&◌, List, [], ◌∷◌, ◌++◌};
-ghost use Rattle.script_check.specs.Names.{nobody, with_name, both};
+ghost use Rattle.script_check.specs.Names.{nobody, only, with_name, both};
 ghost use Rattle.script_check.specs.Tables.{no_entries, with_first, table_of};
 ghost use Rattle.script_check.specs.Rules.{declaration};
 ghost use Rattle.script_check.specs.Violations.{noted};
@@ -95,6 +95,15 @@ impl Scope {
             names: NameTable::new(alloc),
             keeps: false,
         };
+    }
+
+    /// The end of an `if`: what was pending before it stays so if one of the blocks keeps it.
+    pub(crate) fn keep_if(&mut self, alloc: Global, keeps: bool)
+        ensures { state_of self.new ≡ record (state_of self.old) { names = only keeps (state_of self.old).names; keeps = keeps && (state_of self.old).keeps } }
+    {
+        if !keeps {
+            self.sync(alloc);
+        }
     }
 
     /// Puts an empty layer on top, for a block that begins.

@@ -1,14 +1,15 @@
 // The violations in statements.
 
-ghost use Rattle.std.specs.Prelude.{◌≡◌, Bool, true, false, ◌&&◌, ◌||◌, ◌++◌, OnOk, IfOk};
+ghost use Rattle.std.specs.Prelude.{◌≡◌, Bool, true, false, ◌&&◌, ◌||◌, ◌++◌, OnOk, IfOk, is_some};
 ghost use Rattle.script_grammar.specs.declared.tree.Kind.TheVariants as kind;
 ghost use Rattle.script_check.specs.declared.variable.Variable.TheVariants.{Scalar, Array};
 ghost use Rattle.script_check.specs.Violations.{noted};
 ghost use Rattle.script_check.specs.Tables.{with_first};
+ghost use Rattle.script_check.specs.Functions.{function_named};
 ghost use Rattle.script_check.specs.Names.{both, after_right};
-ghost use Rattle.script_check.specs.Rules.{declaration, array_length, scalar_use, kind_of};
+ghost use Rattle.script_check.specs.Rules.{declaration, array_length, scalar_use, array_use, kind_of};
 ghost use Rattle.script_check.specs.Expressions.{read, wanted, two_wanted};
-ghost use Rattle.script_check.specs.Statements.{judge, judge_all, read_right, wanted_as, kind_or_int, known_each, faults_each, after};
+ghost use Rattle.script_check.specs.Statements.{judge, judge_all, read_right, wanted_as, kind_or_int, known_each, faults_each, after, target_use, loop_call_of};
 ghost use Rattle.script_check.specs.Walk.{behind, behind_all, place, keeps, keeps_all, known_in, pending_in, state_of};
 
 use crate::call::{judge_call, judge_loop_call, judge_target};
@@ -19,7 +20,7 @@ use crate::memory::Memory;
 use crate::scope::Scope;
 use crate::spawns::collect;
 use crate::variable::Variable;
-use script_grammar::{Act, Expr, Kind, Name, Number, Right, Stmt};
+use script_grammar::{Act, CallText, Expr, Kind, Name, Number, Right, Stmt};
 use std::alloc::Global;
 
 /// A right side, before it is set.
@@ -108,8 +109,30 @@ fn spawn_into(alloc: Global, scope: &mut Scope, x: &Name, right: &Right) -> Resu
     }
 }
 
-/// Two expressions that have to be numbers.
+/// `a[E] = E`.
 #[tactic(auto, using(crate::proofs::Noted::noted_append))]
+fn judge_store(scope: &Scope, found: &mut Findings, x: &Name, i: &Expr, e: &Expr)
+    ensures { found.new ≡ noted found.old (array_use ((known_in scope.now).what x.now.bytes) (pending_in scope.now) x.now
+        ++ two_wanted kind.Int (read i.now) (read e.now) (known_in scope.now) (pending_in scope.now)) }
+{
+    use_array(scope, found, x);
+    want_two(scope, found, i, e);
+}
+
+/// `pfor i in E..E into a call f(i, ..)`.
+#[tactic(auto, using(crate::proofs::Noted::noted_append))]
+fn judge_loop(functions: &Functions, scope: &Scope, found: &mut Findings, lo: &Expr, hi: &Expr, target: &Option<Name>, call: &CallText)
+    ensures { found.new ≡ noted found.old (two_wanted kind.Int (read lo.now) (read hi.now) (known_in scope.now) (pending_in scope.now)
+        ++ target_use target.now (known_in scope.now) (pending_in scope.now)
+        ++ loop_call_of (function_named functions.now call.now.name.bytes) (is_some target.now) call.now (known_in scope.now) (pending_in scope.now)) }
+{
+    want_two(scope, found, lo, hi);
+    judge_target(scope, found, target);
+    judge_loop_call(functions, scope, found, target.is_some(), call);
+}
+
+/// Two expressions that have to be numbers.
+#[tactic(auto, using(crate::proofs::Noted::noted_append), unfolding(crate::specs::Expressions::two_wanted))]
 fn want_two(scope: &Scope, found: &mut Findings, a: &Expr, b: &Expr)
     ensures { found.new ≡ noted found.old (two_wanted kind.Int (read a.now) (read b.now) (known_in scope.now) (pending_in scope.now)) }
 {
@@ -124,9 +147,7 @@ fn end_if(alloc: Global, scope: &mut Scope, keeps: bool, a: &[Stmt], b: &[Stmt])
         names = both (after a.now (state_of scope.old).names) (after b.now (state_of scope.old).names);
         keeps = keeps && (state_of scope.old).keeps }) }
 {
-    if !keeps {
-        scope.sync(alloc);
-    }
+    scope.keep_if(alloc, keeps);
     collect(alloc, &mut scope.top.names, a)?;
     collect(alloc, &mut scope.top.names, b)?;
     Ok(())
@@ -165,8 +186,10 @@ fn judge_block(alloc: Global, functions: &Functions, scope: &mut Scope, found: &
     Ok(scope.leave())
 }
 
-/// One statement.
+/// One statement. Both blocks of an `if` are judged with what is pending before; a `while` is judged once, with what an earlier
+/// turn may have left pending.
 #[cycle(statements)]
+#[tactic(auto, using(crate::proofs::Noted::noted_append))]
 fn judge(alloc: Global, functions: &Functions, scope: &mut Scope, found: &mut Findings, in_block: bool, statement: &Stmt) -> Result<(), Memory>
     ensures state { OnOk result (state_of scope.new ≡ behind functions.now statement.now (state_of scope.old)) }
     ensures found { OnOk result (found.new ≡ noted found.old ((judge statement.now).faults (place functions.now in_block) (known_in scope.old) (pending_in scope.old))) }
@@ -181,10 +204,7 @@ fn judge(alloc: Global, functions: &Functions, scope: &mut Scope, found: &mut Fi
             judge_array(alloc, scope, found, x, n)?;
         }
         Act::Set(x, right) => judge_set(alloc, functions, scope, found, x, right)?,
-        Act::Store(x, i, e) => {
-            use_array(scope, found, x);
-            want_two(scope, found, i, e);
-        }
+        Act::Store(x, i, e) => judge_store(scope, found, x, i, e),
         Act::Spawn(c) => {
             judge_call(functions, scope, found, c);
         }
@@ -195,52 +215,24 @@ fn judge(alloc: Global, functions: &Functions, scope: &mut Scope, found: &mut Fi
         Act::Print(e) => {
             see(scope, found, e);
         }
-        Act::If(e, a, b) => judge_if(alloc, functions, scope, found, e, a.as_slice(), b.as_slice())?,
-        Act::While(e, a) => judge_while(alloc, functions, scope, found, e, a.as_slice())?,
+        Act::If(e, a, b) => {
+            want(scope, found, Kind::Int, e);
+            let first = judge_block(alloc, functions, scope, found, a.as_slice())?;
+            let second = judge_block(alloc, functions, scope, found, b.as_slice())?;
+            end_if(alloc, scope, first | second, a.as_slice(), b.as_slice())?;
+        }
+        Act::While(e, a) => {
+            begin_while(alloc, scope, a.as_slice())?;
+            want(scope, found, Kind::Int, e);
+            judge_block(alloc, functions, scope, found, a.as_slice())?;
+        }
         Act::Pfor {
             var: _,
             lo,
             hi,
             target,
             call,
-        } => {
-            want_two(scope, found, lo, hi);
-            judge_target(scope, found, target);
-            judge_loop_call(functions, scope, found, target.is_some(), call);
-        }
+        } => judge_loop(functions, scope, found, lo, hi, target, call),
     }
-    Ok(())
-}
-
-/// `if E { .. } else { .. }`: both blocks are judged with what is pending before.
-#[cycle(statements)]
-fn judge_if(alloc: Global, functions: &Functions, scope: &mut Scope, found: &mut Findings, e: &Expr, a: &[Stmt], b: &[Stmt]) -> Result<(), Memory>
-    ensures state { OnOk result (state_of scope.new ≡ record {
-        known = known_each (judge_all b.now) functions.now (known_each (judge_all a.now) functions.now (known_in scope.old));
-        names = both (after a.now (state_of scope.old).names) (after b.now (state_of scope.old).names);
-        keeps = (keeps_all a.now || keeps_all b.now) && (state_of scope.old).keeps;
-        below = (state_of scope.old).below }) }
-    ensures found { OnOk result (found.new ≡ noted found.old (wanted kind.Int (read e.now) (known_in scope.old) (pending_in scope.old)
-        ++ faults_each (judge_all a.now) (place functions.now true) (known_in scope.old) (pending_in scope.old)
-        ++ faults_each (judge_all b.now) (place functions.now true) (known_each (judge_all a.now) functions.now (known_in scope.old)) (pending_in scope.old))) }
-{
-    want(scope, found, Kind::Int, e);
-    let first = judge_block(alloc, functions, scope, found, a)?;
-    let second = judge_block(alloc, functions, scope, found, b)?;
-    end_if(alloc, scope, first || second, a, b)
-}
-
-/// `while E { .. }`: condition and body are judged once, with what an earlier turn may have left pending.
-#[cycle(statements)]
-fn judge_while(alloc: Global, functions: &Functions, scope: &mut Scope, found: &mut Findings, e: &Expr, a: &[Stmt]) -> Result<(), Memory>
-    ensures state { OnOk result (state_of scope.new ≡ record (state_of scope.old) {
-        known = known_each (judge_all a.now) functions.now (known_in scope.old);
-        names = both (state_of scope.old).names (after a.now (state_of scope.old).names) }) }
-    ensures found { OnOk result (found.new ≡ noted found.old (let q = both (pending_in scope.old) (after a.now (pending_in scope.old)) in
-        wanted kind.Int (read e.now) (known_in scope.old) q ++ faults_each (judge_all a.now) (place functions.now true) (known_in scope.old) q)) }
-{
-    begin_while(alloc, scope, a)?;
-    want(scope, found, Kind::Int, e);
-    judge_block(alloc, functions, scope, found, a)?;
     Ok(())
 }
