@@ -8,8 +8,8 @@ use Rattle.script_check.specs.Names.{Names, nobody, only, both}
 use Rattle.script_grammar.specs.declared.tree.Kind.TheVariants.{Int}
 use Rattle.script_check.specs.Rules.{Known}
 use Rattle.script_check.specs.Expressions.{Faults, Reading, wanted}
-use Rattle.script_check.specs.Statements.{Place, Judged, judge, judge_all, known_each, faults_each, after}
-use Rattle.script_check.specs.Walk.{State, pending, pending_below, keeps, keeps_all, behind, behind_all, place}
+use Rattle.script_check.specs.Statements.{place, Place, Judged, judge, judge_all, known_each, faults_each, after}
+use Rattle.script_check.specs.Walk.{State, pending, pending_below, keeps, keeps_all, behind, behind_all}
 use Rattle.script_check.proofs.Noted.{noted_append, after_two, after_three}
 use Rattle.script_check.proofs.Reading.{at_index}
 use Rattle.script_check.proofs.Linear.{linear, linear_all, loop_set}

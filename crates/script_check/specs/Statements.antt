@@ -87,6 +87,9 @@ pub record Place : Type 0 where
   pub functions : List Function
   pub in_block : Bool
 
+abbrev pub place : List Function → Bool → Place
+place functions in_block = record { functions = functions; in_block = in_block }
+
 -- what a statement is to those behind it, and its violations
 pub record Judged : Type 0 where
   pub after : Names → Names

@@ -11,7 +11,7 @@ use Rattle.script_check.specs.Functions.{first_named, function_named, main_name}
 use Rattle.script_check.specs.Names.{nobody}
 use Rattle.script_check.specs.Rules.{Known, declaration}
 use Rattle.script_check.specs.Expressions.{wanted, read}
-use Rattle.script_check.specs.Statements.{Place, judge_all, known_each, faults_each}
+use Rattle.script_check.specs.Statements.{place, judge_all, known_each, faults_each}
 
 abbrev pub known_params : List Param → Known → Known
 known_params [] known = known
@@ -26,7 +26,7 @@ abbrev pub function_faults : List Function → Function → List Violation
 function_faults functions f =
     let known = known_params f.params no_entries in
     param_faults f.params no_entries
-    ++ faults_each (judge_all f.body) (record { functions = functions; in_block = false }) known nobody
+    ++ faults_each (judge_all f.body) (place functions false) known nobody
     ++ wanted f.answer (read f.result) (known_each (judge_all f.body) functions known) nobody
 
 abbrev pub all_function_faults : List Function → List Function → List Violation
@@ -50,8 +50,8 @@ main_faults (Some main) = main_with_parameters main.params
 -- all violated conditions of a script
 abbrev pub violations : Script → List Violation
 violations script =
-    main_faults (function_named script.functions main_name)
-    ++ functions_twice [] script.functions
+    functions_twice [] script.functions
+    ++ main_faults (function_named script.functions main_name)
     ++ all_function_faults script.functions script.functions
 
 abbrev pub IsValid : Script → Type 0

@@ -7,13 +7,16 @@ use Rattle.script_grammar.specs.declared.tree.Act.{Act}
 use Rattle.script_grammar.specs.declared.tree.Act.TheOpen as act
 use Rattle.script_grammar.specs.declared.tree.Act.TheOpen.{Act-F, Stmt-F}
 use Rattle.script_grammar.specs.declared.tree.Act.TheFolds.{fold-Stmt, fold-Act}
+use Rattle.script_grammar.specs.declared.tree.Script.{Script}
+use Rattle.script_grammar.specs.Text.{IsOfText}
+use Rattle.script_check.specs.Valid.{IsValid}
 use Rattle.script_check.specs.declared.scope.Layer.{Layer}
 use Rattle.script_check.specs.declared.scope.Scope.{Scope}
 use Rattle.script_check.specs.Tables.{Table, table_of}
 use Rattle.script_check.specs.Functions.{first_named}
 use Rattle.script_check.specs.Names.{Names, nobody}
 use Rattle.script_check.specs.Rules.{Known}
-use Rattle.script_check.specs.Statements.{Place, judge, judge_all, known_each, after}
+use Rattle.script_check.specs.Statements.{judge, judge_all, known_each, after}
 
 -- the table has the index of the first function of each name
 abbrev pub IsIndex : List Function → Table ℕ → Type 0
@@ -95,5 +98,8 @@ behind_all functions ss state =
       keeps = keeps_all ss && state.keeps;
       below = state.below }
 
-abbrev pub place : List Function → Bool → Place
-place functions in_block = record { functions = functions; in_block = in_block }
+-- what a checked script keeps
+pub record IsChecked (script : Script) (first : Table ℕ) : Type 0 where
+  pub valid : IsValid script
+  pub text : IsOfText script
+  pub index : IsIndex script.functions first

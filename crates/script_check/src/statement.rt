@@ -9,8 +9,8 @@ ghost use Rattle.script_check.specs.Functions.{function_named};
 ghost use Rattle.script_check.specs.Names.{both, after_right};
 ghost use Rattle.script_check.specs.Rules.{declaration, array_length, scalar_use, array_use, kind_of};
 ghost use Rattle.script_check.specs.Expressions.{read, wanted, two_wanted};
-ghost use Rattle.script_check.specs.Statements.{judge, judge_all, read_right, wanted_as, kind_or_int, known_each, faults_each, after, target_use, loop_call_of};
-ghost use Rattle.script_check.specs.Walk.{behind, behind_all, place, keeps, keeps_all, known_in, pending_in, state_of};
+ghost use Rattle.script_check.specs.Statements.{place, judge, judge_all, read_right, wanted_as, kind_or_int, known_each, faults_each, after, target_use, loop_call_of};
+ghost use Rattle.script_check.specs.Walk.{behind, behind_all, keeps, keeps_all, known_in, pending_in, state_of};
 
 use crate::call::{judge_call, judge_loop_call, judge_target};
 use crate::expression::{Seen, see, use_array, use_scalar, want};

@@ -6,8 +6,8 @@ use Rattle.script_check.specs.declared.findings.Violation.{Violation}
 use Rattle.script_check.specs.Violations.{noted}
 use Rattle.script_check.specs.Names.{both}
 use Rattle.script_check.specs.Expressions.{read, wanted}
-use Rattle.script_check.specs.Statements.{Judged, judge, judge_what, judge_all, known_each, faults_each, after}
-use Rattle.script_check.specs.Walk.{State, behind, behind_all, keeps, keeps_what, keeps_all, place, pending, known_in, pending_in, state_of}
+use Rattle.script_check.specs.Statements.{place, Judged, judge, judge_what, judge_all, known_each, faults_each, after}
+use Rattle.script_check.specs.Walk.{State, behind, behind_all, keeps, keeps_what, keeps_all, pending, known_in, pending_in, state_of}
 use Rattle.script_check.proofs.Behind.{one_behind, one_judged, if_state, if_faults, while_state, while_faults, with_known, with_loop_set, behind_by}
 use Rattle.script_check.proofs.Induction.{judge_is, keeps_is, judge_if, keeps_if, judge_while, keeps_while}
 use Rattle.script_check.proofs.statement.+statements.Goals as goal
@@ -19,12 +19,13 @@ judge-returns-in_ok-end_if-in-If-clause-state t c =
     let a = c.as_slice.result.now in
     let b = c.as_slice-in-If.result.now in
     let s = state_of c.args.scope.now in
-    let kept : c.or.result ≡ (keeps_all a || keeps_all b) = search rules in
+    let k : Bool = c.in_ok-first-in-If.first || c.in_ok-second-in-If.second in
+    let kept : k ≡ (keeps_all a || keeps_all b) = search rules in
     let last : state_of c.end_if.new.scope ≡ record (state_of c.judge_block-in-If.new.scope) {
       names = both (after a (state_of c.judge_block-in-If.new.scope).names) (after b (state_of c.judge_block-in-If.new.scope).names);
-      keeps = c.or.result && (state_of c.judge_block-in-If.new.scope).keeps } = search rules in
+      keeps = k && (state_of c.judge_block-in-If.new.scope).keeps } = search rules in
     let what : st.act ≡ variant.If c.in-If.e a b = search rules in
-    if_state fs a b c.or.result s (state_of c.judge_block.new.scope) (state_of c.judge_block-in-If.new.scope) (state_of c.end_if.new.scope)
+    if_state fs a b k s (state_of c.judge_block.new.scope) (state_of c.judge_block-in-If.new.scope) (state_of c.end_if.new.scope)
     c.in_ok-first-in-If.ensures.state c.in_ok-second-in-If.ensures.state last kept
     ∙ sym (behind_by fs st _ _ s (judge_is st ∙ ap (λ (w : Act). judge_what w st.at) what ∙ judge_if st.at c.in-If.e a b) (keeps_is st ∙ ap keeps_what what ∙ keeps_if c.in-If.e a b))
 

@@ -1,7 +1,7 @@
 use Rattle.std.proofs.Common.{◌≡◌, drop}
 use Rattle.script_check.specs.Violations.{noted}
-use Rattle.script_check.specs.Statements.{judge_all, faults_each}
-use Rattle.script_check.specs.Walk.{behind_all, place, known_in, pending_in, state_of}
+use Rattle.script_check.specs.Statements.{place, judge_all, faults_each}
+use Rattle.script_check.specs.Walk.{behind_all, known_in, pending_in, state_of}
 use Rattle.script_check.proofs.statement.+statements.Given as goal
 
 abbrev pub invariant-judge_each-loop-statement : goal.invariant-judge_each-loop-statement
