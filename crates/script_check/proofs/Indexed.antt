@@ -1,6 +1,6 @@
 -- The index of functions, one function after another.
 use Rattle.std.proofs.Common.{◌≡◌, ℕ, suc, ◌+◌, ◌<◌, Bool, true, false, cond, List, [], ◌∷◌, ◌++◌, length, take, drop, get_or, Option, Some, None, refl, sym, ap, subst, ◌∙◌, ⊎_elim, arith}
-use Rattle.std.specs.Prelude.{is_some, option_map, if◌then◌else◌}
+use Rattle.std.specs.Prelude.{is_some, option_map, IfSome, if◌then◌else◌}
 use Rattle.std.specs.Str.{bytes_eq}
 use Rattle.std.specs.Map.{update}
 use Rattle.std.specs.Cmp.Lexicographic.{bytes_decides}
@@ -84,3 +84,24 @@ one_twice fs i f before now h e n =
     ∙ ap (λ l. noted (noted before (broken (is_some (first_named (take i fs) f.name.bytes)) 3 f.name.at)) (functions_twice l (drop (i + 1) fs))) (take_more fs i f h ∙ ap (λ g. take i fs ++ g ∷ []) (sym e))
     ∙ sym (noted_append before (broken (is_some (first_named (take i fs) f.name.bytes)) 3 f.name.at) (functions_twice (take i fs ++ f ∷ []) (drop (i + 1) fs)))
     ∙ ap (λ l. noted before (functions_twice (take i fs) l)) (sym (at_index fs i f h e))
+
+-- an index is within the functions
+abbrev Below : ℕ → Option ℕ → Type 0
+Below n None = Unit {0}
+Below n (Some i) = i < n
+
+below : (fs : List Function) (q : List ℕ) → Below (length fs) (first_named fs q)
+below [] q = tt
+below (f ∷ fs) q = pick (bytes_eq f.name.bytes q) (first_named fs q) (below fs q)
+  where
+    pick : (b : Bool) (o : Option ℕ) → Below (length fs) o → Below (length (f ∷ fs)) (cond b (Some 0) (option_map suc o))
+    pick true o h = omega arith
+    pick false None h = tt
+    pick false (Some i) h = omega (arith, h)
+
+pub named_within : (fs : List Function) (q : List ℕ) (o : Option ℕ) → o ≡ first_named fs q → IfSome o (λ i. i < length fs)
+named_within fs q o e = shown o (subst (Below (length fs)) (sym e) (below fs q))
+  where
+    shown : (o : Option ℕ) → Below (length fs) o → IfSome o (λ i. i < length fs)
+    shown None h = h
+    shown (Some i) h = h

@@ -7,3 +7,6 @@ pub mod Collected
 pub mod Indexed
 pub mod Called
 pub mod Behind
+pub mod Least
+pub mod Functioned
+pub mod Fewer

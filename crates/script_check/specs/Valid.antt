@@ -51,8 +51,7 @@ main_faults (Some main) = main_with_parameters main.params
 abbrev pub violations : Script → List Violation
 violations script =
     functions_twice [] script.functions
-    ++ main_faults (function_named script.functions main_name)
-    ++ all_function_faults script.functions script.functions
+    ++ (main_faults (function_named script.functions main_name) ++ all_function_faults script.functions script.functions)
 
 abbrev pub IsValid : Script → Type 0
 IsValid script = violations script ≡ []

@@ -16,7 +16,7 @@ is_before u v = nat_lt u.at v.at || (nat_eq u.at v.at && nat_lt u.number v.numbe
 
 abbrev pub earlier : Option Violation → Violation → Option Violation
 earlier None v = Some v
-earlier (Some u) v = if is_before v u then Some v else Some u
+earlier (Some u) v = Some (if is_before v u then v else u)
 
 -- the least of what was found and of more violations
 abbrev pub noted : Option Violation → List Violation → Option Violation
