@@ -1,6 +1,6 @@
 -- The index of functions, one function after another.
 use Rattle.std.proofs.Common.{◌≡◌, ℕ, suc, ◌+◌, ◌<◌, Bool, true, false, cond, List, [], ◌∷◌, ◌++◌, length, take, drop, get_or, Option, Some, None, refl, sym, ap, subst, ◌∙◌, ⊎_elim, arith}
-use Rattle.std.specs.Prelude.{is_some, option_map, IfSome, if◌then◌else◌}
+use Rattle.std.specs.Prelude.{is_some, option_map, unwrap_or, IfSome, if◌then◌else◌}
 use Rattle.std.specs.Str.{bytes_eq}
 use Rattle.std.specs.Map.{update}
 use Rattle.std.specs.Cmp.Lexicographic.{bytes_decides}
@@ -8,11 +8,13 @@ use Rattle.std.proofs.lemmas.Bool.{cases_Bool, cond-true, cond-false}
 use Rattle.std.proofs.lemmas.Bool.{true≢false}
 use Rattle.std.proofs.lemmas.List.{take_more, length-take-le}
 use Rattle.script_grammar.specs.declared.tree.Function.{Function}
+use Rattle.script_grammar.specs.declared.tree.Script.{Script}
+use Rattle.script_check.proofs.Fewer.{nothing_left, nothing_right}
 use Rattle.script_check.specs.declared.findings.Violation.{Violation}
 use Rattle.script_check.specs.Tables.{Table, with_first}
-use Rattle.script_check.specs.Functions.{first_named}
+use Rattle.script_check.specs.Functions.{first_named, function_at, function_named, main_name}
 use Rattle.script_check.specs.Violations.{broken, noted}
-use Rattle.script_check.specs.Valid.{functions_twice}
+use Rattle.script_check.specs.Valid.{functions_twice, main_faults, all_function_faults, violations}
 use Rattle.script_check.specs.Walk.{IsIndex}
 use Rattle.script_check.proofs.Noted.{noted_append}
 use Rattle.script_check.proofs.Reading.{at_index}
@@ -105,3 +107,19 @@ named_within fs q o e = shown o (subst (Below (length fs)) (sym e) (below fs q))
     shown : (o : Option ℕ) → Below (length fs) o → IfSome o (λ i. i < length fs)
     shown None h = h
     shown (Some i) h = h
+
+-- a script without violations has a main
+pub has_main : (script : Script) (o : Option ℕ) (n : ℕ) → violations script ≡ [] → o ≡ first_named script.functions main_name → n ≡ unwrap_or o 0 → Some n ≡ first_named script.functions main_name
+has_main script o n h e u =
+    found o n
+    (subst (λ (m : Option ℕ). main_faults (function_at script.functions m) ≡ []) (sym e)
+      (nothing_left (main_faults (function_named script.functions main_name)) (all_function_faults script.functions script.functions)
+        (nothing_right (functions_twice [] script.functions) (main_faults (function_named script.functions main_name) ++ all_function_faults script.functions script.functions) h)))
+    u ∙ e
+  where
+    found : (o : Option ℕ) (n : ℕ) → main_faults (function_at script.functions o) ≡ [] → n ≡ unwrap_or o 0 → Some n ≡ o
+    found None n h u = cc
+    found (Some i) n h u = ap (λ (m : ℕ). Some m) u
+
+pub main_within : (fs : List Function) (n : ℕ) → Some n ≡ first_named fs main_name → n < length fs
+main_within fs n e = subst (Below (length fs)) (sym e) (below fs main_name)

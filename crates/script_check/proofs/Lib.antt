@@ -10,3 +10,4 @@ pub mod Behind
 pub mod Least
 pub mod Functioned
 pub mod Fewer
+pub mod FewerStatements
