@@ -1,0 +1,137 @@
+-- The walk's state behind statements.
+use Rattle.std.proofs.Common.{◌≡◌, ℕ, ◌+◌, ◌<◌, Bool, true, false, ◌||◌, ◌&&◌, List, [], ◌∷◌, ◌++◌, length, drop, get_or, Option, refl, sym, ap, ◌∙◌}
+use Rattle.script_grammar.specs.declared.tree.Function.{Function}
+use Rattle.script_grammar.specs.declared.tree.Stmt.{Stmt}
+use Rattle.script_check.specs.declared.findings.Violation.{Violation}
+use Rattle.script_check.specs.Violations.{noted}
+use Rattle.script_check.specs.Names.{Names, nobody, only, both}
+use Rattle.script_grammar.specs.declared.tree.Kind.TheVariants.{Int}
+use Rattle.script_check.specs.Rules.{Known}
+use Rattle.script_check.specs.Expressions.{Faults, Reading, wanted}
+use Rattle.script_check.specs.Statements.{place, Place, Judged, judge, judge_all, known_each, faults_each, after}
+use Rattle.script_check.specs.Walk.{State, pending, pending_below, keeps, keeps_all, behind, behind_all}
+use Rattle.script_check.proofs.Noted.{noted_append, after_two, after_three}
+use Rattle.script_check.proofs.Reading.{at_index}
+use Rattle.script_check.proofs.Linear.{linear, linear_all, loop_set}
+
+and_assoc : (a b c : Bool) → ((a && b) && c) ≡ (a && (b && c))
+and_assoc true b c = refl
+and_assoc false b c = refl
+
+turned : (a b c : Bool) → (a && (b && c)) ≡ ((b && a) && c)
+turned true true c = refl
+turned true false c = refl
+turned false true c = refl
+turned false false c = refl
+
+pub pending_behind : (functions : List Function) (s : Stmt) (state : State) → pending (behind functions s state) ≡ (judge s).after (pending state)
+pending_behind functions s state i x =
+    (ap (λ b. (judge s).after state.names x || b) (and_assoc (keeps s) state.keeps (pending_below state.below x))
+    ∙ sym (linear s state.names (λ y. state.keeps && pending_below state.below y) x)) i
+
+pub behind_first : (functions : List Function) (s : Stmt) (ss : List Stmt) (state : State) → behind_all functions ss (behind functions s state) ≡ behind_all functions (s ∷ ss) state
+behind_first functions s ss state = ap (λ b. record (behind_all functions (s ∷ ss) state) { keeps = b }) (turned (keeps_all ss) (keeps s) state.keeps)
+
+pub one_behind : (functions : List Function) (ss : List Stmt) (i : ℕ) (s : Stmt) (state next : State) → i < length ss → s ≡ get_or ss i s → next ≡ behind functions s state →
+    behind_all functions (drop (i + 1) ss) next ≡ behind_all functions (drop i ss) state
+one_behind functions ss i s state next h is e =
+    ap (behind_all functions (drop (i + 1) ss)) e ∙ behind_first functions s (drop (i + 1) ss) state ∙ ap (λ l. behind_all functions l state) (sym (at_index ss i s h is))
+
+pub one_judged : (functions : List Function) (in_block : Bool) (ss : List Stmt) (i : ℕ) (s : Stmt) (state next : State) (before now : Option Violation) →
+    i < length ss → s ≡ get_or ss i s → next ≡ behind functions s state →
+    now ≡ noted before ((judge s).faults (place functions in_block) state.known (pending state)) →
+    noted now (faults_each (judge_all (drop (i + 1) ss)) (place functions in_block) next.known (pending next))
+    ≡ noted before (faults_each (judge_all (drop i ss)) (place functions in_block) state.known (pending state))
+one_judged functions in_block ss i s state next before now h is e n =
+    ap (λ (t : State). noted now (rest t.known (pending t))) e
+    ∙ ap (λ (p : Names). noted now (rest ((judge s).known functions state.known) p)) (pending_behind functions s state)
+    ∙ ap (λ o. noted o (rest ((judge s).known functions state.known) ((judge s).after (pending state)))) n
+    ∙ sym (noted_append before ((judge s).faults (place functions in_block) state.known (pending state)) (rest ((judge s).known functions state.known) ((judge s).after (pending state))))
+    ∙ ap (λ (l : List Stmt). noted before (faults_each (judge_all l) (place functions in_block) state.known (pending state))) (sym (at_index ss i s h is))
+  where
+    rest : Faults
+    rest = faults_each (judge_all (drop (i + 1) ss)) (place functions in_block)
+
+-- the sets at the end of an `if` and at the beginning of a `while`
+pub if_names : (a b : List Stmt) (kept : Bool) (p : Names) → kept ≡ (keeps_all a || keeps_all b) →
+    both (after b nobody) (both (after a nobody) (only kept p)) ≡ both (after a p) (after b p)
+if_names a b kept p e i x =
+    (ap (λ k. after b nobody x || (after a nobody x || (k && p x))) e
+    ∙ cases (after a nobody x) (after b nobody x) (keeps_all a) (keeps_all b) (p x)
+    ∙ ap (λ z. z || (after b nobody x || (keeps_all b && p x))) (sym (linear_all a nobody p x))
+    ∙ ap (λ z. after a p x || z) (sym (linear_all b nobody p x))) i
+  where
+    cases : (g h k j p : Bool) → (h || (g || ((k || j) && p))) ≡ ((g || (k && p)) || (h || (j && p)))
+    cases true true k j p = refl
+    cases true false k j p = refl
+    cases false true true true true = refl
+    cases false true true true false = refl
+    cases false true true false true = refl
+    cases false true true false false = refl
+    cases false true false j p = refl
+    cases false false true true true = refl
+    cases false false true true false = refl
+    cases false false true false true = refl
+    cases false false true false false = refl
+    cases false false false j p = refl
+
+pub while_names : (body : List Stmt) (p : Names) → both (after body nobody) p ≡ both p (after body p)
+while_names body p i x = sym (loop_set body p x) i
+
+pub while_pending : (body : List Stmt) (p q : Names) → both (both (after body nobody) p) q ≡ both (both p q) (after body (both p q))
+while_pending body p q i x = (or_assoc (after body nobody x) (p x) (q x) ∙ sym (loop_set body (both p q) x)) i
+  where
+    or_assoc : (a b c : Bool) → ((a || b) || c) ≡ (a || (b || c))
+    or_assoc true b c = refl
+    or_assoc false b c = refl
+
+module _ (functions : List Function) (a : List Stmt) where
+  abbrev pub with_known : State → State
+  with_known state = record state { known = known_each (judge_all a) functions state.known }
+
+module _ (functions : List Function) (a b : List Stmt) where
+  pub if_state : (kept : Bool) (state first second last : State) → first ≡ with_known functions a state → second ≡ with_known functions b first →
+      last ≡ record second { names = both (after a second.names) (after b second.names); keeps = kept && second.keeps } → kept ≡ (keeps_all a || keeps_all b) →
+      last ≡ record {
+        known = known_each (judge_all b) functions (known_each (judge_all a) functions state.known);
+        names = both (after a state.names) (after b state.names);
+        keeps = (keeps_all a || keeps_all b) && state.keeps;
+        below = state.below }
+  if_state kept state first second last f s l k =
+      l ∙ ap (λ (t : State). record t { names = both (after a t.names) (after b t.names); keeps = kept && t.keeps }) (s ∙ ap (with_known functions b) f)
+      ∙ ap (λ n. record (with_known functions b (with_known functions a state)) { names = both (after a state.names) (after b state.names); keeps = n && state.keeps }) k
+
+  pub if_faults : (in_block : Bool) (condition : List Violation) (state next : State) (found first second third : Option Violation) →
+      first ≡ noted found condition →
+      second ≡ noted first (faults_each (judge_all a) (place functions true) state.known (pending state)) →
+      next ≡ with_known functions a state →
+      third ≡ noted second (faults_each (judge_all b) (place functions true) next.known (pending next)) →
+      third ≡ noted found (condition ++ faults_each (judge_all a) (place functions true) state.known (pending state)
+        ++ faults_each (judge_all b) (place functions true) (known_each (judge_all a) functions state.known) (pending state))
+  if_faults in_block condition state next found first second third f s n t =
+      after_three found first second third condition (faults_each (judge_all a) (place functions true) state.known (pending state))
+      (faults_each (judge_all b) (place functions true) (known_each (judge_all a) functions state.known) (pending state)) _ f s
+      (t ∙ ap (λ (m : State). noted second (faults_each (judge_all b) (place functions true) m.known (pending m))) n) refl
+
+module _ (functions : List Function) (a : List Stmt) where
+  abbrev pub with_loop_set : State → State
+  with_loop_set state = record state { names = both state.names (after a state.names) }
+
+  pub while_state : (state first last : State) → first ≡ with_loop_set state → last ≡ with_known functions a first → last ≡ with_known functions a (with_loop_set state)
+  while_state state first last f l = l ∙ ap (with_known functions a) f
+
+  -- the sets of the loop as they were found
+  pub while_faults : (condition : Reading) (known known' : Known) (p q : Names) (found first second : Option Violation) →
+      known' ≡ known → q ≡ both p (after a p) → first ≡ noted found (wanted Int condition known' q) →
+      second ≡ noted first (faults_each (judge_all a) (place functions true) known' q) →
+      second ≡ noted found (wanted Int condition known (both p (after a p)) ++ faults_each (judge_all a) (place functions true) known (both p (after a p)))
+  while_faults condition known known' p q found first second k e f s =
+      after_two found first second (wanted Int condition known' q) (faults_each (judge_all a) (place functions true) known' q) _ f s refl
+      ∙ ap (λ (m : Known). noted found (wanted Int condition m q ++ faults_each (judge_all a) (place functions true) m q)) k
+      ∙ ap (λ (r : Names). noted found (wanted Int condition known r ++ faults_each (judge_all a) (place functions true) known r)) e
+
+-- a statement of which this is told
+pub behind_by : (functions : List Function) (s : Stmt) (j : Judged) (kept : Bool) (state : State) → judge s ≡ j → keeps s ≡ kept →
+    behind functions s state ≡ record { known = j.known functions state.known; names = j.after state.names; keeps = kept && state.keeps; below = state.below }
+behind_by functions s j kept state e k i =
+    record { known = (e i).known functions state.known; names = (e i).after state.names; keeps = k i && state.keeps; below = state.below }

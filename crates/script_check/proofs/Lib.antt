@@ -1,0 +1,13 @@
+pub mod Entries
+pub mod Noted
+pub mod Reading
+pub mod Induction
+pub mod Linear
+pub mod Collected
+pub mod Indexed
+pub mod Called
+pub mod Behind
+pub mod Least
+pub mod Functioned
+pub mod Fewer
+pub mod FewerStatements

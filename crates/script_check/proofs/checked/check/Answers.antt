@@ -1,0 +1,45 @@
+use Rattle.std.proofs.Common.{◌≡◌, ◌++◌, ℕ, [], Option, Some, None, Result, Ok, Err, sym, ap, ◌∙◌, rules}
+use Rattle.script_check.specs.declared.checked.Checked.{Checked}
+use Rattle.script_check.specs.declared.error.CheckError.{CheckError}
+use Rattle.script_check.specs.declared.error.CheckError.TheVariants.{Bad}
+use Rattle.script_check.specs.Functions.{function_named, main_name}
+use Rattle.script_check.specs.Tables.{table_of}
+use Rattle.script_check.specs.Valid.{functions_twice, main_faults, all_function_faults, violations}
+use Rattle.script_check.specs.Violations.{noted}
+use Rattle.script_check.specs.Walk.{IsIndex}
+use Rattle.script_check.proofs.Least.{nothing_noted}
+use Rattle.script_check.proofs.Functioned.{all_noted, fault_is}
+use Rattle.script_check.proofs.checked.check.Goals as goal
+
+same_number : (m a n b : ℕ) → (let l : Result Checked CheckError = Err (Bad m a) in l ≡ Err (Bad n b)) → m ≡ n
+same_number m a n b h = cc
+
+same_place : (m a n b : ℕ) → (let l : Result Checked CheckError = Err (Bad m a) in l ≡ Err (Bad n b)) → a ≡ b
+same_place m a n b h = cc
+
+pub returns-in-None-clause-valid : goal.returns-in-None-clause-valid
+returns-in-None-clause-valid c =
+    let script = c.args.script in
+    let first : c.index.new.found ≡ noted None (functions_twice [] script.functions) = search rules in
+    let least : c.judge_script.new.found ≡ None = sym c.least.ensures ∙ c.in-None.is in
+    nothing_noted (violations script) (sym (all_noted script c.index.new.found c.judge_script.new.found first c.in_ok-judge_script.ensures) ∙ least)
+
+pub returns-in-Some-clause-bad : goal.returns-in-Some-clause-bad
+returns-in-Some-clause-bad c = λ number at h.
+    let script = c.args.script in
+    let v = c.in-Some.field-0 in
+    let first : c.index.new.found ≡ noted None (functions_twice [] script.functions) = search rules in
+    let least : c.judge_script.new.found ≡ Some v = sym c.least.ensures ∙ c.in-Some.is in
+    fault_is script v number at (sym (all_noted script c.index.new.found c.judge_script.new.found first c.in_ok-judge_script.ensures) ∙ least)
+    (same_number v.number v.at number at h) (same_place v.number v.at number at h)
+
+pub invariant_of-result : goal.invariant_of-result
+invariant_of-result c =
+    let script = c.args.script in
+    let first : c.index.new.found ≡ noted None (functions_twice [] script.functions) = search rules in
+    let least : c.judge_script.new.found ≡ None = sym c.least.ensures ∙ c.in-None.is in
+    let index : IsIndex script.functions (table_of c.in_ok-first.first.map) = search rules in
+    record {
+      valid = nothing_noted (violations script) (sym (all_noted script c.index.new.found c.judge_script.new.found first c.in_ok-judge_script.ensures) ∙ least);
+      text = c.requires;
+      index = index }

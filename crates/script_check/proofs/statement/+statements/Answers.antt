@@ -1,0 +1,79 @@
+use Rattle.std.proofs.Common.{◌≡◌, Bool, ◌||◌, ◌&&◌, ◌++◌, true, List, ap, sym, ◌∙◌, rules}
+use Rattle.script_grammar.specs.declared.tree.Kind.TheVariants.{Int}
+use Rattle.script_grammar.specs.declared.tree.Act.{Act}
+use Rattle.script_grammar.specs.declared.tree.Act.TheVariants as variant
+use Rattle.script_check.specs.declared.findings.Violation.{Violation}
+use Rattle.script_check.specs.Violations.{noted}
+use Rattle.script_check.specs.Names.{both}
+use Rattle.script_check.specs.Expressions.{read, wanted}
+use Rattle.script_check.specs.Statements.{place, Judged, judge, judge_what, judge_all, known_each, faults_each, after}
+use Rattle.script_check.specs.Walk.{State, behind, behind_all, keeps, keeps_what, keeps_all, pending, known_in, pending_in, state_of}
+use Rattle.script_check.proofs.Behind.{one_behind, one_judged, if_state, if_faults, while_state, while_faults, with_known, with_loop_set, behind_by}
+use Rattle.script_check.proofs.Induction.{judge_is, keeps_is, judge_if, keeps_if, judge_while, keeps_while}
+use Rattle.script_check.proofs.statement.+statements.Goals as goal
+
+pub judge-returns-in_ok-end_if-in-If-clause-state : goal.judge-returns-in_ok-end_if-in-If-clause-state
+judge-returns-in_ok-end_if-in-If-clause-state t c =
+    let fs = c.args.functions.now in
+    let st = c.args.statement.now in
+    let a = c.as_slice.result.now in
+    let b = c.as_slice-in-If.result.now in
+    let s = state_of c.args.scope.now in
+    let k : Bool = c.in_ok-first-in-If.first || c.in_ok-second-in-If.second in
+    let kept : k ≡ (keeps_all a || keeps_all b) = search rules in
+    let last : state_of c.end_if.new.scope ≡ record (state_of c.judge_block-in-If.new.scope) {
+      names = both (after a (state_of c.judge_block-in-If.new.scope).names) (after b (state_of c.judge_block-in-If.new.scope).names);
+      keeps = k && (state_of c.judge_block-in-If.new.scope).keeps } = search rules in
+    let what : st.act ≡ variant.If c.in-If.e a b = search rules in
+    if_state fs a b k s (state_of c.judge_block.new.scope) (state_of c.judge_block-in-If.new.scope) (state_of c.end_if.new.scope)
+    c.in_ok-first-in-If.ensures.state c.in_ok-second-in-If.ensures.state last kept
+    ∙ sym (behind_by fs st _ _ s (judge_is st ∙ ap (λ (w : Act). judge_what w st.at) what ∙ judge_if st.at c.in-If.e a b) (keeps_is st ∙ ap keeps_what what ∙ keeps_if c.in-If.e a b))
+
+pub judge-returns-in_ok-end_if-in-If-clause-found : goal.judge-returns-in_ok-end_if-in-If-clause-found
+judge-returns-in_ok-end_if-in-If-clause-found t c =
+    let fs = c.args.functions.now in
+    let st = c.args.statement.now in
+    let a = c.as_slice.result.now in
+    let b = c.as_slice-in-If.result.now in
+    let s = state_of c.args.scope.now in
+    let condition = wanted Int (read c.in-If.e) s.known (pending s) in
+    let what : st.act ≡ variant.If c.in-If.e a b = search rules in
+    if_faults fs a b c.args.in_block condition s (state_of c.judge_block.new.scope) c.args.found.now c.want.new.found c.judge_block.new.found c.judge_block-in-If.new.found
+    c.want.ensures.found c.in_ok-first-in-If.ensures.found c.in_ok-first-in-If.ensures.state c.in_ok-second-in-If.ensures.found
+    ∙ ap (λ (j : Judged). noted c.args.found.now (j.faults (place fs c.args.in_block) s.known (pending s))) (sym (judge_is st ∙ ap (λ (w : Act). judge_what w st.at) what ∙ judge_if st.at c.in-If.e a b))
+
+pub judge-returns-in_ok-judge_block-in-While-clause-state : goal.judge-returns-in_ok-judge_block-in-While-clause-state
+judge-returns-in_ok-judge_block-in-While-clause-state t c =
+    let fs = c.args.functions.now in
+    let st = c.args.statement.now in
+    let a = c.as_slice-in-While.result.now in
+    let s = state_of c.args.scope.now in
+    let what : st.act ≡ variant.While c.in-While.e a = search rules in
+    let begun : state_of c.begin_while.new.scope ≡ with_loop_set fs a s = search rules in
+    let last : state_of c.judge_block-in-While.new.scope ≡ with_known fs a (state_of c.begin_while.new.scope) = search rules in
+    while_state fs a s (state_of c.begin_while.new.scope) (state_of c.judge_block-in-While.new.scope) begun last
+    ∙ sym (behind_by fs st _ _ s (judge_is st ∙ ap (λ (w : Act). judge_what w st.at) what ∙ judge_while st.at c.in-While.e a) (keeps_is st ∙ ap keeps_what what ∙ keeps_while c.in-While.e a))
+
+pub judge-returns-in_ok-judge_block-in-While-clause-found : goal.judge-returns-in_ok-judge_block-in-While-clause-found
+judge-returns-in_ok-judge_block-in-While-clause-found t c =
+    let fs = c.args.functions.now in
+    let st = c.args.statement.now in
+    let a = c.as_slice-in-While.result.now in
+    let s = state_of c.args.scope.now in
+    let m = state_of c.begin_while.new.scope in
+    let what : st.act ≡ variant.While c.in-While.e a = search rules in
+    let known : m.known ≡ s.known = ap (λ (t : State). t.known) c.in_ok-begin_while-in-While.ensures.state in
+    let body : c.judge_block-in-While.new.found ≡ noted c.want-in-While.new.found (faults_each (judge_all a) (place fs true) m.known (pending m)) = search rules in
+    while_faults fs a (read c.in-While.e) s.known m.known (pending s) (pending m) c.args.found.now c.want-in-While.new.found c.judge_block-in-While.new.found
+    known c.in_ok-begin_while-in-While.ensures.pending c.want-in-While.ensures.found body
+    ∙ ap (λ (j : Judged). noted c.args.found.now (j.faults (place fs c.args.in_block) s.known (pending s))) (sym (judge_is st ∙ ap (λ (w : Act). judge_what w st.at) what ∙ judge_while st.at c.in-While.e a))
+
+pub judge_each-loop-statement-preserved : goal.judge_each-loop-statement-preserved
+judge_each-loop-statement-preserved t c =
+    let fs = c.args.functions.now in
+    let ss = c.args.statements.now in
+    let i = c.loop-statement.statement-index in
+    let s = c.statement-item.result in
+    (one_behind fs ss i s (state_of c.loop-statement.scope) (state_of c.judge.new.scope) c.loop-statement-test.true c.statement-item.is c.in_ok-judge.ensures.state ∙ c.loop-statement.invariant.0,
+    one_judged fs c.args.in_block ss i s (state_of c.loop-statement.scope) (state_of c.judge.new.scope) c.loop-statement.found c.judge.new.found
+    c.loop-statement-test.true c.statement-item.is c.in_ok-judge.ensures.state c.in_ok-judge.ensures.found ∙ c.loop-statement.invariant.1)

@@ -1,0 +1,17 @@
+-- Laws of the pending sets. Each is the contract of a function of the module `laws`.
+use Rattle.std.specs.Prelude.{◌≡◌, List, []}
+use Rattle.script_grammar.specs.declared.tree.Stmt.{Stmt}
+use Rattle.script_check.specs.Names.{Names, IsWithin, both}
+use Rattle.script_check.specs.Rules.{Known}
+use Rattle.script_check.specs.Statements.{Place, judge_all, faults_each, after}
+
+-- Statements that are valid from a set are valid from each subset of it, with no more pending behind them.
+abbrev pub FewerPendingStaysValid : Type 0
+FewerPendingStaysValid =
+    (statements : List Stmt) (place : Place) (known : Known) (fewer p : Names) → IsWithin fewer p →
+    faults_each (judge_all statements) place known p ≡ [] →
+    (faults_each (judge_all statements) place known fewer ≡ []) × IsWithin (after statements fewer) (after statements p)
+
+-- The set that a `while` is judged with has all that its body leaves pending from that set.
+abbrev pub LoopSetIsClosed : Type 0
+LoopSetIsClosed = (body : List Stmt) (p : Names) → let q = both p (after body p) in IsWithin (after body q) q

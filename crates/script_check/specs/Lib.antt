@@ -1,0 +1,10 @@
+pub mod Violations
+pub mod Tables
+pub mod Functions
+pub mod Names
+pub mod Rules
+pub mod Expressions
+pub mod Statements
+pub mod Valid
+pub mod Walk
+pub mod Laws

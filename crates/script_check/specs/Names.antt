@@ -1,0 +1,57 @@
+-- Sets of names, and the names that are pending behind statements.
+use Rattle.std.specs.Prelude.{◌≡◌, ℕ, Bool, true, false, ◌||◌, ◌&&◌, List, [], ◌∷◌}
+use Rattle.std.specs.Str.{bytes_eq}
+use Rattle.script_grammar.specs.declared.tree.Name.{Name}
+use Rattle.script_grammar.specs.declared.tree.Right.{Right}
+use Rattle.script_grammar.specs.declared.tree.Right.TheVariants as right
+use Rattle.script_grammar.specs.declared.tree.Act.TheOpen as act
+use Rattle.script_grammar.specs.declared.tree.Act.TheOpen.{Act-F}
+
+-- a set of names is its test
+abbrev pub Names : Type 0
+Names = List ℕ → Bool
+
+abbrev pub nobody : Names
+nobody x = false
+
+abbrev pub with_name : List ℕ → Names → Names
+with_name x p y = bytes_eq x y || p y
+
+abbrev pub both : Names → Names → Names
+both p q x = p x || q x
+
+-- the set where it is kept
+abbrev pub only : Bool → Names → Names
+only kept p x = kept && p x
+
+-- each name of p is one of q
+abbrev pub IsWithin : Names → Names → Type 0
+IsWithin p q = (x : List ℕ) → p x ≡ true → q x ≡ true
+
+-- a spawn adds its target
+abbrev pub after_right : Name → Right → Names → Names
+after_right x (right.Value e) p = p
+after_right x (right.Draw at) p = p
+after_right x (right.New at) p = p
+after_right x (right.Call at c) p = p
+after_right x (right.Spawn at c) p = with_name x.bytes p
+
+module _ {J : Type 0} (after_one : J → Names → Names) where
+  abbrev pub after_each : List J → Names → Names
+  after_each [] p = p
+  after_each (j ∷ js) p = after_each js (after_one j p)
+
+  -- A sync empties the set, an `if` ends with the union of its ends, a `while` with its own set and its body's; the other statements
+  -- keep it.
+  abbrev pub after_act : {A : Type 0} → Act-F A J → Names → Names
+  after_act (act.Let x r) p = after_right x r p
+  after_act (act.Array x n) p = p
+  after_act (act.Set x r) p = after_right x r p
+  after_act (act.Store x i e) p = p
+  after_act (act.Spawn c) p = p
+  after_act (act.Call c) p = p
+  after_act act.Sync p = nobody
+  after_act (act.Print e) p = p
+  after_act (act.If e a b) p = both (after_each a p) (after_each b p)
+  after_act (act.While e a) p = both p (after_each a p)
+  after_act (act.Pfor x lo hi target c) p = p

@@ -1,0 +1,79 @@
+-- The rules of names, kinds and numbers, each with its violation.
+use Rattle.std.specs.Prelude.{ℕ, Bool, true, false, ◌||◌, ◌&&◌, not, nat_eq, List, ◌++◌, Option, Some, None, is_some, is_none, int_lt}
+use Rattle.std.specs.Prelude.{ℤ, pos}
+use Rattle.script_grammar.specs.declared.tree.Name.{Name}
+use Rattle.script_grammar.specs.declared.tree.Number.{Number}
+use Rattle.script_grammar.specs.declared.tree.Kind.{Kind}
+use Rattle.script_grammar.specs.declared.tree.Kind.TheVariants.{Int, Id}
+use Rattle.script_check.specs.declared.findings.Violation.{Violation}
+use Rattle.script_check.specs.declared.variable.Variable.{Variable}
+use Rattle.script_check.specs.declared.variable.Variable.TheVariants.{Scalar, Array}
+use Rattle.script_check.specs.Violations.{broken}
+use Rattle.script_check.specs.Tables.{Table}
+use Rattle.script_check.specs.Names.{Names}
+
+-- the variables that are known at a place: what the first of each name is
+abbrev pub Known : Type 0
+Known = Table Variable
+
+-- the place has another kind than the one that is wanted; what has no kind has a violation of its own
+abbrev pub is_other_kind : Kind → Option Kind → Bool
+is_other_kind Int (Some Int) = false
+is_other_kind Int (Some Id) = true
+is_other_kind Id (Some Int) = true
+is_other_kind Id (Some Id) = false
+is_other_kind wanted None = false
+
+abbrev pub variable_twice : Known → Name → List Violation
+variable_twice known x = broken (is_some (known.what x.bytes)) 4 x.at
+
+abbrev pub unknown_function : Name → List Violation
+unknown_function f = broken true 5 f.at
+
+abbrev pub unknown_variable : Name → List Violation
+unknown_variable x = broken true 6 x.at
+
+-- where the call hasn't as many arguments as parameters
+abbrev pub wrong_number_of_arguments : Bool → Name → List Violation
+wrong_number_of_arguments has_as_many f = broken (not has_as_many) 7 f.at
+
+abbrev pub wrong_kind : Kind → Option Kind → ℕ → List Violation
+wrong_kind wanted kind at = broken (is_other_kind wanted kind) 8 at
+
+abbrev pub wrong_use : Name → List Violation
+wrong_use x = broken true 8 x.at
+
+abbrev pub pending_variable : Names → Name → List Violation
+pending_variable p x = broken (p x.bytes) 9 x.at
+
+abbrev pub let_in_a_block : Bool → ℕ → List Violation
+let_in_a_block in_block at = broken in_block 10 at
+
+-- the name is new where 256 are known
+abbrev pub too_many_variables : Known → Name → List Violation
+too_many_variables known x = broken (is_none (known.what x.bytes) && nat_eq known.count 256) 11 x.at
+
+abbrev pub array_length : Number → List Violation
+array_length n = broken (int_lt n.value (pos 1) || int_lt (pos 4096) n.value) 12 n.at
+
+-- what a known scalar holds
+abbrev pub kind_of : Option Variable → Option Kind
+kind_of (Some (Scalar kind)) = Some kind
+kind_of (Some Array) = None
+kind_of None = None
+
+-- a name that is read or written as a scalar
+abbrev pub scalar_use : Option Variable → Names → Name → List Violation
+scalar_use (Some (Scalar kind)) p x = pending_variable p x
+scalar_use (Some Array) p x = wrong_use x ++ pending_variable p x
+scalar_use None p x = unknown_variable x
+
+-- a name that is read or written as an array
+abbrev pub array_use : Option Variable → Names → Name → List Violation
+array_use (Some (Scalar kind)) p x = wrong_use x ++ pending_variable p x
+array_use (Some Array) p x = pending_variable p x
+array_use None p x = unknown_variable x
+
+-- a name in a parameter list or a `let`
+abbrev pub declaration : Known → Name → List Violation
+declaration known x = variable_twice known x ++ too_many_variables known x

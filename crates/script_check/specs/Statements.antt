@@ -1,0 +1,161 @@
+-- The violations in statements.
+use Rattle.std.specs.Prelude.{ℕ, Bool, true, false, nat_eq, is_some, List, [], ◌∷◌, ◌++◌, length, map, Option, Some, None}
+use Rattle.script_grammar.specs.declared.tree.Kind.{Kind}
+use Rattle.script_grammar.specs.declared.tree.Kind.TheVariants.{Int, Id}
+use Rattle.script_grammar.specs.declared.tree.Name.{Name}
+use Rattle.script_grammar.specs.declared.tree.Param.{Param}
+use Rattle.script_grammar.specs.declared.tree.Function.{Function}
+use Rattle.script_grammar.specs.declared.tree.CallText.{CallText}
+use Rattle.script_grammar.specs.declared.tree.Expr.{Expr}
+use Rattle.script_grammar.specs.declared.tree.Right.{Right}
+use Rattle.script_grammar.specs.declared.tree.Right.TheVariants as right
+use Rattle.script_grammar.specs.declared.tree.Stmt.{Stmt}
+use Rattle.script_grammar.specs.declared.tree.Act.TheOpen as act
+use Rattle.script_grammar.specs.declared.tree.Act.TheOpen.{Act-F, Stmt-F}
+use Rattle.script_grammar.specs.declared.tree.Act.TheFolds.{fold-Stmt, fold-Act}
+use Rattle.script_grammar.specs.declared.tree.Act.{Act}
+use Rattle.script_check.specs.declared.findings.Violation.{Violation}
+use Rattle.script_check.specs.declared.variable.Variable.TheVariants.{Scalar, Array}
+use Rattle.script_check.specs.Tables.{Table, with_first}
+use Rattle.script_check.specs.Functions.{function_named}
+use Rattle.script_check.specs.Names.{Names, both, after_each, after_act}
+use Rattle.script_check.specs.Rules.{Known, unknown_function, wrong_number_of_arguments, wrong_kind, let_in_a_block, array_length, kind_of, scalar_use, array_use, declaration}
+use Rattle.script_check.specs.Expressions.{Faults, Reading, wanted, two_wanted, read}
+
+-- Calls
+
+-- arguments, each of its parameter's kind
+abbrev pub arguments : List Param → List Expr → Faults
+arguments params [] known p = []
+arguments [] (e ∷ es) known p = (read e).faults known p ++ arguments [] es known p
+arguments (q ∷ params) (e ∷ es) known p = wanted q.kind (read e) known p ++ arguments params es known p
+
+abbrev pub call_of : Option Function → CallText → Faults
+call_of None c known p = unknown_function c.name ++ arguments [] c.args known p
+call_of (Some f) c known p =
+    wrong_number_of_arguments (nat_eq (length f.params) (length c.args)) c.name ++ arguments f.params c.args known p
+
+abbrev pub answer_of : Option Function → Option Kind
+answer_of None = None
+answer_of (Some f) = Some f.answer
+
+-- The call of a parallel loop: the loop's number is the first argument, and a target takes the values.
+abbrev pub loop_arguments : List Param → CallText → Faults
+loop_arguments [] c known p = wrong_number_of_arguments false c.name ++ arguments [] c.args known p
+loop_arguments (q ∷ params) c known p =
+    wrong_number_of_arguments (nat_eq (length params) (length c.args)) c.name
+    ++ wrong_kind Int (Some q.kind) c.name.at ++ arguments params c.args known p
+
+abbrev pub taken_kind : Bool → Kind → Option Kind
+taken_kind true kind = Some kind
+taken_kind false kind = None
+
+abbrev pub loop_call_of : Option Function → Bool → CallText → Faults
+loop_call_of None has_target c known p = unknown_function c.name ++ arguments [] c.args known p
+loop_call_of (Some f) has_target c known p =
+    wrong_kind Int (taken_kind has_target f.answer) c.name.at ++ loop_arguments f.params c known p
+
+abbrev pub target_use : Option Name → Faults
+target_use None known p = []
+target_use (Some x) known p = array_use (known.what x.bytes) p x
+
+-- Statements
+
+module _ (functions : List Function) where
+  abbrev pub call : CallText → Faults
+  call c = call_of (function_named functions c.name.bytes) c
+
+  abbrev pub read_right : Right → Reading
+  read_right (right.Value e) = read e
+  read_right (right.Draw at) = record { at = at; kind = λ known. Some Int; faults = λ known p. [] }
+  read_right (right.New at) = record { at = at; kind = λ known. Some Id; faults = λ known p. [] }
+  read_right (right.Call at c) = record { at = at; kind = λ known. answer_of (function_named functions c.name.bytes); faults = call c }
+  read_right (right.Spawn at c) = record { at = at; kind = λ known. answer_of (function_named functions c.name.bytes); faults = call c }
+
+-- a right side that is set: where the variable has a kind, that kind
+abbrev pub wanted_as : Option Kind → Reading → Faults
+wanted_as None r = r.faults
+wanted_as (Some kind) r = wanted kind r
+
+-- what stands for the kind where there is none
+abbrev pub kind_or_int : Option Kind → Kind
+kind_or_int None = Int
+kind_or_int (Some kind) = kind
+
+-- where statements stand
+pub record Place : Type 0 where
+  pub functions : List Function
+  pub in_block : Bool
+
+abbrev pub place : List Function → Bool → Place
+place functions in_block = record { functions = functions; in_block = in_block }
+
+-- what a statement is to those behind it, and its violations
+pub record Judged : Type 0 where
+  pub after : Names → Names
+  pub known : List Function → Known → Known
+  pub faults : Place → Faults
+
+abbrev pub known_each : List Judged → List Function → Known → Known
+known_each [] functions known = known
+known_each (j ∷ js) functions known = known_each js functions (j.known functions known)
+
+abbrev pub faults_each : List Judged → Place → Faults
+faults_each [] place known p = []
+faults_each (j ∷ js) place known p = j.faults place known p ++ faults_each js place (j.known place.functions known) (j.after p)
+
+-- what a statement makes known; the first of a name stays
+abbrev pub known_act : {A : Type 0} → Act-F A Judged → List Function → Known → Known
+known_act (act.Let x r) functions known = with_first known x.bytes (Scalar (kind_or_int ((read_right functions r).kind known)))
+known_act (act.Array x n) functions known = with_first known x.bytes Array
+known_act (act.Set x r) functions known = known
+known_act (act.Store x i e) functions known = known
+known_act (act.Spawn c) functions known = known
+known_act (act.Call c) functions known = known
+known_act act.Sync functions known = known
+known_act (act.Print e) functions known = known
+known_act (act.If e a b) functions known = known_each b functions (known_each a functions known)
+known_act (act.While e a) functions known = known_each a functions known
+known_act (act.Pfor x lo hi target c) functions known = known
+
+-- the violations of a block
+abbrev pub block_faults : List Judged → Place → Faults
+block_faults js place = faults_each js (record place { in_block = true })
+
+-- the violations of a statement at an offset
+abbrev pub faults_act : {A : Type 0} → Act-F A Judged → ℕ → Place → Faults
+faults_act (act.Let x r) at place known p =
+    let_in_a_block place.in_block at ++ (read_right place.functions r).faults known p ++ declaration known x
+faults_act (act.Array x n) at place known p = let_in_a_block place.in_block at ++ declaration known x ++ array_length n
+faults_act (act.Set x r) at place known p =
+    scalar_use (known.what x.bytes) p x ++ wanted_as (kind_of (known.what x.bytes)) (read_right place.functions r) known p
+faults_act (act.Store x i e) at place known p = array_use (known.what x.bytes) p x ++ two_wanted Int (read i) (read e) known p
+faults_act (act.Spawn c) at place known p = call place.functions c known p
+faults_act (act.Call c) at place known p = call place.functions c known p
+faults_act act.Sync at place known p = []
+faults_act (act.Print e) at place known p = (read e).faults known p
+faults_act (act.If e a b) at place known p =
+    wanted Int (read e) known p ++ block_faults a place known p ++ block_faults b place (known_each a place.functions known) p
+faults_act (act.While e a) at place known p =
+    let q = both p (after_each (λ (j : Judged). j.after) a p) in
+    wanted Int (read e) known q ++ block_faults a place known q
+faults_act (act.Pfor x lo hi target c) at place known p =
+    two_wanted Int (read lo) (read hi) known p ++ target_use target known p
+    ++ loop_call_of (function_named place.functions c.name.bytes) (is_some target) c known p
+
+-- one statement, with what is told of those inside it in their places
+abbrev pub judge_act : Act-F (ℕ → Judged) Judged → ℕ → Judged
+judge_act d at = record { after = after_act (λ (j : Judged). j.after) d; known = known_act d; faults = faults_act d at }
+
+abbrev pub judge : Stmt → Judged
+judge = fold-Stmt (ℕ → Judged) Judged judge_act (λ s. s.act s.at)
+
+abbrev pub judge_what : Act → ℕ → Judged
+judge_what = fold-Act (ℕ → Judged) Judged judge_act (λ s. s.act s.at)
+
+abbrev pub judge_all : List Stmt → List Judged
+judge_all = map judge
+
+-- the names that are pending behind statements
+abbrev pub after : List Stmt → Names → Names
+after ss = after_each (λ (j : Judged). j.after) (judge_all ss)

@@ -1,0 +1,62 @@
+-- Which scripts are valid, and the first condition that another one violates.
+use Rattle.std.specs.Prelude.{◌≡◌, ℕ, Bool, true, false, List, [], ◌∷◌, ◌++◌, Option, Some, None, is_some, All, Contains}
+use Rattle.script_grammar.specs.declared.tree.Param.{Param}
+use Rattle.script_grammar.specs.declared.tree.Function.{Function}
+use Rattle.script_grammar.specs.declared.tree.Script.{Script}
+use Rattle.script_check.specs.declared.findings.Violation.{Violation}
+use Rattle.script_check.specs.declared.variable.Variable.TheVariants.{Scalar}
+use Rattle.script_check.specs.Violations.{violation, broken, is_before}
+use Rattle.script_check.specs.Tables.{no_entries, with_first}
+use Rattle.script_check.specs.Functions.{first_named, function_named, main_name}
+use Rattle.script_check.specs.Names.{nobody}
+use Rattle.script_check.specs.Rules.{Known, declaration}
+use Rattle.script_check.specs.Expressions.{wanted, read}
+use Rattle.script_check.specs.Statements.{place, judge_all, known_each, faults_each}
+
+abbrev pub known_params : List Param → Known → Known
+known_params [] known = known
+known_params (q ∷ params) known = known_params params (with_first known q.name.bytes (Scalar q.kind))
+
+abbrev pub param_faults : List Param → Known → List Violation
+param_faults [] known = []
+param_faults (q ∷ params) known = declaration known q.name ++ param_faults params (with_first known q.name.bytes (Scalar q.kind))
+
+-- The violations in a function: of its parameters, its body, and the result, which is read behind a sync of all that was spawned.
+abbrev pub function_faults : List Function → Function → List Violation
+function_faults functions f =
+    let known = known_params f.params no_entries in
+    param_faults f.params no_entries
+    ++ faults_each (judge_all f.body) (place functions false) known nobody
+    ++ wanted f.answer (read f.result) (known_each (judge_all f.body) functions known) nobody
+
+abbrev pub all_function_faults : List Function → List Function → List Violation
+all_function_faults functions [] = []
+all_function_faults functions (f ∷ fs) = function_faults functions f ++ all_function_faults functions fs
+
+-- functions whose name stands before, among those before or here
+abbrev pub functions_twice : List Function → List Function → List Violation
+functions_twice before [] = []
+functions_twice before (f ∷ fs) =
+    broken (is_some (first_named before f.name.bytes)) 3 f.name.at ++ functions_twice (before ++ f ∷ []) fs
+
+abbrev pub main_with_parameters : List Param → List Violation
+main_with_parameters [] = []
+main_with_parameters (q ∷ params) = broken true 2 q.name.at
+
+abbrev pub main_faults : Option Function → List Violation
+main_faults None = broken true 1 0
+main_faults (Some main) = main_with_parameters main.params
+
+-- all violated conditions of a script
+abbrev pub violations : Script → List Violation
+violations script =
+    functions_twice [] script.functions
+    ++ (main_faults (function_named script.functions main_name) ++ all_function_faults script.functions script.functions)
+
+abbrev pub IsValid : Script → Type 0
+IsValid script = violations script ≡ []
+
+-- a condition that the script violates, and no other one stands before it
+pub record CheckFault (script : Script) (number at : ℕ) : Type 0 where
+  pub violated : Contains (violations script) (violation number at)
+  pub least : All (λ v. is_before v (violation number at) ≡ false) (violations script)

@@ -1,0 +1,24 @@
+-- Violated conditions, and the least of them.
+use Rattle.std.specs.Prelude.{ℕ, Bool, true, false, ◌||◌, ◌&&◌, nat_eq, nat_lt, List, [], ◌∷◌, Option, Some, None, if◌then◌else◌}
+use Rattle.script_check.specs.declared.findings.Violation.{Violation}
+
+abbrev pub violation : ℕ → ℕ → Violation
+violation number at = record { at = at; number = number }
+
+-- a rule's violation, where it is broken
+abbrev pub broken : Bool → ℕ → ℕ → List Violation
+broken true number at = violation number at ∷ []
+broken false number at = []
+
+-- whether u comes before v: it stands at a smaller offset, or at the same one with a smaller number
+abbrev pub is_before : Violation → Violation → Bool
+is_before u v = nat_lt u.at v.at || (nat_eq u.at v.at && nat_lt u.number v.number)
+
+abbrev pub earlier : Option Violation → Violation → Option Violation
+earlier None v = Some v
+earlier (Some u) v = Some (if is_before v u then v else u)
+
+-- the least of what was found and of more violations
+abbrev pub noted : Option Violation → List Violation → Option Violation
+noted found [] = found
+noted found (v ∷ vs) = noted (earlier found v) vs

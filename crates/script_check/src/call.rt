@@ -1,0 +1,96 @@
+// The violations in calls.
+
+ghost use Rattle.std.specs.Prelude.{◌≡◌, [], Some};
+ghost use Rattle.script_check.specs.Violations.{noted};
+ghost use Rattle.script_check.specs.Functions.{function_named};
+ghost use Rattle.script_check.specs.Rules.{array_use};
+ghost use Rattle.script_check.specs.Statements.{arguments, call, answer_of, loop_call_of, target_use};
+ghost use Rattle.script_check.specs.Walk.{known_in, pending_in};
+
+use crate::expression::{see, use_array, want};
+use crate::findings::Findings;
+use crate::functions::Functions;
+use crate::scope::Scope;
+use script_grammar::{CallText, Expr, Function, Kind, Name, Param};
+
+/// Arguments, each of its parameter's kind.
+pub(crate) fn judge_arguments(scope: &Scope, found: &mut Findings, params: &[Param], args: &[Expr])
+    ensures { found.new ≡ noted found.old (arguments params.now args.now (known_in scope.now) (pending_in scope.now)) }
+{
+    for (i, e) in args.iter().enumerate() {
+        match params.get(i) {
+            Some(param) => {
+                want(scope, found, param.kind, e);
+            }
+            None => {
+                see(scope, found, e);
+            }
+        }
+    }
+}
+
+/// A call or spawn. The answer is the function's kind, where there is the function.
+pub(crate) fn judge_call(functions: &Functions, scope: &Scope, found: &mut Findings, c: &CallText) -> Option<Kind>
+    ensures kind { result ≡ answer_of (function_named functions.now c.now.name.bytes) }
+    ensures found { found.new ≡ noted found.old (call functions.now c.now (known_in scope.now) (pending_in scope.now)) }
+{
+    let name = &c.name;
+    let args = c.args.as_slice();
+    match functions.named(name.bytes.as_slice()) {
+        Some(f) => {
+            let params = f.params.as_slice();
+            found.note_if(params.len() != args.len(), 7, name.at);
+            judge_arguments(scope, found, params, args);
+            Some(f.answer)
+        }
+        None => {
+            found.note_if(true, 5, name.at);
+            judge_arguments(scope, found, &[], args);
+            None
+        }
+    }
+}
+
+/// The target of a parallel loop.
+pub(crate) fn judge_target(scope: &Scope, found: &mut Findings, target: &Option<Name>)
+    ensures { found.new ≡ noted found.old (target_use target.now (known_in scope.now) (pending_in scope.now)) }
+{
+    if let Some(x) = target {
+        use_array(scope, found, x);
+    }
+}
+
+/// The call of a parallel loop, whose first argument is the number of the iteration.
+pub(crate) fn judge_loop_call(functions: &Functions, scope: &Scope, found: &mut Findings, has_target: bool, c: &CallText)
+    ensures { found.new ≡ noted found.old (loop_call_of (function_named functions.now c.now.name.bytes) has_target c.now (known_in scope.now) (pending_in scope.now)) }
+{
+    let name = &c.name;
+    match functions.named(name.bytes.as_slice()) {
+        Some(f) => judge_iterations(scope, found, f, has_target, c),
+        None => {
+            found.note_if(true, 5, name.at);
+            judge_arguments(scope, found, &[], c.args.as_slice());
+        }
+    }
+}
+
+/// The same, where this is the function.
+fn judge_iterations(scope: &Scope, found: &mut Findings, f: &Function, has_target: bool, c: &CallText)
+    ensures { found.new ≡ noted found.old (loop_call_of (Some f.now) has_target c.now (known_in scope.now) (pending_in scope.now)) }
+{
+    let at = c.name.at;
+    let params = f.params.as_slice();
+    let args = c.args.as_slice();
+    found.note_if(has_target && f.answer == Kind::Id, 8, at);
+    match params.split_first() {
+        Some((number, others)) => {
+            found.note_if(others.len() != args.len(), 7, at);
+            found.note_if(number.kind == Kind::Id, 8, at);
+            judge_arguments(scope, found, others, args);
+        }
+        None => {
+            found.note_if(true, 7, at);
+            judge_arguments(scope, found, &[], args);
+        }
+    }
+}

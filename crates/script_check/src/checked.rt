@@ -1,0 +1,101 @@
+// Checked scripts.
+
+ghost use Rattle.std.specs.Prelude.{◌≡◌, ◌≢◌, ◌<◌, ℕ, ◌++◌, Some, Err, IfOk, IfSome, OnOk, length};
+ghost use Rattle.script_grammar.specs.Text.{IsOfText};
+ghost use Rattle.script_check.specs.Functions.{first_named, function_named, main_name};
+ghost use Rattle.script_check.specs.Tables.{table_of};
+ghost use Rattle.script_check.specs.Valid.{IsValid, CheckFault, all_function_faults, main_faults};
+ghost use Rattle.script_check.specs.Violations.{noted};
+ghost use Rattle.script_check.specs.Walk.{IsIndex};
+
+use crate::error::CheckError;
+use crate::findings::{Findings, Violation};
+use crate::function::{judge_function, judge_main};
+use crate::functions::{Functions, index};
+use crate::memory::Memory;
+use crate::names::NameTable;
+use script_grammar::{Name, Script};
+use std::alloc::Global;
+use std::marker::Model;
+
+/// A valid script, one that a text is of. It is seen as the script.
+#[derive(Drop)]
+pub struct Checked {
+    script: Script,
+    first: NameTable<u32>,
+}
+
+impl Model for Checked {
+    ghost use Rattle.std.specs.Coded.{codes};
+    ghost use Rattle.script_grammar.specs.declared.tree.Script.{Script};
+    ghost use Rattle.script_grammar.specs.contracts.tree.Script as script_type;
+    ghost use Rattle.script_check.specs.Tables.{table_of};
+    ghost use Rattle.script_check.specs.Walk.{IsChecked};
+
+    ghost Value = { Script };
+
+    ghost coded = { Prim.hlevel (codes, script_type.the_row.coded) };
+
+    ghost view = { λ c. c.script };
+
+    ghost invariant = { λ c. IsChecked c.script (table_of c.first.map) };
+}
+
+/// Checks a script that a text is of. `Ok` comes exactly for valid scripts, apart from want of memory; else the error tells the
+/// first violated condition: of those at the least offset the one of least number. The script is dropped on `Err`.
+pub fn check(alloc: Global, script: Script) -> Result<Checked, CheckError>
+    requires { IsOfText script }
+    ensures ok { IfOk result (λ checked. checked ≡ script) }
+    ensures valid { IfOk result (λ checked. IsValid script) }
+    ensures bad { (number at : ℕ) → result ≡ Err (CheckError.Bad number at) → CheckFault script number at }
+{
+    let mut found = Findings::new();
+    let first = index(alloc, &mut found, script.functions.as_slice())?;
+    judge_script(alloc, &mut found, &script, &first)?;
+    match found.least() {
+        None => Ok(Checked { script, first }),
+        Some(Violation { at, number }) => Err(CheckError::Bad { number, at }),
+    }
+}
+
+/// All conditions of a script but that no function's name is doubled.
+fn judge_script(alloc: Global, found: &mut Findings, script: &Script, first: &NameTable<u32>) -> Result<(), Memory>
+    requires { IsIndex script.now.functions (table_of first.now.map) }
+    ensures { OnOk result (found.new ≡ noted found.old (main_faults (function_named script.now.functions main_name)
+        ++ all_function_faults script.now.functions script.now.functions)) }
+{
+    let list = script.functions.as_slice();
+    let functions = Functions::new(list, first);
+    judge_main(&functions, found);
+    for f in list {
+        judge_function(alloc, &functions, found, f)?;
+    }
+    Ok(())
+}
+
+impl Checked {
+    /// The script, which is valid and one that a text is of.
+    pub fn script(&self) -> &Script
+        ensures script { result.now ≡ self.now }
+        ensures valid { IsValid self.now }
+        ensures text { IsOfText self.now }
+    {
+        &self.script
+    }
+
+    /// The index of the first function named `main`.
+    pub fn main(&self) -> u32
+        ensures main { Some result ≡ first_named self.now.functions main_name }
+        ensures within { result < length self.now.functions }
+    {
+        self.first.get(b"main").unwrap_or(0)
+    }
+
+    /// The index of the first function of this name. There is none exactly where no function has it.
+    pub fn function_of(&self, name: &Name) -> Option<u32>
+        ensures function { result ≡ first_named self.now.functions name.now.bytes }
+        ensures within { IfSome result (λ i. i < length self.now.functions) }
+    {
+        self.first.get(name.bytes.as_slice())
+    }
+}

@@ -1,0 +1,171 @@
+// The violations in expressions.
+
+ghost use Rattle.std.specs.Prelude.{◌≡◌, ◌∷◌, map, Some, None};
+ghost use Rattle.script_check.specs.Violations.{noted};
+ghost use Rattle.script_check.specs.Rules.{scalar_use, array_use, kind_of, is_other_kind, wrong_kind};
+ghost use Rattle.script_check.specs.Expressions.{read, read_sum_part, read_product_part, wanted, all_wanted};
+ghost use Rattle.script_check.specs.Walk.{known_in, pending_in};
+ghost use Rattle.script_grammar.specs.declared.tree.Kind.TheVariants as kind;
+
+use crate::findings::Findings;
+use crate::scope::Scope;
+use crate::variable::Variable;
+use script_grammar::{Expr, Kind, Name, ProductPart, SumPart};
+
+/// An expression's place, and its kind if it has one.
+#[derive(Clone, Copy)]
+pub(crate) struct Seen {
+    pub at: u32,
+    pub kind: Option<Kind>,
+}
+
+impl Seen {
+    /// A number at this place.
+    fn int(at: u32) -> Seen
+        ensures at { result.at ≡ at }
+        ensures kind { result.kind ≡ Some kind.Int }
+    {
+        Seen {
+            at,
+            kind: Some(Kind::Int),
+        }
+    }
+
+    /// Notes where this has another kind than the one that is wanted.
+    pub(crate) fn want(self, found: &mut Findings, kind: Kind)
+        ensures { found.new ≡ noted found.old (wrong_kind kind self.kind self.at) }
+    {
+        found.note_if(is_other_kind(kind, self.kind), 8, self.at);
+    }
+}
+
+/// Whether there is another kind than the one that is wanted.
+fn is_other_kind(wanted: Kind, kind: Option<Kind>) -> bool
+    ensures { result ≡ is_other_kind wanted kind }
+{
+    match (wanted, kind) {
+        (Kind::Int, Some(Kind::Id)) | (Kind::Id, Some(Kind::Int)) => true,
+        _ => false,
+    }
+}
+
+/// A name that is read or written as a scalar, and its kind.
+pub(crate) fn use_scalar(scope: &Scope, found: &mut Findings, x: &Name) -> Option<Kind>
+    ensures kind { result ≡ kind_of ((known_in scope.now).what x.now.bytes) }
+    ensures found { found.new ≡ noted found.old (scalar_use ((known_in scope.now).what x.now.bytes) (pending_in scope.now) x.now) }
+{
+    match scope.variable(x) {
+        Some(Variable::Scalar(kind)) => {
+            found.note_if(scope.is_pending(x), 9, x.at);
+            Some(kind)
+        }
+        Some(Variable::Array) => {
+            found.note_if(true, 8, x.at);
+            found.note_if(scope.is_pending(x), 9, x.at);
+            None
+        }
+        None => {
+            found.note_if(true, 6, x.at);
+            None
+        }
+    }
+}
+
+/// A name that is read or written as an array.
+pub(crate) fn use_array(scope: &Scope, found: &mut Findings, x: &Name)
+    ensures { found.new ≡ noted found.old (array_use ((known_in scope.now).what x.now.bytes) (pending_in scope.now) x.now) }
+{
+    match scope.variable(x) {
+        Some(Variable::Scalar(_)) => {
+            found.note_if(true, 8, x.at);
+            found.note_if(scope.is_pending(x), 9, x.at);
+        }
+        Some(Variable::Array) => found.note_if(scope.is_pending(x), 9, x.at),
+        None => found.note_if(true, 6, x.at),
+    }
+}
+
+/// An expression of any kind.
+#[cycle(expressions)]
+#[tactic(auto, using(crate::proofs::Noted::noted_append))]
+pub(crate) fn see(scope: &Scope, found: &mut Findings, e: &Expr) -> Seen
+    ensures at { result.at ≡ (read e.now).at }
+    ensures kind { result.kind ≡ (read e.now).kind (known_in scope.now) }
+    ensures found { found.new ≡ noted found.old ((read e.now).faults (known_in scope.now) (pending_in scope.now)) }
+{
+    match e {
+        Expr::Number(n) => Seen::int(n.at),
+        Expr::Var(x) => {
+            let kind = use_scalar(scope, found, x);
+            Seen { at: x.at, kind }
+        }
+        Expr::Item(x, i) => {
+            use_array(scope, found, x);
+            want(scope, found, Kind::Int, i.get());
+            Seen::int(x.at)
+        }
+        Expr::Neg(at, e) => {
+            want(scope, found, Kind::Int, e.get());
+            Seen::int(*at)
+        }
+        Expr::Same(at, a, b) => {
+            want(scope, found, Kind::Id, a.get());
+            want(scope, found, Kind::Id, b.get());
+            Seen::int(*at)
+        }
+        Expr::Older(at, a, b) => {
+            want(scope, found, Kind::Id, a.get());
+            want(scope, found, Kind::Id, b.get());
+            Seen::int(*at)
+        }
+        Expr::Compare(a, _, b) => {
+            let at = want(scope, found, Kind::Int, a.get());
+            want(scope, found, Kind::Int, b.get());
+            Seen::int(at)
+        }
+        Expr::Sum(first, parts) => {
+            let at = want(scope, found, Kind::Int, first.get());
+            want_summands(scope, found, parts.as_slice());
+            Seen::int(at)
+        }
+        Expr::Product(first, parts) => {
+            let at = want(scope, found, Kind::Int, first.get());
+            want_factors(scope, found, parts.as_slice());
+            Seen::int(at)
+        }
+    }
+}
+
+/// An expression that has to be of this kind. The answer is its place.
+#[cycle(expressions)]
+#[tactic(auto, using(crate::proofs::Noted::noted_append), unfolding(crate::specs::Expressions::wanted))]
+pub(crate) fn want(scope: &Scope, found: &mut Findings, kind: Kind, e: &Expr) -> u32
+    ensures at { result ≡ (read e.now).at }
+    ensures found { found.new ≡ noted found.old (wanted kind (read e.now) (known_in scope.now) (pending_in scope.now)) }
+{
+    let seen = see(scope, found, e);
+    seen.want(found, kind);
+    seen.at
+}
+
+/// The operands of a sum behind the first.
+#[cycle(expressions)]
+#[tactic(auto, using(crate::proofs::Noted::noted_append))]
+fn want_summands(scope: &Scope, found: &mut Findings, parts: &[SumPart])
+    ensures { found.new ≡ noted found.old (all_wanted kind.Int (map read_sum_part parts.now) (known_in scope.now) (pending_in scope.now)) }
+{
+    for part in parts {
+        want(scope, found, Kind::Int, &part.operand);
+    }
+}
+
+/// The operands of a product behind the first.
+#[cycle(expressions)]
+#[tactic(auto, using(crate::proofs::Noted::noted_append))]
+fn want_factors(scope: &Scope, found: &mut Findings, parts: &[ProductPart])
+    ensures { found.new ≡ noted found.old (all_wanted kind.Int (map read_product_part parts.now) (known_in scope.now) (pending_in scope.now)) }
+{
+    for part in parts {
+        want(scope, found, Kind::Int, &part.operand);
+    }
+}

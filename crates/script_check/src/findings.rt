@@ -1,0 +1,61 @@
+// The violated conditions that a walk meets, of which the least is kept.
+
+ghost use Rattle.std.specs.Prelude.{◌≡◌};
+ghost use Rattle.script_check.specs.Violations.{broken, noted};
+
+use std::marker::Model;
+
+/// A violated condition: its number among the rules, and the offset of its place.
+#[derive(Clone, Copy)]
+pub(crate) struct Violation {
+    pub at: u32,
+    pub number: u8,
+}
+
+/// The least violation so far, by offset and then by number.
+#[derive(Drop)]
+pub(crate) struct Findings {
+    least: Option<Violation>,
+}
+
+impl Model for Findings {
+    ghost use Rattle.std.specs.Prelude.{Option};
+    ghost use Rattle.script_check.specs.declared.findings.Violation.{Violation};
+
+    ghost Value = { Option Violation };
+
+    ghost view = { λ f. f.least };
+}
+
+impl Findings {
+    ghost use Rattle.std.specs.Prelude.{None};
+
+    /// Nothing found.
+    pub(crate) fn new() -> Findings
+        ensures { result ≡ None }
+    {
+        Findings { least: None }
+    }
+
+    /// Notes a rule's violation at this place, if it is broken there.
+    pub(crate) fn note_if(&mut self, is_broken: bool, number: u8, at: u32)
+        ensures { self.new ≡ noted self.old (broken is_broken number at) }
+    {
+        if is_broken {
+            let is_least = match self.least {
+                Some(least) => at < least.at || (at == least.at && number < least.number),
+                None => true,
+            };
+            if is_least {
+                self.least = Some(Violation { at, number });
+            }
+        }
+    }
+
+    /// The least violation noted.
+    pub(crate) fn least(&self) -> Option<Violation>
+        ensures { result ≡ self.now }
+    {
+        self.least
+    }
+}

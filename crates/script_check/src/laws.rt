@@ -1,0 +1,13 @@
+//! Laws of the definitions, each the contract of a function that does nothing. A proof that wants a law calls it.
+
+ghost use Rattle.script_check.specs.Laws.{FewerPendingStaysValid, LoopSetIsClosed};
+
+/// Statements that are valid where some names are pending are valid where only some of these are, and leave no more pending.
+pub fn fewer_pending_stays_valid()
+    ensures { FewerPendingStaysValid }
+{}
+
+/// The set that a `while` is judged with has all that its body leaves pending from that set: another turn adds nothing.
+pub fn loop_set_is_closed()
+    ensures { LoopSetIsClosed }
+{}

@@ -1,0 +1,50 @@
+// What names stand for, and sets of names.
+
+ghost use Rattle.std.specs.Prelude.{◌≡◌, OnOk};
+ghost use Rattle.script_check.specs.Tables.{no_entries, with_first, table_of};
+
+use crate::memory::Memory;
+use std::alloc::Global;
+use std::collections::BTreeMap;
+
+/// A table from names to what they stand for. The first entry of a name stays.
+#[derive(Drop)]
+pub(crate) struct NameTable<T: Copy> {
+    map: BTreeMap<Vec<u8>, T>,
+}
+
+impl<T: Copy> NameTable<T> {
+    /// No entries.
+    pub(crate) fn new(alloc: Global) -> NameTable<T>
+        ensures { table_of result.map ≡ no_entries }
+    {
+        NameTable {
+            map: BTreeMap::new(alloc),
+        }
+    }
+
+    /// What a name stands for.
+    pub(crate) fn get(&self, name: &[u8]) -> Option<T>
+        ensures { result ≡ (table_of self.now.map).what name.now }
+    {
+        self.map.get(name).copied()
+    }
+
+    /// How many names there are.
+    pub(crate) fn len(&self) -> usize
+        ensures { result ≡ (table_of self.now.map).count }
+    {
+        self.map.len()
+    }
+
+    /// Lets a name stand for this, unless it stands for something.
+    pub(crate) fn insert(&mut self, alloc: Global, name: &[u8], value: T) -> Result<(), Memory>
+        ensures { OnOk result (table_of self.new.map ≡ with_first (table_of self.old.map) name.now value) }
+    {
+        if self.get(name).is_none() {
+            let key = Vec::from_slice(alloc, name)?;
+            self.map.insert(key, value)?;
+        }
+        Ok(())
+    }
+}
