@@ -24,6 +24,9 @@ use Rattle.ped_words.specs.declared.table.Verb.TheVariants as verb
 abbrev pub depth_of : Values → ℕ
 depth_of values = unwrap_or values.depth 256
 
+abbrev pub budget_of : Values → ℕ
+budget_of values = unwrap_or values.budget 1000000
+
 abbrev pub workers_of : Values → ℕ
 workers_of values = unwrap_or values.workers 4
 
@@ -33,13 +36,13 @@ gamma_from None seed depth = coefficients seed depth
 gamma_from (Some given) seed depth = padded given.0 depth
 
 -- by default the coefficients of seed 0
-abbrev pub gamma_of : Values → List ℕ
-gamma_of values = gamma_from values.gamma (unwrap_or values.seed 0) (depth_of values)
+abbrev pub gamma_of : Values → ℕ → List ℕ
+gamma_of values depth = gamma_from values.gamma (unwrap_or values.seed 0) depth
 
 abbrev pub settings_of : Values → Settings
 settings_of values = record {
-  gamma = gamma_of values;
-  limits = record { depth = depth_of values; budget = unwrap_or values.budget 1000000 };
+  gamma = gamma_of values (depth_of values);
+  limits = record { depth = depth_of values; budget = budget_of values };
   show = unwrap_or values.show Plain;
 }
 
@@ -49,7 +52,7 @@ command_of verb.Run values = Some (command.Run (settings_of values) (workers_of 
 command_of verb.Serial values = Some (command.Serial (settings_of values))
 command_of verb.Sim values = option_map (λ n. command.Sim (settings_of values) (workers_of values) n) values.number
 command_of verb.Replay values = option_map (λ j. command.Replay (settings_of values) j) values.at
-command_of verb.Hash values = option_map (λ j. command.Hash (gamma_of values) j) values.at
+command_of verb.Hash values = option_map (λ j. command.Hash (gamma_of values 256) j) values.at
 command_of verb.Check values = Some command.Check
 command_of verb.Fmt values = Some command.Fmt
 command_of verb.Gen values = option_and_then (λ s. option_map (λ n. command.Gen s n.0) values.size) values.shape
@@ -58,8 +61,13 @@ command_of verb.Gen values = option_and_then (λ s. option_map (λ n. command.Ge
 abbrev pub is_gamma : List ℕ → ℕ → Bool
 is_gamma list depth = nat_le (length list) depth && not (is_some (position is_too_big list))
 
-abbrev pub broken_gamma : Values → Option WordError
-broken_gamma values = option_and_then (λ given. if is_gamma given.0 (depth_of values) then None else Some (breaks rule.OutOfRange given.1)) values.gamma
+abbrev pub broken_gamma : Values → ℕ → Option WordError
+broken_gamma values depth = option_and_then (λ given. if is_gamma given.0 depth then None else Some (breaks rule.OutOfRange given.1)) values.gamma
+
+-- how many coefficients the command has
+abbrev pub depth_for : Verb → Values → ℕ
+depth_for verb.Hash values = 256
+depth_for _ values = depth_of values
 
 -- what it is for the word at this index that its list makes no coefficients
 abbrev pub gamma_error : GammaError → ℕ → WordError
@@ -78,7 +86,7 @@ broken_size values =
 
 -- the rule that these values break together, of a command that has all options that it needs
 abbrev pub broken_values : Verb → Values → Option WordError
-broken_values verb values = option_or (if takes verb name.Gamma then broken_gamma values else None) (if takes verb name.Size then broken_size values else None)
+broken_values verb values = option_or (if takes verb name.Gamma then broken_gamma values (depth_for verb values) else None) (if takes verb name.Size then broken_size values else None)
 
 abbrev pub made_of : Option WordError → ℕ → Option Command → Result Command WordError
 made_of broken words None = Err (breaks rule.MissingOption words)

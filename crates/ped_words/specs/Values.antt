@@ -1,5 +1,5 @@
 -- The values that the options have. Behind the command stand pairs of a name and a value: pair k, from 0, is the words 2k + 1 and 2k + 2.
-use Rattle.std.specs.Prelude.{ℕ, zero, suc, ◌+◌, ◌*◌, Bool, false, ◌||◌, ◌==◌, if◌then◌else◌, is_some, unwrap_or, Option, Some, None, List, []}
+use Rattle.std.specs.Prelude.{ℕ, zero, suc, ◌+◌, ◌*◌, ◌≤◌, length, IfSome, Bool, false, ◌||◌, ◌==◌, if◌then◌else◌, is_some, unwrap_or, Option, Some, None, List, []}
 use Rattle.std.specs.List.{slice_index_or}
 use Rattle.std.specs.Option.{option_map}
 use Rattle.ped_gen.specs.declared.shape.Shape.{Shape}
@@ -106,3 +106,10 @@ one_of b = if b then 1 else 0
 abbrev pub count_of : Values → ℕ
 count_of values =
     one_of (is_some values.seed) + (one_of (is_some values.gamma) + (one_of (is_some values.depth) + (one_of (is_some values.budget) + (one_of (is_some values.workers) + (one_of (is_some values.show) + (one_of (is_some values.number) + (one_of (is_some values.at) + (one_of (is_some values.shape) + one_of (is_some values.size)))))))))
+
+-- The values of the options that have a range are in it.
+pub record AreInRange (depth budget workers : Option ℕ) (at : Option (List ℕ)) : Type 0 where
+  pub depth_range : IfSome depth (λ n. (1 ≤ n) × (n ≤ 256))
+  pub budget_range : IfSome budget (λ n. 1 ≤ n)
+  pub workers_range : IfSome workers (λ n. (1 ≤ n) × (n ≤ 64))
+  pub at_range : IfSome at (λ j. length j ≤ 256)

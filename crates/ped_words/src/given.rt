@@ -1,7 +1,8 @@
-ghost use Rattle.std.specs.Prelude.{◌≡◌, ◌<◌, ◌-◌, ◌^◌, ℕ, List, length, All, IfOk, IfErr, OnOk};
+ghost use Rattle.std.specs.Prelude.{◌≡◌, ◌<◌, ◌≤◌, ◌-◌, ◌^◌, ℕ, List, length, All, IfOk, IfErr, OnOk};
 ghost use Rattle.ped_path.specs.Path.{IsRank};
+ghost use Rattle.ped_words.specs.Commands.{AreLawful, IsLawful, IsWorkers};
 ghost use Rattle.ped_words.specs.Judging.{value_rule};
-ghost use Rattle.ped_words.specs.Making.{broken_gamma, depth_of, gamma_error, gamma_of, made, settings_of};
+ghost use Rattle.ped_words.specs.Making.{broken_gamma, budget_of, depth_of, gamma_error, gamma_of, made, settings_of, workers_of};
 ghost use Rattle.ped_words.specs.Numbers.{number_rule, value_of};
 ghost use Rattle.ped_words.specs.Pedigrees.{ped_of, ped_rule};
 ghost use Rattle.ped_words.specs.Rules.{broken_at, IsRefusal, IsUnlessMemory};
@@ -47,11 +48,13 @@ pub(crate) struct Given {
 
 impl Model for Given {
     ghost use Rattle.std.specs.Option.{option_map};
-    ghost use Rattle.ped_words.specs.Values.{Values};
+    ghost use Rattle.ped_words.specs.Values.{AreInRange, Values};
 
     ghost Value = { Values };
 
     ghost view = { λ g. record { seed = g.seed; gamma = option_map (λ p. (p.0.items, p.1)) g.gamma; depth = g.depth; budget = g.budget; workers = g.workers; show = g.show; number = g.number; at = g.at; shape = g.shape; size = g.size } };
+
+    ghost invariant = { λ g. AreInRange g.depth g.budget g.workers g.at };
 }
 
 impl Given {
@@ -122,84 +125,118 @@ impl Given {
         verb: Verb,
         words: u32,
     ) -> Result<Command, WordError>
-        ensures { IsUnlessMemory (made verb self words) result }
+        ensures value { IsUnlessMemory (made verb self words) result }
+        ensures lawful { IfOk result IsLawful }
     {
-        let missing = Rule::MissingOption.at(words);
-        let workers = self.workers.unwrap_or(DEFAULT_WORKERS);
         match verb {
             Verb::Run => Ok(Command::Run {
                 settings: self.settings(alloc)?,
-                workers,
+                workers: self.workers(),
             }),
             Verb::Serial => Ok(Command::Serial {
                 settings: self.settings(alloc)?,
             }),
-            Verb::Sim => {
-                let number = self.number.ok_or(missing)?;
-                let settings = self.settings(alloc)?;
-                Ok(Command::Sim {
-                    settings,
-                    workers,
-                    number,
-                })
-            }
-            Verb::Replay => {
-                let settings = if self.at.is_some() {
-                    self.settings(alloc)?
-                } else {
-                    return Err(missing);
-                };
-                let at = self.at.ok_or(missing)?;
-                Ok(Command::Replay { settings, at })
-            }
-            Verb::Hash => {
-                let gamma = if self.at.is_some() {
-                    self.coefficients(alloc)?
-                } else {
-                    return Err(missing);
-                };
-                let at = self.at.ok_or(missing)?;
-                Ok(Command::Hash { gamma, at })
-            }
+            Verb::Sim => self.simulation(alloc, words),
+            Verb::Replay => self.replay(alloc, words),
+            Verb::Hash => self.hash(alloc, words),
             Verb::Check => Ok(Command::Check),
             Verb::Fmt => Ok(Command::Fmt),
-            Verb::Gen => {
-                let shape = self.shape.ok_or(missing)?;
-                let (size, at) = self.size.ok_or(missing)?;
-                if !shape.fits(size) {
-                    return Err(Rule::OutOfRange.at(at));
-                }
-                Ok(Command::Gen { shape, size })
-            }
+            Verb::Gen => self.generation(words),
         }
     }
 
-    fn settings(&self, alloc: Global) -> Result<Settings, WordError>
-        ensures ok { IfOk result (λ settings. (broken_gamma self.now ≡ None) × (settings ≡ settings_of self.now)) }
-        ensures err { IfErr result (IsRefusal (broken_gamma self.now)) }
+    fn simulation(&self, alloc: Global, words: u32) -> Result<Command, WordError>
+        ensures value { IsUnlessMemory (made Verb.Sim self.now words) result }
+        ensures lawful { IfOk result IsLawful }
     {
+        let Some(number) = self.number else {
+            return Err(Rule::MissingOption.at(words));
+        };
+        Ok(Command::Sim {
+            settings: self.settings(alloc)?,
+            workers: self.workers(),
+            number,
+        })
+    }
+
+    fn replay(mut self, alloc: Global, words: u32) -> Result<Command, WordError>
+        ensures value { IsUnlessMemory (made Verb.Replay self words) result }
+        ensures lawful { IfOk result IsLawful }
+    {
+        let Some(at) = self.at.take() else {
+            return Err(Rule::MissingOption.at(words));
+        };
+        let settings = self.settings(alloc)?;
+        Ok(Command::Replay { settings, at })
+    }
+
+    fn hash(mut self, alloc: Global, words: u32) -> Result<Command, WordError>
+        ensures value { IsUnlessMemory (made Verb.Hash self words) result }
+        ensures lawful { IfOk result IsLawful }
+    {
+        let Some(at) = self.at.take() else {
+            return Err(Rule::MissingOption.at(words));
+        };
+        let gamma = self.coefficients(alloc, MOST_DEPTH)?;
+        Ok(Command::Hash { gamma, at })
+    }
+
+    fn generation(&self, words: u32) -> Result<Command, WordError>
+        ensures value { IsUnlessMemory (made Verb.Gen self.now words) result }
+        ensures lawful { IfOk result IsLawful }
+    {
+        let (Some(shape), Some((size, at))) = (self.shape, self.size) else {
+            return Err(Rule::MissingOption.at(words));
+        };
+        if !shape.fits(size) {
+            return Err(Rule::OutOfRange.at(at));
+        }
+        Ok(Command::Gen { shape, size })
+    }
+
+    fn settings(&self, alloc: Global) -> Result<Settings, WordError>
+        ensures ok { IfOk result (λ settings. (broken_gamma self.now (depth_of self.now) ≡ None) × (settings ≡ settings_of self.now)) }
+        ensures err { IfErr result (IsRefusal (broken_gamma self.now (depth_of self.now))) }
+        ensures lawful { IfOk result AreLawful }
+    {
+        let depth = self.depth();
         Ok(Settings {
-            gamma: self.coefficients(alloc)?,
+            gamma: self.coefficients(alloc, depth)?,
             limits: Limits {
-                depth: self.depth(),
-                budget: self.budget.unwrap_or(DEFAULT_BUDGET),
+                depth,
+                budget: self.budget(),
             },
             show: self.show.unwrap_or(Show::Plain),
         })
     }
 
     fn depth(&self) -> u32
-        ensures { result ≡ depth_of self.now }
+        ensures value { result ≡ depth_of self.now }
+        ensures range { (1 ≤ result) × (result ≤ 256) }
     {
         self.depth.unwrap_or(MOST_DEPTH)
     }
 
-    /// The coefficients of the list that was given, or else of the seed.
-    fn coefficients(&self, alloc: Global) -> Result<Gamma, WordError>
-        ensures ok { IfOk result (λ gamma. (broken_gamma self.now ≡ None) × (gamma ≡ gamma_of self.now)) }
-        ensures err { IfErr result (IsRefusal (broken_gamma self.now)) }
+    fn budget(&self) -> u32
+        ensures value { result ≡ budget_of self.now }
+        ensures range { 1 ≤ result }
     {
-        let depth = self.depth();
+        self.budget.unwrap_or(DEFAULT_BUDGET)
+    }
+
+    fn workers(&self) -> u32
+        ensures value { result ≡ workers_of self.now }
+        ensures range { IsWorkers result }
+    {
+        self.workers.unwrap_or(DEFAULT_WORKERS)
+    }
+
+    /// The coefficients of this depth, of the list that was given or else of the seed.
+    fn coefficients(&self, alloc: Global, depth: u32) -> Result<Gamma, WordError>
+        ensures ok { IfOk result (λ gamma. (broken_gamma self.now depth ≡ None) × (gamma ≡ gamma_of self.now depth)) }
+        ensures err { IfErr result (IsRefusal (broken_gamma self.now depth)) }
+        ensures long { IfOk result (λ gamma. length gamma ≡ depth) }
+    {
         match &self.gamma {
             Some((list, at)) => match Gamma::of_list(alloc, list, depth) {
                 Ok(gamma) => Ok(gamma),
@@ -233,6 +270,7 @@ fn number_at(word: &str, at: u32) -> Result<u64, WordError>
 /// A number from 1 to `most`.
 fn small_number_at(word: &str, at: u32, most: u32) -> Result<u32, WordError>
     ensures ok { IfOk result (λ n. (number_rule 1 most word.now ≡ None) × (n ≡ value_of word.now)) }
+    ensures range { IfOk result (λ n. (1 ≤ n) × (n ≤ most)) }
     ensures err { IfErr result (IsRefusal (broken_at at (number_rule 1 most word.now))) }
 {
     match number_in(word, 1, most as u64) {
@@ -253,6 +291,7 @@ fn rank_count(pedigree: &Pedigree) -> u64
 
 fn pedigree_at(alloc: Global, word: &str, at: u32) -> Result<Pedigree, WordError>
     ensures ok { IfOk result (λ j. (ped_rule word.now ≡ None) × (j ≡ ped_of word.now)) }
+    ensures few { IfOk result (λ j. length j ≤ 256) }
     ensures err { IfErr result (IsRefusal (broken_at at (ped_rule word.now))) }
 {
     match parse_pedigree(alloc, word) {

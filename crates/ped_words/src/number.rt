@@ -1,4 +1,4 @@
-ghost use Rattle.std.specs.Prelude.{◌≡◌, None, Some, IfOk, IfErr, map, true};
+ghost use Rattle.std.specs.Prelude.{◌≡◌, ◌≤◌, None, Some, IfOk, IfErr, map, true};
 ghost use Rattle.std.specs.Char.{is_ascii_digit};
 ghost use Rattle.std.specs.List.{list_all};
 ghost use Rattle.std.specs.Option.{option_map};
@@ -25,6 +25,7 @@ fn all_digits(bytes: &[u8]) -> bool
 
 /// The number that a word is. It may be from `least` to `most`.
 pub(crate) fn number_in(word: &str, least: u64, most: u64) -> Result<u64, Rule>
+    ensures range { IfOk result (λ n. (least ≤ n) × (n ≤ most)) }
     ensures ok { IfOk result (λ n. (number_rule least most word.now ≡ None) × (n ≡ value_of word.now)) }
     ensures err { IfErr result (λ rule. number_rule least most word.now ≡ Some rule) }
 {

@@ -1,4 +1,5 @@
 ghost use Rattle.std.specs.Prelude.{◌≡◌, ◌+◌, ◌*◌, ◌<◌, ◌^◌, OnOk, IfOk, IfErr, None, Some, false, length, map, string_bytes};
+ghost use Rattle.ped_words.specs.Commands.{IsLawful};
 ghost use Rattle.ped_words.specs.Judging.{broken_pair, first_broken, judged_name, pairs_in};
 ghost use Rattle.ped_words.specs.Reading.{reading};
 ghost use Rattle.ped_words.specs.Rules.{IsRefusal, IsUnlessMemory};
@@ -13,7 +14,8 @@ use std::alloc::Global;
 
 /// The command that these words are, or the first rule that they break.
 pub fn read_words(alloc: Global, words: &[String]) -> Result<Command, WordError>
-    ensures { IsUnlessMemory (reading (map string_bytes words.now)) result }
+    ensures value { IsUnlessMemory (reading (map string_bytes words.now)) result }
+    ensures lawful { IfOk result IsLawful }
 {
     if words.is_empty() {
         return Err(Rule::NoCommand.at(0));
