@@ -6,12 +6,11 @@ use Rattle.std.specs.List.{onto_first, slice_split, take_while}
 use Rattle.std.specs.Option.{option_or}
 use Rattle.std.specs.Str.{all_ascii_digits}
 use Rattle.std.specs.Str.Parse.{AllDigits, digits_value}
-use Rattle.std.proofs.Math.Seq.{take-append_seam, take-suc}
+use Rattle.std.proofs.Math.Seq.{take-append_seam}
 use Rattle.std.proofs.lemmas.Bool.{cases_lt, ne_eqb}
 use Rattle.std.proofs.lemmas.Bool.Decides.{nat_tests}
 use Rattle.std.proofs.lemmas.Fmt.{decimal_digit, decimal_nonempty, digits_decimal, digits_value-decimal, first_decimal}
-use Rattle.std.proofs.lemmas.List.{append-nil, length-take-le, take_all}
-use Rattle.std.proofs.lemmas.List.Elements.{All-take}
+use Rattle.std.proofs.lemmas.List.{append-nil}
 use Rattle.std.proofs.lemmas.List.Splits.{slice_split-cons_no, slice_split-cons_yes, slice_split_at, slice_split_none}
 use Rattle.std.proofs.lemmas.List.Sums.{take_while-cons}
 use Rattle.std.proofs.lemmas.Str.Parse.{IsNumeralModel, digits_value-take-le, numerals_by_value, tells_digits}
@@ -20,7 +19,6 @@ use Rattle.ped_path.specs.Path.{IsRank}
 use Rattle.ped_path.specs.Text.{ped_text, stopped}
 use Rattle.ped_path.specs.declared.parse.PedTextError.{PedTextError}
 use Rattle.ped_path.specs.declared.parse.PedTextError.TheVariants.{Empty, BadByte, Zeros, TooBig, TooLong, Memory}
-use Rattle.ped_path.proofs.TextLemmas.{ped_text-append}
 use Rattle.ped_words.specs.Numbers.{is_number, value_of}
 use Rattle.ped_words.specs.Pedigrees.{ped_of, ped_rule, rank_rule, ranks_in, ranks_rule}
 use Rattle.ped_words.specs.Rules.{text_rule}
@@ -307,32 +305,26 @@ ped_refused text TooLong rule (at, rest, f) is =
     let h = first_part rest in behind_ranks text 256 at 0 rest f (omega arith) ∙ ap (λ t. ranks_rule t 0) h.cut ∙ is
 ped_refused text Memory rule r is = cc
 
-values_back : (ranks : List ℕ) (r : ℕ) → All IsRank ranks → IsRank r → map value_of (map decimal ranks ++ decimal r ∷ []) ≡ ranks ++ r ∷ []
-values_back [] r all rank = ap (λ n. n ∷ []) (rank_value r rank)
-values_back (q ∷ qs) r all rank = ap (λ n. n ∷ map value_of (map decimal qs ++ decimal r ∷ [])) (rank_value q (all 0 0 (omega arith))) ∙ ap (λ t. q ∷ t) (values_back qs r (All-rest q qs all) rank)
+text_more : (x y : ℕ) (ys : List ℕ) → ped_text (x ∷ y ∷ ys) ≡ decimal x ++ 46 ∷ ped_text (y ∷ ys)
+text_more x y ys = refl
 
--- A text of ranks is good, and these are its ranks.
-module _ (text p j : List ℕ) (r : ℕ) (split : p ++ r ∷ [] ≡ j) (is : text ≡ ped_text j) (path : All IsRank p) (rank : IsRank r) where
-  parts_whole : ranks_in text ≡ map decimal p ++ decimal r ∷ []
-  parts_whole =
-      ap ranks_in (is ∙ sym (ped_text-append p j r split)) ∙ parts_behind p (decimal r) path ∙ ap (λ t. map decimal p ++ t) (slice_split_none (λ c. eqb c 46) (decimal r) (no_stops (decimal r) (rank_digits r rank)))
+parts_whole : (x : ℕ) (xs : List ℕ) → All IsRank (x ∷ xs) → ranks_in (ped_text (x ∷ xs)) ≡ map decimal (x ∷ xs)
+parts_whole x [] all =
+    ap ranks_in (append-nil (decimal x)) ∙ slice_split_none (λ c. eqb c 46) (decimal x) (no_stops (decimal x) (rank_digits x (all 0 0 (omega arith))))
+parts_whole x (y ∷ ys) all =
+    ap ranks_in (text_more x y ys) ∙ slice_split_at (λ c. eqb c 46) (decimal x) 46 (ped_text (y ∷ ys)) (no_stops (decimal x) (rank_digits x (all 0 0 (omega arith)))) refl ∙ ap (λ t. decimal x ∷ t) (parts_whole y ys (All-rest x (y ∷ ys) all))
 
-  good_rule : length p < 256 → ped_rule text ≡ None
-  unfolding ped_rule
-  good_rule few =
-      ap (λ t. ranks_rule t 256) parts_whole ∙ rules_behind p (decimal r ∷ []) 256 (256 - length p) path (omega (arith, few)) ∙ with_room (decimal r) [] (256 - length p) (omega (arith, few)) ∙ ap (λ t. option_or t None) (rank_good r rank)
+values_back : (ranks : List ℕ) → All IsRank ranks → map value_of (map decimal ranks) ≡ ranks
+values_back [] all = refl
+values_back (q ∷ qs) all = ap (λ n. n ∷ map value_of (map decimal qs)) (rank_value q (all 0 0 (omega arith))) ∙ ap (λ t. q ∷ t) (values_back qs (All-rest q qs all))
 
-  good_ranks : ped_of text ≡ j
-  unfolding ped_of
-  good_ranks = ap (map value_of) parts_whole ∙ values_back p r path rank ∙ split
-
+-- The text of at most 256 ranks is good, and these are its ranks.
 pub ped_good : (text j : List ℕ) → text ≡ ped_text j → 0 < length j → All IsRank j → length j ≤ 256 → (ped_rule text ≡ None) × (j ≡ ped_of text)
-ped_good text j is some ranks few =
-    let last = length j - 1 in
-    let split : take last j ++ get_or j last 0 ∷ [] ≡ j = sym (take-suc j last 0 (omega (arith, some))) ∙ take_all (suc last) j (omega (arith, some)) in
-    let path : All IsRank (take last j) = All-take IsRank last j ranks in
-    let rank : IsRank (get_or j last 0) = ranks last 0 (omega (arith, some)) in
-    let short = length-take-le last j (omega (arith, some)) in (
-      good_rule text (take last j) j (get_or j last 0) split is path rank (omega (arith, short, few, some)),
-      sym (good_ranks text (take last j) j (get_or j last 0) split is path rank),
+unfolding ped_rule ped_of
+ped_good text [] is some ranks few = absurd (omega arith)
+ped_good text (x ∷ xs) is some ranks few =
+    let parts : ranks_in text ≡ map decimal (x ∷ xs) = ap ranks_in is ∙ parts_whole x xs ranks in
+    let whole : map decimal (x ∷ xs) ≡ map decimal (x ∷ xs) ++ [] = sym (append-nil (map decimal (x ∷ xs))) in (
+      ap (λ t. ranks_rule t 256) (parts ∙ whole) ∙ rules_behind (x ∷ xs) [] 256 (256 - length (x ∷ xs)) ranks (omega (arith, few)),
+      sym (ap (map value_of) parts ∙ values_back (x ∷ xs) ranks),
     )

@@ -58,6 +58,7 @@ impl Model for Given {
 }
 
 impl Given {
+    /// Before any pair.
     pub(crate) fn nothing() -> Given
         ensures { (words : List (List ℕ)) → result ≡ values_of words 0 }
     {
@@ -145,6 +146,7 @@ impl Given {
         }
     }
 
+    /// The command `sim`, which needs a number.
     fn simulation(&self, alloc: Global, words: u32) -> Result<Command, WordError>
         ensures value { IsUnlessMemory (made Verb.Sim self.now words) result }
         ensures lawful { IfOk result IsLawful }
@@ -159,6 +161,7 @@ impl Given {
         })
     }
 
+    /// The command `replay`, which needs a pedigree.
     fn replay(mut self, alloc: Global, words: u32) -> Result<Command, WordError>
         ensures value { IsUnlessMemory (made Verb.Replay self words) result }
         ensures lawful { IfOk result IsLawful }
@@ -170,6 +173,7 @@ impl Given {
         Ok(Command::Replay { settings, at })
     }
 
+    /// The command `hash`, which needs a pedigree and has 256 coefficients.
     fn hash(mut self, alloc: Global, words: u32) -> Result<Command, WordError>
         ensures value { IsUnlessMemory (made Verb.Hash self words) result }
         ensures lawful { IfOk result IsLawful }
@@ -181,6 +185,7 @@ impl Given {
         Ok(Command::Hash { gamma, at })
     }
 
+    /// The command `gen`, which needs a shape and a size that fits it.
     fn generation(&self, words: u32) -> Result<Command, WordError>
         ensures value { IsUnlessMemory (made Verb.Gen self.now words) result }
         ensures lawful { IfOk result IsLawful }

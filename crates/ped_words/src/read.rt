@@ -12,7 +12,11 @@ use crate::rule::{Rule, WordError};
 use crate::table::{Name, Verb};
 use std::alloc::Global;
 
-/// The command that these words are, or the first rule that they break.
+/// The command that these words are, or the first rule that they break, with the index of the word that breaks it.
+///
+/// The first word is the command. Behind it stand pairs of a word `--NAME` and a value, in any order, each name at most once. What
+/// only all words together can show is judged behind the last one: a missing option, coefficients beyond the depth, a size beyond
+/// the shape. Words that are a command are refused only for want of memory.
 pub fn read_words(alloc: Global, words: &[String]) -> Result<Command, WordError>
     ensures value { IsUnlessMemory (reading (map string_bytes words.now)) result }
     ensures lawful { IfOk result IsLawful }
@@ -27,6 +31,7 @@ pub fn read_words(alloc: Global, words: &[String]) -> Result<Command, WordError>
     given.into_command(alloc, verb, words.len() as u32)
 }
 
+/// The word at this index.
 fn text_at(words: &[String], index: usize) -> &str
     requires { index < length words.now }
     ensures { result.now ≡ word_at (map string_bytes words.now) index }

@@ -21,7 +21,7 @@ pub(crate) enum Rule {
 /// Why words are no command.
 #[derive(Clone, Copy, Debug, PartialEq, Eq)]
 pub enum WordError {
-    /// The first rule that is broken, and the index of the word that breaks it, from 0.
+    /// The first rule that is broken, and the index of the word that breaks it, from 0. [`rule_text`] says what the rule is.
     ///
     /// | Number | Rule | Word |
     /// |---|---|---|
