@@ -38,7 +38,7 @@ is_gamma_ok : (list gamma : List ℕ) (depth : ℕ) → Judged list depth (Ok ga
 is_gamma_ok list gamma depth j =
     let few : leb (length list) depth ≡ true = leb_true (length list) depth (λ lt. cc (j.too_many.1 lt)) in
     let small : not (is_some (position is_too_big list)) ≡ true =
-      no_place (position is_too_big list) (λ i e. cc ((j.too_big i).1 (leb_le few, e)))
+    no_place (position is_too_big list) (λ i e. cc ((j.too_big i).1 (leb_le few, e)))
     in ap (λ b. b && not (is_some (position is_too_big list))) few ∙ small
   where
     leb_le : leb (length list) depth ≡ true → length list ≤ depth
@@ -62,7 +62,7 @@ pub gamma_long : (list gamma : List ℕ) (depth : ℕ) → Judged list depth (Ok
 gamma_long list gamma depth j made =
     let few : depth < length list → ⊥ = λ lt. cc (j.too_many.1 lt) in
     let long : length (padded list depth) ≡ length list + (depth - length list) =
-      length-append list (replicate (depth - length list) 0) ∙ ap (λ n. length list + n) (length-replicate (depth - length list) 0)
+    length-append list (replicate (depth - length list) 0) ∙ ap (λ n. length list + n) (length-replicate (depth - length list) 0)
     in ap length made ∙ long ∙ omega (arith, few)
 
 pub seed_long : (seed depth : ℕ) → length (coefficients seed depth) ≡ depth
@@ -73,6 +73,7 @@ gamma_err values list at depth error e given j is = subst (λ (x : WordError). I
   where
     broken : (error : GammaError) → (error ≡ Memory → ⊥) → Judged list depth (Err error) → broken_gamma values depth ≡ Some (breaks OutOfRange at)
     broken error other j = broken_by values list at depth false given (is_gamma_err list depth error other j)
+
     at_error : (error : GammaError) → Judged list depth (Err error) → IsRefusal (broken_gamma values depth) (gamma_error error at)
     at_error TooMany j = broken TooMany (λ h. cc h) j
     at_error (TooBig i) j = broken (TooBig i) (λ h. cc h) j

@@ -1,8 +1,8 @@
 -- The text of a pedigree by its parts between full stops.
-use Rattle.std.proofs.Common.{◌≡◌, ◌≢◌, ℕ, zero, suc, ◌+◌, ◌*◌, ◌-◌, ◌<◌, ◌≤◌, ◌^◌, ◌⊎◌, Bool, true, false, cond, ◌&&◌, ◌||◌, not, eqb, leb, ltb, Option, Some, None, List, [], ◌∷◌, ◌++◌, All, length, map, take, drop, get_or, refl, sym, ap, ◌∙◌, subst, inl, inr, arith, append_assoc, length-append}
+use Rattle.std.proofs.Common.{◌≡◌, ℕ, zero, suc, ◌+◌, ◌-◌, ◌<◌, ◌≤◌, ◌^◌, Bool, true, false, cond, ◌&&◌, ◌||◌, not, eqb, leb, ltb, Option, Some, None, List, [], ◌∷◌, ◌++◌, All, length, map, take, get_or, refl, sym, ap, ◌∙◌, subst, inl, inr, arith, append_assoc, length-append}
 use Rattle.std.specs.Prelude.{codes, decimal}
 use Rattle.std.specs.Char.{is_ascii_digit}
-use Rattle.std.specs.List.{onto_first, slice_split, take_while}
+use Rattle.std.specs.List.{onto_first, take_while}
 use Rattle.std.specs.Option.{option_or}
 use Rattle.std.specs.Str.{all_ascii_digits}
 use Rattle.std.specs.Str.Parse.{AllDigits, digits_value}
@@ -13,8 +13,8 @@ use Rattle.std.proofs.lemmas.Fmt.{decimal_digit, decimal_nonempty, digits_decima
 use Rattle.std.proofs.lemmas.List.{append-nil}
 use Rattle.std.proofs.lemmas.List.Splits.{slice_split-cons_no, slice_split-cons_yes, slice_split_at, slice_split_none}
 use Rattle.std.proofs.lemmas.List.Sums.{take_while-cons}
-use Rattle.std.proofs.lemmas.Str.Parse.{IsNumeralModel, digits_value-take-le, numerals_by_value, tells_digits}
-use Rattle.ped_path.specs.Parsing.{begins_with_digit, has_needless_zero, BeginsTooBig, IsBehindRanks, IsRankThen, IsRefused, LacksStop, StandsAt}
+use Rattle.std.proofs.lemmas.Str.Parse.{digits_value-take-le}
+use Rattle.ped_path.specs.Parsing.{begins_with_digit, has_needless_zero, BeginsTooBig, IsBehindRanks, IsRefused, LacksStop}
 use Rattle.ped_path.specs.Path.{IsRank}
 use Rattle.ped_path.specs.Text.{ped_text, stopped}
 use Rattle.ped_path.specs.declared.parse.PedTextError.{PedTextError}
@@ -149,11 +149,11 @@ rank_small r rank = omega arith
 
 rank_first : (r : ℕ) → IsRank r → (leb (length (decimal r)) 1 || not (eqb (get_or (decimal r) 0 0) 48)) ≡ true
 rank_first r rank = elim (cases_lt 0 r) [
-  inl some ↦ other (leb (length (decimal r)) 1) (get_or (decimal r) 0 0) (first_decimal r some (rank_small r rank))
+  | inl some ↦ other (leb (length (decimal r)) 1) (get_or (decimal r) 0 0) (first_decimal r some (rank_small r rank))
   | inr none ↦
-    let same : 0 ≡ r = omega arith in
-    subst (λ (n : ℕ). (leb (length (decimal n)) 1 || not (eqb (get_or (decimal n) 0 0) 48)) ≡ true) same
-        (ap (λ ds. leb (length ds) 1 || not (eqb (get_or ds 0 0) 48)) (decimal_digit 0 (omega arith)))
+      let same : 0 ≡ r = omega arith in
+      subst (λ (n : ℕ). (leb (length (decimal n)) 1 || not (eqb (get_or (decimal n) 0 0) 48)) ≡ true) same
+      (ap (λ ds. leb (length ds) 1 || not (eqb (get_or ds 0 0) 48)) (decimal_digit 0 (omega arith)))
 ]
   where
     other : (b : Bool) (first : ℕ) → 48 < first → (b || not (eqb first 48)) ≡ true
@@ -237,7 +237,7 @@ needless_zero_rule (c ∷ d ∷ ds) part zeros front =
     let both = and_both (eqb c 48) (is_ascii_digit d) zeros in
     let digit : is_ascii_digit c ≡ true = zero_digit c both.0 in
     let digits : take_while is_ascii_digit part ≡ c ∷ d ∷ take_while is_ascii_digit ds =
-      front ∙ front_digits c (d ∷ ds) true digit ∙ ap (λ t. c ∷ t) (front_digits d ds true both.1)
+    front ∙ front_digits c (d ∷ ds) true digit ∙ ap (λ t. c ∷ t) (front_digits d ds true both.1)
     in no_number part (c ∷ d ∷ take_while is_ascii_digit ds) digits (zeros_no_number (c ∷ d ∷ take_while is_ascii_digit ds) (two_long c d (take_while is_ascii_digit ds)) both.0)
   where
     zero_digit : (c : ℕ) → eqb c 48 ≡ true → is_ascii_digit c ≡ true
@@ -252,6 +252,7 @@ needed_first (c ∷ cs) needed =
     or_true : (b : Bool) → (b || true) ≡ true
     or_true true = refl
     or_true false = refl
+
     first_case : (b z : Bool) → eqb c 48 ≡ z → (z && begins_with_digit cs) ≡ false → (leb (length (cond b (c ∷ take_while is_ascii_digit cs) [])) 1 || not (eqb (get_or (cond b (c ∷ take_while is_ascii_digit cs) []) 0 0) 48)) ≡ true
     first_case false z is_zero needed = refl
     first_case true false is_zero needed = ap (λ t. leb (length (c ∷ take_while is_ascii_digit cs)) 1 || not t) is_zero ∙ or_true (leb (length (c ∷ take_while is_ascii_digit cs)) 1)
@@ -269,14 +270,14 @@ too_big_rule rest part b front =
     let whole : take_while is_ascii_digit rest ≡ b.digits ++ take_while is_ascii_digit b.behind = ap (take_while is_ascii_digit) b.split ∙ front_append b.digits b.behind (all_from b.digits b.numeral) in
     let seam : take (length b.digits) (take_while is_ascii_digit rest) ≡ b.digits = ap (take (length b.digits)) whole ∙ take-append_seam b.digits (take_while is_ascii_digit b.behind) in
     let less : digits_value 10 (take (length b.digits) (take_while is_ascii_digit rest)) ≤ digits_value 10 (take_while is_ascii_digit rest) =
-      digits_value-take-le 10 (take_while is_ascii_digit rest) (length b.digits) (omega arith)
+    digits_value-take-le 10 (take_while is_ascii_digit rest) (length b.digits) (omega arith)
     in
     let same = ap (digits_value 10) seam in
     let long = ap length whole ∙ length-append b.digits (take_while is_ascii_digit b.behind) in
     let some = big_some b.digits b.big in
     is_big part (take_while is_ascii_digit rest) front
-        (number_from (take_while is_ascii_digit rest) (omega (arith, long, some)) (front_all rest) (needed_first rest b.needed))
-        (omega (arith, less, same, b.big))
+    (number_from (take_while is_ascii_digit rest) (omega (arith, long, some)) (front_all rest) (needed_first rest b.needed))
+    (omega (arith, less, same, b.big))
 
 lacks_stop_rule : (start at : ℕ) (rest : List ℕ) → (l : LacksStop start at rest) → (part : List ℕ) × (parts : List (List ℕ)) × (ranks_in rest ≡ part ∷ parts) × (rank_rule part ≡ Some BadValue)
 lacks_stop_rule start at rest l =

@@ -1,5 +1,5 @@
 -- The first rule that is broken.
-use Rattle.std.proofs.Common.{◌≡◌, ℕ, zero, suc, ◌+◌, ◌<◌, ◌≤◌, Option, Some, None, refl, ap, sym, ◌∙◌, subst, arith, add-one, inl, inr}
+use Rattle.std.proofs.Common.{◌≡◌, ℕ, zero, suc, ◌+◌, ◌<◌, Option, Some, None, ap, sym, ◌∙◌, subst, arith, add-one, inl, inr}
 use Rattle.std.specs.Option.{option_or}
 use Rattle.std.proofs.lemmas.Bool.{cases_lt}
 use Rattle.ped_words.specs.Judging.{first_below}
@@ -22,10 +22,10 @@ pub first_at : (f : ℕ → Option WordError) (k n : ℕ) (e : WordError) → k 
 first_at f k zero e lt before here = absurd (omega arith)
 first_at f k (suc n) e lt before here =
     elim (cases_lt k n) [
-      inl below ↦ ap (λ b. option_or b (f n)) (first_at f k n e below before here)
+      | inl below ↦ ap (λ b. option_or b (f n)) (first_at f k n e below before here)
       | inr above ↦
-        let same : k ≡ n = omega arith in
-        subst (λ (i : ℕ). option_or (first_below f i) (f i) ≡ Some e) same (ap (λ b. option_or b (f k)) before ∙ here)
+          let same : k ≡ n = omega arith in
+          subst (λ (i : ℕ). option_or (first_below f i) (f i) ≡ Some e) same (ap (λ b. option_or b (f k)) before ∙ here)
     ]
 
 pub refused_first : (f : ℕ → Option WordError) (k n : ℕ) (e : WordError) → k < n → first_below f k ≡ None → IsRefusal (f k) e → IsRefusal (first_below f n) e

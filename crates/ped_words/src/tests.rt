@@ -21,11 +21,7 @@ fn command_of(alloc: Global, line: &str) -> Result<Command, Fail> {
     Ok(read_words(alloc, &words)?)
 }
 
-fn assert_refused(
-    rt: &impl Abort,
-    alloc: Global,
-    cases: &[(&str, u8, u32)],
-) -> Result<(), Fail> {
+fn assert_refused(rt: &impl Abort, alloc: Global, cases: &[(&str, u8, u32)]) -> Result<(), Fail> {
     for &(line, number, at) in cases {
         let words = words_of(alloc, line)?;
         let error = read_words(alloc, &words).err();

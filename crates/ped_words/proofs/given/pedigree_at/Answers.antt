@@ -1,4 +1,4 @@
-use Rattle.std.proofs.Common.{◌≡◌, sym, ◌∙◌, ap, rules}
+use Rattle.std.proofs.Common.{sym}
 use Rattle.ped_words.proofs.PedigreeLemmas.{ped_good, ped_refused}
 use Rattle.ped_words.proofs.RuleLemmas.{refused_by}
 use Rattle.ped_words.proofs.given.pedigree_at.Goals as goal

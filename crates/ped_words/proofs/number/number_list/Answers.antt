@@ -1,4 +1,4 @@
-use Rattle.std.proofs.Common.{◌≡◌, true, false, map, sym, ◌∙◌, ap, rules}
+use Rattle.std.proofs.Common.{rules}
 use Rattle.ped_words.specs.declared.rule.Rule.TheVariants.{BadValue, OutOfRange}
 use Rattle.ped_words.proofs.NumberLemmas.{form_broken, list_good, range_broken}
 use Rattle.ped_words.proofs.RuleLemmas.{refused_by}

@@ -1,4 +1,4 @@
-use Rattle.std.proofs.Common.{◌≡◌, ℕ, ◌+◌, ◌*◌, false, Option, Some, None, Result, Ok, Err, List, length, map, sym, ◌∙◌, ap, subst, refl, rules, arith, add-one}
+use Rattle.std.proofs.Common.{◌≡◌, ℕ, ◌+◌, ◌*◌, false, Some, None, Result, Ok, Err, List, length, map, sym, ◌∙◌, ap, refl, arith, add-one}
 use Rattle.std.specs.Prelude.{OnOk, IfErr, string_bytes}
 use Rattle.std.proofs.lemmas.List.{length-map}
 use Rattle.ped_words.specs.Judging.{broken_pair, broken_value, value_rule}
@@ -51,19 +51,19 @@ pub returns-in-Err-clause-err : goal.returns-in-Err-clause-err
 returns-in-Err-clause-err c =
     let words = map string_bytes c.args.words.now in
     let judged : broken_pair c.args.verb words c.args.pair ≡ broken_value words c.args.pair (Err c.in-Err.rule) = judged_pair
-      c.args.verb
-      words
-      c.args.pair
-      (length c.args.words.now)
-      (2 * c.args.pair + 1 + 1)
-      c.args.given.now
-      c.text_at.result.now
-      (Err c.in-Err.rule)
-      c.requires.values
-      c.text_at.ensures
-      (sym (length-map c.args.words.now string_bytes))
-      (omega arith)
-      c.in-Err.ensures.value
+    c.args.verb
+    words
+    c.args.pair
+    (length c.args.words.now)
+    (2 * c.args.pair + 1 + 1)
+    c.args.given.now
+    c.text_at.result.now
+    (Err c.in-Err.rule)
+    c.requires.values
+    c.text_at.ensures
+    (sym (length-map c.args.words.now string_bytes))
+    (omega arith)
+    c.in-Err.ensures.value
     in refused_as _ _ c.at.result judged (rw c.at.ensures refl)
 
 name_known : (c : goal.After-read) → Named c.args.verb (map string_bytes c.args.words.now) c.args.pair c.args.given.now c.in-Ok.name c.text_at-2.result.now (2 * c.args.pair + 1 + 1)
@@ -73,19 +73,19 @@ name_known c =
     record {
       values = c.requires.values;
       judged = judged_pair
-        c.args.verb
-        words
-        c.args.pair
-        (length c.args.words.now)
-        (2 * c.args.pair + 1 + 1)
-        c.args.given.now
-        c.text_at.result.now
-        (Ok c.in-Ok.name)
-        c.requires.values
-        c.text_at.ensures
-        (sym (length-map c.args.words.now string_bytes))
-        next
-        c.in-Ok.ensures.value;
+          c.args.verb
+          words
+          c.args.pair
+          (length c.args.words.now)
+          (2 * c.args.pair + 1 + 1)
+          c.args.given.now
+          c.text_at.result.now
+          (Ok c.in-Ok.name)
+          c.requires.values
+          c.text_at.ensures
+          (sym (length-map c.args.words.now string_bytes))
+          next
+          c.in-Ok.ensures.value;
       named = ap name_of (sym c.text_at.ensures) ∙ c.in-Ok.ensures.named;
       fresh = c.in-Ok.ensures.fresh;
       value = c.text_at-2.ensures ∙ ap (word_at words) next;
