@@ -16,5 +16,5 @@ reading_as None words = Err (breaks UnknownCommand 0)
 reading_as (Some verb) words = unless (first_broken verb words) (made verb (values_of words (pairs_in words)) (length words))
 
 -- Words that give a command break no rule, and others break one rule first: so a list of words has one reading.
-abbrev pub reading : List (List ℕ) → Result Command WordError
+unfoldable pub reading : List (List ℕ) → Result Command WordError
 reading words = if length words == 0 then Err (breaks NoCommand 0) else reading_as (verb_of (word_at words 0)) words

@@ -24,7 +24,7 @@ text_in [] number = []
 text_in (row ∷ rows) number = if number == row.0 then row.1 else text_in rows number
 
 -- what is said of the rule of this number; nothing where no rule has it
-abbrev pub rule_text : ℕ → List ℕ
+unfoldable pub rule_text : ℕ → List ℕ
 rule_text number =
     text_in
     ((1, codes "no command") ∷

@@ -17,6 +17,7 @@ use std::alloc::Global;
 /// The first word is the command. Behind it stand pairs of a word `--NAME` and a value, in any order, each name at most once. What
 /// only all words together can show is judged behind the last one: a missing option, coefficients beyond the depth, a size beyond
 /// the shape. Words that are a command are refused only for want of memory.
+#[tactic(auto, unfolding(crate::specs::Reading::reading))]
 pub fn read_words(alloc: Global, words: &[String]) -> Result<Command, WordError>
     ensures value { IsUnlessMemory (reading (map string_bytes words.now)) result }
     ensures lawful { IfOk result IsLawful }

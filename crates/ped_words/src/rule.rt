@@ -81,6 +81,7 @@ impl Rule {
 }
 
 /// What is said of the rule of this number. Nothing is said of a number that no rule has.
+#[tactic(auto, unfolding(crate::specs::Rules::rule_text))]
 pub fn rule_text(number: u8) -> &'static str
     ensures { result.now ≡ rule_text number }
 {
