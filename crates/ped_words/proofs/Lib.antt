@@ -1,0 +1,5 @@
+pub mod GammaLemmas
+pub mod NumberLemmas
+pub mod PedigreeLemmas
+pub mod RuleLemmas
+pub mod ValueLemmas

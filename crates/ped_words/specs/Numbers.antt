@@ -1,0 +1,38 @@
+-- Which words are numbers, and lists of numbers, in which range.
+use Rattle.std.specs.Prelude.{◌≡◌, ℕ, ◌^◌, Bool, true, false, ◌&&◌, ◌||◌, ◌==◌, not, nat_le, nat_lt, if◌then◌else◌, Option, Some, None, List, length, map, slice_index}
+use Rattle.std.specs.List.{list_all, slice_split}
+use Rattle.std.specs.Str.{all_ascii_digits}
+use Rattle.std.specs.Str.Parse.{digits_value}
+use Rattle.std.specs.Borrow.{Bor}
+use Rattle.ped_words.specs.declared.rule.Rule.{Rule}
+use Rattle.ped_words.specs.declared.rule.Rule.TheVariants.{BadValue, OutOfRange}
+
+-- `0`, or digits of which the first isn't `0`
+abbrev pub is_number : List ℕ → Bool
+is_number word = nat_lt 0 (length word) && (all_ascii_digits word && (nat_le (length word) 1 || not (slice_index word 0 == 48)))
+
+abbrev pub value_of : List ℕ → ℕ
+value_of word = digits_value 10 word
+
+-- the rule that a word breaks where a number of this range is due
+abbrev pub number_rule : ℕ → ℕ → List ℕ → Option Rule
+number_rule least most word = if is_number word then (if nat_le least (value_of word) && nat_le (value_of word) most then None else Some OutOfRange) else Some BadValue
+
+-- what stands between the commas of a word
+abbrev pub parts_of : List ℕ → List (List ℕ)
+parts_of word = slice_split (λ c. c == 44) word
+
+-- the rule that a word breaks where numbers joined by commas are due: the form of all is judged before the range of any
+abbrev pub list_rule : List ℕ → Option Rule
+list_rule word =
+    if list_all is_number (parts_of word)
+    then (if list_all (λ part. nat_lt (value_of part) (2 ^ 64)) (parts_of word) then None else Some OutOfRange)
+    else Some BadValue
+
+abbrev pub numbers_of : List ℕ → List ℕ
+numbers_of word = map value_of (parts_of word)
+
+-- These are the values of these words, of which there are none where one is above every `u64`.
+abbrev pub AreValues : List (Bor (List ℕ)) → Option (List ℕ) → Type 0
+AreValues words None = list_all (λ x. nat_lt (value_of x.now) (2 ^ 64)) words ≡ false
+AreValues words (Some values) = (list_all (λ x. nat_lt (value_of x.now) (2 ^ 64)) words ≡ true) × (values ≡ map (λ x. value_of x.now) words)

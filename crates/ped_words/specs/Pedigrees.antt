@@ -1,0 +1,32 @@
+-- Which words are pedigrees: ranks joined by full stops, judged from left to right.
+use Rattle.std.specs.Prelude.{ℕ, ◌-◌, ◌^◌, ◌==◌, nat_lt, if◌then◌else◌, Option, Some, None, List, [], ◌∷◌, length, map}
+use Rattle.std.specs.Char.{is_ascii_digit}
+use Rattle.std.specs.List.{slice_split, take_while}
+use Rattle.std.specs.Option.{option_or}
+use Rattle.ped_words.specs.Numbers.{is_number, value_of}
+use Rattle.ped_words.specs.declared.rule.Rule.{Rule}
+use Rattle.ped_words.specs.declared.rule.Rule.TheVariants.{BadValue, OutOfRange}
+
+-- what stands between the full stops of a word
+abbrev pub ranks_in : List ℕ → List (List ℕ)
+ranks_in word = slice_split (λ c. c == 46) word
+
+-- The digits in front are judged first: they are a number, and it is a rank. Then nothing else stands behind them.
+abbrev pub rank_rule : List ℕ → Option Rule
+rank_rule part =
+    let digits = take_while is_ascii_digit part in
+    if is_number digits
+    then (if nat_lt (value_of digits) (2 ^ 32) then (if length digits == length part then None else Some BadValue) else Some OutOfRange)
+    else Some BadValue
+
+-- the rule that the first of these ranks breaks which breaks one, where there is room for so many
+abbrev pub ranks_rule : List (List ℕ) → ℕ → Option Rule
+ranks_rule [] room = None
+ranks_rule (part ∷ parts) room = if room == 0 then Some OutOfRange else option_or (rank_rule part) (ranks_rule parts (room - 1))
+
+-- the rule that a word breaks where a pedigree's text is due
+unfoldable pub ped_rule : List ℕ → Option Rule
+ped_rule word = ranks_rule (ranks_in word) 256
+
+unfoldable pub ped_of : List ℕ → List ℕ
+ped_of word = map value_of (ranks_in word)

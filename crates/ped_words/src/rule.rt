@@ -1,0 +1,131 @@
+ghost use Rattle.std.specs.Prelude.{◌≡◌};
+ghost use Rattle.ped_words.specs.Rules.{number_of, rule_text, text_rule};
+
+use ped_path::PedTextError;
+use std::alloc::{AllocError, AllocFailed};
+
+/// The rules for words, by what breaks them.
+#[derive(Clone, Copy, Debug, PartialEq, Eq)]
+pub(crate) enum Rule {
+    NoCommand,
+    UnknownCommand,
+    UnknownOption,
+    OptionTwice,
+    MissingValue,
+    BadValue,
+    OutOfRange,
+    MissingOption,
+    StrayWord,
+}
+
+/// Why words are no command.
+#[derive(Clone, Copy, Debug, PartialEq, Eq)]
+pub enum WordError {
+    /// The first rule that is broken, and the index of the word that breaks it, from 0. [`rule_text`] says what the rule is.
+    ///
+    /// | Number | Rule | Word |
+    /// |---|---|---|
+    /// | 1 | no command | 0 |
+    /// | 2 | unknown command | 0 |
+    /// | 3 | unknown option | the name |
+    /// | 4 | option twice | the later name |
+    /// | 5 | missing value | the name |
+    /// | 6 | bad value | the value |
+    /// | 7 | out of range | the value |
+    /// | 8 | missing option | the number of words |
+    /// | 9 | stray word | the word |
+    Bad { number: u8, at: u32 },
+    /// There was no memory for the call.
+    Memory,
+}
+
+impl Rule {
+    fn number(self) -> u8
+        ensures { result ≡ number_of self }
+    {
+        match self {
+            Rule::NoCommand => 1,
+            Rule::UnknownCommand => 2,
+            Rule::UnknownOption => 3,
+            Rule::OptionTwice => 4,
+            Rule::MissingValue => 5,
+            Rule::BadValue => 6,
+            Rule::OutOfRange => 7,
+            Rule::MissingOption => 8,
+            Rule::StrayWord => 9,
+        }
+    }
+
+    /// This rule is broken at the word of this index.
+    pub(crate) fn at(self, at: u32) -> WordError
+        ensures { result ≡ WordError.Bad (number_of self) at }
+    {
+        WordError::Bad {
+            number: self.number(),
+            at,
+        }
+    }
+
+    /// The rule that a text breaks which is no pedigree's. There is none where there was no memory.
+    pub(crate) fn of_text(error: PedTextError) -> Option<Rule>
+        ensures { result ≡ text_rule error }
+    {
+        match error {
+            PedTextError::Empty | PedTextError::BadByte(_) | PedTextError::Zeros(_) => {
+                Some(Rule::BadValue)
+            }
+            PedTextError::TooBig(_) | PedTextError::TooLong => Some(Rule::OutOfRange),
+            PedTextError::Memory => None,
+        }
+    }
+}
+
+/// What is said of the rule of this number. Nothing is said of a number that no rule has.
+#[tactic(auto, unfolding(crate::specs::Rules::rule_text))]
+pub fn rule_text(number: u8) -> &'static str
+    ensures { result.now ≡ rule_text number }
+{
+    match number {
+        1 => "no command",
+        2 => "unknown command",
+        3 => "unknown option",
+        4 => "option twice",
+        5 => "missing value",
+        6 => "bad value",
+        7 => "out of range",
+        8 => "missing option",
+        9 => "stray word",
+        _ => "",
+    }
+}
+
+impl From<AllocError> for WordError {
+    ghost use Rattle.ped_words.specs.declared.rule.WordError.TheVariants as E;
+
+    ghost from_gives = { λ _ e. e ≡ E.Memory };
+
+    fn from(_: AllocError) -> Self {
+        WordError::Memory
+    }
+}
+
+/// The value that found no room is dropped.
+impl<T: Drop> From<AllocFailed<T>> for WordError {
+    ghost use Rattle.ped_words.specs.declared.rule.WordError.TheVariants as E;
+
+    ghost from_gives = { λ _ e. e ≡ E.Memory };
+
+    fn from(_: AllocFailed<T>) -> Self {
+        WordError::Memory
+    }
+}
+
+impl From<dotmix::Memory> for WordError {
+    ghost use Rattle.ped_words.specs.declared.rule.WordError.TheVariants as E;
+
+    ghost from_gives = { λ _ e. e ≡ E.Memory };
+
+    fn from(_: dotmix::Memory) -> Self {
+        WordError::Memory
+    }
+}

@@ -1,0 +1,299 @@
+use crate::{Command, Settings, WordError, read_words, rule_text};
+use ped_gen::Shape;
+use serial_meaning::Show;
+use std::alloc::Global;
+use std::process::Abort;
+use std::test::Fail;
+
+// Words stand between single blanks, so two blanks have an empty word between them.
+fn words_of(alloc: Global, line: &str) -> Result<Vec<String>, Fail> {
+    let mut words = Vec::new(alloc);
+    if !line.is_empty() {
+        for word in line.split(' ') {
+            words.push(String::from_str(alloc, word)?)?;
+        }
+    }
+    Ok(words)
+}
+
+fn command_of(alloc: Global, line: &str) -> Result<Command, Fail> {
+    let words = words_of(alloc, line)?;
+    Ok(read_words(alloc, &words)?)
+}
+
+fn assert_refused(rt: &impl Abort, alloc: Global, cases: &[(&str, u8, u32)]) -> Result<(), Fail> {
+    for &(line, number, at) in cases {
+        let words = words_of(alloc, line)?;
+        let error = read_words(alloc, &words).err();
+        assert_eq!(rt; error, Some(WordError::Bad { number, at }), "{line}");
+    }
+    Ok(())
+}
+
+#[test]
+fn names_are_judged_in_order(rt: HostRuntime) -> Result<(), Fail> {
+    let cases = [
+        ("", 1, 0),
+        ("go", 2, 0),
+        (" run", 2, 0),
+        ("Run x", 2, 0),
+        ("--seed 1", 2, 0),
+        ("run --at 1", 3, 1),
+        ("run --sed", 3, 1),
+        ("run --", 3, 1),
+        ("serial --workers 1", 3, 1),
+        ("hash --depth 1", 3, 1),
+        ("gen --seed 1", 3, 1),
+        ("fmt --seed", 3, 1),
+        ("replay --at 0 --show log", 3, 3),
+        ("run --seed 1 --seed 2", 4, 3),
+        ("run --seed 1 --seed", 4, 3),
+        ("run --seed 1 --gamma", 4, 3),
+        ("run --gamma 1 --seed x", 4, 3),
+        ("sim --number 1 --depth 2 --number x", 4, 5),
+        ("run --seed", 5, 1),
+        ("run --depth 1 --show", 5, 3),
+        ("check x", 9, 1),
+        ("run -seed", 9, 1),
+        ("run --depth 1 x --depth", 9, 3),
+        ("run ", 9, 1),
+    ];
+    assert_refused(&rt, rt.alloc(), &cases)
+}
+
+#[test]
+fn values_are_judged_by_form_and_then_by_range(rt: HostRuntime) -> Result<(), Fail> {
+    let cases = [
+        ("run --seed ", 6, 2),
+        ("run --seed 01", 6, 2),
+        ("run --seed +1", 6, 2),
+        ("run --seed ١", 6, 2),
+        ("run --seed 18446744073709551616", 7, 2),
+        ("run --seed 1x8446744073709551616", 6, 2),
+        ("run --depth 0", 7, 2),
+        ("run --depth 00", 6, 2),
+        ("run --depth 257", 7, 2),
+        ("run --budget 0", 7, 2),
+        ("run --budget 4294967296", 7, 2),
+        ("run --workers 0", 7, 2),
+        ("run --workers 65", 7, 2),
+        ("run --workers 0 --depth x", 7, 2),
+        ("run --seed 1 --workers 0", 7, 4),
+        ("run --show all", 6, 2),
+        ("run --show Plain", 6, 2),
+        ("run --gamma 1,", 6, 2),
+        ("run --gamma ,", 6, 2),
+        ("run --gamma 1,02", 6, 2),
+        ("run --gamma 18446744073709551616,x", 6, 2),
+        ("run --gamma 1,18446744073709551616 x", 7, 2),
+        ("sim --number 18446744073709551616", 7, 2),
+        ("replay --at 01", 6, 2),
+        ("replay --at ", 6, 2),
+        ("replay --at 1.", 6, 2),
+        ("replay --at 1,2", 6, 2),
+        ("replay --at 4294967296", 7, 2),
+        ("replay --at 4294967296x", 7, 2),
+        ("replay --at 4294967296.01", 7, 2),
+        ("replay --at 01.4294967296", 6, 2),
+        ("gen --shape ring", 6, 2),
+        ("gen --size x --shape ring", 6, 2),
+    ];
+    assert_refused(&rt, rt.alloc(), &cases)
+}
+
+#[test]
+fn what_all_words_show_is_judged_last(rt: HostRuntime) -> Result<(), Fail> {
+    let cases = [
+        ("hash", 8, 1),
+        ("sim", 8, 1),
+        ("replay --seed 1", 8, 3),
+        ("sim --gamma 18446744073709551557", 8, 3),
+        ("gen --shape fib", 8, 3),
+        ("gen --size 31", 8, 3),
+        ("run --gamma 1,2 --depth 1", 7, 2),
+        ("run --depth 1 --gamma 1,2", 7, 4),
+        ("run --gamma 1,2 --depth 1 x", 9, 5),
+        ("run --gamma 18446744073709551557", 7, 2),
+        ("hash --at 0 --gamma 18446744073709551557", 7, 4),
+        ("gen --size 31 --shape fib", 7, 2),
+        ("gen --shape tree --size 21", 7, 4),
+        ("gen --shape loop --size 0", 7, 4),
+        ("gen --shape loop --size 4097", 7, 4),
+    ];
+    assert_refused(&rt, rt.alloc(), &cases)
+}
+
+// 256 ranks are a pedigree, and 257 are too many.
+#[test]
+fn pedigrees_have_at_most_256_ranks(rt: HostRuntime) -> Result<(), Fail> {
+    let alloc = rt.alloc();
+    let mut line = String::from_str(alloc, "hash --at 0")?;
+    for _ in 0..255 {
+        line.push_str(".7")?;
+    }
+    match command_of(alloc, line.as_str())? {
+        Command::Hash { at, .. } => assert_eq!(rt; at.len(), 256),
+        _other => assert!(rt; false, "not hash"),
+    }
+    line.push_str(".7")?;
+    assert_refused(&rt, alloc, &[(line.as_str(), 7, 2)])
+}
+
+// Words behind the first fault are of no account, however many there are.
+#[test]
+fn words_may_be_many(rt: HostRuntime) -> Result<(), Fail> {
+    let alloc = rt.alloc();
+    let mut line = String::from_str(alloc, "run --depth 1")?;
+    for _ in 0..100 {
+        line.push_str(" --depth 2")?;
+    }
+    assert_refused(&rt, alloc, &[(line.as_str(), 4, 3)])
+}
+
+fn assert_settings(
+    rt: &impl Abort,
+    settings: &Settings,
+    limits: (u32, u32),
+    show: Show,
+    coefficients: &[u64],
+) {
+    assert_eq!(rt; settings.limits.depth, limits.0);
+    assert_eq!(rt; settings.limits.budget, limits.1);
+    assert!(rt; settings.show == show);
+    assert_eq!(rt; settings.gamma.len(), limits.0);
+    for (i, coefficient) in (1u32..=256).zip(coefficients) {
+        assert!(rt; 0 < i && i <= settings.gamma.len());
+        assert_eq!(rt; settings.gamma.coeff(i), *coefficient);
+    }
+}
+
+#[test]
+fn options_have_defaults(rt: HostRuntime) -> Result<(), Fail> {
+    let seeded = [16_294_208_416_658_607_535, 7_960_286_522_194_355_700];
+    match command_of(rt.alloc(), "run")? {
+        Command::Run { settings, workers } => {
+            assert_eq!(rt; workers, 4);
+            assert_settings(&rt, &settings, (256, 1_000_000), Show::Plain, &seeded);
+        }
+        _other => assert!(rt; false, "not run"),
+    }
+    Ok(())
+}
+
+#[test]
+fn a_strand_is_replayed(rt: HostRuntime) -> Result<(), Fail> {
+    match command_of(rt.alloc(), "replay --at 1.0.4294967295 --gamma 7 --depth 2")? {
+        Command::Replay { settings, at } => {
+            assert_settings(&rt, &settings, (2, 1_000_000), Show::Plain, &[7, 0]);
+            assert_eq!(rt; at.rank_at(0), Some(1));
+            assert_eq!(rt; at.rank_at(1), Some(0));
+            assert_eq!(rt; at.rank_at(2), Some(4_294_967_295));
+            assert_eq!(rt; at.len(), 3);
+        }
+        _other => assert!(rt; false, "not replay"),
+    }
+    Ok(())
+}
+
+#[test]
+fn a_hash_has_256_coefficients(rt: HostRuntime) -> Result<(), Fail> {
+    match command_of(rt.alloc(), "hash --gamma 5 --at 0")? {
+        Command::Hash { gamma, at } => {
+            assert_eq!(rt; gamma.len(), 256);
+            assert_eq!(rt; gamma.coeff(1), 5);
+            assert_eq!(rt; gamma.coeff(256), 0);
+            assert_eq!(rt; at.rank_at(0), Some(0));
+            assert_eq!(rt; at.len(), 1);
+        }
+        _other => assert!(rt; false, "not hash"),
+    }
+    Ok(())
+}
+
+#[test]
+fn some_commands_have_no_options(rt: HostRuntime) -> Result<(), Fail> {
+    let checked = command_of(rt.alloc(), "check")?;
+    assert!(rt; matches!(&checked, Command::Check));
+    let printed = command_of(rt.alloc(), "fmt")?;
+    assert!(rt; matches!(&printed, Command::Fmt));
+    Ok(())
+}
+
+#[test]
+fn options_may_stand_in_any_order(rt: HostRuntime) -> Result<(), Fail> {
+    let line = "sim --show log --number 7 --gamma 5,6 --depth 3 --workers 64 --budget 9";
+    match command_of(rt.alloc(), line)? {
+        Command::Sim {
+            settings,
+            workers,
+            number,
+        } => {
+            assert_eq!(rt; workers, 64);
+            assert_eq!(rt; number, 7);
+            assert_settings(&rt, &settings, (3, 9), Show::Log, &[5, 6, 0]);
+        }
+        _other => assert!(rt; false, "not sim"),
+    }
+    Ok(())
+}
+
+#[test]
+fn ranges_have_their_ends(rt: HostRuntime) -> Result<(), Fail> {
+    let line = "run --workers 1 --budget 4294967295 --seed 1234567 --depth 1 --show plain";
+    match command_of(rt.alloc(), line)? {
+        Command::Run { settings, workers } => {
+            assert_eq!(rt; workers, 1);
+            let first = [6_457_827_717_110_365_317];
+            assert_settings(&rt, &settings, (1, 4_294_967_295), Show::Plain, &first);
+        }
+        _other => assert!(rt; false, "not run"),
+    }
+    Ok(())
+}
+
+#[test]
+fn the_greatest_coefficient_is_below_the_prime(rt: HostRuntime) -> Result<(), Fail> {
+    let line = "serial --budget 1 --gamma 18446744073709551556";
+    match command_of(rt.alloc(), line)? {
+        Command::Serial { settings } => {
+            let list = [18_446_744_073_709_551_556, 0];
+            assert_settings(&rt, &settings, (256, 1), Show::Plain, &list);
+        }
+        _other => assert!(rt; false, "not serial"),
+    }
+    Ok(())
+}
+
+#[test]
+fn a_size_fits_its_shape(rt: HostRuntime) -> Result<(), Fail> {
+    for line in ["gen --size 20 --shape tree", "gen --shape tree --size 20"] {
+        match command_of(rt.alloc(), line)? {
+            Command::Gen { shape, size } => {
+                assert!(rt; shape == Shape::Tree);
+                assert_eq!(rt; size, 20);
+            }
+            _other => assert!(rt; false, "not gen"),
+        }
+    }
+    Ok(())
+}
+
+#[test]
+fn rules_have_texts(rt: HostRuntime) {
+    let texts = [
+        "",
+        "no command",
+        "unknown command",
+        "unknown option",
+        "option twice",
+        "missing value",
+        "bad value",
+        "out of range",
+        "missing option",
+        "stray word",
+        "",
+    ];
+    for (number, text) in (0u8..).zip(texts) {
+        assert!(rt; rule_text(number) == text, "{number}");
+    }
+}
