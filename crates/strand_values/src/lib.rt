@@ -1,0 +1,21 @@
+//! The variables of an activation, and the values of expressions in it.
+//!
+//! What an expression gives and what a statement writes is defined in `serial_meaning`; the contracts here are its words.
+#![tactic(auto)]
+
+mod arithmetic;
+mod environment;
+mod halt;
+mod memory;
+mod scalar;
+mod slots;
+#[cfg(test)]
+mod tests;
+mod value;
+mod variables;
+
+pub use arithmetic::{count, iterations};
+pub use environment::Environment;
+pub use halt::Halt;
+pub use memory::Memory;
+pub use scalar::{is_true, number};
