@@ -1,5 +1,5 @@
 -- The place of a variable, and what stands there.
-use Rattle.std.proofs.Common.{◌≡◌, ℕ, zero, suc, ◌+◌, ◌<◌, ◌≤◌, Bool, true, false, not, cond, List, [], ◌∷◌, ◌++◌, Option, Some, None, length, get_or, slice_set, refl, sym, ap, ◌∙◌, arith, if◌then◌else◌, nat_lt, position}
+use Rattle.std.proofs.Common.{◌≡◌, ℕ, zero, suc, ◌+◌, ◌<◌, ◌≤◌, Bool, true, false, not, cond, List, [], ◌∷◌, ◌++◌, Option, Some, None, IsNone, Result, Ok, Err, OnErr, length, get_or, slice_set, refl, sym, subst, ap, ◌∙◌, arith, if◌then◌else◌, nat_lt, position}
 use Rattle.std.specs.List.{position_or_len}
 use Rattle.std.specs.Str.{bytes_eq}
 use Rattle.std.proofs.lemmas.List.Quantifiers.{position-Some}
@@ -72,3 +72,11 @@ set_missing vs name slot e = set_last vs name slot (ltb-false _ _ (none_of _ _ e
 
 pub slot_missing : (vs : List Variable) (name : List ℕ) → position (λ v. bytes_eq v.name name) vs ≡ None → slot_of vs name ≡ None
 slot_missing vs name e = slot_none vs name (ltb-false _ _ (none_of _ _ e))
+
+pub not_there : (s : Option Slot) → s ≡ None → IsNone s
+not_there s e = let P : Option Slot → Type 0 = λ t. IsNone t in subst P (sym e) refl
+
+-- what holds anyway, said of an answer
+pub on_err : {A E : Type 0} (r : Result A E) (P : Type 0) → P → OnErr r P
+on_err (Ok a) P p = tt
+on_err (Err e) P p = p

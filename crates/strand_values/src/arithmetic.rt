@@ -21,15 +21,19 @@ pub(crate) fn product(sign: ProductSign, x: i64, y: i64) -> Result<Value, FaultK
 pub(crate) fn sum(minus: bool, x: i64, y: i64) -> Value
     ensures { added minus x y ≡ Ok result }
 {
-    Value::Int(if minus { x.wrapping_sub(y) } else { x.wrapping_add(y) })
+    Value::Int(if minus {
+        x.wrapping_sub(y)
+    } else {
+        x.wrapping_add(y)
+    })
 }
 
 pub(crate) fn compare(how: Comparison, x: i64, y: i64) -> bool
     ensures { result ≡ compared how x y }
 {
     match how {
-        Comparison::Eq => x <= y && y <= x,
-        Comparison::Ne => !(x <= y && y <= x),
+        Comparison::Eq => x == y,
+        Comparison::Ne => x != y,
         Comparison::Lt => x < y,
         Comparison::Le => x <= y,
         Comparison::Gt => x > y,

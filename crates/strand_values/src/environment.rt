@@ -1,9 +1,10 @@
-ghost use Rattle.std.specs.Prelude.{◌≡◌, IfOk, OnOk, OnErr, IsSome, IsNone, IsTrue, Some};
+ghost use Rattle.std.specs.Prelude.{◌≡◌, IfOk, OnOk, OnErr, IsSome, IsNone};
 ghost use Rattle.std.specs.Option.{option_copied};
 ghost use Rattle.serial_meaning.specs.declared.environment.Slot.TheVariants.{Scalar, Array};
 ghost use Rattle.serial_meaning.specs.Values.{value_of, values_of, slot_of, items_of, at_index};
 ghost use Rattle.serial_meaning.specs.Exec.{bound, with_slot, zeros, set_item, has_room, filled};
 ghost use Rattle.strand_values.specs.Gives.{Gives};
+ghost use Rattle.strand_values.specs.Targets.{IsUnknown};
 
 use crate::halt::Halt;
 use crate::memory::Memory;
@@ -36,7 +37,7 @@ impl Environment {
     pub fn bound(alloc: Global, params: &[Param], args: Items<Value>) -> Result<Environment, Memory>
         ensures { IfOk result (λ env. env ≡ bound params.now args) }
     {
-        let mut variables = Vec::new(alloc);
+        let mut variables = Vec::with_capacity(alloc, params.len())?;
         let mut values = args.0.into_iter();
         for param in params {
             let Some(value) = values.next() else { break };
@@ -68,10 +69,11 @@ impl Environment {
         item(&self.variables, name.bytes.as_slice(), index)
     }
 
-    /// Gives a scalar a value. A name that wasn't there stands at the end. Without memory nothing changes.
+    /// Gives a scalar a value. A name that wasn't there stands at the end, and only then it needs memory. Without memory nothing
+    /// changes.
     pub fn set_scalar(&mut self, alloc: Global, name: &Name, value: Value) -> Result<(), Memory>
         ensures ok { OnOk result (self.new ≡ with_slot self.old name.now.bytes (Scalar value)) }
-        ensures err { OnErr result (self.new ≡ self.old) }
+        ensures err { OnErr result ((self.new ≡ self.old) × IsNone (slot_of self.old name.now.bytes)) }
     {
         self.set(alloc, name.bytes.as_slice(), Slot::Scalar(value))
     }
@@ -108,9 +110,14 @@ impl Environment {
 
     /// Writes a loop's values over the first items of its target, if there is one. It needs memory only where there is no variable
     /// of that name, which is then made an array of no items. Without memory nothing changes.
-    pub fn fill(&mut self, alloc: Global, target: Option<&Name>, values: &[Value]) -> Result<(), Memory>
+    pub fn fill(
+        &mut self,
+        alloc: Global,
+        target: Option<&Name>,
+        values: &[Value],
+    ) -> Result<(), Memory>
         ensures ok { OnOk result (self.new ≡ filled (option_copied target.entry) values.now self.old) }
-        ensures err { OnErr result (self.new ≡ self.old) }
+        ensures err { OnErr result ((self.new ≡ self.old) × IsUnknown (option_copied target.entry) self.old) }
     {
         let Some(name) = target else { return Ok(()) };
         match place(&self.variables, name.bytes.as_slice()) {
@@ -127,7 +134,7 @@ impl Environment {
 
     fn set(&mut self, alloc: Global, name: &[u8], slot: Slot) -> Result<(), Memory>
         ensures ok { OnOk result (self.new ≡ with_slot self.old name.now slot) }
-        ensures err { OnErr result (self.new ≡ self.old) }
+        ensures err { OnErr result ((self.new ≡ self.old) × IsNone (slot_of self.old name.now)) }
     {
         match place(&self.variables, name) {
             Some(i) => {

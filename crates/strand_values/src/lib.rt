@@ -19,3 +19,10 @@ pub use environment::Environment;
 pub use halt::Halt;
 pub use memory::Memory;
 pub use scalar::{is_true, number};
+
+fn is_shared<T: Send + Sync>() {}
+
+/// An environment may be sent to other threads. The body asks for it, so that a field which forbids it fails the build.
+pub fn all_are_shared() {
+    is_shared::<Environment>();
+}

@@ -65,7 +65,11 @@ fn object(alloc: Global, rank: u32) -> Result<Value, Fail> {
 
 /// An Int `n` of 7, the objects `early` and `late`, and an array `a` of three zeros.
 fn environment(alloc: Global) -> Result<Environment, Fail> {
-    let params = vec![in alloc; param(alloc, Kind::Int, "n")?, param(alloc, Kind::Id, "early")?, param(alloc, Kind::Id, "late")?]?;
+    let params = vec![in alloc;
+        param(alloc, Kind::Int, "n")?,
+        param(alloc, Kind::Id, "early")?,
+        param(alloc, Kind::Id, "late")?,
+    ]?;
     let args = vec![in alloc; Value::Int(7), object(alloc, 2)?, object(alloc, 5)?]?;
     let mut environment = Environment::bound(alloc, &params, Items(args))?;
     environment.set_array(alloc, &name(alloc, "a")?, 3)?;
@@ -82,6 +86,7 @@ fn told(environment: &Environment, e: &Expr) -> Result<Result<i64, FaultKind>, F
 }
 
 const LEAST: i64 = i64::MIN;
+
 const GREATEST: i64 = i64::MAX;
 
 #[test]
@@ -162,7 +167,16 @@ fn chains_go_from_the_left(rt: HostRuntime) -> Result<(), Fail> {
     let environment = environment(alloc)?;
 
     // `n - 3 - 4`
-    let parts = vec![in alloc; SumPart { minus: true, operand: int(3) }, SumPart { minus: true, operand: int(4) }]?;
+    let parts = vec![in alloc;
+        SumPart {
+            minus: true,
+            operand: int(3)
+        },
+        SumPart {
+            minus: true,
+            operand: int(4)
+        },
+    ]?;
     let e = Expr::Sum(boxed(alloc, variable(alloc, "n")?)?, Items(parts));
     assert_eq!(rt; told(&environment, &e)?, Ok(0));
 
@@ -175,11 +189,19 @@ fn chains_go_from_the_left(rt: HostRuntime) -> Result<(), Fail> {
         sign: ProductSign::Times,
         operand: item_of_a(alloc, 9)?,
     };
-    let e = Expr::Product(boxed(alloc, int(1))?, Items(vec![in alloc; quotient, factor]?));
+    let e = Expr::Product(
+        boxed(alloc, int(1))?,
+        Items(vec![in alloc; quotient, factor]?),
+    );
     assert_eq!(rt; told(&environment, &e)?, Err(FaultKind::Divide));
 
     // `a[9] * (1 / 0)`, `1 / 0 == a[9]` and `a[9] + 1 / 0`
-    let e = product(alloc, item_of_a(alloc, 9)?, ProductSign::Times, divided(alloc)?)?;
+    let e = product(
+        alloc,
+        item_of_a(alloc, 9)?,
+        ProductSign::Times,
+        divided(alloc)?,
+    )?;
     assert_eq!(rt; told(&environment, &e)?, Err(FaultKind::Index));
     let left = boxed(alloc, divided(alloc)?)?;
     let e = Expr::Compare(left, Comparison::Eq, boxed(alloc, item_of_a(alloc, 9)?)?);
@@ -225,7 +247,11 @@ fn items_are_read_and_written_within_the_array(rt: HostRuntime) -> Result<(), Fa
     ];
     for (i, expected) in rows {
         assert_eq!(rt; environment.item(&a, i), expected.ok());
-        assert_eq!(rt; told(&environment, &item_of_a(alloc, i)?)?, expected, "item {i}");
+        assert_eq!(rt;
+            told(&environment, &item_of_a(alloc, i)?)?,
+            expected,
+            "item {i}"
+        );
     }
     assert!(rt; environment.has_room(None, 4));
     assert!(rt; environment.has_room(Some(&a), 3));
@@ -249,7 +275,10 @@ fn scalars_are_set_by_name(rt: HostRuntime) -> Result<(), Fail> {
     let numbers: Vec<i64> = values.as_slice().iter().map(number).collect(alloc)?;
     assert_eq!(rt; numbers.as_slice(), [8, 1, 3].as_slice());
     let args = vec![in alloc; item_of_a(alloc, 9)?, divided(alloc)?]?;
-    assert_eq!(rt; environment.values(alloc, &args).err(), Some(Halt::Fault(FaultKind::Index)));
+    assert_eq!(rt;
+        environment.values(alloc, &args).err(),
+        Some(Halt::Fault(FaultKind::Index))
+    );
     Ok(())
 }
 

@@ -81,7 +81,11 @@ fn multiply_rest(variables: &[Variable], first: Value, rest: &[ProductPart]) -> 
 }
 
 /// The values of arguments, from left to right.
-pub(crate) fn values(alloc: Global, variables: &[Variable], args: &[Expr]) -> Result<Items<Value>, Halt>
+pub(crate) fn values(
+    alloc: Global,
+    variables: &[Variable],
+    args: &[Expr],
+) -> Result<Items<Value>, Halt>
     ensures { Gives result (values_of args.now variables.now) }
 {
     let mut values = Vec::with_capacity(alloc, args.len())?;

@@ -13,8 +13,8 @@ returns-in-Some-place-clause-ok c =
     let e = set_found c.in-Some-place.i c.self.inside.variables.items c.in-Some.name.now.bytes c.fill_slot.new.slot c.index_mut.result.now there c.index_mut.ensures.value in
     let found = ap (λ (vs : Env). slot_of vs c.in-Some.name.now.bytes) (sym c.self.view_is) ∙ f in
     rw c.in-Some.is
-        (e ∙ ap (λ (vs : Env). with_slot vs c.in-Some.name.now.bytes c.fill_slot.new.slot) c.self.view_is
-            ∙ ap (λ slot. with_slot c.args.self.now c.in-Some.name.now.bytes slot) (c.fill_slot.ensures ∙ ap (λ s. Array (with_front (items_of s) c.args.values.now)) (sym found)))
+    (e ∙ ap (λ (vs : Env). with_slot vs c.in-Some.name.now.bytes c.fill_slot.new.slot) c.self.view_is
+    ∙ ap (λ slot. with_slot c.args.self.now c.in-Some.name.now.bytes slot) (c.fill_slot.ensures ∙ ap (λ s. Array (with_front (items_of s) c.args.values.now)) (sym found)))
 
 pub returns-in-None-clause-ok : goal.returns-in-None-clause-ok
 returns-in-None-clause-ok c =

@@ -28,4 +28,4 @@ returns c =
     let fits : SFits w64 c.number.result = search rules in
     let r = rw (to_z-of_z w64 c.args.index c.ranges.index, to_z-of_z w64 c.number.result fits, c.number.ensures) at c.set_at.ensures in
     e ∙ ap (λ (vs : Env). with_slot vs c.args.name.now.bytes c.set_at.new.slot) c.self.view_is
-        ∙ ap (λ slot. with_slot c.args.self.now c.args.name.now.bytes slot) (r ∙ slot_stored _ _ c.args.index c.args.value.now found c.requires)
+    ∙ ap (λ slot. with_slot c.args.self.now c.args.name.now.bytes slot) (r ∙ slot_stored _ _ c.args.index c.args.value.now found c.requires)
