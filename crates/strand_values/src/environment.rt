@@ -108,8 +108,8 @@ impl Environment {
         }
     }
 
-    /// Writes a loop's values over the first items of its target, if there is one. It needs memory only where there is no variable
-    /// of that name, which is then made an array of no items. Without memory nothing changes.
+    /// Writes a loop's values over the first items of its target, if there is one. What is no array becomes one of no items, and
+    /// only a name that wasn't there needs memory for that. Without memory nothing changes.
     pub fn fill(
         &mut self,
         alloc: Global,
