@@ -28,6 +28,10 @@ fn boxed(alloc: Global, e: Expr) -> Result<Boxed<Expr>, Fail> {
     Ok(Boxed(Box::new(alloc, e)?))
 }
 
+fn named(alloc: Global, text: &str) -> Result<Boxed<Expr>, Fail> {
+    boxed(alloc, variable(alloc, text)?)
+}
+
 /// The item `a[i]`.
 fn item_of_a(alloc: Global, i: i64) -> Result<Expr, Fail> {
     Ok(Expr::Item(name(alloc, "a")?, boxed(alloc, int(i))?))
@@ -65,12 +69,14 @@ fn object(alloc: Global, rank: u32) -> Result<Value, Fail> {
 
 /// An Int `n` of 7, the objects `early` and `late`, and an array `a` of three zeros.
 fn environment(alloc: Global) -> Result<Environment, Fail> {
-    let params = vec![in alloc;
-        param(alloc, Kind::Int, "n")?,
-        param(alloc, Kind::Id, "early")?,
-        param(alloc, Kind::Id, "late")?,
-    ]?;
-    let args = vec![in alloc; Value::Int(7), object(alloc, 2)?, object(alloc, 5)?]?;
+    let mut params = Vec::new(alloc);
+    params.push(param(alloc, Kind::Int, "n")?)?;
+    params.push(param(alloc, Kind::Id, "early")?)?;
+    params.push(param(alloc, Kind::Id, "late")?)?;
+    let mut args = Vec::new(alloc);
+    args.push(Value::Int(7))?;
+    args.push(object(alloc, 2)?)?;
+    args.push(object(alloc, 5)?)?;
     let mut environment = Environment::bound(alloc, &params, Items(args))?;
     environment.set_array(alloc, &name(alloc, "a")?, 3)?;
     Ok(environment)
@@ -162,25 +168,28 @@ fn comparisons_are_1_or_0(rt: HostRuntime) -> Result<(), Fail> {
 }
 
 #[test]
-fn chains_go_from_the_left(rt: HostRuntime) -> Result<(), Fail> {
+fn differences_go_from_the_left(rt: HostRuntime) -> Result<(), Fail> {
     let alloc = rt.alloc();
     let environment = environment(alloc)?;
-
-    // `n - 3 - 4`
-    let parts = vec![in alloc;
-        SumPart {
-            minus: true,
-            operand: int(3)
-        },
-        SumPart {
-            minus: true,
-            operand: int(4)
-        },
-    ]?;
-    let e = Expr::Sum(boxed(alloc, variable(alloc, "n")?)?, Items(parts));
+    let three = SumPart {
+        minus: true,
+        operand: int(3),
+    };
+    let four = SumPart {
+        minus: true,
+        operand: int(4),
+    };
+    let parts = vec![in alloc; three, four]?;
+    let e = Expr::Sum(named(alloc, "n")?, Items(parts));
     assert_eq!(rt; told(&environment, &e)?, Ok(0));
+    Ok(())
+}
 
-    // `1 / 0 * a[9]`
+// In `1 / 0 * a[9]` the quotient is taken before the index is looked at.
+#[test]
+fn an_operation_is_done_before_the_next_operand(rt: HostRuntime) -> Result<(), Fail> {
+    let alloc = rt.alloc();
+    let environment = environment(alloc)?;
     let quotient = ProductPart {
         sign: ProductSign::Over,
         operand: int(0),
@@ -189,13 +198,16 @@ fn chains_go_from_the_left(rt: HostRuntime) -> Result<(), Fail> {
         sign: ProductSign::Times,
         operand: item_of_a(alloc, 9)?,
     };
-    let e = Expr::Product(
-        boxed(alloc, int(1))?,
-        Items(vec![in alloc; quotient, factor]?),
-    );
+    let parts = vec![in alloc; quotient, factor]?;
+    let e = Expr::Product(boxed(alloc, int(1))?, Items(parts));
     assert_eq!(rt; told(&environment, &e)?, Err(FaultKind::Divide));
+    Ok(())
+}
 
-    // `a[9] * (1 / 0)`, `1 / 0 == a[9]` and `a[9] + 1 / 0`
+#[test]
+fn the_left_operand_faults_first(rt: HostRuntime) -> Result<(), Fail> {
+    let alloc = rt.alloc();
+    let environment = environment(alloc)?;
     let e = product(
         alloc,
         item_of_a(alloc, 9)?,
@@ -206,8 +218,6 @@ fn chains_go_from_the_left(rt: HostRuntime) -> Result<(), Fail> {
     let left = boxed(alloc, divided(alloc)?)?;
     let e = Expr::Compare(left, Comparison::Eq, boxed(alloc, item_of_a(alloc, 9)?)?);
     assert_eq!(rt; told(&environment, &e)?, Err(FaultKind::Divide));
-    let e = sum(alloc, item_of_a(alloc, 9)?, false, divided(alloc)?)?;
-    assert_eq!(rt; told(&environment, &e)?, Err(FaultKind::Index));
     Ok(())
 }
 
@@ -221,11 +231,9 @@ fn ids_are_told_apart_by_their_pedigrees(rt: HostRuntime) -> Result<(), Fail> {
         ("late", "early", 0, 0),
     ];
     for (left, right, same, older) in rows {
-        let (x, y) = (variable(alloc, left)?, variable(alloc, right)?);
-        let e = Expr::Same(0, boxed(alloc, x)?, boxed(alloc, y)?);
+        let e = Expr::Same(0, named(alloc, left)?, named(alloc, right)?);
         assert_eq!(rt; told(&environment, &e)?, Ok(same), "same {left} {right}");
-        let (x, y) = (variable(alloc, left)?, variable(alloc, right)?);
-        let e = Expr::Older(0, boxed(alloc, x)?, boxed(alloc, y)?);
+        let e = Expr::Older(0, named(alloc, left)?, named(alloc, right)?);
         assert_eq!(rt; told(&environment, &e)?, Ok(older), "older {left} {right}");
     }
     Ok(())
@@ -270,15 +278,25 @@ fn scalars_are_set_by_name(rt: HostRuntime) -> Result<(), Fail> {
     let mut environment = environment(alloc)?;
     environment.set_scalar(alloc, &name(alloc, "n")?, Value::Int(8))?;
     environment.set_scalar(alloc, &name(alloc, "x")?, Value::Int(1))?;
-    let args = vec![in alloc; variable(alloc, "n")?, variable(alloc, "x")?, int(3)]?;
+    assert_eq!(rt; told(&environment, &variable(alloc, "n")?)?, Ok(8));
+    assert_eq!(rt; told(&environment, &variable(alloc, "x")?)?, Ok(1));
+    Ok(())
+}
+
+#[test]
+fn arguments_are_taken_from_the_left(rt: HostRuntime) -> Result<(), Fail> {
+    let alloc = rt.alloc();
+    let environment = environment(alloc)?;
+    let mut args = Vec::new(alloc);
+    args.push(variable(alloc, "n")?)?;
+    args.push(int(3))?;
     let values = environment.values(alloc, &args)?;
     let numbers: Vec<i64> = values.as_slice().iter().map(number).collect(alloc)?;
-    assert_eq!(rt; numbers.as_slice(), [8, 1, 3].as_slice());
-    let args = vec![in alloc; item_of_a(alloc, 9)?, divided(alloc)?]?;
-    assert_eq!(rt;
-        environment.values(alloc, &args).err(),
-        Some(Halt::Fault(FaultKind::Index))
-    );
+    assert_eq!(rt; numbers.as_slice(), [7, 3].as_slice());
+    args.push(item_of_a(alloc, 9)?)?;
+    args.push(divided(alloc)?)?;
+    let halt = environment.values(alloc, &args).err();
+    assert_eq!(rt; halt, Some(Halt::Fault(FaultKind::Index)));
     Ok(())
 }
 
