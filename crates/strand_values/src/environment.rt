@@ -1,0 +1,151 @@
+ghost use Rattle.std.specs.Prelude.{◌≡◌, IfOk, OnOk, OnErr, IsSome, IsNone};
+ghost use Rattle.std.specs.Option.{option_copied};
+ghost use Rattle.serial_meaning.specs.declared.environment.Slot.TheVariants.{Scalar, Array};
+ghost use Rattle.serial_meaning.specs.Values.{value_of, values_of, slot_of, items_of, at_index};
+ghost use Rattle.serial_meaning.specs.Exec.{bound, with_slot, zeros, set_item, has_room, filled};
+ghost use Rattle.strand_values.specs.Gives.{Gives};
+ghost use Rattle.strand_values.specs.Targets.{IsUnknown};
+
+use crate::halt::Halt;
+use crate::memory::Memory;
+use crate::scalar::number;
+use crate::slots::{fill_slot, set_at};
+use crate::value;
+use crate::variables::{item, items, place};
+use script_grammar::{Expr, Items, Name, Param};
+use serial_meaning::{Slot, Value, Variable};
+use std::alloc::Global;
+use std::marker::Model;
+
+/// The variables of an activation, in the order in which they were made: its parameters, and then those of its `let` statements.
+#[derive(Drop)]
+pub struct Environment {
+    variables: Vec<Variable>,
+}
+
+impl Model for Environment {
+    ghost use Rattle.std.specs.Prelude.{List};
+    ghost use Rattle.serial_meaning.specs.declared.environment.Variable.{Variable};
+
+    ghost Value = { List Variable };
+
+    ghost view = { λ e. e.variables.items };
+}
+
+impl Environment {
+    /// The parameters with their arguments, as far as there are both.
+    pub fn bound(alloc: Global, params: &[Param], args: Items<Value>) -> Result<Environment, Memory>
+        ensures { IfOk result (λ env. env ≡ bound params.now args) }
+    {
+        let mut variables = Vec::with_capacity(alloc, params.len())?;
+        let mut values = args.0.into_iter();
+        for param in params {
+            let Some(value) = values.next() else { break };
+            let name = Items(param.name.bytes.as_slice().to_vec(alloc)?);
+            let slot = Slot::Scalar(value);
+            variables.push(Variable { name, slot })?;
+        }
+        Ok(Environment { variables })
+    }
+
+    /// The value of an expression, or the fault that is met first from left to right. An id shares its memory.
+    pub fn value(&self, e: &Expr) -> Result<Value, Halt>
+        ensures { Gives result (value_of e.now self.now) }
+    {
+        value::value(&self.variables, e)
+    }
+
+    /// The values of arguments from left to right, or the fault that is met first.
+    pub fn values(&self, alloc: Global, args: &[Expr]) -> Result<Items<Value>, Halt>
+        ensures { Gives result (values_of args.now self.now) }
+    {
+        value::values(alloc, &self.variables, args)
+    }
+
+    /// The item of an array at this index, if it has one: from 0, and below the array's length.
+    pub fn item(&self, name: &Name, index: i64) -> Option<i64>
+        ensures { result ≡ at_index (items_of (slot_of self.now name.now.bytes)) index }
+    {
+        item(&self.variables, name.bytes.as_slice(), index)
+    }
+
+    /// Gives a scalar a value. A name that wasn't there stands at the end, and only then it needs memory. Without memory nothing
+    /// changes.
+    pub fn set_scalar(&mut self, alloc: Global, name: &Name, value: Value) -> Result<(), Memory>
+        ensures ok { OnOk result (self.new ≡ with_slot self.old name.now.bytes (Scalar value)) }
+        ensures err { OnErr result ((self.new ≡ self.old) × IsNone (slot_of self.old name.now.bytes)) }
+    {
+        self.set(alloc, name.bytes.as_slice(), Slot::Scalar(value))
+    }
+
+    /// Makes an array of so many zeros. A name that wasn't there stands at the end. Without memory nothing changes.
+    pub fn set_array(&mut self, alloc: Global, name: &Name, length: u64) -> Result<(), Memory>
+        ensures ok { OnOk result (self.new ≡ with_slot self.old name.now.bytes (Array (zeros length))) }
+        ensures err { OnErr result (self.new ≡ self.old) }
+    {
+        let items = vec![in alloc; 0i64; length as usize]?;
+        self.set(alloc, name.bytes.as_slice(), Slot::Array(Items(items)))
+    }
+
+    /// Writes the item of an array at an index where it has one.
+    pub fn set_item(&mut self, name: &Name, index: i64, value: &Value)
+        requires { IsSome (at_index (items_of (slot_of self.old name.now.bytes)) index) }
+        ensures { self.new ≡ with_slot self.old name.now.bytes (Array (set_item (items_of (slot_of self.old name.now.bytes)) index value.now)) }
+    {
+        match place(&self.variables, name.bytes.as_slice()) {
+            Some(i) => set_at(&mut self.variables[i].slot, index as usize, number(value)),
+            None => unreachable!(),
+        }
+    }
+
+    /// Whether a loop's target, if there is one, has at least `n` items.
+    pub fn has_room(&self, target: Option<&Name>, n: u64) -> bool
+        ensures { result ≡ has_room (option_copied target.entry) n self.now }
+    {
+        match target {
+            Some(name) => n <= items(&self.variables, name.bytes.as_slice()).len() as u64,
+            None => true,
+        }
+    }
+
+    /// Writes a loop's values over the first items of its target, if there is one. What is no array becomes one of no items, and
+    /// only a name that wasn't there needs memory for that. Without memory nothing changes.
+    pub fn fill(
+        &mut self,
+        alloc: Global,
+        target: Option<&Name>,
+        values: &[Value],
+    ) -> Result<(), Memory>
+        ensures ok { OnOk result (self.new ≡ filled (option_copied target.entry) values.now self.old) }
+        ensures err { OnErr result ((self.new ≡ self.old) × IsUnknown (option_copied target.entry) self.old) }
+    {
+        let Some(name) = target else { return Ok(()) };
+        match place(&self.variables, name.bytes.as_slice()) {
+            Some(i) => {
+                fill_slot(&mut self.variables[i].slot, alloc, values);
+                Ok(())
+            }
+            None => {
+                let nothing = Slot::Array(Items(Vec::new(alloc)));
+                self.set(alloc, name.bytes.as_slice(), nothing)
+            }
+        }
+    }
+
+    fn set(&mut self, alloc: Global, name: &[u8], slot: Slot) -> Result<(), Memory>
+        ensures ok { OnOk result (self.new ≡ with_slot self.old name.now slot) }
+        ensures err { OnErr result ((self.new ≡ self.old) × IsNone (slot_of self.old name.now)) }
+    {
+        match place(&self.variables, name) {
+            Some(i) => {
+                self.variables[i].slot = slot;
+                Ok(())
+            }
+            None => {
+                let name = Items(name.to_vec(alloc)?);
+                self.variables.push(Variable { name, slot })?;
+                Ok(())
+            }
+        }
+    }
+}

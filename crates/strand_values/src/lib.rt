@@ -1,0 +1,28 @@
+//! The variables of an activation, and the values of expressions in it.
+//!
+//! What an expression gives and what a statement writes is defined in `serial_meaning`; the contracts here are its words.
+#![tactic(auto)]
+
+mod arithmetic;
+mod environment;
+mod halt;
+mod memory;
+mod scalar;
+mod slots;
+#[cfg(test)]
+mod tests;
+mod value;
+mod variables;
+
+pub use arithmetic::{count, iterations};
+pub use environment::Environment;
+pub use halt::Halt;
+pub use memory::Memory;
+pub use scalar::{is_true, number};
+
+fn is_shared<T: Send + Sync>() {}
+
+/// An environment may be sent to other threads. The body asks for it, so that a field which forbids it fails the build.
+pub fn all_are_shared() {
+    is_shared::<Environment>();
+}

@@ -1,0 +1,55 @@
+ghost use Rattle.std.specs.Prelude.{◌≡◌};
+ghost use Rattle.std.specs.Str.{bytes_eq};
+ghost use Rattle.std.specs.Ordering.{nat_cmp, is_lt};
+ghost use Rattle.std.specs.Cmp.Lexicographic.{slice_cmp};
+ghost use Rattle.serial_meaning.specs.Values.{number, object, truth, is_true};
+
+use serial_meaning::Value;
+
+/// The integer that a value is. An id, which no valid script takes for an integer, counts as 0.
+pub fn number(value: &Value) -> i64
+    ensures { result ≡ number value.now }
+{
+    match value {
+        Value::Int(number) => *number,
+        Value::Id(_) => 0,
+    }
+}
+
+/// Whether a condition of this value holds: it isn't 0.
+pub fn is_true(value: &Value) -> bool
+    ensures { result ≡ is_true value.now }
+{
+    number(value) != 0
+}
+
+/// The value of a comparison: 1 or 0.
+pub(crate) fn truth(holds: bool) -> Value
+    ensures { result ≡ truth holds }
+{
+    Value::Int(if holds { 1 } else { 0 })
+}
+
+/// Whether both are one object. An integer, which no valid script takes for an id, counts as one with no rank.
+pub(crate) fn is_same(left: &Value, right: &Value) -> bool
+    ensures { result ≡ bytes_eq (object left.now) (object right.now) }
+{
+    match (left, right) {
+        (Value::Id(left), Value::Id(right)) => left.same(right),
+        (Value::Id(object), Value::Int(_)) => object.len() == 0,
+        (Value::Int(_), Value::Id(object)) => object.len() == 0,
+        (Value::Int(_), Value::Int(_)) => true,
+    }
+}
+
+/// Whether the left object was made before the right one in serial order.
+#[tactic(auto, using(crate::proofs::ValueLemmas::before_none))]
+pub(crate) fn is_older(left: &Value, right: &Value) -> bool
+    ensures { result ≡ is_lt (slice_cmp nat_cmp (object left.now) (object right.now)) }
+{
+    match (left, right) {
+        (Value::Id(left), Value::Id(right)) => left.before(right),
+        (Value::Int(_), Value::Id(object)) => object.len() != 0,
+        (Value::Id(_), Value::Int(_)) | (Value::Int(_), Value::Int(_)) => false,
+    }
+}
