@@ -60,11 +60,6 @@ pub script_built : (script : Script) → IsTrue (is_built script) → All IsFunc
 script_built script h =
     functions_built [] script.functions (both-right (nat_le (length script.functions) 64) _ (both-left _ (is_named (codes "main") script.functions) h))
 
-pub few_functions : (script : Script) → IsTrue (is_built script) → length script.functions ≤ 1024
-few_functions script h =
-    let few : IsTrue (nat_le (length script.functions) 64) = both-left _ (are_functions [] script.functions) (both-left _ (is_named (codes "main") script.functions) h) in
-    let least : length script.functions ≤ 64 = leb-true _ _ few in omega arith
-
 -- behind the end of a list there is none
 pub none_past : {A : Type 0} (xs : List A) (n : ℕ) → length xs ≤ n → slice_get xs n ≡ None
 none_past xs n h =

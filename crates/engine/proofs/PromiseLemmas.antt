@@ -1,14 +1,21 @@
 -- The parts of the promise follow from it.
-use Rattle.std.proofs.Common.{◌≡◌, ℕ, ◌≤◌, ◌<◌, ◌+◌, List, [], ◌++◌, length, length-append, append-nil, Option, Some, None, ◌⊎◌, inl, inr, refl, sym, ap, ◌∙◌, subst, arith}
-use Rattle.ped_io.specs.Streams.{Consumes, ConsumesJust, IsAtEnd}
+use Rattle.std.specs.Bool.{⊤}
+use Rattle.std.proofs.Common.{◌≡◌, ℕ, ◌≤◌, ◌<◌, ◌+◌, Bool, true, false, ◌&&◌, List, [], ◌++◌, length, length-append, append-nil, Option, Some, None, Result, Ok, Err, IsTrue, IsFalse, ◌⊎◌, inl, inr, refl, sym, ap, ◌∙◌, subst, arith}
+use Rattle.ped_io.specs.Streams.{Appends, Consumes, ConsumesJust, IsAtEnd}
+use Rattle.ped_words.specs.declared.command.Command.{Command}
+use Rattle.ped_words.specs.declared.command.Command.TheVariants as command
+use Rattle.ped_words.specs.declared.rule.WordError.{WordError}
+use Rattle.ped_words.specs.declared.rule.WordError.TheVariants as words
 use Rattle.script_grammar.specs.declared.tree.Script.{Script as Tree}
+use Rattle.script_grammar.specs.Text.{Text}
 use Rattle.engine.specs.declared.status.Status.{Status}
 use Rattle.engine.specs.declared.status.Status.TheVariants.{Done, Faulted, Words, Script, Read, Write, Memory, NoStrand}
-use Rattle.engine.specs.declared.words.Command.{Command}
-use Rattle.engine.specs.Words.{Says, SaysNothing}
-use Rattle.engine.specs.Report.{IsTextOf}
-use Rattle.engine.specs.Promise.{Watched, Failed, HasScript, HasNoScript, Answers, Refuses, KeepsPromise, most_bytes}
-use Rattle.engine.specs.Clauses.{RefusesWords, IsBad, RefusesScript, WroteReport, WritesReport}
+use Rattle.engine.specs.declared.report.Ending.{Ending}
+use Rattle.engine.specs.declared.report.Ending.TheVariants as E
+use Rattle.engine.specs.Commands.{Reports, Takes, reads_script, runs_today, takes_script}
+use Rattle.engine.specs.Report.{Report, status_of}
+use Rattle.engine.specs.Promise.{Watched, Failed, ReadWhole, HasNoScript, HasReport, Answers, Refuses, KeepsPromise, most_bytes}
+use Rattle.engine.specs.Clauses.{SaysNothing, RefusesWords, IsBad, RefusesScript, WroteReport, WritesReport}
 
 told_whole : (bytes front : List ℕ) (after : Option (List ℕ)) → Consumes (Some bytes) after front → IsAtEnd after → front ≡ bytes
 told_whole bytes front None taken end = absurd taken
@@ -19,92 +26,164 @@ told_long bytes front None taken long = absurd taken
 told_long bytes front (Some rest) taken long =
     let sum : length bytes ≡ length front + length rest = ap length taken ∙ length-append front rest in omega (arith, sum, long)
 
-module _ (words : List (List ℕ)) (source out err : Watched) where
-  pub read_cause : (status : Status) → KeepsPromise words source out err status → status ≡ Read → Failed source
-  read_cause status (inl q) h = let P : Status → Type 0 = λ s. Answers q.0 source out err s in (subst P h q.2).0
-  read_cause status (inr q) h = let P : Status → Type 0 = λ s. Refuses err s in absurd (subst P h q.1)
+first_true : (a b : Bool) → IsTrue (a && b) → IsTrue a
+first_true true b h = refl
+first_true false b h = absurd (cc)
 
-  write_of : (command : Command) → Answers command source out err Write → Failed out
-  write_of command a = a.0.2.failed
+second_true : (a b : Bool) → IsTrue (a && b) → IsTrue b
+second_true true b h = h
+second_true false b h = absurd (cc)
 
-  pub write_cause : (status : Status) → KeepsPromise words source out err status → status ≡ Write → Failed out
-  write_cause status (inl q) h = let P : Status → Type 0 = λ s. Answers q.0 source out err s in write_of q.0 (subst P h q.2)
-  write_cause status (inr q) h = let P : Status → Type 0 = λ s. Refuses err s in absurd (subst P h q.1)
+not_both : (a : Bool) → IsTrue a → IsFalse a → ⊥
+not_both true h k = absurd (cc)
+not_both false h k = absurd (cc)
 
-  words_only : (status : Status) → KeepsPromise words source out err status → status ≡ Words → SaysNothing words
-  words_only status (inl q) h = let P : Status → Type 0 = λ s. Answers q.0 source out err s in absurd (subst P h q.2)
-  words_only status (inr q) h = q.0
+-- a command that takes a script reports of one
+taken_script : (command : Command) → IsTrue (takes_script command) → (bytes : List ℕ) (report : Report) → Reports command bytes report → (script : Tree) × Text bytes script × Takes command script
+taken_script (command.Run settings workers) takes bytes report r = (r.0, r.1, r.2)
+taken_script (command.Serial settings) takes bytes report r = (r.0, r.1, r.2)
+taken_script (command.Sim settings workers number) takes bytes report r = (r.0, r.1, r.2)
+taken_script (command.Replay settings at) takes bytes report r = (r.0, r.1, r.2)
+taken_script (command.Hash gamma at) takes bytes report r = absurd (cc)
+taken_script command.Check takes bytes report r = (r.0, r.1, r.2)
+taken_script command.Fmt takes bytes report r = (r.0, r.1, r.2)
+taken_script (command.Gen shape size) takes bytes report r = absurd (cc)
 
-  refused_by : (status : Status) → Refuses err status → (status ≡ Words) ⊎ (status ≡ Memory)
-  refused_by Done r = absurd r
-  refused_by Faulted r = absurd r
-  refused_by Words r = inl refl
-  refused_by Script r = absurd r
-  refused_by Read r = absurd r
-  refused_by Write r = absurd r
-  refused_by Memory r = inr refl
-  refused_by NoStrand r = absurd r
+-- what a command that takes none reports has nothing to do with the source
+alone : (command : Command) → IsFalse (takes_script command) → (bytes other : List ℕ) (report : Report) → Reports command bytes report → Reports command other report
+alone (command.Run settings workers) takes bytes other report r = absurd (cc)
+alone (command.Serial settings) takes bytes other report r = absurd (cc)
+alone (command.Sim settings workers number) takes bytes other report r = absurd (cc)
+alone (command.Replay settings at) takes bytes other report r = absurd (cc)
+alone (command.Hash gamma at) takes bytes other report r = r
+alone command.Check takes bytes other report r = absurd (cc)
+alone command.Fmt takes bytes other report r = absurd (cc)
+alone (command.Gen shape size) takes bytes other report r = r
 
-  words_always : (status : Status) → KeepsPromise words source out err status → SaysNothing words → (status ≡ Words) ⊎ (status ≡ Memory)
-  words_always status (inl q) none = absurd (none q.0 q.1)
-  words_always status (inr q) none = refused_by status q.1
+module _ (source out err : Watched) where
+  -- where the words give a command
+  module _ (command : Command) where
+    answer_at : (status other : Status) → Answers command source out err status → status ≡ other → Answers command source out err other
+    answer_at status other a h = let P : Status → Type 0 = λ s. Answers command source out err s in subst P h a
 
-  pub words_exactly : (status : Status) → KeepsPromise words source out err status → RefusesWords words status
-  words_exactly status p = (words_only status p, words_always status p)
+    words_always : (status : Status) → Answers command source out err status → IsFalse (runs_today command) → (status ≡ Words) ⊎ (status ≡ Memory)
+    words_always Done a none = absurd (not_both (runs_today command) a.0 none)
+    words_always Faulted a none = absurd (not_both (runs_today command) a.0 none)
+    words_always Words a none = inl refl
+    words_always Script a none = absurd (not_both (runs_today command) (first_true (runs_today command) (takes_script command) a.0) none)
+    words_always Read a none = absurd (not_both (runs_today command) (first_true (runs_today command) (takes_script command) a.0) none)
+    words_always Write a none = absurd (not_both (runs_today command) a.0.0 none)
+    words_always Memory a none = inr refl
+    words_always NoStrand a none = absurd a
 
-  module _ (bytes : List ℕ) (told : source.before ≡ Some bytes) where
-    whole_bytes : (front : List ℕ) → Consumes source.before source.after front → IsAtEnd source.after → front ≡ bytes
-    whole_bytes front taken end = let P : Option (List ℕ) → Type 0 = λ before. Consumes before source.after front in told_whole bytes front source.after (subst P told taken) end
+    module _ (bytes : List ℕ) (told : source.before ≡ Some bytes) (takes : IsTrue (takes_script command)) where
+      whole_bytes : (front : List ℕ) → ReadWhole source front → front ≡ bytes
+      whole_bytes front read = let P : Option (List ℕ) → Type 0 = λ before. Consumes before source.after front in told_whole bytes front source.after (subst P told read.taken) read.end
 
-    text_told : (script : Tree) → HasScript source script → IsTextOf bytes script
-    text_told script has = let P : List ℕ → Type 0 = λ b. IsTextOf b script in subst P (whole_bytes has.0 has.1.taken has.1.end) has.2
+      reported_bytes : (report : Report) → HasReport command source report → Reports command bytes report
+      reported_bytes report has = let P : List ℕ → Type 0 = λ b. Reports command b report in subst P (whole_bytes has.0 (has.1 takes)) has.2
 
-    good_script : (script : Tree) → HasScript source script → IsBad bytes → ⊥
-    good_script script has (inl long) = let same : length has.0 ≡ length bytes = ap length (whole_bytes has.0 has.1.taken has.1.end) in absurd (omega (arith, same, long, has.1.within))
-    good_script script has (inr none) = none script (text_told script has)
+      few_bytes : (report : Report) → HasReport command source report → length bytes ≤ most_bytes
+      few_bytes report has = let same : length has.0 ≡ length bytes = ap length (whole_bytes has.0 (has.1 takes)) in let few = (has.1 takes).within in omega (arith, same, few)
 
-    bad_script : HasNoScript source err → IsBad bytes
-    bad_script (inl q) = let P : Option (List ℕ) → Type 0 = λ before. Consumes before source.after q.0.0 in inl (told_long bytes q.0.0 source.after (subst P told q.0.2) q.0.1)
-    bad_script (inr (inl q)) = let same : q.0 ≡ bytes = whole_bytes q.0 q.3.taken q.3.end in let P : List ℕ → Type 0 = λ b. (script : Tree) → IsTextOf b script → ⊥ in inr (subst P same (λ script text. q.4.none script text.text))
-    bad_script (inr (inr q)) = let same : q.0 ≡ bytes = whole_bytes q.0 q.2.taken q.2.end in let P : List ℕ → Type 0 = λ b. (script : Tree) → IsTextOf b script → ⊥ in inr (subst P same q.3.none)
+      bad_script : HasNoScript command source err → IsBad command bytes
+      bad_script (inl q) = let P : Option (List ℕ) → Type 0 = λ before. Consumes before source.after q.0.0 in inl (told_long bytes q.0.0 source.after (subst P told q.0.2) q.0.1)
+      bad_script (inr q) = let P : List ℕ → Type 0 = λ b. (script : Tree) → Text b script → Takes command script → ⊥ in inr (subst P (whole_bytes q.0 q.2) q.3.none)
 
-    script_only : (status : Status) → KeepsPromise words source out err status → status ≡ Script → IsBad bytes
-    script_only status (inl q) h = let P : Status → Type 0 = λ s. Answers q.0 source out err s in bad_script (subst P h q.2)
-    script_only status (inr q) h = let P : Status → Type 0 = λ s. Refuses err s in absurd (subst P h q.1)
+      no_good : (report : Report) → HasReport command source report → IsBad command bytes → ⊥
+      no_good report has (inl long) = let few = few_bytes report has in absurd (omega (arith, few, long))
+      no_good report has (inr none) = let taken = taken_script command takes bytes report (reported_bytes report has) in none taken.0 taken.1 taken.2
 
-    bad_answer : (command : Command) (status : Status) → Answers command source out err status → IsBad bytes → (status ≡ Script) ⊎ ((status ≡ Read) ⊎ (status ≡ Memory))
-    bad_answer command Done a bad = absurd (good_script a.0 a.1 bad)
-    bad_answer command Faulted a bad = absurd (good_script a.0 a.1 bad)
-    bad_answer command Words a bad = absurd a
-    bad_answer command Script a bad = inl refl
-    bad_answer command Read a bad = inr (inl refl)
-    bad_answer command Write a bad = absurd (good_script a.0.0 a.0.1 bad)
-    bad_answer command Memory a bad = inr (inr refl)
-    bad_answer command NoStrand a bad = absurd a
+      script_always : (status : Status) → Answers command source out err status → IsTrue (runs_today command) → IsBad command bytes → (status ≡ Script) ⊎ ((status ≡ Read) ⊎ (status ≡ Memory))
+      script_always Done a today bad = absurd (no_good a.1.0 a.1.1 bad)
+      script_always Faulted a today bad = absurd (no_good a.1.0 a.1.1 bad)
+      script_always Words a today bad = absurd (not_both (runs_today command) today a.0)
+      script_always Script a today bad = inl refl
+      script_always Read a today bad = inr (inl refl)
+      script_always Write a today bad = absurd (no_good a.0.1.0 a.0.1.1 bad)
+      script_always Memory a today bad = inr (inr refl)
+      script_always NoStrand a today bad = absurd a
 
-    script_always : (status : Status) → KeepsPromise words source out err status → (command : Command) → Says words command → IsBad bytes → (status ≡ Script) ⊎ ((status ≡ Read) ⊎ (status ≡ Memory))
-    script_always status (inl q) command says bad = bad_answer q.0 status q.2 bad
-    script_always status (inr q) command says bad = absurd (q.0 command says)
+    -- whether or not the command takes a script
+    same_report : (bytes : List ℕ) → source.before ≡ Some bytes → (report : Report) → HasReport command source report → (b : Bool) → takes_script command ≡ b → Reports command bytes report
+    same_report bytes told report has true e = reported_bytes bytes told e report has
+    same_report bytes told report has false e = alone command e has.0 bytes report has.2
 
-    pub script_exactly : (status : Status) → KeepsPromise words source out err status → RefusesScript words (Some bytes) status
-    script_exactly status p command says = (script_only status p, script_always status p command says)
+    written_at : (bytes : List ℕ) → source.before ≡ Some bytes → (status : Status) (report : Report) → HasReport command source report → Appends out.before out.after report.output → status ≡ status_of report.ending → WroteReport command bytes source out status
+    written_at bytes told status report has output ends = record {
+      report = report;
+      reports = same_report bytes told report has (takes_script command) refl;
+      end = λ takes. (has.1 takes).end;
+      output = output;
+      ends = ends;
+    }
 
-    pub written : (status : Status) → KeepsPromise words source out err status → WritesReport words source (Some bytes) out status
-    written status (inl q) (inl h) =
-        let P : Status → Type 0 = λ s. Answers q.0 source out err s in let a = subst P h q.2 in
-        (q.0, q.1, record { script = a.0; text = text_told a.0 a.1; end = a.1.1.end; output = a.3 })
-    written status (inl q) (inr h) =
-        let P : Status → Type 0 = λ s. Answers q.0 source out err s in let a = subst P h q.2 in
-        (q.0, q.1, record { script = a.0; text = text_told a.0 a.1; end = a.1.1.end; output = a.3 })
-    written status (inr q) (inl h) = let P : Status → Type 0 = λ s. Refuses err s in absurd (subst P h q.1)
-    written status (inr q) (inr h) = let P : Status → Type 0 = λ s. Refuses err s in absurd (subst P h q.1)
+    read_needs : Answers command source out err Script → IsTrue (reads_script command)
+    read_needs a = a.0
 
--- whatever the source tells
-module _ (words : List (List ℕ)) (source out err : Watched) (status : Status) (p : KeepsPromise words source out err status) where
-  pub script_refused : (told : Option (List ℕ)) → source.before ≡ told → RefusesScript words told status
-  script_refused None e = tt
-  script_refused (Some bytes) e = script_exactly words source out err bytes e status p
+-- where the words give none
+module _ (err : Watched) where
+  refused : (error : WordError) (status : Status) → Refuses error err status → (status ≡ Words) ⊎ (status ≡ Memory)
+  refused (words.Bad number at) Done r = absurd r
+  refused (words.Bad number at) Faulted r = absurd r
+  refused (words.Bad number at) Words r = inl refl
+  refused (words.Bad number at) Script r = absurd r
+  refused (words.Bad number at) Read r = absurd r
+  refused (words.Bad number at) Write r = absurd r
+  refused (words.Bad number at) Memory r = inr refl
+  refused (words.Bad number at) NoStrand r = absurd r
+  refused words.Memory Done r = absurd r
+  refused words.Memory Faulted r = absurd r
+  refused words.Memory Words r = absurd r
+  refused words.Memory Script r = absurd r
+  refused words.Memory Read r = absurd r
+  refused words.Memory Write r = absurd r
+  refused words.Memory Memory r = inr refl
+  refused words.Memory NoStrand r = absurd r
 
-  pub report_written : (told : Option (List ℕ)) → source.before ≡ told → WritesReport words source told out status
-  report_written None e = tt
-  report_written (Some bytes) e = written words source out err bytes e status p
+  differs : (status other : Status) → (status ≡ Words) ⊎ (status ≡ Memory) → (other ≡ Words → ⊥) → (other ≡ Memory → ⊥) → status ≡ other → ⊥
+  differs status other (inl w) no_words no_memory h = no_words (sym h ∙ w)
+  differs status other (inr m) no_words no_memory h = no_memory (sym h ∙ m)
+
+  refused_other : (error : WordError) (status other : Status) → Refuses error err status → (other ≡ Words → ⊥) → (other ≡ Memory → ⊥) → status ≡ other → ⊥
+  refused_other error status other r = differs status other (refused error status r)
+
+-- the parts, whatever the words give
+module _ (source out err : Watched) where
+  pub read_cause : (given : Result Command WordError) (status : Status) → KeepsPromise given source out err status → status ≡ Read → Failed source
+  read_cause (Ok command) status a h = (answer_at source out err command status Read a h).1
+  read_cause (Err error) status r h = absurd (refused_other err error status Read r (λ e. absurd (cc)) (λ e. absurd (cc)) h)
+
+  pub write_cause : (given : Result Command WordError) (status : Status) → KeepsPromise given source out err status → status ≡ Write → Failed out
+  write_cause (Ok command) status a h = (answer_at source out err command status Write a h).0.1.2.failed
+  write_cause (Err error) status r h = absurd (refused_other err error status Write r (λ e. absurd (cc)) (λ e. absurd (cc)) h)
+
+  pub words_exactly : (given : Result Command WordError) (status : Status) → KeepsPromise given source out err status → RefusesWords given status
+  words_exactly (Ok command) status a = (λ h. (answer_at source out err command status Words a h).0, words_always source out err command status a)
+  words_exactly (Err error) status r = (λ h. tt, λ none. refused err error status r)
+
+  pub script_refused : (given : Result Command WordError) (status : Status) → KeepsPromise given source out err status → (told : Option (List ℕ)) → source.before ≡ told → RefusesScript given told status
+  script_refused (Ok command) status a (Some bytes) told =
+      let at : status ≡ Script → Answers command source out err Script = answer_at source out err command status Script a in (
+        λ h. ((at h).0, bad_script source out err command bytes told (second_true (runs_today command) (takes_script command) (at h).0) (at h).1),
+        λ reads. script_always source out err command bytes told (second_true (runs_today command) (takes_script command) reads) status a (first_true (runs_today command) (takes_script command) reads),
+      )
+  script_refused (Ok command) status a None told = λ h. (answer_at source out err command status Script a h).0
+  script_refused (Err error) status r told e = refused_other err error status Script r (λ e. absurd (cc)) (λ e. absurd (cc))
+
+  written_of : (command : Command) (status : Status) → Answers command source out err status → (bytes : List ℕ) → source.before ≡ Some bytes → (status ≡ Done) ⊎ (status ≡ Faulted) → WroteReport command bytes source out status
+  written_of command status a bytes e (inl h) =
+      let b = answer_at source out err command status Done a h in
+      written_at source out err command bytes e status b.1.0 b.1.1 b.1.3 (h ∙ ap status_of (sym b.1.2))
+  written_of command status a bytes e (inr h) =
+      let b = answer_at source out err command status Faulted a h in
+      written_at source out err command bytes e status b.1.0 b.1.1 b.1.3 (h ∙ ap status_of (sym b.1.2))
+
+  none_written : (error : WordError) (status : Status) → Refuses error err status → (status ≡ Done) ⊎ (status ≡ Faulted) → ⊥
+  none_written error status r (inl h) = refused_other err error status Done r (λ e. absurd (cc)) (λ e. absurd (cc)) h
+  none_written error status r (inr h) = refused_other err error status Faulted r (λ e. absurd (cc)) (λ e. absurd (cc)) h
+
+  pub report_written : (given : Result Command WordError) (status : Status) → KeepsPromise given source out err status → (told : Option (List ℕ)) → source.before ≡ told → WritesReport given source told out status
+  report_written given status a None e = tt
+  report_written (Ok command) status a (Some bytes) e = λ h. (command, refl, written_of command status a bytes e h)
+  report_written (Err error) status r (Some bytes) e = λ h. absurd (none_written error status r h)

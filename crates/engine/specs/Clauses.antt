@@ -1,10 +1,13 @@
 -- The parts of the promise, each in words of its own, and what holds of every run.
-use Rattle.std.specs.Prelude.{◌≡◌, ◌⊎◌, ◌<◌, ⊤, ℕ, List, length, Some, None, AllPairs, Contains}
+use Rattle.std.specs.Prelude.{◌≡◌, ◌⊎◌, ◌<◌, ⊤, ℕ, List, length, Some, None, AllPairs, Contains, IsTrue, IsFalse, Result, Ok, Err}
 use Rattle.std.specs.declared.option.Option.{Option}
 use Rattle.ped_io.specs.Streams.{Appends, IsAtEnd}
 use Rattle.ped_path.specs.Path.{IsBefore}
+use Rattle.ped_words.specs.declared.command.Command.{Command}
+use Rattle.ped_words.specs.declared.rule.WordError.{WordError}
 use Rattle.dotmix.specs.Draws.{dotmix}
 use Rattle.script_grammar.specs.declared.tree.Script.{Script as Tree}
+use Rattle.script_grammar.specs.Text.{Text}
 use Rattle.serial_meaning.specs.Plan.{PlanView}
 use Rattle.serial_meaning.specs.Eval.{elision}
 use Rattle.serial_meaning.specs.Open.{faults}
@@ -12,38 +15,45 @@ use Rattle.serial_meaning.specs.Laws.{places, EndsByLeast}
 use Rattle.serial_meaning.specs.declared.event.Event.TheVariants.{Draw}
 use Rattle.engine.specs.declared.status.Status.{Status}
 use Rattle.engine.specs.declared.status.Status.TheVariants.{Done, Faulted, Words, Script, Read, Memory}
-use Rattle.engine.specs.declared.words.Command.{Command}
-use Rattle.engine.specs.Words.{Says, SaysNothing}
-use Rattle.engine.specs.Report.{IsTextOf, report_of}
+use Rattle.engine.specs.Commands.{Reports, Takes, reads_script, runs_today, takes_script}
+use Rattle.engine.specs.Report.{Report, status_of}
 use Rattle.engine.specs.Promise.{Watched, most_bytes}
 
--- The words are refused exactly where they say no command, unless memory is wanting.
-abbrev pub RefusesWords : List (List ℕ) → Status → Type 0
-RefusesWords words status = (status ≡ Words → SaysNothing words) × (SaysNothing words → (status ≡ Words) ⊎ (status ≡ Memory))
+-- the words give no command that runs today
+abbrev pub SaysNothing : Result Command WordError → Type 0
+SaysNothing (Ok command) = IsFalse (runs_today command)
+SaysNothing (Err error) = ⊤
 
--- A text that a source tells is bad: too long, or of no script that runs.
-abbrev pub IsBad : List ℕ → Type 0
-IsBad bytes = (most_bytes < length bytes) ⊎ ((script : Tree) → IsTextOf bytes script → ⊥)
+-- The words are refused exactly where they give no command that runs today, unless memory is wanting.
+abbrev pub RefusesWords : Result Command WordError → Status → Type 0
+RefusesWords given status = (status ≡ Words → SaysNothing given) × (SaysNothing given → (status ≡ Words) ⊎ (status ≡ Memory))
 
--- Where the words say a command and the source tells its bytes, the script is refused exactly where it is bad, unless a read failed or
--- memory is wanting.
-abbrev pub RefusesScript : List (List ℕ) → Option (List ℕ) → Status → Type 0
-RefusesScript words None status = ⊤
-RefusesScript words (Some bytes) status = (command : Command) → Says words command →
-    (status ≡ Script → IsBad bytes) × (IsBad bytes → (status ≡ Script) ⊎ ((status ≡ Read) ⊎ (status ≡ Memory)))
+-- The bytes are too many, or the text of no script that the command takes.
+abbrev pub IsBad : Command → List ℕ → Type 0
+IsBad command bytes = (most_bytes < length bytes) ⊎ ((script : Tree) → Text bytes script → Takes command script → ⊥)
 
--- The source's bytes are the text of a script, they were read to their end, and the command's report of it was written whole.
-pub record WroteReport (command : Command) (bytes : List ℕ) (source out : Watched) : Type 0 where
-  pub script : Tree
-  pub text : IsTextOf bytes script
-  pub end : IsAtEnd source.after
-  pub output : Appends out.before out.after (report_of command script).output
+-- A command that reads no script refuses none. Where a command reads one, and the source tells its bytes, they are refused exactly where they
+-- are bad, unless a read failed or memory is wanting.
+abbrev pub RefusesScript : Result Command WordError → Option (List ℕ) → Status → Type 0
+RefusesScript (Ok command) (Some bytes) status =
+    (status ≡ Script → IsTrue (reads_script command) × IsBad command bytes)
+    × (IsTrue (reads_script command) → IsBad command bytes → (status ≡ Script) ⊎ ((status ≡ Read) ⊎ (status ≡ Memory)))
+RefusesScript (Ok command) None status = status ≡ Script → IsTrue (reads_script command)
+RefusesScript (Err error) told status = status ≡ Script → ⊥
+
+-- The command's report of these bytes was written whole, with its status. Where the command takes a script, the source was read to its end.
+pub record WroteReport (command : Command) (bytes : List ℕ) (source out : Watched) (status : Status) : Type 0 where
+  pub report : Report
+  pub reports : Reports command bytes report
+  pub end : IsTrue (takes_script command) → IsAtEnd source.after
+  pub output : Appends out.before out.after report.output
+  pub ends : status ≡ status_of report.ending
 
 -- Where the source tells its bytes, a whole output is that of the report.
-abbrev pub WritesReport : List (List ℕ) → Watched → Option (List ℕ) → Watched → Status → Type 0
-WritesReport words source None out status = ⊤
-WritesReport words source (Some bytes) out status =
-    (status ≡ Done) ⊎ (status ≡ Faulted) → (command : Command) × Says words command × WroteReport command bytes source out
+abbrev pub WritesReport : Result Command WordError → Watched → Option (List ℕ) → Watched → Status → Type 0
+WritesReport given source None out status = ⊤
+WritesReport given source (Some bytes) out status =
+    (status ≡ Done) ⊎ (status ≡ Faulted) → (command : Command) × (given ≡ Ok command) × WroteReport command bytes source out status
 
 -- What holds of a plan's run: the pedigrees of its events but printing rise strictly, so that no two are the same; each draw is DotMix of
 -- its pedigree; and its fault is the least of the open tree's.

@@ -1,8 +1,9 @@
 pub mod Built
 pub mod Clauses
+pub mod Commands
+pub mod Lines
 pub mod Promise
 pub mod Ran
 pub mod Refusal
 pub mod Report
 pub mod Status
-pub mod Words

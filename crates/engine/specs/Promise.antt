@@ -1,18 +1,22 @@
 -- What each answer of the top call means.
-use Rattle.std.specs.Prelude.{◌≡◌, ◌⊎◌, ℕ, ◌+◌, ◌≤◌, List, length, Bool, true, false, IsTrue, IsFalse, codes}
+use Rattle.std.specs.Prelude.{◌≡◌, ◌⊎◌, ⊤, ℕ, ◌+◌, ◌≤◌, List, length, Bool, true, false, IsTrue, IsFalse, Result, Ok, Err, codes}
 use Rattle.std.specs.declared.option.Option.{Option}
 use Rattle.ped_io.specs.Causes.{Rose}
 use Rattle.ped_io.specs.Streams.{Appends, AppendsFront, Consumes, ConsumesJust, IsAtEnd}
+use Rattle.ped_words.specs.declared.command.Command.{Command}
+use Rattle.ped_words.specs.declared.rule.WordError.{WordError}
+use Rattle.ped_words.specs.declared.rule.WordError.TheVariants as words
+use Rattle.script_check.specs.Valid.{IsValid, CheckFault}
 use Rattle.script_grammar.specs.declared.tree.Script.{Script}
 use Rattle.script_grammar.specs.Text.{Text, SyntaxFault}
 use Rattle.engine.specs.declared.status.Status.{Status}
 use Rattle.engine.specs.declared.status.Status.TheVariants.{Done, Faulted, Words, Script as BadScript, Read, Write, Memory, NoStrand}
 use Rattle.engine.specs.declared.report.Ending.{Ending}
 use Rattle.engine.specs.declared.report.Ending.TheVariants as E
-use Rattle.engine.specs.declared.words.Command.{Command}
-use Rattle.engine.specs.Words.{Says, SaysNothing}
 use Rattle.engine.specs.Built.{is_built}
-use Rattle.engine.specs.Report.{Report, IsTextOf, report_of, syntax_line}
+use Rattle.engine.specs.Commands.{Reports, Takes, reads_script, runs_today, takes_script}
+use Rattle.engine.specs.Lines.{check_line, syntax_line, words_line}
+use Rattle.engine.specs.Report.{Report}
 
 -- a script has at most so many bytes
 abbrev pub most_bytes : ℕ
@@ -51,54 +55,59 @@ pub record ReadWhole (source : Watched) (bytes : List ℕ) : Type 0 where
   pub end : IsAtEnd source.after
   pub within : length bytes ≤ most_bytes
 
--- The source has the text of this script, which is one that runs.
-abbrev pub HasScript : Watched → Script → Type 0
-HasScript source script = (bytes : List ℕ) × ReadWhole source bytes × IsTextOf bytes script
+-- why these bytes are refused, by the line that tells it
+pub data Why (bytes line : List ℕ) : Type 0 where
+  NoText : (number at : ℕ) → SyntaxFault bytes number at → line ≡ syntax_line number at → Why bytes line
+  Invalid : (script : Script) (number at : ℕ) → Text bytes script → CheckFault script number at → line ≡ check_line number at → Why bytes line
+  Unbuilt : (script : Script) → Text bytes script → IsFalse (is_built script) → line ≡ codes "script: not built yet\n" → Why bytes line
 
--- These bytes are the text of no script, and this is their first fault.
-pub record IsNoText (bytes : List ℕ) (number at : ℕ) : Type 0 where
-  pub fault : SyntaxFault bytes number at
-  pub none : (script : Script) → Text bytes script → ⊥
+-- These bytes are the text of no script that is taken, and this line tells why.
+pub record IsUntaken (takes : Script → Type 0) (bytes line : List ℕ) : Type 0 where
+  pub none : (script : Script) → Text bytes script → takes script → ⊥
+  pub why : Why bytes line
 
--- These bytes are the text of this script, and it isn't one that runs.
-pub record IsUnbuilt (bytes : List ℕ) (script : Script) : Type 0 where
-  pub text : Text bytes script
-  pub unbuilt : IsFalse (is_built script)
-  pub none : (other : Script) → IsTextOf bytes other → ⊥
-
--- The source has more bytes than a script may have, or the text of no script, or of one that doesn't run.
-abbrev pub HasNoScript : Watched → Watched → Type 0
-HasNoScript source err =
+-- The source has more bytes than a script may have, or the text of no script that the command takes.
+abbrev pub HasNoScript : Command → Watched → Watched → Type 0
+HasNoScript command source err =
     (ConsumesJust source.before source.after (most_bytes + 1) × Told err (codes "script: too long\n"))
-    ⊎ ((bytes : List ℕ) × (number : ℕ) × (at : ℕ) × ReadWhole source bytes × IsNoText bytes number at × Told err (syntax_line number at))
-    ⊎ ((bytes : List ℕ) × (script : Script) × ReadWhole source bytes × IsUnbuilt bytes script × Told err (codes "script: not built yet\n"))
+    ⊎ ((bytes : List ℕ) × (line : List ℕ) × ReadWhole source bytes × IsUntaken (Takes command) bytes line × Told err line)
 
--- The source has a script for which the command's report ends so, and this holds of the report's output.
+-- The command reports this, of the bytes of the source where it takes a script.
+abbrev pub HasReport : Command → Watched → Report → Type 0
+HasReport command source report =
+    (bytes : List ℕ) × (IsTrue (takes_script command) → ReadWhole source bytes) × Reports command bytes report
+
+-- The command's report ends so, and this holds of its output.
 abbrev pub IsReported : Command → Watched → Ending → (List ℕ → Type 0) → Type 0
 IsReported command source ending P =
-    (script : Script) × HasScript source script × ((report_of command script).ending ≡ ending) × P (report_of command script).output
+    IsTrue (runs_today command) × ((report : Report) × HasReport command source report × (report.ending ≡ ending) × P report.output)
 
 -- What each answer means for a command.
 abbrev pub Answers : Command → Watched → Watched → Watched → Status → Type 0
 Answers command source out err Done = IsReported command source E.Done (Wrote out)
 Answers command source out err Faulted = IsReported command source E.Faulted (Wrote out)
-Answers command source out err Words = ⊥
-Answers command source out err BadScript = HasNoScript source err
-Answers command source out err Read = Failed source × Told err (codes "read fault\n")
+Answers command source out err Words = IsFalse (runs_today command) × Told err (codes "words: not built yet\n")
+Answers command source out err BadScript = IsTrue (reads_script command) × HasNoScript command source err
+Answers command source out err Read = IsTrue (reads_script command) × Failed source × Told err (codes "read fault\n")
 Answers command source out err Write =
-    ((script : Script) × HasScript source script × WroteFront out (report_of command script).output) × Told err (codes "write fault\n")
+    (IsTrue (runs_today command) × ((report : Report) × HasReport command source report × WroteFront out report.output)) × Told err (codes "write fault\n")
 Answers command source out err Memory = Told err (codes "out of memory\n")
 Answers command source out err NoStrand = ⊥
 
--- What each answer means where the words say no command.
-abbrev pub Refuses : Watched → Status → Type 0
-Refuses err Words = Told err (codes "words: not built yet\n")
-Refuses err Memory = Told err (codes "out of memory\n")
-Refuses err _ = ⊥
+-- What each answer means where the words give no command.
+abbrev pub Refuses : WordError → Watched → Status → Type 0
+Refuses (words.Bad number at) err Words = Told err (words_line number at)
+Refuses error err Memory = Told err (codes "out of memory\n")
+Refuses error err status = ⊥
 
-abbrev pub KeepsPromise : List (List ℕ) → Watched → Watched → Watched → Status → Type 0
-KeepsPromise words source out err status =
-    ((command : Command) × Says words command × Answers command source out err status) ⊎ (SaysNothing words × Refuses err status)
+abbrev pub KeepsPromise : Result Command WordError → Watched → Watched → Watched → Status → Type 0
+KeepsPromise (Ok command) source out err status = Answers command source out err status
+KeepsPromise (Err error) source out err status = Refuses error err status
+
+-- The words give no command that reads the source.
+abbrev pub ReadsNone : Result Command WordError → Type 0
+ReadsNone (Ok command) = IsFalse (reads_script command)
+ReadsNone (Err error) = ⊤
 
 -- The answer comes with output.
 abbrev pub has_output : Status → Bool

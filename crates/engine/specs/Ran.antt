@@ -60,7 +60,7 @@ evaluated plan left function path = eval_at plan left (Instance function [] path
 
 -- where an instance may stand: all functions are built, and so many ranks are left below the depth
 pub record Stands (plan : PlanView) (left : ℕ) (path : List ℕ) : Type 0 where
-  pub plan_is : IsPlan plan.script plan.gamma plan.limits
+  pub plan_is : IsPlan plan.gamma plan.limits
   pub built : All IsFunction (functions_of plan)
   pub depth : left + length path ≡ plan.limits.depth
   pub some : 0 < left

@@ -1,30 +1,44 @@
 -- Why no report was made, and what was delivered.
-use Rattle.std.specs.Prelude.{◌≡◌, ⊤, ℕ, ◌+◌, List, codes, string_bytes}
+use Rattle.std.specs.Prelude.{◌≡◌, ⊤, ℕ, ◌+◌, List, IsTrue, codes, string_bytes}
 use Rattle.ped_io.specs.Streams.{ConsumesJust}
+use Rattle.ped_words.specs.declared.command.Command.{Command}
 use Rattle.script_grammar.specs.declared.tree.Script.{Script}
-use Rattle.engine.specs.Report.{syntax_line}
-use Rattle.engine.specs.declared.call.Refusal.{Refusal}
-use Rattle.engine.specs.declared.call.Refusal.TheVariants.{TooLong, Syntax, NotBuilt, Read, Memory}
+use Rattle.engine.specs.Commands.{Takes, takes_script}
+use Rattle.engine.specs.declared.refusal.Refusal.{Refusal}
+use Rattle.engine.specs.declared.refusal.Refusal.TheVariants.{TooLong, Untaken, Read, Memory}
 use Rattle.engine.specs.declared.report.Ending.{Ending}
 use Rattle.engine.specs.declared.report.Ending.TheVariants as E
 use Rattle.engine.specs.declared.status.Status.{Status}
 use Rattle.engine.specs.declared.status.Status.TheVariants as S
-use Rattle.engine.specs.Promise.{Watched, Failed, ReadWhole, IsNoText, IsUnbuilt, Told, Wrote, WroteFront, most_bytes}
+use Rattle.engine.specs.Promise.{Watched, Failed, ReadWhole, IsUntaken, Told, Wrote, WroteFront, most_bytes}
 
--- Why bytes are no script that runs.
-abbrev pub IsMisfit : List ℕ → Refusal → Type 0
-IsMisfit bytes TooLong = ⊥
-IsMisfit bytes (Syntax line) = (number : ℕ) × (at : ℕ) × IsNoText bytes number at × (string_bytes line ≡ syntax_line number at)
-IsMisfit bytes NotBuilt = (script : Script) × IsUnbuilt bytes script
-IsMisfit bytes Read = ⊥
-IsMisfit bytes Memory = ⊤
+-- The refusal tells this line, or there was no memory for it.
+abbrev pub Tells : List ℕ → Refusal → Type 0
+Tells line TooLong = ⊥
+Tells line (Untaken told) = string_bytes told ≡ line
+Tells line Read = ⊥
+Tells line Memory = ⊤
 
-abbrev pub IsCause : Watched → Refusal → Type 0
-IsCause source TooLong = ConsumesJust source.before source.after (most_bytes + 1)
-IsCause source (Syntax line) = (bytes : List ℕ) × (number : ℕ) × (at : ℕ) × ReadWhole source bytes × IsNoText bytes number at × (string_bytes line ≡ syntax_line number at)
-IsCause source NotBuilt = (bytes : List ℕ) × (script : Script) × ReadWhole source bytes × IsUnbuilt bytes script
-IsCause source Read = Failed source
-IsCause source Memory = ⊤
+-- Why bytes are no script that is taken.
+abbrev pub IsMisfit : (Script → Type 0) → List ℕ → Refusal → Type 0
+IsMisfit takes bytes TooLong = ⊥
+IsMisfit takes bytes (Untaken line) = IsUntaken takes bytes (string_bytes line)
+IsMisfit takes bytes Read = ⊥
+IsMisfit takes bytes Memory = ⊤
+
+-- Why the bytes of the source weren't had.
+abbrev pub IsLate : Watched → Refusal → Type 0
+IsLate source TooLong = ConsumesJust source.before source.after (most_bytes + 1)
+IsLate source (Untaken line) = ⊥
+IsLate source Read = Failed source
+IsLate source Memory = ⊤
+
+-- Why a command has no report: only one that takes a script is refused for another reason than memory.
+abbrev pub IsCause : Command → Watched → Refusal → Type 0
+IsCause command source TooLong = IsTrue (takes_script command) × ConsumesJust source.before source.after (most_bytes + 1)
+IsCause command source (Untaken line) = IsTrue (takes_script command) × ((bytes : List ℕ) × ReadWhole source bytes × IsUntaken (Takes command) bytes (string_bytes line))
+IsCause command source Read = IsTrue (takes_script command) × Failed source
+IsCause command source Memory = ⊤
 
 -- A report was delivered: its output was written and this is its status, or the sink failed.
 abbrev pub Delivers : List ℕ → Ending → Watched → Watched → Status → Type 0
@@ -36,7 +50,6 @@ Delivers output ending out err _ = ⊥
 -- The refusal was told with its status.
 abbrev pub Refused : Refusal → Watched → Status → Type 0
 Refused TooLong err status = (status ≡ S.Script) × Told err (codes "script: too long\n")
-Refused (Syntax line) err status = (status ≡ S.Script) × Told err (string_bytes line)
-Refused NotBuilt err status = (status ≡ S.Script) × Told err (codes "script: not built yet\n")
+Refused (Untaken line) err status = (status ≡ S.Script) × Told err (string_bytes line)
 Refused Read err status = (status ≡ S.Read) × Told err (codes "read fault\n")
 Refused Memory err status = (status ≡ S.Memory) × Told err (codes "out of memory\n")

@@ -1,49 +1,34 @@
--- What a command writes for a script.
-use Rattle.std.specs.Prelude.{ℕ, List, ◌++◌, IsTrue, Result, Ok, Err, nat_eq, if◌then◌else◌, codes, decimal}
+-- What a command writes.
+use Rattle.std.specs.Prelude.{ℕ, List, ◌++◌, Result, Ok, Err, codes, decimal}
+use Rattle.dotmix.specs.Draws.{dot, dotmix}
+use Rattle.ped_words.specs.declared.command.Settings.{Settings}
 use Rattle.script_grammar.specs.declared.tree.Script.{Script}
-use Rattle.script_grammar.specs.Text.{Text}
-use Rattle.dotmix.specs.Words.{coefficients}
 use Rattle.serial_meaning.specs.Plan.{PlanView}
 use Rattle.serial_meaning.specs.Eval.{main_origin, elision}
 use Rattle.serial_meaning.specs.Answer.{outcome_of}
 use Rattle.serial_meaning.specs.Render.{rendered}
 use Rattle.serial_meaning.specs.declared.value.Value.{Value}
+use Rattle.serial_meaning.specs.declared.answer.Outcome.{Outcome}
+use Rattle.serial_meaning.specs.declared.answer.Outcome.TheVariants as outcome
 use Rattle.serial_meaning.specs.declared.event.Fault.{Fault}
-use Rattle.serial_meaning.specs.declared.plan.Show.TheVariants.{Plain}
+use Rattle.engine.specs.declared.report.Report as report
 use Rattle.engine.specs.declared.report.Ending.{Ending}
 use Rattle.engine.specs.declared.report.Ending.TheVariants.{Done, Faulted}
-use Rattle.engine.specs.declared.words.Command.{Command}
-use Rattle.engine.specs.declared.words.Command.TheVariants.{Run}
-use Rattle.engine.specs.Built.{is_built}
+use Rattle.engine.specs.declared.status.Status.{Status}
+use Rattle.engine.specs.declared.status.Status.TheVariants as status
 
 -- the output, and how it ends
 pub record Report : Type 0 where
   pub output : List ℕ
   pub ending : Ending
 
--- The bytes are the text of this script, and it is one that runs today.
-pub record IsTextOf (bytes : List ℕ) (script : Script) : Type 0 where
-  pub text : Text bytes script
-  pub built : IsTrue (is_built script)
+-- an output that ends well
+abbrev pub said : List ℕ → Report
+said output = record { output = output; ending = Done }
 
--- what is wrong with a text, by the number of its first fault
-abbrev pub syntax_text : ℕ → List ℕ
-syntax_text number =
-    if nat_eq number 1 then codes "not ASCII"
-    else if nat_eq number 2 then codes "unexpected token"
-    else if nat_eq number 3 then codes "number out of range"
-    else if nat_eq number 4 then codes "name too long"
-    else if nat_eq number 5 then codes "nested too deep"
-    else if nat_eq number 6 then codes "unexpected end"
-    else codes "too many functions"
-
--- the line of a fault of the text, which tells its place
-abbrev pub syntax_line : ℕ → ℕ → List ℕ
-syntax_line number at = codes "script: " ++ syntax_text number ++ codes " at byte " ++ decimal at ++ codes "\n"
-
--- the plan of a run: pedigrees of up to 256 ranks, 1000000 steps an instance, and what the script prints
-abbrev pub plan_of : ℕ → Script → PlanView
-plan_of seed script = record { script = script; gamma = coefficients seed 256; limits = record { depth = 256; budget = 1000000 }; show = Plain }
+-- the plan of a run
+abbrev pub plan_of : Settings → Script → PlanView
+plan_of settings script = record { script = script; gamma = settings.gamma; limits = settings.limits; show = settings.show }
 
 abbrev pub ending_of : Result (List Value) Fault → Ending
 ending_of (Ok values) = Done
@@ -56,5 +41,22 @@ run_report plan = record {
   ending = ending_of (elision plan).ending;
 }
 
-abbrev pub report_of : Command → Script → Report
-report_of (Run seed) script = run_report (plan_of seed script)
+-- the dot product of a pedigree, and its draw
+abbrev pub hash_text : List ℕ → List ℕ → List ℕ
+hash_text gamma j = codes "dot " ++ decimal (dot gamma j) ++ codes "\ndraw " ++ decimal (dotmix gamma j) ++ codes "\n"
+
+-- how a report ends of an answer that ended so
+abbrev pub outcome_ending : Outcome → Ending
+outcome_ending (outcome.Fault fault) = Faulted
+outcome_ending (outcome.Value value) = Done
+outcome_ending (outcome.Values values) = Done
+outcome_ending (outcome.Cut fault) = Done
+
+-- with which status a report ends that was written whole
+abbrev pub status_of : Ending → Status
+status_of Done = status.Done
+status_of Faulted = status.Faulted
+
+-- a report of the code, as the definitions have it
+abbrev pub shown : report.Report → Report
+shown r = record { output = r.output.items; ending = r.ending }

@@ -1,41 +1,33 @@
 // The top call.
 
-ghost use Rattle.std.specs.Prelude.{◌≡◌, ◌≤◌, length, List, ℕ, IfOk, IfErr, IsFalse, map, string_bytes, vec_len};
+ghost use Rattle.std.specs.Prelude.{◌≡◌, codes, IfOk, IfErr, IsTrue, IsFalse, map, string_bytes};
 ghost use Rattle.ped_io.specs.Causes.{Rose};
+ghost use Rattle.ped_words.specs.Reading.{reading};
+ghost use Rattle.ped_words.specs.Commands.{IsLawful as IsLawfulCommand};
 ghost use Rattle.script_grammar.specs.declared.tree.Script.{Script as ScriptTree};
-ghost use Rattle.engine.specs.Words.{SaysNothing};
-ghost use Rattle.engine.specs.Report.{IsTextOf, plan_of, report_of};
-ghost use Rattle.engine.specs.Promise.{KeepsPromise, Answers, Refuses, HasScript, ReadWhole, Told, watched, has_output, has_line, most_bytes};
+ghost use Rattle.ped_words.specs.declared.command.Settings.{Settings as RunSettings};
 ghost use Rattle.engine.specs.Clauses.{IsLawful, RefusesScript, RefusesWords, WritesReport};
-ghost use Rattle.engine.specs.Refusal.{IsCause, IsMisfit, Delivers, Refused};
+ghost use Rattle.engine.specs.Commands.{reads_script, runs_today, takes_script};
+ghost use Rattle.engine.specs.Promise.{Answers, HasReport, KeepsPromise, ReadWhole, ReadsNone, Refuses, Told, has_line, has_output, watched};
+ghost use Rattle.engine.specs.Refusal.{Delivers, IsCause, IsLate, Refused};
+ghost use Rattle.engine.specs.Report.{plan_of, shown};
 
-use crate::built::is_built;
-use crate::report::{Ending, Report, make_report, syntax_line};
+use crate::command::{runs_today, takes_script};
+use crate::line::words_line;
+use crate::refusal::Refusal;
+use crate::report::{Ending, Report, alone_report, script_report};
 use crate::status::Status;
-use crate::words::{Command, read_words};
 use ped_io::{ReadError, Sink, Source, read_all, write_all};
-use script_grammar::Script;
-use script_text::{SyntaxError, parse};
+use ped_words::{Command, WordError, read_words};
 use serial_meaning::laws;
 use std::alloc::Global;
 
 const MOST_BYTES: u64 = 1048576;
 
-/// Why no report was made.
-#[derive(Drop)]
-pub enum Refusal {
-    TooLong,
-    /// The text is of no script; the line that tells it.
-    Syntax(String),
-    NotBuilt,
-    Read,
-    Memory,
-}
-
 // All the bytes of the source.
 fn fetch<S: Source>(alloc: Global, source: &mut S) -> Result<Vec<u8>, Refusal>
     ensures whole { IfOk result (λ bytes. ReadWhole (watched S.left S.faults source.old source.new) bytes.items) }
-    ensures refused { IfErr result (IsCause (watched S.left S.faults source.old source.new)) }
+    ensures refused { IfErr result (IsLate (watched S.left S.faults source.old source.new)) }
 {
     match read_all(alloc, source, MOST_BYTES) {
         Ok(bytes) => Ok(bytes),
@@ -45,48 +37,19 @@ fn fetch<S: Source>(alloc: Global, source: &mut S) -> Result<Vec<u8>, Refusal>
     }
 }
 
-// The script that the bytes are the text of, where it is one that runs.
-fn understand(alloc: Global, bytes: &[u8]) -> Result<Script, Refusal>
-    requires { length bytes.now ≤ most_bytes }
-    ensures script { IfOk result (IsTextOf bytes.now) }
-    ensures refused { IfErr result (IsMisfit bytes.now) }
-{
-    let script = match parse(alloc, bytes) {
-        Ok(script) => script,
-        Err(SyntaxError::Bad { number, at }) => {
-            return match syntax_line(alloc, number, at) {
-                Ok(line) => Err(Refusal::Syntax(line)),
-                Err(_) => Err(Refusal::Memory),
-            };
-        }
-        Err(SyntaxError::Memory) => return Err(Refusal::Memory),
-    };
-    match is_built(alloc, &script) {
-        Ok(true) => Ok(script),
-        Ok(false) => Err(Refusal::NotBuilt),
-        Err(_) => Err(Refusal::Memory),
-    }
-}
-
-// The script of the source.
-fn read<S: Source>(alloc: Global, source: &mut S) -> Result<Script, Refusal>
-    ensures script { IfOk result (HasScript (watched S.left S.faults source.old source.new)) }
-    ensures refused { IfErr result (IsCause (watched S.left S.faults source.old source.new)) }
-{
-    let bytes = fetch(alloc, source)?;
-    understand(alloc, &bytes)
-}
-
-// What a command writes for the script of the source.
+// What a command writes, of the script of the source where it takes one.
 fn prepare<S: Source>(alloc: Global, command: Command, source: &mut S) -> Result<Report, Refusal>
-    ensures ready { IfOk result (λ report. (script : ScriptTree) × HasScript (watched S.left S.faults source.old source.new) script
-        × (report.output.items ≡ (report_of command script).output) × (report.ending ≡ (report_of command script).ending)) }
-    ensures refused { IfErr result (IsCause (watched S.left S.faults source.old source.new)) }
+    requires today { IsTrue (runs_today command) }
+    requires lawful { IsLawfulCommand command }
+    ensures ready { IfOk result (λ report. HasReport command (watched S.left S.faults source.old source.new) (shown report)) }
+    ensures refused { IfErr result (IsCause command (watched S.left S.faults source.old source.new)) }
+    ensures untouched { IsFalse (takes_script command) → source.new ≡ source.old }
 {
-    let script = read(alloc, source)?;
-    match make_report(alloc, command, script) {
-        Ok(report) => Ok(report),
-        Err(_) => Err(Refusal::Memory),
+    if takes_script(&command) {
+        let bytes = fetch(alloc, source)?;
+        script_report(alloc, command, &bytes)
+    } else {
+        Ok(alone_report(alloc, command)?)
     }
 }
 
@@ -123,12 +86,8 @@ fn refuse<E: Sink>(refusal: &Refusal, err: &mut E) -> Status
             tell(err, b"script: too long\n");
             Status::Script
         }
-        Refusal::Syntax(line) => {
+        Refusal::Untaken(line) => {
             tell(err, line.as_bytes());
-            Status::Script
-        }
-        Refusal::NotBuilt => {
-            tell(err, b"script: not built yet\n");
             Status::Script
         }
         Refusal::Read => {
@@ -142,6 +101,31 @@ fn refuse<E: Sink>(refusal: &Refusal, err: &mut E) -> Status
     }
 }
 
+// Tells that there was no memory.
+fn want<E: Sink>(err: &mut E) -> Status
+    ensures status { result ≡ Status.Memory }
+    ensures told { Told (watched E.written E.faults err.old err.new) (codes "out of memory\n") }
+{
+    tell(err, b"out of memory\n");
+    Status::Memory
+}
+
+// Tells which rule the words break.
+fn refuse_words<E: Sink>(alloc: Global, error: WordError, err: &mut E) -> Status
+    ensures { Refuses error (watched E.written E.faults err.old err.new) result }
+{
+    let WordError::Bad { number, at } = error else {
+        return want(err);
+    };
+    match words_line(alloc, number, at) {
+        Ok(line) => {
+            tell(err, line.as_bytes());
+            Status::Words
+        }
+        Err(_) => want(err),
+    }
+}
+
 // Runs a command.
 fn serve<S: Source, K: Sink, E: Sink>(
     alloc: Global,
@@ -150,11 +134,17 @@ fn serve<S: Source, K: Sink, E: Sink>(
     out: &mut K,
     err: &mut E,
 ) -> Status
+    requires lawful { IsLawfulCommand command }
     ensures answers { Answers command (watched S.left S.faults source.old source.new) (watched K.written K.faults out.old out.new)
         (watched E.written E.faults err.old err.new) result }
+    ensures untouched { IsFalse (reads_script command) → source.new ≡ source.old }
     ensures no_output { IsFalse (has_output result) → out.new ≡ out.old }
     ensures no_line { IsFalse (has_line result) → err.new ≡ err.old }
 {
+    if !runs_today(&command) {
+        tell(err, b"words: not built yet\n");
+        return Status::Words;
+    }
     match prepare(alloc, command, source) {
         Ok(report) => deliver(&report, out, err),
         Err(refusal) => refuse(&refusal, err),
@@ -169,18 +159,15 @@ fn perform<S: Source, K: Sink, E: Sink>(
     out: &mut K,
     err: &mut E,
 ) -> Status
-    ensures promise { KeepsPromise (map string_bytes words.now) (watched S.left S.faults script.old script.new)
+    ensures promise { KeepsPromise (reading (map string_bytes words.now)) (watched S.left S.faults script.old script.new)
         (watched K.written K.faults out.old out.new) (watched E.written E.faults err.old err.new) result }
-    ensures untouched { SaysNothing (map string_bytes words.now) → script.new ≡ script.old }
+    ensures untouched { ReadsNone (reading (map string_bytes words.now)) → script.new ≡ script.old }
     ensures no_output { IsFalse (has_output result) → out.new ≡ out.old }
     ensures no_line { IsFalse (has_line result) → err.new ≡ err.old }
 {
-    match read_words(words) {
-        Some(command) => serve(alloc, command, script, out, err),
-        None => {
-            tell(err, b"words: not built yet\n");
-            Status::Words
-        }
+    match read_words(alloc, words) {
+        Ok(command) => serve(alloc, command, script, out, err),
+        Err(error) => refuse_words(alloc, error, err),
     }
 }
 
@@ -196,23 +183,23 @@ pub fn pedrun<S: Source, K: Sink, E: Sink>(
     out: &mut K,
     err: &mut E,
 ) -> Status
-    ensures promise { KeepsPromise (map string_bytes words.now) (watched S.left S.faults script.old script.new)
+    ensures promise { KeepsPromise (reading (map string_bytes words.now)) (watched S.left S.faults script.old script.new)
         (watched K.written K.faults out.old out.new) (watched E.written E.faults err.old err.new) result }
 
-    // Words that say nothing leave the source, and an answer without output or without a line leaves that sink.
-    ensures untouched { SaysNothing (map string_bytes words.now) → script.new ≡ script.old }
+    // Words that give no command that reads a script leave the source, and an answer without output or without a line leaves that sink.
+    ensures untouched { ReadsNone (reading (map string_bytes words.now)) → script.new ≡ script.old }
     ensures no_output { IsFalse (has_output result) → out.new ≡ out.old }
     ensures no_line { IsFalse (has_line result) → err.new ≡ err.old }
 
     // The promise, said by its parts.
-    ensures words { RefusesWords (map string_bytes words.now) result }
-    ensures script { RefusesScript (map string_bytes words.now) (S.left script.old) result }
-    ensures report { WritesReport (map string_bytes words.now) (watched S.left S.faults script.old script.new) (S.left script.old) (watched K.written K.faults out.old out.new) result }
+    ensures words { RefusesWords (reading (map string_bytes words.now)) result }
+    ensures script { RefusesScript (reading (map string_bytes words.now)) (S.left script.old) result }
+    ensures report { WritesReport (reading (map string_bytes words.now)) (watched S.left S.faults script.old script.new) (S.left script.old) (watched K.written K.faults out.old out.new) result }
     ensures read { result ≡ Status.Read → Rose (S.faults script.old) (S.faults script.new) }
     ensures write { result ≡ Status.Write → Rose (K.faults out.old) (K.faults out.new) }
 
     // What holds of each run that is written.
-    ensures events { (seed : ℕ) (tree : ScriptTree) → IsLawful (plan_of seed tree) }
+    ensures events { (settings : RunSettings) (tree : ScriptTree) → IsLawful (plan_of settings tree) }
 {
     laws::pedigrees_rise();
     laws::draws_are_dotmix();

@@ -1,18 +1,26 @@
 // What a command writes.
 
-ghost use Rattle.std.specs.Prelude.{◌≡◌, IsTrue, IfOk, All, string_bytes};
-ghost use Rattle.std.specs.Arc.{arc_value};
+ghost use Rattle.std.specs.Prelude.{◌≡◌, ℕ, ◌≤◌, List, IsTrue, IsFalse, IfErr, IfOk, All, length};
+ghost use Rattle.ped_words.specs.Commands.{AreLawful, IsLawful};
 ghost use Rattle.serial_meaning.specs.Plan.{functions_of};
-ghost use Rattle.serial_meaning.specs.Eval.{elision, main_origin};
-ghost use Rattle.engine.specs.Built.{is_built, IsFunction};
-ghost use Rattle.engine.specs.Report.{report_of, plan_of, run_report, syntax_line, syntax_text};
+ghost use Rattle.serial_meaning.specs.Eval.{main_origin};
+ghost use Rattle.engine.specs.Built.{IsFunction};
+ghost use Rattle.engine.specs.Commands.{Reports, Takes, runs_today, takes_script};
+ghost use Rattle.engine.specs.Promise.{most_bytes};
+ghost use Rattle.engine.specs.Refusal.{IsMisfit};
+ghost use Rattle.engine.specs.Report.{hash_text, outcome_ending, plan_of, run_report, said, shown};
 
+use crate::refusal::Refusal;
 use crate::runner::{Halt, run};
-use crate::words::Command;
-use dotmix::Gamma;
-use script_grammar::Script;
-use serial_meaning::{Answer, Limits, Memory, Out, Outcome, Plan, Show, render_run};
-use std::alloc::{AllocError, Global};
+use crate::script::{any_script, built_script, valid_script};
+use dotmix::{Gamma, dot, dotmix};
+use ped_gen::gen_script;
+use ped_path::Pedigree;
+use ped_words::{Command, Settings};
+use script_check::Checked;
+use script_print::print_script;
+use serial_meaning::{Answer, Memory, Out, Outcome, Plan, render_run};
+use std::alloc::Global;
 use std::sync::Arc;
 
 /// How a report ends: the run came to its end, or ended by a fault, whose line is the last one.
@@ -22,26 +30,22 @@ pub enum Ending {
     Faulted,
 }
 
-/// All that a command writes for its script.
+/// All that a command writes.
 #[derive(Drop)]
 pub struct Report {
     pub output: Vec<u8>,
     pub ending: Ending,
 }
 
-const LIMITS: Limits = Limits {
-    depth: 256,
-    budget: 1000000,
-};
-
-// The plan of a run.
-fn make_plan(alloc: Global, seed: u64, script: Script) -> Result<Plan, Memory>
-    requires { IsTrue (is_built script) }
-    ensures { IfOk result (λ plan. plan ≡ plan_of seed script) }
-{
-    match Gamma::of_seed(alloc, seed, LIMITS.depth) {
-        Ok(gamma) => Ok(Plan::new(script, gamma, LIMITS, Show::Plain)),
-        Err(_) => Err(Memory),
+impl Report {
+    // An output that ends well.
+    fn said(output: Vec<u8>) -> Report
+        ensures { shown result ≡ said output.items }
+    {
+        Report {
+            output,
+            ending: Ending::Done,
+        }
     }
 }
 
@@ -62,57 +66,94 @@ fn answer(alloc: Global, plan: Plan) -> Result<Answer, Memory>
     Ok(Answer::new(plan, origin, out, outcome))
 }
 
-// What a run writes.
-fn run_report(alloc: Global, plan: Plan) -> Result<Report, Memory>
-    requires { All IsFunction (functions_of plan) }
-    ensures output { IfOk result (λ report. report.output.items ≡ (run_report plan).output) }
-    ensures ending { IfOk result (λ report. report.ending ≡ (run_report plan).ending) }
+fn ending_for(outcome: &Outcome) -> Ending
+    ensures { result ≡ outcome_ending outcome.now }
 {
-    let answer = answer(alloc, plan)?;
-    let output = render_run(alloc, &answer)?;
-    let ending = match answer.outcome {
+    match outcome {
         Outcome::Fault(_) => Ending::Faulted,
         _ => Ending::Done,
-    };
-    Ok(Report { output, ending })
-}
-
-fn seed_of(command: Command) -> u64
-    ensures { command ≡ Command.Run result }
-{
-    let Command::Run { seed } = command;
-    seed
-}
-
-/// What a command writes for a script that runs.
-pub fn make_report(alloc: Global, command: Command, script: Script) -> Result<Report, Memory>
-    requires { IsTrue (is_built script) }
-    ensures output { IfOk result (λ report. report.output.items ≡ (report_of command script).output) }
-    ensures ending { IfOk result (λ report. report.ending ≡ (report_of command script).ending) }
-{
-    let seed = seed_of(command);
-    let plan = make_plan(alloc, seed, script)?;
-    run_report(alloc, plan)
-}
-
-fn syntax_text(number: u8) -> &'static str
-    ensures { result.now ≡ syntax_text number }
-{
-    match number {
-        1 => "not ASCII",
-        2 => "unexpected token",
-        3 => "number out of range",
-        4 => "name too long",
-        5 => "nested too deep",
-        6 => "unexpected end",
-        _ => "too many functions",
     }
 }
 
-/// The line of a fault of the text.
-pub fn syntax_line(alloc: Global, number: u8, at: u32) -> Result<String, AllocError>
-    ensures { IfOk result (λ line. string_bytes line ≡ syntax_line number at) }
+// What a run writes.
+fn run_report(alloc: Global, plan: Plan) -> Result<Report, Memory>
+    requires { All IsFunction (functions_of plan) }
+    ensures { IfOk result (λ report. shown report ≡ run_report plan) }
 {
-    let text = syntax_text(number);
-    format!(in alloc; "script: {text} at byte {at}\n")
+    let answer = answer(alloc, plan)?;
+    let output = render_run(alloc, &answer)?;
+    let ending = ending_for(&answer.outcome);
+    Ok(Report { output, ending })
+}
+
+// The lines of a pedigree's dot product and draw.
+fn hash_report(alloc: Global, gamma: &Gamma, at: &Pedigree) -> Result<Report, Memory>
+    requires { length at.now ≤ length gamma.now }
+    ensures { IfOk result (λ report. shown report ≡ said (hash_text gamma.now at.now)) }
+{
+    let sum = dot(gamma, at);
+    let number = dotmix(gamma, at);
+    let text = format!(in alloc; "dot {sum}\ndraw {number}\n")?;
+    Ok(Report::said(text.into_bytes()))
+}
+
+// The plan of a run.
+fn make_plan(settings: Settings, script: Checked) -> Plan
+    requires { AreLawful settings }
+    ensures { result ≡ plan_of settings script }
+{
+    let Settings {
+        gamma,
+        limits,
+        show,
+    } = settings;
+    Plan::new(script, gamma, limits, show)
+}
+
+/// What a command writes of the script that these bytes are the text of.
+pub fn script_report(alloc: Global, command: Command, bytes: &[u8]) -> Result<Report, Refusal>
+    requires today { IsTrue (runs_today command) }
+    requires script { IsTrue (takes_script command) }
+    requires lawful { IsLawful command }
+    requires within { length bytes.now ≤ most_bytes }
+    ensures report { IfOk result (λ report. Reports command bytes.now (shown report)) }
+    ensures refused { IfErr result (IsMisfit (Takes command) bytes.now) }
+{
+    match command {
+        Command::Run { settings, .. } => {
+            let script = match built_script(alloc, bytes) {
+                Ok(script) => script,
+                Err(refusal) => return Err(refusal),
+            };
+            Ok(run_report(alloc, make_plan(settings, script))?)
+        }
+        Command::Fmt => {
+            let script = match any_script(alloc, bytes) {
+                Ok(script) => script,
+                Err(refusal) => return Err(refusal),
+            };
+            Ok(Report::said(print_script(alloc, &script)?))
+        }
+        Command::Check => match valid_script(alloc, bytes) {
+            Ok(_) => Ok(Report::said(b"ok\n".to_vec(alloc)?)),
+            Err(refusal) => Err(refusal),
+        },
+        _ => unreachable!(),
+    }
+}
+
+/// What a command writes that is about no script.
+pub fn alone_report(alloc: Global, command: Command) -> Result<Report, Memory>
+    requires alone { IsFalse (takes_script command) }
+    requires lawful { IsLawful command }
+    ensures { IfOk result (λ report. (bytes : List ℕ) → Reports command bytes (shown report)) }
+{
+    match command {
+        Command::Hash { gamma, at } => hash_report(alloc, &gamma, &at),
+        Command::Gen { shape, size } => match gen_script(alloc, shape, size) {
+            Ok(text) => Ok(Report::said(text)),
+            Err(_) => Err(Memory),
+        },
+        _ => unreachable!(),
+    }
 }

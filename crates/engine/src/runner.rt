@@ -87,14 +87,14 @@ fn function_at(functions: &[Function], n: usize) -> Option<&Function>
 fn functions(plan: &Plan) -> &[Function]
     ensures { result.now ≡ functions_of plan.now }
 {
-    plan.script.functions.as_slice()
+    plan.functions()
 }
 
 fn depth(plan: &Plan) -> u64
     ensures value { result ≡ plan.now.limits.depth }
 
     // What holds of every plan.
-    ensures plan { IsPlan plan.now.script plan.now.gamma plan.now.limits }
+    ensures plan { IsPlan plan.now.gamma plan.now.limits }
     ensures fits { plan.now.limits.budget < 2 ^ 32 }
 {
     let _budget = plan.limits.budget;

@@ -1,4 +1,4 @@
--- The numbers of the rules for words, their texts, and the rules for the text of a pedigree among them.
+-- The numbers of the rules for words, and the rules for the text of a pedigree among them.
 use Rattle.std.specs.Prelude.{◌≡◌, ℕ, ◌==◌, if◌then◌else◌, Option, Some, None, Result, Ok, Err, List, [], ◌∷◌, codes}
 use Rattle.std.specs.Option.{option_map}
 use Rattle.ped_path.specs.declared.parse.PedTextError.{PedTextError}
@@ -18,26 +18,6 @@ number_of BadValue = 6
 number_of OutOfRange = 7
 number_of MissingOption = 8
 number_of StrayWord = 9
-
-abbrev pub text_in : List (ℕ × List ℕ) → ℕ → List ℕ
-text_in [] number = []
-text_in (row ∷ rows) number = if number == row.0 then row.1 else text_in rows number
-
--- what is said of the rule of this number; nothing where no rule has it
-unfoldable pub rule_text : ℕ → List ℕ
-rule_text number =
-    text_in
-    ((1, codes "no command") ∷
-    (2, codes "unknown command") ∷
-    (3, codes "unknown option") ∷
-    (4, codes "option twice") ∷
-    (5, codes "missing value") ∷
-    (6, codes "bad value") ∷
-    (7, codes "out of range") ∷
-    (8, codes "missing option") ∷
-    (9, codes "stray word") ∷
-    [])
-    number
 
 -- the rule that a text breaks which is no pedigree's
 abbrev pub text_rule : PedTextError → Option Rule

@@ -15,4 +15,4 @@ mod tests;
 
 pub use command::{Command, Settings};
 pub use read::read_words;
-pub use rule::{WordError, rule_text};
+pub use rule::WordError;

@@ -1,5 +1,5 @@
 ghost use Rattle.std.specs.Prelude.{◌≡◌};
-ghost use Rattle.ped_words.specs.Rules.{number_of, rule_text, text_rule};
+ghost use Rattle.ped_words.specs.Rules.{number_of, text_rule};
 
 use ped_path::PedTextError;
 use std::alloc::{AllocError, AllocFailed};
@@ -21,7 +21,7 @@ pub(crate) enum Rule {
 /// Why words are no command.
 #[derive(Clone, Copy, Debug, PartialEq, Eq)]
 pub enum WordError {
-    /// The first rule that is broken, and the index of the word that breaks it, from 0. [`rule_text`] says what the rule is.
+    /// The first rule that is broken, and the index of the word that breaks it, from 0.
     ///
     /// | Number | Rule | Word |
     /// |---|---|---|
@@ -77,25 +77,6 @@ impl Rule {
             PedTextError::TooBig(_) | PedTextError::TooLong => Some(Rule::OutOfRange),
             PedTextError::Memory => None,
         }
-    }
-}
-
-/// What is said of the rule of this number. Nothing is said of a number that no rule has.
-#[tactic(auto, unfolding(crate::specs::Rules::rule_text))]
-pub fn rule_text(number: u8) -> &'static str
-    ensures { result.now ≡ rule_text number }
-{
-    match number {
-        1 => "no command",
-        2 => "unknown command",
-        3 => "unknown option",
-        4 => "option twice",
-        5 => "missing value",
-        6 => "bad value",
-        7 => "out of range",
-        8 => "missing option",
-        9 => "stray word",
-        _ => "",
     }
 }
 

@@ -1,4 +1,4 @@
-use crate::{Command, Settings, WordError, read_words, rule_text};
+use crate::{Command, Settings, WordError, read_words};
 use ped_gen::Shape;
 use serial_meaning::Show;
 use std::alloc::Global;
@@ -276,24 +276,4 @@ fn a_size_fits_its_shape(rt: HostRuntime) -> Result<(), Fail> {
         }
     }
     Ok(())
-}
-
-#[test]
-fn rules_have_texts(rt: HostRuntime) {
-    let texts = [
-        "",
-        "no command",
-        "unknown command",
-        "unknown option",
-        "option twice",
-        "missing value",
-        "bad value",
-        "out of range",
-        "missing option",
-        "stray word",
-        "",
-    ];
-    for (number, text) in (0u8..).zip(texts) {
-        assert!(rt; rule_text(number) == text, "{number}");
-    }
 }

@@ -12,12 +12,11 @@ pub record PlanView : Type 0 where
   pub limits : Limits
   pub show : Show
 
-pub record IsPlan (script : Script) (gamma : List ℕ) (limits : Limits) : Type 0 where
+pub record IsPlan (gamma : List ℕ) (limits : Limits) : Type 0 where
   pub coefficients : length gamma ≡ limits.depth
   pub some_depth : 1 ≤ limits.depth
   pub depth_limit : limits.depth ≤ 256
   pub some_step : 1 ≤ limits.budget
-  pub functions_limit : length script.functions ≤ 1024
 
 abbrev pub functions_of : PlanView → List Function
 functions_of plan = plan.script.functions

@@ -1,5 +1,5 @@
 ghost use Rattle.std.specs.Prelude.{◌≡◌, ◌≤◌, length, IfOk};
-ghost use Rattle.serial_meaning.specs.Plan.{IsPlan};
+ghost use Rattle.serial_meaning.specs.Plan.{IsPlan, functions_of};
 ghost use Rattle.serial_meaning.specs.Functions.{number_of};
 ghost use Rattle.serial_meaning.specs.Eval.{main_origin};
 
@@ -7,7 +7,9 @@ use crate::memory::Memory;
 use crate::origin::Origin;
 use dotmix::Gamma;
 use ped_path::Ped;
-use script_grammar::{Function, Items, Script};
+use script_check::Checked;
+use script_grammar::laws::functions_are_few;
+use script_grammar::{Function, Items};
 use std::alloc::Global;
 use std::marker::Model;
 
@@ -29,11 +31,11 @@ pub enum Show {
     Log,
 }
 
-/// All that the meaning of a run depends on. There are as many coefficients as the depth, and the limits are in range. No number
-/// of workers stands here, nor anything else that could let the answer depend on them.
+/// All that the meaning of a run depends on. The script is valid, there are as many coefficients as the depth, and the limits are
+/// in range. No number of workers stands here, nor anything else that could let the answer depend on them.
 #[derive(Drop)]
 pub struct Plan {
-    pub script: Script,
+    pub checked: Checked,
     pub gamma: Gamma,
     pub limits: Limits,
     pub show: Show,
@@ -48,30 +50,40 @@ impl Model for Plan {
 
     ghost coded = { Prim.hlevel (codes, script_type.the_row.coded) };
 
-    ghost view = { λ p. record { script = p.script; gamma = p.gamma; limits = p.limits; show = p.show } };
+    ghost view = { λ p. record { script = p.checked; gamma = p.gamma; limits = p.limits; show = p.show } };
 
-    ghost invariant = { λ p. IsPlan p.script p.gamma p.limits };
+    ghost invariant = { λ p. IsPlan p.gamma p.limits };
 }
 
 impl Plan {
-    pub fn new(script: Script, gamma: Gamma, limits: Limits, show: Show) -> Plan
-        requires { IsPlan script gamma limits }
-        ensures { result ≡ record { script = script; gamma = gamma; limits = limits; show = show } }
+    /// The plan of a valid script. It takes no memory.
+    pub fn new(checked: Checked, gamma: Gamma, limits: Limits, show: Show) -> Plan
+        requires { IsPlan gamma limits }
+        ensures { result ≡ record { script = checked; gamma = gamma; limits = limits; show = show } }
     {
         Plan {
-            script,
+            checked,
             gamma,
             limits,
             show,
         }
     }
 
-    /// The origin of a whole run: `main` at the empty path. Where there is no `main` it is a function that doesn't exist.
+    /// The functions of the script, in the order of the text.
+    pub fn functions(&self) -> &[Function]
+        ensures functions { result.now ≡ functions_of self.now }
+        ensures few { length result.now ≤ 1024 }
+    {
+        functions_are_few();
+        self.checked.script().functions.as_slice()
+    }
+
+    /// The origin of a whole run: `main` at the empty path.
     pub fn main_origin(&self, alloc: Global) -> Result<Origin, Memory>
         ensures { IfOk result (λ origin. origin ≡ main_origin self.now) }
     {
         Ok(Origin::Instance {
-            function: function_number(self.script.functions.as_slice(), b"main"),
+            function: function_number(self.functions(), b"main"),
             args: Items(Vec::new(alloc)),
             path: Ped::root(alloc)?,
         })

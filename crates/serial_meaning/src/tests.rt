@@ -1,9 +1,5 @@
-use crate::{
-    Event, Fault, FaultKind, Limits, Memory, Origin, Out, Plan, Show, Strand, Value, render_strand,
-};
-use dotmix::Gamma;
+use crate::{Event, Fault, FaultKind, Memory, Out, Strand, Value, render_strand};
 use ped_path::{Ped, Pedigree};
-use script_grammar::{Items, Script};
 use std::alloc::Global;
 use std::test::Fail;
 
@@ -65,43 +61,6 @@ fn appended_events_stand_behind_the_others(rt: HostRuntime) -> Result<(), Fail> 
     }
     assert!(rt; all.get(6).is_none());
     Ok(())
-}
-
-#[test]
-fn a_plan_begins_with_main_at_the_empty_path(rt: HostRuntime) -> Result<(), Fail> {
-    let alloc = rt.alloc();
-    let script = Script {
-        functions: Items(Vec::new(alloc)),
-    };
-    let gamma = Gamma::of_seed(alloc, 7, 2)?;
-    let limits = Limits {
-        depth: 2,
-        budget: 9,
-    };
-    let plan = Plan::new(script, gamma, limits, Show::Plain);
-    let origin = plan.main_origin(alloc)?;
-    let (function, arguments, ranks) = shape_of(&origin);
-    assert_eq!(rt; function, 0);
-    assert_eq!(rt; arguments, 0);
-    assert_eq!(rt; ranks, 0);
-    Ok(())
-}
-
-/// The function, the number of arguments and the length of the path.
-fn shape_of(origin: &Origin) -> (u32, usize, u64) {
-    match origin {
-        Origin::Instance {
-            function,
-            args,
-            path,
-        } => (*function, args.as_slice().len(), path.len()),
-        Origin::Loop {
-            function,
-            rest,
-            path,
-            ..
-        } => (*function, rest.as_slice().len() + 1, path.len()),
-    }
 }
 
 #[test]

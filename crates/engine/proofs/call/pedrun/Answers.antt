@@ -19,4 +19,4 @@ pub returns-clause-write : goal.returns-clause-write
 returns-clause-write g c = write_cause _ _ _ _ _ c.perform.ensures.promise
 
 pub returns-clause-events : goal.returns-clause-events
-returns-clause-events g c seed tree = record { rise = c.pedigrees_rise.ensures (plan_of seed tree); draws = c.draws_are_dotmix.ensures (plan_of seed tree); least = c.fault_is_least.ensures (plan_of seed tree) }
+returns-clause-events g c settings tree = record { rise = c.pedigrees_rise.ensures (plan_of settings tree); draws = c.draws_are_dotmix.ensures (plan_of settings tree); least = c.fault_is_least.ensures (plan_of settings tree) }

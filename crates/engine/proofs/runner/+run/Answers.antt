@@ -1,11 +1,11 @@
-use Rattle.std.proofs.Common.{◌≡◌, ◌+◌, ◌-◌, ◌<◌, ◌∙◌, sym, ap, subst, refl, arith, drop, length, get_or, List, [], ◌∷◌, ◌++◌, Ok, Err, Some, slice_get, rules}
+use Rattle.std.proofs.Common.{◌∙◌, sym, ap, subst, arith, [], slice_get, rules}
 use Rattle.std.proofs.lemmas.Result.{err_from_is_err_and, IfOk-weaker, MatchResult-weaker}
 use Rattle.serial_meaning.specs.Plan.{functions_of}
 use Rattle.serial_meaning.specs.Functions.{number_of}
-use Rattle.serial_meaning.specs.Runs.{behind, done, ◌then◌}
+use Rattle.serial_meaning.specs.Runs.{behind}
 use Rattle.engine.specs.Built.{IsStatement}
-use Rattle.engine.specs.Ran.{Ended, Stopped, all, one, here, returned_of}
-use Rattle.engine.proofs.RanLemmas.{behind-go, stopped_then, stopped_as, all-at, all_end, instance_body, instance_return, instance_ends, no_function_ends, begins, child_stopped}
+use Rattle.engine.specs.Ran.{Ended, Stopped, all, here, returned_of}
+use Rattle.engine.proofs.RanLemmas.{behind-go, stopped_then, stopped_as, all-at, all_end, instance_body, instance_return, instance_ends, begins, child_stopped}
 use Rattle.engine.proofs.runner.+run.Goals as goal
 
 pub statements-returns-in_err-statement-clause-stopped : goal.statements-returns-in_err-statement-clause-stopped

@@ -1,4 +1,4 @@
-use Rattle.std.proofs.Common.{◌≡◌, ◌≤◌, sym, subst, arith, length, Option, None, slice_get}
+use Rattle.std.proofs.Common.{sym, subst, arith}
 use Rattle.engine.specs.Built.{IsFunction}
 use Rattle.engine.proofs.BuiltLemmas.{none_past}
 use Rattle.engine.proofs.runner.function_at.Goals as goal

@@ -1,4 +1,4 @@
-use Rattle.std.proofs.Common.{◌≡◌, ◌+◌, ◌<◌, length, ap, arith, rules, All, subst, sym}
+use Rattle.std.proofs.Common.{length, ap, arith}
 use Rattle.engine.proofs.runner.run.Goals as goal
 
 pub instance-requires : goal.instance-requires

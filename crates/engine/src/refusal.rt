@@ -1,0 +1,80 @@
+// Why a command has no report.
+
+ghost use Rattle.std.specs.Prelude.{◌≡◌, codes};
+ghost use Rattle.engine.specs.Lines.{check_line, syntax_line};
+ghost use Rattle.engine.specs.Refusal.{Tells};
+
+use crate::line::{check_line, syntax_line};
+use std::alloc::{AllocError, Global};
+
+/// Why a command has no report.
+#[derive(Drop)]
+pub enum Refusal {
+    /// The source has more than 1048576 bytes.
+    TooLong,
+    /// The source has the text of no script that the command takes; the line that tells why.
+    Untaken(String),
+    /// A read failed.
+    Read,
+    Memory,
+}
+
+/// The refusal of a text with this fault.
+pub fn no_text(alloc: Global, number: u8, at: u32) -> Refusal
+    ensures { Tells (syntax_line number at) result }
+{
+    match syntax_line(alloc, number, at) {
+        Ok(line) => Refusal::Untaken(line),
+        Err(_) => Refusal::Memory,
+    }
+}
+
+/// The refusal of a script that violates this condition.
+pub fn invalid(alloc: Global, number: u8, at: u32) -> Refusal
+    ensures { Tells (check_line number at) result }
+{
+    match check_line(alloc, number, at) {
+        Ok(line) => Refusal::Untaken(line),
+        Err(_) => Refusal::Memory,
+    }
+}
+
+/// The refusal of a script that doesn't run today.
+pub fn unbuilt(alloc: Global) -> Refusal
+    ensures { Tells (codes "script: not built yet\n") result }
+{
+    match String::from_str(alloc, "script: not built yet\n") {
+        Ok(line) => Refusal::Untaken(line),
+        Err(_) => Refusal::Memory,
+    }
+}
+
+impl From<AllocError> for Refusal {
+    ghost use Rattle.engine.specs.declared.refusal.Refusal.TheVariants as R;
+
+    ghost from_gives = { λ _ e. e ≡ R.Memory };
+
+    fn from(_: AllocError) -> Self {
+        Refusal::Memory
+    }
+}
+
+impl From<serial_meaning::Memory> for Refusal {
+    ghost use Rattle.engine.specs.declared.refusal.Refusal.TheVariants as R;
+
+    ghost from_gives = { λ _ e. e ≡ R.Memory };
+
+    fn from(_: serial_meaning::Memory) -> Self {
+        Refusal::Memory
+    }
+}
+
+impl From<script_print::Memory> for Refusal {
+    ghost use Rattle.engine.specs.declared.refusal.Refusal.TheVariants as R;
+
+    ghost from_gives = { λ _ e. e ≡ R.Memory };
+
+    fn from(_: script_print::Memory) -> Self {
+        Refusal::Memory
+    }
+}
