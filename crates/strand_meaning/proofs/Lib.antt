@@ -1,3 +1,5 @@
+pub mod Changed
+pub mod Keeps
 pub mod Moves
 pub mod Shown
 pub mod Variables
