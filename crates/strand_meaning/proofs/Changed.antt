@@ -51,6 +51,14 @@ other-number n k h = from (nat_eq n k) refl
     from true e = let g : n ≡ k = eqb-true n k e in absurd (omega arith)
     from false e = refl
 
+pub length-changed : (k : ℕ) (f : Activation → Activation) (below : List Activation) → length (changed_at k f below) ≡ length below
+length-changed k f [] = refl
+length-changed k f (a ∷ below) = from (nat_eq k (length below)) (length-changed k f below)
+  where
+    from : (b : Bool) → length (changed_at k f below) ≡ length below → length (if b then f a ∷ below else a ∷ changed_at k f below) ≡ suc (length below)
+    from true ih = refl
+    from false ih = ap suc ih
+
 -- an activation with its variables changed, and what it knows of faults
 abbrev pub altered : (Env → Env) → (Option Fault → Option Fault) → Activation → Activation
 altered fix mark a = record a { env = fix a.env; faulted = mark a.faulted }
@@ -345,14 +353,6 @@ module _ (plan : PlanView) (path : List ℕ) (fix : Env → Env) (mark : Option 
       by_steps (suc n) = by_text (spawns_in (function_at (functions_of plan) m.top.function)) (record start { steps = n })
 
   -- Another activation is altered
-
-  pub length-changed : (k : ℕ) (f : Activation → Activation) (below : List Activation) → length (changed_at k f below) ≡ length below
-  length-changed k f [] = refl
-  length-changed k f (a ∷ below) = from (nat_eq k (length below)) (length-changed k f below)
-    where
-      from : (b : Bool) → length (changed_at k f below) ≡ length below → length (if b then f a ∷ below else a ∷ changed_at k f below) ≡ suc (length below)
-      from true ih = refl
-      from false ih = ap suc ih
 
   module _ (m : Machine) (k : ℕ) (lower : k < length m.below) where
     abbrev deep : Machine

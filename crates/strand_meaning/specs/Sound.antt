@@ -51,7 +51,7 @@ pub record IsSound (plan : PlanView) (parts : List Part) (height : ℕ) (a : Act
   pub faulted : a.spawned ≡ false → a.faulted ≡ None
   pub in_text : a.spawned ≡ true → spawns_in (function_at (functions_of plan) a.function) ≡ true
   pub left_in_text : any_spawns a.left ≡ true → spawns_in (function_at (functions_of plan) a.function) ≡ true
-  pub returning : a.returning ≡ true → a.spawned ≡ false
+  pub returning : a.returning ≡ true → (a.spawned ≡ false) × (a.left ≡ [])
 
 -- the activations below the one whose value goes there
 abbrev pub AreSound : PlanView → List Part → Option Name → List Activation → Type 0
