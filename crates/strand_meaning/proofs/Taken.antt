@@ -33,14 +33,14 @@ taken child [] m = m
 taken child (p ∷ ps) m = taken child ps (take p.place (child p.child).ending m)
 
 -- what an answer doesn't change
-record Shape : Type 0 where
-  height : ℕ
-  left : List Stmt
-  returning : Bool
-  target : Option Name
-  spawned : Bool
+pub record Shape : Type 0 where
+  pub height : ℕ
+  pub left : List Stmt
+  pub returning : Bool
+  pub target : Option Name
+  pub spawned : Bool
 
-abbrev shape_of : Machine → Shape
+abbrev pub shape_of : Machine → Shape
 shape_of m = record { height = length m.below; left = m.top.left; returning = m.top.returning; target = m.top.target; spawned = m.top.spawned }
 
 shape-answered : (height : ℕ) (target : Option Name) (ended : Result (List Value) Fault) (m : Machine) → shape_of (changed height (answered target ended) m) ≡ shape_of m
@@ -56,12 +56,12 @@ shape-take (Spawned height target) ended m = shape-answered height target ended 
 shape-take (Looped target) ended m = refl
 shape-take Half ended m = refl
 
-shape-taken : (child : Origin → Evaluation) (ps : List Part) (m : Machine) → shape_of (taken child ps m) ≡ shape_of m
+pub shape-taken : (child : Origin → Evaluation) (ps : List Part) (m : Machine) → shape_of (taken child ps m) ≡ shape_of m
 shape-taken child [] m = refl
 shape-taken child (p ∷ ps) m = shape-taken child ps (take p.place (child p.child).ending m) ∙ shape-take p.place (child p.child).ending m
 
 -- the next move doesn't touch the target of a child, nor is it the end of its activation
-abbrev IsFreePlace : Shape → Place → Type 0
+abbrev pub IsFreePlace : Shape → Place → Type 0
 IsFreePlace s (Spawned owner target) =
     (owner ≤ s.height)
     × (owner ≡ s.height → (st : Stmt) (left : List Stmt) → s.left ≡ st ∷ left → IsApart (touched (out-Act (out-Stmt st).act)) (target_names target))
@@ -70,7 +70,7 @@ IsFreePlace s (Spawned owner target) =
 IsFreePlace s (Looped target) = Unit {0}
 IsFreePlace s Half = Unit {0}
 
-abbrev AreFree : List Part → Shape → Type 0
+abbrev pub AreFree : List Part → Shape → Type 0
 AreFree [] s = Unit {0}
 AreFree (p ∷ ps) s = IsFreePlace s p.place × AreFree ps s
 
