@@ -22,7 +22,7 @@ use Rattle.strand_meaning.proofs.Changed.{other-number}
 pub within-itself : (names : Names) → IsWithin names names
 within-itself names name h = h
 
-none-contained : (name : List ℕ) → Contains [] name → ⊥
+pub none-contained : (name : List ℕ) → Contains [] name → ⊥
 none-contained name h = omega (arith, h.1)
 
 pub nothing-within : (names : Names) → IsWithin [] names

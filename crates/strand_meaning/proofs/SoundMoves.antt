@@ -24,6 +24,7 @@ use Rattle.serial_meaning.specs.Exec.{State, Manner, strand, fault, given, paid_
 use Rattle.serial_meaning.specs.Open.{is_empty_loop, filler}
 use Rattle.serial_meaning.proofs.Computing.{act_has_spawn, spawns-out}
 use Rattle.serial_meaning.specs.declared.value.Value.{Value}
+use Rattle.serial_meaning.specs.declared.value.Value.TheVariants.{Int}
 use Rattle.serial_meaning.specs.declared.event.FaultKind.{FaultKind}
 use Rattle.serial_meaning.specs.declared.event.FaultKind.TheVariants.{Index, Depth, Calls, Budget}
 use Rattle.serial_meaning.specs.declared.event.Fault.{Fault}
@@ -40,7 +41,7 @@ use Rattle.strand_meaning.proofs.Shown.{token_parts, same-number}
 use Rattle.strand_meaning.proofs.Keeps.{first-contained, later-contained}
 use Rattle.strand_meaning.proofs.Changed.{other-number}
 use Rattle.strand_meaning.proofs.Taken.{shape_of, IsFreePlace, AreFree}
-use Rattle.strand_meaning.proofs.Clears.{within-itself, nothing-within, clear-within, clear-append, next-apart, unfilled-append, or-assoc, any-append, or-false, neither, none-unfilled, none-above, target-unfilled}
+use Rattle.strand_meaning.proofs.Clears.{within-itself, none-contained, nothing-within, clear-within, clear-append, next-apart, unfilled-append, or-assoc, any-append, or-false, neither, none-unfilled, none-above, target-unfilled}
 
 clash : true ≡ false → ⊥
 clash h = absurd (cc)
@@ -213,6 +214,10 @@ module _ (plan : PlanView) (path : List ℕ) (clear-plan : IsClearPlan plan) (pa
   going : (more : List Stmt) (s : State Bool) (ends : Names) → s.spawned ≡ m.top.spawned → IsClear pending more ends → (any_spawns more ≡ true → InText) → IsSoundStage plan (parts ++ []) (Goes (with_left m more s))
   going more s ends same clear text = no-parts (λ ps. IsSoundStage plan ps (Goes (with_left m more s))) (sound.0, top-sound more s ends same clear text, sound.2)
 
+  -- the same, of which the rank and the steps say nothing
+  calm : (more : List Stmt) (env : Env) (ends : Names) → IsClear pending more ends → (any_spawns more ≡ true → InText) → IsSoundStage plan (parts ++ []) (Goes (with_left m more (record { env = env; rank = 0; steps = 0; spawned = m.top.spawned })))
+  calm more env ends clear text = going more (record { env = env; rank = 0; steps = 0; spawned = m.top.spawned }) ends refl clear text
+
   module _ (into : List Stmt → State Bool → Machine) (ends : Names) where
     abbrev Fine : Run Token Halt (State Bool) → Type 0
     Fine r = SoundEnd plan parts r.items (reached plan (with_left m left) into r.ending)
@@ -291,3 +296,325 @@ module _ (plan : PlanView) (path : List ℕ) (clear-plan : IsClearPlan plan) (pa
         by_args : (o : Result (List Value) FaultKind) → Fine (given (what place) plan path o (here n) (λ vs. tested (what place) plan path (nat_lt (length path + 1) plan.limits.depth) Depth (here n) (child_run vs)) then λ p. done (sets target p))
         by_args (Ok vs) = by_test vs (nat_lt (length path + 1) plan.limits.depth)
         by_args (Err k) = (refl, height, sound.0)
+
+    -- a callee, over the activation that calls
+    fine-call : (target : Option Name) (c : CallText) (n : ℕ) → ((inner : List Stmt) (s : State Bool) → into inner s ≡ calling plan target c left m inner s) → IsClear pending left ends → IsApart (target_names target) pending →
+        Fine (called (what (Spawned height target)) plan path inside height c (here n) then λ p. done (sets target p))
+    fine-call target c n enters clear apart = by_args (values_of c.args m.top.env)
+      where
+        place : Place
+        place = Spawned height target
+
+        number : ℕ
+        number = number_of (functions_of plan) c.name.bytes
+
+        begins : Function → List Value → State Bool
+        begins f vs = record { env = bound f.params vs; rank = m.rank; steps = n; spawned = false }
+
+        none : any_by (suc height) parts ≡ false
+        none = none-above height parts sound.0
+
+        callee : (f : Function) (vs : List Value) → function_at (functions_of plan) number ≡ Some f → IsSoundStage plan parts (Goes (calling plan target c left m f.body (begins f vs)))
+        callee f vs e =
+            let clear-body = clear-plan f (contained-at (functions_of plan) number f e) in
+            (places-higher height parts sound.0, record {
+              clear = (clear-body.0, subst (λ (l : Names). IsClear l f.body clear-body.0) (sym (none-unfilled (suc height) parts none)) clear-body.1);
+              spawned = λ h. absurd (clash (sym h ∙ none));
+              faulted = λ h. refl;
+              in_text = λ h. absurd (clash (sym h));
+              left_in_text = λ h. ap spawns_in e ∙ h;
+              returning = λ h. absurd (clash (sym h));
+            }, (apart, top-sound left (state_of m) ends refl clear text-more, sound.2))
+
+        by_function : (vs : List Value) (o : Option Function) → function_at (functions_of plan) number ≡ o →
+            Fine ((activation (what place) plan path inside (height + 1) o vs (here n) then λ r. done (r.0, record (here n) { rank = r.1.rank; steps = r.1.steps })) then λ p. done (sets target p))
+        by_function vs None e = calm left _ ends clear text-more
+        by_function vs (Some f) e = no-parts (λ ps. IsSoundStage plan ps (Goes (into f.body (begins f vs)))) (subst (λ (k : Machine). IsSoundStage plan parts (Goes k)) (sym (enters f.body (begins f vs))) (callee f vs e))
+
+        run : List Value → Run Token Halt (Value × State Bool)
+        run vs = activation (what place) plan path inside (height + 1) (function_at (functions_of plan) number) vs (here n) then λ r. done (r.0, record (here n) { rank = r.1.rank; steps = r.1.steps })
+
+        by_test : (vs : List Value) (b : Bool) → Fine (tested (what place) plan path b Calls (here n) (run vs) then λ p. done (sets target p))
+        by_test vs true = by_function vs (function_at (functions_of plan) number) refl
+        by_test vs false = (refl, height, sound.0)
+
+        by_args : (o : Result (List Value) FaultKind) → Fine (given (what place) plan path o (here n) (λ vs. tested (what place) plan path (nat_lt height 256) Calls (here n) (run vs)) then λ p. done (sets target p))
+        by_args (Ok vs) = by_test vs (nat_lt height 256)
+        by_args (Err k) = (refl, height, sound.0)
+
+    abbrev EntersBy : Name → Right → Type 0
+    EntersBy x (right.Value e) = Unit {0}
+    EntersBy x (right.Draw at) = Unit {0}
+    EntersBy x (right.New at) = Unit {0}
+    EntersBy x (right.Call at c) = (inner : List Stmt) (s : State Bool) → into inner s ≡ calling plan (Some x) c left m inner s
+    EntersBy x (right.Spawn at c) = Unit {0}
+
+    abbrev SpawnsIn : Right → Type 0
+    SpawnsIn (right.Value e) = Unit {0}
+    SpawnsIn (right.Draw at) = Unit {0}
+    SpawnsIn (right.New at) = Unit {0}
+    SpawnsIn (right.Call at c) = Unit {0}
+    SpawnsIn (right.Spawn at c) = InText
+
+    fine-right : (x : Name) (r : Right) (n : ℕ) → EntersBy x r → SpawnsIn r → IsApart (x.bytes ∷ []) pending → IsClear (pending_right x r pending) left ends →
+        Fine (right_side (what (Spawned height (Some x))) plan path inside height r (here n) then λ p. done (sets (Some x) p))
+    fine-right x (right.Value e) n enters text apart clear = by_value (value_of e m.top.env)
+      where
+        by_value : (o : Result Value FaultKind) → Fine (given (what (Spawned height (Some x))) plan path o (here n) (λ v. done (v, here n)) then λ p. done (sets (Some x) p))
+        by_value (Ok v) = calm left _ ends clear text-more
+        by_value (Err k) = (refl, height, sound.0)
+    fine-right x (right.Draw at) n enters text apart clear = calm left _ ends clear text-more
+    fine-right x (right.New at) n enters text apart clear = calm left _ ends clear text-more
+    fine-right x (right.Call at c) n enters text apart clear = fine-call (Some x) c n enters clear apart
+    fine-right x (right.Spawn at c) n enters text apart clear = fine-spawn (Some x) c n clear text
+
+    fine-store : (place : Place) (x : Name) (i e : Expr) (n : ℕ) → IsClear pending left ends → Fine (store (what place) plan path x i e (here n))
+    fine-store place x i e n clear =
+        fine-given place (value_of i m.top.env) (here n) _ (λ k. by_item (at_index (items_of (slot_of m.top.env x.bytes)) (number k)) _ (fine-given place (value_of e m.top.env) (here n) _ (λ v. calm left _ ends clear text-more)))
+      where
+        by_item : (o : Option ℤ) (r : Run Token Halt (State Bool)) → Fine r → Fine (found (what place) plan path o (here n) r)
+        by_item None r h = (refl, height, sound.0)
+        by_item (Some old) r h = h
+
+    -- behind a sync nothing is pending
+    fine-sync : (n : ℕ) → IsClear [] left ends → Fine (join (what (Spawned height None)) plan path (here n))
+    fine-sync n clear = by_spawned m.top.spawned refl
+      where
+        next : State Bool
+        next = record { env = m.top.env; rank = m.rank + 1; steps = n; spawned = false }
+
+        behind-it : IsSound plan [] height (behind_sync (with_left m left next).top)
+        behind-it = record {
+          clear = (ends, clear);
+          spawned = λ e. absurd (clash (sym e));
+          faulted = λ e. refl;
+          in_text = λ e. absurd (clash (sym e));
+          left_in_text = text-more;
+          returning = λ e. absurd (not-returning e);
+        }
+
+        nothing-by : (b : Bool) → any_by height parts ≡ b → m.top.spawned ≡ false → any_by height parts ≡ false
+        nothing-by true e h = absurd (clash (sym (sound.1.spawned e) ∙ h))
+        nothing-by false e h = e
+
+        by_spawned : (b : Bool) → m.top.spawned ≡ b → SoundEnd plan parts (Told (event.Sync (path ++ m.rank ∷ [])) ∷ (sync_tokens b ++ [])) (Ok (Stands (with_left m left next)))
+        by_spawned true h = no-parts (λ ps. IsSoundStage plan ps (AtSync (with_left m left next))) (sound.0, behind-it, sound.2)
+        by_spawned false h = going left next ends (sym h) (subst (λ (l : Names). IsClear l left ends) (sym (none-unfilled height parts (nothing-by (any_by height parts) refl h))) clear) text-more
+
+    fine-loop : (target : Option Name) (c : CallText) (lo : ℤ) (hi : ℕ) (vs : List Value) (n : ℕ) → IsClear pending left ends → Fine (looped (what (Looped target)) plan path lo hi vs target c (here n))
+    fine-loop target c lo hi vs n clear =
+        fine-tested place (nat_lt hi (n + 1)) Budget (here n) _ (fine-tested place (has_room target hi m.top.env) Index (here (n - hi)) _ (fine-tested place (fits_depth (what place) plan path hi) Depth (here (n - hi)) _ (by_size (is_empty_loop o))))
+      where
+        place : Place
+        place = Looped target
+
+        o : Origin
+        o = origin.Loop (number_of (functions_of plan) c.name.bytes) vs lo (path ++ m.rank ∷ []) (record { lo = 0; hi = hi })
+
+        next : State Bool
+        next = record { env = filled target [] m.top.env; rank = m.rank + 1; steps = n - hi; spawned = m.top.spawned }
+
+        more : List Part
+        more = record { child = o; place = place; behind = [] } ∷ []
+
+        by_size : (b : Bool) → SoundEnd plan parts (Told (event.Loop (path ++ m.rank ∷ [])) ∷ (loop_tokens b o place ++ [])) (Ok (Stands (with_left m left next)))
+        by_size true = going left next ends refl clear text-more
+        by_size false =
+            (sound-as plan parts (parts ++ more) height (with_left m left next).top (same-unfilled height parts more refl) (same-any height parts more refl) (top-sound left next ends refl clear text-more),
+            sound-more plan parts more height (λ j h. refl) m.top.target m.below (omega arith) sound.2)
+
+  first-within : (x : List ℕ) (names : Names) → IsApart (x ∷ names) pending → IsApart (x ∷ []) pending
+  first-within x names apart name h g = apart name (Contains-append_left (x ∷ []) names name h) g
+
+  abbrev run_of : (a : Act-F Act Stmt) → ℕ → Run Token Halt (State Bool)
+  run_of a n = does (what (place_of height a)) plan path inside height st a (record (state_of m) { steps = n })
+
+  abbrev FineAct : Act-F Act Stmt → ℕ → Type 0
+  FineAct a n = SoundEnd plan parts (run_of a n).items (reached plan (with_left m left) (entered plan st a left m) (run_of a n).ending)
+
+  abbrev Text : Act-F Act Stmt → Type 0
+  Text a = act_spawns (map-Act Act Stmt Bool Bool act_has_spawn spawns a) ≡ true → InText
+
+  enters-let : (x : Name) (r : Right) (ends : Names) → EntersBy (entered plan st (act.Let x r) left m) ends x r
+  enters-let x (right.Value e) ends = tt
+  enters-let x (right.Draw at) ends = tt
+  enters-let x (right.New at) ends = tt
+  enters-let x (right.Call at c) ends = λ inner s. refl
+  enters-let x (right.Spawn at c) ends = tt
+
+  enters-set : (x : Name) (r : Right) (ends : Names) → EntersBy (entered plan st (act.Set x r) left m) ends x r
+  enters-set x (right.Value e) ends = tt
+  enters-set x (right.Draw at) ends = tt
+  enters-set x (right.New at) ends = tt
+  enters-set x (right.Call at c) ends = λ inner s. refl
+  enters-set x (right.Spawn at c) ends = tt
+
+  text-let : (into : List Stmt → State Bool → Machine) (ends : Names) (x : Name) (r : Right) → Text (act.Let x r) → SpawnsIn into ends r
+  text-let into ends x (right.Value e) text = tt
+  text-let into ends x (right.Draw at) text = tt
+  text-let into ends x (right.New at) text = tt
+  text-let into ends x (right.Call at c) text = tt
+  text-let into ends x (right.Spawn at c) text = text refl
+
+  simple-fine : (a : Act-F Act Stmt) → IsSimple a → Text a → IsApart (touched a) pending → (ends : Names) → IsClear (pending_after a pending) left ends → (n : ℕ) → FineAct a n
+  simple-fine (act.Let x r) i text apart ends clear n =
+      fine-right (entered plan st (act.Let x r) left m) ends x r n (enters-let x r ends) (text-let (entered plan st (act.Let x r) left m) ends x r text) (first-within x.bytes _ apart) clear
+  simple-fine (act.Array x k) i text apart ends clear n = calm left _ ends clear text-more
+  simple-fine (act.Set x r) i text apart ends clear n =
+      fine-right (entered plan st (act.Set x r) left m) ends x r n (enters-set x r ends) (text-let (entered plan st (act.Set x r) left m) ends x r text) (first-within x.bytes _ apart) clear
+  simple-fine (act.Store x k e) i text apart ends clear n = fine-store (entered plan st (act.Store x k e) left m) ends (Spawned height None) x k e n clear
+  simple-fine (act.Spawn c) i text apart ends clear n = fine-spawn (entered plan st (act.Spawn c) left m) ends None c n clear (text refl)
+  simple-fine (act.Call c) i text apart ends clear n = fine-call (entered plan st (act.Call c) left m) ends None c n (λ inner s. refl) clear (λ name h g. none-contained name h)
+  simple-fine act.Sync i text apart ends clear n = fine-sync (entered plan st act.Sync left m) ends n clear
+  simple-fine (act.Print e) i text apart ends clear n =
+      fine-given (entered plan st (act.Print e) left m) ends (Spawned height None) (value_of e m.top.env) _ _ (λ v. calm left _ ends clear text-more)
+  simple-fine (act.If e a b) i text apart ends clear n = absurd i
+  simple-fine (act.While e a) i text apart ends clear n = absurd i
+  simple-fine (act.Pfor x lo hi target c) i text apart ends clear n =
+      let into = entered plan st (act.Pfor x lo hi target c) left m in
+      fine-given into ends (Looped target) (value_of lo m.top.env) _ _ (λ l. fine-given into ends (Looped target) (value_of hi m.top.env) _ _ (λ h. fine-given into ends (Looped target) (values_of c.args m.top.env) _ _
+      (λ vs. fine-loop into ends target c (number l) (count_of (number h -ℤ number l)) vs n clear)))
+
+  if-fine : (e : Expr) (a b : List Stmt) (both ends : Names) → Text (act.If e a b) → IsClear pending a both → IsClear pending b both → IsClear both left ends → (n : ℕ) → FineAct (act.If e a b) n
+  if-fine e a b both ends text yes-clear no-clear rest n =
+      fine-given (entered plan st (act.If e a b) left m) ends (Spawned height None) (value_of e m.top.env) _ _ (λ v. by_test (is_true v))
+    where
+      text-block : (t : Bool) → any_spawns ((if t then a else b) ++ left) ≡ true → InText
+      text-block true h = either (any_spawns a) (any_spawns left) (λ g. text (ap (λ s. s || any_spawns b) g)) text-more (sym (any-spawns-append a left) ∙ h)
+      text-block false h = either (any_spawns b) (any_spawns left) (λ g. text (ap (λ s. any_spawns a || s) g ∙ or-right (any_spawns a))) text-more (sym (any-spawns-append b left) ∙ h)
+
+      block-clear : (t : Bool) → IsClear pending (if t then a else b) both
+      block-clear true = yes-clear
+      block-clear false = no-clear
+
+      by_test : (t : Bool) → IsSoundStage plan (parts ++ []) (Goes (with_left m ((if t then a else b) ++ left) (record (state_of m) { steps = n })))
+      by_test t = calm ((if t then a else b) ++ left) _ ends (clear-append (block-clear t) rest) (text-block t)
+
+  while-fine : (e : Expr) (a : List Stmt) (all ends : Names) → Text (act.While e a) → IsWithin pending all → IsClear all a all → IsClear all (st ∷ left) ends → IsClear all left ends → (n : ℕ) → FineAct (act.While e a) n
+  while-fine e a all ends text within body again rest n =
+      fine-given (entered plan st (act.While e a) left m) ends (Spawned height None) (value_of e m.top.env) _ _ (λ v. by_test (is_true v))
+    where
+      by_test : (t : Bool) → Fine (entered plan st (act.While e a) left m) ends (if t then (inside height a (record (state_of m) { steps = n }) then inside height (st ∷ [])) else done (record (state_of m) { steps = n }))
+      by_test true =
+          calm (a ++ st ∷ left) _ ends (clear-within pending all within (clear-append body again)) (λ h. either (any_spawns a) (any_spawns (st ∷ left)) text text-left (sym (any-spawns-append a (st ∷ left)) ∙ h))
+      by_test false = calm left _ ends (clear-within pending all within rest) text-more
+
+  act-fine : (a : Act-F Act Stmt) → out-Act (out-Stmt st).act ≡ a → (ends : Names) → IsClear pending (st ∷ left) ends → (n : ℕ) → FineAct (out-Act (out-Stmt st).act) n
+  act-fine a same ends (Simple b e i apart rest) n = subst (λ (c : Act-F Act Stmt). FineAct c n) (sym e) (simple-fine b i (text-of b e) apart ends rest n)
+    where
+      text-of : (b : Act-F Act Stmt) → out-Act (out-Stmt st).act ≡ b → Text b
+      text-of b e h = text-left (ap (λ s. s || any_spawns left) (spawns-out st ∙ ap (λ (c : Act-F Act Stmt). act_spawns (map-Act Act Stmt Bool Bool act_has_spawn spawns c)) e ∙ h))
+  act-fine a same ends (Branches e first second both h apart c d rest) n = subst (λ (c : Act-F Act Stmt). FineAct c n) (sym h) (if-fine e first second both ends (text-of (act.If e first second) h) c d rest n)
+    where
+      text-of : (b : Act-F Act Stmt) → out-Act (out-Stmt st).act ≡ b → Text b
+      text-of b e h = text-left (ap (λ s. s || any_spawns left) (spawns-out st ∙ ap (λ (c : Act-F Act Stmt). act_spawns (map-Act Act Stmt Bool Bool act_has_spawn spawns c)) e ∙ h))
+  act-fine a same ends (Turns e body all h w apart c rest) n =
+      subst (λ (c : Act-F Act Stmt). FineAct c n) (sym h) (while-fine e body all ends (text-of (act.While e body) h) w c (Turns e body all h (within-itself all) apart c rest) rest n)
+    where
+      text-of : (b : Act-F Act Stmt) → out-Act (out-Stmt st).act ≡ b → Text b
+      text-of b e h = text-left (ap (λ s. s || any_spawns left) (spawns-out st ∙ ap (λ (c : Act-F Act Stmt). act_spawns (map-Act Act Stmt Bool Bool act_has_spawn spawns c)) e ∙ h))
+
+  statement-sound : SoundEnd plan parts (statement_move plan path m st left).items (statement_move plan path m st left).ending
+  statement-sound =
+      let a = out-Act (out-Stmt st).act in
+      let clear : IsClear pending (st ∷ left) sound.1.clear.0 = subst (λ (l : List Stmt). IsClear pending l sound.1.clear.0) top-left sound.1.clear.1 in
+      fine-paid (entered plan st a left m) sound.1.clear.0 (place_of height a) m.steps (state_of m) _ (λ n. act-fine a refl sound.1.clear.0 clear n)
+
+module _ (plan : PlanView) (path : List ℕ) (clear-plan : IsClearPlan plan) (parts : List Part) where
+  abbrev SoundMove : Machine → Type 0
+  SoundMove m = SoundEnd plan parts (move plan path m).items (move plan path m).ending
+
+  nothing-of : (m : Machine) → IsSound plan parts (length m.below) m.top → m.top.spawned ≡ false → any_by (length m.below) parts ≡ false
+  nothing-of m sound h = from (any_by (length m.below) parts) refl
+    where
+      from : (b : Bool) → any_by (length m.below) parts ≡ b → b ≡ false
+      from true e = absurd (clash (sym (sound.spawned e) ∙ h))
+      from false e = refl
+
+  -- the step of a return and its sync
+  return-sound : (m : Machine) → m.top.left ≡ [] → IsSoundStage plan parts (Goes m) → SoundEnd plan parts (return_move plan path m false).items (return_move plan path m false).ending
+  return-sound m ended sound = by_steps m.steps
+    where
+      how : Manner Token Halt Bool
+      how = handing plan (Spawned (length m.below) None)
+
+      no-more : (T : List Part → Type 0) → T parts → T (parts ++ [])
+      no-more T t = subst T (sym (append-nil parts)) t
+
+      finished : Run Token Halt (State Bool) → Type 0
+      finished r = SoundEnd plan parts r.items (reached plan (with_returning m) (λ inner s. m) r.ending)
+
+      going : (s : State Bool) → s.spawned ≡ false → m.top.spawned ≡ false → IsSoundStage plan (parts ++ []) (Goes (with_returning m s))
+      going s h g = no-more (λ ps. IsSoundStage plan ps (Goes (with_returning m s))) (sound.0, record {
+        clear = sound.1.clear;
+        spawned = λ e. absurd (clash (sym (sound.1.spawned e) ∙ g));
+        faulted = λ e. sound.1.faulted g;
+        in_text = λ e. absurd (clash (sym e ∙ h));
+        left_in_text = sound.1.left_in_text;
+        returning = λ e. (h, ended);
+      }, sound.2)
+
+      waiting : (s : State Bool) → s.spawned ≡ false → IsSoundStage plan (parts ++ []) (AtSync (with_returning m s))
+      waiting s h = no-more (λ ps. IsSoundStage plan ps (AtSync (with_returning m s))) (sound.0, record {
+        clear = (sound.1.clear.0, clear-within [] (unfilled (length m.below) parts) (nothing-within (unfilled (length m.below) parts)) sound.1.clear.1);
+        spawned = λ e. absurd (clash (sym e));
+        faulted = λ e. refl;
+        in_text = λ e. absurd (clash (sym e ∙ h));
+        left_in_text = sound.1.left_in_text;
+        returning = λ e. (h, ended);
+      }, sound.2)
+
+      by_spawned : (n : ℕ) (b : Bool) → m.top.spawned ≡ b → SoundEnd plan parts (Told (event.Sync (path ++ m.rank ∷ [])) ∷ (sync_tokens b ++ [])) (Ok (Stands (with_returning m (record { env = m.top.env; rank = m.rank + 1; steps = n; spawned = false }))))
+      by_spawned n true h = waiting (record { env = m.top.env; rank = m.rank + 1; steps = n; spawned = false }) refl
+      by_spawned n false h = going (record { env = m.top.env; rank = m.rank + 1; steps = n; spawned = false }) refl h
+
+      unspawned : spawns_in (function_at (functions_of plan) m.top.function) ≡ false → (b : Bool) → m.top.spawned ≡ b → m.top.spawned ≡ false
+      unspawned h true e = absurd (clash (sym (sound.1.in_text e) ∙ h))
+      unspawned h false e = e
+
+      by_text : (n : ℕ) (b : Bool) → spawns_in (function_at (functions_of plan) m.top.function) ≡ b → finished (implied how plan path b (record (state_of m) { steps = n }))
+      by_text n true h = by_spawned n m.top.spawned refl
+      by_text n false h = let g = unspawned h m.top.spawned refl in going (record (state_of m) { steps = n }) g g
+
+      by_steps : (n : ℕ) → finished (paid_from how plan path n (state_of m) (λ s. implied how plan path (spawns_in (function_at (functions_of plan) m.top.function)) s))
+      by_steps zero = (refl, length m.below, sound.0)
+      by_steps (suc n) = by_text n (spawns_in (function_at (functions_of plan) m.top.function)) refl
+
+  -- the value of a return
+  value-sound : (m : Machine) → m.top.returning ≡ true → IsSoundStage plan parts (Goes m) → SoundEnd plan parts (return_move plan path m true).items (return_move plan path m true).ending
+  value-sound m returning sound = by_function (function_at (functions_of plan) m.top.function)
+    where
+      none : any_by (length m.below) parts ≡ false
+      none = nothing-of m sound.1 (sound.1.returning returning).0
+
+      to_caller : (v : Value) (below : List Activation) → any_by (length below) parts ≡ false → ArePlaces (length below) parts → AreSound plan parts m.top.target below →
+          SoundEnd plan parts [] (Ok (back below m.top.target v m.rank m.steps))
+      to_caller v [] n places s = (refl, only-halves parts n places)
+      to_caller v (caller ∷ below) n places s =
+          let k : Machine = record { rank = m.rank; steps = m.steps; top = record caller { env = with_scalar m.top.target v caller.env }; below = below } in
+          subst (λ (ps : List Part). IsSoundStage plan ps (Goes k)) (sym (append-nil parts)) (places-lower (length below) parts n places, same-variables s.1, s.2)
+        where
+          same-variables : IsSound plan parts (length below) caller → IsSound plan parts (length below) (record caller { env = with_scalar m.top.target v caller.env })
+          same-variables c = record { clear = c.clear; spawned = c.spawned; faulted = c.faulted; in_text = c.in_text; left_in_text = c.left_in_text; returning = c.returning }
+
+      by_value : (f : Function) (o : Result Value FaultKind) →
+          let r : Run Token Halt (Value × State Bool) = given (handing plan (Spawned (length m.below) None)) plan path o (state_of m) (λ v. done (v, state_of m)) in SoundEnd plan parts r.items (gives plan m r.ending)
+      by_value f (Ok v) = to_caller v m.below none sound.0 sound.2
+      by_value f (Err k) = (refl, length m.below, sound.0)
+
+      by_function : (o : Option Function) → SoundEnd plan parts (value_run plan path o m).items (gives plan m (value_run plan path o m).ending)
+      by_function None = to_caller (Int (pos 0)) m.below none sound.0 sound.2
+      by_function (Some f) = by_value f (value_of f.result m.top.env)
+
+  -- A move keeps what holds of a stage.
+  pub sound-move : (m : Machine) → IsSoundStage plan parts (Goes m) → SoundMove m
+  sound-move m sound = by_left m.top.left m.top.returning refl refl
+    where
+      by_left : (left : List Stmt) (returning : Bool) → m.top.left ≡ left → m.top.returning ≡ returning → SoundEnd plan parts (move_at plan path m left).items (move_at plan path m left).ending
+      by_left (st ∷ left) returning h g = statement-sound plan path clear-plan parts m st left h sound
+      by_left [] returning h g =
+          subst (λ (b : Bool). SoundEnd plan parts (return_move plan path m b).items (return_move plan path m b).ending) (sym g) (by_returning returning g)
+        where
+          by_returning : (b : Bool) → m.top.returning ≡ b → SoundEnd plan parts (return_move plan path m b).items (return_move plan path m b).ending
+          by_returning false e = return-sound m h sound
+          by_returning true e = value-sound m e sound
