@@ -1,5 +1,9 @@
+pub mod Alike
 pub mod Changed
 pub mod Clears
+pub mod Closing
+pub mod Depth
+pub mod Finishing
 pub mod Keeps
 pub mod Moves
 pub mod Shown
