@@ -6,7 +6,9 @@ pub mod Depth
 pub mod Finishing
 pub mod Keeps
 pub mod Moves
+pub mod Own
 pub mod Shown
 pub mod SoundMoves
+pub mod Steps
 pub mod Taken
 pub mod Variables

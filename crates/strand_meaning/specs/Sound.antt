@@ -1,5 +1,5 @@
 -- What holds of a task at all times.
-use Rattle.std.specs.Prelude.{◌≡◌, ◌≤◌, ◌<◌, ℕ, ◌+◌, ◌-◌, Bool, true, false, ◌||◌, nat_eq, List, [], ◌∷◌, ◌++◌, Option, Some, None, Result, Ok, Err, length, if◌then◌else◌}
+use Rattle.std.specs.Prelude.{◌≡◌, ◌≤◌, ◌<◌, ℕ, ◌+◌, ◌-◌, Bool, true, false, ◌||◌, ◌⊎◌, nat_eq, List, [], ◌∷◌, ◌++◌, Option, Some, None, Result, Ok, Err, length, if◌then◌else◌}
 use Rattle.loop_range.specs.Range.{Range}
 use Rattle.script_grammar.specs.declared.tree.Name.{Name}
 use Rattle.serial_meaning.specs.Runs.{Run, done, behind, ◌then◌}
@@ -119,11 +119,11 @@ FitsOrigin o (Spawned owner target) = Unit {0}
 FitsOrigin o (Looped target) = Unit {0}
 FitsOrigin o Half = IsLongLoop o
 
--- a child is an origin of the plan, and its answer is its evaluation
+-- A child is an origin of the plan. Where it is one of the instance under way, what the open tree takes of it is its evaluation.
 pub record IsPart (plan : PlanView) (o : Origin) (p : Part) : Type 0 where
   pub known : IsOriginOf plan p.child
   pub fits : FitsOrigin o p.place
-  pub same : children_of plan (own_instance o) p.child ≡ eval plan p.child
+  pub same : IsHalf p.place ⊎ (children_of plan (own_instance o) p.child ≡ eval plan p.child)
 
 abbrev pub AreParts : PlanView → Origin → List Part → Type 0
 AreParts plan o [] = Unit {0}
