@@ -5,6 +5,7 @@ pub mod Closing
 pub mod Depth
 pub mod Finishing
 pub mod Keeps
+pub mod Loops
 pub mod Moves
 pub mod Own
 pub mod Shown

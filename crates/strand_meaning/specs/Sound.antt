@@ -102,7 +102,7 @@ pub record IsSoFar (plan : PlanView) (o : Origin) (parts : List Part) (stage : S
 -- iterations of this loop, up to its last one, and some unless it has none
 abbrev pub IsEndOf : Origin → Range → Type 0
 IsEndOf (Instance function args path) left = ⊥
-IsEndOf (Loop function rest first path range) left = (range.lo ≤ left.lo) × (left.lo ≤ left.hi) × (left.hi ≡ range.hi) × (range.lo < range.hi → left.lo < left.hi)
+IsEndOf (Loop function rest first path range) left = (range.lo ≤ left.lo) × (left.hi ≡ range.hi) × (range.lo < range.hi → left.lo < left.hi)
 
 -- a loop, and one of two iterations or more
 abbrev pub IsLoop : Origin → Type 0
