@@ -3,6 +3,7 @@ pub mod Changed
 pub mod Clears
 pub mod Closing
 pub mod Depth
+pub mod Ends
 pub mod Finishing
 pub mod Keeps
 pub mod Loops
@@ -10,6 +11,7 @@ pub mod Moves
 pub mod Own
 pub mod Shown
 pub mod SoundMoves
+pub mod Starts
 pub mod Steps
 pub mod Taken
 pub mod Variables
