@@ -1,5 +1,6 @@
 -- What a task comes to by one step is sound.
 use Rattle.std.proofs.Common.{◌≡◌, ℕ, zero, suc, ◌+◌, ◌-◌, ◌<◌, ◌≤◌, Bool, true, false, List, [], ◌∷◌, ◌++◌, Option, Some, None, Result, Ok, Err, inl, inr, ◌⊎◌, length, refl, sym, ap, ◌∙◌, append_assoc, append-nil, subst, arith}
+use Rattle.std.proofs.Common.{ℤ, pos, ◌+ℤ◌}
 use Rattle.std.specs.Prelude.{Contains}
 use Rattle.loop_range.specs.Range.{Range, lower_half, upper_half, middle}
 use Rattle.serial_meaning.specs.Runs.{Run, done, stopped, behind, goes_on, ◌then◌}
@@ -168,3 +169,196 @@ module _ (t : Task) (is : IsTask t) where
           by_size zero g = rw g (over-alone v false at (none (omega arith) (halves-long t.plan t.origin ps halves is.parts)) is-loop)
           by_size (suc zero) g = rw g (over-alone v false at (none (omega arith) (halves-long t.plan t.origin ps halves is.parts)) is-loop)
           by_size (suc (suc n)) g = rw g (waits-sound t is)
+
+  -- a loop's iterations that nobody has begun
+  module _ (function : ℕ) (rest : List Value) (first : ℤ) (path : List ℕ) (range left : Range) (loop : t.origin ≡ Loop function rest first path range) (at : t.work ≡ Splits left)
+      (end-of : IsEndOf (Loop function rest first path range) left) (halves : AreHalves ps) where
+    abbrev whole : Origin
+    whole = Loop function rest first path range
+
+    known-loop : IsOriginOf t.plan whole
+    known-loop = subst (IsOriginOf t.plan) loop is.known
+
+    deep : length path + 2 ≤ t.plan.limits.depth
+    deep = loop-of-plan t.plan whole known-loop
+
+    long-parts : (ps ≡ []) ⊎ (range.lo + 1 < range.hi)
+    long-parts = from (halves-long t.plan t.origin ps halves is.parts)
+      where
+        from : (ps ≡ []) ⊎ IsLongLoop t.origin → (ps ≡ []) ⊎ (range.lo + 1 < range.hi)
+        from (inl e) = inl e
+        from (inr l) = inr (subst IsLongLoop loop l)
+
+    -- nothing of it is left
+    none-left : left.hi - left.lo ≡ 0 → IsSoundStep t (ends t (outcome.Values t.values))
+    none-left h = end-alone t is (none long-parts) (Ok t.values) runs (outcome.Values t.values) (ap (λ (o : Origin). outcome_of o (Ok t.values)) (sym loop))
+      where
+        none : (ps ≡ []) ⊎ (range.lo + 1 < range.hi) → ps ≡ []
+        none (inl e) = e
+        none (inr l) = let some : left.lo < left.hi = end-of.2 (omega arith) in absurd (omega arith)
+
+        runs : run_at [] t.work t.values ≡ record { items = []; ending = Ok t.values }
+        runs =
+            ap (λ (w : Work). run_at [] w t.values) at
+            ∙ ap (λ (o : Origin). turns_left (eval t.plan) o left then λ us. done (t.values ++ us)) loop
+            ∙ ap (λ (n : ℕ). turns (eval t.plan) function rest first path left.lo n then λ us. done (t.values ++ us)) h
+            ∙ ap (λ (l : List Value). done l) (append-nil t.values)
+
+    -- the last one is begun
+    last-left : left.hi - left.lo ≡ 1 → IsTask (record t { work = begins_last t.plan t.origin; advanced = true })
+    last-left h = with-work t is (begins_last t.plan t.origin) same sound
+      where
+        own : Origin
+        own = own_instance whole
+
+        kids : Origin → Evaluation
+        kids = children_of t.plan own
+
+        stage : Stage
+        stage = begun_stage (begun t.plan function (iteration-args (range.hi - 1)))
+          where
+            iteration-args : ℕ → List Value
+            iteration-args k = args_of (iteration function rest first path k)
+              where
+                args_of : Origin → List Value
+                args_of (Instance f args p) = args
+                args_of (Loop f r g p q) = []
+
+        begins : begins_last t.plan t.origin ≡ Runs stage
+        begins = ap (begins_last t.plan) loop
+
+        opens : opened t.plan own ≡ (rest_open t.plan kids (path_of own) ps stage then λ v. done (v ∷ []))
+        opens =
+            begun-whole t.plan function _ (path ++ (range.hi - 1) ∷ [])
+            ∙ ap (λ (r : Run Item Ending Value). r then λ v. done (v ∷ [])) (sym (halves-rest t.plan kids (path_of own) ps halves (begun t.plan function _)))
+
+        last : left.lo ≡ range.hi - 1
+        last = let top : left.hi ≡ range.hi = end-of.1 in omega arith
+
+        evaluates : eval t.plan (iteration function rest first path left.lo) ≡ (closed kids (rest_open t.plan kids (path_of own) ps stage) then λ v. done (v ∷ []))
+        evaluates =
+            ap (λ k. eval t.plan (iteration function rest first path k)) last ∙ eval-closed t.plan own ∙ ap (closed kids) opens ∙ closed-then kids (rest_open t.plan kids (path_of own) ps stage) (λ v. v ∷ [])
+
+        same : (vs : List Value) → run_at ps t.work vs ≡ run_at ps (begins_last t.plan t.origin) vs
+        same vs =
+            let inner : Run Event Fault Value = closed kids (rest_open t.plan kids (path_of own) ps stage) in
+            ap (λ (w : Work). run_at ps w vs) at
+            ∙ ap (λ (o : Origin). turns_left (eval t.plan) o left then λ us. done (vs ++ us)) loop
+            ∙ ap (λ (n : ℕ). turns (eval t.plan) function rest first path left.lo n then λ us. done (vs ++ us)) h
+            ∙ ap (λ (r : Evaluation). (r then λ xs. done (xs ++ [])) then λ us. done (vs ++ us)) evaluates
+            ∙ ap (λ (r : Evaluation). r then λ us. done (vs ++ us)) (then-then inner (λ v. done (v ∷ [])) (λ xs. done (xs ++ [])))
+            ∙ then-then inner (λ v. done (v ∷ [])) (λ us. done (vs ++ us))
+            ∙ ap (λ (o : Origin). run_with o) (sym loop) ∙ ap (λ (w : Work). run_at ps w vs) (sym begins)
+          where
+            run_with : Origin → Evaluation
+            run_with o = work_run t.plan o ps (Runs stage) vs
+
+        sound : IsSoundWork t.plan t.origin ps (begins_last t.plan t.origin)
+        sound =
+            subst (IsSoundWork t.plan t.origin ps) (sym begins) (subst (λ (o : Origin). IsSoundWork t.plan o ps (Runs stage)) (sym loop)
+            (some, record { front = []; whole = opens }, begun-sound t.plan function _ ps is.clear halves))
+          where
+            some : range.lo < range.hi
+            some = let top : left.hi ≡ range.hi = end-of.1 in let low : range.lo ≤ left.lo = end-of.0 in omega arith
+
+    -- the lower half of it is handed out
+    half-left : left.lo + 2 ≤ left.hi → IsSoundStep t (Stops (Spawn (first_half t.origin left) (record t { pieces = hand (first_half t.origin left) Half t.pieces; work = Splits (upper_half left); advanced = true })))
+    half-left h = (subst (IsOriginOf t.plan) (sym half-is) known-half, record {
+      finishes = finishes;
+      known = is.known;
+      clear = is.clear;
+      parts = parts-append t.plan t.origin ps _ is.parts (record { known = subst (IsOriginOf t.plan) (sym half-is) known-half; fits = subst IsLongLoop (sym loop) long; same = inl tt }, tt);
+      work = (subst (λ (o : Origin). IsEndOf o (upper_half left)) (sym loop) upper, more ps halves);
+    })
+      where
+        half : Origin
+        half = Loop function rest first path (lower_half left)
+
+        half-is : first_half t.origin left ≡ half
+        half-is = ap (λ (o : Origin). first_half o left) loop
+
+        top : left.hi ≡ range.hi
+        top = end-of.1
+
+        low : range.lo ≤ left.lo
+        low = end-of.0
+
+        long : range.lo + 1 < range.hi
+        long = omega arith
+
+        upper : IsEndOf whole (upper_half left)
+        upper = (omega arith, top, λ g. omega arith)
+
+        known-half : IsOriginOf t.plan half
+        known-half = part-of-loop t.plan function rest first path range (lower_half left) whole known-loop refl low (omega arith) (omega arith)
+
+        more : (qs : List Part) → AreHalves qs → AreHalves (qs ++ record { child = first_half t.origin left; place = Half; behind = [] } ∷ [])
+        more [] g = (tt, tt)
+        more (q ∷ qs) g = (g.0, more qs g.1)
+
+        abbrev-tail : Origin → Origin → List Value → Evaluation
+        abbrev-tail o child vs = eval t.plan child then λ ws. turns_left (eval t.plan) o (upper_half left) then λ us. done ((vs ++ ws) ++ us)
+
+        two : (vs : List Value) → run_at ps t.work vs ≡ abbrev-tail t.origin (first_half t.origin left) vs
+        two vs =
+            let upper_turns : Evaluation = turns (eval t.plan) function rest first path (upper_half left).lo ((upper_half left).hi - (upper_half left).lo) in
+            ap (λ (w : Work). run_at ps w vs) at
+            ∙ ap (λ (o : Origin). turns_left (eval t.plan) o left then λ us. done (vs ++ us)) loop
+            ∙ ap (λ (r : Evaluation). r then λ us. done (vs ++ us)) (halves-turns function rest first path t.plan left h deep)
+            ∙ then-then (eval t.plan half) (λ ws. upper_turns then λ us. done (ws ++ us)) (λ us. done (vs ++ us))
+            ∙ then-same (eval t.plan half) _ _ (λ ws g. then-then upper_turns (λ us. done (ws ++ us)) (λ us. done (vs ++ us)) ∙ then-same upper_turns _ _ (λ us k. ap (λ (l : List Value). done l) (sym (append_assoc vs ws us))))
+            ∙ ap (λ (o : Origin). abbrev-tail o (first_half o left) vs) (sym loop)
+
+        finishes : finish (record t { pieces = hand (first_half t.origin left) Half t.pieces; work = Splits (upper_half left); advanced = true }) ≡ eval t.plan t.origin
+        finishes =
+            hand-so_far (eval t.plan) (first_half t.origin left) Half t.pieces t.values (λ vs. turns_left (eval t.plan) t.origin (upper_half left) then λ us. done (vs ++ us))
+            ∙ sym (so_far-same (eval t.plan) t.pieces t.values (run_at ps t.work) (abbrev-tail t.origin (first_half t.origin left)) two)
+            ∙ is.finishes
+
+  split-sound : (left : Range) → t.work ≡ Splits left → IsEndOf t.origin left → AreHalves ps → IsSoundStep t (split_step t left (left.hi - left.lo))
+  split-sound left at end-of halves = by_origin t.origin refl
+    where
+      by_origin : (o : Origin) → t.origin ≡ o → IsSoundStep t (split_step t left (left.hi - left.lo))
+      by_origin (Instance function args path) h = let no : IsEndOf (Instance function args path) left = subst (λ (o : Origin). IsEndOf o left) h end-of in absurd no
+      by_origin (Loop function rest first path range) h = by_size (left.hi - left.lo) refl
+        where
+          e : IsEndOf (Loop function rest first path range) left
+          e = subst (λ (o : Origin). IsEndOf o left) h end-of
+
+          by_size : (n : ℕ) → left.hi - left.lo ≡ n → IsSoundStep t (split_step t left n)
+          by_size zero g = none-left function rest first path range left h at e halves g
+          by_size (suc zero) g = last-left function rest first path range left h at e halves g
+          by_size (suc (suc n)) g = half-left function rest first path range left h at e halves (omega arith)
+
+  work-sound : (work : Work) → t.work ≡ work → IsSoundWork t.plan t.origin ps work → IsSoundStep t (work_step t work)
+  work-sound (Splits left) at sound = split-sound left at sound.0 sound.1
+  work-sound (Runs stage) at sound = stage-sound stage at sound.0 sound.1 sound.2
+  work-sound (Over v true) at sound = over-alone v true at sound.1 sound.0
+  work-sound (Over v false) at sound = over-sound v at sound.0 sound.1
+
+-- Each step is sound.
+pub steps_are_sound : (t : Task) → IsTask t → IsSoundStep t (step t)
+steps_are_sound t is = work-sound t is t.work refl is.work
+
+-- A task begins sound.
+pub tasks_begin : (plan : PlanView) (o : Origin) → IsOriginOf plan o → IsClearPlan plan → IsTask (start plan o)
+tasks_begin plan (Instance function args path) known clear =
+    let o = Instance function args path in
+    let kids = children_of plan o in
+    let rest : Run Item Ending Value = rest_of_stage plan kids path (begun_stage (begun plan function args)) in
+    let whole : opened plan o ≡ (rest_open plan kids path [] (begun_stage (begun plan function args)) then λ v. done (v ∷ [])) =
+        begun-whole plan function args path ∙ ap (λ (r : Run Item Ending Value). r then λ v. done (v ∷ [])) (sym (halves-rest plan kids path [] tt (begun plan function args))) in
+    record {
+      finishes = sym (eval-closed plan o ∙ ap (closed kids) whole ∙ closed-then kids (rest_open plan kids path [] (begun_stage (begun plan function args))) (λ v. v ∷ []));
+      known = known;
+      clear = clear;
+      parts = tt;
+      work = (tt, record { front = []; whole = whole }, begun-sound plan function args [] clear tt);
+    }
+tasks_begin plan (Loop function rest first path range) known clear = record {
+  finishes = then-done (turns (eval plan) function rest first path range.lo (range.hi - range.lo)) ∙ sym (eval-loop function rest first path plan range (loop-of-plan plan (Loop function rest first path range) known));
+  known = known;
+  clear = clear;
+  parts = tt;
+  work = ((omega arith, refl, λ h. h), tt);
+}
