@@ -8,6 +8,7 @@ pub mod Finishing
 pub mod Keeps
 pub mod Loops
 pub mod Moves
+pub mod Onward
 pub mod Own
 pub mod Shown
 pub mod SoundMoves
