@@ -14,5 +14,6 @@ pub mod Shown
 pub mod SoundMoves
 pub mod Starts
 pub mod Steps
+pub mod Stops
 pub mod Taken
 pub mod Variables

@@ -46,6 +46,19 @@ StopsAreSound = (t : Task) (stop : Stop) → IsTask t → IsNext t stop → IsSo
 abbrev pub AnswersKeepTasks : Type 0
 AnswersKeepTasks = (t : Task) → IsTask t → IsTask (on (evaluations (eval t.plan) t.pieces.handed) t)
 
+-- a task of the same plan and origin
+abbrev pub IsOf : Task → Task → Type 0
+IsOf t other = (other.plan ≡ t.plan) × (other.origin ≡ t.origin)
+
+abbrev pub KeepsOrigin : Task → Stop → Type 0
+KeepsOrigin t (Spawn child rest) = IsOf t rest
+KeepsOrigin t (Wait rest) = IsOf t rest
+KeepsOrigin t (End out ended) = Unit {0}
+
+-- What is left of a task at a stop has its plan and its origin.
+abbrev pub StopsKeepOrigins : Type 0
+StopsKeepOrigins = (t : Task) (stop : Stop) → IsNext t stop → KeepsOrigin t stop
+
 -- There is one next stop.
 abbrev pub StopsAreOne : Type 0
 StopsAreOne = (t : Task) (stop other : Stop) → IsNext t stop → IsNext t other → stop ≡ other

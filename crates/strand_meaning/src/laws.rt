@@ -1,6 +1,6 @@
 //! Laws of tasks, each the contract of a function that does nothing. A proof that wants a law calls it.
 
-ghost use Rattle.strand_meaning.specs.Laws.{AnswersKeepTasks, StepsAreSound, StopsAreOne, StopsAreSound, StopsCome, TasksBegin};
+ghost use Rattle.strand_meaning.specs.Laws.{AnswersKeepTasks, StepsAreSound, StopsAreOne, StopsAreSound, StopsCome, StopsKeepOrigins, TasksBegin};
 
 /// A task of an origin of the plan begins sound where no function of the script touches a pending variable.
 pub fn tasks_begin()
@@ -16,6 +16,11 @@ pub fn steps_are_sound()
 /// The same of the stop that a task comes to by moves.
 pub fn stops_are_sound()
     ensures { StopsAreSound }
+{}
+
+/// What is left of a task at a stop has the task's plan and origin.
+pub fn stops_keep_origins()
+    ensures { StopsKeepOrigins }
 {}
 
 /// A task that took the evaluations of its children as their answers keeps the invariant.
