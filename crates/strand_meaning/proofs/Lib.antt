@@ -2,8 +2,10 @@ pub mod Alike
 pub mod Changed
 pub mod Clears
 pub mod Closing
+pub mod Comes
 pub mod Depth
 pub mod Ends
+pub mod Falls
 pub mod Finishing
 pub mod Keeps
 pub mod Loops

@@ -98,11 +98,11 @@ stops_are_sound t stop is (Later next h n) =
 
 -- There is no other.
 
-stop_of : Stop → Step → Stop
+abbrev stop_of : Stop → Step → Stop
 stop_of d (Passes next) = d
 stop_of d (Stops stop) = stop
 
-next_of : Task → Step → Task
+abbrev next_of : Task → Step → Task
 next_of d (Passes next) = next
 next_of d (Stops stop) = d
 
@@ -113,14 +113,11 @@ pub stops_are_one : (t : Task) (stop other : Stop) → IsNext t stop → IsNext 
 stops_are_one t stop other (Now h) (Now g) = same (sym h ∙ g)
   where
     same : Stops stop ≡ Stops other → stop ≡ other
-    same e = stop-same e
-      where
-        stop-same : Stops stop ≡ Stops other → stop ≡ other
-        stop-same e = ap (λ (s : Step). elim s as (λ x. Stop) [ Passes next ↦ stop | Stops found ↦ found ]) e
+    same e = ap (stop_of stop) e
 stops_are_one t stop other (Now h) (Later next g n) = absurd (not-both next stop (sym g ∙ h))
 stops_are_one t stop other (Later next h m) (Now g) = absurd (not-both next other (sym h ∙ g))
 stops_are_one t stop other (Later next h m) (Later after g n) =
     stops_are_one next stop other m (subst (λ (x : Task). IsNext x other) (sym (task-same (sym h ∙ g))) n)
   where
     task-same : Passes next ≡ Passes after → next ≡ after
-    task-same e = ap (λ (s : Step). elim s as (λ x. Task) [ Passes found ↦ found | Stops stop ↦ next ]) e
+    task-same e = ap (next_of next) e
