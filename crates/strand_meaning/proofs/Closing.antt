@@ -1,0 +1,80 @@
+-- An open run with its children's evaluations in their places.
+use Rattle.std.proofs.Common.{◌≡◌, ℕ, zero, suc, ◌-◌, Bool, true, List, [], ◌∷◌, ◌++◌, Option, Some, None, Result, Ok, Err, refl, sym, ap, ◌∙◌, append_assoc, append-nil}
+use Rattle.serial_meaning.specs.Runs.{Run, done, behind, goes_on, ◌then◌}
+use Rattle.serial_meaning.specs.Plan.{PlanView}
+use Rattle.serial_meaning.specs.Eval.{Evaluation, path_of, eval_with, eval_at, eval, depth_left}
+use Rattle.serial_meaning.specs.Open.{Item, Happened, Child, Ending, Own, Joined, node_with, node_at, opened, is_empty_loop}
+use Rattle.serial_meaning.proofs.RunLaws.{goes_on-behind, then-then}
+use Rattle.serial_meaning.proofs.Cut.{Piece, Matches, cut, child_first, in_front}
+use Rattle.serial_meaning.proofs.Sim.{node-cuts, empty_left}
+use Rattle.serial_meaning.specs.declared.value.Value.{Value}
+use Rattle.serial_meaning.specs.declared.event.Fault.{Fault}
+use Rattle.serial_meaning.specs.declared.event.Event.{Event}
+use Rattle.serial_meaning.specs.declared.origin.Origin.{Origin}
+use Rattle.strand_meaning.specs.Rest.{child_at, children_of, closed_end, closed_at, closed}
+
+pub behind-then : {I E A B : Type 0} (xs : List I) (r : Run I E A) (f : A → Run I E B) → (behind xs r then f) ≡ behind xs (r then f)
+behind-then xs r f = goes_on-behind xs r.items r.ending f
+
+module _ (child : Origin → Evaluation) where
+  -- a piece and how it ends
+  abbrev ends_by : {A : Type 0} → List Event → Option Fault → Result A Ending → Run Event Fault A
+  ends_by es (Some f) e = record { items = es; ending = Err f }
+  ends_by es None e = record { items = es; ending = closed_end child e }
+
+  closed-cut : {A : Type 0} (items : List Item) (e : Result A Ending) → closed_at child items e ≡ ends_by (cut child items).events (cut child items).cut_by e
+  closed-cut {A} [] e = refl
+  closed-cut {A} (Happened x ∷ items) e = ap (behind (x ∷ [])) (closed-cut items e) ∙ from (cut child items).events (cut child items).cut_by
+    where
+      from : (es : List Event) (c : Option Fault) → behind (x ∷ []) (ends_by es c e) ≡ ends_by (x ∷ es) c e
+      from es (Some f) = refl
+      from es None = refl
+  closed-cut {A} (Child o ∷ items) e = by_end (closed-cut items e) (child o).ending
+    where
+      from : (es : List Event) (c : Option Fault) → behind (child o).items (ends_by es c e) ≡ ends_by ((child o).items ++ es) c e
+      from es (Some f) = refl
+      from es None = refl
+
+      by_end : closed_at child items e ≡ ends_by (cut child items).events (cut child items).cut_by e → (q : Result (List Value) Fault) → goes_on (child o).items q (λ vs. closed_at child items e) ≡ ends_by (child_first (child o).items q (cut child items)).events (child_first (child o).items q (cut child items)).cut_by e
+      by_end ih (Ok vs) = ap (behind (child o).items) ih ∙ from (cut child items).events (cut child items).cut_by
+      by_end ih (Err f) = refl
+
+  matches-ends : {A : Type 0} (es : List Event) (c : Option Fault) (r : Run Event Fault A) (e : Result A Ending) → Matches child (λ (a : A). a) es c r e → r ≡ ends_by es c e
+  matches-ends es (Some f) r e h = h
+  matches-ends es None r (Ok b) h = h.2 ∙ ap (λ a. record { items = es; ending = Ok a }) (sym h.1)
+  matches-ends es None r (Err (Own f)) h = h
+  matches-ends es None r (Err (Joined f)) h = absurd h
+
+  pub closed-then : {A B : Type 0} (r : Run Item Ending A) (f : A → B) → closed child (r then λ a. done (f a)) ≡ (closed child r then λ a. done (f a))
+  closed-then {A} {B} r f = by_end r.items r.ending
+    where
+      by_items : (items : List Item) (a : A) → closed_at child (items ++ []) (Ok (f a)) ≡ (closed_at child items (Ok a) then λ a. done (f a))
+      by_items [] a = refl
+      by_items (Happened e ∷ items) a = ap (behind (e ∷ [])) (by_items items a) ∙ sym (behind-then (e ∷ []) (closed_at child items (Ok a)) (λ a. done (f a)))
+      by_items (Child o ∷ items) a =
+          ap (λ (r : Run Event Fault B). child o then λ vs. r) (by_items items a) ∙ sym (then-then (child o) (λ vs. closed_at child items (Ok a)) (λ a. done (f a)))
+
+      by_fault : (items : List Item) (e : Ending) → closed_at child items (Err e) ≡ (closed_at child items (Err e) then λ a. done (f a))
+      by_fault [] (Own g) = refl
+      by_fault [] (Joined g) = refl
+      by_fault (Happened x ∷ items) e = ap (behind (x ∷ [])) (by_fault items e) ∙ sym (behind-then (x ∷ []) (closed_at child items (Err e)) (λ (a : A). done (f a)))
+      by_fault (Child o ∷ items) e =
+          ap (λ (r : Run Event Fault B). child o then λ vs. r) (by_fault items e) ∙ sym (then-then (child o) (λ vs. closed_at child items (Err e)) (λ (a : A). done (f a)))
+
+      by_end : (items : List Item) (e : Result A Ending) → closed child (goes_on items e (λ a. done (f a))) ≡ (closed_at child items e then λ a. done (f a))
+      by_end items (Ok a) = by_items items a
+      by_end items (Err e) = by_fault items e
+
+-- The evaluation of an origin is its node with its children's evaluations in their places.
+pub eval-closed : (plan : PlanView) (o : Origin) → eval plan o ≡ closed (children_of plan o) (opened plan o)
+eval-closed plan o = by_left (depth_left plan o)
+  where
+    by_left : (left : ℕ) → eval_at plan left o ≡ closed (child_at plan left) (node_at plan left o)
+    by_left zero =
+        let child : Origin → Evaluation = λ o. done [] in
+        let n = node_with plan child o in
+        matches-ends child (cut child n.items).events (cut child n.items).cut_by (eval_with plan child o) n.ending (node-cuts plan child (λ o e. refl) o) ∙ sym (closed-cut child n.items n.ending)
+    by_left (suc left) =
+        let child = eval_at plan left in
+        let n = node_with plan child o in
+        matches-ends child (cut child n.items).events (cut child n.items).cut_by (eval_with plan child o) n.ending (node-cuts plan child (empty_left plan left) o) ∙ sym (closed-cut child n.items n.ending)

@@ -1,0 +1,41 @@
+-- What a move shows, as items of the open tree.
+use Rattle.std.proofs.Common.{◌≡◌, ℕ, Bool, true, false, nat_eq, List, [], ◌∷◌, ◌++◌, Option, Some, None, Result, Ok, Err, refl, ap, if◌then◌else◌, length}
+use Rattle.std.proofs.lemmas.Bool.{eq-eqb}
+use Rattle.serial_meaning.specs.Runs.{Run, done, stopped}
+use Rattle.serial_meaning.specs.Plan.{PlanView}
+use Rattle.serial_meaning.specs.Eval.{Evaluation}
+use Rattle.serial_meaning.specs.Open.{Item, Happened, Child, Ending, Own}
+use Rattle.serial_meaning.specs.declared.value.Value.{Value}
+use Rattle.serial_meaning.specs.declared.event.Fault.{Fault}
+use Rattle.serial_meaning.specs.declared.origin.Origin.{Origin}
+use Rattle.strand_meaning.specs.Machine.{Token, Told, Handed, Syncs, Loops, Activation, Machine, Reached, Stands, Gives}
+use Rattle.strand_meaning.specs.Pieces.{Part}
+use Rattle.strand_meaning.specs.Task.{stage_after, changed}
+use Rattle.strand_meaning.specs.Rest.{rest_open}
+
+abbrev pub token_items : List Token → List Item
+token_items [] = []
+token_items (Told e ∷ ts) = Happened e ∷ token_items ts
+token_items (Handed o place ∷ ts) = Child o ∷ token_items ts
+token_items (Syncs ∷ ts) = token_items ts
+token_items (Loops ∷ ts) = token_items ts
+
+abbrev pub token_parts : List Token → List Part
+token_parts [] = []
+token_parts (Told e ∷ ts) = token_parts ts
+token_parts (Handed o place ∷ ts) = record { child = o; place = place; behind = [] } ∷ token_parts ts
+token_parts (Syncs ∷ ts) = token_parts ts
+token_parts (Loops ∷ ts) = token_parts ts
+
+pub same-number : (n : ℕ) → nat_eq n n ≡ true
+same-number n = eq-eqb n n refl
+
+-- the innermost activation changed
+pub changed-top : (change : Activation → Activation) (m : Machine) → changed (length m.below) change m ≡ record m { top = change m.top }
+changed-top change m = rw (same-number (length m.below)) refl
+
+-- what remains behind a move that showed these
+abbrev pub shown : PlanView → (Origin → Evaluation) → List ℕ → List Token → Result Reached Fault → Run Item Ending Value
+shown plan child path ts (Ok (Stands m)) = rest_open plan child path (token_parts ts) (stage_after ts m)
+shown plan child path ts (Ok (Gives v)) = done v
+shown plan child path ts (Err f) = stopped (Own f)

@@ -1,0 +1,196 @@
+-- A move of a task keeps its invariant.
+use Rattle.std.proofs.Common.{◌≡◌, ℕ, zero, suc, ◌+◌, ◌-◌, ◌<◌, ◌≤◌, Bool, true, false, List, [], ◌∷◌, ◌++◌, Option, Some, None, Result, Ok, Err, ◌⊎◌, inl, inr, length, map, refl, sym, ap, ◌∙◌, append_assoc, append-nil, subst, arith}
+use Rattle.std.specs.Prelude.{Contains}
+use Rattle.std.proofs.lemmas.List.Elements.{Contains-append_left, Contains-append_right}
+use Rattle.loop_range.specs.Range.{Range}
+use Rattle.serial_meaning.specs.Runs.{Run, done, stopped, behind, goes_on, ◌then◌}
+use Rattle.serial_meaning.specs.Plan.{PlanView}
+use Rattle.serial_meaning.specs.Eval.{Evaluation, iteration, path_of, eval, depth_left}
+use Rattle.serial_meaning.specs.Open.{Item, Happened, Child, Ending, Own, Joined, iterations, opened, node_at}
+use Rattle.serial_meaning.specs.Laws.{IsOriginOf, ChildOf}
+use Rattle.serial_meaning.proofs.RunLaws.{then-then, then-same}
+use Rattle.serial_meaning.proofs.Each.{Each}
+use Rattle.serial_meaning.specs.declared.value.Value.{Value}
+use Rattle.serial_meaning.specs.declared.event.Fault.{Fault}
+use Rattle.serial_meaning.specs.declared.event.Event.{Event}
+use Rattle.serial_meaning.specs.declared.origin.Origin.{Origin}
+use Rattle.serial_meaning.specs.declared.origin.Origin.TheVariants.{Instance, Loop}
+use Rattle.strand_meaning.specs.Machine.{Place, Spawned, Looped, Half, Token, Told, Handed, Syncs, Loops, Machine, Reached, Stands, Gives, move}
+use Rattle.strand_meaning.specs.Pieces.{Part, Pieces, with_tokens}
+use Rattle.strand_meaning.specs.Task.{Stage, Goes, AtSync, AtLoop, Ended, Work, Splits, Runs, Over, Task, own_instance, Step, Passes, Stops, Stop, Spawn, stage_after, child_in, stops_at, passing, moved, takes_all, resumed, in_machine}
+use Rattle.strand_meaning.specs.Rest.{children_of, evaluations, rest_of_stage, rest_open, closed, parts_run, told_run, work_run, all_with, finish}
+use Rattle.strand_meaning.specs.Sound.{IsPlace, ArePlaces, IsHalf, AreHalves, IsSoundStage, IsSoFar, FitsOrigin, IsPart, AreParts, IsInstanceOrLoop, IsTask}
+use Rattle.strand_meaning.specs.Laws.{IsSoundStep}
+use Rattle.strand_meaning.proofs.Shown.{token_items, token_parts}
+use Rattle.strand_meaning.proofs.Taken.{shape_of, taken, takes-taken, shown_with, open-move, none-known}
+use Rattle.strand_meaning.proofs.SoundMoves.{sound-free, SoundEnd, sound-move}
+use Rattle.strand_meaning.proofs.Alike.{Alike, alike-itself, alike-tokens, alike-takes, alike-parts, alike-stage}
+use Rattle.strand_meaning.proofs.Depth.{LoopFits, loop-of-plan, same-answer}
+use Rattle.strand_meaning.proofs.Own.{own-move}
+use Rattle.strand_meaning.proofs.Closing.{behind-then}
+use Rattle.strand_meaning.proofs.Finishing.{NotHalf, so_far, played, tokens-so_far, SameChild, played-closed}
+use Rattle.strand_meaning.proofs.Keeps.{first-contained, later-contained}
+
+pub so_far-same : (child : Origin → Evaluation) (pieces : Pieces) (values : List Value) (f g : List Value → Evaluation) → ((vs : List Value) → f vs ≡ g vs) → so_far child pieces values f ≡ so_far child pieces values g
+so_far-same child pieces values f g same =
+    ap (λ (r : Evaluation). told_run pieces then λ u. r) (then-same (parts_run child pieces.handed values) f g (λ vs h. same vs))
+
+pub parts-append : (plan : PlanView) (o : Origin) (ps qs : List Part) → AreParts plan o ps → AreParts plan o qs → AreParts plan o (ps ++ qs)
+parts-append plan o [] qs h k = k
+parts-append plan o (p ∷ ps) qs h k = (h.0, parts-append plan o ps qs h.1 k)
+
+-- The children of a move
+
+module _ (plan : PlanView) (o : Origin) where
+  abbrev child : Origin → Evaluation
+  child = children_of plan (own_instance o)
+
+  abbrev Known : Origin → Type 0
+  Known c = IsOriginOf plan c × (child c ≡ eval plan c)
+
+  new-parts : (ts : List Token) → Each NotHalf ts → ((c : Origin) → Contains (token_items ts) (Child c) → Known c) → AreParts plan o (token_parts ts)
+  new-parts [] own h = tt
+  new-parts (Told e ∷ ts) own h = new-parts ts own.1 (λ c k. h c (later-contained (Happened e) (Child c) (token_items ts) k))
+  new-parts (Handed c (Spawned height target) ∷ ts) own h =
+      let k = h c (first-contained (Child c) (token_items ts)) in (record { known = k.0; fits = tt; same = inr k.1 }, new-parts ts own.1 (λ d g. h d (later-contained (Child c) (Child d) (token_items ts) g)))
+  new-parts (Handed c (Looped target) ∷ ts) own h =
+      let k = h c (first-contained (Child c) (token_items ts)) in (record { known = k.0; fits = tt; same = inr k.1 }, new-parts ts own.1 (λ d g. h d (later-contained (Child c) (Child d) (token_items ts) g)))
+  new-parts (Handed c Half ∷ ts) own h = absurd own.0
+  new-parts (Syncs ∷ ts) own h = new-parts ts own.1 h
+  new-parts (Loops ∷ ts) own h = new-parts ts own.1 h
+
+  same-children : (ts : List Token) → ((c : Origin) → Contains (token_items ts) (Child c) → Known c) → Each (SameChild child (eval plan)) ts
+  same-children [] h = tt
+  same-children (Told e ∷ ts) h = (tt, same-children ts (λ c k. h c (later-contained (Happened e) (Child c) (token_items ts) k)))
+  same-children (Handed c place ∷ ts) h =
+      ((h c (first-contained (Child c) (token_items ts))).1, same-children ts (λ d g. h d (later-contained (Child c) (Child d) (token_items ts) g)))
+  same-children (Syncs ∷ ts) h = (tt, same-children ts h)
+  same-children (Loops ∷ ts) h = (tt, same-children ts h)
+
+  child-known : (ts : List Token) (c : Origin) → ((d : Origin) → Contains (token_items ts) (Child d) → Known d) → child_in ts ≡ Some c → IsOriginOf plan c
+  child-known [] c h e = absurd (cc)
+  child-known (Told x ∷ ts) c h e = child-known ts c (λ d k. h d (later-contained (Happened x) (Child d) (token_items ts) k)) e
+  child-known (Handed d place ∷ ts) c h e = subst (IsOriginOf plan) (by_some e) (h d (first-contained (Child d) (token_items ts))).0
+    where
+      or_first : Option Origin → Origin
+      or_first None = d
+      or_first (Some f) = f
+
+      by_some : Some d ≡ Some c → d ≡ c
+      by_some g = ap or_first g
+  child-known (Syncs ∷ ts) c h e = child-known ts c h e
+  child-known (Loops ∷ ts) c h e = child-known ts c h e
+
+-- Where a stage has ended answers change nothing
+pub ended-rest : (plan : PlanView) (child : Origin → Evaluation) (path : List ℕ) (height : ℕ) (ps : List Part) → ArePlaces height ps → (e : Result Value Ending) →
+    rest_open plan child path ps (Ended e) ≡ record { items = []; ending = e }
+ended-rest plan child path height ps h e = ap (λ stage. rest_of_stage plan child path (resumed stage)) (takes-taken child height ps h (Ended e))
+
+pub halves-places : (ps : List Part) → AreHalves ps → ArePlaces 0 ps
+halves-places [] h = tt
+halves-places (p ∷ ps) h = (from p.place h.0, halves-places ps h.1)
+  where
+    from : (place : Place) → IsHalf place → IsPlace 0 place
+    from (Spawned owner target) g = absurd g
+    from (Looped target) g = absurd g
+    from Half g = tt
+
+-- A task whose instance moves
+module _ (t : Task) (is : IsTask t) (m : Machine) (own-known : IsOriginOf t.plan (own_instance t.origin)) (is-loop : IsInstanceOrLoop t.origin)
+    (far : IsSoFar t.plan (own_instance t.origin) t.pieces.handed (Goes m)) (sound : IsSoundStage t.plan t.pieces.handed (Goes m)) (at : t.work ≡ Runs (Goes m)) where
+  abbrev own : Origin
+  own = own_instance t.origin
+
+  abbrev path : List ℕ
+  path = path_of own
+
+  abbrev kids : Origin → Evaluation
+  kids = children_of t.plan own
+
+  abbrev ps : List Part
+  ps = t.pieces.handed
+
+  -- what a move shows and leaves, as an equation of what remains
+  abbrev Leaves : List Token → Run Item Ending Value → Type 0
+  Leaves ts rest = rest_open t.plan kids path ps (Goes m) ≡ behind (token_items ts) rest
+
+  abbrev all_of : Value → Run Item Ending (List Value)
+  all_of v = done (v ∷ [])
+
+  further : (ts : List Token) (rest : Run Item Ending Value) → Leaves ts rest → opened t.plan own ≡ behind (far.front ++ token_items ts) (rest then all_of)
+  further ts rest h =
+      far.whole
+      ∙ ap (λ (r : Run Item Ending Value). behind far.front (r then all_of)) h
+      ∙ ap (behind far.front) (behind-then (token_items ts) rest all_of)
+      ∙ ap (λ (l : List Item). record { items = l; ending = (rest then all_of).ending }) (sym (append_assoc far.front (token_items ts) (rest then all_of).items))
+
+  known : (ts : List Token) (rest : Run Item Ending Value) → Leaves ts rest → (c : Origin) → Contains (token_items ts) (Child c) → IsOriginOf t.plan c × (kids c ≡ eval t.plan c)
+  known ts rest h c k = (ChildOf own c own-known there, same-answer t.plan own c (loop-of-plan t.plan own own-known) there)
+    where
+      there : Contains (opened t.plan own).items (Child c)
+      there =
+          subst (λ (r : Run Item Ending (List Value)). Contains r.items (Child c)) (sym (further ts rest h))
+          (Contains-append_left (far.front ++ token_items ts) (rest then all_of).items (Child c) (Contains-append_right far.front (token_items ts) (Child c) k))
+
+  -- the task behind the move
+  next-task : (ts : List Token) → Each NotHalf ts → (rest : Run Item Ending Value) → Leaves ts rest → (stage : Stage) →
+      rest ≡ rest_open t.plan kids path (ps ++ token_parts ts) stage → IsSoundStage t.plan (ps ++ token_parts ts) stage → IsTask (passing t ts (Runs stage))
+  next-task ts own-tokens rest leaves stage lands fits = record {
+    finishes = finishes;
+    known = is.known;
+    clear = is.clear;
+    parts = alike-parts t.plan t.origin alike (parts-append t.plan t.origin ps (token_parts ts) is.parts (new-parts t.plan t.origin ts own-tokens (known ts rest leaves)));
+    work = (is-loop, record { front = far.front ++ token_items ts; whole = further ts rest leaves ∙ ap (λ (r : Run Item Ending Value). behind (far.front ++ token_items ts) (r then all_of)) lands-here }, alike-stage t.plan alike stage fits);
+  }
+    where
+      after : List Part
+      after = (with_tokens ts t.pieces).handed
+
+      alike : Alike (ps ++ token_parts ts) after
+      alike = alike-tokens ts t.pieces
+
+      lands-here : rest ≡ rest_open t.plan kids path after stage
+      lands-here = lands ∙ ap (λ s. rest_of_stage t.plan kids path (resumed s)) (alike-takes kids alike stage)
+
+      the-rest : (vs : List Value) → work_run t.plan t.origin ps (Runs (Goes m)) vs ≡ played (eval t.plan) ts (work_run t.plan t.origin after (Runs stage) vs)
+      the-rest vs =
+          ap (λ (r : Run Item Ending Value). closed kids r then λ v. done (all_with t.origin vs v)) leaves
+          ∙ played-closed kids (eval t.plan) ts (same-children t.plan t.origin ts (known ts rest leaves)) rest (λ v. done (all_with t.origin vs v))
+          ∙ ap (λ (r : Run Item Ending Value). played (eval t.plan) ts (closed kids r then λ v. done (all_with t.origin vs v))) lands-here
+
+      finishes : finish (passing t ts (Runs stage)) ≡ eval t.plan t.origin
+      finishes =
+          tokens-so_far (eval t.plan) ts own-tokens t.pieces t.values (work_run t.plan t.origin after (Runs stage))
+          ∙ sym (so_far-same (eval t.plan) t.pieces t.values (work_run t.plan t.origin ps (Runs (Goes m))) (λ vs. played (eval t.plan) ts (work_run t.plan t.origin after (Runs stage) vs)) the-rest)
+          ∙ ap (λ (w : Work). so_far (eval t.plan) t.pieces t.values (work_run t.plan t.origin ps w)) (sym at)
+          ∙ is.finishes
+
+  sound-moved : (ts : List Token) (e : Result Reached Fault) → Each NotHalf ts → Leaves ts (shown_with t.plan kids path ps ts e) → SoundEnd t.plan ps ts e → IsSoundStep t (moved t ts e)
+  sound-moved ts (Ok (Stands k)) own-tokens leaves fits = by_child (child_in ts) refl
+    where
+      next : Task
+      next = passing t ts (Runs (stage_after ts k))
+
+      is-next : IsTask next
+      is-next = next-task ts own-tokens (rest_open t.plan kids path (ps ++ token_parts ts) (stage_after ts k)) leaves (stage_after ts k) refl fits
+
+      by_child : (o : Option Origin) → child_in ts ≡ o → IsSoundStep t (stops_at o next)
+      by_child None h = is-next
+      by_child (Some c) h = (child-known t.plan t.origin ts c (known ts (rest_open t.plan kids path (ps ++ token_parts ts) (stage_after ts k)) leaves) h, is-next)
+  sound-moved ts (Ok (Gives v)) own-tokens leaves fits =
+      next-task ts own-tokens (done v) leaves (Ended (Ok v)) (sym (ended-rest t.plan kids path 0 (ps ++ token_parts ts) (halves-places (ps ++ token_parts ts) halves) (Ok v))) halves
+    where
+      halves : AreHalves (ps ++ token_parts ts)
+      halves = subst AreHalves (sym (ap (λ (l : List Part). ps ++ l) fits.0 ∙ append-nil ps)) fits.1
+  sound-moved ts (Err f) own-tokens leaves fits =
+      next-task ts own-tokens (stopped (Own f)) leaves (Ended (Err (Own f))) (sym (ended-rest t.plan kids path fits.1 (ps ++ token_parts ts) places (Err (Own f)))) (fits.1, places)
+    where
+      places : ArePlaces fits.1 (ps ++ token_parts ts)
+      places = subst (ArePlaces fits.1) (sym (ap (λ (l : List Part). ps ++ l) fits.0 ∙ append-nil ps)) fits.2
+
+  pub sound-going : IsSoundStep t (moved t (move t.plan path m).items (move t.plan path m).ending)
+  sound-going =
+      let r = move t.plan path m in
+      sound-moved r.items r.ending (own-move t.plan path m)
+      (open-move t.plan kids path (length m.below) ps sound.0 m (sound-free t.plan ps m sound) (none-known kids ps m sound.1.spawned sound.1.faulted))
+      (sound-move t.plan path is.clear ps m sound)

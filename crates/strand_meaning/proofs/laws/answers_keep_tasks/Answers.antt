@@ -1,0 +1,5 @@
+use Rattle.strand_meaning.proofs.Onward.{answers_keep_tasks}
+use Rattle.strand_meaning.proofs.laws.answers_keep_tasks.Goals as goal
+
+pub returns : goal.returns
+returns c = answers_keep_tasks

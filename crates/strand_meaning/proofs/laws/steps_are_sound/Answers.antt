@@ -1,0 +1,5 @@
+use Rattle.strand_meaning.proofs.Ends.{steps_are_sound}
+use Rattle.strand_meaning.proofs.laws.steps_are_sound.Goals as goal
+
+pub returns : goal.returns
+returns c = steps_are_sound

@@ -1,0 +1,5 @@
+use Rattle.strand_meaning.proofs.Stops.{stops_are_one}
+use Rattle.strand_meaning.proofs.laws.stops_are_one.Goals as goal
+
+pub returns : goal.returns
+returns c = stops_are_one

@@ -1,0 +1,5 @@
+use Rattle.strand_meaning.proofs.Comes.{stops_come}
+use Rattle.strand_meaning.proofs.laws.stops_come.Goals as goal
+
+pub returns : goal.returns
+returns c = stops_come

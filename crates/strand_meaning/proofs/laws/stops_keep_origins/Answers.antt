@@ -1,0 +1,5 @@
+use Rattle.strand_meaning.proofs.Stops.{stops_keep_origins}
+use Rattle.strand_meaning.proofs.laws.stops_keep_origins.Goals as goal
+
+pub returns : goal.returns
+returns c = stops_keep_origins

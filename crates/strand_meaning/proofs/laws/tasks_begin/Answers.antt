@@ -1,0 +1,5 @@
+use Rattle.strand_meaning.proofs.Ends.{tasks_begin}
+use Rattle.strand_meaning.proofs.laws.tasks_begin.Goals as goal
+
+pub returns : goal.returns
+returns c = tasks_begin

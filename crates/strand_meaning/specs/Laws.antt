@@ -1,0 +1,67 @@
+-- Laws of tasks. Each is the contract of a function of the module `laws`.
+use Rattle.std.specs.Prelude.{◌≡◌, ℕ, Bool, true, List, [], ◌∷◌, Result, Ok, Err, map, Contains}
+use Rattle.serial_meaning.specs.Plan.{PlanView}
+use Rattle.serial_meaning.specs.Eval.{eval}
+use Rattle.serial_meaning.specs.Open.{faults}
+use Rattle.serial_meaning.specs.Laws.{IsOriginOf, EndsWithin}
+use Rattle.serial_meaning.specs.Answer.{IsEval}
+use Rattle.serial_meaning.specs.declared.event.Event.{Event}
+use Rattle.serial_meaning.specs.declared.origin.Origin.{Origin}
+use Rattle.serial_meaning.specs.declared.answer.Outcome.{Outcome}
+use Rattle.serial_meaning.specs.declared.answer.Outcome.TheVariants as outcome
+use Rattle.strand_meaning.specs.Clear.{IsClearPlan}
+use Rattle.strand_meaning.specs.Pieces.{Part}
+use Rattle.strand_meaning.specs.Task.{Task, Stop, Spawn, Wait, End, Step, Passes, Stops, start, step, IsNext, on}
+use Rattle.strand_meaning.specs.Rest.{evaluations}
+use Rattle.strand_meaning.specs.Sound.{IsTask}
+
+-- A task begins sound: of an origin of the plan, where no function touches a pending variable.
+abbrev pub TasksBegin : Type 0
+TasksBegin = (plan : PlanView) (o : Origin) → IsOriginOf plan o → IsClearPlan plan → IsTask (start plan o)
+
+abbrev pub IsFaultOf : PlanView → Outcome → Type 0
+IsFaultOf plan (outcome.Value v) = Unit {0}
+IsFaultOf plan (outcome.Values vs) = Unit {0}
+IsFaultOf plan (outcome.Fault f) = Contains (faults plan) f
+IsFaultOf plan (outcome.Cut f) = ⊥
+
+-- what a stop gives is sound, and an end is the origin's evaluation
+abbrev pub IsSoundStop : Task → Stop → Type 0
+IsSoundStop t (Spawn child rest) = IsOriginOf t.plan child × IsTask rest
+IsSoundStop t (Wait rest) = IsTask rest
+IsSoundStop t (End out ended) = IsEval t.plan t.origin out ended × IsFaultOf t.plan ended
+
+abbrev pub IsSoundStep : Task → Step → Type 0
+IsSoundStep t (Passes next) = IsTask next
+IsSoundStep t (Stops stop) = IsSoundStop t stop
+
+-- A move or stop keeps the invariant.
+abbrev pub StepsAreSound : Type 0
+StepsAreSound = (t : Task) → IsTask t → IsSoundStep t (step t)
+
+abbrev pub StopsAreSound : Type 0
+StopsAreSound = (t : Task) (stop : Stop) → IsTask t → IsNext t stop → IsSoundStop t stop
+
+-- A task that takes the evaluations of its children as their answers stays sound.
+abbrev pub AnswersKeepTasks : Type 0
+AnswersKeepTasks = (t : Task) → IsTask t → IsTask (on (evaluations (eval t.plan) t.pieces.handed) t)
+
+-- a task of the same plan and origin
+abbrev pub IsOf : Task → Task → Type 0
+IsOf t other = (other.plan ≡ t.plan) × (other.origin ≡ t.origin)
+
+abbrev pub KeepsOrigin : Task → Stop → Type 0
+KeepsOrigin t (Spawn child rest) = IsOf t rest
+KeepsOrigin t (Wait rest) = IsOf t rest
+KeepsOrigin t (End out ended) = Unit {0}
+
+-- What is left of a task at a stop has its plan and its origin.
+abbrev pub StopsKeepOrigins : Type 0
+StopsKeepOrigins = (t : Task) (stop : Stop) → IsNext t stop → KeepsOrigin t stop
+
+-- There is one next stop.
+abbrev pub StopsAreOne : Type 0
+StopsAreOne = (t : Task) (stop other : Stop) → IsNext t stop → IsNext t other → stop ≡ other
+
+abbrev pub StopsCome : Type 0
+StopsCome = (t : Task) → (stop : Stop) × IsNext t stop

@@ -1,0 +1,7 @@
+pub mod Clear
+pub mod Laws
+pub mod Machine
+pub mod Pieces
+pub mod Rest
+pub mod Sound
+pub mod Task

@@ -1,0 +1,206 @@
+-- An instance as a machine: a stack of activations that does one thing at a time. What a statement does is the text of the serial
+-- elision and of the open tree, in a third manner: children are handed out, and what stands inside a block, a turn or a callee is what
+-- the machine does next.
+use Rattle.std.specs.Prelude.{ℕ, Bool, true, false, List, [], ◌∷◌, ◌++◌, Option, Some, None, Result, Ok, Err, length, if◌then◌else◌}
+use Rattle.std.specs.Prelude.{pos}
+use Rattle.script_grammar.specs.declared.tree.Name.{Name}
+use Rattle.script_grammar.specs.declared.tree.CallText.{CallText}
+use Rattle.script_grammar.specs.declared.tree.Function.{Function}
+use Rattle.script_grammar.specs.declared.tree.Right.TheVariants as right
+use Rattle.script_grammar.specs.declared.tree.Stmt.{Stmt, out-Stmt}
+use Rattle.script_grammar.specs.declared.tree.Act.{Act, out-Act}
+use Rattle.script_grammar.specs.declared.tree.Act.TheOpen as act
+use Rattle.script_grammar.specs.declared.tree.Act.TheOpen.{Act-F}
+use Rattle.serial_meaning.specs.Runs.{Run, done, stopped, happens, ◌then◌}
+use Rattle.serial_meaning.specs.Values.{Env, value_of}
+use Rattle.serial_meaning.specs.Functions.{number_of, function_at, any_spawns}
+use Rattle.serial_meaning.specs.Plan.{PlanView, functions_of}
+use Rattle.serial_meaning.specs.Exec.{State, Manner, with_slot, bound, given, paid, implied, statement}
+use Rattle.serial_meaning.specs.Open.{filler, is_empty_loop}
+use Rattle.serial_meaning.specs.declared.value.Value.{Value}
+use Rattle.serial_meaning.specs.declared.value.Value.TheVariants.{Int}
+use Rattle.serial_meaning.specs.declared.environment.Slot.TheVariants.{Scalar}
+use Rattle.serial_meaning.specs.declared.event.Fault.{Fault}
+use Rattle.serial_meaning.specs.declared.event.Event.{Event}
+use Rattle.serial_meaning.specs.declared.origin.Origin.{Origin}
+
+-- The manner
+
+-- where a child's value goes: into a variable, if any, of the activation with so many below it, which spawned it; into an array, if
+-- any, of the innermost activation, whose loop it is; or among the values of the loop that it is a part of
+pub data Place : Type 0 where
+  Spawned : ℕ → Option Name → Place
+  Looped : Option Name → Place
+  Half : Place
+
+-- what a move shows: an event, a child, that it stands at a sync and waits, that it stands at a loop's end and waits
+pub data Token : Type 0 where
+  Told : Event → Token
+  Handed : Origin → Place → Token
+  Syncs : Token
+  Loops : Token
+
+-- A statement is left by a fault, or because it goes inside: to these statements, with so many open calls, from this state.
+pub data Halt : Type 0 where
+  Faulted : Fault → Halt
+  Inside : ℕ → List Stmt → State Bool → Halt
+
+abbrev pub loop_tokens : Bool → Origin → Place → List Token
+loop_tokens true o place = []
+loop_tokens false o place = Handed o place ∷ Loops ∷ []
+
+abbrev pub sync_tokens : Bool → List Token
+sync_tokens true = Syncs ∷ []
+sync_tokens false = []
+
+-- Children are handed out, and a filler stands for a spawned child's value. A loop's values aren't put in yet. It is known whether
+-- there was a spawn since the last sync, and a sync waits only then.
+abbrev pub handing : PlanView → Place → Manner Token Halt Bool
+handing plan place = record {
+  event = Told;
+  own = Faulted;
+  none = false;
+  spawn = λ o k. happens (Handed o place) (filler plan o, true);
+  loop = λ o. record { items = loop_tokens (is_empty_loop o) o place; ending = Ok [] };
+  sync = λ k. record { items = sync_tokens k; ending = Ok false };
+}
+
+-- what stands inside isn't done, but left for the next moves
+abbrev pub inside : ℕ → List Stmt → State Bool → Run Token Halt (State Bool)
+inside calls sts s = stopped (Inside calls sts s)
+
+abbrev pub place_of : ℕ → Act-F Act Stmt → Place
+place_of height (act.Let x r) = Spawned height (Some x)
+place_of height (act.Array x n) = Spawned height None
+place_of height (act.Set x r) = Spawned height (Some x)
+place_of height (act.Store x i e) = Spawned height None
+place_of height (act.Spawn c) = Spawned height None
+place_of height (act.Call c) = Spawned height None
+place_of height act.Sync = Spawned height None
+place_of height (act.Print e) = Spawned height None
+place_of height (act.If e a b) = Spawned height None
+place_of height (act.While e a) = Spawned height None
+place_of height (act.Pfor x lo hi target c) = Looped target
+
+-- The stack
+
+-- A function that was begun: its place in the script, the statements left, and whether these and the sync that its return implies are
+-- behind it; its variables; whether it spawned since its own last sync, and the least fault among the answers of these children that
+-- were taken; and the variable of the activation below it that its value goes to.
+pub record Activation : Type 0 where
+  pub function : ℕ
+  pub left : List Stmt
+  pub returning : Bool
+  pub env : Env
+  pub spawned : Bool
+  pub faulted : Option Fault
+  pub target : Option Name
+
+-- an instance's rank, its steps left, its innermost activation and the others from the innermost on, which are its open calls
+pub record Machine : Type 0 where
+  pub rank : ℕ
+  pub steps : ℕ
+  pub top : Activation
+  pub below : List Activation
+
+-- after a move: a machine, or the instance's value
+pub data Reached : Type 0 where
+  Stands : Machine → Reached
+  Gives : Value → Reached
+
+abbrev pub state_of : Machine → State Bool
+state_of m = record { env = m.top.env; rank = m.rank; steps = m.steps; spawned = m.top.spawned }
+
+-- the innermost activation goes on with these statements, from this state
+abbrev pub with_left : Machine → List Stmt → State Bool → Machine
+with_left m left s = record m { rank = s.rank; steps = s.steps; top = record m.top { left = left; env = s.env; spawned = s.spawned } }
+
+-- its return is paid, and its last sync is behind it
+abbrev pub with_returning : Machine → State Bool → Machine
+with_returning m s = record m { rank = s.rank; steps = s.steps; top = record m.top { returning = true; env = s.env; spawned = s.spawned } }
+
+abbrev pub with_scalar : Option Name → Value → Env → Env
+with_scalar None v env = env
+with_scalar (Some x) v env = with_slot env x.bytes (Scalar v)
+
+-- the value of an activation that ended goes to the one below it, which goes on
+abbrev pub back : List Activation → Option Name → Value → ℕ → ℕ → Reached
+back [] target v rank steps = Gives v
+back (caller ∷ below) target v rank steps = Stands (record { rank = rank; steps = steps; top = record caller { env = with_scalar target v caller.env }; below = below })
+
+abbrev pub spawns_in : Option Function → Bool
+spawns_in (Some f) = any_spawns f.body
+spawns_in None = false
+
+module _ (plan : PlanView) where
+  -- a new activation over the one that calls
+  abbrev pub calling : Option Name → CallText → List Stmt → Machine → List Stmt → State Bool → Machine
+  calling target c left m body s = record {
+    rank = s.rank;
+    steps = s.steps;
+    top = record { function = number_of (functions_of plan) c.name.bytes; left = body; returning = false; env = s.env; spawned = s.spawned; faulted = None; target = target };
+    below = record m.top { left = left } ∷ m.below;
+  }
+
+  -- what a statement goes inside to: a callee's body, the turn of a loop, which then stands again, or a block
+  abbrev pub entered : Stmt → Act-F Act Stmt → List Stmt → Machine → List Stmt → State Bool → Machine
+  entered st (act.Let x (right.Call at c)) left m inner s = calling (Some x) c left m inner s
+  entered st (act.Set x (right.Call at c)) left m inner s = calling (Some x) c left m inner s
+  entered st (act.Call c) left m inner s = calling None c left m inner s
+  entered st (act.While e a) left m inner s = with_left m (inner ++ st ∷ left) s
+  entered st a left m inner s = with_left m (inner ++ left) s
+
+  abbrev pub reached : (State Bool → Machine) → (List Stmt → State Bool → Machine) → Result (State Bool) Halt → Result Reached Fault
+  reached on into (Ok s) = Ok (Stands (on s))
+  reached on into (Err (Faulted f)) = Err f
+  reached on into (Err (Inside calls inner s)) = Ok (Stands (into inner s))
+
+  abbrev pub gives : Machine → Result (Value × State Bool) Halt → Result Reached Fault
+  gives m (Ok r) = Ok (back m.below m.top.target r.0 r.1.rank r.1.steps)
+  gives m (Err (Faulted f)) = Err f
+  gives m (Err (Inside calls inner s)) = Ok (Stands m)
+
+  module _ (path : List ℕ) where
+    abbrev pub act_run : Machine → Stmt → Act-F Act Stmt → Run Token Halt (State Bool)
+    act_run m st a = statement (handing plan (place_of (length m.below) a)) plan path inside (length m.below) st (state_of m)
+
+    -- the step of a return and the sync that it implies
+    abbrev pub return_run : Machine → Run Token Halt (State Bool)
+    return_run m =
+        let how = handing plan (Spawned (length m.below) None) in
+        paid how plan path (state_of m) λ s. implied how plan path (spawns_in (function_at (functions_of plan) m.top.function)) s
+
+    -- the value of a return
+    abbrev pub value_run : Option Function → Machine → Run Token Halt (Value × State Bool)
+    value_run (Some f) m = given (handing plan (Spawned (length m.below) None)) plan path (value_of f.result m.top.env) (state_of m) λ v. done (v, state_of m)
+    value_run None m = done (Int (pos 0), state_of m)
+
+    abbrev pub statement_move : Machine → Stmt → List Stmt → Run Token Fault Reached
+    statement_move m st left =
+        let a = out-Act (out-Stmt st).act in
+        let r = act_run m st a in record { items = r.items; ending = reached (with_left m left) (entered st a left m) r.ending }
+
+    abbrev pub return_move : Machine → Bool → Run Token Fault Reached
+    return_move m false = let r = return_run m in record { items = r.items; ending = reached (with_returning m) (λ inner s. m) r.ending }
+    return_move m true = let r = value_run (function_at (functions_of plan) m.top.function) m in record { items = r.items; ending = gives m r.ending }
+
+    abbrev pub move_at : Machine → List Stmt → Run Token Fault Reached
+    move_at m [] = return_move m m.top.returning
+    move_at m (st ∷ left) = statement_move m st left
+
+    -- One move: a statement; the step and sync of a return; or its value.
+    abbrev pub move : Machine → Run Token Fault Reached
+    move m = move_at m m.top.left
+
+-- an instance before its first move, and the value of one whose function there isn't
+abbrev pub begun : PlanView → ℕ → List Value → Reached
+begun plan function args = from (function_at (functions_of plan) function)
+  where
+    from : Option Function → Reached
+    from (Some f) = Stands (record {
+      rank = 0;
+      steps = plan.limits.budget;
+      top = record { function = function; left = f.body; returning = false; env = bound f.params args; spawned = false; faulted = None; target = None };
+      below = [];
+    })
+    from None = Gives (Int (pos 0))

@@ -1,0 +1,128 @@
+-- What remains of a task, as a run of the open tree, and what a task gives in the end.
+use Rattle.std.specs.Prelude.{◌≡◌, ℕ, zero, suc, ◌-◌, Bool, true, false, List, [], ◌∷◌, ◌++◌, Option, Some, None, Result, Ok, Err, map, length}
+use Rattle.std.specs.Prelude.{pos}
+use Rattle.script_grammar.specs.declared.tree.Name.{Name}
+use Rattle.script_grammar.specs.declared.tree.Function.{Function}
+use Rattle.serial_meaning.specs.Runs.{Run, done, stopped, behind, ◌then◌}
+use Rattle.serial_meaning.specs.Values.{value_of}
+use Rattle.serial_meaning.specs.Functions.{function_at}
+use Rattle.serial_meaning.specs.Plan.{PlanView, functions_of}
+use Rattle.serial_meaning.specs.Exec.{State, given, paid, implied, exec}
+use Rattle.serial_meaning.specs.Eval.{Evaluation, path_of, turns, eval_at, eval, depth_left}
+use Rattle.serial_meaning.specs.Open.{Item, Happened, Child, Ending, Own, Joined, put_off_all}
+use Rattle.serial_meaning.specs.declared.value.Value.{Value}
+use Rattle.serial_meaning.specs.declared.value.Value.TheVariants.{Int}
+use Rattle.serial_meaning.specs.declared.event.Fault.{Fault}
+use Rattle.serial_meaning.specs.declared.event.Event.{Event}
+use Rattle.serial_meaning.specs.declared.origin.Origin.{Origin}
+use Rattle.serial_meaning.specs.declared.origin.Origin.TheVariants.{Instance, Loop}
+use Rattle.loop_range.specs.Range.{Range}
+use Rattle.strand_meaning.specs.Machine.{Activation, Machine, with_scalar, spawns_in}
+use Rattle.strand_meaning.specs.Pieces.{Part, Pieces}
+use Rattle.strand_meaning.specs.Task.{Stage, Goes, AtSync, AtLoop, Ended, Work, Splits, Runs, Over, Task, own_instance, takes_all, resumed, more_values}
+
+-- What an origin's children give: their evaluations, by the ranks left.
+abbrev pub child_at : PlanView → ℕ → Origin → Evaluation
+child_at plan zero = λ o. done []
+child_at plan (suc left) = eval_at plan left
+
+abbrev pub children_of : PlanView → Origin → Origin → Evaluation
+children_of plan o = child_at plan (depth_left plan o)
+
+abbrev pub evaluations : (Origin → Evaluation) → List Part → List Evaluation
+evaluations child [] = []
+evaluations child (p ∷ ps) = child p.child ∷ evaluations child ps
+
+-- What remains of an instance, with its children's evaluations in place of their answers
+
+module _ (plan : PlanView) (child : Origin → Evaluation) (path : List ℕ) where
+  abbrev pub valued : Option Function → State (Option Fault) → Run Item Ending (Value × State (Option Fault))
+  valued (Some f) s = given (put_off_all plan child) plan path (value_of f.result s.env) s λ v. done (v, s)
+  valued None s = done (Int (pos 0), s)
+
+  -- a return, or what is left of it behind its sync
+  abbrev pub closes : Bool → Option Function → State (Option Fault) → Run Item Ending (Value × State (Option Fault))
+  closes false f s = paid (put_off_all plan child) plan path s λ s. implied (put_off_all plan child) plan path (spawns_in f) s then valued f
+  closes true f s = valued f s
+
+  -- an activation to its end: its statements left and its return
+  abbrev pub remains : Activation → ℕ → State (Option Fault) → Run Item Ending (Value × State (Option Fault))
+  remains a calls s = exec (put_off_all plan child) plan path calls a.left s then closes a.returning (function_at (functions_of plan) a.function)
+
+  abbrev pub caller_state : Activation → Option Name → Value × State (Option Fault) → State (Option Fault)
+  caller_state caller target r = record { env = with_scalar target r.0 caller.env; rank = r.1.rank; steps = r.1.steps; spawned = caller.faulted }
+
+  -- the activations below it, from the value on that goes to the first of them
+  abbrev pub remains_below : List Activation → Option Name → Value × State (Option Fault) → Run Item Ending Value
+  remains_below [] target r = done r.0
+  remains_below (caller ∷ below) target r = remains caller (length below) (caller_state caller target r) then remains_below below caller.target
+
+  -- what is known of an activation's children is the least fault among their answers
+  abbrev pub open_state : Machine → State (Option Fault)
+  open_state m = record { env = m.top.env; rank = m.rank; steps = m.steps; spawned = m.top.faulted }
+
+  -- a machine whose children have all answered
+  abbrev pub rest_of_machine : Machine → Run Item Ending Value
+  rest_of_machine m = remains m.top (length m.below) (open_state m) then remains_below m.below m.top.target
+
+  abbrev pub rest_of_stage : Stage → Run Item Ending Value
+  rest_of_stage (Goes m) = rest_of_machine m
+  rest_of_stage (AtSync m) = rest_of_machine m
+  rest_of_stage (AtLoop m) = rest_of_machine m
+  rest_of_stage (Ended ended) = record { items = []; ending = ended }
+
+  abbrev pub rest_open : List Part → Stage → Run Item Ending Value
+  rest_open parts stage = rest_of_stage (resumed (takes_all parts (evaluations child parts) stage))
+
+-- An open run with each child's evaluation in its place, up to the first fault
+
+module _ (child : Origin → Evaluation) where
+  abbrev pub closed_end : {A : Type 0} → Result A Ending → Result A Fault
+  closed_end (Ok a) = Ok a
+  closed_end (Err (Own f)) = Err f
+  closed_end (Err (Joined f)) = Err f
+
+  abbrev pub closed_at : {A : Type 0} → List Item → Result A Ending → Run Event Fault A
+  closed_at [] ending = record { items = []; ending = closed_end ending }
+  closed_at (Happened e ∷ items) ending = behind (e ∷ []) (closed_at items ending)
+  closed_at (Child o ∷ items) ending = child o then λ vs. closed_at items ending
+
+  abbrev pub closed : {A : Type 0} → Run Item Ending A → Run Event Fault A
+  closed r = closed_at r.items r.ending
+
+-- What a task gives in the end
+
+abbrev pub told_end : Option Fault → Result (Unit {0}) Fault
+told_end None = Ok tt
+told_end (Some f) = Err f
+
+abbrev pub told_run : Pieces → Run Event Fault (Unit {0})
+told_run pieces = record { items = pieces.told; ending = told_end pieces.fault }
+
+module _ (child : Origin → Evaluation) where
+  -- the children's evaluations and the events behind them, with the values of a loop's parts behind those that were taken
+  abbrev pub parts_run : List Part → List Value → Run Event Fault (List Value)
+  parts_run [] values = done values
+  parts_run (p ∷ ps) values = child p.child then λ vs. behind p.behind (parts_run ps (more_values p.place (Ok vs) values))
+
+  -- the iterations of a loop that nobody has begun
+  abbrev pub turns_left : Origin → Range → Evaluation
+  turns_left (Instance function args path) left = done []
+  turns_left (Loop function rest first path range) left = turns child function rest first path left.lo (left.hi - left.lo)
+
+-- an instance's value by itself, or behind those of a loop's other iterations
+abbrev pub all_with : Origin → List Value → Value → List Value
+all_with (Instance function args path) values v = v ∷ []
+all_with (Loop function rest first path range) values v = values ++ v ∷ []
+
+-- what remains
+abbrev pub work_run : PlanView → Origin → List Part → Work → List Value → Evaluation
+work_run plan o parts (Splits left) values = turns_left (eval plan) o left then λ vs. done (values ++ vs)
+work_run plan o parts (Runs stage) values =
+    let child = children_of plan (own_instance o) in
+    closed child (rest_open plan child (path_of (own_instance o)) parts stage) then λ v. done (all_with o values v)
+work_run plan o parts (Over v gone_on) values = done (values ++ v ∷ [])
+
+-- Pieces with each child's evaluation in its place, and then what remains, up to the first fault.
+abbrev pub finish : Task → Evaluation
+finish t = told_run t.pieces then λ u. parts_run (eval t.plan) t.pieces.handed t.values then work_run t.plan t.origin t.pieces.handed t.work

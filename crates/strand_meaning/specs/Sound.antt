@@ -1,0 +1,148 @@
+-- What holds of a task at all times.
+use Rattle.std.specs.Prelude.{◌≡◌, ◌≤◌, ◌<◌, ℕ, ◌+◌, ◌-◌, Bool, true, false, ◌||◌, ◌⊎◌, nat_eq, List, [], ◌∷◌, ◌++◌, Option, Some, None, Result, Ok, Err, length, if◌then◌else◌}
+use Rattle.loop_range.specs.Range.{Range}
+use Rattle.script_grammar.specs.declared.tree.Name.{Name}
+use Rattle.serial_meaning.specs.Runs.{Run, done, behind, ◌then◌}
+use Rattle.serial_meaning.specs.Names.{Names}
+use Rattle.serial_meaning.specs.Functions.{function_at, any_spawns}
+use Rattle.serial_meaning.specs.Plan.{PlanView, functions_of}
+use Rattle.serial_meaning.specs.Eval.{path_of, eval}
+use Rattle.serial_meaning.specs.Open.{Item, Ending, Own, Joined, opened}
+use Rattle.serial_meaning.specs.Laws.{IsOriginOf}
+use Rattle.serial_meaning.specs.declared.value.Value.{Value}
+use Rattle.serial_meaning.specs.declared.event.Fault.{Fault}
+use Rattle.serial_meaning.specs.declared.origin.Origin.{Origin}
+use Rattle.serial_meaning.specs.declared.origin.Origin.TheVariants.{Instance, Loop}
+use Rattle.strand_meaning.specs.Clear.{IsApart, IsClear, IsClearPlan, target_names}
+use Rattle.strand_meaning.specs.Machine.{Place, Spawned, Looped, Half, Activation, Machine, spawns_in}
+use Rattle.strand_meaning.specs.Pieces.{Part, Pieces}
+use Rattle.strand_meaning.specs.Task.{Stage, Goes, AtSync, AtLoop, Ended, Work, Splits, Runs, Over, Task, own_instance}
+use Rattle.strand_meaning.specs.Rest.{children_of, rest_open, finish}
+
+-- Unfilled variables
+
+-- the variables of the activation with so many below it into which the values of children are still to come
+abbrev pub unfilled_by : ℕ → Place → Names
+unfilled_by height (Spawned owner target) = if nat_eq owner height then target_names target else []
+unfilled_by height (Looped target) = []
+unfilled_by height Half = []
+
+abbrev pub unfilled : ℕ → List Part → Names
+unfilled height [] = []
+unfilled height (p ∷ ps) = unfilled_by height p.place ++ unfilled height ps
+
+-- whether the activation with so many below it spawned a child of these
+abbrev pub is_by : ℕ → Place → Bool
+is_by height (Spawned owner target) = nat_eq owner height
+is_by height (Looped target) = false
+is_by height Half = false
+
+abbrev pub any_by : ℕ → List Part → Bool
+any_by height [] = false
+any_by height (p ∷ ps) = is_by height p.place || any_by height ps
+
+-- Activations
+
+-- The statements left touch no unfilled variable. A spawn since its own last sync, and a fault among the answers of these children, are
+-- known of an activation. A sync comes before its value where it spawned.
+pub record IsSound (plan : PlanView) (parts : List Part) (height : ℕ) (a : Activation) : Type 0 where
+  pub clear : (ends : Names) × IsClear (unfilled height parts) a.left ends
+  pub spawned : any_by height parts ≡ true → a.spawned ≡ true
+  pub faulted : a.spawned ≡ false → a.faulted ≡ None
+  pub in_text : a.spawned ≡ true → spawns_in (function_at (functions_of plan) a.function) ≡ true
+  pub left_in_text : any_spawns a.left ≡ true → spawns_in (function_at (functions_of plan) a.function) ≡ true
+  pub returning : a.returning ≡ true → (a.spawned ≡ false) × (a.left ≡ [])
+
+-- the activations below the one whose value goes there
+abbrev pub AreSound : PlanView → List Part → Option Name → List Activation → Type 0
+AreSound plan parts target [] = Unit {0}
+AreSound plan parts target (caller ∷ below) =
+    IsApart (target_names target) (unfilled (length below) parts) × IsSound plan parts (length below) caller × AreSound plan parts caller.target below
+
+-- Stages
+
+-- a child that was spawned by an activation that there is, or a part of a loop
+abbrev pub IsPlace : ℕ → Place → Type 0
+IsPlace height (Spawned owner target) = owner ≤ height
+IsPlace height (Looped target) = ⊥
+IsPlace height Half = Unit {0}
+
+abbrev pub ArePlaces : ℕ → List Part → Type 0
+ArePlaces height [] = Unit {0}
+ArePlaces height (p ∷ ps) = IsPlace height p.place × ArePlaces height ps
+
+abbrev pub IsHalf : Place → Type 0
+IsHalf (Spawned owner target) = ⊥
+IsHalf (Looped target) = ⊥
+IsHalf Half = Unit {0}
+
+abbrev pub AreHalves : List Part → Type 0
+AreHalves [] = Unit {0}
+AreHalves (p ∷ ps) = IsHalf p.place × AreHalves ps
+
+-- An activation at a sync has nothing unfilled once it goes on, and knows of no fault.
+abbrev pub behind_sync : Activation → Activation
+behind_sync a = record a { faulted = None }
+
+abbrev pub IsSoundStage : PlanView → List Part → Stage → Type 0
+IsSoundStage plan parts (Goes m) = ArePlaces (length m.below) parts × IsSound plan parts (length m.below) m.top × AreSound plan parts m.top.target m.below
+IsSoundStage plan parts (AtSync m) = ArePlaces (length m.below) parts × IsSound plan [] (length m.below) (behind_sync m.top) × AreSound plan parts m.top.target m.below
+IsSoundStage plan parts (AtLoop m) = IsSound plan parts (length m.below) m.top × AreSound plan parts m.top.target m.below
+IsSoundStage plan parts (Ended (Ok v)) = AreHalves parts
+IsSoundStage plan parts (Ended (Err (Own f))) = (height : ℕ) × ArePlaces height parts
+IsSoundStage plan parts (Ended (Err (Joined f))) = parts ≡ []
+
+-- What an instance passed in the open tree, and what remains of it.
+pub record IsSoFar (plan : PlanView) (o : Origin) (parts : List Part) (stage : Stage) : Type 0 where
+  pub front : List Item
+  pub whole : opened plan o ≡ behind front (rest_open plan (children_of plan o) (path_of o) parts stage then λ v. done (v ∷ []))
+
+-- Work
+
+-- iterations of this loop, up to its last one, and some unless it has none
+abbrev pub IsEndOf : Origin → Range → Type 0
+IsEndOf (Instance function args path) left = ⊥
+IsEndOf (Loop function rest first path range) left = (range.lo ≤ left.lo) × (left.hi ≡ range.hi) × (range.lo < range.hi → left.lo < left.hi)
+
+-- a loop, and one of two iterations or more
+abbrev pub IsLoop : Origin → Type 0
+IsLoop (Instance function args path) = ⊥
+IsLoop (Loop function rest first path range) = range.lo < range.hi
+
+abbrev pub IsLongLoop : Origin → Type 0
+IsLongLoop (Instance function args path) = ⊥
+IsLongLoop (Loop function rest first path range) = range.lo + 1 < range.hi
+
+-- parts of a loop come from one that is split
+abbrev pub FitsOrigin : Origin → Place → Type 0
+FitsOrigin o (Spawned owner target) = Unit {0}
+FitsOrigin o (Looped target) = Unit {0}
+FitsOrigin o Half = IsLongLoop o
+
+-- A child is an origin of the plan. Where it is one of the instance under way, what the open tree takes of it is its evaluation.
+pub record IsPart (plan : PlanView) (o : Origin) (p : Part) : Type 0 where
+  pub known : IsOriginOf plan p.child
+  pub fits : FitsOrigin o p.place
+  pub same : IsHalf p.place ⊎ (children_of plan (own_instance o) p.child ≡ eval plan p.child)
+
+abbrev pub AreParts : PlanView → Origin → List Part → Type 0
+AreParts plan o [] = Unit {0}
+AreParts plan o (p ∷ ps) = IsPart plan o p × AreParts plan o ps
+
+abbrev pub IsInstanceOrLoop : Origin → Type 0
+IsInstanceOrLoop (Instance function args path) = Unit {0}
+IsInstanceOrLoop (Loop function rest first path range) = range.lo < range.hi
+
+abbrev pub IsSoundWork : PlanView → Origin → List Part → Work → Type 0
+IsSoundWork plan o parts (Splits left) = IsEndOf o left × AreHalves parts
+IsSoundWork plan o parts (Runs stage) = IsInstanceOrLoop o × IsSoFar plan (own_instance o) parts stage × IsSoundStage plan parts stage
+IsSoundWork plan o parts (Over v true) = IsLoop o × (parts ≡ [])
+IsSoundWork plan o parts (Over v false) = IsLoop o × AreHalves parts
+
+-- The invariant: to finish a task gives the evaluation of its origin.
+pub record IsTask (t : Task) : Type 0 where
+  pub finishes : finish t ≡ eval t.plan t.origin
+  pub known : IsOriginOf t.plan t.origin
+  pub clear : IsClearPlan t.plan
+  pub parts : AreParts t.plan t.origin t.pieces.handed
+  pub work : IsSoundWork t.plan t.origin t.pieces.handed t.work

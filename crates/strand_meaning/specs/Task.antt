@@ -1,0 +1,255 @@
+-- Tasks: what is done of an origin, and what remains.
+use Rattle.std.specs.Prelude.{◌≡◌, ℕ, zero, suc, ◌+◌, ◌-◌, Bool, true, false, nat_eq, List, [], ◌∷◌, ◌++◌, Option, Some, None, Result, Ok, Err, length, if◌then◌else◌}
+use Rattle.std.specs.Str.{bytes_eq}
+use Rattle.loop_range.specs.Range.{Range, lower_half, upper_half}
+use Rattle.script_grammar.specs.declared.tree.Name.{Name}
+use Rattle.serial_meaning.specs.Values.{Env}
+use Rattle.serial_meaning.specs.Plan.{PlanView}
+use Rattle.serial_meaning.specs.Exec.{filled}
+use Rattle.serial_meaning.specs.Eval.{Evaluation, first_of, iteration, path_of}
+use Rattle.serial_meaning.specs.Open.{Ending, Own, Joined, least}
+use Rattle.serial_meaning.specs.declared.value.Value.{Value}
+use Rattle.serial_meaning.specs.declared.environment.Slot.{Slot}
+use Rattle.serial_meaning.specs.declared.environment.Slot.TheVariants.{Scalar}
+use Rattle.serial_meaning.specs.declared.environment.Variable.{Variable}
+use Rattle.serial_meaning.specs.declared.event.Fault.{Fault}
+use Rattle.serial_meaning.specs.declared.event.Event.{Event}
+use Rattle.serial_meaning.specs.declared.origin.Origin.{Origin}
+use Rattle.serial_meaning.specs.declared.origin.Origin.TheVariants.{Instance, Loop}
+use Rattle.serial_meaning.specs.declared.answer.Outcome.{Outcome}
+use Rattle.serial_meaning.specs.declared.answer.Outcome.TheVariants as outcome
+use Rattle.strand_meaning.specs.Machine.{Place, Spawned, Looped, Half, Token, Told, Handed, Syncs, Loops, Activation, Machine, Reached, Stands, Gives, begun, move}
+use Rattle.strand_meaning.specs.Pieces.{Part, Pieces, no_pieces, with_tokens, hand, heard_all}
+
+-- where an instance stands: it goes on; it waits behind a sync, or behind a loop; it has ended, by a value or as a node of the open
+-- tree ends
+pub data Stage : Type 0 where
+  Goes : Machine → Stage
+  AtSync : Machine → Stage
+  AtLoop : Machine → Stage
+  Ended : Result Value Ending → Stage
+
+-- What remains: iterations of a loop that nobody has begun; an instance, which is the task's own or the loop's last iteration; or
+-- nothing of a loop whose last iteration gave this value, and whether the task has gone on from the wait at its end.
+pub data Work : Type 0 where
+  Splits : Range → Work
+  Runs : Stage → Work
+  Over : Value → Bool → Work
+
+-- Beside its pieces and what remains: the values of those iterations of a loop whose answers were taken, in order; whether the task
+-- stands in a wait; and whether it was advanced.
+pub record Task : Type 0 where
+  pub plan : PlanView
+  pub origin : Origin
+  pub pieces : Pieces
+  pub values : List Value
+  pub work : Work
+  pub waiting : Bool
+  pub advanced : Bool
+
+-- The beginning
+
+abbrev pub begun_stage : Reached → Stage
+begun_stage (Stands m) = Goes m
+begun_stage (Gives v) = Ended (Ok v)
+
+abbrev pub begun_work : PlanView → Origin → Work
+begun_work plan (Instance function args path) = Runs (begun_stage (begun plan function args))
+begun_work plan (Loop function rest first path range) = Splits range
+
+abbrev pub start : PlanView → Origin → Task
+start plan o = record { plan = plan; origin = o; pieces = no_pieces; values = []; work = begun_work plan o; waiting = false; advanced = false }
+
+-- the instance that an origin's task runs itself: for a loop its last iteration
+abbrev pub own_instance : Origin → Origin
+own_instance (Instance function args path) = Instance function args path
+own_instance (Loop function rest first path range) = iteration function rest first path (range.hi - 1)
+
+-- The next stop
+
+-- a child to be begun, and the task behind it; a wait; the end, with all events and how the origin ended
+pub data Stop : Type 0 where
+  Spawn : Origin → Task → Stop
+  Wait : Task → Stop
+  End : List Event → Outcome → Stop
+
+pub data Step : Type 0 where
+  Passes : Task → Step
+  Stops : Stop → Step
+
+-- a stage after a move that showed these
+abbrev pub stage_after : List Token → Machine → Stage
+stage_after [] m = Goes m
+stage_after (Told e ∷ ts) m = stage_after ts m
+stage_after (Handed o place ∷ ts) m = stage_after ts m
+stage_after (Syncs ∷ ts) m = AtSync m
+stage_after (Loops ∷ ts) m = AtLoop m
+
+abbrev pub child_in : List Token → Option Origin
+child_in [] = None
+child_in (Told e ∷ ts) = child_in ts
+child_in (Handed o place ∷ ts) = Some o
+child_in (Syncs ∷ ts) = child_in ts
+child_in (Loops ∷ ts) = child_in ts
+
+abbrev pub stops_at : Option Origin → Task → Step
+stops_at (Some o) t = Stops (Spawn o t)
+stops_at None t = Passes t
+
+abbrev pub passing : Task → List Token → Work → Task
+passing t tokens work = record t { pieces = with_tokens tokens t.pieces; work = work; advanced = true }
+
+abbrev pub moved : Task → List Token → Result Reached Fault → Step
+moved t tokens (Ok (Stands m)) = stops_at (child_in tokens) (passing t tokens (Runs (stage_after tokens m)))
+moved t tokens (Ok (Gives v)) = Passes (passing t tokens (Runs (Ended (Ok v))))
+moved t tokens (Err f) = Passes (passing t tokens (Runs (Ended (Err (Own f)))))
+
+abbrev pub waits : Task → Step
+waits t = Stops (Wait (record t { waiting = true; advanced = true }))
+
+-- the end, where nothing that was handed out is left: by the fault among the pieces, or else so
+abbrev pub ends_unless : Option Fault → Task → Outcome → Step
+ends_unless (Some f) t ended = Stops (End t.pieces.told (outcome.Fault f))
+ends_unless None t ended = Stops (End t.pieces.told ended)
+
+abbrev pub ends : Task → Outcome → Step
+ends t ended = ends_unless t.pieces.fault t ended
+
+-- an own fault waits for the children handed out since the last wait
+abbrev pub faults_behind : List Part → Task → Fault → Step
+faults_behind [] t f = ends t (outcome.Fault f)
+faults_behind (p ∷ ps) t f = waits t
+
+-- the instance that the task ran ended well
+abbrev pub gave : Task → Origin → Value → Step
+gave t (Instance function args path) v = ends t (outcome.Value v)
+gave t (Loop function rest first path range) v = Passes (record t { work = Over v false; advanced = true })
+
+abbrev pub stage_step : Task → Stage → Step
+stage_step t (Goes m) = let r = move t.plan (path_of (own_instance t.origin)) m in moved t r.items r.ending
+stage_step t (AtSync m) = waits t
+stage_step t (AtLoop m) = waits t
+stage_step t (Ended (Ok v)) = gave t t.origin v
+stage_step t (Ended (Err (Own f))) = faults_behind t.pieces.handed t f
+stage_step t (Ended (Err (Joined f))) = ends t (outcome.Fault f)
+
+-- Of a loop, half of the iterations left is handed out while there are two. The last is run by the task itself.
+abbrev pub first_half : Origin → Range → Origin
+first_half (Instance function args path) left = Instance function args path
+first_half (Loop function rest first path range) left = Loop function rest first path (lower_half left)
+
+abbrev pub begins_last : PlanView → Origin → Work
+begins_last plan o = begun_work plan (own_instance o)
+
+abbrev pub split_step : Task → Range → ℕ → Step
+split_step t left zero = ends t (outcome.Values t.values)
+split_step t left (suc zero) = Passes (record t { work = begins_last t.plan t.origin; advanced = true })
+split_step t left (suc (suc n)) =
+    let o = first_half t.origin left in Stops (Spawn o (record t { pieces = hand o Half t.pieces; work = Splits (upper_half left); advanced = true }))
+
+-- a loop of two iterations or more handed out a part
+abbrev pub over_step : Task → Value → Origin → Step
+over_step t v (Instance function args path) = ends t (outcome.Values (t.values ++ v ∷ []))
+over_step t v (Loop function rest first path range) = by_size (range.hi - range.lo)
+  where
+    by_size : ℕ → Step
+    by_size zero = ends t (outcome.Values (t.values ++ v ∷ []))
+    by_size (suc zero) = ends t (outcome.Values (t.values ++ v ∷ []))
+    by_size (suc (suc n)) = waits t
+
+abbrev pub work_step : Task → Work → Step
+work_step t (Splits left) = split_step t left (left.hi - left.lo)
+work_step t (Runs stage) = stage_step t stage
+work_step t (Over v true) = ends t (outcome.Values (t.values ++ v ∷ []))
+work_step t (Over v false) = over_step t v t.origin
+
+-- One move, or a stop.
+abbrev pub step : Task → Step
+step t = work_step t t.work
+
+-- the stop that a task comes to: at once, or after moves
+pub data IsNext : Task → Stop → Type 0 where
+  Now : {t : Task} {stop : Stop} → step t ≡ Stops stop → IsNext t stop
+  Later : {t : Task} {stop : Stop} (next : Task) → step t ≡ Passes next → IsNext next stop → IsNext t stop
+
+-- Going on
+
+-- the activation with so many below it, changed
+abbrev pub changed_at : ℕ → (Activation → Activation) → List Activation → List Activation
+changed_at height change [] = []
+changed_at height change (a ∷ below) = if nat_eq height (length below) then change a ∷ below else a ∷ changed_at height change below
+
+abbrev pub changed : ℕ → (Activation → Activation) → Machine → Machine
+changed height change m =
+    if nat_eq height (length m.below) then record m { top = change m.top } else record m { below = changed_at height change m.below }
+
+-- a variable's new value, where there is the variable
+abbrev pub replaced : Env → List ℕ → Slot → Env
+replaced [] name slot = []
+replaced (v ∷ vs) name slot = if bytes_eq v.name name then record v { slot = slot } ∷ vs else v ∷ replaced vs name slot
+
+abbrev pub with_answer : Option Name → Value → Env → Env
+with_answer None v env = env
+with_answer (Some x) v env = replaced env x.bytes (Scalar v)
+
+-- an activation that takes the answer of a child that it spawned
+abbrev pub answered : Option Name → Result (List Value) Fault → Activation → Activation
+answered target (Ok vs) a = record a { env = with_answer target (first_of vs) a.env }
+answered target (Err f) a = record a { faulted = Some (least a.faulted f) }
+
+abbrev pub in_machine : (Machine → Machine) → Stage → Stage
+in_machine change (Goes m) = Goes (change m)
+in_machine change (AtSync m) = AtSync (change m)
+in_machine change (AtLoop m) = AtLoop (change m)
+in_machine change (Ended e) = Ended e
+
+abbrev pub with_values : Option Name → List Value → Machine → Machine
+with_values target vs m = record m { top = record m.top { env = filled target vs m.top.env } }
+
+abbrev pub takes : Place → Result (List Value) Fault → Stage → Stage
+takes (Spawned height target) ended stage = in_machine (changed height (answered target ended)) stage
+takes (Looped target) (Ok vs) stage = in_machine (with_values target vs) stage
+takes (Looped target) (Err f) stage = Ended (Err (Joined f))
+takes Half ended stage = stage
+
+abbrev pub joins : Option Fault → Machine → Stage
+joins None m = Goes m
+joins (Some f) m = Ended (Err (Joined f))
+
+-- A wait is over: the instance ends at a sync where a child of this activation faulted, and else goes on.
+abbrev pub resumed : Stage → Stage
+resumed (Goes m) = Goes m
+resumed (AtSync m) = joins m.top.faulted m
+resumed (AtLoop m) = Goes m
+resumed (Ended e) = Ended e
+
+abbrev pub takes_all : List Part → List Evaluation → Stage → Stage
+takes_all [] answers stage = stage
+takes_all (p ∷ ps) [] stage = stage
+takes_all (p ∷ ps) (answer ∷ answers) stage = takes_all ps answers (takes p.place answer.ending stage)
+
+abbrev pub resumed_work : List Part → List Evaluation → Work → Work
+resumed_work parts answers (Splits left) = Splits left
+resumed_work parts answers (Runs stage) = Runs (resumed (takes_all parts answers stage))
+resumed_work parts answers (Over v gone_on) = Over v true
+
+abbrev pub more_values : Place → Result (List Value) Fault → List Value → List Value
+more_values (Spawned height target) ended values = values
+more_values (Looped target) ended values = values
+more_values Half (Ok vs) values = values ++ vs
+more_values Half (Err f) values = values
+
+abbrev pub all_values : List Part → List Evaluation → List Value → List Value
+all_values [] answers values = values
+all_values (p ∷ ps) [] values = values
+all_values (p ∷ ps) (answer ∷ answers) values = all_values ps answers (more_values p.place answer.ending values)
+
+-- The task once its wait is over, with the answers of the children that it handed out, in order.
+abbrev pub on : List Evaluation → Task → Task
+on answers t =
+    let parts = t.pieces.handed in record t {
+      pieces = heard_all parts answers (record t.pieces { handed = [] });
+      values = all_values parts answers t.values;
+      work = resumed_work parts answers t.work;
+      waiting = false;
+    }

@@ -1,0 +1,39 @@
+//! Laws of tasks, each the contract of a function that does nothing. A proof that wants a law calls it.
+
+ghost use Rattle.strand_meaning.specs.Laws.{AnswersKeepTasks, StepsAreSound, StopsAreOne, StopsAreSound, StopsCome, StopsKeepOrigins, TasksBegin};
+
+/// A task of an origin of the plan begins sound where no function of the script touches a pending variable.
+pub fn tasks_begin()
+    ensures { TasksBegin }
+{}
+
+/// One move or stop keeps the invariant: a child is an origin of the plan, and an end is the evaluation of the task's origin, with a
+/// fault of the open tree.
+pub fn steps_are_sound()
+    ensures { StepsAreSound }
+{}
+
+/// The same of the stop that a task comes to by moves.
+pub fn stops_are_sound()
+    ensures { StopsAreSound }
+{}
+
+/// What is left of a task at a stop has the task's plan and origin.
+pub fn stops_keep_origins()
+    ensures { StopsKeepOrigins }
+{}
+
+/// A task that took the evaluations of its children as their answers keeps the invariant.
+pub fn answers_keep_tasks()
+    ensures { AnswersKeepTasks }
+{}
+
+/// A task comes to no two stops.
+pub fn stops_are_one()
+    ensures { StopsAreOne }
+{}
+
+/// A task comes to a stop.
+pub fn stops_come()
+    ensures { StopsCome }
+{}
