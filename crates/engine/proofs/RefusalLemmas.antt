@@ -1,6 +1,6 @@
 -- What a refusal that tells a line says of the bytes.
 use Rattle.std.specs.Bool.{⊤}
-use Rattle.std.proofs.Common.{◌≡◌, List, ℕ, Contains, string_bytes, sym, subst}
+use Rattle.std.proofs.Common.{◌≡◌, List, [], ℕ, Contains, string_bytes, sym, subst, arith}
 use Rattle.script_check.specs.Valid.{IsValid, CheckFault}
 use Rattle.script_check.specs.Violations.{violation}
 use Rattle.script_grammar.specs.declared.tree.Script.{Script}
@@ -12,7 +12,8 @@ use Rattle.engine.specs.declared.refusal.Refusal.TheVariants.{TooLong, Untaken, 
 
 -- A script with a violated condition isn't valid.
 not_valid : (script : Script) (number at : ℕ) → CheckFault script number at → IsValid script → ⊥
-not_valid script number at fault valid = subst (λ vs. Contains vs (violation number at)) valid fault.violated
+not_valid script number at fault valid =
+    let none : Contains [] (violation number at) = subst (λ vs. Contains vs (violation number at)) valid fault.violated in absurd (omega (arith, none.1))
 
 pub invalid_text : (bytes : List ℕ) (script : Script) → Text bytes script → ((other : Script) → Text bytes other → other ≡ script) → (number at : ℕ) → CheckFault script number at →
     (other : Script) → Text bytes other → IsValid other → ⊥

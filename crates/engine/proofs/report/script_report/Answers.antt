@@ -12,3 +12,6 @@ returns-in-Err-any_script-clause-refused c = let P : Command → Type 0 = λ com
 
 pub returns-in-Check-clause-refused : goal.returns-in-Check-clause-refused
 returns-in-Check-clause-refused c = let P : Command → Type 0 = λ command. IsMisfit (Takes command) c.args.bytes.now c.in-Err-valid_script.refusal in subst P (sym c.in-Check.is) c.in-Err-valid_script.ensures.refused
+
+pub run_report-requires : goal.run_report-requires
+run_report-requires c = let P : PlanView → Type 0 = λ plan. All IsFunction (functions_of plan) in subst P (sym c.make_plan.ensures) (script_built c.in-Ok.script c.in-Ok.ensures.built)
