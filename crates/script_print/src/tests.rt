@@ -185,49 +185,98 @@ fn an_empty_second_block_is_not_written(rt: HostRuntime) -> Result<(), Fail> {
     Ok(())
 }
 
+// The text of a main with the one statement.
+fn printed_act(alloc: Global, act: Act) -> Result<Vec<u8>, Memory> {
+    printed(alloc, Vec::from_array(alloc, [stmt(act)])?)
+}
+
+fn whole(alloc: Global, line: &str) -> Result<String, AllocError> {
+    format!(in alloc; "fn main() {{\n  {line}\n  return 0;\n}}\n")
+}
+
+fn x_and_y(alloc: Global) -> Result<Vec<Expr>, AllocError> {
+    let x = variable(alloc, "x")?;
+    let y = variable(alloc, "y")?;
+    Ok(Vec::from_array(alloc, [x, y])?)
+}
+
+#[test]
+fn right_sides_have_their_texts(rt: HostRuntime) -> Result<(), Fail> {
+    let alloc = rt.alloc();
+    let called = Right::Call(4, call(alloc, "f", x_and_y(alloc)?)?);
+    let spawned = Right::Spawn(4, call(alloc, "g", Vec::new(alloc))?);
+    for (right, line) in [
+        (Right::Draw(4), "let z = draw;"),
+        (Right::New(4), "let z = new;"),
+        (called, "let z = call f(x, y);"),
+        (spawned, "let z = spawn g();"),
+    ] {
+        let text = printed_act(alloc, Act::Let(name(alloc, "z")?, right))?;
+        assert_eq!(rt; text.as_slice(), whole(alloc, line)?.as_bytes());
+    }
+    Ok(())
+}
+
 #[test]
 fn statements_have_their_texts(rt: HostRuntime) -> Result<(), Fail> {
     let alloc = rt.alloc();
-    let mut body = Vec::new(alloc);
-    body.push(stmt(Act::Array(name(alloc, "a")?, Number { at: 1, value: 5 })))?;
-    body.push(stmt(Act::Let(name(alloc, "x")?, Right::Draw(4))))?;
-    body.push(stmt(Act::Set(name(alloc, "y")?, Right::New(4))))?;
-    let item = Expr::Item(name(alloc, "a")?, boxed(alloc, number(1))?);
-    body.push(stmt(Act::Store(name(alloc, "a")?, number(0), item)))?;
-    let ids = Vec::from_array(alloc, [variable(alloc, "x")?, variable(alloc, "y")?])?;
-    body.push(stmt(Act::Spawn(call(alloc, "f", ids)?)))?;
-    body.push(stmt(Act::Call(call(alloc, "g", Vec::new(alloc))?)))?;
-    let same = Expr::Same(
-        1,
-        boxed(alloc, variable(alloc, "x")?)?,
-        boxed(alloc, variable(alloc, "y")?)?,
+    let array = Act::Array(name(alloc, "a")?, Number { at: 1, value: 5 });
+    let item = Expr::Item(name(alloc, "b")?, boxed(alloc, number(1))?);
+    let store = Act::Store(name(alloc, "a")?, number(0), item);
+    let spawned = Act::Spawn(call(alloc, "f", x_and_y(alloc)?)?);
+    let called = Act::Call(call(alloc, "g", Vec::new(alloc))?);
+    for (act, line) in [
+        (array, "let a[5];"),
+        (store, "a[0] = b[1];"),
+        (spawned, "spawn f(x, y);"),
+        (called, "call g();"),
+    ] {
+        assert_eq!(rt;
+            printed_act(alloc, act)?.as_slice(),
+            whole(alloc, line)?.as_bytes()
+        );
+    }
+    Ok(())
+}
+
+#[test]
+fn ids_are_compared_by_word(rt: HostRuntime) -> Result<(), Fail> {
+    let alloc = rt.alloc();
+    let x = boxed(alloc, number(1))?;
+    let same = Expr::Same(1, x, boxed(alloc, number(2))?);
+    let y = boxed(alloc, same)?;
+    let older = Expr::Older(1, y, boxed(alloc, number(3))?);
+    let text = printed_act(alloc, Act::Set(name(alloc, "z")?, Right::Value(older)))?;
+    assert_eq!(rt;
+        text.as_slice(),
+        whole(alloc, "z = older(same(1, 2), 3);")?.as_bytes()
     );
-    let older = Expr::Older(
-        1,
-        boxed(alloc, variable(alloc, "x")?)?,
-        boxed(alloc, variable(alloc, "y")?)?,
-    );
-    let args = Vec::from_array(alloc, [same, older])?;
-    body.push(stmt(Act::Let(name(alloc, "z")?, Right::Call(4, call(alloc, "f", args)?))))?;
-    body.push(stmt(Act::Set(
-        name(alloc, "z")?,
-        Right::Spawn(4, call(alloc, "g", Vec::new(alloc))?),
-    )))?;
-    for target in [Some(name(alloc, "a")?), None] {
+    Ok(())
+}
+
+#[test]
+fn loops_have_a_target_or_none(rt: HostRuntime) -> Result<(), Fail> {
+    let alloc = rt.alloc();
+    for (target, line) in [
+        (
+            Some(name(alloc, "a")?),
+            "pfor i in -1..n into a call f(i, 2);",
+        ),
+        (None, "pfor i in -1..n call f(i, 2);"),
+    ] {
         let args = Vec::from_array(alloc, [number(2)])?;
-        body.push(stmt(Act::Pfor {
+        let act = Act::Pfor {
             var: name(alloc, "i")?,
             lo: negated(alloc, number(1))?,
             hi: variable(alloc, "n")?,
             target,
             call: call(alloc, "f", args)?,
-        }))?;
+        };
+        assert_eq!(rt;
+            printed_act(alloc, act)?.as_slice(),
+            whole(alloc, line)?.as_bytes()
+        );
     }
-    let text = printed(alloc, body)?;
-    assert_eq!(rt;
-        text.as_slice(),
-        b"fn main() {\n  let a[5];\n  let x = draw;\n  y = new;\n  a[0] = a[1];\n  spawn f(x, y);\n  call g();\n  let z = call f(same(x, y), older(x, y));\n  z = spawn g();\n  pfor i in -1..n into a call f(i, 2);\n  pfor i in -1..n call f(i, 2);\n  return 0;\n}\n".as_slice()
-    );
     Ok(())
 }
 
