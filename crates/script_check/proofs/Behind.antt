@@ -1,5 +1,5 @@
 -- The walk's state behind statements.
-use Rattle.std.proofs.Common.{◌≡◌, ℕ, ◌+◌, ◌<◌, Bool, true, false, ◌||◌, ◌&&◌, List, [], ◌∷◌, ◌++◌, length, drop, get_or, Option, refl, sym, ap, ◌∙◌}
+use Rattle.std.proofs.Common.{◌≡◌, ℕ, ◌+◌, ◌<◌, Bool, true, false, ◌||◌, ◌&&◌, List, ◌∷◌, ◌++◌, length, drop, get_or, Option, refl, sym, ap, ◌∙◌}
 use Rattle.script_grammar.specs.declared.tree.Function.{Function}
 use Rattle.script_grammar.specs.declared.tree.Stmt.{Stmt}
 use Rattle.script_check.specs.declared.findings.Violation.{Violation}
@@ -8,7 +8,7 @@ use Rattle.script_check.specs.Names.{Names, nobody, only, both}
 use Rattle.script_grammar.specs.declared.tree.Kind.TheVariants.{Int}
 use Rattle.script_check.specs.Rules.{Known}
 use Rattle.script_check.specs.Expressions.{Faults, Reading, wanted}
-use Rattle.script_check.specs.Statements.{place, Place, Judged, judge, judge_all, known_each, faults_each, after}
+use Rattle.script_check.specs.Statements.{place, Judged, judge, judge_all, known_each, faults_each, after}
 use Rattle.script_check.specs.Walk.{State, pending, pending_below, keeps, keeps_all, behind, behind_all}
 use Rattle.script_check.proofs.Noted.{noted_append, after_two, after_three}
 use Rattle.script_check.proofs.Reading.{at_index}
@@ -96,7 +96,8 @@ module _ (functions : List Function) (a b : List Stmt) where
         known = known_each (judge_all b) functions (known_each (judge_all a) functions state.known);
         names = both (after a state.names) (after b state.names);
         keeps = (keeps_all a || keeps_all b) && state.keeps;
-        below = state.below }
+        below = state.below;
+      }
   if_state kept state first second last f s l k =
       l ∙ ap (λ (t : State). record t { names = both (after a t.names) (after b t.names); keeps = kept && t.keeps }) (s ∙ ap (with_known functions b) f)
       ∙ ap (λ n. record (with_known functions b (with_known functions a state)) { names = both (after a state.names) (after b state.names); keeps = n && state.keeps }) k
@@ -107,7 +108,7 @@ module _ (functions : List Function) (a b : List Stmt) where
       next ≡ with_known functions a state →
       third ≡ noted second (faults_each (judge_all b) (place functions true) next.known (pending next)) →
       third ≡ noted found (condition ++ faults_each (judge_all a) (place functions true) state.known (pending state)
-        ++ faults_each (judge_all b) (place functions true) (known_each (judge_all a) functions state.known) (pending state))
+      ++ faults_each (judge_all b) (place functions true) (known_each (judge_all a) functions state.known) (pending state))
   if_faults in_block condition state next found first second third f s n t =
       after_three found first second third condition (faults_each (judge_all a) (place functions true) state.known (pending state))
       (faults_each (judge_all b) (place functions true) (known_each (judge_all a) functions state.known) (pending state)) _ f s

@@ -1,6 +1,5 @@
 -- What has no violation where some names are pending has none where only some of these are.
-use Rattle.std.proofs.Common.{◌≡◌, ℕ, Bool, true, false, ◌||◌, List, [], ◌∷◌, ◌++◌, length, map, nat_eq, Option, Some, None, refl, sym, ap, subst, ◌∙◌, rules}
-use Rattle.std.specs.Prelude.{is_some}
+use Rattle.std.proofs.Common.{◌≡◌, Bool, true, false, List, [], ◌∷◌, ◌++◌, length, map, nat_eq, Option, Some, None, refl, sym, ap, subst, ◌∙◌, rules}
 use Rattle.std.proofs.lemmas.Bool.{true≢false}
 use Rattle.script_grammar.specs.declared.tree.Kind.{Kind}
 use Rattle.script_grammar.specs.declared.tree.Kind.TheVariants.{Int, Id}
@@ -20,10 +19,10 @@ use Rattle.script_check.specs.declared.variable.Variable.{Variable}
 use Rattle.script_check.specs.declared.variable.Variable.TheVariants.{Scalar, Array}
 use Rattle.script_check.specs.Functions.{function_named}
 use Rattle.script_check.specs.Violations.{broken}
-use Rattle.script_check.specs.Names.{Names, IsWithin, both}
-use Rattle.script_check.specs.Rules.{Known, wrong_kind, wrong_use, unknown_variable, unknown_function, wrong_number_of_arguments, pending_variable, scalar_use, array_use}
+use Rattle.script_check.specs.Names.{Names, IsWithin}
+use Rattle.script_check.specs.Rules.{Known, wrong_kind, wrong_use, unknown_function, wrong_number_of_arguments, pending_variable, scalar_use, array_use}
 use Rattle.script_check.specs.Expressions.{Faults, Reading, wanted, two_wanted, all_wanted, read_at, read, read_sum_part, read_product_part}
-use Rattle.script_check.specs.Statements.{arguments, call_of, call, read_right, wanted_as, loop_arguments, loop_call_of, taken_kind, target_use}
+use Rattle.script_check.specs.Statements.{arguments, call_of, read_right, wanted_as, loop_arguments, loop_call_of, taken_kind, target_use}
 
 abbrev pub Fine : Faults → Type 0
 Fine f = (known : Known) (fewer p : Names) → IsWithin fewer p → f known p ≡ [] → f known fewer ≡ []
@@ -124,7 +123,7 @@ pub read_fine : (e : Expr) → FineReading (read e)
 read_fine =
     ind-Expr (λ e. FineReading (read e)) (λ p. FineReading (read_product_part p)) (λ p. FineReading (read_sum_part p))
     (λ x y h. subst (λ (d : Expr-F Expr ProductPart SumPart). FineReading (read (roll-Expr d))) h
-      (layer_fine (map-Expr _ _ _ Expr ProductPart SumPart (λ e. e.0) (λ e. e.0) (λ e. e.0) y) (tree_fine (λ e. e.0) (λ e. e.0) (λ e. e.0) (λ e. e.1) (λ e. e.1) (λ e. e.1) y)))
+    (layer_fine (map-Expr _ _ _ Expr ProductPart SumPart (λ e. e.0) (λ e. e.0) (λ e. e.0) y) (tree_fine (λ e. e.0) (λ e. e.0) (λ e. e.0) (λ e. e.1) (λ e. e.1) (λ e. e.1) y)))
     (λ x y h. times_fine (record { sign = x.sign; operand = x.operand }) y.operand.0 y.operand.1 (ap (λ p. p.operand) h))
     (λ x y h. plus_fine (record { minus = x.minus; operand = x.operand }) y.operand.0 y.operand.1 (ap (λ p. p.operand) h))
   where

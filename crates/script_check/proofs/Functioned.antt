@@ -1,11 +1,11 @@
 -- What is noted of functions.
-use Rattle.std.proofs.Common.{◌≡◌, ℕ, ◌+◌, ◌<◌, false, List, [], ◌∷◌, ◌++◌, length, drop, get_or, Option, Some, None, refl, sym, ap, ◌∙◌}
+use Rattle.std.proofs.Common.{◌≡◌, ℕ, ◌+◌, ◌<◌, false, List, [], ◌++◌, length, drop, get_or, Option, Some, None, refl, sym, ap, ◌∙◌}
 use Rattle.script_grammar.specs.declared.tree.Function.{Function}
 use Rattle.script_check.specs.declared.findings.Violation.{Violation}
 use Rattle.script_grammar.specs.declared.tree.Script.{Script}
 use Rattle.script_check.specs.Violations.{violation, noted}
 use Rattle.script_check.specs.Tables.{no_entries}
-use Rattle.script_check.specs.Names.{Names, nobody}
+use Rattle.script_check.specs.Names.{nobody}
 use Rattle.script_check.specs.Rules.{Known}
 use Rattle.script_check.specs.Expressions.{read, wanted}
 use Rattle.script_check.specs.Statements.{place, judge_all, known_each, faults_each}

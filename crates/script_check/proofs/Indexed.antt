@@ -2,7 +2,6 @@
 use Rattle.std.proofs.Common.{◌≡◌, ℕ, suc, ◌+◌, ◌<◌, Bool, true, false, cond, List, [], ◌∷◌, ◌++◌, length, take, drop, get_or, Option, Some, None, refl, sym, ap, subst, ◌∙◌, ⊎_elim, arith}
 use Rattle.std.specs.Prelude.{is_some, option_map, unwrap_or, IfSome, if◌then◌else◌}
 use Rattle.std.specs.Str.{bytes_eq}
-use Rattle.std.specs.Map.{update}
 use Rattle.std.specs.Cmp.Lexicographic.{bytes_decides}
 use Rattle.std.proofs.lemmas.Bool.{cases_Bool, cond-true, cond-false}
 use Rattle.std.proofs.lemmas.Bool.{true≢false}
@@ -113,8 +112,8 @@ pub has_main : (script : Script) (o : Option ℕ) (n : ℕ) → violations scrip
 has_main script o n h e u =
     found o n
     (subst (λ (m : Option ℕ). main_faults (function_at script.functions m) ≡ []) (sym e)
-      (nothing_left (main_faults (function_named script.functions main_name)) (all_function_faults script.functions script.functions)
-        (nothing_right (functions_twice [] script.functions) (main_faults (function_named script.functions main_name) ++ all_function_faults script.functions script.functions) h)))
+    (nothing_left (main_faults (function_named script.functions main_name)) (all_function_faults script.functions script.functions)
+    (nothing_right (functions_twice [] script.functions) (main_faults (function_named script.functions main_name) ++ all_function_faults script.functions script.functions) h)))
     u ∙ e
   where
     found : (o : Option ℕ) (n : ℕ) → main_faults (function_at script.functions o) ≡ [] → n ≡ unwrap_or o 0 → Some n ≡ o

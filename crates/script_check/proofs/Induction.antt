@@ -1,6 +1,6 @@
 -- Induction over statements.
-use Rattle.std.proofs.Common.{◌≡◌, ℕ, Bool, true, ◌||◌, List, [], ◌∷◌, map, refl, sym, ap, subst, ◌∙◌, rules}
-use Rattle.script_grammar.specs.declared.tree.Stmt.{Stmt, roll-Stmt, map-Stmt, ind-Stmt, fold-roll-Stmt}
+use Rattle.std.proofs.Common.{◌≡◌, ℕ, Bool, true, ◌||◌, List, [], ◌∷◌, map, ap, subst, ◌∙◌, rules}
+use Rattle.script_grammar.specs.declared.tree.Stmt.{Stmt, roll-Stmt, ind-Stmt, fold-roll-Stmt}
 use Rattle.script_grammar.specs.declared.tree.Act.{Act, roll-Act, map-Act, fold-roll-Act, the_lemmas}
 use Rattle.script_grammar.specs.declared.tree.Act.TheVariants as variant
 use Rattle.script_grammar.specs.declared.tree.Expr.{Expr}

@@ -1,5 +1,5 @@
 -- Behind statements a name is pending because they made it so, or because they keep what was pending.
-use Rattle.std.proofs.Common.{◌≡◌, ℕ, Bool, true, false, ◌||◌, ◌&&◌, List, [], ◌∷◌, map, refl, sym, ap, subst, ◌∙◌}
+use Rattle.std.proofs.Common.{◌≡◌, ℕ, Bool, true, false, ◌||◌, ◌&&◌, List, [], ◌∷◌, refl, sym, ap, ◌∙◌}
 use Rattle.std.specs.Str.{bytes_eq}
 use Rattle.script_grammar.specs.declared.tree.Name.{Name}
 use Rattle.script_grammar.specs.declared.tree.Right.{Right}
@@ -8,9 +8,9 @@ use Rattle.script_grammar.specs.declared.tree.Stmt.{Stmt}
 use Rattle.script_grammar.specs.declared.tree.Act.{Act, map-Act}
 use Rattle.script_grammar.specs.declared.tree.Act.TheOpen as act
 use Rattle.script_grammar.specs.declared.tree.Act.TheOpen.{Act-F}
-use Rattle.script_check.specs.Names.{Names, nobody, both, with_name, after_right, after_each, after_act, IsWithin}
-use Rattle.script_check.specs.Statements.{Judged, judge, judge_all, judge_act, judge_what, after}
-use Rattle.script_check.specs.Walk.{keeps_act, keeps, keeps_what, keeps_each, keeps_all}
+use Rattle.script_check.specs.Names.{Names, nobody, both, after_right, after_each, IsWithin}
+use Rattle.script_check.specs.Statements.{Judged, judge, judge_act, judge_what, after}
+use Rattle.script_check.specs.Walk.{keeps_act, keeps, keeps_what, keeps_all}
 use Rattle.script_check.proofs.Induction.{Each, Inside, statement, induct, induct_each, judge_open, keeps_open}
 
 -- what is pending behind is what the statements add to p, and of r what they keep

@@ -1,5 +1,5 @@
 -- The violations in expressions.
-use Rattle.std.specs.Prelude.{ℕ, List, [], ◌∷◌, ◌++◌, Option, Some, None}
+use Rattle.std.specs.Prelude.{ℕ, List, [], ◌∷◌, ◌++◌, Option, Some}
 use Rattle.script_grammar.specs.declared.tree.Kind.{Kind}
 use Rattle.script_grammar.specs.declared.tree.Kind.TheVariants.{Int, Id}
 use Rattle.script_grammar.specs.declared.tree.Expr.{Expr}
@@ -9,7 +9,6 @@ use Rattle.script_grammar.specs.declared.tree.Expr.TheOpen.{Expr-F}
 use Rattle.script_grammar.specs.declared.tree.SumPart.{SumPart}
 use Rattle.script_grammar.specs.declared.tree.ProductPart.{ProductPart}
 use Rattle.script_check.specs.declared.findings.Violation.{Violation}
-use Rattle.script_check.specs.Tables.{Table}
 use Rattle.script_check.specs.Names.{Names}
 use Rattle.script_check.specs.Rules.{Known, wrong_kind, scalar_use, array_use, kind_of}
 

@@ -1,6 +1,6 @@
 -- The rules of names, kinds and numbers, each with its violation.
 use Rattle.std.specs.Prelude.{ℕ, Bool, true, false, ◌||◌, ◌&&◌, not, nat_eq, List, ◌++◌, Option, Some, None, is_some, is_none, int_lt}
-use Rattle.std.specs.Prelude.{ℤ, pos}
+use Rattle.std.specs.Prelude.{pos}
 use Rattle.script_grammar.specs.declared.tree.Name.{Name}
 use Rattle.script_grammar.specs.declared.tree.Number.{Number}
 use Rattle.script_grammar.specs.declared.tree.Kind.{Kind}

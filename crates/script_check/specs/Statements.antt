@@ -14,9 +14,8 @@ use Rattle.script_grammar.specs.declared.tree.Act.TheOpen as act
 use Rattle.script_grammar.specs.declared.tree.Act.TheOpen.{Act-F, Stmt-F}
 use Rattle.script_grammar.specs.declared.tree.Act.TheFolds.{fold-Stmt, fold-Act}
 use Rattle.script_grammar.specs.declared.tree.Act.{Act}
-use Rattle.script_check.specs.declared.findings.Violation.{Violation}
 use Rattle.script_check.specs.declared.variable.Variable.TheVariants.{Scalar, Array}
-use Rattle.script_check.specs.Tables.{Table, with_first}
+use Rattle.script_check.specs.Tables.{with_first}
 use Rattle.script_check.specs.Functions.{function_named}
 use Rattle.script_check.specs.Names.{Names, both, after_each, after_act}
 use Rattle.script_check.specs.Rules.{Known, unknown_function, wrong_number_of_arguments, wrong_kind, let_in_a_block, array_length, kind_of, scalar_use, array_use, declaration}

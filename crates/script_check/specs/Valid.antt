@@ -1,5 +1,5 @@
 -- Which scripts are valid, and the first condition that another one violates.
-use Rattle.std.specs.Prelude.{◌≡◌, ℕ, Bool, true, false, List, [], ◌∷◌, ◌++◌, Option, Some, None, is_some, All, Contains}
+use Rattle.std.specs.Prelude.{◌≡◌, ℕ, true, false, List, [], ◌∷◌, ◌++◌, Option, Some, None, is_some, All, Contains}
 use Rattle.script_grammar.specs.declared.tree.Param.{Param}
 use Rattle.script_grammar.specs.declared.tree.Function.{Function}
 use Rattle.script_grammar.specs.declared.tree.Script.{Script}

@@ -1,7 +1,6 @@
 -- Words of the code's own clauses.
-use Rattle.std.specs.Prelude.{◌≡◌, ℕ, Bool, true, false, ◌||◌, ◌&&◌, List, [], ◌∷◌, map, Option, fold, is_some}
+use Rattle.std.specs.Prelude.{◌≡◌, ℕ, Bool, true, false, ◌||◌, ◌&&◌, List, [], ◌∷◌, map, fold, is_some}
 use Rattle.script_grammar.specs.declared.tree.Function.{Function}
-use Rattle.script_grammar.specs.declared.tree.Right.{Right}
 use Rattle.script_grammar.specs.declared.tree.Stmt.{Stmt}
 use Rattle.script_grammar.specs.declared.tree.Act.{Act}
 use Rattle.script_grammar.specs.declared.tree.Act.TheOpen as act
@@ -88,7 +87,8 @@ behind functions s state =
       known = (judge s).known functions state.known;
       names = (judge s).after state.names;
       keeps = keeps s && state.keeps;
-      below = state.below }
+      below = state.below;
+    }
 
 abbrev pub behind_all : List Function → List Stmt → State → State
 behind_all functions ss state =
@@ -96,7 +96,8 @@ behind_all functions ss state =
       known = known_each (judge_all ss) functions state.known;
       names = after ss state.names;
       keeps = keeps_all ss && state.keeps;
-      below = state.below }
+      below = state.below;
+    }
 
 -- what a checked script keeps
 pub record IsChecked (script : Script) (first : Table ℕ) : Type 0 where

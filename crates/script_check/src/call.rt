@@ -30,7 +30,12 @@ pub(crate) fn judge_arguments(scope: &Scope, found: &mut Findings, params: &[Par
 }
 
 /// A call or spawn. The answer is the function's kind, where there is the function.
-pub(crate) fn judge_call(functions: &Functions, scope: &Scope, found: &mut Findings, c: &CallText) -> Option<Kind>
+pub(crate) fn judge_call(
+    functions: &Functions,
+    scope: &Scope,
+    found: &mut Findings,
+    c: &CallText,
+) -> Option<Kind>
     ensures kind { result ≡ answer_of (function_named functions.now c.now.name.bytes) }
     ensures found { found.new ≡ noted found.old (call functions.now c.now (known_in scope.now) (pending_in scope.now)) }
 {
@@ -61,7 +66,13 @@ pub(crate) fn judge_target(scope: &Scope, found: &mut Findings, target: &Option<
 }
 
 /// The call of a parallel loop, whose first argument is the number of the iteration.
-pub(crate) fn judge_loop_call(functions: &Functions, scope: &Scope, found: &mut Findings, has_target: bool, c: &CallText)
+pub(crate) fn judge_loop_call(
+    functions: &Functions,
+    scope: &Scope,
+    found: &mut Findings,
+    has_target: bool,
+    c: &CallText,
+)
     ensures { found.new ≡ noted found.old (loop_call_of (function_named functions.now c.now.name.bytes) has_target c.now (known_in scope.now) (pending_in scope.now)) }
 {
     let name = &c.name;
@@ -75,7 +86,13 @@ pub(crate) fn judge_loop_call(functions: &Functions, scope: &Scope, found: &mut 
 }
 
 /// The same, where this is the function.
-fn judge_iterations(scope: &Scope, found: &mut Findings, f: &Function, has_target: bool, c: &CallText)
+fn judge_iterations(
+    scope: &Scope,
+    found: &mut Findings,
+    f: &Function,
+    has_target: bool,
+    c: &CallText,
+)
     ensures { found.new ≡ noted found.old (loop_call_of (Some f.now) has_target c.now (known_in scope.now) (pending_in scope.now)) }
 {
     let at = c.name.at;

@@ -59,7 +59,12 @@ pub fn check(alloc: Global, script: Script) -> Result<Checked, CheckError>
 }
 
 /// All conditions of a script but that no function's name is doubled.
-fn judge_script(alloc: Global, found: &mut Findings, script: &Script, first: &NameTable<u32>) -> Result<(), Memory>
+fn judge_script(
+    alloc: Global,
+    found: &mut Findings,
+    script: &Script,
+    first: &NameTable<u32>,
+) -> Result<(), Memory>
     requires { IsIndex script.now.functions (table_of first.now.map) }
     ensures { OnOk result (found.new ≡ noted found.old (main_faults (function_named script.now.functions main_name)
         ++ all_function_faults script.now.functions script.now.functions)) }

@@ -31,7 +31,12 @@ pub(crate) fn judge_main(functions: &Functions, found: &mut Findings)
 }
 
 /// The parameters, which are known from then on.
-fn declare_params(alloc: Global, scope: &mut Scope, found: &mut Findings, params: &[Param]) -> Result<(), Memory>
+fn declare_params(
+    alloc: Global,
+    scope: &mut Scope,
+    found: &mut Findings,
+    params: &[Param],
+) -> Result<(), Memory>
     ensures state { OnOk result (state_of scope.new ≡ record (state_of scope.old) { known = known_params params.now (known_in scope.old) }) }
     ensures found { OnOk result (found.new ≡ noted found.old (param_faults params.now (known_in scope.old))) }
 {
@@ -42,12 +47,24 @@ fn declare_params(alloc: Global, scope: &mut Scope, found: &mut Findings, params
 }
 
 /// A function. Its result is read behind a sync of all that it spawned.
-pub(crate) fn judge_function(alloc: Global, functions: &Functions, found: &mut Findings, f: &Function) -> Result<(), Memory>
+pub(crate) fn judge_function(
+    alloc: Global,
+    functions: &Functions,
+    found: &mut Findings,
+    f: &Function,
+) -> Result<(), Memory>
     ensures { OnOk result (found.new ≡ noted found.old (function_faults functions.now f.now)) }
 {
     let mut scope = Scope::new(alloc);
     declare_params(alloc, &mut scope, found, f.params.as_slice())?;
-    judge_each(alloc, functions, &mut scope, found, false, f.body.as_slice())?;
+    judge_each(
+        alloc,
+        functions,
+        &mut scope,
+        found,
+        false,
+        f.body.as_slice(),
+    )?;
     scope.sync(alloc);
     want(&scope, found, f.answer, &f.result);
     Ok(())

@@ -59,7 +59,11 @@ impl<'s> Functions<'s> {
 }
 
 /// The index of the first function of each name. A function whose name stands before is noted.
-pub(crate) fn index(alloc: Global, found: &mut Findings, list: &[Function]) -> Result<NameTable<u32>, Memory>
+pub(crate) fn index(
+    alloc: Global,
+    found: &mut Findings,
+    list: &[Function],
+) -> Result<NameTable<u32>, Memory>
     ensures index { IfOk result (λ first. IsIndex list.now (table_of first.map)) }
     ensures twice { OnOk result (found.new ≡ noted found.old (functions_twice [] list.now)) }
 {

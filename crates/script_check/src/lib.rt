@@ -18,6 +18,5 @@ mod statement;
 mod tests;
 mod variable;
 
-
 pub use checked::{Checked, check};
 pub use error::CheckError;

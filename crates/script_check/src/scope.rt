@@ -68,7 +68,13 @@ impl Scope {
     }
 
     /// Makes a variable known, and notes where its name is known or one too many.
-    pub(crate) fn declare(&mut self, alloc: Global, found: &mut Findings, name: &Name, variable: Variable) -> Result<(), Memory>
+    pub(crate) fn declare(
+        &mut self,
+        alloc: Global,
+        found: &mut Findings,
+        name: &Name,
+        variable: Variable,
+    ) -> Result<(), Memory>
         ensures state { OnOk result (state_of self.new ≡ record (state_of self.old) { known = with_first (known_in self.old) name.now.bytes variable }) }
         ensures found { OnOk result (found.new ≡ noted found.old (declaration (known_in self.old) name.now)) }
     {

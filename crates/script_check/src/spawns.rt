@@ -14,7 +14,11 @@ use std::alloc::Global;
 /// Adds the names that these statements leave pending where nothing was before. The answer tells whether what was pending before
 /// may still be so behind them. The statements are taken from the last to the first, so that a sync is met before what it ends.
 #[cycle(spawns)]
-pub(crate) fn collect(alloc: Global, names: &mut NameTable<()>, statements: &[Stmt]) -> Result<bool, Memory>
+pub(crate) fn collect(
+    alloc: Global,
+    names: &mut NameTable<()>,
+    statements: &[Stmt],
+) -> Result<bool, Memory>
     ensures keeps { IfOk result (λ b. b ≡ keeps_all statements.now) }
     ensures names { OnOk result (names_of (table_of names.new.map) ≡ both (after statements.now nobody) (names_of (table_of names.old.map))) }
 {

@@ -48,10 +48,18 @@ fn see_right(functions: &Functions, scope: &Scope, found: &mut Findings, right: 
 
 /// `let x = R`.
 #[tactic(auto, using(crate::proofs::Noted::noted_append))]
-fn judge_let(alloc: Global, functions: &Functions, scope: &mut Scope, found: &mut Findings, x: &Name, right: &Right) -> Result<(), Memory>
+fn judge_let(
+    alloc: Global,
+    functions: &Functions,
+    scope: &mut Scope,
+    found: &mut Findings,
+    x: &Name,
+    right: &Right,
+) -> Result<(), Memory>
     ensures state { OnOk result (state_of scope.new ≡ record (state_of scope.old) {
-        known = with_first (known_in scope.old) x.now.bytes (Scalar (kind_or_int ((read_right functions.now right.now).kind (known_in scope.old))));
-        names = after_right x.now right.now (state_of scope.old).names }) }
+      known = with_first (known_in scope.old) x.now.bytes (Scalar (kind_or_int ((read_right functions.now right.now).kind (known_in scope.old))));
+      names = after_right x.now right.now (state_of scope.old).names;
+    }) }
     ensures found { OnOk result (found.new ≡ noted found.old ((read_right functions.now right.now).faults (known_in scope.old) (pending_in scope.old) ++ declaration (known_in scope.old) x.now)) }
 {
     let seen = see_right(functions, scope, found, right);
@@ -68,7 +76,13 @@ fn kind_or_int(kind: Option<Kind>) -> Kind
 
 /// `let a[n]`.
 #[tactic(auto, using(crate::proofs::Noted::noted_append))]
-fn judge_array(alloc: Global, scope: &mut Scope, found: &mut Findings, x: &Name, n: &Number) -> Result<(), Memory>
+fn judge_array(
+    alloc: Global,
+    scope: &mut Scope,
+    found: &mut Findings,
+    x: &Name,
+    n: &Number,
+) -> Result<(), Memory>
     ensures state { OnOk result (state_of scope.new ≡ record (state_of scope.old) { known = with_first (known_in scope.old) x.now.bytes Array }) }
     ensures found { OnOk result (found.new ≡ noted found.old (declaration (known_in scope.old) x.now ++ array_length n.now)) }
 {
@@ -78,7 +92,14 @@ fn judge_array(alloc: Global, scope: &mut Scope, found: &mut Findings, x: &Name,
 }
 
 /// `x = R`.
-fn judge_set(alloc: Global, functions: &Functions, scope: &mut Scope, found: &mut Findings, x: &Name, right: &Right) -> Result<(), Memory>
+fn judge_set(
+    alloc: Global,
+    functions: &Functions,
+    scope: &mut Scope,
+    found: &mut Findings,
+    x: &Name,
+    right: &Right,
+) -> Result<(), Memory>
     ensures state { OnOk result (state_of scope.new ≡ record (state_of scope.old) { names = after_right x.now right.now (state_of scope.old).names }) }
     ensures found { OnOk result (found.new ≡ noted found.old (scalar_use ((known_in scope.old).what x.now.bytes) (pending_in scope.old) x.now
         ++ wanted_as (kind_of ((known_in scope.old).what x.now.bytes)) (read_right functions.now right.now) (known_in scope.old) (pending_in scope.old))) }
@@ -90,7 +111,13 @@ fn judge_set(alloc: Global, functions: &Functions, scope: &mut Scope, found: &mu
 
 /// A right side that is set: where the variable has a kind, that kind.
 #[tactic(auto, using(crate::proofs::Noted::noted_append), unfolding(crate::specs::Expressions::wanted))]
-fn want_right(functions: &Functions, scope: &Scope, found: &mut Findings, kind: Option<Kind>, right: &Right)
+fn want_right(
+    functions: &Functions,
+    scope: &Scope,
+    found: &mut Findings,
+    kind: Option<Kind>,
+    right: &Right,
+)
     ensures { found.new ≡ noted found.old (wanted_as kind (read_right functions.now right.now) (known_in scope.now) (pending_in scope.now)) }
 {
     let seen = see_right(functions, scope, found, right);
@@ -121,7 +148,15 @@ fn judge_store(scope: &Scope, found: &mut Findings, x: &Name, i: &Expr, e: &Expr
 
 /// `pfor i in E..E into a call f(i, ..)`.
 #[tactic(auto, using(crate::proofs::Noted::noted_append))]
-fn judge_loop(functions: &Functions, scope: &Scope, found: &mut Findings, lo: &Expr, hi: &Expr, target: &Option<Name>, call: &CallText)
+fn judge_loop(
+    functions: &Functions,
+    scope: &Scope,
+    found: &mut Findings,
+    lo: &Expr,
+    hi: &Expr,
+    target: &Option<Name>,
+    call: &CallText,
+)
     ensures { found.new ≡ noted found.old (two_wanted kind.Int (read lo.now) (read hi.now) (known_in scope.now) (pending_in scope.now)
         ++ target_use target.now (known_in scope.now) (pending_in scope.now)
         ++ loop_call_of (function_named functions.now call.now.name.bytes) (is_some target.now) call.now (known_in scope.now) (pending_in scope.now)) }
@@ -141,11 +176,18 @@ fn want_two(scope: &Scope, found: &mut Findings, a: &Expr, b: &Expr)
 }
 
 /// The end of an `if` with these blocks: what was pending before may still be so where one of them keeps it.
-fn end_if(alloc: Global, scope: &mut Scope, keeps: bool, a: &[Stmt], b: &[Stmt]) -> Result<(), Memory>
+fn end_if(
+    alloc: Global,
+    scope: &mut Scope,
+    keeps: bool,
+    a: &[Stmt],
+    b: &[Stmt],
+) -> Result<(), Memory>
     requires { keeps ≡ (keeps_all a.now || keeps_all b.now) }
     ensures { OnOk result (state_of scope.new ≡ record (state_of scope.old) {
-        names = both (after a.now (state_of scope.old).names) (after b.now (state_of scope.old).names);
-        keeps = keeps && (state_of scope.old).keeps }) }
+      names = both (after a.now (state_of scope.old).names) (after b.now (state_of scope.old).names);
+      keeps = keeps && (state_of scope.old).keeps;
+    }) }
 {
     scope.keep_if(alloc, keeps);
     collect(alloc, &mut scope.top.names, a)?;
@@ -164,7 +206,14 @@ fn begin_while(alloc: Global, scope: &mut Scope, body: &[Stmt]) -> Result<(), Me
 
 /// Statements in a row.
 #[cycle(statements)]
-pub(crate) fn judge_each(alloc: Global, functions: &Functions, scope: &mut Scope, found: &mut Findings, in_block: bool, statements: &[Stmt]) -> Result<(), Memory>
+pub(crate) fn judge_each(
+    alloc: Global,
+    functions: &Functions,
+    scope: &mut Scope,
+    found: &mut Findings,
+    in_block: bool,
+    statements: &[Stmt],
+) -> Result<(), Memory>
     ensures state { OnOk result (state_of scope.new ≡ behind_all functions.now statements.now (state_of scope.old)) }
     ensures found { OnOk result (found.new ≡ noted found.old (faults_each (judge_all statements.now) (place functions.now in_block) (known_in scope.old) (pending_in scope.old))) }
 {
@@ -176,7 +225,13 @@ pub(crate) fn judge_each(alloc: Global, functions: &Functions, scope: &mut Scope
 
 /// The statements of a block. What they leave pending is dropped; the answer tells whether what was pending before may still be so.
 #[cycle(statements)]
-fn judge_block(alloc: Global, functions: &Functions, scope: &mut Scope, found: &mut Findings, statements: &[Stmt]) -> Result<bool, Memory>
+fn judge_block(
+    alloc: Global,
+    functions: &Functions,
+    scope: &mut Scope,
+    found: &mut Findings,
+    statements: &[Stmt],
+) -> Result<bool, Memory>
     ensures keeps { IfOk result (λ b. b ≡ keeps_all statements.now) }
     ensures state { OnOk result (state_of scope.new ≡ record (state_of scope.old) { known = known_each (judge_all statements.now) functions.now (known_in scope.old) }) }
     ensures found { OnOk result (found.new ≡ noted found.old (faults_each (judge_all statements.now) (place functions.now true) (known_in scope.old) (pending_in scope.old))) }
@@ -190,7 +245,14 @@ fn judge_block(alloc: Global, functions: &Functions, scope: &mut Scope, found: &
 /// turn may have left pending.
 #[cycle(statements)]
 #[tactic(auto, using(crate::proofs::Noted::noted_append))]
-fn judge(alloc: Global, functions: &Functions, scope: &mut Scope, found: &mut Findings, in_block: bool, statement: &Stmt) -> Result<(), Memory>
+fn judge(
+    alloc: Global,
+    functions: &Functions,
+    scope: &mut Scope,
+    found: &mut Findings,
+    in_block: bool,
+    statement: &Stmt,
+) -> Result<(), Memory>
     ensures state { OnOk result (state_of scope.new ≡ behind functions.now statement.now (state_of scope.old)) }
     ensures found { OnOk result (found.new ≡ noted found.old ((judge statement.now).faults (place functions.now in_block) (known_in scope.old) (pending_in scope.old))) }
 {

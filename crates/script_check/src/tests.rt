@@ -22,11 +22,7 @@ fn fault(rt: &impl Abort, alloc: Global, text: &[u8]) -> (u8, u32) {
 fn first_violations_are_the_documents(rt: HostRuntime) {
     let alloc = rt.alloc();
     for (text, number, at) in [
-        (
-            "",
-            1,
-            0,
-        ),
+        ("", 1, 0),
         (
             "fn f() { return 1; } fn main() { let x = 0; let i = 0; while i < 2 { x = x + 1; x = spawn f(); i = i + 1; } return x; }",
             9,
@@ -37,46 +33,18 @@ fn first_violations_are_the_documents(rt: HostRuntime) {
             0,
             0,
         ),
-        (
-            "fn main(a) { return 0; }",
-            2,
-            8,
-        ),
-        (
-            "fn main() { call f(); return 0; }",
-            5,
-            17,
-        ),
-        (
-            "fn main() { let o = new; print o + 1; return 0; }",
-            8,
-            31,
-        ),
-        (
-            "fn main() { if 1 { let x = 1; } return 0; }",
-            10,
-            19,
-        ),
+        ("fn main(a) { return 0; }", 2, 8),
+        ("fn main() { call f(); return 0; }", 5, 17),
+        ("fn main() { let o = new; print o + 1; return 0; }", 8, 31),
+        ("fn main() { if 1 { let x = 1; } return 0; }", 10, 19),
         (
             "fn f() { return 1; } fn main() { let x = 0; if 1 { x = spawn f(); } else { x = 2; } print x; return 0; }",
             9,
             90,
         ),
-        (
-            "fn main() { let a[4096]; return 0; }",
-            0,
-            0,
-        ),
-        (
-            "fn main() { let a[4097]; return 0; }",
-            12,
-            18,
-        ),
-        (
-            "fn main() { let a[0]; return 0; }",
-            12,
-            18,
-        ),
+        ("fn main() { let a[4096]; return 0; }", 0, 0),
+        ("fn main() { let a[4097]; return 0; }", 12, 18),
+        ("fn main() { let a[0]; return 0; }", 12, 18),
     ] {
         assert!(&rt; fault(&rt, alloc, text.as_bytes()) == (number, at));
     }
@@ -86,11 +54,7 @@ fn first_violations_are_the_documents(rt: HostRuntime) {
 fn each_rule_has_its_place(rt: HostRuntime) {
     let alloc = rt.alloc();
     for (text, number, at) in [
-        (
-            "fn f() { return x; }",
-            1,
-            0,
-        ),
+        ("fn f() { return x; }", 1, 0),
         (
             "fn f() { return 1; } fn f() { return 2; } fn main() { return 0; }",
             3,
@@ -106,56 +70,20 @@ fn each_rule_has_its_place(rt: HostRuntime) {
             3,
             58,
         ),
-        (
-            "fn main() { return 0; } fn main(a) { return 0; }",
-            3,
-            27,
-        ),
-        (
-            "fn main() -> id { let o = new; return o; }",
-            0,
-            0,
-        ),
-        (
-            "fn f(a, a) { return 1; } fn main() { return 0; }",
-            4,
-            8,
-        ),
+        ("fn main() { return 0; } fn main(a) { return 0; }", 3, 27),
+        ("fn main() -> id { let o = new; return o; }", 0, 0),
+        ("fn f(a, a) { return 1; } fn main() { return 0; }", 4, 8),
         (
             "fn f(a) { let a = 1; return 1; } fn main() { return 0; }",
             4,
             14,
         ),
-        (
-            "fn main() { let x = 1; let x[2]; return 0; }",
-            4,
-            27,
-        ),
-        (
-            "fn main() { let x = x; return 0; }",
-            6,
-            20,
-        ),
-        (
-            "fn main() { x = 1; return 0; }",
-            6,
-            12,
-        ),
-        (
-            "fn main() { print y + z; return 0; }",
-            6,
-            18,
-        ),
-        (
-            "fn main() { if 1 { let x = x; } return 0; }",
-            10,
-            19,
-        ),
-        (
-            "fn main() { while 1 { let a[0]; } return 0; }",
-            10,
-            22,
-        ),
+        ("fn main() { let x = 1; let x[2]; return 0; }", 4, 27),
+        ("fn main() { let x = x; return 0; }", 6, 20),
+        ("fn main() { x = 1; return 0; }", 6, 12),
+        ("fn main() { print y + z; return 0; }", 6, 18),
+        ("fn main() { if 1 { let x = x; } return 0; }", 10, 19),
+        ("fn main() { while 1 { let a[0]; } return 0; }", 10, 22),
         (
             "fn main() { if 0 { } else { let x = 1; } return 0; }",
             10,
@@ -181,26 +109,10 @@ fn each_rule_has_its_place(rt: HostRuntime) {
             8,
             67,
         ),
-        (
-            "fn main() { let x = 1; x = new; return 0; }",
-            8,
-            27,
-        ),
-        (
-            "fn main() { let o = new; o = draw; return 0; }",
-            8,
-            29,
-        ),
-        (
-            "fn main() { let o = new; o = (1 + o); return 0; }",
-            8,
-            30,
-        ),
-        (
-            "fn main() { let o = new; o = (y + 1); return 0; }",
-            6,
-            30,
-        ),
+        ("fn main() { let x = 1; x = new; return 0; }", 8, 27),
+        ("fn main() { let o = new; o = draw; return 0; }", 8, 29),
+        ("fn main() { let o = new; o = (1 + o); return 0; }", 8, 30),
+        ("fn main() { let o = new; o = (y + 1); return 0; }", 6, 30),
         (
             "fn main() { let o = new; let x = same(o, 1); return 0; }",
             8,
@@ -211,41 +123,17 @@ fn each_rule_has_its_place(rt: HostRuntime) {
             0,
             0,
         ),
-        (
-            "fn main() { let o = new; return o; }",
-            8,
-            32,
-        ),
-        (
-            "fn main() -> id { return 0; }",
-            8,
-            25,
-        ),
-        (
-            "fn main() { let a[2]; print a; return 0; }",
-            8,
-            28,
-        ),
-        (
-            "fn main() { let a[2]; a = 1; return 0; }",
-            8,
-            22,
-        ),
-        (
-            "fn main() { let x = 1; print x[0]; return 0; }",
-            8,
-            29,
-        ),
+        ("fn main() { let o = new; return o; }", 8, 32),
+        ("fn main() -> id { return 0; }", 8, 25),
+        ("fn main() { let a[2]; print a; return 0; }", 8, 28),
+        ("fn main() { let a[2]; a = 1; return 0; }", 8, 22),
+        ("fn main() { let x = 1; print x[0]; return 0; }", 8, 29),
         (
             "fn main() { let o = new; let a[2]; a[0] = -(o); return 0; }",
             8,
             44,
         ),
-        (
-            "fn main() { let o = new; if o { } return 0; }",
-            8,
-            28,
-        ),
+        ("fn main() { let o = new; if o { } return 0; }", 8, 28),
         (
             "fn main() { let o = new; while o < 1 { } return 0; }",
             8,
@@ -296,11 +184,7 @@ fn each_rule_has_its_place(rt: HostRuntime) {
             6,
             32,
         ),
-        (
-            "fn main() { pfor k in 0..k call f(k); return 0; }",
-            6,
-            25,
-        ),
+        ("fn main() { pfor k in 0..k call f(k); return 0; }", 6, 25),
         (
             "fn f(i, id o) { return i; } fn main() { pfor k in 0..2 call f(k, 3); return 0; }",
             8,

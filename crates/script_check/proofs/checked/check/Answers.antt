@@ -1,10 +1,9 @@
-use Rattle.std.proofs.Common.{◌≡◌, ◌++◌, ℕ, [], Option, Some, None, Result, Ok, Err, sym, ap, ◌∙◌, rules}
+use Rattle.std.proofs.Common.{◌≡◌, ℕ, [], Some, None, Result, Err, sym, ◌∙◌, rules}
 use Rattle.script_check.specs.declared.checked.Checked.{Checked}
 use Rattle.script_check.specs.declared.error.CheckError.{CheckError}
 use Rattle.script_check.specs.declared.error.CheckError.TheVariants.{Bad}
-use Rattle.script_check.specs.Functions.{function_named, main_name}
 use Rattle.script_check.specs.Tables.{table_of}
-use Rattle.script_check.specs.Valid.{functions_twice, main_faults, all_function_faults, violations}
+use Rattle.script_check.specs.Valid.{functions_twice, violations}
 use Rattle.script_check.specs.Violations.{noted}
 use Rattle.script_check.specs.Walk.{IsIndex}
 use Rattle.script_check.proofs.Least.{nothing_noted}
@@ -42,4 +41,5 @@ invariant_of-result c =
     record {
       valid = nothing_noted (violations script) (sym (all_noted script c.index.new.found c.judge_script.new.found first c.in_ok-judge_script.ensures) ∙ least);
       text = c.requires;
-      index = index }
+      index = index;
+    }

@@ -1,4 +1,4 @@
-use Rattle.std.proofs.Common.{◌≡◌, ◌++◌, drop}
+use Rattle.std.proofs.Common.{◌≡◌, drop}
 use Rattle.script_check.specs.Violations.{noted}
 use Rattle.script_check.specs.Valid.{all_function_faults}
 use Rattle.script_check.proofs.checked.judge_script.Given as goal

@@ -1,4 +1,4 @@
-use Rattle.std.proofs.Common.{◌≡◌, rules, map, ◌∙◌}
+use Rattle.std.proofs.Common.{rules, map, ◌∙◌}
 use Rattle.script_grammar.specs.declared.tree.Kind.TheVariants.{Int, Id}
 use Rattle.script_grammar.specs.declared.tree.Expr.{the_lemmas}
 use Rattle.script_check.specs.Expressions.{read, read_sum_part, read_product_part, wanted, two_wanted, all_wanted}

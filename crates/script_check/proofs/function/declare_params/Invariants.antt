@@ -1,7 +1,7 @@
 use Rattle.std.proofs.Common.{◌≡◌, drop}
 use Rattle.script_check.specs.Violations.{noted}
 use Rattle.script_check.specs.Valid.{known_params, param_faults}
-use Rattle.script_check.specs.Walk.{State, known_in, state_of}
+use Rattle.script_check.specs.Walk.{known_in, state_of}
 use Rattle.script_check.proofs.function.declare_params.Given as goal
 
 abbrev pub invariant-loop-param : goal.invariant-loop-param

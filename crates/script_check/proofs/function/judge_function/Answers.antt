@@ -2,7 +2,7 @@ use Rattle.std.proofs.Common.{◌≡◌, false, rules}
 use Rattle.script_check.specs.Violations.{noted}
 use Rattle.script_check.specs.Statements.{place, judge_all, faults_each}
 use Rattle.script_check.specs.Valid.{known_params, param_faults}
-use Rattle.script_check.specs.Walk.{State, behind_all, pending, state_of}
+use Rattle.script_check.specs.Walk.{behind_all, pending, state_of}
 use Rattle.script_check.proofs.Functioned.{function_judged}
 use Rattle.script_check.proofs.function.judge_function.Goals as goal
 

@@ -1,4 +1,4 @@
-use Rattle.std.proofs.Common.{◌≡◌, ◌+◌, ◌-◌, ◌<◌, ◌&&◌, Bool, false, true, drop, length, get_or, refl, sym, ap, ◌∙◌, arith, rules}
+use Rattle.std.proofs.Common.{◌≡◌, ◌-◌, ◌&&◌, false, true, drop, sym, ap, ◌∙◌, arith, rules}
 use Rattle.script_grammar.specs.declared.tree.Act.{the_lemmas}
 use Rattle.script_check.specs.Tables.{table_of}
 use Rattle.script_check.specs.Names.{Names, nobody, both, with_name}
@@ -33,11 +33,12 @@ collect-loop-i-preserved t c =
     let ss = c.args.statements.now in
     let s = c.index-statements-i.result in
     let before = names_of (table_of c.args.names.now.map) in
-    let kept : keeps s ≡ true = search rules in
-    (omega arith,
-    kept_more ss i (i - 1) s (omega arith) (omega arith) c.index-statements-i.is ∙ ap (λ b. b && keeps_all (drop i ss)) kept ∙ c.loop-i.invariant.1,
-    collected_more ss i (i - 1) s before (names_of (table_of c.loop-i.names.map)) (names_of (table_of c.collect_one.new.names.map)) (omega arith) (omega arith)
-    c.index-statements-i.is c.loop-i.invariant.1 c.loop-i.invariant.2 c.in_ok-collect_one.ensures.names)
+    let kept : keeps s ≡ true = search rules in (
+      omega arith,
+      kept_more ss i (i - 1) s (omega arith) (omega arith) c.index-statements-i.is ∙ ap (λ b. b && keeps_all (drop i ss)) kept ∙ c.loop-i.invariant.1,
+      collected_more ss i (i - 1) s before (names_of (table_of c.loop-i.names.map)) (names_of (table_of c.collect_one.new.names.map)) (omega arith) (omega arith)
+          c.index-statements-i.is c.loop-i.invariant.1 c.loop-i.invariant.2 c.in_ok-collect_one.ensures.names,
+    )
 
 pub collect_one-returns-then-first-clause-names : goal.collect_one-returns-then-first-clause-names
 collect_one-returns-then-first-clause-names t c =

@@ -1,13 +1,12 @@
-use Rattle.std.proofs.Common.{◌≡◌, Bool, ◌||◌, ◌&&◌, ◌++◌, true, List, ap, sym, ◌∙◌, rules}
+use Rattle.std.proofs.Common.{◌≡◌, Bool, ◌||◌, ◌&&◌, true, ap, sym, ◌∙◌, rules}
 use Rattle.script_grammar.specs.declared.tree.Kind.TheVariants.{Int}
 use Rattle.script_grammar.specs.declared.tree.Act.{Act}
 use Rattle.script_grammar.specs.declared.tree.Act.TheVariants as variant
-use Rattle.script_check.specs.declared.findings.Violation.{Violation}
 use Rattle.script_check.specs.Violations.{noted}
 use Rattle.script_check.specs.Names.{both}
 use Rattle.script_check.specs.Expressions.{read, wanted}
-use Rattle.script_check.specs.Statements.{place, Judged, judge, judge_what, judge_all, known_each, faults_each, after}
-use Rattle.script_check.specs.Walk.{State, behind, behind_all, keeps, keeps_what, keeps_all, pending, known_in, pending_in, state_of}
+use Rattle.script_check.specs.Statements.{place, Judged, judge_what, judge_all, faults_each, after}
+use Rattle.script_check.specs.Walk.{State, keeps_what, keeps_all, pending, state_of}
 use Rattle.script_check.proofs.Behind.{one_behind, one_judged, if_state, if_faults, while_state, while_faults, with_known, with_loop_set, behind_by}
 use Rattle.script_check.proofs.Induction.{judge_is, keeps_is, judge_if, keeps_if, judge_while, keeps_while}
 use Rattle.script_check.proofs.statement.+statements.Goals as goal
@@ -23,7 +22,8 @@ judge-returns-in_ok-end_if-in-If-clause-state t c =
     let kept : k ≡ (keeps_all a || keeps_all b) = search rules in
     let last : state_of c.end_if.new.scope ≡ record (state_of c.judge_block-in-If.new.scope) {
       names = both (after a (state_of c.judge_block-in-If.new.scope).names) (after b (state_of c.judge_block-in-If.new.scope).names);
-      keeps = k && (state_of c.judge_block-in-If.new.scope).keeps } = search rules in
+      keeps = k && (state_of c.judge_block-in-If.new.scope).keeps;
+    } = search rules in
     let what : st.act ≡ variant.If c.in-If.e a b = search rules in
     if_state fs a b k s (state_of c.judge_block.new.scope) (state_of c.judge_block-in-If.new.scope) (state_of c.end_if.new.scope)
     c.in_ok-first-in-If.ensures.state c.in_ok-second-in-If.ensures.state last kept
@@ -73,7 +73,8 @@ judge_each-loop-statement-preserved t c =
     let fs = c.args.functions.now in
     let ss = c.args.statements.now in
     let i = c.loop-statement.statement-index in
-    let s = c.statement-item.result in
-    (one_behind fs ss i s (state_of c.loop-statement.scope) (state_of c.judge.new.scope) c.loop-statement-test.true c.statement-item.is c.in_ok-judge.ensures.state ∙ c.loop-statement.invariant.0,
-    one_judged fs c.args.in_block ss i s (state_of c.loop-statement.scope) (state_of c.judge.new.scope) c.loop-statement.found c.judge.new.found
-    c.loop-statement-test.true c.statement-item.is c.in_ok-judge.ensures.state c.in_ok-judge.ensures.found ∙ c.loop-statement.invariant.1)
+    let s = c.statement-item.result in (
+      one_behind fs ss i s (state_of c.loop-statement.scope) (state_of c.judge.new.scope) c.loop-statement-test.true c.statement-item.is c.in_ok-judge.ensures.state ∙ c.loop-statement.invariant.0,
+      one_judged fs c.args.in_block ss i s (state_of c.loop-statement.scope) (state_of c.judge.new.scope) c.loop-statement.found c.judge.new.found
+          c.loop-statement-test.true c.statement-item.is c.in_ok-judge.ensures.state c.in_ok-judge.ensures.found ∙ c.loop-statement.invariant.1,
+    )

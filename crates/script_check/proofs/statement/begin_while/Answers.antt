@@ -1,7 +1,7 @@
-use Rattle.std.proofs.Common.{◌≡◌, ap, ◌∙◌, ◌&&◌}
-use Rattle.script_check.specs.Names.{Names, both}
+use Rattle.std.proofs.Common.{ap, ◌∙◌, ◌&&◌}
+use Rattle.script_check.specs.Names.{Names}
 use Rattle.script_check.specs.Tables.{table_of}
-use Rattle.script_check.specs.Walk.{State, state_of, names_of, pending, pending_below}
+use Rattle.script_check.specs.Walk.{state_of, names_of, pending, pending_below}
 use Rattle.script_check.proofs.Behind.{while_names, while_pending}
 use Rattle.script_check.proofs.statement.begin_while.Goals as goal
 

@@ -1,5 +1,5 @@
-use Rattle.std.proofs.Common.{◌≡◌, Bool, ap, ◌∙◌, ◌&&◌}
-use Rattle.script_check.specs.Names.{Names, nobody, only, both}
+use Rattle.std.proofs.Common.{ap, ◌∙◌, ◌&&◌}
+use Rattle.script_check.specs.Names.{Names, nobody, both}
 use Rattle.script_check.specs.Statements.{after}
 use Rattle.script_check.specs.Tables.{table_of}
 use Rattle.script_check.specs.Walk.{State, state_of, names_of}

@@ -1,4 +1,4 @@
-use Rattle.std.proofs.Common.{◌≡◌, ◌<◌, Some, ap, ◌∙◌, length, rules}
+use Rattle.std.proofs.Common.{ap, ◌∙◌}
 use Rattle.script_grammar.specs.declared.tree.Script.{Script}
 use Rattle.script_check.specs.Functions.{first_named, main_name}
 use Rattle.script_check.proofs.Indexed.{has_main, main_within}

@@ -1,6 +1,6 @@
 use Rattle.std.proofs.Common.{◌≡◌, Bool, false, ◌&&◌, ap, sym, ◌∙◌, rules}
 use Rattle.script_check.specs.Names.{only}
-use Rattle.script_check.specs.Walk.{State, state_of}
+use Rattle.script_check.specs.Walk.{state_of}
 use Rattle.script_check.proofs.scope.Scope.keep_if.Goals as goal
 
 pub returns-then-not-keeps : goal.returns-then-not-keeps

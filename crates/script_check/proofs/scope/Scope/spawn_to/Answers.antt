@@ -1,7 +1,7 @@
 use Rattle.std.proofs.Common.{ℕ, List, ap, ◌∙◌}
 use Rattle.script_check.specs.Names.{Names, with_name}
 use Rattle.script_check.specs.Tables.{table_of}
-use Rattle.script_check.specs.Walk.{State, state_of, names_of}
+use Rattle.script_check.specs.Walk.{state_of, names_of}
 use Rattle.script_check.proofs.Collected.{names_added}
 use Rattle.script_check.proofs.scope.Scope.spawn_to.Goals as goal
 
