@@ -294,7 +294,7 @@ module _ (t : Task) (is : IsTask t) where
   taken_stage stage = resumed (takes_all ps answers stage)
 
   -- nothing more is taken
-  rest-same : (stage : Stage) → rest_open t.plan kids (path_of own) ps stage ≡ rest_open t.plan kids (path_of own) [] (taken_stage stage)
+  pub rest-same : (stage : Stage) → rest_open t.plan kids (path_of own) ps stage ≡ rest_open t.plan kids (path_of own) [] (taken_stage stage)
   rest-same stage =
       ap (λ (s : Stage). rest_of_stage t.plan kids (path_of own) s) (ap resumed (takes-same t.plan t.origin ps is.parts stage) ∙ sym (resumed-twice (takes_all ps answers stage)))
 
@@ -310,7 +310,7 @@ module _ (t : Task) (is : IsTask t) where
   work-sound (Over v true) s = (s.0, refl)
   work-sound (Over v false) s = (s.0, refl)
 
-  none-handed : pieces-on.handed ≡ []
+  pub none-handed : pieces-on.handed ≡ []
   none-handed = heard-none (eval t.plan) ps (record t.pieces { handed = [] }) refl
 
   finishes : finish (on answers t) ≡ eval t.plan t.origin

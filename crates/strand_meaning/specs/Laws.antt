@@ -1,5 +1,5 @@
 -- Laws of tasks. Each is the contract of a function of the module `laws`.
-use Rattle.std.specs.Prelude.{◌≡◌, ℕ, Bool, true, List, [], ◌∷◌, Result, Ok, Err, map, Contains}
+use Rattle.std.specs.Prelude.{◌≡◌, ◌<◌, ◌≤◌, ℕ, Bool, true, false, List, [], ◌∷◌, Result, Ok, Err, map, Contains}
 use Rattle.serial_meaning.specs.Plan.{PlanView}
 use Rattle.serial_meaning.specs.Eval.{eval}
 use Rattle.serial_meaning.specs.Open.{faults}
@@ -13,6 +13,7 @@ use Rattle.strand_meaning.specs.Clear.{IsClearPlan}
 use Rattle.strand_meaning.specs.Pieces.{Part}
 use Rattle.strand_meaning.specs.Task.{Task, Stop, Spawn, Wait, End, Step, Passes, Stops, start, step, IsNext, on}
 use Rattle.strand_meaning.specs.Rest.{evaluations}
+use Rattle.strand_meaning.specs.Left.{stops_left}
 use Rattle.strand_meaning.specs.Sound.{IsTask}
 
 -- A task begins sound: of an origin of the plan, where no function touches a pending variable.
@@ -54,6 +55,20 @@ abbrev pub KeepsOrigin : Task → Stop → Type 0
 KeepsOrigin t (Spawn child rest) = IsOf t rest
 KeepsOrigin t (Wait rest) = IsOf t rest
 KeepsOrigin t (End out ended) = Unit {0}
+
+-- fewer stops are left behind one
+abbrev pub LeavesFewer : Task → Stop → Type 0
+LeavesFewer t (Spawn child rest) = (stops_left rest < stops_left t) × (rest.waiting ≡ false)
+LeavesFewer t (Wait rest) = (stops_left rest < stops_left t) × (rest.waiting ≡ true)
+LeavesFewer t (End out ended) = Unit {0}
+
+-- With each stop of a task that doesn't stand in a wait fewer are left.
+abbrev pub StopsFall : Type 0
+StopsFall = (t : Task) (stop : Stop) → IsTask t → t.waiting ≡ false → IsNext t stop → LeavesFewer t stop
+
+-- Answers leave no more stops than the wait did.
+abbrev pub AnswersLeaveNoMore : Type 0
+AnswersLeaveNoMore = (t : Task) → IsTask t → t.waiting ≡ true → stops_left (on (evaluations (eval t.plan) t.pieces.handed) t) ≤ stops_left t
 
 -- What is left of a task at a stop has its plan and its origin.
 abbrev pub StopsKeepOrigins : Type 0

@@ -1,5 +1,6 @@
 pub mod Clear
 pub mod Laws
+pub mod Left
 pub mod Machine
 pub mod Pieces
 pub mod Rest
