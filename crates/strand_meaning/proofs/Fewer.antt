@@ -1,5 +1,5 @@
 -- Fewer stops are left behind each stop.
-use Rattle.std.proofs.Common.{◌≡◌, ℕ, zero, suc, ◌+◌, ◌-◌, ◌<◌, ◌≤◌, Bool, true, false, List, [], ◌∷◌, ◌++◌, Option, Some, None, Result, Ok, Err, length, refl, sym, ap, ◌∙◌, subst, arith}
+use Rattle.std.proofs.Common.{◌≡◌, ℕ, zero, suc, ◌+◌, ◌-◌, ◌/◌, ◌<◌, ◌≤◌, Bool, true, false, List, [], ◌∷◌, ◌++◌, Option, Some, None, Result, Ok, Err, length, refl, sym, ap, ◌∙◌, subst, arith}
 use Rattle.loop_range.specs.Range.{Range, upper_half, middle}
 use Rattle.serial_meaning.specs.Runs.{Run, done, stopped, behind}
 use Rattle.serial_meaning.specs.Plan.{PlanView}
@@ -245,3 +245,137 @@ module _ (t : Task) (is : IsTask t) (idle : t.waiting ≡ false) where
       by_size zero g = rw g (fewer-ends t.pieces.fault _)
       by_size (suc zero) g = rw g (fewer-ends t.pieces.fault _)
       by_size (suc (suc n)) g = rw g (fewer-wait (Over v false) at (omega arith))
+
+  -- parts of a loop don't count before the first move of its last iteration
+  begun-few : (child : Origin → Evaluation) (path : List ℕ) → AreHalves ps → (r : Reached) → stage_stops t.plan child path false ps (begun_stage r) ≤ 1 + stage_stops t.plan child path false [] (begun_stage r)
+  begun-few child path halves (Gives v) = let h : at_end false ps ≤ 2 = end-few ps in omega arith
+  begun-few child path halves (Stands m) =
+      let h : item_stops (rest_open t.plan child path ps (Goes m)).items ≡ item_stops (rest_open t.plan child path [] (Goes m)).items =
+          ap (λ (r : Run Item Ending Value). item_stops r.items) (halves-rest t.plan child path ps halves (Stands m) ∙ sym (halves-rest t.plan child path [] tt (Stands m))) in omega arith
+
+  last-few : AreHalves ps → (o : Origin) → stops_of t.plan o false ps (begins_last t.plan o) ≤ 1 + work_stops t.plan o false [] (begins_last t.plan o)
+  last-few halves (Instance function args path) =
+      let o = Instance function args path in more _ _ (begun-few (children_of t.plan (own_instance o)) (path_of (own_instance o)) halves (begun t.plan function args))
+    where
+      more : (a b : ℕ) → a ≤ 1 + b → 2 + a ≤ 1 + (2 + b)
+      more a b h = omega arith
+  last-few halves (Loop function rest first path range) =
+      let o = Loop function rest first path range in more _ _ (begun-few (children_of t.plan (own_instance o)) (path_of (own_instance o)) halves (begun t.plan function _))
+    where
+      more : (a b : ℕ) → a ≤ 1 + b → 2 + a ≤ 1 + (2 + b)
+      more a b h = omega arith
+
+  fewer-split : (left : Range) (n : ℕ) → left.hi - left.lo ≡ n → t.work ≡ Splits left → AreHalves ps → FewerStep t (split_step t left n)
+  fewer-split left zero h at halves = fewer-ends t.pieces.fault _
+  fewer-split left (suc zero) h at halves = fewer-work (Splits left) (begins_last t.plan t.origin) at (one _ _ (last-few halves t.origin))
+    where
+      one : (a b : ℕ) → a ≤ 1 + b → a ≤ (left.hi - left.lo) + b
+      one a b g = omega arith
+  fewer-split left (suc (suc n)) h at halves = (smaller (left-is (Splits left) at), idle)
+    where
+      smaller : stops_left t ≡ (left.hi - left.lo) + work_stops t.plan t.origin false [] (begins_last t.plan t.origin) →
+          (left.hi - (left.lo + (left.hi - left.lo) / 2)) + work_stops t.plan t.origin false [] (begins_last t.plan t.origin) < stops_left t
+      smaller e = omega arith
+
+  fewer-of : (work : Work) → t.work ≡ work → IsSoundWork t.plan t.origin ps work → FewerStep t (work_step t work)
+  fewer-of (Splits left) at sound = fewer-split left (left.hi - left.lo) refl at sound.1
+  fewer-of (Runs stage) at sound = fewer-stage stage at sound.2
+  fewer-of (Over v true) at sound = fewer-ends t.pieces.fault _
+  fewer-of (Over v false) at sound = fewer-over v t.origin at
+
+  fewer-step : FewerStep t (step t)
+  fewer-step = fewer-of t.work refl is.work
+
+fewer-further : (t next : Task) (stop : Stop) → stops_left next ≤ stops_left t → LeavesFewer next stop → LeavesFewer t stop
+fewer-further t next (Spawn child rest) h f = (less f.0, f.1)
+  where
+    less : stops_left rest < stops_left next → stops_left rest < stops_left t
+    less g = omega arith
+fewer-further t next (Wait rest) h f = (less f.0, f.1)
+  where
+    less : stops_left rest < stops_left next → stops_left rest < stops_left t
+    less g = omega arith
+fewer-further t next (End out ended) h f = tt
+
+-- Each stop of a task that doesn't stand in a wait leaves fewer.
+pub stops_fall : (t : Task) (stop : Stop) → IsTask t → t.waiting ≡ false → IsNext t stop → LeavesFewer t stop
+stops_fall t stop is idle (Now h) = subst (FewerStep t) h (fewer-step t is idle)
+stops_fall t stop is idle (Later next h n) =
+    let f : FewerStep t (Passes next) = subst (FewerStep t) h (fewer-step t is idle) in
+    fewer-further t next stop f.0 (stops_fall next stop (subst (IsSoundStep t) h (steps_are_sound t is)) f.1 n)
+
+-- Answers
+
+module _ (plan : PlanView) (child : Origin → Evaluation) (path : List ℕ) where
+  resumed-few : (stage : Stage) → stage_stops plan child path false [] (resumed stage) ≤ 3 + item_stops (rest_open plan child path [] (resumed stage)).items
+  resumed-few (Goes m) = omega arith
+  resumed-few (AtSync m) = by_fault m.top.faulted
+    where
+      by_fault : (f : Option Fault) → stage_stops plan child path false [] (joins f m) ≤ 3 + item_stops (rest_open plan child path [] (joins f m)).items
+      by_fault None = omega arith
+      by_fault (Some f) = omega arith
+  resumed-few (AtLoop m) = omega arith
+  resumed-few (Ended e) = omega arith
+
+  ended-few : (ps : List Part) (answers : List Evaluation) (e : Result Value Ending) → stage_stops plan child path false [] (resumed (takes_all ps answers (Ended e))) ≤ 1
+  ended-few [] answers e = omega arith
+  ended-few (p ∷ ps) [] e = omega arith
+  ended-few (p ∷ ps) (answer ∷ answers) e = from p.place answer.ending (ended-few ps answers)
+    where
+      from : (place : Place) (q : Result (List Value) Fault) → ((e : Result Value Ending) → stage_stops plan child path false [] (resumed (takes_all ps answers (Ended e))) ≤ 1) →
+          stage_stops plan child path false [] (resumed (takes_all ps answers (takes place q (Ended e)))) ≤ 1
+      from (Spawned owner target) q later = later e
+      from (Looped target) (Ok vs) later = later e
+      from (Looped target) (Err f) later = later (Err (Joined f))
+      from Half q later = later e
+
+-- The answers leave no more stops than the wait did.
+pub answers_leave_no_more : (t : Task) → IsTask t → t.waiting ≡ true → stops_left (on (evaluations (eval t.plan) t.pieces.handed) t) ≤ stops_left t
+answers_leave_no_more t is stands = whole (by_work t.work)
+  where
+    ps : List Part
+    ps = t.pieces.handed
+
+    own : Origin
+    own = own_instance t.origin
+
+    answers : List Evaluation
+    answers = evaluations (eval t.plan) ps
+
+    size : Stage → ℕ
+    size stage = item_stops (rest_open t.plan (children_of t.plan own) (path_of own) ps stage).items
+
+    going : (stage : Stage) → stage_stops t.plan (children_of t.plan own) (path_of own) false [] (resumed (takes_all ps answers stage)) ≤ 3 + size stage
+    going stage =
+        let same : size stage ≡ item_stops (rest_open t.plan (children_of t.plan own) (path_of own) [] (resumed (takes_all ps answers stage))).items = ap (λ (r : Run Item Ending Value). item_stops r.items) (rest-same t is stage) in
+        let few = resumed-few t.plan (children_of t.plan own) (path_of own) (takes_all ps answers stage) in bound _ _ _ same few
+      where
+        bound : (a b c : ℕ) → b ≡ c → a ≤ 3 + c → a ≤ 3 + b
+        bound a b c e h = omega arith
+
+    two : (a b : ℕ) → a ≤ b → 2 + a ≤ 2 + b
+    two a b h = omega arith
+
+    by_stage : (stage : Stage) → stage_stops t.plan (children_of t.plan own) (path_of own) false [] (resumed (takes_all ps answers stage)) ≤ stage_stops t.plan (children_of t.plan own) (path_of own) true ps stage
+    by_stage (Goes m) = going (Goes m)
+    by_stage (AtSync m) = plus (going (AtSync m))
+      where
+        plus : {a b : ℕ} → a ≤ b → a ≤ 0 + b
+        plus h = omega arith
+    by_stage (AtLoop m) = plus (going (AtLoop m))
+      where
+        plus : {a b : ℕ} → a ≤ b → a ≤ 0 + b
+        plus h = omega arith
+    by_stage (Ended e) = ended-few t.plan (children_of t.plan own) (path_of own) ps answers e
+
+    by_work : (work : Work) → stops_of t.plan t.origin false [] (resumed_work ps answers work) ≤ stops_of t.plan t.origin true ps work
+    by_work (Splits left) = omega arith
+    by_work (Runs stage) = two _ _ (by_stage stage)
+    by_work (Over v true) = omega arith
+    by_work (Over v false) = omega arith
+
+    whole : stops_of t.plan t.origin false [] (resumed_work ps answers t.work) ≤ stops_of t.plan t.origin true ps t.work → stops_left (on answers t) ≤ stops_left t
+    whole h =
+        let none : (on answers t).pieces.handed ≡ [] = none-handed t is in
+        let after : stops_left (on answers t) ≡ stops_of t.plan t.origin false [] (resumed_work ps answers t.work) = ap (λ qs. stops_of t.plan t.origin false qs (resumed_work ps answers t.work)) none in
+        let before : stops_left t ≡ stops_of t.plan t.origin true ps t.work = ap (λ b. stops_of t.plan t.origin b ps t.work) stands in omega arith
