@@ -1,7 +1,7 @@
 -- Fewer stops are left behind each stop.
 use Rattle.std.proofs.Common.{◌≡◌, ℕ, zero, suc, ◌+◌, ◌-◌, ◌/◌, ◌<◌, ◌≤◌, Bool, true, false, List, [], ◌∷◌, ◌++◌, Option, Some, None, Result, Ok, Err, length, refl, sym, ap, ◌∙◌, subst, arith}
-use Rattle.loop_range.specs.Range.{Range, upper_half, middle}
-use Rattle.serial_meaning.specs.Runs.{Run, done, stopped, behind}
+use Rattle.loop_range.specs.Range.{Range}
+use Rattle.serial_meaning.specs.Runs.{Run, behind}
 use Rattle.serial_meaning.specs.Plan.{PlanView}
 use Rattle.serial_meaning.specs.Eval.{Evaluation, path_of, eval}
 use Rattle.serial_meaning.specs.Open.{Item, Happened, Child, Ending, Own, Joined}
@@ -14,11 +14,11 @@ use Rattle.serial_meaning.specs.declared.origin.Origin.TheVariants.{Instance, Lo
 use Rattle.serial_meaning.specs.declared.answer.Outcome.{Outcome}
 use Rattle.script_grammar.specs.declared.tree.Name.{Name}
 use Rattle.strand_meaning.specs.Machine.{Place, Spawned, Looped, Half, Token, Told, Handed, Syncs, Loops, loop_tokens, sync_tokens, Machine, Reached, Stands, Gives, begun, move}
-use Rattle.strand_meaning.specs.Pieces.{Part, with_tokens, hand}
-use Rattle.strand_meaning.specs.Task.{Stage, Goes, AtSync, AtLoop, Ended, Work, Splits, Runs, Over, Task, begun_stage, begun_work, begins_last, own_instance, Step, Passes, Stops, Stop, Spawn, Wait, End, IsNext, Now, Later, stage_after, child_in, stops_at, passing, moved, waits, ends_unless, faults_behind, gave, stage_step, split_step, over_step, work_step, step, first_half, takes, takes_all, joins, resumed, resumed_work, on}
+use Rattle.strand_meaning.specs.Pieces.{Part, with_tokens}
+use Rattle.strand_meaning.specs.Task.{Stage, Goes, AtSync, AtLoop, Ended, Work, Splits, Runs, Over, Task, begun_stage, begins_last, own_instance, Step, Passes, Stops, Stop, Spawn, Wait, End, IsNext, Now, Later, stage_after, child_in, stops_at, passing, moved, waits, ends_unless, faults_behind, gave, stage_step, split_step, over_step, work_step, step, takes, takes_all, joins, resumed, resumed_work, on}
 use Rattle.strand_meaning.specs.Rest.{children_of, evaluations, rest_of_stage, rest_open}
-use Rattle.strand_meaning.specs.Sound.{IsHalf, AreHalves, IsEndOf, IsInstanceOrLoop, IsSoundStage, IsSoundWork, IsTask}
-use Rattle.strand_meaning.specs.Left.{event_stops, item_stops, at_wait, at_end, stage_stops, work_stops, stops_of, stops_left}
+use Rattle.strand_meaning.specs.Sound.{AreHalves, IsSoundStage, IsSoundWork, IsTask}
+use Rattle.strand_meaning.specs.Left.{item_stops, at_end, stage_stops, work_stops, stops_of, stops_left}
 use Rattle.strand_meaning.specs.Laws.{LeavesFewer, IsSoundStep}
 use Rattle.strand_meaning.proofs.Shown.{token_items, token_parts}
 use Rattle.strand_meaning.proofs.Taken.{shown_with, open-move, none-known}
@@ -251,7 +251,7 @@ module _ (t : Task) (is : IsTask t) (idle : t.waiting ≡ false) where
   begun-few child path halves (Gives v) = let h : at_end false ps ≤ 2 = end-few ps in omega arith
   begun-few child path halves (Stands m) =
       let h : item_stops (rest_open t.plan child path ps (Goes m)).items ≡ item_stops (rest_open t.plan child path [] (Goes m)).items =
-          ap (λ (r : Run Item Ending Value). item_stops r.items) (halves-rest t.plan child path ps halves (Stands m) ∙ sym (halves-rest t.plan child path [] tt (Stands m))) in omega arith
+      ap (λ (r : Run Item Ending Value). item_stops r.items) (halves-rest t.plan child path ps halves (Stands m) ∙ sym (halves-rest t.plan child path [] tt (Stands m))) in omega arith
 
   last-few : AreHalves ps → (o : Origin) → stops_of t.plan o false ps (begins_last t.plan o) ≤ 1 + work_stops t.plan o false [] (begins_last t.plan o)
   last-few halves (Instance function args path) =

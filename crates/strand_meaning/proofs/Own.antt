@@ -1,9 +1,7 @@
 -- What a move shows.
-use Rattle.std.proofs.Common.{◌≡◌, ℕ, zero, suc, ◌+◌, ◌-◌, Bool, true, false, nat_lt, List, [], ◌∷◌, ◌++◌, Option, Some, None, Result, Ok, Err, refl, sym, subst, append-nil, if◌then◌else◌, length}
-use Rattle.std.proofs.Common.{ℤ, pos, ◌-ℤ◌}
-use Rattle.dotmix.specs.Draws.{dotmix}
+use Rattle.std.proofs.Common.{ℕ, zero, suc, ◌+◌, Bool, true, false, nat_lt, List, [], ◌∷◌, ◌++◌, Option, Some, None, Result, Ok, Err, sym, subst, append-nil, if◌then◌else◌, length}
+use Rattle.std.proofs.Common.{ℤ, ◌-ℤ◌}
 use Rattle.script_grammar.specs.declared.tree.Name.{Name}
-use Rattle.script_grammar.specs.declared.tree.Expr.{Expr}
 use Rattle.script_grammar.specs.declared.tree.CallText.{CallText}
 use Rattle.script_grammar.specs.declared.tree.Function.{Function}
 use Rattle.script_grammar.specs.declared.tree.Right.{Right}
@@ -12,12 +10,12 @@ use Rattle.script_grammar.specs.declared.tree.Stmt.{Stmt, out-Stmt}
 use Rattle.script_grammar.specs.declared.tree.Act.{Act, out-Act}
 use Rattle.script_grammar.specs.declared.tree.Act.TheOpen as act
 use Rattle.script_grammar.specs.declared.tree.Act.TheOpen.{Act-F}
-use Rattle.serial_meaning.specs.Runs.{Run, done, stopped, happens, behind, goes_on, ◌then◌}
+use Rattle.serial_meaning.specs.Runs.{Run, done, goes_on, ◌then◌}
 use Rattle.serial_meaning.specs.Values.{value_of, values_of, slot_of, items_of, number, is_true, at_index}
 use Rattle.serial_meaning.specs.Functions.{number_of, function_at}
 use Rattle.serial_meaning.specs.Plan.{PlanView, functions_of}
-use Rattle.serial_meaning.specs.Exec.{State, Manner, strand, fault, given, paid_from, tested, has_room, fits_depth, filled, spawn, join, implied, activation, called, right_side, found, store, looped, does, count_of, set_scalar, set_array, bound}
-use Rattle.serial_meaning.specs.Open.{is_empty_loop, filler}
+use Rattle.serial_meaning.specs.Exec.{State, Manner, strand, given, paid_from, tested, has_room, fits_depth, spawn, join, implied, activation, called, right_side, found, looped, does, count_of}
+use Rattle.serial_meaning.specs.Open.{is_empty_loop}
 use Rattle.serial_meaning.proofs.Each.{Each, each-append}
 use Rattle.serial_meaning.specs.declared.value.Value.{Value}
 use Rattle.serial_meaning.specs.declared.event.FaultKind.{FaultKind}
@@ -26,7 +24,7 @@ use Rattle.serial_meaning.specs.declared.event.Event.{Event}
 use Rattle.serial_meaning.specs.declared.event.Event.TheVariants as event
 use Rattle.serial_meaning.specs.declared.origin.Origin.{Origin}
 use Rattle.serial_meaning.specs.declared.origin.Origin.TheVariants as origin
-use Rattle.strand_meaning.specs.Machine.{Place, Spawned, Looped, Half, Token, Told, Handed, Syncs, Loops, Halt, Faulted, Inside, loop_tokens, sync_tokens, handing, inside, place_of, Machine, Reached, state_of, spawns_in, value_run, statement_move, return_move, move_at, move}
+use Rattle.strand_meaning.specs.Machine.{Place, Spawned, Looped, Token, Told, Handed, Halt, loop_tokens, sync_tokens, handing, inside, place_of, Machine, state_of, spawns_in, value_run, return_move, move_at, move}
 use Rattle.strand_meaning.proofs.Finishing.{NotHalf}
 
 -- what holds of all lists of tokens that a move shows

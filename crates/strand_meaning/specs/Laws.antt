@@ -1,16 +1,14 @@
 -- Laws of tasks. Each is the contract of a function of the module `laws`.
-use Rattle.std.specs.Prelude.{◌≡◌, ◌<◌, ◌≤◌, ℕ, Bool, true, false, List, [], ◌∷◌, Result, Ok, Err, map, Contains}
+use Rattle.std.specs.Prelude.{◌≡◌, ◌<◌, ◌≤◌, true, false, Contains}
 use Rattle.serial_meaning.specs.Plan.{PlanView}
 use Rattle.serial_meaning.specs.Eval.{eval}
 use Rattle.serial_meaning.specs.Open.{faults}
-use Rattle.serial_meaning.specs.Laws.{IsOriginOf, EndsWithin}
+use Rattle.serial_meaning.specs.Laws.{IsOriginOf}
 use Rattle.serial_meaning.specs.Answer.{IsEval}
-use Rattle.serial_meaning.specs.declared.event.Event.{Event}
 use Rattle.serial_meaning.specs.declared.origin.Origin.{Origin}
 use Rattle.serial_meaning.specs.declared.answer.Outcome.{Outcome}
 use Rattle.serial_meaning.specs.declared.answer.Outcome.TheVariants as outcome
 use Rattle.strand_meaning.specs.Clear.{IsClearPlan}
-use Rattle.strand_meaning.specs.Pieces.{Part}
 use Rattle.strand_meaning.specs.Task.{Task, Stop, Spawn, Wait, End, Step, Passes, Stops, start, step, IsNext, on}
 use Rattle.strand_meaning.specs.Rest.{evaluations}
 use Rattle.strand_meaning.specs.Left.{stops_left}

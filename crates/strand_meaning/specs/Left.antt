@@ -1,11 +1,9 @@
 -- How many stops are left to a task, at most. It is a number of the open run of what remains: a sync is a wait, and a child is a spawn
 -- and, where it is a loop, a wait.
-use Rattle.std.specs.Prelude.{ℕ, ◌+◌, ◌-◌, Bool, true, false, List, [], ◌∷◌, Result, Ok, Err}
-use Rattle.serial_meaning.specs.Runs.{Run}
+use Rattle.std.specs.Prelude.{ℕ, ◌+◌, ◌-◌, Bool, true, false, List, [], ◌∷◌}
 use Rattle.serial_meaning.specs.Plan.{PlanView}
 use Rattle.serial_meaning.specs.Eval.{Evaluation, path_of}
-use Rattle.serial_meaning.specs.Open.{Item, Happened, Child, Ending}
-use Rattle.serial_meaning.specs.declared.value.Value.{Value}
+use Rattle.serial_meaning.specs.Open.{Item, Happened, Child}
 use Rattle.serial_meaning.specs.declared.event.Event.{Event}
 use Rattle.serial_meaning.specs.declared.event.Event.TheVariants as event
 use Rattle.serial_meaning.specs.declared.origin.Origin.{Origin}
