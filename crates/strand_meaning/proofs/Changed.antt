@@ -32,17 +32,9 @@ use Rattle.serial_meaning.specs.declared.origin.Origin.TheVariants as origin
 use Rattle.strand_meaning.specs.Clear.{names_in_all, names_in_right, target_names, touched}
 use Rattle.strand_meaning.specs.Machine.{Place, Spawned, Looped, Token, Told, Handed, Halt, Faulted, Inside, loop_tokens, sync_tokens, handing, inside, place_of, Activation, Machine, Reached, Stands, Gives, state_of, with_left, with_returning, with_scalar, back, spawns_in, calling, entered, reached, gives, value_run, statement_move, return_move, move_at, move}
 use Rattle.strand_meaning.specs.Task.{changed, changed_at}
+use Rattle.strand_meaning.specs.Laws.{on_reached, changed_run}
 use Rattle.strand_meaning.proofs.Shown.{changed-top, same-number}
 use Rattle.strand_meaning.proofs.Keeps.{Keep, Keeps, each-left, each-right, value-kept, values-kept, scalar-kept, room-kept, filled-kept}
-
-abbrev pub on_reached : (Machine → Machine) → Result Reached Fault → Result Reached Fault
-on_reached change (Ok (Stands m)) = Ok (Stands (change m))
-on_reached change (Ok (Gives v)) = Ok (Gives v)
-on_reached change (Err f) = Err f
-
--- a move's run, with what it leaves changed
-abbrev pub changed_run : (Machine → Machine) → Run Token Fault Reached → Run Token Fault Reached
-changed_run change r = record { items = r.items; ending = on_reached change r.ending }
 
 pub other-number : (n k : ℕ) → n < k → nat_eq n k ≡ false
 other-number n k h = from (nat_eq n k) refl

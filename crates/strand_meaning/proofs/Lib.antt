@@ -19,4 +19,5 @@ pub mod Starts
 pub mod Steps
 pub mod Stops
 pub mod Taken
+pub mod TaskRuns
 pub mod Variables

@@ -34,11 +34,12 @@ use Rattle.serial_meaning.specs.declared.origin.Origin.TheVariants as origin
 use Rattle.strand_meaning.specs.Clear.{IsWithin, IsApart, IsClear, Simple, Branches, Turns, IsSimple, touched, pending_right, pending_after, target_names, IsClearPlan}
 use Rattle.strand_meaning.specs.Machine.{Place, Spawned, Looped, Half, Token, Told, Halt, loop_tokens, sync_tokens, handing, inside, place_of, Activation, Machine, Reached, Stands, Gives, state_of, with_left, with_returning, with_scalar, back, spawns_in, calling, entered, reached, gives, value_run, statement_move, return_move, move_at, move}
 use Rattle.strand_meaning.specs.Pieces.{Part}
-use Rattle.strand_meaning.specs.Task.{Goes, AtSync, stage_after}
+use Rattle.strand_meaning.specs.Task.{changed, answered, Goes, AtSync, stage_after}
 use Rattle.strand_meaning.specs.Sound.{unfilled, is_by, any_by, IsSound, AreSound, IsPlace, ArePlaces, IsHalf, AreHalves, behind_sync, IsSoundStage}
 use Rattle.strand_meaning.proofs.Shown.{token_parts, same-number}
 use Rattle.strand_meaning.proofs.Keeps.{first-contained, later-contained}
-use Rattle.strand_meaning.proofs.Taken.{shape_of, IsFreePlace, AreFree}
+use Rattle.strand_meaning.specs.Laws.{changed_run}
+use Rattle.strand_meaning.proofs.Taken.{take-move, shape_of, IsFreePlace, AreFree}
 use Rattle.strand_meaning.proofs.Clears.{within-itself, none-contained, nothing-within, clear-within, clear-append, next-apart, unfilled-append, or-assoc, any-append, or-false, neither, none-unfilled, none-above, target-unfilled}
 
 clash : true ≡ false → ⊥
@@ -633,3 +634,18 @@ module _ (plan : PlanView) (path : List ℕ) (clear-plan : IsClearPlan plan) (pa
           by_returning : (b : Bool) → m.top.returning ≡ b → SoundEnd plan parts (return_move plan path m b).items (return_move plan path m b).ending
           by_returning false e = return-sound m h sound
           by_returning true e = value-sound m e sound
+
+free-of : (ps : List Part) (m : Machine) (p : Part) → AreFree ps (shape_of m) → Contains ps p → IsFreePlace (shape_of m) p.place
+free-of [] m p free c = absurd (omega (arith, c.1))
+free-of (q ∷ ps) m p free c = by_index c.0 c.1 c.2 (λ d. free-of ps m p free.1 d)
+  where
+    by_index : (i : ℕ) → i < length (q ∷ ps) → get_or (q ∷ ps) i p ≡ p → (Contains ps p → IsFreePlace (shape_of m) p.place) → IsFreePlace (shape_of m) p.place
+    by_index zero d e later = subst (λ (r : Part). IsFreePlace (shape_of m) r.place) e free.0
+    by_index (suc i) d e later = later (i, omega arith, e)
+
+-- An answer may be taken before a move or behind it.
+pub moves_leave_unfilled_alone : (plan : PlanView) (path : List ℕ) (parts : List Part) (m : Machine) (p : Part) (owner : ℕ) (target : Option Name) (ended : Result (List Value) Fault) →
+    IsSoundStage plan parts (Goes m) → Contains parts p → p.place ≡ Spawned owner target →
+    move plan path (changed owner (answered target ended) m) ≡ changed_run (changed owner (answered target ended)) (move plan path m)
+moves_leave_unfilled_alone plan path parts m p owner target ended sound c e =
+    take-move plan path (Spawned owner target) ended m (subst (IsFreePlace (shape_of m)) e (free-of parts m p (sound-free plan parts m sound) c))

@@ -20,7 +20,8 @@ use Rattle.strand_meaning.specs.Sound.{IsPlace, ArePlaces, is_by, any_by}
 use Rattle.strand_meaning.proofs.Shown.{token_items, token_parts, shown}
 use Rattle.strand_meaning.proofs.Keeps.{keeps-answer, keeps-nothing, first-contained}
 use Rattle.strand_meaning.proofs.Moves.{complete-move}
-use Rattle.strand_meaning.proofs.Changed.{on_reached, changed_run, length-changed, IsFree, altered-move}
+use Rattle.strand_meaning.specs.Laws.{on_reached, changed_run}
+use Rattle.strand_meaning.proofs.Changed.{length-changed, IsFree, altered-move}
 
 -- a machine that takes an answer
 abbrev pub take : Place → Result (List Value) Fault → Machine → Machine
@@ -100,7 +101,7 @@ module _ (plan : PlanView) (path : List ℕ) where
   }
 
   -- an answer taken before the move, or behind it
-  take-move : (place : Place) (ended : Result (List Value) Fault) (m : Machine) → IsFreePlace (shape_of m) place → move plan path (take place ended m) ≡ changed_run (take place ended) (move plan path m)
+  pub take-move : (place : Place) (ended : Result (List Value) Fault) (m : Machine) → IsFreePlace (shape_of m) place → move plan path (take place ended m) ≡ changed_run (take place ended) (move plan path m)
   take-move (Spawned owner target) (Ok vs) m free =
       altered-move plan path (with_answer target (first_of vs)) (λ known. known) owner m (free-answer owner target m free (first_of vs) (λ known. known))
   take-move (Spawned owner target) (Err f) m free =

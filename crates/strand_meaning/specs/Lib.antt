@@ -1,4 +1,5 @@
 pub mod Clear
+pub mod Examples
 pub mod Laws
 pub mod Left
 pub mod Machine
