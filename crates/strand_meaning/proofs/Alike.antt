@@ -1,19 +1,18 @@
 -- Parts that differ only in the events behind them.
-use Rattle.std.proofs.Common.{◌≡◌, ℕ, Bool, true, false, ◌||◌, List, [], ◌∷◌, ◌++◌, Option, Some, None, Result, Ok, Err, length, refl, sym, ap, ◌∙◌, append_assoc, append-nil, subst}
+use Rattle.std.proofs.Common.{◌≡◌, ℕ, ◌||◌, List, [], ◌∷◌, ◌++◌, Option, Ok, Err, length, refl, sym, ap, append_assoc, append-nil, subst}
 use Rattle.serial_meaning.specs.Plan.{PlanView}
 use Rattle.serial_meaning.specs.Names.{Names}
 use Rattle.serial_meaning.specs.Eval.{Evaluation}
 use Rattle.serial_meaning.specs.Open.{Own, Joined}
-use Rattle.serial_meaning.specs.declared.value.Value.{Value}
 use Rattle.serial_meaning.specs.declared.event.Event.{Event}
 use Rattle.serial_meaning.specs.declared.origin.Origin.{Origin}
 use Rattle.script_grammar.specs.declared.tree.Name.{Name}
 use Rattle.strand_meaning.specs.Clear.{IsApart, target_names}
-use Rattle.strand_meaning.specs.Machine.{Place, Token, Told, Handed, Syncs, Loops, Activation, Machine}
+use Rattle.strand_meaning.specs.Machine.{Place, Token, Told, Handed, Syncs, Loops, Activation}
 use Rattle.strand_meaning.specs.Pieces.{Part, Pieces, behind_last, tell, tell_at, hand, with_tokens}
 use Rattle.strand_meaning.specs.Task.{Stage, Goes, AtSync, AtLoop, Ended, takes, takes_all}
 use Rattle.strand_meaning.specs.Rest.{evaluations}
-use Rattle.strand_meaning.specs.Sound.{unfilled_by, unfilled, is_by, any_by, IsSound, AreSound, IsPlace, ArePlaces, IsHalf, AreHalves, IsSoundStage, IsPart, AreParts, FitsOrigin}
+use Rattle.strand_meaning.specs.Sound.{unfilled_by, unfilled, is_by, any_by, AreSound, ArePlaces, AreHalves, IsSoundStage, AreParts}
 use Rattle.strand_meaning.proofs.Shown.{token_parts}
 use Rattle.strand_meaning.proofs.SoundMoves.{sound-as}
 
@@ -84,9 +83,11 @@ alike-parts plan o (Next child place before after a) h = (record { known = h.0.k
 
 alike-below : (plan : PlanView) {ps qs : List Part} → Alike ps qs → (target : Option Name) (below : List Activation) → AreSound plan ps target below → AreSound plan qs target below
 alike-below plan a target [] s = tt
-alike-below plan {ps} {qs} a target (caller ∷ below) s =
-    (subst (λ (l : Names). IsApart (target_names target) l) (alike-unfilled (length below) a) s.0,
-    sound-as plan ps qs (length below) caller (alike-unfilled (length below) a) (alike-any (length below) a) s.1, alike-below plan a caller.target below s.2)
+alike-below plan {ps} {qs} a target (caller ∷ below) s = (
+  subst (λ (l : Names). IsApart (target_names target) l) (alike-unfilled (length below) a) s.0,
+  sound-as plan ps qs (length below) caller (alike-unfilled (length below) a) (alike-any (length below) a) s.1,
+  alike-below plan a caller.target below s.2,
+)
 
 pub alike-stage : (plan : PlanView) {ps qs : List Part} → Alike ps qs → (stage : Stage) → IsSoundStage plan ps stage → IsSoundStage plan qs stage
 alike-stage plan {ps} {qs} a (Goes m) s =

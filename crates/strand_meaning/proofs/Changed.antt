@@ -1,5 +1,5 @@
 -- A move neither reads nor writes an unfilled variable: a child's value may be put in before it or behind it.
-use Rattle.std.proofs.Common.{◌≡◌, ℕ, zero, suc, ◌+◌, ◌-◌, ◌<◌, ◌≤◌, Bool, true, false, nat_eq, nat_lt, List, [], ◌∷◌, ◌++◌, Option, Some, None, Result, Ok, Err, refl, sym, ap, ◌∙◌, if◌then◌else◌, length, arith, subst}
+use Rattle.std.proofs.Common.{◌≡◌, ℕ, zero, suc, ◌+◌, ◌-◌, ◌<◌, ◌≤◌, Bool, true, false, nat_eq, nat_lt, List, [], ◌∷◌, ◌++◌, Option, Some, None, Result, Ok, Err, refl, sym, ap, ◌∙◌, if◌then◌else◌, length, arith}
 use Rattle.std.proofs.Common.{ℤ, pos, ◌-ℤ◌}
 use Rattle.std.proofs.lemmas.Bool.{eqb-true, eq-eqb}
 use Rattle.dotmix.specs.Draws.{dotmix}
@@ -13,16 +13,16 @@ use Rattle.script_grammar.specs.declared.tree.Stmt.{Stmt, out-Stmt}
 use Rattle.script_grammar.specs.declared.tree.Act.{Act, out-Act}
 use Rattle.script_grammar.specs.declared.tree.Act.TheOpen as act
 use Rattle.script_grammar.specs.declared.tree.Act.TheOpen.{Act-F}
-use Rattle.serial_meaning.specs.Runs.{Run, done, stopped, happens, behind, ◌then◌}
+use Rattle.serial_meaning.specs.Runs.{Run, done, happens, ◌then◌}
 use Rattle.serial_meaning.specs.Names.{names_in}
 use Rattle.serial_meaning.specs.Values.{Env, value_of, values_of, slot_of, items_of, number, is_true, at_index}
 use Rattle.serial_meaning.specs.Functions.{number_of, function_at}
 use Rattle.serial_meaning.specs.Plan.{PlanView, functions_of}
-use Rattle.serial_meaning.specs.Exec.{State, Manner, strand, fault, given, paid_from, tested, has_room, fits_depth, filled, spawn, join, implied, activation, called, right_side, found, store, looped, does, count_of, with_slot, set_item, set_scalar, set_array, zeros, bound}
+use Rattle.serial_meaning.specs.Exec.{State, Manner, strand, given, paid_from, tested, has_room, fits_depth, filled, spawn, join, implied, activation, called, right_side, found, store, looped, does, count_of, with_slot, set_item, set_array, bound}
 use Rattle.serial_meaning.specs.Open.{is_empty_loop, filler}
 use Rattle.serial_meaning.specs.declared.value.Value.{Value}
 use Rattle.serial_meaning.specs.declared.value.Value.TheVariants.{Int}
-use Rattle.serial_meaning.specs.declared.environment.Slot.TheVariants.{Scalar, Array}
+use Rattle.serial_meaning.specs.declared.environment.Slot.TheVariants.{Array}
 use Rattle.serial_meaning.specs.declared.event.FaultKind.{FaultKind}
 use Rattle.serial_meaning.specs.declared.event.FaultKind.TheVariants.{Index, Depth, Calls, Budget}
 use Rattle.serial_meaning.specs.declared.event.Fault.{Fault}
@@ -30,19 +30,11 @@ use Rattle.serial_meaning.specs.declared.event.Event.TheVariants as event
 use Rattle.serial_meaning.specs.declared.origin.Origin.{Origin}
 use Rattle.serial_meaning.specs.declared.origin.Origin.TheVariants as origin
 use Rattle.strand_meaning.specs.Clear.{names_in_all, names_in_right, target_names, touched}
-use Rattle.strand_meaning.specs.Machine.{Place, Spawned, Looped, Token, Told, Handed, Syncs, Loops, Halt, Faulted, Inside, loop_tokens, sync_tokens, handing, inside, place_of, Activation, Machine, Reached, Stands, Gives, state_of, with_left, with_returning, with_scalar, back, spawns_in, calling, entered, reached, gives, act_run, return_run, value_run, statement_move, return_move, move_at, move}
+use Rattle.strand_meaning.specs.Machine.{Place, Spawned, Looped, Token, Told, Handed, Halt, Faulted, Inside, loop_tokens, sync_tokens, handing, inside, place_of, Activation, Machine, Reached, Stands, Gives, state_of, with_left, with_returning, with_scalar, back, spawns_in, calling, entered, reached, gives, value_run, statement_move, return_move, move_at, move}
 use Rattle.strand_meaning.specs.Task.{changed, changed_at}
+use Rattle.strand_meaning.specs.Laws.{on_reached, changed_run}
 use Rattle.strand_meaning.proofs.Shown.{changed-top, same-number}
 use Rattle.strand_meaning.proofs.Keeps.{Keep, Keeps, each-left, each-right, value-kept, values-kept, scalar-kept, room-kept, filled-kept}
-
-abbrev pub on_reached : (Machine → Machine) → Result Reached Fault → Result Reached Fault
-on_reached change (Ok (Stands m)) = Ok (Stands (change m))
-on_reached change (Ok (Gives v)) = Ok (Gives v)
-on_reached change (Err f) = Err f
-
--- a move's run, with what it leaves changed
-abbrev pub changed_run : (Machine → Machine) → Run Token Fault Reached → Run Token Fault Reached
-changed_run change r = record { items = r.items; ending = on_reached change r.ending }
 
 pub other-number : (n k : ℕ) → n < k → nat_eq n k ≡ false
 other-number n k h = from (nat_eq n k) refl

@@ -1,7 +1,6 @@
 -- Statements that touch no pending variable: with fewer pending, and one after another.
-use Rattle.std.proofs.Common.{◌≡◌, ℕ, zero, suc, ◌+◌, ◌<◌, ◌≤◌, Bool, true, false, ◌||◌, ◌⊎◌, nat_eq, List, [], ◌∷◌, ◌++◌, Option, Some, None, inl, inr, refl, sym, ap, ◌∙◌, if◌then◌else◌, length, get_or, append_assoc, arith, subst, map, rules}
+use Rattle.std.proofs.Common.{◌≡◌, ℕ, zero, suc, ◌<◌, Bool, true, false, ◌||◌, ◌⊎◌, nat_eq, List, [], ◌∷◌, ◌++◌, Option, inl, inr, refl, sym, ap, ◌∙◌, if◌then◌else◌, length, get_or, append_assoc, arith, subst}
 use Rattle.std.specs.Prelude.{Contains}
-use Rattle.std.proofs.Common.{append-nil}
 use Rattle.std.proofs.lemmas.List.Elements.{Contains-append_left, Contains-append_right, Contains-append_cases}
 use Rattle.script_grammar.specs.declared.tree.Name.{Name}
 use Rattle.script_grammar.specs.declared.tree.Right.{Right}
@@ -11,11 +10,11 @@ use Rattle.script_grammar.specs.declared.tree.Act.{Act, out-Act}
 use Rattle.script_grammar.specs.declared.tree.Act.TheOpen as act
 use Rattle.script_grammar.specs.declared.tree.Act.TheOpen.{Act-F}
 use Rattle.serial_meaning.specs.Names.{Names}
-use Rattle.strand_meaning.specs.Clear.{IsWithin, IsApart, IsClear, Nothing, Simple, Branches, Turns, IsSimple, touched, pending_right, pending_after, target_names}
+use Rattle.strand_meaning.specs.Clear.{IsWithin, IsApart, IsClear, Nothing, Simple, Branches, Turns, touched, pending_right, pending_after, target_names}
 use Rattle.strand_meaning.specs.Machine.{Place, Spawned, Looped, Half}
 use Rattle.strand_meaning.specs.Pieces.{Part}
 use Rattle.strand_meaning.specs.Sound.{unfilled_by, unfilled, is_by, any_by, IsPlace, ArePlaces}
-use Rattle.strand_meaning.proofs.Keeps.{first-contained, later-contained}
+use Rattle.strand_meaning.proofs.Keeps.{later-contained}
 use Rattle.strand_meaning.proofs.Shown.{same-number}
 use Rattle.strand_meaning.proofs.Changed.{other-number}
 

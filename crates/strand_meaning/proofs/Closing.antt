@@ -1,11 +1,11 @@
 -- An open run with its children's evaluations in their places.
-use Rattle.std.proofs.Common.{◌≡◌, ℕ, zero, suc, ◌-◌, Bool, true, List, [], ◌∷◌, ◌++◌, Option, Some, None, Result, Ok, Err, refl, sym, ap, ◌∙◌, append_assoc, append-nil}
+use Rattle.std.proofs.Common.{◌≡◌, ℕ, zero, suc, List, [], ◌∷◌, ◌++◌, Option, Some, None, Result, Ok, Err, refl, sym, ap, ◌∙◌}
 use Rattle.serial_meaning.specs.Runs.{Run, done, behind, goes_on, ◌then◌}
 use Rattle.serial_meaning.specs.Plan.{PlanView}
-use Rattle.serial_meaning.specs.Eval.{Evaluation, path_of, eval_with, eval_at, eval, depth_left}
-use Rattle.serial_meaning.specs.Open.{Item, Happened, Child, Ending, Own, Joined, node_with, node_at, opened, is_empty_loop}
+use Rattle.serial_meaning.specs.Eval.{Evaluation, eval_with, eval_at, eval, depth_left}
+use Rattle.serial_meaning.specs.Open.{Item, Happened, Child, Ending, Own, Joined, node_with, node_at, opened}
 use Rattle.serial_meaning.proofs.RunLaws.{goes_on-behind, then-then}
-use Rattle.serial_meaning.proofs.Cut.{Piece, Matches, cut, child_first, in_front}
+use Rattle.serial_meaning.proofs.Cut.{Matches, cut, child_first}
 use Rattle.serial_meaning.proofs.Sim.{node-cuts, empty_left}
 use Rattle.serial_meaning.specs.declared.value.Value.{Value}
 use Rattle.serial_meaning.specs.declared.event.Fault.{Fault}

@@ -1,17 +1,15 @@
 -- How deep the children of an origin of the plan stand: their evaluations are those that their parent takes.
-use Rattle.std.proofs.Common.{◌≡◌, ℕ, zero, suc, ◌+◌, ◌-◌, ◌<◌, ◌≤◌, Bool, true, false, List, [], ◌∷◌, ◌++◌, Option, Some, None, Result, Ok, Err, length, length-append, map, slice_index_or, nat_lt, if◌then◌else◌, refl, sym, ap, ◌∙◌, subst, arith, ◌⊎◌, inl, inr}
+use Rattle.std.proofs.Common.{◌≡◌, ℕ, zero, suc, ◌+◌, ◌-◌, ◌<◌, ◌≤◌, Bool, true, false, List, [], ◌∷◌, ◌++◌, Option, Some, None, length, length-append, map, slice_index_or, nat_lt, if◌then◌else◌, refl, sym, ap, ◌∙◌, arith, ◌⊎◌, inl, inr}
 use Rattle.std.proofs.Common.{ℤ}
 use Rattle.std.specs.Prelude.{Contains}
 use Rattle.std.proofs.lemmas.Bool.Decides.{nat_tests}
-use Rattle.std.proofs.lemmas.List.Elements.{Contains-append_left, Contains-append_right, Contains-append_cases}
-use Rattle.loop_range.specs.Range.{Range}
-use Rattle.serial_meaning.specs.Laws.{IsOriginOf, Main, ChildOf, PartOf, EndsWithin}
+use Rattle.serial_meaning.specs.Laws.{IsOriginOf, Main, ChildOf, PartOf}
 use Rattle.serial_meaning.specs.Runs.{done}
 use Rattle.serial_meaning.specs.Functions.{function_at}
 use Rattle.serial_meaning.specs.Plan.{PlanView, functions_of}
 use Rattle.serial_meaning.specs.Exec.{State, strand, fits_depth}
-use Rattle.serial_meaning.specs.Eval.{Evaluation, iteration, path_of, eval_at, eval, depth_left}
-use Rattle.serial_meaning.specs.Open.{Item, Happened, Child, Ending, put_off_all, joined, loop_end, is_zero, iterations, gathered, node_with, node_at, opened, own_fault, faults_of, faults_at, faults}
+use Rattle.serial_meaning.specs.Eval.{Evaluation, path_of, eval_at, eval, depth_left}
+use Rattle.serial_meaning.specs.Open.{Item, Happened, Child, Ending, put_off_all, joined, loop_end, is_zero, iterations, node_with, node_at, opened}
 use Rattle.serial_meaning.proofs.Each.{Each, each-contained, Parts, instance-each}
 use Rattle.serial_meaning.proofs.Children.{ChildrenRise, node-spread}
 use Rattle.serial_meaning.specs.declared.value.Value.{Value}
@@ -124,7 +122,6 @@ node-child-path plan (suc left) o c k = let s = node-spread plan (eval_at plan l
 pub fits-longer : (plan : PlanView) (c : Origin) (n : ℕ) → Fits plan c → length (path_of c) ≡ n + 1 → plan.limits.depth - n ≡ suc (depth_left plan c)
 fits-longer plan (Instance function args path) n h e = omega arith
 fits-longer plan (Loop function rest first path range) n h e = omega arith
-
 
 -- Origins of the plan
 

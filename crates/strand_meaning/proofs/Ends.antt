@@ -1,14 +1,13 @@
 -- What a task comes to by one step is sound.
 use Rattle.std.proofs.Common.{◌≡◌, ℕ, zero, suc, ◌+◌, ◌-◌, ◌<◌, ◌≤◌, Bool, true, false, List, [], ◌∷◌, ◌++◌, Option, Some, None, Result, Ok, Err, inl, inr, ◌⊎◌, length, refl, sym, ap, ◌∙◌, append_assoc, append-nil, subst, arith}
-use Rattle.std.proofs.Common.{ℤ, pos, ◌+ℤ◌}
-use Rattle.std.specs.Prelude.{Contains}
-use Rattle.loop_range.specs.Range.{Range, lower_half, upper_half, middle}
-use Rattle.serial_meaning.specs.Runs.{Run, done, stopped, behind, goes_on, ◌then◌}
+use Rattle.std.proofs.Common.{ℤ}
+use Rattle.loop_range.specs.Range.{Range, lower_half, upper_half}
+use Rattle.serial_meaning.specs.Runs.{Run, done, ◌then◌}
 use Rattle.serial_meaning.specs.Plan.{PlanView}
-use Rattle.serial_meaning.specs.Eval.{Evaluation, iteration, path_of, turns, eval, depth_left}
+use Rattle.serial_meaning.specs.Eval.{Evaluation, iteration, path_of, turns, eval}
 use Rattle.serial_meaning.specs.Open.{Item, Ending, Own, Joined, opened, faults}
 use Rattle.serial_meaning.specs.Laws.{IsOriginOf, EndsWithin}
-use Rattle.serial_meaning.specs.Answer.{IsEval, outcome_of}
+use Rattle.serial_meaning.specs.Answer.{outcome_of}
 use Rattle.serial_meaning.proofs.RunLaws.{then-then, then-same}
 use Rattle.serial_meaning.proofs.Origins.{origins_end_within_faults}
 use Rattle.serial_meaning.specs.declared.value.Value.{Value}
@@ -19,16 +18,16 @@ use Rattle.serial_meaning.specs.declared.origin.Origin.TheVariants.{Instance, Lo
 use Rattle.serial_meaning.specs.declared.answer.Outcome.{Outcome}
 use Rattle.serial_meaning.specs.declared.answer.Outcome.TheVariants as outcome
 use Rattle.strand_meaning.specs.Clear.{IsClearPlan}
-use Rattle.strand_meaning.specs.Machine.{Place, Spawned, Looped, Half, Machine, Reached, begun}
+use Rattle.strand_meaning.specs.Machine.{Place, Spawned, Looped, Half, begun}
 use Rattle.strand_meaning.specs.Pieces.{Part, Pieces, hand}
-use Rattle.strand_meaning.specs.Task.{Stage, Goes, AtSync, AtLoop, Ended, Work, Splits, Runs, Over, Task, begun_stage, begun_work, start, own_instance, Step, Passes, Stops, Stop, Spawn, Wait, End, waits, ends, ends_unless, faults_behind, gave, stage_step, first_half, begins_last, split_step, over_step, work_step, step, more_values}
-use Rattle.strand_meaning.specs.Rest.{children_of, rest_of_stage, rest_open, closed, told_end, told_run, parts_run, turns_left, all_with, work_run, finish}
-use Rattle.strand_meaning.specs.Sound.{IsHalf, AreHalves, IsSoundStage, IsSoFar, IsEndOf, IsLoop, IsLongLoop, FitsOrigin, IsPart, AreParts, IsInstanceOrLoop, IsSoundWork, IsTask}
-use Rattle.strand_meaning.specs.Laws.{IsFaultOf, IsSoundStop, IsSoundStep}
+use Rattle.strand_meaning.specs.Task.{Stage, Goes, AtSync, AtLoop, Ended, Work, Splits, Runs, Over, Task, begun_stage, start, own_instance, Stops, Spawn, waits, ends, ends_unless, faults_behind, gave, stage_step, first_half, begins_last, split_step, over_step, work_step, step}
+use Rattle.strand_meaning.specs.Rest.{children_of, rest_of_stage, rest_open, closed, told_run, parts_run, turns_left, all_with, work_run, finish}
+use Rattle.strand_meaning.specs.Sound.{IsHalf, AreHalves, IsSoundStage, IsSoFar, IsEndOf, IsLoop, IsLongLoop, FitsOrigin, AreParts, IsInstanceOrLoop, IsSoundWork, IsTask}
+use Rattle.strand_meaning.specs.Laws.{IsFaultOf, IsSoundStep}
 use Rattle.strand_meaning.proofs.Steps.{so_far-same, parts-append, ended-rest, halves-places, sound-going}
 use Rattle.strand_meaning.proofs.Starts.{begun-whole, begun-sound, halves-rest}
 use Rattle.strand_meaning.proofs.Closing.{closed-then, eval-closed}
-use Rattle.strand_meaning.proofs.Finishing.{so_far, hand-so_far}
+use Rattle.strand_meaning.proofs.Finishing.{hand-so_far}
 use Rattle.strand_meaning.proofs.Depth.{loop-of-plan}
 use Rattle.strand_meaning.proofs.Loops.{then-done, eval-loop, halves-turns, own-of-plan, part-of-loop}
 
@@ -263,13 +262,16 @@ module _ (t : Task) (is : IsTask t) where
 
     -- the lower half of it is handed out
     half-left : left.lo + 2 ≤ left.hi → IsSoundStep t (Stops (Spawn (first_half t.origin left) (record t { pieces = hand (first_half t.origin left) Half t.pieces; work = Splits (upper_half left); advanced = true })))
-    half-left h = (subst (IsOriginOf t.plan) (sym half-is) known-half, record {
-      finishes = finishes;
-      known = is.known;
-      clear = is.clear;
-      parts = parts-append t.plan t.origin ps _ is.parts (record { known = subst (IsOriginOf t.plan) (sym half-is) known-half; fits = subst IsLongLoop (sym loop) long; same = inl tt }, tt);
-      work = (subst (λ (o : Origin). IsEndOf o (upper_half left)) (sym loop) upper, more ps halves);
-    })
+    half-left h = (
+      subst (IsOriginOf t.plan) (sym half-is) known-half,
+      record {
+        finishes = finishes;
+        known = is.known;
+        clear = is.clear;
+        parts = parts-append t.plan t.origin ps _ is.parts (record { known = subst (IsOriginOf t.plan) (sym half-is) known-half; fits = subst IsLongLoop (sym loop) long; same = inl tt }, tt);
+        work = (subst (λ (o : Origin). IsEndOf o (upper_half left)) (sym loop) upper, more ps halves);
+      },
+    )
       where
         half : Origin
         half = Loop function rest first path (lower_half left)
@@ -347,7 +349,7 @@ tasks_begin plan (Instance function args path) known clear =
     let kids = children_of plan o in
     let rest : Run Item Ending Value = rest_of_stage plan kids path (begun_stage (begun plan function args)) in
     let whole : opened plan o ≡ (rest_open plan kids path [] (begun_stage (begun plan function args)) then λ v. done (v ∷ [])) =
-        begun-whole plan function args path ∙ ap (λ (r : Run Item Ending Value). r then λ v. done (v ∷ [])) (sym (halves-rest plan kids path [] tt (begun plan function args))) in
+    begun-whole plan function args path ∙ ap (λ (r : Run Item Ending Value). r then λ v. done (v ∷ [])) (sym (halves-rest plan kids path [] tt (begun plan function args))) in
     record {
       finishes = sym (eval-closed plan o ∙ ap (closed kids) whole ∙ closed-then kids (rest_open plan kids path [] (begun_stage (begun plan function args))) (λ v. v ∷ []));
       known = known;

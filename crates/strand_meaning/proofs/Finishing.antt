@@ -1,6 +1,6 @@
 -- What a task gives in the end, where a move shows something more.
-use Rattle.std.proofs.Common.{◌≡◌, Bool, true, false, List, [], ◌∷◌, ◌++◌, Option, Some, None, Result, Ok, Err, refl, sym, ap, ◌∙◌, append_assoc, append-nil}
-use Rattle.serial_meaning.specs.Runs.{Run, done, behind, goes_on, ◌then◌}
+use Rattle.std.proofs.Common.{◌≡◌, List, [], ◌∷◌, ◌++◌, Option, Some, None, Ok, refl, sym, ap, ◌∙◌, append_assoc, append-nil}
+use Rattle.serial_meaning.specs.Runs.{Run, done, behind, ◌then◌}
 use Rattle.serial_meaning.specs.Eval.{Evaluation}
 use Rattle.serial_meaning.specs.Open.{Item, Ending}
 use Rattle.serial_meaning.proofs.RunLaws.{then-then, then-same}

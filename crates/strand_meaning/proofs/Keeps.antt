@@ -1,6 +1,6 @@
 -- Changes of variables that a statement doesn't touch.
-use Rattle.std.proofs.Common.{◌≡◌, ℕ, zero, suc, ◌+◌, ◌<◌, List, [], ◌∷◌, ◌++◌, Option, Some, None, Result, Ok, Err, refl, sym, ap, ◌∙◌, length, arith}
-use Rattle.std.specs.Prelude.{All, Contains}
+use Rattle.std.proofs.Common.{◌≡◌, ℕ, suc, List, [], ◌∷◌, ◌++◌, Option, Some, None, Result, Ok, refl, ap, ◌∙◌, arith}
+use Rattle.std.specs.Prelude.{Contains}
 use Rattle.script_grammar.specs.declared.tree.Name.{Name}
 use Rattle.script_grammar.specs.declared.tree.Expr.{Expr}
 use Rattle.serial_meaning.specs.Runs.{◌>>=◌}
@@ -14,7 +14,7 @@ use Rattle.serial_meaning.specs.declared.environment.Slot.{Slot}
 use Rattle.serial_meaning.specs.declared.environment.Slot.TheVariants.{Scalar, Array}
 use Rattle.strand_meaning.specs.Clear.{IsApart, names_in_all, target_names}
 use Rattle.strand_meaning.specs.Machine.{with_scalar}
-use Rattle.strand_meaning.specs.Task.{replaced, with_answer}
+use Rattle.strand_meaning.specs.Task.{with_answer}
 use Rattle.strand_meaning.proofs.Variables.{slot-replaced, with-replaced}
 
 -- What a change of variables leaves alone: a variable is read as before, and set before or after.

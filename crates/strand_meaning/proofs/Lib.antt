@@ -6,6 +6,7 @@ pub mod Comes
 pub mod Depth
 pub mod Ends
 pub mod Falls
+pub mod Fewer
 pub mod Finishing
 pub mod Keeps
 pub mod Loops
@@ -18,4 +19,5 @@ pub mod Starts
 pub mod Steps
 pub mod Stops
 pub mod Taken
+pub mod TaskRuns
 pub mod Variables

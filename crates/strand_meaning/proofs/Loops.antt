@@ -1,22 +1,20 @@
 -- Parts of loops.
-use Rattle.std.proofs.Common.{◌≡◌, ℕ, zero, suc, ◌+◌, ◌-◌, ◌/◌, ◌<◌, ◌≤◌, Bool, true, false, List, [], ◌∷◌, ◌++◌, Option, Some, None, Result, Ok, Err, length, map, refl, sym, ap, ◌∙◌, append_assoc, append-nil, subst, arith}
+use Rattle.std.proofs.Common.{◌≡◌, ℕ, zero, suc, ◌+◌, ◌-◌, ◌<◌, ◌≤◌, List, ◌++◌, Result, Ok, Err, length, map, refl, sym, ap, ◌∙◌, append_assoc, append-nil, subst, arith}
 use Rattle.std.proofs.Common.{ℤ}
 use Rattle.std.specs.Prelude.{Contains}
 use Rattle.loop_range.specs.Range.{Range, middle, lower_half, upper_half}
-use Rattle.serial_meaning.specs.Runs.{Run, done, behind, goes_on, ◌then◌}
+use Rattle.serial_meaning.specs.Runs.{Run, done, goes_on, ◌then◌}
 use Rattle.serial_meaning.specs.Plan.{PlanView}
-use Rattle.serial_meaning.specs.Eval.{Evaluation, iteration, path_of, turns, eval_with, eval_at, eval, depth_left}
+use Rattle.serial_meaning.specs.Eval.{Evaluation, iteration, path_of, turns, eval_at, eval, depth_left}
 use Rattle.serial_meaning.specs.Open.{Item, Child, iterations, opened, node_at}
 use Rattle.serial_meaning.specs.Laws.{IsOriginOf, Main, ChildOf, PartOf}
 use Rattle.serial_meaning.proofs.RunLaws.{then-then, then-same}
 use Rattle.serial_meaning.specs.declared.value.Value.{Value}
-use Rattle.serial_meaning.specs.declared.event.Fault.{Fault}
-use Rattle.serial_meaning.specs.declared.event.Event.{Event}
 use Rattle.serial_meaning.specs.declared.origin.Origin.{Origin}
 use Rattle.serial_meaning.specs.declared.origin.Origin.TheVariants.{Instance, Loop}
 use Rattle.strand_meaning.specs.Task.{own_instance}
 use Rattle.strand_meaning.specs.Sound.{IsInstanceOrLoop}
-use Rattle.strand_meaning.proofs.Depth.{LoopFits, loop-of-plan, fits-longer, longer}
+use Rattle.strand_meaning.proofs.Depth.{longer}
 use Rattle.strand_meaning.proofs.Keeps.{first-contained, later-contained}
 
 pub then-done : {I E A : Type 0} (r : Run I E A) → (r then λ a. done a) ≡ r
@@ -145,10 +143,10 @@ part-of-loop plan function rest first path range part o (PartOf parent f r g p w
     let path-is : p ≡ path = ap path_of e in
     let range-is : range' ≡ range = ap (range_in range') e in
     let there : Contains (opened plan parent).items (Child (Loop function rest first path whole)) =
-        subst (λ n. Contains (opened plan parent).items (Child (Loop n rest first path whole))) function-is
-        (subst (λ l. Contains (opened plan parent).items (Child (Loop f l first path whole))) rest-is
-        (subst (λ n. Contains (opened plan parent).items (Child (Loop f r n path whole))) first-is
-        (subst (λ l. Contains (opened plan parent).items (Child (Loop f r g l whole))) path-is k))) in
+    subst (λ n. Contains (opened plan parent).items (Child (Loop n rest first path whole))) function-is
+    (subst (λ l. Contains (opened plan parent).items (Child (Loop f l first path whole))) rest-is
+    (subst (λ n. Contains (opened plan parent).items (Child (Loop f r n path whole))) first-is
+    (subst (λ l. Contains (opened plan parent).items (Child (Loop f r g l whole))) path-is k))) in
     PartOf parent function rest first path whole part h there (within_lo range-is) b (within_hi range-is)
   where
     within_lo : range' ≡ range → whole.lo ≤ part.lo

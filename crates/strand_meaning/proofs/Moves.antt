@@ -1,8 +1,7 @@
 -- A move of a machine whose children have all answered: it shows what the open tree passes, and leaves what remains of it.
-use Rattle.std.proofs.Common.{◌≡◌, ℕ, zero, suc, ◌+◌, ◌-◌, Bool, true, false, nat_eq, nat_lt, List, [], ◌∷◌, ◌++◌, Option, Some, None, Result, Ok, Err, refl, sym, ap, ◌∙◌, if◌then◌else◌, length, arith, subst}
+use Rattle.std.proofs.Common.{◌≡◌, ℕ, zero, suc, ◌+◌, ◌-◌, Bool, true, false, nat_lt, List, [], ◌∷◌, ◌++◌, Option, Some, None, Result, Ok, Err, refl, sym, ap, ◌∙◌, if◌then◌else◌, length}
 use Rattle.std.proofs.Common.{ℤ, pos, ◌-ℤ◌}
 use Rattle.std.proofs.Math.Numerals.{add-one}
-use Rattle.dotmix.specs.Draws.{dotmix}
 use Rattle.script_grammar.specs.declared.tree.Name.{Name}
 use Rattle.script_grammar.specs.declared.tree.Expr.{Expr}
 use Rattle.script_grammar.specs.declared.tree.CallText.{CallText}
@@ -13,13 +12,13 @@ use Rattle.script_grammar.specs.declared.tree.Stmt.{Stmt, out-Stmt}
 use Rattle.script_grammar.specs.declared.tree.Act.{Act, out-Act}
 use Rattle.script_grammar.specs.declared.tree.Act.TheOpen as act
 use Rattle.script_grammar.specs.declared.tree.Act.TheOpen.{Act-F}
-use Rattle.serial_meaning.specs.Runs.{Run, done, stopped, happens, behind, goes_on, ◌then◌}
+use Rattle.serial_meaning.specs.Runs.{Run, done, happens, behind, ◌then◌}
 use Rattle.serial_meaning.specs.Values.{Env, value_of, values_of, slot_of, items_of, number, is_true, at_index}
-use Rattle.serial_meaning.specs.Functions.{number_of, function_at, any_spawns}
+use Rattle.serial_meaning.specs.Functions.{number_of, function_at}
 use Rattle.serial_meaning.specs.Plan.{PlanView, functions_of}
-use Rattle.serial_meaning.specs.Exec.{State, Manner, strand, fault, given, paid, paid_from, tested, has_room, fits_depth, filled, spawn, join, implied, activation, called, right_side, found, store, looped, does, statement, exec, count_of, set_scalar, set_array, bound}
+use Rattle.serial_meaning.specs.Exec.{State, Manner, strand, fault, given, paid_from, tested, has_room, fits_depth, filled, spawn, join, implied, activation, called, right_side, found, store, looped, does, statement, exec, count_of, bound}
 use Rattle.serial_meaning.specs.Eval.{Evaluation, first_of}
-use Rattle.serial_meaning.specs.Open.{Item, Happened, Child, Ending, Own, Joined, put_off, put_off_all, joined, loop_end, is_empty_loop, filler, least}
+use Rattle.serial_meaning.specs.Open.{Item, Happened, Child, Ending, put_off, put_off_all, joined, loop_end, is_empty_loop, filler}
 use Rattle.serial_meaning.proofs.RunLaws.{then-then}
 use Rattle.serial_meaning.proofs.ExecLaws.{exec-cons, exec-nil, exec-append, exec-turn}
 use Rattle.serial_meaning.specs.declared.value.Value.{Value}
@@ -32,9 +31,8 @@ use Rattle.serial_meaning.specs.declared.event.Event.{Event}
 use Rattle.serial_meaning.specs.declared.event.Event.TheVariants as event
 use Rattle.serial_meaning.specs.declared.origin.Origin.{Origin}
 use Rattle.serial_meaning.specs.declared.origin.Origin.TheVariants as origin
-use Rattle.strand_meaning.specs.Machine.{Place, Spawned, Looped, Half, Token, Told, Handed, Syncs, Loops, Halt, Faulted, Inside, loop_tokens, sync_tokens, handing, inside, place_of, Activation, Machine, Reached, Stands, Gives, state_of, with_left, with_returning, with_scalar, back, spawns_in, calling, entered, reached, gives, act_run, return_run, value_run, statement_move, return_move, move_at, move}
-use Rattle.strand_meaning.specs.Pieces.{Part}
-use Rattle.strand_meaning.specs.Task.{Stage, Goes, AtSync, AtLoop, Ended, stage_after, changed, answered, takes, resumed, joins, replaced, with_answer, with_values}
+use Rattle.strand_meaning.specs.Machine.{Place, Spawned, Looped, Token, Told, Halt, loop_tokens, sync_tokens, handing, inside, place_of, Activation, Machine, state_of, with_left, with_returning, with_scalar, back, spawns_in, calling, entered, reached, gives, act_run, value_run, move}
+use Rattle.strand_meaning.specs.Task.{Goes, AtLoop, stage_after, answered, takes, resumed, joins, with_answer}
 use Rattle.strand_meaning.specs.Rest.{valued, closes, remains, caller_state, remains_below, open_state, rest_of_machine, rest_of_stage, rest_open}
 use Rattle.strand_meaning.proofs.Shown.{token_items, token_parts, shown, changed-top}
 use Rattle.strand_meaning.proofs.Variables.{replaced-with, filled-later}
@@ -62,7 +60,7 @@ module _ (plan : PlanView) (child : Origin → Evaluation) (path : List ℕ) whe
   later m left s = remains plan child path (left_of m left).top (length m.below) s then remains_below plan child path m.below m.top.target
 
   module _ (m : Machine) (on : State Bool → Machine) (into : List Stmt → State Bool → Machine) (go : State (Option Fault) → Run Item Ending Value)
-    (same : (s : State Bool) → go (opens m.top.faulted s) ≡ rest_of_machine plan child path (on s)) where
+      (same : (s : State Bool) → go (opens m.top.faulted s) ≡ rest_of_machine plan child path (on s)) where
     -- the open run q and then go, is what the run r of the machine shows and leaves
     abbrev pub Shows : Run Token Halt (State Bool) → Run Item Ending (State (Option Fault)) → Type 0
     Shows r q = (q then go) ≡ behind (token_items r.items) (shown plan child path r.items (reached plan on into r.ending))

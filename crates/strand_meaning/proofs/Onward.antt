@@ -1,30 +1,25 @@
 -- A task that takes its children's evaluations as their answers.
-use Rattle.std.proofs.Common.{◌≡◌, ℕ, zero, suc, ◌≤◌, Bool, true, false, ◌||◌, nat_eq, List, [], ◌∷◌, ◌++◌, Option, Some, None, Result, Ok, Err, inl, inr, ◌⊎◌, length, refl, sym, ap, ◌∙◌, append_assoc, subst, if◌then◌else◌}
-use Rattle.std.specs.Prelude.{Contains}
+use Rattle.std.proofs.Common.{◌≡◌, ℕ, Bool, true, false, ◌||◌, nat_eq, List, [], ◌∷◌, ◌++◌, Option, Some, None, Result, Ok, Err, inl, inr, ◌⊎◌, length, refl, sym, ap, ◌∙◌, append_assoc, subst, if◌then◌else◌}
 use Rattle.std.proofs.lemmas.List.Elements.{Contains-append_right}
 use Rattle.script_grammar.specs.declared.tree.Name.{Name}
 use Rattle.serial_meaning.specs.Runs.{Run, done, behind, goes_on, ◌then◌}
 use Rattle.serial_meaning.specs.Plan.{PlanView}
-use Rattle.serial_meaning.specs.Names.{Names}
-use Rattle.serial_meaning.specs.Exec.{filled}
 use Rattle.serial_meaning.specs.Eval.{Evaluation, path_of, eval}
-use Rattle.serial_meaning.specs.Open.{Item, Ending, Own, Joined, opened}
-use Rattle.serial_meaning.proofs.RunLaws.{then-then}
+use Rattle.serial_meaning.specs.Open.{Item, Ending, Own, Joined}
 use Rattle.serial_meaning.specs.declared.value.Value.{Value}
 use Rattle.serial_meaning.specs.declared.event.Fault.{Fault}
 use Rattle.serial_meaning.specs.declared.event.Event.{Event}
 use Rattle.serial_meaning.specs.declared.origin.Origin.{Origin}
-use Rattle.strand_meaning.specs.Clear.{IsWithin, IsApart, IsClear, target_names}
+use Rattle.strand_meaning.specs.Clear.{IsWithin, IsApart, target_names}
 use Rattle.strand_meaning.specs.Machine.{Place, Spawned, Looped, Half, Activation, Machine}
 use Rattle.strand_meaning.specs.Pieces.{Part, Pieces, heard_unless, heard, heard_all}
-use Rattle.strand_meaning.specs.Task.{Stage, Goes, AtSync, AtLoop, Ended, Work, Splits, Runs, Over, Task, own_instance, changed, changed_at, answered, in_machine, with_values, takes, takes_all, joins, resumed, resumed_work, more_values, all_values, on}
+use Rattle.strand_meaning.specs.Task.{Stage, Goes, AtSync, AtLoop, Ended, Work, Splits, Runs, Over, Task, own_instance, changed, changed_at, answered, takes, takes_all, joins, resumed, resumed_work, more_values, all_values, on}
 use Rattle.strand_meaning.specs.Rest.{children_of, evaluations, rest_of_stage, rest_open, closed, told_end, told_run, parts_run, all_with, work_run, finish}
-use Rattle.strand_meaning.specs.Sound.{unfilled_by, unfilled, is_by, any_by, IsSound, AreSound, IsPlace, ArePlaces, IsHalf, AreHalves, behind_sync, IsSoundStage, IsSoFar, IsPart, AreParts, IsSoundWork, IsTask}
+use Rattle.strand_meaning.specs.Sound.{unfilled_by, unfilled, is_by, any_by, IsSound, AreSound, IsPlace, ArePlaces, IsHalf, behind_sync, IsSoundStage, AreParts, IsSoundWork, IsTask}
 use Rattle.strand_meaning.proofs.Closing.{behind-then}
 use Rattle.strand_meaning.proofs.Changed.{length-changed}
-use Rattle.strand_meaning.proofs.Clears.{clear-within, or-assoc}
+use Rattle.strand_meaning.proofs.Clears.{clear-within}
 use Rattle.strand_meaning.proofs.Steps.{so_far-same}
-use Rattle.strand_meaning.proofs.Finishing.{so_far}
 
 clash : true ≡ false → ⊥
 clash h = absurd (cc)
@@ -294,7 +289,7 @@ module _ (t : Task) (is : IsTask t) where
   taken_stage stage = resumed (takes_all ps answers stage)
 
   -- nothing more is taken
-  rest-same : (stage : Stage) → rest_open t.plan kids (path_of own) ps stage ≡ rest_open t.plan kids (path_of own) [] (taken_stage stage)
+  pub rest-same : (stage : Stage) → rest_open t.plan kids (path_of own) ps stage ≡ rest_open t.plan kids (path_of own) [] (taken_stage stage)
   rest-same stage =
       ap (λ (s : Stage). rest_of_stage t.plan kids (path_of own) s) (ap resumed (takes-same t.plan t.origin ps is.parts stage) ∙ sym (resumed-twice (takes_all ps answers stage)))
 
@@ -310,7 +305,7 @@ module _ (t : Task) (is : IsTask t) where
   work-sound (Over v true) s = (s.0, refl)
   work-sound (Over v false) s = (s.0, refl)
 
-  none-handed : pieces-on.handed ≡ []
+  pub none-handed : pieces-on.handed ≡ []
   none-handed = heard-none (eval t.plan) ps (record t.pieces { handed = [] }) refl
 
   finishes : finish (on answers t) ≡ eval t.plan t.origin

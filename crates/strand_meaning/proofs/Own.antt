@@ -1,9 +1,7 @@
--- The children that a move hands out are an instance's.
-use Rattle.std.proofs.Common.{◌≡◌, ℕ, zero, suc, ◌+◌, ◌-◌, Bool, true, false, nat_lt, List, [], ◌∷◌, ◌++◌, Option, Some, None, Result, Ok, Err, refl, if◌then◌else◌, length}
-use Rattle.std.proofs.Common.{ℤ, pos, ◌-ℤ◌}
-use Rattle.dotmix.specs.Draws.{dotmix}
+-- What a move shows.
+use Rattle.std.proofs.Common.{ℕ, zero, suc, ◌+◌, Bool, true, false, nat_lt, List, [], ◌∷◌, ◌++◌, Option, Some, None, Result, Ok, Err, sym, subst, append-nil, if◌then◌else◌, length}
+use Rattle.std.proofs.Common.{ℤ, ◌-ℤ◌}
 use Rattle.script_grammar.specs.declared.tree.Name.{Name}
-use Rattle.script_grammar.specs.declared.tree.Expr.{Expr}
 use Rattle.script_grammar.specs.declared.tree.CallText.{CallText}
 use Rattle.script_grammar.specs.declared.tree.Function.{Function}
 use Rattle.script_grammar.specs.declared.tree.Right.{Right}
@@ -12,13 +10,13 @@ use Rattle.script_grammar.specs.declared.tree.Stmt.{Stmt, out-Stmt}
 use Rattle.script_grammar.specs.declared.tree.Act.{Act, out-Act}
 use Rattle.script_grammar.specs.declared.tree.Act.TheOpen as act
 use Rattle.script_grammar.specs.declared.tree.Act.TheOpen.{Act-F}
-use Rattle.serial_meaning.specs.Runs.{Run, done, stopped, happens, behind, ◌then◌}
+use Rattle.serial_meaning.specs.Runs.{Run, done, goes_on, ◌then◌}
 use Rattle.serial_meaning.specs.Values.{value_of, values_of, slot_of, items_of, number, is_true, at_index}
 use Rattle.serial_meaning.specs.Functions.{number_of, function_at}
 use Rattle.serial_meaning.specs.Plan.{PlanView, functions_of}
-use Rattle.serial_meaning.specs.Exec.{State, Manner, strand, fault, given, paid_from, tested, has_room, fits_depth, filled, spawn, join, implied, activation, called, right_side, found, store, looped, does, count_of, set_scalar, set_array, bound}
-use Rattle.serial_meaning.specs.Open.{is_empty_loop, filler}
-use Rattle.serial_meaning.proofs.Each.{Each, each-then, each-append}
+use Rattle.serial_meaning.specs.Exec.{State, Manner, strand, given, paid_from, tested, has_room, fits_depth, spawn, join, implied, activation, called, right_side, found, looped, does, count_of}
+use Rattle.serial_meaning.specs.Open.{is_empty_loop}
+use Rattle.serial_meaning.proofs.Each.{Each, each-append}
 use Rattle.serial_meaning.specs.declared.value.Value.{Value}
 use Rattle.serial_meaning.specs.declared.event.FaultKind.{FaultKind}
 use Rattle.serial_meaning.specs.declared.event.FaultKind.TheVariants.{Index, Depth, Calls, Budget}
@@ -26,61 +24,71 @@ use Rattle.serial_meaning.specs.declared.event.Event.{Event}
 use Rattle.serial_meaning.specs.declared.event.Event.TheVariants as event
 use Rattle.serial_meaning.specs.declared.origin.Origin.{Origin}
 use Rattle.serial_meaning.specs.declared.origin.Origin.TheVariants as origin
-use Rattle.strand_meaning.specs.Machine.{Place, Spawned, Looped, Half, Token, Told, Handed, Syncs, Loops, Halt, Faulted, Inside, loop_tokens, sync_tokens, handing, inside, place_of, Machine, Reached, state_of, spawns_in, value_run, statement_move, return_move, move_at, move}
+use Rattle.strand_meaning.specs.Machine.{Place, Spawned, Looped, Token, Told, Handed, Halt, loop_tokens, sync_tokens, handing, inside, place_of, Machine, state_of, spawns_in, value_run, return_move, move_at, move}
 use Rattle.strand_meaning.proofs.Finishing.{NotHalf}
 
-module _ (plan : PlanView) (path : List ℕ) where
+-- what holds of all lists of tokens that a move shows
+pub record TokenRules (P : List Token → Type 0) : Type 0 where
+  pub none : P []
+  pub more : (xs ys : List Token) → P xs → P ys → P (xs ++ ys)
+  pub told : (e : Event) → P (Told e ∷ [])
+  pub spawned : (e : Event) (o : Origin) (height : ℕ) (target : Option Name) → P (Told e ∷ Handed o (Spawned height target) ∷ [])
+  pub synced : (j : List ℕ) (b : Bool) → P (Told (event.Sync j) ∷ sync_tokens b)
+  pub looped : (e : Event) (o : Origin) (target : Option Name) (b : Bool) → P (Told e ∷ loop_tokens b o (Looped target))
+
+module _ (P : List Token → Type 0) (rules : TokenRules P) (plan : PlanView) (path : List ℕ) where
   abbrev Owns : {A : Type 0} → Run Token Halt A → Type 0
-  Owns r = Each NotHalf r.items
+  Owns r = P r.items
 
   abbrev what : Place → Manner Token Halt Bool
   what place = handing plan place
 
   owns-then : {A B : Type 0} (r : Run Token Halt A) (f : A → Run Token Halt B) → Owns r → ((a : A) → Owns (f a)) → Owns (r then f)
-  owns-then r f h k = each-then NotHalf r f h k
+  owns-then {A = A} {B = B} r f h k = from r.ending
+    where
+      from : (e : Result A Halt) → P (goes_on r.items e f).items
+      from (Ok a) = rules.more r.items (f a).items h (k a)
+      from (Err e) = h
 
   owns-given : {A B : Type 0} (place : Place) (o : Result A FaultKind) (s : State Bool) (f : A → Run Token Halt B) → ((a : A) → Owns (f a)) → Owns (given (what place) plan path o s f)
   owns-given place (Ok a) s f h = h a
-  owns-given place (Err k) s f h = tt
+  owns-given place (Err k) s f h = rules.none
 
   owns-tested : {A : Type 0} (place : Place) (b : Bool) (k : FaultKind) (s : State Bool) (f : Run Token Halt A) → Owns f → Owns (tested (what place) plan path b k s f)
   owns-tested place true k s f h = h
-  owns-tested place false k s f h = tt
+  owns-tested place false k s f h = rules.none
 
   owns-paid : {A : Type 0} (place : Place) (n : ℕ) (s : State Bool) (f : State Bool → Run Token Halt A) → ((s : State Bool) → Owns (f s)) → Owns (paid_from (what place) plan path n s f)
-  owns-paid place zero s f h = tt
+  owns-paid place zero s f h = rules.none
   owns-paid place (suc n) s f h = h (record s { steps = n })
 
   owns-sync : (place : Place) (s : State Bool) → Owns (join (what place) plan path s)
-  owns-sync place s = (tt, each-append NotHalf (sync_tokens s.spawned) [] (tokens s.spawned) tt)
-    where
-      tokens : (b : Bool) → Each NotHalf (sync_tokens b)
-      tokens true = (tt, tt)
-      tokens false = tt
+  owns-sync place s = subst P (sym (append-nil (Told (event.Sync (strand path s)) ∷ sync_tokens s.spawned))) (rules.synced (strand path s) s.spawned)
 
   owns-spawn : (height : ℕ) (target : Option Name) (c : CallText) (s : State Bool) → Owns (spawn (what (Spawned height target)) plan path c s)
   owns-spawn height target c s =
-      owns-given (Spawned height target) (values_of c.args s.env) s _ (λ vs. owns-tested (Spawned height target) (nat_lt (length path + 1) plan.limits.depth) Depth s _ (tt, (tt, tt)))
+      owns-given (Spawned height target) (values_of c.args s.env) s _ (λ vs. owns-tested (Spawned height target) (nat_lt (length path + 1) plan.limits.depth) Depth s _ (rules.spawned _ _ height target))
 
   owns-called : (place : Place) (calls : ℕ) (c : CallText) (s : State Bool) → Owns (called (what place) plan path inside calls c s)
   owns-called place calls c s =
       owns-given place (values_of c.args s.env) s _ (λ vs. owns-tested place (nat_lt calls 256) Calls s _ (owns-then (activation (what place) plan path inside (calls + 1) (function_at (functions_of plan) (number_of (functions_of plan) c.name.bytes)) vs s) _
-      (by_function vs (function_at (functions_of plan) (number_of (functions_of plan) c.name.bytes))) (λ r. tt)))
+      (by_function vs (function_at (functions_of plan) (number_of (functions_of plan) c.name.bytes))) (λ r. rules.none)))
     where
       by_function : (vs : List Value) (o : Option Function) → Owns (activation (what place) plan path inside (calls + 1) o vs s)
-      by_function vs None = tt
-      by_function vs (Some f) = tt
+      by_function vs None = rules.none
+      by_function vs (Some f) = rules.none
 
   owns-right : (height : ℕ) (target : Option Name) (calls : ℕ) (r : Right) (s : State Bool) → Owns (right_side (what (Spawned height target)) plan path inside calls r s)
-  owns-right height target calls (right.Value e) s = owns-given (Spawned height target) (value_of e s.env) s _ (λ v. tt)
-  owns-right height target calls (right.Draw at) s = (tt, tt)
-  owns-right height target calls (right.New at) s = (tt, tt)
+  owns-right height target calls (right.Value e) s = owns-given (Spawned height target) (value_of e s.env) s _ (λ v. rules.none)
+  owns-right height target calls (right.Draw at) s = rules.told _
+  owns-right height target calls (right.New at) s = rules.told _
   owns-right height target calls (right.Call at c) s = owns-called (Spawned height target) calls c s
   owns-right height target calls (right.Spawn at c) s = owns-spawn height target c s
 
   owns-loop : (target : Option Name) (c : CallText) (lo : ℤ) (hi : ℕ) (vs : List Value) (s : State Bool) → Owns (looped (what (Looped target)) plan path lo hi vs target c s)
   owns-loop target c lo hi vs s =
-      owns-tested place (nat_lt hi (s.steps + 1)) Budget s _ (owns-tested place (has_room target hi s.env) Index _ _ (owns-tested place (fits_depth (what place) plan path hi) Depth _ _ (tt, each-append NotHalf (loop_tokens (is_empty_loop o) o place) [] (by_size (is_empty_loop o)) tt)))
+      owns-tested place (nat_lt hi (s.steps + 1)) Budget s _ (owns-tested place (has_room target hi s.env) Index _ _ (owns-tested place (fits_depth (what place) plan path hi) Depth _ _
+      (subst P (sym (append-nil (Told e ∷ loop_tokens (is_empty_loop o) o place))) (rules.looped e o target (is_empty_loop o)))))
     where
       place : Place
       place = Looped target
@@ -88,49 +96,70 @@ module _ (plan : PlanView) (path : List ℕ) where
       o : Origin
       o = origin.Loop (number_of (functions_of plan) c.name.bytes) vs lo (path ++ s.rank ∷ []) (record { lo = 0; hi = hi })
 
-      by_size : (b : Bool) → Each NotHalf (loop_tokens b o place)
-      by_size true = tt
-      by_size false = (tt, (tt, tt))
+      e : Event
+      e = event.Loop (path ++ s.rank ∷ [])
 
   owns-does : (height : ℕ) (st : Stmt) (a : Act-F Act Stmt) (s : State Bool) → Owns (does (what (place_of height a)) plan path inside height st a s)
-  owns-does height st (act.Let x r) s = owns-then (right_side (what (Spawned height (Some x))) plan path inside height r s) _ (owns-right height (Some x) height r s) (λ p. tt)
-  owns-does height st (act.Array x n) s = tt
-  owns-does height st (act.Set x r) s = owns-then (right_side (what (Spawned height (Some x))) plan path inside height r s) _ (owns-right height (Some x) height r s) (λ p. tt)
+  owns-does height st (act.Let x r) s = owns-then (right_side (what (Spawned height (Some x))) plan path inside height r s) _ (owns-right height (Some x) height r s) (λ p. rules.none)
+  owns-does height st (act.Array x n) s = rules.none
+  owns-does height st (act.Set x r) s = owns-then (right_side (what (Spawned height (Some x))) plan path inside height r s) _ (owns-right height (Some x) height r s) (λ p. rules.none)
   owns-does height st (act.Store x i e) s =
-      owns-given (Spawned height None) (value_of i s.env) s _ (λ k. by_item (at_index (items_of (slot_of s.env x.bytes)) (number k)) _ (owns-given (Spawned height None) (value_of e s.env) s _ (λ v. tt)))
+      owns-given (Spawned height None) (value_of i s.env) s _ (λ k. by_item (at_index (items_of (slot_of s.env x.bytes)) (number k)) _ (owns-given (Spawned height None) (value_of e s.env) s _ (λ v. rules.none)))
     where
       by_item : (o : Option ℤ) (r : Run Token Halt (State Bool)) → Owns r → Owns (found (what (Spawned height None)) plan path o s r)
-      by_item None r h = tt
+      by_item None r h = rules.none
       by_item (Some old) r h = h
-  owns-does height st (act.Spawn c) s = owns-then (spawn (what (Spawned height None)) plan path c s) _ (owns-spawn height None c s) (λ p. tt)
-  owns-does height st (act.Call c) s = owns-then (called (what (Spawned height None)) plan path inside height c s) _ (owns-called (Spawned height None) height c s) (λ p. tt)
+  owns-does height st (act.Spawn c) s = owns-then (spawn (what (Spawned height None)) plan path c s) _ (owns-spawn height None c s) (λ p. rules.none)
+  owns-does height st (act.Call c) s = owns-then (called (what (Spawned height None)) plan path inside height c s) _ (owns-called (Spawned height None) height c s) (λ p. rules.none)
   owns-does height st act.Sync s = owns-sync (Spawned height None) s
-  owns-does height st (act.Print e) s = owns-given (Spawned height None) (value_of e s.env) s _ (λ v. (tt, tt))
-  owns-does height st (act.If e a b) s = owns-given (Spawned height None) (value_of e s.env) s _ (λ v. tt)
+  owns-does height st (act.Print e) s = owns-given (Spawned height None) (value_of e s.env) s _ (λ v. rules.told _)
+  owns-does height st (act.If e a b) s = owns-given (Spawned height None) (value_of e s.env) s _ (λ v. rules.none)
   owns-does height st (act.While e a) s = owns-given (Spawned height None) (value_of e s.env) s _ (λ v. by_test (is_true v))
     where
       by_test : (t : Bool) → Owns (if t then (inside height a s then inside height (st ∷ [])) else done s)
-      by_test true = tt
-      by_test false = tt
+      by_test true = rules.none
+      by_test false = rules.none
   owns-does height st (act.Pfor x lo hi target c) s =
       owns-given (Looped target) (value_of lo s.env) s _ (λ l. owns-given (Looped target) (value_of hi s.env) s _ (λ h. owns-given (Looped target) (values_of c.args s.env) s _
       (λ vs. owns-loop target c (number l) (count_of (number h -ℤ number l)) vs s)))
 
-  pub own-move : (m : Machine) → Each NotHalf (move plan path m).items
-  own-move m = by_left m.top.left
+  pub tokens-move : (m : Machine) → P (move plan path m).items
+  tokens-move m = by_left m.top.left
     where
-      by_returning : (b : Bool) → Each NotHalf (return_move plan path m b).items
+      by_returning : (b : Bool) → P (return_move plan path m b).items
       by_returning false = owns-paid (Spawned (length m.below) None) m.steps (state_of m) _ (λ s. by_text (spawns_in (function_at (functions_of plan) m.top.function)) s)
         where
           by_text : (b : Bool) (s : State Bool) → Owns (implied (what (Spawned (length m.below) None)) plan path b s)
           by_text true s = owns-sync (Spawned (length m.below) None) s
-          by_text false s = tt
+          by_text false s = rules.none
       by_returning true = by_function (function_at (functions_of plan) m.top.function)
         where
           by_function : (o : Option Function) → Owns (value_run plan path o m)
-          by_function None = tt
-          by_function (Some f) = owns-given (Spawned (length m.below) None) (value_of f.result m.top.env) (state_of m) _ (λ v. tt)
+          by_function None = rules.none
+          by_function (Some f) = owns-given (Spawned (length m.below) None) (value_of f.result m.top.env) (state_of m) _ (λ v. rules.none)
 
-      by_left : (left : List Stmt) → Each NotHalf (move_at plan path m left).items
+      by_left : (left : List Stmt) → P (move_at plan path m left).items
       by_left [] = by_returning m.top.returning
       by_left (st ∷ left) = owns-paid (place_of (length m.below) (out-Act (out-Stmt st).act)) m.steps (state_of m) _ (λ s. owns-does (length m.below) st (out-Act (out-Stmt st).act) s)
+
+-- The children that a move hands out are an instance's.
+not-half : TokenRules (Each NotHalf)
+not-half = record {
+  none = tt;
+  more = each-append NotHalf;
+  told = λ e. (tt, tt);
+  spawned = λ e o height target. (tt, (tt, tt));
+  synced = λ j b. (tt, at_sync b);
+  looped = λ e o target b. (tt, at_loop o target b);
+}
+  where
+    at_sync : (b : Bool) → Each NotHalf (sync_tokens b)
+    at_sync true = (tt, tt)
+    at_sync false = tt
+
+    at_loop : (o : Origin) (target : Option Name) (b : Bool) → Each NotHalf (loop_tokens b o (Looped target))
+    at_loop o target true = tt
+    at_loop o target false = (tt, (tt, tt))
+
+pub own-move : (plan : PlanView) (path : List ℕ) (m : Machine) → Each NotHalf (move plan path m).items
+own-move plan path m = tokens-move (Each NotHalf) not-half plan path m

@@ -1,5 +1,5 @@
 -- What a move shows, as items of the open tree.
-use Rattle.std.proofs.Common.{◌≡◌, ℕ, Bool, true, false, nat_eq, List, [], ◌∷◌, ◌++◌, Option, Some, None, Result, Ok, Err, refl, ap, if◌then◌else◌, length}
+use Rattle.std.proofs.Common.{◌≡◌, ℕ, true, nat_eq, List, [], ◌∷◌, Result, Ok, Err, refl, length}
 use Rattle.std.proofs.lemmas.Bool.{eq-eqb}
 use Rattle.serial_meaning.specs.Runs.{Run, done, stopped}
 use Rattle.serial_meaning.specs.Plan.{PlanView}

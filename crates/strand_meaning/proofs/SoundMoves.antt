@@ -1,5 +1,5 @@
 -- A move keeps what holds of the stage of an instance.
-use Rattle.std.proofs.Common.{◌≡◌, ℕ, zero, suc, ◌+◌, ◌-◌, ◌<◌, ◌≤◌, Bool, true, false, ◌||◌, ◌⊎◌, nat_eq, nat_lt, List, [], ◌∷◌, ◌++◌, Option, Some, None, Result, Ok, Err, inl, inr, refl, sym, ap, ◌∙◌, if◌then◌else◌, length, get_or, append-nil, arith, subst, map, slice_get}
+use Rattle.std.proofs.Common.{◌≡◌, ℕ, zero, suc, ◌+◌, ◌-◌, ◌<◌, ◌≤◌, Bool, true, false, ◌||◌, ◌⊎◌, nat_eq, nat_lt, List, [], ◌∷◌, ◌++◌, Option, Some, None, Result, Ok, Err, inl, inr, refl, sym, ap, ◌∙◌, if◌then◌else◌, length, get_or, append-nil, arith, subst, slice_get}
 use Rattle.std.proofs.Common.{ℤ, pos, ◌-ℤ◌}
 use Rattle.std.specs.Prelude.{Contains}
 use Rattle.std.proofs.lemmas.Bool.{eqb-true, eq-eqb}
@@ -15,32 +15,31 @@ use Rattle.script_grammar.specs.declared.tree.Stmt.{Stmt, out-Stmt}
 use Rattle.script_grammar.specs.declared.tree.Act.{Act, out-Act, map-Act}
 use Rattle.script_grammar.specs.declared.tree.Act.TheOpen as act
 use Rattle.script_grammar.specs.declared.tree.Act.TheOpen.{Act-F}
-use Rattle.serial_meaning.specs.Runs.{Run, done, stopped, happens, behind, ◌then◌}
+use Rattle.serial_meaning.specs.Runs.{Run, done, happens, ◌then◌}
 use Rattle.serial_meaning.specs.Names.{Names}
 use Rattle.serial_meaning.specs.Values.{Env, value_of, values_of, slot_of, items_of, number, is_true, at_index}
 use Rattle.serial_meaning.specs.Functions.{number_of, function_at, act_spawns, spawns, any_spawns, any_true}
 use Rattle.serial_meaning.specs.Plan.{PlanView, functions_of}
-use Rattle.serial_meaning.specs.Exec.{State, Manner, strand, fault, given, paid_from, tested, has_room, fits_depth, filled, spawn, join, implied, activation, called, right_side, found, store, looped, does, count_of, set_scalar, set_array, bound}
-use Rattle.serial_meaning.specs.Open.{is_empty_loop, filler}
+use Rattle.serial_meaning.specs.Exec.{State, Manner, fault, given, paid_from, tested, has_room, fits_depth, filled, spawn, join, implied, activation, called, right_side, found, store, looped, does, count_of, bound}
+use Rattle.serial_meaning.specs.Open.{is_empty_loop}
 use Rattle.serial_meaning.proofs.Computing.{act_has_spawn, spawns-out}
 use Rattle.serial_meaning.specs.declared.value.Value.{Value}
 use Rattle.serial_meaning.specs.declared.value.Value.TheVariants.{Int}
 use Rattle.serial_meaning.specs.declared.event.FaultKind.{FaultKind}
 use Rattle.serial_meaning.specs.declared.event.FaultKind.TheVariants.{Index, Depth, Calls, Budget}
 use Rattle.serial_meaning.specs.declared.event.Fault.{Fault}
-use Rattle.serial_meaning.specs.declared.event.Event.{Event}
 use Rattle.serial_meaning.specs.declared.event.Event.TheVariants as event
 use Rattle.serial_meaning.specs.declared.origin.Origin.{Origin}
 use Rattle.serial_meaning.specs.declared.origin.Origin.TheVariants as origin
-use Rattle.strand_meaning.specs.Clear.{IsWithin, IsApart, IsClear, Nothing, Simple, Branches, Turns, IsSimple, touched, pending_right, pending_after, target_names, IsClearPlan}
-use Rattle.strand_meaning.specs.Machine.{Place, Spawned, Looped, Half, Token, Told, Handed, Syncs, Loops, Halt, Faulted, Inside, loop_tokens, sync_tokens, handing, inside, place_of, Activation, Machine, Reached, Stands, Gives, state_of, with_left, with_returning, with_scalar, back, spawns_in, calling, entered, reached, gives, act_run, return_run, value_run, statement_move, return_move, move_at, move}
+use Rattle.strand_meaning.specs.Clear.{IsWithin, IsApart, IsClear, Simple, Branches, Turns, IsSimple, touched, pending_right, pending_after, target_names, IsClearPlan}
+use Rattle.strand_meaning.specs.Machine.{Place, Spawned, Looped, Half, Token, Told, Halt, loop_tokens, sync_tokens, handing, inside, place_of, Activation, Machine, Reached, Stands, Gives, state_of, with_left, with_returning, with_scalar, back, spawns_in, calling, entered, reached, gives, value_run, statement_move, return_move, move_at, move}
 use Rattle.strand_meaning.specs.Pieces.{Part}
-use Rattle.strand_meaning.specs.Task.{Stage, Goes, AtSync, AtLoop, Ended, stage_after}
-use Rattle.strand_meaning.specs.Sound.{unfilled_by, unfilled, is_by, any_by, IsSound, AreSound, IsPlace, ArePlaces, IsHalf, AreHalves, behind_sync, IsSoundStage}
+use Rattle.strand_meaning.specs.Task.{changed, answered, Goes, AtSync, stage_after}
+use Rattle.strand_meaning.specs.Sound.{unfilled, is_by, any_by, IsSound, AreSound, IsPlace, ArePlaces, IsHalf, AreHalves, behind_sync, IsSoundStage}
 use Rattle.strand_meaning.proofs.Shown.{token_parts, same-number}
 use Rattle.strand_meaning.proofs.Keeps.{first-contained, later-contained}
-use Rattle.strand_meaning.proofs.Changed.{other-number}
-use Rattle.strand_meaning.proofs.Taken.{shape_of, IsFreePlace, AreFree}
+use Rattle.strand_meaning.specs.Laws.{changed_run}
+use Rattle.strand_meaning.proofs.Taken.{take-move, shape_of, IsFreePlace, AreFree}
 use Rattle.strand_meaning.proofs.Clears.{within-itself, none-contained, nothing-within, clear-within, clear-append, next-apart, unfilled-append, or-assoc, any-append, or-false, neither, none-unfilled, none-above, target-unfilled}
 
 clash : true ≡ false → ⊥
@@ -116,10 +115,11 @@ sound-more : (plan : PlanView) (ps qs : List Part) (height : ℕ) → ((j : ℕ)
     AreSound plan ps target below → AreSound plan (ps ++ qs) target below
 sound-more plan ps qs height none target [] h s = tt
 sound-more plan ps qs height none target (caller ∷ below) h s =
-    let n = none (length below) (omega arith) in
-    (subst (λ (l : Names). IsApart (target_names target) l) (same-unfilled (length below) ps qs n) s.0,
-    sound-as plan ps (ps ++ qs) (length below) caller (same-unfilled (length below) ps qs n) (same-any (length below) ps qs n) s.1,
-    sound-more plan ps qs height none caller.target below (omega arith) s.2)
+    let n = none (length below) (omega arith) in (
+      subst (λ (l : Names). IsApart (target_names target) l) (same-unfilled (length below) ps qs n) s.0,
+      sound-as plan ps (ps ++ qs) (length below) caller (same-unfilled (length below) ps qs n) (same-any (length below) ps qs n) s.1,
+      sound-more plan ps qs height none caller.target below (omega arith) s.2,
+    )
 
 places-more : (height : ℕ) (ps qs : List Part) → ArePlaces height ps → ArePlaces height qs → ArePlaces height (ps ++ qs)
 places-more height [] qs h k = k
@@ -280,14 +280,18 @@ module _ (plan : PlanView) (path : List ℕ) (clear-plan : IsClearPlan plan) (pa
             by_place (inr g) = Contains-append_left (target_names target) pending name (subst (λ (l : Names). Contains l name) own g)
 
         next : (vs : List Value) (env : Env) → IsSoundStage plan (parts ++ more vs) (Goes (with_left m left (record { env = env; rank = m.rank + 1; steps = n; spawned = true })))
-        next vs env = (places-more height parts (more vs) sound.0 (omega arith, tt), record {
-          clear = (ends, clear-within (unfilled height (parts ++ more vs)) (target_names target ++ pending) (within vs) clear);
-          spawned = λ e. refl;
-          faulted = λ e. absurd (clash e);
-          in_text = λ e. text;
-          left_in_text = text-more;
-          returning = λ e. absurd (not-returning e);
-        }, sound-more plan parts (more vs) height (none-lower vs) m.top.target m.below (omega arith) sound.2)
+        next vs env = (
+          places-more height parts (more vs) sound.0 (omega arith, tt),
+          record {
+            clear = (ends, clear-within (unfilled height (parts ++ more vs)) (target_names target ++ pending) (within vs) clear);
+            spawned = λ e. refl;
+            faulted = λ e. absurd (clash e);
+            in_text = λ e. text;
+            left_in_text = text-more;
+            returning = λ e. absurd (not-returning e);
+          },
+          sound-more plan parts (more vs) height (none-lower vs) m.top.target m.below (omega arith) sound.2,
+        )
 
         by_test : (vs : List Value) (b : Bool) → Fine (tested (what place) plan path b Depth (here n) (child_run vs) then λ p. done (sets target p))
         by_test vs true = next vs _
@@ -316,15 +320,18 @@ module _ (plan : PlanView) (path : List ℕ) (clear-plan : IsClearPlan plan) (pa
 
         callee : (f : Function) (vs : List Value) → function_at (functions_of plan) number ≡ Some f → IsSoundStage plan parts (Goes (calling plan target c left m f.body (begins f vs)))
         callee f vs e =
-            let clear-body = clear-plan f (contained-at (functions_of plan) number f e) in
-            (places-higher height parts sound.0, record {
-              clear = (clear-body.0, subst (λ (l : Names). IsClear l f.body clear-body.0) (sym (none-unfilled (suc height) parts none)) clear-body.1);
-              spawned = λ h. absurd (clash (sym h ∙ none));
-              faulted = λ h. refl;
-              in_text = λ h. absurd (clash (sym h));
-              left_in_text = λ h. ap spawns_in e ∙ h;
-              returning = λ h. absurd (clash (sym h));
-            }, (apart, top-sound left (state_of m) ends refl clear text-more, sound.2))
+            let clear-body = clear-plan f (contained-at (functions_of plan) number f e) in (
+              places-higher height parts sound.0,
+              record {
+                clear = (clear-body.0, subst (λ (l : Names). IsClear l f.body clear-body.0) (sym (none-unfilled (suc height) parts none)) clear-body.1);
+                spawned = λ h. absurd (clash (sym h ∙ none));
+                faulted = λ h. refl;
+                in_text = λ h. absurd (clash (sym h));
+                left_in_text = λ h. ap spawns_in e ∙ h;
+                returning = λ h. absurd (clash (sym h));
+              },
+              (apart, top-sound left (state_of m) ends refl clear text-more, sound.2),
+            )
 
         by_function : (vs : List Value) (o : Option Function) → function_at (functions_of plan) number ≡ o →
             Fine ((activation (what place) plan path inside (height + 1) o vs (here n) then λ r. done (r.0, record (here n) { rank = r.1.rank; steps = r.1.steps })) then λ p. done (sets target p))
@@ -419,9 +426,10 @@ module _ (plan : PlanView) (path : List ℕ) (clear-plan : IsClearPlan plan) (pa
 
         by_size : (b : Bool) → SoundEnd plan parts (Told (event.Loop (path ++ m.rank ∷ [])) ∷ (loop_tokens b o place ++ [])) (Ok (Stands (with_left m left next)))
         by_size true = going left next ends refl clear text-more
-        by_size false =
-            (sound-as plan parts (parts ++ more) height (with_left m left next).top (same-unfilled height parts more refl) (same-any height parts more refl) (top-sound left next ends refl clear text-more),
-            sound-more plan parts more height (λ j h. refl) m.top.target m.below (omega arith) sound.2)
+        by_size false = (
+          sound-as plan parts (parts ++ more) height (with_left m left next).top (same-unfilled height parts more refl) (same-any height parts more refl) (top-sound left next ends refl clear text-more),
+          sound-more plan parts more height (λ j h. refl) m.top.target m.below (omega arith) sound.2,
+        )
 
   first-within : (x : List ℕ) (names : Names) → IsApart (x ∷ names) pending → IsApart (x ∷ []) pending
   first-within x names apart name h g = apart name (Contains-append_left (x ∷ []) names name h) g
@@ -545,24 +553,32 @@ module _ (plan : PlanView) (path : List ℕ) (clear-plan : IsClearPlan plan) (pa
       finished r = SoundEnd plan parts r.items (reached plan (with_returning m) (λ inner s. m) r.ending)
 
       going : (s : State Bool) → s.spawned ≡ false → m.top.spawned ≡ false → IsSoundStage plan (parts ++ []) (Goes (with_returning m s))
-      going s h g = no-more (λ ps. IsSoundStage plan ps (Goes (with_returning m s))) (sound.0, record {
-        clear = sound.1.clear;
-        spawned = λ e. absurd (clash (sym (sound.1.spawned e) ∙ g));
-        faulted = λ e. sound.1.faulted g;
-        in_text = λ e. absurd (clash (sym e ∙ h));
-        left_in_text = sound.1.left_in_text;
-        returning = λ e. (h, ended);
-      }, sound.2)
+      going s h g = no-more (λ ps. IsSoundStage plan ps (Goes (with_returning m s))) (
+        sound.0,
+        record {
+          clear = sound.1.clear;
+          spawned = λ e. absurd (clash (sym (sound.1.spawned e) ∙ g));
+          faulted = λ e. sound.1.faulted g;
+          in_text = λ e. absurd (clash (sym e ∙ h));
+          left_in_text = sound.1.left_in_text;
+          returning = λ e. (h, ended);
+        },
+        sound.2,
+      )
 
       waiting : (s : State Bool) → s.spawned ≡ false → IsSoundStage plan (parts ++ []) (AtSync (with_returning m s))
-      waiting s h = no-more (λ ps. IsSoundStage plan ps (AtSync (with_returning m s))) (sound.0, record {
-        clear = (sound.1.clear.0, clear-within [] (unfilled (length m.below) parts) (nothing-within (unfilled (length m.below) parts)) sound.1.clear.1);
-        spawned = λ e. absurd (clash (sym e));
-        faulted = λ e. refl;
-        in_text = λ e. absurd (clash (sym e ∙ h));
-        left_in_text = sound.1.left_in_text;
-        returning = λ e. (h, ended);
-      }, sound.2)
+      waiting s h = no-more (λ ps. IsSoundStage plan ps (AtSync (with_returning m s))) (
+        sound.0,
+        record {
+          clear = (sound.1.clear.0, clear-within [] (unfilled (length m.below) parts) (nothing-within (unfilled (length m.below) parts)) sound.1.clear.1);
+          spawned = λ e. absurd (clash (sym e));
+          faulted = λ e. refl;
+          in_text = λ e. absurd (clash (sym e ∙ h));
+          left_in_text = sound.1.left_in_text;
+          returning = λ e. (h, ended);
+        },
+        sound.2,
+      )
 
       by_spawned : (n : ℕ) (b : Bool) → m.top.spawned ≡ b → SoundEnd plan parts (Told (event.Sync (path ++ m.rank ∷ [])) ∷ (sync_tokens b ++ [])) (Ok (Stands (with_returning m (record { env = m.top.env; rank = m.rank + 1; steps = n; spawned = false }))))
       by_spawned n true h = waiting (record { env = m.top.env; rank = m.rank + 1; steps = n; spawned = false }) refl
@@ -618,3 +634,18 @@ module _ (plan : PlanView) (path : List ℕ) (clear-plan : IsClearPlan plan) (pa
           by_returning : (b : Bool) → m.top.returning ≡ b → SoundEnd plan parts (return_move plan path m b).items (return_move plan path m b).ending
           by_returning false e = return-sound m h sound
           by_returning true e = value-sound m e sound
+
+free-of : (ps : List Part) (m : Machine) (p : Part) → AreFree ps (shape_of m) → Contains ps p → IsFreePlace (shape_of m) p.place
+free-of [] m p free c = absurd (omega (arith, c.1))
+free-of (q ∷ ps) m p free c = by_index c.0 c.1 c.2 (λ d. free-of ps m p free.1 d)
+  where
+    by_index : (i : ℕ) → i < length (q ∷ ps) → get_or (q ∷ ps) i p ≡ p → (Contains ps p → IsFreePlace (shape_of m) p.place) → IsFreePlace (shape_of m) p.place
+    by_index zero d e later = subst (λ (r : Part). IsFreePlace (shape_of m) r.place) e free.0
+    by_index (suc i) d e later = later (i, omega arith, e)
+
+-- An answer may be taken before a move or behind it.
+pub moves_leave_unfilled_alone : (plan : PlanView) (path : List ℕ) (parts : List Part) (m : Machine) (p : Part) (owner : ℕ) (target : Option Name) (ended : Result (List Value) Fault) →
+    IsSoundStage plan parts (Goes m) → Contains parts p → p.place ≡ Spawned owner target →
+    move plan path (changed owner (answered target ended) m) ≡ changed_run (changed owner (answered target ended)) (move plan path m)
+moves_leave_unfilled_alone plan path parts m p owner target ended sound c e =
+    take-move plan path (Spawned owner target) ended m (subst (IsFreePlace (shape_of m)) e (free-of parts m p (sound-free plan parts m sound) c))

@@ -1,29 +1,27 @@
 -- An instance before its first move.
-use Rattle.std.proofs.Common.{◌≡◌, ℕ, zero, suc, Bool, true, false, List, [], ◌∷◌, ◌++◌, Option, Some, None, Result, Ok, Err, inl, inr, ◌⊎◌, ◌||◌, refl, sym, ap, ◌∙◌, subst, arith}
+use Rattle.std.proofs.Common.{◌≡◌, ℕ, zero, suc, true, false, List, [], ◌∷◌, Option, Some, None, Ok, ◌||◌, refl, sym, ap, ◌∙◌, subst}
 use Rattle.std.proofs.Common.{pos}
 use Rattle.std.specs.Prelude.{Contains}
 use Rattle.std.proofs.lemmas.Option.{slice_get_within, get_or_from_slice_get}
 use Rattle.script_grammar.specs.declared.tree.Function.{Function}
-use Rattle.script_grammar.specs.declared.tree.Stmt.{Stmt}
-use Rattle.serial_meaning.specs.Runs.{Run, done, behind, ◌then◌}
+use Rattle.serial_meaning.specs.Runs.{Run, done, ◌then◌}
 use Rattle.serial_meaning.specs.Names.{Names}
-use Rattle.serial_meaning.specs.Functions.{function_at, any_spawns}
+use Rattle.serial_meaning.specs.Functions.{function_at}
 use Rattle.serial_meaning.specs.Plan.{PlanView, functions_of}
-use Rattle.serial_meaning.specs.Exec.{State, activation, instance, exec, returned, bound}
-use Rattle.serial_meaning.specs.Eval.{Evaluation, path_of, eval, depth_left}
+use Rattle.serial_meaning.specs.Exec.{State, instance, exec, bound}
+use Rattle.serial_meaning.specs.Eval.{Evaluation, depth_left}
 use Rattle.serial_meaning.specs.Open.{Item, Ending, put_off_all, node_with, node_at, opened}
-use Rattle.serial_meaning.proofs.RunLaws.{then-then}
 use Rattle.serial_meaning.specs.declared.value.Value.{Value}
 use Rattle.serial_meaning.specs.declared.value.Value.TheVariants.{Int}
 use Rattle.serial_meaning.specs.declared.event.Fault.{Fault}
 use Rattle.serial_meaning.specs.declared.origin.Origin.{Origin}
-use Rattle.serial_meaning.specs.declared.origin.Origin.TheVariants.{Instance, Loop}
+use Rattle.serial_meaning.specs.declared.origin.Origin.TheVariants.{Instance}
 use Rattle.strand_meaning.specs.Clear.{IsClear, IsClearPlan}
 use Rattle.strand_meaning.specs.Machine.{Place, Spawned, Looped, Half, Machine, Reached, Stands, Gives, spawns_in, begun}
 use Rattle.strand_meaning.specs.Pieces.{Part}
 use Rattle.strand_meaning.specs.Task.{Stage, Goes, Ended, begun_stage}
-use Rattle.strand_meaning.specs.Rest.{child_at, children_of, closes, rest_of_machine, rest_of_stage, rest_open}
-use Rattle.strand_meaning.specs.Sound.{unfilled, is_by, any_by, IsSound, ArePlaces, IsHalf, AreHalves, IsSoundStage}
+use Rattle.strand_meaning.specs.Rest.{child_at, children_of, closes, rest_of_stage, rest_open}
+use Rattle.strand_meaning.specs.Sound.{is_by, any_by, IsHalf, AreHalves, IsSoundStage}
 use Rattle.strand_meaning.proofs.Clears.{none-unfilled}
 use Rattle.strand_meaning.proofs.Steps.{halves-places}
 
@@ -97,15 +95,18 @@ begun-sound plan function args ps clear halves = by_function (function_at (funct
     sound : (f : Function) → function_at (functions_of plan) function ≡ Some f → IsSoundStage plan ps (Goes (machine f))
     sound f h =
         let there : Contains (functions_of plan) f = (function, slice_get_within (functions_of plan) function f h, get_or_from_slice_get (functions_of plan) function f f h) in
-        let body = clear f there in
-        (halves-places ps halves, record {
-          clear = (body.0, subst (λ (l : Names). IsClear l f.body body.0) (sym (none-unfilled 0 ps none)) body.1);
-          spawned = λ e. absurd (clash (sym e ∙ none));
-          faulted = λ e. refl;
-          in_text = λ e. absurd (clash (sym e));
-          left_in_text = λ e. ap spawns_in h ∙ e;
-          returning = λ e. absurd (clash (sym e));
-        }, tt)
+        let body = clear f there in (
+          halves-places ps halves,
+          record {
+            clear = (body.0, subst (λ (l : Names). IsClear l f.body body.0) (sym (none-unfilled 0 ps none)) body.1);
+            spawned = λ e. absurd (clash (sym e ∙ none));
+            faulted = λ e. refl;
+            in_text = λ e. absurd (clash (sym e));
+            left_in_text = λ e. ap spawns_in h ∙ e;
+            returning = λ e. absurd (clash (sym e));
+          },
+          tt,
+        )
 
     stage_of : Option Function → Stage
     stage_of (Some f) = Goes (machine f)

@@ -1,31 +1,28 @@
 -- A move of a task keeps its invariant.
-use Rattle.std.proofs.Common.{◌≡◌, ℕ, zero, suc, ◌+◌, ◌-◌, ◌<◌, ◌≤◌, Bool, true, false, List, [], ◌∷◌, ◌++◌, Option, Some, None, Result, Ok, Err, ◌⊎◌, inl, inr, length, map, refl, sym, ap, ◌∙◌, append_assoc, append-nil, subst, arith}
+use Rattle.std.proofs.Common.{◌≡◌, ℕ, List, [], ◌∷◌, ◌++◌, Option, Some, None, Result, Ok, Err, inr, length, refl, sym, ap, ◌∙◌, append_assoc, append-nil, subst}
 use Rattle.std.specs.Prelude.{Contains}
 use Rattle.std.proofs.lemmas.List.Elements.{Contains-append_left, Contains-append_right}
-use Rattle.loop_range.specs.Range.{Range}
-use Rattle.serial_meaning.specs.Runs.{Run, done, stopped, behind, goes_on, ◌then◌}
+use Rattle.serial_meaning.specs.Runs.{Run, done, stopped, behind, ◌then◌}
 use Rattle.serial_meaning.specs.Plan.{PlanView}
-use Rattle.serial_meaning.specs.Eval.{Evaluation, iteration, path_of, eval, depth_left}
-use Rattle.serial_meaning.specs.Open.{Item, Happened, Child, Ending, Own, Joined, iterations, opened, node_at}
+use Rattle.serial_meaning.specs.Eval.{Evaluation, path_of, eval}
+use Rattle.serial_meaning.specs.Open.{Item, Happened, Child, Ending, Own, opened}
 use Rattle.serial_meaning.specs.Laws.{IsOriginOf, ChildOf}
-use Rattle.serial_meaning.proofs.RunLaws.{then-then, then-same}
+use Rattle.serial_meaning.proofs.RunLaws.{then-same}
 use Rattle.serial_meaning.proofs.Each.{Each}
 use Rattle.serial_meaning.specs.declared.value.Value.{Value}
 use Rattle.serial_meaning.specs.declared.event.Fault.{Fault}
-use Rattle.serial_meaning.specs.declared.event.Event.{Event}
 use Rattle.serial_meaning.specs.declared.origin.Origin.{Origin}
-use Rattle.serial_meaning.specs.declared.origin.Origin.TheVariants.{Instance, Loop}
 use Rattle.strand_meaning.specs.Machine.{Place, Spawned, Looped, Half, Token, Told, Handed, Syncs, Loops, Machine, Reached, Stands, Gives, move}
 use Rattle.strand_meaning.specs.Pieces.{Part, Pieces, with_tokens}
-use Rattle.strand_meaning.specs.Task.{Stage, Goes, AtSync, AtLoop, Ended, Work, Splits, Runs, Over, Task, own_instance, Step, Passes, Stops, Stop, Spawn, stage_after, child_in, stops_at, passing, moved, takes_all, resumed, in_machine}
-use Rattle.strand_meaning.specs.Rest.{children_of, evaluations, rest_of_stage, rest_open, closed, parts_run, told_run, work_run, all_with, finish}
-use Rattle.strand_meaning.specs.Sound.{IsPlace, ArePlaces, IsHalf, AreHalves, IsSoundStage, IsSoFar, FitsOrigin, IsPart, AreParts, IsInstanceOrLoop, IsTask}
+use Rattle.strand_meaning.specs.Task.{Stage, Goes, Ended, Work, Runs, Task, own_instance, stage_after, child_in, stops_at, passing, moved, resumed}
+use Rattle.strand_meaning.specs.Rest.{children_of, rest_of_stage, rest_open, closed, parts_run, told_run, work_run, all_with, finish}
+use Rattle.strand_meaning.specs.Sound.{IsPlace, ArePlaces, IsHalf, AreHalves, IsSoundStage, IsSoFar, AreParts, IsInstanceOrLoop, IsTask}
 use Rattle.strand_meaning.specs.Laws.{IsSoundStep}
 use Rattle.strand_meaning.proofs.Shown.{token_items, token_parts}
-use Rattle.strand_meaning.proofs.Taken.{shape_of, taken, takes-taken, shown_with, open-move, none-known}
+use Rattle.strand_meaning.proofs.Taken.{takes-taken, shown_with, open-move, none-known}
 use Rattle.strand_meaning.proofs.SoundMoves.{sound-free, SoundEnd, sound-move}
-use Rattle.strand_meaning.proofs.Alike.{Alike, alike-itself, alike-tokens, alike-takes, alike-parts, alike-stage}
-use Rattle.strand_meaning.proofs.Depth.{LoopFits, loop-of-plan, same-answer}
+use Rattle.strand_meaning.proofs.Alike.{Alike, alike-tokens, alike-takes, alike-parts, alike-stage}
+use Rattle.strand_meaning.proofs.Depth.{loop-of-plan, same-answer}
 use Rattle.strand_meaning.proofs.Own.{own-move}
 use Rattle.strand_meaning.proofs.Closing.{behind-then}
 use Rattle.strand_meaning.proofs.Finishing.{NotHalf, so_far, played, tokens-so_far, SameChild, played-closed}

@@ -1,9 +1,9 @@
 -- A move of a machine, some of whose children's answers aren't taken yet.
-use Rattle.std.proofs.Common.{◌≡◌, ℕ, zero, suc, ◌+◌, ◌<◌, ◌≤◌, Bool, true, false, ◌||◌, nat_eq, List, [], ◌∷◌, ◌++◌, Option, Some, None, Result, Ok, Err, refl, sym, ap, ◌∙◌, if◌then◌else◌, length, arith, subst}
+use Rattle.std.proofs.Common.{◌≡◌, ℕ, suc, ◌≤◌, Bool, true, false, ◌||◌, nat_eq, List, [], ◌∷◌, ◌++◌, Option, Some, None, Result, Ok, Err, refl, sym, ap, ◌∙◌, if◌then◌else◌, length, subst}
 use Rattle.std.specs.Prelude.{Contains}
 use Rattle.script_grammar.specs.declared.tree.Name.{Name}
 use Rattle.script_grammar.specs.declared.tree.Stmt.{Stmt, out-Stmt}
-use Rattle.script_grammar.specs.declared.tree.Act.{Act, out-Act}
+use Rattle.script_grammar.specs.declared.tree.Act.{out-Act}
 use Rattle.serial_meaning.specs.Runs.{Run, done, stopped, behind}
 use Rattle.serial_meaning.specs.Plan.{PlanView}
 use Rattle.serial_meaning.specs.Eval.{Evaluation, first_of}
@@ -15,12 +15,13 @@ use Rattle.strand_meaning.specs.Clear.{IsApart, target_names, touched}
 use Rattle.strand_meaning.specs.Machine.{Place, Spawned, Looped, Half, Token, Told, Handed, Syncs, Loops, Activation, Machine, Reached, Stands, Gives, move}
 use Rattle.strand_meaning.specs.Pieces.{Part}
 use Rattle.strand_meaning.specs.Task.{Stage, Goes, AtSync, AtLoop, Ended, stage_after, changed, changed_at, answered, in_machine, takes, takes_all, resumed, with_answer}
-use Rattle.strand_meaning.specs.Rest.{evaluations, rest_of_machine, rest_of_stage, rest_open}
+use Rattle.strand_meaning.specs.Rest.{evaluations, rest_of_stage, rest_open}
 use Rattle.strand_meaning.specs.Sound.{IsPlace, ArePlaces, is_by, any_by}
-use Rattle.strand_meaning.proofs.Shown.{token_items, token_parts, shown, changed-top, same-number}
-use Rattle.strand_meaning.proofs.Keeps.{Keeps, keeps-answer, keeps-nothing, first-contained}
+use Rattle.strand_meaning.proofs.Shown.{token_items, token_parts, shown}
+use Rattle.strand_meaning.proofs.Keeps.{keeps-answer, keeps-nothing, first-contained}
 use Rattle.strand_meaning.proofs.Moves.{complete-move}
-use Rattle.strand_meaning.proofs.Changed.{on_reached, changed_run, altered, other-number, length-changed, IsFree, altered-move}
+use Rattle.strand_meaning.specs.Laws.{on_reached, changed_run}
+use Rattle.strand_meaning.proofs.Changed.{length-changed, IsFree, altered-move}
 
 -- a machine that takes an answer
 abbrev pub take : Place → Result (List Value) Fault → Machine → Machine
@@ -100,7 +101,7 @@ module _ (plan : PlanView) (path : List ℕ) where
   }
 
   -- an answer taken before the move, or behind it
-  take-move : (place : Place) (ended : Result (List Value) Fault) (m : Machine) → IsFreePlace (shape_of m) place → move plan path (take place ended m) ≡ changed_run (take place ended) (move plan path m)
+  pub take-move : (place : Place) (ended : Result (List Value) Fault) (m : Machine) → IsFreePlace (shape_of m) place → move plan path (take place ended m) ≡ changed_run (take place ended) (move plan path m)
   take-move (Spawned owner target) (Ok vs) m free =
       altered-move plan path (with_answer target (first_of vs)) (λ known. known) owner m (free-answer owner target m free (first_of vs) (λ known. known))
   take-move (Spawned owner target) (Err f) m free =

@@ -7,8 +7,7 @@ use Rattle.serial_meaning.specs.Values.{Env, slot_of, items_of}
 use Rattle.serial_meaning.specs.Exec.{with_slot, with_front, filled}
 use Rattle.serial_meaning.specs.declared.value.Value.{Value}
 use Rattle.serial_meaning.specs.declared.environment.Slot.{Slot}
-use Rattle.serial_meaning.specs.declared.environment.Slot.TheVariants.{Scalar, Array}
-use Rattle.serial_meaning.specs.declared.environment.Variable.{Variable}
+use Rattle.serial_meaning.specs.declared.environment.Slot.TheVariants.{Array}
 use Rattle.strand_meaning.specs.Task.{replaced}
 
 pub same-name : (x y : List _) → bytes_eq x y ≡ true → x ≡ y

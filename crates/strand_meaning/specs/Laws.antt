@@ -1,19 +1,24 @@
 -- Laws of tasks. Each is the contract of a function of the module `laws`.
-use Rattle.std.specs.Prelude.{◌≡◌, ℕ, Bool, true, List, [], ◌∷◌, Result, Ok, Err, map, Contains}
+use Rattle.std.specs.Prelude.{◌≡◌, ◌<◌, ◌≤◌, ℕ, true, false, List, Option, Result, Ok, Err, Contains}
+use Rattle.script_grammar.specs.declared.tree.Name.{Name}
+use Rattle.serial_meaning.specs.Runs.{Run}
 use Rattle.serial_meaning.specs.Plan.{PlanView}
 use Rattle.serial_meaning.specs.Eval.{eval}
 use Rattle.serial_meaning.specs.Open.{faults}
-use Rattle.serial_meaning.specs.Laws.{IsOriginOf, EndsWithin}
+use Rattle.serial_meaning.specs.Laws.{IsOriginOf}
 use Rattle.serial_meaning.specs.Answer.{IsEval}
-use Rattle.serial_meaning.specs.declared.event.Event.{Event}
+use Rattle.serial_meaning.specs.declared.value.Value.{Value}
+use Rattle.serial_meaning.specs.declared.event.Fault.{Fault}
 use Rattle.serial_meaning.specs.declared.origin.Origin.{Origin}
 use Rattle.serial_meaning.specs.declared.answer.Outcome.{Outcome}
 use Rattle.serial_meaning.specs.declared.answer.Outcome.TheVariants as outcome
 use Rattle.strand_meaning.specs.Clear.{IsClearPlan}
+use Rattle.strand_meaning.specs.Machine.{Spawned, Token, Machine, Reached, Stands, Gives, move}
 use Rattle.strand_meaning.specs.Pieces.{Part}
-use Rattle.strand_meaning.specs.Task.{Task, Stop, Spawn, Wait, End, Step, Passes, Stops, start, step, IsNext, on}
+use Rattle.strand_meaning.specs.Task.{Goes, changed, answered, Task, Stop, Spawn, Wait, End, Step, Passes, Stops, start, step, IsNext, on}
 use Rattle.strand_meaning.specs.Rest.{evaluations}
-use Rattle.strand_meaning.specs.Sound.{IsTask}
+use Rattle.strand_meaning.specs.Left.{stops_left}
+use Rattle.strand_meaning.specs.Sound.{IsSoundStage, IsTask}
 
 -- A task begins sound: of an origin of the plan, where no function touches a pending variable.
 abbrev pub TasksBegin : Type 0
@@ -46,6 +51,23 @@ StopsAreSound = (t : Task) (stop : Stop) → IsTask t → IsNext t stop → IsSo
 abbrev pub AnswersKeepTasks : Type 0
 AnswersKeepTasks = (t : Task) → IsTask t → IsTask (on (evaluations (eval t.plan) t.pieces.handed) t)
 
+abbrev pub on_reached : (Machine → Machine) → Result Reached Fault → Result Reached Fault
+on_reached change (Ok (Stands m)) = Ok (Stands (change m))
+on_reached change (Ok (Gives v)) = Ok (Gives v)
+on_reached change (Err f) = Err f
+
+-- a move's run, with what it leaves changed
+abbrev pub changed_run : (Machine → Machine) → Run Token Fault Reached → Run Token Fault Reached
+changed_run change r = record { items = r.items; ending = on_reached change r.ending }
+
+-- A child's value or fault may be put in before a move or behind it, and the move shows the same: no move reads or writes an unfilled
+-- variable.
+abbrev pub MovesLeaveUnfilledAlone : Type 0
+MovesLeaveUnfilledAlone =
+    (plan : PlanView) (path : List ℕ) (parts : List Part) (m : Machine) (p : Part) (owner : ℕ) (target : Option Name) (ended : Result (List Value) Fault) →
+    IsSoundStage plan parts (Goes m) → Contains parts p → p.place ≡ Spawned owner target →
+    move plan path (changed owner (answered target ended) m) ≡ changed_run (changed owner (answered target ended)) (move plan path m)
+
 -- a task of the same plan and origin
 abbrev pub IsOf : Task → Task → Type 0
 IsOf t other = (other.plan ≡ t.plan) × (other.origin ≡ t.origin)
@@ -54,6 +76,20 @@ abbrev pub KeepsOrigin : Task → Stop → Type 0
 KeepsOrigin t (Spawn child rest) = IsOf t rest
 KeepsOrigin t (Wait rest) = IsOf t rest
 KeepsOrigin t (End out ended) = Unit {0}
+
+-- fewer stops are left behind one
+abbrev pub LeavesFewer : Task → Stop → Type 0
+LeavesFewer t (Spawn child rest) = (stops_left rest < stops_left t) × (rest.waiting ≡ false)
+LeavesFewer t (Wait rest) = (stops_left rest < stops_left t) × (rest.waiting ≡ true)
+LeavesFewer t (End out ended) = Unit {0}
+
+-- With each stop of a task that doesn't stand in a wait fewer are left.
+abbrev pub StopsFall : Type 0
+StopsFall = (t : Task) (stop : Stop) → IsTask t → t.waiting ≡ false → IsNext t stop → LeavesFewer t stop
+
+-- Answers leave no more stops than the wait did.
+abbrev pub AnswersLeaveNoMore : Type 0
+AnswersLeaveNoMore = (t : Task) → IsTask t → t.waiting ≡ true → stops_left (on (evaluations (eval t.plan) t.pieces.handed) t) ≤ stops_left t
 
 -- What is left of a task at a stop has its plan and its origin.
 abbrev pub StopsKeepOrigins : Type 0

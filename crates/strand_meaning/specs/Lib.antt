@@ -1,5 +1,7 @@
 pub mod Clear
+pub mod Examples
 pub mod Laws
+pub mod Left
 pub mod Machine
 pub mod Pieces
 pub mod Rest

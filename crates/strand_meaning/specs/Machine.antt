@@ -1,7 +1,7 @@
 -- An instance as a machine: a stack of activations that does one thing at a time. What a statement does is the text of the serial
 -- elision and of the open tree, in a third manner: children are handed out, and what stands inside a block, a turn or a callee is what
 -- the machine does next.
-use Rattle.std.specs.Prelude.{ℕ, Bool, true, false, List, [], ◌∷◌, ◌++◌, Option, Some, None, Result, Ok, Err, length, if◌then◌else◌}
+use Rattle.std.specs.Prelude.{ℕ, Bool, true, false, List, [], ◌∷◌, ◌++◌, Option, Some, None, Result, Ok, Err, length}
 use Rattle.std.specs.Prelude.{pos}
 use Rattle.script_grammar.specs.declared.tree.Name.{Name}
 use Rattle.script_grammar.specs.declared.tree.CallText.{CallText}
@@ -11,7 +11,7 @@ use Rattle.script_grammar.specs.declared.tree.Stmt.{Stmt, out-Stmt}
 use Rattle.script_grammar.specs.declared.tree.Act.{Act, out-Act}
 use Rattle.script_grammar.specs.declared.tree.Act.TheOpen as act
 use Rattle.script_grammar.specs.declared.tree.Act.TheOpen.{Act-F}
-use Rattle.serial_meaning.specs.Runs.{Run, done, stopped, happens, ◌then◌}
+use Rattle.serial_meaning.specs.Runs.{Run, done, stopped, happens}
 use Rattle.serial_meaning.specs.Values.{Env, value_of}
 use Rattle.serial_meaning.specs.Functions.{number_of, function_at, any_spawns}
 use Rattle.serial_meaning.specs.Plan.{PlanView, functions_of}

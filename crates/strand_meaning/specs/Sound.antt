@@ -1,21 +1,19 @@
 -- What holds of a task at all times.
-use Rattle.std.specs.Prelude.{◌≡◌, ◌≤◌, ◌<◌, ℕ, ◌+◌, ◌-◌, Bool, true, false, ◌||◌, ◌⊎◌, nat_eq, List, [], ◌∷◌, ◌++◌, Option, Some, None, Result, Ok, Err, length, if◌then◌else◌}
+use Rattle.std.specs.Prelude.{◌≡◌, ◌≤◌, ◌<◌, ℕ, ◌+◌, Bool, true, false, ◌||◌, ◌⊎◌, nat_eq, List, [], ◌∷◌, ◌++◌, Option, None, Ok, Err, length, if◌then◌else◌}
 use Rattle.loop_range.specs.Range.{Range}
 use Rattle.script_grammar.specs.declared.tree.Name.{Name}
-use Rattle.serial_meaning.specs.Runs.{Run, done, behind, ◌then◌}
+use Rattle.serial_meaning.specs.Runs.{done, behind, ◌then◌}
 use Rattle.serial_meaning.specs.Names.{Names}
 use Rattle.serial_meaning.specs.Functions.{function_at, any_spawns}
 use Rattle.serial_meaning.specs.Plan.{PlanView, functions_of}
 use Rattle.serial_meaning.specs.Eval.{path_of, eval}
-use Rattle.serial_meaning.specs.Open.{Item, Ending, Own, Joined, opened}
+use Rattle.serial_meaning.specs.Open.{Item, Own, Joined, opened}
 use Rattle.serial_meaning.specs.Laws.{IsOriginOf}
-use Rattle.serial_meaning.specs.declared.value.Value.{Value}
-use Rattle.serial_meaning.specs.declared.event.Fault.{Fault}
 use Rattle.serial_meaning.specs.declared.origin.Origin.{Origin}
 use Rattle.serial_meaning.specs.declared.origin.Origin.TheVariants.{Instance, Loop}
 use Rattle.strand_meaning.specs.Clear.{IsApart, IsClear, IsClearPlan, target_names}
-use Rattle.strand_meaning.specs.Machine.{Place, Spawned, Looped, Half, Activation, Machine, spawns_in}
-use Rattle.strand_meaning.specs.Pieces.{Part, Pieces}
+use Rattle.strand_meaning.specs.Machine.{Place, Spawned, Looped, Half, Activation, spawns_in}
+use Rattle.strand_meaning.specs.Pieces.{Part}
 use Rattle.strand_meaning.specs.Task.{Stage, Goes, AtSync, AtLoop, Ended, Work, Splits, Runs, Over, Task, own_instance}
 use Rattle.strand_meaning.specs.Rest.{children_of, rest_open, finish}
 

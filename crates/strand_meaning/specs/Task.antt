@@ -1,5 +1,5 @@
 -- Tasks: what is done of an origin, and what remains.
-use Rattle.std.specs.Prelude.{◌≡◌, ℕ, zero, suc, ◌+◌, ◌-◌, Bool, true, false, nat_eq, List, [], ◌∷◌, ◌++◌, Option, Some, None, Result, Ok, Err, length, if◌then◌else◌}
+use Rattle.std.specs.Prelude.{◌≡◌, ℕ, zero, suc, ◌-◌, Bool, true, false, nat_eq, List, [], ◌∷◌, ◌++◌, Option, Some, None, Result, Ok, Err, length, if◌then◌else◌}
 use Rattle.std.specs.Str.{bytes_eq}
 use Rattle.loop_range.specs.Range.{Range, lower_half, upper_half}
 use Rattle.script_grammar.specs.declared.tree.Name.{Name}
@@ -11,7 +11,6 @@ use Rattle.serial_meaning.specs.Open.{Ending, Own, Joined, least}
 use Rattle.serial_meaning.specs.declared.value.Value.{Value}
 use Rattle.serial_meaning.specs.declared.environment.Slot.{Slot}
 use Rattle.serial_meaning.specs.declared.environment.Slot.TheVariants.{Scalar}
-use Rattle.serial_meaning.specs.declared.environment.Variable.{Variable}
 use Rattle.serial_meaning.specs.declared.event.Fault.{Fault}
 use Rattle.serial_meaning.specs.declared.event.Event.{Event}
 use Rattle.serial_meaning.specs.declared.origin.Origin.{Origin}

@@ -1,6 +1,6 @@
 //! Laws of tasks, each the contract of a function that does nothing. A proof that wants a law calls it.
 
-ghost use Rattle.strand_meaning.specs.Laws.{AnswersKeepTasks, StepsAreSound, StopsAreOne, StopsAreSound, StopsCome, StopsKeepOrigins, TasksBegin};
+ghost use Rattle.strand_meaning.specs.Laws.{AnswersKeepTasks, AnswersLeaveNoMore, MovesLeaveUnfilledAlone, StepsAreSound, StopsAreOne, StopsAreSound, StopsCome, StopsFall, StopsKeepOrigins, TasksBegin};
 
 /// A task of an origin of the plan begins sound where no function of the script touches a pending variable.
 pub fn tasks_begin()
@@ -36,4 +36,19 @@ pub fn stops_are_one()
 /// A task comes to a stop.
 pub fn stops_come()
     ensures { StopsCome }
+{}
+
+/// With each stop of a task that doesn't stand in a wait fewer stops are left to it.
+pub fn stops_fall()
+    ensures { StopsFall }
+{}
+
+/// Answers leave a task no more stops than its wait did.
+pub fn answers_leave_no_more()
+    ensures { AnswersLeaveNoMore }
+{}
+
+/// No move reads or writes an unfilled variable: it shows and leaves the same where the child's answer is taken first.
+pub fn moves_leave_unfilled_alone()
+    ensures { MovesLeaveUnfilledAlone }
 {}

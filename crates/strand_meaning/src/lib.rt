@@ -3,4 +3,5 @@
 //! The definitions stand in `specs/`, and docs/LANGUAGE.md says what they are of. The crate has no code that runs.
 #![tactic(auto)]
 
+pub mod examples;
 pub mod laws;

@@ -1,0 +1,5 @@
+use Rattle.strand_meaning.proofs.Fewer.{stops_fall}
+use Rattle.strand_meaning.proofs.laws.stops_fall.Goals as goal
+
+pub returns : goal.returns
+returns c = stops_fall

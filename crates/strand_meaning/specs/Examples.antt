@@ -1,0 +1,71 @@
+-- Where the tasks of small scripts stop. Each is the contract of a function of the module `examples`, which shows the script.
+use Rattle.std.specs.Prelude.{◌≡◌, ℕ, zero, suc, List, [], ◌∷◌, Some, None, codes}
+use Rattle.std.specs.Prelude.{pos}
+use Rattle.loop_range.specs.Range.{Range}
+use Rattle.script_grammar.specs.declared.tree.Function.{Function}
+use Rattle.script_grammar.specs.declared.tree.Act.TheVariants as act
+use Rattle.serial_meaning.specs.Trees.{named, number, variable, applied, call, spawn, stated, int_param, function}
+use Rattle.serial_meaning.specs.Plan.{PlanView}
+use Rattle.serial_meaning.specs.Eval.{eval, main_origin}
+use Rattle.serial_meaning.specs.Examples.{plan_of}
+use Rattle.serial_meaning.specs.declared.origin.Origin.{Origin}
+use Rattle.serial_meaning.specs.declared.origin.Origin.TheVariants.{Instance, Loop}
+use Rattle.strand_meaning.specs.Task.{Task, start, Step, Passes, Stops, Stop, Spawn, Wait, End, step, on}
+use Rattle.strand_meaning.specs.Rest.{evaluations}
+
+-- a stop, without what is left
+pub data Mark : Type 0 where
+  ToChild : Mark
+  ToWait : Mark
+  ToEnd : Mark
+
+-- The stops of a task, where each wait is over with the evaluations of the children: in as many moves and stops as are given.
+abbrev pub marked : (Task → List Mark) → PlanView → Step → List Mark
+marked go plan (Passes next) = go next
+marked go plan (Stops (Spawn child rest)) = ToChild ∷ go rest
+marked go plan (Stops (Wait rest)) = ToWait ∷ go (on (evaluations (eval plan) rest.pieces.handed) rest)
+marked go plan (Stops (End out ended)) = ToEnd ∷ []
+
+abbrev pub marks : ℕ → Task → List Mark
+marks zero t = []
+marks (suc n) t = marked (marks n) t.plan (step t)
+
+abbrev pub main_marks : ℕ → List Function → List Mark
+main_marks n functions = let plan = plan_of functions 20 in marks n (start plan (main_origin plan))
+
+abbrev pub f_of_nothing : Function
+f_of_nothing = function (codes "f") [] [] (number 0)
+
+abbrev pub f_of_number : Function
+f_of_number = function (codes "f") (int_param (codes "i") ∷ []) [] (number 0)
+
+-- The sync that a return implies waits for the child.
+abbrev pub ReturnWaitsForAChild : Type 0
+ReturnWaitsForAChild =
+    main_marks 8 (f_of_nothing ∷ function (codes "main") [] (stated (act.Spawn (applied (codes "f") [])) ∷ []) (number 0) ∷ [])
+    ≡ ToChild ∷ ToWait ∷ ToEnd ∷ []
+
+-- A sync behind no spawn is passed.
+abbrev pub SyncAloneIsPassed : Type 0
+SyncAloneIsPassed = main_marks 8 (function (codes "main") [] (stated act.Sync ∷ []) (number 0) ∷ []) ≡ ToEnd ∷ []
+
+-- A fault, here of a return that finds no step, waits for the child first.
+abbrev pub FaultWaitsForAChild : Type 0
+FaultWaitsForAChild =
+    (let plan = plan_of (f_of_nothing ∷ function (codes "main") [] (stated (act.Spawn (applied (codes "f") [])) ∷ []) (number 0) ∷ []) 1 in marks 8 (start plan (main_origin plan)))
+    ≡ ToChild ∷ ToWait ∷ ToEnd ∷ []
+
+-- A loop is handed out whole, and waited for at once.
+abbrev pub LoopsAreHandedOutWhole : Type 0
+LoopsAreHandedOutWhole =
+    main_marks 8
+    (f_of_number
+    ∷ function (codes "main") [] (stated (act.Pfor (named (codes "i")) (number 0) (number 3) None (applied (codes "f") [])) ∷ []) (number 0)
+    ∷ [])
+    ≡ ToChild ∷ ToWait ∷ ToEnd ∷ []
+
+-- A loop task hands out half while two iterations are left, runs the last one, and waits.
+abbrev pub LoopTasksHandOutHalves : Type 0
+LoopTasksHandOutHalves =
+    (let plan = plan_of (f_of_number ∷ []) 20 in marks 12 (start plan (Loop 0 [] (pos 0) (0 ∷ []) (record { lo = 0; hi = 3 }))))
+    ≡ ToChild ∷ ToChild ∷ ToWait ∷ ToEnd ∷ []

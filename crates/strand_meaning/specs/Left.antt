@@ -1,0 +1,58 @@
+-- How many stops are left to a task, at most. It is a number of the open run of what remains: a sync is a wait, and a child is a spawn
+-- and, where it is a loop, a wait.
+use Rattle.std.specs.Prelude.{ℕ, ◌+◌, ◌-◌, Bool, true, false, List, [], ◌∷◌}
+use Rattle.serial_meaning.specs.Plan.{PlanView}
+use Rattle.serial_meaning.specs.Eval.{Evaluation, path_of}
+use Rattle.serial_meaning.specs.Open.{Item, Happened, Child}
+use Rattle.serial_meaning.specs.declared.event.Event.{Event}
+use Rattle.serial_meaning.specs.declared.event.Event.TheVariants as event
+use Rattle.serial_meaning.specs.declared.origin.Origin.{Origin}
+use Rattle.strand_meaning.specs.Pieces.{Part}
+use Rattle.strand_meaning.specs.Task.{Stage, Goes, AtSync, AtLoop, Ended, Work, Splits, Runs, Over, Task, begins_last, own_instance}
+use Rattle.strand_meaning.specs.Rest.{children_of, rest_open}
+
+abbrev pub event_stops : Event → ℕ
+event_stops (event.Print j v) = 0
+event_stops (event.Draw j n) = 0
+event_stops (event.New j) = 0
+event_stops (event.Spawn j) = 0
+event_stops (event.Sync j) = 1
+event_stops (event.Loop j) = 0
+
+abbrev pub item_stops : List Item → ℕ
+item_stops [] = 0
+item_stops (Happened e ∷ items) = event_stops e + item_stops items
+item_stops (Child o ∷ items) = 2 + item_stops items
+
+-- a wait that it comes to, or stands in
+abbrev pub at_wait : Bool → ℕ
+at_wait true = 0
+at_wait false = 1
+
+-- an end, or a wait before it
+abbrev pub at_end : Bool → List Part → ℕ
+at_end true parts = 1
+at_end false [] = 1
+at_end false (p ∷ ps) = 2
+
+module _ (plan : PlanView) (child : Origin → Evaluation) (path : List ℕ) (waiting : Bool) (parts : List Part) where
+  abbrev pub stage_stops : Stage → ℕ
+  stage_stops (Goes m) = 3 + item_stops (rest_open plan child path parts (Goes m)).items
+  stage_stops (AtSync m) = at_wait waiting + (3 + item_stops (rest_open plan child path parts (AtSync m)).items)
+  stage_stops (AtLoop m) = at_wait waiting + (3 + item_stops (rest_open plan child path parts (AtLoop m)).items)
+  stage_stops (Ended e) = at_end waiting parts
+
+-- what a loop's last iteration will come to
+abbrev pub work_stops : PlanView → Origin → Bool → List Part → Work → ℕ
+work_stops plan o waiting parts (Splits left) = 1
+work_stops plan o waiting parts (Runs stage) = 2 + stage_stops plan (children_of plan (own_instance o)) (path_of (own_instance o)) waiting parts stage
+work_stops plan o waiting parts (Over v false) = at_wait waiting + 1
+work_stops plan o waiting parts (Over v true) = 1
+
+abbrev pub stops_of : PlanView → Origin → Bool → List Part → Work → ℕ
+stops_of plan o waiting parts (Splits left) = (left.hi - left.lo) + work_stops plan o false [] (begins_last plan o)
+stops_of plan o waiting parts (Runs stage) = work_stops plan o waiting parts (Runs stage)
+stops_of plan o waiting parts (Over v gone_on) = work_stops plan o waiting parts (Over v gone_on)
+
+abbrev pub stops_left : Task → ℕ
+stops_left t = stops_of t.plan t.origin t.waiting t.pieces.handed t.work
