@@ -1,4 +1,7 @@
-use Rattle.std.proofs.Common.{sym, subst}
+use Rattle.std.proofs.Common.{All, sym, subst}
+use Rattle.serial_meaning.specs.Plan.{PlanView, functions_of}
+use Rattle.engine.specs.Built.{IsFunction}
+use Rattle.engine.proofs.BuiltLemmas.{script_built}
 use Rattle.ped_words.specs.declared.command.Command.{Command}
 use Rattle.engine.specs.Commands.{Takes}
 use Rattle.engine.specs.Refusal.{IsMisfit}
