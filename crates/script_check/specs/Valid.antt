@@ -33,7 +33,7 @@ abbrev pub all_function_faults : List Function → List Function → List Violat
 all_function_faults functions [] = []
 all_function_faults functions (f ∷ fs) = function_faults functions f ++ all_function_faults functions fs
 
--- functions whose name stands before, among those before or here
+-- the functions whose name one before them has
 abbrev pub functions_twice : List Function → List Function → List Violation
 functions_twice before [] = []
 functions_twice before (f ∷ fs) =

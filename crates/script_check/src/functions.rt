@@ -58,7 +58,8 @@ impl<'s> Functions<'s> {
     }
 }
 
-/// The index of the first function of each name. A function whose name stands before is noted.
+/// The index of the first function of each name. A function whose name stands before is noted. The answer is `Memory` also where
+/// there are more than 2^32 functions, which no text has.
 pub(crate) fn index(
     alloc: Global,
     found: &mut Findings,
