@@ -30,7 +30,7 @@ use Rattle.serial_meaning.specs.declared.event.Event.TheVariants as event
 use Rattle.serial_meaning.specs.declared.origin.Origin.{Origin}
 use Rattle.serial_meaning.specs.declared.origin.Origin.TheVariants as origin
 use Rattle.strand_meaning.specs.Clear.{names_in_all, names_in_right, target_names, touched}
-use Rattle.strand_meaning.specs.Machine.{Place, Spawned, Looped, Token, Told, Handed, Halt, Faulted, Inside, loop_tokens, sync_tokens, handing, inside, place_of, Activation, Machine, Reached, Stands, Gives, state_of, with_left, with_returning, with_scalar, back, spawns_in, calling, entered, reached, gives, value_run, statement_move, return_move, move_at, move}
+use Rattle.strand_meaning.specs.Machine.{Place, Spawned, Looped, Token, Told, Handed, Halt, Faulted, Inside, loop_tokens, sync_tokens, handing, inside, place_of, Activation, Machine, Reached, Stands, state_of, with_left, with_returning, with_scalar, back, spawns_in, calling, entered, reached, gives, value_run, statement_move, return_move, move_at, move}
 use Rattle.strand_meaning.specs.Task.{changed, changed_at}
 use Rattle.strand_meaning.specs.Laws.{on_reached, changed_run}
 use Rattle.strand_meaning.proofs.Shown.{changed-top, same-number}

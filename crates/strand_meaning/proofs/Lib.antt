@@ -1,4 +1,5 @@
 pub mod Alike
+pub mod AnswerRuns
 pub mod Changed
 pub mod Clears
 pub mod Closing

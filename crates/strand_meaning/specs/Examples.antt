@@ -1,16 +1,14 @@
 -- Where the tasks of small scripts stop. Each is the contract of a function of the module `examples`, which shows the script.
-use Rattle.std.specs.Prelude.{◌≡◌, ℕ, zero, suc, List, [], ◌∷◌, Some, None, codes}
+use Rattle.std.specs.Prelude.{◌≡◌, ℕ, zero, suc, List, [], ◌∷◌, None, codes}
 use Rattle.std.specs.Prelude.{pos}
-use Rattle.loop_range.specs.Range.{Range}
 use Rattle.script_grammar.specs.declared.tree.Function.{Function}
 use Rattle.script_grammar.specs.declared.tree.Act.TheVariants as act
-use Rattle.serial_meaning.specs.Trees.{named, number, variable, applied, call, spawn, stated, int_param, function}
+use Rattle.serial_meaning.specs.Trees.{named, number, applied, stated, int_param, function}
 use Rattle.serial_meaning.specs.Plan.{PlanView}
 use Rattle.serial_meaning.specs.Eval.{eval, main_origin}
 use Rattle.serial_meaning.specs.Examples.{plan_of}
-use Rattle.serial_meaning.specs.declared.origin.Origin.{Origin}
-use Rattle.serial_meaning.specs.declared.origin.Origin.TheVariants.{Instance, Loop}
-use Rattle.strand_meaning.specs.Task.{Task, start, Step, Passes, Stops, Stop, Spawn, Wait, End, step, on}
+use Rattle.serial_meaning.specs.declared.origin.Origin.TheVariants.{Loop}
+use Rattle.strand_meaning.specs.Task.{Task, start, Step, Passes, Stops, Spawn, Wait, End, step, on}
 use Rattle.strand_meaning.specs.Rest.{evaluations}
 
 -- a stop, without what is left

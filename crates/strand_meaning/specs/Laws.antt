@@ -8,10 +8,12 @@ use Rattle.serial_meaning.specs.Open.{faults}
 use Rattle.serial_meaning.specs.Laws.{IsOriginOf}
 use Rattle.serial_meaning.specs.Answer.{IsEval}
 use Rattle.serial_meaning.specs.declared.value.Value.{Value}
+use Rattle.serial_meaning.specs.declared.event.Event.{Event}
 use Rattle.serial_meaning.specs.declared.event.Fault.{Fault}
 use Rattle.serial_meaning.specs.declared.origin.Origin.{Origin}
 use Rattle.serial_meaning.specs.declared.answer.Outcome.{Outcome}
 use Rattle.serial_meaning.specs.declared.answer.Outcome.TheVariants as outcome
+use Rattle.strand_meaning.specs.Answers.{evaluation_of}
 use Rattle.strand_meaning.specs.Clear.{IsClearPlan}
 use Rattle.strand_meaning.specs.Machine.{Spawned, Token, Machine, Reached, Stands, Gives, move}
 use Rattle.strand_meaning.specs.Pieces.{Part}
@@ -86,6 +88,10 @@ LeavesFewer t (End out ended) = Unit {0}
 -- With each stop of a task that doesn't stand in a wait fewer are left.
 abbrev pub StopsFall : Type 0
 StopsFall = (t : Task) (stop : Stop) → IsTask t → t.waiting ≡ false → IsNext t stop → LeavesFewer t stop
+
+-- An answer with the events and the outcome of an origin's evaluation is taken as that evaluation.
+abbrev pub AnswersAreEvaluations : Type 0
+AnswersAreEvaluations = (plan : PlanView) (o : Origin) (out : List Event) (ended : Outcome) → IsEval plan o out ended → evaluation_of out ended ≡ eval plan o
 
 -- Answers leave no more stops than the wait did.
 abbrev pub AnswersLeaveNoMore : Type 0

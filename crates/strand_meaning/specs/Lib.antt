@@ -1,3 +1,4 @@
+pub mod Answers
 pub mod Clear
 pub mod Examples
 pub mod Laws

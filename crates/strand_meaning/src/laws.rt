@@ -1,6 +1,6 @@
 //! Laws of tasks, each the contract of a function that does nothing. A proof that wants a law calls it.
 
-ghost use Rattle.strand_meaning.specs.Laws.{AnswersKeepTasks, AnswersLeaveNoMore, MovesLeaveUnfilledAlone, StepsAreSound, StopsAreOne, StopsAreSound, StopsCome, StopsFall, StopsKeepOrigins, TasksBegin};
+ghost use Rattle.strand_meaning.specs.Laws.{AnswersAreEvaluations, AnswersKeepTasks, AnswersLeaveNoMore, MovesLeaveUnfilledAlone, StepsAreSound, StopsAreOne, StopsAreSound, StopsCome, StopsFall, StopsKeepOrigins, TasksBegin};
 
 /// A task of an origin of the plan begins sound where no function of the script touches a pending variable.
 pub fn tasks_begin()
@@ -21,6 +21,11 @@ pub fn stops_are_sound()
 /// What is left of a task at a stop has the task's plan and origin.
 pub fn stops_keep_origins()
     ensures { StopsKeepOrigins }
+{}
+
+/// An answer with the events and the outcome of an origin's evaluation is taken as that evaluation.
+pub fn answers_are_evaluations()
+    ensures { AnswersAreEvaluations }
 {}
 
 /// A task that took the evaluations of its children as their answers keeps the invariant.
