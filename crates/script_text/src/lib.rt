@@ -11,7 +11,7 @@ mod tests;
 pub use error::SyntaxError;
 pub use parser::{next_token, parse};
 pub use script_grammar::{
-    Act, Boxed, CallText, Comparison, Expr, Function, Items, Kind, Name, Number, Param, ProductPart,
-    ProductSign, Right, Script, Stmt, SumPart,
+    Act, Boxed, CallText, Comparison, Expr, Function, Items, Kind, Name, Number, Param,
+    ProductPart, ProductSign, Right, Script, Stmt, SumPart,
 };
 pub use script_tokens::{MAX_BYTES, Token, TokenKind};

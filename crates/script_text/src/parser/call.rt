@@ -7,10 +7,9 @@ ghost use Rattle.script_text.specs.Machine.{only, args, more_args, call_args};
 ghost use Rattle.script_text.specs.Reads.{Reads, AddsArgs, IsArguments};
 
 use crate::error::SyntaxError;
-use script_grammar::Items;
 use crate::parser::expression::expr;
 use crate::parser::source::{Source, after, expect, expect_name, open};
-use script_grammar::{CallText, Expr};
+use script_grammar::{CallText, Expr, Items};
 use script_tokens::{Lexeme, Word};
 
 // What stands behind an argument: further ones, each behind a comma. They are put behind those that were found before.

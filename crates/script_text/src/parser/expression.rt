@@ -6,11 +6,9 @@ ghost use Rattle.script_text.specs.Machine.{factor, more_factors, more_terms, co
 ghost use Rattle.script_text.specs.Reads.{Reads, ReadsPair, Signs, SignNext};
 ghost use Rattle.script_tokens.specs.declared.token.Word.TheVariants as word;
 
-use script_grammar::Boxed;
 use crate::error::SyntaxError;
-use script_grammar::Items;
 use crate::parser::source::{Source, after, deeper, expect, name_of, number_of, open, unexpected};
-use script_grammar::{Comparison, Expr, ProductPart, ProductSign, SumPart};
+use script_grammar::{Boxed, Comparison, Expr, Items, ProductPart, ProductSign, SumPart};
 use script_tokens::{Lexeme, Word};
 use std::alloc::{AllocError, Global};
 

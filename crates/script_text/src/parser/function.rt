@@ -7,10 +7,9 @@ ghost use Rattle.script_text.specs.Machine.{only, param, params, more_params, pa
 ghost use Rattle.script_text.specs.Reads.{Reads, ReadsBody, ReadsFunctions, AddsParams, IsParamList, IsRestOfFunction, Judges};
 
 use crate::error::SyntaxError;
-use script_grammar::Items;
 use crate::parser::source::{Source, after, expect, expect_name, open, unexpected};
 use crate::parser::statement::{ended_expr, stmts};
-use script_grammar::{Expr, Function, Kind, Param, Script, Stmt};
+use script_grammar::{Expr, Function, Items, Kind, Param, Script, Stmt};
 use script_tokens::{Lexeme, Stop, Word};
 
 const MOST_FUNCTIONS: usize = 1024;

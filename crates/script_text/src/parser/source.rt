@@ -7,8 +7,7 @@ ghost use Rattle.script_text.specs.Machine.{only};
 ghost use Rattle.script_text.specs.Reads.{IsPlain, IsValue, IsName, IsNumber, Names, Numbers, NextIs, NextIsNot, NextLexeme, Passes, Opens, Deepens, Reads, unexpected_in};
 
 use crate::error::SyntaxError;
-use script_grammar::Items;
-use script_grammar::{Name, Number};
+use script_grammar::{Items, Name, Number};
 use script_tokens::{Lexeme, Stop, Word};
 use std::alloc::Global;
 

@@ -7,14 +7,13 @@ ghost use Rattle.script_text.specs.Machine.{only, right, call_args, after_let, s
 ghost use Rattle.script_text.specs.Reads.{Reads, ReadsAct, ReadsElement, IsCallOf, IsEnded, IsSize, IsValueOf, NextIsNot, NoStmt, begins_stmt};
 
 use crate::error::SyntaxError;
-use script_grammar::Items;
 use crate::parser::call::call;
 use crate::parser::expression::expr;
 use crate::parser::parallel_loop::pfor;
 use crate::parser::source::{
     Source, after, deeper, expect, expect_name, expect_number, name_of, open, unexpected,
 };
-use script_grammar::{Act, CallText, Expr, Number, Right, Stmt};
+use script_grammar::{Act, CallText, Expr, Items, Number, Right, Stmt};
 use script_tokens::{Lexeme, Word};
 
 // The right side of `let x = ..` and `x = ..`.
