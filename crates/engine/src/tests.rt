@@ -343,6 +343,25 @@ fn invalid_scripts_have_their_places(rt: HostRuntime) -> Result<(), Fail> {
 }
 
 #[test]
+fn functions_have_at_most_256_variables(rt: HostRuntime) -> Result<(), Fail> {
+    let alloc = rt.alloc();
+    let mut body = String::from_str(alloc, "fn main() { ")?;
+    for i in 0..256 {
+        body.push_str(format!(in alloc; "let v{i:03} = 0; ")?.as_str())?;
+    }
+    let script = format!(in alloc; "{body}return 0; }}")?;
+    prints(&rt, "check", script.as_bytes(), b"ok\n")?;
+    let script = format!(in alloc; "{body}let v256 = 0; return 0; }}")?;
+    refuses(
+        &rt,
+        "check",
+        script.as_bytes(),
+        3,
+        b"script: too many variables at byte 3600\n",
+    )
+}
+
+#[test]
 fn faults_of_reads_and_writes_are_told(rt: HostRuntime) -> Result<(), Fail> {
     let alloc = rt.alloc();
     let read = call(
