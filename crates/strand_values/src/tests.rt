@@ -208,33 +208,38 @@ fn an_operation_is_done_before_the_next_operand(rt: HostRuntime) -> Result<(), F
 fn the_left_operand_faults_first(rt: HostRuntime) -> Result<(), Fail> {
     let alloc = rt.alloc();
     let environment = environment(alloc)?;
-    let e = product(
-        alloc,
-        item_of_a(alloc, 9)?,
-        ProductSign::Times,
-        divided(alloc)?,
-    )?;
+    let left = item_of_a(alloc, 9)?;
+    let e = product(alloc, left, ProductSign::Times, divided(alloc)?)?;
     assert_eq!(rt; told(&environment, &e)?, Err(FaultKind::Index));
-    let left = boxed(alloc, divided(alloc)?)?;
-    let e = Expr::Compare(left, Comparison::Eq, boxed(alloc, item_of_a(alloc, 9)?)?);
-    assert_eq!(rt; told(&environment, &e)?, Err(FaultKind::Divide));
+    Ok(())
+}
+
+fn same(alloc: Global, left: &str, right: &str) -> Result<Expr, Fail> {
+    Ok(Expr::Same(0, named(alloc, left)?, named(alloc, right)?))
+}
+
+fn older(alloc: Global, left: &str, right: &str) -> Result<Expr, Fail> {
+    Ok(Expr::Older(0, named(alloc, left)?, named(alloc, right)?))
+}
+
+#[test]
+fn ids_are_the_same_by_their_pedigrees(rt: HostRuntime) -> Result<(), Fail> {
+    let alloc = rt.alloc();
+    let environment = environment(alloc)?;
+    for (left, right, expected) in [("early", "early", 1), ("early", "late", 0)] {
+        let e = same(alloc, left, right)?;
+        assert_eq!(rt; told(&environment, &e)?, Ok(expected));
+    }
     Ok(())
 }
 
 #[test]
-fn ids_are_told_apart_by_their_pedigrees(rt: HostRuntime) -> Result<(), Fail> {
+fn ids_are_older_by_their_pedigrees(rt: HostRuntime) -> Result<(), Fail> {
     let alloc = rt.alloc();
     let environment = environment(alloc)?;
-    let rows = [
-        ("early", "early", 1, 0),
-        ("early", "late", 0, 1),
-        ("late", "early", 0, 0),
-    ];
-    for (left, right, same, older) in rows {
-        let e = Expr::Same(0, named(alloc, left)?, named(alloc, right)?);
-        assert_eq!(rt; told(&environment, &e)?, Ok(same), "same {left} {right}");
-        let e = Expr::Older(0, named(alloc, left)?, named(alloc, right)?);
-        assert_eq!(rt; told(&environment, &e)?, Ok(older), "older {left} {right}");
+    for (left, right, expected) in [("early", "late", 1), ("late", "early", 0)] {
+        let e = older(alloc, left, right)?;
+        assert_eq!(rt; told(&environment, &e)?, Ok(expected));
     }
     Ok(())
 }
