@@ -22,3 +22,5 @@ pub mod Stops
 pub mod Taken
 pub mod TaskRuns
 pub mod Variables
+pub mod ClearOfValid
+pub mod FreeNames

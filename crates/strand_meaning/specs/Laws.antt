@@ -2,6 +2,7 @@
 use Rattle.std.specs.Prelude.{◌≡◌, ◌<◌, ◌≤◌, ℕ, true, false, List, Option, Result, Ok, Err, Contains}
 use Rattle.script_grammar.specs.declared.tree.Name.{Name}
 use Rattle.serial_meaning.specs.Runs.{Run}
+use Rattle.script_check.specs.Valid.{IsValid}
 use Rattle.serial_meaning.specs.Plan.{PlanView}
 use Rattle.serial_meaning.specs.Eval.{eval}
 use Rattle.serial_meaning.specs.Open.{faults}
@@ -21,6 +22,10 @@ use Rattle.strand_meaning.specs.Task.{Goes, changed, answered, Task, Stop, Spawn
 use Rattle.strand_meaning.specs.Rest.{evaluations}
 use Rattle.strand_meaning.specs.Left.{stops_left}
 use Rattle.strand_meaning.specs.Sound.{IsSoundStage, IsTask}
+
+-- No function of a valid script touches a pending variable.
+abbrev pub ValidPlansAreClear : Type 0
+ValidPlansAreClear = (plan : PlanView) → IsValid plan.script → IsClearPlan plan
 
 -- A task begins sound: of an origin of the plan, where no function touches a pending variable.
 abbrev pub TasksBegin : Type 0

@@ -1,10 +1,15 @@
 //! Laws of tasks, each the contract of a function that does nothing. A proof that wants a law calls it.
 
-ghost use Rattle.strand_meaning.specs.Laws.{AnswersAreEvaluations, AnswersKeepTasks, AnswersLeaveNoMore, MovesLeaveUnfilledAlone, StepsAreSound, StopsAreOne, StopsAreSound, StopsCome, StopsFall, StopsKeepOrigins, TasksBegin};
+ghost use Rattle.strand_meaning.specs.Laws.{AnswersAreEvaluations, AnswersKeepTasks, AnswersLeaveNoMore, MovesLeaveUnfilledAlone, StepsAreSound, StopsAreOne, StopsAreSound, StopsCome, StopsFall, StopsKeepOrigins, TasksBegin, ValidPlansAreClear};
 
 /// A task of an origin of the plan begins sound where no function of the script touches a pending variable.
 pub fn tasks_begin()
     ensures { TasksBegin }
+{}
+
+/// No function of a valid script touches a pending variable.
+pub fn valid_plans_are_clear()
+    ensures { ValidPlansAreClear }
 {}
 
 /// One move or stop keeps the invariant: a child is an origin of the plan, and an end is the evaluation of the task's origin, with a
