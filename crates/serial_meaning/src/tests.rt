@@ -1,5 +1,7 @@
-use crate::{Event, Fault, FaultKind, Memory, Out, Strand, Value, render_strand};
+use crate::{Event, Fault, FaultKind, Memory, Origin, Out, Strand, Value, render_strand};
+use loop_range::IterRange;
 use ped_path::{Ped, Pedigree};
+use script_grammar::Items;
 use std::alloc::Global;
 use std::test::Fail;
 
@@ -76,5 +78,34 @@ fn shared_values_are_the_same(rt: HostRuntime) -> Result<(), Fail> {
         Value::Id(at) => assert_eq!(rt; at.rank, 4),
         Value::Int(_) => assert!(rt; false),
     }
+    Ok(())
+}
+
+// Iterations of a loop of the root strand, whose function has one more argument.
+fn loop_origin(alloc: Global, number: i64, range: IterRange) -> Result<Origin, Memory> {
+    Ok(Origin::Loop {
+        function: 0,
+        rest: Items(vec![in alloc; Value::Int(number)]?),
+        first: 0,
+        path: Ped::root(alloc)?.child(alloc, 0)?,
+        range,
+    })
+}
+
+#[test]
+fn origins_are_the_same_where_all_fields_are(rt: HostRuntime) -> Result<(), Fail> {
+    let alloc = rt.alloc();
+    let whole = IterRange { lo: 0, hi: 4 };
+    let half = IterRange { lo: 0, hi: 2 };
+    let origin = loop_origin(alloc, 7, whole)?;
+    assert!(rt; origin.same(&loop_origin(alloc, 7, whole)?));
+    assert!(rt; !origin.same(&loop_origin(alloc, 8, whole)?));
+    assert!(rt; !origin.same(&loop_origin(alloc, 7, half)?));
+    let main = Origin::Instance {
+        function: 0,
+        args: Items(Vec::new(alloc)),
+        path: Ped::root(alloc)?,
+    };
+    assert!(rt; !origin.same(&main));
     Ok(())
 }

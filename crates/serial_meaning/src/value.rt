@@ -1,4 +1,4 @@
-ghost use Rattle.std.specs.Prelude.{◌≡◌, IfOk};
+ghost use Rattle.std.specs.Prelude.{◌≡◌, ◌↔◌, IfOk, IsTrue};
 
 use crate::memory::Memory;
 use ped_path::Pedigree;
@@ -20,4 +20,30 @@ impl Value {
             Value::Id(object) => Value::Id(object.share()?),
         })
     }
+
+    /// Whether both are one integer, or one id.
+    pub fn same(&self, other: &Value) -> bool
+        ensures { IsTrue result ↔ (self.now ≡ other.now) }
+    {
+        match (self, other) {
+            (Value::Int(number), Value::Int(other)) => number == other,
+            (Value::Id(object), Value::Id(other)) => object.same(other),
+            _ => false,
+        }
+    }
+}
+
+/// Whether both lists have the same values.
+pub(crate) fn same_values(values: &[Value], others: &[Value]) -> bool
+    ensures { IsTrue result ↔ (values.now ≡ others.now) }
+{
+    if values.len() != others.len() {
+        return false;
+    }
+    for (i, value) in values.iter().enumerate() {
+        if !value.same(&others[i]) {
+            return false;
+        }
+    }
+    true
 }
