@@ -1,6 +1,7 @@
 -- The pedigrees of the elision rise.
 use Rattle.std.proofs.Common.{◌≡◌, ℕ, zero, suc, ◌+◌, ◌-◌, List, [], ◌∷◌, ◌++◌, Option, Some, None, Result, Ok, Err, refl, sym, ap, ◌∙◌, arith, append_assoc, append-nil, subst}
-use Rattle.std.proofs.Common.{ℤ, pos, ◌+ℤ◌}
+use Rattle.std.proofs.Common.{ℤ, pos}
+use Rattle.std.specs.Int.{w64, int_wrapping_add}
 use Rattle.std.specs.Prelude.{AllPairs}
 use Rattle.ped_path.specs.Path.{IsBefore}
 use Rattle.serial_meaning.specs.Laws.{places}
@@ -117,7 +118,7 @@ module _ (plan : PlanView) (path : List ℕ) (child : Origin → Evaluation) (fi
       rising-then path (λ (vs : List Value). k + 1) (λ (vs : List Value). k + suc n) k (child o) _ (a_child (child o).ending) (λ vs. rising-then path (λ (ws : List Value). k + 1 + n) (λ (ws : List Value). k + suc n) (k + 1) (turns child function rest first path (k + 1) n) _ (turns-rise function rest first (k + 1) n) (λ ws. record { hi = k + 1 + n; below = (omega arith, omega arith); within = tt; rise = tt }))
     where
       o : Origin
-      o = origin.Instance function (Int (first +ℤ pos k) ∷ rest) (path ++ k ∷ [])
+      o = origin.Instance function (Int (int_wrapping_add w64 first (pos k)) ∷ rest) (path ++ k ∷ [])
 
       a_child : (q : Result (List Value) Fault) → Rising path (λ (vs : List Value). k + 1) k (record { items = (child o).items; ending = q })
       a_child (Ok vs) = record { hi = k + 1; below = (refl, omega arith); within = below-child k (fine o).hi (places (child o).items) (fine o).within; rise = (fine o).rise }

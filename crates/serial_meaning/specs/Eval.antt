@@ -1,6 +1,7 @@
 -- What an origin gives where its children run at once, and the serial elision (docs/LANGUAGE.md, "The serial elision").
 use Rattle.std.specs.Prelude.{ℕ, zero, suc, ◌+◌, ◌-◌, List, [], ◌∷◌, ◌++◌, length}
-use Rattle.std.specs.Prelude.{pos, ◌+ℤ◌, ℤ}
+use Rattle.std.specs.Prelude.{pos, ℤ}
+use Rattle.std.specs.Int.{w64, int_wrapping_add}
 use Rattle.serial_meaning.specs.Runs.{Run, done, ◌then◌}
 use Rattle.serial_meaning.specs.Functions.{function_at, number_of, main_name}
 use Rattle.serial_meaning.specs.Plan.{PlanView, functions_of}
@@ -32,9 +33,9 @@ serial child = record {
   sync = λ k. done k;
 }
 
--- iteration k of a loop
+-- iteration k of a loop: its number is the first one and k, as the language adds
 abbrev pub iteration : ℕ → List Value → ℤ → List ℕ → ℕ → Origin
-iteration function rest first path k = Instance function (Int (first +ℤ pos k) ∷ rest) (path ++ k ∷ [])
+iteration function rest first path k = Instance function (Int (int_wrapping_add w64 first (pos k)) ∷ rest) (path ++ k ∷ [])
 
 -- n iterations from the k-th on, in order, up to the first fault
 abbrev pub turns : (Origin → Evaluation) → ℕ → List Value → ℤ → List ℕ → ℕ → ℕ → Evaluation
