@@ -1,0 +1,4 @@
+pub mod BelowLemmas
+pub mod CursorLemmas
+pub mod Equations
+pub mod Halts
