@@ -29,7 +29,7 @@ use Rattle.serial_meaning.specs.declared.event.Event.{Event}
 use Rattle.serial_meaning.specs.declared.event.Event.TheVariants as event
 use Rattle.serial_meaning.specs.declared.origin.Origin.{Origin}
 use Rattle.serial_meaning.specs.declared.origin.Origin.TheVariants as origin
-use Rattle.strand_meaning.specs.Machine.{Place, Spawned, Looped, Token, Told, Handed, Syncs, Loops, Halt, Faulted, Inside, handing, inside, place_of, Activation, Machine, Reached, Stands, Gives, state_of, with_left, with_scalar, entered, reached, statement_move}
+use Rattle.strand_meaning.specs.Machine.{Place, Spawned, Looped, Token, Told, Handed, Syncs, Loops, Halt, Faulted, Inside, handing, inside, place_of, sync_tokens, Activation, Machine, Reached, Stands, Gives, state_of, with_left, with_scalar, entered, reached, statement_move}
 use Rattle.strand_moves.specs.Moves.{acted, call_to, spawn_to}
 
 abbrev pub with_env : Machine → Env → Machine
@@ -119,12 +119,12 @@ module _ (plan : PlanView) (path : List ℕ) (m : Machine) (st : Stmt) where
   unfolding acted
   print e v h = rw h refl
 
-  pub sync : acted plan path m st act.Sync ≡ went (Told (event.Sync (path ++ m.rank ∷ [])) ∷ (if m.top.spawned then Syncs ∷ [] else [])) (record m { rank = m.rank + 1; top = record m.top { spawned = false } })
+  pub sync : acted plan path m st act.Sync ≡ went (Told (event.Sync (path ++ m.rank ∷ [])) ∷ sync_tokens m.top.spawned) (record m { rank = m.rank + 1; top = record m.top { spawned = false } })
   unfolding acted
   sync = by_spawned m.top.spawned
     where
       by_spawned : (b : Bool) → acted plan path (record m { top = record m.top { spawned = b } }) st act.Sync
-          ≡ went (Told (event.Sync (path ++ m.rank ∷ [])) ∷ (if b then Syncs ∷ [] else [])) (record m { rank = m.rank + 1; top = record m.top { spawned = false } })
+          ≡ went (Told (event.Sync (path ++ m.rank ∷ [])) ∷ sync_tokens b) (record m { rank = m.rank + 1; top = record m.top { spawned = false } })
       unfolding acted
       by_spawned true = refl
       by_spawned false = refl
