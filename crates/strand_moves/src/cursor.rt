@@ -91,11 +91,11 @@ impl Cursor {
     pub(crate) fn pass<'a>(&mut self, body: &'a [Stmt]) -> Option<&'a Stmt>
         ensures { MatchOption result ((left_of body.now self.old ≡ []) × (left_of body.now self.new ≡ [])) (λ st. Passes body.now self.old self.new st.now) }
     {
-        'blocks: loop {
+        loop {
             let block = innermost(body, self.entered.as_slice());
-            if self.next < block.len() {
+            if let Some(statement) = block.get(self.next) {
                 self.next += 1;
-                return Some(&block[self.next - 1]);
+                return Some(statement);
             }
             match self.entered.pop() {
                 Some(last) => self.next = last.back,
