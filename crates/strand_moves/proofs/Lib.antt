@@ -1,7 +1,9 @@
 pub mod BelowLemmas
 pub mod CursorLemmas
+pub mod Entering
 pub mod Equations
 pub mod Exits
 pub mod Halts
+pub mod Items
 pub mod LoopEquations
 pub mod ReturnEquations

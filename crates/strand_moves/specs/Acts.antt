@@ -52,14 +52,14 @@ loop_begins plan path n target env steps = by_steps (nat_lt n (steps + 1))
     by_steps false = Err Budget
 
 -- an activation that a call of this function begins
-pub record IsCallee (number : ℕ) (f : Function) (args : List Value) (target : Option Name) (a : Activation) : Type 0 where
+pub record IsCallee (number : ℕ) (f : Function) (args : List Value) (to : Option Name) (a : Activation) : Type 0 where
   pub function : a.function ≡ number
   pub left : left_of f.body a.cursor ≡ f.body
   pub returning : a.returning ≡ false
   pub env : a.env ≡ bound f.params args
   pub spawned : a.spawned ≡ false
   pub faulted : a.faulted ≡ None
-  pub target : a.target ≡ target
+  pub target : a.target ≡ to
 
 -- the value of a function, where there is one
 abbrev pub result_of : Option Function → Env → Result Value FaultKind
