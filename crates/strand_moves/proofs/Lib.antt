@@ -1,4 +1,6 @@
 pub mod BelowLemmas
+pub mod CallLemmas
+pub mod ChildLemmas
 pub mod CursorLemmas
 pub mod Entering
 pub mod Equations

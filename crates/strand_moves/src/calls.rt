@@ -38,7 +38,7 @@ impl Instance {
             return Err(Halt::Fault(FaultKind::Calls));
         }
         let number = function_number(plan.functions(), call.name.bytes.as_slice());
-        match plan.functions().get(number as usize) {
+        match function_in(plan, number) {
             Some(function) => self.open(alloc, number, function, args, target)?,
             None => self.receive(alloc, target, Value::Int(0))?,
         }
@@ -91,7 +91,7 @@ impl Instance {
     fn has_spawns(&self, plan: &Plan) -> bool
         ensures { result ≡ spawns_in (function_at (functions_of plan.now) self.now.top.function) }
     {
-        match plan.functions().get(self.top.function as usize) {
+        match function_in(plan, self.top.function) {
             Some(f) => any_spawns(f.body.as_slice()),
             None => false,
         }
@@ -101,7 +101,7 @@ impl Instance {
     fn result(&self, plan: &Plan) -> Result<Value, Halt>
         ensures { Gives result (result_of (function_at (functions_of plan.now) self.now.top.function) self.now.top.env) }
     {
-        match plan.functions().get(self.top.function as usize) {
+        match function_in(plan, self.top.function) {
             Some(f) => self.top.env.value(&f.result),
             None => Ok(Value::Int(0)),
         }
@@ -124,4 +124,11 @@ impl Instance {
             }
         }
     }
+}
+
+/// The function at this place in the script, if there is one.
+pub(crate) fn function_in(plan: &Plan, number: u32) -> Option<&Function>
+    ensures { option_copied result ≡ function_at (functions_of plan.now) number }
+{
+    plan.functions().get(number as usize)
 }

@@ -16,6 +16,7 @@ ghost use Rattle.strand_moves.specs.Moves.{spawn_to, tokens_of};
 ghost use Rattle.strand_moves.specs.declared.shown.Shown.TheVariants as shown;
 
 use crate::activation::copy_of;
+use crate::calls::function_in;
 use crate::instance::Instance;
 use crate::memory::Memory;
 use crate::shown::Shown;
@@ -170,7 +171,7 @@ impl Instance {
 fn filler(alloc: Global, plan: &Plan, function: u32) -> Result<Value, Memory>
     ensures { IfOk result (λ v. v ≡ answer_filler (function_at (functions_of plan.now) function)) }
 {
-    match plan.functions().get(function as usize) {
+    match function_in(plan, function) {
         Some(f) => match f.answer {
             Kind::Int => Ok(Value::Int(0)),
             Kind::Id => Ok(Value::Id(Pedigree {
