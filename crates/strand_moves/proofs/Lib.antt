@@ -8,4 +8,5 @@ pub mod Exits
 pub mod Halts
 pub mod Items
 pub mod LoopEquations
+pub mod Paying
 pub mod ReturnEquations
