@@ -4,7 +4,7 @@ use Rattle.script_grammar.specs.declared.tree.Name.{Name}
 use Rattle.script_grammar.specs.declared.tree.CallText.{CallText}
 use Rattle.script_grammar.specs.declared.tree.Right.TheVariants as right
 use Rattle.script_grammar.specs.declared.tree.Stmt.{Stmt, out-Stmt}
-use Rattle.script_grammar.specs.declared.tree.Act.{Act, out-Act}
+use Rattle.script_grammar.specs.declared.tree.Act.{Act, out-Act, out-roll-Act, roll-Act}
 use Rattle.script_grammar.specs.declared.tree.Act.TheOpen as act
 use Rattle.script_grammar.specs.declared.tree.Act.TheOpen.{Act-F}
 use Rattle.serial_meaning.specs.Runs.{Run}
@@ -22,6 +22,10 @@ use Rattle.strand_moves.proofs.Equations.{behind_statement, paid-move}
 
 pub shows-same : (run other : Run Token Fault Reached) (strand : List ℕ) (m : Machine) (result : Result Shown values.Halt) → run ≡ other → Shows other strand m result → Shows run strand m result
 shows-same run other strand m result e h = let P : Run Token Fault Reached → Type 0 = λ r. Shows r strand m result in subst P (sym e) h
+
+-- an act by its variant
+pub act-is : (d : Act-F Act Stmt) (a b : Act) → a ≡ b → roll-Act d ≡ b → out-Act a ≡ d
+act-is d a b e r = ap (λ (x : Act). out-Act x) (e ∙ sym r) ∙ out-roll-Act d
 
 -- the offset of a word in the text doesn't matter
 module _ (plan : PlanView) (path : List ℕ) (m : Machine) (st : Stmt) (x : Name) (at : ℕ) (c : CallText) where
