@@ -2,6 +2,7 @@ pub mod BelowLemmas
 pub mod CallLemmas
 pub mod ChildLemmas
 pub mod CursorLemmas
+pub mod Ending
 pub mod Entering
 pub mod Equations
 pub mod Exits
