@@ -4,6 +4,7 @@ use Rattle.std.proofs.Common.{ℤ, pos, ◌-ℤ◌, w64}
 use Rattle.std.specs.Int.{cast_signed}
 use Rattle.dotmix.specs.Draws.{dotmix}
 use Rattle.script_grammar.specs.declared.tree.Name.{Name}
+use Rattle.script_grammar.specs.declared.tree.Number.{Number}
 use Rattle.script_grammar.specs.declared.tree.Expr.{Expr}
 use Rattle.script_grammar.specs.declared.tree.CallText.{CallText}
 use Rattle.script_grammar.specs.declared.tree.Function.{Function}
@@ -29,7 +30,7 @@ use Rattle.serial_meaning.specs.declared.event.Event.{Event}
 use Rattle.serial_meaning.specs.declared.event.Event.TheVariants as event
 use Rattle.serial_meaning.specs.declared.origin.Origin.{Origin}
 use Rattle.serial_meaning.specs.declared.origin.Origin.TheVariants as origin
-use Rattle.strand_meaning.specs.Machine.{Place, Spawned, Looped, Token, Told, Handed, Syncs, Loops, Halt, Faulted, Inside, handing, inside, place_of, Activation, Machine, Reached, Stands, Gives, state_of, with_left, with_scalar, entered, reached, statement_move}
+use Rattle.strand_meaning.specs.Machine.{Place, Spawned, Looped, Token, Told, Handed, Syncs, Loops, Halt, Faulted, Inside, handing, inside, place_of, sync_tokens, Activation, Machine, Reached, Stands, Gives, state_of, with_left, with_scalar, entered, reached, statement_move}
 use Rattle.strand_moves.specs.Moves.{acted, call_to, spawn_to}
 
 abbrev pub with_env : Machine → Env → Machine
@@ -75,7 +76,12 @@ module _ (plan : PlanView) (path : List ℕ) (m : Machine) (st : Stmt) (left : L
   by_act n (act.Pfor x lo hi target c) = refl
 
   pub paid-move : (n : ℕ) → m.steps ≡ suc n → statement_move plan path m st left ≡ acted plan path (behind_statement m n left) st (out-Act (out-Stmt st).act)
-  paid-move n h = rw h (by_act n (out-Act (out-Stmt st).act))
+  paid-move n h =
+      let a = out-Act (out-Stmt st).act in
+      ap (λ (k : ℕ).
+          let r = paid_from (handing plan (place_of (length m.below) a)) plan path k (state_of m) (λ s. does (handing plan (place_of (length m.below) a)) plan path inside (length m.below) st a s) in
+          let run : Run Token Fault Reached = record { items = r.items; ending = reached plan (with_left m left) (entered plan st a left m) r.ending } in run) h
+      ∙ by_act n a
 
   pub unpaid-move : m.steps ≡ 0 → statement_move plan path m st left ≡ faults Budget (path ++ m.rank ∷ [])
   unpaid-move h = rw h refl
@@ -111,21 +117,20 @@ module _ (plan : PlanView) (path : List ℕ) (m : Machine) (st : Stmt) where
   unfolding acted
   set-new x at env k = rw k refl
 
-  pub array : (x : Name) (n : ℤ) → (k : _) → k.value ≡ n → (env : Env) → env ≡ with_slot m.top.env x.bytes (Array (zeros (count_of n))) → acted plan path m st (act.Array x k) ≡ went [] (with_env m env)
+  pub array : (x : Name) (n : Number) (env : Env) → env ≡ with_slot m.top.env x.bytes (Array (zeros (count_of n.value))) → acted plan path m st (act.Array x n) ≡ went [] (with_env m env)
   unfolding acted
-  array x n k e env h = rw (h, e) refl
+  array x n env h = rw h refl
 
   pub print : (e : Expr) (v : Value) → value_of e m.top.env ≡ Ok v → acted plan path m st (act.Print e) ≡ went (Told (event.Print (path ++ m.rank ∷ []) v) ∷ []) m
   unfolding acted
   print e v h = rw h refl
 
-  pub sync : acted plan path m st act.Sync ≡ went (Told (event.Sync (path ++ m.rank ∷ [])) ∷ (if m.top.spawned then Syncs ∷ [] else [])) (record m { rank = m.rank + 1; top = record m.top { spawned = false } })
+  pub sync : acted plan path m st act.Sync ≡ went (Told (event.Sync (path ++ m.rank ∷ [])) ∷ sync_tokens m.top.spawned) (record m { rank = m.rank + 1; top = record m.top { spawned = false } })
   unfolding acted
   sync = by_spawned m.top.spawned
     where
       by_spawned : (b : Bool) → acted plan path (record m { top = record m.top { spawned = b } }) st act.Sync
-          ≡ went (Told (event.Sync (path ++ m.rank ∷ [])) ∷ (if b then Syncs ∷ [] else [])) (record m { rank = m.rank + 1; top = record m.top { spawned = false } })
-      unfolding acted
+          ≡ went (Told (event.Sync (path ++ m.rank ∷ [])) ∷ sync_tokens b) (record m { rank = m.rank + 1; top = record m.top { spawned = false } })
       by_spawned true = refl
       by_spawned false = refl
 
@@ -153,14 +158,14 @@ module _ (plan : PlanView) (path : List ℕ) (m : Machine) (st : Stmt) where
   print-fault e kind h = rw h refl
 
   -- what an `if` goes inside to
-  pub branch : (e : Expr) (yes no : List Stmt) (v : Value) (b : Bool) → value_of e m.top.env ≡ Ok v → is_true v ≡ b →
-      acted plan path m st (act.If e yes no) ≡ went [] (record m { top = record m.top { left = (if b then yes else no) ++ m.top.left } })
+  pub branch : (e : Expr) (first second : List Stmt) (v : Value) (b : Bool) → value_of e m.top.env ≡ Ok v → is_true v ≡ b →
+      acted plan path m st (act.If e first second) ≡ went [] (record m { top = record m.top { left = (if b then first else second) ++ m.top.left } })
   unfolding acted
-  branch e yes no v b h k = rw (h, k) refl
+  branch e first second v b h k = rw (h, k) refl
 
-  pub branch-fault : (e : Expr) (yes no : List Stmt) (kind : FaultKind) → value_of e m.top.env ≡ Err kind → acted plan path m st (act.If e yes no) ≡ faults kind (path ++ m.rank ∷ [])
+  pub branch-fault : (e : Expr) (first second : List Stmt) (kind : FaultKind) → value_of e m.top.env ≡ Err kind → acted plan path m st (act.If e first second) ≡ faults kind (path ++ m.rank ∷ [])
   unfolding acted
-  branch-fault e yes no kind h = rw h refl
+  branch-fault e first second kind h = rw h refl
 
   pub turn : (e : Expr) (body : List Stmt) (v : Value) → value_of e m.top.env ≡ Ok v → is_true v ≡ true →
       acted plan path m st (act.While e body) ≡ went [] (record m { top = record m.top { left = body ++ (st ∷ m.top.left) } })

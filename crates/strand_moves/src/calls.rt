@@ -1,10 +1,13 @@
 // Calls, and the end of an activation.
 
-ghost use Rattle.std.specs.Prelude.{◌≡◌, ◌<◌, ◌≤◌, ◌+◌, false, true, OnOk};
+ghost use Rattle.std.specs.Prelude.{◌≡◌, ◌<◌, ◌≤◌, ◌+◌, ◌++◌, ◌∷◌, [], false, true, OnOk};
 ghost use Rattle.std.specs.Option.{option_copied};
 ghost use Rattle.script_grammar.specs.declared.tree.Stmt.{Stmt};
-ghost use Rattle.strand_meaning.specs.Machine.{return_move, with_scalar};
-ghost use Rattle.strand_moves.specs.Acts.{Acts, Costs};
+ghost use Rattle.serial_meaning.specs.Functions.{function_at};
+ghost use Rattle.serial_meaning.specs.Plan.{functions_of};
+ghost use Rattle.strand_meaning.specs.Machine.{return_move, spawns_in, with_scalar};
+ghost use Rattle.strand_values.specs.Gives.{Gives};
+ghost use Rattle.strand_moves.specs.Acts.{Acts, Costs, IsCallee, result_of};
 ghost use Rattle.strand_moves.specs.Machines.{IsInstance, machine_of, path_of};
 ghost use Rattle.strand_moves.specs.Moves.{Makes, Shows, call_to, strand_of};
 
@@ -35,7 +38,7 @@ impl Instance {
             return Err(Halt::Fault(FaultKind::Calls));
         }
         let number = function_number(plan.functions(), call.name.bytes.as_slice());
-        match plan.functions().get(number as usize) {
+        match function_in(plan, number) {
             Some(function) => self.open(alloc, number, function, args, target)?,
             None => self.receive(alloc, target, Value::Int(0))?,
         }
@@ -44,17 +47,23 @@ impl Instance {
 
     /// Begins a function over the innermost activation.
     fn open(&mut self, alloc: Global, number: u32, function: &Function, args: Items<Value>, target: Option<&Name>) -> Result<(), Memory>
+        ensures top { OnOk result (IsCallee number function.now args (option_copied target.entry) self.new.top) }
+        ensures below { OnOk result (self.new.below.items ≡ self.old.below.items ++ self.old.top ∷ []) }
+        ensures trail { self.new.trail ≡ self.old.trail }
+        ensures rank { self.new.rank ≡ self.old.rank }
+        ensures steps { self.new.steps ≡ self.old.steps }
     {
         let target = copy_of(alloc, target)?;
         let callee = Activation::new(alloc, number, function, args, target)?;
-        self.below.push(mem::replace(&mut self.top, callee))?;
+        let caller = mem::replace(&mut self.top, callee);
+        self.below.push(caller)?;
         Ok(())
     }
 
     /// Gives a variable of the innermost activation a value, if there is one.
     pub(crate) fn receive(&mut self, alloc: Global, target: Option<&Name>, value: Value) -> Result<(), Memory>
-        ensures env { OnOk result (self.new ≡ record self.old { top = record self.old.top { env = with_scalar (option_copied target.entry) value self.old.top.env } }) }
-        ensures trail { self.new.trail ≡ self.old.trail }
+        ensures env { OnOk result (self.new.top.env ≡ with_scalar (option_copied target.entry) value self.old.top.env) }
+        ensures others { self.new ≡ record self.old { top = record self.old.top { env = self.new.top.env } } }
     {
         if let Some(x) = target {
             self.top.env.set_scalar(alloc, x, value)?;
@@ -71,12 +80,31 @@ impl Instance {
         ensures few { self.new.rank + self.new.steps ≤ self.old.rank + self.old.steps }
     {
         self.pay()?;
-        let shown = match plan.functions().get(self.top.function as usize) {
-            Some(f) if any_spawns(f.body.as_slice()) => self.sync()?,
-            _ => Shown::Nothing,
-        };
         self.top.returning = true;
-        Ok(shown)
+        if self.has_spawns(plan) {
+            return Ok(self.sync()?);
+        }
+        Ok(Shown::Nothing)
+    }
+
+    /// Whether the word `spawn` stands in the text of the innermost activation.
+    fn has_spawns(&self, plan: &Plan) -> bool
+        ensures { result ≡ spawns_in (function_at (functions_of plan.now) self.now.top.function) }
+    {
+        match function_in(plan, self.top.function) {
+            Some(f) => any_spawns(f.body.as_slice()),
+            None => false,
+        }
+    }
+
+    /// The value of the innermost activation's function, as its variables are.
+    fn result(&self, plan: &Plan) -> Result<Value, Halt>
+        ensures { Gives result (result_of (function_at (functions_of plan.now) self.now.top.function) self.now.top.env) }
+    {
+        match function_in(plan, self.top.function) {
+            Some(f) => self.top.env.value(&f.result),
+            None => Ok(Value::Int(0)),
+        }
     }
 
     /// The value of an activation that ends goes to the one below it, or is that of the instance.
@@ -86,10 +114,7 @@ impl Instance {
         ensures trail { self.new.trail ≡ self.old.trail }
         ensures few { self.new.rank + self.new.steps ≤ self.old.rank + self.old.steps }
     {
-        let value = match plan.functions().get(self.top.function as usize) {
-            Some(f) => self.top.env.value(&f.result)?,
-            None => Value::Int(0),
-        };
+        let value = self.result(plan)?;
         match self.below.pop() {
             None => Ok(Moved::Gave(value)),
             Some(caller) => {
@@ -99,4 +124,11 @@ impl Instance {
             }
         }
     }
+}
+
+/// The function at this place in the script, if there is one.
+pub(crate) fn function_in(plan: &Plan, number: u32) -> Option<&Function>
+    ensures { option_copied result ≡ function_at (functions_of plan.now) number }
+{
+    plan.functions().get(number as usize)
 }

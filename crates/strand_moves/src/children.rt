@@ -1,20 +1,22 @@
 // Children: spawns, syncs and parallel loops.
 
-ghost use Rattle.std.specs.Prelude.{◌≡◌, ◌<◌, ◌^◌, ◌+◌, ◌++◌, ◌∷◌, [], ℕ, Ok, Err, IfOk, OnOk, OnErr, length};
+ghost use Rattle.std.specs.Prelude.{◌≡◌, ◌<◌, ◌≤◌, ◌^◌, ◌+◌, ◌++◌, ◌∷◌, [], ℕ, IfOk, OnOk, false};
 ghost use Rattle.std.specs.Option.{option_copied};
 ghost use Rattle.script_grammar.specs.declared.tree.Act.TheOpen as act;
 ghost use Rattle.script_grammar.specs.declared.tree.Stmt.{Stmt};
 ghost use Rattle.serial_meaning.specs.Exec.{filled};
 ghost use Rattle.serial_meaning.specs.Functions.{function_at};
 ghost use Rattle.serial_meaning.specs.Open.{answer_filler};
-ghost use Rattle.serial_meaning.specs.Plan.{PlanView, functions_of};
+ghost use Rattle.serial_meaning.specs.Plan.{functions_of};
 ghost use Rattle.serial_meaning.specs.declared.event.Event.TheVariants as event;
+ghost use Rattle.strand_meaning.specs.Machine.{Told, sync_tokens};
 ghost use Rattle.strand_moves.specs.Acts.{Acts, Costs, loop_begins};
 ghost use Rattle.strand_moves.specs.Machines.{IsInstance, path_of};
-ghost use Rattle.strand_moves.specs.Moves.{spawn_to};
+ghost use Rattle.strand_moves.specs.Moves.{spawn_to, tokens_of};
 ghost use Rattle.strand_moves.specs.declared.shown.Shown.TheVariants as shown;
 
 use crate::activation::copy_of;
+use crate::calls::function_in;
 use crate::instance::Instance;
 use crate::memory::Memory;
 use crate::shown::Shown;
@@ -42,7 +44,8 @@ impl Instance {
         let event = Event::Spawn(self.pedigree()?);
         let path = self.child_path(alloc)?;
         let child = Origin::Instance { function, args, path };
-        self.receive(alloc, target, filler(alloc, plan, function)?)?;
+        let instead = filler(alloc, plan, function)?;
+        self.receive(alloc, target, instead)?;
         let target = copy_of(alloc, target)?;
         self.rank += 1;
         self.top.spawned = true;
@@ -56,9 +59,10 @@ impl Instance {
     }
 
     /// A sync, written or implied.
-    pub(crate) fn sync(&mut self) -> Result<Shown, Halt>
+    pub(crate) fn sync(&mut self) -> Result<Shown, Memory>
         requires { self.old.rank < 2 ^ 32 }
-        ensures shows { (plan : PlanView) (st : Stmt) → Acts plan st act.Sync self.old self.new result }
+        ensures shown { IfOk result (λ s. tokens_of s ≡ Told (event.Sync (path_of self.old ++ self.old.rank ∷ [])) ∷ sync_tokens self.old.top.spawned) }
+        ensures passed { OnOk result (self.new ≡ record self.old { rank = self.old.rank + 1; top = record self.old.top { spawned = false } }) }
         ensures trail { self.new.trail ≡ self.old.trail }
         ensures few { Costs self.old self.new }
     {
@@ -105,6 +109,7 @@ impl Instance {
     fn begin_loop(&mut self, plan: &Plan, target: &Option<Name>, count: u64) -> Result<(), FaultKind>
         ensures result { result ≡ loop_begins plan.now (path_of self.old) count target.now self.old.top.env self.old.steps }
         ensures ok { OnOk result (self.new.steps + count ≡ self.old.steps) }
+        ensures less { self.new.steps ≤ self.old.steps }
         ensures others { self.new ≡ record self.old { steps = self.new.steps } }
     {
         if count > self.steps {
@@ -125,6 +130,8 @@ impl Instance {
         requires { self.old.rank < 2 ^ 32 }
         ensures shown { IfOk result (λ s. s ≡ shown.Told (event.Loop (path_of self.old ++ self.old.rank ∷ []))) }
         ensures passed { OnOk result (self.new ≡ record self.old { rank = self.old.rank + 1; top = record self.old.top { env = filled target.now [] self.old.top.env } }) }
+        ensures trail { self.new.trail ≡ self.old.trail }
+        ensures few { Costs self.old self.new }
     {
         let event = Event::Loop(self.pedigree()?);
         self.top.env.fill(alloc, target.as_ref(), &[])?;
@@ -137,6 +144,8 @@ impl Instance {
         requires { self.old.rank < 2 ^ 32 }
         ensures shown { IfOk result (λ s. s ≡ shown.Looped (event.Loop (path_of self.old ++ self.old.rank ∷ [])) child target.now) }
         ensures passed { OnOk result (self.new ≡ record self.old { rank = self.old.rank + 1; top = record self.old.top { env = filled target.now [] self.old.top.env } }) }
+        ensures trail { self.new.trail ≡ self.old.trail }
+        ensures few { Costs self.old self.new }
     {
         let event = Event::Loop(self.pedigree()?);
         self.top.env.fill(alloc, target.as_ref(), &[])?;
@@ -162,7 +171,7 @@ impl Instance {
 fn filler(alloc: Global, plan: &Plan, function: u32) -> Result<Value, Memory>
     ensures { IfOk result (λ v. v ≡ answer_filler (function_at (functions_of plan.now) function)) }
 {
-    match plan.functions().get(function as usize) {
+    match function_in(plan, function) {
         Some(f) => match f.answer {
             Kind::Int => Ok(Value::Int(0)),
             Kind::Id => Ok(Value::Id(Pedigree {

@@ -36,7 +36,7 @@ impl Instance {
             Act::Store(x, i, e) => self.store(x, i, e),
             Act::Spawn(c) => self.spawn(alloc, plan, None, c),
             Act::Call(c) => self.call(alloc, plan, None, c),
-            Act::Sync => self.sync(),
+            Act::Sync => Ok(self.sync()?),
             Act::Print(e) => self.print(e),
             Act::If(e, _, _) => self.branch(e),
             Act::While(e, _) => self.turn(e),
