@@ -15,14 +15,14 @@ use std::alloc::Global;
 use std::process::Abort;
 use std::test::Fail;
 
-/// The plan of a script, for pedigrees of up to two ranks.
+/// The plan of a script, for pedigrees of up to three ranks.
 fn plan(rt: &impl Abort, alloc: Global, text: &[u8], budget: u32) -> Result<Plan, Fail> {
     assert!(rt; text.len() <= MAX_BYTES);
     assert!(rt; budget > 0);
     let checked = check(alloc, parse(alloc, text)?)?;
-    let gamma = Gamma::of_seed(alloc, 1, 2)?;
-    assert!(rt; gamma.len() == 2);
-    let limits = Limits { depth: 2, budget };
+    let gamma = Gamma::of_seed(alloc, 1, 3)?;
+    assert!(rt; gamma.len() == 3);
+    let limits = Limits { depth: 3, budget };
     Ok(Plan::new(checked, gamma, limits, Show::Plain))
 }
 
