@@ -1,5 +1,5 @@
 -- The place of a variable, and what stands there.
-use Rattle.std.proofs.Common.{◌≡◌, ℕ, zero, suc, ◌+◌, ◌<◌, ◌≤◌, Bool, true, false, not, cond, List, [], ◌∷◌, ◌++◌, Option, Some, None, IsNone, Result, Ok, Err, OnErr, length, get_or, slice_set, refl, sym, subst, ap, ◌∙◌, arith, if◌then◌else◌, nat_lt, position}
+use Rattle.std.proofs.Common.{◌≡◌, ℕ, zero, suc, ◌+◌, ◌<◌, ◌≤◌, Bool, true, false, not, cond, List, [], ◌∷◌, ◌++◌, Option, Some, None, IsNone, Result, Ok, Err, OnErr, length, get_or, slice_set, refl, sym, subst, ap, ◌∙◌, arith, if◌then◌else◌, position}
 use Rattle.std.specs.List.{position_or_len}
 use Rattle.std.specs.Str.{bytes_eq}
 use Rattle.std.proofs.lemmas.List.Quantifiers.{position-Some}

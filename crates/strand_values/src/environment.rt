@@ -78,6 +78,16 @@ impl Environment {
         self.set(alloc, name.bytes.as_slice(), Slot::Scalar(value))
     }
 
+    /// Gives a scalar that is there a new value. Where the name isn't there nothing changes.
+    pub fn replace_scalar(&mut self, name: &Name, value: Value)
+        ensures there { IsSome (slot_of self.old name.now.bytes) → self.new ≡ with_slot self.old name.now.bytes (Scalar value) }
+        ensures missing { IsNone (slot_of self.old name.now.bytes) → self.new ≡ self.old }
+    {
+        if let Some(i) = place(&self.variables, name.bytes.as_slice()) {
+            self.variables[i].slot = Slot::Scalar(value);
+        }
+    }
+
     /// Makes an array of so many zeros. A name that wasn't there stands at the end. Without memory nothing changes.
     pub fn set_array(&mut self, alloc: Global, name: &Name, length: u64) -> Result<(), Memory>
         ensures ok { OnOk result (self.new ≡ with_slot self.old name.now.bytes (Array (zeros length))) }

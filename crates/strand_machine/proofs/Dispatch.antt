@@ -1,0 +1,206 @@
+-- What is left of a task after a move is sound, and each kind of move is the defined one.
+use Rattle.std.proofs.Common.{◌≡◌, ℕ, zero, suc, ◌+◌, ◌-◌, ◌<◌, ◌≤◌, Bool, true, false, List, [], ◌∷◌, ◌++◌, Option, Some, None, Ok, Err, length, length-append, replicate, nat_lt, refl, sym, ap, ◌∙◌, subst, arith, append_assoc}
+use Rattle.std.proofs.Common.{ℤ}
+use Rattle.std.proofs.lemmas.Bool.{true≢false}
+use Rattle.std.proofs.lemmas.Bool.Decides.{nat_tests}
+use Rattle.loop_range.specs.Range.{Range, lower_half, upper_half}
+use Rattle.serial_meaning.specs.Answer.{IsEval, IsAnswer}
+use Rattle.serial_meaning.specs.Eval.{path_of}
+use Rattle.serial_meaning.specs.Laws.{IsOriginOf}
+use Rattle.serial_meaning.specs.Open.{Own, Joined}
+use Rattle.serial_meaning.specs.Plan.{PlanView}
+use Rattle.serial_meaning.specs.declared.event.Fault.{Fault}
+use Rattle.serial_meaning.specs.declared.event.Event.{Event}
+use Rattle.serial_meaning.specs.declared.value.Value.{Value}
+use Rattle.serial_meaning.specs.declared.origin.Origin.{Origin}
+use Rattle.serial_meaning.specs.declared.origin.Origin.TheVariants.{Instance, Loop}
+use Rattle.serial_meaning.specs.declared.answer.Outcome.{Outcome}
+use Rattle.serial_meaning.specs.declared.answer.Outcome.TheVariants as outcome
+use Rattle.strand_meaning.specs.Laws.{IsSoundStop, IsSoundStep, IsFaultOf}
+use Rattle.serial_meaning.specs.Runs.{Run}
+use Rattle.strand_meaning.specs.Machine.{Token, Reached, move}
+use Rattle.strand_meaning.specs.Pieces.{Part, hand}
+use Rattle.strand_meaning.specs.Sound.{IsTask}
+use Rattle.strand_meaning.specs.Task as meaning
+use Rattle.strand_meaning.specs.Task.{Task, ends, ends_unless, own_instance, first_half, split_step, over_step, waits, begins_last, gave, faults_behind, moved, stops_at, child_in}
+use Rattle.strand_meaning.proofs.Ends.{steps_are_sound}
+use Rattle.strand_moves.specs.Machines as moves
+use Rattle.strand_moves.specs.Moves.{tokens_of, run_of}
+use Rattle.strand_moves.specs.declared.instance.Instance.{Instance as RawInstance}
+use Rattle.strand_moves.specs.declared.shown.Shown.{Shown}
+use Rattle.strand_moves.specs.declared.shown.Moved.TheVariants as moved-in
+use Rattle.strand_machine.specs.Bodies.{is_long, only}
+use Rattle.strand_machine.specs.Family.{FamilyView, handed}
+use Rattle.strand_machine.specs.Parts.{awaited, place_of}
+use Rattle.strand_machine.specs.Shown.{shown_task, IsSoundShown, IsKnownChild}
+use Rattle.strand_machine.specs.Tasks.{AwaitsLast, RunsAt, WorksAt, IsSound, task_of, work_of, gone, waiting, with_child, ended_by}
+use Rattle.strand_machine.specs.declared.body.Body.{Body}
+use Rattle.strand_machine.specs.declared.place.Place.{Place}
+use Rattle.strand_machine.specs.declared.place.Place.TheVariants as place
+use Rattle.strand_machine.specs.declared.work.Stage.TheVariants as stage
+use Rattle.strand_machine.specs.declared.work.Work.{Work}
+use Rattle.strand_machine.specs.declared.work.Work.TheVariants as work
+
+-- Sound moves
+
+sound-step : (b : Body) (w : Work) (s : meaning.Step) → IsSound b w → meaning.step (task_of b w) ≡ s → IsSoundStep (task_of b w) s
+sound-step b w s h e = subst (IsSoundStep (task_of b w)) e (steps_are_sound (task_of b w) h.task)
+
+pub pass-sound : (b : Body) (w next : Work) → IsSound b w → meaning.step (task_of b w) ≡ meaning.Passes (task_of (gone b) next) → WorksAt b.family.plan (path_of (own_instance b.family.origin)) next → IsSound (gone b) next
+pass-sound b w next h e works = record { task = sound-step b w (meaning.Passes (task_of (gone b) next)) h e; family = h.family; works = works }
+
+pub wait-sound : (b : Body) (w next : Work) → IsSound b w → meaning.step (task_of b w) ≡ meaning.Stops (meaning.Wait (task_of (waiting b) next)) → WorksAt b.family.plan (path_of (own_instance b.family.origin)) next → IsSound (waiting b) next
+wait-sound b w next h e works = record { task = sound-step b w (meaning.Stops (meaning.Wait (task_of (waiting b) next))) h e; family = h.family; works = works }
+
+awaited-append : (ps qs : List Part) → awaited (ps ++ qs) ≡ awaited ps ++ awaited qs
+awaited-append [] qs = refl
+awaited-append (p ∷ ps) qs = ap (λ l. p.child ∷ l) (awaited-append ps qs)
+
+one-more : (n : ℕ) → replicate n false ++ false ∷ [] ≡ replicate (n + 1) false
+one-more n = grind arith
+
+pub awaits-more : (family : FamilyView) (parts : List Part) (p : Part) → AwaitsLast family parts → AwaitsLast (handed family p.child) (parts ++ p ∷ [])
+awaits-more family parts p h = record {
+  before = h.before;
+  passed = h.passed;
+  same = h.same;
+  children = ap (λ l. l ++ p.child ∷ []) h.children ∙ append_assoc h.before (awaited parts) (p.child ∷ []) ∙ ap (λ l. h.before ++ l) (sym (awaited-append parts (p ∷ [])));
+  taken = ap (λ l. l ++ false ∷ []) h.taken ∙ append_assoc h.passed (replicate (length parts) false) (false ∷ [])
+    ∙ ap (λ l. h.passed ++ l) (one-more (length parts) ∙ ap (λ n. replicate n false) (sym (length-append parts (p ∷ []))));
+}
+
+pub spawn-sound : (b : Body) (w next : Work) (child : Origin) (p : Place) → IsSound b w → meaning.step (task_of b w) ≡ meaning.Stops (meaning.Spawn child (task_of (with_child b child p) next)) →
+    WorksAt b.family.plan (path_of (own_instance b.family.origin)) next → IsOriginOf b.family.plan child × IsSound (with_child b child p) next
+spawn-sound b w next child p h e works =
+    let s = sound-step b w (meaning.Stops (meaning.Spawn child (task_of (with_child b child p) next))) h e in
+    (s.0, record { task = s.1; family = awaits-more b.family b.pieces.handed (record { child = child; place = place_of p; behind = [] }) h.family; works = works })
+
+-- Ends
+
+pub ends-is : (t : Task) (o : Outcome) → ends t o ≡ meaning.Stops (meaning.End t.pieces.told (ended_by t.pieces.fault o))
+ends-is t o = by_fault t.pieces.fault
+  where
+    by_fault : (f : Option Fault) → ends_unless f t o ≡ meaning.Stops (meaning.End t.pieces.told (ended_by f o))
+    by_fault None = refl
+    by_fault (Some f) = refl
+
+answer-of : (plan : PlanView) (o : Origin) (out : List Event) (ended : Outcome) → IsEval plan o out ended → IsFaultOf plan ended → IsAnswer plan o out ended
+answer-of plan o out (outcome.Value v) e f = e
+answer-of plan o out (outcome.Values vs) e f = e
+answer-of plan o out (outcome.Fault g) e f = e
+answer-of plan o out (outcome.Cut g) e f = absurd f
+
+pub end-answers : (b : Body) (w : Work) (o : Outcome) → IsSound b w → meaning.step (task_of b w) ≡ ends (task_of b w) o → IsAnswer b.family.plan b.family.origin b.pieces.told (ended_by b.pieces.fault o)
+end-answers b w o h e =
+    let s = sound-step b w (meaning.Stops (meaning.End b.pieces.told (ended_by b.pieces.fault o))) h (e ∙ ends-is (task_of b w) o) in
+    answer-of b.family.plan b.family.origin b.pieces.told (ended_by b.pieces.fault o) s.0 s.1
+
+-- Loops
+
+only-half : (o : Origin) (left : Range) → only o (lower_half left) ≡ first_half o left
+only-half (Instance function args path) left = refl
+only-half (Loop function rest first path range) left = refl
+
+pub split-many : (b : Body) (range lower upper : Range) (child : Origin) → 2 ≤ range.hi - range.lo → lower ≡ lower_half range → upper ≡ upper_half range → child ≡ only b.family.origin lower →
+    meaning.step (task_of b (work.Splits range)) ≡ meaning.Stops (meaning.Spawn child (task_of (with_child b child place.Half) (work.Splits upper)))
+split-many b range lower upper child h l u c = by_size (range.hi - range.lo) refl h
+  where
+    same : child ≡ first_half b.family.origin range
+    same = c ∙ ap (only b.family.origin) l ∙ only-half b.family.origin range
+
+    by_size : (n : ℕ) → range.hi - range.lo ≡ n → 2 ≤ n → split_step (task_of b (work.Splits range)) range n ≡ meaning.Stops (meaning.Spawn child (task_of (with_child b child place.Half) (work.Splits upper)))
+    by_size zero e g = absurd (omega arith)
+    by_size (suc zero) e g = absurd (omega arith)
+    by_size (suc (suc n)) e g =
+        ap (λ (o : Origin). meaning.Stops (meaning.Spawn o (task_of (with_child b o place.Half) (work.Splits (upper_half range))))) (sym same)
+        ∙ ap (λ (r : Range). meaning.Stops (meaning.Spawn child (task_of (with_child b child place.Half) (work.Splits r)))) (sym u)
+
+pub split-none : (b : Body) (range : Range) → range.hi - range.lo ≡ 0 → meaning.step (task_of b (work.Splits range)) ≡ ends (task_of b (work.Splits range)) (outcome.Values b.values)
+split-none b range e = ap (split_step (task_of b (work.Splits range)) range) e
+
+pub split-one : (b : Body) (range : Range) (next : Work) → range.hi - range.lo ≡ 1 → work_of b.family.plan next ≡ begins_last b.family.plan b.family.origin →
+    meaning.step (task_of b (work.Splits range)) ≡ meaning.Passes (task_of (gone b) next)
+split-one b range next e begun =
+    ap (split_step (task_of b (work.Splits range)) range) e
+    ∙ ap (λ (w : meaning.Work). meaning.Passes (record (task_of b (work.Splits range)) { work = w; advanced = true })) (sym begun)
+
+over-waits : (t : Task) (v : Value) (o : Origin) → is_long o ≡ true → over_step t v o ≡ waits t
+over-waits t v (Instance function args path) h = absurd (true≢false (sym h))
+over-waits t v (Loop function rest first path range) h = by_size (range.hi - range.lo) refl h
+  where
+    by_size : (n : ℕ) → range.hi - range.lo ≡ n → nat_lt 1 (range.hi - range.lo) ≡ true → over_step t v (Loop function rest first path range) ≡ waits t
+    by_size zero g k = absurd (true≢false (sym (rw g at k)))
+    by_size (suc zero) g k = absurd (true≢false (sym (rw g at k)))
+    by_size (suc (suc n)) g k = rw g refl
+
+over-ends : (t : Task) (v : Value) (o : Origin) → is_long o ≡ false → over_step t v o ≡ ends t (outcome.Values (t.values ++ v ∷ []))
+over-ends t v (Instance function args path) h = refl
+over-ends t v (Loop function rest first path range) h = by_size (range.hi - range.lo) refl h
+  where
+    by_size : (n : ℕ) → range.hi - range.lo ≡ n → nat_lt 1 (range.hi - range.lo) ≡ false → over_step t v (Loop function rest first path range) ≡ ends t (outcome.Values (t.values ++ v ∷ []))
+    by_size zero g k = rw g refl
+    by_size (suc zero) g k = rw g refl
+    by_size (suc (suc n)) g k = absurd (true≢false (long n ∙ rw g at k))
+
+    long : (n : ℕ) → true ≡ nat_lt 1 (suc (suc n))
+    long n = grind (arith, nat_tests)
+
+pub over-long : (b : Body) (v : Value) → is_long b.family.origin ≡ true → meaning.step (task_of b (work.Over v false)) ≡ meaning.Stops (meaning.Wait (task_of (waiting b) (work.Over v false)))
+over-long b v h = over-waits (task_of b (work.Over v false)) v b.family.origin h
+
+pub over-short : (b : Body) (v : Value) → is_long b.family.origin ≡ false → meaning.step (task_of b (work.Over v false)) ≡ ends (task_of b (work.Over v false)) (outcome.Values (b.values ++ v ∷ []))
+over-short b v h = over-ends (task_of b (work.Over v false)) v b.family.origin h
+
+-- Instances
+
+pub give-instance : (b : Body) (v : Value) (function : ℕ) (args : List Value) (path : List ℕ) → b.family.origin ≡ Instance function args path →
+    meaning.step (task_of b (work.Runs (stage.Gave v))) ≡ ends (task_of b (work.Runs (stage.Gave v))) (outcome.Value v)
+give-instance b v function args path e = ap (λ (o : Origin). gave (task_of b (work.Runs (stage.Gave v))) o v) e
+
+pub give-loop : (b : Body) (v : Value) (function : ℕ) (rest : List Value) (first : ℤ) (path : List ℕ) (range : Range) → b.family.origin ≡ Loop function rest first path range →
+    meaning.step (task_of b (work.Runs (stage.Gave v))) ≡ meaning.Passes (task_of (gone b) (work.Over v false))
+give-loop b v function rest first path range e = ap (λ (o : Origin). gave (task_of b (work.Runs (stage.Gave v))) o v) e
+
+pub fault-alone : (b : Body) (f : Fault) → b.pieces.handed ≡ [] → meaning.step (task_of b (work.Runs (stage.Faulted f))) ≡ ends (task_of b (work.Runs (stage.Faulted f))) (outcome.Fault f)
+fault-alone b f e = ap (λ (ps : List Part). faults_behind ps (task_of b (work.Runs (stage.Faulted f))) f) e
+
+pub fault-behind : (b : Body) (f : Fault) → (b.pieces.handed ≡ [] → ⊥) → meaning.step (task_of b (work.Runs (stage.Faulted f))) ≡ meaning.Stops (meaning.Wait (task_of (waiting b) (work.Runs (stage.Faulted f))))
+fault-behind b f h = from b.pieces.handed h
+  where
+    from : (ps : List Part) → (ps ≡ [] → ⊥) → faults_behind ps (task_of b (work.Runs (stage.Faulted f))) f ≡ waits (task_of b (work.Runs (stage.Faulted f)))
+    from [] g = absurd (g refl)
+    from (p ∷ ps) g = refl
+
+-- Moves
+
+module _ (b : Body) (i : RawInstance) where
+  abbrev here : Task
+  here = task_of b (work.Runs (stage.Goes i))
+
+  abbrev made : Run Token Fault Reached → meaning.Step
+  made r = moved here r.items r.ending
+
+  pub go-went : (next : RawInstance) (s : Shown) → RunsAt b.family.plan (path_of (own_instance b.family.origin)) i →
+      move b.family.plan (moves.path_of i) (moves.machine_of b.family.plan i) ≡ run_of (moved-in.Went s) (moves.machine_of b.family.plan next) →
+      meaning.step here ≡ stops_at (child_in (tokens_of s)) (shown_task b next s)
+  go-went next s at e = ap (λ (p : List ℕ). made (move b.family.plan p (moves.machine_of b.family.plan i))) (sym at.path) ∙ ap made e
+
+  pub go-gave : (next : RawInstance) (v : Value) → RunsAt b.family.plan (path_of (own_instance b.family.origin)) i →
+      move b.family.plan (moves.path_of i) (moves.machine_of b.family.plan i) ≡ run_of (moved-in.Gave v) (moves.machine_of b.family.plan next) →
+      meaning.step here ≡ meaning.Passes (task_of (gone b) (work.Runs (stage.Gave v)))
+  go-gave next v at e = ap (λ (p : List ℕ). made (move b.family.plan p (moves.machine_of b.family.plan i))) (sym at.path) ∙ ap made e
+
+  pub go-faulted : (next : RawInstance) (f : Fault) → RunsAt b.family.plan (path_of (own_instance b.family.origin)) i →
+      move b.family.plan (moves.path_of i) (moves.machine_of b.family.plan i) ≡ run_of (moved-in.Faulted f) (moves.machine_of b.family.plan next) →
+      meaning.step here ≡ meaning.Passes (task_of (gone b) (work.Runs (stage.Faulted f)))
+  go-faulted next f at e = ap (λ (p : List ℕ). made (move b.family.plan p (moves.machine_of b.family.plan i))) (sym at.path) ∙ ap made e
+
+  pub shown-sound : (next : RawInstance) (s : Shown) → IsSound b (work.Runs (stage.Goes i)) → meaning.step here ≡ stops_at (child_in (tokens_of s)) (shown_task b next s) →
+      RunsAt b.family.plan (path_of (own_instance b.family.origin)) next → IsSoundShown b next s
+  shown-sound next s h e runs =
+      let known = from (child_in (tokens_of s)) (sound-step b (work.Runs (stage.Goes i)) (stops_at (child_in (tokens_of s)) (shown_task b next s)) h e) in
+      record { task = known.0; child = known.1; family = h.family; runs = runs }
+    where
+      from : (o : Option Origin) → IsSoundStep here (stops_at o (shown_task b next s)) → IsTask (shown_task b next s) × IsKnownChild b.family.plan o
+      from None g = (g, tt)
+      from (Some o) g = (g.1, g.0)

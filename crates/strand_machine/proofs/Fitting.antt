@@ -1,0 +1,83 @@
+-- An origin of the plan is within its depth.
+use Rattle.std.proofs.Common.{◌≡◌, ℕ, zero, suc, ◌+◌, ◌-◌, ◌<◌, ◌≤◌, Bool, true, false, List, [], ◌∷◌, ◌++◌, Option, Some, None, length, length-append, map, slice_index_or, nat_lt, if◌then◌else◌, refl, sym, ap, ◌∙◌, arith, ◌⊎◌, inl, inr}
+use Rattle.std.proofs.Common.{ℤ}
+use Rattle.std.specs.Prelude.{Contains}
+use Rattle.std.proofs.lemmas.Bool.Decides.{nat_tests}
+use Rattle.serial_meaning.specs.Laws.{IsOriginOf, Main, ChildOf, PartOf}
+use Rattle.serial_meaning.specs.Runs.{done}
+use Rattle.serial_meaning.specs.Functions.{function_at}
+use Rattle.serial_meaning.specs.Plan.{PlanView, functions_of}
+use Rattle.serial_meaning.specs.Exec.{State, strand, fits_depth}
+use Rattle.serial_meaning.specs.Eval.{Evaluation, path_of, eval_at, eval, depth_left}
+use Rattle.serial_meaning.specs.Open.{Item, Happened, Child, Ending, put_off_all, joined, loop_end, is_zero, iterations, node_with, node_at, opened}
+use Rattle.serial_meaning.proofs.Each.{Each, each-contained, Parts, instance-each}
+use Rattle.serial_meaning.specs.declared.value.Value.{Value}
+use Rattle.serial_meaning.specs.declared.event.Fault.{Fault}
+use Rattle.serial_meaning.specs.declared.origin.Origin.{Origin}
+use Rattle.serial_meaning.specs.declared.origin.Origin.TheVariants.{Instance, Loop}
+use Rattle.strand_meaning.proofs.Depth.{Fits, LoopFits, longer, loop-of-plan}
+
+abbrev ItemFits : PlanView → Item → Type 0
+ItemFits plan (Happened e) = Unit {0}
+ItemFits plan (Child o) = Fits plan o
+
+loop-fits : (plan : PlanView) (o : Origin) → Fits plan o → LoopFits plan o
+loop-fits plan (Instance function args path) h = tt
+loop-fits plan (Loop function rest first path range) h = h
+
+below-depth : (m n d : ℕ) → nat_lt m d ≡ true → n ≡ m + 1 → n ≤ d
+below-depth m n d h e = grind (arith, nat_tests)
+
+module _ (plan : PlanView) (child : Origin → Evaluation) (path : List ℕ) where
+  abbrev S : Type 0
+  S = State (Option Fault)
+
+  loop-item-fits : (function : ℕ) (vs : List Value) (lo : ℤ) (hi : ℕ) (s : S) → fits_depth (put_off_all plan child) plan path hi ≡ true →
+      Each (ItemFits plan) ((put_off_all plan child).loop (Loop function vs lo (strand path s) (record { lo = 0; hi = hi }))).items
+  loop-item-fits function vs lo hi s h = by_size hi h (is_zero (hi - 0)) refl
+    where
+      by_size : (n : ℕ) → fits_depth (put_off_all plan child) plan path n ≡ true → (b : Bool) → is_zero (n - 0) ≡ b →
+          Each (ItemFits plan) (if b then done {I = Item} {E = Ending} [] else record { items = Child (Loop function vs lo (strand path s) (record { lo = 0; hi = hi })) ∷ []; ending = loop_end (child (Loop function vs lo (strand path s) (record { lo = 0; hi = hi }))).ending }).items
+      by_size n g true e = tt
+      by_size zero g false e = absurd (cc)
+      by_size (suc n) g false e = (rw (longer path s.rank) (below-depth (length path + 2) (length path + 1 + 2) plan.limits.depth g (omega arith)), tt)
+
+  parts : Parts (put_off_all plan child) plan path (ItemFits plan)
+  parts = record {
+    print = λ s v. tt;
+    draw = λ s. tt;
+    new = λ s. tt;
+    sync = λ s. tt;
+    spawn = λ s. tt;
+    loop = λ s. tt;
+    at_sync = at_sync;
+    child = λ n vs s h. (rw (longer path s.rank) (below-depth (length path + 1) (length path + 1 + 1) plan.limits.depth h refl), tt);
+    iterations = loop-item-fits;
+  }
+    where
+      at_sync : (k : Option Fault) → Each (ItemFits plan) (joined k).items
+      at_sync None = tt
+      at_sync (Some f) = tt
+
+iterations-fit : (plan : PlanView) (function : ℕ) (rest : List Value) (first : ℤ) (path : List ℕ) (k n : ℕ) → length path + 2 ≤ plan.limits.depth →
+    Each (ItemFits plan) (map Child (iterations function rest first path k n))
+iterations-fit plan function rest first path k zero h = tt
+iterations-fit plan function rest first path k (suc n) h =
+    (rw (longer path k) (omega arith), iterations-fit plan function rest first path (k + 1) n h)
+
+children-fit : (plan : PlanView) (child : Origin → Evaluation) (o : Origin) → LoopFits plan o → Each (ItemFits plan) (node_with plan child o).items
+children-fit plan child (Instance function args path) h =
+    instance-each (put_off_all plan child) plan path (ItemFits plan) (parts plan child path) (function_at (functions_of plan) function) args
+children-fit plan child (Loop function rest first path range) h = iterations-fit plan function rest first path range.lo (range.hi - range.lo) h
+
+node-children-fit : (plan : PlanView) (left : ℕ) (o : Origin) → LoopFits plan o → Each (ItemFits plan) (node_at plan left o).items
+node-children-fit plan zero o h = children-fit plan (λ o. done []) o h
+node-children-fit plan (suc left) o h = children-fit plan (eval_at plan left) o h
+
+-- an origin of the plan, where there is a rank at all
+pub fits-of-plan : (plan : PlanView) (o : Origin) → 1 ≤ plan.limits.depth → IsOriginOf plan o → Fits plan o
+fits-of-plan plan o some Main = some
+fits-of-plan plan o some (ChildOf parent child h k) =
+    each-contained (ItemFits plan) (opened plan parent).items (Child child) (node-children-fit plan (depth_left plan parent) parent (loop-of-plan plan parent h)) k
+fits-of-plan plan o some (PartOf parent function rest first path whole part h k a b d) =
+    each-contained (ItemFits plan) (opened plan parent).items (Child (Loop function rest first path whole)) (node-children-fit plan (depth_left plan parent) parent (loop-of-plan plan parent h)) k

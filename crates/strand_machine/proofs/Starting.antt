@@ -1,0 +1,39 @@
+-- A task begins sound.
+use Rattle.std.proofs.Common.{◌≡◌, Bool, false, List, [], refl, sym, ap, subst, ◌∙◌}
+use Rattle.script_check.specs.Valid.{IsValid}
+use Rattle.serial_meaning.specs.Eval.{path_of}
+use Rattle.serial_meaning.specs.Laws.{IsOriginOf}
+use Rattle.serial_meaning.specs.Plan.{PlanView}
+use Rattle.serial_meaning.specs.declared.origin.Origin.{Origin}
+use Rattle.strand_meaning.specs.Pieces.{Pieces, no_pieces}
+use Rattle.strand_meaning.specs.Sound.{IsTask}
+use Rattle.strand_meaning.specs.Task as meaning
+use Rattle.strand_meaning.specs.Task.{Task, start, begun_work, own_instance}
+use Rattle.strand_meaning.proofs.Ends.{tasks_begin}
+use Rattle.strand_machine.specs.Family.{FamilyView, alone}
+use Rattle.strand_machine.specs.Tasks.{TaskView, fresh, work_of, task_of, view_of, WorksAt, AwaitsLast, IsSound}
+use Rattle.strand_machine.specs.declared.body.Body.{Body}
+use Rattle.strand_machine.specs.declared.work.Work.{Work}
+use Rattle.strand_machine.proofs.ClearOfValid.{clear_of_valid}
+
+abbrev pub new_body : FamilyView → Pieces → Body
+new_body family pieces = record { family = family; pieces = pieces; values = []; waiting = false; advanced = false }
+
+module _ (plan : PlanView) (o : Origin) (w : Work) (family : FamilyView) (pieces : Pieces) (f : family ≡ alone plan o) (p : pieces ≡ no_pieces) (e : work_of plan w ≡ begun_work plan o) where
+  same : new_body family pieces ≡ new_body (alone plan o) no_pieces
+  same = ap (λ g. new_body g pieces) f ∙ ap (new_body (alone plan o)) p
+
+  task-is : task_of (new_body (alone plan o) no_pieces) w ≡ start plan o
+  task-is = ap (λ (work : meaning.Work). record { plan = plan; origin = o; pieces = no_pieces; values = []; work = work; waiting = false; advanced = false }) e
+
+  pub start-view : view_of (new_body family pieces) w ≡ fresh plan o
+  start-view = ap (λ (b : Body). view_of b w) same ∙ ap (λ (t : Task). record { task = t; children = []; loads = [] }) task-is
+
+  pub start-sound : IsOriginOf plan o → IsValid plan.script → WorksAt plan (path_of (own_instance o)) w → IsSound (new_body family pieces) w
+  start-sound known valid works =
+      subst (λ (b : Body). IsSound b w) (sym same)
+      (record {
+        task = subst IsTask (sym task-is) (tasks_begin plan o known (clear_of_valid plan valid));
+        family = record { before = []; passed = []; same = refl; children = refl; taken = refl };
+        works = works;
+      })

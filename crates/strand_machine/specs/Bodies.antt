@@ -1,0 +1,14 @@
+-- Loops.
+use Rattle.loop_range.specs.Range.{Range}
+use Rattle.std.specs.Prelude.{◌-◌, Bool, false, nat_lt}
+use Rattle.serial_meaning.specs.declared.origin.Origin.{Origin}
+use Rattle.serial_meaning.specs.declared.origin.Origin.TheVariants.{Instance, Loop}
+
+abbrev pub is_long : Origin → Bool
+is_long (Instance function args path) = false
+is_long (Loop function rest first path range) = nat_lt 1 (range.hi - range.lo)
+
+-- these iterations alone
+abbrev pub only : Origin → Range → Origin
+only (Instance function args path) part = Instance function args path
+only (Loop function rest first path range) part = Loop function rest first path part

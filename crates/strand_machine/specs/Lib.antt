@@ -1,0 +1,7 @@
+pub mod Bodies
+pub mod Family
+pub mod Going
+pub mod Parts
+pub mod Shown
+pub mod Stops
+pub mod Tasks

@@ -1,0 +1,64 @@
+-- What a call on a task gives, by the meaning of tasks.
+use Rattle.std.specs.Prelude.{◌≡◌, ℕ, List, [], ◌∷◌, ◌++◌}
+use Rattle.serial_meaning.specs.Answer.{AnswerView, AnswerTag}
+use Rattle.serial_meaning.specs.Eval.{eval}
+use Rattle.serial_meaning.specs.declared.origin.Origin.{Origin}
+use Rattle.strand_meaning.specs.Rest.{evaluations}
+use Rattle.strand_meaning.specs.Task as meaning
+use Rattle.strand_meaning.specs.Task.{IsNext, on}
+use Rattle.strand_machine.specs.Family.{tag, HasPassed, HasStopped}
+use Rattle.strand_machine.specs.Tasks.{TaskView, fresh}
+use Rattle.strand_machine.specs.declared.stop.Stop.{Stop}
+use Rattle.strand_machine.specs.declared.stop.Stop.TheVariants as stop
+use Rattle.strand_machine.specs.declared.stop.Step.{Step}
+use Rattle.strand_machine.specs.declared.stop.Step.TheVariants as step
+use Rattle.strand_machine.specs.declared.stop.Resumed.{Resumed}
+use Rattle.strand_machine.specs.declared.stop.Resumed.TheVariants as resumed
+
+abbrev pub stop_of : Stop → meaning.Stop
+stop_of (stop.Spawn child rest) = meaning.Spawn child.task.origin rest.task
+stop_of (stop.Wait rest) = meaning.Wait rest.task
+stop_of (stop.Done answer give) = meaning.End answer.out answer.outcome
+
+abbrev pub step_of : Step → meaning.Step
+step_of (step.Passes next) = meaning.Passes next.task
+step_of (step.Stops stop) = meaning.Stops (stop_of stop)
+
+-- A child is a fresh task of the plan, and its origin is the last of those that the rest handed out. An answer is the origin's, and so is
+-- the give.
+abbrev pub Keeps : TaskView → Stop → Type 0
+Keeps t (stop.Spawn child rest) =
+    (child ≡ fresh t.task.plan child.task.origin) × (rest.children ≡ t.children ++ child.task.origin ∷ []) × (rest.loads ≡ t.loads)
+Keeps t (stop.Wait rest) = (rest.children ≡ t.children) × (rest.loads ≡ t.loads)
+Keeps t (stop.Done answer give) = (answer.plan ≡ t.task.plan) × (answer.origin ≡ t.task.origin) × (give ≡ tag t.task.plan t.task.origin)
+
+abbrev pub KeepsStep : TaskView → Step → Type 0
+KeepsStep t (step.Passes next) = (next.children ≡ t.children) × (next.loads ≡ t.loads)
+KeepsStep t (step.Stops stop) = Keeps t stop
+
+-- The next move or stop of a task.
+pub record IsStep (t : TaskView) (s : Step) : Type 0 where
+  pub is : meaning.step t.task ≡ step_of s
+  pub keeps : KeepsStep t s
+
+-- The next stop of a task.
+pub record IsStop (t : TaskView) (s : Stop) : Type 0 where
+  pub next : IsNext t.task (stop_of s)
+  pub keeps : Keeps t s
+
+-- The task with the answers of its children, which are their evaluations.
+abbrev pub went_on : TaskView → meaning.Task
+went_on t = on (evaluations (eval t.task.plan) t.task.pieces.handed) t.task
+
+-- The wait is over; or the task is as it was, and a look has loaded a number that isn't 0.
+abbrev pub IsResumed : TaskView → Resumed → Type 0
+IsResumed t (resumed.On next) = (next.task ≡ went_on t) × (next.children ≡ t.children) × HasPassed t.loads next.loads
+IsResumed t (resumed.NotYet same) = (same.task ≡ t.task) × (same.children ≡ t.children) × HasStopped t.loads same.loads
+
+abbrev pub answer_tags : List AnswerView → List AnswerTag
+answer_tags [] = []
+answer_tags (a ∷ as) = tag a.plan a.origin ∷ answer_tags as
+
+-- the task once it went on with its children's answers
+abbrev pub view_on : TaskView → TaskView
+view_on t = record t { task = went_on t }

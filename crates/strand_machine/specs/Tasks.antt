@@ -1,0 +1,109 @@
+-- A running task in the words of its meaning.
+use Rattle.std.specs.Prelude.{◌≡◌, ℕ, Bool, true, false, List, [], ◌∷◌, ◌++◌, Option, Some, None, Ok, Err, length, replicate}
+use Rattle.serial_meaning.specs.Eval.{path_of}
+use Rattle.serial_meaning.specs.Open.{Own, Joined}
+use Rattle.serial_meaning.specs.Plan.{PlanView}
+use Rattle.serial_meaning.specs.declared.event.Fault.{Fault}
+use Rattle.serial_meaning.specs.declared.origin.Origin.{Origin}
+use Rattle.serial_meaning.specs.declared.answer.Outcome.{Outcome}
+use Rattle.serial_meaning.specs.declared.answer.Outcome.TheVariants as outcome
+use Rattle.strand_meaning.specs.Pieces.{Part, hand}
+use Rattle.strand_meaning.specs.Task as meaning
+use Rattle.strand_meaning.specs.Task.{Task, start, own_instance}
+use Rattle.strand_meaning.specs.Sound.{IsTask}
+use Rattle.strand_moves.specs.Machines as moves
+use Rattle.strand_machine.specs.Family.{FamilyView, handed}
+use Rattle.strand_machine.specs.Parts.{awaited, place_of}
+use Rattle.strand_machine.specs.declared.body.Body.{Body}
+use Rattle.strand_machine.specs.declared.place.Place.{Place}
+use Rattle.strand_machine.specs.declared.work.Stage.{Stage}
+use Rattle.strand_machine.specs.declared.work.Stage.TheVariants as stage
+use Rattle.strand_machine.specs.declared.work.Work.{Work}
+use Rattle.strand_machine.specs.declared.work.Work.TheVariants as work
+
+-- A task as contracts see it: what it is by its meaning, the origins of all children that it handed out, in order, and the numbers that
+-- looks at their join have loaded.
+pub record TaskView : Type 0 where
+  pub task : Task
+  pub children : List Origin
+  pub loads : List ℕ
+
+abbrev pub fresh : PlanView → Origin → TaskView
+fresh plan o = record { task = start plan o; children = []; loads = [] }
+
+abbrev pub stage_of : PlanView → Stage → meaning.Stage
+stage_of plan (stage.Goes i) = meaning.Goes (moves.machine_of plan i)
+stage_of plan (stage.AtSync i) = meaning.AtSync (moves.machine_of plan i)
+stage_of plan (stage.AtLoop i) = meaning.AtLoop (moves.machine_of plan i)
+stage_of plan (stage.Gave v) = meaning.Ended (Ok v)
+stage_of plan (stage.Faulted f) = meaning.Ended (Err (Own f))
+stage_of plan (stage.Joined f) = meaning.Ended (Err (Joined f))
+
+abbrev pub work_of : PlanView → Work → meaning.Work
+work_of plan (work.Splits range) = meaning.Splits range
+work_of plan (work.Runs s) = meaning.Runs (stage_of plan s)
+work_of plan (work.Over v gone_on) = meaning.Over v gone_on
+
+abbrev pub task_with : Body → meaning.Work → Task
+task_with b w = record {
+  plan = b.family.plan;
+  origin = b.family.origin;
+  pieces = b.pieces;
+  values = b.values;
+  work = w;
+  waiting = b.waiting;
+  advanced = b.advanced;
+}
+
+abbrev pub task_of : Body → Work → Task
+task_of b w = task_with b (work_of b.family.plan w)
+
+abbrev pub view_of : Body → Work → TaskView
+view_of b w = record { task = task_of b w; children = b.family.children; loads = b.family.loads }
+
+-- The join's last tags are those of the children whose answers aren't taken.
+pub record AwaitsLast (family : FamilyView) (parts : List Part) : Type 0 where
+  pub before : List Origin
+  pub passed : List Bool
+  pub same : length passed ≡ length before
+  pub children : family.children ≡ before ++ awaited parts
+  pub taken : family.taken ≡ passed ++ replicate (length parts) false
+
+-- An instance that runs is one of the plan, at this path.
+pub record RunsAt (plan : PlanView) (path : List ℕ) (i : _) : Type 0 where
+  pub sound : moves.IsInstance plan i
+  pub path : moves.path_of i ≡ path
+
+abbrev pub StandsAt : PlanView → List ℕ → Stage → Type 0
+StandsAt plan path (stage.Goes i) = RunsAt plan path i
+StandsAt plan path (stage.AtSync i) = RunsAt plan path i
+StandsAt plan path (stage.AtLoop i) = RunsAt plan path i
+StandsAt plan path (stage.Gave v) = Unit {0}
+StandsAt plan path (stage.Faulted f) = Unit {0}
+StandsAt plan path (stage.Joined f) = Unit {0}
+
+abbrev pub WorksAt : PlanView → List ℕ → Work → Type 0
+WorksAt plan path (work.Splits range) = Unit {0}
+WorksAt plan path (work.Runs s) = StandsAt plan path s
+WorksAt plan path (work.Over v gone_on) = Unit {0}
+
+-- What holds of a task at all times.
+pub record IsSound (b : Body) (w : Work) : Type 0 where
+  pub task : IsTask (task_of b w)
+  pub family : AwaitsLast b.family b.pieces.handed
+  pub works : WorksAt b.family.plan (path_of (own_instance b.family.origin)) w
+
+-- after a step; where it waits; where it handed out a child
+abbrev pub gone : Body → Body
+gone b = record b { advanced = true }
+
+abbrev pub waiting : Body → Body
+waiting b = record b { waiting = true; advanced = true }
+
+abbrev pub with_child : Body → Origin → Place → Body
+with_child b o p = record b { family = handed b.family o; pieces = hand o (place_of p) b.pieces; advanced = true }
+
+-- the fault among the pieces, or else so
+abbrev pub ended_by : Option Fault → Outcome → Outcome
+ended_by (Some f) o = outcome.Fault f
+ended_by None o = o

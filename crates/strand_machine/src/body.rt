@@ -1,0 +1,41 @@
+ghost use Rattle.std.specs.Prelude.{◌≡◌, ◌<◌, [], IsTrue, ◌↔◌};
+
+use crate::family::Family;
+use crate::pieces::Pieces;
+use script_grammar::Items;
+use serial_meaning::{Origin, Value};
+use std::alloc::Global;
+use std::mem;
+
+/// A task without what remains of it.
+#[derive(Drop)]
+pub(crate) struct Body {
+    pub family: Family,
+    pub pieces: Pieces,
+    /// The values of a loop's iterations whose answers were taken, in order.
+    pub values: Items<Value>,
+    pub waiting: bool,
+    pub advanced: bool,
+}
+
+impl Body {
+    ghost use Rattle.strand_machine.specs.Bodies.{is_long};
+
+    /// Takes the values out.
+    pub fn take_values(&mut self, alloc: Global) -> Items<Value>
+        ensures values { result ≡ self.old.values }
+        ensures rest { self.new ≡ record self.old { values = [] } }
+    {
+        mem::replace(&mut self.values, Items(Vec::new(alloc)))
+    }
+
+    /// Whether it is of a loop that has two iterations or more.
+    pub fn is_long(&self) -> bool
+        ensures { result ≡ is_long self.now.family.origin }
+    {
+        match self.family.origin() {
+            Origin::Instance { .. } => false,
+            Origin::Loop { range, .. } => range.len() > 1,
+        }
+    }
+}

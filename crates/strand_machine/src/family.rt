@@ -1,0 +1,140 @@
+ghost use Rattle.std.specs.Prelude.{◌≡◌, ℕ, [], ◌∷◌, ◌++◌, IfOk, OnOk, OnErr, Some, None, true, false, length, slice_get, slice_set};
+ghost use Rattle.std.specs.Arc.{arc_value};
+ghost use Rattle.serial_meaning.specs.Answer.{IsAnswer};
+ghost use Rattle.strand_machine.specs.Family.{tag, handed, Looked};
+
+use crate::memory::Memory;
+use crate::origin::share_origin;
+use meet_block::{Give, Join, Look};
+use serial_meaning::{Answer, AnswerKey, Origin, Out, Outcome, Plan};
+use std::alloc::Global;
+use std::marker::Model;
+use std::sync::Arc;
+
+/// What ties a task to others: its plan and origin, the give by which it answers its parent, and the join of its children.
+#[derive(Drop)]
+pub(crate) struct Family {
+    plan: Arc<Plan>,
+    origin: Origin,
+    give: Give<Answer>,
+    join: Join<Answer>,
+}
+
+impl Model for Family {
+    ghost use Rattle.std.specs.Prelude.{◌≡◌, map};
+    ghost use Rattle.std.specs.Arc.{arc_value};
+    ghost use Rattle.std.specs.Coded.{codes};
+    ghost use Rattle.serial_meaning.specs.contracts.plan.Plan as plan_type;
+    ghost use Rattle.strand_machine.specs.Family.{FamilyView, tag, tags, origins};
+
+    ghost Value = { FamilyView };
+
+    ghost coded = { Prim.hlevel (codes, plan_type.the_row.coded) };
+
+    ghost view = { λ f. record {
+      plan = arc_value f.plan;
+      origin = f.origin;
+      children = origins f.join.tags;
+      taken = f.join.taken;
+      ready = f.join.ready;
+      loads = f.join.loads;
+    } };
+
+    ghost invariant = { λ f. (f.give ≡ tag (arc_value f.plan) f.origin)
+        × (f.join.tags ≡ tags (arc_value f.plan) (origins f.join.tags)) };
+}
+
+impl Family {
+    ghost use Rattle.strand_machine.specs.Family.{FamilyView, alone};
+
+    /// A task's family before it has children.
+    pub fn new(
+        alloc: Global,
+        plan: Arc<Plan>,
+        origin: Origin,
+        give: Give<Answer>,
+    ) -> Result<Family, Memory>
+        requires { give ≡ tag (arc_value plan) origin }
+        ensures { IfOk result (λ family. family ≡ alone (arc_value plan) origin) }
+    {
+        Ok(Family {
+            plan,
+            origin,
+            give,
+            join: Join::new(alloc)?,
+        })
+    }
+
+    pub fn plan(&self) -> &Plan
+        ensures { result.now ≡ self.now.plan }
+    {
+        &self.plan
+    }
+
+    pub fn share_plan(&self) -> Result<Arc<Plan>, Memory>
+        ensures { IfOk result (λ plan. arc_value plan ≡ self.now.plan) }
+    {
+        Ok(Arc::try_clone(&self.plan)?)
+    }
+
+    pub fn origin(&self) -> &Origin
+        ensures { result.now ≡ self.now.origin }
+    {
+        &self.origin
+    }
+
+    /// The give of one more child.
+    #[tactic(auto, using(crate::proofs::Tags::origins_append, crate::proofs::Tags::hand_keeps))]
+    pub fn hand(&mut self, alloc: Global, child: &Origin) -> Result<Give<Answer>, Memory>
+        ensures give { IfOk result (λ give. give ≡ tag self.old.plan child.now) }
+        ensures handed { OnOk result (self.new ≡ handed self.old child.now) }
+    {
+        let key = AnswerKey {
+            plan: Arc::try_clone(&self.plan)?,
+            origin: share_origin(alloc, child)?,
+        };
+        Ok(self.join.hand(alloc, &key)?)
+    }
+
+    /// How many children were handed out.
+    #[tactic(auto, using(crate::proofs::Tags::length_origins))]
+    pub fn count(&self) -> u64
+        ensures { result ≡ length self.now.children }
+    {
+        self.join.count()
+    }
+
+    /// Whether all children have answered.
+    pub fn look(&mut self) -> Look
+        ensures { Looked self.old self.new result }
+    {
+        self.join.look()
+    }
+
+    /// The answer of a child, by its number.
+    #[tactic(auto, using(crate::proofs::Tags::origin_at, crate::proofs::Tags::plan_at))]
+    pub fn take(&mut self, i: u64) -> Answer
+        requires ready { self.old.ready ≡ true }
+        requires left { slice_get self.old.taken i ≡ Some false }
+        ensures plan { result.plan ≡ self.old.plan }
+        ensures origin { slice_get self.old.children i ≡ Some result.origin }
+        ensures taken { self.new ≡ record self.old { taken = slice_set self.old.taken i true } }
+    {
+        self.join.take(i)
+    }
+
+    /// What the task answers, and the give for it.
+    pub fn answer(self, out: Out, outcome: Outcome) -> (Answer, Give<Answer>)
+        requires { IsAnswer self.plan self.origin out outcome }
+        ensures answer { result.0 ≡ record { plan = self.plan; origin = self.origin; out = out; outcome = outcome } }
+        ensures give { result.1 ≡ tag self.plan self.origin }
+    {
+        let Family {
+            plan,
+            origin,
+            give,
+            ..
+        } = self;
+        (Answer::new(plan, origin, out, outcome), give)
+    }
+}

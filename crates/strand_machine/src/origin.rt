@@ -1,0 +1,65 @@
+// Origins: copies of them, and the iterations of loops.
+ghost use Rattle.std.specs.Prelude.{◌≡◌, IfOk};
+ghost use Rattle.strand_machine.specs.Bodies.{only};
+
+use crate::memory::Memory;
+use loop_range::IterRange;
+use script_grammar::Items;
+use serial_meaning::{Origin, Value};
+use std::alloc::Global;
+
+/// The same values, over the same memory.
+pub(crate) fn share_values(alloc: Global, values: &[Value]) -> Result<Items<Value>, Memory>
+    ensures { IfOk result (λ shared. shared ≡ values.now) }
+{
+    let mut shared = Vec::with_capacity(alloc, values.len())?;
+    for value in values {
+        shared.push(value.share()?)?;
+    }
+    Ok(Items(shared))
+}
+
+/// The same origin. Its path shares its memory.
+pub(crate) fn share_origin(alloc: Global, origin: &Origin) -> Result<Origin, Memory>
+    ensures { IfOk result (λ shared. shared ≡ origin.now) }
+{
+    Ok(match origin {
+        Origin::Instance {
+            function,
+            args,
+            path,
+        } => Origin::Instance {
+            function: *function,
+            args: share_values(alloc, args.as_slice())?,
+            path: path.share()?,
+        },
+        Origin::Loop {
+            function,
+            rest,
+            first,
+            path,
+            range,
+        } => Origin::Loop {
+            function: *function,
+            rest: share_values(alloc, rest.as_slice())?,
+            first: *first,
+            path: path.share()?,
+            range: *range,
+        },
+    })
+}
+
+/// A loop's origin with these of its iterations alone.
+pub(crate) fn part_of(alloc: Global, origin: &Origin, range: IterRange) -> Result<Origin, Memory>
+    ensures { IfOk result (λ part. part ≡ only origin.now range) }
+{
+    let mut part = share_origin(alloc, origin)?;
+    if let Origin::Loop {
+        range: iterations,
+        ..
+    } = &mut part
+    {
+        *iterations = range;
+    }
+    Ok(part)
+}

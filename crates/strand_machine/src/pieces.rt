@@ -1,0 +1,110 @@
+ghost use Rattle.std.specs.Prelude.{◌≡◌, ◌∷◌, ◌++◌, [], IfOk, OnOk, IsTrue, ◌↔◌};
+ghost use Rattle.strand_meaning.specs.Pieces.{tell, hand, no_pieces};
+
+use crate::memory::Memory;
+use crate::place::Place;
+use script_grammar::Items;
+use serial_meaning::{Event, Fault, Origin, Out};
+use std::alloc::Global;
+use std::marker::Model;
+
+/// Where a child's value goes, and the task's own events behind it, up to the next child.
+#[derive(Drop)]
+pub(crate) struct Behind {
+    pub place: Place,
+    pub events: Out,
+}
+
+/// What a task gave so far, in the order of the serial elision: the events in front of the first child whose answer isn't taken, the
+/// fault that ends these, if there is one, and then the children with the events behind each.
+#[derive(Drop)]
+pub(crate) struct Pieces {
+    pub told: Out,
+    pub fault: Option<Fault>,
+    pub awaited: Items<Origin>,
+    pub behind: Vec<Behind>,
+}
+
+impl Model for Pieces {
+    ghost use Rattle.std.specs.Prelude.{◌≡◌, length};
+    ghost use Rattle.strand_meaning.specs.Pieces.{Pieces as PiecesView};
+    ghost use Rattle.strand_machine.specs.Parts.{parts_of};
+
+    ghost Value = { PiecesView };
+
+    ghost view = { λ p. record { told = p.told; fault = p.fault; handed = parts_of p.awaited p.behind.items } };
+
+    ghost invariant = { λ p. length p.awaited ≡ length p.behind.items };
+}
+
+impl Pieces {
+    ghost use Rattle.strand_machine.specs.Parts.{awaited, place_of};
+
+    /// Nothing yet.
+    pub fn new(alloc: Global) -> Pieces
+        ensures { result ≡ no_pieces }
+    {
+        Pieces {
+            told: Out::new(),
+            fault: None,
+            awaited: Items(Vec::new(alloc)),
+            behind: Vec::new(alloc),
+        }
+    }
+
+    /// The children whose answers aren't taken, in order.
+    #[tactic(auto, using(crate::proofs::Handed::awaited_parts))]
+    pub fn awaited(&self) -> &Items<Origin>
+        ensures { result.now ≡ awaited self.now.handed }
+    {
+        &self.awaited
+    }
+
+    /// One more event of the task's own.
+    pub fn tell(&mut self, alloc: Global, event: Event) -> Result<(), Memory>
+        ensures { OnOk result (self.new ≡ tell event self.old) }
+    {
+        match self.behind.last_mut() {
+            Some(last) => last.events.push(alloc, event)?,
+            None => {
+                if self.fault.is_none() {
+                    self.told.push(alloc, event)?;
+                }
+            }
+        }
+        Ok(())
+    }
+
+    /// One more child.
+    #[tactic(auto, using(crate::proofs::Handed::parts_more))]
+    pub fn hand(&mut self, child: Origin, place: Place) -> Result<(), Memory>
+        ensures { OnOk result (self.new ≡ hand child (place_of place) self.old) }
+    {
+        self.behind.try_reserve(1)?;
+        self.awaited.0.push(child)?;
+        self.behind
+            .push(Behind {
+                place,
+                events: Out::new(),
+            })
+            .unwrap();
+        Ok(())
+    }
+
+    /// Whether no answer is awaited.
+    #[tactic(auto, using(crate::proofs::Handed::no_parts))]
+    pub fn is_alone(&self) -> bool
+        ensures { IsTrue result ↔ (self.now.handed ≡ []) }
+    {
+        self.awaited.0.is_empty()
+    }
+
+    /// The events in front of the first child, and the fault that ends them, if there is one.
+    pub fn told(self) -> (Out, Option<Fault>)
+        ensures told { result.0 ≡ self.told }
+        ensures fault { result.1 ≡ self.fault }
+    {
+        let Pieces { told, fault, .. } = self;
+        (told, fault)
+    }
+}

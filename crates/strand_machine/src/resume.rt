@@ -1,0 +1,184 @@
+// How a task goes on from a wait.
+ghost use Rattle.std.specs.Prelude.{◌≡◌, ◌-◌, ◌+◌, ℕ, List, [], true, false, length, drop, replicate, IfOk, Some};
+ghost use Rattle.std.specs.Option.{option_copied};
+ghost use Rattle.serial_meaning.specs.Eval.{eval};
+ghost use Rattle.serial_meaning.specs.Plan.{PlanView};
+ghost use Rattle.strand_meaning.specs.Pieces.{heard_all};
+ghost use Rattle.strand_meaning.specs.Rest.{evaluations};
+ghost use Rattle.strand_meaning.specs.Task.{all_values, resumed};
+ghost use Rattle.strand_machine.specs.Family.{FamilyView, tags, AwaitsCount};
+ghost use Rattle.strand_machine.specs.Going.{pieces_of, takes_all_at, go_on_work};
+ghost use Rattle.strand_machine.specs.Parts.{awaited, parts_of};
+ghost use Rattle.strand_machine.specs.Stops.{answer_tags, view_on};
+ghost use Rattle.strand_machine.specs.Tasks.{stage_of, work_of, StandsAt, WorksAt, IsSound, view_of};
+ghost use Rattle.strand_machine.specs.declared.work.Stage.TheVariants as stage;
+
+use crate::body::Body;
+use crate::family::Family;
+use crate::going::{Going, take};
+use crate::memory::Memory;
+use crate::pieces::{Behind, Pieces};
+use crate::stop::Resumed;
+use crate::task::Task;
+use crate::work::{Stage, Work};
+use meet_block::Look;
+use script_grammar::Items;
+use serial_meaning::{Answer, Origin, Plan};
+use std::alloc::Global;
+use strand_moves::Instance;
+
+/// The answers of the last children, of whom so many are awaited.
+fn take_answers(family: &mut Family, alloc: Global, awaited: u64) -> Result<Items<Answer>, Memory>
+    requires ready { family.old.ready ≡ true }
+    requires last { AwaitsCount family.old awaited }
+    ensures tags { IfOk result (λ answers. answer_tags answers ≡ tags family.old.plan (drop (length family.old.children - awaited) family.old.children)) }
+    ensures family { family.new ≡ record family.old { taken = family.new.taken } }
+    ensures length { length family.new.taken ≡ length family.old.taken }
+{
+    let first = family.count() - awaited;
+    let mut answers = Vec::with_capacity(alloc, awaited as usize)?;
+    for i in 0..awaited {
+        answers.push(family.take(first + i))?;
+    }
+    Ok(Items(answers))
+}
+
+/// An instance at a sync goes on, or ends by the least fault of the children for which it waited.
+fn join(instance: Instance) -> Result<Stage, Memory>
+    ensures stage { (plan : PlanView) → IfOk result (λ s. stage_of plan s ≡ resumed (stage_of plan (stage.AtSync instance))) }
+    ensures stands { (plan : PlanView) (path : List ℕ) → StandsAt plan path (stage.AtSync instance) → IfOk result (StandsAt plan path) }
+{
+    let fault = match instance.faulted() {
+        Some(fault) => fault.share()?,
+        None => return Ok(Stage::Goes(instance)),
+    };
+    Ok(Stage::Joined(fault))
+}
+
+/// What remains once a wait is over.
+fn go_on_work(work: Work) -> Result<Work, Memory>
+    ensures work { (plan : PlanView) → IfOk result (λ w. work_of plan w ≡ go_on_work (work_of plan work)) }
+    ensures works { (plan : PlanView) (path : List ℕ) → WorksAt plan path work → IfOk result (WorksAt plan path) }
+{
+    Ok(match work {
+        Work::Runs(Stage::AtSync(instance)) => Work::Runs(join(instance)?),
+        Work::Runs(Stage::AtLoop(instance)) => Work::Runs(Stage::Goes(instance)),
+        Work::Over(value, _) => Work::Over(value, true),
+        other => other,
+    })
+}
+
+/// The answers of all awaited children, in order.
+fn take_all(
+    mut going: Going,
+    alloc: Global,
+    plan: &Plan,
+    children: &[Origin],
+    behind: Vec<Behind>,
+    answers: Items<Answer>,
+) -> Result<Going, Memory>
+    requires same { length children.now ≡ length behind.items }
+    requires tags { answer_tags answers ≡ tags plan.now children.now }
+    ensures pieces { let parts = parts_of children.now behind.items in
+        IfOk result (λ g. pieces_of g ≡ heard_all parts (evaluations (eval plan.now) parts) (pieces_of going)) }
+    ensures values { let parts = parts_of children.now behind.items in
+        IfOk result (λ g. g.values ≡ all_values parts (evaluations (eval plan.now) parts) going.values) }
+    ensures work { let parts = parts_of children.now behind.items in
+        IfOk result (λ g. work_of plan.now g.work ≡ takes_all_at parts (evaluations (eval plan.now) parts) (work_of plan.now going.work)) }
+    ensures works { (path : List ℕ) → WorksAt plan.now path going.work → IfOk result (λ g. WorksAt plan.now path g.work) }
+{
+    let mut answers = answers.0.into_iter();
+    for part in behind {
+        let Some(answer) = answers.next() else { break };
+        going = take(going, alloc, part, answer)?;
+    }
+    Ok(going)
+}
+
+/// The task with its children's answers.
+fn go_on(body: Body, alloc: Global, work: Work, answers: Items<Answer>) -> Result<Task, Memory>
+    requires sound { IsSound body work }
+    requires tags { answer_tags answers ≡ tags body.family.plan (awaited body.pieces.handed) }
+    ensures { IfOk result (λ task. task ≡ view_on (view_of body work)) }
+{
+    let Body {
+        family,
+        pieces,
+        values,
+        advanced,
+        ..
+    } = body;
+    let Pieces {
+        told,
+        fault,
+        awaited,
+        behind,
+    } = pieces;
+    let going = Going {
+        told,
+        fault,
+        values,
+        work,
+    };
+    let Going {
+        told,
+        fault,
+        values,
+        work,
+    } = take_all(
+        going,
+        alloc,
+        family.plan(),
+        awaited.as_slice(),
+        behind,
+        answers,
+    )?;
+    let pieces = Pieces {
+        told,
+        fault,
+        awaited: Items(Vec::new(alloc)),
+        behind: Vec::new(alloc),
+    };
+    let body = Body {
+        family,
+        pieces,
+        values,
+        waiting: false,
+        advanced,
+    };
+    Ok(Task {
+        body,
+        work: go_on_work(work)?,
+    })
+}
+
+impl Task {
+    ghost use Rattle.strand_machine.specs.Stops.{IsResumed};
+
+    /// Goes on from a wait, where a look finds that all children have answered. On `Memory` the task is dropped.
+    pub fn resume(self, alloc: Global) -> Result<Resumed, Memory>
+        requires { self.task.waiting ≡ true }
+        ensures { IfOk result (IsResumed self) }
+    {
+        let Task { mut body, work } = self;
+        match body.family.look() {
+            Look::NotYet(_) => Ok(Resumed::NotYet(Task { body, work })),
+            Look::Ready => {
+                let awaited = body.pieces.awaited().as_slice().len() as u64;
+                let answers = take_answers(&mut body.family, alloc, awaited)?;
+                Ok(Resumed::On(go_on(body, alloc, work, answers)?))
+            }
+        }
+    }
+
+    /// Goes on from a wait with these answers, those of the children that it awaits, in order. On `Memory` the task and the answers are
+    /// dropped.
+    pub fn resume_with(self, alloc: Global, answers: Items<Answer>) -> Result<Task, Memory>
+        requires waits { self.task.waiting ≡ true }
+        requires tags { answer_tags answers ≡ tags self.task.plan (awaited self.task.pieces.handed) }
+        ensures { IfOk result (λ task. task ≡ view_on self) }
+    {
+        let Task { body, work } = self;
+        go_on(body, alloc, work, answers)
+    }
+}

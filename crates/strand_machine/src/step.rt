@@ -1,0 +1,163 @@
+// One move of a task, or its stop.
+ghost use Rattle.std.specs.Prelude.{◌≡◌, IfOk};
+ghost use Rattle.serial_meaning.specs.Answer.{IsAnswer};
+ghost use Rattle.serial_meaning.specs.Laws.{IsOriginOf};
+ghost use Rattle.serial_meaning.specs.declared.answer.Outcome.TheVariants as outcome;
+ghost use Rattle.strand_machine.specs.Family.{tag};
+ghost use Rattle.strand_machine.specs.Stops.{IsStep};
+ghost use Rattle.strand_machine.specs.Tasks.{IsSound, view_of, fresh, gone, waiting, with_child, ended_by};
+ghost use Rattle.strand_machine.specs.declared.work.Stage.TheVariants as stage;
+ghost use Rattle.strand_machine.specs.declared.work.Work.TheVariants as work;
+
+use crate::body::Body;
+use crate::memory::Memory;
+use crate::origin::{part_of, share_origin};
+use crate::place::Place;
+use crate::run::go;
+use crate::stop::{Step, Stop};
+use crate::task::Task;
+use crate::work::{Stage, Work, begin_last};
+use loop_range::IterRange;
+use serial_meaning::{Origin, Outcome, Value};
+use std::alloc::Global;
+
+/// The task goes on with this.
+pub(crate) fn pass(mut body: Body, work: Work) -> Step
+    requires { IsSound (gone body) work }
+    ensures { result ≡ Step.Passes (view_of (gone body) work) }
+{
+    body.advanced = true;
+    Step::Passes(Task { body, work })
+}
+
+/// The task waits, and this remains.
+fn wait(mut body: Body, work: Work) -> Step
+    requires { IsSound (waiting body) work }
+    ensures { result ≡ Step.Stops (Stop.Wait (view_of (waiting body) work)) }
+{
+    body.waiting = true;
+    body.advanced = true;
+    Step::Stops(Stop::Wait {
+        rest: Task { body, work },
+    })
+}
+
+/// The task has ended: by the fault among its pieces, or else so.
+fn end(body: Body, outcome: Outcome) -> Step
+    requires { IsAnswer body.family.plan body.family.origin body.pieces.told (ended_by body.pieces.fault outcome) }
+    ensures { result ≡ Step.Stops (Stop.Done
+        (record {
+          plan = body.family.plan;
+          origin = body.family.origin;
+          out = body.pieces.told;
+          outcome = ended_by body.pieces.fault outcome;
+        })
+        (tag body.family.plan body.family.origin)) }
+{
+    let Body { family, pieces, .. } = body;
+    let (told, fault) = pieces.told();
+    let outcome = match fault {
+        Some(fault) => Outcome::Fault(fault),
+        None => outcome,
+    };
+    let (answer, give) = family.answer(told, outcome);
+    Step::Stops(Stop::Done { answer, give })
+}
+
+/// The task hands out a child, and this remains.
+pub(crate) fn spawn(
+    mut body: Body,
+    alloc: Global,
+    child: Origin,
+    place: Place,
+    work: Work,
+) -> Result<Step, Memory>
+    requires known { IsOriginOf body.family.plan child }
+    requires sound { IsSound (with_child body child place) work }
+    ensures { IfOk result (λ step. step
+        ≡ Step.Stops (Stop.Spawn (fresh body.family.plan child) (view_of (with_child body child place) work))) }
+{
+    let plan = body.family.share_plan()?;
+    let give = body.family.hand(alloc, &child)?;
+    body.pieces.hand(share_origin(alloc, &child)?, place)?;
+    let child = Task::start(alloc, plan, child, give)?;
+    body.advanced = true;
+    Ok(Step::Stops(Stop::Spawn {
+        child,
+        rest: Task { body, work },
+    }))
+}
+
+/// A loop of which these iterations are left: their lower half is handed out, and the last one is begun.
+fn split(mut body: Body, alloc: Global, range: IterRange) -> Result<Step, Memory>
+    requires { IsSound body (work.Splits range) }
+    ensures { IfOk result (IsStep (view_of body (work.Splits range))) }
+{
+    if let Some((lower, upper)) = range.split() {
+        let child = part_of(alloc, body.family.origin(), lower)?;
+        return spawn(body, alloc, child, Place::Half, Work::Splits(upper));
+    }
+    if range.len() == 0 {
+        let values = body.take_values(alloc);
+        return Ok(end(body, Outcome::Values(values)));
+    }
+    let work = begin_last(alloc, body.family.plan(), body.family.origin())?;
+    Ok(pass(body, work))
+}
+
+/// An instance that ended by a value: the task ends too, or else it was the last iteration of a loop.
+fn give(body: Body, value: Value) -> Step
+    requires { IsSound body (work.Runs (stage.Gave value)) }
+    ensures { IsStep (view_of body (work.Runs (stage.Gave value))) result }
+{
+    match body.family.origin() {
+        Origin::Instance { .. } => end(body, Outcome::Value(value)),
+        Origin::Loop { .. } => pass(body, Work::Over(value, false)),
+    }
+}
+
+/// A loop whose last iteration gave this value. Where it handed out a part it waits for it first.
+fn close(mut body: Body, alloc: Global, value: Value, gone_on: bool) -> Result<Step, Memory>
+    requires { IsSound body (work.Over value gone_on) }
+    ensures { IfOk result (IsStep (view_of body (work.Over value gone_on))) }
+{
+    if !gone_on && body.is_long() {
+        return Ok(wait(body, Work::Over(value, false)));
+    }
+    let mut values = body.take_values(alloc);
+    values.0.push(value)?;
+    Ok(end(body, Outcome::Values(values)))
+}
+
+/// An instance, by where it stands.
+fn run(body: Body, alloc: Global, stage: Stage) -> Result<Step, Memory>
+    requires { IsSound body (work.Runs stage) }
+    ensures { IfOk result (IsStep (view_of body (work.Runs stage))) }
+{
+    Ok(match stage {
+        Stage::Goes(instance) => go(body, alloc, instance)?,
+        Stage::AtSync(instance) => wait(body, Work::Runs(Stage::AtSync(instance))),
+        Stage::AtLoop(instance) => wait(body, Work::Runs(Stage::AtLoop(instance))),
+        Stage::Gave(value) => give(body, value),
+        Stage::Faulted(fault) => {
+            if body.pieces.is_alone() {
+                end(body, Outcome::Fault(fault))
+            } else {
+                wait(body, Work::Runs(Stage::Faulted(fault)))
+            }
+        }
+        Stage::Joined(fault) => end(body, Outcome::Fault(fault)),
+    })
+}
+
+/// A move of the task, or its stop.
+pub(crate) fn step(task: Task, alloc: Global) -> Result<Step, Memory>
+    ensures { IfOk result (IsStep task) }
+{
+    let Task { body, work } = task;
+    match work {
+        Work::Splits(range) => split(body, alloc, range),
+        Work::Runs(stage) => run(body, alloc, stage),
+        Work::Over(value, gone_on) => close(body, alloc, value, gone_on),
+    }
+}

@@ -1,0 +1,30 @@
+use crate::task::Task;
+use meet_block::Give;
+use serial_meaning::Answer;
+
+/// Where a task stopped.
+#[derive(Drop)]
+pub enum Stop {
+    /// It handed out a child, which may run before, after or beside the rest.
+    Spawn { child: Task, rest: Task },
+    /// It waits for its children.
+    Wait { rest: Task },
+    /// It has ended: what it answers, and the give for it.
+    Done { answer: Answer, give: Give<Answer> },
+}
+
+/// A move, or a stop.
+#[derive(Drop)]
+pub(crate) enum Step {
+    Passes(Task),
+    Stops(Stop),
+}
+
+/// What became of a wait.
+#[derive(Drop)]
+pub enum Resumed {
+    /// All children have answered, and the task goes on.
+    On(Task),
+    /// Not all of them have, and the task still waits.
+    NotYet(Task),
+}

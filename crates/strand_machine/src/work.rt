@@ -1,0 +1,110 @@
+// What remains of a task.
+ghost use Rattle.std.specs.Prelude.{◌≡◌, ◌∷◌, ◌++◌, ◌<◌, [], IfOk, length, pos, ◌+ℤ◌};
+ghost use Rattle.serial_meaning.specs.declared.origin.Origin.{Origin};
+ghost use Rattle.serial_meaning.specs.declared.value.Value.TheVariants.{Int};
+ghost use Rattle.serial_meaning.specs.Eval.{path_of};
+ghost use Rattle.serial_meaning.specs.Laws.{IsOriginOf};
+ghost use Rattle.serial_meaning.specs.Plan.{functions_of};
+ghost use Rattle.strand_meaning.specs.Machine.{begun};
+ghost use Rattle.strand_meaning.specs.Task.{begun_stage, begun_work, begins_last, own_instance};
+ghost use Rattle.strand_machine.specs.Tasks.{stage_of, work_of, StandsAt, WorksAt};
+
+use crate::memory::Memory;
+use crate::origin::share_values;
+use loop_range::{IterRange, iteration_path};
+use ped_path::Ped;
+use script_grammar::Items;
+use serial_meaning::{Fault, Origin, Plan, Value};
+use std::alloc::Global;
+use strand_moves::Instance;
+
+/// Where an instance stands.
+#[derive(Drop)]
+pub(crate) enum Stage {
+    /// It goes on.
+    Goes(Instance),
+    /// It waits behind a sync.
+    AtSync(Instance),
+    /// It waits behind a loop.
+    AtLoop(Instance),
+    /// It has ended by a value.
+    Gave(Value),
+    /// It has ended by a fault of its own.
+    Faulted(Fault),
+    /// It has ended by the fault of a child for which it waited.
+    Joined(Fault),
+}
+
+/// What remains of a task.
+#[derive(Drop)]
+pub(crate) enum Work {
+    /// Iterations of a loop that nobody has begun.
+    Splits(IterRange),
+    /// An instance: the task's own, or the loop's last iteration.
+    Runs(Stage),
+    /// Nothing of a loop whose last iteration gave this value. It is known whether the task has gone on from the wait at its end.
+    Over(Value, bool),
+}
+
+/// What remains of an origin of which nothing is done.
+pub(crate) fn begin(alloc: Global, plan: &Plan, origin: &Origin) -> Result<Work, Memory>
+    requires { IsOriginOf plan.now origin.now }
+    ensures begun { IfOk result (λ work. work_of plan.now work ≡ begun_work plan.now origin.now) }
+    ensures works { IfOk result (WorksAt plan.now (path_of (own_instance origin.now))) }
+{
+    Ok(match origin {
+        Origin::Instance {
+            function,
+            args,
+            path,
+        } => {
+            let args = share_values(alloc, args.as_slice())?;
+            let path = path.share()?;
+            Work::Runs(begin_instance(alloc, plan, *function, args, path)?)
+        }
+        Origin::Loop { range, .. } => Work::Splits(*range),
+    })
+}
+
+/// What remains of a loop of which the last iteration alone is left.
+pub(crate) fn begin_last(alloc: Global, plan: &Plan, origin: &Origin) -> Result<Work, Memory>
+    requires { IsOriginOf plan.now origin.now }
+    ensures begun { IfOk result (λ work. work_of plan.now work ≡ begins_last plan.now origin.now) }
+    ensures works { IfOk result (WorksAt plan.now (path_of (own_instance origin.now))) }
+{
+    match origin {
+        Origin::Instance { .. } => begin(alloc, plan, origin),
+        Origin::Loop {
+            function,
+            rest,
+            first,
+            path,
+            range,
+        } => {
+            let k = range.hi.saturating_sub(1);
+            let number = first.checked_add(k as i64).ok_or(Memory)?;
+            let mut args = share_values(alloc, rest.as_slice())?;
+            args.0.insert(0, Value::Int(number))?;
+            let path = iteration_path(path, alloc, k)?;
+            Ok(Work::Runs(begin_instance(alloc, plan, *function, args, path)?))
+        }
+    }
+}
+
+/// An instance before its first move. One of no function has the value 0.
+fn begin_instance(
+    alloc: Global,
+    plan: &Plan,
+    function: u32,
+    args: Items<Value>,
+    path: Ped,
+) -> Result<Stage, Memory>
+    requires { length path < plan.now.limits.depth }
+    ensures begun { IfOk result (λ stage. stage_of plan.now stage ≡ begun_stage (begun plan.now function args)) }
+    ensures stands { IfOk result (StandsAt plan.now path) }
+{
+    if function as usize >= plan.functions().len() {
+        return Ok(Stage::Gave(Value::Int(0)));
+    }
+    Ok(Stage::Goes(Instance::begin(alloc, plan, function, args, path)?))
+}

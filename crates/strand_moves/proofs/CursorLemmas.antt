@@ -1,0 +1,102 @@
+-- Blocks that are entered and left.
+use Rattle.std.proofs.Common.{◌≡◌, ℕ, ◌+◌, ◌-◌, ◌<◌, ◌≤◌, Bool, true, false, List, [], ◌∷◌, ◌++◌, Option, Some, length, drop, slice_get, refl, sym, ap, ◌∙◌, arith, if◌then◌else◌}
+use Rattle.std.proofs.lemmas.List.{append-nil, append_assoc, drop_all, drop_more}
+use Rattle.std.proofs.lemmas.Option.{slice_get_within, get_or_from_slice_get}
+use Rattle.script_grammar.specs.declared.tree.Stmt.{Stmt, out-Stmt}
+use Rattle.script_grammar.specs.declared.tree.Act.{out-Act}
+use Rattle.strand_moves.specs.declared.cursor.Part.TheVariants as part
+use Rattle.strand_moves.specs.declared.cursor.Entered.{Entered}
+use Rattle.strand_moves.specs.declared.cursor.Cursor.{Cursor}
+use Rattle.strand_moves.specs.Cursors.{part_of, part_at, place_before, block_in, block_of, behind_of, left_of, IsBehind, Passes}
+
+-- what is left where these blocks are entered, from this place in the innermost one on
+abbrev pub rest_of : List Stmt → List Entered → ℕ → List Stmt
+rest_of body es n = drop n (block_of body es) ++ behind_of body es
+
+pub block_of-more : (body : List Stmt) (es : List Entered) (e : Entered) → block_of body (es ++ e ∷ []) ≡ block_in (block_of body es) e
+block_of-more body [] e = refl
+block_of-more body (f ∷ es) e = block_of-more (block_in body f) es e
+
+pub behind_of-more : (body : List Stmt) (es : List Entered) (e : Entered) → behind_of body (es ++ e ∷ []) ≡ rest_of body es e.back
+behind_of-more body [] e = sym (append-nil (drop e.back body))
+behind_of-more body (f ∷ es) e =
+    ap (λ (l : List Stmt). l ++ drop f.back body) (behind_of-more (block_in body f) es e)
+    ∙ append_assoc (drop e.back (block_of (block_in body f) es)) (behind_of (block_in body f) es) (drop f.back body)
+
+pub rest-left : (body : List Stmt) (es : List Entered) (e : Entered) (n : ℕ) → length (block_of body (es ++ e ∷ [])) ≤ n → rest_of body (es ++ e ∷ []) n ≡ rest_of body es e.back
+rest-left body es e n h =
+    ap (λ (l : List Stmt). l ++ behind_of body (es ++ e ∷ [])) (drop_all n (block_of body (es ++ e ∷ [])) h) ∙ behind_of-more body es e
+
+pub rest-ended : (body : List Stmt) (n : ℕ) → length body ≤ n → rest_of body [] n ≡ []
+rest-ended body n h = append-nil (drop n body) ∙ drop_all n body h
+
+pub rest-entered : (body : List Stmt) (es : List Entered) (e : Entered) → rest_of body (es ++ e ∷ []) 0 ≡ block_in (block_of body es) e ++ rest_of body es e.back
+rest-entered body es e =
+    ap (λ (l : List Stmt). l ++ behind_of body (es ++ e ∷ [])) (block_of-more body es e) ∙ ap (λ (l : List Stmt). block_in (block_of body es) e ++ l) (behind_of-more body es e)
+
+pub part-there : (block : List Stmt) (e : Entered) (st : Stmt) → slice_get block (place_before e.part e.back) ≡ Some st → block_in block e ≡ part_of (out-Act (out-Stmt st).act) e.part
+part-there block e st h = ap (λ (s : Option Stmt). part_at s e.part) h
+
+drop-next : (block : List Stmt) (n : ℕ) (st : Stmt) → slice_get block n ≡ Some st → drop n block ≡ st ∷ drop (n + 1) block
+drop-next block n st h =
+    drop_more block n st (slice_get_within block n st h) ∙ ap (λ (s : Stmt). s ∷ drop (n + 1) block) (get_or_from_slice_get block n st st h)
+
+rest-next : (body : List Stmt) (es : List Entered) (n : ℕ) (st : Stmt) → slice_get (block_of body es) n ≡ Some st → rest_of body es n ≡ st ∷ rest_of body es (n + 1)
+rest-next body es n st h = ap (λ (l : List Stmt). l ++ behind_of body es) (drop-next (block_of body es) n st h)
+
+-- back to the statement that stands in front of this place
+rest-back : (body : List Stmt) (es : List Entered) (n : ℕ) (st : Stmt) → 0 < n → slice_get (block_of body es) (n - 1) ≡ Some st → rest_of body es (n - 1) ≡ st ∷ rest_of body es n
+rest-back body es n st l h =
+    let next : n - 1 + 1 ≡ n = omega arith in
+    rest-next body es (n - 1) st h ∙ ap (λ (k : ℕ). st ∷ rest_of body es k) next
+
+-- the cursor as it was, and with a block of the statement in front of it entered
+pub left-entered : (body : List Stmt) (c d : Cursor) (e : Entered) (st : Stmt) → d.entered.items ≡ c.entered.items ++ e ∷ [] → d.next ≡ 0 → slice_get (block_of body c.entered.items) (place_before e.part e.back) ≡ Some st →
+    left_of body d ≡ part_of (out-Act (out-Stmt st).act) e.part ++ rest_of body c.entered.items e.back
+unfolding left_of
+left-entered body c d e st h k there =
+    rw (h, k) (rest-entered body c.entered.items e) ∙ ap (λ (l : List Stmt). l ++ rest_of body c.entered.items e.back) (part-there (block_of body c.entered.items) e st there)
+
+pub left-is : (body : List Stmt) (c : Cursor) → rest_of body c.entered.items c.next ≡ left_of body c
+unfolding left_of
+left-is body c = refl
+
+pub left-branch : (body : List Stmt) (c d : Cursor) (st : Stmt) (yes : Bool) → IsBehind body c st → d.entered.items ≡ c.entered.items ++ record { part = if yes then part.Yes else part.No; back = c.next } ∷ [] → d.next ≡ 0 →
+    left_of body d ≡ part_of (out-Act (out-Stmt st).act) (if yes then part.Yes else part.No) ++ left_of body c
+left-branch body c d st true behind h k =
+    left-entered body c d (record { part = part.Yes; back = c.next }) st h k behind.there ∙ ap (λ (l : List Stmt). part_of (out-Act (out-Stmt st).act) part.Yes ++ l) (left-is body c)
+left-branch body c d st false behind h k =
+    left-entered body c d (record { part = part.No; back = c.next }) st h k behind.there ∙ ap (λ (l : List Stmt). part_of (out-Act (out-Stmt st).act) part.No ++ l) (left-is body c)
+
+pub left-turn : (body : List Stmt) (c d : Cursor) (st : Stmt) → IsBehind body c st → d.entered.items ≡ c.entered.items ++ record { part = part.Turn; back = c.next - 1 } ∷ [] → d.next ≡ 0 →
+    left_of body d ≡ part_of (out-Act (out-Stmt st).act) part.Turn ++ (st ∷ left_of body c)
+left-turn body c d st behind h k =
+    left-entered body c d (record { part = part.Turn; back = c.next - 1 }) st h k behind.there
+    ∙ ap (λ (l : List Stmt). part_of (out-Act (out-Stmt st).act) part.Turn ++ l) (rest-back body c.entered.items c.next st behind.some behind.there ∙ ap (λ (l : List Stmt). st ∷ l) (left-is body c))
+
+-- behind the next statement
+pub passes : (body : List Stmt) (c d : Cursor) (st : Stmt) → slice_get (block_of body c.entered.items) c.next ≡ Some st → d.entered.items ≡ c.entered.items → d.next ≡ c.next + 1 → Passes body c d st
+unfolding left_of
+passes body c d st there h k =
+    let back : c.next + 1 - 1 ≡ c.next = omega arith in
+    record {
+      first = rw (h, k) (rest-next body c.entered.items c.next st there);
+      behind = record { some = omega arith; there = rw (h, k, back) there };
+    }
+
+-- a block that is left, since nothing of it is left
+pub left-out : (body : List Stmt) (c d : Cursor) (e : Entered) → c.entered.items ≡ d.entered.items ++ e ∷ [] → d.next ≡ e.back → length (block_of body c.entered.items) ≤ c.next → left_of body d ≡ left_of body c
+unfolding left_of
+left-out body c d e h k ended =
+    let past : length (block_of body (d.entered.items ++ e ∷ [])) ≤ c.next = rw h at ended in
+    rw (h, k) (sym (rest-left body d.entered.items e c.next past))
+
+pub left-ended : (body : List Stmt) (c : Cursor) → c.entered.items ≡ [] → length (block_of body c.entered.items) ≤ c.next → left_of body c ≡ []
+unfolding left_of
+left-ended body c h ended =
+    let past : length body ≤ c.next = rw h at ended in
+    rw h (rest-ended body c.next past)
+
+pub left-same : (body : List Stmt) (c d : Cursor) → d.entered.items ≡ c.entered.items → d.next ≡ c.next → left_of body d ≡ left_of body c
+unfolding left_of
+left-same body c d h k = rw (h, k) refl

@@ -1,0 +1,230 @@
+-- What each statement does, once it is paid.
+use Rattle.std.proofs.Common.{◌≡◌, ℕ, zero, suc, ◌+◌, ◌-◌, Bool, true, false, nat_lt, List, [], ◌∷◌, ◌++◌, Option, Some, None, Result, Ok, Err, refl, sym, ap, ◌∙◌, length, if◌then◌else◌}
+use Rattle.std.proofs.Common.{ℤ, pos, ◌-ℤ◌, w64}
+use Rattle.std.specs.Int.{cast_signed}
+use Rattle.dotmix.specs.Draws.{dotmix}
+use Rattle.script_grammar.specs.declared.tree.Name.{Name}
+use Rattle.script_grammar.specs.declared.tree.Number.{Number}
+use Rattle.script_grammar.specs.declared.tree.Expr.{Expr}
+use Rattle.script_grammar.specs.declared.tree.CallText.{CallText}
+use Rattle.script_grammar.specs.declared.tree.Function.{Function}
+use Rattle.script_grammar.specs.declared.tree.Right.{Right}
+use Rattle.script_grammar.specs.declared.tree.Right.TheVariants as right
+use Rattle.script_grammar.specs.declared.tree.Stmt.{Stmt, out-Stmt}
+use Rattle.script_grammar.specs.declared.tree.Act.{Act, out-Act}
+use Rattle.script_grammar.specs.declared.tree.Act.TheOpen as act
+use Rattle.script_grammar.specs.declared.tree.Act.TheOpen.{Act-F}
+use Rattle.serial_meaning.specs.Runs.{Run}
+use Rattle.serial_meaning.specs.Values.{Env, value_of, values_of, slot_of, items_of, number, is_true, at_index}
+use Rattle.serial_meaning.specs.Functions.{number_of, function_at}
+use Rattle.serial_meaning.specs.Plan.{PlanView, functions_of}
+use Rattle.serial_meaning.specs.Exec.{with_slot, does, bound, set_item, zeros, count_of, paid_from}
+use Rattle.serial_meaning.specs.Open.{filler}
+use Rattle.serial_meaning.specs.declared.value.Value.{Value}
+use Rattle.serial_meaning.specs.declared.value.Value.TheVariants.{Int, Id}
+use Rattle.serial_meaning.specs.declared.environment.Slot.TheVariants.{Scalar, Array}
+use Rattle.serial_meaning.specs.declared.event.FaultKind.{FaultKind}
+use Rattle.serial_meaning.specs.declared.event.FaultKind.TheVariants.{Index, Depth, Calls, Budget}
+use Rattle.serial_meaning.specs.declared.event.Fault.{Fault}
+use Rattle.serial_meaning.specs.declared.event.Event.{Event}
+use Rattle.serial_meaning.specs.declared.event.Event.TheVariants as event
+use Rattle.serial_meaning.specs.declared.origin.Origin.{Origin}
+use Rattle.serial_meaning.specs.declared.origin.Origin.TheVariants as origin
+use Rattle.strand_meaning.specs.Machine.{Place, Spawned, Looped, Token, Told, Handed, Syncs, Loops, Halt, Faulted, Inside, handing, inside, place_of, sync_tokens, Activation, Machine, Reached, Stands, Gives, state_of, with_left, with_scalar, entered, reached, statement_move}
+use Rattle.strand_moves.specs.Moves.{acted, call_to, spawn_to}
+
+abbrev pub with_env : Machine → Env → Machine
+with_env m env = record m { top = record m.top { env = env } }
+
+-- how a run goes on, or ends by a fault, from this machine
+abbrev pub went : List Token → Machine → Run Token Fault Reached
+went tokens m = record { items = tokens; ending = Ok (Stands m) }
+
+abbrev pub faults : FaultKind → List ℕ → Run Token Fault Reached
+faults kind strand = record { items = []; ending = Err (record { kind = kind; at = strand }) }
+
+-- The step
+
+-- a machine whose step is paid and that is behind a statement
+abbrev pub behind_statement : Machine → ℕ → List Stmt → Machine
+behind_statement m n left = record m { steps = n; top = record m.top { left = left } }
+
+module _ (plan : PlanView) (path : List ℕ) (m : Machine) (st : Stmt) (left : List Stmt) where
+  by_act : (n : ℕ) (a : Act-F Act Stmt) →
+      (let r = does (handing plan (place_of (length m.below) a)) plan path inside (length m.below) st a (record (state_of m) { steps = n }) in
+      let run : Run Token Fault Reached = record { items = r.items; ending = reached plan (with_left m left) (entered plan st a left m) r.ending } in run)
+      ≡ acted plan path (behind_statement m n left) st a
+  unfolding acted
+  by_act n (act.Let x (right.Value e)) = refl
+  by_act n (act.Let x (right.Draw at)) = refl
+  by_act n (act.Let x (right.New at)) = refl
+  by_act n (act.Let x (right.Call at c)) = refl
+  by_act n (act.Let x (right.Spawn at c)) = refl
+  by_act n (act.Array x k) = refl
+  by_act n (act.Set x (right.Value e)) = refl
+  by_act n (act.Set x (right.Draw at)) = refl
+  by_act n (act.Set x (right.New at)) = refl
+  by_act n (act.Set x (right.Call at c)) = refl
+  by_act n (act.Set x (right.Spawn at c)) = refl
+  by_act n (act.Store x i e) = refl
+  by_act n (act.Spawn c) = refl
+  by_act n (act.Call c) = refl
+  by_act n act.Sync = refl
+  by_act n (act.Print e) = refl
+  by_act n (act.If e a b) = refl
+  by_act n (act.While e a) = refl
+  by_act n (act.Pfor x lo hi target c) = refl
+
+  pub paid-move : (n : ℕ) → m.steps ≡ suc n → statement_move plan path m st left ≡ acted plan path (behind_statement m n left) st (out-Act (out-Stmt st).act)
+  paid-move n h =
+      let a = out-Act (out-Stmt st).act in
+      ap (λ (k : ℕ).
+          let r = paid_from (handing plan (place_of (length m.below) a)) plan path k (state_of m) (λ s. does (handing plan (place_of (length m.below) a)) plan path inside (length m.below) st a s) in
+          let run : Run Token Fault Reached = record { items = r.items; ending = reached plan (with_left m left) (entered plan st a left m) r.ending } in run) h
+      ∙ by_act n a
+
+  pub unpaid-move : m.steps ≡ 0 → statement_move plan path m st left ≡ faults Budget (path ++ m.rank ∷ [])
+  unpaid-move h = rw h refl
+
+-- The statements
+
+module _ (plan : PlanView) (path : List ℕ) (m : Machine) (st : Stmt) where
+  pub let-is-set : (x : Name) (r : Right) → acted plan path m st (act.Let x r) ≡ acted plan path m st (act.Set x r)
+  unfolding acted
+  let-is-set x (right.Value e) = refl
+  let-is-set x (right.Draw at) = refl
+  let-is-set x (right.New at) = refl
+  let-is-set x (right.Call at c) = refl
+  let-is-set x (right.Spawn at c) = refl
+
+  pub set-value : (x : Name) (e : Expr) (v : Value) (env : Env) → value_of e m.top.env ≡ Ok v → env ≡ with_slot m.top.env x.bytes (Scalar v) →
+      acted plan path m st (act.Set x (right.Value e)) ≡ went [] (with_env m env)
+  unfolding acted
+  set-value x e v env h k = rw (h, k) refl
+
+  pub set-value-fault : (x : Name) (e : Expr) (kind : FaultKind) → value_of e m.top.env ≡ Err kind →
+      acted plan path m st (act.Set x (right.Value e)) ≡ faults kind (path ++ m.rank ∷ [])
+  unfolding acted
+  set-value-fault x e kind h = rw h refl
+
+  pub set-draw : (x : Name) (at n : ℕ) (env : Env) → n ≡ dotmix plan.gamma (path ++ m.rank ∷ []) → env ≡ with_slot m.top.env x.bytes (Scalar (Int (cast_signed w64 n))) →
+      acted plan path m st (act.Set x (right.Draw at)) ≡ went (Told (event.Draw (path ++ m.rank ∷ []) n) ∷ []) (record (with_env m env) { rank = m.rank + 1 })
+  unfolding acted
+  set-draw x at n env h k = rw (k, h) refl
+
+  pub set-new : (x : Name) (at : ℕ) (env : Env) → env ≡ with_slot m.top.env x.bytes (Scalar (Id (path ++ m.rank ∷ []))) →
+      acted plan path m st (act.Set x (right.New at)) ≡ went (Told (event.New (path ++ m.rank ∷ [])) ∷ []) (record (with_env m env) { rank = m.rank + 1 })
+  unfolding acted
+  set-new x at env k = rw k refl
+
+  pub array : (x : Name) (n : Number) (env : Env) → env ≡ with_slot m.top.env x.bytes (Array (zeros (count_of n.value))) → acted plan path m st (act.Array x n) ≡ went [] (with_env m env)
+  unfolding acted
+  array x n env h = rw h refl
+
+  pub print : (e : Expr) (v : Value) → value_of e m.top.env ≡ Ok v → acted plan path m st (act.Print e) ≡ went (Told (event.Print (path ++ m.rank ∷ []) v) ∷ []) m
+  unfolding acted
+  print e v h = rw h refl
+
+  pub sync : acted plan path m st act.Sync ≡ went (Told (event.Sync (path ++ m.rank ∷ [])) ∷ sync_tokens m.top.spawned) (record m { rank = m.rank + 1; top = record m.top { spawned = false } })
+  unfolding acted
+  sync = by_spawned m.top.spawned
+    where
+      by_spawned : (b : Bool) → acted plan path (record m { top = record m.top { spawned = b } }) st act.Sync
+          ≡ went (Told (event.Sync (path ++ m.rank ∷ [])) ∷ sync_tokens b) (record m { rank = m.rank + 1; top = record m.top { spawned = false } })
+      by_spawned true = refl
+      by_spawned false = refl
+
+  pub store : (x : Name) (i e : Expr) (k v : Value) (old : ℤ) (env : Env) → value_of i m.top.env ≡ Ok k → at_index (items_of (slot_of m.top.env x.bytes)) (number k) ≡ Some old → value_of e m.top.env ≡ Ok v →
+      env ≡ with_slot m.top.env x.bytes (Array (set_item (items_of (slot_of m.top.env x.bytes)) (number k) v)) → acted plan path m st (act.Store x i e) ≡ went [] (with_env m env)
+  unfolding acted
+  store x i e k v old env f g h j = rw (f, g, h, j) refl
+
+  pub store-index-fault : (x : Name) (i e : Expr) (kind : FaultKind) → value_of i m.top.env ≡ Err kind → acted plan path m st (act.Store x i e) ≡ faults kind (path ++ m.rank ∷ [])
+  unfolding acted
+  store-index-fault x i e kind f = rw f refl
+
+  pub store-fault : (x : Name) (i e : Expr) (k : Value) → value_of i m.top.env ≡ Ok k → at_index (items_of (slot_of m.top.env x.bytes)) (number k) ≡ None →
+      acted plan path m st (act.Store x i e) ≡ faults Index (path ++ m.rank ∷ [])
+  unfolding acted
+  store-fault x i e k f g = rw (f, g) refl
+
+  pub store-value-fault : (x : Name) (i e : Expr) (k : Value) (old : ℤ) (kind : FaultKind) → value_of i m.top.env ≡ Ok k → at_index (items_of (slot_of m.top.env x.bytes)) (number k) ≡ Some old → value_of e m.top.env ≡ Err kind →
+      acted plan path m st (act.Store x i e) ≡ faults kind (path ++ m.rank ∷ [])
+  unfolding acted
+  store-value-fault x i e k old kind f g h = rw (f, g, h) refl
+
+  pub print-fault : (e : Expr) (kind : FaultKind) → value_of e m.top.env ≡ Err kind → acted plan path m st (act.Print e) ≡ faults kind (path ++ m.rank ∷ [])
+  unfolding acted
+  print-fault e kind h = rw h refl
+
+  -- what an `if` goes inside to
+  pub branch : (e : Expr) (first second : List Stmt) (v : Value) (b : Bool) → value_of e m.top.env ≡ Ok v → is_true v ≡ b →
+      acted plan path m st (act.If e first second) ≡ went [] (record m { top = record m.top { left = (if b then first else second) ++ m.top.left } })
+  unfolding acted
+  branch e first second v b h k = rw (h, k) refl
+
+  pub branch-fault : (e : Expr) (first second : List Stmt) (kind : FaultKind) → value_of e m.top.env ≡ Err kind → acted plan path m st (act.If e first second) ≡ faults kind (path ++ m.rank ∷ [])
+  unfolding acted
+  branch-fault e first second kind h = rw h refl
+
+  pub turn : (e : Expr) (body : List Stmt) (v : Value) → value_of e m.top.env ≡ Ok v → is_true v ≡ true →
+      acted plan path m st (act.While e body) ≡ went [] (record m { top = record m.top { left = body ++ (st ∷ m.top.left) } })
+  unfolding acted
+  turn e body v h k = rw (h, k) refl
+
+  pub no-turn : (e : Expr) (body : List Stmt) (v : Value) → value_of e m.top.env ≡ Ok v → is_true v ≡ false → acted plan path m st (act.While e body) ≡ went [] m
+  unfolding acted
+  no-turn e body v h k = rw (h, k) refl
+
+  pub turn-fault : (e : Expr) (body : List Stmt) (kind : FaultKind) → value_of e m.top.env ≡ Err kind → acted plan path m st (act.While e body) ≡ faults kind (path ++ m.rank ∷ [])
+  unfolding acted
+  turn-fault e body kind h = rw h refl
+
+  -- children and calls
+
+  abbrev pub child : CallText → List Value → Origin
+  child c vs = origin.Instance (number_of (functions_of plan) c.name.bytes) vs (path ++ m.rank ∷ [])
+
+  pub spawn : (target : Option Name) (c : CallText) (vs : List Value) (env : Env) → values_of c.args m.top.env ≡ Ok vs → nat_lt (length path + 1) plan.limits.depth ≡ true →
+      env ≡ with_scalar target (filler plan (child c vs)) m.top.env →
+      acted plan path m st (spawn_to target c) ≡ went (Told (event.Spawn (path ++ m.rank ∷ [])) ∷ Handed (child c vs) (Spawned (length m.below) target) ∷ []) (record m { rank = m.rank + 1; top = record m.top { env = env; spawned = true } })
+  unfolding acted
+  spawn None c vs env h k j = rw (h, k, j) refl
+  spawn (Some x) c vs env h k j = rw (h, k, j) refl
+
+  pub spawn-args-fault : (target : Option Name) (c : CallText) (kind : FaultKind) → values_of c.args m.top.env ≡ Err kind → acted plan path m st (spawn_to target c) ≡ faults kind (path ++ m.rank ∷ [])
+  unfolding acted
+  spawn-args-fault None c kind h = rw h refl
+  spawn-args-fault (Some x) c kind h = rw h refl
+
+  pub spawn-depth-fault : (target : Option Name) (c : CallText) (vs : List Value) → values_of c.args m.top.env ≡ Ok vs → nat_lt (length path + 1) plan.limits.depth ≡ false →
+      acted plan path m st (spawn_to target c) ≡ faults Depth (path ++ m.rank ∷ [])
+  unfolding acted
+  spawn-depth-fault None c vs h k = rw (h, k) refl
+  spawn-depth-fault (Some x) c vs h k = rw (h, k) refl
+
+  -- the activation that a call begins
+  abbrev pub callee : Option Name → ℕ → Function → List Value → Activation
+  callee target number f vs = record { function = number; left = f.body; returning = false; env = bound f.params vs; spawned = false; faulted = None; target = target }
+
+  pub call : (target : Option Name) (c : CallText) (vs : List Value) (f : Function) → values_of c.args m.top.env ≡ Ok vs → nat_lt (length m.below) 256 ≡ true → function_at (functions_of plan) (number_of (functions_of plan) c.name.bytes) ≡ Some f →
+      acted plan path m st (call_to target c) ≡ went [] (record m { top = callee target (number_of (functions_of plan) c.name.bytes) f vs; below = m.top ∷ m.below })
+  unfolding acted
+  call None c vs f h k j = rw (h, k, j) refl
+  call (Some x) c vs f h k j = rw (h, k, j) refl
+
+  pub call-none : (target : Option Name) (c : CallText) (vs : List Value) (env : Env) → values_of c.args m.top.env ≡ Ok vs → nat_lt (length m.below) 256 ≡ true → function_at (functions_of plan) (number_of (functions_of plan) c.name.bytes) ≡ None →
+      env ≡ with_scalar target (Int (pos 0)) m.top.env → acted plan path m st (call_to target c) ≡ went [] (with_env m env)
+  unfolding acted
+  call-none None c vs env h k j e = rw (h, k, j, e) refl
+  call-none (Some x) c vs env h k j e = rw (h, k, j, e) refl
+
+  pub call-args-fault : (target : Option Name) (c : CallText) (kind : FaultKind) → values_of c.args m.top.env ≡ Err kind → acted plan path m st (call_to target c) ≡ faults kind (path ++ m.rank ∷ [])
+  unfolding acted
+  call-args-fault None c kind h = rw h refl
+  call-args-fault (Some x) c kind h = rw h refl
+
+  pub calls-fault : (target : Option Name) (c : CallText) (vs : List Value) → values_of c.args m.top.env ≡ Ok vs → nat_lt (length m.below) 256 ≡ false → acted plan path m st (call_to target c) ≡ faults Calls (path ++ m.rank ∷ [])
+  unfolding acted
+  calls-fault None c vs h k = rw (h, k) refl
+  calls-fault (Some x) c vs h k = rw (h, k) refl

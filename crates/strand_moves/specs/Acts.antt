@@ -1,0 +1,67 @@
+-- What the call for a statement answers and leaves, where the statement is paid and the cursor stands behind it.
+use Rattle.std.specs.Prelude.{◌≡◌, ℕ, zero, suc, ◌+◌, ◌<◌, Bool, true, false, nat_lt, List, Option, Some, None, Result, Ok, Err, length}
+use Rattle.std.specs.Prelude.{pos}
+use Rattle.script_grammar.specs.declared.tree.Name.{Name}
+use Rattle.script_grammar.specs.declared.tree.Function.{Function}
+use Rattle.script_grammar.specs.declared.tree.Stmt.{Stmt}
+use Rattle.script_grammar.specs.declared.tree.Act.{Act}
+use Rattle.script_grammar.specs.declared.tree.Act.TheOpen.{Act-F}
+use Rattle.serial_meaning.specs.Exec.{bound, has_room}
+use Rattle.serial_meaning.specs.Plan.{PlanView}
+use Rattle.serial_meaning.specs.Values.{Env, value_of}
+use Rattle.serial_meaning.specs.declared.value.Value.{Value}
+use Rattle.serial_meaning.specs.declared.value.Value.TheVariants.{Int}
+use Rattle.serial_meaning.specs.declared.event.FaultKind.{FaultKind}
+use Rattle.serial_meaning.specs.declared.event.FaultKind.TheVariants.{Index, Depth, Budget}
+use Rattle.strand_values.specs.declared.halt.Halt as values
+use Rattle.strand_moves.specs.declared.activation.Activation.{Activation}
+use Rattle.strand_moves.specs.declared.instance.Instance.{Instance}
+use Rattle.strand_moves.specs.declared.shown.Shown.{Shown}
+use Rattle.strand_moves.specs.Cursors.{left_of}
+use Rattle.strand_moves.specs.Machines.{machine_of, path_of}
+use Rattle.strand_moves.specs.Moves.{acted, Shows, strand_of}
+
+-- the call shows and leaves what this act does, and a fault is one of this strand
+abbrev pub Acts : PlanView → Stmt → Act-F Act Stmt → Instance → Instance → Result Shown values.Halt → Type 0
+Acts plan st a old new result =
+    Shows (acted plan (path_of old) (machine_of plan old) st a) (strand_of (path_of old) (machine_of plan old)) (machine_of plan new) result
+
+-- the step, the rank, and whether it may still be a rank
+abbrev pub Costs : Instance → Instance → Type 0
+Costs old new = new.rank + new.steps < old.rank + old.steps + 2
+
+-- the pedigrees in the iterations of a loop, if there are any, are within the depth
+abbrev pub loop_fits : PlanView → List ℕ → ℕ → Bool
+loop_fits plan path zero = true
+loop_fits plan path (suc n) = nat_lt (length path + 2) plan.limits.depth
+
+-- whether a loop of so many iterations can begin: its steps, the target's room, the depth
+abbrev pub loop_begins : PlanView → List ℕ → ℕ → Option Name → Env → ℕ → Result (Unit {0}) FaultKind
+loop_begins plan path n target env steps = by_steps (nat_lt n (steps + 1))
+  where
+    by_depth : Bool → Result (Unit {0}) FaultKind
+    by_depth true = Ok tt
+    by_depth false = Err Depth
+
+    by_room : Bool → Result (Unit {0}) FaultKind
+    by_room true = by_depth (loop_fits plan path n)
+    by_room false = Err Index
+
+    by_steps : Bool → Result (Unit {0}) FaultKind
+    by_steps true = by_room (has_room target n env)
+    by_steps false = Err Budget
+
+-- an activation that a call of this function begins
+pub record IsCallee (number : ℕ) (f : Function) (args : List Value) (to : Option Name) (a : Activation) : Type 0 where
+  pub function : a.function ≡ number
+  pub left : left_of f.body a.cursor ≡ f.body
+  pub returning : a.returning ≡ false
+  pub env : a.env ≡ bound f.params args
+  pub spawned : a.spawned ≡ false
+  pub faulted : a.faulted ≡ None
+  pub target : a.target ≡ to
+
+-- the value of a function, where there is one
+abbrev pub result_of : Option Function → Env → Result Value FaultKind
+result_of (Some f) env = value_of f.result env
+result_of None env = Ok (Int (pos 0))

@@ -1,0 +1,65 @@
+-- Which statements of a function are left, by the blocks that were entered and the place in the innermost one.
+use Rattle.std.specs.Prelude.{◌≡◌, ℕ, zero, suc, ◌-◌, ◌<◌, List, [], ◌∷◌, ◌++◌, Option, Some, None, slice_get, drop}
+use Rattle.script_grammar.specs.declared.tree.Stmt.{Stmt, out-Stmt}
+use Rattle.script_grammar.specs.declared.tree.Act.{Act, out-Act}
+use Rattle.script_grammar.specs.declared.tree.Act.TheOpen as act
+use Rattle.script_grammar.specs.declared.tree.Act.TheOpen.{Act-F}
+use Rattle.strand_moves.specs.declared.cursor.Part.{Part}
+use Rattle.strand_moves.specs.declared.cursor.Part.TheVariants as part
+use Rattle.strand_moves.specs.declared.cursor.Entered.{Entered}
+use Rattle.strand_moves.specs.declared.cursor.Cursor.{Cursor}
+
+-- a block of a statement, and no statements where it has no such block
+abbrev pub part_of : Act-F Act Stmt → Part → List Stmt
+part_of (act.Let x r) p = []
+part_of (act.Array x n) p = []
+part_of (act.Set x r) p = []
+part_of (act.Store x i e) p = []
+part_of (act.Spawn c) p = []
+part_of (act.Call c) p = []
+part_of act.Sync p = []
+part_of (act.Print e) p = []
+part_of (act.If e a b) part.Yes = a
+part_of (act.If e a b) part.No = b
+part_of (act.If e a b) part.Turn = []
+part_of (act.While e a) part.Yes = []
+part_of (act.While e a) part.No = []
+part_of (act.While e a) part.Turn = a
+part_of (act.Pfor x lo hi target c) p = []
+
+abbrev pub part_at : Option Stmt → Part → List Stmt
+part_at None p = []
+part_at (Some st) p = part_of (out-Act (out-Stmt st).act) p
+
+-- where the statement stands that was entered: the enclosing block goes on at a loop itself, and behind an `if`
+abbrev pub place_before : Part → ℕ → ℕ
+place_before part.Yes back = back - 1
+place_before part.No back = back - 1
+place_before part.Turn back = back
+
+abbrev pub block_in : List Stmt → Entered → List Stmt
+block_in block e = part_at (slice_get block (place_before e.part e.back)) e.part
+
+-- the innermost block
+abbrev pub block_of : List Stmt → List Entered → List Stmt
+block_of block [] = block
+block_of block (e ∷ es) = block_of (block_in block e) es
+
+-- what is left of the enclosing blocks, from the innermost on
+abbrev pub behind_of : List Stmt → List Entered → List Stmt
+behind_of block [] = []
+behind_of block (e ∷ es) = behind_of (block_in block e) es ++ drop e.back block
+
+-- the statements left of a function's body
+unfoldable pub left_of : List Stmt → Cursor → List Stmt
+left_of body c = drop c.next (block_of body c.entered.items) ++ behind_of body c.entered.items
+
+-- The cursor stands behind this statement.
+pub record IsBehind (body : List Stmt) (c : Cursor) (st : Stmt) : Type 0 where
+  pub some : 0 < c.next
+  pub there : slice_get (block_of body c.entered.items) (c.next - 1) ≡ Some st
+
+-- the next statement and those behind it
+pub record Passes (body : List Stmt) (old new : Cursor) (st : Stmt) : Type 0 where
+  pub first : left_of body old ≡ st ∷ left_of body new
+  pub behind : IsBehind body new st

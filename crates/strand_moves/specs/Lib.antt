@@ -1,0 +1,4 @@
+pub mod Acts
+pub mod Cursors
+pub mod Machines
+pub mod Moves

@@ -1,0 +1,64 @@
+-- What a call that makes a move answers.
+use Rattle.std.specs.Prelude.{◌≡◌, ℕ, ◌+◌, ◌≤◌, ◌++◌, List, [], ◌∷◌, Option, Some, None, Result, Ok, Err, length}
+use Rattle.script_grammar.specs.declared.tree.Name.{Name}
+use Rattle.script_grammar.specs.declared.tree.CallText.{CallText}
+use Rattle.script_grammar.specs.declared.tree.Right.TheVariants as right
+use Rattle.script_grammar.specs.declared.tree.Stmt.{Stmt, out-Stmt}
+use Rattle.script_grammar.specs.declared.tree.Act.{Act, out-Act}
+use Rattle.script_grammar.specs.declared.tree.Act.TheOpen as act
+use Rattle.script_grammar.specs.declared.tree.Act.TheOpen.{Act-F}
+use Rattle.serial_meaning.specs.Runs.{Run}
+use Rattle.serial_meaning.specs.Exec.{State, does}
+use Rattle.serial_meaning.specs.Plan.{PlanView}
+use Rattle.serial_meaning.specs.declared.event.Fault.{Fault}
+use Rattle.serial_meaning.specs.declared.event.FaultKind.{FaultKind}
+use Rattle.strand_meaning.specs.Machine.{Place, Spawned, Looped, Token, Told, Handed, Syncs, Loops, Halt, Machine, Reached, Stands, Gives, handing, inside, place_of, state_of, with_left, entered, reached, statement_move}
+use Rattle.strand_values.specs.declared.halt.Halt as values
+use Rattle.strand_values.specs.declared.halt.Halt.TheVariants as halt
+use Rattle.strand_moves.specs.declared.shown.Shown.{Shown}
+use Rattle.strand_moves.specs.declared.shown.Shown.TheVariants as shown
+use Rattle.strand_moves.specs.declared.shown.Moved.{Moved}
+use Rattle.strand_moves.specs.declared.shown.Moved.TheVariants as moved
+
+-- the tokens of what is shown
+abbrev pub tokens_of : Shown → List Token
+tokens_of shown.Nothing = []
+tokens_of (shown.Told e) = Told e ∷ []
+tokens_of (shown.Spawned e o height target) = Told e ∷ Handed o (Spawned height target) ∷ []
+tokens_of (shown.Synced e) = Told e ∷ Syncs ∷ []
+tokens_of (shown.Looped e o target) = Told e ∷ Handed o (Looped target) ∷ Loops ∷ []
+
+-- a move that ends in this machine, if it ends in one
+abbrev pub run_of : Moved → Machine → Run Token Fault Reached
+run_of (moved.Went s) m = record { items = tokens_of s; ending = Ok (Stands m) }
+run_of (moved.Gave v) m = record { items = []; ending = Ok (Gives v) }
+run_of (moved.Faulted f) m = record { items = []; ending = Err f }
+
+-- A move is the defined one, where a fault is one of this strand. Want of memory may come at any time.
+abbrev pub Makes : Run Token Fault Reached → List ℕ → Machine → Result Moved values.Halt → Type 0
+Makes run strand m (Ok moved) = run ≡ run_of moved m
+Makes run strand m (Err (halt.Fault kind)) = run ≡ record { items = []; ending = Err (record { kind = kind; at = strand }) }
+Makes run strand m (Err halt.Memory) = Unit {0}
+
+-- the same for a move that goes on
+abbrev pub Shows : Run Token Fault Reached → List ℕ → Machine → Result Shown values.Halt → Type 0
+Shows run strand m (Ok s) = run ≡ record { items = tokens_of s; ending = Ok (Stands m) }
+Shows run strand m (Err (halt.Fault kind)) = run ≡ record { items = []; ending = Err (record { kind = kind; at = strand }) }
+Shows run strand m (Err halt.Memory) = Unit {0}
+
+abbrev pub strand_of : List ℕ → Machine → List ℕ
+strand_of path m = path ++ m.rank ∷ []
+
+-- what a statement does that is paid and stands no longer among those left
+unfoldable pub acted : PlanView → List ℕ → Machine → Stmt → Act-F Act Stmt → Run Token Fault Reached
+acted plan path m st a =
+    let r = does (handing plan (place_of (length m.below) a)) plan path inside (length m.below) st a (state_of m) in record { items = r.items; ending = reached plan (with_left m m.top.left) (entered plan st a m.top.left m) r.ending }
+
+-- a call, or a spawn, whose value goes to a variable, if any
+abbrev pub call_to : Option Name → CallText → Act-F Act Stmt
+call_to None c = act.Call c
+call_to (Some x) c = act.Set x (right.Call 0 c)
+
+abbrev pub spawn_to : Option Name → CallText → Act-F Act Stmt
+spawn_to None c = act.Spawn c
+spawn_to (Some x) c = act.Set x (right.Spawn 0 c)

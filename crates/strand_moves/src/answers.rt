@@ -1,0 +1,81 @@
+// What the answers of children change in an instance.
+
+ghost use Rattle.std.specs.Prelude.{◌≡◌, [], ◌∷◌, Some, Ok, Err, OnOk};
+ghost use Rattle.std.specs.Option.{option_copied};
+ghost use Rattle.serial_meaning.specs.Open.{least};
+ghost use Rattle.serial_meaning.specs.Plan.{PlanView};
+ghost use Rattle.strand_meaning.specs.Task.{answered, changed, with_answer, with_values};
+ghost use Rattle.strand_moves.specs.Machines.{IsInstance, machine_of, path_of};
+
+use crate::instance::Instance;
+use crate::memory::Memory;
+use script_grammar::Name;
+use serial_meaning::{Fault, Value};
+use std::alloc::Global;
+use strand_values::Environment;
+
+impl Instance {
+    /// Takes the fault of a child of the activation with `height` others below it.
+    pub fn take_fault(&mut self, height: usize, fault: Fault) -> Result<(), Memory>
+        ensures machine { OnOk result ((plan : PlanView) (target : _) → machine_of plan self.new ≡ changed height (answered target (Err fault)) (machine_of plan self.old)) }
+        ensures path { OnOk result (path_of self.new ≡ path_of self.old) }
+        ensures sound { OnOk result ((plan : PlanView) → IsInstance plan self.old → IsInstance plan self.new) }
+    {
+        if height == self.below.len() {
+            take_least(&mut self.top.faulted, fault);
+        } else if height < self.below.len() {
+            take_least(&mut self.below[height].faulted, fault);
+        }
+        Ok(())
+    }
+
+    /// Takes the value of a child of the activation with `height` others below it. A variable that isn't there doesn't come to be.
+    pub fn take_value(&mut self, alloc: Global, height: usize, target: Option<&Name>, value: Value) -> Result<(), Memory>
+        ensures machine { OnOk result ((plan : PlanView) → machine_of plan self.new ≡ changed height (answered (option_copied target.entry) (Ok (value ∷ []))) (machine_of plan self.old)) }
+        ensures path { OnOk result (path_of self.new ≡ path_of self.old) }
+        ensures sound { OnOk result ((plan : PlanView) → IsInstance plan self.old → IsInstance plan self.new) }
+    {
+        if height == self.below.len() {
+            replace(&mut self.top.env, target, value);
+        } else if height < self.below.len() {
+            replace(&mut self.below[height].env, target, value);
+        }
+        Ok(())
+    }
+
+    /// Takes the values of a loop of the innermost activation. Where there was no memory for it the instance is of no more use.
+    pub fn take_values(&mut self, alloc: Global, target: Option<&Name>, values: &[Value]) -> Result<(), Memory>
+        ensures machine { OnOk result ((plan : PlanView) → machine_of plan self.new ≡ with_values (option_copied target.entry) values.now (machine_of plan self.old)) }
+        ensures path { OnOk result (path_of self.new ≡ path_of self.old) }
+        ensures sound { OnOk result ((plan : PlanView) → IsInstance plan self.old → IsInstance plan self.new) }
+    {
+        self.top.env.fill(alloc, target, values)?;
+        Ok(())
+    }
+
+    /// The least fault among the answers that the innermost activation took since its last sync.
+    pub fn faulted(&self) -> Option<&Fault>
+        ensures { (plan : PlanView) → option_copied result ≡ (machine_of plan self.now).top.faulted }
+    {
+        self.top.faulted.as_ref()
+    }
+}
+
+/// Gives a variable that is there a new value.
+fn replace(env: &mut Environment, target: Option<&Name>, value: Value)
+    ensures { env.new ≡ with_answer (option_copied target.entry) value env.old }
+{
+    if let Some(name) = target {
+        env.replace_scalar(name, value);
+    }
+}
+
+/// Keeps the lesser of two faults.
+fn take_least(faulted: &mut Option<Fault>, fault: Fault)
+    ensures { faulted.new ≡ Some (least faulted.old fault) }
+{
+    match faulted {
+        Some(known) if !fault.at.before(&known.at) => {}
+        _ => *faulted = Some(fault),
+    }
+}

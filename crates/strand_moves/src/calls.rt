@@ -1,0 +1,134 @@
+// Calls, and the end of an activation.
+
+ghost use Rattle.std.specs.Prelude.{◌≡◌, ◌<◌, ◌≤◌, ◌+◌, ◌++◌, ◌∷◌, [], false, true, OnOk};
+ghost use Rattle.std.specs.Option.{option_copied};
+ghost use Rattle.script_grammar.specs.declared.tree.Stmt.{Stmt};
+ghost use Rattle.serial_meaning.specs.Functions.{function_at};
+ghost use Rattle.serial_meaning.specs.Plan.{functions_of};
+ghost use Rattle.strand_meaning.specs.Machine.{return_move, spawns_in, with_scalar};
+ghost use Rattle.strand_values.specs.Gives.{Gives};
+ghost use Rattle.strand_moves.specs.Acts.{Acts, Costs, IsCallee, result_of};
+ghost use Rattle.strand_moves.specs.Machines.{IsInstance, machine_of, path_of};
+ghost use Rattle.strand_moves.specs.Moves.{Makes, Shows, call_to, strand_of};
+
+use crate::activation::{Activation, copy_of};
+use crate::instance::Instance;
+use crate::memory::Memory;
+use crate::shown::{Moved, Shown};
+use crate::spawns::any_spawns;
+use script_grammar::{CallText, Function, Items, Name};
+use serial_meaning::plan::function_number;
+use serial_meaning::{FaultKind, Plan, Value};
+use std::alloc::Global;
+use std::mem;
+use strand_values::Halt;
+
+/// How many calls may be open in an instance.
+const MOST_CALLS: usize = 256;
+
+impl Instance {
+    /// A call, whose value goes to a variable, if any.
+    pub(crate) fn call(&mut self, alloc: Global, plan: &Plan, target: Option<&Name>, call: &CallText) -> Result<Shown, Halt>
+        ensures shows { (st : Stmt) → Acts plan.now st (call_to (option_copied target.entry) call.now) self.old self.new result }
+        ensures trail { self.new.trail ≡ self.old.trail }
+        ensures few { Costs self.old self.new }
+    {
+        let args = self.top.env.values(alloc, call.args.as_slice())?;
+        if self.below.len() >= MOST_CALLS {
+            return Err(Halt::Fault(FaultKind::Calls));
+        }
+        let number = function_number(plan.functions(), call.name.bytes.as_slice());
+        match function_in(plan, number) {
+            Some(function) => self.open(alloc, number, function, args, target)?,
+            None => self.receive(alloc, target, Value::Int(0))?,
+        }
+        Ok(Shown::Nothing)
+    }
+
+    /// Begins a function over the innermost activation.
+    fn open(&mut self, alloc: Global, number: u32, function: &Function, args: Items<Value>, target: Option<&Name>) -> Result<(), Memory>
+        ensures top { OnOk result (IsCallee number function.now args (option_copied target.entry) self.new.top) }
+        ensures below { OnOk result (self.new.below.items ≡ self.old.below.items ++ self.old.top ∷ []) }
+        ensures trail { self.new.trail ≡ self.old.trail }
+        ensures rank { self.new.rank ≡ self.old.rank }
+        ensures steps { self.new.steps ≡ self.old.steps }
+    {
+        let target = copy_of(alloc, target)?;
+        let callee = Activation::new(alloc, number, function, args, target)?;
+        let caller = mem::replace(&mut self.top, callee);
+        self.below.push(caller)?;
+        Ok(())
+    }
+
+    /// Gives a variable of the innermost activation a value, if there is one.
+    pub(crate) fn receive(&mut self, alloc: Global, target: Option<&Name>, value: Value) -> Result<(), Memory>
+        ensures env { OnOk result (self.new.top.env ≡ with_scalar (option_copied target.entry) value self.old.top.env) }
+        ensures others { self.new ≡ record self.old { top = record self.old.top { env = self.new.top.env } } }
+    {
+        if let Some(x) = target {
+            self.top.env.set_scalar(alloc, x, value)?;
+        }
+        Ok(())
+    }
+
+    /// The step of a return and the sync that it implies.
+    pub(crate) fn return_step(&mut self, plan: &Plan) -> Result<Shown, Halt>
+        requires { IsInstance plan.now self.old }
+        ensures shows { let m = machine_of plan.now self.old in
+            Shows (return_move plan.now (path_of self.old) m false) (strand_of (path_of self.old) m) (machine_of plan.now self.new) result }
+        ensures trail { self.new.trail ≡ self.old.trail }
+        ensures few { self.new.rank + self.new.steps ≤ self.old.rank + self.old.steps }
+    {
+        self.pay()?;
+        self.top.returning = true;
+        if self.has_spawns(plan) {
+            return Ok(self.sync()?);
+        }
+        Ok(Shown::Nothing)
+    }
+
+    /// Whether the word `spawn` stands in the text of the innermost activation.
+    fn has_spawns(&self, plan: &Plan) -> bool
+        ensures { result ≡ spawns_in (function_at (functions_of plan.now) self.now.top.function) }
+    {
+        match function_in(plan, self.top.function) {
+            Some(f) => any_spawns(f.body.as_slice()),
+            None => false,
+        }
+    }
+
+    /// The value of the innermost activation's function, as its variables are.
+    fn result(&self, plan: &Plan) -> Result<Value, Halt>
+        ensures { Gives result (result_of (function_at (functions_of plan.now) self.now.top.function) self.now.top.env) }
+    {
+        match function_in(plan, self.top.function) {
+            Some(f) => self.top.env.value(&f.result),
+            None => Ok(Value::Int(0)),
+        }
+    }
+
+    /// The value of an activation that ends goes to the one below it, or is that of the instance.
+    pub(crate) fn end(&mut self, alloc: Global, plan: &Plan) -> Result<Moved, Halt>
+        ensures shows { let m = machine_of plan.now self.old in
+            Makes (return_move plan.now (path_of self.old) m true) (strand_of (path_of self.old) m) (machine_of plan.now self.new) result }
+        ensures trail { self.new.trail ≡ self.old.trail }
+        ensures few { self.new.rank + self.new.steps ≤ self.old.rank + self.old.steps }
+    {
+        let value = self.result(plan)?;
+        match self.below.pop() {
+            None => Ok(Moved::Gave(value)),
+            Some(caller) => {
+                let callee = mem::replace(&mut self.top, caller);
+                self.receive(alloc, callee.target.as_ref(), value)?;
+                Ok(Moved::Went(Shown::Nothing))
+            }
+        }
+    }
+}
+
+/// The function at this place in the script, if there is one.
+pub(crate) fn function_in(plan: &Plan, number: u32) -> Option<&Function>
+    ensures { option_copied result ≡ function_at (functions_of plan.now) number }
+{
+    plan.functions().get(number as usize)
+}

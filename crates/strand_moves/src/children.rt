@@ -1,0 +1,184 @@
+// Children: spawns, syncs and parallel loops.
+
+ghost use Rattle.std.specs.Prelude.{◌≡◌, ◌<◌, ◌≤◌, ◌^◌, ◌+◌, ◌++◌, ◌∷◌, [], ℕ, IfOk, OnOk, false};
+ghost use Rattle.std.specs.Option.{option_copied};
+ghost use Rattle.script_grammar.specs.declared.tree.Act.TheOpen as act;
+ghost use Rattle.script_grammar.specs.declared.tree.Stmt.{Stmt};
+ghost use Rattle.serial_meaning.specs.Exec.{filled};
+ghost use Rattle.serial_meaning.specs.Functions.{function_at};
+ghost use Rattle.serial_meaning.specs.Open.{answer_filler};
+ghost use Rattle.serial_meaning.specs.Plan.{functions_of};
+ghost use Rattle.serial_meaning.specs.declared.event.Event.TheVariants as event;
+ghost use Rattle.strand_meaning.specs.Machine.{Told, sync_tokens};
+ghost use Rattle.strand_moves.specs.Acts.{Acts, Costs, loop_begins};
+ghost use Rattle.strand_moves.specs.Machines.{IsInstance, path_of};
+ghost use Rattle.strand_moves.specs.Moves.{spawn_to, tokens_of};
+ghost use Rattle.strand_moves.specs.declared.shown.Shown.TheVariants as shown;
+
+use crate::activation::copy_of;
+use crate::calls::function_in;
+use crate::instance::Instance;
+use crate::memory::Memory;
+use crate::shown::Shown;
+use loop_range::IterRange;
+use ped_path::{Ped, Pedigree};
+use script_grammar::{CallText, Expr, Items, Kind, Name};
+use serial_meaning::plan::function_number;
+use serial_meaning::{Event, FaultKind, Origin, Plan, Value};
+use std::alloc::Global;
+use strand_values::{Halt, iterations, number};
+
+impl Instance {
+    /// A spawn, whose child's value is to go to a variable, if any.
+    pub(crate) fn spawn(&mut self, alloc: Global, plan: &Plan, target: Option<&Name>, call: &CallText) -> Result<Shown, Halt>
+        requires { IsInstance plan.now self.old }
+        ensures shows { (st : Stmt) → Acts plan.now st (spawn_to (option_copied target.entry) call.now) self.old self.new result }
+        ensures trail { self.new.trail ≡ self.old.trail }
+        ensures few { Costs self.old self.new }
+    {
+        let args = self.top.env.values(alloc, call.args.as_slice())?;
+        if self.trail.path.len() + 1 >= plan.limits.depth as u64 {
+            return Err(Halt::Fault(FaultKind::Depth));
+        }
+        let function = function_number(plan.functions(), call.name.bytes.as_slice());
+        let event = Event::Spawn(self.pedigree()?);
+        let path = self.child_path(alloc)?;
+        let child = Origin::Instance { function, args, path };
+        let instead = filler(alloc, plan, function)?;
+        self.receive(alloc, target, instead)?;
+        let target = copy_of(alloc, target)?;
+        self.rank += 1;
+        self.top.spawned = true;
+        let height = self.below.len();
+        Ok(Shown::Spawned {
+            event,
+            child,
+            height,
+            target,
+        })
+    }
+
+    /// A sync, written or implied.
+    pub(crate) fn sync(&mut self) -> Result<Shown, Memory>
+        requires { self.old.rank < 2 ^ 32 }
+        ensures shown { IfOk result (λ s. tokens_of s ≡ Told (event.Sync (path_of self.old ++ self.old.rank ∷ [])) ∷ sync_tokens self.old.top.spawned) }
+        ensures passed { OnOk result (self.new ≡ record self.old { rank = self.old.rank + 1; top = record self.old.top { spawned = false } }) }
+        ensures trail { self.new.trail ≡ self.old.trail }
+        ensures few { Costs self.old self.new }
+    {
+        let event = Event::Sync(self.pedigree()?);
+        let waits = self.top.spawned;
+        self.rank += 1;
+        self.top.spawned = false;
+        Ok(if waits {
+            Shown::Synced(event)
+        } else {
+            Shown::Told(event)
+        })
+    }
+
+    /// A parallel loop.
+    pub(crate) fn pfor(&mut self, alloc: Global, plan: &Plan, lo: &Expr, hi: &Expr, target: &Option<Name>, call: &CallText) -> Result<Shown, Halt>
+        requires { IsInstance plan.now self.old }
+        ensures shows { (st : Stmt) (var : _) → Acts plan.now st (act.Pfor var lo.now hi.now target.now call.now) self.old self.new result }
+        ensures trail { self.new.trail ≡ self.old.trail }
+        ensures few { Costs self.old self.new }
+    {
+        let first = number(&self.top.env.value(lo)?);
+        let end = number(&self.top.env.value(hi)?);
+        let rest = self.top.env.values(alloc, call.args.as_slice())?;
+        let count = iterations(first, end);
+        self.begin_loop(plan, target, count)?;
+        if count == 0 {
+            return Ok(self.pass_loop(alloc, target)?);
+        }
+        let function = function_number(plan.functions(), call.name.bytes.as_slice());
+        let path = self.child_path(alloc)?;
+        let range = IterRange { lo: 0, hi: count };
+        let child = Origin::Loop {
+            function,
+            rest,
+            first,
+            path,
+            range,
+        };
+        Ok(self.hand_loop(alloc, target, child)?)
+    }
+
+    /// The steps of a loop of so many iterations, the room of its target, and the depth of its iterations.
+    fn begin_loop(&mut self, plan: &Plan, target: &Option<Name>, count: u64) -> Result<(), FaultKind>
+        ensures result { result ≡ loop_begins plan.now (path_of self.old) count target.now self.old.top.env self.old.steps }
+        ensures ok { OnOk result (self.new.steps + count ≡ self.old.steps) }
+        ensures less { self.new.steps ≤ self.old.steps }
+        ensures others { self.new ≡ record self.old { steps = self.new.steps } }
+    {
+        if count > self.steps {
+            return Err(FaultKind::Budget);
+        }
+        self.steps -= count;
+        if !self.top.env.has_room(target.as_ref(), count) {
+            return Err(FaultKind::Index);
+        }
+        if count != 0 && self.trail.path.len() + 2 >= plan.limits.depth as u64 {
+            return Err(FaultKind::Depth);
+        }
+        Ok(())
+    }
+
+    /// A loop without an iteration.
+    fn pass_loop(&mut self, alloc: Global, target: &Option<Name>) -> Result<Shown, Memory>
+        requires { self.old.rank < 2 ^ 32 }
+        ensures shown { IfOk result (λ s. s ≡ shown.Told (event.Loop (path_of self.old ++ self.old.rank ∷ []))) }
+        ensures passed { OnOk result (self.new ≡ record self.old { rank = self.old.rank + 1; top = record self.old.top { env = filled target.now [] self.old.top.env } }) }
+        ensures trail { self.new.trail ≡ self.old.trail }
+        ensures few { Costs self.old self.new }
+    {
+        let event = Event::Loop(self.pedigree()?);
+        self.top.env.fill(alloc, target.as_ref(), &[])?;
+        self.rank += 1;
+        Ok(Shown::Told(event))
+    }
+
+    /// A loop of one iteration or more.
+    fn hand_loop(&mut self, alloc: Global, target: &Option<Name>, child: Origin) -> Result<Shown, Memory>
+        requires { self.old.rank < 2 ^ 32 }
+        ensures shown { IfOk result (λ s. s ≡ shown.Looped (event.Loop (path_of self.old ++ self.old.rank ∷ [])) child target.now) }
+        ensures passed { OnOk result (self.new ≡ record self.old { rank = self.old.rank + 1; top = record self.old.top { env = filled target.now [] self.old.top.env } }) }
+        ensures trail { self.new.trail ≡ self.old.trail }
+        ensures few { Costs self.old self.new }
+    {
+        let event = Event::Loop(self.pedigree()?);
+        self.top.env.fill(alloc, target.as_ref(), &[])?;
+        let target = copy_of(alloc, target.as_ref())?;
+        self.rank += 1;
+        Ok(Shown::Looped {
+            event,
+            child,
+            target,
+        })
+    }
+
+    /// The path of a child of this strand.
+    fn child_path(&self, alloc: Global) -> Result<Ped, Memory>
+        requires { self.now.rank < 2 ^ 32 }
+        ensures { IfOk result (λ path. path ≡ path_of self.now ++ self.now.rank ∷ []) }
+    {
+        Ok(self.trail.path.child(alloc, self.rank)?)
+    }
+}
+
+/// What stands for the value of a child of this function.
+fn filler(alloc: Global, plan: &Plan, function: u32) -> Result<Value, Memory>
+    ensures { IfOk result (λ v. v ≡ answer_filler (function_at (functions_of plan.now) function)) }
+{
+    match function_in(plan, function) {
+        Some(f) => match f.answer {
+            Kind::Int => Ok(Value::Int(0)),
+            Kind::Id => Ok(Value::Id(Pedigree {
+                path: Ped::root(alloc)?,
+                rank: 0,
+            })),
+        },
+        None => Ok(Value::Int(0)),
+    }
+}

@@ -1,0 +1,132 @@
+// Places in a function's body.
+
+ghost use Rattle.std.specs.Prelude.{◌≡◌, ◌<◌, ◌-◌, List, [], ◌∷◌, ◌++◌, Bool, IfOk, IsTrue, length, MatchOption, slice_get, drop, vec_len, if◌then◌else◌};
+ghost use Rattle.std.specs.Option.{option_copied};
+ghost use Rattle.script_grammar.specs.declared.tree.Stmt.{Stmt, out-Stmt};
+ghost use Rattle.script_grammar.specs.declared.tree.Act.{out-Act};
+ghost use Rattle.strand_moves.specs.declared.cursor.Part.TheVariants as part;
+ghost use Rattle.strand_moves.specs.Cursors.{part_of, place_before, block_in, block_of, left_of, IsBehind, Passes};
+
+use crate::memory::Memory;
+use script_grammar::{Act, Stmt};
+use std::alloc::Global;
+
+/// A block of a statement: one of the two of an `if`, or a loop's body.
+#[derive(Clone, Copy, Debug, PartialEq, Eq)]
+pub(crate) enum Part {
+    Yes,
+    No,
+    Turn,
+}
+
+/// A block that was entered, and the index at which the enclosing block goes on: at a loop itself, and behind an `if`.
+#[derive(Clone, Copy, Debug, PartialEq, Eq)]
+pub(crate) struct Entered {
+    pub(crate) part: Part,
+    pub(crate) back: usize,
+}
+
+/// A place in a function's body: the blocks that were entered, the outermost first, and the index in the innermost block.
+#[derive(Drop)]
+pub(crate) struct Cursor {
+    pub(crate) entered: Vec<Entered>,
+    pub(crate) next: usize,
+}
+
+/// A block of a statement, and no statements where it has no such block.
+fn part_in<'a>(statement: &'a Stmt, part: Part) -> &'a [Stmt]
+    ensures { result.now ≡ part_of (out-Act (out-Stmt statement.now).act) part }
+{
+    match &statement.act {
+        Act::If(_, yes, no) => match part {
+            Part::Yes => yes.as_slice(),
+            Part::No => no.as_slice(),
+            Part::Turn => &[],
+        },
+        Act::While(_, body) => match part {
+            Part::Turn => body.as_slice(),
+            Part::Yes | Part::No => &[],
+        },
+        _ => &[],
+    }
+}
+
+/// The block that was entered from this one.
+fn inner<'a>(block: &'a [Stmt], entered: Entered) -> &'a [Stmt]
+    ensures { result.now ≡ block_in block.now entered }
+{
+    let place = match entered.part {
+        Part::Turn => entered.back,
+        Part::Yes | Part::No => entered.back.saturating_sub(1),
+    };
+    match block.get(place) {
+        Some(statement) => part_in(statement, entered.part),
+        None => &[],
+    }
+}
+
+/// The innermost block.
+fn innermost<'a>(body: &'a [Stmt], entered: &[Entered]) -> &'a [Stmt]
+    ensures { result.now ≡ block_of body.now entered.now }
+{
+    let mut block = body;
+    for e in entered {
+        block = inner(block, *e);
+    }
+    block
+}
+
+impl Cursor {
+    /// Before a body's first statement.
+    pub(crate) fn start(alloc: Global) -> Cursor
+        ensures { (body : List Stmt) → left_of body result ≡ body }
+    {
+        Cursor {
+            entered: Vec::new(alloc),
+            next: 0,
+        }
+    }
+
+    /// Goes behind the next statement of this body, and gives it.
+    pub(crate) fn pass<'a>(&mut self, body: &'a [Stmt]) -> Option<&'a Stmt>
+        ensures { MatchOption result ((left_of body.now self.old ≡ []) × (left_of body.now self.new ≡ [])) (λ st. Passes body.now self.old self.new st.now) }
+    {
+        loop {
+            let block = innermost(body, self.entered.as_slice());
+            if let Some(statement) = block.get(self.next) {
+                self.next += 1;
+                return Some(statement);
+            }
+            match self.entered.pop() {
+                Some(last) => self.next = last.back,
+                None => return None,
+            }
+        }
+    }
+
+    /// Enters a block of the `if` behind which the cursor stands.
+    pub(crate) fn enter(&mut self, yes: bool) -> Result<(), Memory>
+        ensures { IfOk result (λ _. (body : List Stmt) (st : Stmt) → IsBehind body self.old st →
+            left_of body self.new ≡ part_of (out-Act (out-Stmt st).act) (if yes then part.Yes else part.No) ++ left_of body self.old) }
+    {
+        self.entered.push(Entered {
+            part: if yes { Part::Yes } else { Part::No },
+            back: self.next,
+        })?;
+        self.next = 0;
+        Ok(())
+    }
+
+    /// Enters the body of the loop behind which the cursor stands. The loop is left again behind it.
+    pub(crate) fn turn(&mut self) -> Result<(), Memory>
+        ensures { IfOk result (λ _. (body : List Stmt) (st : Stmt) → IsBehind body self.old st →
+            left_of body self.new ≡ part_of (out-Act (out-Stmt st).act) part.Turn ++ (st ∷ left_of body self.old)) }
+    {
+        self.entered.push(Entered {
+            part: Part::Turn,
+            back: self.next.saturating_sub(1),
+        })?;
+        self.next = 0;
+        Ok(())
+    }
+}

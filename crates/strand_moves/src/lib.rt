@@ -1,0 +1,31 @@
+//! One move of an instance of a running script.
+//!
+//! What a move is, is defined in `strand_meaning`; the contracts here are its words. An instance is a stack of activations over the
+//! plan's tree: nothing of the tree is copied but the names of targets.
+#![tactic(auto)]
+
+mod activation;
+mod answers;
+mod calls;
+mod children;
+mod cursor;
+mod instance;
+mod memory;
+mod right;
+mod shown;
+mod spawns;
+mod statement;
+#[cfg(test)]
+mod tests;
+
+pub use instance::Instance;
+pub use memory::Memory;
+pub use shown::{Moved, Shown};
+
+fn is_shared<T: Send + Sync>() {}
+
+/// An instance may be sent to other threads. The body asks for it, so that a field which forbids it fails the build.
+pub fn all_are_shared() {
+    is_shared::<Instance>();
+    is_shared::<Moved>();
+}

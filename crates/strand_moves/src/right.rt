@@ -1,0 +1,70 @@
+// The right sides of `let` and of assignments.
+
+ghost use Rattle.std.specs.Prelude.{◌≡◌, ◌<◌, ◌^◌, ℕ};
+ghost use Rattle.script_grammar.specs.declared.tree.Act.TheOpen as act;
+ghost use Rattle.script_grammar.specs.declared.tree.Right.TheVariants as right;
+ghost use Rattle.script_grammar.specs.declared.tree.Stmt.{Stmt};
+ghost use Rattle.serial_meaning.specs.Plan.{PlanView};
+ghost use Rattle.strand_moves.specs.Acts.{Acts, Costs};
+ghost use Rattle.strand_moves.specs.Machines.{IsInstance};
+
+use crate::instance::Instance;
+use crate::shown::Shown;
+use script_grammar::{Expr, Name, Right};
+use serial_meaning::{Event, Plan, Value};
+use std::alloc::Global;
+use strand_values::Halt;
+
+impl Instance {
+    /// `let x = R` or `x = R`.
+    pub(crate) fn assign(&mut self, alloc: Global, plan: &Plan, x: &Name, r: &Right) -> Result<Shown, Halt>
+        requires { IsInstance plan.now self.old }
+        ensures shows { (st : Stmt) → Acts plan.now st (act.Set x.now r.now) self.old self.new result }
+        ensures trail { self.new.trail ≡ self.old.trail }
+        ensures few { Costs self.old self.new }
+    {
+        match r {
+            Right::Value(e) => self.set_value(alloc, x, e),
+            Right::Draw(_) => self.set_draw(alloc, plan, x),
+            Right::New(_) => self.set_new(alloc, x),
+            Right::Call(_, c) => self.call(alloc, plan, Some(x), c),
+            Right::Spawn(_, c) => self.spawn(alloc, plan, Some(x), c),
+        }
+    }
+
+    fn set_value(&mut self, alloc: Global, x: &Name, e: &Expr) -> Result<Shown, Halt>
+        ensures shows { (plan : PlanView) (st : Stmt) → Acts plan st (act.Set x.now (right.Value e.now)) self.old self.new result }
+        ensures trail { self.new.trail ≡ self.old.trail }
+        ensures few { Costs self.old self.new }
+    {
+        let value = self.top.env.value(e)?;
+        self.top.env.set_scalar(alloc, x, value)?;
+        Ok(Shown::Nothing)
+    }
+
+    fn set_draw(&mut self, alloc: Global, plan: &Plan, x: &Name) -> Result<Shown, Halt>
+        requires { IsInstance plan.now self.old }
+        ensures shows { (st : Stmt) (at : ℕ) → Acts plan.now st (act.Set x.now (right.Draw at)) self.old self.new result }
+        ensures trail { self.new.trail ≡ self.old.trail }
+        ensures few { Costs self.old self.new }
+    {
+        let word = self.trail.draw(&plan.gamma, self.rank);
+        let event = Event::Draw(self.pedigree()?, word);
+        self.top.env.set_scalar(alloc, x, Value::Int(word.cast_signed()))?;
+        self.rank += 1;
+        Ok(Shown::Told(event))
+    }
+
+    fn set_new(&mut self, alloc: Global, x: &Name) -> Result<Shown, Halt>
+        requires { self.old.rank < 2 ^ 32 }
+        ensures shows { (plan : PlanView) (st : Stmt) (at : ℕ) → Acts plan st (act.Set x.now (right.New at)) self.old self.new result }
+        ensures trail { self.new.trail ≡ self.old.trail }
+        ensures few { Costs self.old self.new }
+    {
+        let event = Event::New(self.pedigree()?);
+        let object = self.pedigree()?;
+        self.top.env.set_scalar(alloc, x, Value::Id(object))?;
+        self.rank += 1;
+        Ok(Shown::Told(event))
+    }
+}

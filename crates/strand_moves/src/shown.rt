@@ -1,0 +1,37 @@
+use script_grammar::Name;
+use serial_meaning::{Event, Fault, Origin, Value};
+
+/// What a move shows, in order: an event, if any, and then a child or a wait.
+#[derive(Drop)]
+pub enum Shown {
+    Nothing,
+    /// An event, and nothing behind it.
+    Told(Event),
+    /// A child was spawned. Its value goes to the variable `target`, if any, of the activation with `height` others below it.
+    Spawned {
+        event: Event,
+        child: Origin,
+        height: usize,
+        target: Option<Name>,
+    },
+    /// A sync, at which the instance waits for its children.
+    Synced(Event),
+    /// A loop of one iteration or more, for which the instance waits. Its values go to the array `target`, if any, of the innermost
+    /// activation.
+    Looped {
+        event: Event,
+        child: Origin,
+        target: Option<Name>,
+    },
+}
+
+/// How a move ended.
+#[derive(Drop)]
+pub enum Moved {
+    /// The instance goes on, or waits where that was shown.
+    Went(Shown),
+    /// The instance ended with this value. Nothing was shown.
+    Gave(Value),
+    /// The instance ended by a fault of its own. Nothing was shown.
+    Faulted(Fault),
+}
