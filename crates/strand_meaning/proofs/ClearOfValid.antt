@@ -1,5 +1,5 @@
 -- No function of a valid script touches a pending variable.
-use Rattle.std.proofs.Common.{◌≡◌, ℕ, zero, suc, ◌+◌, ◌<◌, Bool, true, false, ◌||◌, ◌⊎◌, inl, inr, List, [], ◌∷◌, ◌++◌, length, get_or, map, cond, Option, Some, None, refl, sym, ap, subst, ◌∙◌, arith, if◌then◌else◌}
+use Rattle.std.proofs.Common.{◌≡◌, ℕ, zero, suc, ◌+◌, ◌<◌, Bool, true, false, ◌||◌, ◌⊎◌, inl, inr, List, [], ◌∷◌, ◌++◌, length, get_or, cond, Option, Some, None, refl, sym, ap, subst, ◌∙◌, arith, if◌then◌else◌}
 use Rattle.std.specs.Prelude.{Contains, is_some}
 use Rattle.std.specs.Map.{update}
 use Rattle.std.specs.Str.{bytes_eq}
@@ -7,9 +7,7 @@ use Rattle.std.proofs.lemmas.Bool.{true≢false}
 use Rattle.std.proofs.lemmas.List.Elements.{Contains-append_cases, Contains-append_left, Contains-append_right}
 use Rattle.script_grammar.specs.declared.tree.Kind.TheVariants.{Int}
 use Rattle.script_grammar.specs.declared.tree.Name.{Name}
-use Rattle.script_grammar.specs.declared.tree.Param.{Param}
 use Rattle.script_grammar.specs.declared.tree.Function.{Function}
-use Rattle.script_grammar.specs.declared.tree.Script.{Script}
 use Rattle.script_grammar.specs.declared.tree.Right.{Right}
 use Rattle.script_grammar.specs.declared.tree.Right.TheVariants as right
 use Rattle.script_grammar.specs.declared.tree.Stmt.{Stmt, out-Stmt, out-roll-Stmt}
@@ -18,12 +16,11 @@ use Rattle.script_grammar.specs.declared.tree.Act.TheOpen as act
 use Rattle.script_grammar.specs.declared.tree.Act.TheOpen.{Act-F}
 use Rattle.script_check.specs.Tables.{no_entries, with_first}
 use Rattle.script_check.specs.Functions.{function_named}
-use Rattle.script_check.specs.Violations.{broken}
 use Rattle.script_check.specs.Names as check
 use Rattle.script_check.specs.Names.{nobody, both, with_name, after_right}
 use Rattle.script_check.specs.Rules.{Known, kind_of, scalar_use, array_use, declaration, variable_twice, too_many_variables, array_length, let_in_a_block}
 use Rattle.script_check.specs.Expressions.{wanted, two_wanted, read}
-use Rattle.script_check.specs.Statements.{Place, place, Judged, judge, judge_what, judge_act, judge_all, read_right, wanted_as, call, target_use, loop_call_of, faults_each, block_faults, known_each, kind_or_int, after}
+use Rattle.script_check.specs.Statements.{Place, place, Judged, judge, judge_what, judge_act, judge_all, read_right, wanted_as, target_use, loop_call_of, faults_each, block_faults, known_each, after}
 use Rattle.script_check.specs.Valid.{IsValid, known_params, param_faults, function_faults, all_function_faults, functions_twice, main_faults}
 use Rattle.script_check.specs.Functions.{main_name}
 use Rattle.script_check.proofs.Fewer.{nothing_left, nothing_right}
@@ -35,7 +32,7 @@ use Rattle.serial_meaning.specs.Plan.{PlanView, functions_of}
 use Rattle.strand_meaning.specs.Clear.{IsWithin, IsApart, IsClear, Nothing, Simple, Branches, Turns, IsSimple, touched, pending_right, pending_after, names_in_all, names_in_right, target_names, IsClearFunction, IsClearPlan}
 use Rattle.strand_meaning.proofs.Clears.{within-itself, clear-within, nothing-within}
 use Rattle.strand_meaning.proofs.Variables.{is-itself, same-name}
-use Rattle.strand_meaning.proofs.FreeNames.{Free, free-none, free-append, free-cons, single-name, not-broken, scalar-free, array-free, ReadsFree, wanted-left, two-free, read-free, call-free, loop-call-free, target-free, right-free, wanted-as-left}
+use Rattle.strand_meaning.proofs.FreeNames.{Free, free-none, free-append, free-cons, single-name, not-broken, scalar-free, array-free, wanted-left, two-free, read-free, call-free, loop-call-free, target-free, right-free, wanted-as-left}
 
 -- Names of a list that are in a set
 

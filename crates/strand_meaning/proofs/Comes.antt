@@ -1,9 +1,9 @@
 -- A task comes to a stop.
-use Rattle.std.proofs.Common.{◌≡◌, ℕ, zero, suc, ◌+◌, ◌-◌, ◌*◌, ◌<◌, ◌≤◌, true, false, List, [], ◌∷◌, Option, Some, None, Result, Ok, Err, refl, arith}
+use Rattle.std.proofs.Common.{◌≡◌, ℕ, zero, suc, ◌+◌, ◌-◌, ◌*◌, ◌<◌, ◌≤◌, true, false, List, [], ◌∷◌, Option, Some, None, Result, Ok, Err, refl, subst, arith}
 use Rattle.loop_range.specs.Range.{Range}
 use Rattle.script_grammar.specs.declared.tree.Function.{Function}
 use Rattle.serial_meaning.specs.Functions.{function_at}
-use Rattle.serial_meaning.specs.Plan.{PlanView, functions_of}
+use Rattle.serial_meaning.specs.Plan.{functions_of}
 use Rattle.serial_meaning.specs.Eval.{path_of}
 use Rattle.serial_meaning.specs.Open.{Own, Joined}
 use Rattle.serial_meaning.specs.declared.value.Value.{Value}
@@ -14,26 +14,12 @@ use Rattle.serial_meaning.specs.declared.answer.Outcome.{Outcome}
 use Rattle.strand_meaning.specs.Machine.{Token, Told, Handed, Syncs, Loops, Machine, Reached, Stands, Gives, begun, move}
 use Rattle.strand_meaning.specs.Pieces.{Part}
 use Rattle.strand_meaning.specs.Task.{Stage, Goes, AtSync, AtLoop, Ended, Work, Splits, Runs, Over, Task, begun_stage, own_instance, begins_last, Step, Passes, Stops, Stop, IsNext, Now, Later, stage_after, child_in, stops_at, passing, moved, ends_unless, faults_behind, gave, stage_step, split_step, over_step, work_step, step}
-use Rattle.strand_meaning.proofs.Falls.{moves_of, Falls, move-falls}
-
--- what is left to be done before a stop, at most
-abbrev stage_moves : Stage → ℕ
-stage_moves (Goes m) = 2 + moves_of m
-stage_moves (AtSync m) = 0
-stage_moves (AtLoop m) = 0
-stage_moves (Ended e) = 1
-
-abbrev work_moves : PlanView → Work → ℕ
-work_moves plan (Splits left) = 3 + 2 * plan.limits.budget
-work_moves plan (Runs stage) = stage_moves stage
-work_moves plan (Over v gone_on) = 0
-
-abbrev task_moves : Task → ℕ
-task_moves t = work_moves t.plan t.work
+use Rattle.strand_meaning.specs.Left.{moves_of, stage_moves, work_moves, moves_left}
+use Rattle.strand_meaning.proofs.Falls.{Falls, move-falls}
 
 -- a step to another task leaves fewer
 abbrev StepFalls : ℕ → Step → Type 0
-StepFalls n (Passes next) = task_moves next < n
+StepFalls n (Passes next) = moves_left next < n
 StepFalls n (Stops stop) = Unit {0}
 
 stage-after-falls : (ts : List Token) (k : Machine) (n : ℕ) → 2 + moves_of k < n → stage_moves (stage_after ts k) < n
@@ -48,7 +34,7 @@ module _ (t : Task) where
   ends-fall n None ended = tt
   ends-fall n (Some f) ended = tt
 
-  at-falls : (n : ℕ) (o : Option Origin) (next : Task) → task_moves next < n → StepFalls n (stops_at o next)
+  at-falls : (n : ℕ) (o : Option Origin) (next : Task) → moves_left next < n → StepFalls n (stops_at o next)
   at-falls n None next h = h
   at-falls n (Some o) next h = tt
 
@@ -105,17 +91,21 @@ module _ (t : Task) where
   work-falls (Over v true) = ends-fall 0 t.pieces.fault _
   work-falls (Over v false) = over-falls v t.origin
 
-comes-within : (n : ℕ) (t : Task) → task_moves t ≤ n → (stop : Stop) × IsNext t stop
+-- a move leaves fewer
+pub moves_fall : (t next : Task) → step t ≡ Passes next → moves_left next < moves_left t
+moves_fall t next e = subst (StepFalls (moves_left t)) e (work-falls t t.work)
+
+comes-within : (n : ℕ) (t : Task) → moves_left t ≤ n → (stop : Stop) × IsNext t stop
 comes-within zero t h = by_step (step t) refl (work-falls t t.work)
   where
-    by_step : (s : Step) → step t ≡ s → StepFalls (task_moves t) s → (stop : Stop) × IsNext t stop
+    by_step : (s : Step) → step t ≡ s → StepFalls (moves_left t) s → (stop : Stop) × IsNext t stop
     by_step (Stops stop) e f = (stop, Now e)
     by_step (Passes next) e f = absurd (omega arith)
 comes-within (suc n) t h = by_step (step t) refl (work-falls t t.work) (comes-within n)
   where
-    by_step : (s : Step) → step t ≡ s → StepFalls (task_moves t) s → ((next : Task) → task_moves next ≤ n → (stop : Stop) × IsNext next stop) → (stop : Stop) × IsNext t stop
+    by_step : (s : Step) → step t ≡ s → StepFalls (moves_left t) s → ((next : Task) → moves_left next ≤ n → (stop : Stop) × IsNext next stop) → (stop : Stop) × IsNext t stop
     by_step (Stops stop) e f go = (stop, Now e)
     by_step (Passes next) e f go = let c = go next (omega arith) in (c.0, Later next e c.1)
 
 pub stops_come : (t : Task) → (stop : Stop) × IsNext t stop
-stops_come t = comes-within (task_moves t) t (omega arith)
+stops_come t = comes-within (moves_left t) t (omega arith)

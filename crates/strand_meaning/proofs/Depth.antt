@@ -16,6 +16,7 @@ use Rattle.serial_meaning.specs.declared.value.Value.{Value}
 use Rattle.serial_meaning.specs.declared.event.Fault.{Fault}
 use Rattle.serial_meaning.specs.declared.origin.Origin.{Origin}
 use Rattle.serial_meaning.specs.declared.origin.Origin.TheVariants.{Instance, Loop}
+use Rattle.strand_meaning.specs.Laws.{Fits}
 use Rattle.strand_meaning.specs.Rest.{child_at, children_of}
 
 pub cons-contained : {X : Type 0} (x y : X) (xs : List X) → Contains (x ∷ xs) y → (x ≡ y) ⊎ Contains xs y
@@ -26,11 +27,6 @@ cons-contained x y xs c = from c.0 c.1 c.2
     from (suc k) h e = inr (k, omega arith, e)
 
 -- Depth
-
--- a child of an instance leaves room for a rank of its own, and a loop for its iterations' too
-abbrev pub Fits : PlanView → Origin → Type 0
-Fits plan (Instance function args path) = length path + 1 ≤ plan.limits.depth
-Fits plan (Loop function rest first path range) = length path + 2 ≤ plan.limits.depth
 
 abbrev ItemFits : PlanView → Item → Type 0
 ItemFits plan (Happened e) = Unit {0}
@@ -139,3 +135,10 @@ same-answer plan o child h k =
   where
     fits : Fits plan child
     fits = each-contained (ItemFits plan) (opened plan o).items (Child child) (node-children-fit plan (depth_left plan o) o h) k
+
+pub origins_fit : (plan : PlanView) (o : Origin) → 1 ≤ plan.limits.depth → IsOriginOf plan o → Fits plan o
+origins_fit plan o some Main = some
+origins_fit plan o some (ChildOf parent child h k) =
+    each-contained (ItemFits plan) (opened plan parent).items (Child child) (node-children-fit plan (depth_left plan parent) parent (loop-of-plan plan parent h)) k
+origins_fit plan o some (PartOf parent function rest first path whole part h k a b d) =
+    each-contained (ItemFits plan) (opened plan parent).items (Child (Loop function rest first path whole)) (node-children-fit plan (depth_left plan parent) parent (loop-of-plan plan parent h)) k

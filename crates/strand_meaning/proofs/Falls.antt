@@ -1,5 +1,5 @@
 -- A move uses up a step, or ends an activation.
-use Rattle.std.proofs.Common.{◌≡◌, ℕ, zero, suc, ◌+◌, ◌-◌, ◌*◌, ◌<◌, ◌≤◌, Bool, true, false, nat_lt, List, [], ◌∷◌, Option, Some, None, Result, Ok, Err, refl, arith, if◌then◌else◌, length}
+use Rattle.std.proofs.Common.{◌≡◌, ℕ, zero, suc, ◌+◌, ◌-◌, ◌<◌, ◌≤◌, Bool, true, false, nat_lt, List, [], ◌∷◌, Option, Some, None, Result, Ok, Err, refl, arith, if◌then◌else◌, length}
 use Rattle.std.proofs.Common.{ℤ, pos, ◌-ℤ◌}
 use Rattle.script_grammar.specs.declared.tree.Name.{Name}
 use Rattle.script_grammar.specs.declared.tree.CallText.{CallText}
@@ -21,6 +21,7 @@ use Rattle.serial_meaning.specs.declared.event.FaultKind.{FaultKind}
 use Rattle.serial_meaning.specs.declared.event.FaultKind.TheVariants.{Index, Depth, Calls, Budget}
 use Rattle.serial_meaning.specs.declared.event.Fault.{Fault}
 use Rattle.strand_meaning.specs.Machine.{Place, Spawned, Looped, Token, Halt, Faulted, Inside, handing, inside, place_of, Activation, Machine, Reached, Stands, Gives, state_of, with_left, with_returning, back, spawns_in, entered, reached, gives, value_run, statement_move, return_move, move_at, move}
+use Rattle.strand_meaning.specs.Left.{moves_of}
 
 -- no more than these steps are left, where it goes on or inside
 abbrev Within : {A : Type 0} → (A → ℕ) → ℕ → Result A Halt → Type 0
@@ -41,10 +42,6 @@ within-then {A = A} {B = B} f-steps g-steps n r f h k = from r.items r.ending h
     from items (Ok a) g = k a g
     from items (Err (Faulted x)) g = tt
     from items (Err (Inside calls inner s)) g = g
-
--- what an instance may still do: twice its steps, and its activations
-abbrev pub moves_of : Machine → ℕ
-moves_of m = 2 * m.steps + length m.below
 
 abbrev pub Falls : Machine → Result Reached Fault → Type 0
 Falls m (Ok (Stands k)) = moves_of k < moves_of m

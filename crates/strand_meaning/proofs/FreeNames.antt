@@ -1,7 +1,6 @@
 -- What has no violation reads no pending variable.
-use Rattle.std.proofs.Common.{◌≡◌, ℕ, zero, suc, ◌<◌, Bool, true, false, ◌||◌, ◌⊎◌, inl, inr, List, [], ◌∷◌, ◌++◌, length, get_or, map, nat_eq, Option, Some, None, refl, sym, ap, subst, ◌∙◌, rules, arith}
-use Rattle.std.specs.Prelude.{Contains, is_some}
-use Rattle.std.proofs.lemmas.Bool.{true≢false}
+use Rattle.std.proofs.Common.{◌≡◌, ℕ, zero, suc, ◌<◌, Bool, true, false, ◌⊎◌, inl, inr, List, [], ◌∷◌, ◌++◌, length, get_or, map, nat_eq, Option, Some, None, refl, sym, ap, subst, ◌∙◌, rules, arith}
+use Rattle.std.specs.Prelude.{Contains}
 use Rattle.std.proofs.lemmas.List.Elements.{Contains-append_cases}
 use Rattle.script_grammar.specs.declared.tree.Kind.{Kind}
 use Rattle.script_grammar.specs.declared.tree.Kind.TheVariants.{Int, Id}
@@ -17,11 +16,11 @@ use Rattle.script_grammar.specs.declared.tree.Expr.TheOpen.{Expr-F}
 use Rattle.script_grammar.specs.declared.tree.SumPart.{SumPart}
 use Rattle.script_grammar.specs.declared.tree.ProductPart.{ProductPart}
 use Rattle.script_check.specs.Functions.{function_named}
-use Rattle.script_check.specs.Violations.{violation, broken}
+use Rattle.script_check.specs.Violations.{broken}
 use Rattle.script_check.specs.Names as check
-use Rattle.script_check.specs.Rules.{Known, wrong_kind, wrong_use, unknown_variable, unknown_function, wrong_number_of_arguments, pending_variable, scalar_use, array_use}
+use Rattle.script_check.specs.Rules.{Known, wrong_kind, unknown_function, wrong_number_of_arguments, scalar_use, array_use}
 use Rattle.script_check.specs.Expressions.{Reading, wanted, two_wanted, all_wanted, read_at, read, read_sum_part, read_product_part}
-use Rattle.script_check.specs.Statements.{arguments, call_of, call, read_right, wanted_as, loop_arguments, loop_call_of, taken_kind, target_use}
+use Rattle.script_check.specs.Statements.{arguments, call_of, read_right, wanted_as, loop_arguments, loop_call_of, taken_kind, target_use}
 use Rattle.script_check.proofs.Fewer.{nothing_left, nothing_right}
 use Rattle.serial_meaning.specs.Names.{Names, joined_names, names_at, names_in, names_in_sum_part, names_in_product_part}
 use Rattle.strand_meaning.specs.Clear.{names_in_all, names_in_right, target_names}

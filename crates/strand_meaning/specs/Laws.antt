@@ -1,5 +1,5 @@
 -- Laws of tasks. Each is the contract of a function of the module `laws`.
-use Rattle.std.specs.Prelude.{◌≡◌, ◌<◌, ◌≤◌, ℕ, true, false, List, Option, Result, Ok, Err, Contains}
+use Rattle.std.specs.Prelude.{◌≡◌, ◌<◌, ◌≤◌, ◌+◌, ℕ, true, false, List, Option, Result, Ok, Err, Contains, length}
 use Rattle.script_grammar.specs.declared.tree.Name.{Name}
 use Rattle.serial_meaning.specs.Runs.{Run}
 use Rattle.script_check.specs.Valid.{IsValid}
@@ -12,6 +12,7 @@ use Rattle.serial_meaning.specs.declared.value.Value.{Value}
 use Rattle.serial_meaning.specs.declared.event.Event.{Event}
 use Rattle.serial_meaning.specs.declared.event.Fault.{Fault}
 use Rattle.serial_meaning.specs.declared.origin.Origin.{Origin}
+use Rattle.serial_meaning.specs.declared.origin.Origin.TheVariants.{Instance, Loop}
 use Rattle.serial_meaning.specs.declared.answer.Outcome.{Outcome}
 use Rattle.serial_meaning.specs.declared.answer.Outcome.TheVariants as outcome
 use Rattle.strand_meaning.specs.Answers.{evaluation_of}
@@ -20,7 +21,7 @@ use Rattle.strand_meaning.specs.Machine.{Spawned, Token, Machine, Reached, Stand
 use Rattle.strand_meaning.specs.Pieces.{Part}
 use Rattle.strand_meaning.specs.Task.{Goes, changed, answered, Task, Stop, Spawn, Wait, End, Step, Passes, Stops, start, step, IsNext, on}
 use Rattle.strand_meaning.specs.Rest.{evaluations}
-use Rattle.strand_meaning.specs.Left.{stops_left}
+use Rattle.strand_meaning.specs.Left.{stops_left, moves_left}
 use Rattle.strand_meaning.specs.Sound.{IsSoundStage, IsTask}
 
 -- No function of a valid script touches a pending variable.
@@ -112,3 +113,16 @@ StopsAreOne = (t : Task) (stop other : Stop) → IsNext t stop → IsNext t othe
 
 abbrev pub StopsCome : Type 0
 StopsCome = (t : Task) → (stop : Stop) × IsNext t stop
+
+-- With each move fewer are left before the next stop.
+abbrev pub MovesFall : Type 0
+MovesFall = (t next : Task) → step t ≡ Passes next → moves_left next < moves_left t
+
+-- an instance leaves room for a rank of its own, and a loop for its iterations' too
+abbrev pub Fits : PlanView → Origin → Type 0
+Fits plan (Instance function args path) = length path + 1 ≤ plan.limits.depth
+Fits plan (Loop function rest first path range) = length path + 2 ≤ plan.limits.depth
+
+-- An origin of the plan is within its depth.
+abbrev pub OriginsFit : Type 0
+OriginsFit = (plan : PlanView) (o : Origin) → 1 ≤ plan.limits.depth → IsOriginOf plan o → Fits plan o

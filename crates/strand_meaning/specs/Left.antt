@@ -1,12 +1,13 @@
--- How many stops are left to a task, at most. It is a number of the open run of what remains: a sync is a wait, and a child is a spawn
--- and, where it is a loop, a wait.
-use Rattle.std.specs.Prelude.{ℕ, ◌+◌, ◌-◌, Bool, true, false, List, [], ◌∷◌}
+-- How many stops are left to a task, at most, and how many moves before the next one. The stops are a number of the open run of what
+-- remains: a sync is a wait, and a child is a spawn and, where it is a loop, a wait.
+use Rattle.std.specs.Prelude.{ℕ, ◌+◌, ◌-◌, ◌*◌, Bool, true, false, List, [], ◌∷◌, length}
 use Rattle.serial_meaning.specs.Plan.{PlanView}
 use Rattle.serial_meaning.specs.Eval.{Evaluation, path_of}
 use Rattle.serial_meaning.specs.Open.{Item, Happened, Child}
 use Rattle.serial_meaning.specs.declared.event.Event.{Event}
 use Rattle.serial_meaning.specs.declared.event.Event.TheVariants as event
 use Rattle.serial_meaning.specs.declared.origin.Origin.{Origin}
+use Rattle.strand_meaning.specs.Machine.{Machine}
 use Rattle.strand_meaning.specs.Pieces.{Part}
 use Rattle.strand_meaning.specs.Task.{Stage, Goes, AtSync, AtLoop, Ended, Work, Splits, Runs, Over, Task, begins_last, own_instance}
 use Rattle.strand_meaning.specs.Rest.{children_of, rest_open}
@@ -56,3 +57,23 @@ stops_of plan o waiting parts (Over v gone_on) = work_stops plan o waiting parts
 
 abbrev pub stops_left : Task → ℕ
 stops_left t = stops_of t.plan t.origin t.waiting t.pieces.handed t.work
+
+-- Moves
+
+-- what an instance may still do: twice its steps, and its activations
+abbrev pub moves_of : Machine → ℕ
+moves_of m = 2 * m.steps + length m.below
+
+abbrev pub stage_moves : Stage → ℕ
+stage_moves (Goes m) = 2 + moves_of m
+stage_moves (AtSync m) = 0
+stage_moves (AtLoop m) = 0
+stage_moves (Ended e) = 1
+
+abbrev pub work_moves : PlanView → Work → ℕ
+work_moves plan (Splits left) = 3 + 2 * plan.limits.budget
+work_moves plan (Runs stage) = stage_moves stage
+work_moves plan (Over v gone_on) = 0
+
+abbrev pub moves_left : Task → ℕ
+moves_left t = work_moves t.plan t.work

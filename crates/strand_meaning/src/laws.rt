@@ -1,6 +1,6 @@
 //! Laws of tasks, each the contract of a function that does nothing. A proof that wants a law calls it.
 
-ghost use Rattle.strand_meaning.specs.Laws.{AnswersAreEvaluations, AnswersKeepTasks, AnswersLeaveNoMore, MovesLeaveUnfilledAlone, StepsAreSound, StopsAreOne, StopsAreSound, StopsCome, StopsFall, StopsKeepOrigins, TasksBegin, ValidPlansAreClear};
+ghost use Rattle.strand_meaning.specs.Laws.{AnswersAreEvaluations, AnswersKeepTasks, AnswersLeaveNoMore, MovesFall, MovesLeaveUnfilledAlone, OriginsFit, StepsAreSound, StopsAreOne, StopsAreSound, StopsCome, StopsFall, StopsKeepOrigins, TasksBegin, ValidPlansAreClear};
 
 /// A task of an origin of the plan begins sound where no function of the script touches a pending variable.
 pub fn tasks_begin()
@@ -61,4 +61,14 @@ pub fn answers_leave_no_more()
 /// No move reads or writes an unfilled variable: it shows and leaves the same where the child's answer is taken first.
 pub fn moves_leave_unfilled_alone()
     ensures { MovesLeaveUnfilledAlone }
+{}
+
+/// With each move fewer are left before the next stop.
+pub fn moves_fall()
+    ensures { MovesFall }
+{}
+
+/// An origin of the plan is within its depth.
+pub fn origins_fit()
+    ensures { OriginsFit }
 {}

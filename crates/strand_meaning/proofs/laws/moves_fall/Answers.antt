@@ -1,0 +1,5 @@
+use Rattle.strand_meaning.proofs.Comes.{moves_fall}
+use Rattle.strand_meaning.proofs.laws.moves_fall.Goals as goal
+
+pub returns : goal.returns
+returns c = moves_fall
