@@ -1,4 +1,4 @@
-use Rattle.std.proofs.Common.{◌≡◌, ap}
+use Rattle.std.proofs.Common.{ap}
 use Rattle.strand_moves.specs.declared.instance.Instance.{Instance}
 use Rattle.strand_moves.proofs.Ending.{value-received}
 use Rattle.strand_moves.proofs.instance.Instance.end.Goals as goal

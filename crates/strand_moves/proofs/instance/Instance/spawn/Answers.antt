@@ -1,4 +1,4 @@
-use Rattle.std.proofs.Common.{◌≡◌, ◌+◌, Some, None, length, vec_len, ap, ◌∙◌, sym, arith, refl}
+use Rattle.std.proofs.Common.{◌+◌, length, vec_len, ap, ◌∙◌, arith}
 use Rattle.std.specs.Option.{option_copied}
 use Rattle.serial_meaning.specs.Plan.{PlanView}
 use Rattle.serial_meaning.specs.Values.{values_of}
