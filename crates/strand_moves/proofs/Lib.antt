@@ -2,6 +2,7 @@ pub mod BelowLemmas
 pub mod CallLemmas
 pub mod ChildLemmas
 pub mod CursorLemmas
+pub mod Ending
 pub mod Entering
 pub mod Equations
 pub mod Exits
@@ -9,5 +10,6 @@ pub mod Going
 pub mod Halts
 pub mod Items
 pub mod LoopEquations
+pub mod Paying
 pub mod ReplacedLemmas
 pub mod ReturnEquations

@@ -1,0 +1,54 @@
+-- A statement whose step is paid.
+use Rattle.std.proofs.Common.{◌≡◌, ℕ, suc, ◌+◌, List, [], ◌∷◌, ◌++◌, Result, Ok, Err, refl, sym, ap, ◌∙◌, subst, arith}
+use Rattle.script_grammar.specs.declared.tree.Name.{Name}
+use Rattle.script_grammar.specs.declared.tree.CallText.{CallText}
+use Rattle.script_grammar.specs.declared.tree.Right.TheVariants as right
+use Rattle.script_grammar.specs.declared.tree.Stmt.{Stmt, out-Stmt}
+use Rattle.script_grammar.specs.declared.tree.Act.{Act, out-Act, out-roll-Act, roll-Act}
+use Rattle.script_grammar.specs.declared.tree.Act.TheOpen as act
+use Rattle.script_grammar.specs.declared.tree.Act.TheOpen.{Act-F}
+use Rattle.serial_meaning.specs.Runs.{Run}
+use Rattle.serial_meaning.specs.Plan.{PlanView}
+use Rattle.serial_meaning.specs.declared.event.Fault.{Fault}
+use Rattle.strand_meaning.specs.Machine.{Token, Machine, Reached, statement_move}
+use Rattle.strand_values.specs.declared.halt.Halt as values
+use Rattle.strand_moves.specs.declared.instance.Instance.{Instance}
+use Rattle.strand_moves.specs.declared.shown.Shown.{Shown}
+use Rattle.strand_moves.specs.Acts.{Acts}
+use Rattle.strand_moves.specs.Cursors.{IsBehind}
+use Rattle.strand_moves.specs.Machines.{IsInstance, body_of, machine_of, path_of}
+use Rattle.strand_moves.specs.Moves.{acted, Shows, strand_of}
+use Rattle.strand_moves.proofs.Equations.{behind_statement, paid-move}
+
+pub shows-same : (run other : Run Token Fault Reached) (strand : List ℕ) (m : Machine) (result : Result Shown values.Halt) → run ≡ other → Shows other strand m result → Shows run strand m result
+shows-same run other strand m result e h = let P : Run Token Fault Reached → Type 0 = λ r. Shows r strand m result in subst P (sym e) h
+
+-- an act by its variant
+pub act-is : (d : Act-F Act Stmt) (a b : Act) → a ≡ b → roll-Act d ≡ b → out-Act a ≡ d
+act-is d a b e r = ap (λ (x : Act). out-Act x) (e ∙ sym r) ∙ out-roll-Act d
+
+-- the offset of a word in the text doesn't matter
+module _ (plan : PlanView) (path : List ℕ) (m : Machine) (st : Stmt) (x : Name) (at : ℕ) (c : CallText) where
+  pub call-at : acted plan path m st (act.Set x (right.Call at c)) ≡ acted plan path m st (act.Set x (right.Call 0 c))
+  unfolding acted
+  call-at = refl
+
+  pub spawn-at : acted plan path m st (act.Set x (right.Spawn at c)) ≡ acted plan path m st (act.Set x (right.Spawn 0 c))
+  unfolding acted
+  spawn-at = refl
+
+module _ (plan : PlanView) (i paid : Instance) (n : ℕ) (is-paid : paid ≡ record i { steps = n }) (less : n + 1 ≡ i.steps) where
+  pub statement-paid : (st : Stmt) (a : Act-F Act Stmt) (new : Instance) (result : Result Shown values.Halt) → out-Act (out-Stmt st).act ≡ a → Acts plan st a paid new result →
+      Shows (statement_move plan (path_of i) (machine_of plan i) st (machine_of plan i).top.left) (strand_of (path_of i) (machine_of plan i)) (machine_of plan new) result
+  statement-paid st a new result e h =
+      let m = machine_of plan i in
+      let one : m.steps ≡ suc n = omega arith in
+      let acts = rw is-paid at h in
+      shows-same (statement_move plan (path_of i) m st m.top.left) (acted plan (path_of i) (record m { steps = n }) st a) (strand_of (path_of i) m) (machine_of plan new) result
+          (paid-move plan (path_of i) m st m.top.left n one ∙ ap (λ (b : Act-F Act Stmt). acted plan (path_of i) (behind_statement m n m.top.left) st b) e) acts
+
+  pub paid-instance : IsInstance plan i → IsInstance plan paid
+  paid-instance h = let P : Instance → Type 0 = IsInstance plan in subst P (sym is-paid) (record { fits = h.fits; within = h.within; few = omega (arith, h.few) })
+
+  pub paid-behind : (st : Stmt) → IsBehind (body_of plan i.top.function) i.top.cursor st → IsBehind (body_of plan paid.top.function) paid.top.cursor st
+  paid-behind st h = let P : Instance → Type 0 = λ x. IsBehind (body_of plan x.top.function) x.top.cursor st in subst P (sym is-paid) h

@@ -1,0 +1,27 @@
+use Rattle.std.specs.Option.{option_copied}
+use Rattle.script_grammar.specs.declared.tree.Act.TheOpen as act
+use Rattle.strand_moves.specs.Machines.{machine_of, path_of}
+use Rattle.strand_moves.specs.Moves.{acted, strand_of}
+use Rattle.strand_moves.proofs.Paying.{shows-same, call-at, spawn-at}
+use Rattle.strand_moves.proofs.instance.Instance.assign.Goals as goal
+
+pub returns-in-Value-clause-shows : goal.returns-in-Value-clause-shows
+returns-in-Value-clause-shows c = λ st. rw c.in-Value.is (c.set_value.ensures.shows c.args.plan.now st)
+
+pub returns-in-Draw-clause-shows : goal.returns-in-Draw-clause-shows
+returns-in-Draw-clause-shows c = λ st. rw c.in-Draw.is (c.set_draw.ensures.shows st c.in-Draw.field-0)
+
+pub returns-in-New-clause-shows : goal.returns-in-New-clause-shows
+returns-in-New-clause-shows c = λ st. rw c.in-New.is (c.set_new.ensures.shows c.args.plan.now st c.in-New.field-0)
+
+pub returns-in-Call-clause-shows : goal.returns-in-Call-clause-shows
+returns-in-Call-clause-shows c = λ st.
+    let i = c.args.self.now in
+    let m = machine_of c.args.plan.now i in
+    rw (c.in-Call.is, call-at c.args.plan.now (path_of i) m st c.args.x.now c.in-Call.field-0 c.in-Call.c) (c.call.ensures.shows st)
+
+pub returns-in-Spawn-clause-shows : goal.returns-in-Spawn-clause-shows
+returns-in-Spawn-clause-shows c = λ st.
+    let i = c.args.self.now in
+    let m = machine_of c.args.plan.now i in
+    rw (c.in-Spawn.is, spawn-at c.args.plan.now (path_of i) m st c.args.x.now c.in-Spawn.field-0 c.in-Spawn.c) (c.spawn.ensures.shows st)
