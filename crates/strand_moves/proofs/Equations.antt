@@ -78,8 +78,8 @@ module _ (plan : PlanView) (path : List ℕ) (m : Machine) (st : Stmt) (left : L
   paid-move n h =
       let a = out-Act (out-Stmt st).act in
       ap (λ (k : ℕ).
-          let r = paid_from (handing plan (place_of (length m.below) a)) plan path k (state_of m) (λ s. does (handing plan (place_of (length m.below) a)) plan path inside (length m.below) st a s) in
-          let run : Run Token Fault Reached = record { items = r.items; ending = reached plan (with_left m left) (entered plan st a left m) r.ending } in run) h
+      let r = paid_from (handing plan (place_of (length m.below) a)) plan path k (state_of m) (λ s. does (handing plan (place_of (length m.below) a)) plan path inside (length m.below) st a s) in
+      let run : Run Token Fault Reached = record { items = r.items; ending = reached plan (with_left m left) (entered plan st a left m) r.ending } in run) h
       ∙ by_act n a
 
   pub unpaid-move : m.steps ≡ 0 → statement_move plan path m st left ≡ faults Budget (path ++ m.rank ∷ [])

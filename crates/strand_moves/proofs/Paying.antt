@@ -45,7 +45,7 @@ module _ (plan : PlanView) (i paid : Instance) (n : ℕ) (is-paid : paid ≡ rec
       let one : m.steps ≡ suc n = omega arith in
       let acts = rw is-paid at h in
       shows-same (statement_move plan (path_of i) m st m.top.left) (acted plan (path_of i) (record m { steps = n }) st a) (strand_of (path_of i) m) (machine_of plan new) result
-          (paid-move plan (path_of i) m st m.top.left n one ∙ ap (λ (b : Act-F Act Stmt). acted plan (path_of i) (behind_statement m n m.top.left) st b) e) acts
+      (paid-move plan (path_of i) m st m.top.left n one ∙ ap (λ (b : Act-F Act Stmt). acted plan (path_of i) (behind_statement m n m.top.left) st b) e) acts
 
   pub paid-behind : (st : Stmt) → IsBehind (body_of plan i.top.function) i.top.cursor st → IsBehind (body_of plan paid.top.function) paid.top.cursor st
   paid-behind st h = let P : Instance → Type 0 = λ x. IsBehind (body_of plan x.top.function) x.top.cursor st in subst P (sym is-paid) h
