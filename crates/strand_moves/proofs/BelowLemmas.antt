@@ -1,6 +1,6 @@
 -- A change of an activation below the innermost one. The activations stand the outermost first, and the meaning has them the
 -- other way round.
-use Rattle.std.proofs.Common.{◌≡◌, ℕ, zero, suc, ◌+◌, ◌<◌, ◌≤◌, Bool, true, false, ◌⊎◌, inl, inr, nat_eq, List, [], ◌∷◌, ◌++◌, length, get_or, set, map, reverse, refl, sym, ap, ◌∙◌, arith, if◌then◌else◌}
+use Rattle.std.proofs.Common.{◌≡◌, ℕ, suc, ◌<◌, ◌≤◌, Bool, true, false, ◌⊎◌, inl, inr, nat_eq, List, [], ◌∷◌, ◌++◌, length, get_or, set, map, reverse, refl, sym, ap, ◌∙◌, arith, if◌then◌else◌}
 use Rattle.std.proofs.lemmas.Bool.{eqb-true, eq-eqb}
 use Rattle.std.proofs.lemmas.List.{reverse-append, reverse-reverse, length-reverse, length-map, set_at, set-append_left, get_or_at, get_or_default, get_or_append_left}
 use Rattle.serial_meaning.specs.Plan.{PlanView}

@@ -1,23 +1,18 @@
 -- Calls that begin and end, as changes of a machine.
-use Rattle.std.proofs.Common.{◌≡◌, ℕ, ◌+◌, ◌<◌, ◌≤◌, Bool, true, false, nat_lt, List, [], ◌∷◌, ◌++◌, Option, Some, None, Result, Ok, length, map, reverse, refl, sym, ap, ◌∙◌, arith}
+use Rattle.std.proofs.Common.{◌≡◌, ℕ, ◌<◌, ◌≤◌, Bool, true, false, nat_lt, List, [], ◌∷◌, ◌++◌, Option, Some, length, map, reverse, refl, ap, ◌∙◌, arith}
 use Rattle.std.proofs.lemmas.List.{length-map, length-reverse, reverse-append}
 use Rattle.std.proofs.lemmas.Bool.{lt-ltb, ltb-true}
 use Rattle.script_grammar.specs.declared.tree.Name.{Name}
 use Rattle.script_grammar.specs.declared.tree.Function.{Function}
-use Rattle.script_grammar.specs.declared.tree.Stmt.{Stmt}
-use Rattle.serial_meaning.specs.Values.{Env}
 use Rattle.serial_meaning.specs.Functions.{function_at}
 use Rattle.serial_meaning.specs.Plan.{PlanView, functions_of}
-use Rattle.serial_meaning.specs.Exec.{bound}
 use Rattle.serial_meaning.specs.declared.value.Value.{Value}
-use Rattle.serial_meaning.specs.declared.event.Fault.{Fault}
-use Rattle.strand_meaning.specs.Machine.{Machine}
-use Rattle.strand_meaning.specs.Machine as meaning
 use Rattle.strand_moves.specs.declared.activation.Activation.{Activation}
 use Rattle.strand_moves.specs.declared.instance.Instance.{Instance}
 use Rattle.strand_moves.specs.Acts.{IsCallee}
 use Rattle.strand_moves.specs.Cursors.{left_of}
 use Rattle.strand_moves.specs.Machines.{activation_of, body_in, body_of, machine_of}
+use Rattle.strand_moves.proofs.Equations.{callee}
 
 -- Tests
 
@@ -41,15 +36,12 @@ pub below-more : (plan : PlanView) (items : List Activation) (a : Activation) �
 below-more plan items a = ap (map (activation_of plan)) (reverse-append items (a ∷ []))
 
 module _ (plan : PlanView) (number : ℕ) (f : Function) (vs : List Value) (target : Option Name) where
-  abbrev pub begun_call : meaning.Activation
-  begun_call = record { function = number; left = f.body; returning = false; env = bound f.params vs; spawned = false; faulted = None; target = target }
-
-  pub callee-begun : (a : Activation) → IsCallee number f vs target a → function_at (functions_of plan) number ≡ Some f → activation_of plan a ≡ begun_call
+  pub callee-begun : (a : Activation) → IsCallee number f vs target a → function_at (functions_of plan) number ≡ Some f → activation_of plan a ≡ callee target number f vs
   callee-begun a is h =
       let left = ap (λ (n : ℕ). left_of (body_of plan n) a.cursor) is.function ∙ ap (λ (o : Option Function). left_of (body_in o) a.cursor) h ∙ is.left in
       rw (left, is.function, is.returning, is.env, is.spawned, is.faulted, is.target) refl
 
   pub machine-begun : (old new : Instance) → IsCallee number f vs target new.top → new.below.items ≡ old.below.items ++ old.top ∷ [] → new.rank ≡ old.rank → new.steps ≡ old.steps →
       function_at (functions_of plan) number ≡ Some f →
-      machine_of plan new ≡ record { rank = old.rank; steps = old.steps; top = begun_call; below = activation_of plan old.top ∷ map (activation_of plan) (reverse old.below.items) }
+      machine_of plan new ≡ record { rank = old.rank; steps = old.steps; top = callee target number f vs; below = activation_of plan old.top ∷ map (activation_of plan) (reverse old.below.items) }
   machine-begun old new is b r s h = rw (callee-begun new.top is h, b, below-more plan old.below.items old.top, r, s) refl

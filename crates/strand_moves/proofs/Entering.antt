@@ -1,5 +1,5 @@
 -- Blocks that an instance enters.
-use Rattle.std.proofs.Common.{◌≡◌, ℕ, Bool, true, false, List, [], ◌∷◌, ◌++◌, Result, Ok, refl, sym, ap, ◌∙◌, if◌then◌else◌}
+use Rattle.std.proofs.Common.{◌≡◌, Bool, true, false, List, [], ◌∷◌, ◌++◌, Ok, refl, sym, ap, ◌∙◌, if◌then◌else◌}
 use Rattle.script_grammar.specs.declared.tree.Expr.{Expr}
 use Rattle.script_grammar.specs.declared.tree.Stmt.{Stmt, out-Stmt}
 use Rattle.script_grammar.specs.declared.tree.Act.{Act, out-Act}
@@ -34,8 +34,8 @@ module _ (plan : PlanView) (i : Instance) (st : Stmt) (e : Expr) (v : Value) (cu
       let m = machine_of plan i in
       branch plan (path_of i) m st e first second v b known (sym h)
       ∙ ap (λ (left : List Stmt). went [] (record m { top = record m.top { left = left } }))
-          (sym (l ∙ ap (λ (x : Act-F Act Stmt). part_of x (if b then part.Yes else part.No) ++ left_of within i.top.cursor) a
-          ∙ ap (λ (x : List Stmt). x ++ left_of within i.top.cursor) (part-if e first second b)))
+      (sym (l ∙ ap (λ (x : Act-F Act Stmt). part_of x (if b then part.Yes else part.No) ++ left_of within i.top.cursor) a
+      ∙ ap (λ (x : List Stmt). x ++ left_of within i.top.cursor) (part-if e first second b)))
 
   pub turn-into : (body : List Stmt) → is_true v ≡ true → out-Act (out-Stmt st).act ≡ act.While e body →
       left_of within cursor ≡ part_of (out-Act (out-Stmt st).act) part.Turn ++ (st ∷ left_of within i.top.cursor) →
@@ -44,4 +44,4 @@ module _ (plan : PlanView) (i : Instance) (st : Stmt) (e : Expr) (v : Value) (cu
       let m = machine_of plan i in
       turn plan (path_of i) m st e body v known h
       ∙ ap (λ (left : List Stmt). went [] (record m { top = record m.top { left = left } }))
-          (sym (l ∙ ap (λ (x : Act-F Act Stmt). part_of x part.Turn ++ (st ∷ left_of within i.top.cursor)) a))
+      (sym (l ∙ ap (λ (x : Act-F Act Stmt). part_of x part.Turn ++ (st ∷ left_of within i.top.cursor)) a))

@@ -1,6 +1,6 @@
 -- What each statement does, once it is paid.
-use Rattle.std.proofs.Common.{◌≡◌, ℕ, zero, suc, ◌+◌, ◌-◌, Bool, true, false, nat_lt, List, [], ◌∷◌, ◌++◌, Option, Some, None, Result, Ok, Err, refl, sym, ap, ◌∙◌, length, if◌then◌else◌}
-use Rattle.std.proofs.Common.{ℤ, pos, ◌-ℤ◌, w64}
+use Rattle.std.proofs.Common.{◌≡◌, ℕ, suc, ◌+◌, Bool, true, false, nat_lt, List, [], ◌∷◌, ◌++◌, Option, Some, None, Ok, Err, refl, ap, ◌∙◌, length, if◌then◌else◌}
+use Rattle.std.proofs.Common.{ℤ, pos, w64}
 use Rattle.std.specs.Int.{cast_signed}
 use Rattle.dotmix.specs.Draws.{dotmix}
 use Rattle.script_grammar.specs.declared.tree.Name.{Name}
@@ -26,11 +26,10 @@ use Rattle.serial_meaning.specs.declared.environment.Slot.TheVariants.{Scalar, A
 use Rattle.serial_meaning.specs.declared.event.FaultKind.{FaultKind}
 use Rattle.serial_meaning.specs.declared.event.FaultKind.TheVariants.{Index, Depth, Calls, Budget}
 use Rattle.serial_meaning.specs.declared.event.Fault.{Fault}
-use Rattle.serial_meaning.specs.declared.event.Event.{Event}
 use Rattle.serial_meaning.specs.declared.event.Event.TheVariants as event
 use Rattle.serial_meaning.specs.declared.origin.Origin.{Origin}
 use Rattle.serial_meaning.specs.declared.origin.Origin.TheVariants as origin
-use Rattle.strand_meaning.specs.Machine.{Place, Spawned, Looped, Token, Told, Handed, Syncs, Loops, Halt, Faulted, Inside, handing, inside, place_of, sync_tokens, Activation, Machine, Reached, Stands, Gives, state_of, with_left, with_scalar, entered, reached, statement_move}
+use Rattle.strand_meaning.specs.Machine.{Spawned, Token, Told, Handed, handing, inside, place_of, Activation, Machine, Reached, Stands, state_of, with_left, with_scalar, entered, reached, statement_move}
 use Rattle.strand_moves.specs.Moves.{acted, call_to, spawn_to}
 
 abbrev pub with_env : Machine → Env → Machine
@@ -79,14 +78,18 @@ module _ (plan : PlanView) (path : List ℕ) (m : Machine) (st : Stmt) (left : L
   paid-move n h =
       let a = out-Act (out-Stmt st).act in
       ap (λ (k : ℕ).
-          let r = paid_from (handing plan (place_of (length m.below) a)) plan path k (state_of m) (λ s. does (handing plan (place_of (length m.below) a)) plan path inside (length m.below) st a s) in
-          let run : Run Token Fault Reached = record { items = r.items; ending = reached plan (with_left m left) (entered plan st a left m) r.ending } in run) h
+      let r = paid_from (handing plan (place_of (length m.below) a)) plan path k (state_of m) (λ s. does (handing plan (place_of (length m.below) a)) plan path inside (length m.below) st a s) in
+      let run : Run Token Fault Reached = record { items = r.items; ending = reached plan (with_left m left) (entered plan st a left m) r.ending } in run) h
       ∙ by_act n a
 
   pub unpaid-move : m.steps ≡ 0 → statement_move plan path m st left ≡ faults Budget (path ++ m.rank ∷ [])
   unpaid-move h = rw h refl
 
 -- The statements
+
+-- the activation that a call begins
+abbrev pub callee : Option Name → ℕ → Function → List Value → Activation
+callee target number f vs = record { function = number; left = f.body; returning = false; env = bound f.params vs; spawned = false; faulted = None; target = target }
 
 module _ (plan : PlanView) (path : List ℕ) (m : Machine) (st : Stmt) where
   pub let-is-set : (x : Name) (r : Right) → acted plan path m st (act.Let x r) ≡ acted plan path m st (act.Set x r)
@@ -124,15 +127,6 @@ module _ (plan : PlanView) (path : List ℕ) (m : Machine) (st : Stmt) where
   pub print : (e : Expr) (v : Value) → value_of e m.top.env ≡ Ok v → acted plan path m st (act.Print e) ≡ went (Told (event.Print (path ++ m.rank ∷ []) v) ∷ []) m
   unfolding acted
   print e v h = rw h refl
-
-  pub sync : acted plan path m st act.Sync ≡ went (Told (event.Sync (path ++ m.rank ∷ [])) ∷ sync_tokens m.top.spawned) (record m { rank = m.rank + 1; top = record m.top { spawned = false } })
-  unfolding acted
-  sync = by_spawned m.top.spawned
-    where
-      by_spawned : (b : Bool) → acted plan path (record m { top = record m.top { spawned = b } }) st act.Sync
-          ≡ went (Told (event.Sync (path ++ m.rank ∷ [])) ∷ sync_tokens b) (record m { rank = m.rank + 1; top = record m.top { spawned = false } })
-      by_spawned true = refl
-      by_spawned false = refl
 
   pub store : (x : Name) (i e : Expr) (k v : Value) (old : ℤ) (env : Env) → value_of i m.top.env ≡ Ok k → at_index (items_of (slot_of m.top.env x.bytes)) (number k) ≡ Some old → value_of e m.top.env ≡ Ok v →
       env ≡ with_slot m.top.env x.bytes (Array (set_item (items_of (slot_of m.top.env x.bytes)) (number k) v)) → acted plan path m st (act.Store x i e) ≡ went [] (with_env m env)
@@ -202,10 +196,6 @@ module _ (plan : PlanView) (path : List ℕ) (m : Machine) (st : Stmt) where
   unfolding acted
   spawn-depth-fault None c vs h k = rw (h, k) refl
   spawn-depth-fault (Some x) c vs h k = rw (h, k) refl
-
-  -- the activation that a call begins
-  abbrev pub callee : Option Name → ℕ → Function → List Value → Activation
-  callee target number f vs = record { function = number; left = f.body; returning = false; env = bound f.params vs; spawned = false; faulted = None; target = target }
 
   pub call : (target : Option Name) (c : CallText) (vs : List Value) (f : Function) → values_of c.args m.top.env ≡ Ok vs → nat_lt (length m.below) 256 ≡ true → function_at (functions_of plan) (number_of (functions_of plan) c.name.bytes) ≡ Some f →
       acted plan path m st (call_to target c) ≡ went [] (record m { top = callee target (number_of (functions_of plan) c.name.bytes) f vs; below = m.top ∷ m.below })

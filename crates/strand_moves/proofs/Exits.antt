@@ -1,5 +1,5 @@
 -- What a call shows that is left by a `?`.
-use Rattle.std.proofs.Common.{◌≡◌, ℕ, List, Result, Ok, Err, sym, subst, ◌∙◌}
+use Rattle.std.proofs.Common.{◌≡◌, ℕ, List, Result, Ok, Err, sym, subst}
 use Rattle.std.specs.Result.{IsErrAnd}
 use Rattle.serial_meaning.specs.Runs.{Run}
 use Rattle.serial_meaning.specs.declared.event.Fault.{Fault}
@@ -9,31 +9,20 @@ use Rattle.strand_values.specs.Gives.{Gives}
 use Rattle.strand_values.specs.declared.halt.Halt as values
 use Rattle.strand_values.specs.declared.halt.Halt.TheVariants as halt
 use Rattle.strand_moves.specs.declared.shown.Shown.{Shown}
-use Rattle.strand_moves.specs.declared.shown.Moved.{Moved}
-use Rattle.strand_moves.specs.Moves.{Shows, Makes}
+use Rattle.strand_moves.specs.Moves.{Shows}
 use Rattle.strand_moves.proofs.Equations.{faults}
-use Rattle.strand_moves.proofs.Halts.{shows-halt, makes-halt}
 
 module _ (run : Run Token Fault Reached) (strand : List ℕ) (m : Machine) where
+  shows-halt : {A : Type 0} (h : values.Halt) (defined : Result A FaultKind) → Gives (Err h) defined → ((kind : FaultKind) → defined ≡ Err kind → run ≡ faults kind strand) → Shows run strand m (Err h)
+  shows-halt (halt.Fault kind) defined g f = f kind g
+  shows-halt halt.Memory defined g f = tt
+
   -- by what a calculation answered
   pub shows-exit : {A : Type 0} (r : Result Shown values.Halt) (h : values.Halt) (defined : Result A FaultKind) → IsErrAnd r (λ y. y ≡ h) → Gives (Err h) defined →
       ((kind : FaultKind) → defined ≡ Err kind → run ≡ faults kind strand) → Shows run strand m r
   shows-exit (Ok s) h defined e g f = absurd e
-  shows-exit (Err y) h defined e g f = let P : values.Halt → Type 0 = λ z. Shows run strand m (Err z) in subst P (sym e) (shows-halt run strand m h defined g f)
-
-  pub shows-no-memory : (r : Result Shown values.Halt) → IsErrAnd r (λ y. y ≡ halt.Memory) → Shows run strand m r
-  shows-no-memory (Ok s) e = absurd e
-  shows-no-memory (Err y) e = let P : values.Halt → Type 0 = λ z. Shows run strand m (Err z) in subst P (sym e) tt
+  shows-exit (Err y) h defined e g f = let P : values.Halt → Type 0 = λ z. Shows run strand m (Err z) in subst P (sym e) (shows-halt h defined g f)
 
   pub shows-fault : (r : Result Shown values.Halt) (kind : FaultKind) → IsErrAnd r (λ y. y ≡ halt.Fault kind) → run ≡ faults kind strand → Shows run strand m r
   shows-fault (Ok s) kind e f = absurd e
   shows-fault (Err y) kind e f = let P : values.Halt → Type 0 = λ z. Shows run strand m (Err z) in subst P (sym e) f
-
-  pub makes-exit : {A : Type 0} (r : Result Moved values.Halt) (h : values.Halt) (defined : Result A FaultKind) → IsErrAnd r (λ y. y ≡ h) → Gives (Err h) defined →
-      ((kind : FaultKind) → defined ≡ Err kind → run ≡ faults kind strand) → Makes run strand m r
-  makes-exit (Ok s) h defined e g f = absurd e
-  makes-exit (Err y) h defined e g f = let P : values.Halt → Type 0 = λ z. Makes run strand m (Err z) in subst P (sym e) (makes-halt run strand m h defined g f)
-
-  pub makes-no-memory : (r : Result Moved values.Halt) → IsErrAnd r (λ y. y ≡ halt.Memory) → Makes run strand m r
-  makes-no-memory (Ok s) e = absurd e
-  makes-no-memory (Err y) e = let P : values.Halt → Type 0 = λ z. Makes run strand m (Err z) in subst P (sym e) tt

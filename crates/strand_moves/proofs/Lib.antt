@@ -7,9 +7,7 @@ pub mod Entering
 pub mod Equations
 pub mod Exits
 pub mod Going
-pub mod Halts
 pub mod Items
 pub mod LoopEquations
 pub mod Paying
 pub mod ReplacedLemmas
-pub mod ReturnEquations

@@ -1,5 +1,5 @@
 -- A statement whose step is paid.
-use Rattle.std.proofs.Common.{◌≡◌, ℕ, suc, ◌+◌, List, [], ◌∷◌, ◌++◌, Result, Ok, Err, refl, sym, ap, ◌∙◌, subst, arith}
+use Rattle.std.proofs.Common.{◌≡◌, ℕ, suc, ◌+◌, List, Result, refl, sym, ap, ◌∙◌, subst, arith}
 use Rattle.script_grammar.specs.declared.tree.Name.{Name}
 use Rattle.script_grammar.specs.declared.tree.CallText.{CallText}
 use Rattle.script_grammar.specs.declared.tree.Right.TheVariants as right
@@ -16,7 +16,7 @@ use Rattle.strand_moves.specs.declared.instance.Instance.{Instance}
 use Rattle.strand_moves.specs.declared.shown.Shown.{Shown}
 use Rattle.strand_moves.specs.Acts.{Acts}
 use Rattle.strand_moves.specs.Cursors.{IsBehind}
-use Rattle.strand_moves.specs.Machines.{IsInstance, body_of, machine_of, path_of}
+use Rattle.strand_moves.specs.Machines.{body_of, machine_of, path_of}
 use Rattle.strand_moves.specs.Moves.{acted, Shows, strand_of}
 use Rattle.strand_moves.proofs.Equations.{behind_statement, paid-move}
 
@@ -45,10 +45,7 @@ module _ (plan : PlanView) (i paid : Instance) (n : ℕ) (is-paid : paid ≡ rec
       let one : m.steps ≡ suc n = omega arith in
       let acts = rw is-paid at h in
       shows-same (statement_move plan (path_of i) m st m.top.left) (acted plan (path_of i) (record m { steps = n }) st a) (strand_of (path_of i) m) (machine_of plan new) result
-          (paid-move plan (path_of i) m st m.top.left n one ∙ ap (λ (b : Act-F Act Stmt). acted plan (path_of i) (behind_statement m n m.top.left) st b) e) acts
-
-  pub paid-instance : IsInstance plan i → IsInstance plan paid
-  paid-instance h = let P : Instance → Type 0 = IsInstance plan in subst P (sym is-paid) (record { fits = h.fits; within = h.within; few = omega (arith, h.few) })
+      (paid-move plan (path_of i) m st m.top.left n one ∙ ap (λ (b : Act-F Act Stmt). acted plan (path_of i) (behind_statement m n m.top.left) st b) e) acts
 
   pub paid-behind : (st : Stmt) → IsBehind (body_of plan i.top.function) i.top.cursor st → IsBehind (body_of plan paid.top.function) paid.top.cursor st
   paid-behind st h = let P : Instance → Type 0 = λ x. IsBehind (body_of plan x.top.function) x.top.cursor st in subst P (sym is-paid) h

@@ -1,5 +1,5 @@
 -- A variable that is there takes a new value, and no other comes to be.
-use Rattle.std.proofs.Common.{◌≡◌, ℕ, Bool, true, false, List, [], ◌∷◌, Option, Some, None, IsSome, IsNone, refl, sym, ap, ◌∙◌, if◌then◌else◌}
+use Rattle.std.proofs.Common.{◌≡◌, ℕ, Bool, true, false, List, [], ◌∷◌, Option, Some, None, IsSome, IsNone, refl, ap, ◌∙◌, if◌then◌else◌}
 use Rattle.std.specs.Str.{bytes_eq}
 use Rattle.serial_meaning.specs.Values.{Env, slot_of}
 use Rattle.serial_meaning.specs.Exec.{with_slot}

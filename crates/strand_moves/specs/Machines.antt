@@ -1,5 +1,5 @@
 -- What an instance is in the words of the strand's meaning.
-use Rattle.std.specs.Prelude.{◌≡◌, ℕ, ◌+◌, ◌<◌, ◌^◌, List, [], Option, Some, None, map, reverse, length}
+use Rattle.std.specs.Prelude.{ℕ, ◌+◌, ◌<◌, ◌^◌, List, [], Option, Some, None, map, reverse, length}
 use Rattle.dotmix.specs.Trails.{FitsGamma}
 use Rattle.script_grammar.specs.declared.tree.Function.{Function}
 use Rattle.script_grammar.specs.declared.tree.Stmt.{Stmt}

@@ -1,18 +1,17 @@
 -- What a call that makes a move answers.
-use Rattle.std.specs.Prelude.{◌≡◌, ℕ, ◌+◌, ◌≤◌, ◌++◌, List, [], ◌∷◌, Option, Some, None, Result, Ok, Err, length}
+use Rattle.std.specs.Prelude.{◌≡◌, ℕ, ◌++◌, List, [], ◌∷◌, Option, Some, None, Result, Ok, Err, length}
 use Rattle.script_grammar.specs.declared.tree.Name.{Name}
 use Rattle.script_grammar.specs.declared.tree.CallText.{CallText}
 use Rattle.script_grammar.specs.declared.tree.Right.TheVariants as right
-use Rattle.script_grammar.specs.declared.tree.Stmt.{Stmt, out-Stmt}
-use Rattle.script_grammar.specs.declared.tree.Act.{Act, out-Act}
+use Rattle.script_grammar.specs.declared.tree.Stmt.{Stmt}
+use Rattle.script_grammar.specs.declared.tree.Act.{Act}
 use Rattle.script_grammar.specs.declared.tree.Act.TheOpen as act
 use Rattle.script_grammar.specs.declared.tree.Act.TheOpen.{Act-F}
 use Rattle.serial_meaning.specs.Runs.{Run}
-use Rattle.serial_meaning.specs.Exec.{State, does}
+use Rattle.serial_meaning.specs.Exec.{does}
 use Rattle.serial_meaning.specs.Plan.{PlanView}
 use Rattle.serial_meaning.specs.declared.event.Fault.{Fault}
-use Rattle.serial_meaning.specs.declared.event.FaultKind.{FaultKind}
-use Rattle.strand_meaning.specs.Machine.{Place, Spawned, Looped, Token, Told, Handed, Syncs, Loops, Halt, Machine, Reached, Stands, Gives, handing, inside, place_of, state_of, with_left, entered, reached, statement_move}
+use Rattle.strand_meaning.specs.Machine.{Spawned, Looped, Token, Told, Handed, Syncs, Loops, Machine, Reached, Stands, Gives, handing, inside, place_of, state_of, with_left, entered, reached}
 use Rattle.strand_values.specs.declared.halt.Halt as values
 use Rattle.strand_values.specs.declared.halt.Halt.TheVariants as halt
 use Rattle.strand_moves.specs.declared.shown.Shown.{Shown}

@@ -3,8 +3,6 @@
 ghost use Rattle.std.specs.Prelude.{◌≡◌, false, None, IfOk};
 ghost use Rattle.std.specs.Option.{option_copied};
 ghost use Rattle.serial_meaning.specs.Exec.{bound};
-ghost use Rattle.serial_meaning.specs.Functions.{function_at};
-ghost use Rattle.serial_meaning.specs.Plan.{functions_of};
 ghost use Rattle.strand_moves.specs.Machines.{body_of};
 
 use crate::cursor::Cursor;
@@ -35,7 +33,13 @@ impl Activation {
     ghost use Rattle.strand_moves.specs.Cursors.{left_of};
 
     /// A function before its first statement.
-    pub(crate) fn new(alloc: Global, number: u32, function: &Function, args: Items<Value>, target: Option<Name>) -> Result<Activation, Memory>
+    pub(crate) fn new(
+        alloc: Global,
+        number: u32,
+        function: &Function,
+        args: Items<Value>,
+        target: Option<Name>,
+    ) -> Result<Activation, Memory>
         ensures function { IfOk result (λ a. a.function ≡ number) }
         ensures left { IfOk result (λ a. left_of function.now.body a.cursor ≡ function.now.body) }
         ensures returning { IfOk result (λ a. a.returning ≡ false) }

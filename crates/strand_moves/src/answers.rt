@@ -30,7 +30,13 @@ impl Instance {
     }
 
     /// Takes the value of a child of the activation with `height` others below it. A variable that isn't there doesn't come to be.
-    pub fn take_value(&mut self, alloc: Global, height: usize, target: Option<&Name>, value: Value) -> Result<(), Memory>
+    pub fn take_value(
+        &mut self,
+        alloc: Global,
+        height: usize,
+        target: Option<&Name>,
+        value: Value,
+    ) -> Result<(), Memory>
         ensures machine { OnOk result ((plan : PlanView) → machine_of plan self.new ≡ changed height (answered (option_copied target.entry) (Ok (value ∷ []))) (machine_of plan self.old)) }
         ensures path { OnOk result (path_of self.new ≡ path_of self.old) }
         ensures sound { OnOk result ((plan : PlanView) → IsInstance plan self.old → IsInstance plan self.new) }
@@ -44,7 +50,12 @@ impl Instance {
     }
 
     /// Takes the values of a loop of the innermost activation. Where there was no memory for it the instance is of no more use.
-    pub fn take_values(&mut self, alloc: Global, target: Option<&Name>, values: &[Value]) -> Result<(), Memory>
+    pub fn take_values(
+        &mut self,
+        alloc: Global,
+        target: Option<&Name>,
+        values: &[Value],
+    ) -> Result<(), Memory>
         ensures machine { OnOk result ((plan : PlanView) → machine_of plan self.new ≡ with_values (option_copied target.entry) values.now (machine_of plan self.old)) }
         ensures path { OnOk result (path_of self.new ≡ path_of self.old) }
         ensures sound { OnOk result ((plan : PlanView) → IsInstance plan self.old → IsInstance plan self.new) }

@@ -28,7 +28,13 @@ const MOST_CALLS: usize = 256;
 
 impl Instance {
     /// A call, whose value goes to a variable, if any.
-    pub(crate) fn call(&mut self, alloc: Global, plan: &Plan, target: Option<&Name>, call: &CallText) -> Result<Shown, Halt>
+    pub(crate) fn call(
+        &mut self,
+        alloc: Global,
+        plan: &Plan,
+        target: Option<&Name>,
+        call: &CallText,
+    ) -> Result<Shown, Halt>
         ensures shows { (st : Stmt) → Acts plan.now st (call_to (option_copied target.entry) call.now) self.old self.new result }
         ensures trail { self.new.trail ≡ self.old.trail }
         ensures few { Costs self.old self.new }
@@ -46,7 +52,14 @@ impl Instance {
     }
 
     /// Begins a function over the innermost activation.
-    fn open(&mut self, alloc: Global, number: u32, function: &Function, args: Items<Value>, target: Option<&Name>) -> Result<(), Memory>
+    fn open(
+        &mut self,
+        alloc: Global,
+        number: u32,
+        function: &Function,
+        args: Items<Value>,
+        target: Option<&Name>,
+    ) -> Result<(), Memory>
         ensures top { OnOk result (IsCallee number function.now args (option_copied target.entry) self.new.top) }
         ensures below { OnOk result (self.new.below.items ≡ self.old.below.items ++ self.old.top ∷ []) }
         ensures trail { self.new.trail ≡ self.old.trail }
@@ -61,7 +74,12 @@ impl Instance {
     }
 
     /// Gives a variable of the innermost activation a value, if there is one.
-    pub(crate) fn receive(&mut self, alloc: Global, target: Option<&Name>, value: Value) -> Result<(), Memory>
+    pub(crate) fn receive(
+        &mut self,
+        alloc: Global,
+        target: Option<&Name>,
+        value: Value,
+    ) -> Result<(), Memory>
         ensures env { OnOk result (self.new.top.env ≡ with_scalar (option_copied target.entry) value self.old.top.env) }
         ensures others { self.new ≡ record self.old { top = record self.old.top { env = self.new.top.env } } }
     {

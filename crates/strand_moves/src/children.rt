@@ -30,7 +30,13 @@ use strand_values::{Halt, iterations, number};
 
 impl Instance {
     /// A spawn, whose child's value is to go to a variable, if any.
-    pub(crate) fn spawn(&mut self, alloc: Global, plan: &Plan, target: Option<&Name>, call: &CallText) -> Result<Shown, Halt>
+    pub(crate) fn spawn(
+        &mut self,
+        alloc: Global,
+        plan: &Plan,
+        target: Option<&Name>,
+        call: &CallText,
+    ) -> Result<Shown, Halt>
         requires { IsInstance plan.now self.old }
         ensures shows { (st : Stmt) → Acts plan.now st (spawn_to (option_copied target.entry) call.now) self.old self.new result }
         ensures trail { self.new.trail ≡ self.old.trail }
@@ -43,7 +49,11 @@ impl Instance {
         let function = function_number(plan.functions(), call.name.bytes.as_slice());
         let event = Event::Spawn(self.pedigree()?);
         let path = self.child_path(alloc)?;
-        let child = Origin::Instance { function, args, path };
+        let child = Origin::Instance {
+            function,
+            args,
+            path,
+        };
         let instead = filler(alloc, plan, function)?;
         self.receive(alloc, target, instead)?;
         let target = copy_of(alloc, target)?;
@@ -78,7 +88,15 @@ impl Instance {
     }
 
     /// A parallel loop.
-    pub(crate) fn pfor(&mut self, alloc: Global, plan: &Plan, lo: &Expr, hi: &Expr, target: &Option<Name>, call: &CallText) -> Result<Shown, Halt>
+    pub(crate) fn pfor(
+        &mut self,
+        alloc: Global,
+        plan: &Plan,
+        lo: &Expr,
+        hi: &Expr,
+        target: &Option<Name>,
+        call: &CallText,
+    ) -> Result<Shown, Halt>
         requires { IsInstance plan.now self.old }
         ensures shows { (st : Stmt) (var : _) → Acts plan.now st (act.Pfor var lo.now hi.now target.now call.now) self.old self.new result }
         ensures trail { self.new.trail ≡ self.old.trail }
@@ -106,7 +124,12 @@ impl Instance {
     }
 
     /// The steps of a loop of so many iterations, the room of its target, and the depth of its iterations.
-    fn begin_loop(&mut self, plan: &Plan, target: &Option<Name>, count: u64) -> Result<(), FaultKind>
+    fn begin_loop(
+        &mut self,
+        plan: &Plan,
+        target: &Option<Name>,
+        count: u64,
+    ) -> Result<(), FaultKind>
         ensures result { result ≡ loop_begins plan.now (path_of self.old) count target.now self.old.top.env self.old.steps }
         ensures ok { OnOk result (self.new.steps + count ≡ self.old.steps) }
         ensures less { self.new.steps ≤ self.old.steps }
@@ -140,7 +163,12 @@ impl Instance {
     }
 
     /// A loop of one iteration or more.
-    fn hand_loop(&mut self, alloc: Global, target: &Option<Name>, child: Origin) -> Result<Shown, Memory>
+    fn hand_loop(
+        &mut self,
+        alloc: Global,
+        target: &Option<Name>,
+        child: Origin,
+    ) -> Result<Shown, Memory>
         requires { self.old.rank < 2 ^ 32 }
         ensures shown { IfOk result (λ s. s ≡ shown.Looped (event.Loop (path_of self.old ++ self.old.rank ∷ [])) child target.now) }
         ensures passed { OnOk result (self.new ≡ record self.old { rank = self.old.rank + 1; top = record self.old.top { env = filled target.now [] self.old.top.env } }) }

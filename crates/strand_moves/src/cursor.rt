@@ -1,11 +1,10 @@
 // Places in a function's body.
 
-ghost use Rattle.std.specs.Prelude.{◌≡◌, ◌<◌, ◌-◌, List, [], ◌∷◌, ◌++◌, Bool, IfOk, IsTrue, length, MatchOption, slice_get, drop, vec_len, if◌then◌else◌};
-ghost use Rattle.std.specs.Option.{option_copied};
+ghost use Rattle.std.specs.Prelude.{◌≡◌, List, [], ◌∷◌, ◌++◌, IfOk, MatchOption, if◌then◌else◌};
 ghost use Rattle.script_grammar.specs.declared.tree.Stmt.{Stmt, out-Stmt};
 ghost use Rattle.script_grammar.specs.declared.tree.Act.{out-Act};
 ghost use Rattle.strand_moves.specs.declared.cursor.Part.TheVariants as part;
-ghost use Rattle.strand_moves.specs.Cursors.{part_of, place_before, block_in, block_of, left_of, IsBehind, Passes};
+ghost use Rattle.strand_moves.specs.Cursors.{part_of, block_in, block_of, left_of, IsBehind, Passes};
 
 use crate::memory::Memory;
 use script_grammar::{Act, Stmt};

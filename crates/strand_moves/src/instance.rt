@@ -1,21 +1,17 @@
 // Instances, and their moves.
 
-ghost use Rattle.std.specs.Prelude.{◌≡◌, ◌<◌, ◌≤◌, ◌+◌, ◌^◌, ◌++◌, ◌∷◌, [], List, Some, None, Ok, Err, IfOk, OnOk, length};
-ghost use Rattle.dotmix.specs.Trails.{FitsGamma};
-ghost use Rattle.script_grammar.specs.declared.tree.Stmt.{Stmt, out-Stmt};
-ghost use Rattle.script_grammar.specs.declared.tree.Act.{out-Act};
+ghost use Rattle.std.specs.Prelude.{◌≡◌, ◌<◌, ◌≤◌, ◌+◌, ◌^◌, ◌++◌, ◌∷◌, [], Err, IfOk, OnOk, length};
 ghost use Rattle.serial_meaning.specs.Plan.{functions_of};
-ghost use Rattle.strand_meaning.specs.Machine.{Stands, begun, move, statement_move, return_move};
+ghost use Rattle.strand_meaning.specs.Machine.{Stands, begun, move};
 
 use crate::activation::{Activation, body};
 use crate::memory::Memory;
 use crate::shown::{Moved, Shown};
 use dotmix::Trail;
 use ped_path::{Ped, Pedigree};
-use script_grammar::{Items, Stmt};
+use script_grammar::Items;
 use serial_meaning::{Fault, FaultKind, Plan, Value};
 use std::alloc::Global;
-use std::mem;
 use strand_values::Halt;
 
 /// An instance that is running: its path, its rank and the steps that it has left, and its activations.
@@ -31,12 +27,17 @@ pub struct Instance {
 }
 
 impl Instance {
-    ghost use Rattle.strand_moves.specs.Cursors.{left_of, IsBehind};
-    ghost use Rattle.strand_moves.specs.Machines.{IsInstance, machine_of, path_of, body_of};
-    ghost use Rattle.strand_moves.specs.Moves.{acted, run_of, Makes, Shows, strand_of};
+    ghost use Rattle.strand_moves.specs.Machines.{IsInstance, machine_of, path_of};
+    ghost use Rattle.strand_moves.specs.Moves.{run_of, Makes, strand_of};
 
     /// An instance of the function at this place in the script, before its first move.
-    pub fn begin(alloc: Global, plan: &Plan, function: u32, args: Items<Value>, path: Ped) -> Result<Instance, Memory>
+    pub fn begin(
+        alloc: Global,
+        plan: &Plan,
+        function: u32,
+        args: Items<Value>,
+        path: Ped,
+    ) -> Result<Instance, Memory>
         requires there { function < length (functions_of plan.now) }
         requires within { length path < plan.now.limits.depth }
         ensures begins { IfOk result (λ i. begun plan.now function args ≡ Stands (machine_of plan.now i)) }

@@ -17,7 +17,13 @@ use strand_values::Halt;
 
 impl Instance {
     /// `let x = R` or `x = R`.
-    pub(crate) fn assign(&mut self, alloc: Global, plan: &Plan, x: &Name, r: &Right) -> Result<Shown, Halt>
+    pub(crate) fn assign(
+        &mut self,
+        alloc: Global,
+        plan: &Plan,
+        x: &Name,
+        r: &Right,
+    ) -> Result<Shown, Halt>
         requires { IsInstance plan.now self.old }
         ensures shows { (st : Stmt) → Acts plan.now st (act.Set x.now r.now) self.old self.new result }
         ensures trail { self.new.trail ≡ self.old.trail }
@@ -50,7 +56,9 @@ impl Instance {
     {
         let word = self.trail.draw(&plan.gamma, self.rank);
         let event = Event::Draw(self.pedigree()?, word);
-        self.top.env.set_scalar(alloc, x, Value::Int(word.cast_signed()))?;
+        self.top
+            .env
+            .set_scalar(alloc, x, Value::Int(word.cast_signed()))?;
         self.rank += 1;
         Ok(Shown::Told(event))
     }

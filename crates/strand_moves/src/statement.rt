@@ -20,7 +20,12 @@ use strand_values::{Halt, count, is_true, number};
 
 impl Instance {
     /// A statement, behind which the cursor stands: its step, and then what it does.
-    pub(crate) fn statement(&mut self, alloc: Global, plan: &Plan, statement: &Stmt) -> Result<Shown, Halt>
+    pub(crate) fn statement(
+        &mut self,
+        alloc: Global,
+        plan: &Plan,
+        statement: &Stmt,
+    ) -> Result<Shown, Halt>
         requires instance { IsInstance plan.now self.old }
         requires behind { IsBehind (body_of plan.now self.old.top.function) self.old.top.cursor statement.now }
         ensures shows { let m = machine_of plan.now self.old in

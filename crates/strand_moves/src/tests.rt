@@ -67,7 +67,13 @@ fn fill(alloc: Global, main: &mut Instance, target: Option<&Name>, first: u32) -
 }
 
 /// Keeps what is printed, and answers for a child, which gives this number.
-fn answer(alloc: Global, main: &mut Instance, shown: &Shown, child: u32, printed: &mut Vec<i64>) -> Result<(), Fail>
+fn answer(
+    alloc: Global,
+    main: &mut Instance,
+    shown: &Shown,
+    child: u32,
+    printed: &mut Vec<i64>,
+) -> Result<(), Fail>
     ensures { OnOk result ((plan : PlanView) → IsInstance plan main.old → IsInstance plan main.new) }
 {
     match shown {
@@ -82,7 +88,13 @@ fn answer(alloc: Global, main: &mut Instance, shown: &Shown, child: u32, printed
 }
 
 /// Runs `main` to its end.
-fn run(rt: &impl Abort, alloc: Global, text: &[u8], child: u32, printed: &mut Vec<i64>) -> Result<End, Fail> {
+fn run(
+    rt: &impl Abort,
+    alloc: Global,
+    text: &[u8],
+    child: u32,
+    printed: &mut Vec<i64>,
+) -> Result<End, Fail> {
     let plan = plan(rt, alloc, text)?;
     let mut main = main_instance(rt, alloc, &plan)?;
     for _ in 0..100 {
@@ -126,7 +138,11 @@ fn scripts_print_and_give(rt: HostRuntime) -> Result<(), Fail> {
     ];
     for (text, wanted, end) in rows {
         let mut printed = Vec::new(alloc);
-        assert_eq!(rt; run(&rt, alloc, text.as_bytes(), 5, &mut printed)?, end, "{text}");
+        assert_eq!(rt;
+            run(&rt, alloc, text.as_bytes(), 5, &mut printed)?,
+            end,
+            "{text}"
+        );
         assert_eq!(rt; printed.as_slice(), wanted.as_slice(), "{text}");
     }
     Ok(())

@@ -1,4 +1,3 @@
-use Rattle.std.proofs.Common.{◌≡◌}
 use Rattle.serial_meaning.specs.declared.environment.Slot.TheVariants.{Scalar}
 use Rattle.strand_moves.proofs.ReplacedLemmas.{replaces}
 use Rattle.strand_moves.proofs.answers.replace.Goals as goal

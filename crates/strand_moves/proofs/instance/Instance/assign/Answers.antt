@@ -1,8 +1,5 @@
-use Rattle.std.specs.Option.{option_copied}
-use Rattle.script_grammar.specs.declared.tree.Act.TheOpen as act
 use Rattle.strand_moves.specs.Machines.{machine_of, path_of}
-use Rattle.strand_moves.specs.Moves.{acted, strand_of}
-use Rattle.strand_moves.proofs.Paying.{shows-same, call-at, spawn-at}
+use Rattle.strand_moves.proofs.Paying.{call-at, spawn-at}
 use Rattle.strand_moves.proofs.instance.Instance.assign.Goals as goal
 
 pub returns-in-Value-clause-shows : goal.returns-in-Value-clause-shows

@@ -11,10 +11,10 @@ pub returns-in_err-value-clause-shows : goal.returns-in_err-value-clause-shows
 returns-in_err-value-clause-shows c = λ plan st first second behind a.
     let i = c.args.self.now in
     shows-exit (acted plan (path_of i) (machine_of plan i) st (act.If c.args.e.now first second)) (strand_of (path_of i) (machine_of plan i)) _ c.from_residual.result c.in_err-value.field-0.0
-        (value_of c.args.e.now i.top.env) c.from_residual.ensures.1 c.in_err-value.ensures (branch-fault plan (path_of i) (machine_of plan i) st c.args.e.now first second)
+    (value_of c.args.e.now i.top.env) c.from_residual.ensures.1 c.in_err-value.ensures (branch-fault plan (path_of i) (machine_of plan i) st c.args.e.now first second)
 
 pub returns-clause-shows : goal.returns-clause-shows
 returns-clause-shows c = λ plan st first second behind a.
     let i = c.args.self.now in
     branch-into plan i st c.args.e.now c.in_ok-value.field-0 c.enter.new.self c.in_ok-value.ensures first second c.is_true-holds.result c.is_true-holds.ensures a
-        (c.in_ok-enter.ensures (body_of plan i.top.function) st behind)
+    (c.in_ok-enter.ensures (body_of plan i.top.function) st behind)

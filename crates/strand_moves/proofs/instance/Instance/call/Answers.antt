@@ -20,7 +20,7 @@ returns-in_err-args-clause-shows c = λ st.
     let to = option_copied c.args.target in
     let known = rw c.as_slice.ensures at c.in_err-args.ensures in
     shows-exit (acted plan (path_of i) (machine_of plan i) st (call_to to c.args.call.now)) (strand_of (path_of i) (machine_of plan i)) _ c.from_residual.result c.in_err-args.field-0.0
-        (values_of c.args.call.now.args i.top.env) c.from_residual.ensures.1 known (call-args-fault plan (path_of i) (machine_of plan i) st to c.args.call.now)
+    (values_of c.args.call.now.args i.top.env) c.from_residual.ensures.1 known (call-args-fault plan (path_of i) (machine_of plan i) st to c.args.call.now)
 
 pub returns-then-len-ge-MOST_CALLS-clause-shows : goal.returns-then-len-ge-MOST_CALLS-clause-shows
 returns-then-len-ge-MOST_CALLS-clause-shows c = λ st.
@@ -28,7 +28,7 @@ returns-then-len-ge-MOST_CALLS-clause-shows c = λ st.
     let plan = c.args.plan.now in
     let known = rw c.as_slice.ensures at c.in_ok-args.ensures in
     calls-fault plan (path_of i) (machine_of plan i) st (option_copied c.args.target) c.args.call.now c.in_ok-args.args known
-        (is_not_below (length (machine_of plan i).below) 256 (omega (arith, calls-open plan i)))
+    (is_not_below (length (machine_of plan i).below) 256 (omega (arith, calls-open plan i)))
 
 pub returns-clause-shows : goal.returns-clause-shows
 returns-clause-shows c = λ st.
@@ -41,16 +41,16 @@ returns-clause-shows c = λ st.
     let found = rw number at c.function_in.ensures in
     let called = number_of (functions_of plan) c.args.call.now.name.bytes in
     elim c.match-function_in.branch [
-      in-Some+in_ok-open-in-Some w ↦
-        let there : function_at (functions_of plan) called ≡ Some w.in-Some.function.now = sym found ∙ ap (λ o. option_copied o) w.in-Some.is in
-        let opened = w.in_ok-open-in-Some.ensures in
-        let callee = rw number at opened.top in
-        call plan (path_of i) (machine_of plan i) st to c.args.call.now c.in_ok-args.args w.in-Some.function.now known room there
-        ∙ ap (λ (m : Machine). went [] m) (sym (machine-begun plan called w.in-Some.function.now c.in_ok-args.args to i w.open.new.self callee opened.below opened.rank opened.steps there))
-        ∙ ap (λ (x : Instance). went [] (machine_of plan x)) (sym w.self-is)
-    | in-None+in_ok-receive-in-None w ↦
-        let none : function_at (functions_of plan) called ≡ None = sym found ∙ ap (λ o. option_copied o) w.in-None.is in
-        let received = w.in_ok-receive-in-None.ensures in
-        call-none plan (path_of i) (machine_of plan i) st to c.args.call.now c.in_ok-args.args w.receive.new.self.top.env known room none received.env
-        ∙ ap (λ (x : Instance). went [] (machine_of plan x)) (sym (w.self-is ∙ received.others))
+      | in-Some+in_ok-open-in-Some w ↦
+          let there : function_at (functions_of plan) called ≡ Some w.in-Some.function.now = sym found ∙ ap (λ o. option_copied o) w.in-Some.is in
+          let opened = w.in_ok-open-in-Some.ensures in
+          let callee = rw number at opened.top in
+          call plan (path_of i) (machine_of plan i) st to c.args.call.now c.in_ok-args.args w.in-Some.function.now known room there
+          ∙ ap (λ (m : Machine). went [] m) (sym (machine-begun plan called w.in-Some.function.now c.in_ok-args.args to i w.open.new.self callee opened.below opened.rank opened.steps there))
+          ∙ ap (λ (x : Instance). went [] (machine_of plan x)) (sym w.self-is)
+      | in-None+in_ok-receive-in-None w ↦
+          let none : function_at (functions_of plan) called ≡ None = sym found ∙ ap (λ o. option_copied o) w.in-None.is in
+          let received = w.in_ok-receive-in-None.ensures in
+          call-none plan (path_of i) (machine_of plan i) st to c.args.call.now c.in_ok-args.args w.receive.new.self.top.env known room none received.env
+          ∙ ap (λ (x : Instance). went [] (machine_of plan x)) (sym (w.self-is ∙ received.others))
     ]

@@ -1,5 +1,4 @@
-use Rattle.std.proofs.Common.{◌≡◌, ◌∷◌, ◌∙◌, List}
-use Rattle.script_grammar.specs.declared.tree.Stmt.{Stmt}
+use Rattle.std.proofs.Common.{◌∙◌}
 use Rattle.strand_moves.specs.Cursors.{left_of}
 use Rattle.strand_moves.specs.Machines.{machine_of, path_of, body_of}
 use Rattle.strand_moves.proofs.Going.{moves-on}

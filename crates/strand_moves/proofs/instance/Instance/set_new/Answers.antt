@@ -1,4 +1,3 @@
-use Rattle.std.proofs.Common.{◌≡◌, ap, ◌∙◌}
 use Rattle.strand_moves.specs.Machines.{machine_of, path_of}
 use Rattle.strand_moves.proofs.Equations.{set-new}
 use Rattle.strand_moves.proofs.instance.Instance.set_new.Goals as goal

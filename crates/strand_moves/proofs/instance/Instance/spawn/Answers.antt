@@ -1,4 +1,4 @@
-use Rattle.std.proofs.Common.{◌≡◌, ◌+◌, Some, None, length, vec_len, ap, ◌∙◌, sym, arith, refl}
+use Rattle.std.proofs.Common.{◌+◌, length, vec_len, ap, ◌∙◌, arith}
 use Rattle.std.specs.Option.{option_copied}
 use Rattle.serial_meaning.specs.Plan.{PlanView}
 use Rattle.serial_meaning.specs.Values.{values_of}
@@ -18,7 +18,7 @@ returns-in_err-args-clause-shows c = λ st.
     let to = option_copied c.args.target in
     let known = rw c.as_slice.ensures at c.in_err-args.ensures in
     shows-exit (acted plan (path_of i) (machine_of plan i) st (spawn_to to c.args.call.now)) (strand_of (path_of i) (machine_of plan i)) _ c.from_residual.result c.in_err-args.field-0.0
-        (values_of c.args.call.now.args i.top.env) c.from_residual.ensures.1 known (spawn-args-fault plan (path_of i) (machine_of plan i) st to c.args.call.now)
+    (values_of c.args.call.now.args i.top.env) c.from_residual.ensures.1 known (spawn-args-fault plan (path_of i) (machine_of plan i) st to c.args.call.now)
 
 pub returns-then-len-plan-clause-shows : goal.returns-then-len-plan-clause-shows
 returns-then-len-plan-clause-shows c = λ st.
@@ -27,7 +27,7 @@ returns-then-len-plan-clause-shows c = λ st.
     let known = rw c.as_slice.ensures at c.in_ok-args.ensures in
     let depth = ap (λ (p : PlanView). p.limits.depth) c.plan.view_is in
     spawn-depth-fault plan (path_of i) (machine_of plan i) st (option_copied c.args.target) c.args.call.now c.in_ok-args.args known
-        (is_not_below (length (path_of i) + 1) plan.limits.depth (omega arith))
+    (is_not_below (length (path_of i) + 1) plan.limits.depth (omega arith))
 
 pub returns-clause-shows : goal.returns-clause-shows
 returns-clause-shows c = λ st.
@@ -39,5 +39,5 @@ returns-clause-shows c = λ st.
     let received = c.in_ok-receive.ensures in
     let height = c.len-height.ensures ∙ ap (λ (x : Instance). vec_len x.below) received.others in
     spawned-child plan i st (option_copied c.args.target) c.args.call.now c.in_ok-args.args c.in_ok-instead.instead c.function_number-function.result c.len-height.result
-        c.in_ok-pedigree.field-0 c.in_ok-path.path c.in_ok-target.target c.receive.new.self.top.env c.receive.new.self
-        known (omega arith) number c.in_ok-pedigree.ensures c.in_ok-path.ensures c.in_ok-instead.ensures received.env received.others (omega arith) c.in_ok-target.ensures
+    c.in_ok-pedigree.field-0 c.in_ok-path.path c.in_ok-target.target c.receive.new.self.top.env c.receive.new.self
+    known (omega arith) number c.in_ok-pedigree.ensures c.in_ok-path.ensures c.in_ok-instead.ensures received.env received.others (omega arith) c.in_ok-target.ensures

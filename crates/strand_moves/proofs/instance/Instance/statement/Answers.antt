@@ -14,7 +14,7 @@ returns-in-Let-clause-shows c =
     let is = act-is (act.Let c.in-Let.x c.in-Let.r) st.act (variant.Let c.in-Let.x c.in-Let.r) c.in-Let.is (variant.rolls-Let c.in-Let.x c.in-Let.r) in
     let m = machine_of plan p in
     let acts = shows-same (acted plan (path_of p) m st (act.Let c.in-Let.x c.in-Let.r)) (acted plan (path_of p) m st (act.Set c.in-Let.x c.in-Let.r)) (strand_of (path_of p) m) (machine_of plan c.assign.new.self) c.assign.result
-        (let-is-set plan (path_of p) m st c.in-Let.x c.in-Let.r) (c.assign.ensures.shows st) in
+    (let-is-set plan (path_of p) m st c.in-Let.x c.in-Let.r) (c.assign.ensures.shows st) in
     statement-paid plan c.args.self.now p p.steps c.in_ok-pay.ensures.ok c.in_ok-pay.ensures.paid st (act.Let c.in-Let.x c.in-Let.r) c.assign.new.self c.assign.result is acts
 
 pub returns-in-Array-clause-shows : goal.returns-in-Array-clause-shows
@@ -73,7 +73,7 @@ returns-in-If-clause-shows c =
     let is = act-is (act.If c.in-If.e c.in-If.field-1 c.in-If.field-2) st.act (variant.If c.in-If.e c.in-If.field-1 c.in-If.field-2) c.in-If.is (variant.rolls-If c.in-If.e c.in-If.field-1 c.in-If.field-2) in
     let behind = paid-behind plan c.args.self.now p p.steps c.in_ok-pay.ensures.ok c.in_ok-pay.ensures.paid st c.requires.behind in
     statement-paid plan c.args.self.now p p.steps c.in_ok-pay.ensures.ok c.in_ok-pay.ensures.paid st (act.If c.in-If.e c.in-If.field-1 c.in-If.field-2) c.branch-self.new.self c.branch-self.result is
-        (c.branch-self.ensures.shows plan st c.in-If.field-1 c.in-If.field-2 behind is)
+    (c.branch-self.ensures.shows plan st c.in-If.field-1 c.in-If.field-2 behind is)
 
 pub returns-in-While-clause-shows : goal.returns-in-While-clause-shows
 returns-in-While-clause-shows c =
@@ -83,7 +83,7 @@ returns-in-While-clause-shows c =
     let is = act-is (act.While c.in-While.e c.in-While.field-1) st.act (variant.While c.in-While.e c.in-While.field-1) c.in-While.is (variant.rolls-While c.in-While.e c.in-While.field-1) in
     let behind = paid-behind plan c.args.self.now p p.steps c.in_ok-pay.ensures.ok c.in_ok-pay.ensures.paid st c.requires.behind in
     statement-paid plan c.args.self.now p p.steps c.in_ok-pay.ensures.ok c.in_ok-pay.ensures.paid st (act.While c.in-While.e c.in-While.field-1) c.turn.new.self c.turn.result is
-        (c.turn.ensures.shows plan st c.in-While.field-1 behind is)
+    (c.turn.ensures.shows plan st c.in-While.field-1 behind is)
 
 pub returns-in-Pfor-clause-shows : goal.returns-in-Pfor-clause-shows
 returns-in-Pfor-clause-shows c =
@@ -92,4 +92,4 @@ returns-in-Pfor-clause-shows c =
     let st = c.args.statement.now in
     let is = act-is (act.Pfor c.in-Pfor.var c.in-Pfor.lo c.in-Pfor.hi c.in-Pfor.target c.in-Pfor.call) st.act (variant.Pfor c.in-Pfor.var c.in-Pfor.lo c.in-Pfor.hi c.in-Pfor.target c.in-Pfor.call) c.in-Pfor.is (variant.rolls-Pfor c.in-Pfor.var c.in-Pfor.lo c.in-Pfor.hi c.in-Pfor.target c.in-Pfor.call) in
     statement-paid plan c.args.self.now p p.steps c.in_ok-pay.ensures.ok c.in_ok-pay.ensures.paid st (act.Pfor c.in-Pfor.var c.in-Pfor.lo c.in-Pfor.hi c.in-Pfor.target c.in-Pfor.call) c.pfor.new.self c.pfor.result is
-        (c.pfor.ensures.shows st c.in-Pfor.var)
+    (c.pfor.ensures.shows st c.in-Pfor.var)

@@ -1,4 +1,4 @@
-use Rattle.std.proofs.Common.{◌≡◌, ◌∙◌, sym, w64, rules, SFits}
+use Rattle.std.proofs.Common.{◌∙◌, sym, w64, rules, SFits}
 use Rattle.std.proofs.lemmas.Int.{to_z-of_z}
 use Rattle.script_grammar.specs.declared.tree.Act.TheOpen as act
 use Rattle.serial_meaning.specs.Values.{value_of}
@@ -13,7 +13,7 @@ pub returns-in_err-value-clause-shows : goal.returns-in_err-value-clause-shows
 returns-in_err-value-clause-shows c = λ plan st.
     let i = c.args.self.now in
     shows-exit (acted plan (path_of i) (machine_of plan i) st (act.Store c.args.x.now c.args.i.now c.args.e.now)) (strand_of (path_of i) (machine_of plan i)) _ c.from_residual.result c.in_err-value.field-0.0
-        (value_of c.args.i.now i.top.env) c.from_residual.ensures.1 c.in_err-value.ensures (store-index-fault plan (path_of i) (machine_of plan i) st c.args.x.now c.args.i.now c.args.e.now)
+    (value_of c.args.i.now i.top.env) c.from_residual.ensures.1 c.in_err-value.ensures (store-index-fault plan (path_of i) (machine_of plan i) st c.args.x.now c.args.i.now c.args.e.now)
 
 pub returns-then-is_none-clause-shows : goal.returns-then-is_none-clause-shows
 returns-then-is_none-clause-shows c = λ plan st.
@@ -29,8 +29,8 @@ returns-in_err-value-2-clause-shows c = λ plan st.
     let at = rw (to_z-of_z w64 c.number-index.result fits, c.number-index.ensures) at c.item.ensures in
     let old = there c.item.result c.if-is_none.ensures in
     shows-exit (acted plan (path_of i) (machine_of plan i) st (act.Store c.args.x.now c.args.i.now c.args.e.now)) (strand_of (path_of i) (machine_of plan i)) _ c.from_residual-in_err-value-2.result
-        c.in_err-value-2.field-0.0 (value_of c.args.e.now i.top.env) c.from_residual-in_err-value-2.ensures.1 c.in_err-value-2.ensures
-        (λ kind. store-value-fault plan (path_of i) (machine_of plan i) st c.args.x.now c.args.i.now c.args.e.now c.in_ok-value.field-0 old.0 kind c.in_ok-value.ensures (sym at ∙ old.1))
+    c.in_err-value-2.field-0.0 (value_of c.args.e.now i.top.env) c.from_residual-in_err-value-2.ensures.1 c.in_err-value-2.ensures
+    (λ kind. store-value-fault plan (path_of i) (machine_of plan i) st c.args.x.now c.args.i.now c.args.e.now c.in_ok-value.field-0 old.0 kind c.in_ok-value.ensures (sym at ∙ old.1))
 
 pub returns-clause-shows : goal.returns-clause-shows
 returns-clause-shows c = λ plan st.

@@ -1,4 +1,4 @@
-use Rattle.std.proofs.Common.{◌≡◌, Err, Some, refl, ap, ◌∙◌, arith}
+use Rattle.std.proofs.Common.{Err, refl, ap, arith}
 use Rattle.strand_meaning.specs.Task.{answered}
 use Rattle.strand_moves.specs.Machines.{activation_of}
 use Rattle.strand_moves.proofs.BelowLemmas.{changed-inside, changed-beyond}

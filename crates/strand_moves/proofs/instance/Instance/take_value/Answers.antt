@@ -1,4 +1,4 @@
-use Rattle.std.proofs.Common.{◌≡◌, Ok, ◌∷◌, [], refl, ap, ◌∙◌, arith}
+use Rattle.std.proofs.Common.{Ok, ◌∷◌, [], refl, ap, arith}
 use Rattle.std.specs.Option.{option_copied}
 use Rattle.strand_meaning.specs.Task.{answered}
 use Rattle.strand_moves.specs.Machines.{activation_of}
