@@ -87,25 +87,44 @@ fn answer(
     }
 }
 
-/// Runs `main` to its end.
+/// One move, and how the instance ended, if it did.
+fn go_on(
+    alloc: Global,
+    main: &mut Instance,
+    plan: &Plan,
+    child: u32,
+    printed: &mut Vec<i64>,
+) -> Result<Option<End>, Fail>
+    requires { IsInstance plan.now main.old }
+    ensures { OnOk result (IsInstance plan.now main.new) }
+{
+    match main.step(alloc, plan)? {
+        Moved::Went(shown) => {
+            answer(alloc, main, &shown, child, printed)?;
+            Ok(None)
+        }
+        Moved::Gave(value) => Ok(Some(End::Gave(number(&value)))),
+        Moved::Faulted(fault) => Ok(Some(End::Faulted(fault.kind, fault.at.rank))),
+    }
+}
+
+/// Runs `main` to its end, if that comes within a hundred moves.
 fn run(
     rt: &impl Abort,
     alloc: Global,
     text: &[u8],
     child: u32,
     printed: &mut Vec<i64>,
-) -> Result<End, Fail> {
+) -> Result<Option<End>, Fail> {
     let plan = plan(rt, alloc, text)?;
     let mut main = main_instance(rt, alloc, &plan)?;
-    for _ in 0..100 {
-        match main.step(alloc, &plan)? {
-            Moved::Went(shown) => answer(alloc, &mut main, &shown, child, printed)?,
-            Moved::Gave(value) => return Ok(End::Gave(number(&value))),
-            Moved::Faulted(fault) => return Ok(End::Faulted(fault.kind, fault.at.rank)),
-        }
+    let mut end = None;
+    let mut moves = 100;
+    while moves > 0 && end.is_none() {
+        end = go_on(alloc, &mut main, &plan, child, printed)?;
+        moves -= 1;
     }
-    assert!(rt; false, "there are too many moves");
-    Ok(End::Gave(0))
+    Ok(end)
 }
 
 #[test]
@@ -140,7 +159,7 @@ fn scripts_print_and_give(rt: HostRuntime) -> Result<(), Fail> {
         let mut printed = Vec::new(alloc);
         assert_eq!(rt;
             run(&rt, alloc, text.as_bytes(), 5, &mut printed)?,
-            end,
+            Some(end),
             "{text}"
         );
         assert_eq!(rt; printed.as_slice(), wanted.as_slice(), "{text}");
