@@ -1,7 +1,6 @@
 -- The parts of the promise follow from it.
-use Rattle.std.specs.Bool.{⊤}
-use Rattle.std.proofs.Common.{◌≡◌, ℕ, ◌≤◌, ◌<◌, ◌+◌, Bool, true, false, ◌&&◌, List, [], ◌++◌, length, length-append, append-nil, Option, Some, None, Result, Ok, Err, IsTrue, IsFalse, ◌⊎◌, inl, inr, refl, sym, ap, ◌∙◌, subst, arith}
-use Rattle.ped_io.specs.Streams.{Appends, Consumes, ConsumesJust, IsAtEnd}
+use Rattle.std.proofs.Common.{◌≡◌, ℕ, ◌≤◌, ◌<◌, ◌+◌, Bool, true, false, ◌&&◌, List, ◌++◌, length, length-append, append-nil, Option, Some, None, Result, Ok, Err, IsTrue, IsFalse, ◌⊎◌, inl, inr, refl, sym, ap, ◌∙◌, subst, arith}
+use Rattle.ped_io.specs.Streams.{Appends, Consumes, IsAtEnd}
 use Rattle.ped_words.specs.declared.command.Command.{Command}
 use Rattle.ped_words.specs.declared.command.Command.TheVariants as command
 use Rattle.ped_words.specs.declared.rule.WordError.{WordError}
@@ -10,12 +9,10 @@ use Rattle.script_grammar.specs.declared.tree.Script.{Script as Tree}
 use Rattle.script_grammar.specs.Text.{Text}
 use Rattle.engine.specs.declared.status.Status.{Status}
 use Rattle.engine.specs.declared.status.Status.TheVariants.{Done, Faulted, Words, Script, Read, Write, Memory, NoStrand}
-use Rattle.engine.specs.declared.report.Ending.{Ending}
-use Rattle.engine.specs.declared.report.Ending.TheVariants as E
 use Rattle.engine.specs.Commands.{Reports, Takes, reads_script, runs_today, takes_script}
 use Rattle.engine.specs.Report.{Report, status_of}
 use Rattle.engine.specs.Promise.{Watched, Failed, ReadWhole, HasNoScript, HasReport, Answers, Refuses, KeepsPromise, most_bytes}
-use Rattle.engine.specs.Clauses.{SaysNothing, RefusesWords, IsBad, RefusesScript, WroteReport, WritesReport}
+use Rattle.engine.specs.Clauses.{RefusesWords, IsBad, RefusesScript, WroteReport, WritesReport}
 
 told_whole : (bytes front : List ℕ) (after : Option (List ℕ)) → Consumes (Some bytes) after front → IsAtEnd after → front ≡ bytes
 told_whole bytes front None taken end = absurd taken

@@ -1,6 +1,5 @@
 -- What a refusal that tells a line says of the bytes.
-use Rattle.std.specs.Bool.{⊤}
-use Rattle.std.proofs.Common.{◌≡◌, List, [], ℕ, Contains, string_bytes, sym, subst, arith}
+use Rattle.std.proofs.Common.{◌≡◌, List, [], ℕ, Contains, sym, subst, arith}
 use Rattle.script_check.specs.Valid.{IsValid, CheckFault}
 use Rattle.script_check.specs.Violations.{violation}
 use Rattle.script_grammar.specs.declared.tree.Script.{Script}

@@ -1,8 +1,8 @@
 -- What a run's plan holds, and what an answer prints.
-use Rattle.std.proofs.Common.{◌≡◌, ℕ, ◌≤◌, ◌%◌, List, IfOk, length, IsTrue, Result, Ok, Err, refl, sym, ap, ◌∙◌, subst, arith, lit≤}
-use Rattle.script_grammar.specs.declared.tree.Script.{Script}
-use Rattle.serial_meaning.specs.Plan.{PlanView, IsPlan}
+use Rattle.std.proofs.Common.{◌≡◌, List, Result, Ok, Err, refl, sym, ap, ◌∙◌, subst}
+use Rattle.serial_meaning.specs.Plan.{PlanView}
 use Rattle.serial_meaning.specs.Eval.{eval, elision, main_origin}
+use Rattle.serial_meaning.specs.Laws.{IsOriginOf, Main}
 use Rattle.serial_meaning.specs.Answer.{AnswerView, IsAnswer, IsEval, outcome_of}
 use Rattle.serial_meaning.specs.Render.{answer_text}
 use Rattle.serial_meaning.specs.declared.value.Value.{Value}
@@ -23,6 +23,10 @@ evaluated plan origin out (outcome.Cut f) is = absurd is
 ends_so : (plan : PlanView) (e : Result (List Value) Fault) → outcome_ending (outcome_of (main_origin plan) e) ≡ ending_of e
 ends_so plan (Ok values) = refl
 ends_so plan (Err fault) = refl
+
+-- Main's origin is one of its plan, however the plan is seen.
+pub main_is_origin : (plan seen : PlanView) (origin : Origin) → seen ≡ plan → origin ≡ main_origin seen → IsOriginOf plan origin
+main_is_origin plan seen origin same main = subst (IsOriginOf plan) (sym (main ∙ ap main_origin same)) Main
 
 -- the answer of main's origin under a plan
 module _ (a : AnswerView) (plan : PlanView) (is : IsAnswer a.plan a.origin a.out a.outcome) (same : a.plan ≡ plan) (main : a.origin ≡ main_origin plan) where

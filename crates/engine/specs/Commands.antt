@@ -1,24 +1,17 @@
 -- Which commands run today, which of them read a script, and which scripts they take.
-use Rattle.std.specs.Prelude.{◌≡◌, ⊤, ℕ, Bool, true, false, ◌&&◌, ◌==◌, List, [], IsTrue}
+use Rattle.std.specs.Prelude.{◌≡◌, ⊤, ℕ, Bool, true, false, ◌&&◌, List, codes}
 use Rattle.script_check.specs.Valid.{IsValid}
 use Rattle.script_grammar.specs.declared.tree.Script.{Script}
 use Rattle.script_grammar.specs.Text.{Text}
 use Rattle.script_print.specs.Canonical.{canonical}
-use Rattle.serial_meaning.specs.declared.plan.Limits.{Limits}
 use Rattle.ped_gen.specs.Scripts.{generated}
 use Rattle.ped_words.specs.declared.command.Command.{Command}
 use Rattle.ped_words.specs.declared.command.Command.TheVariants.{Run, Serial, Sim, Replay, Hash, Check, Fmt, Gen}
-use Rattle.engine.specs.Built.{is_built}
 use Rattle.engine.specs.Report.{Report, said, plan_of, run_report, hash_text}
-use Rattle.std.specs.Prelude.{codes}
 
-abbrev pub are_default : Limits → Bool
-are_default limits = limits.depth == 256 && limits.budget == 1000000
-
--- a run goes only by the default limits
 abbrev pub runs_today : Command → Bool
-runs_today (Run settings workers) = are_default settings.limits
-runs_today (Serial settings) = false
+runs_today (Run settings workers) = true
+runs_today (Serial settings) = true
 runs_today (Sim settings workers number) = false
 runs_today (Replay settings at) = false
 runs_today (Hash gamma at) = true
@@ -39,15 +32,15 @@ takes_script (Gen shape size) = false
 abbrev pub reads_script : Command → Bool
 reads_script command = runs_today command && takes_script command
 
--- A script is taken where it is valid, by a run where it is of the part of the language that runs today, and by `fmt` always.
+-- A script is taken where it is valid, and by `fmt` always.
 abbrev pub Takes : Command → Script → Type 0
-Takes (Run settings workers) script = IsValid script × IsTrue (is_built script)
 Takes Fmt script = ⊤
 Takes command script = IsValid script
 
 -- what is written for a script that the command takes
 abbrev pub report_of : Command → Script → Report
 report_of (Run settings workers) script = run_report (plan_of settings script)
+report_of (Serial settings) script = run_report (plan_of settings script)
 report_of Fmt script = said (canonical script)
 report_of command script = said (codes "ok\n")
 

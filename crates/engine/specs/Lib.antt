@@ -1,9 +1,7 @@
-pub mod Built
 pub mod Clauses
 pub mod Commands
 pub mod Lines
 pub mod Promise
-pub mod Ran
 pub mod Refusal
 pub mod Report
 pub mod Status

@@ -6,14 +6,13 @@ use Rattle.ped_io.specs.Streams.{Appends, AppendsFront, Consumes, ConsumesJust, 
 use Rattle.ped_words.specs.declared.command.Command.{Command}
 use Rattle.ped_words.specs.declared.rule.WordError.{WordError}
 use Rattle.ped_words.specs.declared.rule.WordError.TheVariants as words
-use Rattle.script_check.specs.Valid.{IsValid, CheckFault}
+use Rattle.script_check.specs.Valid.{CheckFault}
 use Rattle.script_grammar.specs.declared.tree.Script.{Script}
 use Rattle.script_grammar.specs.Text.{Text, SyntaxFault}
 use Rattle.engine.specs.declared.status.Status.{Status}
 use Rattle.engine.specs.declared.status.Status.TheVariants.{Done, Faulted, Words, Script as BadScript, Read, Write, Memory, NoStrand}
 use Rattle.engine.specs.declared.report.Ending.{Ending}
 use Rattle.engine.specs.declared.report.Ending.TheVariants as E
-use Rattle.engine.specs.Built.{is_built}
 use Rattle.engine.specs.Commands.{Reports, Takes, reads_script, runs_today, takes_script}
 use Rattle.engine.specs.Lines.{check_line, syntax_line, words_line}
 use Rattle.engine.specs.Report.{Report}
@@ -59,7 +58,6 @@ pub record ReadWhole (source : Watched) (bytes : List ℕ) : Type 0 where
 pub data Why (bytes line : List ℕ) : Type 0 where
   NoText : (number at : ℕ) → SyntaxFault bytes number at → line ≡ syntax_line number at → Why bytes line
   Invalid : (script : Script) (number at : ℕ) → Text bytes script → CheckFault script number at → line ≡ check_line number at → Why bytes line
-  Unbuilt : (script : Script) → Text bytes script → IsFalse (is_built script) → line ≡ codes "script: not built yet\n" → Why bytes line
 
 -- These bytes are the text of no script that is taken, and this line tells why.
 pub record IsUntaken (takes : Script → Type 0) (bytes line : List ℕ) : Type 0 where

@@ -1,11 +1,11 @@
 // Why a command has no report.
 
-ghost use Rattle.std.specs.Prelude.{◌≡◌, codes};
+ghost use Rattle.std.specs.Prelude.{◌≡◌};
 ghost use Rattle.engine.specs.Lines.{check_line, syntax_line};
 ghost use Rattle.engine.specs.Refusal.{Tells};
 
 use crate::line::{check_line, syntax_line};
-use std::alloc::{AllocError, Global};
+use std::alloc::{AllocError, AllocFailed, Global};
 
 /// Why a command has no report.
 #[derive(Drop)]
@@ -39,22 +39,33 @@ pub fn invalid(alloc: Global, number: u8, at: u32) -> Refusal
     }
 }
 
-/// The refusal of a script that doesn't run today.
-pub fn unbuilt(alloc: Global) -> Refusal
-    ensures { Tells (codes "script: not built yet\n") result }
-{
-    match String::from_str(alloc, "script: not built yet\n") {
-        Ok(line) => Refusal::Untaken(line),
-        Err(_) => Refusal::Memory,
-    }
-}
-
 impl From<AllocError> for Refusal {
     ghost use Rattle.engine.specs.declared.refusal.Refusal.TheVariants as R;
 
     ghost from_gives = { λ _ e. e ≡ R.Memory };
 
     fn from(_: AllocError) -> Self {
+        Refusal::Memory
+    }
+}
+
+/// The value that found no room is dropped.
+impl<T: Drop> From<AllocFailed<T>> for Refusal {
+    ghost use Rattle.engine.specs.declared.refusal.Refusal.TheVariants as R;
+
+    ghost from_gives = { λ _ e. e ≡ R.Memory };
+
+    fn from(_: AllocFailed<T>) -> Self {
+        Refusal::Memory
+    }
+}
+
+impl From<crew::Memory> for Refusal {
+    ghost use Rattle.engine.specs.declared.refusal.Refusal.TheVariants as R;
+
+    ghost from_gives = { λ _ e. e ≡ R.Memory };
+
+    fn from(_: crew::Memory) -> Self {
         Refusal::Memory
     }
 }

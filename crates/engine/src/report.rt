@@ -1,25 +1,25 @@
 // What a command writes.
 
-ghost use Rattle.std.specs.Prelude.{◌≡◌, ℕ, ◌≤◌, List, IsTrue, IsFalse, IfErr, IfOk, All, length};
+ghost use Rattle.std.specs.Prelude.{◌≡◌, ℕ, ◌≤◌, List, IsTrue, IsFalse, IfErr, IfOk, length};
 ghost use Rattle.ped_words.specs.Commands.{AreLawful, IsLawful};
-ghost use Rattle.serial_meaning.specs.Plan.{functions_of};
-ghost use Rattle.serial_meaning.specs.Eval.{main_origin};
-ghost use Rattle.engine.specs.Built.{IsFunction};
+ghost use Rattle.script_check.specs.Valid.{IsValid};
+ghost use Rattle.script_grammar.specs.Text.{Text};
+ghost use Rattle.script_grammar.specs.declared.tree.Script.{Script as ScriptTree};
 ghost use Rattle.engine.specs.Commands.{Reports, Takes, runs_today, takes_script};
 ghost use Rattle.engine.specs.Promise.{most_bytes};
 ghost use Rattle.engine.specs.Refusal.{IsMisfit};
 ghost use Rattle.engine.specs.Report.{hash_text, outcome_ending, plan_of, run_report, said, shown};
 
 use crate::refusal::Refusal;
-use crate::runner::{Halt, run};
-use crate::script::{any_script, built_script, valid_script};
+use crate::script::{any_script, valid_script};
+use crew::run_serial;
 use dotmix::{Gamma, dot, dotmix};
 use ped_gen::gen_script;
 use ped_path::Pedigree;
 use ped_words::{Command, Settings};
 use script_check::Checked;
 use script_print::print_script;
-use serial_meaning::{Answer, Memory, Out, Outcome, Plan, render_run};
+use serial_meaning::{Memory, Outcome, Plan, render_run};
 use std::alloc::Global;
 use std::sync::Arc;
 
@@ -49,23 +49,6 @@ impl Report {
     }
 }
 
-// Main's answer.
-fn answer(alloc: Global, plan: Plan) -> Result<Answer, Memory>
-    requires { All IsFunction (functions_of plan) }
-    ensures plan { IfOk result (λ answer. answer.plan ≡ plan) }
-    ensures origin { IfOk result (λ answer. answer.origin ≡ main_origin plan) }
-{
-    let mut out = Out::new();
-    let outcome = match run(alloc, &plan, &mut out) {
-        Ok(value) => Outcome::Value(value),
-        Err(Halt::Fault(fault)) => Outcome::Fault(fault),
-        Err(Halt::Memory) => return Err(Memory),
-    };
-    let origin = plan.main_origin(alloc)?;
-    let plan = Arc::new(alloc, plan)?;
-    Ok(Answer::new(plan, origin, out, outcome))
-}
-
 fn ending_for(outcome: &Outcome) -> Ending
     ensures { result ≡ outcome_ending outcome.now }
 {
@@ -76,11 +59,13 @@ fn ending_for(outcome: &Outcome) -> Ending
 }
 
 // What a run writes.
-fn run_report(alloc: Global, plan: Plan) -> Result<Report, Memory>
-    requires { All IsFunction (functions_of plan) }
-    ensures { IfOk result (λ report. shown report ≡ run_report plan) }
+fn run_report(alloc: Global, plan: Plan) -> Result<Report, Refusal>
+    ensures report { IfOk result (λ report. shown report ≡ run_report plan) }
+    ensures refused { IfErr result (λ refusal. refusal ≡ Refusal.Memory) }
 {
-    let answer = answer(alloc, plan)?;
+    let plan = Arc::new(alloc, plan)?;
+    let origin = plan.main_origin(alloc)?;
+    let answer = run_serial(alloc, &plan, origin)?;
     let output = render_run(alloc, &answer)?;
     let ending = ending_for(&answer.outcome);
     Ok(Report { output, ending })
@@ -110,6 +95,20 @@ fn make_plan(settings: Settings, script: Checked) -> Plan
     Plan::new(script, gamma, limits, show)
 }
 
+// What a run writes of the script that these bytes are the text of.
+fn played(alloc: Global, settings: Settings, bytes: &[u8]) -> Result<Report, Refusal>
+    requires lawful { AreLawful settings }
+    requires within { length bytes.now ≤ most_bytes }
+    ensures report { IfOk result (λ report. (script : ScriptTree) × Text bytes.now script × IsValid script × (shown report ≡ run_report (plan_of settings script))) }
+    ensures refused { IfErr result (IsMisfit IsValid bytes.now) }
+{
+    let script = match valid_script(alloc, bytes) {
+        Ok(script) => script,
+        Err(refusal) => return Err(refusal),
+    };
+    run_report(alloc, make_plan(settings, script))
+}
+
 /// What a command writes of the script that these bytes are the text of.
 pub fn script_report(alloc: Global, command: Command, bytes: &[u8]) -> Result<Report, Refusal>
     requires today { IsTrue (runs_today command) }
@@ -120,13 +119,8 @@ pub fn script_report(alloc: Global, command: Command, bytes: &[u8]) -> Result<Re
     ensures refused { IfErr result (IsMisfit (Takes command) bytes.now) }
 {
     match command {
-        Command::Run { settings, .. } => {
-            let script = match built_script(alloc, bytes) {
-                Ok(script) => script,
-                Err(refusal) => return Err(refusal),
-            };
-            Ok(run_report(alloc, make_plan(settings, script))?)
-        }
+        Command::Run { settings, .. } => played(alloc, settings, bytes),
+        Command::Serial { settings } => played(alloc, settings, bytes),
         Command::Fmt => {
             let script = match any_script(alloc, bytes) {
                 Ok(script) => script,

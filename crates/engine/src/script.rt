@@ -1,15 +1,13 @@
 // The script that bytes are the text of.
 
-ghost use Rattle.std.specs.Prelude.{◌≡◌, ◌≤◌, ⊤, length, IfErr, IfOk, IsTrue};
+ghost use Rattle.std.specs.Prelude.{◌≡◌, ◌≤◌, ⊤, length, IfErr, IfOk};
 ghost use Rattle.script_check.specs.Valid.{IsValid};
 ghost use Rattle.script_grammar.specs.Text.{Text};
 ghost use Rattle.script_grammar.specs.declared.tree.Script.{Script as ScriptTree};
-ghost use Rattle.engine.specs.Built.{is_built};
 ghost use Rattle.engine.specs.Promise.{most_bytes};
 ghost use Rattle.engine.specs.Refusal.{IsMisfit};
 
-use crate::built::is_built;
-use crate::refusal::{Refusal, invalid, no_text, unbuilt};
+use crate::refusal::{Refusal, invalid, no_text};
 use script_check::{CheckError, Checked, check};
 use script_grammar::Script;
 use script_text::{SyntaxError, parse};
@@ -36,8 +34,6 @@ pub fn valid_script(alloc: Global, bytes: &[u8]) -> Result<Checked, Refusal>
     ensures script { IfOk result (Text bytes.now) }
     ensures valid { IfOk result IsValid }
     ensures refused { IfErr result (IsMisfit IsValid bytes.now) }
-    ensures one_script { (first second : ScriptTree) → Text bytes.now first → Text bytes.now second
-        → first ≡ second }
 {
     let script = match any_script(alloc, bytes) {
         Ok(script) => script,
@@ -47,24 +43,5 @@ pub fn valid_script(alloc: Global, bytes: &[u8]) -> Result<Checked, Refusal>
         Ok(checked) => Ok(checked),
         Err(CheckError::Bad { number, at }) => Err(invalid(alloc, number, at)),
         Err(CheckError::Memory) => Err(Refusal::Memory),
-    }
-}
-
-/// The valid script of this text, where it is one that runs today.
-pub fn built_script(alloc: Global, bytes: &[u8]) -> Result<Checked, Refusal>
-    requires { length bytes.now ≤ most_bytes }
-    ensures script { IfOk result (Text bytes.now) }
-    ensures valid { IfOk result IsValid }
-    ensures built { IfOk result (λ script. IsTrue (is_built script)) }
-    ensures refused { IfErr result (IsMisfit (λ script. IsValid script × IsTrue (is_built script)) bytes.now) }
-{
-    let checked = match valid_script(alloc, bytes) {
-        Ok(checked) => checked,
-        Err(refusal) => return Err(refusal),
-    };
-    match is_built(alloc, checked.script()) {
-        Ok(true) => Ok(checked),
-        Ok(false) => Err(unbuilt(alloc)),
-        Err(_) => Err(Refusal::Memory),
     }
 }

@@ -1,63 +1,115 @@
--- An answer is the evaluation of its origin.
-use Rattle.std.proofs.Common.{◌≡◌, ℕ, zero, suc, ◌+◌, ◌-◌, ◌≤◌, Bool, false, List, [], ◌∷◌, ◌++◌, Option, Result, Ok, Err, length, length-append, drop, replicate, refl, sym, ap, ◌∙◌, subst, arith}
-use Rattle.serial_meaning.specs.Runs.{Run, done, goes_on, ◌then◌}
-use Rattle.serial_meaning.specs.Answer.{AnswerView, IsEval, IsAnswer, outcome_of}
-use Rattle.serial_meaning.specs.Eval.{Evaluation, first_of, serial, eval_with, eval_at, eval, depth_left}
-use Rattle.serial_meaning.specs.Exec.{instance}
-use Rattle.serial_meaning.specs.Functions.{function_at}
-use Rattle.serial_meaning.specs.Plan.{PlanView, functions_of}
+-- The answers of children.
+use Rattle.std.proofs.Common.{◌≡◌, ℕ, zero, suc, ◌+◌, ◌-◌, ◌<◌, ◌≤◌, Bool, true, false, List, [], ◌∷◌, ◌++◌, Option, Some, None, Result, length, length-append, length-drop, take, drop, replicate, refl, sym, ap, ◌∙◌, subst, arith, add-one}
+use Rattle.std.proofs.Math.ListN.{set, length-replicate, length-set}
+use Rattle.std.specs.Prelude.{slice_get}
+use Rattle.serial_meaning.specs.Answer.{AnswerView, AnswerTag, IsEval, IsAnswer}
+use Rattle.serial_meaning.specs.Eval.{Evaluation, eval}
+use Rattle.serial_meaning.specs.Plan.{PlanView}
 use Rattle.serial_meaning.specs.declared.value.Value.{Value}
 use Rattle.serial_meaning.specs.declared.event.Event.{Event}
 use Rattle.serial_meaning.specs.declared.event.Fault.{Fault}
 use Rattle.serial_meaning.specs.declared.origin.Origin.{Origin}
-use Rattle.serial_meaning.specs.declared.origin.Origin.TheVariants.{Instance, Loop}
 use Rattle.serial_meaning.specs.declared.answer.Outcome.{Outcome}
 use Rattle.serial_meaning.specs.declared.answer.Outcome.TheVariants as outcome
+use Rattle.strand_meaning.specs.Answers.{evaluation_of}
+use Rattle.strand_meaning.specs.Laws.{AnswersAreEvaluations}
 use Rattle.strand_meaning.specs.Pieces.{Part}
-use Rattle.strand_machine.specs.Family.{FamilyView, AwaitsCount}
-use Rattle.strand_machine.specs.Going.{ending_of, evaluation_of}
+use Rattle.strand_machine.specs.Family.{FamilyView, AwaitsCount, tag, tags, origins}
 use Rattle.strand_machine.specs.Parts.{awaited}
+use Rattle.strand_machine.specs.Stops.{answer_tags}
 use Rattle.strand_machine.specs.Tasks.{AwaitsLast}
 
--- an instance has one value
-abbrev HasOne : Result (List Value) Fault → Type 0
-HasOne (Ok vs) = vs ≡ first_of vs ∷ []
-HasOne (Err f) = Unit {0}
+-- What an answer says
 
-one-behind : (items : List Event) (r : Result Value Fault) → HasOne (goes_on {I = Event} items r (λ v. done (v ∷ []))).ending
-one-behind items (Ok v) = refl
-one-behind items (Err f) = tt
+eval-of : (plan : PlanView) (o : Origin) (out : List Event) (ended : Outcome) → IsAnswer plan o out ended → IsEval plan o out ended
+eval-of plan o out (outcome.Value v) h = h
+eval-of plan o out (outcome.Values vs) h = h
+eval-of plan o out (outcome.Fault f) h = h
+eval-of plan o out (outcome.Cut f) h = absurd h
 
-one-with : (plan : PlanView) (child : Origin → Evaluation) (function : ℕ) (args : List Value) (path : List ℕ) → HasOne (eval_with plan child (Instance function args path)).ending
-one-with plan child function args path = let r = instance (serial child) plan path (function_at (functions_of plan) function) args in one-behind r.items r.ending
+-- an answer says the evaluation of its origin
+pub answer-says : AnswersAreEvaluations → (plan : PlanView) (o : Origin) (out : List Event) (ended : Outcome) (ending : Result (List Value) Fault) (a : AnswerView) →
+    ◌≡◌ {A = AnswerView} (record { plan = plan; origin = o; out = out; outcome = ended }) a → IsAnswer plan o out ended →
+    ((events : List Event) → evaluation_of events ended ≡ record { items = events; ending = ending }) →
+    ◌≡◌ {A = Evaluation} (record { items = out; ending = ending }) (eval a.plan a.origin)
+answer-says law plan o out ended ending a view h is = sym (is out) ∙ law plan o out ended (eval-of plan o out ended h) ∙ ap (λ (b : AnswerView). eval b.plan b.origin) view
 
-one-at : (plan : PlanView) (left function : ℕ) (args : List Value) (path : List ℕ) → HasOne (eval_at plan left (Instance function args path)).ending
-one-at plan zero function args path = one-with plan (λ o. done []) function args path
-one-at plan (suc left) function args path = one-with plan (eval_at plan left) function args path
+-- The answers of the last children
 
-back : (o : Origin) (e : Result (List Value) Fault) → ((function : ℕ) (args : List Value) (path : List ℕ) → o ≡ Instance function args path → HasOne e) → ending_of (outcome_of o e) ≡ e
-back (Instance function args path) (Ok vs) h = ap Ok (sym (h function args path refl))
-back (Loop function rest first path range) (Ok vs) h = refl
-back (Instance function args path) (Err f) h = refl
-back (Loop function rest first path range) (Err f) h = refl
+tags-more : (plan : PlanView) (os : List Origin) (i : ℕ) (o : Origin) → slice_get os i ≡ Some o → tags plan (take (suc i) os) ≡ tags plan (take i os) ++ tag plan o ∷ []
+tags-more plan [] i o h = absurd (cc)
+tags-more plan (p ∷ os) zero o h = let e : p ≡ o = cc in ap (λ (q : Origin). tag plan q ∷ []) e
+tags-more plan (p ∷ os) (suc i) o h = ap (λ l. tag plan p ∷ l) (tags-more plan os i o h)
 
-ending-is : (plan : PlanView) (o : Origin) → ending_of (outcome_of o (eval plan o).ending) ≡ (eval plan o).ending
-ending-is plan o = back o (eval plan o).ending (λ function args path e. subst (λ (x : Origin). HasOne (eval plan x).ending) (sym e) (one-at plan (depth_left plan (Instance function args path)) function args path))
+at-drop : (os : List Origin) (n m i : ℕ) → m ≡ n + i → slice_get (drop n os) i ≡ slice_get os m
+at-drop os zero m i h = let e : i ≡ m = omega arith in ap (slice_get os) e
+at-drop [] (suc n) m i h = refl
+at-drop (o ∷ os) (suc n) zero i h = absurd (omega arith)
+at-drop (o ∷ os) (suc n) (suc m) i h = at-drop os n m i (omega arith)
 
-eval-of : (plan : PlanView) (o : Origin) (out : List Event) (ended : Outcome) → IsEval plan o out ended → record { items = out; ending = ending_of ended } ≡ eval plan o
-eval-of plan o out ended h =
-    let events : out ≡ (eval plan o).items = h.events in
-    let ends : ending_of ended ≡ (eval plan o).ending = ap ending_of h.ends ∙ ending-is plan o in
-    ap (λ (es : List Event). record { items = es; ending = ending_of ended }) events ∙ ap (λ (e : Result (List Value) Fault). record { items = (eval plan o).items; ending = e }) ends
+answer-tags-more : (xs : List AnswerView) (a : AnswerView) → answer_tags (xs ++ a ∷ []) ≡ answer_tags xs ++ tag a.plan a.origin ∷ []
+answer-tags-more [] a = refl
+answer-tags-more (b ∷ xs) a = ap (λ l. tag b.plan b.origin ∷ l) (answer-tags-more xs a)
 
--- what an answer says is the evaluation of its origin
-pub answer-is : (plan : PlanView) (o : Origin) (out : List Event) (ended : Outcome) → IsAnswer plan o out ended → record { items = out; ending = ending_of ended } ≡ eval plan o
-answer-is plan o out (outcome.Value v) h = eval-of plan o out (outcome.Value v) h
-answer-is plan o out (outcome.Values vs) h = eval-of plan o out (outcome.Values vs) h
-answer-is plan o out (outcome.Fault f) h = eval-of plan o out (outcome.Fault f) h
-answer-is plan o out (outcome.Cut f) h = absurd h
+-- one more answer, of the child with the number m
+pub one-more : (plan : PlanView) (os : List Origin) (xs : List AnswerView) (a : AnswerView) (n m i : ℕ) →
+    answer_tags xs ≡ tags plan (take i (drop n os)) → m ≡ n + i → a.plan ≡ plan → slice_get os m ≡ Some a.origin →
+    answer_tags (xs ++ a ∷ []) ≡ tags plan (take (i + 1) (drop n os))
+one-more plan os xs a n m i before at same is =
+    answer-tags-more xs a ∙ ap (λ l. l ++ tag a.plan a.origin ∷ []) before ∙ ap (λ (p : PlanView). tags plan (take i (drop n os)) ++ tag p a.origin ∷ []) same
+    ∙ sym (tags-more plan (drop n os) i a.origin (at-drop os n m i at ∙ is)) ∙ ap (λ (k : ℕ). tags plan (take k (drop n os))) (sym (add-one i))
 
--- The last children
+take-all : (os : List Origin) (n : ℕ) → n ≡ length os → take n os ≡ os
+take-all [] zero h = refl
+take-all [] (suc n) h = refl
+take-all (o ∷ os) zero h = absurd (omega arith)
+take-all (o ∷ os) (suc n) h = ap (λ l. o ∷ l) (take-all os n (omega arith))
+
+-- those of all children from one on
+pub all-of-them : (os : List Origin) (first n : ℕ) → first + n ≡ length os → take n (drop first os) ≡ drop first os
+all-of-them os first n h = take-all (drop first os) n (omega (arith, length-drop first os))
+
+pub family-kept : (a b d : FamilyView) (taken : List Bool) → b ≡ record a { taken = b.taken } → d ≡ record b { taken = taken } → d ≡ record a { taken = d.taken }
+family-kept a b d taken h k =
+    k ∙ ap (λ (f : FamilyView). record f { taken = taken }) h ∙ ap (λ (l : List Bool). record a { taken = l }) (sym (ap (λ (f : FamilyView). f.taken) k))
+
+front : (xs : List Bool) (m k : ℕ) → m ≡ length xs → 0 < k → slice_get (xs ++ replicate k false) m ≡ Some false
+front [] m zero h pos = absurd (omega arith)
+front [] zero (suc k) h pos = refl
+front [] (suc m) (suc k) h pos = absurd (omega arith)
+front (x ∷ xs) zero k h pos = absurd (omega arith)
+front (x ∷ xs) (suc m) k h pos = front xs m k (omega arith) pos
+
+-- the first of the answers that are awaited is there
+pub first-there : (family : FamilyView) (m k : ℕ) → AwaitsCount family k → m + k ≡ length family.children → 0 < k → slice_get family.taken m ≡ Some false
+first-there family m k h at pos =
+    let same : length h.passed + k ≡ length family.children = h.same in
+    let e : m ≡ length h.passed = omega arith in ap (λ (l : List Bool). slice_get l m) h.taken ∙ front h.passed m k e pos
+
+taken-front : (xs : List Bool) (m k : ℕ) → m ≡ length xs → set (xs ++ replicate (suc k) false) m true ≡ (xs ++ true ∷ []) ++ replicate k false
+taken-front [] zero k h = refl
+taken-front [] (suc m) k h = absurd (omega arith)
+taken-front (x ∷ xs) zero k h = absurd (omega arith)
+taken-front (x ∷ xs) (suc m) k h = ap (λ l. x ∷ l) (taken-front xs m k (omega arith))
+
+-- one fewer is awaited once it is taken
+pub first-taken : (family after : FamilyView) (m k : ℕ) → AwaitsCount family (suc k) → m + suc k ≡ length family.children →
+    after ≡ record family { taken = set family.taken m true } → AwaitsCount after k
+first-taken family after m k h at is =
+    let same : length h.passed + suc k ≡ length family.children = h.same in
+    let e : m ≡ length h.passed = omega arith in
+    let within : suc k ≤ length family.children = h.within in
+    let longer : length (h.passed ++ true ∷ []) ≡ length h.passed + 1 = length-append h.passed (true ∷ []) in
+    let there : AwaitsCount (record family { taken = set family.taken m true }) k = record {
+      within = omega arith;
+      passed = h.passed ++ true ∷ [];
+      same = omega arith;
+      taken = ap (λ (l : List Bool). set l m true) h.taken ∙ taken-front h.passed m k e;
+    } in subst (λ (f : FamilyView). AwaitsCount f k) (sym is) there
+
+-- of as many children as were handed out it is known whether their answers were taken
+pub taken-length : (family : FamilyView) (k : ℕ) → AwaitsCount family k → length family.taken ≡ length family.children
+taken-length family k h = ap length h.taken ∙ length-append h.passed (replicate k false) ∙ ap (λ (n : ℕ). length h.passed + n) (length-replicate k false) ∙ h.same
 
 length-awaited : (ps : List Part) → length (awaited ps) ≡ length ps
 length-awaited [] = refl
@@ -72,3 +124,30 @@ awaits-count family ps h =
       same = ap (λ n. n + length (awaited ps)) h.same ∙ sym all;
       taken = h.taken ∙ ap (λ n. h.passed ++ replicate n false) (sym (length-awaited ps));
     }
+
+drop-front : (os more : List Origin) (n : ℕ) → n ≡ length os → drop n (os ++ more) ≡ more
+drop-front [] more zero h = refl
+drop-front [] more (suc n) h = absurd (omega arith)
+drop-front (o ∷ os) more zero h = absurd (omega arith)
+drop-front (o ∷ os) more (suc n) h = drop-front os more n (omega arith)
+
+-- the last children are those whose answers are awaited
+pub last-awaited : (family : FamilyView) (ps : List Part) → AwaitsLast family ps → drop (length family.children - length (awaited ps)) family.children ≡ awaited ps
+last-awaited family ps h =
+    let all : length family.children ≡ length h.before + length (awaited ps) = ap length h.children ∙ length-append h.before (awaited ps) in
+    let n : length family.children - length (awaited ps) ≡ length h.before = omega arith in
+    ap (λ (l : List Origin). drop (length family.children - length (awaited ps)) l) h.children ∙ drop-front h.before (awaited ps) _ n
+
+-- The tags of answers
+
+pub origins-tags : (plan : PlanView) (os : List Origin) → origins (tags plan os) ≡ os
+origins-tags plan [] = refl
+origins-tags plan (o ∷ os) = ap (λ l. o ∷ l) (origins-tags plan os)
+
+pub length-answer-tags : (xs : List AnswerView) → length (answer_tags xs) ≡ length xs
+length-answer-tags [] = refl
+length-answer-tags (a ∷ xs) = ap suc (length-answer-tags xs)
+
+pub length-tags : (plan : PlanView) (os : List Origin) → length (tags plan os) ≡ length os
+length-tags plan [] = refl
+length-tags plan (o ∷ os) = ap suc (length-tags plan os)

@@ -1,5 +1,5 @@
 -- What is left of a task after a move is sound, and each kind of move is the defined one.
-use Rattle.std.proofs.Common.{◌≡◌, ℕ, zero, suc, ◌+◌, ◌-◌, ◌<◌, ◌≤◌, Bool, true, false, List, [], ◌∷◌, ◌++◌, Option, Some, None, Ok, Err, length, length-append, replicate, nat_lt, refl, sym, ap, ◌∙◌, subst, arith, append_assoc}
+use Rattle.std.proofs.Common.{add-one, ◌≡◌, ℕ, zero, suc, ◌+◌, ◌-◌, ◌<◌, ◌≤◌, Bool, true, false, List, [], ◌∷◌, ◌++◌, Option, Some, None, Ok, Err, length, length-append, replicate, nat_lt, refl, sym, ap, ◌∙◌, subst, arith, append_assoc}
 use Rattle.std.proofs.Common.{ℤ}
 use Rattle.std.proofs.lemmas.Bool.{true≢false}
 use Rattle.std.proofs.lemmas.Bool.Decides.{nat_tests}
@@ -16,24 +16,28 @@ use Rattle.serial_meaning.specs.declared.origin.Origin.{Origin}
 use Rattle.serial_meaning.specs.declared.origin.Origin.TheVariants.{Instance, Loop}
 use Rattle.serial_meaning.specs.declared.answer.Outcome.{Outcome}
 use Rattle.serial_meaning.specs.declared.answer.Outcome.TheVariants as outcome
-use Rattle.strand_meaning.specs.Laws.{IsSoundStop, IsSoundStep, IsFaultOf}
+use Rattle.strand_meaning.specs.Laws.{IsSoundStop, IsSoundStep, IsFaultOf, StepsAreSound}
 use Rattle.serial_meaning.specs.Runs.{Run}
 use Rattle.strand_meaning.specs.Machine.{Token, Reached, move}
 use Rattle.strand_meaning.specs.Pieces.{Part, hand}
 use Rattle.strand_meaning.specs.Sound.{IsTask}
 use Rattle.strand_meaning.specs.Task as meaning
 use Rattle.strand_meaning.specs.Task.{Task, ends, ends_unless, own_instance, first_half, split_step, over_step, waits, begins_last, gave, faults_behind, moved, stops_at, child_in}
-use Rattle.strand_meaning.proofs.Ends.{steps_are_sound}
 use Rattle.strand_moves.specs.Machines as moves
 use Rattle.strand_moves.specs.Moves.{tokens_of, run_of}
 use Rattle.strand_moves.specs.declared.instance.Instance.{Instance as RawInstance}
 use Rattle.strand_moves.specs.declared.shown.Shown.{Shown}
+use Rattle.strand_moves.specs.declared.shown.Shown.TheVariants as shown-in
 use Rattle.strand_moves.specs.declared.shown.Moved.TheVariants as moved-in
 use Rattle.strand_machine.specs.Bodies.{is_long, only}
 use Rattle.strand_machine.specs.Family.{FamilyView, handed}
 use Rattle.strand_machine.specs.Parts.{awaited, place_of}
 use Rattle.strand_machine.specs.Shown.{shown_task, IsSoundShown, IsKnownChild}
-use Rattle.strand_machine.specs.Tasks.{AwaitsLast, RunsAt, WorksAt, IsSound, task_of, work_of, gone, waiting, with_child, ended_by}
+use Rattle.strand_machine.specs.Stops.{IsStep, ended}
+use Rattle.strand_machine.specs.declared.stop.Step.{Step as MadeStep}
+use Rattle.strand_machine.specs.declared.stop.Step.TheVariants as step-in
+use Rattle.strand_machine.specs.declared.stop.Stop.TheVariants as stop-in
+use Rattle.strand_machine.specs.Tasks.{view_of, fresh, AwaitsLast, RunsAt, WorksAt, IsSound, task_of, work_of, gone, waiting, with_child, ended_by}
 use Rattle.strand_machine.specs.declared.body.Body.{Body}
 use Rattle.strand_machine.specs.declared.place.Place.{Place}
 use Rattle.strand_machine.specs.declared.place.Place.TheVariants as place
@@ -43,21 +47,25 @@ use Rattle.strand_machine.specs.declared.work.Work.TheVariants as work
 
 -- Sound moves
 
-sound-step : (b : Body) (w : Work) (s : meaning.Step) → IsSound b w → meaning.step (task_of b w) ≡ s → IsSoundStep (task_of b w) s
-sound-step b w s h e = subst (IsSoundStep (task_of b w)) e (steps_are_sound (task_of b w) h.task)
+sound-step : StepsAreSound → (b : Body) (w : Work) (s : meaning.Step) → IsSound b w → meaning.step (task_of b w) ≡ s → IsSoundStep (task_of b w) s
+sound-step steps_are_sound b w s h e = subst (IsSoundStep (task_of b w)) e (steps_are_sound (task_of b w) h.task)
 
-pub pass-sound : (b : Body) (w next : Work) → IsSound b w → meaning.step (task_of b w) ≡ meaning.Passes (task_of (gone b) next) → WorksAt b.family.plan (path_of (own_instance b.family.origin)) next → IsSound (gone b) next
-pass-sound b w next h e works = record { task = sound-step b w (meaning.Passes (task_of (gone b) next)) h e; family = h.family; works = works }
+pub pass-sound : StepsAreSound → (b : Body) (w next : Work) → IsSound b w → meaning.step (task_of b w) ≡ meaning.Passes (task_of (gone b) next) → WorksAt b.family.plan (path_of (own_instance b.family.origin)) next → IsSound (gone b) next
+pass-sound law b w next h e works = record { task = sound-step law b w (meaning.Passes (task_of (gone b) next)) h e; family = h.family; works = works }
 
-pub wait-sound : (b : Body) (w next : Work) → IsSound b w → meaning.step (task_of b w) ≡ meaning.Stops (meaning.Wait (task_of (waiting b) next)) → WorksAt b.family.plan (path_of (own_instance b.family.origin)) next → IsSound (waiting b) next
-wait-sound b w next h e works = record { task = sound-step b w (meaning.Stops (meaning.Wait (task_of (waiting b) next))) h e; family = h.family; works = works }
+pub wait-sound : StepsAreSound → (b : Body) (w next : Work) → IsSound b w → meaning.step (task_of b w) ≡ meaning.Stops (meaning.Wait (task_of (waiting b) next)) → WorksAt b.family.plan (path_of (own_instance b.family.origin)) next → IsSound (waiting b) next
+wait-sound law b w next h e works = record { task = sound-step law b w (meaning.Stops (meaning.Wait (task_of (waiting b) next))) h e; family = h.family; works = works }
 
 awaited-append : (ps qs : List Part) → awaited (ps ++ qs) ≡ awaited ps ++ awaited qs
 awaited-append [] qs = refl
 awaited-append (p ∷ ps) qs = ap (λ l. p.child ∷ l) (awaited-append ps qs)
 
+one-longer : (n : ℕ) → replicate n false ++ false ∷ [] ≡ replicate (suc n) false
+one-longer zero = refl
+one-longer (suc n) = ap (λ l. false ∷ l) (one-longer n)
+
 one-more : (n : ℕ) → replicate n false ++ false ∷ [] ≡ replicate (n + 1) false
-one-more n = grind arith
+one-more n = rw add-one (one-longer n)
 
 pub awaits-more : (family : FamilyView) (parts : List Part) (p : Part) → AwaitsLast family parts → AwaitsLast (handed family p.child) (parts ++ p ∷ [])
 awaits-more family parts p h = record {
@@ -66,13 +74,13 @@ awaits-more family parts p h = record {
   same = h.same;
   children = ap (λ l. l ++ p.child ∷ []) h.children ∙ append_assoc h.before (awaited parts) (p.child ∷ []) ∙ ap (λ l. h.before ++ l) (sym (awaited-append parts (p ∷ [])));
   taken = ap (λ l. l ++ false ∷ []) h.taken ∙ append_assoc h.passed (replicate (length parts) false) (false ∷ [])
-    ∙ ap (λ l. h.passed ++ l) (one-more (length parts) ∙ ap (λ n. replicate n false) (sym (length-append parts (p ∷ []))));
+      ∙ ap (λ l. h.passed ++ l) (one-more (length parts) ∙ ap (λ n. replicate n false) (sym (length-append parts (p ∷ []))));
 }
 
-pub spawn-sound : (b : Body) (w next : Work) (child : Origin) (p : Place) → IsSound b w → meaning.step (task_of b w) ≡ meaning.Stops (meaning.Spawn child (task_of (with_child b child p) next)) →
+pub spawn-sound : StepsAreSound → (b : Body) (w next : Work) (child : Origin) (p : Place) → IsSound b w → meaning.step (task_of b w) ≡ meaning.Stops (meaning.Spawn child (task_of (with_child b child p) next)) →
     WorksAt b.family.plan (path_of (own_instance b.family.origin)) next → IsOriginOf b.family.plan child × IsSound (with_child b child p) next
-spawn-sound b w next child p h e works =
-    let s = sound-step b w (meaning.Stops (meaning.Spawn child (task_of (with_child b child p) next))) h e in
+spawn-sound law b w next child p h e works =
+    let s = sound-step law b w (meaning.Stops (meaning.Spawn child (task_of (with_child b child p) next))) h e in
     (s.0, record { task = s.1; family = awaits-more b.family b.pieces.handed (record { child = child; place = place_of p; behind = [] }) h.family; works = works })
 
 -- Ends
@@ -90,10 +98,25 @@ answer-of plan o out (outcome.Values vs) e f = e
 answer-of plan o out (outcome.Fault g) e f = e
 answer-of plan o out (outcome.Cut g) e f = absurd f
 
-pub end-answers : (b : Body) (w : Work) (o : Outcome) → IsSound b w → meaning.step (task_of b w) ≡ ends (task_of b w) o → IsAnswer b.family.plan b.family.origin b.pieces.told (ended_by b.pieces.fault o)
-end-answers b w o h e =
-    let s = sound-step b w (meaning.Stops (meaning.End b.pieces.told (ended_by b.pieces.fault o))) h (e ∙ ends-is (task_of b w) o) in
+pub end-answers : StepsAreSound → (b : Body) (w : Work) (o : Outcome) → IsSound b w → meaning.step (task_of b w) ≡ ends (task_of b w) o → IsAnswer b.family.plan b.family.origin b.pieces.told (ended_by b.pieces.fault o)
+end-answers law b w o h e =
+    let s = sound-step law b w (meaning.Stops (meaning.End b.pieces.told (ended_by b.pieces.fault o))) h (e ∙ ends-is (task_of b w) o) in
     answer-of b.family.plan b.family.origin b.pieces.told (ended_by b.pieces.fault o) s.0 s.1
+
+-- What a call gives
+
+pub end-is : (b : Body) (w : Work) (o : Outcome) (s : MadeStep) → meaning.step (task_of b w) ≡ ends (task_of b w) o → s ≡ ended b o → IsStep (view_of b w) s
+end-is b w o s e h = rw h (record { is = e ∙ ends-is (task_of b w) o; keeps = (refl, refl, refl) })
+
+pub pass-is : (b : Body) (w next : Work) (s : MadeStep) → meaning.step (task_of b w) ≡ meaning.Passes (task_of (gone b) next) → s ≡ step-in.Passes (view_of (gone b) next) → IsStep (view_of b w) s
+pass-is b w next s e h = rw h (record { is = e; keeps = (refl, refl) })
+
+pub wait-is : (b : Body) (w next : Work) (s : MadeStep) → meaning.step (task_of b w) ≡ meaning.Stops (meaning.Wait (task_of (waiting b) next)) → s ≡ step-in.Stops (stop-in.Wait (view_of (waiting b) next)) → IsStep (view_of b w) s
+wait-is b w next s e h = rw h (record { is = e; keeps = (refl, refl) })
+
+pub spawn-is : (b : Body) (w next : Work) (child : Origin) (p : Place) (s : MadeStep) → meaning.step (task_of b w) ≡ meaning.Stops (meaning.Spawn child (task_of (with_child b child p) next)) →
+    s ≡ step-in.Stops (stop-in.Spawn (fresh b.family.plan child) (view_of (with_child b child p) next)) → IsStep (view_of b w) s
+spawn-is b w next child p s e h = rw h (record { is = e; keeps = (refl, refl, refl) })
 
 -- Loops
 
@@ -133,6 +156,9 @@ over-waits t v (Loop function rest first path range) h = by_size (range.hi - ran
     by_size (suc zero) g k = absurd (true≢false (sym (rw g at k)))
     by_size (suc (suc n)) g k = rw g refl
 
+long : (n : ℕ) → true ≡ nat_lt 1 (suc (suc n))
+long n = grind (arith, nat_tests)
+
 over-ends : (t : Task) (v : Value) (o : Origin) → is_long o ≡ false → over_step t v o ≡ ends t (outcome.Values (t.values ++ v ∷ []))
 over-ends t v (Instance function args path) h = refl
 over-ends t v (Loop function rest first path range) h = by_size (range.hi - range.lo) refl h
@@ -142,14 +168,19 @@ over-ends t v (Loop function rest first path range) h = by_size (range.hi - rang
     by_size (suc zero) g k = rw g refl
     by_size (suc (suc n)) g k = absurd (true≢false (long n ∙ rw g at k))
 
-    long : (n : ℕ) → true ≡ nat_lt 1 (suc (suc n))
-    long n = grind (arith, nat_tests)
+pub over-long : (b : Body) (v : Value) (gone_on : Bool) → gone_on ≡ false → is_long b.family.origin ≡ true →
+    meaning.step (task_of b (work.Over v gone_on)) ≡ meaning.Stops (meaning.Wait (task_of (waiting b) (work.Over v false)))
+over-long b v true e h = absurd (true≢false e)
+over-long b v false e h = over-waits (task_of b (work.Over v false)) v b.family.origin h
 
-pub over-long : (b : Body) (v : Value) → is_long b.family.origin ≡ true → meaning.step (task_of b (work.Over v false)) ≡ meaning.Stops (meaning.Wait (task_of (waiting b) (work.Over v false)))
-over-long b v h = over-waits (task_of b (work.Over v false)) v b.family.origin h
+pub over-short : (b : Body) (v : Value) (gone_on : Bool) → gone_on ≡ false → is_long b.family.origin ≡ false →
+    meaning.step (task_of b (work.Over v gone_on)) ≡ ends (task_of b (work.Over v gone_on)) (outcome.Values (b.values ++ v ∷ []))
+over-short b v true e h = absurd (true≢false e)
+over-short b v false e h = over-ends (task_of b (work.Over v false)) v b.family.origin h
 
-pub over-short : (b : Body) (v : Value) → is_long b.family.origin ≡ false → meaning.step (task_of b (work.Over v false)) ≡ ends (task_of b (work.Over v false)) (outcome.Values (b.values ++ v ∷ []))
-over-short b v h = over-ends (task_of b (work.Over v false)) v b.family.origin h
+pub over-on : (b : Body) (v : Value) (gone_on : Bool) → gone_on ≡ true → meaning.step (task_of b (work.Over v gone_on)) ≡ ends (task_of b (work.Over v gone_on)) (outcome.Values (b.values ++ v ∷ []))
+over-on b v true e = refl
+over-on b v false e = absurd (true≢false (sym e))
 
 -- Instances
 
@@ -183,22 +214,22 @@ module _ (b : Body) (i : RawInstance) where
   pub go-went : (next : RawInstance) (s : Shown) → RunsAt b.family.plan (path_of (own_instance b.family.origin)) i →
       move b.family.plan (moves.path_of i) (moves.machine_of b.family.plan i) ≡ run_of (moved-in.Went s) (moves.machine_of b.family.plan next) →
       meaning.step here ≡ stops_at (child_in (tokens_of s)) (shown_task b next s)
-  go-went next s at e = ap (λ (p : List ℕ). made (move b.family.plan p (moves.machine_of b.family.plan i))) (sym at.path) ∙ ap made e
+  go-went next s at e = ap (λ (p : List ℕ). made (move b.family.plan p (moves.machine_of b.family.plan i))) (sym at.at) ∙ ap made e
 
   pub go-gave : (next : RawInstance) (v : Value) → RunsAt b.family.plan (path_of (own_instance b.family.origin)) i →
       move b.family.plan (moves.path_of i) (moves.machine_of b.family.plan i) ≡ run_of (moved-in.Gave v) (moves.machine_of b.family.plan next) →
       meaning.step here ≡ meaning.Passes (task_of (gone b) (work.Runs (stage.Gave v)))
-  go-gave next v at e = ap (λ (p : List ℕ). made (move b.family.plan p (moves.machine_of b.family.plan i))) (sym at.path) ∙ ap made e
+  go-gave next v at e = ap (λ (p : List ℕ). made (move b.family.plan p (moves.machine_of b.family.plan i))) (sym at.at) ∙ ap made e
 
   pub go-faulted : (next : RawInstance) (f : Fault) → RunsAt b.family.plan (path_of (own_instance b.family.origin)) i →
       move b.family.plan (moves.path_of i) (moves.machine_of b.family.plan i) ≡ run_of (moved-in.Faulted f) (moves.machine_of b.family.plan next) →
       meaning.step here ≡ meaning.Passes (task_of (gone b) (work.Runs (stage.Faulted f)))
-  go-faulted next f at e = ap (λ (p : List ℕ). made (move b.family.plan p (moves.machine_of b.family.plan i))) (sym at.path) ∙ ap made e
+  go-faulted next f at e = ap (λ (p : List ℕ). made (move b.family.plan p (moves.machine_of b.family.plan i))) (sym at.at) ∙ ap made e
 
-  pub shown-sound : (next : RawInstance) (s : Shown) → IsSound b (work.Runs (stage.Goes i)) → meaning.step here ≡ stops_at (child_in (tokens_of s)) (shown_task b next s) →
+  pub shown-sound : StepsAreSound → (next : RawInstance) (s : Shown) → IsSound b (work.Runs (stage.Goes i)) → meaning.step here ≡ stops_at (child_in (tokens_of s)) (shown_task b next s) →
       RunsAt b.family.plan (path_of (own_instance b.family.origin)) next → IsSoundShown b next s
-  shown-sound next s h e runs =
-      let known = from (child_in (tokens_of s)) (sound-step b (work.Runs (stage.Goes i)) (stops_at (child_in (tokens_of s)) (shown_task b next s)) h e) in
+  shown-sound law next s h e runs =
+      let known = from (child_in (tokens_of s)) (sound-step law b (work.Runs (stage.Goes i)) (stops_at (child_in (tokens_of s)) (shown_task b next s)) h e) in
       record { task = known.0; child = known.1; family = h.family; runs = runs }
     where
       from : (o : Option Origin) → IsSoundStep here (stops_at o (shown_task b next s)) → IsTask (shown_task b next s) × IsKnownChild b.family.plan o

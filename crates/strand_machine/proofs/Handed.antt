@@ -1,9 +1,12 @@
 -- The parts of children, and events behind the last one.
-use Rattle.std.proofs.Common.{◌≡◌, ℕ, zero, suc, ◌+◌, ◌-◌, List, [], ◌∷◌, ◌++◌, length, get_or, refl, sym, ap, ◌∙◌, arith}
+use Rattle.std.proofs.Common.{◌≡◌, ℕ, zero, suc, ◌+◌, ◌-◌, ◌<◌, ◌==◌, Bool, true, false, Option, List, [], ◌∷◌, ◌++◌, length, get_or, refl, sym, ap, ◌∙◌, arith}
+use Rattle.std.specs.Prelude.{IsTrue}
+use Rattle.std.proofs.lemmas.Bool.Decides.{nat_tests}
 use Rattle.std.proofs.Math.ListN.{set}
 use Rattle.serial_meaning.specs.declared.event.Event.{Event}
+use Rattle.serial_meaning.specs.declared.event.Fault.{Fault}
 use Rattle.serial_meaning.specs.declared.origin.Origin.{Origin}
-use Rattle.strand_meaning.specs.Pieces.{Part, behind_last}
+use Rattle.strand_meaning.specs.Pieces.{Part, Pieces, behind_last, tell}
 use Rattle.strand_machine.specs.Parts.{part_of, parts_of, awaited}
 use Rattle.strand_machine.specs.declared.pieces.Behind.{Behind}
 
@@ -18,15 +21,27 @@ parts_more [] (c ∷ bs) o b h = absurd (omega arith)
 parts_more (p ∷ os) [] o b h = absurd (omega arith)
 parts_more (p ∷ os) (c ∷ bs) o b h = ap (λ l. part_of p c ∷ l) (parts_more os bs o b (omega arith))
 
-pub no_parts : (os : List Origin) (bs : List Behind) → length os ≡ length bs → parts_of os bs ≡ [] → os ≡ []
-no_parts [] bs h e = refl
-no_parts (o ∷ os) [] h e = absurd (omega arith)
-no_parts (o ∷ os) (b ∷ bs) h e = cc
+not-zero : (n : ℕ) → 0 < n → (n == 0) ≡ true → ⊥
+not-zero n h e = grind (arith, nat_tests)
+
+pub alone : (os : List Origin) (bs : List Behind) (n : ℕ) (r : Bool) → length os ≡ length bs → n ≡ length os → r ≡ (n == 0) → (IsTrue r → parts_of os bs ≡ []) × (parts_of os bs ≡ [] → IsTrue r)
+alone [] bs n r h k e = (λ t. refl, λ x. e ∙ ap (λ (m : ℕ). m == 0) k)
+alone (o ∷ os) [] n r h k e = absurd (omega arith)
+alone (o ∷ os) (b ∷ bs) n r h k e = (λ t. absurd (not-zero n (omega arith) (sym e ∙ t)), λ x. absurd (cc))
 
 -- an event behind the last child
-pub tell_last : (o : Origin) (os : List Origin) (c : Behind) (cs : List Behind) (b : Behind) (e : Event) → length os ≡ length cs → b ≡ get_or (c ∷ cs) (length cs) b →
+tell_last : (o : Origin) (os : List Origin) (c : Behind) (cs : List Behind) (b : Behind) (e : Event) → length os ≡ length cs → b ≡ get_or (c ∷ cs) (length cs) b →
     behind_last (part_of o c) (parts_of os cs) e ≡ parts_of (o ∷ os) (set (c ∷ cs) (length cs) (record b { events = b.events ++ e ∷ [] }))
 tell_last o [] c [] b e h g = ap (λ (d : Behind). part_of o (record d { events = d.events ++ e ∷ [] }) ∷ []) (sym g)
 tell_last o [] c (d ∷ cs) b e h g = absurd (omega arith)
 tell_last o (p ∷ os) c [] b e h g = absurd (omega arith)
 tell_last o (p ∷ os) c (d ∷ cs) b e h g = ap (λ l. part_of o c ∷ l) (tell_last p os d cs b e (omega arith) g)
+
+pub told-last : (told : List Event) (fault : Option Fault) (os : List Origin) (bs : List Behind) (i : ℕ) (b : Behind) (e : Event) (es : List Event) → length os ≡ length bs → i + 1 ≡ length bs → b ≡ get_or bs i b → es ≡ b.events ++ e ∷ [] →
+    record { told = told; fault = fault; handed = parts_of os (set bs i (record b { events = es })) } ≡ tell e (record { told = told; fault = fault; handed = parts_of os bs })
+told-last told fault os [] i b e es h k g w = absurd (omega arith)
+told-last told fault [] (c ∷ cs) i b e es h k g w = absurd (omega arith)
+told-last told fault (o ∷ os) (c ∷ cs) i b e es h k g w =
+    let at : i ≡ length cs = omega arith in
+    let last : b ≡ get_or (c ∷ cs) (length cs) b = rw at at g in
+    rw (w, at) (ap (λ (ps : List Part). record { told = told; fault = fault; handed = ps }) (sym (tell_last o os c cs b e (omega arith) last)))

@@ -1,7 +1,7 @@
 pub mod Answering
 pub mod Dispatch
-pub mod Fitting
+pub mod Halves
 pub mod Handed
-pub mod Lasting
 pub mod Starting
 pub mod Tags
+pub mod Taking

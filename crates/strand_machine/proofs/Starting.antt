@@ -9,12 +9,11 @@ use Rattle.strand_meaning.specs.Pieces.{Pieces, no_pieces}
 use Rattle.strand_meaning.specs.Sound.{IsTask}
 use Rattle.strand_meaning.specs.Task as meaning
 use Rattle.strand_meaning.specs.Task.{Task, start, begun_work, own_instance}
-use Rattle.strand_meaning.proofs.Ends.{tasks_begin}
+use Rattle.strand_meaning.specs.Laws.{TasksBegin, ValidPlansAreClear}
 use Rattle.strand_machine.specs.Family.{FamilyView, alone}
 use Rattle.strand_machine.specs.Tasks.{TaskView, fresh, work_of, task_of, view_of, WorksAt, AwaitsLast, IsSound}
 use Rattle.strand_machine.specs.declared.body.Body.{Body}
 use Rattle.strand_machine.specs.declared.work.Work.{Work}
-use Rattle.strand_machine.proofs.ClearOfValid.{clear_of_valid}
 
 abbrev pub new_body : FamilyView → Pieces → Body
 new_body family pieces = record { family = family; pieces = pieces; values = []; waiting = false; advanced = false }
@@ -29,11 +28,11 @@ module _ (plan : PlanView) (o : Origin) (w : Work) (family : FamilyView) (pieces
   pub start-view : view_of (new_body family pieces) w ≡ fresh plan o
   start-view = ap (λ (b : Body). view_of b w) same ∙ ap (λ (t : Task). record { task = t; children = []; loads = [] }) task-is
 
-  pub start-sound : IsOriginOf plan o → IsValid plan.script → WorksAt plan (path_of (own_instance o)) w → IsSound (new_body family pieces) w
-  start-sound known valid works =
+  pub start-sound : TasksBegin → ValidPlansAreClear → IsOriginOf plan o → IsValid plan.script → WorksAt plan (path_of (own_instance o)) w → IsSound (new_body family pieces) w
+  start-sound tasks_begin are_clear known valid works =
       subst (λ (b : Body). IsSound b w) (sym same)
       (record {
-        task = subst IsTask (sym task-is) (tasks_begin plan o known (clear_of_valid plan valid));
+        task = subst IsTask (sym task-is) (tasks_begin plan o known (are_clear plan valid));
         family = record { before = []; passed = []; same = refl; children = refl; taken = refl };
         works = works;
       })

@@ -1,10 +1,13 @@
 -- Tags of children.
 use Rattle.std.proofs.Common.{◌≡◌, ℕ, zero, suc, List, [], ◌∷◌, ◌++◌, Option, Some, None, length, refl, sym, ap, ◌∙◌}
-use Rattle.std.specs.Prelude.{slice_get}
+use Rattle.std.specs.Prelude.{slice_get, Bool}
+use Rattle.meet_block.specs.Joined.{Joined, Answers}
+use Rattle.meet_block.specs.declared.join.Look.{Look}
+use Rattle.meet_block.specs.declared.join.Look.TheVariants.{Ready, NotYet}
 use Rattle.serial_meaning.specs.Answer.{AnswerTag}
 use Rattle.serial_meaning.specs.Plan.{PlanView}
 use Rattle.serial_meaning.specs.declared.origin.Origin.{Origin}
-use Rattle.strand_machine.specs.Family.{tag, tags, origins}
+use Rattle.strand_machine.specs.Family.{FamilyView, Looked, tag, tags, origins}
 
 pub origins_append : (ts us : List AnswerTag) → origins (ts ++ us) ≡ origins ts ++ origins us
 origins_append [] us = refl
@@ -35,3 +38,12 @@ plan_of plan (o ∷ os) (suc i) t h = plan_of plan os i t h
 
 pub plan_at : (plan : PlanView) (ts : List AnswerTag) (i : ℕ) (t : AnswerTag) → ts ≡ tags plan (origins ts) → slice_get ts i ≡ Some t → t.plan ≡ plan
 plan_at plan ts i t h g = plan_of plan (origins ts) i t (ap (λ (l : List AnswerTag). slice_get l i) (sym h) ∙ g)
+
+-- A look
+
+abbrev seen : PlanView → Origin → Joined AnswerTag → FamilyView
+seen plan o j = record { plan = plan; origin = o; children = origins j.tags; taken = j.taken; ready = j.ready; loads = j.loads }
+
+pub looked : (plan : PlanView) (o : Origin) (before after : Joined AnswerTag) (result : Look) → Answers before after result → Looked (seen plan o before) (seen plan o after) result
+looked plan o before after Ready h = ((h.0, ap (λ (j : Joined AnswerTag). j.loads) h.1), rw h.1 refl)
+looked plan o before after (NotYet n) h = ((h.2.0, n, h.0, ap (λ (j : Joined AnswerTag). j.loads) h.2.1), rw h.2.1 refl)

@@ -1,13 +1,15 @@
 -- What a call on a task gives, by the meaning of tasks.
 use Rattle.std.specs.Prelude.{◌≡◌, ℕ, List, [], ◌∷◌, ◌++◌}
-use Rattle.serial_meaning.specs.Answer.{AnswerView, AnswerTag}
+use Rattle.serial_meaning.specs.Answer.{AnswerView, AnswerTag, IsAnswer}
 use Rattle.serial_meaning.specs.Eval.{eval}
 use Rattle.serial_meaning.specs.declared.origin.Origin.{Origin}
 use Rattle.strand_meaning.specs.Rest.{evaluations}
 use Rattle.strand_meaning.specs.Task as meaning
 use Rattle.strand_meaning.specs.Task.{IsNext, on}
 use Rattle.strand_machine.specs.Family.{tag, HasPassed, HasStopped}
-use Rattle.strand_machine.specs.Tasks.{TaskView, fresh}
+use Rattle.serial_meaning.specs.declared.answer.Outcome.{Outcome}
+use Rattle.strand_machine.specs.Tasks.{TaskView, fresh, ended_by}
+use Rattle.strand_machine.specs.declared.body.Body.{Body}
 use Rattle.strand_machine.specs.declared.stop.Stop.{Stop}
 use Rattle.strand_machine.specs.declared.stop.Stop.TheVariants as stop
 use Rattle.strand_machine.specs.declared.stop.Step.{Step}
@@ -57,8 +59,18 @@ IsResumed t (resumed.NotYet same) = (same.task ≡ t.task) × (same.children ≡
 
 abbrev pub answer_tags : List AnswerView → List AnswerTag
 answer_tags [] = []
-answer_tags (a ∷ as) = tag a.plan a.origin ∷ answer_tags as
+answer_tags (answer ∷ answers) = tag answer.plan answer.origin ∷ answer_tags answers
 
 -- the task once it went on with its children's answers
 abbrev pub view_on : TaskView → TaskView
 view_on t = record t { task = went_on t }
+
+-- that a task may end so, and its end: by the fault among its pieces, or else so
+abbrev pub CanEnd : Body → Outcome → Type 0
+CanEnd b o = IsAnswer b.family.plan b.family.origin b.pieces.told (ended_by b.pieces.fault o)
+
+abbrev pub ended : Body → Outcome → Step
+ended b o =
+    step.Stops
+    (stop.Done (record { plan = b.family.plan; origin = b.family.origin; out = b.pieces.told; outcome = ended_by b.pieces.fault o })
+    (tag b.family.plan b.family.origin))

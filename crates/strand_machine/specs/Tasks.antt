@@ -12,6 +12,7 @@ use Rattle.strand_meaning.specs.Task as meaning
 use Rattle.strand_meaning.specs.Task.{Task, start, own_instance}
 use Rattle.strand_meaning.specs.Sound.{IsTask}
 use Rattle.strand_moves.specs.Machines as moves
+use Rattle.strand_moves.specs.declared.instance.Instance.{Instance}
 use Rattle.strand_machine.specs.Family.{FamilyView, handed}
 use Rattle.strand_machine.specs.Parts.{awaited, place_of}
 use Rattle.strand_machine.specs.declared.body.Body.{Body}
@@ -70,9 +71,9 @@ pub record AwaitsLast (family : FamilyView) (parts : List Part) : Type 0 where
   pub taken : family.taken ≡ passed ++ replicate (length parts) false
 
 -- An instance that runs is one of the plan, at this path.
-pub record RunsAt (plan : PlanView) (path : List ℕ) (i : _) : Type 0 where
+pub record RunsAt (plan : PlanView) (path : List ℕ) (i : Instance) : Type 0 where
   pub sound : moves.IsInstance plan i
-  pub path : moves.path_of i ≡ path
+  pub at : moves.path_of i ≡ path
 
 abbrev pub StandsAt : PlanView → List ℕ → Stage → Type 0
 StandsAt plan path (stage.Goes i) = RunsAt plan path i

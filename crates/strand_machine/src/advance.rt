@@ -5,6 +5,7 @@ use crate::step::step;
 use crate::stop::{Step, Stop};
 use crate::task::Task;
 use std::alloc::Global;
+use strand_meaning::laws;
 
 impl Task {
     ghost use Rattle.strand_machine.specs.Stops.{IsStop};
@@ -14,6 +15,7 @@ impl Task {
     pub fn advance(self, alloc: Global) -> Result<Stop, Memory>
         ensures { IfOk result (IsStop self) }
     {
+        laws::moves_fall();
         let mut task = self;
         loop {
             match step(task, alloc)? {

@@ -1,14 +1,15 @@
 // What the answers of children change.
-ghost use Rattle.std.specs.Prelude.{◌≡◌, ℕ, List, [], ◌∷◌, Ok, IfOk, OnOk};
-ghost use Rattle.serial_meaning.specs.Eval.{first_of};
+ghost use Rattle.std.specs.Prelude.{◌≡◌, ◌∷◌, [], List, Ok, IfOk, OnOk};
+ghost use Rattle.serial_meaning.specs.Eval.{eval, first_of};
+ghost use Rattle.serial_meaning.specs.declared.event.Event.{Event};
 ghost use Rattle.serial_meaning.specs.Plan.{PlanView};
+ghost use Rattle.strand_meaning.specs.Answers.{evaluation_of};
 ghost use Rattle.strand_meaning.specs.Machine.{Spawned, Looped, Half};
+ghost use Rattle.strand_meaning.specs.Pieces.{Part, heard};
 ghost use Rattle.strand_meaning.specs.Task.{takes, changed, answered, more_values};
 ghost use Rattle.strand_moves.specs.Machines.{IsInstance, machine_of, path_of};
-ghost use Rattle.strand_meaning.specs.Pieces.{heard_unless};
-ghost use Rattle.strand_machine.specs.Going.{ending_of, pieces_of, hears, takes_at};
+ghost use Rattle.strand_machine.specs.Going.{BecomesStage, BecomesWork, Takes, pieces_of, with_stage};
 ghost use Rattle.strand_machine.specs.Parts.{place_of, part_of};
-ghost use Rattle.strand_machine.specs.Tasks.{stage_of, work_of, StandsAt, WorksAt};
 
 use crate::memory::Memory;
 use crate::pieces::Behind;
@@ -17,6 +18,7 @@ use crate::work::{Stage, Work};
 use script_grammar::{Items, Name};
 use serial_meaning::{Answer, Fault, Out, Outcome, Value};
 use std::alloc::Global;
+use strand_meaning::laws;
 use strand_moves::Instance;
 
 /// A task that takes its children's answers.
@@ -30,7 +32,7 @@ pub(crate) struct Going {
 
 /// The values of an answer, or its fault.
 fn ending(alloc: Global, outcome: Outcome) -> Result<Result<Items<Value>, Fault>, Memory>
-    ensures { IfOk result (λ ending. ending ≡ ending_of outcome) }
+    ensures { IfOk result (λ ending. (out : List Event) → evaluation_of out outcome ≡ record { items = out; ending = ending }) }
 {
     Ok(match outcome {
         Outcome::Value(value) => Ok(Items(vec![in alloc; value]?)),
@@ -72,45 +74,65 @@ fn take_spawned(
 
 /// The stage behind the answer of a child that an instance spawned.
 fn spawned(
-    mut stage: Stage,
+    stage: Stage,
     alloc: Global,
     height: usize,
     target: Option<Name>,
     ending: Result<Items<Value>, Fault>,
 ) -> Result<Stage, Memory>
-    ensures stage { (plan : PlanView) → IfOk result (λ s. stage_of plan s ≡ takes (Spawned height target) ending (stage_of plan stage)) }
-    ensures stands { (plan : PlanView) (path : List ℕ) → StandsAt plan path stage → IfOk result (StandsAt plan path) }
+    ensures { IfOk result (BecomesStage (takes (Spawned height target) ending) stage) }
 {
-    match &mut stage {
-        Stage::Goes(instance) | Stage::AtSync(instance) | Stage::AtLoop(instance) => {
-            take_spawned(instance, alloc, height, target, ending)?
+    match stage {
+        Stage::Goes(mut instance) => {
+            take_spawned(&mut instance, alloc, height, target, ending)?;
+            Ok(Stage::Goes(instance))
         }
-        Stage::Gave(_) | Stage::Faulted(_) | Stage::Joined(_) => {}
+        Stage::AtSync(mut instance) => {
+            take_spawned(&mut instance, alloc, height, target, ending)?;
+            Ok(Stage::AtSync(instance))
+        }
+        Stage::AtLoop(mut instance) => {
+            take_spawned(&mut instance, alloc, height, target, ending)?;
+            Ok(Stage::AtLoop(instance))
+        }
+        Stage::Gave(value) => Ok(Stage::Gave(value)),
+        Stage::Faulted(fault) => Ok(Stage::Faulted(fault)),
+        Stage::Joined(fault) => Ok(Stage::Joined(fault)),
     }
-    Ok(stage)
 }
 
 /// The stage behind the answer of a loop of an instance.
 fn looped(
-    mut stage: Stage,
+    stage: Stage,
     alloc: Global,
     target: Option<Name>,
     ending: Result<Items<Value>, Fault>,
 ) -> Result<Stage, Memory>
-    ensures stage { (plan : PlanView) → IfOk result (λ s. stage_of plan s ≡ takes (Looped target) ending (stage_of plan stage)) }
-    ensures stands { (plan : PlanView) (path : List ℕ) → StandsAt plan path stage → IfOk result (StandsAt plan path) }
+    ensures { IfOk result (BecomesStage (takes (Looped target) ending) stage) }
 {
     let values = match ending {
         Ok(values) => values,
         Err(fault) => return Ok(Stage::Joined(fault)),
     };
-    match &mut stage {
-        Stage::Goes(instance) | Stage::AtSync(instance) | Stage::AtLoop(instance) => {
-            instance.take_values(alloc, target.as_ref(), values.as_slice())?
+    let into = target.as_ref();
+    let given = values.as_slice();
+    match stage {
+        Stage::Goes(mut instance) => {
+            instance.take_values(alloc, into, given)?;
+            Ok(Stage::Goes(instance))
         }
-        Stage::Gave(_) | Stage::Faulted(_) | Stage::Joined(_) => {}
+        Stage::AtSync(mut instance) => {
+            instance.take_values(alloc, into, given)?;
+            Ok(Stage::AtSync(instance))
+        }
+        Stage::AtLoop(mut instance) => {
+            instance.take_values(alloc, into, given)?;
+            Ok(Stage::AtLoop(instance))
+        }
+        Stage::Gave(value) => Ok(Stage::Gave(value)),
+        Stage::Faulted(fault) => Ok(Stage::Faulted(fault)),
+        Stage::Joined(fault) => Ok(Stage::Joined(fault)),
     }
-    Ok(stage)
 }
 
 impl Going {
@@ -121,7 +143,9 @@ impl Going {
         behind: Out,
         ending: &Result<Items<Value>, Fault>,
     ) -> Result<(), Memory>
-        ensures { OnOk result (self.new ≡ hears events behind ending.now self.old) }
+        ensures pieces { OnOk result ((p : Part) → p.behind ≡ behind
+            → pieces_of self.new ≡ heard p (record { items = events; ending = ending.now }) (pieces_of self.old)) }
+        ensures rest { OnOk result ((self.new.values ≡ self.old.values) × (self.new.work ≡ self.old.work)) }
     {
         if self.fault.is_some() {
             return Ok(());
@@ -153,8 +177,7 @@ fn taken(
     place: Place,
     ending: Result<Items<Value>, Fault>,
 ) -> Result<Work, Memory>
-    ensures work { (plan : PlanView) → IfOk result (λ w. work_of plan w ≡ takes_at (place_of place) ending (work_of plan work)) }
-    ensures works { (plan : PlanView) (path : List ℕ) → WorksAt plan path work → IfOk result (WorksAt plan path) }
+    ensures { IfOk result (BecomesWork (with_stage (takes (place_of place) ending)) work) }
 {
     match work {
         Work::Runs(stage) => Ok(Work::Runs(match place {
@@ -174,11 +197,9 @@ pub(crate) fn take(
     behind: Behind,
     answer: Answer,
 ) -> Result<Going, Memory>
-    ensures pieces { IfOk result (λ g. pieces_of g ≡ heard_unless going.fault going.told (part_of answer.origin behind) answer.out (ending_of answer.outcome)) }
-    ensures values { IfOk result (λ g. g.values ≡ more_values (place_of behind.place) (ending_of answer.outcome) going.values) }
-    ensures work { (plan : PlanView) → IfOk result (λ g. work_of plan g.work ≡ takes_at (place_of behind.place) (ending_of answer.outcome) (work_of plan going.work)) }
-    ensures works { (plan : PlanView) (path : List ℕ) → WorksAt plan path going.work → IfOk result (λ g. WorksAt plan path g.work) }
+    ensures { IfOk result (Takes (part_of answer.origin behind ∷ []) (eval answer.plan answer.origin ∷ []) going) }
 {
+    laws::answers_are_evaluations();
     let Answer { out, outcome, .. } = answer;
     let Behind { place, events } = behind;
     let ending = ending(alloc, outcome)?;

@@ -92,11 +92,10 @@ impl Pieces {
     }
 
     /// Whether no answer is awaited.
-    #[tactic(auto, using(crate::proofs::Handed::no_parts))]
     pub fn is_alone(&self) -> bool
         ensures { IsTrue result ↔ (self.now.handed ≡ []) }
     {
-        self.awaited.0.is_empty()
+        self.awaited.as_slice().is_empty()
     }
 
     /// The events in front of the first child, and the fault that ends them, if there is one.

@@ -1,16 +1,12 @@
 // How a task goes on from a wait.
-ghost use Rattle.std.specs.Prelude.{◌≡◌, ◌-◌, ◌+◌, ℕ, List, [], true, false, length, drop, replicate, IfOk, Some};
-ghost use Rattle.std.specs.Option.{option_copied};
-ghost use Rattle.serial_meaning.specs.Eval.{eval};
+ghost use Rattle.std.specs.Prelude.{◌≡◌, ◌-◌, List, [], true, length, drop, IfOk};
 ghost use Rattle.serial_meaning.specs.Plan.{PlanView};
-ghost use Rattle.strand_meaning.specs.Pieces.{heard_all};
-ghost use Rattle.strand_meaning.specs.Rest.{evaluations};
-ghost use Rattle.strand_meaning.specs.Task.{all_values, resumed};
-ghost use Rattle.strand_machine.specs.Family.{FamilyView, tags, AwaitsCount};
-ghost use Rattle.strand_machine.specs.Going.{pieces_of, takes_all_at, go_on_work};
+ghost use Rattle.strand_meaning.specs.Task.{resumed, resumed_work};
+ghost use Rattle.strand_machine.specs.Family.{tags, origins, AwaitsCount};
+ghost use Rattle.strand_machine.specs.Going.{BecomesStage, BecomesWork, IsAnswered, Takes, meanings};
 ghost use Rattle.strand_machine.specs.Parts.{awaited, parts_of};
 ghost use Rattle.strand_machine.specs.Stops.{answer_tags, view_on};
-ghost use Rattle.strand_machine.specs.Tasks.{stage_of, work_of, StandsAt, WorksAt, IsSound, view_of};
+ghost use Rattle.strand_machine.specs.Tasks.{view_of};
 ghost use Rattle.strand_machine.specs.declared.work.Stage.TheVariants as stage;
 
 use crate::body::Body;
@@ -23,8 +19,9 @@ use crate::task::Task;
 use crate::work::{Stage, Work};
 use meet_block::Look;
 use script_grammar::Items;
-use serial_meaning::{Answer, Origin, Plan};
+use serial_meaning::Answer;
 use std::alloc::Global;
+use strand_meaning::laws;
 use strand_moves::Instance;
 
 /// The answers of the last children, of whom so many are awaited.
@@ -45,8 +42,7 @@ fn take_answers(family: &mut Family, alloc: Global, awaited: u64) -> Result<Item
 
 /// An instance at a sync goes on, or ends by the least fault of the children for which it waited.
 fn join(instance: Instance) -> Result<Stage, Memory>
-    ensures stage { (plan : PlanView) → IfOk result (λ s. stage_of plan s ≡ resumed (stage_of plan (stage.AtSync instance))) }
-    ensures stands { (plan : PlanView) (path : List ℕ) → StandsAt plan path (stage.AtSync instance) → IfOk result (StandsAt plan path) }
+    ensures { IfOk result (BecomesStage resumed (stage.AtSync instance)) }
 {
     let fault = match instance.faulted() {
         Some(fault) => fault.share()?,
@@ -55,41 +51,49 @@ fn join(instance: Instance) -> Result<Stage, Memory>
     Ok(Stage::Joined(fault))
 }
 
+/// A stage once a wait is over.
+fn go_on_stage(stage: Stage) -> Result<Stage, Memory>
+    ensures { IfOk result (BecomesStage resumed stage) }
+{
+    match stage {
+        Stage::AtSync(instance) => join(instance),
+        Stage::Goes(instance) => Ok(Stage::Goes(instance)),
+        Stage::AtLoop(instance) => Ok(Stage::Goes(instance)),
+        Stage::Gave(value) => Ok(Stage::Gave(value)),
+        Stage::Faulted(fault) => Ok(Stage::Faulted(fault)),
+        Stage::Joined(fault) => Ok(Stage::Joined(fault)),
+    }
+}
+
 /// What remains once a wait is over.
 fn go_on_work(work: Work) -> Result<Work, Memory>
-    ensures work { (plan : PlanView) → IfOk result (λ w. work_of plan w ≡ go_on_work (work_of plan work)) }
-    ensures works { (plan : PlanView) (path : List ℕ) → WorksAt plan path work → IfOk result (WorksAt plan path) }
+    ensures { IfOk result (BecomesWork (resumed_work [] []) work) }
 {
-    Ok(match work {
-        Work::Runs(Stage::AtSync(instance)) => Work::Runs(join(instance)?),
-        Work::Runs(Stage::AtLoop(instance)) => Work::Runs(Stage::Goes(instance)),
-        Work::Over(value, _) => Work::Over(value, true),
-        other => other,
-    })
+    match work {
+        Work::Splits(range) => Ok(Work::Splits(range)),
+        Work::Runs(stage) => {
+            let stage = go_on_stage(stage)?;
+            Ok(Work::Runs(stage))
+        }
+        Work::Over(value, _) => Ok(Work::Over(value, true)),
+    }
 }
 
 /// The answers of all awaited children, in order.
 fn take_all(
     mut going: Going,
     alloc: Global,
-    plan: &Plan,
-    children: &[Origin],
     behind: Vec<Behind>,
     answers: Items<Answer>,
 ) -> Result<Going, Memory>
-    requires same { length children.now ≡ length behind.items }
-    requires tags { answer_tags answers ≡ tags plan.now children.now }
-    ensures pieces { let parts = parts_of children.now behind.items in
-        IfOk result (λ g. pieces_of g ≡ heard_all parts (evaluations (eval plan.now) parts) (pieces_of going)) }
-    ensures values { let parts = parts_of children.now behind.items in
-        IfOk result (λ g. g.values ≡ all_values parts (evaluations (eval plan.now) parts) going.values) }
-    ensures work { let parts = parts_of children.now behind.items in
-        IfOk result (λ g. work_of plan.now g.work ≡ takes_all_at parts (evaluations (eval plan.now) parts) (work_of plan.now going.work)) }
-    ensures works { (path : List ℕ) → WorksAt plan.now path going.work → IfOk result (λ g. WorksAt plan.now path g.work) }
+    requires { length answers ≡ length behind.items }
+    ensures { let told = answer_tags answers in IfOk result (Takes (parts_of (origins told) behind.items) (meanings told) going) }
 {
     let mut answers = answers.0.into_iter();
     for part in behind {
-        let Some(answer) = answers.next() else { break };
+        let Some(answer) = answers.next() else {
+            unreachable!()
+        };
         going = take(going, alloc, part, answer)?;
     }
     Ok(going)
@@ -97,10 +101,11 @@ fn take_all(
 
 /// The task with its children's answers.
 fn go_on(body: Body, alloc: Global, work: Work, answers: Items<Answer>) -> Result<Task, Memory>
-    requires sound { IsSound body work }
+    requires sound { IsAnswered body work }
     requires tags { answer_tags answers ≡ tags body.family.plan (awaited body.pieces.handed) }
     ensures { IfOk result (λ task. task ≡ view_on (view_of body work)) }
 {
+    laws::answers_keep_tasks();
     let Body {
         family,
         pieces,
@@ -111,8 +116,8 @@ fn go_on(body: Body, alloc: Global, work: Work, answers: Items<Answer>) -> Resul
     let Pieces {
         told,
         fault,
-        awaited,
         behind,
+        ..
     } = pieces;
     let going = Going {
         told,
@@ -125,14 +130,7 @@ fn go_on(body: Body, alloc: Global, work: Work, answers: Items<Answer>) -> Resul
         fault,
         values,
         work,
-    } = take_all(
-        going,
-        alloc,
-        family.plan(),
-        awaited.as_slice(),
-        behind,
-        answers,
-    )?;
+    } = take_all(going, alloc, behind, answers)?;
     let pieces = Pieces {
         told,
         fault,

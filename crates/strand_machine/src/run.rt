@@ -16,6 +16,7 @@ use crate::step::{pass, spawn};
 use crate::stop::Step;
 use crate::work::{Stage, Work};
 use std::alloc::Global;
+use strand_meaning::laws;
 use strand_moves::{Instance, Moved, Shown};
 
 /// What a move showed joins the pieces; a child is handed out.
@@ -67,6 +68,7 @@ pub(crate) fn go(body: Body, alloc: Global, mut instance: Instance) -> Result<St
     requires { IsSound body (work.Runs (stage.Goes instance)) }
     ensures { IfOk result (IsStep (view_of body (work.Runs (stage.Goes instance)))) }
 {
+    laws::steps_are_sound();
     match instance.step(alloc, body.family.plan())? {
         Moved::Went(shown) => show(body, alloc, instance, shown),
         Moved::Gave(value) => Ok(pass(body, Work::Runs(Stage::Gave(value)))),

@@ -1,11 +1,9 @@
 // One move of a task, or its stop.
-ghost use Rattle.std.specs.Prelude.{◌≡◌, IfOk};
-ghost use Rattle.serial_meaning.specs.Answer.{IsAnswer};
+ghost use Rattle.std.specs.Prelude.{◌≡◌, ◌++◌, ◌∷◌, [], IfOk};
 ghost use Rattle.serial_meaning.specs.Laws.{IsOriginOf};
 ghost use Rattle.serial_meaning.specs.declared.answer.Outcome.TheVariants as outcome;
-ghost use Rattle.strand_machine.specs.Family.{tag};
-ghost use Rattle.strand_machine.specs.Stops.{IsStep};
-ghost use Rattle.strand_machine.specs.Tasks.{IsSound, view_of, fresh, gone, waiting, with_child, ended_by};
+ghost use Rattle.strand_machine.specs.Stops.{IsStep, CanEnd, ended};
+ghost use Rattle.strand_machine.specs.Tasks.{IsSound, view_of, fresh, gone, waiting, with_child};
 ghost use Rattle.strand_machine.specs.declared.work.Stage.TheVariants as stage;
 ghost use Rattle.strand_machine.specs.declared.work.Work.TheVariants as work;
 
@@ -20,6 +18,7 @@ use crate::work::{Stage, Work, begin_last};
 use loop_range::IterRange;
 use serial_meaning::{Origin, Outcome, Value};
 use std::alloc::Global;
+use strand_meaning::laws;
 
 /// The task goes on with this.
 pub(crate) fn pass(mut body: Body, work: Work) -> Step
@@ -44,15 +43,8 @@ fn wait(mut body: Body, work: Work) -> Step
 
 /// The task has ended: by the fault among its pieces, or else so.
 fn end(body: Body, outcome: Outcome) -> Step
-    requires { IsAnswer body.family.plan body.family.origin body.pieces.told (ended_by body.pieces.fault outcome) }
-    ensures { result ≡ Step.Stops (Stop.Done
-        (record {
-          plan = body.family.plan;
-          origin = body.family.origin;
-          out = body.pieces.told;
-          outcome = ended_by body.pieces.fault outcome;
-        })
-        (tag body.family.plan body.family.origin)) }
+    requires { CanEnd body outcome }
+    ensures { result ≡ ended body outcome }
 {
     let Body { family, pieces, .. } = body;
     let (told, fault) = pieces.told();
@@ -93,6 +85,7 @@ fn split(mut body: Body, alloc: Global, range: IterRange) -> Result<Step, Memory
     requires { IsSound body (work.Splits range) }
     ensures { IfOk result (IsStep (view_of body (work.Splits range))) }
 {
+    laws::steps_are_sound();
     if let Some((lower, upper)) = range.split() {
         let child = part_of(alloc, body.family.origin(), lower)?;
         return spawn(body, alloc, child, Place::Half, Work::Splits(upper));
@@ -110,23 +103,36 @@ fn give(body: Body, value: Value) -> Step
     requires { IsSound body (work.Runs (stage.Gave value)) }
     ensures { IsStep (view_of body (work.Runs (stage.Gave value))) result }
 {
+    laws::steps_are_sound();
     match body.family.origin() {
         Origin::Instance { .. } => end(body, Outcome::Value(value)),
         Origin::Loop { .. } => pass(body, Work::Over(value, false)),
     }
 }
 
-/// A loop whose last iteration gave this value. Where it handed out a part it waits for it first.
-fn close(mut body: Body, alloc: Global, value: Value, gone_on: bool) -> Result<Step, Memory>
-    requires { IsSound body (work.Over value gone_on) }
-    ensures { IfOk result (IsStep (view_of body (work.Over value gone_on))) }
+/// A loop that ends with this value behind those that were taken.
+fn close_with(mut body: Body, alloc: Global, value: Value) -> Result<Step, Memory>
+    requires { CanEnd body (outcome.Values (body.values ++ value ∷ [])) }
+    ensures { IfOk result (λ step. step ≡ ended body (outcome.Values (body.values ++ value ∷ []))) }
 {
-    if !gone_on && body.is_long() {
-        return Ok(wait(body, Work::Over(value, false)));
-    }
     let mut values = body.take_values(alloc);
     values.0.push(value)?;
     Ok(end(body, Outcome::Values(values)))
+}
+
+/// A loop whose last iteration gave this value. Where it handed out a part it waits for it first.
+fn close(body: Body, alloc: Global, value: Value, gone_on: bool) -> Result<Step, Memory>
+    requires { IsSound body (work.Over value gone_on) }
+    ensures { IfOk result (IsStep (view_of body (work.Over value gone_on))) }
+{
+    laws::steps_are_sound();
+    if gone_on {
+        return close_with(body, alloc, value);
+    }
+    if body.is_long() {
+        return Ok(wait(body, Work::Over(value, false)));
+    }
+    close_with(body, alloc, value)
 }
 
 /// An instance, by where it stands.
@@ -134,6 +140,7 @@ fn run(body: Body, alloc: Global, stage: Stage) -> Result<Step, Memory>
     requires { IsSound body (work.Runs stage) }
     ensures { IfOk result (IsStep (view_of body (work.Runs stage))) }
 {
+    laws::steps_are_sound();
     Ok(match stage {
         Stage::Goes(instance) => go(body, alloc, instance)?,
         Stage::AtSync(instance) => wait(body, Work::Runs(Stage::AtSync(instance))),

@@ -15,6 +15,7 @@ use serial_meaning::{Answer, Origin, Plan};
 use std::alloc::Global;
 use std::marker::Model;
 use std::sync::Arc;
+use strand_meaning::laws;
 
 /// An instance or a loop that can stop, hand out children and go on. Contracts see it by its meaning (docs/LANGUAGE.md, "Tasks"):
 /// to finish it gives the serial meaning of its origin, whoever runs its children.
@@ -26,12 +27,13 @@ pub struct Task {
 
 impl Model for Task {
     ghost use Rattle.std.specs.Coded.{codes};
+    ghost use Rattle.script_grammar.specs.contracts.tree.Stmt as statement_type;
     ghost use Rattle.serial_meaning.specs.contracts.plan.Plan as plan_type;
     ghost use Rattle.strand_machine.specs.Tasks.{TaskView, view_of, IsSound};
 
     ghost Value = { TaskView };
 
-    ghost coded = { Prim.hlevel (codes, plan_type.the_row.coded) };
+    ghost coded = { Prim.hlevel (codes, statement_type.the_row.coded, plan_type.the_row.coded) };
 
     ghost view = { λ t. view_of t.body t.work };
 
@@ -52,6 +54,8 @@ impl Task {
         requires known { IsOriginOf (arc_value plan) origin }
         ensures { IfOk result (λ task. task ≡ fresh (arc_value plan) origin) }
     {
+        laws::valid_plans_are_clear();
+        laws::tasks_begin();
         let _script = plan.checked.script();
         let work = begin(alloc, &plan, &origin)?;
         let body = Body {

@@ -16,6 +16,7 @@ use ped_path::Ped;
 use script_grammar::Items;
 use serial_meaning::{Fault, Origin, Plan, Value};
 use std::alloc::Global;
+use strand_meaning::laws;
 use strand_moves::Instance;
 
 /// Where an instance stands.
@@ -52,6 +53,8 @@ pub(crate) fn begin(alloc: Global, plan: &Plan, origin: &Origin) -> Result<Work,
     ensures begun { IfOk result (λ work. work_of plan.now work ≡ begun_work plan.now origin.now) }
     ensures works { IfOk result (WorksAt plan.now (path_of (own_instance origin.now))) }
 {
+    laws::origins_fit();
+    let _depth = plan.limits.depth;
     Ok(match origin {
         Origin::Instance {
             function,
@@ -72,6 +75,8 @@ pub(crate) fn begin_last(alloc: Global, plan: &Plan, origin: &Origin) -> Result<
     ensures begun { IfOk result (λ work. work_of plan.now work ≡ begins_last plan.now origin.now) }
     ensures works { IfOk result (WorksAt plan.now (path_of (own_instance origin.now))) }
 {
+    laws::origins_fit();
+    let _depth = plan.limits.depth;
     match origin {
         Origin::Instance { .. } => begin(alloc, plan, origin),
         Origin::Loop {
@@ -82,7 +87,7 @@ pub(crate) fn begin_last(alloc: Global, plan: &Plan, origin: &Origin) -> Result<
             range,
         } => {
             let k = range.hi.saturating_sub(1);
-            let number = first.checked_add(k as i64).ok_or(Memory)?;
+            let number = first.wrapping_add_unsigned(k);
             let mut args = share_values(alloc, rest.as_slice())?;
             args.0.insert(0, Value::Int(number))?;
             let path = iteration_path(path, alloc, k)?;

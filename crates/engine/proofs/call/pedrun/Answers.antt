@@ -1,4 +1,4 @@
-use Rattle.std.proofs.Common.{◌≡◌, refl}
+use Rattle.std.proofs.Common.{refl}
 use Rattle.engine.specs.Report.{plan_of}
 use Rattle.engine.proofs.PromiseLemmas.{words_exactly, read_cause, write_cause, script_refused, report_written}
 use Rattle.engine.proofs.call.pedrun.Goals as goal

@@ -1,0 +1,5 @@
+pub mod Hands
+pub mod Mains
+pub mod Shows
+pub mod Turning
+pub mod Turns

@@ -1,0 +1,179 @@
+-- A turn of a worker keeps its stack sound.
+use Rattle.std.proofs.Common.{◌≡◌, true, List, [], ◌∷◌, ◌++◌, Option, Some, None, Result, Ok, Err, IfOk, append-nil, refl, sym, ap, ◌∙◌, subst}
+use Rattle.serial_meaning.specs.Answer.{AnswerView, AnswerTag}
+use Rattle.serial_meaning.specs.Eval.{Evaluation, eval}
+use Rattle.serial_meaning.specs.Plan.{PlanView}
+use Rattle.serial_meaning.specs.declared.value.Value.{Value}
+use Rattle.serial_meaning.specs.declared.event.Event.{Event}
+use Rattle.serial_meaning.specs.declared.event.Fault.{Fault}
+use Rattle.serial_meaning.specs.declared.origin.Origin.{Origin}
+use Rattle.strand_meaning.specs.Laws.{IsOf, IsSoundStop, KeepsOrigin, LeavesFewer}
+use Rattle.strand_meaning.specs.Pieces.{Part, Pieces, heard_unless, heard, heard_all}
+use Rattle.strand_meaning.specs.Rest.{evaluations}
+use Rattle.strand_meaning.specs.Sound.{IsTask}
+use Rattle.strand_meaning.specs.Task.{Task, start, Stop, Spawn, Wait, End}
+use Rattle.strand_meaning.proofs.Ends.{tasks_begin}
+use Rattle.strand_meaning.proofs.Fewer.{stops_fall}
+use Rattle.strand_meaning.proofs.Onward.{answers_keep_tasks}
+use Rattle.strand_meaning.proofs.Stops.{stops_are_sound, stops_keep_origins}
+use Rattle.strand_machine.specs.Family.{tag, tags}
+use Rattle.strand_machine.specs.Parts.{awaited}
+use Rattle.strand_machine.specs.Stops.{IsStop, answer_tags, went_on, view_on}
+use Rattle.strand_machine.specs.Tasks.{TaskView, fresh}
+use Rattle.strand_machine.specs.declared.stop.Stop.TheVariants as stop
+use Rattle.crew.specs.Stacks.{task_of, IsFrame, AreBelow, IsStack, root_of, tasks, with_answer, Follows, Closes, IsTurn}
+use Rattle.crew.specs.declared.frames.Frame.{Frame}
+use Rattle.crew.specs.declared.stack.Stack.{Stack}
+use Rattle.crew.specs.declared.stack.Turn.{Turn}
+use Rattle.crew.specs.declared.stack.Turn.TheVariants.{Goes, Ends}
+use Rattle.crew.specs.declared.memory.Memory.{Memory}
+use Rattle.crew.proofs.Hands.{handed, HandsStop, stops_hand}
+
+-- Tags
+
+tags-append : (plan : PlanView) (os more : List Origin) → tags plan (os ++ more) ≡ tags plan os ++ tags plan more
+tags-append plan [] more = refl
+tags-append plan (o ∷ os) more = ap (λ l. tag plan o ∷ l) (tags-append plan os more)
+
+answer-tags-append : (first more : List AnswerView) → answer_tags (first ++ more) ≡ answer_tags first ++ answer_tags more
+answer-tags-append [] more = refl
+answer-tags-append (a ∷ first) more = ap (λ l. tag a.plan a.origin ∷ l) (answer-tags-append first more)
+
+-- Children that a wait is over with aren't awaited
+
+heard-none : (f : Option Fault) (told : List Event) (p : Part) (events : List Event) (ending : Result (List Value) Fault) → (heard_unless f told p events ending).handed ≡ []
+heard-none (Some f) told p events ending = refl
+heard-none None told p events (Ok vs) = refl
+heard-none None told p events (Err f) = refl
+
+none-heard : (ps : List Part) (answers : List Evaluation) (pieces : Pieces) → pieces.handed ≡ [] → (heard_all ps answers pieces).handed ≡ []
+none-heard [] answers pieces h = h
+none-heard (p ∷ ps) [] pieces h = h
+none-heard (p ∷ ps) (a ∷ answers) pieces h = none-heard ps answers (heard p a pieces) (heard-none pieces.fault pieces.told p a.items a.ending)
+
+-- Stacks
+
+-- only the plan and the origin of the task above count
+below-same : (t u : Task) (fs : List Frame) → IsOf t u → AreBelow t fs → AreBelow u fs
+below-same t u [] same b = tt
+below-same t u (f ∷ fs) same b = (same.0 ∙ b.0, subst (λ (o : Origin). IsFrame (o ∷ []) f) (sym same.1) b.1, b.2)
+
+root-same : (t u : Task) (fs : List Frame) → IsOf t u → IsOf (root_of t fs) (root_of u fs)
+root-same t u [] same = same
+root-same t u (f ∷ fs) same = (refl, refl)
+
+begun-frame : (plan : PlanView) (o : Origin) → IsTask (start plan o) → IsFrame [] (record { task = fresh plan o; answers = [] })
+begun-frame plan o is = record { task = is; idle = refl; answers = refl }
+
+-- the stack of an origin's task alone
+pub begun_stack : (plan : PlanView) (o : Origin) (top : Frame) (below : List Frame) → IsTask (start plan o) → top ≡ record { task = fresh plan o; answers = [] } → below ≡ [] → IsStack (record { top = top; below = below })
+begun_stack plan o top below is e h = record { top = subst (IsFrame []) (sym e) (begun-frame plan o is); below = subst (AreBelow (task_of top)) (sym h) tt }
+
+-- A turn of a sound stack, by the stop of its topmost task
+module _ (s : Stack) (is : IsStack s) where
+  abbrev t : Task
+  t = task_of s.top
+
+  abbrev frame : TaskView → List AnswerView → Frame
+  frame v answers = record { task = v; answers = answers }
+
+  module _ (child rest : TaskView) (at : IsStop s.top.task (stop.Spawn child rest)) where
+    abbrev c : Origin
+    c = child.task.origin
+
+    abbrev to : Stop
+    to = Spawn c rest.task
+
+    is-fresh : child ≡ fresh t.plan c
+    is-fresh = at.keeps.0
+
+    begun : child.task ≡ start t.plan c
+    begun = ap (λ (v : TaskView). v.task) is-fresh
+
+    with-child : IsSoundStop t to → KeepsOrigin t to → LeavesFewer t to → HandsStop t to → Follows s (record { top = frame child []; below = frame rest s.top.answers ∷ s.below })
+    with-child sound same fewer hands = record {
+      sound = record {
+        top = subst (λ (v : TaskView). IsFrame [] (frame v [])) (sym is-fresh) (begun-frame t.plan c (tasks_begin t.plan c sound.0 is.top.task.clear));
+        below = (ap (λ (u : Task). u.plan) begun ∙ sym same.0, record { task = sound.1; idle = fewer.1; answers = answers }, below-same t rest.task s.below same is.below);
+      };
+      root = root-same t rest.task s.below same;
+      stop = to;
+      comes = at.next;
+      leaves = ap (λ (u : Task). u ∷ rest.task ∷ tasks s.below) (begun ∙ ap (λ (p : PlanView). start p c) (sym same.0));
+    }
+      where
+        answers : answer_tags s.top.answers ++ tags rest.task.plan (c ∷ []) ≡ tags rest.task.plan (handed rest.task)
+        answers =
+            ap (λ (l : List AnswerTag). l ++ tags rest.task.plan (c ∷ [])) (sym (append-nil (answer_tags s.top.answers)) ∙ is.top.answers ∙ ap (λ (p : PlanView). tags p (handed t)) (sym same.0))
+            ∙ sym (tags-append rest.task.plan (handed t) (c ∷ [])) ∙ ap (tags rest.task.plan) (sym hands.0)
+
+    -- A child goes on top.
+    pub spawned : (top : Frame) (below : List Frame) → top ≡ record { task = child; answers = [] } → below ≡ record { task = rest; answers = s.top.answers } ∷ s.below → Follows s (record { top = top; below = below })
+    spawned top below e h =
+        subst (λ (f : Frame). Follows s (record { top = f; below = below })) (sym e) (subst (λ (fs : List Frame). Follows s (record { top = frame child []; below = fs })) (sym h)
+        (with-child (stops_are_sound t to is.top.task at.next) (stops_keep_origins t to at.next) (stops_fall t to is.top.task is.top.idle at.next) (stops_hand t to is.top.task at.next)))
+
+  module _ (rest : TaskView) (at : IsStop s.top.task (stop.Wait rest)) where
+    -- At a wait the answers are those of all children.
+    pub waits : rest.task.waiting ≡ true
+    waits = let fewer : LeavesFewer t (Wait rest.task) = stops_fall t (Wait rest.task) is.top.task is.top.idle at.next in fewer.1
+
+    pub has_answers : answer_tags s.top.answers ≡ tags rest.task.plan (awaited rest.task.pieces.handed)
+    has_answers =
+        let same : KeepsOrigin t (Wait rest.task) = stops_keep_origins t (Wait rest.task) at.next in
+        let hands : HandsStop t (Wait rest.task) = stops_hand t (Wait rest.task) is.top.task at.next in
+        sym (append-nil (answer_tags s.top.answers)) ∙ is.top.answers ∙ ap (λ (p : PlanView). tags p (handed t)) (sym same.0) ∙ ap (tags rest.task.plan) (sym hands)
+
+    none : (went_on rest).pieces.handed ≡ []
+    none = none-heard rest.task.pieces.handed (evaluations (eval rest.task.plan) rest.task.pieces.handed) _ refl
+
+    gone-on : IsSoundStop t (Wait rest.task) → KeepsOrigin t (Wait rest.task) → Follows s (record { top = frame (view_on rest) []; below = s.below })
+    gone-on sound same = record {
+      sound = record {
+        top = record { task = answers_keep_tasks rest.task sound; idle = refl; answers = ap (λ (l : List Part). tags rest.task.plan (awaited l)) (sym none) };
+        below = below-same t (went_on rest) s.below same is.below;
+      };
+      root = root-same t (went_on rest) s.below same;
+      stop = Wait rest.task;
+      comes = at.next;
+      leaves = refl;
+    }
+
+    -- It goes on.
+    pub went : (top : Frame) (v : TaskView) → top ≡ record { task = v; answers = [] } → v ≡ view_on rest → Follows s (record { top = top; below = s.below })
+    went top v e h =
+        subst (λ (f : Frame). Follows s (record { top = f; below = s.below })) (sym (e ∙ ap (λ (w : TaskView). frame w []) h))
+        (gone-on (stops_are_sound t (Wait rest.task) is.top.task at.next) (stops_keep_origins t (Wait rest.task) at.next))
+
+  module _ (answer : AnswerView) (give : AnswerTag) (at : IsStop s.top.task (stop.Done answer give)) where
+    to-parent : (f : Frame) (fs : List Frame) → s.below ≡ f ∷ fs → AreBelow t (f ∷ fs) → Follows s (with_answer answer f fs)
+    to-parent f fs e b = record {
+      sound = record { top = record { task = b.1.task; idle = b.1.idle; answers = answers }; below = b.2 };
+      root = subst (λ (l : List Frame). IsOf (root_of t l) (root_of (task_of f) fs)) (sym e) (refl, refl);
+      stop = End answer.out answer.outcome;
+      comes = at.next;
+      leaves = ap tasks (sym e);
+    }
+      where
+        answers : answer_tags (f.answers ++ answer ∷ []) ++ [] ≡ tags (task_of f).plan (awaited (task_of f).pieces.handed)
+        answers =
+            append-nil (answer_tags (f.answers ++ answer ∷ [])) ∙ answer-tags-append f.answers (answer ∷ [])
+            ∙ ap (λ (p : PlanView). answer_tags f.answers ++ tag p answer.origin ∷ []) (at.keeps.0 ∙ b.0)
+            ∙ ap (λ (o : Origin). answer_tags f.answers ++ tag (task_of f).plan o ∷ []) at.keeps.1 ∙ b.1.answers
+
+    abbrev IsEnd : List Frame → Type 0
+    IsEnd fs = Closes (record s { below = fs }) answer
+
+    -- An end's answer goes to the task below, or is the one of the task at the bottom.
+    pub ended : (result : Result Turn Memory) → ((f : Frame) (fs : List Frame) → s.below ≡ f ∷ fs → IfOk result (λ turn. turn ≡ Goes (with_answer answer f fs))) →
+        (s.below ≡ [] → IfOk result (λ turn. turn ≡ Ends answer)) → IfOk result (IsTurn s)
+    ended (Err e) parent last = tt
+    ended (Ok turn) parent last = by_below s.below refl
+      where
+        sound : IsSoundStop t (End answer.out answer.outcome)
+        sound = stops_are_sound t (End answer.out answer.outcome) is.top.task at.next
+
+        by_below : (fs : List Frame) → s.below ≡ fs → IsTurn s turn
+        by_below [] e =
+            let closes : Closes s answer = subst IsEnd (sym e) (record { plan = at.keeps.0; origin = at.keeps.1; fault = sound.1 }) in subst (IsTurn s) (sym (last e)) closes
+        by_below (f ∷ fs) e = let follows : Follows s (with_answer answer f fs) = to-parent f fs e (subst (AreBelow t) e is.below) in subst (IsTurn s) (sym (parent f fs e)) follows

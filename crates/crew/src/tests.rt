@@ -1,0 +1,146 @@
+// Small scripts, with what the language's rules say that they do.
+
+use crate::run_serial;
+use dotmix::Gamma;
+use script_check::check;
+use script_text::{MAX_BYTES, parse};
+use serial_meaning::{Answer, Limits, Outcome, Plan, Show, Strand, render_run, render_strand};
+use std::alloc::Global;
+use std::process::Abort;
+use std::sync::Arc;
+use std::test::Fail;
+
+/// What main answers where each instance has so many steps.
+fn answer(
+    rt: &(impl Abort + AllocGlobal),
+    text: &str,
+    depth: u32,
+    budget: u32,
+) -> Result<Answer, Fail> {
+    let alloc = rt.alloc();
+    assert!(rt; text.len() <= MAX_BYTES);
+    assert!(rt; 1 <= depth && depth <= 256 && 1 <= budget);
+    let checked = check(alloc, parse(alloc, text.as_bytes())?)?;
+    let gamma = Gamma::of_seed(alloc, 0, depth)?;
+    assert!(rt; gamma.len() == depth);
+    let plan = Plan::new(checked, gamma, Limits { depth, budget }, Show::Plain);
+    let plan = Arc::new(alloc, plan)?;
+    let origin = plan.main_origin(alloc)?;
+    Ok(run_serial(alloc, &plan, origin)?)
+}
+
+/// The script prints this.
+fn prints(
+    rt: &(impl Abort + AllocGlobal),
+    text: &str,
+    budget: u32,
+    output: &str,
+) -> Result<(), Fail> {
+    let answer = answer(rt, text, 256, budget)?;
+    assert_eq!(rt;
+        render_run(rt.alloc(), &answer)?.as_slice(),
+        output.as_bytes()
+    );
+    Ok(())
+}
+
+#[test]
+fn children_come_before_what_stands_behind_them(rt: HostRuntime) -> Result<(), Fail> {
+    prints(
+        &rt,
+        "fn f(x) { print x; return x * 10; }
+         fn main() { print 0; let a = spawn f(1); print 2; let b = spawn f(3); print 4; sync; print a + b; return 0; }",
+        100,
+        "0\n1\n2\n3\n4\n40\n",
+    )
+}
+
+#[test]
+fn spawns_may_be_nested(rt: HostRuntime) -> Result<(), Fail> {
+    prints(
+        &rt,
+        "fn fib(n) { let a = n; let b = 0; if 1 < n { a = spawn fib(n - 1); b = spawn fib(n - 2); sync; } return a + b; }
+         fn main() { let x = spawn fib(10); sync; print x; return 0; }",
+        100,
+        "55\n",
+    )?;
+    prints(
+        &rt,
+        "fn down(n) { let r = 0; if 0 < n { r = spawn down(n - 1); sync; } return r + 1; }
+         fn main() { let x = spawn down(200); sync; print x; return 0; }",
+        100,
+        "201\n",
+    )
+}
+
+#[test]
+fn loops_fill_their_targets(rt: HostRuntime) -> Result<(), Fail> {
+    prints(
+        &rt,
+        "fn square(i, k) { print i; return i * i + k; }
+         fn main() { let a[5]; pfor i in 0..5 into a call square(i, 100); print a[0]; print a[4]; print a[3]; return 0; }",
+        100,
+        "0\n1\n2\n3\n4\n100\n116\n109\n",
+    )?;
+    prints(
+        &rt,
+        "fn own(i) { return i; }
+         fn main() { let a[1000]; let k = 0; let s = 0; pfor i in 0..1000 into a call own(i);
+           while k < 1000 { s = s + a[k]; k = k + 1; } print s; return 0; }",
+        10000,
+        "499500\n",
+    )
+}
+
+#[test]
+fn a_fault_of_a_child_ends_the_run_there(rt: HostRuntime) -> Result<(), Fail> {
+    let bad = "fn bad() { let z = 0; return 1 / z; }
+         fn main() { print 7; let a = spawn bad(); print 8; sync; print a; return 0; }";
+    prints(&rt, bad, 100, "7\nfault 0.0: division by zero\n")?;
+    let later = "fn bad() { let z = 0; return 1 / z; }
+         fn main() { print 7; let a = spawn bad(); let i = 0; while i == 0 { i = 0; } sync; print a; return 0; }";
+    prints(&rt, later, 100, "7\nfault 0.0: division by zero\n")?;
+    let item = "fn f(i) { print i; return 6 / (2 - i); }
+         fn main() { let a[4]; pfor i in 0..4 into a call f(i); print 9; return 0; }";
+    prints(&rt, item, 100, "0\n1\n2\nfault 0.2.0: division by zero\n")
+}
+
+#[test]
+fn events_have_the_pedigrees_of_their_strands(rt: HostRuntime) -> Result<(), Fail> {
+    let answer = answer(
+        &rt,
+        "fn f() { let x = new; print x; return 0; }
+         fn g(i) { print i; let z = new; print z; return 0; }
+         fn main() { spawn f(); let y = new; print y; sync; pfor i in 0..2 call g(i); return 0; }",
+        3,
+        100,
+    )?;
+    let Answer { out, outcome, .. } = answer;
+    assert!(rt; matches!(outcome, Outcome::Value(_)));
+    let strand = Strand {
+        events: out,
+        fault: None,
+    };
+    assert_eq!(rt;
+        render_strand(rt.alloc(), &strand)?.as_slice(),
+        b"spawn 0\nnew 0.0\n0.0\nnew 1\n1\nsync 2\nloop 3\n0\nnew 3.0.0\n3.0.0\n1\nnew 3.1.0\n3.1.0\nsync 4\n".as_slice()
+    );
+    Ok(())
+}
+
+#[test]
+fn children_fit_the_depth(rt: HostRuntime) -> Result<(), Fail> {
+    let text =
+        "fn f() { return 5; } fn main() { print 1; let a = spawn f(); print 2; sync; print a; return 0; }";
+    let shallow = answer(&rt, text, 1, 100)?;
+    assert_eq!(rt;
+        render_run(rt.alloc(), &shallow)?.as_slice(),
+        b"1\nfault 0: depth\n".as_slice()
+    );
+    let deep = answer(&rt, text, 2, 100)?;
+    assert_eq!(rt;
+        render_run(rt.alloc(), &deep)?.as_slice(),
+        b"1\n2\n5\n".as_slice()
+    );
+    Ok(())
+}

@@ -1,0 +1,53 @@
+// One turn of a worker that runs each child to its end before what stands behind it.
+ghost use Rattle.std.specs.Prelude.{◌≡◌, List, [], ◌∷◌, IfOk};
+ghost use Rattle.crew.specs.declared.frames.Frame.{Frame};
+ghost use Rattle.crew.specs.Stacks.{IsStack, IsTurn, with_answer};
+
+use crate::frames::{Frame, Frames};
+use crate::memory::Memory;
+use crate::stack::{Stack, Turn};
+use serial_meaning::Answer;
+use std::alloc::Global;
+use strand_machine::Stop;
+
+/// The answer of a task that has ended goes to the one below it.
+fn answered(answer: Answer, mut below: Frames) -> Result<Turn, Memory>
+    ensures parent { (f : Frame) (fs : List Frame) → below ≡ f ∷ fs → IfOk result (λ turn. turn ≡ Turn.Goes (with_answer answer f fs)) }
+    ensures last { below ≡ [] → IfOk result (λ turn. turn ≡ Turn.Ends answer) }
+{
+    match below.pop() {
+        Some(mut top) => {
+            top.answers.0.push(answer)?;
+            Ok(Turn::Goes(Stack { top, below }))
+        }
+        None => Ok(Turn::Ends(answer)),
+    }
+}
+
+/// Runs the topmost task to its next stop. A child goes on top of it. Where it waits its children have ended, and it takes their
+/// answers. Its own answer goes to the task below.
+pub(crate) fn turn(stack: Stack, alloc: Global) -> Result<Turn, Memory>
+    requires { IsStack stack }
+    ensures { IfOk result (IsTurn stack) }
+{
+    let Stack { top, mut below } = stack;
+    let Frame { task, answers } = top;
+    let stop = task.advance(alloc)?;
+    match stop {
+        Stop::Spawn { child, rest } => {
+            let parent = Frame {
+                task: rest,
+                answers,
+            };
+            below.push(parent)?;
+            let top = Frame::of(alloc, child);
+            Ok(Turn::Goes(Stack { top, below }))
+        }
+        Stop::Wait { rest } => {
+            let task = rest.resume_with(alloc, answers)?;
+            let top = Frame::of(alloc, task);
+            Ok(Turn::Goes(Stack { top, below }))
+        }
+        Stop::Done { answer, .. } => answered(answer, below),
+    }
+}

@@ -1,0 +1,174 @@
+// The commands and their words, and what the streams do to them.
+
+use super::{DRAWS, ONE, call, generated, plain, prints, refuses, words};
+use crate::pedrun;
+use ped_io::{MemSink, MemSource};
+use std::test::Fail;
+
+#[test]
+fn pedigrees_have_their_draws(rt: HostRuntime) -> Result<(), Fail> {
+    let rows: [(&str, &[u8]); 3] = [
+        (
+            "hash --gamma 4294967296 --at 0",
+            b"dot 4294967296\ndraw 90194313216\n",
+        ),
+        (
+            "hash --gamma 18446744073709551556 --at 1",
+            b"dot 18446744073709551555\ndraw 108965703\n",
+        ),
+        ("hash --at 0 --gamma 1", b"dot 1\ndraw 21\n"),
+    ];
+    for (line, output) in rows {
+        prints(&rt, line, b"", output)?;
+    }
+    Ok(())
+}
+
+// The first line is known from the published generator, the second is its mix.
+#[test]
+fn seeds_give_coefficients(rt: HostRuntime) -> Result<(), Fail> {
+    let rows: [(&str, &[u8]); 2] = [
+        ("hash --seed 0 --at 0", b"dot 16294208416658607535\n"),
+        ("hash --seed 0 --at 0.0", b"dot 5807750865143411678\n"),
+    ];
+    for (line, first) in rows {
+        let told = plain(rt.alloc(), line, b"")?;
+        assert_eq!(rt; told.code, 0);
+        assert!(rt; told.out.as_slice().starts_with(first));
+    }
+    Ok(())
+}
+
+#[test]
+fn pedigrees_have_at_most_256_ranks(rt: HostRuntime) -> Result<(), Fail> {
+    let mut line = String::from_str(rt.alloc(), "hash --gamma 1 --at 0")?;
+    for _ in 0..255 {
+        line.push_str(".0")?;
+    }
+    prints(&rt, line.as_str(), b"", b"dot 1\ndraw 21\n")?;
+    line.push_str(".0")?;
+    refuses(
+        &rt,
+        line.as_str(),
+        b"",
+        2,
+        b"words: out of range at word 4\n",
+    )
+}
+
+#[test]
+fn generated_scripts_are_canonical(rt: HostRuntime) -> Result<(), Fail> {
+    for line in [
+        "gen --shape fib --size 20",
+        "gen --size 10 --shape tree",
+        "gen --shape loop --size 4096",
+    ] {
+        let script = generated(&rt, line)?;
+        assert!(rt; script.as_slice().starts_with(b"fn "), "{line}");
+        prints(&rt, "fmt", script.as_slice(), script.as_slice())?;
+        prints(&rt, "check", script.as_slice(), b"ok\n")?;
+    }
+    Ok(())
+}
+
+#[test]
+fn scripts_have_a_canonical_text(rt: HostRuntime) -> Result<(), Fail> {
+    let rows: [(&[u8], &[u8]); 4] = [
+        (b"", b""),
+        (
+            b"fn main(){print (1+2)*3;return 0;}",
+            b"fn main() {\n  print (1 + 2) * 3;\n  return 0;\n}\n",
+        ),
+        (
+            b"fn f(id y)->id{return y;}# end",
+            b"fn f(id y) -> id {\n  return y;\n}\n",
+        ),
+        (
+            b"fn main(){if 1<2{sync;}else{}return -(1+2);}",
+            b"fn main() {\n  if 1 < 2 {\n    sync;\n  }\n  return -(1 + 2);\n}\n",
+        ),
+    ];
+    for (script, text) in rows {
+        prints(&rt, "fmt", script, text)?;
+        prints(&rt, "fmt", text, text)?;
+    }
+    Ok(())
+}
+
+#[test]
+fn words_that_give_no_command_are_refused(rt: HostRuntime) -> Result<(), Fail> {
+    let rows: [(&str, &[u8]); 12] = [
+        ("", b"words: no command at word 0\n"),
+        ("go", b"words: unknown command at word 0\n"),
+        ("run --workers 0", b"words: out of range at word 2\n"),
+        ("run --workers 65", b"words: out of range at word 2\n"),
+        (
+            "run --budget 4294967296",
+            b"words: out of range at word 2\n",
+        ),
+        ("run --depth 257", b"words: out of range at word 2\n"),
+        ("run --seed 1 --seed 2", b"words: option twice at word 3\n"),
+        ("run --seed", b"words: missing value at word 1\n"),
+        ("hash", b"words: missing option at word 1\n"),
+        ("check x", b"words: stray word at word 1\n"),
+        ("replay --at 01", b"words: bad value at word 2\n"),
+        (
+            "hash --at 0 --gamma 18446744073709551557",
+            b"words: out of range at word 4\n",
+        ),
+    ];
+    for (line, refusal) in rows {
+        refuses(&rt, line, ONE, 2, refusal)?;
+    }
+    Ok(())
+}
+
+#[test]
+fn commands_that_are_not_built_are_refused(rt: HostRuntime) -> Result<(), Fail> {
+    for line in ["sim --number 0", "replay --at 0"] {
+        refuses(&rt, line, ONE, 2, b"words: not built yet\n")?;
+    }
+    Ok(())
+}
+
+#[test]
+fn faults_of_reads_and_writes_are_told(rt: HostRuntime) -> Result<(), Fail> {
+    let alloc = rt.alloc();
+    let read = call(
+        alloc,
+        "run --seed 0",
+        ONE.to_vec(alloc)?,
+        4096,
+        vec![in alloc; 1]?,
+        Vec::new(alloc),
+    )?;
+    assert_eq!(rt; read.code, 4);
+    assert_eq!(rt; read.out.as_slice(), b"".as_slice());
+    assert_eq!(rt; read.err.as_slice(), b"read fault\n".as_slice());
+    let write = call(
+        alloc,
+        "run --gamma 1",
+        DRAWS.to_vec(alloc)?,
+        4,
+        Vec::new(alloc),
+        vec![in alloc; 1]?,
+    )?;
+    assert_eq!(rt; write.code, 5);
+    assert_eq!(rt; write.out.as_slice(), b"21\n2".as_slice());
+    assert_eq!(rt; write.err.as_slice(), b"write fault\n".as_slice());
+    Ok(())
+}
+
+// A line that can't be written changes no status.
+#[test]
+fn a_failing_error_output_changes_no_status(rt: HostRuntime) -> Result<(), Fail> {
+    let alloc = rt.alloc();
+    let words = words(alloc, "go")?;
+    let mut source = MemSource::new(Vec::new(alloc), 4096, Vec::new(alloc));
+    let mut out = MemSink::new(alloc, 4096, 4096, Vec::new(alloc))?;
+    let mut err = MemSink::new(alloc, 4096, 4096, vec![in alloc; 0]?)?;
+    let status = pedrun(alloc, &words, &mut source, &mut out, &mut err);
+    assert_eq!(rt; status.code(), 2);
+    assert_eq!(rt; err.bytes(), b"".as_slice());
+    Ok(())
+}

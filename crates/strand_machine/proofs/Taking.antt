@@ -1,0 +1,325 @@
+-- A task that takes its children's answers, and goes on.
+use Rattle.std.proofs.Common.{◌≡◌, ℕ, zero, suc, ◌+◌, Bool, true, false, List, [], ◌∷◌, ◌++◌, Option, Some, None, Result, Ok, Err, length, replicate, refl, sym, ap, ◌∙◌, subst, arith, append-nil}
+use Rattle.serial_meaning.specs.Answer.{AnswerView, AnswerTag}
+use Rattle.std.specs.Borrow.{Bor}
+use Rattle.std.specs.Option.{option_copied}
+use Rattle.script_grammar.specs.declared.tree.Name.{Name}
+use Rattle.serial_meaning.specs.Eval.{Evaluation, first_of, eval}
+use Rattle.serial_meaning.specs.Plan.{PlanView}
+use Rattle.serial_meaning.specs.declared.value.Value.{Value}
+use Rattle.serial_meaning.specs.declared.event.Event.{Event}
+use Rattle.serial_meaning.specs.declared.event.Fault.{Fault}
+use Rattle.serial_meaning.specs.declared.origin.Origin.{Origin}
+use Rattle.strand_meaning.specs.Machine as machine
+use Rattle.strand_meaning.specs.Machine.{Half}
+use Rattle.strand_meaning.specs.Pieces.{Part, Pieces, heard, heard_all}
+use Rattle.strand_meaning.specs.Laws.{AnswersKeepTasks}
+use Rattle.strand_meaning.specs.Rest.{evaluations}
+use Rattle.strand_meaning.specs.Sound.{IsTask}
+use Rattle.strand_meaning.specs.Task as meaning
+use Rattle.strand_meaning.specs.Task.{Splits, Runs, Over, Task, changed, answered, with_values, joins, resumed, takes, takes_all, more_values, all_values, resumed_work, on}
+use Rattle.strand_machine.specs.Family.{FamilyView, HasPassed, HasStopped, tags, origins}
+use Rattle.strand_machine.specs.Going.{BecomesStage, BecomesWork, Takes, IsAnswered, with_stage, pieces_of, meanings}
+use Rattle.strand_machine.specs.Parts.{awaited, part_of, parts_of, place_of}
+use Rattle.strand_machine.specs.Stops.{answer_tags, went_on, view_on}
+use Rattle.strand_moves.specs.Machines.{IsInstance, machine_of, path_of}
+use Rattle.strand_moves.specs.declared.instance.Instance.{Instance}
+use Rattle.strand_machine.specs.Tasks.{TaskView, stage_of, work_of, task_of, view_of, StandsAt, WorksAt, AwaitsLast, IsSound}
+use Rattle.strand_machine.specs.declared.body.Body.{Body}
+use Rattle.strand_machine.specs.declared.going.Going.{Going}
+use Rattle.strand_machine.specs.declared.pieces.Behind.{Behind}
+use Rattle.strand_machine.specs.declared.place.Place.{Place}
+use Rattle.strand_machine.specs.declared.place.Place.TheVariants as place
+use Rattle.strand_machine.specs.declared.work.Stage.{Stage}
+use Rattle.strand_machine.specs.declared.work.Stage.TheVariants as stage
+use Rattle.strand_machine.specs.declared.work.Work.{Work}
+use Rattle.strand_machine.specs.declared.work.Work.TheVariants as work
+use Rattle.strand_machine.proofs.Answering.{origins-tags, awaits-count, taken-length}
+use Rattle.strand_machine.proofs.Handed.{awaited_parts}
+
+same-stage : (w : meaning.Work) → with_stage (λ s. s) w ≡ w
+same-stage (Splits left) = refl
+same-stage (Runs stage) = refl
+same-stage (Over v gone_on) = refl
+
+two-stages : (f g : meaning.Stage → meaning.Stage) (w : meaning.Work) → with_stage g (with_stage f w) ≡ with_stage (λ s. g (f s)) w
+two-stages f g (Splits left) = refl
+two-stages f g (Runs stage) = refl
+two-stages f g (Over v gone_on) = refl
+
+resumed-stage : (ps : List Part) (es : List Evaluation) (w : meaning.Work) → resumed_work [] [] (with_stage (takes_all ps es) w) ≡ resumed_work ps es w
+resumed-stage ps es (Splits left) = refl
+resumed-stage ps es (Runs stage) = refl
+resumed-stage ps es (Over v gone_on) = refl
+
+-- An instance
+
+pub value-taken : (plan : PlanView) (height : ℕ) (target t : Option Name) (values : List Value) (v : Value) (ending : Result (List Value) Fault) (i before after : Instance) →
+    i ≡ after → ending ≡ Ok values → t ≡ target → v ≡ first_of values →
+    machine_of plan after ≡ changed height (answered t (Ok (v ∷ []))) (machine_of plan before) → machine_of plan i ≡ changed height (answered target ending) (machine_of plan before)
+value-taken plan height target t values v ending i before after same is to first e =
+    ap (machine_of plan) same ∙ e ∙ ap (λ (x : Option Name). changed height (answered x (Ok (v ∷ []))) (machine_of plan before)) to
+    ∙ ap (λ (x : Value). changed height (answered target (Ok (x ∷ []))) (machine_of plan before)) first
+    ∙ ap (λ (x : Result (List Value) Fault). changed height (answered target x) (machine_of plan before)) (sym is)
+
+pub fault-taken : (plan : PlanView) (height : ℕ) (target : Option Name) (fault : Fault) (ending : Result (List Value) Fault) (i before after : Instance) →
+    i ≡ after → ending ≡ Err fault →
+    machine_of plan after ≡ changed height (answered target (Err fault)) (machine_of plan before) → machine_of plan i ≡ changed height (answered target ending) (machine_of plan before)
+fault-taken plan height target fault ending i before after same is e =
+    ap (machine_of plan) same ∙ e ∙ ap (λ (x : Result (List Value) Fault). changed height (answered target x) (machine_of plan before)) (sym is)
+
+pub values-taken : (plan : PlanView) (target t : Option Name) (values given : List Value) (before after : Instance) → t ≡ target → given ≡ values →
+    machine_of plan after ≡ with_values t given (machine_of plan before) → machine_of plan after ≡ with_values target values (machine_of plan before)
+values-taken plan target t values given before after to is e =
+    e ∙ ap (λ (x : Option Name). with_values x given (machine_of plan before)) to ∙ ap (λ (x : List Value). with_values target x (machine_of plan before)) is
+
+-- A stage
+
+module _ (change : meaning.Stage → meaning.Stage) (f : machine.Machine → machine.Machine) (s : Stage) (i j : Instance) where
+  pub at-goes : ((m : machine.Machine) → change (meaning.Goes m) ≡ meaning.Goes (f m)) → s ≡ stage.Goes i → ((plan : PlanView) → machine_of plan j ≡ f (machine_of plan i)) →
+      path_of j ≡ path_of i → ((plan : PlanView) → IsInstance plan i → IsInstance plan j) → BecomesStage change s (stage.Goes j)
+  at-goes meant is made path sound = subst (λ (x : Stage). BecomesStage change x (stage.Goes j)) (sym is) (record {
+    is = λ plan. ap (λ m. meaning.Goes m) (made plan) ∙ sym (meant (machine_of plan i));
+    stands = λ plan at h. record { sound = sound plan h.sound; at = path ∙ h.at };
+  })
+
+  pub at-sync : ((m : machine.Machine) → change (meaning.AtSync m) ≡ meaning.AtSync (f m)) → s ≡ stage.AtSync i → ((plan : PlanView) → machine_of plan j ≡ f (machine_of plan i)) →
+      path_of j ≡ path_of i → ((plan : PlanView) → IsInstance plan i → IsInstance plan j) → BecomesStage change s (stage.AtSync j)
+  at-sync meant is made path sound = subst (λ (x : Stage). BecomesStage change x (stage.AtSync j)) (sym is) (record {
+    is = λ plan. ap (λ m. meaning.AtSync m) (made plan) ∙ sym (meant (machine_of plan i));
+    stands = λ plan at h. record { sound = sound plan h.sound; at = path ∙ h.at };
+  })
+
+  pub at-loop : ((m : machine.Machine) → change (meaning.AtLoop m) ≡ meaning.AtLoop (f m)) → s ≡ stage.AtLoop i → ((plan : PlanView) → machine_of plan j ≡ f (machine_of plan i)) →
+      path_of j ≡ path_of i → ((plan : PlanView) → IsInstance plan i → IsInstance plan j) → BecomesStage change s (stage.AtLoop j)
+  at-loop meant is made path sound = subst (λ (x : Stage). BecomesStage change x (stage.AtLoop j)) (sym is) (record {
+    is = λ plan. ap (λ m. meaning.AtLoop m) (made plan) ∙ sym (meant (machine_of plan i));
+    stands = λ plan at h. record { sound = sound plan h.sound; at = path ∙ h.at };
+  })
+
+-- The same where it is the values of a loop that are taken.
+module _ (ending : Result (List Value) Fault) (target t : Option Name) (values given : List Value) (s : Stage) (i j : Instance) where
+  pub loops-goes : ending ≡ Ok values → t ≡ target → given ≡ values → s ≡ stage.Goes i → ((plan : PlanView) → machine_of plan j ≡ with_values t given (machine_of plan i)) →
+      path_of j ≡ path_of i → ((plan : PlanView) → IsInstance plan i → IsInstance plan j) → BecomesStage (takes (machine.Looped target) ending) s (stage.Goes j)
+  loops-goes is to same at made path sound =
+      at-goes (takes (machine.Looped target) ending) (with_values target values) s i j (λ m. ap (λ (x : Result (List Value) Fault). takes (machine.Looped target) x (meaning.Goes m)) is) at
+      (λ plan. values-taken plan target t values given i j to same (made plan)) path sound
+
+  pub loops-sync : ending ≡ Ok values → t ≡ target → given ≡ values → s ≡ stage.AtSync i → ((plan : PlanView) → machine_of plan j ≡ with_values t given (machine_of plan i)) →
+      path_of j ≡ path_of i → ((plan : PlanView) → IsInstance plan i → IsInstance plan j) → BecomesStage (takes (machine.Looped target) ending) s (stage.AtSync j)
+  loops-sync is to same at made path sound =
+      at-sync (takes (machine.Looped target) ending) (with_values target values) s i j (λ m. ap (λ (x : Result (List Value) Fault). takes (machine.Looped target) x (meaning.AtSync m)) is) at
+      (λ plan. values-taken plan target t values given i j to same (made plan)) path sound
+
+  pub loops-loop : ending ≡ Ok values → t ≡ target → given ≡ values → s ≡ stage.AtLoop i → ((plan : PlanView) → machine_of plan j ≡ with_values t given (machine_of plan i)) →
+      path_of j ≡ path_of i → ((plan : PlanView) → IsInstance plan i → IsInstance plan j) → BecomesStage (takes (machine.Looped target) ending) s (stage.AtLoop j)
+  loops-loop is to same at made path sound =
+      at-loop (takes (machine.Looped target) ending) (with_values target values) s i j (λ m. ap (λ (x : Result (List Value) Fault). takes (machine.Looped target) x (meaning.AtLoop m)) is) at
+      (λ plan. values-taken plan target t values given i j to same (made plan)) path sound
+
+pub joins-none : (i : Instance) (r : Option (Bor Fault)) → ((plan : PlanView) → option_copied r ≡ (machine_of plan i).top.faulted) → r ≡ None → BecomesStage resumed (stage.AtSync i) (stage.Goes i)
+joins-none i r h e = record {
+  is = λ plan. sym (ap (λ f. joins f (machine_of plan i)) (sym (h plan) ∙ ap option_copied e));
+  stands = λ plan path k. k;
+}
+
+pub joins-some : (i : Instance) (r : Option (Bor Fault)) (b : Bor Fault) (fault : Fault) → ((plan : PlanView) → option_copied r ≡ (machine_of plan i).top.faulted) → r ≡ Some b → fault ≡ b.now →
+    BecomesStage resumed (stage.AtSync i) (stage.Joined fault)
+joins-some i r b fault h e same = record {
+  is = λ plan. sym (ap (λ f. joins f (machine_of plan i)) (sym (h plan) ∙ ap option_copied e ∙ ap (λ (x : Fault). Some x) (sym same)));
+  stands = λ plan path k. tt;
+}
+
+pub runs-on : (w : Work) (before after : Stage) → w ≡ work.Runs before → BecomesStage resumed before after → BecomesWork (resumed_work [] []) w (work.Runs after)
+runs-on w before after is h = subst (λ (x : Work). BecomesWork (resumed_work [] []) x (work.Runs after)) (sym is) (record {
+  is = λ plan. ap (λ s. meaning.Runs s) (h.is plan);
+  works = λ plan path k. h.stands plan path k;
+})
+
+-- what remains is an instance, whose stage changed
+pub taken-at : (p : Place) (q : machine.Place) (ending : Result (List Value) Fault) (w : Work) (before after r : Stage) → place_of p ≡ q → r ≡ after → w ≡ work.Runs before →
+    BecomesStage (takes q ending) before after → BecomesWork (with_stage (takes (place_of p) ending)) w (work.Runs r)
+taken-at p q ending w before after r at same is h = record {
+  is = λ plan. ap (λ (s : Stage). meaning.Runs (stage_of plan s)) same ∙ ap (λ s. meaning.Runs s) (h.is plan) ∙ ap (λ x. with_stage (takes x ending) (meaning.Runs (stage_of plan before))) (sym at)
+      ∙ ap (λ (x : Work). with_stage (takes (place_of p) ending) (work_of plan x)) (sym is);
+  works = λ plan path k. subst (λ (s : Stage). StandsAt plan path s) (sym same) (h.stands plan path (subst (λ (x : Work). WorksAt plan path x) is k));
+}
+
+pub stage-stays : (ending : Result (List Value) Fault) (s : Stage) → BecomesStage (takes Half ending) s s
+stage-stays ending s = record { is = λ plan. refl; stands = λ plan path h. h }
+
+-- One child
+
+pub other-values : (p : Place) → (p ≡ place.Half → ⊥) → (ending : Result (List Value) Fault) (values : List Value) → more_values (place_of p) ending values ≡ values
+other-values (place.Spawned height target) h ending values = refl
+other-values (place.Looped target) h ending values = refl
+other-values place.Half h ending values = absurd (h refl)
+
+-- a part of a loop, whose values join those of the task
+pub takes-half : (p : Part) (e : Evaluation) (before heard-it after : Going) → p.place ≡ Half → pieces_of heard-it ≡ heard p e (pieces_of before) → heard-it.values ≡ before.values →
+    heard-it.work ≡ before.work → after ≡ record heard-it { values = more_values Half e.ending heard-it.values } → Takes (p ∷ []) (e ∷ []) before after
+takes-half p e before heard-it after half pieces values work is = record {
+  pieces = ap pieces_of is ∙ pieces;
+  values = ap (λ (g : Going). g.values) is ∙ ap (λ vs. more_values Half e.ending vs) values ∙ ap (λ place. more_values place e.ending before.values) (sym half);
+  work = record {
+    is = λ plan. ap (λ (g : Going). work_of plan g.work) is ∙ ap (λ w. work_of plan w) work ∙ sym (same-stage (work_of plan before.work)) ∙ ap (λ place. with_stage (takes place e.ending) (work_of plan before.work)) (sym half);
+    works = λ plan path h. subst (λ w. WorksAt plan path w) (sym (ap (λ (g : Going). g.work) is ∙ work)) h;
+  };
+}
+
+-- any other child
+pub takes-other : (p : Part) (e : Evaluation) (before heard-it after : Going) → more_values p.place e.ending before.values ≡ before.values → pieces_of heard-it ≡ heard p e (pieces_of before) →
+    heard-it.values ≡ before.values → heard-it.work ≡ before.work → BecomesWork (with_stage (takes p.place e.ending)) heard-it.work after.work → after ≡ record heard-it { work = after.work } →
+    Takes (p ∷ []) (e ∷ []) before after
+takes-other p e before heard-it after other pieces values work becomes is = record {
+  pieces = ap pieces_of is ∙ pieces;
+  values = ap (λ (g : Going). g.values) is ∙ values ∙ sym other;
+  work = subst (λ w. BecomesWork (with_stage (takes p.place e.ending)) w after.work) work becomes;
+}
+
+-- One child, and then the others
+
+pub takes-then : (p : Part) (ps : List Part) (e : Evaluation) (es : List Evaluation) (before between after : Going) → Takes (p ∷ []) (e ∷ []) before between → Takes ps es between after →
+    Takes (p ∷ ps) (e ∷ es) before after
+takes-then p ps e es before between after h k = record {
+  pieces = k.pieces ∙ ap (heard_all ps es) h.pieces;
+  values = k.values ∙ ap (all_values ps es) h.values;
+  work = record {
+    is = λ plan. k.work.is plan ∙ ap (with_stage (takes_all ps es)) (h.work.is plan) ∙ two-stages (takes p.place e.ending) (takes_all ps es) (work_of plan before.work);
+    works = λ plan path w. k.work.works plan path (h.work.works plan path w);
+  };
+}
+
+pub takes-none : (g : Going) → Takes [] [] g g
+takes-none g = record {
+  pieces = refl;
+  values = refl;
+  work = record { is = λ plan. sym (same-stage (work_of plan g.work)); works = λ plan path h. h };
+}
+
+-- All children
+
+meanings-tags : (plan : PlanView) (os : List Origin) (bs : List Behind) → length os ≡ length bs → meanings (tags plan os) ≡ evaluations (eval plan) (parts_of os bs)
+meanings-tags plan [] bs h = refl
+meanings-tags plan (o ∷ os) [] h = absurd (omega arith)
+meanings-tags plan (o ∷ os) (b ∷ bs) h = ap (λ es. eval plan o ∷ es) (meanings-tags plan os bs (omega arith))
+
+-- answers with the children's tags are the children's evaluations
+pub takes-awaited : (plan : PlanView) (os : List Origin) (bs : List Behind) (ts : List AnswerTag) (before after : Going) → length os ≡ length bs → ts ≡ tags plan (awaited (parts_of os bs)) →
+    Takes (parts_of (origins ts) bs) (meanings ts) before after → Takes (parts_of os bs) (evaluations (eval plan) (parts_of os bs)) before after
+takes-awaited plan os bs ts before after same are h =
+    let all : ts ≡ tags plan os = are ∙ ap (tags plan) (awaited_parts os bs same) in
+    let children : origins ts ≡ os = ap origins all ∙ origins-tags plan os in
+    let answers : meanings ts ≡ evaluations (eval plan) (parts_of os bs) = ap meanings all ∙ meanings-tags plan os bs same in
+    subst (λ es. Takes (parts_of os bs) es before after) answers (subst (λ cs. Takes (parts_of cs bs) (meanings ts) before after) children h)
+
+-- the task with the answers of its children, once its wait is over
+pub goes-on : (t : Task) (before after : Going) (rest : Work) → pieces_of before ≡ record t.pieces { handed = [] } → before.values ≡ t.values → work_of t.plan before.work ≡ t.work →
+    Takes t.pieces.handed (evaluations (eval t.plan) t.pieces.handed) before after → BecomesWork (resumed_work [] []) after.work rest →
+    ◌≡◌ {A = Task} (record t { pieces = pieces_of after; values = after.values; work = work_of t.plan rest; waiting = false }) (on (evaluations (eval t.plan) t.pieces.handed) t)
+goes-on t before after rest pieces values work h over =
+    let ps = t.pieces.handed in
+    let es = evaluations (eval t.plan) ps in
+    let told : pieces_of after ≡ heard_all ps es (record t.pieces { handed = [] }) = h.pieces ∙ ap (heard_all ps es) pieces in
+    let given : after.values ≡ all_values ps es t.values = h.values ∙ ap (all_values ps es) values in
+    let left : work_of t.plan rest ≡ resumed_work ps es t.work =
+    over.is t.plan ∙ ap (resumed_work [] []) (h.work.is t.plan) ∙ resumed-stage ps es (work_of t.plan before.work) ∙ ap (resumed_work ps es) work in
+    ap (λ (p : Pieces). record t { pieces = p; values = after.values; work = work_of t.plan rest; waiting = false }) told
+    ∙ ap (λ (vs : List Value). record t { pieces = heard_all ps es (record t.pieces { handed = [] }); values = vs; work = work_of t.plan rest; waiting = false }) given
+    ∙ ap (λ (w : meaning.Work). record t { pieces = heard_all ps es (record t.pieces { handed = [] }); values = all_values ps es t.values; work = w; waiting = false }) left
+
+-- The loop over the children
+
+pub takes-next : (xs ys : List AnswerView) (bs cs : List Behind) (a : AnswerView) (b : Behind) (before between after : Going) → xs ≡ a ∷ ys → bs ≡ b ∷ cs →
+    Takes (part_of a.origin b ∷ []) (eval a.plan a.origin ∷ []) before between → Takes (parts_of (origins (answer_tags ys)) cs) (meanings (answer_tags ys)) between after →
+    Takes (parts_of (origins (answer_tags xs)) bs) (meanings (answer_tags xs)) before after
+takes-next xs ys bs cs a b before between after e k h more =
+    let all : Takes (parts_of (origins (answer_tags (a ∷ ys))) (b ∷ cs)) (meanings (answer_tags (a ∷ ys))) before after =
+    takes-then (part_of a.origin b) (parts_of (origins (answer_tags ys)) cs) (eval a.plan a.origin) (meanings (answer_tags ys)) before between after h more in
+    subst (λ (ds : List Behind). Takes (parts_of (origins (answer_tags xs)) ds) (meanings (answer_tags xs)) before after) (sym k)
+    (subst (λ (zs : List AnswerView). Takes (parts_of (origins (answer_tags zs)) (b ∷ cs)) (meanings (answer_tags zs)) before after) (sym e) all)
+
+pub takes-no-more : (xs : List AnswerView) (bs : List Behind) (g : Going) → length xs ≡ 0 → length bs ≡ 0 → Takes (parts_of (origins (answer_tags xs)) bs) (meanings (answer_tags xs)) g g
+takes-no-more [] bs g h k = takes-none g
+takes-no-more (x ∷ xs) bs g h k = absurd (omega arith)
+
+-- The task behind its wait
+
+module _ (b : Body) (w : Work) (told : List Event) (fault : Option Fault) (os : List Origin) (bs : List Behind) (ts : List AnswerTag) (after : Going) (new-os : List Origin) (new-bs : List Behind) (rest : Work) where
+  abbrev next-body : Body
+  next-body = record { family = b.family; pieces = record { told = after.told; fault = after.fault; handed = parts_of new-os new-bs }; values = after.values; waiting = false; advanced = b.advanced }
+
+  abbrev begins : Going
+  begins = record { told = told; fault = fault; values = b.values; work = w }
+
+  task-on : ◌≡◌ {A = Pieces} (record { told = told; fault = fault; handed = parts_of os bs }) b.pieces → length os ≡ length bs → ts ≡ tags b.family.plan (awaited b.pieces.handed) → new-os ≡ [] →
+      Takes (parts_of (origins ts) bs) (meanings ts) begins after → BecomesWork (resumed_work [] []) after.work rest →
+      task_of next-body rest ≡ on (evaluations (eval b.family.plan) b.pieces.handed) (task_of b w)
+  task-on view same are none h over =
+      let plan = b.family.plan in
+      let handed : parts_of os bs ≡ b.pieces.handed = ap (λ (p : Pieces). p.handed) view in
+      let tagged : ts ≡ tags plan (awaited (parts_of os bs)) = are ∙ ap (λ (ps : List Part). tags plan (awaited ps)) (sym handed) in
+      let taken : Takes b.pieces.handed (evaluations (eval plan) b.pieces.handed) begins after =
+      subst (λ (ps : List Part). Takes ps (evaluations (eval plan) ps) begins after) handed (takes-awaited plan os bs ts begins after same tagged h) in
+      ap (λ (no : List Origin). task_of (record { family = b.family; pieces = record { told = after.told; fault = after.fault; handed = parts_of no new-bs }; values = after.values; waiting = false; advanced = b.advanced }) rest) none
+      ∙ goes-on (task_of b w) begins after rest (ap (λ (p : Pieces). record p { handed = [] }) view) refl refl taken over
+
+  pub goes-on-view : ◌≡◌ {A = Pieces} (record { told = told; fault = fault; handed = parts_of os bs }) b.pieces → length os ≡ length bs → ts ≡ tags b.family.plan (awaited b.pieces.handed) → new-os ≡ [] →
+      Takes (parts_of (origins ts) bs) (meanings ts) begins after → BecomesWork (resumed_work [] []) after.work rest → view_of next-body rest ≡ view_on (view_of b w)
+  goes-on-view view same are none h over = ap (λ (t : Task). record (view_of b w) { task = t }) (task-on view same are none h over)
+
+  pub goes-on-sound : ◌≡◌ {A = Pieces} (record { told = told; fault = fault; handed = parts_of os bs }) b.pieces → length os ≡ length bs → ts ≡ tags b.family.plan (awaited b.pieces.handed) → new-os ≡ [] →
+      Takes (parts_of (origins ts) bs) (meanings ts) begins after → BecomesWork (resumed_work [] []) after.work rest → AnswersKeepTasks → IsAnswered b w → IsSound next-body rest
+  goes-on-sound view same are none h over law sound =
+      let plan = b.family.plan in
+      let nobody : AwaitsLast b.family [] = record { before = b.family.children; passed = b.family.taken; same = sound.taken; children = sym (append-nil b.family.children); taken = sym (append-nil b.family.taken) } in
+      record {
+        task = subst IsTask (sym (task-on view same are none h over)) (law (task_of b w) sound.task);
+        family = subst (λ (no : List Origin). AwaitsLast b.family (parts_of no new-bs)) (sym none) nobody;
+        works = over.works plan _ (h.work.works plan _ sound.works);
+      }
+
+pub answered-sound : (b : Body) (w : Work) → IsSound b w → IsAnswered b w
+answered-sound b w h = record { task = h.task; taken = taken-length b.family _ (awaits-count b.family b.pieces.handed h.family); works = h.works }
+
+-- Looks
+
+pub looked-last : (f g : FamilyView) (ps : List Part) (ready : Bool) (loads : List ℕ) → g ≡ record f { ready = ready; loads = loads } → AwaitsLast f ps → AwaitsLast g ps
+looked-last f g ps ready loads e h =
+    let there : AwaitsLast (record f { ready = ready; loads = loads }) ps = record { before = h.before; passed = h.passed; same = h.same; children = h.children; taken = h.taken } in
+    subst (λ (x : FamilyView). AwaitsLast x ps) (sym e) there
+
+-- a look that finds no answers leaves the task as it was
+pub looked-sound : (b : Body) (w : Work) (g : FamilyView) (ready : Bool) (loads : List ℕ) → g ≡ record b.family { ready = ready; loads = loads } → IsSound b w → IsSound (record b { family = g }) w
+looked-sound b w g ready loads e h =
+    let there : IsSound (record b { family = record b.family { ready = ready; loads = loads } }) w =
+    record { task = h.task; family = looked-last b.family (record b.family { ready = ready; loads = loads }) b.pieces.handed ready loads refl h.family; works = h.works } in
+    subst (λ (x : FamilyView). IsSound (record b { family = x }) w) (sym e) there
+
+-- a look that finds all answers, and the answers taken
+pub taken-answered : (b : Body) (w : Work) (g k : FamilyView) (ready : Bool) (loads : List ℕ) → g ≡ record b.family { ready = ready; loads = loads } → k ≡ record g { taken = k.taken } →
+    length k.taken ≡ length g.taken → IsSound b w → IsAnswered (record b { family = k }) w
+taken-answered b w g k ready loads e d same h =
+    let looked = looked-sound b w g ready loads e h in
+    let whole = answered-sound (record b { family = g }) w looked in
+    let there : IsAnswered (record b { family = record g { taken = k.taken } }) w = record { task = whole.task; taken = same ∙ whole.taken; works = whole.works } in
+    subst (λ (x : FamilyView). IsAnswered (record b { family = x }) w) (sym d) there
+
+pub looked-same : (b : Body) (w : Work) (g : FamilyView) (ready : Bool) (loads : List ℕ) → g ≡ record b.family { ready = ready; loads = loads } → (t : TaskView) → view_of b w ≡ t → HasStopped b.family.loads g.loads →
+    (task_of (record b { family = g }) w ≡ t.task) × (g.children ≡ t.children) × HasStopped t.loads g.loads
+looked-same b w g ready loads e t view stopped = (
+  ap (λ (f : FamilyView). task_of (record b { family = f }) w) e ∙ ap (λ (v : TaskView). v.task) view,
+  ap (λ (f : FamilyView). f.children) e ∙ ap (λ (v : TaskView). v.children) view,
+  subst (λ (l : List ℕ). HasStopped l g.loads) (ap (λ (v : TaskView). v.loads) view) stopped,
+)
+
+pub went-on-is : (b : Body) (w : Work) (g k : FamilyView) (ready : Bool) (loads : List ℕ) → g ≡ record b.family { ready = ready; loads = loads } → k ≡ record g { taken = k.taken } →
+    (t next : TaskView) → view_of b w ≡ t → next ≡ view_on (view_of (record b { family = k }) w) → HasPassed b.family.loads g.loads →
+    (next.task ≡ went_on t) × (next.children ≡ t.children) × HasPassed t.loads next.loads
+went-on-is b w g k ready loads e d t next view is passed =
+    let same : k ≡ record b.family { ready = ready; loads = loads; taken = k.taken } = d ∙ ap (λ (f : FamilyView). record f { taken = k.taken }) e in
+    let read : next.loads ≡ g.loads = ap (λ (v : TaskView). v.loads) is ∙ ap (λ (f : FamilyView). f.loads) d in (
+      ap (λ (v : TaskView). v.task) is ∙ ap (λ (f : FamilyView). went_on (view_of (record b { family = f }) w)) same ∙ ap went_on view,
+      ap (λ (v : TaskView). v.children) is ∙ ap (λ (f : FamilyView). f.children) same ∙ ap (λ (v : TaskView). v.children) view,
+      subst (λ (l : List ℕ). HasPassed t.loads l) (sym read) (subst (λ (l : List ℕ). HasPassed l g.loads) (ap (λ (v : TaskView). v.loads) view) passed),
+    )
