@@ -6,7 +6,11 @@ use std::test::Fail;
 // The child's fault is before main's, which stands in a loop without end.
 #[test]
 fn the_least_fault_is_told(rt: HostRuntime) -> Result<(), Fail> {
-    for line in ["run --workers 1", "run --workers 2", "run --workers 64"] {
+    for line in [
+        "run --workers 1",
+        "run --workers 2 --budget 10000",
+        "run --workers 64 --budget 10000",
+    ] {
         ends_by_fault(
             &rt,
             line,
