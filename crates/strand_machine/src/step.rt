@@ -1,13 +1,15 @@
 // One move of a task, or its stop.
-ghost use Rattle.std.specs.Prelude.{◌≡◌, ◌++◌, ◌∷◌, [], IfOk};
+ghost use Rattle.std.specs.Prelude.{◌≡◌, ◌++◌, ◌∷◌, [], IfOk, OnOk};
 ghost use Rattle.serial_meaning.specs.Laws.{IsOriginOf};
 ghost use Rattle.serial_meaning.specs.declared.answer.Outcome.TheVariants as outcome;
+ghost use Rattle.strand_machine.specs.Family.{handed};
 ghost use Rattle.strand_machine.specs.Stops.{IsStep, CanEnd, ended};
 ghost use Rattle.strand_machine.specs.Tasks.{IsSound, view_of, fresh, gone, waiting, with_child};
 ghost use Rattle.strand_machine.specs.declared.work.Stage.TheVariants as stage;
 ghost use Rattle.strand_machine.specs.declared.work.Work.TheVariants as work;
 
 use crate::body::Body;
+use crate::family::Family;
 use crate::memory::Memory;
 use crate::origin::{part_of, share_origin};
 use crate::place::Place;
@@ -56,6 +58,34 @@ fn end(body: Body, outcome: Outcome) -> Step
     Step::Stops(Stop::Done { answer, give })
 }
 
+/// Begins a child, and counts it among the family's.
+fn begin_child(family: &mut Family, alloc: Global, child: Origin) -> Result<Task, Memory>
+    requires { IsOriginOf family.old.plan child }
+    ensures child { IfOk result (λ task. task ≡ fresh family.old.plan child) }
+    ensures family { OnOk result (family.new ≡ handed family.old child) }
+{
+    let plan = family.share_plan()?;
+    let give = family.hand(alloc, &child)?;
+    Task::start(alloc, plan, child, give)
+}
+
+/// Begins a child whose value goes to this place.
+fn hand_out(
+    body: &mut Body,
+    alloc: Global,
+    child: Origin,
+    place: Place,
+) -> Result<Task, Memory>
+    requires { IsOriginOf body.old.family.plan child }
+    ensures child { IfOk result (λ task. task ≡ fresh body.old.family.plan child) }
+    ensures body { OnOk result (body.new ≡ with_child body.old child place) }
+{
+    let shared = share_origin(alloc, &child)?;
+    body.pieces.hand(shared, place)?;
+    body.advanced = true;
+    begin_child(&mut body.family, alloc, child)
+}
+
 /// The task hands out a child, and this remains.
 pub(crate) fn spawn(
     mut body: Body,
@@ -69,15 +99,9 @@ pub(crate) fn spawn(
     ensures { IfOk result (λ step. step
         ≡ Step.Stops (Stop.Spawn (fresh body.family.plan child) (view_of (with_child body child place) work))) }
 {
-    let plan = body.family.share_plan()?;
-    let give = body.family.hand(alloc, &child)?;
-    body.pieces.hand(share_origin(alloc, &child)?, place)?;
-    let child = Task::start(alloc, plan, child, give)?;
-    body.advanced = true;
-    Ok(Step::Stops(Stop::Spawn {
-        child,
-        rest: Task { body, work },
-    }))
+    let child = hand_out(&mut body, alloc, child, place)?;
+    let rest = Task { body, work };
+    Ok(Step::Stops(Stop::Spawn { child, rest }))
 }
 
 /// A loop of which these iterations are left: their lower half is handed out, and the last one is begun.
