@@ -1,4 +1,5 @@
 pub mod Answering
+pub mod Arms
 pub mod Dispatch
 pub mod Halves
 pub mod Handed

@@ -18,7 +18,7 @@ use crate::stop::{Step, Stop};
 use crate::task::Task;
 use crate::work::{Stage, Work, begin_last};
 use loop_range::IterRange;
-use serial_meaning::{Origin, Outcome, Value};
+use serial_meaning::{Fault, Origin, Outcome, Value};
 use std::alloc::Global;
 use strand_meaning::laws;
 
@@ -159,26 +159,32 @@ fn close(body: Body, alloc: Global, value: Value, gone_on: bool) -> Result<Step,
     close_with(body, alloc, value)
 }
 
+/// An instance that ended by a fault of its own. The task waits for the children that it handed out, and then ends by it.
+fn fault(body: Body, fault: Fault) -> Step
+    requires { IsSound body (work.Runs (stage.Faulted fault)) }
+    ensures { IsStep (view_of body (work.Runs (stage.Faulted fault))) result }
+{
+    laws::steps_are_sound();
+    if body.pieces.is_alone() {
+        return end(body, Outcome::Fault(fault));
+    }
+    wait(body, Work::Runs(Stage::Faulted(fault)))
+}
+
 /// An instance, by where it stands.
 fn run(body: Body, alloc: Global, stage: Stage) -> Result<Step, Memory>
     requires { IsSound body (work.Runs stage) }
     ensures { IfOk result (IsStep (view_of body (work.Runs stage))) }
 {
     laws::steps_are_sound();
-    Ok(match stage {
-        Stage::Goes(instance) => go(body, alloc, instance)?,
-        Stage::AtSync(instance) => wait(body, Work::Runs(Stage::AtSync(instance))),
-        Stage::AtLoop(instance) => wait(body, Work::Runs(Stage::AtLoop(instance))),
-        Stage::Gave(value) => give(body, value),
-        Stage::Faulted(fault) => {
-            if body.pieces.is_alone() {
-                end(body, Outcome::Fault(fault))
-            } else {
-                wait(body, Work::Runs(Stage::Faulted(fault)))
-            }
-        }
-        Stage::Joined(fault) => end(body, Outcome::Fault(fault)),
-    })
+    match stage {
+        Stage::Goes(instance) => go(body, alloc, instance),
+        Stage::AtSync(instance) => Ok(wait(body, Work::Runs(Stage::AtSync(instance)))),
+        Stage::AtLoop(instance) => Ok(wait(body, Work::Runs(Stage::AtLoop(instance)))),
+        Stage::Gave(value) => Ok(give(body, value)),
+        Stage::Faulted(own) => Ok(fault(body, own)),
+        Stage::Joined(fault) => Ok(end(body, Outcome::Fault(fault))),
+    }
 }
 
 /// A move of the task, or its stop.
