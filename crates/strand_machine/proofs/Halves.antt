@@ -10,7 +10,7 @@ at-least-two (suc zero) h = absurd (h (omega arith))
 at-least-two (suc (suc n)) h = omega arith
 
 pub many : (n : ℕ) (r : Option (Range × Range)) (p : Range × Range) → r ≡ Some p → (IsNone r ↔ (n < 2)) → 2 ≤ n
-many n r p e h = at-least-two n (λ few. let none : IsNone (Some p) = rw e at (h.1 few) in absurd (true≢false (sym none)))
+many n r p e h = at-least-two n (λ few. let none : IsNone (Some p) = rw e at (h.1 few) in absurd (true≢false none))
 
 pub halves : (range : Range) (r : Option (Range × Range)) (p : Range × Range) → r ≡ Some p → IfSome r (λ q. (q.0 ≡ lower_half range) × (q.1 ≡ upper_half range)) → (p.0 ≡ lower_half range) × (p.1 ≡ upper_half range)
 halves range r p e h = rw e at h

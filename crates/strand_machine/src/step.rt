@@ -1,13 +1,15 @@
 // One move of a task, or its stop.
-ghost use Rattle.std.specs.Prelude.{◌≡◌, ◌++◌, ◌∷◌, [], IfOk};
+ghost use Rattle.std.specs.Prelude.{◌≡◌, ◌++◌, ◌∷◌, [], IfOk, OnOk};
 ghost use Rattle.serial_meaning.specs.Laws.{IsOriginOf};
 ghost use Rattle.serial_meaning.specs.declared.answer.Outcome.TheVariants as outcome;
+ghost use Rattle.strand_machine.specs.Family.{handed};
 ghost use Rattle.strand_machine.specs.Stops.{IsStep, CanEnd, ended};
 ghost use Rattle.strand_machine.specs.Tasks.{IsSound, view_of, fresh, gone, waiting, with_child};
 ghost use Rattle.strand_machine.specs.declared.work.Stage.TheVariants as stage;
 ghost use Rattle.strand_machine.specs.declared.work.Work.TheVariants as work;
 
 use crate::body::Body;
+use crate::family::Family;
 use crate::memory::Memory;
 use crate::origin::{part_of, share_origin};
 use crate::place::Place;
@@ -16,7 +18,7 @@ use crate::stop::{Step, Stop};
 use crate::task::Task;
 use crate::work::{Stage, Work, begin_last};
 use loop_range::IterRange;
-use serial_meaning::{Origin, Outcome, Value};
+use serial_meaning::{Fault, Origin, Outcome, Value};
 use std::alloc::Global;
 use strand_meaning::laws;
 
@@ -56,6 +58,34 @@ fn end(body: Body, outcome: Outcome) -> Step
     Step::Stops(Stop::Done { answer, give })
 }
 
+/// Begins a child, and counts it among the family's.
+fn begin_child(family: &mut Family, alloc: Global, child: Origin) -> Result<Task, Memory>
+    requires { IsOriginOf family.old.plan child }
+    ensures child { IfOk result (λ task. task ≡ fresh family.old.plan child) }
+    ensures family { OnOk result (family.new ≡ handed family.old child) }
+{
+    let plan = family.share_plan()?;
+    let give = family.hand(alloc, &child)?;
+    Task::start(alloc, plan, child, give)
+}
+
+/// Begins a child whose value goes to this place.
+fn hand_out(
+    body: &mut Body,
+    alloc: Global,
+    child: Origin,
+    place: Place,
+) -> Result<Task, Memory>
+    requires { IsOriginOf body.old.family.plan child }
+    ensures child { IfOk result (λ task. task ≡ fresh body.old.family.plan child) }
+    ensures body { OnOk result (body.new ≡ with_child body.old child place) }
+{
+    let shared = share_origin(alloc, &child)?;
+    body.pieces.hand(shared, place)?;
+    body.advanced = true;
+    begin_child(&mut body.family, alloc, child)
+}
+
 /// The task hands out a child, and this remains.
 pub(crate) fn spawn(
     mut body: Body,
@@ -69,15 +99,9 @@ pub(crate) fn spawn(
     ensures { IfOk result (λ step. step
         ≡ Step.Stops (Stop.Spawn (fresh body.family.plan child) (view_of (with_child body child place) work))) }
 {
-    let plan = body.family.share_plan()?;
-    let give = body.family.hand(alloc, &child)?;
-    body.pieces.hand(share_origin(alloc, &child)?, place)?;
-    let child = Task::start(alloc, plan, child, give)?;
-    body.advanced = true;
-    Ok(Step::Stops(Stop::Spawn {
-        child,
-        rest: Task { body, work },
-    }))
+    let child = hand_out(&mut body, alloc, child, place)?;
+    let rest = Task { body, work };
+    Ok(Step::Stops(Stop::Spawn { child, rest }))
 }
 
 /// A loop of which these iterations are left: their lower half is handed out, and the last one is begun.
@@ -135,26 +159,32 @@ fn close(body: Body, alloc: Global, value: Value, gone_on: bool) -> Result<Step,
     close_with(body, alloc, value)
 }
 
+/// An instance that ended by a fault of its own. The task waits for the children that it handed out, and then ends by it.
+fn fault(body: Body, fault: Fault) -> Step
+    requires { IsSound body (work.Runs (stage.Faulted fault)) }
+    ensures { IsStep (view_of body (work.Runs (stage.Faulted fault))) result }
+{
+    laws::steps_are_sound();
+    if body.pieces.is_alone() {
+        return end(body, Outcome::Fault(fault));
+    }
+    wait(body, Work::Runs(Stage::Faulted(fault)))
+}
+
 /// An instance, by where it stands.
 fn run(body: Body, alloc: Global, stage: Stage) -> Result<Step, Memory>
     requires { IsSound body (work.Runs stage) }
     ensures { IfOk result (IsStep (view_of body (work.Runs stage))) }
 {
     laws::steps_are_sound();
-    Ok(match stage {
-        Stage::Goes(instance) => go(body, alloc, instance)?,
-        Stage::AtSync(instance) => wait(body, Work::Runs(Stage::AtSync(instance))),
-        Stage::AtLoop(instance) => wait(body, Work::Runs(Stage::AtLoop(instance))),
-        Stage::Gave(value) => give(body, value),
-        Stage::Faulted(fault) => {
-            if body.pieces.is_alone() {
-                end(body, Outcome::Fault(fault))
-            } else {
-                wait(body, Work::Runs(Stage::Faulted(fault)))
-            }
-        }
-        Stage::Joined(fault) => end(body, Outcome::Fault(fault)),
-    })
+    match stage {
+        Stage::Goes(instance) => go(body, alloc, instance),
+        Stage::AtSync(instance) => Ok(wait(body, Work::Runs(Stage::AtSync(instance)))),
+        Stage::AtLoop(instance) => Ok(wait(body, Work::Runs(Stage::AtLoop(instance)))),
+        Stage::Gave(value) => Ok(give(body, value)),
+        Stage::Faulted(own) => Ok(fault(body, own)),
+        Stage::Joined(fault) => Ok(end(body, Outcome::Fault(fault))),
+    }
 }
 
 /// A move of the task, or its stop.
