@@ -1,5 +1,8 @@
 // Small scripts, with what the language's rules say that they do.
 
+ghost use Rattle.std.specs.Prelude.{IfOk};
+ghost use Rattle.serial_meaning.specs.Render.{IsWhole};
+
 use crate::run_serial;
 use dotmix::Gamma;
 use script_check::check;
@@ -16,7 +19,9 @@ fn answer(
     text: &str,
     depth: u32,
     budget: u32,
-) -> Result<Answer, Fail> {
+) -> Result<Answer, Fail>
+    ensures { IfOk result (λ answer. IsWhole answer.outcome) }
+{
     let alloc = rt.alloc();
     assert!(rt; text.len() <= MAX_BYTES);
     assert!(rt; 1 <= depth && depth <= 256 && 1 <= budget);

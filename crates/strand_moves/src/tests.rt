@@ -108,7 +108,26 @@ fn go_on(
     }
 }
 
-/// Runs `main` to its end, if that comes within a hundred moves.
+/// Goes on to the end, if that comes within a hundred moves.
+fn finish(
+    alloc: Global,
+    mut main: Instance,
+    plan: &Plan,
+    child: u32,
+    printed: &mut Vec<i64>,
+) -> Result<Option<End>, Fail>
+    requires { IsInstance plan.now main }
+{
+    let mut end = None;
+    let mut moves = 100u32;
+    while moves > 0 && end.is_none() {
+        end = go_on(alloc, &mut main, plan, child, printed)?;
+        moves -= 1;
+    }
+    Ok(end)
+}
+
+/// Runs `main` of this script.
 fn run(
     rt: &impl Abort,
     alloc: Global,
@@ -117,14 +136,8 @@ fn run(
     printed: &mut Vec<i64>,
 ) -> Result<Option<End>, Fail> {
     let plan = plan(rt, alloc, text)?;
-    let mut main = main_instance(rt, alloc, &plan)?;
-    let mut end = None;
-    let mut moves = 100;
-    while moves > 0 && end.is_none() {
-        end = go_on(alloc, &mut main, &plan, child, printed)?;
-        moves -= 1;
-    }
-    Ok(end)
+    let main = main_instance(rt, alloc, &plan)?;
+    finish(alloc, main, &plan, child, printed)
 }
 
 #[test]
