@@ -34,7 +34,7 @@ fn begin_task(alloc: Global, plan: &Arc<Plan>, origin: Origin) -> Result<Task, M
 }
 
 /// The stack of this task alone.
-fn begin(alloc: Global, plan: &Arc<Plan>, origin: Origin) -> Result<Stack, Memory>
+pub(crate) fn begin(alloc: Global, plan: &Arc<Plan>, origin: Origin) -> Result<Stack, Memory>
     requires { IsOriginOf (arc_value plan.now) origin }
     ensures sound { IfOk result IsStack }
     ensures root { IfOk result (λ stack. root stack ≡ start (arc_value plan.now) origin) }

@@ -2,8 +2,13 @@
 
 ghost use Rattle.std.specs.Prelude.{IfOk};
 ghost use Rattle.serial_meaning.specs.Render.{IsWhole};
+ghost use Rattle.crew.specs.Stacks.{IsStack};
 
+use crate::frames::Frame;
 use crate::run_serial;
+use crate::serial::begin;
+use crate::stack::{Stack, Turn};
+use crate::turn::turn;
 use dotmix::Gamma;
 use script_check::check;
 use script_text::{MAX_BYTES, parse};
@@ -12,8 +17,26 @@ use std::alloc::Global;
 use std::process::Abort;
 use std::sync::Arc;
 use std::test::Fail;
+use strand_machine::Stop;
 
-/// What main answers where each instance has so many steps.
+/// The script's plan where each instance has so many steps.
+fn plan(
+    rt: &(impl Abort + AllocGlobal),
+    text: &str,
+    depth: u32,
+    budget: u32,
+) -> Result<Arc<Plan>, Fail> {
+    let alloc = rt.alloc();
+    assert!(rt; text.len() <= MAX_BYTES);
+    assert!(rt; 1 <= depth && depth <= 256 && 1 <= budget);
+    let checked = check(alloc, parse(alloc, text.as_bytes())?)?;
+    let gamma = Gamma::of_seed(alloc, 0, depth)?;
+    assert!(rt; gamma.len() == depth);
+    let plan = Plan::new(checked, gamma, Limits { depth, budget }, Show::Plain);
+    Ok(Arc::new(alloc, plan)?)
+}
+
+/// What main answers.
 fn answer(
     rt: &(impl Abort + AllocGlobal),
     text: &str,
@@ -23,13 +46,7 @@ fn answer(
     ensures { IfOk result (λ answer. IsWhole answer.outcome) }
 {
     let alloc = rt.alloc();
-    assert!(rt; text.len() <= MAX_BYTES);
-    assert!(rt; 1 <= depth && depth <= 256 && 1 <= budget);
-    let checked = check(alloc, parse(alloc, text.as_bytes())?)?;
-    let gamma = Gamma::of_seed(alloc, 0, depth)?;
-    assert!(rt; gamma.len() == depth);
-    let plan = Plan::new(checked, gamma, Limits { depth, budget }, Show::Plain);
-    let plan = Arc::new(alloc, plan)?;
+    let plan = plan(rt, text, depth, budget)?;
     let origin = plan.main_origin(alloc)?;
     Ok(run_serial(alloc, &plan, origin)?)
 }
@@ -148,4 +165,57 @@ fn children_fit_the_depth(rt: HostRuntime) -> Result<(), Fail> {
         b"1\n2\n5\n".as_slice()
     );
     Ok(())
+}
+
+/// The stack behind a turn that isn't the last one.
+fn turned(rt: &impl Abort, alloc: Global, stack: Stack) -> Result<Stack, Fail>
+    requires { IsStack stack }
+    ensures { IfOk result IsStack }
+{
+    match turn(stack, alloc)? {
+        Turn::Goes(next) => Ok(next),
+        Turn::Ends(_) => panic!(rt; "main has ended"),
+    }
+}
+
+/// Main's task behind so many turns, with its children's answers.
+fn main_behind(rt: &impl Abort, alloc: Global, plan: &Arc<Plan>, turns: u32) -> Result<Stack, Fail>
+    ensures { IfOk result IsStack }
+{
+    let origin = plan.main_origin(alloc)?;
+    let mut stack = begin(alloc, plan, origin)?;
+    for _ in 0..turns {
+        stack = turned(rt, alloc, stack)?;
+    }
+    Ok(stack)
+}
+
+/// How many children the topmost task awaits at its wait, and how many once it took their answers.
+fn awaited(rt: &impl Abort, alloc: Global, stack: Stack) -> Result<(usize, usize), Fail>
+    requires { IsStack stack }
+{
+    let Stack { top, .. } = stack;
+    let Frame { task, answers } = top;
+    let stop = task.advance(alloc)?;
+    match stop {
+        Stop::Wait { rest } => {
+            let at_wait = rest.awaited().as_slice().len();
+            let task = rest.resume_with(alloc, answers)?;
+            Ok((at_wait, task.awaited().as_slice().len()))
+        }
+        _ => panic!(rt; "it waits"),
+    }
+}
+
+#[test]
+fn a_task_takes_its_childrens_answers_at_a_wait(rt: HostRuntime) -> Result<(), Fail> {
+    let alloc = rt.alloc();
+    let text = "fn mk() -> id { let o = new; return o; }
+         fn main() { let a = spawn mk(); let b = spawn mk(); sync; print a; print b;
+           let c = older(a, b); print c; let s = same(a, a); print s; return 0; }";
+    let plan = plan(&rt, text, 2, 100)?;
+    // each child is handed out in one turn, and ends in the next
+    let stack = main_behind(&rt, alloc, &plan, 4)?;
+    assert_eq!(rt; awaited(&rt, alloc, stack)?, (2, 0));
+    prints(&rt, text, 100, "0.0\n1.0\n1\n1\n")
 }
