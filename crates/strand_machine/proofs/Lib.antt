@@ -1,8 +1,10 @@
+pub mod Advancing
 pub mod Answering
 pub mod Arms
 pub mod Dispatch
 pub mod Halves
 pub mod Handed
+pub mod Moving
 pub mod Starting
 pub mod Tags
 pub mod Taking

@@ -1,0 +1,125 @@
+-- How a task that was advanced comes to its next stop.
+use Rattle.std.proofs.Common.{◌≡◌, ◌<◌, ℕ, zero, suc, ◌-◌, true, false, List, [], ◌∷◌, ◌++◌, Option, Some, None, Result, Ok, Err, refl, ap, ◌∙◌, subst}
+use Rattle.loop_range.specs.Range.{Range}
+use Rattle.serial_meaning.specs.Eval.{path_of}
+use Rattle.serial_meaning.specs.Open.{Own, Joined}
+use Rattle.serial_meaning.specs.Plan.{PlanView}
+use Rattle.serial_meaning.specs.declared.value.Value.{Value}
+use Rattle.serial_meaning.specs.declared.event.Fault.{Fault}
+use Rattle.serial_meaning.specs.declared.origin.Origin.{Origin}
+use Rattle.serial_meaning.specs.declared.origin.Origin.TheVariants.{Instance, Loop}
+use Rattle.serial_meaning.specs.declared.answer.Outcome.{Outcome}
+use Rattle.strand_meaning.specs.Laws.{IsOf, MovesFall}
+use Rattle.strand_meaning.specs.Left.{moves_left}
+use Rattle.strand_meaning.specs.Machine.{Token, Reached, Stands, Gives, move}
+use Rattle.strand_meaning.specs.Pieces.{Part}
+use Rattle.strand_meaning.specs.Task as meaning
+use Rattle.strand_meaning.specs.Task.{Task, Stop, IsNext, Now, Later, own_instance, stage_after, child_in, stops_at, passing, moved, ends_unless, faults_behind, gave, stage_step, split_step, over_step, work_step}
+use Rattle.strand_machine.specs.Family.{tag}
+use Rattle.strand_machine.specs.Stops.{IsStep, IsStop, Keeps, stop_of}
+use Rattle.strand_machine.specs.Tasks.{TaskView, fresh}
+use Rattle.strand_machine.specs.declared.stop.Step.{Step as MadeStep}
+use Rattle.strand_machine.specs.declared.stop.Step.TheVariants as step-in
+use Rattle.strand_machine.specs.declared.stop.Stop.{Stop as MadeStop}
+use Rattle.strand_machine.specs.declared.stop.Stop.TheVariants as stop-in
+
+-- A pass keeps the plan and the origin
+
+abbrev KeepsOf : Task → meaning.Step → Type 0
+KeepsOf t (meaning.Passes next) = IsOf t next
+KeepsOf t (meaning.Stops stop) = Unit {0}
+
+module _ (t : Task) where
+  of-ends : (f : Option Fault) (ended : Outcome) → KeepsOf t (ends_unless f t ended)
+  of-ends None ended = tt
+  of-ends (Some f) ended = tt
+
+  of-at : (o : Option Origin) (next : Task) → IsOf t next → KeepsOf t (stops_at o next)
+  of-at None next h = h
+  of-at (Some o) next h = tt
+
+  of-moved : (ts : List Token) (e : Result Reached Fault) → KeepsOf t (moved t ts e)
+  of-moved ts (Ok (Stands m)) = of-at (child_in ts) (passing t ts (meaning.Runs (stage_after ts m))) (refl, refl)
+  of-moved ts (Ok (Gives v)) = (refl, refl)
+  of-moved ts (Err f) = (refl, refl)
+
+  of-faults : (ps : List Part) (f : Fault) → KeepsOf t (faults_behind ps t f)
+  of-faults [] f = of-ends t.pieces.fault _
+  of-faults (p ∷ ps) f = tt
+
+  of-gave : (o : Origin) (v : Value) → KeepsOf t (gave t o v)
+  of-gave (Instance function args path) v = of-ends t.pieces.fault _
+  of-gave (Loop function rest first path range) v = (refl, refl)
+
+  of-stage : (stage : meaning.Stage) → KeepsOf t (stage_step t stage)
+  of-stage (meaning.Goes m) = let r = move t.plan (path_of (own_instance t.origin)) m in of-moved r.items r.ending
+  of-stage (meaning.AtSync m) = tt
+  of-stage (meaning.AtLoop m) = tt
+  of-stage (meaning.Ended (Ok v)) = of-gave t.origin v
+  of-stage (meaning.Ended (Err (Own f))) = of-faults t.pieces.handed f
+  of-stage (meaning.Ended (Err (Joined f))) = of-ends t.pieces.fault _
+
+  of-split : (left : Range) (n : ℕ) → KeepsOf t (split_step t left n)
+  of-split left zero = of-ends t.pieces.fault _
+  of-split left (suc zero) = (refl, refl)
+  of-split left (suc (suc n)) = tt
+
+  of-over : (v : Value) (o : Origin) → KeepsOf t (over_step t v o)
+  of-over v (Instance function args path) = of-ends t.pieces.fault _
+  of-over v (Loop function rest first path range) = by_size (range.hi - range.lo) refl
+    where
+      by_size : (n : ℕ) → range.hi - range.lo ≡ n → KeepsOf t (over_step t v (Loop function rest first path range))
+      by_size zero g = rw g (of-ends t.pieces.fault _)
+      by_size (suc zero) g = rw g (of-ends t.pieces.fault _)
+      by_size (suc (suc n)) g = rw g tt
+
+  of-work : (work : meaning.Work) → KeepsOf t (work_step t work)
+  of-work (meaning.Splits left) = of-split left (left.hi - left.lo)
+  of-work (meaning.Runs stage) = of-stage stage
+  of-work (meaning.Over v true) = of-ends t.pieces.fault _
+  of-work (meaning.Over v false) = of-over v t.origin
+
+pass-of : (t next : Task) → meaning.step t ≡ meaning.Passes next → IsOf t next
+pass-of t next e = subst (KeepsOf t) e (of-work t t.work)
+
+-- Moves in a row
+
+-- What comes next of a task comes next of the first one, and it is of the same origin with the same children.
+pub record LeadsTo (first now : TaskView) : Type 0 where
+  pub next : (stop : Stop) → IsNext now.task stop → IsNext first.task stop
+  pub plan : now.task.plan ≡ first.task.plan
+  pub origin : now.task.origin ≡ first.task.origin
+  pub children : now.children ≡ first.children
+  pub loads : now.loads ≡ first.loads
+
+pub leads-start : (t : TaskView) → LeadsTo t t
+leads-start t = record { next = λ stop n. n; plan = refl; origin = refl; children = refl; loads = refl }
+
+pub leads-on : (first now next : TaskView) (s : MadeStep) → LeadsTo first now → IsStep now s → s ≡ step-in.Passes next → LeadsTo first next
+leads-on first now next s h g e =
+    let k : IsStep now (step-in.Passes next) = subst (IsStep now) e g in
+    let of = pass-of now.task next.task k.is in
+    record {
+      next = λ stop n. h.next stop (Later next.task k.is n);
+      plan = of.0 ∙ h.plan;
+      origin = of.1 ∙ h.origin;
+      children = k.keeps.0 ∙ h.children;
+      loads = k.keeps.1 ∙ h.loads;
+    }
+
+pub falls : MovesFall → (now next : TaskView) (s : MadeStep) → IsStep now s → s ≡ step-in.Passes next → moves_left next.task < moves_left now.task
+falls law now next s g e =
+    let k : IsStep now (step-in.Passes next) = subst (IsStep now) e g in
+    law now.task next.task k.is
+
+keeps-first : (first now : TaskView) (stop : MadeStop) → LeadsTo first now → Keeps now stop → Keeps first stop
+keeps-first first now (stop-in.Spawn child rest) h k =
+    (k.0 ∙ ap (λ (p : PlanView). fresh p child.task.origin) h.plan, k.1 ∙ ap (λ (l : List Origin). l ++ child.task.origin ∷ []) h.children, k.2 ∙ h.loads)
+keeps-first first now (stop-in.Wait rest) h k = (k.0 ∙ h.children, k.1 ∙ h.loads)
+keeps-first first now (stop-in.Done answer give) h k =
+    (k.0 ∙ h.plan, k.1 ∙ h.origin, k.2 ∙ ap (λ (p : PlanView). tag p now.task.origin) h.plan ∙ ap (tag first.task.plan) h.origin)
+
+pub stops-there : (first now : TaskView) (s : MadeStep) (stop : MadeStop) → LeadsTo first now → IsStep now s → s ≡ step-in.Stops stop → IsStop first stop
+stops-there first now s stop h g e =
+    let k : IsStep now (step-in.Stops stop) = subst (IsStep now) e g in
+    record { next = h.next (stop_of stop) (Now k.is); keeps = keeps-first first now stop h k.keeps }

@@ -1,0 +1,208 @@
+-- What a task is behind a move of its instance, by what the move showed.
+use Rattle.std.proofs.Common.{◌≡◌, ℕ, suc, false, List, [], ◌∷◌, ◌++◌, Option, Result, Ok, Err, length, replicate, refl, sym, ap, ◌∙◌, subst}
+use Rattle.std.specs.Prelude.{IfOk}
+use Rattle.script_grammar.specs.declared.tree.Name.{Name}
+use Rattle.serial_meaning.specs.Eval.{path_of}
+use Rattle.serial_meaning.specs.Laws.{IsOriginOf}
+use Rattle.serial_meaning.specs.Plan.{PlanView}
+use Rattle.serial_meaning.specs.declared.event.Event.{Event}
+use Rattle.serial_meaning.specs.declared.event.Fault.{Fault}
+use Rattle.serial_meaning.specs.declared.origin.Origin.{Origin}
+use Rattle.serial_meaning.specs.declared.value.Value.{Value}
+use Rattle.strand_meaning.specs.Laws.{StepsAreSound}
+use Rattle.strand_meaning.specs.Machine.{move}
+use Rattle.strand_meaning.specs.Pieces.{Part, Pieces, tell, tell_at, behind_last}
+use Rattle.strand_meaning.specs.Task as meaning
+use Rattle.strand_meaning.specs.Task.{own_instance, stops_at, child_in}
+use Rattle.strand_moves.specs.Machines as moves
+use Rattle.strand_moves.specs.Moves.{tokens_of, run_of}
+use Rattle.strand_moves.specs.declared.instance.Instance.{Instance as RawInstance}
+use Rattle.strand_moves.specs.declared.shown.Moved.{Moved}
+use Rattle.strand_moves.specs.declared.shown.Moved.TheVariants as moved-in
+use Rattle.strand_moves.specs.declared.shown.Shown.{Shown}
+use Rattle.strand_moves.specs.declared.shown.Shown.TheVariants as shown-in
+use Rattle.strand_machine.specs.Family.{FamilyView}
+use Rattle.strand_machine.specs.Parts.{awaited, place_of}
+use Rattle.strand_machine.specs.Shown.{shown_task, IsSoundShown}
+use Rattle.strand_machine.specs.Stops.{IsStep, KeepsStep, step_of}
+use Rattle.strand_machine.specs.Tasks.{view_of, fresh, AwaitsLast, RunsAt, IsSound, task_of, gone, with_child}
+use Rattle.strand_machine.specs.declared.body.Body.{Body}
+use Rattle.strand_machine.specs.declared.place.Place.{Place}
+use Rattle.strand_machine.specs.declared.place.Place.TheVariants as place
+use Rattle.strand_machine.specs.declared.stop.Step.{Step as MadeStep}
+use Rattle.strand_machine.specs.declared.stop.Step.TheVariants as step-in
+use Rattle.strand_machine.specs.declared.stop.Stop.TheVariants as stop-in
+use Rattle.strand_machine.specs.declared.work.Stage.TheVariants as stage
+use Rattle.strand_machine.specs.declared.work.Work.{Work}
+use Rattle.strand_machine.specs.declared.work.Work.TheVariants as work
+use Rattle.strand_machine.proofs.Dispatch.{awaits-more, pass-sound, pass-is, go-went, go-gave, go-faulted, shown-sound}
+
+-- An event changes no child
+
+awaited-behind : (p : Part) (ps : List Part) (e : Event) → awaited (behind_last p ps e) ≡ awaited (p ∷ ps)
+awaited-behind p [] e = refl
+awaited-behind p (q ∷ qs) e = ap (λ (l : List Origin). p.child ∷ l) (awaited-behind q qs e)
+
+length-behind : (p : Part) (ps : List Part) (e : Event) → length (behind_last p ps e) ≡ length (p ∷ ps)
+length-behind p [] e = refl
+length-behind p (q ∷ qs) e = ap (λ (n : ℕ). suc n) (length-behind q qs e)
+
+awaits-same : (family : FamilyView) (ps qs : List Part) → awaited qs ≡ awaited ps → length qs ≡ length ps → AwaitsLast family ps → AwaitsLast family qs
+awaits-same family ps qs a n h = record {
+  before = h.before;
+  passed = h.passed;
+  same = h.same;
+  children = h.children ∙ ap (λ (l : List Origin). h.before ++ l) (sym a);
+  taken = h.taken ∙ ap (λ (m : ℕ). h.passed ++ replicate m false) (sym n);
+}
+
+awaits-told : (family : FamilyView) (pieces : Pieces) (e : Event) → AwaitsLast family pieces.handed → AwaitsLast family (tell e pieces).handed
+awaits-told family pieces e h = from pieces.handed refl
+  where
+    from : (ps : List Part) → pieces.handed ≡ ps → AwaitsLast family (tell_at ps e pieces).handed
+    from [] g = h
+    from (p ∷ ps) g = awaits-same family (p ∷ ps) (behind_last p ps e) (awaited-behind p ps e) (length-behind p ps e) (subst (AwaitsLast family) g h)
+
+-- The body behind an event
+
+abbrev pub with_pieces : Body → Pieces → Body
+with_pieces b p = record b { pieces = p }
+
+module _ (b : Body) (i : RawInstance) where
+  abbrev goes : Work
+  goes = work.Runs (stage.Goes i)
+
+  -- nothing
+
+  pub nothing-sound : (s : Shown) → s ≡ shown-in.Nothing → IsSoundShown b i s → IsSound (gone b) goes
+  nothing-sound s is h = let k : IsSoundShown b i shown-in.Nothing = subst (IsSoundShown b i) is h in record { task = k.task; family = k.family; works = k.runs }
+
+  pub nothing-step : (s : Shown) (r : MadeStep) → s ≡ shown-in.Nothing → r ≡ step-in.Passes (view_of (gone b) goes) →
+      step_of r ≡ stops_at (child_in (tokens_of s)) (shown_task b i s)
+  nothing-step s r is h = rw (h, is) refl
+
+  -- an event
+
+  told-at : (e : Event) → IsSoundShown b i (shown-in.Told e) → IsSound (gone (with_pieces b (tell e b.pieces))) goes
+  told-at e h = record { task = h.task; family = awaits-told b.family b.pieces e h.family; works = h.runs }
+
+  pub told-sound : (s : Shown) (e : Event) (p : Pieces) → s ≡ shown-in.Told e → p ≡ tell e b.pieces → IsSoundShown b i s → IsSound (gone (with_pieces b p)) goes
+  told-sound s e p is q h = subst (λ (x : Pieces). IsSound (gone (with_pieces b x)) goes) (sym q) (told-at e (subst (IsSoundShown b i) is h))
+
+  pub told-step : (s : Shown) (e : Event) (p : Pieces) (r : MadeStep) → s ≡ shown-in.Told e → p ≡ tell e b.pieces → r ≡ step-in.Passes (view_of (gone (with_pieces b p)) goes) →
+      step_of r ≡ stops_at (child_in (tokens_of s)) (shown_task b i s)
+  told-step s e p r is q h = rw (h, q, is) refl
+
+  -- a sync
+
+  abbrev at-sync : Work
+  at-sync = work.Runs (stage.AtSync i)
+
+  synced-at : (e : Event) → IsSoundShown b i (shown-in.Synced e) → IsSound (gone (with_pieces b (tell e b.pieces))) at-sync
+  synced-at e h = record { task = h.task; family = awaits-told b.family b.pieces e h.family; works = h.runs }
+
+  pub synced-sound : (s : Shown) (e : Event) (p : Pieces) → s ≡ shown-in.Synced e → p ≡ tell e b.pieces → IsSoundShown b i s → IsSound (gone (with_pieces b p)) at-sync
+  synced-sound s e p is q h = subst (λ (x : Pieces). IsSound (gone (with_pieces b x)) at-sync) (sym q) (synced-at e (subst (IsSoundShown b i) is h))
+
+  pub synced-step : (s : Shown) (e : Event) (p : Pieces) (r : MadeStep) → s ≡ shown-in.Synced e → p ≡ tell e b.pieces → r ≡ step-in.Passes (view_of (gone (with_pieces b p)) at-sync) →
+      step_of r ≡ stops_at (child_in (tokens_of s)) (shown_task b i s)
+  synced-step s e p r is q h = rw (h, q, is) refl
+
+  -- a child
+
+  pub spawned-known : (s : Shown) (e : Event) (o : Origin) (height : ℕ) (target : Option Name) → s ≡ shown-in.Spawned e o height target → IsSoundShown b i s → IsOriginOf b.family.plan o
+  spawned-known s e o height target is h = let k : IsSoundShown b i (shown-in.Spawned e o height target) = subst (IsSoundShown b i) is h in k.child
+
+  spawned-at : (e : Event) (o : Origin) (height : ℕ) (target : Option Name) → IsSoundShown b i (shown-in.Spawned e o height target) →
+      IsSound (with_child (with_pieces b (tell e b.pieces)) o (place.Spawned height target)) goes
+  spawned-at e o height target h = record {
+    task = h.task;
+    family = awaits-more b.family (tell e b.pieces).handed (record { child = o; place = place_of (place.Spawned height target); behind = [] }) (awaits-told b.family b.pieces e h.family);
+    works = h.runs;
+  }
+
+  pub spawned-sound : (s : Shown) (e : Event) (o : Origin) (height : ℕ) (target : Option Name) (p : Pieces) → s ≡ shown-in.Spawned e o height target → p ≡ tell e b.pieces → IsSoundShown b i s →
+      IsSound (with_child (with_pieces b p) o (place.Spawned height target)) goes
+  spawned-sound s e o height target p is q h =
+      subst (λ (x : Pieces). IsSound (with_child (with_pieces b x) o (place.Spawned height target)) goes) (sym q) (spawned-at e o height target (subst (IsSoundShown b i) is h))
+
+  pub spawned-step : (s : Shown) (e : Event) (o : Origin) (height : ℕ) (target : Option Name) (p : Pieces) (r : MadeStep) → s ≡ shown-in.Spawned e o height target → p ≡ tell e b.pieces →
+      r ≡ step-in.Stops (stop-in.Spawn (fresh b.family.plan o) (view_of (with_child (with_pieces b p) o (place.Spawned height target)) goes)) →
+      step_of r ≡ stops_at (child_in (tokens_of s)) (shown_task b i s)
+  spawned-step s e o height target p r is q h = rw (h, q, is) refl
+
+  -- a loop
+
+  abbrev at-loop : Work
+  at-loop = work.Runs (stage.AtLoop i)
+
+  pub looped-known : (s : Shown) (e : Event) (o : Origin) (target : Option Name) → s ≡ shown-in.Looped e o target → IsSoundShown b i s → IsOriginOf b.family.plan o
+  looped-known s e o target is h = let k : IsSoundShown b i (shown-in.Looped e o target) = subst (IsSoundShown b i) is h in k.child
+
+  looped-at : (e : Event) (o : Origin) (target : Option Name) → IsSoundShown b i (shown-in.Looped e o target) →
+      IsSound (with_child (with_pieces b (tell e b.pieces)) o (place.Looped target)) at-loop
+  looped-at e o target h = record {
+    task = h.task;
+    family = awaits-more b.family (tell e b.pieces).handed (record { child = o; place = place_of (place.Looped target); behind = [] }) (awaits-told b.family b.pieces e h.family);
+    works = h.runs;
+  }
+
+  pub looped-sound : (s : Shown) (e : Event) (o : Origin) (target : Option Name) (p : Pieces) → s ≡ shown-in.Looped e o target → p ≡ tell e b.pieces → IsSoundShown b i s →
+      IsSound (with_child (with_pieces b p) o (place.Looped target)) at-loop
+  looped-sound s e o target p is q h =
+      subst (λ (x : Pieces). IsSound (with_child (with_pieces b x) o (place.Looped target)) at-loop) (sym q) (looped-at e o target (subst (IsSoundShown b i) is h))
+
+  pub looped-step : (s : Shown) (e : Event) (o : Origin) (target : Option Name) (p : Pieces) (r : MadeStep) → s ≡ shown-in.Looped e o target → p ≡ tell e b.pieces →
+      r ≡ step-in.Stops (stop-in.Spawn (fresh b.family.plan o) (view_of (with_child (with_pieces b p) o (place.Looped target)) at-loop)) →
+      step_of r ≡ stops_at (child_in (tokens_of s)) (shown_task b i s)
+  looped-step s e o target p r is q h = rw (h, q, is) refl
+
+-- What the family keeps
+
+pub passes-keep : (b : Body) (p : Pieces) (w next : Work) (r : MadeStep) → r ≡ step-in.Passes (view_of (gone (with_pieces b p)) next) → KeepsStep (view_of b w) r
+passes-keep b p w next r h = rw h (refl, refl)
+
+pub spawns-keep : (b : Body) (p : Pieces) (w next : Work) (o : Origin) (at : Place) (r : MadeStep) →
+    r ≡ step-in.Stops (stop-in.Spawn (fresh b.family.plan o) (view_of (with_child (with_pieces b p) o at) next)) → KeepsStep (view_of b w) r
+spawns-keep b p w next o at r h = rw h (refl, refl, refl)
+
+keeps-alike : (b : Body) (w other : Work) (r : MadeStep) → KeepsStep (view_of b w) r → KeepsStep (view_of b other) r
+keeps-alike b w other (step-in.Passes next) h = h
+keeps-alike b w other (step-in.Stops (stop-in.Spawn child rest)) h = h
+keeps-alike b w other (step-in.Stops (stop-in.Wait rest)) h = h
+keeps-alike b w other (step-in.Stops (stop-in.Done answer give)) h = h
+
+-- A move
+
+module _ (b : Body) (i next : RawInstance) (plan : PlanView) (m : Moved) (p : plan ≡ b.family.plan) (e : move plan (moves.path_of i) (moves.machine_of plan i) ≡ run_of m (moves.machine_of plan next)) (h : IsSound b (work.Runs (stage.Goes i))) where
+  runs-on : moves.path_of next ≡ moves.path_of i → moves.IsInstance plan next → RunsAt b.family.plan (path_of (own_instance b.family.origin)) next
+  runs-on path sound = record { sound = subst (λ (q : PlanView). moves.IsInstance q next) p sound; at = path ∙ h.works.at }
+
+  moves-so : (n : Moved) → m ≡ n → move b.family.plan (moves.path_of i) (moves.machine_of b.family.plan i) ≡ run_of n (moves.machine_of b.family.plan next)
+  moves-so n is =
+      subst (λ (q : PlanView). move q (moves.path_of i) (moves.machine_of q i) ≡ run_of n (moves.machine_of q next)) p
+      (e ∙ ap (λ (x : Moved). run_of x (moves.machine_of plan next)) is)
+
+  pub went-sound : StepsAreSound → (s : Shown) → m ≡ moved-in.Went s → moves.path_of next ≡ moves.path_of i → moves.IsInstance plan next → IsSoundShown b next s
+  went-sound law s is path sound = shown-sound b i law next s h (go-went b i next s h.works (moves-so (moved-in.Went s) is)) (runs-on path sound)
+
+  pub gave-sound : StepsAreSound → (v : Value) → m ≡ moved-in.Gave v → IsSound (gone b) (work.Runs (stage.Gave v))
+  gave-sound law v is = pass-sound law b (work.Runs (stage.Goes i)) (work.Runs (stage.Gave v)) h (go-gave b i next v h.works (moves-so (moved-in.Gave v) is)) tt
+
+  pub gave-is : (v : Value) (r : MadeStep) → m ≡ moved-in.Gave v → r ≡ step-in.Passes (view_of (gone b) (work.Runs (stage.Gave v))) → IsStep (view_of b (work.Runs (stage.Goes i))) r
+  gave-is v r is = pass-is b (work.Runs (stage.Goes i)) (work.Runs (stage.Gave v)) r (go-gave b i next v h.works (moves-so (moved-in.Gave v) is))
+
+  pub faulted-sound : StepsAreSound → (f : Fault) → m ≡ moved-in.Faulted f → IsSound (gone b) (work.Runs (stage.Faulted f))
+  faulted-sound law f is = pass-sound law b (work.Runs (stage.Goes i)) (work.Runs (stage.Faulted f)) h (go-faulted b i next f h.works (moves-so (moved-in.Faulted f) is)) tt
+
+  pub faulted-is : (f : Fault) (r : MadeStep) → m ≡ moved-in.Faulted f → r ≡ step-in.Passes (view_of (gone b) (work.Runs (stage.Faulted f))) → IsStep (view_of b (work.Runs (stage.Goes i))) r
+  faulted-is f r is = pass-is b (work.Runs (stage.Goes i)) (work.Runs (stage.Faulted f)) r (go-faulted b i next f h.works (moves-so (moved-in.Faulted f) is))
+
+  went-one : (s : Shown) (r : MadeStep) → m ≡ moved-in.Went s → step_of r ≡ stops_at (child_in (tokens_of s)) (shown_task b next s) → KeepsStep (view_of b (work.Runs (stage.Goes next))) r →
+      IsStep (view_of b (work.Runs (stage.Goes i))) r
+  went-one s r is g k = record { is = go-went b i next s h.works (moves-so (moved-in.Went s) is) ∙ sym g; keeps = keeps-alike b (work.Runs (stage.Goes next)) (work.Runs (stage.Goes i)) r k }
+
+  pub went-is : {E : Type 0} (s : Shown) (r : Result MadeStep E) → m ≡ moved-in.Went s → IfOk r (λ x. step_of x ≡ stops_at (child_in (tokens_of s)) (shown_task b next s)) →
+      IfOk r (KeepsStep (view_of b (work.Runs (stage.Goes next)))) → IfOk r (IsStep (view_of b (work.Runs (stage.Goes i))))
+  went-is s (Ok x) is g k = went-one s x is g k
+  went-is s (Err x) is g k = tt
