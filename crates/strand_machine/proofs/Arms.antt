@@ -1,5 +1,5 @@
 -- What holds of a task by what remains of it.
-use Rattle.std.proofs.Common.{◌≡◌, Result, IfOk, refl, sym, ap, ◌∙◌, subst}
+use Rattle.std.proofs.Common.{◌≡◌, refl, sym, ap, ◌∙◌, subst}
 use Rattle.serial_meaning.specs.declared.answer.Outcome.TheVariants as outcome
 use Rattle.serial_meaning.specs.declared.event.Fault.{Fault}
 use Rattle.strand_meaning.specs.Laws.{StepsAreSound}
