@@ -110,9 +110,9 @@ fn split(mut body: Body, alloc: Global, range: IterRange) -> Result<Step, Memory
     ensures { IfOk result (IsStep (view_of body (work.Splits range))) }
 {
     laws::steps_are_sound();
-    if let Some((lower, upper)) = range.split() {
-        let child = part_of(alloc, body.family.origin(), lower)?;
-        return spawn(body, alloc, child, Place::Half, Work::Splits(upper));
+    if let Some(halves) = range.split() {
+        let child = part_of(alloc, body.family.origin(), halves.0)?;
+        return spawn(body, alloc, child, Place::Half, Work::Splits(halves.1));
     }
     if range.len() == 0 {
         let values = body.take_values(alloc);

@@ -17,9 +17,9 @@ use Rattle.strand_machine.proofs.step.split.Goals as goal
 pub spawn-requires-clause-known : goal.spawn-requires-clause-known
 spawn-requires-clause-known c =
     let b = c.args.body in
-    let p = c.in-Some.lower-1-given.0.0 in
-    let parts = halves c.args.range c.split.result p c.in-Some.lower-1-given.1 c.split.ensures.halves in
-    let two = many (c.args.range.hi - c.args.range.lo) c.split.result p c.in-Some.lower-1-given.1 c.split.ensures.too_few in
+    let p = c.in-Some.halves in
+    let parts = halves c.args.range c.split.result p c.in-Some.is c.split.ensures.halves in
+    let two = many (c.args.range.hi - c.args.range.lo) c.split.result p c.in-Some.is c.split.ensures.too_few in
     let child : c.in_ok-child.child ≡ only b.family.origin p.0 = c.in_ok-child.ensures ∙ ap (λ (o : Origin). only o p.0) c.origin.ensures in
     (spawn-sound c.steps_are_sound.ensures b (work.Splits c.args.range) (work.Splits p.1) c.in_ok-child.child place.Half c.requires
     (split-many b c.args.range p.0 p.1 c.in_ok-child.child two parts.0 parts.1 child) tt).0
@@ -27,9 +27,9 @@ spawn-requires-clause-known c =
 pub spawn-requires-clause-sound : goal.spawn-requires-clause-sound
 spawn-requires-clause-sound c =
     let b = c.args.body in
-    let p = c.in-Some.lower-1-given.0.0 in
-    let parts = halves c.args.range c.split.result p c.in-Some.lower-1-given.1 c.split.ensures.halves in
-    let two = many (c.args.range.hi - c.args.range.lo) c.split.result p c.in-Some.lower-1-given.1 c.split.ensures.too_few in
+    let p = c.in-Some.halves in
+    let parts = halves c.args.range c.split.result p c.in-Some.is c.split.ensures.halves in
+    let two = many (c.args.range.hi - c.args.range.lo) c.split.result p c.in-Some.is c.split.ensures.too_few in
     let child : c.in_ok-child.child ≡ only b.family.origin p.0 = c.in_ok-child.ensures ∙ ap (λ (o : Origin). only o p.0) c.origin.ensures in
     (spawn-sound c.steps_are_sound.ensures b (work.Splits c.args.range) (work.Splits p.1) c.in_ok-child.child place.Half c.requires
     (split-many b c.args.range p.0 p.1 c.in_ok-child.child two parts.0 parts.1 child) tt).1
@@ -37,9 +37,9 @@ spawn-requires-clause-sound c =
 pub returns-in-Some : goal.returns-in-Some
 returns-in-Some c =
     let b = c.args.body in
-    let p = c.in-Some.lower-1-given.0.0 in
-    let parts = halves c.args.range c.split.result p c.in-Some.lower-1-given.1 c.split.ensures.halves in
-    let two = many (c.args.range.hi - c.args.range.lo) c.split.result p c.in-Some.lower-1-given.1 c.split.ensures.too_few in
+    let p = c.in-Some.halves in
+    let parts = halves c.args.range c.split.result p c.in-Some.is c.split.ensures.halves in
+    let two = many (c.args.range.hi - c.args.range.lo) c.split.result p c.in-Some.is c.split.ensures.too_few in
     let child : c.in_ok-child.child ≡ only b.family.origin p.0 = c.in_ok-child.ensures ∙ ap (λ (o : Origin). only o p.0) c.origin.ensures in
     IfOk-weaker c.spawn.result
     (λ s. s ≡ step.Stops (stop.Spawn (fresh b.family.plan c.in_ok-child.child) (view_of (with_child b c.in_ok-child.child place.Half) (work.Splits p.1)))) (IsStep (view_of b (work.Splits c.args.range)))
