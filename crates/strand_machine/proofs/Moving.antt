@@ -12,7 +12,6 @@ use Rattle.serial_meaning.specs.declared.value.Value.{Value}
 use Rattle.strand_meaning.specs.Laws.{StepsAreSound}
 use Rattle.strand_meaning.specs.Machine.{move}
 use Rattle.strand_meaning.specs.Pieces.{Part, Pieces, tell, tell_at, behind_last}
-use Rattle.strand_meaning.specs.Task as meaning
 use Rattle.strand_meaning.specs.Task.{own_instance, stops_at, child_in}
 use Rattle.strand_moves.specs.Machines as moves
 use Rattle.strand_moves.specs.Moves.{tokens_of, run_of}
@@ -25,7 +24,7 @@ use Rattle.strand_machine.specs.Family.{FamilyView}
 use Rattle.strand_machine.specs.Parts.{awaited, place_of}
 use Rattle.strand_machine.specs.Shown.{shown_task, IsSoundShown}
 use Rattle.strand_machine.specs.Stops.{IsStep, KeepsStep, step_of}
-use Rattle.strand_machine.specs.Tasks.{view_of, fresh, AwaitsLast, RunsAt, IsSound, task_of, gone, with_child}
+use Rattle.strand_machine.specs.Tasks.{view_of, fresh, AwaitsLast, RunsAt, IsSound, gone, with_child}
 use Rattle.strand_machine.specs.declared.body.Body.{Body}
 use Rattle.strand_machine.specs.declared.place.Place.{Place}
 use Rattle.strand_machine.specs.declared.place.Place.TheVariants as place

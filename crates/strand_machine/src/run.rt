@@ -1,6 +1,5 @@
 // The moves of a task's instance.
-ghost use Rattle.std.specs.Prelude.{◌≡◌, ◌++◌, ◌∷◌, IfOk, Some, None};
-ghost use Rattle.strand_meaning.specs.Pieces.{tell};
+ghost use Rattle.std.specs.Prelude.{◌≡◌, IfOk};
 ghost use Rattle.strand_meaning.specs.Task.{stops_at, child_in};
 ghost use Rattle.strand_moves.specs.Moves.{tokens_of};
 ghost use Rattle.strand_machine.specs.Shown.{shown_task, IsSoundShown};
