@@ -21,12 +21,3 @@ mod work;
 pub use memory::Memory;
 pub use stop::{Resumed, Stop};
 pub use task::Task;
-
-fn is_shared<T: Send + Sync>() {}
-
-/// A task may be sent to other threads. The body asks for it, so that a field which forbids it fails the build.
-pub fn all_are_shared() {
-    is_shared::<Task>();
-    is_shared::<Stop>();
-    is_shared::<Resumed>();
-}

@@ -70,12 +70,7 @@ fn begin_child(family: &mut Family, alloc: Global, child: Origin) -> Result<Task
 }
 
 /// Begins a child whose value goes to this place.
-fn hand_out(
-    body: &mut Body,
-    alloc: Global,
-    child: Origin,
-    place: Place,
-) -> Result<Task, Memory>
+fn hand_out(body: &mut Body, alloc: Global, child: Origin, place: Place) -> Result<Task, Memory>
     requires { IsOriginOf body.old.family.plan child }
     ensures child { IfOk result (λ task. task ≡ fresh body.old.family.plan child) }
     ensures body { OnOk result (body.new ≡ with_child body.old child place) }

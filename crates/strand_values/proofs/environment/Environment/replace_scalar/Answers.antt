@@ -16,7 +16,7 @@ pub returns-in-Some-clause-there : goal.returns-in-Some-clause-there
 returns-in-Some-clause-there c = λ some.
     let there = sym (rw (c.deref.ensures.value, c.as_slice.ensures) at c.place.ensures) ∙ c.in-Some.is in
     let e = set_found c.in-Some.i c.self.inside.variables.items c.args.name.now.bytes (Scalar c.args.value) c.index_mut.result.now there c.index_mut.ensures.value
-        ∙ ap (λ (vs : Env). with_slot vs c.args.name.now.bytes (Scalar c.args.value)) c.self.view_is in
+    ∙ ap (λ (vs : Env). with_slot vs c.args.name.now.bytes (Scalar c.args.value)) c.self.view_is in
     search rules
 
 pub returns-in-Some-clause-missing : goal.returns-in-Some-clause-missing
