@@ -15,3 +15,10 @@ pub use tree::{
     Act, CallText, Comparison, Expr, Function, Kind, Name, Number, Param, ProductPart, ProductSign,
     Right, Script, Stmt, SumPart,
 };
+
+fn is_shared<T: Send + Sync>() {}
+
+/// Scripts may be sent to other threads and read by several at once. The body asks for it, so that a field which forbids it fails the build.
+pub fn all_are_shared() {
+    is_shared::<Script>();
+}
