@@ -12,7 +12,7 @@ use Rattle.serial_meaning.specs.declared.origin.Origin.TheVariants.{Instance, Lo
 use Rattle.serial_meaning.specs.declared.answer.Outcome.{Outcome}
 use Rattle.strand_meaning.specs.Machine.{Token, Reached, Stands, Gives, move}
 use Rattle.strand_meaning.specs.Pieces.{Part}
-use Rattle.strand_meaning.specs.Task.{Stage, Goes, AtSync, AtLoop, Ended, Work, Splits, Runs, Over, Task, own_instance, Step, Passes, Stops, Stop, Spawn, Wait, End, IsNext, Now, Later, stage_after, child_in, stops_at, passing, moved, ends_unless, faults_behind, gave, stage_step, split_step, over_step, work_step, step}
+use Rattle.strand_meaning.specs.Task.{Stage, Goes, AtSync, AtLoop, Ended, Work, Splits, Runs, Over, Task, own_instance, Step, Passes, Stops, Stop, Spawn, Wait, End, IsNext, Now, Later, stage_after, child_in, stops_at, passing, moved, ends_unless, faults_behind, gave, stage_step, split_step, over_step, work_step}
 use Rattle.strand_machine.specs.Family.{tag}
 use Rattle.strand_machine.specs.Stops.{IsStop, IsResumed}
 use Rattle.strand_machine.specs.Tasks.{TaskView}
