@@ -301,20 +301,31 @@ fn number(rt: &impl Abort, alloc: Global, task: Task) -> Result<i64, Fail> {
     }
 }
 
+/// Main's task behind its first child, and this child.
+fn begun(rt: &impl Abort, alloc: Global, plan: &Arc<Plan>) -> Result<(Task, Task), Fail> {
+    let main = main_task(alloc, plan)?;
+    assert!(rt; main.is_fresh());
+    let (child, rest) = handed_out(rt, alloc, main)?;
+    assert!(rt; child.is_fresh() && !rest.is_fresh());
+    assert!(rt; awaits_only(&rest, &child));
+    Ok((child, rest))
+}
+
+/// The task behind its next wait, for this child.
+fn behind_wait(rt: &impl Abort, alloc: Global, child: Task, rest: Task) -> Result<Task, Fail> {
+    let waiting = at_wait(rt, alloc, rest)?;
+    let waiting = still_waiting(rt, alloc, waiting)?;
+    put_answer(rt, alloc, child)?;
+    gone_on(rt, alloc, waiting)
+}
+
 #[test]
 fn a_task_goes_on_once_its_child_has_answered(rt: HostRuntime) -> Result<(), Fail> {
     let alloc = rt.alloc();
     let text = "fn f() { return 7; } fn main() { let a = spawn f(); sync; print a; return 0; }";
     let plan = plan(&rt, text, 2, 100)?;
-    let main = main_task(alloc, &plan)?;
-    assert!(rt; main.is_fresh());
-    let (child, rest) = handed_out(&rt, alloc, main)?;
-    assert!(rt; child.is_fresh() && !rest.is_fresh());
-    assert!(rt; awaits_only(&rest, &child));
-    let waiting = at_wait(&rt, alloc, rest)?;
-    let waiting = still_waiting(&rt, alloc, waiting)?;
-    put_answer(&rt, alloc, child)?;
-    let rest = gone_on(&rt, alloc, waiting)?;
+    let (child, rest) = begun(&rt, alloc, &plan)?;
+    let rest = behind_wait(&rt, alloc, child, rest)?;
     assert!(rt; rest.awaited().as_slice().is_empty());
     assert_eq!(rt; number(&rt, alloc, rest)?, 0);
     Ok(())
