@@ -1,5 +1,6 @@
 pub mod Hands
 pub mod Mains
 pub mod Shows
+pub mod Stopping
 pub mod Turning
 pub mod Turns

@@ -19,7 +19,7 @@ use strand_machine::Task;
 use strand_meaning::laws;
 
 /// A task of the origin. Nobody waits for what it gives.
-fn begin_task(alloc: Global, plan: &Arc<Plan>, origin: Origin) -> Result<Task, Memory>
+pub(crate) fn begin_task(alloc: Global, plan: &Arc<Plan>, origin: Origin) -> Result<Task, Memory>
     requires { IsOriginOf (arc_value plan.now) origin }
     ensures { IfOk result (λ task. task ≡ fresh (arc_value plan.now) origin) }
 {

@@ -1,23 +1,25 @@
 // Small scripts, with what the language's rules say that they do.
 
-ghost use Rattle.std.specs.Prelude.{IfOk};
+ghost use Rattle.std.specs.Prelude.{◌≡◌, true, IfOk};
 ghost use Rattle.serial_meaning.specs.Render.{IsWhole};
 ghost use Rattle.crew.specs.Stacks.{IsStack};
 
 use crate::frames::Frame;
 use crate::run_serial;
-use crate::serial::begin;
+use crate::serial::{begin, begin_task};
 use crate::stack::{Stack, Turn};
 use crate::turn::turn;
 use dotmix::Gamma;
 use script_check::check;
 use script_text::{MAX_BYTES, parse};
-use serial_meaning::{Answer, Limits, Outcome, Plan, Show, Strand, render_run, render_strand};
+use serial_meaning::{
+    Answer, Limits, Outcome, Plan, Show, Strand, Value, render_run, render_strand,
+};
 use std::alloc::Global;
 use std::process::Abort;
 use std::sync::Arc;
 use std::test::Fail;
-use strand_machine::Stop;
+use strand_machine::{Resumed, Stop, Task};
 
 /// The script's plan where each instance has so many steps.
 fn plan(
@@ -218,4 +220,113 @@ fn a_task_takes_its_childrens_answers_at_a_wait(rt: HostRuntime) -> Result<(), F
     let stack = main_behind(&rt, alloc, &plan, 4)?;
     assert_eq!(rt; awaited(&rt, alloc, stack)?, (2, 0));
     prints(&rt, text, 100, "0.0\n1.0\n1\n1\n")
+}
+
+/// Main's task, of which nothing is done.
+fn main_task(alloc: Global, plan: &Arc<Plan>) -> Result<Task, Fail> {
+    let origin = plan.main_origin(alloc)?;
+    Ok(begin_task(alloc, plan, origin)?)
+}
+
+/// The child that the task hands out next, and the rest.
+fn handed_out(rt: &impl Abort, alloc: Global, task: Task) -> Result<(Task, Task), Fail> {
+    match task.advance(alloc)? {
+        Stop::Spawn { child, rest } => Ok((child, rest)),
+        _ => panic!(rt; "it hands out a child"),
+    }
+}
+
+/// Whether this is the one child that the task awaits.
+fn awaits_only(task: &Task, child: &Task) -> bool {
+    let awaited = task.awaited().as_slice();
+    match awaited.first() {
+        Some(origin) => awaited.len() == 1 && child.origin().same(origin),
+        None => false,
+    }
+}
+
+/// The task at its next stop, a wait.
+fn at_wait(rt: &impl Abort, alloc: Global, task: Task) -> Result<Task, Fail>
+    ensures { IfOk result (λ rest. rest.task.waiting ≡ true) }
+{
+    let stop = task.advance(alloc)?;
+    match stop {
+        Stop::Wait { rest } => Ok(rest),
+        _ => panic!(rt; "it waits"),
+    }
+}
+
+/// The task at the same wait, since not all of its children have answered.
+fn still_waiting(rt: &impl Abort, alloc: Global, task: Task) -> Result<Task, Fail>
+    requires { task.task.waiting ≡ true }
+    ensures { IfOk result (λ same. same.task.waiting ≡ true) }
+{
+    let resumed = task.resume(alloc)?;
+    match resumed {
+        Resumed::NotYet(same) => Ok(same),
+        Resumed::On(_) => panic!(rt; "its child hasn't answered"),
+    }
+}
+
+/// The task behind its wait, since all of its children have answered.
+fn gone_on(rt: &impl Abort, alloc: Global, task: Task) -> Result<Task, Fail>
+    requires { task.task.waiting ≡ true }
+{
+    match task.resume(alloc)? {
+        Resumed::On(next) => Ok(next),
+        Resumed::NotYet(_) => panic!(rt; "its child has answered"),
+    }
+}
+
+/// Runs the task to its end and puts what it answers.
+fn put_answer(rt: &impl Abort, alloc: Global, task: Task) -> Result<(), Fail> {
+    let stop = task.advance(alloc)?;
+    match stop {
+        Stop::Done { answer, give } => {
+            give.put(answer);
+            Ok(())
+        }
+        _ => panic!(rt; "it has ended"),
+    }
+}
+
+/// The number that the task gives at its end.
+fn number(rt: &impl Abort, alloc: Global, task: Task) -> Result<i64, Fail> {
+    match task.advance(alloc)? {
+        Stop::Done { answer, .. } => match answer.outcome {
+            Outcome::Value(Value::Int(number)) => Ok(number),
+            _ => panic!(rt; "it gives a number"),
+        },
+        _ => panic!(rt; "it has ended"),
+    }
+}
+
+/// Main's task behind its first child, and this child.
+fn begun(rt: &impl Abort, alloc: Global, plan: &Arc<Plan>) -> Result<(Task, Task), Fail> {
+    let main = main_task(alloc, plan)?;
+    assert!(rt; main.is_fresh());
+    let (child, rest) = handed_out(rt, alloc, main)?;
+    assert!(rt; child.is_fresh() && !rest.is_fresh());
+    assert!(rt; awaits_only(&rest, &child));
+    Ok((child, rest))
+}
+
+/// The task behind its next wait, for this child.
+fn behind_wait(rt: &impl Abort, alloc: Global, child: Task, rest: Task) -> Result<Task, Fail> {
+    let waiting = at_wait(rt, alloc, rest)?;
+    let waiting = still_waiting(rt, alloc, waiting)?;
+    put_answer(rt, alloc, child)?;
+    gone_on(rt, alloc, waiting)
+}
+
+#[test]
+fn a_task_goes_on_once_its_child_has_answered(rt: HostRuntime) -> Result<(), Fail> {
+    let alloc = rt.alloc();
+    let text = "fn f() { return 7; } fn main() { let a = spawn f(); sync; print a; return 0; }";
+    let plan = plan(&rt, text, 2, 100)?;
+    let (child, rest) = begun(&rt, alloc, &plan)?;
+    let rest = behind_wait(&rt, alloc, child, rest)?;
+    assert!(rt; rest.awaited().as_slice().is_empty());
+    assert_eq!(rt; number(&rt, alloc, rest)?, 0);
+    Ok(())
 }
