@@ -7,4 +7,5 @@ pub mod Machine
 pub mod Pieces
 pub mod Rest
 pub mod Sound
+pub mod Strands
 pub mod Task
