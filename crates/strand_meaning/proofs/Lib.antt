@@ -24,3 +24,5 @@ pub mod TaskRuns
 pub mod Variables
 pub mod ClearOfValid
 pub mod FreeNames
+pub mod ItemsRise
+pub mod Under
