@@ -8,13 +8,12 @@ use Rattle.serial_meaning.specs.Functions.{function_at}
 use Rattle.serial_meaning.specs.Plan.{PlanView, functions_of}
 use Rattle.serial_meaning.specs.Exec.{State, strand, activation, exec, instance, filled}
 use Rattle.serial_meaning.specs.Eval.{Evaluation, path_of, eval_at}
-use Rattle.serial_meaning.specs.Open.{Item, Happened, Child, Ending, Own, Joined, Node, put_off_all, joined, loop_end, is_empty_loop, iterations, gathered, node_with, node_at}
+use Rattle.serial_meaning.specs.Open.{Item, Happened, Child, Ending, Node, put_off_all, joined, loop_end, is_empty_loop, iterations, gathered, node_with, node_at}
 use Rattle.serial_meaning.proofs.RunLaws.{then-then}
 use Rattle.serial_meaning.proofs.Closed.{Closed, closed-exec, returned-q}
 use Rattle.serial_meaning.proofs.Children.{Stops, NodeStops}
 use Rattle.serial_meaning.specs.declared.value.Value.{Value}
 use Rattle.serial_meaning.specs.declared.event.Fault.{Fault}
-use Rattle.serial_meaning.specs.declared.event.Event.{Event}
 use Rattle.serial_meaning.specs.declared.event.Event.TheVariants as event
 use Rattle.serial_meaning.specs.declared.origin.Origin.{Origin}
 use Rattle.serial_meaning.specs.declared.origin.Origin.TheVariants as origin

@@ -26,3 +26,5 @@ pub mod ClearOfValid
 pub mod FreeNames
 pub mod ItemsRise
 pub mod Under
+pub mod Passing
+pub mod Strands
