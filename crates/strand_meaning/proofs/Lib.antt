@@ -28,3 +28,4 @@ pub mod ItemsRise
 pub mod Under
 pub mod Passing
 pub mod Strands
+pub mod StrandRuns
