@@ -7,5 +7,6 @@ pub mod Machine
 pub mod Pieces
 pub mod Rest
 pub mod Sound
+pub mod StrandExamples
 pub mod Strands
 pub mod Task
