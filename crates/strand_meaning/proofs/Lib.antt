@@ -17,6 +17,7 @@ pub mod Own
 pub mod Shown
 pub mod SoundMoves
 pub mod Starts
+pub mod StrandRuns
 pub mod Steps
 pub mod Stops
 pub mod Taken
