@@ -17,6 +17,7 @@ pub mod Own
 pub mod Shown
 pub mod SoundMoves
 pub mod Starts
+pub mod StrandRuns
 pub mod Steps
 pub mod Stops
 pub mod Taken
@@ -27,5 +28,4 @@ pub mod FreeNames
 pub mod ItemsRise
 pub mod Under
 pub mod Passing
-pub mod Strands
-pub mod StrandRuns
+pub mod ElisionStrands

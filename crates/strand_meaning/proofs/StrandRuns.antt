@@ -1,64 +1,45 @@
--- Proofs of the examples: what stands at each pedigree is computed.
-use Rattle.std.proofs.Common.{◌≡◌, [], ◌∷◌, Some, Err, ap}
-use Rattle.std.proofs.Common.{pos}
+-- Proofs of the examples of strands: what stands at each pedigree is computed.
 use Rattle.script_grammar.specs.declared.tree.Act.{out-Act}
-use Rattle.serial_meaning.specs.Runs.{Run, done, ◌then◌}
-use Rattle.serial_meaning.specs.Plan.{PlanView}
-use Rattle.serial_meaning.specs.Exec.{instance}
-use Rattle.serial_meaning.specs.Eval.{Evaluation, eval_at}
-use Rattle.serial_meaning.specs.Open.{Item, Happened, Child, Ending, Own, Joined, put_off_all, node_at}
-use Rattle.serial_meaning.specs.Examples.{plan_of, bad, endless_main, endless_plan}
 use Rattle.serial_meaning.proofs.Computing.{value_of-number, value_of-variable, value_of-product, spawns-out}
 use Rattle.serial_meaning.proofs.Named.{product_part-is}
-use Rattle.serial_meaning.specs.declared.value.Value.{Value}
-use Rattle.serial_meaning.specs.declared.value.Value.TheVariants.{Int}
-use Rattle.serial_meaning.specs.declared.event.Event.TheVariants as event
-use Rattle.serial_meaning.specs.declared.origin.Origin.{Origin}
-use Rattle.serial_meaning.specs.declared.origin.Origin.TheVariants.{Instance}
-use Rattle.strand_meaning.specs.StrandExamples.{divided, spent, waiting_main, ParentGoesOn, NoStrandBehindAFaultedSync, IterationsHavePathsOfTwoRanks}
+use Rattle.strand_meaning.specs.StrandExamples.{FirstStrandPrintsAndSpawns, ChildsStrandHasItsFault, ParentGoesOnToItsFault, NoStrandBehindAFault, SyncStandsWhereAChildFaulted, ChildsFaultBlocks, IterationsHaveStrands, LoopIsAStrandsEvent, IterationsPathIsNoStrand, NoStrandBelowAMissingIteration}
 
-pub iterations_have_paths_of_two_ranks : IterationsHavePathsOfTwoRanks
+pub first_strand_prints_and_spawns : FirstStrandPrintsAndSpawns
 unfolding out-Act denote.Hole.Carrier.out
-iterations_have_paths_of_two_ranks = simp (value_of-number, spawns-out)
+first_strand_prints_and_spawns = simp value_of-number
 
-abbrev faulting_child : Origin
-faulting_child = Instance 0 [] (0 ∷ [])
-
--- what the child gives, and its node
-
-abbrev waiting_plan : PlanView
-waiting_plan = plan_of (bad ∷ waiting_main ∷ []) 20
-
-evaluation-waiting : eval_at waiting_plan 2 faulting_child ≡ record { items = []; ending = Err divided }
+pub childs_strand_has_its_fault : ChildsStrandHasItsFault
 unfolding out-Act denote.Hole.Carrier.out
-evaluation-waiting = simp (value_of-number, value_of-variable, value_of-product, product_part-is, spawns-out)
+childs_strand_has_its_fault = simp (value_of-product, product_part-is, value_of-number, value_of-variable, spawns-out)
 
-child-waiting : node_at waiting_plan 2 faulting_child ≡ record { items = []; ending = Err (Own divided) }
+pub parent_goes_on_to_its_fault : ParentGoesOnToItsFault
 unfolding out-Act denote.Hole.Carrier.out
-child-waiting = simp (value_of-number, value_of-variable, value_of-product, product_part-is, spawns-out)
+parent_goes_on_to_its_fault = simp value_of-number
 
-main-waiting : (child : Origin → Evaluation) → child faulting_child ≡ record { items = []; ending = Err divided } →
-    instance (put_off_all waiting_plan child) waiting_plan [] (Some waiting_main) [] ≡ record { items = Happened (event.Spawn (0 ∷ [])) ∷ Child faulting_child ∷ Happened (event.Sync (1 ∷ [])) ∷ []; ending = Err (Joined divided) }
+pub no_strand_behind_a_fault : NoStrandBehindAFault
 unfolding out-Act denote.Hole.Carrier.out
-main-waiting child h = simp (value_of-number, h)
+no_strand_behind_a_fault = simp value_of-number
 
-child-endless : node_at (endless_plan 0) 2 faulting_child ≡ record { items = []; ending = Err (Own divided) }
+pub sync_stands_where_a_child_faulted : SyncStandsWhereAChildFaulted
 unfolding out-Act denote.Hole.Carrier.out
-child-endless = simp (value_of-number, value_of-variable, value_of-product, product_part-is, spawns-out)
+sync_stands_where_a_child_faulted = simp (value_of-product, product_part-is, value_of-number, value_of-variable, spawns-out)
 
-main-endless : (child : Origin → Evaluation) →
-    instance (put_off_all (endless_plan 0) child) (endless_plan 0) [] (Some endless_main) [] ≡ record { items = Happened (event.Print (0 ∷ []) (Int (pos 7))) ∷ Happened (event.Spawn (0 ∷ [])) ∷ Child faulting_child ∷ []; ending = Err (Own spent) }
+pub childs_fault_blocks : ChildsFaultBlocks
 unfolding out-Act denote.Hole.Carrier.out
-main-endless child = simp value_of-number
+childs_fault_blocks = simp (value_of-product, product_part-is, value_of-number, value_of-variable, spawns-out)
 
-node-waiting : node_at waiting_plan 3 (Instance 1 [] []) ≡ record { items = Happened (event.Spawn (0 ∷ [])) ∷ Child faulting_child ∷ Happened (event.Sync (1 ∷ [])) ∷ []; ending = Err (Joined divided) }
-node-waiting = ap (λ (r : Run Item Ending Value). r then λ v. done (v ∷ [])) (main-waiting (eval_at waiting_plan 2) evaluation-waiting)
+pub iterations_have_strands : IterationsHaveStrands
+unfolding out-Act denote.Hole.Carrier.out
+iterations_have_strands = simp (value_of-number, value_of-variable, spawns-out)
 
-node-endless : node_at (endless_plan 0) 3 (Instance 1 [] []) ≡ record { items = Happened (event.Print (0 ∷ []) (Int (pos 7))) ∷ Happened (event.Spawn (0 ∷ [])) ∷ Child faulting_child ∷ []; ending = Err (Own spent) }
-node-endless = ap (λ (r : Run Item Ending Value). r then λ v. done (v ∷ [])) (main-endless (eval_at (endless_plan 0) 2))
+pub loop_is_a_strands_event : LoopIsAStrandsEvent
+unfolding out-Act denote.Hole.Carrier.out
+loop_is_a_strands_event = simp (value_of-number, value_of-variable, spawns-out)
 
-pub no_strand_behind_a_faulted_sync : NoStrandBehindAFaultedSync
-no_strand_behind_a_faulted_sync = rw (node-waiting, child-waiting)
+pub iterations_path_is_no_strand : IterationsPathIsNoStrand
+unfolding out-Act denote.Hole.Carrier.out
+iterations_path_is_no_strand = simp (value_of-number, value_of-variable, spawns-out)
 
-pub parent_goes_on : ParentGoesOn
-parent_goes_on = rw (node-endless, child-endless)
+pub no_strand_below_a_missing_iteration : NoStrandBelowAMissingIteration
+unfolding out-Act denote.Hole.Carrier.out
+no_strand_below_a_missing_iteration = simp (value_of-number, value_of-variable, spawns-out)

@@ -8,6 +8,7 @@ use Rattle.serial_meaning.specs.declared.value.Value.{Value}
 use Rattle.serial_meaning.specs.declared.event.Fault.{Fault}
 use Rattle.serial_meaning.specs.declared.event.Event.{Event}
 use Rattle.serial_meaning.specs.declared.event.Event.TheVariants as event
+use Rattle.serial_meaning.specs.declared.answer.Strand as answer
 use Rattle.serial_meaning.specs.declared.origin.Origin.{Origin}
 use Rattle.serial_meaning.specs.declared.origin.Origin.TheVariants.{Instance, Loop}
 
@@ -79,9 +80,8 @@ child_at path (Child o ∷ items) = if bytes_eq (path_of o) path then Some o els
 -- A strand
 
 -- the events of a strand, and the fault by which its instance ended there, if it did
-pub record Strand : Type 0 where
-  pub events : List Event
-  pub fault : Option Fault
+abbrev pub Strand : Type 0
+Strand = answer.Strand
 
 -- what stands at a pedigree: a strand; none; or none is known, since an instance on the way ended by the fault of a child before
 pub data Found : Type 0 where

@@ -1,7 +1,6 @@
-//! Where the tasks of small scripts stop, and which strands they have. Each function does nothing; its contract is the example. A wait
-//! is over with the answers of the children.
+//! Where the tasks of small scripts stop. Each function does nothing; its contract is the example. A wait is over with the answers of
+//! the children.
 
-ghost use Rattle.strand_meaning.specs.StrandExamples.{IterationsHavePathsOfTwoRanks, NoStrandBehindAFaultedSync, ParentGoesOn};
 ghost use Rattle.strand_meaning.specs.Examples.{FaultWaitsForAChild, LoopTasksHandOutHalves, LoopsAreHandedOutWhole, ReturnWaitsForAChild, SyncAloneIsPassed};
 
 /// `fn f() { return 0; } fn main() { spawn f(); return 0; }`: a child, a wait at the return, the end.
@@ -32,26 +31,4 @@ pub fn loops_are_handed_out_whole()
 #[tactic(auto, using(crate::proofs::TaskRuns::loop_tasks_hand_out_halves))]
 pub fn loop_tasks_hand_out_halves()
     ensures { LoopTasksHandOutHalves }
-{}
-
-/// `fn bad() { let z = 0; return 1 / z; } fn main() { print 7; let a = spawn bad(); let i = 0; while i == 0 { i = 0; } sync; print a;
-/// return 0; }` with a budget of 3: the strand 0 prints 7 and spawns, 0.0 has the fault Divide, and 1, behind the elision's fault, the
-/// fault Budget. There is no strand 0.1 and no strand 2.
-#[tactic(auto, using(crate::proofs::StrandRuns::parent_goes_on))]
-pub fn parent_goes_on()
-    ensures { ParentGoesOn }
-{}
-
-/// `fn main() { spawn bad(); sync; print 1; return 0; }` with the same `bad`: the strand 1 has the sync, and the fault of the strand 0.0
-/// keeps the strands 2 and 2.0 from being known.
-#[tactic(auto, using(crate::proofs::StrandRuns::no_strand_behind_a_faulted_sync))]
-pub fn no_strand_behind_a_faulted_sync()
-    ensures { NoStrandBehindAFaultedSync }
-{}
-
-/// `fn f(i) { return 0; } fn main() { pfor i in 0..3 call f(i); return 0; }`: the strand 0 has the loop, and 0.2.0 is the last
-/// iteration's. 0.2 is that iteration's path and names no strand.
-#[tactic(auto, using(crate::proofs::StrandRuns::iterations_have_paths_of_two_ranks))]
-pub fn iterations_have_paths_of_two_ranks()
-    ensures { IterationsHavePathsOfTwoRanks }
 {}
