@@ -17,6 +17,7 @@ pub mod Own
 pub mod Shown
 pub mod SoundMoves
 pub mod Starts
+pub mod StrandRuns
 pub mod Steps
 pub mod Stops
 pub mod Taken
@@ -24,3 +25,7 @@ pub mod TaskRuns
 pub mod Variables
 pub mod ClearOfValid
 pub mod FreeNames
+pub mod ItemsRise
+pub mod Under
+pub mod Passing
+pub mod ElisionStrands

@@ -7,5 +7,7 @@ pub mod Machine
 pub mod Pieces
 pub mod Rest
 pub mod Sound
+pub mod StrandExamples
+pub mod StrandLaws
 pub mod Strands
 pub mod Task

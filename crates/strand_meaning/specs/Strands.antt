@@ -1,5 +1,6 @@
 -- The strands of the open tree, and the walk down to one of them (docs/LANGUAGE.md, "Strands").
-use Rattle.std.specs.Prelude.{ℕ, ◌+◌, ◌-◌, Bool, true, false, nat_lt, bytes_eq, List, [], ◌∷◌, ◌++◌, Option, Some, None, Result, Ok, Err, if◌then◌else◌}
+use Rattle.std.specs.Prelude.{ℕ, ◌+◌, ◌-◌, nat_lt, List, [], ◌∷◌, ◌++◌, Option, Some, None, Result, Ok, Err, if◌then◌else◌}
+use Rattle.std.specs.Str.{bytes_eq}
 use Rattle.serial_meaning.specs.Eval.{path_of, iteration, main_origin}
 use Rattle.serial_meaning.specs.Open.{Item, Happened, Child, Ending, Own, Joined, Node, opened}
 use Rattle.serial_meaning.specs.Plan.{PlanView}
@@ -7,6 +8,7 @@ use Rattle.serial_meaning.specs.declared.value.Value.{Value}
 use Rattle.serial_meaning.specs.declared.event.Fault.{Fault}
 use Rattle.serial_meaning.specs.declared.event.Event.{Event}
 use Rattle.serial_meaning.specs.declared.event.Event.TheVariants as event
+use Rattle.serial_meaning.specs.declared.answer.Strand as answer
 use Rattle.serial_meaning.specs.declared.origin.Origin.{Origin}
 use Rattle.serial_meaning.specs.declared.origin.Origin.TheVariants.{Instance, Loop}
 
@@ -78,9 +80,8 @@ child_at path (Child o ∷ items) = if bytes_eq (path_of o) path then Some o els
 -- A strand
 
 -- the events of a strand, and the fault by which its instance ended there, if it did
-pub record Strand : Type 0 where
-  pub events : List Event
-  pub fault : Option Fault
+abbrev pub Strand : Type 0
+Strand = answer.Strand
 
 -- what stands at a pedigree: a strand; none; or none is known, since an instance on the way ended by the fault of a child before
 pub data Found : Type 0 where

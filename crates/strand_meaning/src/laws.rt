@@ -1,5 +1,6 @@
-//! Laws of tasks, each the contract of a function that does nothing. A proof that wants a law calls it.
+//! Laws of tasks and strands, each the contract of a function that does nothing. A proof that wants a law calls it.
 
+ghost use Rattle.strand_meaning.specs.StrandLaws.{StrandsAreTheElisions};
 ghost use Rattle.strand_meaning.specs.Laws.{AnswersAreEvaluations, AnswersKeepTasks, AnswersLeaveNoMore, MovesFall, MovesLeaveUnfilledAlone, OriginsFit, StepsAreSound, StopsAreOne, StopsAreSound, StopsCome, StopsFall, StopsKeepOrigins, TasksBegin, ValidPlansAreClear};
 
 /// A task of an origin of the plan begins sound where no function of the script touches a pending variable.
@@ -71,4 +72,10 @@ pub fn moves_fall()
 /// An origin of the plan is within its depth.
 pub fn origins_fit()
     ensures { OriginsFit }
+{}
+
+/// Where no fault ends the serial elision before a pedigree, the strand there, if there is one, has the elision's events of that
+/// pedigree in their order, and the elision's fault where that is there.
+pub fn strands_are_the_elisions()
+    ensures { StrandsAreTheElisions }
 {}

@@ -1,0 +1,131 @@
+-- The events of an evaluation and its fault stand below its path.
+use Rattle.std.proofs.Common.{◌≡◌, ℕ, zero, suc, ◌+◌, ◌-◌, List, [], ◌∷◌, ◌++◌, Option, Some, None, Result, Ok, Err, refl, ◌∙◌, append_assoc}
+use Rattle.std.proofs.Common.{ℤ}
+use Rattle.script_grammar.specs.declared.tree.Function.{Function}
+use Rattle.serial_meaning.specs.Runs.{Run, done, behind, goes_on, ◌then◌}
+use Rattle.serial_meaning.specs.Functions.{function_at}
+use Rattle.serial_meaning.specs.Plan.{PlanView, functions_of}
+use Rattle.serial_meaning.specs.Exec.{State, strand, activation, exec, instance, filled, bound}
+use Rattle.serial_meaning.specs.Eval.{Evaluation, first_of, serial, iteration, turns, eval_with, eval_at, path_of}
+use Rattle.serial_meaning.proofs.Each.{Each, each-append}
+use Rattle.serial_meaning.proofs.Closed.{Closed, closed-exec, returned-q}
+use Rattle.serial_meaning.specs.declared.value.Value.{Value}
+use Rattle.serial_meaning.specs.declared.event.Fault.{Fault}
+use Rattle.serial_meaning.specs.declared.event.Event.{Event}
+use Rattle.serial_meaning.specs.declared.event.Event.TheVariants as event
+use Rattle.serial_meaning.specs.declared.origin.Origin.{Origin}
+use Rattle.serial_meaning.specs.declared.origin.Origin.TheVariants as origin
+use Rattle.strand_meaning.specs.Strands.{pedigree_of}
+use Rattle.strand_meaning.specs.Rest.{child_at}
+
+-- a pedigree has ranks behind the path
+abbrev pub IsUnder : List ℕ → List ℕ → Type 0
+IsUnder path j = (k : ℕ) × (more : List ℕ) × (j ≡ path ++ k ∷ more)
+
+abbrev pub EventUnder : List ℕ → Event → Type 0
+EventUnder path e = IsUnder path (pedigree_of e)
+
+abbrev pub EndUnder : {A : Type 0} → List ℕ → Result A Fault → Type 0
+EndUnder path (Ok a) = Unit {0}
+EndUnder path (Err f) = IsUnder path f.at
+
+pub record StaysUnder {A : Type 0} (path : List ℕ) (r : Run Event Fault A) : Type 0 where
+  pub events : Each (EventUnder path) r.items
+  pub ends : EndUnder path r.ending
+
+nothing : {A : Type 0} (path : List ℕ) (a : A) → StaysUnder path (done a)
+nothing path a = record { events = tt; ends = tt }
+
+event-first : {A : Type 0} (path : List ℕ) (e : Event) (r : Run Event Fault A) → EventUnder path e → StaysUnder path r → StaysUnder path (behind (e ∷ []) r)
+event-first path e r h k = record { events = (h, k.events); ends = k.ends }
+
+under-then : {A B : Type 0} (path : List ℕ) (r : Run Event Fault A) (f : A → Run Event Fault B) → StaysUnder path r → ((a : A) → StaysUnder path (f a)) → StaysUnder path (r then f)
+under-then {A} {B} path r f h k = from r.items r.ending h.events h.ends
+  where
+    from : (items : List Event) (q : Result A Fault) → Each (EventUnder path) items → EndUnder path q → StaysUnder path (goes_on items q f)
+    from items (Ok a) e n = record { events = each-append (EventUnder path) items (f a).items e (k a).events; ends = (k a).ends }
+    from items (Err g) e n = record { events = e; ends = n }
+
+-- what stands below a child's path stands below the parent's
+up : (path : List ℕ) (k : ℕ) (j : List ℕ) → IsUnder (path ++ k ∷ []) j → IsUnder path j
+up path k j u = (k, u.0 ∷ u.1, u.2 ∙ append_assoc path (k ∷ []) (u.0 ∷ u.1))
+
+up-each : (path : List ℕ) (k : ℕ) (es : List Event) → Each (EventUnder (path ++ k ∷ [])) es → Each (EventUnder path) es
+up-each path k [] h = tt
+up-each path k (e ∷ es) h = (up path k (pedigree_of e) h.0, up-each path k es h.1)
+
+child-under : (path : List ℕ) (k : ℕ) (r : Evaluation) → StaysUnder (path ++ k ∷ []) r → StaysUnder path r
+child-under path k r h = record { events = up-each path k r.items h.events; ends = by_end r.ending h.ends }
+  where
+    by_end : (q : Result (List Value) Fault) → EndUnder (path ++ k ∷ []) q → EndUnder path q
+    by_end (Ok vs) n = tt
+    by_end (Err f) n = up path k f.at n
+
+module _ (plan : PlanView) (path : List ℕ) (child : Origin → Evaluation) (fine : (o : Origin) → StaysUnder (path_of o) (child o)) where
+  abbrev S : Type 0
+  S = State (Unit {0})
+
+  abbrev P : ℕ → Run Event Fault S → Type 0
+  P n r = StaysUnder path r
+
+  abbrev Q : ℕ → Run Event Fault (Value × S) → Type 0
+  Q n r = StaysUnder path r
+
+  here : (s : S) → IsUnder path (strand path s)
+  here s = (s.rank, [], refl)
+
+  single : {A : Type 0} (e : Event) (a : A) → EventUnder path e → StaysUnder path (record { items = e ∷ []; ending = Ok a })
+  single e a h = record { events = (h, tt); ends = tt }
+
+  rules : Closed (serial child) plan path P Q
+  rules = record {
+    p-done = λ s. nothing path s;
+    q-done = λ v s. nothing path (v, s);
+    p-stop = λ k s. record { events = tt; ends = here s };
+    q-stop = λ k s. record { events = tt; ends = here s };
+    p-print = λ v s. record { events = (here s, tt); ends = tt };
+    q-draw = λ s. record { events = (here s, tt); ends = tt };
+    q-new = λ s. record { events = (here s, tt); ends = tt };
+    p-join = λ s. record { events = (here s, tt); ends = tt };
+    q-child = λ n vs s _. let o = origin.Instance n vs (strand path s) in event-first path (event.Spawn (strand path s)) _ (here s) (under-then path (child o then λ vs. done (first_of vs, s.spawned)) (λ r. done (r.0, record s { rank = s.rank + 1; spawned = r.1 })) (under-then path (child o) (λ vs. done (first_of vs, s.spawned)) (child-under path s.rank (child o) (fine o)) (λ vs. nothing path (first_of vs, s.spawned))) (λ r. nothing path (r.0, record s { rank = s.rank + 1; spawned = r.1 })));
+    p-loop = λ n vs lo hi target s _. let o = origin.Loop n vs lo (strand path s) (record { lo = 0; hi = hi }) in event-first path (event.Loop (strand path s)) _ (here s) (under-then path (child o) (λ ws. done (record s { rank = s.rank + 1; env = filled target ws s.env })) (child-under path s.rank (child o) (fine o)) (λ ws. nothing path (record s { rank = s.rank + 1; env = filled target ws s.env })));
+    pp = λ n r f h k. under-then path r f h k;
+    pq = λ n r f h k. under-then path r f h k;
+    qp = λ n r f h k. under-then path r f h k;
+    qq = λ n r f h k. under-then path r f h k;
+  }
+
+  activation-under : (o : Option Function) (vs : List Value) (s : S) → StaysUnder path (activation (serial child) plan path (exec (serial child) plan path) 0 o vs s)
+  activation-under None vs s = record { events = tt; ends = tt }
+  activation-under (Some f) vs s =
+      under-then path (exec (serial child) plan path 0 f.body (start f)) _ (closed-exec (serial child) plan path P Q rules 0 f.body (start f)) (λ a. returned-q (serial child) plan path P Q rules f a)
+    where
+      start : Function → S
+      start f = record s { env = bound f.params vs; spawned = tt }
+
+  instance-under : (o : Option Function) (vs : List Value) → StaysUnder path (instance (serial child) plan path o vs then λ v. done (v ∷ []))
+  instance-under o vs =
+      under-then path (instance (serial child) plan path o vs) (λ v. done (v ∷ [])) (under-then path (activation (serial child) plan path (exec (serial child) plan path) 0 o vs begins) (λ r. done r.0) (activation-under o vs begins) (λ r. nothing path r.0)) (λ v. nothing path (v ∷ []))
+    where
+      begins : S
+      begins = record { env = []; rank = 0; steps = plan.limits.budget; spawned = tt }
+
+  turns-under : (function : ℕ) (rest : List Value) (first : ℤ) (k n : ℕ) → StaysUnder path (turns child function rest first path k n)
+  turns-under function rest first k zero = nothing path []
+  turns-under function rest first k (suc n) =
+      let o = iteration function rest first path k in
+      under-then path (child o) (λ vs. turns child function rest first path (k + 1) n then λ ws. done (vs ++ ws)) (child-under path k (child o) (fine o))
+      (λ vs. under-then path (turns child function rest first path (k + 1) n) (λ ws. done (vs ++ ws)) (turns-under function rest first (k + 1) n) (λ ws. nothing path (vs ++ ws)))
+
+with-under : (plan : PlanView) (child : Origin → Evaluation) → ((o : Origin) → StaysUnder (path_of o) (child o)) → (o : Origin) → StaysUnder (path_of o) (eval_with plan child o)
+with-under plan child fine (origin.Instance function args path) = instance-under plan path child fine (function_at (functions_of plan) function) args
+with-under plan child fine (origin.Loop function rest first path range) = turns-under plan path child fine function rest first range.lo (range.hi - range.lo)
+
+at-under : (plan : PlanView) (left : ℕ) (o : Origin) → StaysUnder (path_of o) (eval_at plan left o)
+at-under plan zero o = with-under plan (λ o. done []) (λ o. nothing (path_of o) []) o
+at-under plan (suc left) o = with-under plan (eval_at plan left) (at-under plan left) o
+
+-- what an origin's children give stands below their paths
+pub children-under : (plan : PlanView) (left : ℕ) (o : Origin) → StaysUnder (path_of o) (child_at plan left o)
+children-under plan zero o = nothing (path_of o) []
+children-under plan (suc left) o = at-under plan left o

@@ -1,0 +1,29 @@
+-- The law of strands. It is the contract of a function of the module `laws`.
+use Rattle.std.specs.Prelude.{◌≡◌, ℕ, List, Option, Some, None, Result, Ok, Err, if◌then◌else◌}
+use Rattle.std.specs.Str.{bytes_eq}
+use Rattle.ped_path.specs.Path.{IsBefore}
+use Rattle.serial_meaning.specs.Plan.{PlanView}
+use Rattle.serial_meaning.specs.Eval.{Evaluation, elision}
+use Rattle.serial_meaning.specs.declared.value.Value.{Value}
+use Rattle.serial_meaning.specs.declared.event.Fault.{Fault}
+use Rattle.strand_meaning.specs.Strands.{events_at, Strand, Reached, strand_at}
+
+-- No fault ended it before this pedigree: it has none, or its fault is there or behind it.
+abbrev pub IsWholeUpTo : List ℕ → Result (List Value) Fault → Type 0
+IsWholeUpTo j (Ok vs) = Unit {0}
+IsWholeUpTo j (Err f) = IsBefore f.at j → ⊥
+
+-- its fault, where that is at this pedigree
+abbrev pub fault_at : List ℕ → Result (List Value) Fault → Option Fault
+fault_at j (Ok vs) = None
+fault_at j (Err f) = if bytes_eq f.at j then Some f else None
+
+-- the events of a pedigree in an evaluation, in their order, and its fault where that is there
+abbrev pub strand_in : List ℕ → Evaluation → Strand
+strand_in j r = record { events = events_at j r.items; fault = fault_at j r.ending }
+
+-- Where no fault ends the elision before a pedigree, the strand there, if there is one, is what the elision has of that pedigree.
+abbrev pub StrandsAreTheElisions : Type 0
+StrandsAreTheElisions =
+    (plan : PlanView) (j : List ℕ) (strand : Strand) → IsWholeUpTo j (elision plan).ending → strand_at plan j ≡ Reached strand →
+    strand ≡ strand_in j (elision plan)
