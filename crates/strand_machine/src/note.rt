@@ -170,12 +170,7 @@ fn go_noted(
 }
 
 /// A move of the task, or its stop, which is noted.
-fn step_noted(
-    task: Task,
-    alloc: Global,
-    at: &Pedigree,
-    notes: &mut Notes,
-) -> Result<Step, Memory> {
+fn step_noted(task: Task, alloc: Global, at: &Pedigree, notes: &mut Notes) -> Result<Step, Memory> {
     let Task { body, work } = task;
     match work {
         Work::Runs(Stage::Goes(instance)) => go_noted(body, alloc, at, instance, notes),
@@ -189,12 +184,7 @@ fn step_noted(
 }
 
 /// The task's next stop, where all on the way is noted.
-fn run_noted(
-    task: Task,
-    alloc: Global,
-    at: &Pedigree,
-    notes: &mut Notes,
-) -> Result<Stop, Memory> {
+fn run_noted(task: Task, alloc: Global, at: &Pedigree, notes: &mut Notes) -> Result<Stop, Memory> {
     laws::moves_fall();
     let mut task = task;
     notes.reached = is_at(&task, at);

@@ -53,10 +53,7 @@ fn noted(
         events: noted.events,
         fault: noted.fault,
     };
-    assert_eq!(rt;
-        render_strand(alloc, &strand)?.as_slice(),
-        lines.as_bytes()
-    );
+    assert_eq!(rt; render_strand(alloc, &strand)?.as_slice(), lines.as_bytes());
     Ok(noted.stop)
 }
 

@@ -1,17 +1,16 @@
 -- What a task of an instance shows on its way to its next stop, tied to its node of the open tree.
 use Rattle.std.specs.Prelude.{◌≡◌, ◌≤◌, ◌<◌, ℕ, ◌+◌, ◌-◌, Bool, true, false, ◌||◌, not, nat_lt, bytes_eq, List, [], ◌∷◌, ◌++◌, Option, Some, None, Result, Ok, Err, Contains}
-use Rattle.serial_meaning.specs.Runs.{Run, done, behind, ◌then◌}
+use Rattle.serial_meaning.specs.Runs.{done, behind, ◌then◌}
 use Rattle.serial_meaning.specs.Plan.{PlanView}
 use Rattle.serial_meaning.specs.Eval.{path_of}
 use Rattle.serial_meaning.specs.Open.{Item, Happened, Child, Ending, Own, Joined, Node, opened}
-use Rattle.serial_meaning.specs.declared.value.Value.{Value}
 use Rattle.serial_meaning.specs.declared.event.Fault.{Fault}
 use Rattle.serial_meaning.specs.declared.event.Event.{Event}
 use Rattle.serial_meaning.specs.declared.origin.Origin.{Origin}
 use Rattle.serial_meaning.specs.declared.origin.Origin.TheVariants.{Instance, Loop}
 use Rattle.strand_meaning.specs.Machine.{Token, Told, Handed, Syncs, Loops, Reached, move}
 use Rattle.strand_meaning.specs.Pieces.{Part}
-use Rattle.strand_meaning.specs.Task.{Stage, Goes, AtSync, AtLoop, Ended, Work, Splits, Runs, Over, Task, own_instance, Step, Passes, Stops, Stop, Spawn, Wait, End, step}
+use Rattle.strand_meaning.specs.Task.{Stage, Goes, AtSync, AtLoop, Ended, Work, Splits, Runs, Over, Task, own_instance, Passes, Stops, Stop, Spawn, Wait, End, step}
 use Rattle.strand_meaning.specs.Rest.{children_of, rest_open}
 use Rattle.strand_meaning.specs.Strands.{pedigree_of, raises, own_events, last_rank, joined_fault}
 
@@ -170,16 +169,16 @@ work_fault (Splits left) = None
 work_fault (Runs stage) = stage_fault stage
 work_fault (Over v gone_on) = None
 
--- events of an instance's own, at ranks below this one
-abbrev pub AreOwn : List ℕ → ℕ → List Event → Type 0
-AreOwn path n events = (e : Event) → Contains events e → (rank : ℕ) × (rank < n) × (pedigree_of e ≡ path ++ rank ∷ [])
+-- an event of an instance with this path, at one of these ranks
+abbrev pub IsOwnAt : List ℕ → List ℕ → Event → Type 0
+IsOwnAt path ranks e = (rank : ℕ) × Contains ranks rank × (pedigree_of e ≡ path ++ rank ∷ [])
 
 -- All that a task of an instance showed since it began is noted: its node is that, and then the node of what is left. Its strand had the
 -- ranks from 0 on, up to the present one or those before it.
 pub record IsOnWay (notes : Notes) (t : Task) : Type 0 where
   pub node : opened t.plan t.origin ≡ behind notes.items (node_left t)
   pub ranks : WorkRanksAre (path_of t.origin) t.advanced (raises (own_events notes.items)) notes.ranks t.work
-  pub events : AreOwn (path_of t.origin) (raises (own_events notes.items) + 1) (own_events notes.items)
+  pub events : (e : Event) → Contains (own_events notes.items) e → IsOwnAt (path_of t.origin) notes.ranks e
   pub fault : notes.fault ≡ work_fault t.work
   pub joined : notes.joined ≡ None
 
@@ -190,7 +189,7 @@ pub record IsWhole (plan : PlanView) (o : Origin) (notes : Notes) : Type 0 where
   pub fault : own_fault_of (opened plan o).ending ≡ notes.fault
   pub joined : joined_fault (opened plan o).ending ≡ notes.joined
   pub ranks : (rank : ℕ) → had (path_of o) (path_of o ++ rank ∷ []) notes.ranks ≡ not (nat_lt (last_rank (opened plan o)) rank)
-  pub events : AreOwn (path_of o) (last_rank (opened plan o) + 1) (own_events (opened plan o).items)
+  pub events : (e : Event) → Contains (own_events (opened plan o).items) e → (rank : ℕ) × (rank ≤ last_rank (opened plan o)) × (pedigree_of e ≡ path_of o ++ rank ∷ [])
   pub fault_at : (f : Fault) → notes.fault ≡ Some f → f.at ≡ path_of o ++ last_rank (opened plan o) ∷ []
 
 abbrev pub OnWay : Notes → Task → Stop → Type 0
