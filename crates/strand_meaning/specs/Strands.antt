@@ -1,5 +1,5 @@
 -- The strands of the open tree, and the walk down to one of them (docs/LANGUAGE.md, "Strands").
-use Rattle.std.specs.Prelude.{ℕ, ◌+◌, ◌-◌, Bool, true, false, nat_lt, bytes_eq, List, [], ◌∷◌, ◌++◌, Option, Some, None, Result, Ok, Err, if◌then◌else◌}
+use Rattle.std.specs.Prelude.{ℕ, ◌+◌, ◌-◌, nat_lt, bytes_eq, List, [], ◌∷◌, ◌++◌, Option, Some, None, Result, Ok, Err, if◌then◌else◌}
 use Rattle.serial_meaning.specs.Eval.{path_of, iteration, main_origin}
 use Rattle.serial_meaning.specs.Open.{Item, Happened, Child, Ending, Own, Joined, Node, opened}
 use Rattle.serial_meaning.specs.Plan.{PlanView}
