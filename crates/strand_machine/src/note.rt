@@ -1,11 +1,11 @@
 // What a task shows on its way to its next stop, noted for one pedigree.
-ghost use Rattle.std.specs.Prelude.{◌≡◌, ◌++◌, ◌∷◌, [], IfOk, OnOk};
+ghost use Rattle.std.specs.Prelude.{◌≡◌, ◌++◌, ◌∷◌, [], None, IfOk, OnOk};
 ghost use Rattle.serial_meaning.specs.Eval.{path_of};
-ghost use Rattle.strand_meaning.specs.Notes.{had, task_ranks, IsInstance as OfInstance};
+ghost use Rattle.strand_meaning.specs.Notes.{had, task_ranks, step_notes};
 ghost use Rattle.strand_meaning.specs.Strands.{pedigree_of, events_at};
-ghost use Rattle.strand_machine.specs.Noted.{IsNoted, moved_by, stepped};
+ghost use Rattle.strand_machine.specs.Noted.{ranks_in, stop_had, with_moved, with_step};
 ghost use Rattle.strand_machine.specs.Stops.{IsStep};
-ghost use Rattle.strand_machine.specs.Tasks.{IsSound, view_of};
+ghost use Rattle.strand_machine.specs.Tasks.{IsSound, view_of, task_of};
 ghost use Rattle.strand_machine.specs.declared.work.Stage.TheVariants as stage;
 ghost use Rattle.strand_machine.specs.declared.work.Work.TheVariants as work;
 
@@ -38,10 +38,9 @@ pub struct Noted {
     pub joined: Option<Fault>,
 }
 
-/// The same without the stop.
+/// What is noted on the way.
 #[derive(Drop)]
 pub(crate) struct Notes {
-    pub reached: bool,
     pub events: Out,
     pub fault: Option<Fault>,
     pub joined: Option<Fault>,
@@ -87,7 +86,7 @@ fn path(origin: &Origin) -> &Ped
 
 /// The rank of the task's own strand, if it has one.
 fn rank(task: &Task) -> Option<u64>
-    ensures { option_list result ≡ task_ranks task.now.task }
+    ensures { ranks_in result ≡ task_ranks task.now.task }
 {
     match &task.work {
         Work::Runs(Stage::Goes(instance)) => Some(instance.rank()),
@@ -109,7 +108,9 @@ fn is_at(task: &Task, at: &Pedigree) -> bool
 }
 
 /// Whether the strand of what is left at the stop has the pedigree.
-fn stops_at(stop: &Stop, at: &Pedigree) -> bool {
+fn stops_at(stop: &Stop, at: &Pedigree) -> bool
+    ensures { result ≡ stop_had at.now stop.now }
+{
     match stop {
         Stop::Spawn { rest, .. } => is_at(rest, at),
         Stop::Wait { rest } => is_at(rest, at),
@@ -119,17 +120,20 @@ fn stops_at(stop: &Stop, at: &Pedigree) -> bool {
 
 impl Notes {
     /// Nothing yet.
-    fn new() -> Notes {
+    fn new() -> Notes
+        ensures { result ≡ record { events = []; fault = None; joined = None } }
+    {
         Notes {
-            reached: false,
             events: Out::new(),
             fault: None,
             joined: None,
         }
     }
 
-    /// One more event of the task's own.
-    fn tell(&mut self, alloc: Global, at: &Pedigree, event: &Event) -> Result<(), Memory> {
+    /// One more event of the task's own, which is kept where it is of this pedigree.
+    fn tell(&mut self, alloc: Global, at: &Pedigree, event: &Event) -> Result<(), Memory>
+        ensures { OnOk result (self.new ≡ record self.old { events = self.old.events ++ events_at at.now (event.now ∷ []) }) }
+    {
         if pedigree(event).same(at) {
             self.events.push(alloc, share_event(event)?)?;
         }
@@ -137,7 +141,9 @@ impl Notes {
     }
 
     /// One more move of the task's instance.
-    fn see(&mut self, alloc: Global, at: &Pedigree, moved: &Moved) -> Result<(), Memory> {
+    fn see(&mut self, alloc: Global, at: &Pedigree, moved: &Moved) -> Result<(), Memory>
+        ensures { OnOk result (self.new ≡ with_moved at.now moved.now self.old) }
+    {
         match moved {
             Moved::Went(Shown::Nothing) => {}
             Moved::Went(Shown::Told(event)) => self.tell(alloc, at, event)?,
@@ -158,7 +164,11 @@ fn go_noted(
     at: &Pedigree,
     mut instance: Instance,
     notes: &mut Notes,
-) -> Result<Step, Memory> {
+) -> Result<Step, Memory>
+    requires { IsSound body (work.Runs (stage.Goes instance)) }
+    ensures step { IfOk result (IsStep (view_of body (work.Runs (stage.Goes instance)))) }
+    ensures notes { OnOk result (notes.new ≡ with_step at.now (step_notes (task_of body (work.Runs (stage.Goes instance)))) notes.old) }
+{
     laws::steps_are_sound();
     let moved = instance.step(alloc, body.family.plan())?;
     notes.see(alloc, at, &moved)?;
@@ -170,7 +180,15 @@ fn go_noted(
 }
 
 /// A move of the task, or its stop, which is noted.
-fn step_noted(task: Task, alloc: Global, at: &Pedigree, notes: &mut Notes) -> Result<Step, Memory> {
+fn step_noted(
+    task: Task,
+    alloc: Global,
+    at: &Pedigree,
+    notes: &mut Notes,
+) -> Result<Step, Memory>
+    ensures step { IfOk result (IsStep task) }
+    ensures notes { OnOk result (notes.new ≡ with_step at.now (step_notes task.task) notes.old) }
+{
     let Task { body, work } = task;
     match work {
         Work::Runs(Stage::Goes(instance)) => go_noted(body, alloc, at, instance, notes),
@@ -183,43 +201,43 @@ fn step_noted(task: Task, alloc: Global, at: &Pedigree, notes: &mut Notes) -> Re
     }
 }
 
-/// The task's next stop, where all on the way is noted.
-fn run_noted(task: Task, alloc: Global, at: &Pedigree, notes: &mut Notes) -> Result<Stop, Memory> {
-    laws::moves_fall();
-    let mut task = task;
-    notes.reached = is_at(&task, at);
-    loop {
-        match step_noted(task, alloc, at, notes)? {
-            Step::Passes(next) => {
-                notes.reached = notes.reached || is_at(&next, at);
-                task = next;
-            }
-            Step::Stops(stop) => {
-                notes.reached = notes.reached || stops_at(&stop, at);
-                return Ok(stop);
-            }
-        }
-    }
-}
-
 impl Task {
+    ghost use Rattle.strand_meaning.specs.Notes.{IsInstance};
+    ghost use Rattle.strand_machine.specs.Noted.{IsNoted};
+
     /// Runs to the next stop as `advance` does, and notes what the task itself does on its way in the strand of this pedigree. On
     /// `Memory` it is dropped.
-    pub fn advance_noted(self, alloc: Global, at: &Pedigree) -> Result<Noted, Memory> {
+    pub fn advance_noted(self, alloc: Global, at: &Pedigree) -> Result<Noted, Memory>
+        requires { IsInstance self.task.origin }
+        ensures { IfOk result (IsNoted self at.now) }
+    {
+        laws::moves_fall();
+        laws::stops_keep_origins();
         let mut notes = Notes::new();
-        let stop = run_noted(self, alloc, at, &mut notes)?;
-        let Notes {
-            reached,
-            events,
-            fault,
-            joined,
-        } = notes;
-        Ok(Noted {
-            stop,
-            reached,
-            events,
-            fault,
-            joined,
-        })
+        let mut reached = is_at(&self, at);
+        let mut task = self;
+        loop {
+            match step_noted(task, alloc, at, &mut notes)? {
+                Step::Passes(next) => {
+                    reached = reached || is_at(&next, at);
+                    task = next;
+                }
+                Step::Stops(stop) => {
+                    let reached = reached || stops_at(&stop, at);
+                    let Notes {
+                        events,
+                        fault,
+                        joined,
+                    } = notes;
+                    return Ok(Noted {
+                        stop,
+                        reached,
+                        events,
+                        fault,
+                        joined,
+                    });
+                }
+            }
+        }
     }
 }
