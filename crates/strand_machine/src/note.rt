@@ -180,12 +180,7 @@ fn go_noted(
 }
 
 /// A move of the task, or its stop, which is noted.
-fn step_noted(
-    task: Task,
-    alloc: Global,
-    at: &Pedigree,
-    notes: &mut Notes,
-) -> Result<Step, Memory>
+fn step_noted(task: Task, alloc: Global, at: &Pedigree, notes: &mut Notes) -> Result<Step, Memory>
     ensures step { IfOk result (IsStep task) }
     ensures notes { OnOk result (notes.new ≡ with_step at.now (step_notes task.task) notes.old) }
 {
@@ -219,11 +214,11 @@ impl Task {
         loop {
             match step_noted(task, alloc, at, &mut notes)? {
                 Step::Passes(next) => {
-                    reached = reached || is_at(&next, at);
+                    reached |= is_at(&next, at);
                     task = next;
                 }
                 Step::Stops(stop) => {
-                    let reached = reached || stops_at(&stop, at);
+                    reached |= stops_at(&stop, at);
                     let Notes {
                         events,
                         fault,
