@@ -3,7 +3,7 @@
 # It prints what seeds.sh prints on one machine, in the order of the seeds. LOGINS are those of parallel's --sshlogin, such as
 # 8/alpha,16/beta; by default this machine. The program, this folder and the script stand at the same paths on all of them.
 # EACH is how many seeds a job takes, by default 1. What fails is tried again elsewhere, three times in all.
-set -eu
+set -eu -o pipefail
 here=$(cd "$(dirname "$0")" && pwd)
 script=$(realpath "$1") first=$2 last=$3 logins=${4:-:} each=${EACH:-1}
 pedrun=$(command -v "${PEDRUN:-pedrun}")
@@ -14,4 +14,8 @@ for ((from = first; from <= last; from += each)); do
   echo "$from $((to < last ? to : last))"
 done |
   parallel --keep-order --colsep ' ' --retries 3 --halt soon,fail=1 --sshlogin "$logins" \
-    "PEDRUN=$(printf %q "$pedrun")" "WORKERS=${WORKERS:-1}" "$(printf %q "$here")/seeds.sh" "$(printf %q "$script")" '{1}' '{2}'
+    "PEDRUN=$(printf %q "$pedrun")" "WORKERS=${WORKERS:-1}" "$(printf %q "$here")/seeds.sh" "$(printf %q "$script")" '{1}' '{2}' |
+  awk -v seeds=$((last - first + 1)) '
+    { print }
+    /^seed / { seen++ }
+    END { if (seen + 0 < seeds) { print "parallel.sh: runs are missing" > "/dev/stderr"; exit 1 } }'
