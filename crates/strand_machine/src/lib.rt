@@ -8,6 +8,7 @@ mod body;
 mod family;
 mod going;
 mod memory;
+mod note;
 mod origin;
 mod pieces;
 mod place;
@@ -19,5 +20,6 @@ mod task;
 mod work;
 
 pub use memory::Memory;
+pub use note::Noted;
 pub use stop::{Resumed, Stop};
 pub use task::Task;

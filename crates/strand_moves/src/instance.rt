@@ -87,6 +87,13 @@ impl Instance {
         }
     }
 
+    /// The rank that it has, or will have once it goes on from the sync or the loop behind which it waits.
+    pub fn rank(&self) -> u64
+        ensures { result ≡ self.now.rank }
+    {
+        self.rank
+    }
+
     /// Pays a step.
     pub(crate) fn pay(&mut self) -> Result<(), FaultKind>
         ensures ok { OnOk result (self.new ≡ record self.old { steps = self.new.steps }) }
