@@ -1,4 +1,4 @@
-use Rattle.strand_machine.proofs.Moving.{went-sound, went-is, gave-sound, gave-is, faulted-sound, faulted-is}
+use Rattle.strand_machine.proofs.Moving.{went-sound, gave-sound, faulted-sound}
 use Rattle.strand_machine.proofs.note.go_noted.Goals as goal
 
 pub show-requires : goal.show-requires
