@@ -1,16 +1,32 @@
 //! Workers that run a script.
 //!
 //! A worker runs tasks of `strand_machine` and answers the origin that it was given: the answer is the origin's serial meaning, by the
-//! type of answers.
+//! type of answers. One worker by itself is `run_serial`. A crew of them, each in a thread of its own, is `run_crew`: a hand keeps the
+//! rests of the tasks that it runs in a deck, and a hand that has nothing to do steals from the others' decks.
 #![tactic(auto)]
 
+#[cfg(test)]
+mod crew_tests;
 mod frames;
+mod gate;
+mod hand;
+mod held;
+mod hiring;
 mod memory;
+mod parked;
+mod root;
+mod run;
 mod serial;
 mod stack;
 #[cfg(test)]
 mod tests;
 mod turn;
+mod turns;
 
+pub use gate::{Gate, OpenGate};
+pub use hand::{Hand, Hands, Turn};
+pub use hiring::Crew;
 pub use memory::Memory;
+pub use root::Root;
+pub use run::run_crew;
 pub use serial::run_serial;

@@ -19,5 +19,6 @@ mod task;
 mod work;
 
 pub use memory::Memory;
+pub use origin::share_origin;
 pub use stop::{Resumed, Stop};
 pub use task::Task;
