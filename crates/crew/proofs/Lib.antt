@@ -1,4 +1,5 @@
-pub mod Hands
+pub mod Ending
+pub mod Handed
 pub mod Mains
 pub mod Shows
 pub mod Stopping

@@ -1,5 +1,5 @@
 -- What contracts see of a hand, and what a turn makes of it.
-use Rattle.std.specs.Prelude.{◌≡◌, ◌≤◌, ◌⊎◌, List, [], ◌∷◌, ◌++◌, Option, Some, None, length}
+use Rattle.std.specs.Prelude.{◌≡◌, ℕ, ◌<◌, ◌≤◌, ◌⊎◌, slice_index_or, List, [], ◌∷◌, ◌++◌, Option, Some, None, length}
 use Rattle.serial_meaning.specs.Answer.{AnswerView, AnswerTag}
 use Rattle.serial_meaning.specs.declared.origin.Origin.{Origin}
 use Rattle.steal_deck.specs.Ends.{OwnerEnd, ThiefEnd, risen, Pushes, Pops, FindsNone, Steals}
@@ -11,6 +11,8 @@ use Rattle.strand_machine.specs.declared.stop.Stop.TheVariants as stop
 use Rattle.strand_machine.specs.declared.stop.Resumed.{Resumed}
 use Rattle.strand_machine.specs.declared.stop.Resumed.TheVariants as resumed
 use Rattle.crew.specs.declared.held.Held.{Held}
+use Rattle.crew.specs.declared.steps.Front.{Front}
+use Rattle.crew.specs.declared.steps.Front.TheVariants.{Missing, Waits, Goes}
 use Rattle.crew.specs.declared.hand.Turn.{Turn}
 use Rattle.crew.specs.declared.hand.Turn.TheVariants.{Ran, Answered, Ended, Popped, Resumed as ResumedOne, Waiting, Stole, Idle}
 
@@ -30,35 +32,42 @@ view_of h = record { root = h.root; current = h.current; kept = h.kept.items; de
 -- The steps of a turn
 
 -- The rest of a task that handed out a child: it is pushed on the deck, or goes to the private list's end. The latter comes only where that list
--- isn't empty or the deck refused it, which has had at least 64 pushes then.
-abbrev pub IsPut : TaskView → HandView → HandView → Type 0
-IsPut rest old new =
-    ((old.kept ≡ []) × (new.kept ≡ []) × Pushes old.deck rest new.deck)
-    ⊎ ((old.kept ≡ [] → 64 ≤ length old.deck.pushed) × (new.kept ≡ old.kept ++ rest ∷ []) × (new.deck ≡ old.deck))
+-- isn't empty, or where the deck refused the rest, which has had at least 64 pushes then.
+abbrev pub IsPut : TaskView → List TaskView → OwnerEnd TaskView → List TaskView → OwnerEnd TaskView → Type 0
+IsPut rest kept deck kept' deck' =
+    ((kept ≡ []) × (kept' ≡ []) × Pushes deck rest deck')
+    ⊎ ((kept ≡ [] → 64 ≤ length deck.pushed) × (kept' ≡ kept ++ rest ∷ []) × (deck' ≡ deck))
 
 -- A stop that is no end: the rest goes behind the others and the child becomes current, or the task goes to the ring's end.
 abbrev pub Runs : Stop → HandView → HandView → Type 0
-Runs (stop.Spawn child rest) old new = IsPut rest old new × (new ≡ record old { current = Some child; kept = new.kept; deck = new.deck })
+Runs (stop.Spawn child rest) old new =
+    IsPut rest old.kept old.deck new.kept new.deck × (new ≡ record old { current = Some child; kept = new.kept; deck = new.deck })
 Runs (stop.Wait rest) old new = new ≡ record old { current = None; ring = old.ring ++ rest ∷ [] }
 Runs (stop.Done answer give) old new = ⊥
 
--- The task ended, and what it answers was put into its own give.
-abbrev pub Ends : TaskView → HandView → AnswerTag → HandView → Type 0
-Ends t old arrived new =
-    (answer : AnswerView) × (give : AnswerTag) × IsStop t (stop.Done answer give) × (arrived ≡ tag t.task.plan t.task.origin) × (new ≡ record old { current = None })
+-- The answer for this tag was put, the root's or another's.
+abbrev pub IsAnswered : Origin → AnswerTag → Turn → Type 0
+IsAnswered root asked (Answered arrived) = (arrived ≡ asked) × (asked.origin ≡ root → ⊥)
+IsAnswered root asked (Ended arrived) = (arrived ≡ asked) × (asked.origin ≡ root)
+IsAnswered root asked _ = ⊥
+
+-- The task came to its end.
+abbrev pub HasEnded : TaskView → Type 0
+HasEnded t = (answer : AnswerView) × (give : AnswerTag) × IsStop t (stop.Done answer give)
+
+abbrev pub Ends : TaskView → HandView → Turn → HandView → Type 0
+Ends t old turn new = HasEnded t × IsAnswered old.root (tag t.task.plan t.task.origin) turn × (new ≡ record old { current = None })
 
 -- What a turn does with the current task.
 abbrev pub Advances : TaskView → HandView → Turn → HandView → Type 0
 Advances t old Ran new = (stop : Stop) × IsStop t stop × Runs stop old new
-Advances t old (Answered arrived) new = (t.task.origin ≡ old.root → ⊥) × Ends t old arrived new
-Advances t old (Ended arrived) new = (t.task.origin ≡ old.root) × Ends t old arrived new
-Advances t old _ new = ⊥
+Advances t old turn new = Ends t old turn new
 
 -- The task is the last of the private list, or else the newest of the deck.
-abbrev pub IsNewest : TaskView → HandView → HandView → Type 0
-IsNewest t old new =
-    ((old.kept ≡ new.kept ++ t ∷ []) × (new.deck ≡ old.deck))
-    ⊎ ((old.kept ≡ []) × (new.kept ≡ []) × Pops old.deck t new.deck)
+abbrev pub IsNewest : TaskView → List TaskView → OwnerEnd TaskView → List TaskView → OwnerEnd TaskView → Type 0
+IsNewest t kept deck kept' deck' =
+    ((kept ≡ kept' ++ t ∷ []) × (deck' ≡ deck))
+    ⊎ ((kept ≡ []) × (kept' ≡ []) × Pops deck t deck')
 
 -- The private list is empty, and the deck had none at one moment.
 abbrev pub FindsNoTask : HandView → HandView → Type 0
@@ -74,30 +83,44 @@ abbrev pub GoesOn : List TaskView → TaskView → List TaskView → Type 0
 GoesOn [] next after = ⊥
 GoesOn (t ∷ ts) next after = IsResumed t (resumed.On next) × (after ≡ ts)
 
--- There was none, or it still waits.
-abbrev pub GoesOver : List TaskView → List TaskView → Type 0
-GoesOver before after = ((before ≡ []) × (after ≡ [])) ⊎ IsTurnedOver before after
+-- What a look at the ring's front found, by the ring before it and after it.
+abbrev pub Looks : List TaskView → List TaskView → Front → Type 0
+Looks before after Missing = (before ≡ []) × (after ≡ [])
+Looks before after Waits = IsTurnedOver before after
+Looks before after (Goes t) = GoesOn before t after
 
--- A steal of each thief took nothing, and is counted.
-abbrev pub AllMiss : List (ThiefEnd TaskView) → List (ThiefEnd TaskView) → Type 0
-AllMiss [] [] = Unit {0}
-AllMiss (x ∷ xs) [] = ⊥
-AllMiss [] (y ∷ ys) = ⊥
-AllMiss (x ∷ xs) (y ∷ ys) = (y ≡ record x { misses = risen x.misses }) × AllMiss xs ys
+-- a thief whose steal took nothing
+abbrev pub missed : ThiefEnd TaskView → ThiefEnd TaskView
+missed x = record x { misses = risen x.misses }
 
--- The first thief whose steal took something took this task. Those behind it didn't steal.
-abbrev pub FirstSteals : List (ThiefEnd TaskView) → TaskView → List (ThiefEnd TaskView) → Type 0
-FirstSteals [] t after = ⊥
-FirstSteals (x ∷ xs) t [] = ⊥
-FirstSteals (x ∷ xs) t (y ∷ ys) = (Steals x t y × (ys ≡ xs)) ⊎ ((y ≡ record x { misses = risen x.misses }) × FirstSteals xs t ys)
+-- A steal by each thief took nothing.
+pub record AllMiss (before after : List (ThiefEnd TaskView)) : Type 0 where
+  pub count : length after ≡ length before
+  pub each : (k : ℕ) (d : ThiefEnd TaskView) → k < length before → slice_index_or after k d ≡ missed (slice_index_or before k d)
+
+-- The steals by the first so many took nothing, that by the next one took this task, and the others didn't steal.
+pub record FirstSteals (before : List (ThiefEnd TaskView)) (t : TaskView) (after : List (ThiefEnd TaskView)) : Type 0 where
+  pub fruitless : ℕ
+  pub within : fruitless < length before
+  pub count : length after ≡ length before
+  pub miss : (k : ℕ) (d : ThiefEnd TaskView) → k < fruitless → slice_index_or after k d ≡ missed (slice_index_or before k d)
+  pub take : (d : ThiefEnd TaskView) → Steals (slice_index_or before fruitless d) t (slice_index_or after fruitless d)
+  pub rest : (k : ℕ) (d : ThiefEnd TaskView) → fruitless < k → slice_index_or after k d ≡ slice_index_or before k d
+
+-- A task was stolen and became current; or there was none, and the turn was this.
+abbrev pub StealsOr : Turn → HandView → Turn → HandView → Type 0
+StealsOr otherwise old turn new =
+    ((t : TaskView) × (turn ≡ Stole) × FirstSteals old.thieves t new.thieves × (new ≡ record old { current = Some t; thieves = new.thieves }))
+    ⊎ ((turn ≡ otherwise) × AllMiss old.thieves new.thieves × (new ≡ record old { thieves = new.thieves }))
 
 -- A turn of a hand that has no current task.
 abbrev pub Seeks : HandView → Turn → HandView → Type 0
-Seeks old Popped new = (t : TaskView) × IsNewest t old new × (new ≡ record old { current = Some t; kept = new.kept; deck = new.deck })
+Seeks old Popped new =
+    (t : TaskView) × IsNewest t old.kept old.deck new.kept new.deck × (new ≡ record old { current = Some t; kept = new.kept; deck = new.deck })
 Seeks old ResumedOne new =
     (t : TaskView) × FindsNoTask old new × GoesOn old.ring t new.ring × (new ≡ record old { current = Some t; deck = new.deck; ring = new.ring })
 Seeks old Stole new =
-    (t : TaskView) × FindsNoTask old new × GoesOver old.ring new.ring × FirstSteals old.thieves t new.thieves
+    (t : TaskView) × FindsNoTask old new × (((old.ring ≡ []) × (new.ring ≡ [])) ⊎ IsTurnedOver old.ring new.ring) × FirstSteals old.thieves t new.thieves
     × (new ≡ record old { current = Some t; deck = new.deck; ring = new.ring; thieves = new.thieves })
 Seeks old Waiting new =
     FindsNoTask old new × IsTurnedOver old.ring new.ring × AllMiss old.thieves new.thieves
@@ -108,8 +131,8 @@ Seeks old _ new = ⊥
 
 -- A turn, by what it did: with the current task, or else to get one.
 abbrev pub IsTurnFrom : Option TaskView → HandView → Turn → HandView → Type 0
-IsTurnFrom (Some t) = Advances t
-IsTurnFrom None = Seeks
+IsTurnFrom (Some t) old turn new = Advances t old turn new
+IsTurnFrom None old turn new = Seeks old turn new
 
 abbrev pub IsTurn : HandView → Turn → HandView → Type 0
-IsTurn old = IsTurnFrom old.current old
+IsTurn old turn new = IsTurnFrom old.current old turn new

@@ -1,7 +1,7 @@
 use crate::gate::Gate;
 use crate::held::Held;
 use crate::memory::Memory;
-use crate::turns;
+use crate::steps;
 use crossbeam_utils::CachePadded;
 use meet_block::Arrived;
 use script_grammar::Items;
@@ -75,6 +75,6 @@ impl Hand {
         ensures err { OnErr result (self.new.current ≡ None) }
     {
         let held: &mut Held = &mut self.held;
-        turns::turn(held, alloc, gate)
+        steps::turn(held, alloc, gate)
     }
 }

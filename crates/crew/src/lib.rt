@@ -18,10 +18,10 @@ mod root;
 mod run;
 mod serial;
 mod stack;
+mod steps;
 #[cfg(test)]
 mod tests;
 mod turn;
-mod turns;
 
 pub use gate::{Gate, OpenGate};
 pub use hand::{Hand, Hands, Turn};

@@ -2,6 +2,7 @@
 ghost use Rattle.std.specs.Prelude.{◌≡◌, ◌≤◌, IfOk, true};
 ghost use Rattle.std.specs.Arc.{arc_value};
 ghost use Rattle.serial_meaning.specs.Eval.{main_origin};
+ghost use Rattle.serial_meaning.specs.Laws.{IsOriginOf};
 ghost use Rattle.strand_meaning.specs.Laws.{IsFaultOf};
 
 use crate::gate::Gate;
@@ -11,7 +12,7 @@ use crate::memory::Memory;
 use crate::root::Root;
 use crossbeam_utils::{Backoff, CachePadded};
 use meet_block::Look;
-use serial_meaning::{Answer, Plan};
+use serial_meaning::{Answer, Plan, laws};
 use std::alloc::Global;
 use std::sync::atomic::{AtomicBool, Ordering};
 use std::sync::{Arc, Wait};
@@ -63,6 +64,15 @@ fn wait_ready<R: Wait>(rt: &R, root: &mut Root)
     unreachable!()
 }
 
+/// Where it is the answer of an origin of the plan, no fault but one of the plan's ends it.
+fn ends_within_faults(answer: &Answer)
+    requires { IsOriginOf answer.now.plan answer.now.origin }
+    ensures { IsFaultOf answer.now.plan answer.now.outcome }
+{
+    laws::origins_end_within_faults();
+    let _outcome = &answer.outcome;
+}
+
 /// Runs main by so many workers, each in a thread of its own where one can be made. The hands steal tasks from one another.
 ///
 /// Where no thread can be made the hands run one after another, and the first finishes alone.
@@ -95,5 +105,7 @@ pub fn run_crew<R: Threads + Wait + Sync, G: Gate + Sync>(
         return Err(Memory);
     }
     wait_ready(rt, &mut root);
-    Ok(root.take())
+    let answer = root.take();
+    ends_within_faults(&answer);
+    Ok(answer)
 }
