@@ -11,3 +11,4 @@ pub mod Least
 pub mod Functioned
 pub mod Fewer
 pub mod FewerStatements
+pub mod Shares

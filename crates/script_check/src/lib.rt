@@ -20,3 +20,11 @@ mod variable;
 
 pub use checked::{Checked, check};
 pub use error::CheckError;
+
+fn is_shared<T: Send + Sync>() {}
+
+/// Checked scripts may be sent to other threads and read by several at once. The body asks for it, so that a field which forbids it
+/// fails the build.
+pub fn all_are_shared() {
+    is_shared::<Checked>();
+}

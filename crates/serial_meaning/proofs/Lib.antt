@@ -16,3 +16,4 @@ pub mod RunLaws
 pub mod ScriptRuns
 pub mod SegmentLemmas
 pub mod Sim
+pub mod Shares

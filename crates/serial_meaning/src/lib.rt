@@ -31,11 +31,14 @@ pub use value::Value;
 
 fn is_shared<T: Send + Sync>() {}
 
-/// Events and origins may be sent to other threads and read by several at once. The body asks for it, so that a field which
-/// forbids it fails the build.
+/// Plans, origins, events and answers may be sent to other threads and read by several at once. The body asks for it, so that a
+/// field which forbids it fails the build.
 pub fn all_are_shared() {
     is_shared::<Out>();
     is_shared::<Fault>();
     is_shared::<Origin>();
     is_shared::<Strand>();
+    is_shared::<Plan>();
+    is_shared::<Answer>();
+    is_shared::<AnswerKey>();
 }

@@ -8,3 +8,4 @@ pub mod Moving
 pub mod Starting
 pub mod Tags
 pub mod Taking
+pub mod Shares

@@ -1,0 +1,42 @@
+use denote.Param.Send.{IsSend, IsSync, param_send, param_sync}
+use contract.Lifetimes.{Lfts}
+use Rattle.serial_meaning.proofs.Shares.{plan_sends, plan_syncs, answer_sends, answer_syncs, key_sends, key_syncs}
+use Rattle.serial_meaning.proofs.all_are_shared.Lts as types
+use Rattle.serial_meaning.proofs.all_are_shared.Goals as goal
+
+-- field by field: the two rows are too large to be compared
+plan_goes : (κs : Lfts 1) → IsSend (types.arg-4-0 κs)
+plan_goes κs = record { owned = plan_sends.owned; leaving = plan_sends.leaving }
+
+plan_is_read : (κs : Lfts 1) → IsSync (types.arg-4-0 κs)
+plan_is_read κs = record { shared = plan_syncs.shared }
+
+answer_goes : (κs : Lfts 1) → IsSend (types.arg-5-0 κs)
+answer_goes κs = record { owned = answer_sends.owned; leaving = answer_sends.leaving }
+
+answer_is_read : (κs : Lfts 1) → IsSync (types.arg-5-0 κs)
+answer_is_read κs = record { shared = answer_syncs.shared }
+
+key_goes : (κs : Lfts 1) → IsSend (types.arg-6-0 κs)
+key_goes κs = record { owned = key_sends.owned; leaving = key_sends.leaving }
+
+key_is_read : (κs : Lfts 1) → IsSync (types.arg-6-0 κs)
+key_is_read κs = record { shared = key_syncs.shared }
+
+pub is_shared-requires-5-send-T : goal.is_shared-requires-5-send-T
+is_shared-requires-5-send-T c κs = param_send 0 (types.arg-4-0 κs) (plan_goes κs)
+
+pub is_shared-requires-5-sync-T : goal.is_shared-requires-5-sync-T
+is_shared-requires-5-sync-T c κs = param_sync 0 (types.arg-4-0 κs) (plan_is_read κs)
+
+pub is_shared-requires-6-send-T : goal.is_shared-requires-6-send-T
+is_shared-requires-6-send-T c κs = param_send 0 (types.arg-5-0 κs) (answer_goes κs)
+
+pub is_shared-requires-6-sync-T : goal.is_shared-requires-6-sync-T
+is_shared-requires-6-sync-T c κs = param_sync 0 (types.arg-5-0 κs) (answer_is_read κs)
+
+pub is_shared-requires-7-send-T : goal.is_shared-requires-7-send-T
+is_shared-requires-7-send-T c κs = param_send 0 (types.arg-6-0 κs) (key_goes κs)
+
+pub is_shared-requires-7-sync-T : goal.is_shared-requires-7-sync-T
+is_shared-requires-7-sync-T c κs = param_sync 0 (types.arg-6-0 κs) (key_is_read κs)

@@ -1,0 +1,24 @@
+use denote.Param.Send.{IsSend, param_send}
+use contract.Lifetimes.{Lfts}
+use Rattle.strand_machine.proofs.Shares.{task_sends, stop_sends, resumed_sends}
+use Rattle.strand_machine.proofs.all_are_sent.Lts as types
+use Rattle.strand_machine.proofs.all_are_sent.Goals as goal
+
+-- field by field: the two rows are too large to be compared
+task_goes : (κs : Lfts 1) → IsSend (types.arg-0-0 κs)
+task_goes κs = record { owned = task_sends.owned; leaving = task_sends.leaving }
+
+stop_goes : (κs : Lfts 1) → IsSend (types.arg-1-0 κs)
+stop_goes κs = record { owned = stop_sends.owned; leaving = stop_sends.leaving }
+
+resumed_goes : (κs : Lfts 1) → IsSend (types.arg-2-0 κs)
+resumed_goes κs = record { owned = resumed_sends.owned; leaving = resumed_sends.leaving }
+
+pub is_sent-requires-send-T : goal.is_sent-requires-send-T
+is_sent-requires-send-T c κs = param_send 0 (types.arg-0-0 κs) (task_goes κs)
+
+pub is_sent-requires-2-send-T : goal.is_sent-requires-2-send-T
+is_sent-requires-2-send-T c κs = param_send 0 (types.arg-1-0 κs) (stop_goes κs)
+
+pub is_sent-requires-3-send-T : goal.is_sent-requires-3-send-T
+is_sent-requires-3-send-T c κs = param_send 0 (types.arg-2-0 κs) (resumed_goes κs)
