@@ -1,8 +1,8 @@
 -- What contracts see of a hand, and what a turn makes of it.
-use Rattle.std.specs.Prelude.{◌≡◌, ℕ, ◌<◌, ◌≤◌, ◌⊎◌, slice_index_or, List, [], ◌∷◌, ◌++◌, Option, Some, None, length}
+use Rattle.std.specs.Prelude.{◌≡◌, ℕ, ◌+◌, ◌<◌, ◌≤◌, ◌⊎◌, slice_index_or, List, [], ◌∷◌, ◌++◌, Option, Some, None, length}
 use Rattle.serial_meaning.specs.Answer.{AnswerView, AnswerTag}
 use Rattle.serial_meaning.specs.declared.origin.Origin.{Origin}
-use Rattle.steal_deck.specs.Ends.{OwnerEnd, ThiefEnd, risen, Pushes, Pops, FindsNone, Steals}
+use Rattle.steal_deck.specs.Ends.{DeckId, OwnerEnd, ThiefEnd, new_owner, risen, Pushes, Pops, FindsNone, Steals}
 use Rattle.strand_machine.specs.Family.{tag}
 use Rattle.strand_machine.specs.Stops.{IsStop, IsResumed}
 use Rattle.strand_machine.specs.Tasks.{TaskView}
@@ -28,6 +28,14 @@ pub record HandView : Type 0 where
 
 abbrev pub view_of : Held → HandView
 view_of h = record { root = h.root; current = h.current; kept = h.kept.items; deck = h.deck; ring = h.ring.items; thieves = h.thieves.items }
+
+-- a hand that has nothing, and no thieves
+abbrev pub new_hand : Origin → DeckId → HandView
+new_hand root deck = record { root = root; current = None; kept = []; deck = new_owner deck; ring = []; thieves = [] }
+
+-- one thief more was made of its deck
+abbrev pub with_thief : HandView → HandView
+with_thief h = record h { deck = record h.deck { made = h.deck.made + 1 } }
 
 -- The steps of a turn
 

@@ -5,9 +5,12 @@ use crate::steps;
 use crossbeam_utils::CachePadded;
 use meet_block::Arrived;
 use script_grammar::Items;
-use serial_meaning::Answer;
+use serial_meaning::{Answer, Origin};
 use std::alloc::Global;
+use std::collections::VecDeque;
 use std::marker::Model;
+use steal_deck::{Deck, Thief};
+use strand_machine::Task;
 
 /// What a turn of a hand did.
 #[derive(Drop)]
@@ -57,8 +60,47 @@ impl Model for Hand {
 }
 
 impl Hand {
-    ghost use Rattle.std.specs.Prelude.{◌≡◌, IfOk, OnErr, None};
-    ghost use Rattle.crew.specs.Hands.{IsTurn};
+    ghost use Rattle.std.specs.Prelude.{◌≡◌, IfOk, OnOk, OnErr, Some, None};
+    ghost use Rattle.steal_deck.specs.Ends.{new_thief};
+    ghost use Rattle.crew.specs.Hands.{IsTurn, new_hand, with_thief};
+
+    /// A hand without a task, for a run that the answer of this origin ends. It has no thieves yet.
+    pub(crate) fn new(alloc: Global, root: Origin) -> Result<Hand, Memory>
+        ensures { IfOk result (λ hand. hand ≡ new_hand root hand.deck.deck) }
+    {
+        Ok(Hand {
+            held: CachePadded::new(Held {
+                root,
+                current: None,
+                kept: Vec::new(alloc),
+                deck: Deck::new(alloc)?,
+                ring: VecDeque::new(alloc),
+                thieves: Vec::new(alloc),
+            }),
+        })
+    }
+
+    /// A thief of this hand's deck.
+    pub(crate) fn thief(&mut self) -> Result<Thief<Task>, Memory>
+        ensures thief { IfOk result (λ thief. thief ≡ new_thief self.old.deck.deck) }
+        ensures made { OnOk result (self.new ≡ with_thief self.old) }
+    {
+        Ok(self.held.deck.thief()?)
+    }
+
+    /// These are its thieves.
+    pub(crate) fn set_thieves(&mut self, thieves: Vec<Thief<Task>>)
+        ensures { self.new ≡ record self.old { thieves = thieves.items } }
+    {
+        self.held.thieves = thieves;
+    }
+
+    /// The task is its current one.
+    pub(crate) fn begin(&mut self, task: Task)
+        ensures { self.new ≡ record self.old { current = Some task } }
+    {
+        self.held.current = Some(task);
+    }
 
     /// Does the first of these that applies.
     ///

@@ -1,5 +1,5 @@
 // How a crew begins.
-ghost use Rattle.std.specs.Prelude.{◌≡◌, ◌≤◌, IfOk, false, ◌∷◌, []};
+ghost use Rattle.std.specs.Prelude.{◌≡◌, ◌<◌, ◌≤◌, IfOk, false, ◌∷◌, [], length};
 ghost use Rattle.std.specs.Arc.{arc_value};
 ghost use Rattle.serial_meaning.specs.Eval.{main_origin};
 ghost use Rattle.strand_machine.specs.Family.{tag};
@@ -7,23 +7,21 @@ ghost use Rattle.strand_machine.specs.Tasks.{fresh};
 ghost use Rattle.meet_block.specs.Joined.{joined};
 
 use crate::hand::{Hand, Hands};
-use crate::held::Held;
 use crate::memory::Memory;
 use crate::root::Root;
-use crossbeam_utils::CachePadded;
 use meet_block::Join;
 use script_grammar::Items;
 use serial_meaning::{Answer, AnswerKey, Plan};
 use std::alloc::Global;
-use std::collections::VecDeque;
 use std::sync::Arc;
-use steal_deck::{Deck, Thief};
+use steal_deck::Thief;
 use strand_machine::Task;
 
 /// The hands of a run.
 pub struct Crew;
 
 /// The root's task, and the end at which its answer comes.
+#[tactic(auto, using(crate::proofs::Mains::main_known))]
 fn begin_root(alloc: Global, plan: &Arc<Plan>) -> Result<(Root, Task), Memory>
     ensures root { IfOk result (λ begun. begun.0 ≡ joined (tag (arc_value plan.now) (main_origin (arc_value plan.now)) ∷ []) (false ∷ []) false []) }
     ensures task { IfOk result (λ begun. begun.1 ≡ fresh (arc_value plan.now) (main_origin (arc_value plan.now))) }
@@ -39,27 +37,46 @@ fn begin_root(alloc: Global, plan: &Arc<Plan>) -> Result<(Root, Task), Memory>
     Ok((Root { join }, task))
 }
 
-/// One thief more of each of these decks.
-fn add_thieves(thieves: &mut Vec<Thief<Task>>, decks: &mut [Deck<Task>]) -> Result<(), Memory> {
-    for deck in decks.iter_mut() {
-        thieves.push(deck.thief()?)?;
+/// So many hands without a task. Each will end the run by main's answer.
+fn new_hands(alloc: Global, plan: &Arc<Plan>, workers: u32) -> Result<Vec<Hand>, Memory> {
+    let mut hands = Vec::new(alloc);
+    for _ in 0..workers {
+        hands.push(Hand::new(alloc, plan.main_origin(alloc)?)?)?;
+    }
+    Ok(hands)
+}
+
+/// One more thief of each of these hands' decks.
+fn add_thieves(thieves: &mut Vec<Thief<Task>>, hands: &mut [Hand]) -> Result<(), Memory> {
+    for hand in hands.iter_mut() {
+        thieves.push(hand.thief()?)?;
     }
     Ok(())
 }
 
-/// One thief of each deck but the one with this number, from the next number upwards and round.
+/// A thief of each hand's deck but that of the hand with this number, from the next number upwards and round.
 fn thieves_of_others(
     alloc: Global,
-    decks: &mut [Deck<Task>],
+    hands: &mut [Hand],
     own: usize,
-) -> Result<Vec<Thief<Task>>, Memory> {
+) -> Result<Vec<Thief<Task>>, Memory>
+    requires { own < length hands.old }
+{
     let mut thieves = Vec::new(alloc);
-    let (before, rest) = decks.split_at_mut(own);
-    if let Some((_, behind)) = rest.split_first_mut() {
-        add_thieves(&mut thieves, behind)?;
-    }
-    add_thieves(&mut thieves, before)?;
+    add_thieves(&mut thieves, &mut hands[own + 1..])?;
+    add_thieves(&mut thieves, &mut hands[..own])?;
     Ok(thieves)
+}
+
+/// Gives each hand its thieves of the others' decks.
+fn meet(alloc: Global, hands: &mut [Hand]) -> Result<(), Memory>
+    ensures { length hands.new ≡ length hands.old }
+{
+    for own in 0..hands.len() {
+        let thieves = thieves_of_others(alloc, hands, own)?;
+        hands[own].set_thieves(thieves);
+    }
+    Ok(())
 }
 
 impl Crew {
@@ -70,27 +87,10 @@ impl Crew {
         ensures root { IfOk result (λ crew. crew.0 ≡ joined (tag (arc_value plan.now) (main_origin (arc_value plan.now)) ∷ []) (false ∷ []) false []) }
     {
         let (root, task) = begin_root(alloc, plan)?;
-        let mut decks = Vec::new(alloc);
-        for _ in 0..workers {
-            decks.push(Deck::new(alloc)?)?;
-        }
-        let mut all_thieves = Vec::new(alloc);
-        for own in 0..decks.len() {
-            all_thieves.push(thieves_of_others(alloc, decks.as_mut_slice(), own)?)?;
-        }
-        let mut hands = Vec::new(alloc);
-        let mut current = Some(task);
-        for (deck, thieves) in decks.into_iter().zip(all_thieves) {
-            hands.push(Hand {
-                held: CachePadded::new(Held {
-                    root: plan.main_origin(alloc)?,
-                    current: current.take(),
-                    kept: Vec::new(alloc),
-                    deck,
-                    ring: VecDeque::new(alloc),
-                    thieves,
-                }),
-            })?;
+        let mut hands = new_hands(alloc, plan, workers)?;
+        meet(alloc, hands.as_mut_slice())?;
+        if let Some(first) = hands.first_mut() {
+            first.begin(task);
         }
         Ok((root, Hands(Items(hands))))
     }

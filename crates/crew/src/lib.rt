@@ -30,3 +30,10 @@ pub use memory::Memory;
 pub use root::Root;
 pub use run::run_crew;
 pub use serial::run_serial;
+
+fn is_sent<T: Send>() {}
+
+/// A hand may go to any thread, with the tasks that it has. The body asks for it, so that a field which forbids it fails the build.
+pub fn all_are_sent() {
+    is_sent::<Hand>();
+}

@@ -38,6 +38,7 @@ impl Root {
     }
 
     /// Takes the answer, which has to be there.
+    #[tactic(auto, using(crate::proofs::Rooted::only_one))]
     pub fn take(self) -> Answer
         requires { self.ready ≡ true }
         ensures { self.tags ≡ tag result.plan result.origin ∷ [] }

@@ -76,6 +76,7 @@ fn ends_within_faults(answer: &Answer)
 /// Runs main by so many workers, each in a thread of its own where one can be made. The hands steal tasks from one another.
 ///
 /// Where no thread can be made the hands run one after another, and the first finishes alone.
+#[tactic(auto, using(crate::proofs::Rooted::root_is))]
 pub fn run_crew<R: Threads + Wait + Sync, G: Gate + Sync>(
     rt: &R,
     alloc: Global,

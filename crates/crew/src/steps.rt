@@ -71,6 +71,7 @@ fn put_answer<G: Gate>(
 }
 
 /// Runs this task, which was the current one, to its next stop.
+#[tactic(auto, using(crate::proofs::Stopping::waits_there, crate::proofs::Stopping::gives_its_own))]
 fn run<G: Gate>(held: &mut Held, task: Task, alloc: Global, gate: &G) -> Result<Turn, Memory>
     requires { held.old.current ≡ None }
     ensures ok { IfOk result (λ turn. Advances task (view_of held.old) turn (view_of held.new)) }
@@ -79,7 +80,8 @@ fn run<G: Gate>(held: &mut Held, task: Task, alloc: Global, gate: &G) -> Result<
     if task.is_fresh() {
         gate.enter(task.origin());
     }
-    match task.advance(alloc)? {
+    let stop = task.advance(alloc)?;
+    match stop {
         Stop::Spawn { child, rest } => {
             put_rest(&mut held.deck, &mut held.kept, rest)?;
             held.current = Some(child);
