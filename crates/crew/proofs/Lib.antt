@@ -1,5 +1,8 @@
-pub mod Hands
+pub mod Ending
+pub mod Handed
 pub mod Mains
+pub mod Rooted
+pub mod Shares
 pub mod Shows
 pub mod Stopping
 pub mod Turning

@@ -27,7 +27,7 @@ use Rattle.crew.specs.declared.stack.Stack.{Stack}
 use Rattle.crew.specs.declared.stack.Turn.{Turn}
 use Rattle.crew.specs.declared.stack.Turn.TheVariants.{Goes, Ends}
 use Rattle.crew.specs.declared.memory.Memory.{Memory}
-use Rattle.crew.proofs.Hands.{handed, HandsStop, stops_hand}
+use Rattle.crew.proofs.Handed.{handed, HandsStop, stops_hand}
 
 -- Tags
 

@@ -18,7 +18,7 @@ use Rattle.strand_meaning.proofs.Stops.{stops_are_one, stops_are_sound, stops_ke
 use Rattle.strand_meaning.proofs.Onward.{answers_keep_tasks}
 use Rattle.crew.specs.Stacks.{task_of, IsStack, tasks, behind, Follows}
 use Rattle.crew.specs.declared.stack.Stack.{Stack}
-use Rattle.crew.proofs.Hands.{size_of, IsSmaller, HandsStop, stops_hand}
+use Rattle.crew.proofs.Handed.{size_of, IsSmaller, HandsStop, stops_hand}
 
 -- the stop that a task comes to
 pub next : Task → Stop

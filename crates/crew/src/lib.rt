@@ -1,16 +1,39 @@
 //! Workers that run a script.
 //!
 //! A worker runs tasks of `strand_machine` and answers the origin that it was given: the answer is the origin's serial meaning, by the
-//! type of answers.
+//! type of answers. One worker by itself is `run_serial`. A crew of them, each in a thread of its own, is `run_crew`: a hand keeps the
+//! rests of the tasks that it runs in a deck, and a hand that has nothing to do steals from the others' decks.
 #![tactic(auto)]
 
+#[cfg(test)]
+mod crew_tests;
 mod frames;
+mod gate;
+mod hand;
+mod held;
+mod hiring;
 mod memory;
+mod parked;
+mod root;
+mod run;
 mod serial;
 mod stack;
+mod steps;
 #[cfg(test)]
 mod tests;
 mod turn;
 
+pub use gate::{Gate, OpenGate};
+pub use hand::{Hand, Hands, Turn};
+pub use hiring::Crew;
 pub use memory::Memory;
+pub use root::Root;
+pub use run::run_crew;
 pub use serial::run_serial;
+
+fn is_sent<T: Send>() {}
+
+/// A hand may go to any thread, with the tasks that it has. The body asks for it, so that a field which forbids it fails the build.
+pub fn all_are_sent() {
+    is_sent::<Hand>();
+}

@@ -34,3 +34,9 @@ impl From<strand_machine::Memory> for Memory {
         Memory
     }
 }
+
+impl From<steal_deck::Memory> for Memory {
+    fn from(_: steal_deck::Memory) -> Self {
+        Memory
+    }
+}

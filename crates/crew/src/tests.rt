@@ -22,7 +22,7 @@ use std::test::Fail;
 use strand_machine::{Resumed, Stop, Task};
 
 /// The script's plan where each instance has so many steps.
-fn plan(
+pub(crate) fn plan(
     rt: &(impl Abort + AllocGlobal),
     text: &str,
     depth: u32,

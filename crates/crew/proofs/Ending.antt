@@ -1,0 +1,32 @@
+-- An answer of an origin of the plan ends by no fault but one of the plan's.
+use Rattle.std.proofs.Common.{◌≡◌, List, Result, Ok, Err, sym, subst}
+use Rattle.std.specs.Prelude.{Contains}
+use Rattle.serial_meaning.specs.Answer.{IsAnswer, IsEval, outcome_of}
+use Rattle.serial_meaning.specs.Eval.{eval}
+use Rattle.serial_meaning.specs.Laws.{IsOriginOf, EndsWithin, OriginsEndWithinFaults}
+use Rattle.serial_meaning.specs.Open.{faults}
+use Rattle.serial_meaning.specs.Plan.{PlanView}
+use Rattle.serial_meaning.specs.declared.value.Value.{Value}
+use Rattle.serial_meaning.specs.declared.event.Fault.{Fault}
+use Rattle.serial_meaning.specs.declared.event.Event.{Event}
+use Rattle.serial_meaning.specs.declared.origin.Origin.{Origin}
+use Rattle.serial_meaning.specs.declared.origin.Origin.TheVariants.{Instance, Loop}
+use Rattle.serial_meaning.specs.declared.answer.Outcome.{Outcome}
+use Rattle.serial_meaning.specs.declared.answer.Outcome.TheVariants as outcome
+use Rattle.strand_meaning.specs.Laws.{IsFaultOf}
+
+fault-of : (plan : PlanView) (o : Origin) (r : Result (List Value) Fault) → EndsWithin (faults plan) r → IsFaultOf plan (outcome_of o r)
+fault-of plan (Instance function args path) (Ok vs) h = tt
+fault-of plan (Instance function args path) (Err f) h = h
+fault-of plan (Loop function rest first path range) (Ok vs) h = tt
+fault-of plan (Loop function rest first path range) (Err f) h = h
+
+is-eval : (plan : PlanView) (o : Origin) (out : List Event) (ended : Outcome) → IsAnswer plan o out ended → IsEval plan o out ended
+is-eval plan o out (outcome.Value v) h = h
+is-eval plan o out (outcome.Values vs) h = h
+is-eval plan o out (outcome.Fault f) h = h
+is-eval plan o out (outcome.Cut f) h = absurd h
+
+pub ends_within : (plan : PlanView) (o : Origin) (out : List Event) (ended : Outcome) → OriginsEndWithinFaults → IsOriginOf plan o → IsAnswer plan o out ended → IsFaultOf plan ended
+ends_within plan o out ended law known is =
+    subst (IsFaultOf plan) (sym (is-eval plan o out ended is).ends) (fault-of plan o (eval plan o).ending (law plan o known))

@@ -1,0 +1,47 @@
+-- A hand may go to another thread, with the tasks that it has.
+use denote.Param.Send.{IsSend, view_send}
+use denote.Param.SendFields.{declared_send}
+use Rattle.std.proofs.Crossing.{Vec-send, Deque-send}
+use Rattle.std.proofs.option.Option.TheSendSync as option_shared
+use Rattle.crossbeam_utils.proofs.cache_padded.CachePadded.TheSendSync as padded_shared
+use Rattle.serial_meaning.proofs.origin.Origin.TheSendSync as origin_shared
+use Rattle.steal_deck.proofs.deck.Deck.TheSendSync as deck_shared
+use Rattle.steal_deck.proofs.thief.Thief.TheSendSync as thief_shared
+use Rattle.steal_deck.specs.contracts.thief.Thief as thief
+use Rattle.strand_machine.proofs.Shares.{task_sends}
+use Rattle.strand_machine.specs.contracts.task.Task as task
+use Rattle.crew.specs.contracts.hand.Hand as hand
+use Rattle.crew.specs.contracts.hand.Hand.TheInside as hand_inside
+use Rattle.crew.specs.contracts.held.Held as held
+use Rattle.crew.specs.contracts.parked.Parked as parked
+use Rattle.crew.specs.contracts.parked.Parked.TheInside as parked_inside
+
+parked_inside_sends : IsSend parked_inside.the_row
+parked_inside_sends = declared_send parked_inside.the_type (task_sends, tt)
+
+parked_sends : IsSend parked.the_row
+parked_sends = view_send parked_inside.the_row _ _ _ _ parked_inside_sends
+
+held_sends : IsSend held.the_row
+held_sends = declared_send held.the_type (
+  origin_shared.the_send,
+  (
+    option_shared.the_send task.the_row task_sends,
+    (
+      Vec-send task.the_row task_sends,
+      (
+        deck_shared.the_send task.the_row task_sends,
+        (
+          Deque-send parked.the_row parked_sends,
+          (Vec-send (thief.the_row task.the_row) (thief_shared.the_send task.the_row task_sends), tt),
+        ),
+      ),
+    ),
+  ),
+)
+
+hand_inside_sends : IsSend hand_inside.the_row
+hand_inside_sends = declared_send hand_inside.the_type (padded_shared.the_send held.the_row held_sends, tt)
+
+pub hand_sends : IsSend hand.the_row
+hand_sends = view_send hand_inside.the_row _ _ _ _ hand_inside_sends

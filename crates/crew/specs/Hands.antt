@@ -1,0 +1,146 @@
+-- What contracts see of a hand, and what a turn makes of it.
+use Rattle.std.specs.Prelude.{◌≡◌, ℕ, ◌+◌, ◌<◌, ◌≤◌, ◌⊎◌, slice_index_or, List, [], ◌∷◌, ◌++◌, Option, Some, None, length}
+use Rattle.serial_meaning.specs.Answer.{AnswerView, AnswerTag}
+use Rattle.serial_meaning.specs.declared.origin.Origin.{Origin}
+use Rattle.steal_deck.specs.Ends.{DeckId, OwnerEnd, ThiefEnd, new_owner, risen, Pushes, Pops, FindsNone, Steals}
+use Rattle.strand_machine.specs.Family.{tag}
+use Rattle.strand_machine.specs.Stops.{IsStop, IsResumed}
+use Rattle.strand_machine.specs.Tasks.{TaskView}
+use Rattle.strand_machine.specs.declared.stop.Stop.{Stop}
+use Rattle.strand_machine.specs.declared.stop.Stop.TheVariants as stop
+use Rattle.strand_machine.specs.declared.stop.Resumed.{Resumed}
+use Rattle.strand_machine.specs.declared.stop.Resumed.TheVariants as resumed
+use Rattle.crew.specs.declared.held.Held.{Held}
+use Rattle.crew.specs.declared.steps.Front.{Front}
+use Rattle.crew.specs.declared.steps.Front.TheVariants.{Missing, Waits, Goes}
+use Rattle.crew.specs.declared.hand.Turn.{Turn}
+use Rattle.crew.specs.declared.hand.Turn.TheVariants.{Ran, Answered, Ended, Popped, Resumed as ResumedOne, Waiting, Stole, Idle}
+
+-- A hand's tasks: the current one; its deck, by the owner's end, with the private list behind it; the ring of those that wait; and its ends of
+-- the other hands' decks. The root is the origin whose answer ends the run.
+pub record HandView : Type 0 where
+  pub root : Origin
+  pub current : Option TaskView
+  pub kept : List TaskView
+  pub deck : OwnerEnd TaskView
+  pub ring : List TaskView
+  pub thieves : List (ThiefEnd TaskView)
+
+abbrev pub view_of : Held → HandView
+view_of h = record { root = h.root; current = h.current; kept = h.kept.items; deck = h.deck; ring = h.ring.items; thieves = h.thieves.items }
+
+-- a hand that has nothing, and no thieves
+abbrev pub new_hand : Origin → DeckId → HandView
+new_hand root deck = record { root = root; current = None; kept = []; deck = new_owner deck; ring = []; thieves = [] }
+
+-- one thief more was made of its deck
+abbrev pub with_thief : HandView → HandView
+with_thief h = record h { deck = record h.deck { made = h.deck.made + 1 } }
+
+-- The steps of a turn
+
+-- The rest of a task that handed out a child: it is pushed on the deck, or goes to the private list's end. The latter comes only where that list
+-- isn't empty, or where the deck refused the rest, which has had at least 64 pushes then.
+abbrev pub IsPut : TaskView → List TaskView → OwnerEnd TaskView → List TaskView → OwnerEnd TaskView → Type 0
+IsPut rest kept deck kept' deck' =
+    ((kept ≡ []) × (kept' ≡ []) × Pushes deck rest deck')
+    ⊎ ((kept ≡ [] → 64 ≤ length deck.pushed) × (kept' ≡ kept ++ rest ∷ []) × (deck' ≡ deck))
+
+-- A stop that is no end: the rest goes behind the others and the child becomes current, or the task goes to the ring's end.
+abbrev pub Runs : Stop → HandView → HandView → Type 0
+Runs (stop.Spawn child rest) old new =
+    IsPut rest old.kept old.deck new.kept new.deck × (new ≡ record old { current = Some child; kept = new.kept; deck = new.deck })
+Runs (stop.Wait rest) old new = new ≡ record old { current = None; ring = old.ring ++ rest ∷ [] }
+Runs (stop.Done answer give) old new = ⊥
+
+-- The answer for this tag was put, the root's or another's.
+abbrev pub IsAnswered : Origin → AnswerTag → Turn → Type 0
+IsAnswered root asked (Answered arrived) = (arrived ≡ asked) × (asked.origin ≡ root → ⊥)
+IsAnswered root asked (Ended arrived) = (arrived ≡ asked) × (asked.origin ≡ root)
+IsAnswered root asked _ = ⊥
+
+-- The task came to its end.
+abbrev pub HasEnded : TaskView → Type 0
+HasEnded t = (answer : AnswerView) × (give : AnswerTag) × IsStop t (stop.Done answer give)
+
+abbrev pub Ends : TaskView → HandView → Turn → HandView → Type 0
+Ends t old turn new = HasEnded t × IsAnswered old.root (tag t.task.plan t.task.origin) turn × (new ≡ record old { current = None })
+
+-- What a turn does with the current task.
+abbrev pub Advances : TaskView → HandView → Turn → HandView → Type 0
+Advances t old Ran new = (stop : Stop) × IsStop t stop × Runs stop old new
+Advances t old turn new = Ends t old turn new
+
+-- The task is the last of the private list, or else the newest of the deck.
+abbrev pub IsNewest : TaskView → List TaskView → OwnerEnd TaskView → List TaskView → OwnerEnd TaskView → Type 0
+IsNewest t kept deck kept' deck' =
+    ((kept ≡ kept' ++ t ∷ []) × (deck' ≡ deck))
+    ⊎ ((kept ≡ []) × (kept' ≡ []) × Pops deck t deck')
+
+-- The private list is empty, and the deck had none at one moment.
+abbrev pub FindsNoTask : HandView → HandView → Type 0
+FindsNoTask old new = (old.kept ≡ []) × FindsNone old.deck new.deck
+
+-- The task at the front of the ring still waits, and went to its end.
+abbrev pub IsTurnedOver : List TaskView → List TaskView → Type 0
+IsTurnedOver [] after = ⊥
+IsTurnedOver (t ∷ ts) after = (same : TaskView) × IsResumed t (resumed.NotYet same) × (after ≡ ts ++ same ∷ [])
+
+-- It goes on, and left the ring.
+abbrev pub GoesOn : List TaskView → TaskView → List TaskView → Type 0
+GoesOn [] next after = ⊥
+GoesOn (t ∷ ts) next after = IsResumed t (resumed.On next) × (after ≡ ts)
+
+-- What a look at the ring's front found, by the ring before it and after it.
+abbrev pub Looks : List TaskView → List TaskView → Front → Type 0
+Looks before after Missing = (before ≡ []) × (after ≡ [])
+Looks before after Waits = IsTurnedOver before after
+Looks before after (Goes t) = GoesOn before t after
+
+-- a thief whose steal took nothing
+abbrev pub missed : ThiefEnd TaskView → ThiefEnd TaskView
+missed x = record x { misses = risen x.misses }
+
+-- A steal by each thief took nothing.
+pub record AllMiss (before after : List (ThiefEnd TaskView)) : Type 0 where
+  pub count : length after ≡ length before
+  pub each : (k : ℕ) (d : ThiefEnd TaskView) → k < length before → slice_index_or after k d ≡ missed (slice_index_or before k d)
+
+-- The steals by the first so many took nothing, that by the next one took this task, and the others didn't steal.
+pub record FirstSteals (before : List (ThiefEnd TaskView)) (t : TaskView) (after : List (ThiefEnd TaskView)) : Type 0 where
+  pub fruitless : ℕ
+  pub within : fruitless < length before
+  pub count : length after ≡ length before
+  pub miss : (k : ℕ) (d : ThiefEnd TaskView) → k < fruitless → slice_index_or after k d ≡ missed (slice_index_or before k d)
+  pub take : (d : ThiefEnd TaskView) → Steals (slice_index_or before fruitless d) t (slice_index_or after fruitless d)
+  pub rest : (k : ℕ) (d : ThiefEnd TaskView) → fruitless < k → slice_index_or after k d ≡ slice_index_or before k d
+
+-- A task was stolen and became current; or there was none, and the turn was this.
+abbrev pub StealsOr : Turn → HandView → Turn → HandView → Type 0
+StealsOr otherwise old turn new =
+    ((t : TaskView) × (turn ≡ Stole) × FirstSteals old.thieves t new.thieves × (new ≡ record old { current = Some t; thieves = new.thieves }))
+    ⊎ ((turn ≡ otherwise) × AllMiss old.thieves new.thieves × (new ≡ record old { thieves = new.thieves }))
+
+-- A turn of a hand that has no current task.
+abbrev pub Seeks : HandView → Turn → HandView → Type 0
+Seeks old Popped new =
+    (t : TaskView) × IsNewest t old.kept old.deck new.kept new.deck × (new ≡ record old { current = Some t; kept = new.kept; deck = new.deck })
+Seeks old ResumedOne new =
+    (t : TaskView) × FindsNoTask old new × GoesOn old.ring t new.ring × (new ≡ record old { current = Some t; deck = new.deck; ring = new.ring })
+Seeks old Stole new =
+    (t : TaskView) × FindsNoTask old new × (((old.ring ≡ []) × (new.ring ≡ [])) ⊎ IsTurnedOver old.ring new.ring) × FirstSteals old.thieves t new.thieves
+    × (new ≡ record old { current = Some t; deck = new.deck; ring = new.ring; thieves = new.thieves })
+Seeks old Waiting new =
+    FindsNoTask old new × IsTurnedOver old.ring new.ring × AllMiss old.thieves new.thieves
+    × (new ≡ record old { deck = new.deck; ring = new.ring; thieves = new.thieves })
+Seeks old Idle new =
+    FindsNoTask old new × (old.ring ≡ []) × AllMiss old.thieves new.thieves × (new ≡ record old { deck = new.deck; thieves = new.thieves })
+Seeks old _ new = ⊥
+
+-- A turn, by what it did: with the current task, or else to get one.
+abbrev pub IsTurnFrom : Option TaskView → HandView → Turn → HandView → Type 0
+IsTurnFrom (Some t) old turn new = Advances t old turn new
+IsTurnFrom None old turn new = Seeks old turn new
+
+abbrev pub IsTurn : HandView → Turn → HandView → Type 0
+IsTurn old turn new = IsTurnFrom old.current old turn new

@@ -1,0 +1,20 @@
+use serial_meaning::Origin;
+
+/// What is told when tasks begin and when they have answered. A gate may hold up the hand that tells it, and its calls return. Its calls
+/// come from all hands, and have no effect on any answer.
+pub trait Gate {
+    /// Called before a task of this origin is advanced for the first time.
+    fn enter(&self, origin: &Origin);
+
+    /// Called once the answer of a task of this origin was put.
+    fn leave(&self, origin: &Origin);
+}
+
+/// The gate that holds nothing up.
+pub struct OpenGate;
+
+impl Gate for OpenGate {
+    fn enter(&self, _origin: &Origin) {}
+
+    fn leave(&self, _origin: &Origin) {}
+}

@@ -1,0 +1,122 @@
+use crate::gate::Gate;
+use crate::held::Held;
+use crate::memory::Memory;
+use crate::steps;
+use crossbeam_utils::CachePadded;
+use meet_block::Arrived;
+use script_grammar::Items;
+use serial_meaning::{Answer, Origin};
+use std::alloc::Global;
+use std::collections::VecDeque;
+use std::marker::Model;
+use steal_deck::{Deck, Thief};
+use strand_machine::Task;
+
+/// What a turn of a hand did.
+#[derive(Drop)]
+pub enum Turn {
+    /// The current task ran to its next stop, and hasn't ended.
+    Ran,
+    /// The current task ended, and its answer was put. It wasn't the root's.
+    Answered(Arrived<Answer>),
+    /// The root's task ended, and its answer was put. The run is over.
+    Ended(Arrived<Answer>),
+    /// A task of the hand's own was taken up, the newest.
+    Popped,
+    /// The task at the front of the ring goes on, since all of its children have answered.
+    Resumed,
+    /// The task at the front of the ring still waits, and nothing was stolen.
+    Waiting,
+    /// A task of another hand was taken up.
+    Stole,
+    /// The hand has no task at all, and nothing was stolen.
+    Idle,
+}
+
+/// The hands of a crew, by number from 0.
+#[derive(Drop)]
+pub struct Hands(pub Items<Hand>);
+
+/// One worker of a crew, with the tasks that it has. It goes to one thread at a time, and stands on cache lines of its own.
+///
+/// A clause sees it as a `HandView` (`specs/Hands.antt`).
+#[derive(Drop)]
+pub struct Hand {
+    pub(crate) held: CachePadded<Held>,
+}
+
+impl Model for Hand {
+    ghost use Rattle.std.specs.Coded.{codes};
+    ghost use Rattle.script_grammar.specs.contracts.tree.Stmt as statement_type;
+    ghost use Rattle.serial_meaning.specs.contracts.plan.Plan as plan_type;
+    ghost use Rattle.crossbeam_utils.specs.Padded.{padded_value};
+    ghost use Rattle.crew.specs.Hands.{HandView, view_of};
+
+    ghost Value = { HandView };
+
+    ghost coded = { Prim.hlevel (codes, statement_type.the_row.coded, plan_type.the_row.coded) };
+
+    ghost view = { λ h. view_of (padded_value h.held) };
+}
+
+impl Hand {
+    ghost use Rattle.std.specs.Prelude.{◌≡◌, IfOk, OnOk, OnErr, Some, None};
+    ghost use Rattle.steal_deck.specs.Ends.{new_thief};
+    ghost use Rattle.crew.specs.Hands.{IsTurn, new_hand, with_thief};
+
+    /// A hand without a task, for a run that the answer of this origin ends. It has no thieves yet.
+    pub(crate) fn new(alloc: Global, root: Origin) -> Result<Hand, Memory>
+        ensures { IfOk result (λ hand. hand ≡ new_hand root hand.deck.deck) }
+    {
+        Ok(Hand {
+            held: CachePadded::new(Held {
+                root,
+                current: None,
+                kept: Vec::new(alloc),
+                deck: Deck::new(alloc)?,
+                ring: VecDeque::new(alloc),
+                thieves: Vec::new(alloc),
+            }),
+        })
+    }
+
+    /// A thief of this hand's deck.
+    pub(crate) fn thief(&mut self) -> Result<Thief<Task>, Memory>
+        ensures thief { IfOk result (λ thief. thief ≡ new_thief self.old.deck.deck) }
+        ensures made { OnOk result (self.new ≡ with_thief self.old) }
+    {
+        Ok(self.held.deck.thief()?)
+    }
+
+    /// These are its thieves.
+    pub(crate) fn set_thieves(&mut self, thieves: Vec<Thief<Task>>)
+        ensures { self.new ≡ record self.old { thieves = thieves.items } }
+    {
+        self.held.thieves = thieves;
+    }
+
+    /// The task is its current one.
+    pub(crate) fn begin(&mut self, task: Task)
+        ensures { self.new ≡ record self.old { current = Some task } }
+    {
+        self.held.current = Some(task);
+    }
+
+    /// Does the first of these that applies.
+    ///
+    /// 1. Advances the current task. A child that is handed out becomes current, and the rest goes to the back of the hand's deck, or to
+    ///    its private list where that isn't empty or the deck refuses it. A task that waits goes to the end of the ring. An answer is put.
+    /// 2. Takes up the last task of the private list, or the newest of the deck.
+    /// 3. Looks at the task at the front of the ring. It becomes current where all of its children have answered, and else goes to the
+    ///    ring's end, and the turn goes on.
+    /// 4. Steals from each other hand once, from the next number upwards and round, up to the first task.
+    ///
+    /// No turn waits for another thread. On `Memory` the tasks in use are dropped, and their answers never come: the run has failed.
+    pub fn turn<G: Gate>(&mut self, alloc: Global, gate: &G) -> Result<Turn, Memory>
+        ensures ok { IfOk result (λ turn. IsTurn self.old turn self.new) }
+        ensures err { OnErr result (self.new.current ≡ None) }
+    {
+        let held: &mut Held = &mut self.held;
+        steps::turn(held, alloc, gate)
+    }
+}

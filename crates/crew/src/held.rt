@@ -1,0 +1,19 @@
+use crate::parked::Parked;
+use serial_meaning::Origin;
+use std::collections::VecDeque;
+use steal_deck::{Deck, Thief};
+use strand_machine::Task;
+
+/// What a hand has.
+#[derive(Drop)]
+pub(crate) struct Held {
+    /// The origin whose answer ends the run.
+    pub root: Origin,
+    pub current: Option<Task>,
+    /// What the deck refused, and what came behind it. It is the back part of the deck.
+    pub kept: Vec<Task>,
+    pub deck: Deck<Task>,
+    pub ring: VecDeque<Parked>,
+    /// Those of the other hands' decks, from the next number upwards and round.
+    pub thieves: Vec<Thief<Task>>,
+}

@@ -1,0 +1,49 @@
+use meet_block::{Join, Look};
+use serial_meaning::Answer;
+use std::marker::Model;
+
+/// The end at which the answer of a whole run comes: a join whose one child is the run's root. A clause sees it as the join.
+#[derive(Drop)]
+pub struct Root {
+    pub(crate) join: Join<Answer>,
+}
+
+impl Model for Root {
+    ghost use Rattle.std.specs.Prelude.{◌≡◌, ◌∷◌, [], false, length};
+    ghost use Rattle.std.specs.Coded.{codes};
+    ghost use Rattle.serial_meaning.specs.contracts.plan.Plan as plan_type;
+    ghost use Rattle.serial_meaning.specs.Answer.{AnswerTag};
+    ghost use Rattle.meet_block.specs.Joined.{Joined};
+
+    ghost Value = { Joined AnswerTag };
+
+    ghost coded = { Prim.hlevel (codes, plan_type.the_row.coded) };
+
+    ghost view = { λ r. r.join };
+
+    ghost invariant = { λ r. (length r.join.tags ≡ 1) × (r.join.taken ≡ false ∷ []) };
+}
+
+impl Root {
+    ghost use Rattle.std.specs.Prelude.{◌≡◌, ◌∷◌, [], true};
+    ghost use Rattle.meet_block.specs.Joined.{Answers};
+    ghost use Rattle.strand_machine.specs.Family.{tag};
+
+    /// Says whether the answer was put. It takes no memory and doesn't wait.
+    pub fn look(&mut self) -> Look
+        ensures answers { Answers self.old self.new result }
+        ensures tags { self.new.tags ≡ self.old.tags }
+    {
+        self.join.look()
+    }
+
+    /// Takes the answer, which has to be there.
+    #[tactic(auto, using(crate::proofs::Rooted::only_one))]
+    pub fn take(self) -> Answer
+        requires { self.ready ≡ true }
+        ensures { self.tags ≡ tag result.plan result.origin ∷ [] }
+    {
+        let Root { mut join } = self;
+        join.take(0)
+    }
+}
