@@ -20,7 +20,8 @@ use Rattle.strand_meaning.specs.Rest.{children_of, evaluations, rest_of_stage, r
 use Rattle.strand_meaning.specs.Sound.{AreHalves, IsSoundStage, IsSoundWork, IsTask}
 use Rattle.strand_meaning.specs.Left.{item_stops, at_end, stage_stops, work_stops, stops_of, stops_left}
 use Rattle.strand_meaning.specs.Laws.{LeavesFewer, IsSoundStep}
-use Rattle.strand_meaning.proofs.Shown.{token_items, token_parts}
+use Rattle.strand_meaning.specs.Notes.{token_items}
+use Rattle.strand_meaning.proofs.Shown.{token_parts}
 use Rattle.strand_meaning.proofs.Taken.{shown_with, open-move, none-known}
 use Rattle.strand_meaning.proofs.SoundMoves.{sound-free}
 use Rattle.strand_meaning.proofs.Alike.{alike-tokens, alike-takes}

@@ -13,7 +13,7 @@ use Rattle.strand_meaning.specs.Machine.{Place, Spawned, Looped, Half, Token, To
 use Rattle.strand_meaning.specs.Pieces.{Part, Pieces, behind_last, tell, tell_at, hand, with_tokens}
 use Rattle.strand_meaning.specs.Task.{more_values}
 use Rattle.strand_meaning.specs.Rest.{closed, told_run, parts_run}
-use Rattle.strand_meaning.proofs.Shown.{token_items}
+use Rattle.strand_meaning.specs.Notes.{token_items}
 use Rattle.strand_meaning.proofs.Closing.{behind-then}
 
 -- a child of an instance

@@ -12,8 +12,12 @@ pub mod Finishing
 pub mod Keeps
 pub mod Loops
 pub mod Moves
+pub mod NodeAnswers
+pub mod Noted
+pub mod NoteWords
 pub mod Onward
 pub mod Own
+pub mod Ranks
 pub mod Shown
 pub mod SoundMoves
 pub mod Starts

@@ -34,7 +34,8 @@ use Rattle.serial_meaning.specs.declared.origin.Origin.TheVariants as origin
 use Rattle.strand_meaning.specs.Machine.{Place, Spawned, Looped, Token, Told, Halt, loop_tokens, sync_tokens, handing, inside, place_of, Activation, Machine, state_of, with_left, with_returning, with_scalar, back, spawns_in, calling, entered, reached, gives, act_run, value_run, move}
 use Rattle.strand_meaning.specs.Task.{Goes, AtLoop, stage_after, answered, takes, resumed, joins, with_answer}
 use Rattle.strand_meaning.specs.Rest.{valued, closes, remains, caller_state, remains_below, open_state, rest_of_machine, rest_of_stage, rest_open}
-use Rattle.strand_meaning.proofs.Shown.{token_items, token_parts, shown, changed-top}
+use Rattle.strand_meaning.specs.Notes.{token_items}
+use Rattle.strand_meaning.proofs.Shown.{token_parts, shown, changed-top}
 use Rattle.strand_meaning.proofs.Variables.{replaced-with, filled-later}
 
 abbrev S : Type 0

@@ -4,7 +4,7 @@ use Rattle.std.proofs.lemmas.Bool.{eq-eqb}
 use Rattle.serial_meaning.specs.Runs.{Run, done, stopped}
 use Rattle.serial_meaning.specs.Plan.{PlanView}
 use Rattle.serial_meaning.specs.Eval.{Evaluation}
-use Rattle.serial_meaning.specs.Open.{Item, Happened, Child, Ending, Own}
+use Rattle.serial_meaning.specs.Open.{Item, Ending, Own}
 use Rattle.serial_meaning.specs.declared.value.Value.{Value}
 use Rattle.serial_meaning.specs.declared.event.Fault.{Fault}
 use Rattle.serial_meaning.specs.declared.origin.Origin.{Origin}
@@ -12,13 +12,6 @@ use Rattle.strand_meaning.specs.Machine.{Token, Told, Handed, Syncs, Loops, Acti
 use Rattle.strand_meaning.specs.Pieces.{Part}
 use Rattle.strand_meaning.specs.Task.{stage_after, changed}
 use Rattle.strand_meaning.specs.Rest.{rest_open}
-
-abbrev pub token_items : List Token → List Item
-token_items [] = []
-token_items (Told e ∷ ts) = Happened e ∷ token_items ts
-token_items (Handed o place ∷ ts) = Child o ∷ token_items ts
-token_items (Syncs ∷ ts) = token_items ts
-token_items (Loops ∷ ts) = token_items ts
 
 abbrev pub token_parts : List Token → List Part
 token_parts [] = []

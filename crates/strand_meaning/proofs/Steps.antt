@@ -18,7 +18,8 @@ use Rattle.strand_meaning.specs.Task.{Stage, Goes, Ended, Work, Runs, Task, own_
 use Rattle.strand_meaning.specs.Rest.{children_of, rest_of_stage, rest_open, closed, parts_run, told_run, work_run, all_with, finish}
 use Rattle.strand_meaning.specs.Sound.{IsPlace, ArePlaces, IsHalf, AreHalves, IsSoundStage, IsSoFar, AreParts, IsInstanceOrLoop, IsTask}
 use Rattle.strand_meaning.specs.Laws.{IsSoundStep}
-use Rattle.strand_meaning.proofs.Shown.{token_items, token_parts}
+use Rattle.strand_meaning.specs.Notes.{token_items}
+use Rattle.strand_meaning.proofs.Shown.{token_parts}
 use Rattle.strand_meaning.proofs.Taken.{takes-taken, shown_with, open-move, none-known}
 use Rattle.strand_meaning.proofs.SoundMoves.{sound-free, SoundEnd, sound-move}
 use Rattle.strand_meaning.proofs.Alike.{Alike, alike-tokens, alike-takes, alike-parts, alike-stage}

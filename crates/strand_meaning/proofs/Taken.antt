@@ -17,7 +17,8 @@ use Rattle.strand_meaning.specs.Pieces.{Part}
 use Rattle.strand_meaning.specs.Task.{Stage, Goes, AtSync, AtLoop, Ended, stage_after, changed, changed_at, answered, in_machine, takes, takes_all, resumed, with_answer}
 use Rattle.strand_meaning.specs.Rest.{evaluations, rest_of_stage, rest_open}
 use Rattle.strand_meaning.specs.Sound.{IsPlace, ArePlaces, is_by, any_by}
-use Rattle.strand_meaning.proofs.Shown.{token_items, token_parts, shown}
+use Rattle.strand_meaning.specs.Notes.{token_items}
+use Rattle.strand_meaning.proofs.Shown.{token_parts, shown}
 use Rattle.strand_meaning.proofs.Keeps.{keeps-answer, keeps-nothing, first-contained}
 use Rattle.strand_meaning.proofs.Moves.{complete-move}
 use Rattle.strand_meaning.specs.Laws.{on_reached, changed_run}

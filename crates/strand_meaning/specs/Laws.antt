@@ -22,6 +22,7 @@ use Rattle.strand_meaning.specs.Pieces.{Part}
 use Rattle.strand_meaning.specs.Task.{Goes, changed, answered, Task, Stop, Spawn, Wait, End, Step, Passes, Stops, start, step, IsNext, on}
 use Rattle.strand_meaning.specs.Rest.{evaluations}
 use Rattle.strand_meaning.specs.Left.{stops_left, moves_left}
+use Rattle.strand_meaning.specs.Notes.{IsInstance, Notes, no_notes, also, Shows, IsOnWay, OnWay}
 use Rattle.strand_meaning.specs.Sound.{IsSoundStage, IsTask}
 
 -- No function of a valid script touches a pending variable.
@@ -126,3 +127,19 @@ Fits plan (Loop function rest first path range) = length path + 2 ≤ plan.limit
 -- An origin of the plan is within its depth.
 abbrev pub OriginsFit : Type 0
 OriginsFit = (plan : PlanView) (o : Origin) → 1 ≤ plan.limits.depth → IsOriginOf plan o → Fits plan o
+
+-- Of a task that wasn't advanced nothing is to be noted.
+abbrev pub NotesBegin : Type 0
+NotesBegin = (plan : PlanView) (o : Origin) → IsInstance o → IsOnWay no_notes (start plan o)
+
+-- With what is noted up to a stop all is noted of the task there, and at the end its whole node.
+abbrev pub NotesGoOn : Type 0
+NotesGoOn = (t : Task) (notes later : Notes) (stop : Stop) → IsTask t → IsInstance t.origin → IsOnWay notes t → Shows t later stop → OnWay (also notes later) t stop
+
+-- A task that takes its children's answers shows nothing.
+abbrev pub AnswersShowNothing : Type 0
+AnswersShowNothing = (t : Task) (notes : Notes) → IsTask t → IsInstance t.origin → IsOnWay notes t → IsOnWay notes (on (evaluations (eval t.plan) t.pieces.handed) t)
+
+-- There is one way to the next stop.
+abbrev pub StopsAreShown : Type 0
+StopsAreShown = (t : Task) (stop : Stop) → IsNext t stop → (notes : Notes) × Shows t notes stop

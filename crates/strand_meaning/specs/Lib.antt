@@ -4,6 +4,7 @@ pub mod Examples
 pub mod Laws
 pub mod Left
 pub mod Machine
+pub mod Notes
 pub mod Pieces
 pub mod Rest
 pub mod Sound

@@ -1,7 +1,7 @@
 //! Laws of tasks and strands, each the contract of a function that does nothing. A proof that wants a law calls it.
 
 ghost use Rattle.strand_meaning.specs.StrandLaws.{StrandsAreTheElisions};
-ghost use Rattle.strand_meaning.specs.Laws.{AnswersAreEvaluations, AnswersKeepTasks, AnswersLeaveNoMore, MovesFall, MovesLeaveUnfilledAlone, OriginsFit, StepsAreSound, StopsAreOne, StopsAreSound, StopsCome, StopsFall, StopsKeepOrigins, TasksBegin, ValidPlansAreClear};
+ghost use Rattle.strand_meaning.specs.Laws.{AnswersAreEvaluations, AnswersKeepTasks, AnswersLeaveNoMore, AnswersShowNothing, MovesFall, MovesLeaveUnfilledAlone, NotesBegin, NotesGoOn, OriginsFit, StepsAreSound, StopsAreOne, StopsAreShown, StopsAreSound, StopsCome, StopsFall, StopsKeepOrigins, TasksBegin, ValidPlansAreClear};
 
 /// A task of an origin of the plan begins sound where no function of the script touches a pending variable.
 pub fn tasks_begin()
@@ -78,4 +78,25 @@ pub fn origins_fit()
 /// pedigree in their order, and the elision's fault where that is there.
 pub fn strands_are_the_elisions()
     ensures { StrandsAreTheElisions }
+{}
+
+/// Of a task that wasn't advanced nothing is to be noted: its node is what is left, and its strand hasn't gone beyond rank 0.
+pub fn notes_begin()
+    ensures { NotesBegin }
+{}
+
+/// What a task shows up to its next stop joins what is noted of it, and at its end that is its whole node: the items, the ending, the
+/// ranks from 0 up to the last one.
+pub fn notes_go_on()
+    ensures { NotesGoOn }
+{}
+
+/// Answers that a task takes change nothing of what is noted: they are known to its node.
+pub fn answers_show_nothing()
+    ensures { AnswersShowNothing }
+{}
+
+/// What a task shows up to its next stop can be noted.
+pub fn stops_are_shown()
+    ensures { StopsAreShown }
 {}

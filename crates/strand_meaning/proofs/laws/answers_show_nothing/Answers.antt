@@ -1,0 +1,5 @@
+use Rattle.strand_meaning.proofs.NodeAnswers.{answers_show_nothing}
+use Rattle.strand_meaning.proofs.laws.answers_show_nothing.Goals as goal
+
+pub returns : goal.returns
+returns c = answers_show_nothing

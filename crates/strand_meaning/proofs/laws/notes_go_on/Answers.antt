@@ -1,0 +1,5 @@
+use Rattle.strand_meaning.proofs.Noted.{notes_go_on}
+use Rattle.strand_meaning.proofs.laws.notes_go_on.Goals as goal
+
+pub returns : goal.returns
+returns c = notes_go_on
