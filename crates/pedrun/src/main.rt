@@ -1,7 +1,13 @@
-//! The program `pedrun`: its words, the standard streams and the exit status. All else is the library `engine`.
+//! The program `pedrun`: its words, the help, the standard streams and the exit status. All else is the library `engine`.
 #![tactic(auto)]
 
+mod edge;
+mod help;
+mod text;
+
+use edge::{refuse, show};
 use engine::pedrun;
+use help::Topic;
 use ped_io::{StdSink, StdSource};
 use std::process::ExitCode;
 use std::rt::Env;
@@ -17,15 +23,16 @@ fn words(rt: &(impl Env + AllocGlobal)) -> io::Result<Vec<String>> {
 }
 
 fn main(rt: HostRuntime) -> ExitCode {
-    let alloc = rt.alloc();
-    // Words that cannot be had say no command.
-    let words = match words(&rt) {
-        Ok(words) => words,
-        Err(_) => Vec::new(alloc),
-    };
-    let mut script = StdSource::new(rt.stdin());
     let mut out = StdSink::new(rt.stdout());
     let mut err = StdSink::new(rt.stderr());
-    let status = pedrun(alloc, &words, &mut script, &mut out, &mut err);
+    let words = match words(&rt) {
+        Ok(words) => words,
+        Err(error) => return ExitCode::from(refuse(error.kind(), &mut err).code()),
+    };
+    if let Some(topic) = Topic::of_words(&words) {
+        return ExitCode::from(show(topic.text(), &mut out, &mut err).code());
+    }
+    let mut script = StdSource::new(rt.stdin());
+    let status = pedrun(rt.alloc(), &words, &mut script, &mut out, &mut err);
     ExitCode::from(status.code())
 }

@@ -1,8 +1,8 @@
 -- The answers of children.
-use Rattle.std.proofs.Common.{◌≡◌, ℕ, zero, suc, ◌+◌, ◌-◌, ◌<◌, ◌≤◌, Bool, true, false, List, [], ◌∷◌, ◌++◌, Option, Some, None, Result, length, length-append, length-drop, take, drop, replicate, refl, sym, ap, ◌∙◌, subst, arith, add-one}
-use Rattle.std.proofs.Math.ListN.{set, length-replicate, length-set}
+use Rattle.std.proofs.Common.{◌≡◌, ℕ, zero, suc, ◌+◌, ◌-◌, ◌<◌, ◌≤◌, Bool, true, false, List, [], ◌∷◌, ◌++◌, Some, Result, length, length-append, length-drop, take, drop, replicate, refl, sym, ap, ◌∙◌, subst, arith, add-one}
+use Rattle.std.proofs.Math.ListN.{set, length-replicate}
 use Rattle.std.specs.Prelude.{slice_get}
-use Rattle.serial_meaning.specs.Answer.{AnswerView, AnswerTag, IsEval, IsAnswer}
+use Rattle.serial_meaning.specs.Answer.{AnswerView, IsEval, IsAnswer}
 use Rattle.serial_meaning.specs.Eval.{Evaluation, eval}
 use Rattle.serial_meaning.specs.Plan.{PlanView}
 use Rattle.serial_meaning.specs.declared.value.Value.{Value}

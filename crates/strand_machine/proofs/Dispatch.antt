@@ -1,13 +1,14 @@
 -- What is left of a task after a move is sound, and each kind of move is the defined one.
-use Rattle.std.proofs.Common.{add-one, ◌≡◌, ℕ, zero, suc, ◌+◌, ◌-◌, ◌<◌, ◌≤◌, Bool, true, false, List, [], ◌∷◌, ◌++◌, Option, Some, None, Ok, Err, length, length-append, replicate, nat_lt, refl, sym, ap, ◌∙◌, subst, arith, append_assoc}
+use Rattle.std.proofs.Common.{add-one, ◌≡◌, ℕ, zero, suc, ◌+◌, ◌-◌, ◌≤◌, Bool, true, false, List, [], ◌∷◌, ◌++◌, Option, Some, None, length, length-append, replicate, nat_lt, refl, sym, ap, ◌∙◌, subst, arith, append_assoc}
 use Rattle.std.proofs.Common.{ℤ}
 use Rattle.std.proofs.lemmas.Bool.{true≢false}
 use Rattle.std.proofs.lemmas.Bool.Decides.{nat_tests}
+use Rattle.dotmix.specs.Trails.{FitsGamma}
+use Rattle.dotmix.specs.declared.trail.Trail.{Trail}
 use Rattle.loop_range.specs.Range.{Range, lower_half, upper_half}
 use Rattle.serial_meaning.specs.Answer.{IsEval, IsAnswer}
 use Rattle.serial_meaning.specs.Eval.{path_of}
 use Rattle.serial_meaning.specs.Laws.{IsOriginOf}
-use Rattle.serial_meaning.specs.Open.{Own, Joined}
 use Rattle.serial_meaning.specs.Plan.{PlanView}
 use Rattle.serial_meaning.specs.declared.event.Fault.{Fault}
 use Rattle.serial_meaning.specs.declared.event.Event.{Event}
@@ -16,18 +17,17 @@ use Rattle.serial_meaning.specs.declared.origin.Origin.{Origin}
 use Rattle.serial_meaning.specs.declared.origin.Origin.TheVariants.{Instance, Loop}
 use Rattle.serial_meaning.specs.declared.answer.Outcome.{Outcome}
 use Rattle.serial_meaning.specs.declared.answer.Outcome.TheVariants as outcome
-use Rattle.strand_meaning.specs.Laws.{IsSoundStop, IsSoundStep, IsFaultOf, StepsAreSound}
+use Rattle.strand_meaning.specs.Laws.{IsSoundStep, IsFaultOf, StepsAreSound}
 use Rattle.serial_meaning.specs.Runs.{Run}
 use Rattle.strand_meaning.specs.Machine.{Token, Reached, move}
-use Rattle.strand_meaning.specs.Pieces.{Part, hand}
+use Rattle.strand_meaning.specs.Pieces.{Part}
 use Rattle.strand_meaning.specs.Sound.{IsTask}
 use Rattle.strand_meaning.specs.Task as meaning
 use Rattle.strand_meaning.specs.Task.{Task, ends, ends_unless, own_instance, first_half, split_step, over_step, waits, begins_last, gave, faults_behind, moved, stops_at, child_in}
 use Rattle.strand_moves.specs.Machines as moves
-use Rattle.strand_moves.specs.Moves.{tokens_of, run_of}
+use Rattle.strand_moves.specs.Moves.{IsTrailOf, ShowsTrail, tokens_of, run_of}
 use Rattle.strand_moves.specs.declared.instance.Instance.{Instance as RawInstance}
 use Rattle.strand_moves.specs.declared.shown.Shown.{Shown}
-use Rattle.strand_moves.specs.declared.shown.Shown.TheVariants as shown-in
 use Rattle.strand_moves.specs.declared.shown.Moved.TheVariants as moved-in
 use Rattle.strand_machine.specs.Bodies.{is_long, only}
 use Rattle.strand_machine.specs.Family.{FamilyView, handed}
@@ -37,11 +37,12 @@ use Rattle.strand_machine.specs.Stops.{IsStep, ended}
 use Rattle.strand_machine.specs.declared.stop.Step.{Step as MadeStep}
 use Rattle.strand_machine.specs.declared.stop.Step.TheVariants as step-in
 use Rattle.strand_machine.specs.declared.stop.Stop.TheVariants as stop-in
-use Rattle.strand_machine.specs.Tasks.{view_of, fresh, AwaitsLast, RunsAt, WorksAt, IsSound, task_of, work_of, gone, waiting, with_child, ended_by}
+use Rattle.strand_machine.specs.Tasks.{view_of, fresh, AwaitsLast, RunsAt, WorksAt, IsSound, task_of, task_with, work_of, gone, waiting, with_child, ended_by}
 use Rattle.strand_machine.specs.declared.body.Body.{Body}
 use Rattle.strand_machine.specs.declared.place.Place.{Place}
 use Rattle.strand_machine.specs.declared.place.Place.TheVariants as place
 use Rattle.strand_machine.specs.declared.work.Stage.TheVariants as stage
+use Rattle.strand_machine.specs.declared.work.Left.{Left}
 use Rattle.strand_machine.specs.declared.work.Work.{Work}
 use Rattle.strand_machine.specs.declared.work.Work.TheVariants as work
 
@@ -50,10 +51,10 @@ use Rattle.strand_machine.specs.declared.work.Work.TheVariants as work
 sound-step : StepsAreSound → (b : Body) (w : Work) (s : meaning.Step) → IsSound b w → meaning.step (task_of b w) ≡ s → IsSoundStep (task_of b w) s
 sound-step steps_are_sound b w s h e = subst (IsSoundStep (task_of b w)) e (steps_are_sound (task_of b w) h.task)
 
-pub pass-sound : StepsAreSound → (b : Body) (w next : Work) → IsSound b w → meaning.step (task_of b w) ≡ meaning.Passes (task_of (gone b) next) → WorksAt b.family.plan (path_of (own_instance b.family.origin)) next → IsSound (gone b) next
+pub pass-sound : StepsAreSound → (b : Body) (w next : Work) → IsSound b w → meaning.step (task_of b w) ≡ meaning.Passes (task_of (gone b) next) → WorksAt b.family.plan b.family.origin next → IsSound (gone b) next
 pass-sound law b w next h e works = record { task = sound-step law b w (meaning.Passes (task_of (gone b) next)) h e; family = h.family; works = works }
 
-pub wait-sound : StepsAreSound → (b : Body) (w next : Work) → IsSound b w → meaning.step (task_of b w) ≡ meaning.Stops (meaning.Wait (task_of (waiting b) next)) → WorksAt b.family.plan (path_of (own_instance b.family.origin)) next → IsSound (waiting b) next
+pub wait-sound : StepsAreSound → (b : Body) (w next : Work) → IsSound b w → meaning.step (task_of b w) ≡ meaning.Stops (meaning.Wait (task_of (waiting b) next)) → WorksAt b.family.plan b.family.origin next → IsSound (waiting b) next
 wait-sound law b w next h e works = record { task = sound-step law b w (meaning.Stops (meaning.Wait (task_of (waiting b) next))) h e; family = h.family; works = works }
 
 awaited-append : (ps qs : List Part) → awaited (ps ++ qs) ≡ awaited ps ++ awaited qs
@@ -78,7 +79,7 @@ awaits-more family parts p h = record {
 }
 
 pub spawn-sound : StepsAreSound → (b : Body) (w next : Work) (child : Origin) (p : Place) → IsSound b w → meaning.step (task_of b w) ≡ meaning.Stops (meaning.Spawn child (task_of (with_child b child p) next)) →
-    WorksAt b.family.plan (path_of (own_instance b.family.origin)) next → IsOriginOf b.family.plan child × IsSound (with_child b child p) next
+    WorksAt b.family.plan b.family.origin next → IsOriginOf b.family.plan child × IsSound (with_child b child p) next
 spawn-sound law b w next child p h e works =
     let s = sound-step law b w (meaning.Stops (meaning.Spawn child (task_of (with_child b child p) next))) h e in
     (s.0, record { task = s.1; family = awaits-more b.family b.pieces.handed (record { child = child; place = place_of p; behind = [] }) h.family; works = works })
@@ -124,28 +125,39 @@ only-half : (o : Origin) (left : Range) → only o (lower_half left) ≡ first_h
 only-half (Instance function args path) left = refl
 only-half (Loop function rest first path range) left = refl
 
-pub split-many : (b : Body) (range lower upper : Range) (child : Origin) → 2 ≤ range.hi - range.lo → lower ≡ lower_half range → upper ≡ upper_half range → child ≡ only b.family.origin lower →
-    meaning.step (task_of b (work.Splits range)) ≡ meaning.Stops (meaning.Spawn child (task_of (with_child b child place.Half) (work.Splits upper)))
-split-many b range lower upper child h l u c = by_size (range.hi - range.lo) refl h
+pub split-many : (b : Body) (left upper : Left) (lower : Range) (child : Origin) → 2 ≤ left.range.hi - left.range.lo → lower ≡ lower_half left.range → upper.range ≡ upper_half left.range → child ≡ only b.family.origin lower →
+    meaning.step (task_of b (work.Splits left)) ≡ meaning.Stops (meaning.Spawn child (task_of (with_child b child place.Half) (work.Splits upper)))
+split-many b left upper lower child h l u c = by_size (left.range.hi - left.range.lo) refl h
   where
-    same : child ≡ first_half b.family.origin range
-    same = c ∙ ap (only b.family.origin) l ∙ only-half b.family.origin range
+    same : child ≡ first_half b.family.origin left.range
+    same = c ∙ ap (only b.family.origin) l ∙ only-half b.family.origin left.range
 
-    by_size : (n : ℕ) → range.hi - range.lo ≡ n → 2 ≤ n → split_step (task_of b (work.Splits range)) range n ≡ meaning.Stops (meaning.Spawn child (task_of (with_child b child place.Half) (work.Splits upper)))
+    by_size : (n : ℕ) → left.range.hi - left.range.lo ≡ n → 2 ≤ n → split_step (task_of b (work.Splits left)) left.range n ≡ meaning.Stops (meaning.Spawn child (task_of (with_child b child place.Half) (work.Splits upper)))
     by_size zero e g = absurd (omega arith)
     by_size (suc zero) e g = absurd (omega arith)
     by_size (suc (suc n)) e g =
-        ap (λ (o : Origin). meaning.Stops (meaning.Spawn o (task_of (with_child b o place.Half) (work.Splits (upper_half range))))) (sym same)
-        ∙ ap (λ (r : Range). meaning.Stops (meaning.Spawn child (task_of (with_child b child place.Half) (work.Splits r)))) (sym u)
+        ap (λ (o : Origin). meaning.Stops (meaning.Spawn o (task_with (with_child b o place.Half) (meaning.Splits (upper_half left.range))))) (sym same)
+        ∙ ap (λ (r : Range). meaning.Stops (meaning.Spawn child (task_with (with_child b child place.Half) (meaning.Splits r)))) (sym u)
 
-pub split-none : (b : Body) (range : Range) → range.hi - range.lo ≡ 0 → meaning.step (task_of b (work.Splits range)) ≡ ends (task_of b (work.Splits range)) (outcome.Values b.values)
-split-none b range e = ap (split_step (task_of b (work.Splits range)) range) e
+pub split-none : (b : Body) (left : Left) → left.range.hi - left.range.lo ≡ 0 → meaning.step (task_of b (work.Splits left)) ≡ ends (task_of b (work.Splits left)) (outcome.Values b.values)
+split-none b left e = ap (split_step (task_of b (work.Splits left)) left.range) e
 
-pub split-one : (b : Body) (range : Range) (next : Work) → range.hi - range.lo ≡ 1 → work_of b.family.plan next ≡ begins_last b.family.plan b.family.origin →
-    meaning.step (task_of b (work.Splits range)) ≡ meaning.Passes (task_of (gone b) next)
-split-one b range next e begun =
-    ap (split_step (task_of b (work.Splits range)) range) e
-    ∙ ap (λ (w : meaning.Work). meaning.Passes (record (task_of b (work.Splits range)) { work = w; advanced = true })) (sym begun)
+pub split-one : (b : Body) (left : Left) (next : Work) → left.range.hi - left.range.lo ≡ 1 → work_of b.family.plan next ≡ begins_last b.family.plan b.family.origin →
+    meaning.step (task_of b (work.Splits left)) ≡ meaning.Passes (task_of (gone b) next)
+split-one b left next e begun =
+    ap (split_step (task_of b (work.Splits left)) left.range) e
+    ∙ ap (λ (w : meaning.Work). meaning.Passes (record (task_of b (work.Splits left)) { work = w; advanced = true })) (sym begun)
+
+-- a part of a loop has the loop's path
+only-path : (o : Origin) (part : Range) → path_of (only o part) ≡ path_of o
+only-path (Instance function args path) part = refl
+only-path (Loop function rest first path range) part = refl
+
+pub part-trail : (plan : PlanView) (o child : Origin) (part : Range) (trail shared : Trail) → child ≡ only o part → shared ≡ trail → IsTrailOf plan o trail → IsTrailOf plan child shared
+part-trail plan o child part trail shared c s h = record {
+  fits = subst (FitsGamma plan.gamma) (sym s) h.fits;
+  path = ap (λ (t : Trail). t.path) s ∙ h.path ∙ sym (ap path_of c ∙ only-path o part);
+}
 
 over-waits : (t : Task) (v : Value) (o : Origin) → is_long o ≡ true → over_step t v o ≡ waits t
 over-waits t v (Instance function args path) h = absurd (true≢false (sym h))
@@ -227,10 +239,10 @@ module _ (b : Body) (i : RawInstance) where
   go-faulted next f at e = ap (λ (p : List ℕ). made (move b.family.plan p (moves.machine_of b.family.plan i))) (sym at.at) ∙ ap made e
 
   pub shown-sound : StepsAreSound → (next : RawInstance) (s : Shown) → IsSound b (work.Runs (stage.Goes i)) → meaning.step here ≡ stops_at (child_in (tokens_of s)) (shown_task b next s) →
-      RunsAt b.family.plan (path_of (own_instance b.family.origin)) next → IsSoundShown b next s
-  shown-sound law next s h e runs =
+      RunsAt b.family.plan (path_of (own_instance b.family.origin)) next → ShowsTrail b.family.plan s → IsSoundShown b next s
+  shown-sound law next s h e runs trail =
       let known = from (child_in (tokens_of s)) (sound-step law b (work.Runs (stage.Goes i)) (stops_at (child_in (tokens_of s)) (shown_task b next s)) h e) in
-      record { task = known.0; child = known.1; family = h.family; runs = runs }
+      record { task = known.0; child = known.1; family = h.family; runs = runs; trail = trail }
     where
       from : (o : Option Origin) → IsSoundStep here (stops_at o (shown_task b next s)) → IsTask (shown_task b next s) × IsKnownChild b.family.plan o
       from None g = (g, tt)

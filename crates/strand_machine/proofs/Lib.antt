@@ -5,6 +5,7 @@ pub mod Dispatch
 pub mod Halves
 pub mod Handed
 pub mod Moving
+pub mod Noting
 pub mod Starting
 pub mod Tags
 pub mod Taking

@@ -14,8 +14,9 @@ use Rattle.strand_meaning.specs.Machine.{move}
 use Rattle.strand_meaning.specs.Pieces.{Part, Pieces, tell, tell_at, behind_last}
 use Rattle.strand_meaning.specs.Task.{own_instance, stops_at, child_in}
 use Rattle.strand_moves.specs.Machines as moves
-use Rattle.strand_moves.specs.Moves.{tokens_of, run_of}
+use Rattle.strand_moves.specs.Moves.{IsTrailOf, MovesTrail, ShowsTrail, tokens_of, run_of}
 use Rattle.strand_moves.specs.declared.instance.Instance.{Instance as RawInstance}
+use Rattle.strand_moves.specs.declared.shown.Child.{Child}
 use Rattle.strand_moves.specs.declared.shown.Moved.{Moved}
 use Rattle.strand_moves.specs.declared.shown.Moved.TheVariants as moved-in
 use Rattle.strand_moves.specs.declared.shown.Shown.{Shown}
@@ -109,24 +110,27 @@ module _ (b : Body) (i : RawInstance) where
 
   -- a child
 
-  pub spawned-known : (s : Shown) (e : Event) (o : Origin) (height : ℕ) (target : Option Name) → s ≡ shown-in.Spawned e o height target → IsSoundShown b i s → IsOriginOf b.family.plan o
+  pub spawned-known : (s : Shown) (e : Event) (o : Child) (height : ℕ) (target : Option Name) → s ≡ shown-in.Spawned e o height target → IsSoundShown b i s → IsOriginOf b.family.plan o.origin
   spawned-known s e o height target is h = let k : IsSoundShown b i (shown-in.Spawned e o height target) = subst (IsSoundShown b i) is h in k.child
 
-  spawned-at : (e : Event) (o : Origin) (height : ℕ) (target : Option Name) → IsSoundShown b i (shown-in.Spawned e o height target) →
-      IsSound (with_child (with_pieces b (tell e b.pieces)) o (place.Spawned height target)) goes
+  pub spawned-trail : (s : Shown) (e : Event) (o : Child) (height : ℕ) (target : Option Name) → s ≡ shown-in.Spawned e o height target → IsSoundShown b i s → IsTrailOf b.family.plan o.origin o.trail
+  spawned-trail s e o height target is h = let k : IsSoundShown b i (shown-in.Spawned e o height target) = subst (IsSoundShown b i) is h in k.trail
+
+  spawned-at : (e : Event) (o : Child) (height : ℕ) (target : Option Name) → IsSoundShown b i (shown-in.Spawned e o height target) →
+      IsSound (with_child (with_pieces b (tell e b.pieces)) o.origin (place.Spawned height target)) goes
   spawned-at e o height target h = record {
     task = h.task;
-    family = awaits-more b.family (tell e b.pieces).handed (record { child = o; place = place_of (place.Spawned height target); behind = [] }) (awaits-told b.family b.pieces e h.family);
+    family = awaits-more b.family (tell e b.pieces).handed (record { child = o.origin; place = place_of (place.Spawned height target); behind = [] }) (awaits-told b.family b.pieces e h.family);
     works = h.runs;
   }
 
-  pub spawned-sound : (s : Shown) (e : Event) (o : Origin) (height : ℕ) (target : Option Name) (p : Pieces) → s ≡ shown-in.Spawned e o height target → p ≡ tell e b.pieces → IsSoundShown b i s →
-      IsSound (with_child (with_pieces b p) o (place.Spawned height target)) goes
+  pub spawned-sound : (s : Shown) (e : Event) (o : Child) (height : ℕ) (target : Option Name) (p : Pieces) → s ≡ shown-in.Spawned e o height target → p ≡ tell e b.pieces → IsSoundShown b i s →
+      IsSound (with_child (with_pieces b p) o.origin (place.Spawned height target)) goes
   spawned-sound s e o height target p is q h =
-      subst (λ (x : Pieces). IsSound (with_child (with_pieces b x) o (place.Spawned height target)) goes) (sym q) (spawned-at e o height target (subst (IsSoundShown b i) is h))
+      subst (λ (x : Pieces). IsSound (with_child (with_pieces b x) o.origin (place.Spawned height target)) goes) (sym q) (spawned-at e o height target (subst (IsSoundShown b i) is h))
 
-  pub spawned-step : (s : Shown) (e : Event) (o : Origin) (height : ℕ) (target : Option Name) (p : Pieces) (r : MadeStep) → s ≡ shown-in.Spawned e o height target → p ≡ tell e b.pieces →
-      r ≡ step-in.Stops (stop-in.Spawn (fresh b.family.plan o) (view_of (with_child (with_pieces b p) o (place.Spawned height target)) goes)) →
+  pub spawned-step : (s : Shown) (e : Event) (o : Child) (height : ℕ) (target : Option Name) (p : Pieces) (r : MadeStep) → s ≡ shown-in.Spawned e o height target → p ≡ tell e b.pieces →
+      r ≡ step-in.Stops (stop-in.Spawn (fresh b.family.plan o.origin) (view_of (with_child (with_pieces b p) o.origin (place.Spawned height target)) goes)) →
       step_of r ≡ stops_at (child_in (tokens_of s)) (shown_task b i s)
   spawned-step s e o height target p r is q h = rw (h, q, is) refl
 
@@ -135,24 +139,27 @@ module _ (b : Body) (i : RawInstance) where
   abbrev at-loop : Work
   at-loop = work.Runs (stage.AtLoop i)
 
-  pub looped-known : (s : Shown) (e : Event) (o : Origin) (target : Option Name) → s ≡ shown-in.Looped e o target → IsSoundShown b i s → IsOriginOf b.family.plan o
+  pub looped-known : (s : Shown) (e : Event) (o : Child) (target : Option Name) → s ≡ shown-in.Looped e o target → IsSoundShown b i s → IsOriginOf b.family.plan o.origin
   looped-known s e o target is h = let k : IsSoundShown b i (shown-in.Looped e o target) = subst (IsSoundShown b i) is h in k.child
 
-  looped-at : (e : Event) (o : Origin) (target : Option Name) → IsSoundShown b i (shown-in.Looped e o target) →
-      IsSound (with_child (with_pieces b (tell e b.pieces)) o (place.Looped target)) at-loop
+  pub looped-trail : (s : Shown) (e : Event) (o : Child) (target : Option Name) → s ≡ shown-in.Looped e o target → IsSoundShown b i s → IsTrailOf b.family.plan o.origin o.trail
+  looped-trail s e o target is h = let k : IsSoundShown b i (shown-in.Looped e o target) = subst (IsSoundShown b i) is h in k.trail
+
+  looped-at : (e : Event) (o : Child) (target : Option Name) → IsSoundShown b i (shown-in.Looped e o target) →
+      IsSound (with_child (with_pieces b (tell e b.pieces)) o.origin (place.Looped target)) at-loop
   looped-at e o target h = record {
     task = h.task;
-    family = awaits-more b.family (tell e b.pieces).handed (record { child = o; place = place_of (place.Looped target); behind = [] }) (awaits-told b.family b.pieces e h.family);
+    family = awaits-more b.family (tell e b.pieces).handed (record { child = o.origin; place = place_of (place.Looped target); behind = [] }) (awaits-told b.family b.pieces e h.family);
     works = h.runs;
   }
 
-  pub looped-sound : (s : Shown) (e : Event) (o : Origin) (target : Option Name) (p : Pieces) → s ≡ shown-in.Looped e o target → p ≡ tell e b.pieces → IsSoundShown b i s →
-      IsSound (with_child (with_pieces b p) o (place.Looped target)) at-loop
+  pub looped-sound : (s : Shown) (e : Event) (o : Child) (target : Option Name) (p : Pieces) → s ≡ shown-in.Looped e o target → p ≡ tell e b.pieces → IsSoundShown b i s →
+      IsSound (with_child (with_pieces b p) o.origin (place.Looped target)) at-loop
   looped-sound s e o target p is q h =
-      subst (λ (x : Pieces). IsSound (with_child (with_pieces b x) o (place.Looped target)) at-loop) (sym q) (looped-at e o target (subst (IsSoundShown b i) is h))
+      subst (λ (x : Pieces). IsSound (with_child (with_pieces b x) o.origin (place.Looped target)) at-loop) (sym q) (looped-at e o target (subst (IsSoundShown b i) is h))
 
-  pub looped-step : (s : Shown) (e : Event) (o : Origin) (target : Option Name) (p : Pieces) (r : MadeStep) → s ≡ shown-in.Looped e o target → p ≡ tell e b.pieces →
-      r ≡ step-in.Stops (stop-in.Spawn (fresh b.family.plan o) (view_of (with_child (with_pieces b p) o (place.Looped target)) at-loop)) →
+  pub looped-step : (s : Shown) (e : Event) (o : Child) (target : Option Name) (p : Pieces) (r : MadeStep) → s ≡ shown-in.Looped e o target → p ≡ tell e b.pieces →
+      r ≡ step-in.Stops (stop-in.Spawn (fresh b.family.plan o.origin) (view_of (with_child (with_pieces b p) o.origin (place.Looped target)) at-loop)) →
       step_of r ≡ stops_at (child_in (tokens_of s)) (shown_task b i s)
   looped-step s e o target p r is q h = rw (h, q, is) refl
 
@@ -182,8 +189,10 @@ module _ (b : Body) (i next : RawInstance) (plan : PlanView) (m : Moved) (p : pl
       subst (λ (q : PlanView). move q (moves.path_of i) (moves.machine_of q i) ≡ run_of n (moves.machine_of q next)) p
       (e ∙ ap (λ (x : Moved). run_of x (moves.machine_of plan next)) is)
 
-  pub went-sound : StepsAreSound → (s : Shown) → m ≡ moved-in.Went s → moves.path_of next ≡ moves.path_of i → moves.IsInstance plan next → IsSoundShown b next s
-  went-sound law s is path sound = shown-sound b i law next s h (go-went b i next s h.works (moves-so (moved-in.Went s) is)) (runs-on path sound)
+  pub went-sound : StepsAreSound → (s : Shown) → m ≡ moved-in.Went s → moves.path_of next ≡ moves.path_of i → moves.IsInstance plan next → MovesTrail plan m → IsSoundShown b next s
+  went-sound law s is path sound trail =
+      shown-sound b i law next s h (go-went b i next s h.works (moves-so (moved-in.Went s) is)) (runs-on path sound)
+      (subst (λ (q : PlanView). ShowsTrail q s) p (subst (MovesTrail plan) is trail))
 
   pub gave-sound : StepsAreSound → (v : Value) → m ≡ moved-in.Gave v → IsSound (gone b) (work.Runs (stage.Gave v))
   gave-sound law v is = pass-sound law b (work.Runs (stage.Goes i)) (work.Runs (stage.Gave v)) h (go-gave b i next v h.works (moves-so (moved-in.Gave v) is)) tt

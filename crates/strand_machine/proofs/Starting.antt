@@ -1,17 +1,16 @@
 -- A task begins sound.
-use Rattle.std.proofs.Common.{◌≡◌, Bool, false, List, [], refl, sym, ap, subst, ◌∙◌}
+use Rattle.std.proofs.Common.{◌≡◌, false, [], refl, sym, ap, subst, ◌∙◌}
 use Rattle.script_check.specs.Valid.{IsValid}
-use Rattle.serial_meaning.specs.Eval.{path_of}
 use Rattle.serial_meaning.specs.Laws.{IsOriginOf}
 use Rattle.serial_meaning.specs.Plan.{PlanView}
 use Rattle.serial_meaning.specs.declared.origin.Origin.{Origin}
 use Rattle.strand_meaning.specs.Pieces.{Pieces, no_pieces}
 use Rattle.strand_meaning.specs.Sound.{IsTask}
 use Rattle.strand_meaning.specs.Task as meaning
-use Rattle.strand_meaning.specs.Task.{Task, start, begun_work, own_instance}
+use Rattle.strand_meaning.specs.Task.{Task, start, begun_work}
 use Rattle.strand_meaning.specs.Laws.{TasksBegin, ValidPlansAreClear}
 use Rattle.strand_machine.specs.Family.{FamilyView, alone}
-use Rattle.strand_machine.specs.Tasks.{TaskView, fresh, work_of, task_of, view_of, WorksAt, AwaitsLast, IsSound}
+use Rattle.strand_machine.specs.Tasks.{fresh, work_of, task_of, view_of, WorksAt, IsSound}
 use Rattle.strand_machine.specs.declared.body.Body.{Body}
 use Rattle.strand_machine.specs.declared.work.Work.{Work}
 
@@ -28,7 +27,7 @@ module _ (plan : PlanView) (o : Origin) (w : Work) (family : FamilyView) (pieces
   pub start-view : view_of (new_body family pieces) w ≡ fresh plan o
   start-view = ap (λ (b : Body). view_of b w) same ∙ ap (λ (t : Task). record { task = t; children = []; loads = [] }) task-is
 
-  pub start-sound : TasksBegin → ValidPlansAreClear → IsOriginOf plan o → IsValid plan.script → WorksAt plan (path_of (own_instance o)) w → IsSound (new_body family pieces) w
+  pub start-sound : TasksBegin → ValidPlansAreClear → IsOriginOf plan o → IsValid plan.script → WorksAt plan o w → IsSound (new_body family pieces) w
   start-sound tasks_begin are_clear known valid works =
       subst (λ (b : Body). IsSound b w) (sym same)
       (record {

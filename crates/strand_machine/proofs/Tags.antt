@@ -1,6 +1,6 @@
 -- Tags of children.
-use Rattle.std.proofs.Common.{◌≡◌, ℕ, zero, suc, List, [], ◌∷◌, ◌++◌, Option, Some, None, length, refl, sym, ap, ◌∙◌}
-use Rattle.std.specs.Prelude.{slice_get, Bool}
+use Rattle.std.proofs.Common.{◌≡◌, ℕ, zero, suc, List, [], ◌∷◌, ◌++◌, Some, length, refl, sym, ap, ◌∙◌}
+use Rattle.std.specs.Prelude.{slice_get}
 use Rattle.meet_block.specs.Joined.{Joined, Answers}
 use Rattle.meet_block.specs.declared.join.Look.{Look}
 use Rattle.meet_block.specs.declared.join.Look.TheVariants.{Ready, NotYet}

@@ -1,10 +1,11 @@
 -- A task that takes its children's answers, and goes on.
-use Rattle.std.proofs.Common.{◌≡◌, ℕ, zero, suc, ◌+◌, Bool, true, false, List, [], ◌∷◌, ◌++◌, Option, Some, None, Result, Ok, Err, length, replicate, refl, sym, ap, ◌∙◌, subst, arith, append-nil}
+use Rattle.std.proofs.Common.{◌≡◌, ℕ, Bool, false, List, [], ◌∷◌, Option, Some, None, Result, Ok, Err, length, refl, sym, ap, ◌∙◌, subst, arith, append-nil}
 use Rattle.serial_meaning.specs.Answer.{AnswerView, AnswerTag}
 use Rattle.std.specs.Borrow.{Bor}
 use Rattle.std.specs.Option.{option_copied}
 use Rattle.script_grammar.specs.declared.tree.Name.{Name}
 use Rattle.serial_meaning.specs.Eval.{Evaluation, first_of, eval}
+use Rattle.serial_meaning.specs.Eval as origins-of
 use Rattle.serial_meaning.specs.Plan.{PlanView}
 use Rattle.serial_meaning.specs.declared.value.Value.{Value}
 use Rattle.serial_meaning.specs.declared.event.Event.{Event}
@@ -17,7 +18,7 @@ use Rattle.strand_meaning.specs.Laws.{AnswersKeepTasks}
 use Rattle.strand_meaning.specs.Rest.{evaluations}
 use Rattle.strand_meaning.specs.Sound.{IsTask}
 use Rattle.strand_meaning.specs.Task as meaning
-use Rattle.strand_meaning.specs.Task.{Splits, Runs, Over, Task, changed, answered, with_values, joins, resumed, takes, takes_all, more_values, all_values, resumed_work, on}
+use Rattle.strand_meaning.specs.Task.{Splits, Runs, Over, Task, changed, answered, with_values, joins, resumed, takes, takes_all, more_values, all_values, resumed_work, on, own_instance}
 use Rattle.strand_machine.specs.Family.{FamilyView, HasPassed, HasStopped, tags, origins}
 use Rattle.strand_machine.specs.Going.{BecomesStage, BecomesWork, Takes, IsAnswered, with_stage, pieces_of, meanings}
 use Rattle.strand_machine.specs.Parts.{awaited, part_of, parts_of, place_of}
@@ -54,19 +55,10 @@ resumed-stage ps es (Over v gone_on) = refl
 
 -- An instance
 
-pub value-taken : (plan : PlanView) (height : ℕ) (target t : Option Name) (values : List Value) (v : Value) (ending : Result (List Value) Fault) (i before after : Instance) →
-    i ≡ after → ending ≡ Ok values → t ≡ target → v ≡ first_of values →
-    machine_of plan after ≡ changed height (answered t (Ok (v ∷ []))) (machine_of plan before) → machine_of plan i ≡ changed height (answered target ending) (machine_of plan before)
-value-taken plan height target t values v ending i before after same is to first e =
-    ap (machine_of plan) same ∙ e ∙ ap (λ (x : Option Name). changed height (answered x (Ok (v ∷ []))) (machine_of plan before)) to
-    ∙ ap (λ (x : Value). changed height (answered target (Ok (x ∷ []))) (machine_of plan before)) first
-    ∙ ap (λ (x : Result (List Value) Fault). changed height (answered target x) (machine_of plan before)) (sym is)
-
-pub fault-taken : (plan : PlanView) (height : ℕ) (target : Option Name) (fault : Fault) (ending : Result (List Value) Fault) (i before after : Instance) →
-    i ≡ after → ending ≡ Err fault →
-    machine_of plan after ≡ changed height (answered target (Err fault)) (machine_of plan before) → machine_of plan i ≡ changed height (answered target ending) (machine_of plan before)
-fault-taken plan height target fault ending i before after same is e =
-    ap (machine_of plan) same ∙ e ∙ ap (λ (x : Result (List Value) Fault). changed height (answered target x) (machine_of plan before)) (sym is)
+pub fault-taken : (plan : PlanView) (height : ℕ) (target : Option Name) (fault : Fault) (ending : Result (List Value) Fault) (before after : Instance) → ending ≡ Err fault →
+    machine_of plan after ≡ changed height (answered target (Err fault)) (machine_of plan before) → machine_of plan after ≡ changed height (answered target ending) (machine_of plan before)
+fault-taken plan height target fault ending before after is e =
+    e ∙ ap (λ (x : Result (List Value) Fault). changed height (answered target x) (machine_of plan before)) (sym is)
 
 pub values-taken : (plan : PlanView) (target t : Option Name) (values given : List Value) (before after : Instance) → t ≡ target → given ≡ values →
     machine_of plan after ≡ with_values t given (machine_of plan before) → machine_of plan after ≡ with_values target values (machine_of plan before)
@@ -133,7 +125,7 @@ joins-some i r b fault h e same = record {
 pub runs-on : (w : Work) (before after : Stage) → w ≡ work.Runs before → BecomesStage resumed before after → BecomesWork (resumed_work [] []) w (work.Runs after)
 runs-on w before after is h = subst (λ (x : Work). BecomesWork (resumed_work [] []) x (work.Runs after)) (sym is) (record {
   is = λ plan. ap (λ s. meaning.Runs s) (h.is plan);
-  works = λ plan path k. h.stands plan path k;
+  works = λ plan o k. h.stands plan (origins-of.path_of (own_instance o)) k;
 })
 
 -- what remains is an instance, whose stage changed
@@ -142,7 +134,7 @@ pub taken-at : (p : Place) (q : machine.Place) (ending : Result (List Value) Fau
 taken-at p q ending w before after r at same is h = record {
   is = λ plan. ap (λ (s : Stage). meaning.Runs (stage_of plan s)) same ∙ ap (λ s. meaning.Runs s) (h.is plan) ∙ ap (λ x. with_stage (takes x ending) (meaning.Runs (stage_of plan before))) (sym at)
       ∙ ap (λ (x : Work). with_stage (takes (place_of p) ending) (work_of plan x)) (sym is);
-  works = λ plan path k. subst (λ (s : Stage). StandsAt plan path s) (sym same) (h.stands plan path (subst (λ (x : Work). WorksAt plan path x) is k));
+  works = λ plan o k. subst (λ (s : Stage). StandsAt plan (origins-of.path_of (own_instance o)) s) (sym same) (h.stands plan (origins-of.path_of (own_instance o)) (subst (λ (x : Work). WorksAt plan o x) is k));
 }
 
 pub stage-stays : (ending : Result (List Value) Fault) (s : Stage) → BecomesStage (takes Half ending) s s
@@ -163,7 +155,7 @@ takes-half p e before heard-it after half pieces values work is = record {
   values = ap (λ (g : Going). g.values) is ∙ ap (λ vs. more_values Half e.ending vs) values ∙ ap (λ place. more_values place e.ending before.values) (sym half);
   work = record {
     is = λ plan. ap (λ (g : Going). work_of plan g.work) is ∙ ap (λ w. work_of plan w) work ∙ sym (same-stage (work_of plan before.work)) ∙ ap (λ place. with_stage (takes place e.ending) (work_of plan before.work)) (sym half);
-    works = λ plan path h. subst (λ w. WorksAt plan path w) (sym (ap (λ (g : Going). g.work) is ∙ work)) h;
+    works = λ plan o h. subst (λ w. WorksAt plan o w) (sym (ap (λ (g : Going). g.work) is ∙ work)) h;
   };
 }
 
@@ -186,7 +178,7 @@ takes-then p ps e es before between after h k = record {
   values = k.values ∙ ap (all_values ps es) h.values;
   work = record {
     is = λ plan. k.work.is plan ∙ ap (with_stage (takes_all ps es)) (h.work.is plan) ∙ two-stages (takes p.place e.ending) (takes_all ps es) (work_of plan before.work);
-    works = λ plan path w. k.work.works plan path (h.work.works plan path w);
+    works = λ plan o w. k.work.works plan o (h.work.works plan o w);
   };
 }
 
@@ -194,7 +186,7 @@ pub takes-none : (g : Going) → Takes [] [] g g
 takes-none g = record {
   pieces = refl;
   values = refl;
-  work = record { is = λ plan. sym (same-stage (work_of plan g.work)); works = λ plan path h. h };
+  work = record { is = λ plan. sym (same-stage (work_of plan g.work)); works = λ plan o h. h };
 }
 
 -- All children

@@ -1,12 +1,13 @@
 -- A task that takes its children's answers.
 use Rattle.std.specs.Prelude.{◌≡◌, ℕ, List, [], ◌∷◌, length}
 use Rattle.serial_meaning.specs.Answer.{AnswerTag}
-use Rattle.serial_meaning.specs.Eval.{Evaluation, path_of, eval}
+use Rattle.serial_meaning.specs.Eval.{Evaluation, eval}
 use Rattle.serial_meaning.specs.Plan.{PlanView}
+use Rattle.serial_meaning.specs.declared.origin.Origin.{Origin}
 use Rattle.strand_meaning.specs.Pieces.{Part, Pieces, heard_all}
 use Rattle.strand_meaning.specs.Sound.{IsTask}
 use Rattle.strand_meaning.specs.Task as meaning
-use Rattle.strand_meaning.specs.Task.{Splits, Runs, Over, own_instance, takes_all, all_values}
+use Rattle.strand_meaning.specs.Task.{Splits, Runs, Over, takes_all, all_values}
 use Rattle.strand_machine.specs.Tasks.{stage_of, work_of, task_of, StandsAt, WorksAt}
 use Rattle.strand_machine.specs.declared.body.Body.{Body}
 use Rattle.strand_machine.specs.declared.going.Going.{Going}
@@ -27,7 +28,7 @@ pub record BecomesStage (change : meaning.Stage → meaning.Stage) (before after
 -- The same of what remains of a task.
 pub record BecomesWork (change : meaning.Work → meaning.Work) (before after : Work) : Type 0 where
   pub is : (plan : PlanView) → work_of plan after ≡ change (work_of plan before)
-  pub works : (plan : PlanView) (path : List ℕ) → WorksAt plan path before → WorksAt plan path after
+  pub works : (plan : PlanView) (o : Origin) → WorksAt plan o before → WorksAt plan o after
 
 abbrev pub pieces_of : Going → Pieces
 pieces_of g = record { told = g.told; fault = g.fault; handed = [] }
@@ -47,4 +48,4 @@ meanings (t ∷ ts) = eval t.plan t.origin ∷ meanings ts
 pub record IsAnswered (b : Body) (w : Work) : Type 0 where
   pub task : IsTask (task_of b w)
   pub taken : length b.family.taken ≡ length b.family.children
-  pub works : WorksAt b.family.plan (path_of (own_instance b.family.origin)) w
+  pub works : WorksAt b.family.plan b.family.origin w

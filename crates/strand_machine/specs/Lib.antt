@@ -1,6 +1,7 @@
 pub mod Bodies
 pub mod Family
 pub mod Going
+pub mod Noted
 pub mod Parts
 pub mod Shown
 pub mod Stops

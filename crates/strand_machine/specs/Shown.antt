@@ -1,5 +1,5 @@
 -- A task after a move of its instance.
-use Rattle.std.specs.Prelude.{◌≡◌, List, Option, Some, None}
+use Rattle.std.specs.Prelude.{Option, Some, None}
 use Rattle.serial_meaning.specs.Eval.{path_of}
 use Rattle.serial_meaning.specs.Laws.{IsOriginOf}
 use Rattle.serial_meaning.specs.Plan.{PlanView}
@@ -8,7 +8,7 @@ use Rattle.strand_meaning.specs.Task as meaning
 use Rattle.strand_meaning.specs.Task.{Task, own_instance, passing, stage_after, child_in}
 use Rattle.strand_meaning.specs.Sound.{IsTask}
 use Rattle.strand_moves.specs.Machines.{machine_of}
-use Rattle.strand_moves.specs.Moves.{tokens_of}
+use Rattle.strand_moves.specs.Moves.{ShowsTrail, tokens_of}
 use Rattle.strand_moves.specs.declared.instance.Instance.{Instance}
 use Rattle.strand_moves.specs.declared.shown.Shown.{Shown}
 use Rattle.strand_machine.specs.Tasks.{RunsAt, AwaitsLast, task_with}
@@ -24,9 +24,10 @@ abbrev pub IsKnownChild : PlanView → Option Origin → Type 0
 IsKnownChild plan None = Unit {0}
 IsKnownChild plan (Some o) = IsOriginOf plan o
 
--- That task is sound, and its child, if any, an origin of the plan.
+-- That task is sound, and its child, if any, an origin of the plan with its trail.
 pub record IsSoundShown (b : Body) (i : Instance) (s : Shown) : Type 0 where
   pub task : IsTask (shown_task b i s)
   pub child : IsKnownChild b.family.plan (child_in (tokens_of s))
   pub family : AwaitsLast b.family b.pieces.handed
   pub runs : RunsAt b.family.plan (path_of (own_instance b.family.origin)) i
+  pub trail : ShowsTrail b.family.plan s

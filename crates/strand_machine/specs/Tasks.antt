@@ -1,5 +1,5 @@
 -- A running task in the words of its meaning.
-use Rattle.std.specs.Prelude.{◌≡◌, ℕ, Bool, true, false, List, [], ◌∷◌, ◌++◌, Option, Some, None, Ok, Err, length, replicate}
+use Rattle.std.specs.Prelude.{◌≡◌, ℕ, Bool, true, false, List, [], ◌++◌, Option, Some, None, Ok, Err, length, replicate}
 use Rattle.serial_meaning.specs.Eval.{path_of}
 use Rattle.serial_meaning.specs.Open.{Own, Joined}
 use Rattle.serial_meaning.specs.Plan.{PlanView}
@@ -12,6 +12,7 @@ use Rattle.strand_meaning.specs.Task as meaning
 use Rattle.strand_meaning.specs.Task.{Task, start, own_instance}
 use Rattle.strand_meaning.specs.Sound.{IsTask}
 use Rattle.strand_moves.specs.Machines as moves
+use Rattle.strand_moves.specs.Moves.{IsTrailOf}
 use Rattle.strand_moves.specs.declared.instance.Instance.{Instance}
 use Rattle.strand_machine.specs.Family.{FamilyView, handed}
 use Rattle.strand_machine.specs.Parts.{awaited, place_of}
@@ -41,7 +42,7 @@ stage_of plan (stage.Faulted f) = meaning.Ended (Err (Own f))
 stage_of plan (stage.Joined f) = meaning.Ended (Err (Joined f))
 
 abbrev pub work_of : PlanView → Work → meaning.Work
-work_of plan (work.Splits range) = meaning.Splits range
+work_of plan (work.Splits left) = meaning.Splits left.range
 work_of plan (work.Runs s) = meaning.Runs (stage_of plan s)
 work_of plan (work.Over v gone_on) = meaning.Over v gone_on
 
@@ -83,16 +84,17 @@ StandsAt plan path (stage.Gave v) = Unit {0}
 StandsAt plan path (stage.Faulted f) = Unit {0}
 StandsAt plan path (stage.Joined f) = Unit {0}
 
-abbrev pub WorksAt : PlanView → List ℕ → Work → Type 0
-WorksAt plan path (work.Splits range) = Unit {0}
-WorksAt plan path (work.Runs s) = StandsAt plan path s
-WorksAt plan path (work.Over v gone_on) = Unit {0}
+-- the same of what remains of a task of this origin; a loop that is split has the trail of its strand
+abbrev pub WorksAt : PlanView → Origin → Work → Type 0
+WorksAt plan o (work.Splits left) = IsTrailOf plan o left.trail
+WorksAt plan o (work.Runs s) = StandsAt plan (path_of (own_instance o)) s
+WorksAt plan o (work.Over v gone_on) = Unit {0}
 
 -- What holds of a task at all times.
 pub record IsSound (b : Body) (w : Work) : Type 0 where
   pub task : IsTask (task_of b w)
   pub family : AwaitsLast b.family b.pieces.handed
-  pub works : WorksAt b.family.plan (path_of (own_instance b.family.origin)) w
+  pub works : WorksAt b.family.plan b.family.origin w
 
 -- after a step; where it waits; where it handed out a child
 abbrev pub gone : Body → Body

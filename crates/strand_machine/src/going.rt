@@ -55,49 +55,46 @@ fn first_of(values: Items<Value>) -> Value
 /// An instance that takes the answer of a child that it spawned.
 fn take_spawned(
     instance: &mut Instance,
-    alloc: Global,
     height: usize,
     target: Option<Name>,
     ending: Result<Items<Value>, Fault>,
-) -> Result<(), Memory>
-    ensures machine { OnOk result ((plan : PlanView) → machine_of plan instance.new
-        ≡ changed height (answered target ending) (machine_of plan instance.old)) }
-    ensures path { OnOk result (path_of instance.new ≡ path_of instance.old) }
-    ensures sound { OnOk result ((plan : PlanView) → IsInstance plan instance.old → IsInstance plan instance.new) }
+)
+    ensures machine { (plan : PlanView) → machine_of plan instance.new
+        ≡ changed height (answered target ending) (machine_of plan instance.old) }
+    ensures path { path_of instance.new ≡ path_of instance.old }
+    ensures sound { (plan : PlanView) → IsInstance plan instance.old → IsInstance plan instance.new }
 {
     match ending {
-        Ok(values) => instance.take_value(alloc, height, target.as_ref(), first_of(values))?,
-        Err(fault) => instance.take_fault(height, fault)?,
+        Ok(values) => instance.take_value(height, target.as_ref(), first_of(values)),
+        Err(fault) => instance.take_fault(height, fault),
     }
-    Ok(())
 }
 
 /// The stage behind the answer of a child that an instance spawned.
 fn spawned(
     stage: Stage,
-    alloc: Global,
     height: usize,
     target: Option<Name>,
     ending: Result<Items<Value>, Fault>,
-) -> Result<Stage, Memory>
-    ensures { IfOk result (BecomesStage (takes (Spawned height target) ending) stage) }
+) -> Stage
+    ensures { BecomesStage (takes (Spawned height target) ending) stage result }
 {
     match stage {
         Stage::Goes(mut instance) => {
-            take_spawned(&mut instance, alloc, height, target, ending)?;
-            Ok(Stage::Goes(instance))
+            take_spawned(&mut instance, height, target, ending);
+            Stage::Goes(instance)
         }
         Stage::AtSync(mut instance) => {
-            take_spawned(&mut instance, alloc, height, target, ending)?;
-            Ok(Stage::AtSync(instance))
+            take_spawned(&mut instance, height, target, ending);
+            Stage::AtSync(instance)
         }
         Stage::AtLoop(mut instance) => {
-            take_spawned(&mut instance, alloc, height, target, ending)?;
-            Ok(Stage::AtLoop(instance))
+            take_spawned(&mut instance, height, target, ending);
+            Stage::AtLoop(instance)
         }
-        Stage::Gave(value) => Ok(Stage::Gave(value)),
-        Stage::Faulted(fault) => Ok(Stage::Faulted(fault)),
-        Stage::Joined(fault) => Ok(Stage::Joined(fault)),
+        Stage::Gave(value) => Stage::Gave(value),
+        Stage::Faulted(fault) => Stage::Faulted(fault),
+        Stage::Joined(fault) => Stage::Joined(fault),
     }
 }
 
@@ -181,11 +178,11 @@ fn taken(
 {
     match work {
         Work::Runs(stage) => Ok(Work::Runs(match place {
-            Place::Spawned(height, target) => spawned(stage, alloc, height, target, ending)?,
+            Place::Spawned(height, target) => spawned(stage, height, target, ending),
             Place::Looped(target) => looped(stage, alloc, target, ending)?,
             Place::Half => stage,
         })),
-        Work::Splits(range) => Ok(Work::Splits(range)),
+        Work::Splits(left) => Ok(Work::Splits(left)),
         Work::Over(value, gone_on) => Ok(Work::Over(value, gone_on)),
     }
 }

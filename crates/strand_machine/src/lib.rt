@@ -8,6 +8,7 @@ mod body;
 mod family;
 mod going;
 mod memory;
+mod note;
 mod origin;
 mod pieces;
 mod place;
@@ -16,9 +17,12 @@ mod run;
 mod step;
 mod stop;
 mod task;
+#[cfg(test)]
+mod tests;
 mod work;
 
 pub use memory::Memory;
+pub use note::Noted;
 pub use stop::{Resumed, Stop};
 pub use task::Task;
 

@@ -17,14 +17,14 @@ impl<T: Drop> From<AllocFailed<T>> for Memory {
     }
 }
 
-impl From<ped_path::Memory> for Memory {
-    fn from(_: ped_path::Memory) -> Self {
+impl From<dotmix::Memory> for Memory {
+    fn from(_: dotmix::Memory) -> Self {
         Memory
     }
 }
 
-impl From<loop_range::Memory> for Memory {
-    fn from(_: loop_range::Memory) -> Self {
+impl From<ped_path::Memory> for Memory {
+    fn from(_: ped_path::Memory) -> Self {
         Memory
     }
 }

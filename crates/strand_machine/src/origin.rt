@@ -1,12 +1,16 @@
-// Origins: copies of them, and the iterations of loops.
+// Origins: copies of them, their trails, and the iterations of loops.
 ghost use Rattle.std.specs.Prelude.{◌≡◌, IfOk};
+ghost use Rattle.serial_meaning.specs.Laws.{IsOriginOf};
+ghost use Rattle.strand_moves.specs.Moves.{IsTrailOf};
 ghost use Rattle.strand_machine.specs.Bodies.{only};
 
 use crate::memory::Memory;
+use dotmix::Trail;
 use loop_range::IterRange;
 use script_grammar::Items;
-use serial_meaning::{Origin, Value};
+use serial_meaning::{Origin, Plan, Value};
 use std::alloc::Global;
+use strand_meaning::laws;
 
 /// The same values, over the same memory.
 pub(crate) fn share_values(alloc: Global, values: &[Value]) -> Result<Items<Value>, Memory>
@@ -47,6 +51,20 @@ pub(crate) fn share_origin(alloc: Global, origin: &Origin) -> Result<Origin, Mem
             range: *range,
         },
     })
+}
+
+/// The trail of an origin's path. It adds up the path's terms.
+pub(crate) fn trail_of(plan: &Plan, origin: &Origin) -> Result<Trail, Memory>
+    requires { IsOriginOf plan.now origin.now }
+    ensures { IfOk result (IsTrailOf plan.now origin.now) }
+{
+    laws::origins_fit();
+    let _depth = plan.limits.depth;
+    let path = match origin {
+        Origin::Instance { path, .. } => path.share()?,
+        Origin::Loop { path, .. } => path.share()?,
+    };
+    Ok(Trail::of(&plan.gamma, path))
 }
 
 /// A loop's origin with these of its iterations alone.

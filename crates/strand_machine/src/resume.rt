@@ -70,7 +70,7 @@ fn go_on_work(work: Work) -> Result<Work, Memory>
     ensures { IfOk result (BecomesWork (resumed_work [] []) work) }
 {
     match work {
-        Work::Splits(range) => Ok(Work::Splits(range)),
+        Work::Splits(left) => Ok(Work::Splits(left)),
         Work::Runs(stage) => {
             let stage = go_on_stage(stage)?;
             Ok(Work::Runs(stage))

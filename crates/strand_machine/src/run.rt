@@ -19,7 +19,12 @@ use strand_meaning::laws;
 use strand_moves::{Instance, Moved, Shown};
 
 /// What a move showed joins the pieces; a child is handed out.
-fn show(mut body: Body, alloc: Global, instance: Instance, shown: Shown) -> Result<Step, Memory>
+pub(crate) fn show(
+    mut body: Body,
+    alloc: Global,
+    instance: Instance,
+    shown: Shown,
+) -> Result<Step, Memory>
     requires { IsSoundShown body instance shown }
     ensures step { IfOk result (λ step. step_of step ≡ stops_at (child_in (tokens_of shown)) (shown_task body instance shown)) }
     ensures keeps { IfOk result (KeepsStep (view_of body (work.Runs (stage.Goes instance)))) }

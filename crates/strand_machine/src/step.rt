@@ -2,6 +2,7 @@
 ghost use Rattle.std.specs.Prelude.{◌≡◌, ◌++◌, ◌∷◌, [], IfOk, OnOk};
 ghost use Rattle.serial_meaning.specs.Laws.{IsOriginOf};
 ghost use Rattle.serial_meaning.specs.declared.answer.Outcome.TheVariants as outcome;
+ghost use Rattle.strand_moves.specs.Moves.{IsTrailOf};
 ghost use Rattle.strand_machine.specs.Family.{handed};
 ghost use Rattle.strand_machine.specs.Stops.{IsStep, CanEnd, ended};
 ghost use Rattle.strand_machine.specs.Tasks.{IsSound, view_of, fresh, gone, waiting, with_child};
@@ -16,11 +17,11 @@ use crate::place::Place;
 use crate::run::go;
 use crate::stop::{Step, Stop};
 use crate::task::Task;
-use crate::work::{Stage, Work, begin_last};
-use loop_range::IterRange;
+use crate::work::{Left, Stage, Work, begin_last};
 use serial_meaning::{Fault, Origin, Outcome, Value};
 use std::alloc::Global;
 use strand_meaning::laws;
+use strand_moves::Child;
 
 /// The task goes on with this.
 pub(crate) fn pass(mut body: Body, work: Work) -> Step
@@ -59,23 +60,25 @@ fn end(body: Body, outcome: Outcome) -> Step
 }
 
 /// Begins a child, and counts it among the family's.
-fn begin_child(family: &mut Family, alloc: Global, child: Origin) -> Result<Task, Memory>
-    requires { IsOriginOf family.old.plan child }
-    ensures child { IfOk result (λ task. task ≡ fresh family.old.plan child) }
-    ensures family { OnOk result (family.new ≡ handed family.old child) }
+fn begin_child(family: &mut Family, alloc: Global, child: Child) -> Result<Task, Memory>
+    requires known { IsOriginOf family.old.plan child.origin }
+    requires trail { IsTrailOf family.old.plan child.origin child.trail }
+    ensures child { IfOk result (λ task. task ≡ fresh family.old.plan child.origin) }
+    ensures family { OnOk result (family.new ≡ handed family.old child.origin) }
 {
     let plan = family.share_plan()?;
-    let give = family.hand(alloc, &child)?;
-    Task::start(alloc, plan, child, give)
+    let give = family.hand(alloc, &child.origin)?;
+    Task::begin(alloc, plan, child, give)
 }
 
 /// Begins a child whose value goes to this place.
-fn hand_out(body: &mut Body, alloc: Global, child: Origin, place: Place) -> Result<Task, Memory>
-    requires { IsOriginOf body.old.family.plan child }
-    ensures child { IfOk result (λ task. task ≡ fresh body.old.family.plan child) }
-    ensures body { OnOk result (body.new ≡ with_child body.old child place) }
+fn hand_out(body: &mut Body, alloc: Global, child: Child, place: Place) -> Result<Task, Memory>
+    requires known { IsOriginOf body.old.family.plan child.origin }
+    requires trail { IsTrailOf body.old.family.plan child.origin child.trail }
+    ensures child { IfOk result (λ task. task ≡ fresh body.old.family.plan child.origin) }
+    ensures body { OnOk result (body.new ≡ with_child body.old child.origin place) }
 {
-    let shared = share_origin(alloc, &child)?;
+    let shared = share_origin(alloc, &child.origin)?;
     body.pieces.hand(shared, place)?;
     body.advanced = true;
     begin_child(&mut body.family, alloc, child)
@@ -85,14 +88,15 @@ fn hand_out(body: &mut Body, alloc: Global, child: Origin, place: Place) -> Resu
 pub(crate) fn spawn(
     mut body: Body,
     alloc: Global,
-    child: Origin,
+    child: Child,
     place: Place,
     work: Work,
 ) -> Result<Step, Memory>
-    requires known { IsOriginOf body.family.plan child }
-    requires sound { IsSound (with_child body child place) work }
+    requires known { IsOriginOf body.family.plan child.origin }
+    requires trail { IsTrailOf body.family.plan child.origin child.trail }
+    requires sound { IsSound (with_child body child.origin place) work }
     ensures { IfOk result (λ step. step
-        ≡ Step.Stops (Stop.Spawn (fresh body.family.plan child) (view_of (with_child body child place) work))) }
+        ≡ Step.Stops (Stop.Spawn (fresh body.family.plan child.origin) (view_of (with_child body child.origin place) work))) }
 {
     let child = hand_out(&mut body, alloc, child, place)?;
     let rest = Task { body, work };
@@ -100,20 +104,28 @@ pub(crate) fn spawn(
 }
 
 /// A loop of which these iterations are left: their lower half is handed out, and the last one is begun.
-fn split(mut body: Body, alloc: Global, range: IterRange) -> Result<Step, Memory>
-    requires { IsSound body (work.Splits range) }
-    ensures { IfOk result (IsStep (view_of body (work.Splits range))) }
+fn split(mut body: Body, alloc: Global, left: Left) -> Result<Step, Memory>
+    requires { IsSound body (work.Splits left) }
+    ensures { IfOk result (IsStep (view_of body (work.Splits left))) }
 {
     laws::steps_are_sound();
+    let Left { range, trail } = left;
     if let Some(halves) = range.split() {
-        let child = part_of(alloc, body.family.origin(), halves.0)?;
-        return spawn(body, alloc, child, Place::Half, Work::Splits(halves.1));
+        let origin = part_of(alloc, body.family.origin(), halves.0)?;
+        let shared = trail.share()?;
+        let child = Child {
+            origin,
+            trail: shared,
+        };
+        let range = halves.1;
+        let work = Work::Splits(Left { range, trail });
+        return spawn(body, alloc, child, Place::Half, work);
     }
     if range.len() == 0 {
         let values = body.take_values(alloc);
         return Ok(end(body, Outcome::Values(values)));
     }
-    let work = begin_last(alloc, body.family.plan(), body.family.origin())?;
+    let work = begin_last(alloc, body.family.plan(), body.family.origin(), trail)?;
     Ok(pass(body, work))
 }
 
@@ -188,7 +200,7 @@ pub(crate) fn step(task: Task, alloc: Global) -> Result<Step, Memory>
 {
     let Task { body, work } = task;
     match work {
-        Work::Splits(range) => split(body, alloc, range),
+        Work::Splits(left) => split(body, alloc, left),
         Work::Runs(stage) => run(body, alloc, stage),
         Work::Over(value, gone_on) => close(body, alloc, value, gone_on),
     }

@@ -1,12 +1,14 @@
 ghost use Rattle.std.specs.Prelude.{◌≡◌, ◌<◌, IfOk, not, length};
 ghost use Rattle.std.specs.Arc.{arc_value};
 ghost use Rattle.serial_meaning.specs.Laws.{IsOriginOf};
+ghost use Rattle.strand_moves.specs.Moves.{IsTrailOf};
 ghost use Rattle.strand_machine.specs.Family.{tag};
 ghost use Rattle.strand_machine.specs.Parts.{awaited};
 
 use crate::body::Body;
 use crate::family::Family;
 use crate::memory::Memory;
+use crate::origin::trail_of;
 use crate::pieces::Pieces;
 use crate::work::{Work, begin};
 use meet_block::Give;
@@ -16,6 +18,7 @@ use std::alloc::Global;
 use std::marker::Model;
 use std::sync::Arc;
 use strand_meaning::laws;
+use strand_moves::Child;
 
 /// An instance or a loop that can stop, hand out children and go on. Contracts see it by its meaning (docs/LANGUAGE.md, "Tasks"):
 /// to finish it gives the serial meaning of its origin, whoever runs its children.
@@ -54,10 +57,27 @@ impl Task {
         requires known { IsOriginOf (arc_value plan) origin }
         ensures { IfOk result (λ task. task ≡ fresh (arc_value plan) origin) }
     {
+        let trail = trail_of(&plan, &origin)?;
+        Task::begin(alloc, plan, Child { origin, trail }, give)
+    }
+
+    /// The same, where the trail of the origin's path is at hand.
+    pub(crate) fn begin(
+        alloc: Global,
+        plan: Arc<Plan>,
+        child: Child,
+        give: Give<Answer>,
+    ) -> Result<Task, Memory>
+        requires give { give ≡ tag (arc_value plan) child.origin }
+        requires known { IsOriginOf (arc_value plan) child.origin }
+        requires trail { IsTrailOf (arc_value plan) child.origin child.trail }
+        ensures { IfOk result (λ task. task ≡ fresh (arc_value plan) child.origin) }
+    {
         laws::valid_plans_are_clear();
         laws::tasks_begin();
         let _script = plan.checked.script();
-        let work = begin(alloc, &plan, &origin)?;
+        let Child { origin, trail } = child;
+        let work = begin(alloc, &plan, &origin, trail)?;
         let body = Body {
             family: Family::new(alloc, plan, origin, give)?,
             pieces: Pieces::new(alloc),

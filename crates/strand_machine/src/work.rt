@@ -1,18 +1,19 @@
 // What remains of a task.
 ghost use Rattle.std.specs.Prelude.{◌≡◌, ◌∷◌, ◌++◌, ◌<◌, [], IfOk, length, pos, ◌+ℤ◌};
+ghost use Rattle.dotmix.specs.Trails.{FitsGamma};
 ghost use Rattle.serial_meaning.specs.declared.origin.Origin.{Origin};
 ghost use Rattle.serial_meaning.specs.declared.value.Value.TheVariants.{Int};
-ghost use Rattle.serial_meaning.specs.Eval.{path_of};
 ghost use Rattle.serial_meaning.specs.Laws.{IsOriginOf};
 ghost use Rattle.serial_meaning.specs.Plan.{functions_of};
 ghost use Rattle.strand_meaning.specs.Machine.{begun};
-ghost use Rattle.strand_meaning.specs.Task.{begun_stage, begun_work, begins_last, own_instance};
+ghost use Rattle.strand_meaning.specs.Task.{begun_stage, begun_work, begins_last};
+ghost use Rattle.strand_moves.specs.Moves.{IsTrailOf};
 ghost use Rattle.strand_machine.specs.Tasks.{stage_of, work_of, StandsAt, WorksAt};
 
 use crate::memory::Memory;
 use crate::origin::share_values;
-use loop_range::{IterRange, iteration_path};
-use ped_path::Ped;
+use dotmix::Trail;
+use loop_range::IterRange;
 use script_grammar::Items;
 use serial_meaning::{Fault, Origin, Plan, Value};
 use std::alloc::Global;
@@ -36,11 +37,18 @@ pub(crate) enum Stage {
     Joined(Fault),
 }
 
+/// The iterations of a loop that nobody has begun, and the trail of the loop's strand.
+#[derive(Drop)]
+pub(crate) struct Left {
+    pub range: IterRange,
+    pub trail: Trail,
+}
+
 /// What remains of a task.
 #[derive(Drop)]
 pub(crate) enum Work {
     /// Iterations of a loop that nobody has begun.
-    Splits(IterRange),
+    Splits(Left),
     /// An instance: the task's own, or the loop's last iteration.
     Runs(Stage),
     /// Nothing of a loop whose last iteration gave this value. It is known whether the task has gone on from the wait at its end.
@@ -48,50 +56,60 @@ pub(crate) enum Work {
 }
 
 /// What remains of an origin of which nothing is done.
-pub(crate) fn begin(alloc: Global, plan: &Plan, origin: &Origin) -> Result<Work, Memory>
-    requires { IsOriginOf plan.now origin.now }
+pub(crate) fn begin(
+    alloc: Global,
+    plan: &Plan,
+    origin: &Origin,
+    trail: Trail,
+) -> Result<Work, Memory>
+    requires known { IsOriginOf plan.now origin.now }
+    requires trail { IsTrailOf plan.now origin.now trail }
     ensures begun { IfOk result (λ work. work_of plan.now work ≡ begun_work plan.now origin.now) }
-    ensures works { IfOk result (WorksAt plan.now (path_of (own_instance origin.now))) }
+    ensures works { IfOk result (WorksAt plan.now origin.now) }
 {
     laws::origins_fit();
     let _depth = plan.limits.depth;
     Ok(match origin {
-        Origin::Instance {
-            function,
-            args,
-            path,
-        } => {
+        Origin::Instance { function, args, .. } => {
             let args = share_values(alloc, args.as_slice())?;
-            let path = path.share()?;
-            Work::Runs(begin_instance(alloc, plan, *function, args, path)?)
+            Work::Runs(begin_instance(alloc, plan, *function, args, trail)?)
         }
-        Origin::Loop { range, .. } => Work::Splits(*range),
+        Origin::Loop { range, .. } => Work::Splits(Left {
+            range: *range,
+            trail,
+        }),
     })
 }
 
 /// What remains of a loop of which the last iteration alone is left.
-pub(crate) fn begin_last(alloc: Global, plan: &Plan, origin: &Origin) -> Result<Work, Memory>
-    requires { IsOriginOf plan.now origin.now }
+pub(crate) fn begin_last(
+    alloc: Global,
+    plan: &Plan,
+    origin: &Origin,
+    trail: Trail,
+) -> Result<Work, Memory>
+    requires known { IsOriginOf plan.now origin.now }
+    requires trail { IsTrailOf plan.now origin.now trail }
     ensures begun { IfOk result (λ work. work_of plan.now work ≡ begins_last plan.now origin.now) }
-    ensures works { IfOk result (WorksAt plan.now (path_of (own_instance origin.now))) }
+    ensures works { IfOk result (WorksAt plan.now origin.now) }
 {
     laws::origins_fit();
     let _depth = plan.limits.depth;
     match origin {
-        Origin::Instance { .. } => begin(alloc, plan, origin),
+        Origin::Instance { .. } => begin(alloc, plan, origin, trail),
         Origin::Loop {
             function,
             rest,
             first,
-            path,
             range,
+            ..
         } => {
             let k = range.hi.saturating_sub(1);
             let number = first.wrapping_add_unsigned(k);
             let mut args = share_values(alloc, rest.as_slice())?;
             args.0.insert(0, Value::Int(number))?;
-            let path = iteration_path(path, alloc, k)?;
-            Ok(Work::Runs(begin_instance(alloc, plan, *function, args, path)?))
+            let trail = trail.child(alloc, &plan.gamma, k)?;
+            Ok(Work::Runs(begin_instance(alloc, plan, *function, args, trail)?))
         }
     }
 }
@@ -102,14 +120,15 @@ fn begin_instance(
     plan: &Plan,
     function: u32,
     args: Items<Value>,
-    path: Ped,
+    trail: Trail,
 ) -> Result<Stage, Memory>
-    requires { length path < plan.now.limits.depth }
+    requires fits { FitsGamma plan.now.gamma trail }
+    requires within { length trail.path < plan.now.limits.depth }
     ensures begun { IfOk result (λ stage. stage_of plan.now stage ≡ begun_stage (begun plan.now function args)) }
-    ensures stands { IfOk result (StandsAt plan.now path) }
+    ensures stands { IfOk result (StandsAt plan.now trail.path) }
 {
     if function as usize >= plan.functions().len() {
         return Ok(Stage::Gave(Value::Int(0)));
     }
-    Ok(Stage::Goes(Instance::begin(alloc, plan, function, args, path)?))
+    Ok(Stage::Goes(Instance::begin(alloc, plan, function, args, trail)?))
 }

@@ -1,6 +1,7 @@
 -- Children that are handed out, as changes of an instance.
 use Rattle.std.proofs.Common.{◌≡◌, ℕ, ◌+◌, ◌-◌, ◌<◌, true, List, [], ◌∷◌, ◌++◌, Option, Ok, length, sym, ◌∙◌, arith}
 use Rattle.std.proofs.Common.{ℤ, ◌-ℤ◌}
+use Rattle.dotmix.specs.declared.trail.Trail.{Trail}
 use Rattle.script_grammar.specs.declared.tree.Name.{Name}
 use Rattle.script_grammar.specs.declared.tree.Expr.{Expr}
 use Rattle.script_grammar.specs.declared.tree.CallText.{CallText}
@@ -56,8 +57,8 @@ module _ (plan : PlanView) (i : Instance) (st : Stmt) where
     looped-none none s passed e p =
         rw (e, p, is-begun, ← left) (pfor-none plan (path_of i) (machine_of plan i) st var lo hi target c l h vs n known-lo known-hi known-args counted none begins)
 
-    pub looped-some : 0 < n → (s : Shown) (passed : Instance) (function : ℕ) (first : ℤ) (path : List ℕ) → function ≡ number_of (functions_of plan) c.name.bytes → first ≡ number l → path ≡ strand_at begun →
-        s ≡ shown.Looped (event.Loop (strand_at begun)) (origin.Loop function vs first path (record { lo = 0; hi = n })) target → passed ≡ passed_on →
+    pub looped-some : 0 < n → (s : Shown) (passed : Instance) (function : ℕ) (first : ℤ) (path : List ℕ) (trail : Trail) → function ≡ number_of (functions_of plan) c.name.bytes → first ≡ number l → path ≡ strand_at begun →
+        s ≡ shown.Looped (event.Loop (strand_at begun)) (record { origin = origin.Loop function vs first path (record { lo = 0; hi = n }); trail = trail }) target → passed ≡ passed_on →
         acted plan (path_of i) (machine_of plan i) st (act.Pfor var lo hi target c) ≡ went (tokens_of s) (machine_of plan passed)
-    looped-some some s passed function first path f g a e p =
+    looped-some some s passed function first path trail f g a e p =
         rw (e, p, f, g, a, is-begun, ← left) (pfor-some plan (path_of i) (machine_of plan i) st var lo hi target c l h vs n known-lo known-hi known-args counted some begins)

@@ -1,5 +1,7 @@
 -- What a call that makes a move answers.
 use Rattle.std.specs.Prelude.{◌≡◌, ℕ, ◌++◌, List, [], ◌∷◌, Option, Some, None, Result, Ok, Err, length}
+use Rattle.dotmix.specs.Trails.{FitsGamma}
+use Rattle.dotmix.specs.declared.trail.Trail.{Trail}
 use Rattle.script_grammar.specs.declared.tree.Name.{Name}
 use Rattle.script_grammar.specs.declared.tree.CallText.{CallText}
 use Rattle.script_grammar.specs.declared.tree.Right.TheVariants as right
@@ -8,9 +10,11 @@ use Rattle.script_grammar.specs.declared.tree.Act.{Act}
 use Rattle.script_grammar.specs.declared.tree.Act.TheOpen as act
 use Rattle.script_grammar.specs.declared.tree.Act.TheOpen.{Act-F}
 use Rattle.serial_meaning.specs.Runs.{Run}
+use Rattle.serial_meaning.specs.Eval.{path_of}
 use Rattle.serial_meaning.specs.Exec.{does}
 use Rattle.serial_meaning.specs.Plan.{PlanView}
 use Rattle.serial_meaning.specs.declared.event.Fault.{Fault}
+use Rattle.serial_meaning.specs.declared.origin.Origin.{Origin}
 use Rattle.strand_meaning.specs.Machine.{Spawned, Looped, Token, Told, Handed, Syncs, Loops, Machine, Reached, Stands, Gives, handing, inside, place_of, state_of, with_left, entered, reached}
 use Rattle.strand_values.specs.declared.halt.Halt as values
 use Rattle.strand_values.specs.declared.halt.Halt.TheVariants as halt
@@ -23,9 +27,27 @@ use Rattle.strand_moves.specs.declared.shown.Moved.TheVariants as moved
 abbrev pub tokens_of : Shown → List Token
 tokens_of shown.Nothing = []
 tokens_of (shown.Told e) = Told e ∷ []
-tokens_of (shown.Spawned e o height target) = Told e ∷ Handed o (Spawned height target) ∷ []
+tokens_of (shown.Spawned e child height target) = Told e ∷ Handed child.origin (Spawned height target) ∷ []
 tokens_of (shown.Synced e) = Told e ∷ Syncs ∷ []
-tokens_of (shown.Looped e o target) = Told e ∷ Handed o (Looped target) ∷ Loops ∷ []
+tokens_of (shown.Looped e child target) = Told e ∷ Handed child.origin (Looped target) ∷ Loops ∷ []
+
+-- The trail is one of the plan's coefficients, and of the origin's path.
+pub record IsTrailOf (plan : PlanView) (o : Origin) (trail : Trail) : Type 0 where
+  pub fits : FitsGamma plan.gamma trail
+  pub path : trail.path ≡ path_of o
+
+-- a child that is shown has the trail of its origin
+abbrev pub ShowsTrail : PlanView → Shown → Type 0
+ShowsTrail plan shown.Nothing = Unit {0}
+ShowsTrail plan (shown.Told e) = Unit {0}
+ShowsTrail plan (shown.Spawned e child height target) = IsTrailOf plan child.origin child.trail
+ShowsTrail plan (shown.Synced e) = Unit {0}
+ShowsTrail plan (shown.Looped e child target) = IsTrailOf plan child.origin child.trail
+
+abbrev pub MovesTrail : PlanView → Moved → Type 0
+MovesTrail plan (moved.Went s) = ShowsTrail plan s
+MovesTrail plan (moved.Gave v) = Unit {0}
+MovesTrail plan (moved.Faulted f) = Unit {0}
 
 -- a move that ends in this machine, if it ends in one
 abbrev pub run_of : Moved → Machine → Run Token Fault Reached

@@ -16,37 +16,29 @@ use strand_values::Environment;
 
 impl Instance {
     /// Takes the fault of a child of the activation with `height` others below it.
-    pub fn take_fault(&mut self, height: usize, fault: Fault) -> Result<(), Memory>
-        ensures machine { OnOk result ((plan : PlanView) (target : _) → machine_of plan self.new ≡ changed height (answered target (Err fault)) (machine_of plan self.old)) }
-        ensures path { OnOk result (path_of self.new ≡ path_of self.old) }
-        ensures sound { OnOk result ((plan : PlanView) → IsInstance plan self.old → IsInstance plan self.new) }
+    pub fn take_fault(&mut self, height: usize, fault: Fault)
+        ensures machine { (plan : PlanView) (target : _) → machine_of plan self.new ≡ changed height (answered target (Err fault)) (machine_of plan self.old) }
+        ensures path { path_of self.new ≡ path_of self.old }
+        ensures sound { (plan : PlanView) → IsInstance plan self.old → IsInstance plan self.new }
     {
         if height == self.below.len() {
             take_least(&mut self.top.faulted, fault);
         } else if height < self.below.len() {
             take_least(&mut self.below[height].faulted, fault);
         }
-        Ok(())
     }
 
     /// Takes the value of a child of the activation with `height` others below it. A variable that isn't there doesn't come to be.
-    pub fn take_value(
-        &mut self,
-        alloc: Global,
-        height: usize,
-        target: Option<&Name>,
-        value: Value,
-    ) -> Result<(), Memory>
-        ensures machine { OnOk result ((plan : PlanView) → machine_of plan self.new ≡ changed height (answered (option_copied target.entry) (Ok (value ∷ []))) (machine_of plan self.old)) }
-        ensures path { OnOk result (path_of self.new ≡ path_of self.old) }
-        ensures sound { OnOk result ((plan : PlanView) → IsInstance plan self.old → IsInstance plan self.new) }
+    pub fn take_value(&mut self, height: usize, target: Option<&Name>, value: Value)
+        ensures machine { (plan : PlanView) → machine_of plan self.new ≡ changed height (answered (option_copied target.entry) (Ok (value ∷ []))) (machine_of plan self.old) }
+        ensures path { path_of self.new ≡ path_of self.old }
+        ensures sound { (plan : PlanView) → IsInstance plan self.old → IsInstance plan self.new }
     {
         if height == self.below.len() {
             replace(&mut self.top.env, target, value);
         } else if height < self.below.len() {
             replace(&mut self.below[height].env, target, value);
         }
-        Ok(())
     }
 
     /// Takes the values of a loop of the innermost activation. Where there was no memory for it the instance is of no more use.

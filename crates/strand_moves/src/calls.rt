@@ -1,6 +1,6 @@
 // Calls, and the end of an activation.
 
-ghost use Rattle.std.specs.Prelude.{◌≡◌, ◌<◌, ◌≤◌, ◌+◌, ◌++◌, ◌∷◌, [], false, true, OnOk};
+ghost use Rattle.std.specs.Prelude.{◌≡◌, ◌<◌, ◌≤◌, ◌+◌, ◌++◌, ◌∷◌, [], false, true, IfOk, OnOk};
 ghost use Rattle.std.specs.Option.{option_copied};
 ghost use Rattle.script_grammar.specs.declared.tree.Stmt.{Stmt};
 ghost use Rattle.serial_meaning.specs.Functions.{function_at};
@@ -9,7 +9,7 @@ ghost use Rattle.strand_meaning.specs.Machine.{return_move, spawns_in, with_scal
 ghost use Rattle.strand_values.specs.Gives.{Gives};
 ghost use Rattle.strand_moves.specs.Acts.{Acts, Costs, IsCallee, result_of};
 ghost use Rattle.strand_moves.specs.Machines.{IsInstance, machine_of, path_of};
-ghost use Rattle.strand_moves.specs.Moves.{Makes, Shows, call_to, strand_of};
+ghost use Rattle.strand_moves.specs.Moves.{Makes, MovesTrail, Shows, ShowsTrail, call_to, strand_of};
 
 use crate::activation::{Activation, copy_of};
 use crate::instance::Instance;
@@ -36,6 +36,7 @@ impl Instance {
         call: &CallText,
     ) -> Result<Shown, Halt>
         ensures shows { (st : Stmt) → Acts plan.now st (call_to (option_copied target.entry) call.now) self.old self.new result }
+        ensures child { IfOk result (ShowsTrail plan.now) }
         ensures trail { self.new.trail ≡ self.old.trail }
         ensures few { Costs self.old self.new }
     {
@@ -94,6 +95,7 @@ impl Instance {
         requires { IsInstance plan.now self.old }
         ensures shows { let m = machine_of plan.now self.old in
             Shows (return_move plan.now (path_of self.old) m false) (strand_of (path_of self.old) m) (machine_of plan.now self.new) result }
+        ensures child { IfOk result (ShowsTrail plan.now) }
         ensures trail { self.new.trail ≡ self.old.trail }
         ensures few { self.new.rank + self.new.steps ≤ self.old.rank + self.old.steps }
     {
@@ -129,6 +131,7 @@ impl Instance {
     pub(crate) fn end(&mut self, alloc: Global, plan: &Plan) -> Result<Moved, Halt>
         ensures shows { let m = machine_of plan.now self.old in
             Makes (return_move plan.now (path_of self.old) m true) (strand_of (path_of self.old) m) (machine_of plan.now self.new) result }
+        ensures child { IfOk result (MovesTrail plan.now) }
         ensures trail { self.new.trail ≡ self.old.trail }
         ensures few { self.new.rank + self.new.steps ≤ self.old.rank + self.old.steps }
     {

@@ -1,25 +1,27 @@
 // Children: spawns, syncs and parallel loops.
 
-ghost use Rattle.std.specs.Prelude.{◌≡◌, ◌<◌, ◌≤◌, ◌^◌, ◌+◌, ◌++◌, ◌∷◌, [], ℕ, IfOk, OnOk, false};
+ghost use Rattle.std.specs.Prelude.{◌≡◌, ◌<◌, ◌≤◌, ◌^◌, ◌+◌, ◌++◌, ◌∷◌, [], ℕ, IfOk, OnOk, false, length};
 ghost use Rattle.std.specs.Option.{option_copied};
+ghost use Rattle.dotmix.specs.Trails.{FitsGamma};
 ghost use Rattle.script_grammar.specs.declared.tree.Act.TheOpen as act;
 ghost use Rattle.script_grammar.specs.declared.tree.Stmt.{Stmt};
 ghost use Rattle.serial_meaning.specs.Exec.{filled};
 ghost use Rattle.serial_meaning.specs.Functions.{function_at};
 ghost use Rattle.serial_meaning.specs.Open.{answer_filler};
-ghost use Rattle.serial_meaning.specs.Plan.{functions_of};
+ghost use Rattle.serial_meaning.specs.Plan.{PlanView, functions_of};
 ghost use Rattle.serial_meaning.specs.declared.event.Event.TheVariants as event;
 ghost use Rattle.strand_meaning.specs.Machine.{Told, sync_tokens};
 ghost use Rattle.strand_moves.specs.Acts.{Acts, Costs, loop_begins};
 ghost use Rattle.strand_moves.specs.Machines.{IsInstance, path_of};
-ghost use Rattle.strand_moves.specs.Moves.{spawn_to, tokens_of};
+ghost use Rattle.strand_moves.specs.Moves.{spawn_to, tokens_of, ShowsTrail};
 ghost use Rattle.strand_moves.specs.declared.shown.Shown.TheVariants as shown;
 
 use crate::activation::copy_of;
 use crate::calls::function_in;
 use crate::instance::Instance;
 use crate::memory::Memory;
-use crate::shown::Shown;
+use crate::shown::{Child, Shown};
+use dotmix::Trail;
 use loop_range::IterRange;
 use ped_path::{Ped, Pedigree};
 use script_grammar::{CallText, Expr, Items, Kind, Name};
@@ -39,6 +41,7 @@ impl Instance {
     ) -> Result<Shown, Halt>
         requires { IsInstance plan.now self.old }
         ensures shows { (st : Stmt) → Acts plan.now st (spawn_to (option_copied target.entry) call.now) self.old self.new result }
+        ensures child { IfOk result (ShowsTrail plan.now) }
         ensures trail { self.new.trail ≡ self.old.trail }
         ensures few { Costs self.old self.new }
     {
@@ -48,12 +51,14 @@ impl Instance {
         }
         let function = function_number(plan.functions(), call.name.bytes.as_slice());
         let event = Event::Spawn(self.pedigree()?);
-        let path = self.child_path(alloc)?;
-        let child = Origin::Instance {
+        let trail = self.child_trail(alloc, plan)?;
+        let path = share_path(&trail.path)?;
+        let origin = Origin::Instance {
             function,
             args,
             path,
         };
+        let child = Child { origin, trail };
         let instead = filler(alloc, plan, function)?;
         self.receive(alloc, target, instead)?;
         let target = copy_of(alloc, target)?;
@@ -73,6 +78,7 @@ impl Instance {
         requires { self.old.rank < 2 ^ 32 }
         ensures shown { IfOk result (λ s. tokens_of s ≡ Told (event.Sync (path_of self.old ++ self.old.rank ∷ [])) ∷ sync_tokens self.old.top.spawned) }
         ensures passed { OnOk result (self.new ≡ record self.old { rank = self.old.rank + 1; top = record self.old.top { spawned = false } }) }
+        ensures child { (plan : PlanView) → IfOk result (ShowsTrail plan) }
         ensures trail { self.new.trail ≡ self.old.trail }
         ensures few { Costs self.old self.new }
     {
@@ -99,6 +105,7 @@ impl Instance {
     ) -> Result<Shown, Halt>
         requires { IsInstance plan.now self.old }
         ensures shows { (st : Stmt) (var : _) → Acts plan.now st (act.Pfor var lo.now hi.now target.now call.now) self.old self.new result }
+        ensures child { IfOk result (ShowsTrail plan.now) }
         ensures trail { self.new.trail ≡ self.old.trail }
         ensures few { Costs self.old self.new }
     {
@@ -111,15 +118,17 @@ impl Instance {
             return Ok(self.pass_loop(alloc, target)?);
         }
         let function = function_number(plan.functions(), call.name.bytes.as_slice());
-        let path = self.child_path(alloc)?;
+        let trail = self.child_trail(alloc, plan)?;
+        let path = share_path(&trail.path)?;
         let range = IterRange { lo: 0, hi: count };
-        let child = Origin::Loop {
+        let origin = Origin::Loop {
             function,
             rest,
             first,
             path,
             range,
         };
+        let child = Child { origin, trail };
         Ok(self.hand_loop(alloc, target, child)?)
     }
 
@@ -167,7 +176,7 @@ impl Instance {
         &mut self,
         alloc: Global,
         target: &Option<Name>,
-        child: Origin,
+        child: Child,
     ) -> Result<Shown, Memory>
         requires { self.old.rank < 2 ^ 32 }
         ensures shown { IfOk result (λ s. s ≡ shown.Looped (event.Loop (path_of self.old ++ self.old.rank ∷ [])) child target.now) }
@@ -186,13 +195,23 @@ impl Instance {
         })
     }
 
-    /// The path of a child of this strand.
-    fn child_path(&self, alloc: Global) -> Result<Ped, Memory>
-        requires { self.now.rank < 2 ^ 32 }
-        ensures { IfOk result (λ path. path ≡ path_of self.now ++ self.now.rank ∷ []) }
+    /// The trail of a child of this strand.
+    fn child_trail(&self, alloc: Global, plan: &Plan) -> Result<Trail, Memory>
+        requires fits { FitsGamma plan.now.gamma self.now.trail }
+        requires within { length (path_of self.now) < length plan.now.gamma }
+        requires rank { self.now.rank < 2 ^ 32 }
+        ensures path { IfOk result (λ trail. trail.path ≡ path_of self.now ++ self.now.rank ∷ []) }
+        ensures fits { IfOk result (FitsGamma plan.now.gamma) }
     {
-        Ok(self.trail.path.child(alloc, self.rank)?)
+        Ok(self.trail.child(alloc, &plan.gamma, self.rank)?)
     }
+}
+
+/// The same path, over the same memory.
+fn share_path(path: &Ped) -> Result<Ped, Memory>
+    ensures { IfOk result (λ shared. shared ≡ path.now) }
+{
+    Ok(path.share()?)
 }
 
 /// What stands for the value of a child of this function.

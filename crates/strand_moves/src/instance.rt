@@ -1,6 +1,7 @@
 // Instances, and their moves.
 
 ghost use Rattle.std.specs.Prelude.{◌≡◌, ◌<◌, ◌≤◌, ◌+◌, ◌^◌, ◌++◌, ◌∷◌, [], Err, IfOk, OnOk, length};
+ghost use Rattle.dotmix.specs.Trails.{FitsGamma};
 ghost use Rattle.serial_meaning.specs.Plan.{functions_of};
 ghost use Rattle.strand_meaning.specs.Machine.{Stands, begun, move};
 
@@ -8,7 +9,7 @@ use crate::activation::{Activation, body};
 use crate::memory::Memory;
 use crate::shown::{Moved, Shown};
 use dotmix::Trail;
-use ped_path::{Ped, Pedigree};
+use ped_path::Pedigree;
 use script_grammar::Items;
 use serial_meaning::{Fault, FaultKind, Plan, Value};
 use std::alloc::Global;
@@ -28,7 +29,7 @@ pub struct Instance {
 
 impl Instance {
     ghost use Rattle.strand_moves.specs.Machines.{IsInstance, machine_of, path_of};
-    ghost use Rattle.strand_moves.specs.Moves.{run_of, Makes, strand_of};
+    ghost use Rattle.strand_moves.specs.Moves.{run_of, Makes, MovesTrail, strand_of};
 
     /// An instance of the function at this place in the script, before its first move.
     pub fn begin(
@@ -36,17 +37,18 @@ impl Instance {
         plan: &Plan,
         function: u32,
         args: Items<Value>,
-        path: Ped,
+        trail: Trail,
     ) -> Result<Instance, Memory>
         requires there { function < length (functions_of plan.now) }
-        requires within { length path < plan.now.limits.depth }
+        requires fits { FitsGamma plan.now.gamma trail }
+        requires within { length trail.path < plan.now.limits.depth }
         ensures begins { IfOk result (λ i. begun plan.now function args ≡ Stands (machine_of plan.now i)) }
-        ensures path { IfOk result (λ i. path_of i ≡ path) }
+        ensures path { IfOk result (λ i. path_of i ≡ trail.path) }
         ensures sound { IfOk result (IsInstance plan.now) }
     {
         let f = &plan.functions()[function as usize];
         Ok(Instance {
-            trail: Trail::of(&plan.gamma, path),
+            trail,
             rank: 0,
             steps: plan.limits.budget as u64,
             top: Activation::new(alloc, function, f, args, None)?,
@@ -58,6 +60,7 @@ impl Instance {
     pub fn step(&mut self, alloc: Global, plan: &Plan) -> Result<Moved, Memory>
         requires { IsInstance plan.now self.old }
         ensures moves { IfOk result (λ moved. move plan.now (path_of self.old) (machine_of plan.now self.old) ≡ run_of moved (machine_of plan.now self.new)) }
+        ensures child { IfOk result (MovesTrail plan.now) }
         ensures path { path_of self.new ≡ path_of self.old }
         ensures sound { IfOk result (λ _. IsInstance plan.now self.new) }
     {
@@ -77,6 +80,7 @@ impl Instance {
         requires { IsInstance plan.now self.old }
         ensures moves { let m = machine_of plan.now self.old in
             Makes (move plan.now (path_of self.old) m) (strand_of (path_of self.old) m) (machine_of plan.now self.new) result }
+        ensures child { IfOk result (MovesTrail plan.now) }
         ensures trail { self.new.trail ≡ self.old.trail }
         ensures few { self.new.rank + self.new.steps ≤ self.old.rank + self.old.steps }
     {
@@ -85,6 +89,13 @@ impl Instance {
             None if self.top.returning => self.end(alloc, plan),
             None => Ok(Moved::Went(self.return_step(plan)?)),
         }
+    }
+
+    /// The rank that it has, or will have once it goes on from the sync or the loop behind which it waits.
+    pub fn rank(&self) -> u64
+        ensures { result ≡ self.now.rank }
+    {
+        self.rank
     }
 
     /// Pays a step.

@@ -20,7 +20,7 @@ mod tests;
 
 pub use instance::Instance;
 pub use memory::Memory;
-pub use shown::{Moved, Shown};
+pub use shown::{Child, Moved, Shown};
 
 fn is_shared<T: Send + Sync>() {}
 

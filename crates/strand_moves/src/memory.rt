@@ -20,6 +20,12 @@ impl<T: Drop> From<AllocFailed<T>> for Memory {
     }
 }
 
+impl From<dotmix::Memory> for Memory {
+    fn from(_: dotmix::Memory) -> Self {
+        Memory
+    }
+}
+
 impl From<ped_path::Memory> for Memory {
     fn from(_: ped_path::Memory) -> Self {
         Memory

@@ -1,12 +1,13 @@
 // The right sides of `let` and of assignments.
 
-ghost use Rattle.std.specs.Prelude.{◌≡◌, ◌<◌, ◌^◌, ℕ};
+ghost use Rattle.std.specs.Prelude.{◌≡◌, ◌<◌, ◌^◌, ℕ, IfOk};
 ghost use Rattle.script_grammar.specs.declared.tree.Act.TheOpen as act;
 ghost use Rattle.script_grammar.specs.declared.tree.Right.TheVariants as right;
 ghost use Rattle.script_grammar.specs.declared.tree.Stmt.{Stmt};
 ghost use Rattle.serial_meaning.specs.Plan.{PlanView};
 ghost use Rattle.strand_moves.specs.Acts.{Acts, Costs};
 ghost use Rattle.strand_moves.specs.Machines.{IsInstance};
+ghost use Rattle.strand_moves.specs.Moves.{ShowsTrail};
 
 use crate::instance::Instance;
 use crate::shown::Shown;
@@ -26,6 +27,7 @@ impl Instance {
     ) -> Result<Shown, Halt>
         requires { IsInstance plan.now self.old }
         ensures shows { (st : Stmt) → Acts plan.now st (act.Set x.now r.now) self.old self.new result }
+        ensures child { IfOk result (ShowsTrail plan.now) }
         ensures trail { self.new.trail ≡ self.old.trail }
         ensures few { Costs self.old self.new }
     {
@@ -40,6 +42,7 @@ impl Instance {
 
     fn set_value(&mut self, alloc: Global, x: &Name, e: &Expr) -> Result<Shown, Halt>
         ensures shows { (plan : PlanView) (st : Stmt) → Acts plan st (act.Set x.now (right.Value e.now)) self.old self.new result }
+        ensures child { (plan : PlanView) → IfOk result (ShowsTrail plan) }
         ensures trail { self.new.trail ≡ self.old.trail }
         ensures few { Costs self.old self.new }
     {
@@ -51,6 +54,7 @@ impl Instance {
     fn set_draw(&mut self, alloc: Global, plan: &Plan, x: &Name) -> Result<Shown, Halt>
         requires { IsInstance plan.now self.old }
         ensures shows { (st : Stmt) (at : ℕ) → Acts plan.now st (act.Set x.now (right.Draw at)) self.old self.new result }
+        ensures child { (plan : PlanView) → IfOk result (ShowsTrail plan) }
         ensures trail { self.new.trail ≡ self.old.trail }
         ensures few { Costs self.old self.new }
     {
@@ -66,6 +70,7 @@ impl Instance {
     fn set_new(&mut self, alloc: Global, x: &Name) -> Result<Shown, Halt>
         requires { self.old.rank < 2 ^ 32 }
         ensures shows { (plan : PlanView) (st : Stmt) (at : ℕ) → Acts plan st (act.Set x.now (right.New at)) self.old self.new result }
+        ensures child { (plan : PlanView) → IfOk result (ShowsTrail plan) }
         ensures trail { self.new.trail ≡ self.old.trail }
         ensures few { Costs self.old self.new }
     {

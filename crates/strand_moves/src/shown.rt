@@ -1,5 +1,13 @@
+use dotmix::Trail;
 use script_grammar::Name;
 use serial_meaning::{Event, Fault, Origin, Value};
+
+/// A child that is handed out: what it is begun as, and the trail of its path.
+#[derive(Drop)]
+pub struct Child {
+    pub origin: Origin,
+    pub trail: Trail,
+}
 
 /// What a move shows, in order: an event, if any, and then a child or a wait.
 #[derive(Drop)]
@@ -10,7 +18,7 @@ pub enum Shown {
     /// A child was spawned. Its value goes to the variable `target`, if any, of the activation with `height` others below it.
     Spawned {
         event: Event,
-        child: Origin,
+        child: Child,
         height: usize,
         target: Option<Name>,
     },
@@ -20,7 +28,7 @@ pub enum Shown {
     /// activation.
     Looped {
         event: Event,
-        child: Origin,
+        child: Child,
         target: Option<Name>,
     },
 }

@@ -1,6 +1,6 @@
 // Statements.
 
-ghost use Rattle.std.specs.Prelude.{◌≡◌, ◌<◌, ◌≤◌, ◌+◌, ◌^◌, List};
+ghost use Rattle.std.specs.Prelude.{◌≡◌, ◌<◌, ◌≤◌, ◌+◌, ◌^◌, List, IfOk};
 ghost use Rattle.script_grammar.specs.declared.tree.Stmt.{Stmt, out-Stmt};
 ghost use Rattle.script_grammar.specs.declared.tree.Act.{out-Act};
 ghost use Rattle.script_grammar.specs.declared.tree.Act.TheOpen as act;
@@ -9,7 +9,7 @@ ghost use Rattle.strand_meaning.specs.Machine.{statement_move};
 ghost use Rattle.strand_moves.specs.Acts.{Acts, Costs};
 ghost use Rattle.strand_moves.specs.Cursors.{IsBehind};
 ghost use Rattle.strand_moves.specs.Machines.{IsInstance, machine_of, path_of, body_of};
-ghost use Rattle.strand_moves.specs.Moves.{Shows, strand_of};
+ghost use Rattle.strand_moves.specs.Moves.{Shows, ShowsTrail, strand_of};
 
 use crate::instance::Instance;
 use crate::shown::Shown;
@@ -30,6 +30,7 @@ impl Instance {
         requires behind { IsBehind (body_of plan.now self.old.top.function) self.old.top.cursor statement.now }
         ensures shows { let m = machine_of plan.now self.old in
             Shows (statement_move plan.now (path_of self.old) m statement.now m.top.left) (strand_of (path_of self.old) m) (machine_of plan.now self.new) result }
+        ensures child { IfOk result (ShowsTrail plan.now) }
         ensures trail { self.new.trail ≡ self.old.trail }
         ensures few { self.new.rank + self.new.steps ≤ self.old.rank + self.old.steps }
     {
@@ -57,6 +58,7 @@ impl Instance {
 
     fn array(&mut self, alloc: Global, x: &Name, n: Number) -> Result<Shown, Halt>
         ensures shows { (plan : PlanView) (st : Stmt) → Acts plan st (act.Array x.now n) self.old self.new result }
+        ensures child { (plan : PlanView) → IfOk result (ShowsTrail plan) }
         ensures trail { self.new.trail ≡ self.old.trail }
         ensures few { Costs self.old self.new }
     {
@@ -66,6 +68,7 @@ impl Instance {
 
     fn store(&mut self, x: &Name, i: &Expr, e: &Expr) -> Result<Shown, Halt>
         ensures shows { (plan : PlanView) (st : Stmt) → Acts plan st (act.Store x.now i.now e.now) self.old self.new result }
+        ensures child { (plan : PlanView) → IfOk result (ShowsTrail plan) }
         ensures trail { self.new.trail ≡ self.old.trail }
         ensures few { Costs self.old self.new }
     {
@@ -81,6 +84,7 @@ impl Instance {
     fn print(&mut self, e: &Expr) -> Result<Shown, Halt>
         requires { self.old.rank < 2 ^ 32 }
         ensures shows { (plan : PlanView) (st : Stmt) → Acts plan st (act.Print e.now) self.old self.new result }
+        ensures child { (plan : PlanView) → IfOk result (ShowsTrail plan) }
         ensures trail { self.new.trail ≡ self.old.trail }
         ensures few { Costs self.old self.new }
     {
@@ -91,6 +95,7 @@ impl Instance {
     fn branch(&mut self, e: &Expr) -> Result<Shown, Halt>
         ensures shows { (plan : PlanView) (st : Stmt) (yes no : List Stmt) → IsBehind (body_of plan self.old.top.function) self.old.top.cursor st →
             out-Act (out-Stmt st).act ≡ act.If e.now yes no → Acts plan st (act.If e.now yes no) self.old self.new result }
+        ensures child { (plan : PlanView) → IfOk result (ShowsTrail plan) }
         ensures trail { self.new.trail ≡ self.old.trail }
         ensures few { Costs self.old self.new }
     {
@@ -102,6 +107,7 @@ impl Instance {
     fn turn(&mut self, e: &Expr) -> Result<Shown, Halt>
         ensures shows { (plan : PlanView) (st : Stmt) (body : List Stmt) → IsBehind (body_of plan self.old.top.function) self.old.top.cursor st →
             out-Act (out-Stmt st).act ≡ act.While e.now body → Acts plan st (act.While e.now body) self.old self.new result }
+        ensures child { (plan : PlanView) → IfOk result (ShowsTrail plan) }
         ensures trail { self.new.trail ≡ self.old.trail }
         ensures few { Costs self.old self.new }
     {

@@ -5,7 +5,7 @@ ghost use Rattle.serial_meaning.specs.Plan.{PlanView};
 ghost use Rattle.strand_moves.specs.Machines.{IsInstance};
 
 use crate::{Instance, Moved, Shown};
-use dotmix::Gamma;
+use dotmix::{Gamma, Trail};
 use ped_path::{Ped, Pedigree};
 use script_check::check;
 use script_grammar::{Items, Name};
@@ -37,8 +37,8 @@ fn main_instance(rt: &impl Abort, alloc: Global, plan: &Plan) -> Result<Instance
     let function = function_number(plan.functions(), b"main");
     assert!(rt; (function as usize) < plan.functions().len());
     assert!(rt; plan.limits.depth > 0);
-    let path = Ped::root(alloc)?;
-    Ok(Instance::begin(alloc, plan, function, Items(Vec::new(alloc)), path)?)
+    let trail = Trail::of(&plan.gamma, Ped::root(alloc)?);
+    Ok(Instance::begin(alloc, plan, function, Items(Vec::new(alloc)), trail)?)
 }
 
 /// How an instance ended.
@@ -80,7 +80,7 @@ fn answer(
         Shown::Nothing | Shown::Synced(_) => Ok(()),
         Shown::Told(event) => print(event, printed),
         Shown::Spawned { height, target, .. } => {
-            main.take_value(alloc, *height, target.as_ref(), Value::Int(child as i64))?;
+            main.take_value(*height, target.as_ref(), Value::Int(child as i64));
             Ok(())
         }
         Shown::Looped { target, .. } => fill(alloc, main, target.as_ref(), child),
@@ -203,7 +203,7 @@ fn kept(rt: &impl Abort, alloc: Global, height: usize) -> Result<Option<u64>, Fa
     let plan = plan(rt, alloc, b"fn main() { return 0; }")?;
     let mut main = main_instance(rt, alloc, &plan)?;
     for rank in [5, 2, 7] {
-        main.take_fault(height, fault(alloc, rank)?)?;
+        main.take_fault(height, fault(alloc, rank)?);
     }
     Ok(rank_of(main.faulted()))
 }

@@ -1,4 +1,4 @@
-use Rattle.std.proofs.Common.{◌≡◌, length, refl, sym, ap, ◌∙◌}
+use Rattle.std.proofs.Common.{length, sym, ap, ◌∙◌}
 use Rattle.strand_meaning.specs.Pieces.{Pieces}
 use Rattle.strand_machine.specs.Parts.{awaited}
 use Rattle.strand_machine.proofs.Answering.{length-answer-tags, length-tags}

@@ -7,7 +7,7 @@ step-requires c = rw c.plan.ensures c.requires.works.sound
 pub show-requires : goal.show-requires
 show-requires c =
     let m = c.in_ok-shown.ensures in
-    went-sound c.args.body c.args.instance c.step.new.self _ _ c.plan.ensures m.moves c.requires c.steps_are_sound.ensures c.in-Went.shown c.in-Went.is c.step.ensures.path m.sound
+    went-sound c.args.body c.args.instance c.step.new.self _ _ c.plan.ensures m.moves c.requires c.steps_are_sound.ensures c.in-Went.shown c.in-Went.is c.step.ensures.path m.sound m.child
 
 pub pass-requires : goal.pass-requires
 pass-requires c =

@@ -11,7 +11,7 @@ use Rattle.strand_machine.specs.declared.stop.Step.TheVariants as step
 use Rattle.strand_machine.specs.declared.stop.Stop.TheVariants as stop
 use Rattle.strand_machine.specs.declared.work.Stage.TheVariants as stage
 use Rattle.strand_machine.specs.declared.work.Work.TheVariants as work
-use Rattle.strand_machine.proofs.Moving.{nothing-sound, nothing-step, told-sound, told-step, synced-sound, synced-step, spawned-known, spawned-sound, spawned-step, looped-known, looped-sound, looped-step, passes-keep, spawns-keep, with_pieces}
+use Rattle.strand_machine.proofs.Moving.{nothing-sound, nothing-step, told-sound, told-step, synced-sound, synced-step, spawned-known, spawned-trail, spawned-sound, spawned-step, looped-known, looped-trail, looped-sound, looped-step, passes-keep, spawns-keep, with_pieces}
 use Rattle.strand_machine.proofs.run.show.Goals as goal
 
 -- nothing
@@ -61,6 +61,10 @@ pub spawn-requires-clause-known : goal.spawn-requires-clause-known
 spawn-requires-clause-known c =
     spawned-known c.args.body c.args.instance c.args.shown c.in-Spawned.event c.in-Spawned.child c.in-Spawned.height c.in-Spawned.target c.in-Spawned.is c.requires
 
+pub spawn-requires-clause-trail : goal.spawn-requires-clause-trail
+spawn-requires-clause-trail c =
+    spawned-trail c.args.body c.args.instance c.args.shown c.in-Spawned.event c.in-Spawned.child c.in-Spawned.height c.in-Spawned.target c.in-Spawned.is c.requires
+
 pub spawn-requires-clause-sound : goal.spawn-requires-clause-sound
 spawn-requires-clause-sound c =
     spawned-sound c.args.body c.args.instance c.args.shown c.in-Spawned.event c.in-Spawned.child c.in-Spawned.height c.in-Spawned.target c.tell-in-Spawned.new.self c.in-Spawned.is c.in_ok-tell-in-Spawned.ensures c.requires
@@ -72,7 +76,7 @@ returns-in_ok-tell-in-Spawned-clause-step c =
     let s = c.in-Spawned in
     let p = c.tell-in-Spawned.new.self in
     IfOk-weaker c.spawn.result
-    (λ (r : Step). r ≡ step.Stops (stop.Spawn (fresh b.family.plan s.child) (view_of (with_child (with_pieces b p) s.child (place.Spawned s.height s.target)) (work.Runs (stage.Goes i)))))
+    (λ (r : Step). r ≡ step.Stops (stop.Spawn (fresh b.family.plan s.child.origin) (view_of (with_child (with_pieces b p) s.child.origin (place.Spawned s.height s.target)) (work.Runs (stage.Goes i)))))
     (λ (r : Step). step_of r ≡ stops_at (child_in (tokens_of c.args.shown)) (shown_task b i c.args.shown))
     (λ r h. spawned-step b i c.args.shown s.event s.child s.height s.target p r s.is c.in_ok-tell-in-Spawned.ensures h) c.spawn.ensures
 
@@ -84,14 +88,18 @@ returns-in_ok-tell-in-Spawned-clause-keeps c =
     let p = c.tell-in-Spawned.new.self in
     let at = place.Spawned s.height s.target in
     IfOk-weaker c.spawn.result
-    (λ (r : Step). r ≡ step.Stops (stop.Spawn (fresh b.family.plan s.child) (view_of (with_child (with_pieces b p) s.child at) w)))
-    (KeepsStep (view_of b w)) (λ r h. spawns-keep b p w w s.child at r h) c.spawn.ensures
+    (λ (r : Step). r ≡ step.Stops (stop.Spawn (fresh b.family.plan s.child.origin) (view_of (with_child (with_pieces b p) s.child.origin at) w)))
+    (KeepsStep (view_of b w)) (λ r h. spawns-keep b p w w s.child.origin at r h) c.spawn.ensures
 
 -- a loop
 
 pub spawn-requires-in-Looped-clause-known : goal.spawn-requires-in-Looped-clause-known
 spawn-requires-in-Looped-clause-known c =
     looped-known c.args.body c.args.instance c.args.shown c.in-Looped.event c.in-Looped.child c.in-Looped.target c.in-Looped.is c.requires
+
+pub spawn-requires-in-Looped-clause-trail : goal.spawn-requires-in-Looped-clause-trail
+spawn-requires-in-Looped-clause-trail c =
+    looped-trail c.args.body c.args.instance c.args.shown c.in-Looped.event c.in-Looped.child c.in-Looped.target c.in-Looped.is c.requires
 
 pub spawn-requires-in-Looped-clause-sound : goal.spawn-requires-in-Looped-clause-sound
 spawn-requires-in-Looped-clause-sound c =
@@ -104,7 +112,7 @@ returns-in_ok-tell-in-Looped-clause-step c =
     let s = c.in-Looped in
     let p = c.tell-in-Looped.new.self in
     IfOk-weaker c.spawn-in-Looped.result
-    (λ (r : Step). r ≡ step.Stops (stop.Spawn (fresh b.family.plan s.child) (view_of (with_child (with_pieces b p) s.child (place.Looped s.target)) (work.Runs (stage.AtLoop i)))))
+    (λ (r : Step). r ≡ step.Stops (stop.Spawn (fresh b.family.plan s.child.origin) (view_of (with_child (with_pieces b p) s.child.origin (place.Looped s.target)) (work.Runs (stage.AtLoop i)))))
     (λ (r : Step). step_of r ≡ stops_at (child_in (tokens_of c.args.shown)) (shown_task b i c.args.shown))
     (λ r h. looped-step b i c.args.shown s.event s.child s.target p r s.is c.in_ok-tell-in-Looped.ensures h) c.spawn-in-Looped.ensures
 
@@ -116,5 +124,5 @@ returns-in_ok-tell-in-Looped-clause-keeps c =
     let p = c.tell-in-Looped.new.self in
     let at = place.Looped s.target in
     IfOk-weaker c.spawn-in-Looped.result
-    (λ (r : Step). r ≡ step.Stops (stop.Spawn (fresh b.family.plan s.child) (view_of (with_child (with_pieces b p) s.child at) (work.Runs (stage.AtLoop i)))))
-    (KeepsStep (view_of b (work.Runs (stage.Goes i)))) (λ r h. spawns-keep b p (work.Runs (stage.Goes i)) (work.Runs (stage.AtLoop i)) s.child at r h) c.spawn-in-Looped.ensures
+    (λ (r : Step). r ≡ step.Stops (stop.Spawn (fresh b.family.plan s.child.origin) (view_of (with_child (with_pieces b p) s.child.origin at) (work.Runs (stage.AtLoop i)))))
+    (KeepsStep (view_of b (work.Runs (stage.Goes i)))) (λ r h. spawns-keep b p (work.Runs (stage.Goes i)) (work.Runs (stage.AtLoop i)) s.child.origin at r h) c.spawn-in-Looped.ensures

@@ -6,11 +6,11 @@ use Rattle.strand_machine.proofs.Arms.{work-sound, work-view}
 use Rattle.strand_machine.proofs.step.step.Goals as goal
 
 pub split-requires : goal.split-requires
-split-requires c = work-sound c.task.inside.body c.task.inside.work (work.Splits c.in-Splits.range) c.in-Splits.is c.task.invariant
+split-requires c = work-sound c.task.inside.body c.task.inside.work (work.Splits c.in-Splits.left) c.in-Splits.is c.task.invariant
 
 pub returns-in-Splits : goal.returns-in-Splits
 returns-in-Splits c =
-    let same = work-view c.task.inside.body c.task.inside.work (work.Splits c.in-Splits.range) c.args.task c.in-Splits.is c.task.view_is in
+    let same = work-view c.task.inside.body c.task.inside.work (work.Splits c.in-Splits.left) c.args.task c.in-Splits.is c.task.view_is in
     subst (λ (t : TaskView). IfOk c.split.result (IsStep t)) same c.split.ensures
 
 pub run-requires : goal.run-requires

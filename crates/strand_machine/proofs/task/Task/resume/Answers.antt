@@ -1,4 +1,4 @@
-use Rattle.std.proofs.Common.{◌≡◌, ℕ, ◌-◌, true, false, List, length, drop, sym, ap, ◌∙◌, subst}
+use Rattle.std.proofs.Common.{ℕ, ◌-◌, true, false, length, drop, sym, ap, ◌∙◌, subst}
 use Rattle.serial_meaning.specs.Plan.{PlanView}
 use Rattle.strand_machine.specs.Family.{FamilyView, AwaitsCount, tags}
 use Rattle.strand_machine.specs.Parts.{awaited}

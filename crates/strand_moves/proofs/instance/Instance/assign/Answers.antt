@@ -22,3 +22,12 @@ returns-in-Spawn-clause-shows c = λ st.
     let i = c.args.self.now in
     let m = machine_of c.args.plan.now i in
     rw (c.in-Spawn.is, spawn-at c.args.plan.now (path_of i) m st c.args.x.now c.in-Spawn.field-0 c.in-Spawn.c) (c.spawn.ensures.shows st)
+
+pub returns-in-Value-clause-child : goal.returns-in-Value-clause-child
+returns-in-Value-clause-child c = c.set_value.ensures.child c.args.plan.now
+
+pub returns-in-Draw-clause-child : goal.returns-in-Draw-clause-child
+returns-in-Draw-clause-child c = c.set_draw.ensures.child c.args.plan.now
+
+pub returns-in-New-clause-child : goal.returns-in-New-clause-child
+returns-in-New-clause-child c = c.set_new.ensures.child c.args.plan.now

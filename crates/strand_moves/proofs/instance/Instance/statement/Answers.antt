@@ -93,3 +93,18 @@ returns-in-Pfor-clause-shows c =
     let is = act-is (act.Pfor c.in-Pfor.var c.in-Pfor.lo c.in-Pfor.hi c.in-Pfor.target c.in-Pfor.call) st.act (variant.Pfor c.in-Pfor.var c.in-Pfor.lo c.in-Pfor.hi c.in-Pfor.target c.in-Pfor.call) c.in-Pfor.is (variant.rolls-Pfor c.in-Pfor.var c.in-Pfor.lo c.in-Pfor.hi c.in-Pfor.target c.in-Pfor.call) in
     statement-paid plan c.args.self.now p p.steps c.in_ok-pay.ensures.ok c.in_ok-pay.ensures.paid st (act.Pfor c.in-Pfor.var c.in-Pfor.lo c.in-Pfor.hi c.in-Pfor.target c.in-Pfor.call) c.pfor.new.self c.pfor.result is
     (c.pfor.ensures.shows st c.in-Pfor.var)
+
+pub returns-in-Array-clause-child : goal.returns-in-Array-clause-child
+returns-in-Array-clause-child c = c.array.ensures.child c.args.plan.now
+
+pub returns-in-Store-clause-child : goal.returns-in-Store-clause-child
+returns-in-Store-clause-child c = c.store.ensures.child c.args.plan.now
+
+pub returns-in-Print-clause-child : goal.returns-in-Print-clause-child
+returns-in-Print-clause-child c = c.print.ensures.child c.args.plan.now
+
+pub returns-in-If-clause-child : goal.returns-in-If-clause-child
+returns-in-If-clause-child c = c.branch-self.ensures.child c.args.plan.now
+
+pub returns-in-While-clause-child : goal.returns-in-While-clause-child
+returns-in-While-clause-child c = c.turn.ensures.child c.args.plan.now

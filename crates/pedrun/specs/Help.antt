@@ -1,0 +1,30 @@
+-- Which words ask for a text of the help, and for which.
+use Rattle.std.specs.Prelude.{ℕ, Bool, false, if◌then◌else◌, Option, Some, None, List, [], ◌∷◌, codes}
+use Rattle.std.specs.Str.{bytes_eq}
+use Rattle.pedrun.specs.declared.help.Topic.{Topic}
+use Rattle.pedrun.specs.declared.help.Topic.TheVariants.{Program, Version, Run, Serial, Check, Fmt, Replay, Hash, Gen}
+
+abbrev pub topic_of_command : List ℕ → Option Topic
+topic_of_command word =
+    if bytes_eq word (codes "run") then Some Run
+    else if bytes_eq word (codes "serial") then Some Serial
+    else if bytes_eq word (codes "check") then Some Check
+    else if bytes_eq word (codes "fmt") then Some Fmt
+    else if bytes_eq word (codes "replay") then Some Replay
+    else if bytes_eq word (codes "hash") then Some Hash
+    else if bytes_eq word (codes "gen") then Some Gen
+    else None
+
+-- the words behind a command ask for its help: they are `--help` alone
+abbrev pub asks_help : List (List ℕ) → Bool
+asks_help (word ∷ []) = bytes_eq word (codes "--help")
+asks_help words = false
+
+-- `--help` and `--version` count as the first word, `--help` also as the only word behind a command
+abbrev pub topic_of : List (List ℕ) → Option Topic
+topic_of [] = None
+topic_of (word ∷ words) =
+    if bytes_eq word (codes "--help") then Some Program
+    else if bytes_eq word (codes "--version") then Some Version
+    else if asks_help words then topic_of_command word
+    else None

@@ -1,0 +1,80 @@
+// Which words ask for help, and for which.
+
+ghost use Rattle.std.specs.Prelude.{◌≡◌, map, string_bytes};
+ghost use Rattle.pedrun.specs.Help.{asks_help, topic_of, topic_of_command};
+
+use crate::text;
+
+/// What there is a help text on.
+#[derive(Clone, Copy, Debug, PartialEq, Eq)]
+pub enum Topic {
+    /// The program as a whole.
+    Program,
+    /// Its version.
+    Version,
+    /// A command.
+    Run,
+    Serial,
+    Check,
+    Fmt,
+    Replay,
+    Hash,
+    Gen,
+}
+
+// Whether the words behind a command ask for its help.
+fn asks_help(words: &[String]) -> bool
+    ensures { result ≡ asks_help (map string_bytes words.now) }
+{
+    match words.split_first() {
+        Some((word, rest)) => rest.is_empty() && word.as_str() == "--help",
+        None => false,
+    }
+}
+
+impl Topic {
+    // The topic of a command's word.
+    fn of_command(word: &str) -> Option<Topic>
+        ensures { result ≡ topic_of_command word.now }
+    {
+        match word {
+            "run" => Some(Topic::Run),
+            "serial" => Some(Topic::Serial),
+            "check" => Some(Topic::Check),
+            "fmt" => Some(Topic::Fmt),
+            "replay" => Some(Topic::Replay),
+            "hash" => Some(Topic::Hash),
+            "gen" => Some(Topic::Gen),
+            _ => None,
+        }
+    }
+
+    /// What the words ask for: help where `--help` is the first, or the only one behind a command that has a text, and the version where
+    /// `--version` is the first. `None` where they ask for nothing of this.
+    pub fn of_words(words: &[String]) -> Option<Topic>
+        ensures { result ≡ topic_of (map string_bytes words.now) }
+    {
+        let (first, rest) = words.split_first()?;
+        match first.as_str() {
+            "--help" => Some(Topic::Program),
+            "--version" => Some(Topic::Version),
+            word if asks_help(rest) => Topic::of_command(word),
+            _ => None,
+        }
+    }
+
+    /// The text, of whole lines.
+    pub fn text(self) -> &'static str {
+        match self {
+            Topic::Program => text::PROGRAM,
+            Topic::Version => text::VERSION,
+            Topic::Run => text::RUN,
+            Topic::Serial => text::SERIAL,
+            Topic::Check => text::CHECK,
+            Topic::Fmt => text::FMT,
+            Topic::Replay => text::REPLAY,
+            Topic::Hash => text::HASH,
+            Topic::Gen => text::GEN,
+        }
+    }
+}

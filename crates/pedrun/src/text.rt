@@ -1,0 +1,191 @@
+// The texts of the help.
+
+pub const VERSION: &str = "pedrun 0.1.0\n";
+
+pub const PROGRAM: &str = "\
+pedrun runs fork-join scripts on several workers. Each strand of a run has a
+name that no schedule can change, and a random draw is a hash of its strand's
+name: a run prints the same bytes again, on any machine with any workers.
+
+Usage: pedrun COMMAND [--OPTION VALUE]...
+       pedrun COMMAND --help
+       pedrun --help
+       pedrun --version
+
+Commands:
+  run      runs the script on standard input and prints its lines
+  serial   prints what run prints, without workers
+  check    prints ok where the script on standard input is valid
+  fmt      prints the script on standard input in canonical text
+  replay   prints what one strand of the script on standard input did
+  hash     prints the dot product of a pedigree and its draw
+  gen      prints a script of a shape and a size
+
+Options, in any order, each at most once:
+  --seed N         the seed of the draws, from 0 to 18446744073709551615
+                   (default 0)
+  --gamma N,N,..   the coefficients of the draws in place of a seed, each below
+                   18446744073709551557, at most as many as the depth
+  --depth N        how many ranks a pedigree may have, from 1 to 256
+                   (default 256)
+  --budget N       how many steps each instance may make, from 1 to 4294967295
+                   (default 1000000)
+  --workers N      from 1 to 64 (default 4)
+  --show WHAT      plain, or log to see draws and objects too (default plain)
+  --at PEDIGREE    the name of a strand, such as 0.3.1
+  --shape SHAPE    fib, tree or loop
+  --size N         at most 30 for fib, at most 20 for tree, from 1 to 4096 for
+                   loop
+
+Exit status:
+  0  the whole output was written
+  1  the whole output was written, and its last line is a fault's
+  2  the words are no command
+  3  the script is too long, is no script of the grammar, or isn't valid
+  4  a read of the script failed
+  5  a write of the output failed
+  6  there was no memory
+  7  no strand has the pedigree, or a fault stands on the way to it (replay)
+
+Example:
+  $ echo 'fn main() { let x = draw; print x; return 0; }' > draw.ped
+  $ pedrun run --seed 7 < draw.ped
+";
+
+pub const RUN: &str = "\
+Runs the script on standard input on several workers, and prints its lines: the
+same as pedrun serial prints, whatever the workers do.
+
+Usage: pedrun run [--OPTION VALUE]... < SCRIPT
+
+Options, in any order, each at most once; a gamma excludes a seed:
+  --seed N         the seed of the draws, from 0 to 18446744073709551615
+                   (default 0)
+  --gamma N,N,..   the coefficients of the draws in place of a seed, each below
+                   18446744073709551557, at most as many as the depth
+  --depth N        how many ranks a pedigree may have, from 1 to 256
+                   (default 256)
+  --budget N       how many steps each instance may make, from 1 to 4294967295
+                   (default 1000000)
+  --workers N      from 1 to 64 (default 4)
+  --show WHAT      plain, or log to see draws and objects too (default plain)
+
+Exit status: 0; 1 where the last line is a fault's; 2 faulty words; 3 no valid
+script; 4 a failed read; 5 a failed write; 6 no memory.
+
+Example:
+  $ pedrun run --seed 7 --workers 8 < examples/pi.ped
+";
+
+pub const SERIAL: &str = "\
+Runs the script on standard input in serial order, without workers, and prints
+its lines: the same as pedrun run prints.
+
+Usage: pedrun serial [--OPTION VALUE]... < SCRIPT
+
+Options, in any order, each at most once; a gamma excludes a seed:
+  --seed N         the seed of the draws, from 0 to 18446744073709551615
+                   (default 0)
+  --gamma N,N,..   the coefficients of the draws in place of a seed, each below
+                   18446744073709551557, at most as many as the depth
+  --depth N        how many ranks a pedigree may have, from 1 to 256
+                   (default 256)
+  --budget N       how many steps each instance may make, from 1 to 4294967295
+                   (default 1000000)
+  --show WHAT      plain, or log to see draws and objects too (default plain)
+
+Exit status: 0; 1 where the last line is a fault's; 2 faulty words; 3 no valid
+script; 4 a failed read; 5 a failed write; 6 no memory.
+
+Example:
+  $ pedrun serial --seed 7 < examples/pi.ped
+";
+
+pub const CHECK: &str = "\
+Prints ok where the script on standard input is valid. Else it tells on standard
+error the first thing that is wrong with it, and at which byte, counted from 0.
+
+Usage: pedrun check < SCRIPT
+
+Exit status: 0; 2 faulty words; 3 no valid script; 4 a failed read; 5 a failed
+write; 6 no memory.
+
+Example:
+  $ pedrun check < examples/pi.ped
+";
+
+pub const FMT: &str = "\
+Prints the script on standard input in canonical text: one statement on a line,
+two spaces deeper in each block, no comments. The script needn't be valid.
+
+Usage: pedrun fmt < SCRIPT
+
+Exit status: 0; 2 faulty words; 3 no script of the grammar; 4 a failed read; 5 a
+failed write; 6 no memory.
+
+Example:
+  $ pedrun fmt < examples/pi.ped
+";
+
+pub const REPLAY: &str = "\
+Prints what one strand of the script on standard input did, found by its
+pedigree: its prints, draws and objects, the spawn, sync or loop that ended it,
+and its own fault. Give it the options with which the script was run.
+
+Usage: pedrun replay --at PEDIGREE [--OPTION VALUE]... < SCRIPT
+
+Options, in any order, each at most once; a gamma excludes a seed:
+  --at PEDIGREE    the strand's name, such as 0.3.1 (must be given)
+  --seed N         the seed of the draws, from 0 to 18446744073709551615
+                   (default 0)
+  --gamma N,N,..   the coefficients of the draws in place of a seed, each below
+                   18446744073709551557, at most as many as the depth
+  --depth N        how many ranks a pedigree may have, from 1 to 256
+                   (default 256)
+  --budget N       how many steps each instance may make, from 1 to 4294967295
+                   (default 1000000)
+
+Exit status: 0; 1 where the last line is the strand's own fault; 2 faulty words;
+3 no valid script; 4 a failed read; 5 a failed write; 6 no memory; 7 where no
+strand has this pedigree, or a fault stands on the way to it.
+
+Example:
+  $ pedrun replay --seed 1 --at 0.163.2 < examples/midpoint.ped
+";
+
+pub const HASH: &str = "\
+Prints the dot product of a pedigree, and the number that a draw at it gives. It
+reads no script.
+
+Usage: pedrun hash --at PEDIGREE [--OPTION VALUE]...
+
+Options, in any order, each at most once; a gamma excludes a seed:
+  --at PEDIGREE    the strand's name, such as 0.3.1 (must be given)
+  --seed N         the seed of the draws, from 0 to 18446744073709551615
+                   (default 0)
+  --gamma N,N,..   the coefficients of the draws in place of a seed, each below
+                   18446744073709551557, at most 256
+
+Exit status: 0; 2 faulty words; 5 a failed write; 6 no memory.
+
+Example:
+  $ pedrun hash --seed 7 --at 0.3.1
+";
+
+pub const GEN: &str = "\
+Prints a script of a shape and a size, to try the other commands on: fib has a
+spawn for each call, tree draws at its leaves, loop has a parallel loop. It
+reads no script.
+
+Usage: pedrun gen --shape SHAPE --size N
+
+Options, in any order, each once:
+  --shape SHAPE    fib, tree or loop (must be given)
+  --size N         at most 30 for fib, at most 20 for tree, from 1 to 4096 for
+                   loop (must be given)
+
+Exit status: 0; 2 faulty words; 5 a failed write; 6 no memory.
+
+Example:
+  $ pedrun gen --shape fib --size 20 | pedrun run
+";

@@ -1,0 +1,2 @@
+" Scripts of pedrun.
+autocmd BufNewFile,BufRead *.ped setfiletype ped

@@ -1,0 +1,11 @@
+" Editing scripts of pedrun: comments, and the canonical text's two spaces.
+if exists('b:did_ftplugin')
+  finish
+endif
+let b:did_ftplugin = 1
+
+setlocal comments=:# commentstring=#\ %s
+setlocal expandtab shiftwidth=2 softtabstop=2
+setlocal autoindent
+
+let b:undo_ftplugin = 'setlocal comments< commentstring< expandtab< shiftwidth< softtabstop< autoindent<'
