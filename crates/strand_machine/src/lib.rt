@@ -23,6 +23,7 @@ mod work;
 
 pub use memory::Memory;
 pub use note::Noted;
+pub use origin::share_origin;
 pub use stop::{Resumed, Stop};
 pub use task::Task;
 

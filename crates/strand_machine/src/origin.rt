@@ -24,7 +24,7 @@ pub(crate) fn share_values(alloc: Global, values: &[Value]) -> Result<Items<Valu
 }
 
 /// The same origin. Its path shares its memory.
-pub(crate) fn share_origin(alloc: Global, origin: &Origin) -> Result<Origin, Memory>
+pub fn share_origin(alloc: Global, origin: &Origin) -> Result<Origin, Memory>
     ensures { IfOk result (λ shared. shared ≡ origin.now) }
 {
     Ok(match origin {

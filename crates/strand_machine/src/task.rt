@@ -8,7 +8,7 @@ ghost use Rattle.strand_machine.specs.Parts.{awaited};
 use crate::body::Body;
 use crate::family::Family;
 use crate::memory::Memory;
-use crate::origin::trail_of;
+use crate::origin::{share_origin, trail_of};
 use crate::pieces::Pieces;
 use crate::work::{Work, begin};
 use meet_block::Give;
@@ -93,6 +93,13 @@ impl Task {
         ensures { result.now ≡ self.now.task.origin }
     {
         self.body.family.origin()
+    }
+
+    /// A copy of what the task was begun as. Its path shares its memory.
+    pub fn share_origin(&self, alloc: Global) -> Result<Origin, Memory>
+        ensures { IfOk result (λ origin. origin ≡ self.now.task.origin) }
+    {
+        share_origin(alloc, self.origin())
     }
 
     /// Whether it wasn't advanced yet.

@@ -1,10 +1,10 @@
-use Rattle.strand_machine.proofs.Moving.{went-sound, went-is, gave-sound, gave-is, faulted-sound, faulted-is}
+use Rattle.strand_machine.proofs.Moving.{went-sound, gave-sound, faulted-sound}
 use Rattle.strand_machine.proofs.note.go_noted.Goals as goal
 
 pub show-requires : goal.show-requires
 show-requires c =
     let m = c.in_ok-moved.ensures in
-    went-sound c.args.body c.args.instance c.step.new.self _ _ c.plan.ensures m.moves c.requires c.steps_are_sound.ensures c.in-Went.shown c.in-Went.is c.step.ensures.path m.sound
+    went-sound c.args.body c.args.instance c.step.new.self _ _ c.plan.ensures m.moves c.requires c.steps_are_sound.ensures c.in-Went.shown c.in-Went.is c.step.ensures.path m.sound m.child
 
 pub pass-requires : goal.pass-requires
 pass-requires c =
