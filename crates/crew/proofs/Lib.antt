@@ -1,6 +1,9 @@
 pub mod Hands
 pub mod Mains
+pub mod Showing
 pub mod Shows
+pub mod Sighted
 pub mod Stopping
 pub mod Turning
 pub mod Turns
+pub mod Walking

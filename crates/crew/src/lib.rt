@@ -6,11 +6,15 @@
 
 mod frames;
 mod memory;
+mod node;
 mod serial;
+mod sight;
 mod stack;
 #[cfg(test)]
 mod tests;
 mod turn;
+mod walk;
 
 pub use memory::Memory;
+pub use node::{Node, walk_node};
 pub use serial::run_serial;
