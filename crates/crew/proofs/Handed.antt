@@ -45,11 +45,11 @@ awaited-tokens (Handed o place ∷ ts) pieces =
 awaited-tokens (Syncs ∷ ts) pieces = awaited-tokens ts pieces
 awaited-tokens (Loops ∷ ts) pieces = awaited-tokens ts pieces
 
-abbrev first : List Origin → Option Origin
+abbrev pub first : List Origin → Option Origin
 first [] = None
 first (o ∷ os) = Some o
 
-child-first : (ts : List Token) → child_in ts ≡ first (children ts)
+pub child-first : (ts : List Token) → child_in ts ≡ first (children ts)
 child-first [] = refl
 child-first (Told e ∷ ts) = child-first ts
 child-first (Handed o place ∷ ts) = refl

@@ -3,7 +3,10 @@ pub mod Handed
 pub mod Mains
 pub mod Rooted
 pub mod Shares
+pub mod Showing
 pub mod Shows
+pub mod Sighted
 pub mod Stopping
 pub mod Turning
 pub mod Turns
+pub mod Walking

@@ -35,7 +35,7 @@ tags-append : (plan : PlanView) (os more : List Origin) → tags plan (os ++ mor
 tags-append plan [] more = refl
 tags-append plan (o ∷ os) more = ap (λ l. tag plan o ∷ l) (tags-append plan os more)
 
-answer-tags-append : (first more : List AnswerView) → answer_tags (first ++ more) ≡ answer_tags first ++ answer_tags more
+pub answer-tags-append : (first more : List AnswerView) → answer_tags (first ++ more) ≡ answer_tags first ++ answer_tags more
 answer-tags-append [] more = refl
 answer-tags-append (a ∷ first) more = ap (λ l. tag a.plan a.origin ∷ l) (answer-tags-append first more)
 

@@ -1,2 +1,4 @@
 pub mod Hands
+pub mod Nodes
+pub mod Sights
 pub mod Stacks

@@ -13,20 +13,24 @@ mod hand;
 mod held;
 mod hiring;
 mod memory;
+mod node;
 mod parked;
 mod root;
 mod run;
 mod serial;
+mod sight;
 mod stack;
 mod steps;
 #[cfg(test)]
 mod tests;
 mod turn;
+mod walk;
 
 pub use gate::{Gate, OpenGate};
 pub use hand::{Hand, Hands, Turn};
 pub use hiring::Crew;
 pub use memory::Memory;
+pub use node::{Node, walk_node};
 pub use root::Root;
 pub use run::run_crew;
 pub use serial::run_serial;

@@ -23,6 +23,12 @@ impl From<meet_block::Memory> for Memory {
     }
 }
 
+impl From<ped_path::Memory> for Memory {
+    fn from(_: ped_path::Memory) -> Self {
+        Memory
+    }
+}
+
 impl From<serial_meaning::Memory> for Memory {
     fn from(_: serial_meaning::Memory) -> Self {
         Memory
