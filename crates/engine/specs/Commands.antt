@@ -1,5 +1,5 @@
 -- Which commands run today, which of them read a script, and which scripts they take.
-use Rattle.std.specs.Prelude.{◌≡◌, ⊤, ℕ, Bool, true, false, ◌&&◌, List, codes}
+use Rattle.std.specs.Prelude.{◌≡◌, ⊤, ℕ, Bool, true, false, ◌&&◌, List, [], ◌∷◌, codes}
 use Rattle.script_check.specs.Valid.{IsValid}
 use Rattle.script_grammar.specs.declared.tree.Script.{Script}
 use Rattle.script_grammar.specs.Text.{Text}
@@ -8,6 +8,11 @@ use Rattle.ped_gen.specs.Scripts.{generated}
 use Rattle.ped_words.specs.declared.command.Command.{Command}
 use Rattle.ped_words.specs.declared.command.Command.TheVariants.{Run, Serial, Sim, Replay, Hash, Check, Fmt, Gen}
 use Rattle.engine.specs.Report.{Report, said, plan_of, run_report, hash_text}
+
+-- The first word says the command that runs on workers.
+abbrev pub IsRun : List (List ℕ) → Type 0
+IsRun [] = ⊥
+IsRun (word ∷ words) = word ≡ codes "run"
 
 abbrev pub runs_today : Command → Bool
 runs_today (Run settings workers) = true

@@ -1,7 +1,9 @@
 -- What a command writes.
-use Rattle.std.specs.Prelude.{ℕ, List, ◌++◌, Result, Ok, Err, codes, decimal}
+use Rattle.std.specs.Prelude.{◌≡◌, ℕ, List, ◌++◌, Result, Ok, Err, codes, decimal}
 use Rattle.dotmix.specs.Draws.{dot, dotmix}
 use Rattle.ped_words.specs.declared.command.Settings.{Settings}
+use Rattle.script_check.specs.Valid.{IsValid}
+use Rattle.script_grammar.specs.Text.{Text}
 use Rattle.script_grammar.specs.declared.tree.Script.{Script}
 use Rattle.serial_meaning.specs.Plan.{PlanView}
 use Rattle.serial_meaning.specs.Eval.{main_origin, elision}
@@ -40,6 +42,14 @@ run_report plan = record {
   output = rendered plan.show (elision plan).items (outcome_of (main_origin plan) (elision plan).ending);
   ending = ending_of (elision plan).ending;
 }
+
+-- These bytes are the text of a valid script, and this is its plan.
+abbrev pub IsPlanOf : Settings → List ℕ → PlanView → Type 0
+IsPlanOf settings bytes plan = (script : Script) × Text bytes script × IsValid script × (plan ≡ plan_of settings script)
+
+-- These bytes are the text of a valid script, and a run of it writes this.
+abbrev pub IsRunOf : Settings → List ℕ → Report → Type 0
+IsRunOf settings bytes report = (script : Script) × Text bytes script × IsValid script × (report ≡ run_report (plan_of settings script))
 
 -- the dot product of a pedigree, and its draw
 abbrev pub hash_text : List ℕ → List ℕ → List ℕ

@@ -1,26 +1,25 @@
-// The top call.
+// What a call does, from its words to its status.
 
 ghost use Rattle.std.specs.Prelude.{◌≡◌, codes, IfOk, IfErr, IsTrue, IsFalse, map, string_bytes};
-ghost use Rattle.ped_io.specs.Causes.{Rose};
 ghost use Rattle.ped_words.specs.Reading.{reading};
-ghost use Rattle.ped_words.specs.Commands.{IsLawful as IsLawfulCommand};
-ghost use Rattle.script_grammar.specs.declared.tree.Script.{Script as ScriptTree};
-ghost use Rattle.ped_words.specs.declared.command.Settings.{Settings as RunSettings};
-ghost use Rattle.engine.specs.Clauses.{IsLawful, RefusesScript, RefusesWords, WritesReport};
+ghost use Rattle.ped_words.specs.Commands.{AreLawful, IsLawful, IsWorkers};
 ghost use Rattle.engine.specs.Commands.{reads_script, runs_today, takes_script};
 ghost use Rattle.engine.specs.Promise.{Answers, HasReport, KeepsPromise, ReadWhole, ReadsNone, Refuses, Told, has_line, has_output, watched};
 ghost use Rattle.engine.specs.Refusal.{Delivers, IsCause, IsLate, Refused};
-ghost use Rattle.engine.specs.Report.{plan_of, shown};
+ghost use Rattle.engine.specs.Report.{shown};
 
 use crate::command::{runs_today, takes_script};
 use crate::line::words_line;
+use crate::play::played_by_crew;
 use crate::refusal::Refusal;
 use crate::report::{Ending, Report, alone_report, script_report};
 use crate::status::Status;
+use crew::Gate;
 use ped_io::{ReadError, Sink, Source, read_all, write_all};
-use ped_words::{Command, WordError, read_words};
-use serial_meaning::laws;
+use ped_words::{Command, Settings, WordError, read_words};
 use std::alloc::Global;
+use std::sync::Wait;
+use std::thread::Threads;
 
 const MOST_BYTES: u64 = 1048576;
 
@@ -40,7 +39,7 @@ fn fetch<S: Source>(alloc: Global, source: &mut S) -> Result<Vec<u8>, Refusal>
 // What a command writes, of the script of the source where it takes one.
 fn prepare<S: Source>(alloc: Global, command: Command, source: &mut S) -> Result<Report, Refusal>
     requires today { IsTrue (runs_today command) }
-    requires lawful { IsLawfulCommand command }
+    requires lawful { IsLawful command }
     ensures ready { IfOk result (λ report. HasReport command (watched S.left S.faults source.old source.new) (shown report)) }
     ensures refused { IfErr result (IsCause command (watched S.left S.faults source.old source.new)) }
     ensures untouched { IsFalse (takes_script command) → source.new ≡ source.old }
@@ -51,6 +50,24 @@ fn prepare<S: Source>(alloc: Global, command: Command, source: &mut S) -> Result
     } else {
         Ok(alone_report(alloc, command)?)
     }
+}
+
+// What a run on so many workers writes, of the script of the source.
+fn prepare_run<R: Threads + Wait + Sync, S: Source, G: Gate + Sync>(
+    rt: &R,
+    alloc: Global,
+    settings: Settings,
+    workers: u32,
+    source: &mut S,
+    gate: &G,
+) -> Result<Report, Refusal>
+    requires lawful { AreLawful settings }
+    requires workers { IsWorkers workers }
+    ensures ready { IfOk result (λ report. HasReport (Command.Run settings workers) (watched S.left S.faults source.old source.new) (shown report)) }
+    ensures refused { IfErr result (IsCause (Command.Run settings workers) (watched S.left S.faults source.old source.new)) }
+{
+    let bytes = fetch(alloc, source)?;
+    played_by_crew(rt, alloc, settings, workers, &bytes, gate)
 }
 
 // Writes a line of the error output. A failed write changes nothing else.
@@ -134,7 +151,7 @@ fn serve<S: Source, K: Sink, E: Sink>(
     out: &mut K,
     err: &mut E,
 ) -> Status
-    requires lawful { IsLawfulCommand command }
+    requires lawful { IsLawful command }
     ensures answers { Answers command (watched S.left S.faults source.old source.new) (watched K.written K.faults out.old out.new)
         (watched E.written E.faults err.old err.new) result }
     ensures untouched { IsFalse (reads_script command) → source.new ≡ source.old }
@@ -151,8 +168,32 @@ fn serve<S: Source, K: Sink, E: Sink>(
     }
 }
 
-// Reads the words and runs their command.
-fn perform<S: Source, K: Sink, E: Sink>(
+// Runs a script on so many workers.
+fn serve_run<R: Threads + Wait + Sync, S: Source, K: Sink, E: Sink, G: Gate + Sync>(
+    rt: &R,
+    alloc: Global,
+    settings: Settings,
+    workers: u32,
+    source: &mut S,
+    out: &mut K,
+    err: &mut E,
+    gate: &G,
+) -> Status
+    requires lawful { AreLawful settings }
+    requires workers { IsWorkers workers }
+    ensures answers { Answers (Command.Run settings workers) (watched S.left S.faults source.old source.new) (watched K.written K.faults out.old out.new)
+        (watched E.written E.faults err.old err.new) result }
+    ensures no_output { IsFalse (has_output result) → out.new ≡ out.old }
+    ensures no_line { IsFalse (has_line result) → err.new ≡ err.old }
+{
+    match prepare_run(rt, alloc, settings, workers, source, gate) {
+        Ok(report) => deliver(&report, out, err),
+        Err(refusal) => refuse(&refusal, err),
+    }
+}
+
+/// Reads the words and runs their command on the caller's thread.
+pub(crate) fn perform<S: Source, K: Sink, E: Sink>(
     alloc: Global,
     words: &[String],
     script: &mut S,
@@ -171,38 +212,33 @@ fn perform<S: Source, K: Sink, E: Sink>(
     }
 }
 
-/// All that the program does, over any source of the script, sink of the output and sink of the error line.
-///
-/// `words` are those of the command line without the program's name. What each status means, and which bytes were read and written
-/// then, is the clause `promise`; the clauses `words` to `write` say its parts. Statuses 2 to 7 come with one line on `err`, and whether
-/// `err` takes it changes no status. The clause `events` says what holds of each run.
-pub fn pedrun<S: Source, K: Sink, E: Sink>(
+/// The same, but `run` goes by workers on threads. The gate is told of their tasks.
+pub(crate) fn perform_by_crew<
+    R: Threads + Wait + Sync,
+    S: Source,
+    K: Sink,
+    E: Sink,
+    G: Gate + Sync,
+>(
+    rt: &R,
     alloc: Global,
     words: &[String],
     script: &mut S,
     out: &mut K,
     err: &mut E,
+    gate: &G,
 ) -> Status
     ensures promise { KeepsPromise (reading (map string_bytes words.now)) (watched S.left S.faults script.old script.new)
         (watched K.written K.faults out.old out.new) (watched E.written E.faults err.old err.new) result }
-
-    // Words that give no command that reads a script leave the source, and an answer without output or without a line leaves that sink.
     ensures untouched { ReadsNone (reading (map string_bytes words.now)) → script.new ≡ script.old }
     ensures no_output { IsFalse (has_output result) → out.new ≡ out.old }
     ensures no_line { IsFalse (has_line result) → err.new ≡ err.old }
-
-    // The promise, said by its parts.
-    ensures words { RefusesWords (reading (map string_bytes words.now)) result }
-    ensures script { RefusesScript (reading (map string_bytes words.now)) (S.left script.old) result }
-    ensures report { WritesReport (reading (map string_bytes words.now)) (watched S.left S.faults script.old script.new) (S.left script.old) (watched K.written K.faults out.old out.new) result }
-    ensures read { result ≡ Status.Read → Rose (S.faults script.old) (S.faults script.new) }
-    ensures write { result ≡ Status.Write → Rose (K.faults out.old) (K.faults out.new) }
-
-    // What holds of each run that is written.
-    ensures events { (settings : RunSettings) (tree : ScriptTree) → IsLawful (plan_of settings tree) }
 {
-    laws::pedigrees_rise();
-    laws::draws_are_dotmix();
-    laws::fault_is_least();
-    perform(alloc, words, script, out, err)
+    match read_words(alloc, words) {
+        Ok(Command::Run { settings, workers }) => {
+            serve_run(rt, alloc, settings, workers, script, out, err, gate)
+        }
+        Ok(command) => serve(alloc, command, script, out, err),
+        Err(error) => refuse_words(alloc, error, err),
+    }
 }

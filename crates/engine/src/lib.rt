@@ -1,15 +1,18 @@
-//! The program's top call.
+//! The program's top calls.
 #![tactic(auto)]
 
 pub mod call;
 pub mod command;
 pub mod line;
+mod play;
 pub mod refusal;
 pub mod report;
 pub mod script;
 pub mod status;
 #[cfg(test)]
 mod tests;
+pub mod top;
 
-pub use call::pedrun;
+pub use crew::{Gate, OpenGate};
 pub use status::Status;
+pub use top::{is_run, pedrun, pedrun_plain, pedrun_run};

@@ -1,27 +1,22 @@
 // What a command writes.
 
 ghost use Rattle.std.specs.Prelude.{◌≡◌, ℕ, ◌≤◌, List, IsTrue, IsFalse, IfErr, IfOk, length};
-ghost use Rattle.ped_words.specs.Commands.{AreLawful, IsLawful};
-ghost use Rattle.script_check.specs.Valid.{IsValid};
-ghost use Rattle.script_grammar.specs.Text.{Text};
-ghost use Rattle.script_grammar.specs.declared.tree.Script.{Script as ScriptTree};
+ghost use Rattle.ped_words.specs.Commands.{IsLawful};
 ghost use Rattle.engine.specs.Commands.{Reports, Takes, runs_today, takes_script};
 ghost use Rattle.engine.specs.Promise.{most_bytes};
 ghost use Rattle.engine.specs.Refusal.{IsMisfit};
-ghost use Rattle.engine.specs.Report.{hash_text, outcome_ending, plan_of, run_report, said, shown};
+ghost use Rattle.engine.specs.Report.{hash_text, said, shown};
 
+use crate::play::played;
 use crate::refusal::Refusal;
 use crate::script::{any_script, valid_script};
-use crew::run_serial;
 use dotmix::{Gamma, dot, dotmix};
 use ped_gen::gen_script;
 use ped_path::Pedigree;
-use ped_words::{Command, Settings};
-use script_check::Checked;
+use ped_words::Command;
 use script_print::print_script;
-use serial_meaning::{Memory, Outcome, Plan, render_run};
+use serial_meaning::Memory;
 use std::alloc::Global;
-use std::sync::Arc;
 
 /// How a report ends: the run came to its end, or ended by a fault, whose line is the last one.
 #[derive(Clone, Copy, Debug, PartialEq, Eq)]
@@ -49,28 +44,6 @@ impl Report {
     }
 }
 
-fn ending_for(outcome: &Outcome) -> Ending
-    ensures { result ≡ outcome_ending outcome.now }
-{
-    match outcome {
-        Outcome::Fault(_) => Ending::Faulted,
-        _ => Ending::Done,
-    }
-}
-
-// What a run writes.
-fn run_report(alloc: Global, plan: Plan) -> Result<Report, Refusal>
-    ensures report { IfOk result (λ report. shown report ≡ run_report plan) }
-    ensures refused { IfErr result (λ refusal. refusal ≡ Refusal.Memory) }
-{
-    let plan = Arc::new(alloc, plan)?;
-    let origin = plan.main_origin(alloc)?;
-    let answer = run_serial(alloc, &plan, origin)?;
-    let output = render_run(alloc, &answer)?;
-    let ending = ending_for(&answer.outcome);
-    Ok(Report { output, ending })
-}
-
 // The lines of a pedigree's dot product and draw.
 fn hash_report(alloc: Global, gamma: &Gamma, at: &Pedigree) -> Result<Report, Memory>
     requires { length at.now ≤ length gamma.now }
@@ -82,34 +55,7 @@ fn hash_report(alloc: Global, gamma: &Gamma, at: &Pedigree) -> Result<Report, Me
     Ok(Report::said(text.into_bytes()))
 }
 
-// The plan of a run.
-fn make_plan(settings: Settings, script: Checked) -> Plan
-    requires { AreLawful settings }
-    ensures { result ≡ plan_of settings script }
-{
-    let Settings {
-        gamma,
-        limits,
-        show,
-    } = settings;
-    Plan::new(script, gamma, limits, show)
-}
-
-// What a run writes of the script that these bytes are the text of.
-fn played(alloc: Global, settings: Settings, bytes: &[u8]) -> Result<Report, Refusal>
-    requires lawful { AreLawful settings }
-    requires within { length bytes.now ≤ most_bytes }
-    ensures report { IfOk result (λ report. (script : ScriptTree) × Text bytes.now script × IsValid script × (shown report ≡ run_report (plan_of settings script))) }
-    ensures refused { IfErr result (IsMisfit IsValid bytes.now) }
-{
-    let script = match valid_script(alloc, bytes) {
-        Ok(script) => script,
-        Err(refusal) => return Err(refusal),
-    };
-    run_report(alloc, make_plan(settings, script))
-}
-
-/// What a command writes of the script that these bytes are the text of.
+/// What a command writes, on the caller's thread, of the script that these bytes are the text of.
 pub fn script_report(alloc: Global, command: Command, bytes: &[u8]) -> Result<Report, Refusal>
     requires today { IsTrue (runs_today command) }
     requires script { IsTrue (takes_script command) }

@@ -1,15 +1,19 @@
-// Runs of the top call over sources and sinks in memory.
+// Runs of the top calls over sources and sinks in memory.
 
 mod commands;
 mod faults;
 mod runs;
 mod scripts;
+mod workers;
 
 use crate::pedrun;
+use crew::{Gate, OpenGate};
 use ped_io::{MemSink, MemSource};
 use std::alloc::Global;
 use std::process::Abort;
+use std::sync::Wait;
 use std::test::Fail;
+use std::thread::Threads;
 
 const ONE: &[u8] = b"fn main() { print 1; return 0; }";
 
@@ -18,6 +22,18 @@ const DRAWS: &[u8] =
 
 const SQUARES: &[u8] =
     b"fn sq(i) { return i * i; } fn main() { let a[5]; pfor i in 0..5 into a call sq(i); let k = 0; while k < 5 { print a[k]; k = k + 1; } return 0; }";
+
+const TWO_DRAWS: &[u8] =
+    b"fn f() { let x = draw; return x; } fn main() { let a = spawn f(); let b = draw; sync; print a; print b; return 0; }";
+
+// The child ends by a fault, and main goes on until its budget is spent.
+const FAULTY_CHILD: &[u8] =
+    b"fn bad() { let z = 0; return 1 / z; } fn main() { print 7; let a = spawn bad(); let i = 0; while i == 0 { i = 0; } sync; print a; return 0; }";
+
+/// What a test's runtime has.
+trait Host: Abort + AllocGlobal + Threads + Wait + Sync {}
+
+impl<R: Abort + AllocGlobal + Threads + Wait + Sync> Host for R {}
 
 /// How a call ended: its status, and what stands in its sinks.
 #[derive(Drop)]
@@ -39,20 +55,22 @@ fn words(alloc: Global, line: &str) -> Result<Vec<String>, Fail> {
 }
 
 // A call whose writes take this many bytes and whose read and write of these numbers fail.
-fn call(
-    alloc: Global,
+fn call<R: Host, G: Gate + Sync>(
+    rt: &R,
     line: &str,
     script: Vec<u8>,
     step: u32,
     reads: Vec<u64>,
     writes: Vec<u64>,
+    gate: &G,
 ) -> Result<Told, Fail> {
+    let alloc = rt.alloc();
     let step = step.max(1);
     let words = words(alloc, line)?;
     let mut source = MemSource::new(script, 4096, reads);
     let mut out = MemSink::new(alloc, step, 1048576, writes)?;
     let mut err = MemSink::new(alloc, 4096, 1048576, Vec::new(alloc))?;
-    let status = pedrun(alloc, &words, &mut source, &mut out, &mut err);
+    let status = pedrun(rt, alloc, &words, &mut source, &mut out, &mut err, gate);
     Ok(Told {
         code: status.code(),
         out: out.bytes().to_vec(alloc)?,
@@ -61,27 +79,40 @@ fn call(
 }
 
 // A call in which nothing fails.
-fn plain(alloc: Global, line: &str, script: &[u8]) -> Result<Told, Fail> {
+fn plain<R: Host>(rt: &R, line: &str, script: &[u8]) -> Result<Told, Fail> {
+    guarded(rt, line, script, &OpenGate)
+}
+
+// A call in which nothing fails, with this gate.
+fn guarded<R: Host, G: Gate + Sync>(
+    rt: &R,
+    line: &str,
+    script: &[u8],
+    gate: &G,
+) -> Result<Told, Fail> {
+    let alloc = rt.alloc();
+    let script = script.to_vec(alloc)?;
     call(
-        alloc,
+        rt,
         line,
-        script.to_vec(alloc)?,
+        script,
         4096,
         Vec::new(alloc),
         Vec::new(alloc),
+        gate,
     )
 }
 
 // The call ends with this status, and this stands in its sinks.
-fn ends(
-    rt: &(impl Abort + AllocGlobal),
+fn ends<R: Host>(
+    rt: &R,
     line: &str,
     script: &[u8],
     code: u8,
     output: &[u8],
     refusal: &[u8],
 ) -> Result<(), Fail> {
-    let told = plain(rt.alloc(), line, script)?;
+    let told = plain(rt, line, script)?;
     assert_eq!(rt; told.code, code, "{line}");
     assert_eq!(rt; told.out.as_slice(), output, "{line}");
     assert_eq!(rt; told.err.as_slice(), refusal, "{line}");
@@ -89,28 +120,18 @@ fn ends(
 }
 
 // The command prints this.
-fn prints(
-    rt: &(impl Abort + AllocGlobal),
-    line: &str,
-    script: &[u8],
-    output: &[u8],
-) -> Result<(), Fail> {
+fn prints<R: Host>(rt: &R, line: &str, script: &[u8], output: &[u8]) -> Result<(), Fail> {
     ends(rt, line, script, 0, output, b"")
 }
 
 // The run prints this, of which the last line is a fault's.
-fn ends_by_fault(
-    rt: &(impl Abort + AllocGlobal),
-    line: &str,
-    script: &[u8],
-    output: &[u8],
-) -> Result<(), Fail> {
+fn ends_by_fault<R: Host>(rt: &R, line: &str, script: &[u8], output: &[u8]) -> Result<(), Fail> {
     ends(rt, line, script, 1, output, b"")
 }
 
 // The words or the script are refused by this line.
-fn refuses(
-    rt: &(impl Abort + AllocGlobal),
+fn refuses<R: Host>(
+    rt: &R,
     line: &str,
     script: &[u8],
     code: u8,
@@ -120,8 +141,8 @@ fn refuses(
 }
 
 // The script that the words generate.
-fn generated(rt: &(impl Abort + AllocGlobal), line: &str) -> Result<Vec<u8>, Fail> {
-    let told = plain(rt.alloc(), line, b"")?;
+fn generated<R: Host>(rt: &R, line: &str) -> Result<Vec<u8>, Fail> {
+    let told = plain(rt, line, b"")?;
     assert_eq!(rt; told.code, 0, "{line}");
     Ok(told.out)
 }

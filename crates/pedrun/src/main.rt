@@ -6,7 +6,7 @@ mod help;
 mod text;
 
 use edge::{refuse, show};
-use engine::pedrun;
+use engine::{OpenGate, pedrun};
 use help::Topic;
 use ped_io::{StdSink, StdSource};
 use std::process::ExitCode;
@@ -33,6 +33,14 @@ fn main(rt: HostRuntime) -> ExitCode {
         return ExitCode::from(show(topic.text(), &mut out, &mut err).code());
     }
     let mut script = StdSource::new(rt.stdin());
-    let status = pedrun(rt.alloc(), &words, &mut script, &mut out, &mut err);
+    let status = pedrun(
+        &rt,
+        rt.alloc(),
+        &words,
+        &mut script,
+        &mut out,
+        &mut err,
+        &OpenGate,
+    );
     ExitCode::from(status.code())
 }

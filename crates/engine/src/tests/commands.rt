@@ -2,6 +2,7 @@
 
 use super::{DRAWS, ONE, call, generated, plain, prints, refuses, words};
 use crate::pedrun;
+use crew::OpenGate;
 use ped_io::{MemSink, MemSource};
 use std::test::Fail;
 
@@ -32,7 +33,7 @@ fn seeds_give_coefficients(rt: HostRuntime) -> Result<(), Fail> {
         ("hash --seed 0 --at 0.0", b"dot 5807750865143411678\n"),
     ];
     for (line, first) in rows {
-        let told = plain(rt.alloc(), line, b"")?;
+        let told = plain(&rt, line, b"")?;
         assert_eq!(rt; told.code, 0);
         assert!(rt; told.out.as_slice().starts_with(first));
     }
@@ -135,23 +136,25 @@ fn commands_that_are_not_built_are_refused(rt: HostRuntime) -> Result<(), Fail> 
 fn faults_of_reads_and_writes_are_told(rt: HostRuntime) -> Result<(), Fail> {
     let alloc = rt.alloc();
     let read = call(
-        alloc,
+        &rt,
         "run --seed 0",
         ONE.to_vec(alloc)?,
         4096,
         vec![in alloc; 1]?,
         Vec::new(alloc),
+        &OpenGate,
     )?;
     assert_eq!(rt; read.code, 4);
     assert_eq!(rt; read.out.as_slice(), b"".as_slice());
     assert_eq!(rt; read.err.as_slice(), b"read fault\n".as_slice());
     let write = call(
-        alloc,
+        &rt,
         "run --gamma 1",
         DRAWS.to_vec(alloc)?,
         4,
         Vec::new(alloc),
         vec![in alloc; 1]?,
+        &OpenGate,
     )?;
     assert_eq!(rt; write.code, 5);
     assert_eq!(rt; write.out.as_slice(), b"21\n2".as_slice());
@@ -167,7 +170,15 @@ fn a_failing_error_output_changes_no_status(rt: HostRuntime) -> Result<(), Fail>
     let mut source = MemSource::new(Vec::new(alloc), 4096, Vec::new(alloc));
     let mut out = MemSink::new(alloc, 4096, 4096, Vec::new(alloc))?;
     let mut err = MemSink::new(alloc, 4096, 4096, vec![in alloc; 0]?)?;
-    let status = pedrun(alloc, &words, &mut source, &mut out, &mut err);
+    let status = pedrun(
+        &rt,
+        alloc,
+        &words,
+        &mut source,
+        &mut out,
+        &mut err,
+        &OpenGate,
+    );
     assert_eq!(rt; status.code(), 2);
     assert_eq!(rt; err.bytes(), b"".as_slice());
     Ok(())

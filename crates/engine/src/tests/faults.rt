@@ -1,6 +1,6 @@
 // What runs print that end by a fault, and limits at which they just don't.
 
-use super::{ends_by_fault, prints};
+use super::{FAULTY_CHILD, ends_by_fault, prints};
 use std::test::Fail;
 
 // The child's fault is before main's, which stands in a loop without end.
@@ -11,12 +11,7 @@ fn the_least_fault_is_told(rt: HostRuntime) -> Result<(), Fail> {
         "run --workers 2 --budget 10000",
         "run --workers 64 --budget 10000",
     ] {
-        ends_by_fault(
-            &rt,
-            line,
-            b"fn bad() { let z = 0; return 1 / z; } fn main() { print 7; let a = spawn bad(); let i = 0; while i == 0 { i = 0; } sync; print a; return 0; }",
-            b"7\nfault 0.0: division by zero\n",
-        )?;
+        ends_by_fault(&rt, line, FAULTY_CHILD, b"7\nfault 0.0: division by zero\n")?;
     }
     Ok(())
 }

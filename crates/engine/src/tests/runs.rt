@@ -1,6 +1,6 @@
 // What runs print that end well.
 
-use super::{DRAWS, ONE, SQUARES, generated, prints};
+use super::{DRAWS, ONE, SQUARES, TWO_DRAWS, prints};
 use std::test::Fail;
 
 const SPAWNED: &[u8] =
@@ -11,9 +11,6 @@ const SUM: &[u8] =
 
 const SPAWNED_DRAW: &[u8] =
     b"fn f() { let x = draw; return x; } fn main() { let a = spawn f(); sync; print a; return 0; }";
-
-const TWO_DRAWS: &[u8] =
-    b"fn f() { let x = draw; return x; } fn main() { let a = spawn f(); let b = draw; sync; print a; print b; return 0; }";
 
 #[test]
 fn scripts_print_their_lines(rt: HostRuntime) -> Result<(), Fail> {
@@ -123,26 +120,4 @@ fn a_sync_waits_for_17_children(rt: HostRuntime) -> Result<(), Fail> {
         "fn f(n) {{ return n; }} fn main() {{ {spawns}sync; print {sum}; return 0; }}"
     )?;
     prints(&rt, "run", script.as_bytes(), b"153\n")
-}
-
-#[test]
-fn generated_scripts_print_their_numbers(rt: HostRuntime) -> Result<(), Fail> {
-    let rows: [(&str, &str, &[u8]); 3] = [
-        ("gen --shape fib --size 20", "run --workers 8", b"6765\n"),
-        (
-            "gen --shape tree --size 10",
-            "run --gamma 0 --workers 8",
-            b"1024\n",
-        ),
-        (
-            "gen --shape loop --size 10",
-            "run --gamma 0 --workers 8",
-            b"285\n",
-        ),
-    ];
-    for (made, line, output) in rows {
-        let script = generated(&rt, made)?;
-        prints(&rt, line, script.as_slice(), output)?;
-    }
-    Ok(())
 }

@@ -74,7 +74,7 @@ fn invalid_scripts_have_their_places(rt: HostRuntime) -> Result<(), Fail> {
 #[test]
 fn fronts_of_a_script_are_refused(rt: HostRuntime) -> Result<(), Fail> {
     for length in 0..SQUARES.len() {
-        let told = plain(rt.alloc(), "run", &SQUARES[..length])?;
+        let told = plain(&rt, "run", &SQUARES[..length])?;
         assert_eq!(rt; told.code, 3, "{length}");
         assert_eq!(rt; told.out.as_slice(), b"".as_slice(), "{length}");
     }

@@ -1,0 +1,117 @@
+// Runs of a script, and what they write.
+
+ghost use Rattle.std.specs.Prelude.{◌≡◌, ◌≤◌, IfErr, IfOk, length};
+ghost use Rattle.std.specs.Arc.{arc_value};
+ghost use Rattle.ped_words.specs.Commands.{AreLawful, IsWorkers};
+ghost use Rattle.script_check.specs.Valid.{IsValid};
+ghost use Rattle.serial_meaning.specs.Eval.{main_origin};
+ghost use Rattle.serial_meaning.specs.Render.{IsWhole};
+ghost use Rattle.strand_meaning.specs.Laws.{IsFaultOf};
+ghost use Rattle.engine.specs.Promise.{most_bytes};
+ghost use Rattle.engine.specs.Refusal.{IsMisfit};
+ghost use Rattle.engine.specs.Report.{IsPlanOf, IsRunOf, outcome_ending, plan_of, run_report, shown};
+
+use crate::refusal::Refusal;
+use crate::report::{Ending, Report};
+use crate::script::valid_script;
+use crew::{Gate, run_crew, run_serial};
+use ped_words::Settings;
+use script_check::Checked;
+use serial_meaning::{Answer, Memory, Outcome, Plan, render_run};
+use std::alloc::Global;
+use std::sync::{Arc, Wait};
+use std::thread::Threads;
+
+fn make_plan(settings: Settings, script: Checked) -> Plan
+    requires { AreLawful settings }
+    ensures { result ≡ plan_of settings script }
+{
+    let Settings {
+        gamma,
+        limits,
+        show,
+    } = settings;
+    Plan::new(script, gamma, limits, show)
+}
+
+// The plan of the script that these bytes are the text of.
+fn planned(alloc: Global, settings: Settings, bytes: &[u8]) -> Result<Plan, Refusal>
+    requires lawful { AreLawful settings }
+    requires within { length bytes.now ≤ most_bytes }
+    ensures plan { IfOk result (IsPlanOf settings bytes.now) }
+    ensures refused { IfErr result (IsMisfit IsValid bytes.now) }
+{
+    let script = match valid_script(alloc, bytes) {
+        Ok(script) => script,
+        Err(refusal) => return Err(refusal),
+    };
+    Ok(make_plan(settings, script))
+}
+
+fn ending_for(outcome: &Outcome) -> Ending
+    ensures { result ≡ outcome_ending outcome.now }
+{
+    match outcome {
+        Outcome::Fault(_) => Ending::Faulted,
+        _ => Ending::Done,
+    }
+}
+
+// What is written of main's answer.
+fn answer_report(alloc: Global, answer: &Answer) -> Result<Report, Memory>
+    requires main { answer.now.origin ≡ main_origin answer.now.plan }
+    requires whole { IsWhole answer.now.outcome }
+    ensures { IfOk result (λ report. shown report ≡ run_report answer.now.plan) }
+{
+    let output = render_run(alloc, answer)?;
+    let ending = ending_for(&answer.outcome);
+    Ok(Report { output, ending })
+}
+
+// Runs main on the caller's thread.
+fn run_alone(alloc: Global, plan: &Arc<Plan>) -> Result<Answer, crew::Memory>
+    ensures plan { IfOk result (λ answer. answer.plan ≡ arc_value plan.now) }
+    ensures origin { IfOk result (λ answer. answer.origin ≡ main_origin (arc_value plan.now)) }
+    ensures fault { IfOk result (λ answer. IsFaultOf (arc_value plan.now) answer.outcome) }
+{
+    let origin = plan.main_origin(alloc)?;
+    run_serial(alloc, plan, origin)
+}
+
+/// What a run on the caller's thread writes of the script that these bytes are the text of.
+pub(crate) fn played(alloc: Global, settings: Settings, bytes: &[u8]) -> Result<Report, Refusal>
+    requires lawful { AreLawful settings }
+    requires within { length bytes.now ≤ most_bytes }
+    ensures report { IfOk result (λ report. IsRunOf settings bytes.now (shown report)) }
+    ensures refused { IfErr result (IsMisfit IsValid bytes.now) }
+{
+    let plan = match planned(alloc, settings, bytes) {
+        Ok(plan) => Arc::new(alloc, plan)?,
+        Err(refusal) => return Err(refusal),
+    };
+    let answer = run_alone(alloc, &plan)?;
+    Ok(answer_report(alloc, &answer)?)
+}
+
+/// The same of a run on so many workers. The gate is told of their tasks.
+pub(crate) fn played_by_crew<R: Threads + Wait + Sync, G: Gate + Sync>(
+    rt: &R,
+    alloc: Global,
+    settings: Settings,
+    workers: u32,
+    bytes: &[u8],
+    gate: &G,
+) -> Result<Report, Refusal>
+    requires lawful { AreLawful settings }
+    requires workers { IsWorkers workers }
+    requires within { length bytes.now ≤ most_bytes }
+    ensures report { IfOk result (λ report. IsRunOf settings bytes.now (shown report)) }
+    ensures refused { IfErr result (IsMisfit IsValid bytes.now) }
+{
+    let plan = match planned(alloc, settings, bytes) {
+        Ok(plan) => Arc::new(alloc, plan)?,
+        Err(refusal) => return Err(refusal),
+    };
+    let answer = run_crew(rt, alloc, &plan, workers, gate)?;
+    Ok(answer_report(alloc, &answer)?)
+}

@@ -1,0 +1,152 @@
+// Runs on workers: they work at once, and write the same however they share the work.
+
+use super::{FAULTY_CHILD, Host, SQUARES, TWO_DRAWS, ends, generated, guarded};
+use crew::Gate;
+use ped_path::Ped;
+use serial_meaning::Origin;
+use std::hint;
+use std::sync::atomic::{AtomicBool, Ordering};
+use std::test::Fail;
+
+const WORKERS: [u32; 5] = [1, 2, 3, 8, 64];
+
+const DRAWS_IN_CHILDREN: &[u8] =
+    b"fn f() { let x = draw; return x; } fn main() { let a = spawn f(); let b = spawn f(); sync; print a; print b; return 0; }";
+
+// Holds main's first child until its second one has come, for so many turns of a loop.
+const MOST_TURNS: u32 = 50000000;
+
+#[derive(Drop)]
+struct Second {
+    came: AtomicBool,
+    late: AtomicBool,
+}
+
+impl Second {
+    fn new() -> Second {
+        Second {
+            came: AtomicBool::new(false),
+            late: AtomicBool::new(false),
+        }
+    }
+
+    fn has_come(&self) -> bool {
+        self.came.load(Ordering::SeqCst)
+    }
+
+    fn is_late(&self) -> bool {
+        self.late.load(Ordering::SeqCst)
+    }
+
+    // Waits for the second child.
+    fn hold(&self) {
+        for _ in 0..MOST_TURNS {
+            if self.has_come() {
+                return;
+            }
+            hint::spin_loop();
+        }
+        self.late.store(true, Ordering::SeqCst);
+    }
+}
+
+// Whether this is the path of main's child of this rank.
+fn is_child(path: &Ped, rank: u64) -> bool {
+    path.len() == 1 && path.rank_at(0) == Some(rank)
+}
+
+impl Gate for Second {
+    fn enter(&self, origin: &Origin) {
+        if let Origin::Instance { path, .. } = origin {
+            if is_child(path, 0) {
+                self.hold();
+            } else if is_child(path, 1) {
+                self.came.store(true, Ordering::SeqCst);
+            }
+        }
+    }
+
+    fn leave(&self, _origin: &Origin) {}
+}
+
+// One worker alone would hold the first child to the end.
+#[test]
+fn two_workers_work_at_once(rt: HostRuntime) -> Result<(), Fail> {
+    let gate = Second::new();
+    let line = "run --gamma 1,1 --workers 2 --show log";
+    let told = guarded(&rt, line, DRAWS_IN_CHILDREN, &gate)?;
+    assert!(rt; gate.has_come() && !gate.is_late());
+    assert_eq!(rt; told.code, 0);
+    assert_eq!(rt;
+        told.out.as_slice(),
+        b"draw 0.0 = 210\ndraw 1.0 = 903\n210\n903\n".as_slice()
+    );
+    Ok(())
+}
+
+// The words, on each number of workers, so many times.
+fn repeats<R: Host>(
+    rt: &R,
+    words: &str,
+    times: u32,
+    script: &[u8],
+    code: u8,
+    output: &[u8],
+) -> Result<(), Fail> {
+    let alloc = rt.alloc();
+    for workers in WORKERS {
+        let line = format!(in alloc; "{words} --workers {workers}")?;
+        for _ in 0..times {
+            ends(rt, line.as_str(), script, code, output, b"")?;
+        }
+    }
+    Ok(())
+}
+
+#[test]
+fn draws_are_the_same_on_any_workers(rt: HostRuntime) -> Result<(), Fail> {
+    repeats(
+        &rt,
+        "run --gamma 1,1 --show log",
+        20,
+        TWO_DRAWS,
+        0,
+        b"draw 0.0 = 210\ndraw 1 = 210\n210\n210\n",
+    )
+}
+
+#[test]
+fn the_least_fault_is_told_on_any_workers(rt: HostRuntime) -> Result<(), Fail> {
+    repeats(
+        &rt,
+        "run --budget 10000",
+        20,
+        FAULTY_CHILD,
+        1,
+        b"7\nfault 0.0: division by zero\n",
+    )
+}
+
+#[test]
+fn loops_are_the_same_on_any_workers(rt: HostRuntime) -> Result<(), Fail> {
+    repeats(&rt, "run", 20, SQUARES, 0, b"0\n1\n4\n9\n16\n")
+}
+
+#[test]
+fn numbers_of_fibonacci_are_the_same_on_any_workers(rt: HostRuntime) -> Result<(), Fail> {
+    let script = generated(&rt, "gen --shape fib --size 20")?;
+    repeats(&rt, "run", 3, &script, 0, b"6765\n")
+}
+
+#[test]
+fn trees_and_long_loops_are_the_same_on_any_workers(rt: HostRuntime) -> Result<(), Fail> {
+    let rows: [(&str, &[u8]); 2] = [
+        ("gen --shape tree --size 10", b"1024\n"),
+        ("gen --shape loop --size 10", b"285\n"),
+    ];
+    for (made, output) in rows {
+        let script = generated(&rt, made)?;
+        repeats(&rt, "run --gamma 0", 10, &script, 0, output)?;
+    }
+    Ok(())
+}
