@@ -1,0 +1,116 @@
+// The walk down to a strand.
+
+ghost use Rattle.std.specs.Prelude.{◌≡◌, IfOk, IfErr};
+ghost use Rattle.std.specs.Arc.{arc_value};
+ghost use Rattle.serial_meaning.specs.Eval.{elision};
+ghost use Rattle.strand_meaning.specs.StrandLaws.{IsWholeUpTo, strand_in};
+ghost use Rattle.strand_meaning.specs.Strands.{strand_at};
+ghost use Rattle.replay.specs.Descents.{IsOnWayTo, Leads, entered};
+ghost use Rattle.replay.specs.Replays.{IsReplayOf};
+
+use crate::error::ReplayError;
+use crew::{Node, walk_node};
+use loop_range::iteration_path;
+use ped_path::Pedigree;
+use serial_meaning::{Origin, Plan, Strand, Value};
+use std::alloc::Global;
+use std::sync::Arc;
+use strand_meaning::laws;
+
+/// Where an instance leads to.
+#[derive(Drop)]
+pub(crate) enum Way {
+    /// The strand is one of its own.
+    Found(Strand),
+    /// The strand, if there is one, is below this instance.
+    Down(Origin),
+}
+
+/// The instance below a child: a spawned one itself; of a loop the iteration that the pedigree names next, where it doesn't end there and
+/// there is that iteration.
+fn enter(alloc: Global, child: Origin, at: &Pedigree) -> Result<Option<Origin>, ReplayError>
+    ensures ok { IfOk result (λ next. next ≡ entered at.now child) }
+    ensures err { IfErr result (λ e. e ≡ ReplayError.Memory) }
+{
+    let Origin::Loop {
+        function,
+        rest,
+        first,
+        path,
+        range,
+    } = child
+    else {
+        return Ok(Some(child));
+    };
+    let place = path.len();
+    if place + 1 >= at.len() {
+        return Ok(None);
+    }
+    let Some(k) = at.rank_at(place) else {
+        return Ok(None);
+    };
+    if k >= range.len() {
+        return Ok(None);
+    }
+    let mut args = rest;
+    args.0
+        .insert(0, Value::Int(first.wrapping_add_unsigned(k)))?;
+    let path = iteration_path(&path, alloc, k)?;
+    Ok(Some(Origin::Instance {
+        function,
+        args,
+        path,
+    }))
+}
+
+/// One node of the walk.
+fn descend(
+    alloc: Global,
+    plan: &Arc<Plan>,
+    origin: Origin,
+    at: &Pedigree,
+) -> Result<Way, ReplayError>
+    requires { IsOnWayTo (arc_value plan.now) at.now origin }
+    ensures { Leads (arc_value plan.now) origin at.now result }
+{
+    let Node {
+        strand,
+        child,
+        joined,
+    } = walk_node(alloc, plan, origin, at)?;
+    if let Some(strand) = strand {
+        return Ok(Way::Found(strand));
+    }
+    if let Some(child) = child {
+        let Some(next) = enter(alloc, child, at)? else {
+            return Err(ReplayError::NoStrand);
+        };
+        return Ok(Way::Down(next));
+    }
+    match joined {
+        Some(fault) => Err(ReplayError::Blocked(fault)),
+        None => Err(ReplayError::NoStrand),
+    }
+}
+
+/// The strand of a pedigree in the open tree of the plan: what it did, and the fault of its own by which its instance ended there, if it
+/// did. The serial elision need not reach it.
+///
+/// Each instance on the way down is run once, with all of its children.
+pub fn replay(alloc: Global, plan: &Arc<Plan>, at: &Pedigree) -> Result<Strand, ReplayError>
+    ensures strand { IsReplayOf (strand_at (arc_value plan.now) at.now) result }
+
+    // Where no fault ends the serial elision before the pedigree, it is what the elision has there.
+    ensures elision { IsWholeUpTo at.now (elision (arc_value plan.now)).ending → IfOk result (λ strand. strand ≡ strand_in at.now (elision (arc_value plan.now))) }
+{
+    laws::strands_are_the_elisions();
+    // Read for the proof: a pedigree has a last rank.
+    let _rank = at.rank;
+    let mut origin = plan.main_origin(alloc)?;
+    loop {
+        match descend(alloc, plan, origin, at)? {
+            Way::Found(strand) => return Ok(strand),
+            Way::Down(next) => origin = next,
+        }
+    }
+}

@@ -1,0 +1,50 @@
+// Why there is no strand.
+
+ghost use Rattle.std.specs.Prelude.{◌≡◌};
+ghost use Rattle.replay.specs.declared.error.ReplayError.TheVariants.{Memory};
+
+use serial_meaning::Fault;
+
+/// Why no strand was replayed.
+#[derive(Drop)]
+pub enum ReplayError {
+    /// There is no strand of this pedigree.
+    NoStrand,
+    /// It isn't known, since an instance on the way down to it, or its own, ended before by this fault, the least one of the children that
+    /// it waited for.
+    Blocked(Fault),
+    /// Want of memory.
+    Memory,
+}
+
+impl From<crew::Memory> for ReplayError {
+    ghost from_gives = { λ _ e. e ≡ Memory };
+
+    fn from(_: crew::Memory) -> ReplayError {
+        ReplayError::Memory
+    }
+}
+
+impl From<loop_range::Memory> for ReplayError {
+    ghost from_gives = { λ _ e. e ≡ Memory };
+
+    fn from(_: loop_range::Memory) -> ReplayError {
+        ReplayError::Memory
+    }
+}
+
+impl From<serial_meaning::Memory> for ReplayError {
+    ghost from_gives = { λ _ e. e ≡ Memory };
+
+    fn from(_: serial_meaning::Memory) -> ReplayError {
+        ReplayError::Memory
+    }
+}
+
+impl<T: Drop> From<std::alloc::AllocFailed<T>> for ReplayError {
+    ghost from_gives = { λ _ e. e ≡ Memory };
+
+    fn from(_: std::alloc::AllocFailed<T>) -> ReplayError {
+        ReplayError::Memory
+    }
+}

@@ -1,0 +1,10 @@
+//! The strand of a pedigree, by a walk down the open tree.
+#![tactic(auto)]
+
+mod descent;
+mod error;
+#[cfg(test)]
+mod tests;
+
+pub use descent::replay;
+pub use error::ReplayError;
