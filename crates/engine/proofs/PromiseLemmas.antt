@@ -10,9 +10,14 @@ use Rattle.script_grammar.specs.Text.{Text}
 use Rattle.engine.specs.declared.status.Status.{Status}
 use Rattle.engine.specs.declared.status.Status.TheVariants.{Done, Faulted, Words, Script, Read, Write, Memory, NoStrand}
 use Rattle.engine.specs.Commands.{Reports, Takes, reads_script, runs_today, takes_script}
-use Rattle.engine.specs.Report.{Report, status_of}
-use Rattle.engine.specs.Promise.{Watched, Failed, ReadWhole, HasNoScript, HasReport, Answers, Refuses, KeepsPromise, most_bytes}
-use Rattle.engine.specs.Clauses.{RefusesWords, IsBad, RefusesScript, WroteReport, WritesReport}
+use Rattle.engine.specs.Report.{Report, ending_of, plan_of, status_of}
+use Rattle.engine.specs.Promise.{Watched, Failed, ReadWhole, HasNoScript, HasReport, Answers, HasOutput, Refuses, TellsNone, KeepsPromise, most_bytes}
+use Rattle.engine.specs.Clauses.{RefusesWords, IsBad, RefusesScript, WroteReport, WritesReport, IsReplay, FindsNone, TellsNoStrand}
+use Rattle.engine.specs.declared.report.Ending.{Ending}
+use Rattle.engine.specs.declared.report.Ending.TheVariants as E
+use Rattle.serial_meaning.specs.declared.value.Value.{Value}
+use Rattle.serial_meaning.specs.declared.event.Fault.{Fault}
+use Rattle.serial_meaning.specs.Eval.{elision}
 
 told_whole : (bytes front : List ℕ) (after : Option (List ℕ)) → Consumes (Some bytes) after front → IsAtEnd after → front ≡ bytes
 told_whole bytes front None taken end = absurd taken
@@ -71,7 +76,7 @@ module _ (source out err : Watched) where
     words_always Read a none = absurd (not_both (runs_today command) (first_true (runs_today command) (takes_script command) a.0) none)
     words_always Write a none = absurd (not_both (runs_today command) a.0.0 none)
     words_always Memory a none = inr refl
-    words_always NoStrand a none = absurd a
+    words_always NoStrand a none = absurd (not_both (runs_today command) a.0 none)
 
     module _ (bytes : List ℕ) (told : source.before ≡ Some bytes) (takes : IsTrue (takes_script command)) where
       whole_bytes : (front : List ℕ) → ReadWhole source front → front ≡ bytes
@@ -99,7 +104,7 @@ module _ (source out err : Watched) where
       script_always Read a today bad = inr (inl refl)
       script_always Write a today bad = absurd (no_good a.0.1.0 a.0.1.1 bad)
       script_always Memory a today bad = inr (inr refl)
-      script_always NoStrand a today bad = absurd a
+      script_always NoStrand a today bad = absurd (no_good a.1.0 a.1.1 bad)
 
     -- whether or not the command takes a script
     same_report : (bytes : List ℕ) → source.before ≡ Some bytes → (report : Report) → HasReport command source report → (b : Bool) → takes_script command ≡ b → Reports command bytes report
@@ -152,7 +157,7 @@ module _ (source out err : Watched) where
   read_cause (Err error) status r h = absurd (refused_other err error status Read r (λ e. absurd (cc)) (λ e. absurd (cc)) h)
 
   pub write_cause : (given : Result Command WordError) (status : Status) → KeepsPromise given source out err status → status ≡ Write → Failed out
-  write_cause (Ok command) status a h = (answer_at source out err command status Write a h).0.1.2.failed
+  write_cause (Ok command) status a h = (answer_at source out err command status Write a h).0.1.3.failed
   write_cause (Err error) status r h = absurd (refused_other err error status Write r (λ e. absurd (cc)) (λ e. absurd (cc)) h)
 
   pub words_exactly : (given : Result Command WordError) (status : Status) → KeepsPromise given source out err status → RefusesWords given status
@@ -184,3 +189,71 @@ module _ (source out err : Watched) where
   report_written given status a None e = tt
   report_written (Ok command) status a (Some bytes) e = λ h. (command, refl, written_of command status a bytes e h)
   report_written (Err error) status r (Some bytes) e = λ h. absurd (none_written error status r h)
+
+-- which report tells of no strand
+module _ (source out err : Watched) where
+  no_run_tells : (e : Result (List Value) Fault) → TellsNone err (ending_of e) → ⊥
+  no_run_tells (Ok values) tells = tells
+  no_run_tells (Err fault) tells = tells
+
+  none_ends : (ending : Ending) → TellsNone err ending → status_of ending ≡ NoStrand
+  none_ends E.Done tells = absurd tells
+  none_ends E.Faulted tells = absurd tells
+  none_ends (E.NoStrand j) tells = refl
+  none_ends (E.Blocked fault) tells = refl
+
+  not_both_ends : (ending : Ending) → HasOutput ending → status_of ending ≡ NoStrand → ⊥
+  not_both_ends E.Done has e = absurd (cc)
+  not_both_ends E.Faulted has e = absurd (cc)
+  not_both_ends (E.NoStrand j) has e = has
+  not_both_ends (E.Blocked fault) has e = has
+
+  tells_at : (report other : Report) → report ≡ other → TellsNone err report.ending → TellsNone err other.ending
+  tells_at report other same tells = let P : Report → Type 0 = λ r. TellsNone err r.ending in subst P same tells
+
+  replay_tells : (command : Command) (bytes : List ℕ) (report : Report) → Reports command bytes report → TellsNone err report.ending → IsReplay command
+  replay_tells (command.Run settings workers) bytes report r tells = absurd (no_run_tells (elision (plan_of settings r.0)).ending (tells_at report _ r.3 tells))
+  replay_tells (command.Serial settings) bytes report r tells = absurd (no_run_tells (elision (plan_of settings r.0)).ending (tells_at report _ r.3 tells))
+  replay_tells (command.Sim settings workers number) bytes report r tells = absurd (tells_at report _ r.3 tells)
+  replay_tells (command.Replay settings at) bytes report r tells = tt
+  replay_tells (command.Hash gamma at) bytes report r tells = absurd (tells_at report _ r tells)
+  replay_tells command.Check bytes report r tells = absurd (tells_at report _ r.3 tells)
+  replay_tells command.Fmt bytes report r tells = absurd (tells_at report _ r.3 tells)
+  replay_tells (command.Gen shape size) bytes report r tells = absurd (tells_at report _ r tells)
+
+  -- where the words give a command, and the source tells its bytes
+  module _ (command : Command) (bytes : List ℕ) (told : source.before ≡ Some bytes) where
+    reports_told : (report : Report) → HasReport command source report → Reports command bytes report
+    reports_told report has = same_report source out err command bytes told report has (takes_script command) refl
+
+    finds_none : Answers command source out err NoStrand → FindsNone command bytes
+    finds_none a = record {
+      replay = replay_tells command a.1.1.0 a.1.0 a.1.1.2 a.1.2;
+      report = a.1.0;
+      reports = reports_told a.1.0 a.1.1;
+      ends = none_ends a.1.0.ending a.1.2;
+    }
+
+    module _ (today : IsTrue (runs_today command)) (good : IsBad command bytes → ⊥) (none : (report : Report) → Reports command bytes report → status_of report.ending ≡ NoStrand) where
+      ends_none : (report : Report) → HasReport command source report → status_of report.ending ≡ NoStrand
+      ends_none report has = none report (reports_told report has)
+
+      no_end : (report : Report) (ending : Ending) (status : Status) → HasReport command source report → report.ending ≡ ending → status_of ending ≡ status → status ≡ NoStrand
+      no_end report ending status has e s = sym s ∙ ap status_of (sym e) ∙ ends_none report has
+
+      none_always : (status : Status) → Answers command source out err status → (status ≡ NoStrand) ⊎ ((status ≡ Read) ⊎ (status ≡ Memory))
+      none_always Done a = let e = no_end a.1.0 E.Done Done a.1.1 a.1.2 refl in absurd (cc)
+      none_always Faulted a = let e = no_end a.1.0 E.Faulted Faulted a.1.1 a.1.2 refl in absurd (cc)
+      none_always Words a = absurd (not_both (runs_today command) today a.0)
+      none_always Script a = absurd (good (bad_script source out err command bytes told (second_true (runs_today command) (takes_script command) a.0) a.1))
+      none_always Read a = inr (inl refl)
+      none_always Write a = absurd (not_both_ends a.0.1.0.ending a.0.1.2 (ends_none a.0.1.0 a.0.1.1))
+      none_always Memory a = inr (inr refl)
+      none_always NoStrand a = inl refl
+
+  pub strand_told : (given : Result Command WordError) (status : Status) → KeepsPromise given source out err status → (told : Option (List ℕ)) → source.before ≡ told → TellsNoStrand given told status
+  strand_told (Ok command) status a (Some bytes) told =
+      (λ h. finds_none command bytes told (answer_at source out err command status NoStrand a h), λ today good none. none_always command bytes told today good none status a)
+  strand_told (Ok command) status a None told =
+      λ h. (let b = answer_at source out err command status NoStrand a h in replay_tells command b.1.1.0 b.1.0 b.1.1.2 b.1.2)
+  strand_told (Err error) status r told e = refused_other err error status NoStrand r (λ e. absurd (cc)) (λ e. absurd (cc))

@@ -4,6 +4,7 @@ use Rattle.std.specs.declared.option.Option.{Option}
 use Rattle.ped_io.specs.Streams.{Appends, IsAtEnd}
 use Rattle.ped_path.specs.Path.{IsBefore}
 use Rattle.ped_words.specs.declared.command.Command.{Command}
+use Rattle.ped_words.specs.declared.command.Command.TheVariants.{Replay}
 use Rattle.ped_words.specs.declared.rule.WordError.{WordError}
 use Rattle.dotmix.specs.Draws.{dotmix}
 use Rattle.script_grammar.specs.declared.tree.Script.{Script as Tree}
@@ -14,7 +15,7 @@ use Rattle.serial_meaning.specs.Open.{faults}
 use Rattle.serial_meaning.specs.Laws.{places, EndsByLeast}
 use Rattle.serial_meaning.specs.declared.event.Event.TheVariants.{Draw}
 use Rattle.engine.specs.declared.status.Status.{Status}
-use Rattle.engine.specs.declared.status.Status.TheVariants.{Done, Faulted, Words, Script, Read, Memory}
+use Rattle.engine.specs.declared.status.Status.TheVariants.{Done, Faulted, Words, Script, Read, Memory, NoStrand}
 use Rattle.engine.specs.Commands.{Reports, Takes, reads_script, runs_today, takes_script}
 use Rattle.engine.specs.Report.{Report, status_of}
 use Rattle.engine.specs.Promise.{Watched, most_bytes}
@@ -54,6 +55,27 @@ abbrev pub WritesReport : Result Command WordError → Watched → Option (List 
 WritesReport given source None out status = ⊤
 WritesReport given source (Some bytes) out status =
     (status ≡ Done) ⊎ (status ≡ Faulted) → (command : Command) × (given ≡ Ok command) × WroteReport command bytes source out status
+
+abbrev pub IsReplay : Command → Type 0
+IsReplay (Replay settings at) = ⊤
+IsReplay command = ⊥
+
+-- The command is a replay, and its report of these bytes is that there is no strand.
+pub record FindsNone (command : Command) (bytes : List ℕ) : Type 0 where
+  pub replay : IsReplay command
+  pub report : Report
+  pub reports : Reports command bytes report
+  pub ends : status_of report.ending ≡ NoStrand
+
+-- That there is no strand is told of a replay alone. Where the source tells its bytes it is told exactly where it is what they report, unless
+-- a read failed or memory is wanting.
+abbrev pub TellsNoStrand : Result Command WordError → Option (List ℕ) → Status → Type 0
+TellsNoStrand (Ok command) (Some bytes) status =
+    (status ≡ NoStrand → FindsNone command bytes)
+    × (IsTrue (runs_today command) → (IsBad command bytes → ⊥) → ((report : Report) → Reports command bytes report → status_of report.ending ≡ NoStrand) →
+    (status ≡ NoStrand) ⊎ ((status ≡ Read) ⊎ (status ≡ Memory)))
+TellsNoStrand (Ok command) None status = status ≡ NoStrand → IsReplay command
+TellsNoStrand (Err error) told status = status ≡ NoStrand → ⊥
 
 -- What holds of a plan's run: the pedigrees of its events but printing rise strictly, so that no two are the same; each draw is DotMix of
 -- its pedigree; and its fault is the least of the open tree's.

@@ -7,7 +7,7 @@ use Rattle.script_print.specs.Canonical.{canonical}
 use Rattle.ped_gen.specs.Scripts.{generated}
 use Rattle.ped_words.specs.declared.command.Command.{Command}
 use Rattle.ped_words.specs.declared.command.Command.TheVariants.{Run, Serial, Sim, Replay, Hash, Check, Fmt, Gen}
-use Rattle.engine.specs.Report.{Report, said, plan_of, run_report, hash_text}
+use Rattle.engine.specs.Report.{Report, said, plan_of, run_report, replay_report, hash_text}
 
 -- The first word says the command that runs on workers.
 abbrev pub IsRun : List (List ℕ) → Type 0
@@ -18,7 +18,7 @@ abbrev pub runs_today : Command → Bool
 runs_today (Run settings workers) = true
 runs_today (Serial settings) = true
 runs_today (Sim settings workers number) = false
-runs_today (Replay settings at) = false
+runs_today (Replay settings at) = true
 runs_today (Hash gamma at) = true
 runs_today Check = true
 runs_today Fmt = true
@@ -46,6 +46,7 @@ Takes command script = IsValid script
 abbrev pub report_of : Command → Script → Report
 report_of (Run settings workers) script = run_report (plan_of settings script)
 report_of (Serial settings) script = run_report (plan_of settings script)
+report_of (Replay settings at) script = replay_report (plan_of settings script) at
 report_of Fmt script = said (canonical script)
 report_of command script = said (codes "ok\n")
 

@@ -1,5 +1,6 @@
--- The lines of the error output that name a place.
+-- The lines of the error output that name a place or a pedigree.
 use Rattle.std.specs.Prelude.{ℕ, List, ◌++◌, nat_eq, if◌then◌else◌, codes, decimal}
+use Rattle.ped_path.specs.Text.{ped_text}
 
 -- which rule the words break, by its number
 abbrev pub words_text : ℕ → List ℕ
@@ -50,3 +51,11 @@ check_text number =
 
 abbrev pub check_line : ℕ → ℕ → List ℕ
 check_line number at = codes "script: " ++ check_text number ++ codes " at byte " ++ decimal at ++ codes "\n"
+
+-- no strand has this pedigree
+abbrev pub no_strand_line : List ℕ → List ℕ
+no_strand_line j = codes "no strand " ++ ped_text j ++ codes "\n"
+
+-- an instance on the way down to a strand ended by the fault of this pedigree
+abbrev pub blocked_line : List ℕ → List ℕ
+blocked_line j = codes "blocked by fault " ++ ped_text j ++ codes "\n"

@@ -14,7 +14,7 @@ use Rattle.engine.specs.declared.status.Status.TheVariants.{Done, Faulted, Words
 use Rattle.engine.specs.declared.report.Ending.{Ending}
 use Rattle.engine.specs.declared.report.Ending.TheVariants as E
 use Rattle.engine.specs.Commands.{Reports, Takes, reads_script, runs_today, takes_script}
-use Rattle.engine.specs.Lines.{check_line, syntax_line, words_line}
+use Rattle.engine.specs.Lines.{blocked_line, check_line, no_strand_line, syntax_line, words_line}
 use Rattle.engine.specs.Report.{Report}
 
 -- a script has at most so many bytes
@@ -80,6 +80,20 @@ abbrev pub IsReported : Command → Watched → Ending → (List ℕ → Type 0)
 IsReported command source ending P =
     IsTrue (runs_today command) × ((report : Report) × HasReport command source report × (report.ending ≡ ending) × P report.output)
 
+-- There is no strand, and this line tells why.
+abbrev pub TellsNone : Watched → Ending → Type 0
+TellsNone err E.Done = ⊥
+TellsNone err E.Faulted = ⊥
+TellsNone err (E.NoStrand j) = Told err (no_strand_line j)
+TellsNone err (E.Blocked fault) = Told err (blocked_line fault.at)
+
+-- A report that ends so has an output.
+abbrev pub HasOutput : Ending → Type 0
+HasOutput E.Done = ⊤
+HasOutput E.Faulted = ⊤
+HasOutput (E.NoStrand j) = ⊥
+HasOutput (E.Blocked fault) = ⊥
+
 -- What each answer means for a command.
 abbrev pub Answers : Command → Watched → Watched → Watched → Status → Type 0
 Answers command source out err Done = IsReported command source E.Done (Wrote out)
@@ -88,9 +102,9 @@ Answers command source out err Words = IsFalse (runs_today command) × Told err 
 Answers command source out err BadScript = IsTrue (reads_script command) × HasNoScript command source err
 Answers command source out err Read = IsTrue (reads_script command) × Failed source × Told err (codes "read fault\n")
 Answers command source out err Write =
-    (IsTrue (runs_today command) × ((report : Report) × HasReport command source report × WroteFront out report.output)) × Told err (codes "write fault\n")
+    (IsTrue (runs_today command) × ((report : Report) × HasReport command source report × HasOutput report.ending × WroteFront out report.output)) × Told err (codes "write fault\n")
 Answers command source out err Memory = Told err (codes "out of memory\n")
-Answers command source out err NoStrand = ⊥
+Answers command source out err NoStrand = IsTrue (runs_today command) × ((report : Report) × HasReport command source report × TellsNone err report.ending)
 
 -- What each answer means where the words give no command.
 abbrev pub Refuses : WordError → Watched → Status → Type 0

@@ -1,5 +1,5 @@
 -- Why no report was made, and what was delivered.
-use Rattle.std.specs.Prelude.{◌≡◌, ⊤, ℕ, ◌+◌, List, IsTrue, codes, string_bytes}
+use Rattle.std.specs.Prelude.{◌≡◌, ◌⊎◌, ⊤, ℕ, ◌+◌, List, IsTrue, codes, string_bytes}
 use Rattle.ped_io.specs.Streams.{ConsumesJust}
 use Rattle.ped_words.specs.declared.command.Command.{Command}
 use Rattle.script_grammar.specs.declared.tree.Script.{Script}
@@ -10,7 +10,7 @@ use Rattle.engine.specs.declared.report.Ending.{Ending}
 use Rattle.engine.specs.declared.report.Ending.TheVariants as E
 use Rattle.engine.specs.declared.status.Status.{Status}
 use Rattle.engine.specs.declared.status.Status.TheVariants as S
-use Rattle.engine.specs.Promise.{Watched, Failed, ReadWhole, IsUntaken, Told, Wrote, WroteFront, most_bytes}
+use Rattle.engine.specs.Promise.{Watched, Failed, HasOutput, ReadWhole, IsUntaken, Told, TellsNone, Wrote, WroteFront, most_bytes}
 
 -- The refusal tells this line, or there was no memory for it.
 abbrev pub Tells : List ℕ → Refusal → Type 0
@@ -40,12 +40,19 @@ IsCause command source (Untaken line) = IsTrue (takes_script command) × ((bytes
 IsCause command source Read = IsTrue (takes_script command) × Failed source
 IsCause command source Memory = ⊤
 
--- A report was delivered: its output was written and this is its status, or the sink failed.
+-- A report was delivered: its output was written and this is its status, or the sink failed; or a line told that there is no strand, unless
+-- memory was wanting for it.
 abbrev pub Delivers : List ℕ → Ending → Watched → Watched → Status → Type 0
 Delivers output ending out err S.Done = (ending ≡ E.Done) × Wrote out output
 Delivers output ending out err S.Faulted = (ending ≡ E.Faulted) × Wrote out output
-Delivers output ending out err S.Write = WroteFront out output × Told err (codes "write fault\n")
+Delivers output ending out err S.Write = HasOutput ending × WroteFront out output × Told err (codes "write fault\n")
+Delivers output ending out err S.Memory = Told err (codes "out of memory\n")
+Delivers output ending out err S.NoStrand = TellsNone err ending
 Delivers output ending out err _ = ⊥
+
+-- An output was written whole, with this status, or a front of it, since the sink failed.
+abbrev pub Puts : List ℕ → Status → Watched → Watched → Status → Type 0
+Puts output status out err result = ((result ≡ status) × Wrote out output) ⊎ ((result ≡ S.Write) × WroteFront out output × Told err (codes "write fault\n"))
 
 -- The refusal was told with its status.
 abbrev pub Refused : Refusal → Watched → Status → Type 0

@@ -1,5 +1,5 @@
 -- What a command writes.
-use Rattle.std.specs.Prelude.{◌≡◌, ℕ, List, ◌++◌, Result, Ok, Err, codes, decimal}
+use Rattle.std.specs.Prelude.{◌≡◌, ℕ, List, [], ◌++◌, Option, Some, None, Result, Ok, Err, codes, decimal}
 use Rattle.dotmix.specs.Draws.{dot, dotmix}
 use Rattle.ped_words.specs.declared.command.Settings.{Settings}
 use Rattle.script_check.specs.Valid.{IsValid}
@@ -8,14 +8,16 @@ use Rattle.script_grammar.specs.declared.tree.Script.{Script}
 use Rattle.serial_meaning.specs.Plan.{PlanView}
 use Rattle.serial_meaning.specs.Eval.{main_origin, elision}
 use Rattle.serial_meaning.specs.Answer.{outcome_of}
-use Rattle.serial_meaning.specs.Render.{rendered}
+use Rattle.serial_meaning.specs.Render.{rendered, strand_text}
+use Rattle.serial_meaning.specs.declared.answer.Strand.{Strand}
+use Rattle.strand_meaning.specs.Strands.{Found, Reached, Missing, Blocked as Blocks, strand_at}
 use Rattle.serial_meaning.specs.declared.value.Value.{Value}
 use Rattle.serial_meaning.specs.declared.answer.Outcome.{Outcome}
 use Rattle.serial_meaning.specs.declared.answer.Outcome.TheVariants as outcome
 use Rattle.serial_meaning.specs.declared.event.Fault.{Fault}
 use Rattle.engine.specs.declared.report.Report as report
 use Rattle.engine.specs.declared.report.Ending.{Ending}
-use Rattle.engine.specs.declared.report.Ending.TheVariants.{Done, Faulted}
+use Rattle.engine.specs.declared.report.Ending.TheVariants.{Done, Faulted, NoStrand, Blocked}
 use Rattle.engine.specs.declared.status.Status.{Status}
 use Rattle.engine.specs.declared.status.Status.TheVariants as status
 
@@ -47,6 +49,28 @@ run_report plan = record {
 abbrev pub IsPlanOf : Settings → List ℕ → PlanView → Type 0
 IsPlanOf settings bytes plan = (script : Script) × Text bytes script × IsValid script × (plan ≡ plan_of settings script)
 
+-- a strand's lines, of which the last one may be a fault's
+abbrev pub strand_ending : Option Fault → Ending
+strand_ending None = Done
+strand_ending (Some fault) = Faulted
+
+abbrev pub strand_report : Strand → Report
+strand_report strand = record { output = strand_text strand; ending = strand_ending strand.fault }
+
+-- what is written where this stands at a pedigree
+abbrev pub found_report : List ℕ → Found → Report
+found_report j (Reached strand) = strand_report strand
+found_report j Missing = record { output = []; ending = NoStrand j }
+found_report j (Blocks fault) = record { output = []; ending = Blocked fault }
+
+-- a replay writes the lines of the strand of the open tree
+abbrev pub replay_report : PlanView → List ℕ → Report
+replay_report plan j = found_report j (strand_at plan j)
+
+-- These bytes are the text of a valid script, and a replay of it writes this.
+abbrev pub IsReplayOf : Settings → List ℕ → List ℕ → Report → Type 0
+IsReplayOf settings j bytes report = (script : Script) × Text bytes script × IsValid script × (report ≡ replay_report (plan_of settings script) j)
+
 -- These bytes are the text of a valid script, and a run of it writes this.
 abbrev pub IsRunOf : Settings → List ℕ → Report → Type 0
 IsRunOf settings bytes report = (script : Script) × Text bytes script × IsValid script × (report ≡ run_report (plan_of settings script))
@@ -62,10 +86,12 @@ outcome_ending (outcome.Value value) = Done
 outcome_ending (outcome.Values values) = Done
 outcome_ending (outcome.Cut fault) = Done
 
--- with which status a report ends that was written whole
+-- with which status a report ends that was written whole, or told to be none
 abbrev pub status_of : Ending → Status
 status_of Done = status.Done
 status_of Faulted = status.Faulted
+status_of (NoStrand j) = status.NoStrand
+status_of (Blocked fault) = status.NoStrand
 
 -- a report of the code, as the definitions have it
 abbrev pub shown : report.Report → Report

@@ -5,11 +5,11 @@ ghost use Rattle.ped_words.specs.Reading.{reading};
 ghost use Rattle.ped_words.specs.Commands.{AreLawful, IsLawful, IsWorkers};
 ghost use Rattle.engine.specs.Commands.{reads_script, runs_today, takes_script};
 ghost use Rattle.engine.specs.Promise.{Answers, HasReport, KeepsPromise, ReadWhole, ReadsNone, Refuses, Told, has_line, has_output, watched};
-ghost use Rattle.engine.specs.Refusal.{Delivers, IsCause, IsLate, Refused};
+ghost use Rattle.engine.specs.Refusal.{Delivers, IsCause, IsLate, Puts, Refused};
 ghost use Rattle.engine.specs.Report.{shown};
 
 use crate::command::{runs_today, takes_script};
-use crate::line::words_line;
+use crate::line::{blocked_line, no_strand_line, words_line};
 use crate::play::played_by_crew;
 use crate::refusal::Refusal;
 use crate::report::{Ending, Report, alone_report, script_report};
@@ -77,20 +77,55 @@ fn tell<E: Sink>(err: &mut E, line: &[u8])
     let _ = write_all(err, line);
 }
 
-// Writes a report, and says how the call ends.
-fn deliver<K: Sink, E: Sink>(report: &Report, out: &mut K, err: &mut E) -> Status
-    ensures delivered { Delivers report.now.output.items report.now.ending (watched K.written K.faults out.old out.new) (watched E.written E.faults err.old err.new) result }
+// Writes an output, and gives this status where it was written whole.
+fn put<K: Sink, E: Sink>(output: &[u8], status: Status, out: &mut K, err: &mut E) -> Status
+    ensures put { Puts output.now status (watched K.written K.faults out.old out.new) (watched E.written E.faults err.old err.new) result }
     ensures no_line { IsFalse (has_line result) → err.new ≡ err.old }
 {
-    match write_all(out, &report.output) {
-        Ok(()) => match report.ending {
-            Ending::Done => Status::Done,
-            Ending::Faulted => Status::Faulted,
-        },
+    match write_all(out, output) {
+        Ok(()) => status,
         Err(_) => {
             tell(err, b"write fault\n");
             Status::Write
         }
+    }
+}
+
+// Tells that there was no memory.
+fn want<E: Sink>(err: &mut E) -> Status
+    ensures status { result ≡ Status.Memory }
+    ensures told { Told (watched E.written E.faults err.old err.new) (codes "out of memory\n") }
+{
+    tell(err, b"out of memory\n");
+    Status::Memory
+}
+
+// Tells by this line that there is no strand.
+fn tell_none<E: Sink>(line: &[u8], err: &mut E) -> Status
+    ensures status { result ≡ Status.NoStrand }
+    ensures told { Told (watched E.written E.faults err.old err.new) line.now }
+{
+    tell(err, line);
+    Status::NoStrand
+}
+
+// Writes a report, or tells that there is no strand, and says how the call ends.
+fn deliver<K: Sink, E: Sink>(alloc: Global, report: &Report, out: &mut K, err: &mut E) -> Status
+    ensures delivered { Delivers report.now.output.items report.now.ending (watched K.written K.faults out.old out.new) (watched E.written E.faults err.old err.new) result }
+    ensures no_output { IsFalse (has_output result) → out.new ≡ out.old }
+    ensures no_line { IsFalse (has_line result) → err.new ≡ err.old }
+{
+    match &report.ending {
+        Ending::Done => put(&report.output, Status::Done, out, err),
+        Ending::Faulted => put(&report.output, Status::Faulted, out, err),
+        Ending::NoStrand(at) => match no_strand_line(alloc, at) {
+            Ok(line) => tell_none(&line, err),
+            Err(_) => want(err),
+        },
+        Ending::Blocked(fault) => match blocked_line(alloc, &fault.at) {
+            Ok(line) => tell_none(&line, err),
+            Err(_) => want(err),
+        },
     }
 }
 
@@ -116,15 +151,6 @@ fn refuse<E: Sink>(refusal: &Refusal, err: &mut E) -> Status
             Status::Memory
         }
     }
-}
-
-// Tells that there was no memory.
-fn want<E: Sink>(err: &mut E) -> Status
-    ensures status { result ≡ Status.Memory }
-    ensures told { Told (watched E.written E.faults err.old err.new) (codes "out of memory\n") }
-{
-    tell(err, b"out of memory\n");
-    Status::Memory
 }
 
 // Tells which rule the words break.
@@ -163,7 +189,7 @@ fn serve<S: Source, K: Sink, E: Sink>(
         return Status::Words;
     }
     match prepare(alloc, command, source) {
-        Ok(report) => deliver(&report, out, err),
+        Ok(report) => deliver(alloc, &report, out, err),
         Err(refusal) => refuse(&refusal, err),
     }
 }
@@ -187,7 +213,7 @@ fn serve_run<R: Threads + Wait + Sync, S: Source, K: Sink, E: Sink, G: Gate + Sy
     ensures no_line { IsFalse (has_line result) → err.new ≡ err.old }
 {
     match prepare_run(rt, alloc, settings, workers, source, gate) {
-        Ok(report) => deliver(&report, out, err),
+        Ok(report) => deliver(alloc, &report, out, err),
         Err(refusal) => refuse(&refusal, err),
     }
 }

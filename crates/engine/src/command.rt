@@ -9,7 +9,7 @@ use ped_words::Command;
 pub fn runs_today(command: &Command) -> bool
     ensures { result ≡ runs_today command.now }
 {
-    !matches!(command, Command::Sim { .. } | Command::Replay { .. })
+    !matches!(command, Command::Sim { .. })
 }
 
 /// Whether the command is about a script, which it reads from the source.

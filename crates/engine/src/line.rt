@@ -1,8 +1,11 @@
-// The lines of the error output that name a place.
+// The lines of the error output that name a place or a pedigree.
 
-ghost use Rattle.std.specs.Prelude.{◌≡◌, IfOk, string_bytes};
-ghost use Rattle.engine.specs.Lines.{check_line, check_text, syntax_line, syntax_text, words_line, words_text};
+ghost use Rattle.std.specs.Prelude.{◌≡◌, ◌++◌, IfOk, codes, string_bytes};
+ghost use Rattle.ped_path.specs.Text.{ped_text};
+ghost use Rattle.engine.specs.Lines.{blocked_line, check_line, check_text, no_strand_line, syntax_line, syntax_text, words_line, words_text};
 
+use ped_path::{Pedigree, write_pedigree};
+use serial_meaning::Memory;
 use std::alloc::{AllocError, Global};
 
 fn syntax_text(number: u8) -> &'static str
@@ -76,4 +79,27 @@ pub fn check_line(alloc: Global, number: u8, at: u32) -> Result<String, AllocErr
 {
     let text = check_text(number);
     format!(in alloc; "script: {text} at byte {at}\n")
+}
+
+fn pedigree_line(alloc: Global, text: &[u8], at: &Pedigree) -> Result<Vec<u8>, Memory>
+    ensures { IfOk result (λ line. line.items ≡ text.now ++ ped_text at.now ++ codes "\n") }
+{
+    let mut line = text.to_vec(alloc)?;
+    write_pedigree(at, &mut line)?;
+    line.push(b'\n')?;
+    Ok(line)
+}
+
+/// The line of a pedigree that no strand has.
+pub fn no_strand_line(alloc: Global, at: &Pedigree) -> Result<Vec<u8>, Memory>
+    ensures { IfOk result (λ line. line.items ≡ no_strand_line at.now) }
+{
+    pedigree_line(alloc, b"no strand ", at)
+}
+
+/// The line of a strand that isn't known, since a fault of this pedigree stands before it.
+pub fn blocked_line(alloc: Global, at: &Pedigree) -> Result<Vec<u8>, Memory>
+    ensures { IfOk result (λ line. line.items ≡ blocked_line at.now) }
+{
+    pedigree_line(alloc, b"blocked by fault ", at)
 }

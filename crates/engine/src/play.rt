@@ -1,23 +1,26 @@
 // Runs of a script, and what they write.
 
-ghost use Rattle.std.specs.Prelude.{◌≡◌, ◌≤◌, IfErr, IfOk, length};
+ghost use Rattle.std.specs.Prelude.{◌≡◌, ◌≤◌, [], IfErr, IfOk, length};
 ghost use Rattle.std.specs.Arc.{arc_value};
 ghost use Rattle.ped_words.specs.Commands.{AreLawful, IsWorkers};
 ghost use Rattle.script_check.specs.Valid.{IsValid};
 ghost use Rattle.serial_meaning.specs.Eval.{main_origin};
 ghost use Rattle.serial_meaning.specs.Render.{IsWhole};
 ghost use Rattle.strand_meaning.specs.Laws.{IsFaultOf};
+ghost use Rattle.strand_meaning.specs.Strands.{strand_at};
 ghost use Rattle.engine.specs.Promise.{most_bytes};
 ghost use Rattle.engine.specs.Refusal.{IsMisfit};
-ghost use Rattle.engine.specs.Report.{IsPlanOf, IsRunOf, outcome_ending, plan_of, run_report, shown};
+ghost use Rattle.engine.specs.Report.{IsPlanOf, IsReplayOf, IsRunOf, found_report, outcome_ending, plan_of, run_report, shown, strand_report};
 
 use crate::refusal::Refusal;
 use crate::report::{Ending, Report};
 use crate::script::valid_script;
 use crew::{Gate, run_crew, run_serial};
+use ped_path::Pedigree;
 use ped_words::Settings;
+use replay::{ReplayError, replay};
 use script_check::Checked;
-use serial_meaning::{Answer, Memory, Outcome, Plan, render_run};
+use serial_meaning::{Answer, Memory, Outcome, Plan, Strand, render_run, render_strand};
 use std::alloc::Global;
 use std::sync::{Arc, Wait};
 use std::thread::Threads;
@@ -114,4 +117,58 @@ pub(crate) fn played_by_crew<R: Threads + Wait + Sync, G: Gate + Sync>(
     };
     let answer = run_crew(rt, alloc, &plan, workers, gate)?;
     Ok(answer_report(alloc, &answer)?)
+}
+
+// What is written of a strand.
+fn strand_report(alloc: Global, strand: &Strand) -> Result<Report, Memory>
+    ensures { IfOk result (λ report. shown report ≡ strand_report strand.now) }
+{
+    let output = render_strand(alloc, strand)?;
+    let ending = match &strand.fault {
+        Some(_) => Ending::Faulted,
+        None => Ending::Done,
+    };
+    Ok(Report { output, ending })
+}
+
+// No output, and why.
+fn absent(alloc: Global, ending: Ending) -> Report
+    ensures { shown result ≡ record { output = []; ending = ending } }
+{
+    Report {
+        output: Vec::new(alloc),
+        ending,
+    }
+}
+
+// What a replay of the strand of this pedigree writes.
+fn replay_report(alloc: Global, plan: &Arc<Plan>, at: Pedigree) -> Result<Report, Refusal>
+    ensures report { IfOk result (λ report. shown report ≡ found_report at (strand_at (arc_value plan.now) at)) }
+    ensures refused { IfErr result (λ refusal. refusal ≡ Refusal.Memory) }
+{
+    match replay(alloc, plan, &at) {
+        Ok(strand) => Ok(strand_report(alloc, &strand)?),
+        Err(ReplayError::NoStrand) => Ok(absent(alloc, Ending::NoStrand(at))),
+        Err(ReplayError::Blocked(fault)) => Ok(absent(alloc, Ending::Blocked(fault))),
+        Err(ReplayError::Memory) => Err(Refusal::Memory),
+    }
+}
+
+/// What a replay writes of the script that these bytes are the text of.
+pub(crate) fn replayed(
+    alloc: Global,
+    settings: Settings,
+    at: Pedigree,
+    bytes: &[u8],
+) -> Result<Report, Refusal>
+    requires lawful { AreLawful settings }
+    requires within { length bytes.now ≤ most_bytes }
+    ensures report { IfOk result (λ report. IsReplayOf settings at bytes.now (shown report)) }
+    ensures refused { IfErr result (IsMisfit IsValid bytes.now) }
+{
+    let plan = match planned(alloc, settings, bytes) {
+        Ok(plan) => Arc::new(alloc, plan)?,
+        Err(refusal) => return Err(refusal),
+    };
+    replay_report(alloc, &plan, at)
 }

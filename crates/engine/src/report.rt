@@ -7,7 +7,7 @@ ghost use Rattle.engine.specs.Promise.{most_bytes};
 ghost use Rattle.engine.specs.Refusal.{IsMisfit};
 ghost use Rattle.engine.specs.Report.{hash_text, said, shown};
 
-use crate::play::played;
+use crate::play::{played, replayed};
 use crate::refusal::Refusal;
 use crate::script::{any_script, valid_script};
 use dotmix::{Gamma, dot, dotmix};
@@ -15,14 +15,20 @@ use ped_gen::gen_script;
 use ped_path::Pedigree;
 use ped_words::Command;
 use script_print::print_script;
-use serial_meaning::Memory;
+use serial_meaning::{Fault, Memory};
 use std::alloc::Global;
 
-/// How a report ends: the run came to its end, or ended by a fault, whose line is the last one.
-#[derive(Clone, Copy, Debug, PartialEq, Eq)]
+/// How a report ends.
+#[derive(Drop)]
 pub enum Ending {
+    /// The command came to its end.
     Done,
+    /// A run or a strand ended by a fault, whose line is the last one.
     Faulted,
+    /// There is no strand of this pedigree, and no output.
+    NoStrand(Pedigree),
+    /// No strand is known, since an instance on the way down to it ended by this fault. There is no output.
+    Blocked(Fault),
 }
 
 /// All that a command writes.
@@ -67,6 +73,7 @@ pub fn script_report(alloc: Global, command: Command, bytes: &[u8]) -> Result<Re
     match command {
         Command::Run { settings, .. } => played(alloc, settings, bytes),
         Command::Serial { settings } => played(alloc, settings, bytes),
+        Command::Replay { settings, at } => replayed(alloc, settings, at, bytes),
         Command::Fmt => {
             let script = match any_script(alloc, bytes) {
                 Ok(script) => script,

@@ -4,6 +4,7 @@ mod commands;
 mod faults;
 mod runs;
 mod scripts;
+mod strands;
 mod workers;
 
 use crate::pedrun;
@@ -25,6 +26,9 @@ const SQUARES: &[u8] =
 
 const TWO_DRAWS: &[u8] =
     b"fn f() { let x = draw; return x; } fn main() { let a = spawn f(); let b = draw; sync; print a; print b; return 0; }";
+
+const ROLLS: &[u8] =
+    b"fn roll(i) { let x = draw; return x % 100; } fn main() { let a[5]; pfor i in 0..5 into a call roll(i); let k = 0; while k < 5 { print a[k]; k = k + 1; } return 0; }";
 
 // The child ends by a fault, and main goes on until its budget is spent.
 const FAULTY_CHILD: &[u8] =

@@ -5,7 +5,7 @@ ghost use Rattle.ped_io.specs.Causes.{Rose};
 ghost use Rattle.ped_words.specs.Reading.{reading};
 ghost use Rattle.script_grammar.specs.declared.tree.Script.{Script as ScriptTree};
 ghost use Rattle.ped_words.specs.declared.command.Settings.{Settings as RunSettings};
-ghost use Rattle.engine.specs.Clauses.{IsLawful, RefusesScript, RefusesWords, WritesReport};
+ghost use Rattle.engine.specs.Clauses.{IsLawful, RefusesScript, RefusesWords, TellsNoStrand, WritesReport};
 ghost use Rattle.engine.specs.Commands.{IsRun};
 ghost use Rattle.engine.specs.Promise.{KeepsPromise, ReadsNone, has_line, has_output, watched};
 ghost use Rattle.engine.specs.Report.{plan_of};
@@ -58,6 +58,7 @@ pub fn pedrun<R: Threads + Wait + Sync, S: Source, K: Sink, E: Sink, G: Gate + S
     ensures words { RefusesWords (reading (map string_bytes words.now)) result }
     ensures script { RefusesScript (reading (map string_bytes words.now)) (S.left script.old) result }
     ensures report { WritesReport (reading (map string_bytes words.now)) (watched S.left S.faults script.old script.new) (S.left script.old) (watched K.written K.faults out.old out.new) result }
+    ensures no_strand { TellsNoStrand (reading (map string_bytes words.now)) (S.left script.old) result }
     ensures read { result ≡ Status.Read → Rose (S.faults script.old) (S.faults script.new) }
     ensures write { result ≡ Status.Write → Rose (K.faults out.old) (K.faults out.new) }
 
@@ -92,6 +93,7 @@ pub fn pedrun_plain<S: Source, K: Sink, E: Sink>(
     ensures words { RefusesWords (reading (map string_bytes words.now)) result }
     ensures script { RefusesScript (reading (map string_bytes words.now)) (S.left script.old) result }
     ensures report { WritesReport (reading (map string_bytes words.now)) (watched S.left S.faults script.old script.new) (S.left script.old) (watched K.written K.faults out.old out.new) result }
+    ensures no_strand { TellsNoStrand (reading (map string_bytes words.now)) (S.left script.old) result }
     ensures read { result ≡ Status.Read → Rose (S.faults script.old) (S.faults script.new) }
     ensures write { result ≡ Status.Write → Rose (K.faults out.old) (K.faults out.new) }
 
@@ -127,6 +129,7 @@ pub fn pedrun_run<R: Threads + Wait + Sync, S: Source, K: Sink, E: Sink, G: Gate
     ensures words { RefusesWords (reading (map string_bytes words.now)) result }
     ensures script { RefusesScript (reading (map string_bytes words.now)) (S.left script.old) result }
     ensures report { WritesReport (reading (map string_bytes words.now)) (watched S.left S.faults script.old script.new) (S.left script.old) (watched K.written K.faults out.old out.new) result }
+    ensures no_strand { TellsNoStrand (reading (map string_bytes words.now)) (S.left script.old) result }
     ensures read { result ≡ Status.Read → Rose (S.faults script.old) (S.faults script.new) }
     ensures write { result ≡ Status.Write → Rose (K.faults out.old) (K.faults out.new) }
 

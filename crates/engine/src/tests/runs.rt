@@ -1,6 +1,6 @@
 // What runs print that end well.
 
-use super::{DRAWS, ONE, SQUARES, TWO_DRAWS, prints};
+use super::{DRAWS, ONE, ROLLS, SQUARES, TWO_DRAWS, prints};
 use std::test::Fail;
 
 const SPAWNED: &[u8] =
@@ -53,11 +53,7 @@ fn draws_follow_the_pedigree(rt: HostRuntime) -> Result<(), Fail> {
             b"fn f(i) { return i; } fn main() { pfor i in 3..3 call f(i); let x = draw; print x; return 0; }",
             b"210\n",
         ),
-        (
-            "run --gamma 0,1",
-            b"fn roll(i) { let x = draw; return x % 100; } fn main() { let a[5]; pfor i in 0..5 into a call roll(i); let k = 0; while k < 5 { print a[k]; k = k + 1; } return 0; }",
-            b"21\n10\n3\n28\n5\n",
-        ),
+        ("run --gamma 0,1", ROLLS, b"21\n10\n3\n28\n5\n"),
         (
             "run --gamma 1",
             b"fn f() { let x = draw; return x; } fn main() { let a = call f(); let b = call f(); print a; print b; return 0; }",

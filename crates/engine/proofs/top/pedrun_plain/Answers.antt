@@ -1,6 +1,6 @@
 use Rattle.std.proofs.Common.{refl}
 use Rattle.engine.specs.Report.{plan_of}
-use Rattle.engine.proofs.PromiseLemmas.{words_exactly, read_cause, write_cause, script_refused, report_written}
+use Rattle.engine.proofs.PromiseLemmas.{words_exactly, read_cause, write_cause, script_refused, report_written, strand_told}
 use Rattle.engine.proofs.top.pedrun_plain.Goals as goal
 
 pub returns-clause-words : goal.returns-clause-words
@@ -11,6 +11,9 @@ returns-clause-script g c = script_refused _ _ _ _ _ c.perform.ensures.promise _
 
 pub returns-clause-report : goal.returns-clause-report
 returns-clause-report g c = report_written _ _ _ _ _ c.perform.ensures.promise _ refl
+
+pub returns-clause-no_strand : goal.returns-clause-no_strand
+returns-clause-no_strand g c = strand_told _ _ _ _ _ c.perform.ensures.promise _ refl
 
 pub returns-clause-read : goal.returns-clause-read
 returns-clause-read g c = read_cause _ _ _ _ _ c.perform.ensures.promise
