@@ -2,7 +2,9 @@
 use Rattle.std.proofs.Common.{◌≡◌, ℕ, List, Result, Ok, Err, IfErr, IsTrue, inl, inr, sym, subst}
 use Rattle.ped_words.specs.declared.command.Command.{Command}
 use Rattle.engine.specs.Commands.{Takes, runs_today, takes_script}
-use Rattle.engine.specs.Promise.{Watched, Answers, HasOutput, HasReport, ReadWhole}
+use Rattle.serial_meaning.specs.declared.event.Fault.{Fault}
+use Rattle.engine.specs.Lines.{blocked_line}
+use Rattle.engine.specs.Promise.{Watched, Answers, HasOutput, HasReport, ReadWhole, TellsNone, Told}
 use Rattle.engine.specs.Refusal.{Delivers, IsCause, IsMisfit, Puts}
 use Rattle.engine.specs.Report.{Report}
 use Rattle.engine.specs.declared.refusal.Refusal.{Refusal}
@@ -42,3 +44,6 @@ module _ (output : List ℕ) (ending : Ending) (out err : Watched) where
   pub faulted_delivers : (status : Status) → ending ≡ E.Faulted → Puts output S.Faulted out err status → Delivers output ending out err status
   faulted_delivers status faulted (inl p) = delivers_at S.Faulted status (sym p.0) (faulted, p.1)
   faulted_delivers status faulted (inr p) = delivers_at S.Write status (sym p.0) (subst HasOutput (sym faulted) tt, p.1, p.2)
+
+  pub blocked_delivers : (fault : Fault) (line : List ℕ) (status : Status) → ending ≡ E.Blocked fault → status ≡ S.NoStrand → line ≡ blocked_line fault.at → Told err line → Delivers output ending out err status
+  blocked_delivers fault line status blocked none same told = delivers_at S.NoStrand status (sym none) (subst (TellsNone err) (sym blocked) (subst (Told err) same told))

@@ -1,5 +1,5 @@
 -- What a run's plan holds, and what an answer prints.
-use Rattle.std.proofs.Common.{◌≡◌, List, Result, Ok, Err, refl, sym, ap, ◌∙◌, subst}
+use Rattle.std.proofs.Common.{◌≡◌, ℕ, List, Result, Ok, Err, IfOk, refl, sym, ap, ◌∙◌, subst}
 use Rattle.serial_meaning.specs.Plan.{PlanView}
 use Rattle.serial_meaning.specs.Eval.{eval, elision, main_origin}
 use Rattle.serial_meaning.specs.Laws.{IsOriginOf, Main}
@@ -7,7 +7,11 @@ use Rattle.serial_meaning.specs.Answer.{AnswerView, IsAnswer, IsEval, outcome_of
 use Rattle.serial_meaning.specs.Render.{answer_text}
 use Rattle.serial_meaning.specs.declared.value.Value.{Value}
 use Rattle.serial_meaning.specs.declared.event.Fault.{Fault}
-use Rattle.engine.specs.Report.{ending_of, outcome_ending, run_report}
+use Rattle.ped_words.specs.declared.command.Settings.{Settings}
+use Rattle.strand_meaning.specs.Strands.{strand_at}
+use Rattle.engine.specs.declared.refusal.Refusal.{Refusal}
+use Rattle.engine.specs.declared.report.Report as report
+use Rattle.engine.specs.Report.{IsPlanOf, IsReplayOf, ending_of, found_report, outcome_ending, run_report, shown}
 use Rattle.serial_meaning.specs.declared.event.Event.{Event}
 use Rattle.serial_meaning.specs.declared.origin.Origin.{Origin}
 use Rattle.serial_meaning.specs.declared.answer.Outcome.{Outcome}
@@ -44,3 +48,8 @@ module _ (a : AnswerView) (plan : PlanView) (is : IsAnswer a.plan a.origin a.out
 
   pub main_ending : outcome_ending a.outcome ≡ (run_report plan).ending
   main_ending = ap outcome_ending ends ∙ ends_so plan (elision plan).ending
+
+-- What is written of the strand of a script's plan is a replay of the script.
+pub replayed_of : (settings : Settings) (j bytes : List ℕ) (plan seen : PlanView) → IsPlanOf settings bytes plan → seen ≡ plan → (result : Result report.Report Refusal) → IfOk result (λ r. shown r ≡ found_report j (strand_at seen j)) → IfOk result (λ r. IsReplayOf settings j bytes (shown r))
+replayed_of settings j bytes plan seen planned same (Ok r) e = (planned.0, planned.1, planned.2, e ∙ ap (λ p. found_report j (strand_at p j)) (same ∙ planned.3))
+replayed_of settings j bytes plan seen planned same (Err refusal) e = tt

@@ -15,3 +15,6 @@ returns-in-Err-clause-refused c = let P : Command → Type 0 = λ command. IsMis
 
 pub returns-in-Check-clause-refused : goal.returns-in-Check-clause-refused
 returns-in-Check-clause-refused c = let P : Command → Type 0 = λ command. IsMisfit (Takes command) c.args.bytes.now c.in-Err-valid_script.refusal in subst P (sym c.in-Check.is) c.in-Err-valid_script.ensures.refused
+
+pub returns-in-Replay-clause-refused : goal.returns-in-Replay-clause-refused
+returns-in-Replay-clause-refused c = let P : Command → Type 0 = λ command. IfErr c.replayed.result (IsMisfit (Takes command) c.args.bytes.now) in subst P (sym c.in-Replay.is) c.replayed.ensures.refused
