@@ -1,6 +1,5 @@
 -- An answer of an origin of the plan ends by no fault but one of the plan's.
-use Rattle.std.proofs.Common.{◌≡◌, List, Result, Ok, Err, sym, subst}
-use Rattle.std.specs.Prelude.{Contains}
+use Rattle.std.proofs.Common.{List, Result, Ok, Err, sym, subst}
 use Rattle.serial_meaning.specs.Answer.{IsAnswer, IsEval, outcome_of}
 use Rattle.serial_meaning.specs.Eval.{eval}
 use Rattle.serial_meaning.specs.Laws.{IsOriginOf, EndsWithin, OriginsEndWithinFaults}

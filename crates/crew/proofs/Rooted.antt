@@ -1,5 +1,5 @@
 -- The one child of a root.
-use Rattle.std.proofs.Common.{◌≡◌, ℕ, List, [], ◌∷◌, Some, length, refl, sym, ap, subst, arith}
+use Rattle.std.proofs.Common.{◌≡◌, List, [], ◌∷◌, Some, length, subst, arith}
 use Rattle.std.specs.Prelude.{slice_get}
 use Rattle.serial_meaning.specs.Answer.{AnswerTag}
 use Rattle.serial_meaning.specs.Eval.{main_origin}

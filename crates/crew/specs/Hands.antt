@@ -8,7 +8,6 @@ use Rattle.strand_machine.specs.Stops.{IsStop, IsResumed}
 use Rattle.strand_machine.specs.Tasks.{TaskView}
 use Rattle.strand_machine.specs.declared.stop.Stop.{Stop}
 use Rattle.strand_machine.specs.declared.stop.Stop.TheVariants as stop
-use Rattle.strand_machine.specs.declared.stop.Resumed.{Resumed}
 use Rattle.strand_machine.specs.declared.stop.Resumed.TheVariants as resumed
 use Rattle.crew.specs.declared.held.Held.{Held}
 use Rattle.crew.specs.declared.steps.Front.{Front}
