@@ -6,6 +6,7 @@ pub mod Shares
 pub mod Showing
 pub mod Shows
 pub mod Sighted
+pub mod Stealing
 pub mod Stopping
 pub mod Turning
 pub mod Turns

@@ -17,8 +17,6 @@ mod run;
 mod step;
 mod stop;
 mod task;
-#[cfg(test)]
-mod tests;
 mod work;
 
 pub use memory::Memory;
