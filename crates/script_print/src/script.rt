@@ -13,8 +13,9 @@ use std::alloc::Global;
 
 /// The canonical text of a script.
 ///
-/// It is the text of the same tree apart from offsets, so that it is its own canonical text; it can have more bytes than the text that the script
-/// was read from, also more than a text may have that is read again. The time is linear in its length. `Err` is want of memory alone.
+/// Of a script that a text is of, it is the text of the same tree apart from offsets, and so its own canonical text. A tree that no text gives,
+/// such as a sum of one term, has one too. It can have more bytes than the text that the script was read from, also more than a text may have
+/// that is read again. The time is linear in its length. `Err` is want of memory alone.
 pub fn print_script(alloc: Global, script: &Script) -> Result<Vec<u8>, Memory>
     ensures text { IfOk result (λ text. text.items ≡ canonical script.now) }
     ensures same_tree { IfOk result (λ text. IsOfText script.now → IsTextOf text.items script.now) }

@@ -95,20 +95,28 @@ fn scripts_have_a_tree(rt: HostRuntime) {
     }
 }
 
-// A front of a script is one itself where it ends behind a function, and else has fault 6 at its end or fault 2 in front of that.
+// A front of a script is one itself where it ends behind a function, and has fault 2 where it ends inside a word that can't stand there.
+// Else it is unfinished: fault 6 at its end.
 #[test]
 fn fronts_of_a_longer_script_are_refused(rt: HostRuntime) {
     let text =
         b"fn sq(i) { return i * i; } fn main() { let a[5]; pfor i in 0..5 into a call sq(i); let k = 0; while k < 5 { print a[k]; k = k + 1; } return 0; }";
     for length in 0..text.len() {
-        match fault(&rt, rt.alloc(), &text[..length]) {
-            None => assert!(rt; length == 0 || length == 26 || length == 27, "at {length}"),
-            Some((6, at)) => assert_eq!(rt; at, length as u32),
-            Some((number, at)) => {
-                assert_eq!(rt; number, 2, "at {length}");
-                assert!(rt; (at as usize) < length, "at {length}");
-            }
-        }
+        let wanted = match length {
+            0 | 26 | 27 => None,
+            1 => Some((2, 0)),
+            28 => Some((2, 27)),
+            57 => Some((2, 56)),
+            61 => Some((2, 60)),
+            65..=67 => Some((2, 64)),
+            72..=74 => Some((2, 71)),
+            _ => Some((6, length as u32)),
+        };
+        assert_eq!(rt;
+            fault(&rt, rt.alloc(), &text[..length]),
+            wanted,
+            "at {length}"
+        );
     }
 }
 
@@ -133,16 +141,11 @@ fn limits_hold_up_to_their_ends(rt: HostRuntime) -> Result<(), Fail> {
     let print = b"fn main() { print ";
     let end = b"; return 0; }";
 
-    let mut inner = repeated(alloc, print, b"(", 63, b"1")?;
-    for _ in 0..63 {
-        inner.push(b')')?;
+    for (count, wanted) in [(63, None), (64, Some((5, 81)))] {
+        let mut script = repeated(alloc, print, b"(", count, b"1")?;
+        script.extend_from_slice(&repeated(alloc, b"", b")", count, end)?)?;
+        assert_eq!(rt; fault(&rt, alloc, &script), wanted);
     }
-    inner.extend_from_slice(end)?;
-    assert_eq!(rt; fault(&rt, alloc, &inner), None);
-    assert_eq!(rt;
-        fault(&rt, alloc, &repeated(alloc, print, b"(", 64, b"1")?),
-        Some((5, 81))
-    );
     assert_eq!(rt;
         fault(
             &rt,

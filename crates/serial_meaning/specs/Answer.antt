@@ -1,4 +1,4 @@
--- Answers of origins.
+-- Answers of origins: what an instance or a loop gives, whoever runs it (docs/LANGUAGE.md, "The serial elision" and "Tasks").
 use Rattle.std.specs.Prelude.{◌≡◌, List, Result, Ok, Err}
 use Rattle.serial_meaning.specs.Plan.{PlanView}
 use Rattle.serial_meaning.specs.Eval.{first_of, eval}

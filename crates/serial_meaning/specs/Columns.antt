@@ -1,4 +1,4 @@
--- The forms in which events are printed, as one choice.
+-- The forms in which events are printed, as one choice (docs/LANGUAGE.md, "Printed lines").
 use Rattle.std.specs.Prelude.{ℕ, List}
 use Rattle.serial_meaning.specs.Render.{event_line, strand_line}
 use Rattle.serial_meaning.specs.declared.event.Event.{Event}

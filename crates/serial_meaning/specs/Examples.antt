@@ -1,4 +1,4 @@
--- What the definitions say of small scripts. Each is the contract of a function of the module `examples`, which shows the script.
+-- What the definitions say of small scripts (docs/LANGUAGE.md, "What a script means"). Each is the contract of a function of the module `examples`, which shows the script.
 use Rattle.std.specs.Prelude.{◌≡◌, ℕ, suc, List, [], ◌∷◌, Some, None, Ok, Err, codes}
 use Rattle.std.specs.Prelude.{pos}
 use Rattle.script_grammar.specs.declared.tree.Function.{Function}

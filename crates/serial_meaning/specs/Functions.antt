@@ -1,4 +1,5 @@
--- The functions of a script.
+-- The functions of a script: the one that a name means (docs/LANGUAGE.md, "Names"), and whether a function's text holds a spawn, so that its
+-- return waits ("Steps").
 use Rattle.std.specs.Prelude.{ℕ, suc, Bool, true, false, ◌||◌, List, [], ◌∷◌, Option, codes, map, slice_get, if◌then◌else◌}
 use Rattle.std.specs.Str.{bytes_eq}
 use Rattle.script_grammar.specs.declared.tree.Function.{Function}

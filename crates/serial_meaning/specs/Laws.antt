@@ -1,4 +1,5 @@
--- Laws of the meaning. Each is the contract of a function of the module `laws`.
+-- Laws of the meaning (docs/LANGUAGE.md, "The serial elision"; that pedigrees name strands whatever the schedule, and that draws are hashes of
+-- them, is from Leiserson, Schardl and Sukha, PPoPP 2012). Each is the contract of a function of the module `laws`.
 use Rattle.std.specs.Prelude.{◌≡◌, ◌≤◌, ℕ, List, [], ◌∷◌, ◌++◌, Result, Ok, Err, All, AllPairs, Contains}
 use Rattle.std.specs.Prelude.{ℤ}
 use Rattle.ped_path.specs.Path.{IsBefore}

@@ -1,4 +1,4 @@
--- The variables that an expression names.
+-- The variables that an expression names, on which alone its value depends (docs/LANGUAGE.md, "The serial elision").
 use Rattle.std.specs.Prelude.{ℕ, List, [], ◌∷◌, ◌++◌}
 use Rattle.script_grammar.specs.declared.tree.Expr.{Expr}
 use Rattle.script_grammar.specs.declared.tree.Expr.TheFolds.{fold-Expr, fold-SumPart, fold-ProductPart}

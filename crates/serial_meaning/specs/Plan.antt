@@ -1,4 +1,4 @@
--- What is run.
+-- What is run: a script, coefficients, limits and what is shown (docs/LANGUAGE.md, "Command words").
 use Rattle.std.specs.Prelude.{◌≡◌, ◌≤◌, ℕ, List, length}
 use Rattle.script_grammar.specs.declared.tree.Script.{Script}
 use Rattle.script_grammar.specs.declared.tree.Function.{Function}

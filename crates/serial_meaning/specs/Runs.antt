@@ -1,4 +1,5 @@
--- A run so far: what happened, in order, and how it ended. Definitions of a script's meaning put runs one after another.
+-- A run so far: what happened, in order, and how it ended (docs/LANGUAGE.md, "Steps"). Definitions of a script's meaning put runs one after
+-- another.
 use Rattle.std.specs.Prelude.{List, [], ◌∷◌, ◌++◌, Result, Ok, Err}
 
 pub record Run (I E A : Type 0) : Type 0 where

@@ -1,4 +1,4 @@
--- Segments of events, one after another.
+-- Segments of events, one after another. A list of events is kept so that none is copied; the form is this project's own.
 use Rattle.std.specs.Prelude.{List, [], ◌∷◌, ◌++◌, Vec, Option, Some, None}
 use Rattle.std.specs.declared.alloc.Global.{Global}
 use Rattle.serial_meaning.specs.declared.event.Event.{Event}

@@ -1,4 +1,4 @@
--- Scripts as trees, in short. All offsets are 0.
+-- Scripts as trees, in short (docs/LANGUAGE.md, "Grammar"). All offsets are 0.
 use Rattle.std.specs.Prelude.{ℕ, false, List, [], ◌∷◌}
 use Rattle.std.specs.Prelude.{pos}
 use Rattle.script_grammar.specs.declared.tree.Name.{Name}

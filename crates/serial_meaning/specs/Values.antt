@@ -1,4 +1,4 @@
--- What an expression gives (docs/LANGUAGE.md, "Values").
+-- What an expression gives (docs/LANGUAGE.md, "Kinds and values").
 use Rattle.std.specs.Prelude.{ℕ, zero, suc, Bool, true, false, ◌&&◌, List, [], ◌∷◌, Option, Some, None, Result, Ok, Err, slice_get, if◌then◌else◌, int_lt, int_le, int_rem}
 use Rattle.std.specs.Prelude.{ℤ, pos, negsuc}
 use Rattle.std.specs.Int.{w64, int_wrapping_add, int_wrapping_sub, int_wrapping_mul, int_wrapping_div, int_wrapping_neg}

@@ -5,7 +5,9 @@ use serial_meaning::{Event, Fault, Origin, Value};
 /// A child that is handed out: what it is begun as, and the trail of its path.
 #[derive(Drop)]
 pub struct Child {
+    /// An instance, or the iterations of a loop.
     pub origin: Origin,
+    /// The trail of the origin's path, by the plan's coefficients.
     pub trail: Trail,
 }
 
