@@ -1,6 +1,7 @@
 pub mod Ending
 pub mod Handed
 pub mod Mains
+pub mod Meeting
 pub mod Rooted
 pub mod Shares
 pub mod Showing

@@ -28,14 +28,6 @@ pub record HandView : Type 0 where
 abbrev pub view_of : Held → HandView
 view_of h = record { root = h.root; current = h.current; kept = h.kept.items; deck = h.deck; ring = h.ring.items; thieves = h.thieves.items }
 
--- a hand that has nothing, and no thieves
-abbrev pub new_hand : Origin → DeckId → HandView
-new_hand root deck = record { root = root; current = None; kept = []; deck = new_owner deck; ring = []; thieves = [] }
-
--- one thief more was made of its deck
-abbrev pub with_thief : HandView → HandView
-with_thief h = record h { deck = record h.deck { made = h.deck.made + 1 } }
-
 -- The steps of a turn
 
 -- The rest of a task that handed out a child: it is pushed on the deck, or goes to the private list's end. The latter comes only where that list

@@ -1,3 +1,4 @@
+pub mod Crews
 pub mod Hands
 pub mod Nodes
 pub mod Sights

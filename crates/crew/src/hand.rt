@@ -62,7 +62,8 @@ impl Model for Hand {
 impl Hand {
     ghost use Rattle.std.specs.Prelude.{◌≡◌, IfOk, OnOk, OnErr, Some, None};
     ghost use Rattle.steal_deck.specs.Ends.{new_thief};
-    ghost use Rattle.crew.specs.Hands.{IsTurn, new_hand, with_thief};
+    ghost use Rattle.crew.specs.Crews.{new_hand, with_thief};
+    ghost use Rattle.crew.specs.Hands.{IsTurn};
 
     /// A hand without a task, for a run that the answer of this origin ends. It has no thieves yet.
     pub(crate) fn new(alloc: Global, root: Origin) -> Result<Hand, Memory>

@@ -12,7 +12,7 @@ use Rattle.engine.specs.declared.status.Status.TheVariants.{Done, Faulted, Words
 use Rattle.engine.specs.Commands.{Reports, Takes, reads_script, runs_today, takes_script}
 use Rattle.engine.specs.Report.{Report, ending_of, plan_of, status_of}
 use Rattle.engine.specs.Promise.{Watched, Failed, ReadWhole, HasNoScript, HasReport, Answers, HasOutput, Refuses, TellsNone, KeepsPromise, most_bytes}
-use Rattle.engine.specs.Clauses.{RefusesWords, IsBad, RefusesScript, WroteReport, WritesReport, IsReplay, FindsNone, TellsNoStrand}
+use Rattle.engine.specs.Clauses.{RefusesWords, IsBad, RefusesScript, WroteReport, WritesReport, IsReplay, FindsNone, TellsNoStrand, IsComplete, Completes}
 use Rattle.engine.specs.declared.report.Ending.{Ending}
 use Rattle.engine.specs.declared.report.Ending.TheVariants as E
 use Rattle.serial_meaning.specs.declared.value.Value.{Value}
@@ -257,3 +257,20 @@ module _ (source out err : Watched) where
   strand_told (Ok command) status a None told =
       λ h. (let b = answer_at source out err command status NoStrand a h in replay_tells command b.1.1.0 b.1.0 b.1.1.2 b.1.2)
   strand_told (Err error) status r told e = refused_other err error status NoStrand r (λ e. absurd (cc)) (λ e. absurd (cc))
+
+  module _ (command : Command) (bytes : List ℕ) (told : source.before ≡ Some bytes) (today : IsTrue (runs_today command)) (good : IsTrue (reads_script command) → IsBad command bytes → ⊥) (reads : Failed source → ⊥) (writes : Failed out → ⊥) where
+    complete_of : (status : Status) → Answers command source out err status → IsComplete command status
+    complete_of Done a = inl refl
+    complete_of Faulted a = inr (inl refl)
+    complete_of Words a = absurd (not_both (runs_today command) today a.0)
+    complete_of Script a = absurd (good a.0 (bad_script source out err command bytes told (second_true (runs_today command) (takes_script command) a.0) a.1))
+    complete_of Read a = absurd (reads a.1)
+    complete_of Write a = absurd (writes a.0.1.3.failed)
+    complete_of Memory a = inr (inr (inl refl))
+    complete_of NoStrand a = inr (inr (inr (refl, replay_tells command a.1.1.0 a.1.0 a.1.1.2 a.1.2)))
+
+  pub completes : (given : Result Command WordError) (status : Status) → KeepsPromise given source out err status → (told : Option (List ℕ)) → source.before ≡ told → Completes given source told out status
+  completes (Ok command) status a (Some bytes) told = λ today good reads writes. complete_of command bytes told today good reads writes status a
+  completes (Ok command) status a None told = tt
+  completes (Err error) status a (Some bytes) told = tt
+  completes (Err error) status a None told = tt

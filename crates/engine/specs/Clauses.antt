@@ -18,7 +18,7 @@ use Rattle.engine.specs.declared.status.Status.{Status}
 use Rattle.engine.specs.declared.status.Status.TheVariants.{Done, Faulted, Words, Script, Read, Memory, NoStrand}
 use Rattle.engine.specs.Commands.{Reports, Takes, reads_script, runs_today, takes_script}
 use Rattle.engine.specs.Report.{Report, status_of}
-use Rattle.engine.specs.Promise.{Watched, most_bytes}
+use Rattle.engine.specs.Promise.{Watched, Failed, most_bytes}
 
 -- the words give no command that runs today
 abbrev pub SaysNothing : Result Command WordError → Type 0
@@ -56,6 +56,7 @@ WritesReport given source None out status = ⊤
 WritesReport given source (Some bytes) out status =
     (status ≡ Done) ⊎ (status ≡ Faulted) → (command : Command) × (given ≡ Ok command) × WroteReport command bytes source out status
 
+-- the command asks for one strand
 abbrev pub IsReplay : Command → Type 0
 IsReplay (Replay settings at) = ⊤
 IsReplay command = ⊥
@@ -76,6 +77,17 @@ TellsNoStrand (Ok command) (Some bytes) status =
     (status ≡ NoStrand) ⊎ ((status ≡ Read) ⊎ (status ≡ Memory)))
 TellsNoStrand (Ok command) None status = status ≡ NoStrand → IsReplay command
 TellsNoStrand (Err error) told status = status ≡ NoStrand → ⊥
+
+-- The whole report was written, or it is that there is no strand, or memory was wanting.
+abbrev pub IsComplete : Command → Status → Type 0
+IsComplete command status = (status ≡ Done) ⊎ ((status ≡ Faulted) ⊎ ((status ≡ Memory) ⊎ ((status ≡ NoStrand) × IsReplay command)))
+
+-- Where the words give a command that runs, the bytes that the source tells aren't bad for it, and neither a read nor a write of the output
+-- failed, the answer is complete.
+abbrev pub Completes : Result Command WordError → Watched → Option (List ℕ) → Watched → Status → Type 0
+Completes (Ok command) source (Some bytes) out status =
+    IsTrue (runs_today command) → (IsTrue (reads_script command) → IsBad command bytes → ⊥) → (Failed source → ⊥) → (Failed out → ⊥) → IsComplete command status
+Completes given source told out status = ⊤
 
 -- What holds of a plan's run: the pedigrees of its events but printing rise strictly, so that no two are the same; each draw is DotMix of
 -- its pedigree; and its fault is the least of the open tree's.

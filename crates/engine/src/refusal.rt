@@ -16,6 +16,7 @@ pub enum Refusal {
     Untaken(String),
     /// A read failed.
     Read,
+    /// There was no memory.
     Memory,
 }
 

@@ -34,7 +34,9 @@ pub enum Ending {
 /// All that a command writes.
 #[derive(Drop)]
 pub struct Report {
+    /// The bytes for the output: lines, each with a line feed at its end.
     pub output: Vec<u8>,
+    /// How the command ended, which gives the status.
     pub ending: Ending,
 }
 
@@ -61,7 +63,8 @@ fn hash_report(alloc: Global, gamma: &Gamma, at: &Pedigree) -> Result<Report, Me
     Ok(Report::said(text.into_bytes()))
 }
 
-/// What a command writes, on the caller's thread, of the script that these bytes are the text of.
+/// What a command writes, on the caller's thread, of the script that these bytes are the text of. It is refused as `Untaken` where they are the
+/// text of no script that the command takes, and as `Memory` where there was none.
 pub fn script_report(alloc: Global, command: Command, bytes: &[u8]) -> Result<Report, Refusal>
     requires today { IsTrue (runs_today command) }
     requires script { IsTrue (takes_script command) }

@@ -13,7 +13,7 @@ use script_grammar::Script;
 use script_text::{SyntaxError, parse};
 use std::alloc::Global;
 
-/// The script of this text.
+/// The script of this text. The refusal is `Untaken` with the line of the first fault where there is none, or `Memory`.
 pub fn any_script(alloc: Global, bytes: &[u8]) -> Result<Script, Refusal>
     requires { length bytes.now ≤ most_bytes }
     ensures script { IfOk result (Text bytes.now) }
@@ -28,7 +28,8 @@ pub fn any_script(alloc: Global, bytes: &[u8]) -> Result<Script, Refusal>
     }
 }
 
-/// The valid script of this text.
+/// The valid script of this text. The refusal is `Untaken` with the line of the first fault, or of the first condition that the script violates,
+/// or `Memory`.
 pub fn valid_script(alloc: Global, bytes: &[u8]) -> Result<Checked, Refusal>
     requires { length bytes.now ≤ most_bytes }
     ensures script { IfOk result (Text bytes.now) }

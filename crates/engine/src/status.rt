@@ -10,9 +10,9 @@ pub enum Status {
     Done,
     /// The whole output was written, and its last line is a fault's.
     Faulted,
-    /// The words are no command. Nothing was read.
+    /// The words are no command that runs. Nothing was read.
     Words,
-    /// The script is too long, or none that runs.
+    /// The script has more than 1048576 bytes, isn't in the grammar, or isn't valid. `fmt` takes one that isn't valid.
     Script,
     /// A read of the script failed.
     Read,
@@ -20,7 +20,7 @@ pub enum Status {
     Write,
     /// There was no memory. Nothing was written to the output.
     Memory,
-    /// No strand has the pedigree that was asked for.
+    /// No strand has the pedigree that was asked for, or the way to it is blocked by a child's fault. Nothing was written to the output.
     NoStrand,
 }
 

@@ -21,6 +21,9 @@ const ONE: &[u8] = b"fn main() { print 1; return 0; }";
 const DRAWS: &[u8] =
     b"fn main() { let a = draw; let b = draw; let c = draw; print a; print b; print c; return 0; }";
 
+const SUM: &[u8] =
+    b"fn two() { let x = 1 + 1; return x; } fn main() { let a = spawn two(); print 5; sync; print a + 1; return 0; }";
+
 const SQUARES: &[u8] =
     b"fn sq(i) { return i * i; } fn main() { let a[5]; pfor i in 0..5 into a call sq(i); let k = 0; while k < 5 { print a[k]; k = k + 1; } return 0; }";
 

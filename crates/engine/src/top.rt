@@ -5,7 +5,7 @@ ghost use Rattle.ped_io.specs.Causes.{Rose};
 ghost use Rattle.ped_words.specs.Reading.{reading};
 ghost use Rattle.script_grammar.specs.declared.tree.Script.{Script as ScriptTree};
 ghost use Rattle.ped_words.specs.declared.command.Settings.{Settings as RunSettings};
-ghost use Rattle.engine.specs.Clauses.{IsLawful, RefusesScript, RefusesWords, TellsNoStrand, WritesReport};
+ghost use Rattle.engine.specs.Clauses.{Completes, IsLawful, RefusesScript, RefusesWords, TellsNoStrand, WritesReport};
 ghost use Rattle.engine.specs.Commands.{IsRun};
 ghost use Rattle.engine.specs.Promise.{KeepsPromise, ReadsNone, has_line, has_output, watched};
 ghost use Rattle.engine.specs.Report.{plan_of};
@@ -32,7 +32,7 @@ pub fn is_run(words: &[String]) -> bool
 /// All that the program does, over any source of the script, sink of the output and sink of the error line.
 ///
 /// `words` are those of the command line without the program's name. What each status means, and which bytes were read and written
-/// then, is the clause `promise`; the clauses `words` to `write` say its parts. Statuses 2 to 7 come with one line on `err`, and whether
+/// then, is the clause `promise`; the clauses `words` to `complete` say its parts. Statuses 2 to 7 come with one line on `err`, and whether
 /// `err` takes it changes no status. The clause `events` says what holds of each run.
 ///
 /// The command `run` goes by workers on threads of `rt`, and `gate` is told of their tasks. No clause speaks of the gate, or of the
@@ -61,6 +61,7 @@ pub fn pedrun<R: Threads + Wait + Sync, S: Source, K: Sink, E: Sink, G: Gate + S
     ensures no_strand { TellsNoStrand (reading (map string_bytes words.now)) (S.left script.old) result }
     ensures read { result ≡ Status.Read → Rose (S.faults script.old) (S.faults script.new) }
     ensures write { result ≡ Status.Write → Rose (K.faults out.old) (K.faults out.new) }
+    ensures complete { Completes (reading (map string_bytes words.now)) (watched S.left S.faults script.old script.new) (S.left script.old) (watched K.written K.faults out.old out.new) result }
 
     // What holds of each run that is written.
     ensures events { (settings : RunSettings) (tree : ScriptTree) → IsLawful (plan_of settings tree) }
@@ -96,6 +97,7 @@ pub fn pedrun_plain<S: Source, K: Sink, E: Sink>(
     ensures no_strand { TellsNoStrand (reading (map string_bytes words.now)) (S.left script.old) result }
     ensures read { result ≡ Status.Read → Rose (S.faults script.old) (S.faults script.new) }
     ensures write { result ≡ Status.Write → Rose (K.faults out.old) (K.faults out.new) }
+    ensures complete { Completes (reading (map string_bytes words.now)) (watched S.left S.faults script.old script.new) (S.left script.old) (watched K.written K.faults out.old out.new) result }
 
     // What holds of each run that is written.
     ensures events { (settings : RunSettings) (tree : ScriptTree) → IsLawful (plan_of settings tree) }
@@ -132,6 +134,7 @@ pub fn pedrun_run<R: Threads + Wait + Sync, S: Source, K: Sink, E: Sink, G: Gate
     ensures no_strand { TellsNoStrand (reading (map string_bytes words.now)) (S.left script.old) result }
     ensures read { result ≡ Status.Read → Rose (S.faults script.old) (S.faults script.new) }
     ensures write { result ≡ Status.Write → Rose (K.faults out.old) (K.faults out.new) }
+    ensures complete { Completes (reading (map string_bytes words.now)) (watched S.left S.faults script.old script.new) (S.left script.old) (watched K.written K.faults out.old out.new) result }
 
     // What holds of each run that is written.
     ensures events { (settings : RunSettings) (tree : ScriptTree) → IsLawful (plan_of settings tree) }

@@ -6,7 +6,7 @@ ghost use Rattle.ped_gen.specs.Shapes.{Fits};
 pub enum Shape {
     /// The Fibonacci number of the size, by a recursion that spawns one call of two.
     Fib,
-    /// The sum of a draw at each leaf of a full binary tree of this height, and of 1 for each leaf. All calls are spawned.
+    /// The sum of a draw at each leaf of a full binary tree of this height, and of 1 for each leaf. All calls but main's are spawned.
     Tree,
     /// A parallel loop of so many iterations, and the sum of what they answer.
     Loop,

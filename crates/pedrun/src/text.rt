@@ -1,7 +1,9 @@
 // The texts of the help.
 
+/// Name and version.
 pub const VERSION: &str = "pedrun 0.1.0\n";
 
+/// `pedrun --help`.
 pub const PROGRAM: &str = "\
 pedrun runs fork-join scripts on several workers. Each strand of a run has a
 name that no schedule can change, and a random draw is a hash of its strand's
@@ -32,7 +34,8 @@ Options, in any order, each at most once:
                    (default 1000000)
   --workers N      from 1 to 64 (default 4)
   --show WHAT      plain, or log to see draws and objects too (default plain)
-  --at PEDIGREE    the name of a strand, such as 0.3.1
+  --at PEDIGREE    the name of a strand, such as 0.3.1: from 1 to 256 ranks, each
+                   from 0 to 4294967295
   --shape SHAPE    fib, tree or loop
   --size N         at most 30 for fib, at most 20 for tree, from 1 to 4096 for
                    loop
@@ -52,6 +55,7 @@ Example:
   $ pedrun run --seed 7 < draw.ped
 ";
 
+/// `pedrun run --help`.
 pub const RUN: &str = "\
 Runs the script on standard input on several workers, and prints its lines: the
 same as pedrun serial prints, whatever the workers do.
@@ -77,6 +81,7 @@ Example:
   $ pedrun run --seed 7 --workers 8 < examples/pi.ped
 ";
 
+/// `pedrun serial --help`.
 pub const SERIAL: &str = "\
 Runs the script on standard input in serial order, without workers, and prints
 its lines: the same as pedrun run prints.
@@ -101,6 +106,7 @@ Example:
   $ pedrun serial --seed 7 < examples/pi.ped
 ";
 
+/// `pedrun check --help`.
 pub const CHECK: &str = "\
 Prints ok where the script on standard input is valid. Else it tells on standard
 error the first thing that is wrong with it, and at which byte, counted from 0.
@@ -114,6 +120,7 @@ Example:
   $ pedrun check < examples/pi.ped
 ";
 
+/// `pedrun fmt --help`.
 pub const FMT: &str = "\
 Prints the script on standard input in canonical text: one statement on a line,
 two spaces deeper in each block, no comments. The script needn't be valid.
@@ -127,6 +134,7 @@ Example:
   $ pedrun fmt < examples/pi.ped
 ";
 
+/// `pedrun replay --help`.
 pub const REPLAY: &str = "\
 Prints what one strand of the script on standard input did, found by its
 pedigree: its prints, draws and objects, the spawn, sync or loop that ended it,
@@ -135,7 +143,8 @@ and its own fault. Give it the options with which the script was run.
 Usage: pedrun replay --at PEDIGREE [--OPTION VALUE]... < SCRIPT
 
 Options, in any order, each at most once; a gamma excludes a seed:
-  --at PEDIGREE    the strand's name, such as 0.3.1 (must be given)
+  --at PEDIGREE    the strand's name, such as 0.3.1: from 1 to 256 ranks, each
+                   from 0 to 4294967295 (must be given)
   --seed N         the seed of the draws, from 0 to 18446744073709551615
                    (default 0)
   --gamma N,N,..   the coefficients of the draws in place of a seed, each below
@@ -153,6 +162,7 @@ Example:
   $ pedrun replay --seed 1 --at 0.163.2 < examples/midpoint.ped
 ";
 
+/// `pedrun hash --help`.
 pub const HASH: &str = "\
 Prints the dot product of a pedigree, and the number that a draw at it gives. It
 reads no script.
@@ -160,7 +170,8 @@ reads no script.
 Usage: pedrun hash --at PEDIGREE [--OPTION VALUE]...
 
 Options, in any order, each at most once; a gamma excludes a seed:
-  --at PEDIGREE    the strand's name, such as 0.3.1 (must be given)
+  --at PEDIGREE    the strand's name, such as 0.3.1: from 1 to 256 ranks, each
+                   from 0 to 4294967295 (must be given)
   --seed N         the seed of the draws, from 0 to 18446744073709551615
                    (default 0)
   --gamma N,N,..   the coefficients of the draws in place of a seed, each below
@@ -172,6 +183,7 @@ Example:
   $ pedrun hash --seed 7 --at 0.3.1
 ";
 
+/// `pedrun gen --help`.
 pub const GEN: &str = "\
 Prints a script of a shape and a size, to try the other commands on: fib has a
 spawn for each call, tree draws at its leaves, loop has a parallel loop. It

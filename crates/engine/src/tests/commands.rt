@@ -1,6 +1,6 @@
 // The commands and their words, and what the streams do to them.
 
-use super::{DRAWS, ONE, call, generated, plain, prints, refuses, words};
+use super::{DRAWS, ONE, SUM, call, generated, prints, refuses, words};
 use crate::pedrun;
 use crew::OpenGate;
 use ped_io::{MemSink, MemSource};
@@ -25,17 +25,21 @@ fn pedigrees_have_their_draws(rt: HostRuntime) -> Result<(), Fail> {
     Ok(())
 }
 
-// The first line is known from the published generator, the second is its mix.
+// The first line is known from the published generator. The second is four rounds of mixing of it, as a program of its own has them.
 #[test]
 fn seeds_give_coefficients(rt: HostRuntime) -> Result<(), Fail> {
     let rows: [(&str, &[u8]); 2] = [
-        ("hash --seed 0 --at 0", b"dot 16294208416658607535\n"),
-        ("hash --seed 0 --at 0.0", b"dot 5807750865143411678\n"),
+        (
+            "hash --seed 0 --at 0",
+            b"dot 16294208416658607535\ndraw 5688721021308471510\n",
+        ),
+        (
+            "hash --seed 0 --at 0.0",
+            b"dot 5807750865143411678\ndraw 6243189118266778904\n",
+        ),
     ];
-    for (line, first) in rows {
-        let told = plain(&rt, line, b"")?;
-        assert_eq!(rt; told.code, 0);
-        assert!(rt; told.out.as_slice().starts_with(first));
+    for (line, output) in rows {
+        prints(&rt, line, b"", output)?;
     }
     Ok(())
 }
@@ -130,11 +134,11 @@ fn commands_that_are_not_built_are_refused(rt: HostRuntime) -> Result<(), Fail> 
 }
 
 #[test]
-fn faults_of_reads_and_writes_are_told(rt: HostRuntime) -> Result<(), Fail> {
+fn faults_of_reads_are_told(rt: HostRuntime) -> Result<(), Fail> {
     let alloc = rt.alloc();
     let read = call(
         &rt,
-        "run --seed 0",
+        "run",
         ONE.to_vec(alloc)?,
         4096,
         vec![in alloc; 1]?,
@@ -144,18 +148,25 @@ fn faults_of_reads_and_writes_are_told(rt: HostRuntime) -> Result<(), Fail> {
     assert_eq!(rt; read.code, 4);
     assert_eq!(rt; read.out.as_slice(), b"".as_slice());
     assert_eq!(rt; read.err.as_slice(), b"read fault\n".as_slice());
-    let write = call(
-        &rt,
-        "run --gamma 1",
-        DRAWS.to_vec(alloc)?,
-        4,
-        Vec::new(alloc),
-        vec![in alloc; 1]?,
-        &OpenGate,
-    )?;
-    assert_eq!(rt; write.code, 5);
-    assert_eq!(rt; write.out.as_slice(), b"21\n2".as_slice());
-    assert_eq!(rt; write.err.as_slice(), b"write fault\n".as_slice());
+    Ok(())
+}
+
+// The second write fails, and a front of the output stands.
+#[test]
+fn faults_of_writes_are_told(rt: HostRuntime) -> Result<(), Fail> {
+    let alloc = rt.alloc();
+    let rows: [(&str, &[u8], u32, &[u8]); 2] = [
+        ("run --gamma 1", DRAWS, 4, b"21\n2"),
+        ("run --seed 7", SUM, 1, b"5"),
+    ];
+    for (line, script, step, front) in rows {
+        let script = script.to_vec(alloc)?;
+        let writes = vec![in alloc; 1]?;
+        let write = call(&rt, line, script, step, Vec::new(alloc), writes, &OpenGate)?;
+        assert_eq!(rt; write.code, 5, "{line}");
+        assert_eq!(rt; write.out.as_slice(), front, "{line}");
+        assert_eq!(rt; write.err.as_slice(), b"write fault\n".as_slice(), "{line}");
+    }
     Ok(())
 }
 
@@ -177,6 +188,7 @@ fn a_failing_error_output_changes_no_status(rt: HostRuntime) -> Result<(), Fail>
         &OpenGate,
     );
     assert_eq!(rt; status.code(), 2);
+    assert_eq!(rt; out.bytes(), b"".as_slice());
     assert_eq!(rt; err.bytes(), b"".as_slice());
     Ok(())
 }

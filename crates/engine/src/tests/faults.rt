@@ -6,11 +6,7 @@ use std::test::Fail;
 // The child's fault is before main's, which stands in a loop without end.
 #[test]
 fn the_least_fault_is_told(rt: HostRuntime) -> Result<(), Fail> {
-    for line in [
-        "run --workers 1",
-        "run --workers 2 --budget 10000",
-        "run --workers 64 --budget 10000",
-    ] {
+    for line in ["run --workers 1", "run --workers 2", "run --workers 64"] {
         ends_by_fault(&rt, line, FAULTY_CHILD, b"7\nfault 0.0: division by zero\n")?;
     }
     Ok(())

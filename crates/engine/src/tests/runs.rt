@@ -1,13 +1,10 @@
 // What runs print that end well.
 
-use super::{DRAWS, ONE, ROLLS, SQUARES, TWO_DRAWS, prints};
+use super::{DRAWS, ONE, ROLLS, SQUARES, SUM, TWO_DRAWS, prints};
 use std::test::Fail;
 
 const SPAWNED: &[u8] =
     b"fn f() { let x = draw; return x; } fn main() { print 1; spawn f(); sync; return 0; }";
-
-const SUM: &[u8] =
-    b"fn two() { let x = 1 + 1; return x; } fn main() { let a = spawn two(); print 5; sync; print a + 1; return 0; }";
 
 const SPAWNED_DRAW: &[u8] =
     b"fn f() { let x = draw; return x; } fn main() { let a = spawn f(); sync; print a; return 0; }";

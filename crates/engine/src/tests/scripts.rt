@@ -23,7 +23,7 @@ fn faults_of_the_text_have_their_places(rt: HostRuntime) -> Result<(), Fail> {
         (b"\xff", b"script: not ASCII at byte 0\n"),
     ];
     for (script, refusal) in rows {
-        for line in ["run --seed 0", "check", "fmt"] {
+        for line in ["run", "check", "fmt"] {
             refuses(&rt, line, script, 3, refusal)?;
         }
     }
@@ -110,6 +110,7 @@ fn names_and_arrays_have_their_longest(rt: HostRuntime) -> Result<(), Fail> {
     ];
     for script in taken {
         prints(&rt, "run", script, b"")?;
+        prints(&rt, "check", script, b"ok\n")?;
     }
     let rows: [(&[u8], &[u8]); 3] = [
         (
@@ -127,6 +128,7 @@ fn names_and_arrays_have_their_longest(rt: HostRuntime) -> Result<(), Fail> {
     ];
     for (script, refusal) in rows {
         refuses(&rt, "run", script, 3, refusal)?;
+        refuses(&rt, "check", script, 3, refusal)?;
     }
     Ok(())
 }
@@ -140,14 +142,18 @@ fn functions_have_at_most_256_variables(rt: HostRuntime) -> Result<(), Fail> {
     }
     let script = format!(in alloc; "{body}return 0; }}")?;
     prints(&rt, "run", script.as_bytes(), b"")?;
+    prints(&rt, "check", script.as_bytes(), b"ok\n")?;
     let script = format!(in alloc; "{body}let v256 = 0; return 0; }}")?;
-    refuses(
-        &rt,
-        "run",
-        script.as_bytes(),
-        3,
-        b"script: too many variables at byte 3600\n",
-    )
+    for line in ["run", "check"] {
+        refuses(
+            &rt,
+            line,
+            script.as_bytes(),
+            3,
+            b"script: too many variables at byte 3600\n",
+        )?;
+    }
+    Ok(())
 }
 
 #[test]
@@ -177,7 +183,7 @@ fn the_longest_script_runs(rt: HostRuntime) -> Result<(), Fail> {
     let alloc = rt.alloc();
     let mut script = ONE.to_vec(alloc)?;
     script.resize(LONGEST, b' ')?;
-    prints(&rt, "run --seed 0", &script, b"1\n")?;
+    prints(&rt, "run", &script, b"1\n")?;
     script.push(b' ')?;
-    refuses(&rt, "run --seed 0", &script, 3, b"script: too long\n")
+    refuses(&rt, "run", &script, 3, b"script: too long\n")
 }

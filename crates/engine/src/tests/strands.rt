@@ -9,11 +9,7 @@ const FAULTY_CHILD_AWAITED: &[u8] =
 #[test]
 fn strands_print_their_events(rt: HostRuntime) -> Result<(), Fail> {
     let rows: [(&str, &[u8], &[u8]); 4] = [
-        (
-            "replay --budget 10000 --at 0",
-            FAULTY_CHILD,
-            b"7\nspawn 0\n",
-        ),
+        ("replay --at 0", FAULTY_CHILD, b"7\nspawn 0\n"),
         ("replay --at 1", FAULTY_CHILD_AWAITED, b"sync 1\n"),
         (
             "replay --gamma 0,1 --at 0.3.0",
@@ -32,11 +28,8 @@ fn strands_print_their_events(rt: HostRuntime) -> Result<(), Fail> {
 #[test]
 fn strands_end_by_their_own_faults(rt: HostRuntime) -> Result<(), Fail> {
     let rows: [(&str, &[u8]); 2] = [
-        (
-            "replay --budget 10000 --at 0.0",
-            b"fault 0.0: division by zero\n",
-        ),
-        ("replay --budget 10000 --at 1", b"fault 1: budget spent\n"),
+        ("replay --at 0.0", b"fault 0.0: division by zero\n"),
+        ("replay --at 1", b"fault 1: budget spent\n"),
     ];
     for (line, output) in rows {
         ends_by_fault(&rt, line, FAULTY_CHILD, output)?;
@@ -47,11 +40,7 @@ fn strands_end_by_their_own_faults(rt: HostRuntime) -> Result<(), Fail> {
 #[test]
 fn strands_that_are_none_are_told(rt: HostRuntime) -> Result<(), Fail> {
     let rows: [(&str, &[u8], &[u8]); 4] = [
-        (
-            "replay --budget 10000 --at 7",
-            FAULTY_CHILD,
-            b"no strand 7\n",
-        ),
+        ("replay --at 7", FAULTY_CHILD, b"no strand 7\n"),
         (
             "replay --at 2",
             FAULTY_CHILD_AWAITED,

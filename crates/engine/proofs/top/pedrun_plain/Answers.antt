@@ -1,6 +1,6 @@
 use Rattle.std.proofs.Common.{refl}
 use Rattle.engine.specs.Report.{plan_of}
-use Rattle.engine.proofs.PromiseLemmas.{words_exactly, read_cause, write_cause, script_refused, report_written, strand_told}
+use Rattle.engine.proofs.PromiseLemmas.{words_exactly, read_cause, write_cause, script_refused, report_written, strand_told, completes}
 use Rattle.engine.proofs.top.pedrun_plain.Goals as goal
 
 pub returns-clause-words : goal.returns-clause-words
@@ -20,6 +20,9 @@ returns-clause-read g c = read_cause _ _ _ _ _ c.perform.ensures.promise
 
 pub returns-clause-write : goal.returns-clause-write
 returns-clause-write g c = write_cause _ _ _ _ _ c.perform.ensures.promise
+
+pub returns-clause-complete : goal.returns-clause-complete
+returns-clause-complete g c = completes _ _ _ _ _ c.perform.ensures.promise _ refl
 
 pub returns-clause-events : goal.returns-clause-events
 returns-clause-events g c settings tree = record { rise = c.pedigrees_rise.ensures (plan_of settings tree); draws = c.draws_are_dotmix.ensures (plan_of settings tree); least = c.fault_is_least.ensures (plan_of settings tree) }

@@ -1,0 +1,10 @@
+use Rattle.std.proofs.Common.{◌≡◌, ◌+◌, List, sym, subst}
+use Rattle.crew.specs.Crews.{AreNew}
+use Rattle.crew.specs.Hands.{HandView}
+use Rattle.crew.proofs.Meeting.{one-more}
+use Rattle.crew.proofs.hiring.new_hands.Goals as goal
+
+pub loop-preserved : goal.loop-preserved
+loop-preserved c =
+    let l = c.loop in
+    subst (λ (hs : List HandView). AreNew c.args.root (l.counter + 1) hs) (sym c.in_ok-push.ensures.items) (one-more c.args.root l.counter l.hands.items c.in_ok-new.field-0 l.invariant c.in_ok-new.ensures)
