@@ -29,14 +29,6 @@ names_without {A} table what x e = ap (λ (f : List ℕ → Option A). λ (y : L
 same_test : (x y : List ℕ) (p : Names) → bytes_eq x y ≡ true → p y ≡ p x
 same_test x y p h = ap p (sym ((bytes_decides x y).0 h))
 
--- a name that is in the set is no change
-pub with_member : (x : List ℕ) (p : Names) → p x ≡ true → p ≡ with_name x p
-with_member x p e i y =
-    ⊎_elim
-    (λ h. same_test x y p h ∙ e ∙ sym (ap (λ b. b || p y) h))
-    (λ h. sym (ap (λ b. b || p y) h))
-    (cases_Bool (bytes_eq x y)) i
-
 -- a name that came into the set and is taken out again
 pub in_and_out : (x : List ℕ) (p : Names) → p x ≡ false → without_name x (with_name x p) ≡ p
 in_and_out x p e i y =
@@ -51,3 +43,6 @@ one_added cs ds key x p q d k n e =
     (λ i. undone (d i) (n i)) ∙ undone_last cs (Added key) (with_name x p)
     ∙ ap (λ z. undone cs (without_name z (with_name x p))) k
     ∙ ap (undone cs) (in_and_out x p e)
+
+pub one_undone : (cs ds es : List Change) (c : Change) (p q : Names) → cs ≡ ds ++ c ∷ [] → es ≡ ds → q ≡ undo c p → undone es q ≡ undone cs p
+one_undone cs ds es c p q d e n = (λ i. undone (e i) (n i)) ∙ sym (undone_last ds c p) ∙ ap (λ (l : List Change). undone l p) (sym d)
