@@ -12,7 +12,7 @@ use Rattle.script_check.specs.Statements.{place, Judged, judge, judge_all, known
 use Rattle.script_check.specs.Walk.{State, keeps, keeps_all, behind, behind_all}
 use Rattle.script_check.proofs.Noted.{noted_append, after_two, after_three}
 use Rattle.script_check.proofs.Reading.{at_index}
-use Rattle.script_check.proofs.Linear.{linear, linear_all, loop_set}
+use Rattle.script_check.proofs.Linear.{linear_all, loop_set}
 
 turned : (a b c : Bool) → (a && (b && c)) ≡ ((b && a) && c)
 turned true true c = refl

@@ -37,12 +37,15 @@ in_and_out x p e i y =
     (λ h. ap (λ b. not b && (b || p y)) h)
     (cases_Bool (bytes_eq x y)) i
 
+-- a change more
+pub one_change : (cs ds : List Change) (c : Change) (p q : Names) → ds ≡ cs ++ c ∷ [] → undo c q ≡ p → undone ds q ≡ undone cs p
+one_change cs ds c p q d e = ap (λ (l : List Change). undone l q) d ∙ undone_last cs c q ∙ ap (undone cs) e
+
 pub one_added : (cs ds : List Change) (key : Vec ℕ) (x : List ℕ) (p q : Names) → ds ≡ cs ++ Added key ∷ [] → key.items ≡ x → q ≡ with_name x p → p x ≡ false →
     undone ds q ≡ undone cs p
 one_added cs ds key x p q d k n e =
-    (λ i. undone (d i) (n i)) ∙ undone_last cs (Added key) (with_name x p)
-    ∙ ap (λ z. undone cs (without_name z (with_name x p))) k
-    ∙ ap (undone cs) (in_and_out x p e)
+    one_change cs ds (Added key) p q d ((λ i. without_name (k i) (n i)) ∙ in_and_out x p e)
 
+-- a change fewer
 pub one_undone : (cs ds es : List Change) (c : Change) (p q : Names) → cs ≡ ds ++ c ∷ [] → es ≡ ds → q ≡ undo c p → undone es q ≡ undone cs p
 one_undone cs ds es c p q d e n = (λ i. undone (e i) (n i)) ∙ sym (undone_last ds c p) ∙ ap (λ (l : List Change). undone l p) (sym d)

@@ -26,17 +26,17 @@ pub(crate) enum Change {
 /// be so.
 #[derive(Drop)]
 pub(crate) struct Block {
-    pub changes: Vec<Change>,
-    pub keeps: bool,
+    changes: Vec<Change>,
+    keeps: bool,
 }
 
 /// The variables that are known, the pending set, and the innermost open block. There is one set for all open blocks, and the end of a
 /// block undoes its changes: so each use of a name is one lookup, however many blocks are open, and no block copies the set.
 #[derive(Drop)]
 pub(crate) struct Scope {
-    pub known: NameTable<Variable>,
-    pub pending: NameTable<()>,
-    pub block: Block,
+    known: NameTable<Variable>,
+    pending: NameTable<()>,
+    block: Block,
 }
 
 impl Scope {

@@ -13,11 +13,7 @@ use std::alloc::Global;
 /// Adds the names that these statements leave pending where nothing was before. The answer tells whether what was pending before
 /// may still be so behind them. The statements are taken from the last to the first, so that a sync is met before what it ends.
 #[cycle(spawns)]
-pub(crate) fn collect(
-    alloc: Global,
-    scope: &mut Scope,
-    statements: &[Stmt],
-) -> Result<bool, Memory>
+pub(crate) fn collect(alloc: Global, scope: &mut Scope, statements: &[Stmt]) -> Result<bool, Memory>
     ensures keeps { IfOk result (λ b. b ≡ keeps_all statements.now) }
     ensures state { OnOk result (state_of scope.new ≡ record (state_of scope.old) { names = both (after statements.now nobody) (state_of scope.old).names }) }
 {

@@ -18,4 +18,4 @@ returns c =
     let second : c.judge_each.new.found ≡ noted c.declare_params.new.found (faults_each (judge_all f.body) (place fs false) params.known params.names) = search rules in
     function_judged fs f new params (state_of c.judge_each.new.scope) (state_of c.sync.new.self)
     c.args.found.now c.declare_params.new.found c.judge_each.new.found c.want.new.found
-    c.new-scope.ensures.known c.new-scope.ensures.pending declared first body second c.sync.ensures c.want.ensures.found
+    c.new-scope.ensures.known c.new-scope.ensures.pending declared first body second c.in_ok-sync.ensures c.want.ensures.found

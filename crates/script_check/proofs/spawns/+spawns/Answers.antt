@@ -57,14 +57,14 @@ collect_one-returns-else-first-clause-state t c =
 
 pub collect_one-returns-in_ok-spawn_to-in-Let-default-Spawn-clause-state : goal.collect_one-returns-in_ok-spawn_to-in-Let-default-Spawn-clause-state
 collect_one-returns-in_ok-spawn_to-in-Let-default-Spawn-clause-state t c =
-    let x = c.in-Let.x.bytes in
+    let x = c.in-Let-default-Spawn.x.bytes in
     let s = state_of c.args.scope.now in
     let e : (judge c.args.statement.now).after nobody ≡ with_name x nobody = search (rules, the_lemmas) in
     c.in_ok-spawn_to-in-Let-default-Spawn.ensures ∙ ap (λ (p : Names). record s { names = p }) (alone x s.names ∙ ap (λ (f : Names). both f s.names) (sym e))
 
 pub collect_one-returns-in_ok-spawn_to-in-Set-default-Spawn-clause-state : goal.collect_one-returns-in_ok-spawn_to-in-Set-default-Spawn-clause-state
 collect_one-returns-in_ok-spawn_to-in-Set-default-Spawn-clause-state t c =
-    let x = c.in-Set.x.bytes in
+    let x = c.in-Set-default-Spawn.x.bytes in
     let s = state_of c.args.scope.now in
     let e : (judge c.args.statement.now).after nobody ≡ with_name x nobody = search (rules, the_lemmas) in
     c.in_ok-spawn_to-in-Set-default-Spawn.ensures ∙ ap (λ (p : Names). record s { names = p }) (alone x s.names ∙ ap (λ (f : Names). both f s.names) (sym e))
