@@ -9,25 +9,16 @@ use Rattle.script_grammar.specs.declared.tree.Kind.TheVariants.{Int}
 use Rattle.script_check.specs.Rules.{Known}
 use Rattle.script_check.specs.Expressions.{Faults, Reading, wanted}
 use Rattle.script_check.specs.Statements.{place, Judged, judge, judge_all, known_each, faults_each, after}
-use Rattle.script_check.specs.Walk.{State, pending, pending_below, keeps, keeps_all, behind, behind_all}
+use Rattle.script_check.specs.Walk.{State, keeps, keeps_all, behind, behind_all}
 use Rattle.script_check.proofs.Noted.{noted_append, after_two, after_three}
 use Rattle.script_check.proofs.Reading.{at_index}
-use Rattle.script_check.proofs.Linear.{linear, linear_all, loop_set}
-
-and_assoc : (a b c : Bool) → ((a && b) && c) ≡ (a && (b && c))
-and_assoc true b c = refl
-and_assoc false b c = refl
+use Rattle.script_check.proofs.Linear.{linear_all, loop_set}
 
 turned : (a b c : Bool) → (a && (b && c)) ≡ ((b && a) && c)
 turned true true c = refl
 turned true false c = refl
 turned false true c = refl
 turned false false c = refl
-
-pub pending_behind : (functions : List Function) (s : Stmt) (state : State) → pending (behind functions s state) ≡ (judge s).after (pending state)
-pending_behind functions s state i x =
-    (ap (λ b. (judge s).after state.names x || b) (and_assoc (keeps s) state.keeps (pending_below state.below x))
-    ∙ sym (linear s state.names (λ y. state.keeps && pending_below state.below y) x)) i
 
 pub behind_first : (functions : List Function) (s : Stmt) (ss : List Stmt) (state : State) → behind_all functions ss (behind functions s state) ≡ behind_all functions (s ∷ ss) state
 behind_first functions s ss state = ap (λ b. record (behind_all functions (s ∷ ss) state) { keeps = b }) (turned (keeps_all ss) (keeps s) state.keeps)
@@ -39,15 +30,14 @@ one_behind functions ss i s state next h is e =
 
 pub one_judged : (functions : List Function) (in_block : Bool) (ss : List Stmt) (i : ℕ) (s : Stmt) (state next : State) (before now : Option Violation) →
     i < length ss → s ≡ get_or ss i s → next ≡ behind functions s state →
-    now ≡ noted before ((judge s).faults (place functions in_block) state.known (pending state)) →
-    noted now (faults_each (judge_all (drop (i + 1) ss)) (place functions in_block) next.known (pending next))
-    ≡ noted before (faults_each (judge_all (drop i ss)) (place functions in_block) state.known (pending state))
+    now ≡ noted before ((judge s).faults (place functions in_block) state.known state.names) →
+    noted now (faults_each (judge_all (drop (i + 1) ss)) (place functions in_block) next.known next.names)
+    ≡ noted before (faults_each (judge_all (drop i ss)) (place functions in_block) state.known state.names)
 one_judged functions in_block ss i s state next before now h is e n =
-    ap (λ (t : State). noted now (rest t.known (pending t))) e
-    ∙ ap (λ (p : Names). noted now (rest ((judge s).known functions state.known) p)) (pending_behind functions s state)
-    ∙ ap (λ o. noted o (rest ((judge s).known functions state.known) ((judge s).after (pending state)))) n
-    ∙ sym (noted_append before ((judge s).faults (place functions in_block) state.known (pending state)) (rest ((judge s).known functions state.known) ((judge s).after (pending state))))
-    ∙ ap (λ (l : List Stmt). noted before (faults_each (judge_all l) (place functions in_block) state.known (pending state))) (sym (at_index ss i s h is))
+    ap (λ (t : State). noted now (rest t.known t.names)) e
+    ∙ ap (λ o. noted o (rest ((judge s).known functions state.known) ((judge s).after state.names))) n
+    ∙ sym (noted_append before ((judge s).faults (place functions in_block) state.known state.names) (rest ((judge s).known functions state.known) ((judge s).after state.names)))
+    ∙ ap (λ (l : List Stmt). noted before (faults_each (judge_all l) (place functions in_block) state.known state.names)) (sym (at_index ss i s h is))
   where
     rest : Faults
     rest = faults_each (judge_all (drop (i + 1) ss)) (place functions in_block)
@@ -78,13 +68,6 @@ if_names a b kept p e i x =
 pub while_names : (body : List Stmt) (p : Names) → both (after body nobody) p ≡ both p (after body p)
 while_names body p i x = sym (loop_set body p x) i
 
-pub while_pending : (body : List Stmt) (p q : Names) → both (both (after body nobody) p) q ≡ both (both p q) (after body (both p q))
-while_pending body p q i x = (or_assoc (after body nobody x) (p x) (q x) ∙ sym (loop_set body (both p q) x)) i
-  where
-    or_assoc : (a b c : Bool) → ((a || b) || c) ≡ (a || (b || c))
-    or_assoc true b c = refl
-    or_assoc false b c = refl
-
 module _ (functions : List Function) (a : List Stmt) where
   abbrev pub with_known : State → State
   with_known state = record state { known = known_each (judge_all a) functions state.known }
@@ -96,7 +79,7 @@ module _ (functions : List Function) (a b : List Stmt) where
         known = known_each (judge_all b) functions (known_each (judge_all a) functions state.known);
         names = both (after a state.names) (after b state.names);
         keeps = (keeps_all a || keeps_all b) && state.keeps;
-        below = state.below;
+        before = state.before;
       }
   if_state kept state first second last f s l k =
       l ∙ ap (λ (t : State). record t { names = both (after a t.names) (after b t.names); keeps = kept && t.keeps }) (s ∙ ap (with_known functions b) f)
@@ -104,15 +87,15 @@ module _ (functions : List Function) (a b : List Stmt) where
 
   pub if_faults : (in_block : Bool) (condition : List Violation) (state next : State) (found first second third : Option Violation) →
       first ≡ noted found condition →
-      second ≡ noted first (faults_each (judge_all a) (place functions true) state.known (pending state)) →
+      second ≡ noted first (faults_each (judge_all a) (place functions true) state.known state.names) →
       next ≡ with_known functions a state →
-      third ≡ noted second (faults_each (judge_all b) (place functions true) next.known (pending next)) →
-      third ≡ noted found (condition ++ faults_each (judge_all a) (place functions true) state.known (pending state)
-      ++ faults_each (judge_all b) (place functions true) (known_each (judge_all a) functions state.known) (pending state))
+      third ≡ noted second (faults_each (judge_all b) (place functions true) next.known next.names) →
+      third ≡ noted found (condition ++ faults_each (judge_all a) (place functions true) state.known state.names
+      ++ faults_each (judge_all b) (place functions true) (known_each (judge_all a) functions state.known) state.names)
   if_faults in_block condition state next found first second third f s n t =
-      after_three found first second third condition (faults_each (judge_all a) (place functions true) state.known (pending state))
-      (faults_each (judge_all b) (place functions true) (known_each (judge_all a) functions state.known) (pending state)) _ f s
-      (t ∙ ap (λ (m : State). noted second (faults_each (judge_all b) (place functions true) m.known (pending m))) n) refl
+      after_three found first second third condition (faults_each (judge_all a) (place functions true) state.known state.names)
+      (faults_each (judge_all b) (place functions true) (known_each (judge_all a) functions state.known) state.names) _ f s
+      (t ∙ ap (λ (m : State). noted second (faults_each (judge_all b) (place functions true) m.known m.names)) n) refl
 
 module _ (functions : List Function) (a : List Stmt) where
   abbrev pub with_loop_set : State → State
@@ -133,6 +116,6 @@ module _ (functions : List Function) (a : List Stmt) where
 
 -- a statement of which this is told
 pub behind_by : (functions : List Function) (s : Stmt) (j : Judged) (kept : Bool) (state : State) → judge s ≡ j → keeps s ≡ kept →
-    behind functions s state ≡ record { known = j.known functions state.known; names = j.after state.names; keeps = kept && state.keeps; below = state.below }
+    behind functions s state ≡ record { known = j.known functions state.known; names = j.after state.names; keeps = kept && state.keeps; before = state.before }
 behind_by functions s j kept state e k i =
-    record { known = (e i).known functions state.known; names = (e i).after state.names; keeps = k i && state.keeps; below = state.below }
+    record { known = (e i).known functions state.known; names = (e i).after state.names; keeps = k i && state.keeps; before = state.before }

@@ -1,5 +1,5 @@
--- What a map with the bytes of names as its keys has after a name was put in.
-use Rattle.std.proofs.Common.{◌≡◌, ℕ, ◌+◌, Bool, true, false, cond, List, Option, Some, sym, ap, subst, ◌∙◌}
+-- What a map with the bytes of names as its keys has after a name was put in or taken out.
+use Rattle.std.proofs.Common.{◌≡◌, ℕ, ◌+◌, Bool, true, false, cond, List, Option, Some, None, sym, ap, subst, ◌∙◌}
 use Rattle.std.specs.Prelude.{is_some, if◌then◌else◌}
 use Rattle.std.specs.Global.{Vec}
 use Rattle.std.specs.BTreeMap.{BTreeMap, UpdatesBy, btree_map_len}
@@ -52,3 +52,8 @@ module _ {A : Type 0} where
       (λ q. updated key m n (Some entry) h q ∙ ap (λ k. update bytes_eq (table_of m).what k (Some entry) q) same)
       (len ∙ ap (λ (b : Bool). btree_map_len m + (if b then 0 else 1)) (ap (λ (o : Option A). is_some o) (was ∙ ap (table_of m).what same) ∙ absent))
       ∙ sym (cond-false (is_some ((table_of m).what name)) _ _ absent)
+
+  -- a name taken out
+  pub removed : (name : List ℕ) (m n : BTreeMap (Vec ℕ) A) → UpdatesBy (λ x y. slice_cmp nat_cmp x.items y.items) (λ k. slice_cmp nat_cmp name k.items) m n None →
+      (table_of n).what ≡ update bytes_eq (table_of m).what name None
+  removed name m n h i q = updated name m n None h q i

@@ -4,6 +4,7 @@ pub mod Reading
 pub mod Induction
 pub mod Linear
 pub mod Collected
+pub mod Undone
 pub mod Indexed
 pub mod Called
 pub mod Behind

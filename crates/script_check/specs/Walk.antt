@@ -1,5 +1,6 @@
 -- Words of the code's own clauses.
-use Rattle.std.specs.Prelude.{◌≡◌, ℕ, Bool, true, false, ◌||◌, ◌&&◌, List, [], ◌∷◌, map, fold, is_some}
+use Rattle.std.specs.Prelude.{◌≡◌, ℕ, Bool, true, false, ◌||◌, ◌&&◌, not, List, [], ◌∷◌, map, is_some}
+use Rattle.std.specs.Str.{bytes_eq}
 use Rattle.script_grammar.specs.declared.tree.Function.{Function}
 use Rattle.script_grammar.specs.declared.tree.Stmt.{Stmt}
 use Rattle.script_grammar.specs.declared.tree.Act.{Act}
@@ -9,11 +10,12 @@ use Rattle.script_grammar.specs.declared.tree.Act.TheFolds.{fold-Stmt, fold-Act}
 use Rattle.script_grammar.specs.declared.tree.Script.{Script}
 use Rattle.script_grammar.specs.Text.{IsOfText}
 use Rattle.script_check.specs.Valid.{IsValid}
-use Rattle.script_check.specs.declared.scope.Layer.{Layer}
+use Rattle.script_check.specs.declared.scope.Change.{Change}
+use Rattle.script_check.specs.declared.scope.Change.TheVariants.{Added, Cleared}
 use Rattle.script_check.specs.declared.scope.Scope.{Scope}
 use Rattle.script_check.specs.Tables.{Table, table_of}
 use Rattle.script_check.specs.Functions.{first_named}
-use Rattle.script_check.specs.Names.{Names, nobody}
+use Rattle.script_check.specs.Names.{Names}
 use Rattle.script_check.specs.Rules.{Known}
 use Rattle.script_check.specs.Statements.{judge, judge_all, known_each, after}
 
@@ -25,33 +27,37 @@ IsIndex functions table = (name : List ℕ) → table.what name ≡ first_named 
 abbrev pub names_of : {A : Type 0} → Table A → Names
 names_of table name = is_some (table.what name)
 
--- A layer has the names that became pending since its block began, and tells whether what was pending before may still be so.
-abbrev pub with_layer : Names → Layer → Names
-with_layer p layer name = names_of (table_of layer.names.map) name || (layer.keeps && p name)
+-- the set without a name
+abbrev pub without_name : List ℕ → Names → Names
+without_name x p y = not (bytes_eq x y) && p y
 
--- what is pending by the layers of the blocks around, the outermost first
-abbrev pub pending_below : List Layer → Names
-pending_below = fold with_layer nobody
+-- the pending set in front of a change, of the one behind it
+abbrev pub undo : Change → Names → Names
+undo (Added name) p = without_name name.items p
+undo (Cleared old) p = names_of (table_of old.map)
 
--- what the walk knows in front of a statement
+-- the same in front of several changes, which are undone from the last to the first
+abbrev pub undone : List Change → Names → Names
+undone [] p = p
+undone (c ∷ cs) p = undo c (undone cs p)
+
+-- What the walk knows in front of a statement: the variables, the pending set, whether what was pending where the innermost block
+-- began may still be so, and the set that was pending there.
 pub record State : Type 0 where
   pub known : Known
   pub names : Names
   pub keeps : Bool
-  pub below : List Layer
-
-abbrev pub state_of : Scope → State
-state_of scope =
-    record { known = table_of scope.known.map; names = names_of (table_of scope.top.names.map); keeps = scope.top.keeps; below = scope.below.items }
+  pub before : Names
 
 abbrev pub known_in : Scope → Known
 known_in scope = table_of scope.known.map
 
-abbrev pub pending : State → Names
-pending state name = state.names name || (state.keeps && pending_below state.below name)
-
 abbrev pub pending_in : Scope → Names
-pending_in scope = pending (state_of scope)
+pending_in scope = names_of (table_of scope.pending.map)
+
+abbrev pub state_of : Scope → State
+state_of scope =
+    record { known = known_in scope; names = pending_in scope; keeps = scope.block.keeps; before = undone scope.block.changes.items (pending_in scope) }
 
 -- whether what is pending in front may still be pending behind
 abbrev pub keeps_each : List Bool → Bool
@@ -87,7 +93,7 @@ behind functions s state =
       known = (judge s).known functions state.known;
       names = (judge s).after state.names;
       keeps = keeps s && state.keeps;
-      below = state.below;
+      before = state.before;
     }
 
 abbrev pub behind_all : List Function → List Stmt → State → State
@@ -96,7 +102,7 @@ behind_all functions ss state =
       known = known_each (judge_all ss) functions state.known;
       names = after ss state.names;
       keeps = keeps_all ss && state.keeps;
-      below = state.below;
+      before = state.before;
     }
 
 -- what a checked script keeps

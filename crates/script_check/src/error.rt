@@ -9,10 +9,22 @@ use std::alloc::AllocError;
 /// Why a script is not checked.
 #[derive(Clone, Copy, Debug, PartialEq, Eq)]
 pub enum CheckError {
-    /// The first violated condition: its number and the offset of its place in bytes.
+    /// The first violated condition: its number and the offset of its place in bytes, as the table "Violated conditions" of
+    /// docs/LANGUAGE.md has them.
     ///
-    /// 1 no main, 2 main has parameters, 3 function twice, 4 variable twice, 5 unknown function, 6 unknown variable,
-    /// 7 wrong number of arguments, 8 wrong kind, 9 pending variable, 10 let in a block, 11 too many variables, 12 array length.
+    /// - 1 no main: 0
+    /// - 2 main has parameters: its first parameter's name
+    /// - 3 function twice: the later function's name
+    /// - 4 variable twice: the later name in a parameter list or `let`
+    /// - 5 unknown function: the called name
+    /// - 6 unknown variable: the name
+    /// - 7 wrong number of arguments: the called name
+    /// - 8 wrong kind: the expression, or the `draw`, `new`, `call` or `spawn`; the name where an array stands for a scalar or the other
+    ///   way round, or is a loop's target; the called name where a loop's function is wrong
+    /// - 9 pending variable: the name that is read or written
+    /// - 10 let in a block: the `let`
+    /// - 11 too many variables: the 257th variable's name
+    /// - 12 array length: the number
     Bad { number: u8, at: u32 },
     /// Want of memory.
     Memory,

@@ -65,7 +65,7 @@ pub(crate) fn judge_function(
         false,
         f.body.as_slice(),
     )?;
-    scope.sync(alloc);
+    scope.sync(alloc)?;
     want(&scope, found, f.answer, &f.result);
     Ok(())
 }

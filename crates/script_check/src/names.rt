@@ -1,6 +1,8 @@
 // What names stand for, and sets of names.
 
-ghost use Rattle.std.specs.Prelude.{◌≡◌, OnOk};
+ghost use Rattle.std.specs.Prelude.{◌≡◌, ◌+◌, None, OnOk, is_some, if◌then◌else◌};
+ghost use Rattle.std.specs.Map.{update};
+ghost use Rattle.std.specs.Str.{bytes_eq};
 ghost use Rattle.script_check.specs.Tables.{no_entries, with_first, table_of};
 
 use crate::memory::Memory;
@@ -46,5 +48,13 @@ impl<T: Copy> NameTable<T> {
             self.map.insert(key, value)?;
         }
         Ok(())
+    }
+
+    /// Takes out what a name stands for.
+    pub(crate) fn remove(&mut self, name: &[u8])
+        ensures what { (table_of self.new.map).what ≡ update bytes_eq (table_of self.old.map).what name.now None }
+        ensures count { (table_of self.new.map).count + (if is_some ((table_of self.old.map).what name.now) then 1 else 0) ≡ (table_of self.old.map).count }
+    {
+        self.map.remove(name);
     }
 }

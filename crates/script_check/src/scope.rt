@@ -1,12 +1,11 @@
 // What is known and what is pending in front of a statement.
 
-ghost use Rattle.std.specs.Prelude.{◌≡◌, Bool, false, true, OnOk, ◌||◌, ◌&&◌, List, [], ◌∷◌, ◌++◌};
-ghost use Rattle.script_check.specs.Names.{nobody, only, with_name, both};
-ghost use Rattle.script_check.specs.Tables.{no_entries, with_first, table_of};
+ghost use Rattle.std.specs.Prelude.{◌≡◌, false, true, OnOk, ◌&&◌};
+ghost use Rattle.script_check.specs.Names.{nobody, only, with_name};
+ghost use Rattle.script_check.specs.Tables.{no_entries, with_first};
 ghost use Rattle.script_check.specs.Rules.{declaration};
 ghost use Rattle.script_check.specs.Violations.{noted};
-ghost use Rattle.script_check.specs.declared.scope.Layer.{Layer};
-ghost use Rattle.script_check.specs.Walk.{State, names_of, state_of, known_in, pending_in};
+ghost use Rattle.script_check.specs.Walk.{undo, undone, state_of, known_in, pending_in};
 
 use crate::findings::Findings;
 use crate::memory::Memory;
@@ -16,20 +15,28 @@ use script_grammar::Name;
 use std::alloc::Global;
 use std::mem;
 
-/// A block's part of the pending set: the names that became pending since it began, and whether what was pending before may
-/// still be so. Blocks keep layers in place of copies of the whole set.
+/// What undoes a change of the pending set: the name that came in, or the set that a sync emptied.
 #[derive(Drop)]
-pub(crate) struct Layer {
-    pub names: NameTable<()>,
-    pub keeps: bool,
+pub(crate) enum Change {
+    Added(Vec<u8>),
+    Cleared(NameTable<()>),
 }
 
-/// The variables that are known, and the pending set in the layers of the open blocks, the innermost on top.
+/// An open block: what changed the pending set since it began, the newest last, and whether what was pending where it began may still
+/// be so.
+#[derive(Drop)]
+pub(crate) struct Block {
+    changes: Vec<Change>,
+    keeps: bool,
+}
+
+/// The variables that are known, the pending set, and the innermost open block. There is one set for all open blocks, and the end of a
+/// block undoes its changes: so each use of a name is one lookup, however many blocks are open, and no block copies the set.
 #[derive(Drop)]
 pub(crate) struct Scope {
-    pub known: NameTable<Variable>,
-    pub top: Layer,
-    pub below: Vec<Layer>,
+    known: NameTable<Variable>,
+    pending: NameTable<()>,
+    block: Block,
 }
 
 impl Scope {
@@ -40,11 +47,11 @@ impl Scope {
     {
         Scope {
             known: NameTable::new(alloc),
-            top: Layer {
-                names: NameTable::new(alloc),
+            pending: NameTable::new(alloc),
+            block: Block {
+                changes: Vec::new(alloc),
                 keeps: true,
             },
-            below: Vec::new(alloc),
         }
     }
 
@@ -59,12 +66,7 @@ impl Scope {
     pub(crate) fn is_pending(&self, name: &Name) -> bool
         ensures { result ≡ pending_in self.now name.now.bytes }
     {
-        let bytes = name.bytes.as_slice();
-        let mut is_pending = false;
-        for layer in &self.below {
-            is_pending = layer.names.get(bytes).is_some() || (layer.keeps && is_pending);
-        }
-        self.top.names.get(bytes).is_some() || (self.top.keeps && is_pending)
+        self.pending.get(name.bytes.as_slice()).is_some()
     }
 
     /// Makes a variable known, and notes where its name is known or one too many.
@@ -89,52 +91,71 @@ impl Scope {
     pub(crate) fn spawn_to(&mut self, alloc: Global, name: &Name) -> Result<(), Memory>
         ensures { OnOk result (state_of self.new ≡ record (state_of self.old) { names = with_name name.now.bytes (state_of self.old).names }) }
     {
-        self.top.names.insert(alloc, name.bytes.as_slice(), ())?;
+        let bytes = name.bytes.as_slice();
+        if self.pending.get(bytes).is_none() {
+            let added = Change::Added(Vec::from_slice(alloc, bytes)?);
+            self.block.changes.push(added)?;
+            self.pending.insert(alloc, bytes, ())?;
+        }
         Ok(())
     }
 
     /// Nothing is pending any more.
-    pub(crate) fn sync(&mut self, alloc: Global)
-        ensures { state_of self.new ≡ record (state_of self.old) { names = nobody; keeps = false } }
+    pub(crate) fn sync(&mut self, alloc: Global) -> Result<(), Memory>
+        ensures { OnOk result (state_of self.new ≡ record (state_of self.old) { names = nobody; keeps = false }) }
     {
-        self.top = Layer {
-            names: NameTable::new(alloc),
-            keeps: false,
-        };
-    }
-
-    /// The end of an `if`: what was pending before it stays so if one of the blocks keeps it.
-    pub(crate) fn keep_if(&mut self, alloc: Global, keeps: bool)
-        ensures { state_of self.new ≡ record (state_of self.old) { names = only keeps (state_of self.old).names; keeps = keeps && (state_of self.old).keeps } }
-    {
-        if !keeps {
-            self.sync(alloc);
-        }
-    }
-
-    /// Puts an empty layer on top, for a block that begins.
-    pub(crate) fn enter(&mut self, alloc: Global) -> Result<(), Memory>
-        ensures state { OnOk result (state_of self.new ≡ record (state_of self.old) { names = nobody; keeps = true; below = self.old.below.items ++ self.old.top ∷ [] }) }
-        ensures pending { OnOk result (pending_in self.new ≡ pending_in self.old) }
-    {
-        let inner = Layer {
-            names: NameTable::new(alloc),
-            keeps: true,
-        };
-        let outer = mem::replace(&mut self.top, inner);
-        self.below.push(outer)?;
+        let pending = mem::replace(&mut self.pending, NameTable::new(alloc));
+        self.block.changes.push(Change::Cleared(pending))?;
+        self.block.keeps = false;
         Ok(())
     }
 
-    /// Takes off the layer of a block that ends. The answer tells whether what was pending before the block may still be so.
-    pub(crate) fn leave(&mut self) -> bool
-        ensures keeps { result ≡ self.old.top.keeps }
-        ensures state { (below : List Layer) (outer : Layer) → self.old.below.items ≡ below ++ outer ∷ [] → state_of self.new ≡ record { known = known_in self.old; names = names_of (table_of outer.names.map); keeps = outer.keeps; below = below } }
+    /// The end of an `if`: what was pending before it stays so if one of the blocks keeps it.
+    pub(crate) fn keep_if(&mut self, alloc: Global, keeps: bool) -> Result<(), Memory>
+        ensures { OnOk result (state_of self.new ≡ record (state_of self.old) { names = only keeps (state_of self.old).names; keeps = keeps && (state_of self.old).keeps }) }
     {
-        let keeps = self.top.keeps;
-        if let Some(outer) = self.below.pop() {
-            self.top = outer;
+        if !keeps {
+            self.sync(alloc)?;
         }
-        keeps
+        Ok(())
+    }
+
+    /// Begins a block. The answer is the block around it, which `leave` wants back.
+    pub(crate) fn enter(&mut self, alloc: Global) -> Block
+        ensures outer { result ≡ self.old.block }
+        ensures state { state_of self.new ≡ record (state_of self.old) { keeps = true; before = pending_in self.old } }
+    {
+        let inner = Block {
+            changes: Vec::new(alloc),
+            keeps: true,
+        };
+        mem::replace(&mut self.block, inner)
+    }
+
+    /// Ends a block: what was pending where it began is so again. The answer tells whether it may still be so behind the block.
+    pub(crate) fn leave(&mut self, outer: Block) -> bool
+        ensures keeps { result ≡ self.old.block.keeps }
+        ensures state { state_of self.new ≡ record (state_of self.old) {
+          names = (state_of self.old).before;
+          keeps = outer.keeps;
+          before = undone outer.changes.items (state_of self.old).before;
+        } }
+    {
+        while let Some(change) = self.block.changes.pop() {
+            self.undo(change);
+        }
+        mem::replace(&mut self.block, outer).keeps
+    }
+
+    /// Undoes one change.
+    fn undo(&mut self, change: Change)
+        ensures known { known_in self.new ≡ known_in self.old }
+        ensures names { pending_in self.new ≡ undo change (pending_in self.old) }
+        ensures block { self.new.block ≡ self.old.block }
+    {
+        match change {
+            Change::Added(name) => self.pending.remove(name.as_slice()),
+            Change::Cleared(pending) => self.pending = pending,
+        }
     }
 }

@@ -189,18 +189,17 @@ fn end_if(
       keeps = keeps && (state_of scope.old).keeps;
     }) }
 {
-    scope.keep_if(alloc, keeps);
-    collect(alloc, &mut scope.top.names, a)?;
-    collect(alloc, &mut scope.top.names, b)?;
+    scope.keep_if(alloc, keeps)?;
+    collect(alloc, scope, a)?;
+    collect(alloc, scope, b)?;
     Ok(())
 }
 
 /// The beginning of a `while`: its condition and its body are judged with all that an earlier turn may have left pending.
 fn begin_while(alloc: Global, scope: &mut Scope, body: &[Stmt]) -> Result<(), Memory>
-    ensures state { OnOk result (state_of scope.new ≡ record (state_of scope.old) { names = both (state_of scope.old).names (after body.now (state_of scope.old).names) }) }
-    ensures pending { OnOk result (pending_in scope.new ≡ both (pending_in scope.old) (after body.now (pending_in scope.old))) }
+    ensures { OnOk result (state_of scope.new ≡ record (state_of scope.old) { names = both (state_of scope.old).names (after body.now (state_of scope.old).names) }) }
 {
-    collect(alloc, &mut scope.top.names, body)?;
+    collect(alloc, scope, body)?;
     Ok(())
 }
 
@@ -236,9 +235,9 @@ fn judge_block(
     ensures state { OnOk result (state_of scope.new ≡ record (state_of scope.old) { known = known_each (judge_all statements.now) functions.now (known_in scope.old) }) }
     ensures found { OnOk result (found.new ≡ noted found.old (faults_each (judge_all statements.now) (place functions.now true) (known_in scope.old) (pending_in scope.old))) }
 {
-    scope.enter(alloc)?;
+    let outer = scope.enter(alloc);
     judge_each(alloc, functions, scope, found, true, statements)?;
-    Ok(scope.leave())
+    Ok(scope.leave(outer))
 }
 
 /// One statement. Both blocks of an `if` are judged with what is pending before; a `while` is judged once, with what an earlier
@@ -273,7 +272,7 @@ fn judge(
         Act::Call(c) => {
             judge_call(functions, scope, found, c);
         }
-        Act::Sync => scope.sync(alloc),
+        Act::Sync => scope.sync(alloc)?,
         Act::Print(e) => {
             see(scope, found, e);
         }

@@ -1,15 +1,14 @@
 use Rattle.std.proofs.Common.{◌≡◌, ◌≤◌, true, drop, length}
 use Rattle.script_check.specs.Names.{nobody, both}
-use Rattle.script_check.specs.Tables.{table_of}
 use Rattle.script_check.specs.Statements.{after}
-use Rattle.script_check.specs.Walk.{names_of, keeps_all}
+use Rattle.script_check.specs.Walk.{state_of, keeps_all}
 use Rattle.script_check.proofs.spawns.+spawns.Given as goal
 
 abbrev pub invariant-collect-loop-i : goal.invariant-collect-loop-i
 invariant-collect-loop-i l =
     (l.i ≤ length l.statements)
     × (keeps_all (drop l.i l.statements) ≡ true)
-    × (names_of (table_of l.names.map) ≡ both (after (drop l.i l.statements) nobody) (names_of (table_of l.initial.names.map)))
+    × (state_of l.scope ≡ record (state_of l.initial.scope) { names = both (after (drop l.i l.statements) nobody) (state_of l.initial.scope).names })
 
 abbrev pub decreases-collect-loop-i : goal.decreases-collect-loop-i
 decreases-collect-loop-i l = l.i

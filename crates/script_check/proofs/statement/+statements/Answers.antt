@@ -6,7 +6,7 @@ use Rattle.script_check.specs.Violations.{noted}
 use Rattle.script_check.specs.Names.{both}
 use Rattle.script_check.specs.Expressions.{read, wanted}
 use Rattle.script_check.specs.Statements.{place, Judged, judge_what, judge_all, faults_each, after}
-use Rattle.script_check.specs.Walk.{State, keeps_what, keeps_all, pending, state_of}
+use Rattle.script_check.specs.Walk.{State, keeps_what, keeps_all, state_of}
 use Rattle.script_check.proofs.Behind.{one_behind, one_judged, if_state, if_faults, while_state, while_faults, with_known, with_loop_set, behind_by}
 use Rattle.script_check.proofs.Induction.{judge_is, keeps_is, judge_if, keeps_if, judge_while, keeps_while}
 use Rattle.script_check.proofs.statement.+statements.Goals as goal
@@ -36,11 +36,11 @@ judge-returns-in_ok-end_if-in-If-clause-found t c =
     let a = c.as_slice.result.now in
     let b = c.as_slice-in-If.result.now in
     let s = state_of c.args.scope.now in
-    let condition = wanted Int (read c.in-If.e) s.known (pending s) in
+    let condition = wanted Int (read c.in-If.e) s.known s.names in
     let what : st.act ≡ variant.If c.in-If.e a b = search rules in
     if_faults fs a b c.args.in_block condition s (state_of c.judge_block.new.scope) c.args.found.now c.want.new.found c.judge_block.new.found c.judge_block-in-If.new.found
     c.want.ensures.found c.in_ok-first-in-If.ensures.found c.in_ok-first-in-If.ensures.state c.in_ok-second-in-If.ensures.found
-    ∙ ap (λ (j : Judged). noted c.args.found.now (j.faults (place fs c.args.in_block) s.known (pending s))) (sym (judge_is st ∙ ap (λ (w : Act). judge_what w st.at) what ∙ judge_if st.at c.in-If.e a b))
+    ∙ ap (λ (j : Judged). noted c.args.found.now (j.faults (place fs c.args.in_block) s.known s.names)) (sym (judge_is st ∙ ap (λ (w : Act). judge_what w st.at) what ∙ judge_if st.at c.in-If.e a b))
 
 pub judge-returns-in_ok-judge_block-in-While-clause-state : goal.judge-returns-in_ok-judge_block-in-While-clause-state
 judge-returns-in_ok-judge_block-in-While-clause-state t c =
@@ -62,11 +62,12 @@ judge-returns-in_ok-judge_block-in-While-clause-found t c =
     let s = state_of c.args.scope.now in
     let m = state_of c.begin_while.new.scope in
     let what : st.act ≡ variant.While c.in-While.e a = search rules in
-    let known : m.known ≡ s.known = ap (λ (t : State). t.known) c.in_ok-begin_while-in-While.ensures.state in
-    let body : c.judge_block-in-While.new.found ≡ noted c.want-in-While.new.found (faults_each (judge_all a) (place fs true) m.known (pending m)) = search rules in
-    while_faults fs a (read c.in-While.e) s.known m.known (pending s) (pending m) c.args.found.now c.want-in-While.new.found c.judge_block-in-While.new.found
-    known c.in_ok-begin_while-in-While.ensures.pending c.want-in-While.ensures.found body
-    ∙ ap (λ (j : Judged). noted c.args.found.now (j.faults (place fs c.args.in_block) s.known (pending s))) (sym (judge_is st ∙ ap (λ (w : Act). judge_what w st.at) what ∙ judge_while st.at c.in-While.e a))
+    let known : m.known ≡ s.known = ap (λ (t : State). t.known) c.in_ok-begin_while-in-While.ensures in
+    let set : m.names ≡ both s.names (after a s.names) = ap (λ (t : State). t.names) c.in_ok-begin_while-in-While.ensures in
+    let body : c.judge_block-in-While.new.found ≡ noted c.want-in-While.new.found (faults_each (judge_all a) (place fs true) m.known m.names) = search rules in
+    while_faults fs a (read c.in-While.e) s.known m.known s.names m.names c.args.found.now c.want-in-While.new.found c.judge_block-in-While.new.found
+    known set c.want-in-While.ensures.found body
+    ∙ ap (λ (j : Judged). noted c.args.found.now (j.faults (place fs c.args.in_block) s.known s.names)) (sym (judge_is st ∙ ap (λ (w : Act). judge_what w st.at) what ∙ judge_while st.at c.in-While.e a))
 
 pub judge_each-loop-statement-preserved : goal.judge_each-loop-statement-preserved
 judge_each-loop-statement-preserved t c =
