@@ -3,9 +3,11 @@ use Rattle.std.proofs.Common.{◌≡◌, ◌≤◌, ◌+◌, ◌-◌, ◌<◌, �
 use Rattle.std.proofs.lemmas.List.{map_more, map-append, drop_more, get_or_at, length-map, length-take, take_at, drop_at}
 use Rattle.std.proofs.lemmas.List.Edits.{map_over_more}
 use Rattle.steal_deck.specs.Ends.{DeckId, ThiefEnd, new_owner, new_thief}
+use Rattle.serial_meaning.specs.Eval.{main_origin}
+use Rattle.serial_meaning.specs.Plan.{PlanView}
 use Rattle.serial_meaning.specs.declared.origin.Origin.{Origin}
-use Rattle.strand_machine.specs.Tasks.{TaskView}
-use Rattle.crew.specs.Crews.{AreNew, idle_hands, new_hand, thief_of, with_thief}
+use Rattle.strand_machine.specs.Tasks.{TaskView, fresh}
+use Rattle.crew.specs.Crews.{AreNew, HaveMet, IsNewCrew, idle_hands, new_hand, thief_of, with_thief}
 use Rattle.crew.specs.Hands.{HandView}
 
 -- a hand while the crew meets: so many thieves of its deck were made, and it has those of these decks
@@ -31,9 +33,15 @@ pub record IsMeeting (root : Origin) (decks : List DeckId) (own : ℕ) (hands : 
 
 -- New hands
 
-pub one-more : (root : Origin) (workers : ℕ) (hands : List HandView) (h : HandView) → AreNew root workers hands → h ≡ new_hand root h.deck.deck → AreNew root (workers + 1) (hands ++ h ∷ [])
-one-more root workers hands h (decks, n, are) is =
-    (decks ++ h.deck.deck ∷ [], length-append decks (h.deck.deck ∷ []) ∙ ap (λ k. k + 1) n, ap (λ l. l ++ h ∷ []) are ∙ ap (λ x. map (new_hand root) decks ++ x ∷ []) is ∙ sym (map-append (new_hand root) decks (h.deck.deck ∷ [])))
+pub one-more : (root origin : Origin) (workers : ℕ) (hands : List HandView) (h : HandView) → AreNew root workers hands → h ≡ new_hand origin h.deck.deck → origin ≡ root →
+    AreNew root (workers + 1) (hands ++ h ∷ [])
+one-more root origin workers hands h (decks, n, are) is same = (
+  decks ++ h.deck.deck ∷ [],
+  length-append decks (h.deck.deck ∷ []) ∙ ap (λ k. k + 1) n,
+  ap (λ l. l ++ h ∷ []) are
+      ∙ ap (λ x. map (new_hand root) decks ++ x ∷ []) (is ∙ ap (λ o. new_hand o h.deck.deck) same)
+      ∙ sym (map-append (new_hand root) decks (h.deck.deck ∷ [])),
+)
 
 -- One thief more of each
 
@@ -173,3 +181,20 @@ all-meet root own decks hands m full = by_back m.back refl
         absurd
         (omega
         (arith, full, ap length m.are ∙ length-append (met root (own - 1) [] m.front m.back) (unmet root own m.back) ∙ ap (λ l. length (met root (own - 1) [] m.front m.back) + length (unmet root own l)) e, met-count root (own - 1) [] m.front m.back ∙ m.count))
+
+-- The first hand begins
+
+pub begins : (plan : PlanView) (workers : ℕ) (new met now : List HandView) (d h : HandView) → AreNew (main_origin plan) workers new → HaveMet new met → now ≡ met → 1 ≤ workers →
+    h ≡ record (get_or now 0 d) { current = Some (fresh plan (main_origin plan)) } → IsNewCrew plan workers (set now 0 h)
+begins plan workers new met now d h (decks, n, are) have same few is = by_decks decks n (same ∙ have (main_origin plan) decks are)
+  where
+    root : Origin
+    root = main_origin plan
+
+    by_decks : (ds : List DeckId) → length ds ≡ workers → now ≡ idle_hands root [] ds → IsNewCrew plan workers (set now 0 h)
+    by_decks [] e all = absurd (omega (arith, few, e))
+    by_decks (x ∷ xs) e all = (
+      x ∷ xs,
+      e,
+      ap₂ (λ l y. set l 0 y) all (is ∙ ap (λ (l : List HandView). record (get_or l 0 d) { current = Some (fresh plan root) }) all),
+    )
