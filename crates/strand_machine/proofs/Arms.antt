@@ -53,15 +53,18 @@ pub joined-is : (b : Body) (s : Stage) (f : Fault) (r : Step) → s ≡ stage.Jo
 joined-is b s f r e h = stage-is b s (stage.Joined f) r e (end-is b (work.Runs (stage.Joined f)) (outcome.Fault f) r refl h)
 
 -- a task whose instance doesn't go on makes one move or stop
-once : {E : Type 0} (b : Body) (w : Work) (r : Result Step E) → ((i : Instance) → w ≡ work.Runs (stage.Goes i) → ⊥) → IfOk r (GoesOn (view_of b w)) → IfOk r (IsStep (view_of b w))
-once b (work.Splits left) r no h = h
-once b (work.Runs (stage.Goes i)) r no h = absurd (no i refl)
-once b (work.Runs (stage.AtSync i)) r no h = h
-once b (work.Runs (stage.AtLoop i)) r no h = h
-once b (work.Runs (stage.Gave v)) r no h = h
-once b (work.Runs (stage.Faulted f)) r no h = h
-once b (work.Runs (stage.Joined f)) r no h = h
-once b (work.Over v gone_on) r no h = h
+pub stage-once : {E : Type 0} (b : Body) (s : Stage) (r : Result Step E) → ((i : Instance) → s ≡ stage.Goes i → ⊥) → IfOk r (GoesOn (view_of b (work.Runs s))) → IfOk r (IsStep (view_of b (work.Runs s)))
+stage-once b (stage.Goes i) r other h = absurd (other i refl)
+stage-once b (stage.AtSync i) r other h = h
+stage-once b (stage.AtLoop i) r other h = h
+stage-once b (stage.Gave v) r other h = h
+stage-once b (stage.Faulted f) r other h = h
+stage-once b (stage.Joined f) r other h = h
 
-pub steps-once : {E : Type 0} (b : Body) (w : Work) (t : TaskView) (r : Result Step E) → view_of b w ≡ t → ((i : Instance) → w ≡ work.Runs (stage.Goes i) → ⊥) → IfOk r (GoesOn (view_of b w)) → IfOk r (IsStep t)
-steps-once b w t r e no h = subst (λ (x : TaskView). IfOk r (IsStep x)) e (once b w r no h)
+work-once : {E : Type 0} (b : Body) (w : Work) (r : Result Step E) → ((s : Stage) → w ≡ work.Runs s → ⊥) → IfOk r (GoesOn (view_of b w)) → IfOk r (IsStep (view_of b w))
+work-once b (work.Splits left) r other h = h
+work-once b (work.Runs s) r other h = absurd (other s refl)
+work-once b (work.Over v gone_on) r other h = h
+
+pub task-once : {E : Type 0} (b : Body) (w : Work) (t : TaskView) (r : Result Step E) → view_of b w ≡ t → ((s : Stage) → w ≡ work.Runs s → ⊥) → IfOk r (GoesOn (view_of b w)) → IfOk r (IsStep t)
+task-once b w t r e other h = subst (λ (x : TaskView). IfOk r (IsStep x)) e (work-once b w r other h)

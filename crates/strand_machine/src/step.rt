@@ -179,7 +179,7 @@ fn fault(body: Body, fault: Fault) -> Step
 }
 
 /// An instance, by where it stands.
-fn run(body: Body, alloc: Global, stage: Stage) -> Result<Step, Memory>
+pub(crate) fn run(body: Body, alloc: Global, stage: Stage) -> Result<Step, Memory>
     requires { IsSound body (work.Runs stage) }
     ensures { IfOk result (GoesOn (view_of body (work.Runs stage))) }
 {
