@@ -1,5 +1,5 @@
 -- How a task that was advanced comes to its next stop.
-use Rattle.std.proofs.Common.{◌≡◌, ◌<◌, ℕ, zero, suc, ◌-◌, true, false, List, [], ◌∷◌, ◌++◌, Option, Some, None, Result, Ok, Err, refl, ap, ◌∙◌, subst}
+use Rattle.std.proofs.Common.{arith, ◌≡◌, ◌<◌, ℕ, zero, suc, ◌-◌, true, false, List, [], ◌∷◌, ◌++◌, Option, Some, None, Result, Ok, Err, refl, ap, ◌∙◌, subst}
 use Rattle.loop_range.specs.Range.{Range}
 use Rattle.serial_meaning.specs.Eval.{path_of}
 use Rattle.serial_meaning.specs.Open.{Own, Joined}
@@ -16,7 +16,7 @@ use Rattle.strand_meaning.specs.Pieces.{Part}
 use Rattle.strand_meaning.specs.Task as meaning
 use Rattle.strand_meaning.specs.Task.{Task, Stop, IsNext, Now, Later, own_instance, stage_after, child_in, stops_at, passing, moved, ends_unless, faults_behind, gave, stage_step, split_step, over_step, work_step}
 use Rattle.strand_machine.specs.Family.{tag}
-use Rattle.strand_machine.specs.Stops.{IsStep, IsStop, Keeps, stop_of}
+use Rattle.strand_machine.specs.Stops.{IsStep, IsStop, IsRun, LeadsTo, GoesOn, stage_goes_on, work_goes_on, Keeps, stop_of}
 use Rattle.strand_machine.specs.Tasks.{TaskView, fresh}
 use Rattle.strand_machine.specs.declared.stop.Step.{Step as MadeStep}
 use Rattle.strand_machine.specs.declared.stop.Step.TheVariants as step-in
@@ -84,33 +84,37 @@ pass-of t next e = subst (KeepsOf t) e (of-work t t.work)
 
 -- Moves in a row
 
--- What comes next of a task comes next of the first one, and it is of the same origin with the same children.
-pub record LeadsTo (first now : TaskView) : Type 0 where
-  pub next : (stop : Stop) → IsNext now.task stop → IsNext first.task stop
-  pub plan : now.task.plan ≡ first.task.plan
-  pub origin : now.task.origin ≡ first.task.origin
-  pub children : now.children ≡ first.children
-  pub loads : now.loads ≡ first.loads
-
 pub leads-start : (t : TaskView) → LeadsTo t t
-leads-start t = record { next = λ stop n. n; plan = refl; origin = refl; children = refl; loads = refl }
+leads-start t = record { next = λ stop n. n; fewer = omega arith; plan = refl; origin = refl; children = refl; loads = refl }
 
-pub leads-on : (first now next : TaskView) (s : MadeStep) → LeadsTo first now → IsStep now s → s ≡ step-in.Passes next → LeadsTo first next
-leads-on first now next s h g e =
-    let k : IsStep now (step-in.Passes next) = subst (IsStep now) e g in
-    let of = pass-of now.task next.task k.is in
-    record {
-      next = λ stop n. h.next stop (Later next.task k.is n);
-      plan = of.0 ∙ h.plan;
-      origin = of.1 ∙ h.origin;
-      children = k.keeps.0 ∙ h.children;
-      loads = k.keeps.1 ∙ h.loads;
-    }
+leads-over : (first now next : TaskView) → LeadsTo first now → LeadsTo now next → LeadsTo first next
+leads-over first now next h g = record {
+  next = λ stop n. h.next stop (g.next stop n);
+  fewer = omega (arith, h.fewer, g.fewer);
+  plan = g.plan ∙ h.plan;
+  origin = g.origin ∙ h.origin;
+  children = g.children ∙ h.children;
+  loads = g.loads ∙ h.loads;
+}
 
 pub falls : MovesFall → (now next : TaskView) (s : MadeStep) → IsStep now s → s ≡ step-in.Passes next → moves_left next.task < moves_left now.task
 falls law now next s g e =
     let k : IsStep now (step-in.Passes next) = subst (IsStep now) e g in
     law now.task next.task k.is
+
+pub leads-on : MovesFall → (first now next : TaskView) (s : MadeStep) → LeadsTo first now → IsStep now s → s ≡ step-in.Passes next → LeadsTo first next
+leads-on law first now next s h g e =
+    let k : IsStep now (step-in.Passes next) = subst (IsStep now) e g in
+    let of = pass-of now.task next.task k.is in
+    let fall : moves_left next.task < moves_left now.task = law now.task next.task k.is in
+    record {
+      next = λ stop n. h.next stop (Later next.task k.is n);
+      fewer = omega (arith, fall, h.fewer);
+      plan = of.0 ∙ h.plan;
+      origin = of.1 ∙ h.origin;
+      children = k.keeps.0 ∙ h.children;
+      loads = k.keeps.1 ∙ h.loads;
+    }
 
 keeps-first : (first now : TaskView) (stop : MadeStop) → LeadsTo first now → Keeps now stop → Keeps first stop
 keeps-first first now (stop-in.Spawn child rest) h k =
@@ -123,3 +127,36 @@ pub stops-there : (first now : TaskView) (s : MadeStep) (stop : MadeStop) → Le
 stops-there first now s stop h g e =
     let k : IsStep now (step-in.Stops stop) = subst (IsStep now) e g in
     record { next = h.next (stop_of stop) (Now k.is); keeps = keeps-first first now stop h k.keeps }
+
+-- What a call that makes moves in a row leads to
+
+one-step : (now : TaskView) (s : MadeStep) → IsStep now s → IsRun now s
+one-step now s g = record { before = now; leads = leads-start now; step = g }
+
+runs : (now : TaskView) (s : MadeStep) → GoesOn now s → IsRun now s
+runs now s g = by_work now.task.work g
+  where
+    by_stage : (stage : meaning.Stage) → stage_goes_on stage now s → IsRun now s
+    by_stage (meaning.Goes m) h = h
+    by_stage (meaning.AtSync m) h = one-step now s h
+    by_stage (meaning.AtLoop m) h = one-step now s h
+    by_stage (meaning.Ended e) h = one-step now s h
+
+    by_work : (work : meaning.Work) → work_goes_on work now s → IsRun now s
+    by_work (meaning.Splits left) h = one-step now s h
+    by_work (meaning.Runs stage) h = by_stage stage h
+    by_work (meaning.Over v gone_on) h = one-step now s h
+
+pub run-leads : MovesFall → (first now next : TaskView) (s : MadeStep) → LeadsTo first now → GoesOn now s → s ≡ step-in.Passes next → LeadsTo first next
+run-leads law first now next s h g e =
+    let r = runs now s g in leads-on law first r.before next s (leads-over first now r.before h r.leads) r.step e
+
+pub run-falls : MovesFall → (now next : TaskView) (s : MadeStep) → GoesOn now s → s ≡ step-in.Passes next → moves_left next.task < moves_left now.task
+run-falls law now next s g e =
+    let r = runs now s g in
+    let last : moves_left next.task < moves_left r.before.task = falls law r.before next s r.step e in
+    omega (arith, last, r.leads.fewer)
+
+pub run-stops : (first now : TaskView) (s : MadeStep) (stop : MadeStop) → LeadsTo first now → GoesOn now s → s ≡ step-in.Stops stop → IsStop first stop
+run-stops first now s stop h g e =
+    let r = runs now s g in stops-there first r.before s stop (leads-over first now r.before h r.leads) r.step e

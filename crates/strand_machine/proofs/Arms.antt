@@ -1,10 +1,11 @@
 -- What holds of a task by what remains of it.
-use Rattle.std.proofs.Common.{◌≡◌, refl, sym, ap, ◌∙◌, subst}
+use Rattle.std.proofs.Common.{◌≡◌, Result, refl, sym, ap, ◌∙◌, subst}
+use Rattle.std.specs.Prelude.{IfOk}
 use Rattle.serial_meaning.specs.declared.answer.Outcome.TheVariants as outcome
 use Rattle.serial_meaning.specs.declared.event.Fault.{Fault}
 use Rattle.strand_meaning.specs.Laws.{StepsAreSound}
 use Rattle.strand_moves.specs.declared.instance.Instance.{Instance}
-use Rattle.strand_machine.specs.Stops.{IsStep, CanEnd, ended}
+use Rattle.strand_machine.specs.Stops.{GoesOn, IsStep, CanEnd, ended}
 use Rattle.strand_machine.specs.Tasks.{TaskView, IsSound, view_of, waiting}
 use Rattle.strand_machine.specs.declared.body.Body.{Body}
 use Rattle.strand_machine.specs.declared.stop.Step.{Step}
@@ -20,8 +21,8 @@ use Rattle.strand_machine.proofs.Dispatch.{wait-sound, wait-is, end-answers, end
 pub stage-sound : (b : Body) (s t : Stage) → s ≡ t → IsSound b (work.Runs s) → IsSound b (work.Runs t)
 stage-sound b s t e h = subst (λ (x : Stage). IsSound b (work.Runs x)) e h
 
-pub stage-is : (b : Body) (s t : Stage) (r : Step) → s ≡ t → IsStep (view_of b (work.Runs t)) r → IsStep (view_of b (work.Runs s)) r
-stage-is b s t r e h = subst (λ (x : Stage). IsStep (view_of b (work.Runs x)) r) (sym e) h
+pub stage-is : (b : Body) (s t : Stage) (r : Step) → s ≡ t → GoesOn (view_of b (work.Runs t)) r → GoesOn (view_of b (work.Runs s)) r
+stage-is b s t r e h = subst (λ (x : Stage). GoesOn (view_of b (work.Runs x)) r) (sym e) h
 
 pub work-sound : (b : Body) (w v : Work) → w ≡ v → IsSound b w → IsSound b v
 work-sound b w v e h = subst (λ (x : Work). IsSound b x) e h
@@ -34,19 +35,36 @@ pub sync-sound : StepsAreSound → (b : Body) (s : Stage) (i : Instance) → s �
 sync-sound law b s i e h =
     let k = stage-sound b s (stage.AtSync i) e h in wait-sound law b (work.Runs (stage.AtSync i)) (work.Runs (stage.AtSync i)) k refl k.works
 
-pub sync-is : (b : Body) (s : Stage) (i : Instance) (r : Step) → s ≡ stage.AtSync i → r ≡ step.Stops (stop.Wait (view_of (waiting b) (work.Runs (stage.AtSync i)))) → IsStep (view_of b (work.Runs s)) r
+pub sync-is : (b : Body) (s : Stage) (i : Instance) (r : Step) → s ≡ stage.AtSync i → r ≡ step.Stops (stop.Wait (view_of (waiting b) (work.Runs (stage.AtSync i)))) → GoesOn (view_of b (work.Runs s)) r
 sync-is b s i r e h = stage-is b s (stage.AtSync i) r e (wait-is b (work.Runs (stage.AtSync i)) (work.Runs (stage.AtSync i)) r refl h)
 
 pub loop-sound : StepsAreSound → (b : Body) (s : Stage) (i : Instance) → s ≡ stage.AtLoop i → IsSound b (work.Runs s) → IsSound (waiting b) (work.Runs (stage.AtLoop i))
 loop-sound law b s i e h =
     let k = stage-sound b s (stage.AtLoop i) e h in wait-sound law b (work.Runs (stage.AtLoop i)) (work.Runs (stage.AtLoop i)) k refl k.works
 
-pub loop-is : (b : Body) (s : Stage) (i : Instance) (r : Step) → s ≡ stage.AtLoop i → r ≡ step.Stops (stop.Wait (view_of (waiting b) (work.Runs (stage.AtLoop i)))) → IsStep (view_of b (work.Runs s)) r
+pub loop-is : (b : Body) (s : Stage) (i : Instance) (r : Step) → s ≡ stage.AtLoop i → r ≡ step.Stops (stop.Wait (view_of (waiting b) (work.Runs (stage.AtLoop i)))) → GoesOn (view_of b (work.Runs s)) r
 loop-is b s i r e h = stage-is b s (stage.AtLoop i) r e (wait-is b (work.Runs (stage.AtLoop i)) (work.Runs (stage.AtLoop i)) r refl h)
 
 -- an end by a child's fault
 pub joined-ends : StepsAreSound → (b : Body) (s : Stage) (f : Fault) → s ≡ stage.Joined f → IsSound b (work.Runs s) → CanEnd b (outcome.Fault f)
 joined-ends law b s f e h = end-answers law b (work.Runs (stage.Joined f)) (outcome.Fault f) (stage-sound b s (stage.Joined f) e h) refl
 
-pub joined-is : (b : Body) (s : Stage) (f : Fault) (r : Step) → s ≡ stage.Joined f → r ≡ ended b (outcome.Fault f) → IsStep (view_of b (work.Runs s)) r
+pub joined-is : (b : Body) (s : Stage) (f : Fault) (r : Step) → s ≡ stage.Joined f → r ≡ ended b (outcome.Fault f) → GoesOn (view_of b (work.Runs s)) r
 joined-is b s f r e h = stage-is b s (stage.Joined f) r e (end-is b (work.Runs (stage.Joined f)) (outcome.Fault f) r refl h)
+
+-- a task whose instance doesn't go on makes one move or stop
+pub stage-once : {E : Type 0} (b : Body) (s : Stage) (r : Result Step E) → ((i : Instance) → s ≡ stage.Goes i → ⊥) → IfOk r (GoesOn (view_of b (work.Runs s))) → IfOk r (IsStep (view_of b (work.Runs s)))
+stage-once b (stage.Goes i) r other h = absurd (other i refl)
+stage-once b (stage.AtSync i) r other h = h
+stage-once b (stage.AtLoop i) r other h = h
+stage-once b (stage.Gave v) r other h = h
+stage-once b (stage.Faulted f) r other h = h
+stage-once b (stage.Joined f) r other h = h
+
+work-once : {E : Type 0} (b : Body) (w : Work) (r : Result Step E) → ((s : Stage) → w ≡ work.Runs s → ⊥) → IfOk r (GoesOn (view_of b w)) → IfOk r (IsStep (view_of b w))
+work-once b (work.Splits left) r other h = h
+work-once b (work.Runs s) r other h = absurd (other s refl)
+work-once b (work.Over v gone_on) r other h = h
+
+pub task-once : {E : Type 0} (b : Body) (w : Work) (t : TaskView) (r : Result Step E) → view_of b w ≡ t → ((s : Stage) → w ≡ work.Runs s → ⊥) → IfOk r (GoesOn (view_of b w)) → IfOk r (IsStep t)
+task-once b w t r e other h = subst (λ (x : TaskView). IfOk r (IsStep x)) e (work-once b w r other h)

@@ -1,5 +1,5 @@
 -- What a task is behind a move of its instance, by what the move showed.
-use Rattle.std.proofs.Common.{◌≡◌, ℕ, suc, false, List, [], ◌∷◌, ◌++◌, Option, Result, Ok, Err, length, replicate, refl, sym, ap, ◌∙◌, subst}
+use Rattle.std.proofs.Common.{◌≡◌, ◌<◌, ℕ, suc, false, List, [], ◌∷◌, ◌++◌, Option, Result, Ok, Err, length, replicate, refl, sym, ap, ◌∙◌, subst}
 use Rattle.std.specs.Prelude.{IfOk}
 use Rattle.script_grammar.specs.declared.tree.Name.{Name}
 use Rattle.serial_meaning.specs.Eval.{path_of}
@@ -9,7 +9,8 @@ use Rattle.serial_meaning.specs.declared.event.Event.{Event}
 use Rattle.serial_meaning.specs.declared.event.Fault.{Fault}
 use Rattle.serial_meaning.specs.declared.origin.Origin.{Origin}
 use Rattle.serial_meaning.specs.declared.value.Value.{Value}
-use Rattle.strand_meaning.specs.Laws.{StepsAreSound}
+use Rattle.strand_meaning.specs.Laws.{MovesFall, StepsAreSound}
+use Rattle.strand_meaning.specs.Left.{moves_left}
 use Rattle.strand_meaning.specs.Machine.{move}
 use Rattle.strand_meaning.specs.Pieces.{Part, Pieces, tell, tell_at, behind_last}
 use Rattle.strand_meaning.specs.Task.{own_instance, stops_at, child_in}
@@ -24,8 +25,8 @@ use Rattle.strand_moves.specs.declared.shown.Shown.TheVariants as shown-in
 use Rattle.strand_machine.specs.Family.{FamilyView}
 use Rattle.strand_machine.specs.Parts.{awaited, place_of}
 use Rattle.strand_machine.specs.Shown.{shown_task, IsSoundShown}
-use Rattle.strand_machine.specs.Stops.{IsStep, KeepsStep, step_of}
-use Rattle.strand_machine.specs.Tasks.{view_of, fresh, AwaitsLast, RunsAt, IsSound, gone, with_child}
+use Rattle.strand_machine.specs.Stops.{IsStep, IsRun, LeadsTo, KeepsStep, step_of}
+use Rattle.strand_machine.specs.Tasks.{TaskView, task_of, view_of, fresh, AwaitsLast, RunsAt, IsSound, gone, with_child}
 use Rattle.strand_machine.specs.declared.body.Body.{Body}
 use Rattle.strand_machine.specs.declared.place.Place.{Place}
 use Rattle.strand_machine.specs.declared.place.Place.TheVariants as place
@@ -35,6 +36,7 @@ use Rattle.strand_machine.specs.declared.stop.Stop.TheVariants as stop-in
 use Rattle.strand_machine.specs.declared.work.Stage.TheVariants as stage
 use Rattle.strand_machine.specs.declared.work.Work.{Work}
 use Rattle.strand_machine.specs.declared.work.Work.TheVariants as work
+use Rattle.strand_machine.proofs.Advancing.{falls, leads-on}
 use Rattle.strand_machine.proofs.Dispatch.{awaits-more, pass-sound, pass-is, go-went, go-gave, go-faulted, shown-sound}
 
 -- An event changes no child
@@ -178,6 +180,11 @@ keeps-alike b w other (step-in.Stops (stop-in.Spawn child rest)) h = h
 keeps-alike b w other (step-in.Stops (stop-in.Wait rest)) h = h
 keeps-alike b w other (step-in.Stops (stop-in.Done answer give)) h = h
 
+-- The instance of a task that moves in a row have led to goes on.
+pub record IsOnRun (first : TaskView) (b : Body) (i : RawInstance) : Type 0 where
+  pub sound : IsSound b (work.Runs (stage.Goes i))
+  pub leads : LeadsTo first (view_of b (work.Runs (stage.Goes i)))
+
 -- A move
 
 module _ (b : Body) (i next : RawInstance) (plan : PlanView) (m : Moved) (p : plan ≡ b.family.plan) (e : move plan (moves.path_of i) (moves.machine_of plan i) ≡ run_of m (moves.machine_of plan next)) (h : IsSound b (work.Runs (stage.Goes i))) where
@@ -214,3 +221,43 @@ module _ (b : Body) (i next : RawInstance) (plan : PlanView) (m : Moved) (p : pl
       IfOk r (KeepsStep (view_of b (work.Runs (stage.Goes next)))) → IfOk r (IsStep (view_of b (work.Runs (stage.Goes i))))
   went-is s (Ok x) is g k = went-one s x is g k
   went-is s (Err x) is g k = tt
+
+  -- one that shows nothing, or an event alone: the instance goes on
+
+  still-is : (s : Shown) → m ≡ moved-in.Went s → s ≡ shown-in.Nothing → IsStep (view_of b (work.Runs (stage.Goes i))) (step-in.Passes (view_of (gone b) (work.Runs (stage.Goes next))))
+  still-is s is shows = went-one s _ is (nothing-step b next s _ shows refl) (refl, refl)
+
+  pub still-on : StepsAreSound → MovesFall → (first : TaskView) → LeadsTo first (view_of b (work.Runs (stage.Goes i))) → (s : Shown) → m ≡ moved-in.Went s → s ≡ shown-in.Nothing →
+      moves.path_of next ≡ moves.path_of i → moves.IsInstance plan next → MovesTrail plan m → IsOnRun first (gone b) next
+  still-on law fall first leads s is shows path sound trail = record {
+    sound = nothing-sound b next s shows (went-sound law s is path sound trail);
+    leads = leads-on fall first _ _ _ leads (still-is s is shows) refl;
+  }
+
+  pub still-falls : MovesFall → (s : Shown) → m ≡ moved-in.Went s → s ≡ shown-in.Nothing → moves_left (task_of (gone b) (work.Runs (stage.Goes next))) < moves_left (task_of b (work.Runs (stage.Goes i)))
+  still-falls fall s is shows = falls fall (view_of b (work.Runs (stage.Goes i))) (view_of (gone b) (work.Runs (stage.Goes next))) _ (still-is s is shows) refl
+
+  tells-is : (s : Shown) (t : Event) (q : Pieces) → m ≡ moved-in.Went s → s ≡ shown-in.Told t → q ≡ tell t b.pieces →
+      IsStep (view_of b (work.Runs (stage.Goes i))) (step-in.Passes (view_of (gone (with_pieces b q)) (work.Runs (stage.Goes next))))
+  tells-is s t q is shows g = went-one s _ is (told-step b next s t q _ shows g refl) (refl, refl)
+
+  pub tells-on : StepsAreSound → MovesFall → (first : TaskView) → LeadsTo first (view_of b (work.Runs (stage.Goes i))) → (s : Shown) (t : Event) (q : Pieces) → m ≡ moved-in.Went s → s ≡ shown-in.Told t → q ≡ tell t b.pieces →
+      moves.path_of next ≡ moves.path_of i → moves.IsInstance plan next → MovesTrail plan m → IsOnRun first (gone (with_pieces b q)) next
+  tells-on law fall first leads s t q is shows g path sound trail = record {
+    sound = told-sound b next s t q shows g (went-sound law s is path sound trail);
+    leads = leads-on fall first _ _ _ leads (tells-is s t q is shows g) refl;
+  }
+
+  pub tells-falls : MovesFall → (s : Shown) (t : Event) (q : Pieces) → m ≡ moved-in.Went s → s ≡ shown-in.Told t → q ≡ tell t b.pieces →
+      moves_left (task_of (gone (with_pieces b q)) (work.Runs (stage.Goes next))) < moves_left (task_of b (work.Runs (stage.Goes i)))
+  tells-falls fall s t q is shows g = falls fall (view_of b (work.Runs (stage.Goes i))) (view_of (gone (with_pieces b q)) (work.Runs (stage.Goes next))) _ (tells-is s t q is shows g) refl
+
+-- Moves in a row
+
+module _ (first : TaskView) (b : Body) (i : RawInstance) (h : IsOnRun first b i) where
+  pub run-is : (r : MadeStep) → IsStep (view_of b (work.Runs (stage.Goes i))) r → IsRun first r
+  run-is r k = record { before = view_of b (work.Runs (stage.Goes i)); leads = h.leads; step = k }
+
+  pub run-is-ok : {E : Type 0} (r : Result MadeStep E) → IfOk r (IsStep (view_of b (work.Runs (stage.Goes i)))) → IfOk r (IsRun first)
+  run-is-ok (Ok x) k = run-is x k
+  run-is-ok (Err x) k = tt

@@ -9,7 +9,7 @@ use Rattle.serial_meaning.specs.Open.{Item, Own, Joined}
 use Rattle.serial_meaning.specs.declared.event.Event.{Event}
 use Rattle.serial_meaning.specs.declared.event.Fault.{Fault}
 use Rattle.serial_meaning.specs.declared.origin.Origin.{Origin}
-use Rattle.strand_meaning.specs.Laws.{KeepsOrigin, StopsKeepOrigins}
+use Rattle.strand_meaning.specs.Laws.{KeepsOrigin, MovesFall, StopsKeepOrigins}
 use Rattle.strand_meaning.specs.Notes as meaning
 use Rattle.strand_meaning.specs.Notes.{had, newest, also, no_notes, at_ranks, task_ranks, stage_notes, work_notes, step_notes, stop_ranks, Shows, Now, Later}
 use Rattle.strand_meaning.specs.Strands.{own_events, events_at}
@@ -19,14 +19,14 @@ use Rattle.strand_meaning.proofs.Clears.{or-assoc}
 use Rattle.strand_meaning.proofs.Noted.{own-append, also-assoc}
 use Rattle.strand_meaning.proofs.NoteWords.{had-append, events_at-append}
 use Rattle.strand_machine.specs.Noted.{IsNoted, ranks_in, stop_had, with_step}
-use Rattle.strand_machine.specs.Stops.{IsStep, stop_of}
+use Rattle.strand_machine.specs.Stops.{IsStep, LeadsTo, stop_of}
 use Rattle.strand_machine.specs.Tasks.{TaskView}
 use Rattle.strand_machine.specs.declared.note.Notes.{Notes}
 use Rattle.strand_machine.specs.declared.stop.Step.{Step as MadeStep}
 use Rattle.strand_machine.specs.declared.stop.Step.TheVariants as step-in
 use Rattle.strand_machine.specs.declared.stop.Stop.{Stop as MadeStop}
 use Rattle.strand_machine.specs.declared.stop.Stop.TheVariants as stop-in
-use Rattle.strand_machine.proofs.Advancing.{LeadsTo, leads-start, leads-on, stops-there}
+use Rattle.strand_machine.proofs.Advancing.{leads-start, leads-on, stops-there}
 
 -- The pedigree of a strand
 
@@ -156,10 +156,10 @@ module _ (first : TaskView) (j : List ℕ) (now : TaskView) (notes after : Notes
       ∙ ap (λ (b : Bool). had path j h.front.ranks || b) (sym (had-append path j step-shows.ranks more))
       ∙ sym (had-append path j h.front.ranks (step-shows.ranks ++ more))
 
-  pub noted-on : (next : TaskView) (s : MadeStep) (there : Bool) → IsStep now s → s ≡ step-in.Passes next → there ≡ had (path_of next.task.origin) j (task_ranks next.task) → LeadsNoted first j next after (reached || there)
-  noted-on next s there g e r =
+  pub noted-on : MovesFall → (next : TaskView) (s : MadeStep) (there : Bool) → IsStep now s → s ≡ step-in.Passes next → there ≡ had (path_of next.task.origin) j (task_ranks next.task) → LeadsNoted first j next after (reached || there)
+  noted-on law next s there g e r =
       let k : IsStep now (step-in.Passes next) = subst (IsStep now) e g in
-      let on : LeadsTo first next = leads-on first now next s h.leads g e in
+      let on : LeadsTo first next = leads-on law first now next s h.leads g e in
       record {
         leads = on;
         front = also h.front step-shows;

@@ -1,7 +1,8 @@
 -- What a call on a task gives, by the meaning of tasks.
-use Rattle.std.specs.Prelude.{◌≡◌, List, [], ◌∷◌, ◌++◌}
+use Rattle.std.specs.Prelude.{◌≡◌, ◌≤◌, List, [], ◌∷◌, ◌++◌}
 use Rattle.serial_meaning.specs.Answer.{AnswerView, AnswerTag, IsAnswer}
 use Rattle.serial_meaning.specs.Eval.{eval}
+use Rattle.strand_meaning.specs.Left.{moves_left}
 use Rattle.strand_meaning.specs.Rest.{evaluations}
 use Rattle.strand_meaning.specs.Task as meaning
 use Rattle.strand_meaning.specs.Task.{IsNext, on}
@@ -41,6 +42,37 @@ KeepsStep t (step.Stops stop) = Keeps t stop
 pub record IsStep (t : TaskView) (s : Step) : Type 0 where
   pub is : meaning.step t.task ≡ step_of s
   pub keeps : KeepsStep t s
+
+-- Moves in a row lead from the first task to this one: what comes next of it comes next of the first, and it is of the same origin with the
+-- same children.
+pub record LeadsTo (first now : TaskView) : Type 0 where
+  pub next : (stop : meaning.Stop) → IsNext now.task stop → IsNext first.task stop
+  pub fewer : moves_left now.task ≤ moves_left first.task
+  pub plan : now.task.plan ≡ first.task.plan
+  pub origin : now.task.origin ≡ first.task.origin
+  pub children : now.children ≡ first.children
+  pub loads : now.loads ≡ first.loads
+
+-- Moves of a task in a row, and the next move or stop behind them.
+pub record IsRun (t : TaskView) (s : Step) : Type 0 where
+  pub before : TaskView
+  pub leads : LeadsTo t before
+  pub step : IsStep before s
+
+-- An instance that goes on makes moves in a row. Else it is one move or stop.
+abbrev pub stage_goes_on : meaning.Stage → TaskView → Step → Type 0
+stage_goes_on (meaning.Goes m) = IsRun
+stage_goes_on (meaning.AtSync m) = IsStep
+stage_goes_on (meaning.AtLoop m) = IsStep
+stage_goes_on (meaning.Ended e) = IsStep
+
+abbrev pub work_goes_on : meaning.Work → TaskView → Step → Type 0
+work_goes_on (meaning.Splits left) = IsStep
+work_goes_on (meaning.Runs stage) = stage_goes_on stage
+work_goes_on (meaning.Over v gone_on) = IsStep
+
+abbrev pub GoesOn : TaskView → Step → Type 0
+GoesOn t = work_goes_on t.task.work t
 
 -- The next stop of a task.
 pub record IsStop (t : TaskView) (s : Stop) : Type 0 where

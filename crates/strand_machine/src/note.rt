@@ -12,7 +12,7 @@ ghost use Rattle.strand_machine.specs.declared.work.Work.TheVariants as work;
 use crate::body::Body;
 use crate::memory::Memory;
 use crate::run::show;
-use crate::step::{pass, step};
+use crate::step::{pass, run, step};
 use crate::stop::{Step, Stop};
 use crate::task::Task;
 use crate::work::{Stage, Work};
@@ -179,6 +179,28 @@ fn go_noted(
     }
 }
 
+/// A move of the task's instance, or its stop, by where the instance stands, which is noted.
+fn run_noted(
+    body: Body,
+    alloc: Global,
+    at: &Pedigree,
+    stage: Stage,
+    notes: &mut Notes,
+) -> Result<Step, Memory>
+    requires { IsSound body (work.Runs stage) }
+    ensures step { IfOk result (IsStep (view_of body (work.Runs stage))) }
+    ensures notes { OnOk result (notes.new ≡ with_step at.now (step_notes (task_of body (work.Runs stage))) notes.old) }
+{
+    match stage {
+        Stage::Goes(instance) => go_noted(body, alloc, at, instance, notes),
+        Stage::Joined(fault) => {
+            notes.joined = Some(fault.share()?);
+            run(body, alloc, Stage::Joined(fault))
+        }
+        stage => run(body, alloc, stage),
+    }
+}
+
 /// A move of the task, or its stop, which is noted.
 fn step_noted(task: Task, alloc: Global, at: &Pedigree, notes: &mut Notes) -> Result<Step, Memory>
     ensures step { IfOk result (IsStep task) }
@@ -186,12 +208,7 @@ fn step_noted(task: Task, alloc: Global, at: &Pedigree, notes: &mut Notes) -> Re
 {
     let Task { body, work } = task;
     match work {
-        Work::Runs(Stage::Goes(instance)) => go_noted(body, alloc, at, instance, notes),
-        Work::Runs(Stage::Joined(fault)) => {
-            notes.joined = Some(fault.share()?);
-            let work = Work::Runs(Stage::Joined(fault));
-            step(Task { body, work }, alloc)
-        }
+        Work::Runs(stage) => run_noted(body, alloc, at, stage, notes),
         work => step(Task { body, work }, alloc),
     }
 }

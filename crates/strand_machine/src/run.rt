@@ -3,7 +3,7 @@ ghost use Rattle.std.specs.Prelude.{◌≡◌, IfOk};
 ghost use Rattle.strand_meaning.specs.Task.{stops_at, child_in};
 ghost use Rattle.strand_moves.specs.Moves.{tokens_of};
 ghost use Rattle.strand_machine.specs.Shown.{shown_task, IsSoundShown};
-ghost use Rattle.strand_machine.specs.Stops.{IsStep, KeepsStep, step_of};
+ghost use Rattle.strand_machine.specs.Stops.{IsRun, KeepsStep, step_of};
 ghost use Rattle.strand_machine.specs.Tasks.{IsSound, view_of};
 ghost use Rattle.strand_machine.specs.declared.work.Stage.TheVariants as stage;
 ghost use Rattle.strand_machine.specs.declared.work.Work.TheVariants as work;
@@ -67,15 +67,22 @@ pub(crate) fn show(
     }
 }
 
-/// One move of the instance.
-pub(crate) fn go(body: Body, alloc: Global, mut instance: Instance) -> Result<Step, Memory>
+/// Moves of the instance in place, up to the first that shows more than an event. A task that is taken apart for each of them would be
+/// copied each time.
+pub(crate) fn go(mut body: Body, alloc: Global, mut instance: Instance) -> Result<Step, Memory>
     requires { IsSound body (work.Runs (stage.Goes instance)) }
-    ensures { IfOk result (IsStep (view_of body (work.Runs (stage.Goes instance)))) }
+    ensures { IfOk result (IsRun (view_of body (work.Runs (stage.Goes instance)))) }
 {
     laws::steps_are_sound();
-    match instance.step(alloc, body.family.plan())? {
-        Moved::Went(shown) => show(body, alloc, instance, shown),
-        Moved::Gave(value) => Ok(pass(body, Work::Runs(Stage::Gave(value)))),
-        Moved::Faulted(fault) => Ok(pass(body, Work::Runs(Stage::Faulted(fault)))),
+    laws::moves_fall();
+    loop {
+        match instance.step(alloc, body.family.plan())? {
+            Moved::Went(Shown::Nothing) => {}
+            Moved::Went(Shown::Told(event)) => body.pieces.tell(alloc, event)?,
+            Moved::Went(shown) => return show(body, alloc, instance, shown),
+            Moved::Gave(value) => return Ok(pass(body, Work::Runs(Stage::Gave(value)))),
+            Moved::Faulted(fault) => return Ok(pass(body, Work::Runs(Stage::Faulted(fault)))),
+        }
+        body.advanced = true;
     }
 }

@@ -1,10 +1,10 @@
-// One move of a task, or its stop.
+// Moves of a task, or its stop.
 ghost use Rattle.std.specs.Prelude.{◌≡◌, ◌++◌, ◌∷◌, [], IfOk, OnOk};
 ghost use Rattle.serial_meaning.specs.Laws.{IsOriginOf};
 ghost use Rattle.serial_meaning.specs.declared.answer.Outcome.TheVariants as outcome;
 ghost use Rattle.strand_moves.specs.Moves.{IsTrailOf};
 ghost use Rattle.strand_machine.specs.Family.{handed};
-ghost use Rattle.strand_machine.specs.Stops.{IsStep, CanEnd, ended};
+ghost use Rattle.strand_machine.specs.Stops.{IsStep, GoesOn, CanEnd, ended};
 ghost use Rattle.strand_machine.specs.Tasks.{IsSound, view_of, fresh, gone, waiting, with_child};
 ghost use Rattle.strand_machine.specs.declared.work.Stage.TheVariants as stage;
 ghost use Rattle.strand_machine.specs.declared.work.Work.TheVariants as work;
@@ -179,9 +179,9 @@ fn fault(body: Body, fault: Fault) -> Step
 }
 
 /// An instance, by where it stands.
-fn run(body: Body, alloc: Global, stage: Stage) -> Result<Step, Memory>
+pub(crate) fn run(body: Body, alloc: Global, stage: Stage) -> Result<Step, Memory>
     requires { IsSound body (work.Runs stage) }
-    ensures { IfOk result (IsStep (view_of body (work.Runs stage))) }
+    ensures { IfOk result (GoesOn (view_of body (work.Runs stage))) }
 {
     laws::steps_are_sound();
     match stage {
@@ -194,9 +194,9 @@ fn run(body: Body, alloc: Global, stage: Stage) -> Result<Step, Memory>
     }
 }
 
-/// A move of the task, or its stop.
+/// A move of the task, or its stop. An instance that goes on makes moves in a row.
 pub(crate) fn step(task: Task, alloc: Global) -> Result<Step, Memory>
-    ensures { IfOk result (IsStep task) }
+    ensures { IfOk result (GoesOn task) }
 {
     let Task { body, work } = task;
     match work {

@@ -1,30 +1,79 @@
-use Rattle.strand_machine.proofs.Moving.{went-sound, went-is, gave-sound, gave-is, faulted-sound, faulted-is}
+use Rattle.strand_machine.specs.Tasks.{view_of}
+use Rattle.strand_machine.specs.declared.work.Stage.TheVariants as stage
+use Rattle.strand_machine.specs.declared.work.Work.TheVariants as work
+use Rattle.strand_machine.proofs.Advancing.{leads-start}
+use Rattle.strand_machine.proofs.Moving.{went-sound, went-is, gave-sound, gave-is, faulted-sound, faulted-is, still-on, still-falls, tells-on, tells-falls, run-is, run-is-ok}
 use Rattle.strand_machine.proofs.run.go.Goals as goal
 
+pub loop-instance-init : goal.loop-instance-init
+loop-instance-init c = record { sound = c.requires; leads = leads-start (view_of c.args.body (work.Runs (stage.Goes c.args.instance))) }
+
 pub step-requires : goal.step-requires
-step-requires c = rw c.plan.ensures c.requires.works.sound
+step-requires c = rw c.plan.ensures c.loop-instance.invariant.sound.works.sound
+
+-- the last move
 
 pub show-requires : goal.show-requires
 show-requires c =
-    let m = c.in_ok-shown.ensures in
-    went-sound c.args.body c.args.instance c.step.new.self _ _ c.plan.ensures m.moves c.requires c.steps_are_sound.ensures c.in-Went.shown c.in-Went.is c.step.ensures.path m.sound m.child
+    let l = c.loop-instance in
+    let m = c.in_ok-step.ensures in
+    went-sound l.body l.instance c.step.new.self _ _ c.plan.ensures m.moves l.invariant.sound c.steps_are_sound.ensures c.in-Went.shown c.in-Went.is c.step.ensures.path m.sound m.child
 
 pub pass-requires : goal.pass-requires
 pass-requires c =
-    gave-sound c.args.body c.args.instance c.step.new.self _ _ c.plan.ensures c.in_ok-shown.ensures.moves c.requires c.steps_are_sound.ensures c.in-Gave.value c.in-Gave.is
+    let l = c.loop-instance in
+    gave-sound l.body l.instance c.step.new.self _ _ c.plan.ensures c.in_ok-step.ensures.moves l.invariant.sound c.steps_are_sound.ensures c.in-Gave.value c.in-Gave.is
 
 pub pass-requires-in-Faulted : goal.pass-requires-in-Faulted
 pass-requires-in-Faulted c =
-    faulted-sound c.args.body c.args.instance c.step.new.self _ _ c.plan.ensures c.in_ok-shown.ensures.moves c.requires c.steps_are_sound.ensures c.in-Faulted.fault c.in-Faulted.is
+    let l = c.loop-instance in
+    faulted-sound l.body l.instance c.step.new.self _ _ c.plan.ensures c.in_ok-step.ensures.moves l.invariant.sound c.steps_are_sound.ensures c.in-Faulted.fault c.in-Faulted.is
 
 pub returns-in-Went : goal.returns-in-Went
 returns-in-Went c =
-    went-is c.args.body c.args.instance c.step.new.self _ _ c.plan.ensures c.in_ok-shown.ensures.moves c.requires c.in-Went.shown c.show.result c.in-Went.is c.show.ensures.step c.show.ensures.keeps
+    let l = c.loop-instance in
+    run-is-ok _ l.body l.instance l.invariant c.show.result
+    (went-is l.body l.instance c.step.new.self _ _ c.plan.ensures c.in_ok-step.ensures.moves l.invariant.sound c.in-Went.shown c.show.result c.in-Went.is c.show.ensures.step c.show.ensures.keeps)
 
 pub returns-in-Gave : goal.returns-in-Gave
 returns-in-Gave c =
-    gave-is c.args.body c.args.instance c.step.new.self _ _ c.plan.ensures c.in_ok-shown.ensures.moves c.requires c.in-Gave.value c.pass.result c.in-Gave.is c.pass.ensures
+    let l = c.loop-instance in
+    run-is _ l.body l.instance l.invariant c.pass.result
+    (gave-is l.body l.instance c.step.new.self _ _ c.plan.ensures c.in_ok-step.ensures.moves l.invariant.sound c.in-Gave.value c.pass.result c.in-Gave.is c.pass.ensures)
 
 pub returns-in-Faulted : goal.returns-in-Faulted
 returns-in-Faulted c =
-    faulted-is c.args.body c.args.instance c.step.new.self _ _ c.plan.ensures c.in_ok-shown.ensures.moves c.requires c.in-Faulted.fault c.pass-in-Faulted.result c.in-Faulted.is c.pass-in-Faulted.ensures
+    let l = c.loop-instance in
+    run-is _ l.body l.instance l.invariant c.pass-in-Faulted.result
+    (faulted-is l.body l.instance c.step.new.self _ _ c.plan.ensures c.in_ok-step.ensures.moves l.invariant.sound c.in-Faulted.fault c.pass-in-Faulted.result c.in-Faulted.is c.pass-in-Faulted.ensures)
+
+-- the moves before it: nothing
+
+pub loop-instance-smaller-in-Went-Nothing : goal.loop-instance-smaller-in-Went-Nothing
+loop-instance-smaller-in-Went-Nothing c =
+    let l = c.loop-instance in
+    let s = c.in-Went-Nothing in
+    still-falls l.body l.instance c.step.new.self _ _ c.plan.ensures c.in_ok-step.ensures.moves l.invariant.sound c.moves_fall.ensures s.field-0 s.is s.field-0-is
+
+pub loop-instance-preserved-in-Went-Nothing : goal.loop-instance-preserved-in-Went-Nothing
+loop-instance-preserved-in-Went-Nothing c =
+    let l = c.loop-instance in
+    let s = c.in-Went-Nothing in
+    let m = c.in_ok-step.ensures in
+    still-on l.body l.instance c.step.new.self _ _ c.plan.ensures m.moves l.invariant.sound c.steps_are_sound.ensures c.moves_fall.ensures _ l.invariant.leads s.field-0 s.is s.field-0-is c.step.ensures.path m.sound m.child
+
+-- an event
+
+pub loop-instance-smaller : goal.loop-instance-smaller
+loop-instance-smaller c =
+    let l = c.loop-instance in
+    let s = c.in-Went-Told in
+    tells-falls l.body l.instance c.step.new.self _ _ c.plan.ensures c.in_ok-step.ensures.moves l.invariant.sound c.moves_fall.ensures s.field-0 s.event c.tell.new.self s.is s.field-0-is c.in_ok-tell-in-Went-Told.ensures
+
+pub loop-instance-preserved : goal.loop-instance-preserved
+loop-instance-preserved c =
+    let l = c.loop-instance in
+    let s = c.in-Went-Told in
+    let m = c.in_ok-step.ensures in
+    tells-on l.body l.instance c.step.new.self _ _ c.plan.ensures m.moves l.invariant.sound c.steps_are_sound.ensures c.moves_fall.ensures _ l.invariant.leads s.field-0 s.event c.tell.new.self s.is s.field-0-is
+    c.in_ok-tell-in-Went-Told.ensures c.step.ensures.path m.sound m.child

@@ -1,5 +1,5 @@
 use Rattle.std.proofs.Common.{IfOk, sym, subst}
-use Rattle.strand_machine.specs.Stops.{IsStep}
+use Rattle.strand_machine.specs.Stops.{GoesOn}
 use Rattle.strand_machine.specs.Tasks.{view_of}
 use Rattle.strand_machine.specs.declared.work.Stage.{Stage}
 use Rattle.strand_machine.specs.declared.work.Stage.TheVariants as stage
@@ -11,7 +11,7 @@ pub go-requires : goal.go-requires
 go-requires c = stage-sound c.args.body c.args.stage (stage.Goes c.in-Goes.instance) c.in-Goes.is c.requires
 
 pub returns-in-Goes : goal.returns-in-Goes
-returns-in-Goes c = subst (λ (x : Stage). IfOk c.go.result (IsStep (view_of c.args.body (work.Runs x)))) (sym c.in-Goes.is) c.go.ensures
+returns-in-Goes c = subst (λ (x : Stage). IfOk c.go.result (GoesOn (view_of c.args.body (work.Runs x)))) (sym c.in-Goes.is) c.go.ensures
 
 pub wait-requires : goal.wait-requires
 wait-requires c = sync-sound c.steps_are_sound.ensures c.args.body c.args.stage c.in-AtSync.instance c.in-AtSync.is c.requires

@@ -1,5 +1,5 @@
 use Rattle.std.proofs.Common.{IfOk, subst}
-use Rattle.strand_machine.specs.Stops.{IsStep}
+use Rattle.strand_machine.specs.Stops.{GoesOn}
 use Rattle.strand_machine.specs.Tasks.{TaskView}
 use Rattle.strand_machine.specs.declared.work.Work.TheVariants as work
 use Rattle.strand_machine.proofs.Arms.{work-sound, work-view}
@@ -11,7 +11,7 @@ split-requires c = work-sound c.task.inside.body c.task.inside.work (work.Splits
 pub returns-in-Splits : goal.returns-in-Splits
 returns-in-Splits c =
     let same = work-view c.task.inside.body c.task.inside.work (work.Splits c.in-Splits.left) c.args.task c.in-Splits.is c.task.view_is in
-    subst (λ (t : TaskView). IfOk c.split.result (IsStep t)) same c.split.ensures
+    subst (λ (t : TaskView). IfOk c.split.result (GoesOn t)) same c.split.ensures
 
 pub run-requires : goal.run-requires
 run-requires c = work-sound c.task.inside.body c.task.inside.work (work.Runs c.in-Runs.stage) c.in-Runs.is c.task.invariant
@@ -19,7 +19,7 @@ run-requires c = work-sound c.task.inside.body c.task.inside.work (work.Runs c.i
 pub returns-in-Runs : goal.returns-in-Runs
 returns-in-Runs c =
     let same = work-view c.task.inside.body c.task.inside.work (work.Runs c.in-Runs.stage) c.args.task c.in-Runs.is c.task.view_is in
-    subst (λ (t : TaskView). IfOk c.run.result (IsStep t)) same c.run.ensures
+    subst (λ (t : TaskView). IfOk c.run.result (GoesOn t)) same c.run.ensures
 
 pub close-requires : goal.close-requires
 close-requires c = work-sound c.task.inside.body c.task.inside.work (work.Over c.in-Over.value c.in-Over.gone_on) c.in-Over.is c.task.invariant
@@ -27,4 +27,4 @@ close-requires c = work-sound c.task.inside.body c.task.inside.work (work.Over c
 pub returns-in-Over : goal.returns-in-Over
 returns-in-Over c =
     let same = work-view c.task.inside.body c.task.inside.work (work.Over c.in-Over.value c.in-Over.gone_on) c.args.task c.in-Over.is c.task.view_is in
-    subst (λ (t : TaskView). IfOk c.close.result (IsStep t)) same c.close.ensures
+    subst (λ (t : TaskView). IfOk c.close.result (GoesOn t)) same c.close.ensures

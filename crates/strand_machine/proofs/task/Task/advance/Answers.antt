@@ -1,14 +1,14 @@
-use Rattle.strand_machine.proofs.Advancing.{leads-start, leads-on, falls, stops-there}
+use Rattle.strand_machine.proofs.Advancing.{leads-start, run-leads, run-falls, run-stops}
 use Rattle.strand_machine.proofs.task.Task.advance.Goals as goal
 
 pub loop-next-init : goal.loop-next-init
 loop-next-init c = leads-start c.args.self
 
 pub loop-next-smaller : goal.loop-next-smaller
-loop-next-smaller c = falls c.moves_fall.ensures c.loop-next.task c.in-Passes.next _ c.in_ok-next.ensures c.in-Passes.is
+loop-next-smaller c = run-falls c.moves_fall.ensures c.loop-next.task c.in-Passes.next _ c.in_ok-next.ensures c.in-Passes.is
 
 pub loop-next-preserved : goal.loop-next-preserved
-loop-next-preserved c = leads-on c.args.self c.loop-next.task c.in-Passes.next _ c.loop-next.invariant c.in_ok-next.ensures c.in-Passes.is
+loop-next-preserved c = run-leads c.moves_fall.ensures c.args.self c.loop-next.task c.in-Passes.next _ c.loop-next.invariant c.in_ok-next.ensures c.in-Passes.is
 
 pub returns-in-Stops : goal.returns-in-Stops
-returns-in-Stops c = stops-there c.args.self c.loop-next.task _ c.in-Stops.stop c.loop-next.invariant c.in_ok-next.ensures c.in-Stops.is
+returns-in-Stops c = run-stops c.args.self c.loop-next.task _ c.in-Stops.stop c.loop-next.invariant c.in_ok-next.ensures c.in-Stops.is

@@ -1,5 +1,5 @@
 use Rattle.strand_meaning.specs.Left.{moves_left}
-use Rattle.strand_machine.proofs.Advancing.{LeadsTo}
+use Rattle.strand_machine.specs.Stops.{LeadsTo}
 use Rattle.strand_machine.proofs.task.Task.advance.Given as goal
 
 abbrev pub invariant-loop-next : goal.invariant-loop-next

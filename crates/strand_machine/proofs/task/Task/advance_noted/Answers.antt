@@ -11,7 +11,7 @@ loop-notes-smaller c = falls c.moves_fall.ensures c.loop-notes.task c.in-Passes.
 pub loop-notes-preserved : goal.loop-notes-preserved
 loop-notes-preserved c =
     let m = c.in_ok-next.ensures in
-    noted-on c.args.self c.args.at.now c.loop-notes.task c.loop-notes.notes c.step_noted.new.notes c.loop-notes.reached c.loop-notes.invariant m.notes c.in-Passes.next _ c.is_at-reached-in-Passes.result m.step c.in-Passes.is
+    noted-on c.args.self c.args.at.now c.loop-notes.task c.loop-notes.notes c.step_noted.new.notes c.loop-notes.reached c.loop-notes.invariant m.notes c.moves_fall.ensures c.in-Passes.next _ c.is_at-reached-in-Passes.result m.step c.in-Passes.is
     c.is_at-reached-in-Passes.ensures
 
 pub returns-in-Stops : goal.returns-in-Stops
