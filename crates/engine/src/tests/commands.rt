@@ -136,18 +136,14 @@ fn commands_that_are_not_built_are_refused(rt: HostRuntime) -> Result<(), Fail> 
 #[test]
 fn faults_of_reads_are_told(rt: HostRuntime) -> Result<(), Fail> {
     let alloc = rt.alloc();
-    let read = call(
-        &rt,
-        "run",
-        ONE.to_vec(alloc)?,
-        4096,
-        vec![in alloc; 1]?,
-        Vec::new(alloc),
-        &OpenGate,
-    )?;
-    assert_eq!(rt; read.code, 4);
-    assert_eq!(rt; read.out.as_slice(), b"".as_slice());
-    assert_eq!(rt; read.err.as_slice(), b"read fault\n".as_slice());
+    for line in ["run", "run --seed 0"] {
+        let script = ONE.to_vec(alloc)?;
+        let reads = vec![in alloc; 1]?;
+        let read = call(&rt, line, script, 4096, reads, Vec::new(alloc), &OpenGate)?;
+        assert_eq!(rt; read.code, 4, "{line}");
+        assert_eq!(rt; read.out.as_slice(), b"".as_slice(), "{line}");
+        assert_eq!(rt; read.err.as_slice(), b"read fault\n".as_slice(), "{line}");
+    }
     Ok(())
 }
 
