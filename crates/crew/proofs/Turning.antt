@@ -7,7 +7,7 @@ use Rattle.serial_meaning.specs.declared.value.Value.{Value}
 use Rattle.serial_meaning.specs.declared.event.Event.{Event}
 use Rattle.serial_meaning.specs.declared.event.Fault.{Fault}
 use Rattle.serial_meaning.specs.declared.origin.Origin.{Origin}
-use Rattle.strand_meaning.specs.Laws.{IsOf, IsSoundStop, KeepsOrigin, LeavesFewer}
+use Rattle.strand_meaning.specs.Laws.{IsFaultOf, IsOf, IsSoundStop, KeepsOrigin, LeavesFewer}
 use Rattle.strand_meaning.specs.Pieces.{Part, Pieces, heard_unless, heard, heard_all}
 use Rattle.strand_meaning.specs.Rest.{evaluations}
 use Rattle.strand_meaning.specs.Sound.{IsTask}
@@ -17,11 +17,12 @@ use Rattle.strand_meaning.proofs.Fewer.{stops_fall}
 use Rattle.strand_meaning.proofs.Onward.{answers_keep_tasks}
 use Rattle.strand_meaning.proofs.Stops.{stops_are_sound, stops_keep_origins}
 use Rattle.strand_machine.specs.Family.{tag, tags}
+use Rattle.strand_machine.specs.Faults.{is_fault, EndsByFault}
 use Rattle.strand_machine.specs.Parts.{awaited}
 use Rattle.strand_machine.specs.Stops.{IsStop, answer_tags, went_on, view_on}
 use Rattle.strand_machine.specs.Tasks.{TaskView, fresh}
 use Rattle.strand_machine.specs.declared.stop.Stop.TheVariants as stop
-use Rattle.crew.specs.Stacks.{task_of, IsFrame, AreBelow, IsStack, root_of, tasks, with_answer, Follows, Closes, IsTurn}
+use Rattle.crew.specs.Stacks.{task_of, IsFrame, AreBelow, IsStack, root_of, tasks, IsAnswerOf, task_of_answer, with_answer, Follows, Closes, IsTurn}
 use Rattle.crew.specs.declared.frames.Frame.{Frame}
 use Rattle.crew.specs.declared.stack.Stack.{Stack}
 use Rattle.crew.specs.declared.stack.Turn.{Turn}
@@ -54,11 +55,11 @@ none-heard (p ∷ ps) (a ∷ answers) pieces h = none-heard ps answers (heard p 
 -- Stacks
 
 -- only the plan and the origin of the task above count
-below-same : (t u : Task) (fs : List Frame) → IsOf t u → AreBelow t fs → AreBelow u fs
+pub below-same : (t u : Task) (fs : List Frame) → IsOf t u → AreBelow t fs → AreBelow u fs
 below-same t u [] same b = tt
 below-same t u (f ∷ fs) same b = (same.0 ∙ b.0, subst (λ (o : Origin). IsFrame (o ∷ []) f) (sym same.1) b.1, b.2)
 
-root-same : (t u : Task) (fs : List Frame) → IsOf t u → IsOf (root_of t fs) (root_of u fs)
+pub root-same : (t u : Task) (fs : List Frame) → IsOf t u → IsOf (root_of t fs) (root_of u fs)
 root-same t u [] same = same
 root-same t u (f ∷ fs) same = (refl, refl)
 
@@ -162,7 +163,7 @@ module _ (s : Stack) (is : IsStack s) where
             ∙ ap (λ (o : Origin). answer_tags f.answers ++ tag (task_of f).plan o ∷ []) at.keeps.1 ∙ b.1.answers
 
     abbrev IsEnd : List Frame → Type 0
-    IsEnd fs = Closes (record s { below = fs }) answer
+    IsEnd fs = IsAnswerOf (root_of t fs) answer
 
     -- An end's answer goes to the task below, or is the one of the task at the bottom.
     pub ended : (result : Result Turn Memory) → ((f : Frame) (fs : List Frame) → s.below ≡ f ∷ fs → IfOk result (λ turn. turn ≡ Goes (with_answer answer f fs))) →
@@ -177,3 +178,45 @@ module _ (s : Stack) (is : IsStack s) where
         by_below [] e =
             let closes : Closes s answer = subst IsEnd (sym e) (record { plan = at.keeps.0; origin = at.keeps.1; fault = sound.1 }) in subst (IsTurn s) (sym (last e)) closes
         by_below (f ∷ fs) e = let follows : Follows s (with_answer answer f fs) = to-parent f fs e (subst (AreBelow t) e is.below) in subst (IsTurn s) (sym (parent f fs e)) follows
+
+    -- An end by a fault ends all tasks.
+    same-task : IsOf t (task_of_answer answer)
+    same-task = (at.keeps.0, at.keeps.1)
+
+    pub known_fault : IsFaultOf answer.plan answer.outcome
+    known_fault =
+        let sound : IsSoundStop t (End answer.out answer.outcome) = stops_are_sound t (End answer.out answer.outcome) is.top.task at.next in
+        subst (λ (p : PlanView). IsFaultOf p answer.outcome) (sym at.keeps.0) sound.1
+
+    pub answer_below : AreBelow (task_of_answer answer) s.below
+    answer_below = below-same t (task_of_answer answer) s.below same-task is.below
+
+    pub all_ended : (last : AnswerView) → IsAnswerOf (root_of (task_of_answer answer) s.below) last → Closes s last
+    all_ended last h =
+        let same : IsOf (root_of t s.below) (root_of (task_of_answer answer) s.below) = root-same t (task_of_answer answer) s.below same-task in
+        record { plan = h.plan ∙ same.0; origin = h.origin ∙ same.1; fault = subst (λ (p : PlanView). IsFaultOf p last.outcome) same.0 h.fault }
+
+-- The tasks below an answer that is a fault
+
+pub record EndsAt (bottom : Task) (answer : AnswerView) (fs : List Frame) : Type 0 where
+  pub below : AreBelow (task_of_answer answer) fs
+  pub fault : is_fault answer.outcome ≡ true
+  pub known : IsFaultOf answer.plan answer.outcome
+  pub root : IsOf bottom (root_of (task_of_answer answer) fs)
+
+pub ends-next : (bottom : Task) (a b : AnswerView) (by : AnswerTag) (f : Frame) (fs gs : List Frame) → gs ≡ f ∷ fs → EndsAt bottom a gs → EndsByFault f.task b by → EndsAt bottom b fs
+ends-next bottom a b by f fs gs e at ends =
+    let was : EndsAt bottom a (f ∷ fs) = subst (EndsAt bottom a) e at in
+    let same : IsOf (task_of f) (task_of_answer b) = (ends.plan, ends.origin) in
+    let lower : IsOf (root_of (task_of f) fs) (root_of (task_of_answer b) fs) = root-same (task_of f) (task_of_answer b) fs same in
+    record {
+      below = below-same (task_of f) (task_of_answer b) fs same was.below.2;
+      fault = ends.fault;
+      known = subst (λ (p : PlanView). IsFaultOf p b.outcome) (sym ends.plan) ends.known;
+      root = (lower.0 ∙ was.root.0, lower.1 ∙ was.root.1);
+    }
+
+pub ends-last : (bottom : Task) (a : AnswerView) (fs : List Frame) → fs ≡ [] → EndsAt bottom a fs → IsAnswerOf bottom a
+ends-last bottom a fs e at =
+    let was : EndsAt bottom a [] = subst (EndsAt bottom a) e at in
+    record { plan = was.root.0; origin = was.root.1; fault = subst (λ (p : PlanView). IsFaultOf p a.outcome) was.root.0 was.known }

@@ -64,11 +64,19 @@ pub record Follows (s next : Stack) : Type 0 where
   pub comes : IsNext (task_of s.top) stop
   pub leaves : tasks (next.top ∷ next.below) ≡ behind stop (tasks s.below)
 
+-- what a task answers
+pub record IsAnswerOf (t : Task) (answer : AnswerView) : Type 0 where
+  pub plan : answer.plan ≡ t.plan
+  pub origin : answer.origin ≡ t.origin
+  pub fault : IsFaultOf t.plan answer.outcome
+
 -- the answer of the task at the bottom
-pub record Closes (s : Stack) (answer : AnswerView) : Type 0 where
-  pub plan : answer.plan ≡ (root s).plan
-  pub origin : answer.origin ≡ (root s).origin
-  pub fault : IsFaultOf (root s).plan answer.outcome
+abbrev pub Closes : Stack → AnswerView → Type 0
+Closes s = IsAnswerOf (root s)
+
+-- the task of an answer before it was begun
+abbrev pub task_of_answer : AnswerView → Task
+task_of_answer answer = start answer.plan answer.origin
 
 abbrev pub IsTurn : Stack → Turn → Type 0
 IsTurn s (Goes next) = Follows s next

@@ -60,7 +60,7 @@ impl Model for Hand {
 }
 
 impl Hand {
-    ghost use Rattle.std.specs.Prelude.{◌≡◌, IfOk, OnOk, OnErr, Some, None};
+    ghost use Rattle.std.specs.Prelude.{◌≡◌, IfOk, OnOk, OnErr, Some, None, length};
     ghost use Rattle.steal_deck.specs.Ends.{new_thief};
     ghost use Rattle.crew.specs.Crews.{new_hand, with_thief};
     ghost use Rattle.crew.specs.Hands.{IsTurn};
@@ -94,6 +94,13 @@ impl Hand {
         ensures { self.new ≡ record self.old { thieves = thieves.items } }
     {
         self.held.thieves = thieves;
+    }
+
+    /// How many of its tasks wait for children.
+    pub(crate) fn parked(&self) -> usize
+        ensures { result ≡ length self.now.ring }
+    {
+        self.held.ring.len()
     }
 
     /// The task is its current one.

@@ -13,40 +13,157 @@ use crate::root::Root;
 use crossbeam_utils::{Backoff, CachePadded};
 use meet_block::Look;
 use serial_meaning::{Answer, Plan, laws};
-use std::alloc::Global;
-use std::sync::atomic::{AtomicBool, Ordering};
+use std::alloc::{AllocError, Global};
+use std::sync::atomic::{AtomicBool, AtomicU64, Ordering};
 use std::sync::{Arc, Wait};
 use std::thread;
-use std::thread::Threads;
+use std::thread::{Builder, Threads};
+use std::time::Duration;
+
+/// How long a hand that finds nothing to do sleeps at first, in microseconds.
+const SHORTEST_NAP: u64 = 50;
+
+/// How long it sleeps at most, for each worker of the crew: all idle hands together look for work about this often.
+const LONGEST_NAP: u64 = 100;
+
+/// The stack of a hand's thread, in bytes.
+const STACK: usize = 1024 * 1024;
+
+/// What is kept for the heap and the stack of the calling thread while the others are started, in bytes. Else they may take all that the
+/// process may have.
+const SPARE: usize = 4 * 1024 * 1024;
 
 /// What the hands tell one another.
 #[derive(Drop)]
 struct Signals {
-    /// No hand takes another turn.
-    stop: CachePadded<AtomicBool>,
+    /// 0 as long as the hands take turns, and then 1. A hand that finds nothing to do sleeps on it.
+    stop: CachePadded<AtomicU64>,
     /// The root's answer was put.
     ended: CachePadded<AtomicBool>,
 }
 
-/// Makes turns until a hand has ended the run, or has failed for want of memory.
-fn work<R: Wait, G: Gate>(rt: &R, alloc: Global, signals: &Signals, hand: &mut Hand, gate: &G) {
-    let stop: &AtomicBool = &signals.stop;
-    let ended: &AtomicBool = &signals.ended;
+impl Signals {
+    fn new() -> Signals {
+        Signals {
+            stop: CachePadded::new(AtomicU64::new(0)),
+            ended: CachePadded::new(AtomicBool::new(false)),
+        }
+    }
+
+    /// No hand takes another turn.
+    fn stop(&self) {
+        let stop: &AtomicU64 = &self.stop;
+        stop.store(1, Ordering::SeqCst);
+        stop.wake_all();
+    }
+
+    fn is_stopped(&self) -> bool {
+        let stop: &AtomicU64 = &self.stop;
+        stop.load(Ordering::SeqCst) != 0
+    }
+
+    /// The root's answer was put, and no hand takes another turn.
+    fn end(&self) {
+        let ended: &AtomicBool = &self.ended;
+        ended.store(true, Ordering::SeqCst);
+        self.stop();
+    }
+
+    fn is_ended(&self) -> bool {
+        let ended: &AtomicBool = &self.ended;
+        ended.load(Ordering::SeqCst)
+    }
+
+    /// Sleeps for so many microseconds, or until the hands stop.
+    fn sleep<R: Wait>(&self, rt: &R, micros: u64) {
+        let stop: &AtomicU64 = &self.stop;
+        stop.park_timeout(rt, 0, Duration::from_micros(micros));
+    }
+}
+
+/// Makes turns until a hand has ended the run, or has failed for want of memory. A hand that finds nothing to do, at no task that it has,
+/// sleeps between its turns, longer from time to time.
+fn work<R: Wait, G: Gate>(
+    rt: &R,
+    alloc: Global,
+    longest: u64,
+    signals: &Signals,
+    hand: &mut Hand,
+    gate: &G,
+) {
     let backoff = Backoff::new();
+    let mut nap = SHORTEST_NAP;
+    let mut vain: usize = 0;
     for _ in rt.forever() {
-        if stop.load(Ordering::SeqCst) {
+        if signals.is_stopped() {
             break;
         }
         match hand.turn(alloc, gate) {
-            Ok(Turn::Waiting | Turn::Idle) => backoff.snooze(),
-            Ok(Turn::Ended(_)) => {
-                ended.store(true, Ordering::SeqCst);
-                stop.store(true, Ordering::SeqCst);
+            Ok(Turn::Waiting | Turn::Idle) => {
+                vain = vain.saturating_add(1);
+                if backoff.is_completed() && vain > hand.parked() {
+                    signals.sleep(rt, nap);
+                    nap = nap.saturating_mul(2).min(longest);
+                    vain = 0;
+                } else {
+                    backoff.snooze();
+                }
             }
-            Err(_) => stop.store(true, Ordering::SeqCst),
-            Ok(_) => backoff.reset(),
+            Ok(Turn::Ended(_)) => signals.end(),
+            Err(_) => signals.stop(),
+            Ok(_) => {
+                backoff.reset();
+                nap = SHORTEST_NAP;
+                vain = 0;
+            }
         }
     }
+}
+
+/// Calls f at it.
+fn at_one<T, F: Fn(&mut T)>(f: &F, one: &mut T)
+    requires { F.IsAlwaysCallable f.now }
+{
+    f(one);
+}
+
+/// Calls f at the first of them in this thread, and at each other one in a thread of its own, and returns once all calls have. From the
+/// first one on for which no thread can be made they are left out.
+fn at_each<R: Threads + Wait, T: Send + Drop, F: Fn(&mut T) + Sync>(
+    rt: &R,
+    alloc: Global,
+    mut all: Vec<T>,
+    f: &F,
+)
+    requires { F.IsAlwaysCallable f.now }
+{
+    let whole = all.as_mut_slice();
+    thread::scope(
+        thread::scope_env(),
+        rt,
+        |scope|
+            requires { F.IsAlwaysCallable f.now }
+        {
+            let Some((first, others)) = whole.split_first_mut() else {
+                return;
+            };
+            let spare: Result<Vec<u8>, AllocError> = Vec::with_capacity(alloc, SPARE);
+            for one in others.iter_mut() {
+                let builder = Builder::new().stack_size(STACK);
+                let started = builder.spawn_scoped(
+                    scope,
+                    move ||
+                        requires { F.IsAlwaysCallable f.now }
+                    { at_one(f, one) },
+                );
+                if started.is_err() {
+                    break;
+                }
+            }
+            drop(spare);
+            at_one(f, first);
+        },
+    );
 }
 
 /// Looks until the answer is there.
@@ -73,9 +190,9 @@ fn ends_within_faults(answer: &Answer)
     let _outcome = &answer.outcome;
 }
 
-/// Runs main by so many workers, each in a thread of its own where one can be made. The hands steal tasks from one another.
+/// Runs main by so many workers, hand 0 in this thread and each other one in a thread of its own. The hands steal tasks from one another.
 ///
-/// Where no thread can be made the hands run one after another, and the first finishes alone.
+/// A hand for which no thread can be made is left out. It has no task, and the others finish without it.
 #[tactic(auto, using(crate::proofs::Rooted::root_is))]
 pub fn run_crew<R: Threads + Wait + Sync, G: Gate + Sync>(
     rt: &R,
@@ -89,20 +206,17 @@ pub fn run_crew<R: Threads + Wait + Sync, G: Gate + Sync>(
     ensures origin { IfOk result (λ answer. answer.origin ≡ main_origin (arc_value plan.now)) }
     ensures fault { IfOk result (λ answer. IsFaultOf (arc_value plan.now) answer.outcome) }
 {
-    let (mut root, mut hands) = Crew::new(alloc, plan, workers)?;
-    let signals = Signals {
-        stop: CachePadded::new(AtomicBool::new(false)),
-        ended: CachePadded::new(AtomicBool::new(false)),
-    };
+    let (mut root, hands) = Crew::new(alloc, plan, workers)?;
+    let signals = Signals::new();
     let shared = &signals;
-    thread::for_each_mut(
+    let longest = u64::from(workers) * LONGEST_NAP;
+    at_each(
         rt,
-        hands.0.0.as_mut_slice(),
-        workers as usize,
-        &|_, hand| { work(rt, alloc, shared, hand, gate) },
+        alloc,
+        hands.0.0,
+        &|hand| { work(rt, alloc, longest, shared, hand, gate) },
     );
-    let ended: &AtomicBool = &signals.ended;
-    if !ended.load(Ordering::SeqCst) {
+    if !signals.is_ended() {
         return Err(Memory);
     }
     wait_ready(rt, &mut root);

@@ -130,6 +130,15 @@ fn a_fault_of_a_child_ends_the_run_there(rt: HostRuntime) -> Result<(), Fail> {
 }
 
 #[test]
+fn a_fault_ends_all_tasks_below_at_once(rt: HostRuntime) -> Result<(), Fail> {
+    let thrice = "fn f(n) { print n; spawn f(n + 1); spawn f(n); spawn f(n); return 0; }
+         fn main() { spawn f(1); sync; return 0; }";
+    let answer = answer(&rt, thrice, 200, 100)?;
+    assert!(rt; matches!(answer.outcome, Outcome::Fault(_)));
+    Ok(())
+}
+
+#[test]
 fn events_have_the_pedigrees_of_their_strands(rt: HostRuntime) -> Result<(), Fail> {
     let answer = answer(
         &rt,

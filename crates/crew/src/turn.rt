@@ -1,14 +1,16 @@
 // One turn of a worker that runs each child to its end before what stands behind it.
-ghost use Rattle.std.specs.Prelude.{◌≡◌, List, [], ◌∷◌, IfOk};
+ghost use Rattle.std.specs.Prelude.{◌≡◌, List, [], ◌∷◌, true, IfOk};
+ghost use Rattle.strand_meaning.specs.Laws.{IsFaultOf};
+ghost use Rattle.strand_machine.specs.Faults.{is_fault};
 ghost use Rattle.crew.specs.declared.frames.Frame.{Frame};
-ghost use Rattle.crew.specs.Stacks.{IsStack, IsTurn, with_answer};
+ghost use Rattle.crew.specs.Stacks.{AreBelow, IsAnswerOf, IsStack, IsTurn, root_of, task_of_answer, with_answer};
 
 use crate::frames::{Frame, Frames};
 use crate::memory::Memory;
 use crate::stack::{Stack, Turn};
 use serial_meaning::Answer;
 use std::alloc::Global;
-use strand_machine::Stop;
+use strand_machine::{Stop, is_fault};
 
 /// The answer of a task that has ended goes to the one below it.
 fn answered(answer: Answer, mut below: Frames) -> Result<Turn, Memory>
@@ -24,8 +26,25 @@ fn answered(answer: Answer, mut below: Frames) -> Result<Turn, Memory>
     }
 }
 
+/// The answer of the task at the bottom, where this one, of the task on top, is a fault. It is the fault of each task below too, since
+/// nothing that stands behind it counts.
+fn end_all(alloc: Global, answer: Answer, mut below: Frames) -> Result<Answer, Memory>
+    requires fault { is_fault answer.outcome ≡ true }
+    requires known { IsFaultOf answer.plan answer.outcome }
+    requires below { AreBelow (task_of_answer answer) below }
+    ensures { IfOk result (IsAnswerOf (root_of (task_of_answer answer) below)) }
+{
+    let mut answer = answer;
+    while let Some(frame) = below.pop() {
+        let Frame { task, answers } = frame;
+        let (ended, _) = task.end_by(alloc, answers, answer)?;
+        answer = ended;
+    }
+    Ok(answer)
+}
+
 /// Runs the topmost task to its next stop. A child goes on top of it. Where it waits its children have ended, and it takes their
-/// answers. Its own answer goes to the task below.
+/// answers. Its own answer goes to the task below, and where it is a fault it ends all of them.
 pub(crate) fn turn(stack: Stack, alloc: Global) -> Result<Turn, Memory>
     requires { IsStack stack }
     ensures { IfOk result (IsTurn stack) }
@@ -48,6 +67,12 @@ pub(crate) fn turn(stack: Stack, alloc: Global) -> Result<Turn, Memory>
             let top = Frame::of(alloc, task);
             Ok(Turn::Goes(Stack { top, below }))
         }
-        Stop::Done { answer, .. } => answered(answer, below),
+        Stop::Done { answer, .. } => {
+            if is_fault(&answer) {
+                let last = end_all(alloc, answer, below)?;
+                return Ok(Turn::Ends(last));
+            }
+            answered(answer, below)
+        }
     }
 }

@@ -8,6 +8,7 @@ ghost use Rattle.meet_block.specs.Blocks.{part, handed};
 
 use crate::give::{Counter, Give};
 use crate::memory::Memory;
+use crate::room::Room;
 use crate::rule::{Closes, Hands, Looks, PlaceOf, TagOf, Takes};
 use crate::tagged::Tagged;
 use crate::view::View;
@@ -24,7 +25,7 @@ const PLACES: usize = 16;
 pub struct Block<A: Tagged> {
     // None once all of its values were taken.
     counter: Option<Arc<Counter<A>, Global>>,
-    seat: Seat<Option<A>, View<A::Key>>,
+    seat: Seat<Option<Room<A>>, View<A::Key>>,
     // The number of its first child, the places given, and the values that weren't taken.
     first: u64,
     given: usize,
@@ -52,9 +53,9 @@ impl<A: Tagged> Model for Block<A> {
 // Gives a place to a child.
 fn split<A: Tagged, W: TagOf<A::Key>>(
     counter: &Counter<A>,
-    seat: &mut Seat<Option<A>, View<A::Key>>,
+    seat: &mut Seat<Option<Room<A>>, View<A::Key>>,
     tag: &A::Key,
-) -> Seat<Option<A>, View<A::Key>>
+) -> Seat<Option<Room<A>>, View<A::Key>>
     requires told { W.told ≡ Some tag.now }
     requires here { seat.old.table_id ≡ counter.now.shared.table_id }
     requires sized { counter.now.shared.table_id.words ≡ 1 }
@@ -70,7 +71,11 @@ fn split<A: Tagged, W: TagOf<A::Key>>(
 }
 
 // Gives up the parent's party, and with it the places that were not given.
-fn give_up<A: Tagged>(counter: &Counter<A>, seat: &mut Seat<Option<A>, View<A::Key>>, given: usize)
+fn give_up<A: Tagged>(
+    counter: &Counter<A>,
+    seat: &mut Seat<Option<Room<A>>, View<A::Key>>,
+    given: usize,
+)
     requires here { seat.old.table_id ≡ counter.now.shared.table_id }
     requires sized { counter.now.shared.table_id.words ≡ 1 }
     requires open { (seat.old.me.0.stage ≡ Open) × (seat.old.me.1 ≡ []) }
@@ -83,9 +88,9 @@ fn give_up<A: Tagged>(counter: &Counter<A>, seat: &mut Seat<Option<A>, View<A::K
 }
 
 // Moves the value out of a slot.
-fn move_out<A: Tagged, W: PlaceOf>(
+fn move_out<A: Tagged + Drop, W: PlaceOf>(
     counter: &Counter<A>,
-    seat: &mut Seat<Option<A>, View<A::Key>>,
+    seat: &mut Seat<Option<Room<A>>, View<A::Key>>,
     place: usize,
 ) -> A
     requires place { W.place ≡ place }
@@ -99,7 +104,8 @@ fn move_out<A: Tagged, W: PlaceOf>(
     ensures same { seat.new.table_id ≡ seat.old.table_id }
 {
     counter.shared.load::<Takes<A, W>>(seat, 0);
-    counter.shared.exchange(seat, place, None).unwrap()
+    let room = counter.shared.exchange(seat, place, None).unwrap();
+    room.into_value().unwrap()
 }
 
 impl<A: Tagged + Drop> Block<A> {
@@ -132,7 +138,7 @@ impl<A: Tagged + Drop> Block<A> {
     }
 
     /// Gives the next place to a child, and with the 16th gives up the parent's party.
-    pub fn hand(&mut self, tag: &A::Key) -> Result<Give<A>, Memory>
+    pub fn hand(&mut self, alloc: Global, tag: &A::Key) -> Result<Give<A>, Memory>
         requires { self.old.stage ≡ Open }
         ensures give { IfOk result (λ give. give ≡ tag.now) }
         ensures handed { OnOk result (self.new ≡ handed self.old tag.now) }
@@ -142,8 +148,9 @@ impl<A: Tagged + Drop> Block<A> {
             unreachable!()
         };
         let theirs = Arc::try_clone(counter)?;
+        let room = Room::empty(alloc)?;
         let child = split::<A, Brand>(counter, &mut self.seat, tag);
-        let give = Give::of(theirs, child, self.given);
+        let give = Give::of(theirs, child, self.given, room);
         self.given += 1;
         self.left += 1;
         if self.given == PLACES {

@@ -2,6 +2,7 @@ ghost use Rattle.std.specs.Prelude.{◌≡◌, ◌+◌, ◌<◌, ◌≤◌, ◌+
 ghost use Rattle.std.specs.Arc.{arc_value};
 ghost use Rattle.meet_block.specs.declared.view.Stage.TheVariants.{Owes, Arrived};
 
+use crate::room::Room;
 use crate::rule::{Arrives, Claims, CounterRule};
 use crate::tagged::Tagged;
 use crate::view::View;
@@ -12,7 +13,7 @@ use std::sync::Arc;
 
 /// A join counter: the word, and the slots of the children's values.
 pub type Counter<A> = Table<
-    Option<A>,
+    Option<Room<A>>,
     View<<A as Tagged>::Key>,
     <A as Tagged>::Key,
     CounterRule<A>,
@@ -25,8 +26,10 @@ pub type Counter<A> = Table<
 #[derive(Drop)]
 pub struct Give<A: Tagged> {
     counter: Arc<Counter<A>, Global>,
-    seat: Seat<Option<A>, View<A::Key>>,
+    seat: Seat<Option<Room<A>>, View<A::Key>>,
     place: usize,
+    // Made with the give, so that putting takes no memory.
+    room: Room<A>,
     ghost here: { seat.table_id ≡ (arc_value counter).shared.table_id },
     ghost sized: { (arc_value counter).shared.table_id.words ≡ 1 },
     ghost owes: { (seat.me.0.stage ≡ Owes) × (seat.me.1 ≡ []) },
@@ -39,7 +42,7 @@ pub struct Give<A: Tagged> {
 /// is.
 #[derive(Drop)]
 pub struct Arrived<A: Tagged> {
-    seat: Seat<Option<A>, View<A::Key>>,
+    seat: Seat<Option<Room<A>>, View<A::Key>>,
     ghost has_put: { (seat.me.0.stage ≡ Arrived) × (seat.me.1 ≡ []) },
 }
 
@@ -58,8 +61,9 @@ impl<A: Tagged> Model for Arrived<A> {
 impl<A: Tagged + Drop> Give<A> {
     pub(crate) fn of(
         counter: Arc<Counter<A>, Global>,
-        seat: Seat<Option<A>, View<A::Key>>,
+        seat: Seat<Option<Room<A>>, View<A::Key>>,
         place: usize,
+        room: Room<A>,
     ) -> Give<A>
         requires here { seat.table_id ≡ (arc_value counter).shared.table_id }
         requires sized { (arc_value counter).shared.table_id.words ≡ 1 }
@@ -71,6 +75,7 @@ impl<A: Tagged + Drop> Give<A> {
             counter,
             seat,
             place,
+            room,
         }
     }
 
@@ -83,10 +88,12 @@ impl<A: Tagged + Drop> Give<A> {
             counter,
             mut seat,
             place,
+            room,
         } = self;
         let shared = &counter.shared;
+        let room = room.filled(value);
         shared.load::<Claims>(&mut seat, 0);
-        match shared.exchange(&mut seat, place, Some(value)) {
+        match shared.exchange(&mut seat, place, Some(room)) {
             None => {}
             Some(_) => unreachable!(),
         }

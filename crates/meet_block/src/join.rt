@@ -86,7 +86,7 @@ fn hand_anew<A: Tagged + Drop>(
 {
     blocks.reserve(1)?;
     let mut block = Block::new(alloc, count, tag)?;
-    let give = block.hand(tag)?;
+    let give = block.hand(alloc, tag)?;
     blocks.push_reserved(block);
     Ok(give)
 }
@@ -107,7 +107,7 @@ fn hand_next<A: Tagged + Drop>(
         return hand_anew(blocks, alloc, count, tag);
     };
     if last.is_open() {
-        return last.hand(tag);
+        return last.hand(alloc, tag);
     }
     hand_anew(blocks, alloc, count, tag)
 }

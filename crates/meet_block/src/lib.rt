@@ -14,6 +14,7 @@ mod block;
 mod give;
 mod join;
 mod memory;
+mod room;
 mod rule;
 mod tagged;
 #[cfg(test)]

@@ -3,6 +3,7 @@ ghost use Rattle.std.specs.Prelude.{◌≡◌, ℕ, [], Option, None};
 ghost use Rattle.meet_block.specs.declared.view.Stage.TheVariants.{Open};
 ghost use Rattle.meet_block.specs.Counter.{parent, Obeys, opened, given, claimed, arrived, closed, Looked, Took};
 
+use crate::room::Room;
 use crate::tagged::Tagged;
 use crate::view::View;
 use atomic_table::{Play, Split, TableRule};
@@ -12,7 +13,7 @@ pub struct CounterRule<A> {
     marker: PhantomData<A>,
 }
 
-impl<A: Tagged> TableRule<Option<A>, View<A::Key>, A::Key> for CounterRule<A> {
+impl<A: Tagged> TableRule<Option<Room<A>>, View<A::Key>, A::Key> for CounterRule<A> {
     ghost holds = { λ _. Obeys A.tag };
 
     ghost first = { λ key. parent key Open [] [] [] };
@@ -49,28 +50,28 @@ impl<T, W: TagOf<T>> Split<View<T>> for Hands<W> {
 // The load of a child's claim.
 pub struct Claims;
 
-impl<A, T> Play<Option<A>, View<T>> for Claims {
+impl<A, T> Play<Option<Room<A>>, View<T>> for Claims {
     ghost then = { λ st m r n. n ≡ claimed m };
 }
 
 // The fetch_sub of a child.
 pub struct Arrives;
 
-impl<A, T> Play<Option<A>, View<T>> for Arrives {
+impl<A, T> Play<Option<Room<A>>, View<T>> for Arrives {
     ghost then = { λ st m r n. n ≡ arrived m };
 }
 
 // The fetch_sub of the parent.
 pub struct Closes;
 
-impl<A, T> Play<Option<A>, View<T>> for Closes {
+impl<A, T> Play<Option<Room<A>>, View<T>> for Closes {
     ghost then = { λ st m r n. n ≡ closed m };
 }
 
 // The load of a look.
 pub struct Looks;
 
-impl<A, T> Play<Option<A>, View<T>> for Looks {
+impl<A, T> Play<Option<Room<A>>, View<T>> for Looks {
     ghost then = { λ st m r n. Looked m r n };
 }
 
@@ -79,6 +80,6 @@ pub struct Takes<A, W> {
     marker: PhantomData<(A, W)>,
 }
 
-impl<A: Tagged, W: PlaceOf> Play<Option<A>, View<A::Key>> for Takes<A, W> {
+impl<A: Tagged, W: PlaceOf> Play<Option<Room<A>>, View<A::Key>> for Takes<A, W> {
     ghost then = { λ st m r n. Took A.tag W.place m n };
 }

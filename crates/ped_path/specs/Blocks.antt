@@ -1,11 +1,19 @@
 -- How a path keeps its ranks: full blocks of 16, and the last ranks in front of an unfinished one.
-use Rattle.std.specs.Prelude.{◌≡◌, ℕ, ◌++◌, ◌<◌, ◌≤◌, ◌^◌, List, All, length, take}
+use Rattle.std.specs.Prelude.{◌≡◌, ℕ, [], ◌++◌, ◌<◌, ◌≤◌, ◌^◌, List, All, Option, Some, None, length, take}
 use Rattle.std.specs.List.{concat}
+use Rattle.std.specs.Arc.{arc_value}
+use Rattle.std.specs.declared.sync.Arc.{Arc}
+use Rattle.std.specs.declared.vec.Vec.{Vec}
 use Rattle.ped_path.specs.Path.{IsRank}
 
 pub record IsBlock (ranks : List ℕ) : Type 0 where
   pub full : length ranks ≡ 16
   pub bounded : All IsRank ranks
+
+-- the blocks of a list that may be absent
+abbrev pub blocks_of : {Y Z : Type 0} → Option (Arc (Vec (List ℕ) Y) Z) → List (List ℕ)
+blocks_of (Some list) = (arc_value list).items
+blocks_of None = []
 
 -- the ranks of the blocks, and so many of the last ones
 abbrev pub joined : List (List ℕ) → List ℕ → ℕ → List ℕ

@@ -58,12 +58,73 @@ impl Block {
     }
 }
 
-/// A list of the same blocks and one more.
-pub(crate) fn with_block(
-    alloc: Global,
-    blocks: &[Block],
-    block: Block,
-) -> Result<Vec<Block>, Memory>
+/// A list of blocks, over memory that all its owners share. It is seen as the list of them.
+#[derive(Drop)]
+pub(crate) struct Blocks {
+    // None where there is no block, so that short paths have no count in common.
+    list: Option<Arc<Vec<Block>>>,
+}
+
+impl Model for Blocks {
+    ghost use Rattle.std.specs.Prelude.{ℕ, List};
+    ghost use Rattle.ped_path.specs.Blocks.{blocks_of};
+
+    ghost Value = { List (List ℕ) };
+
+    ghost view = { λ b. blocks_of b.list };
+}
+
+impl Blocks {
+    pub(crate) fn none() -> Blocks
+        ensures { result ≡ [] }
+    {
+        Blocks { list: None }
+    }
+
+    pub(crate) fn as_slice(&self) -> &[Block]
+        ensures { result.now ≡ self.now }
+    {
+        match &self.list {
+            Some(list) => list.as_slice(),
+            None => &[],
+        }
+    }
+
+    /// The same list, over the same memory.
+    pub(crate) fn share(&self) -> Result<Blocks, Memory>
+        ensures { IfOk result (λ list. list ≡ self.now) }
+    {
+        match &self.list {
+            Some(list) => Ok(Blocks {
+                list: Some(Arc::try_clone(list)?),
+            }),
+            None => Ok(Blocks::none()),
+        }
+    }
+
+    /// A list of the same blocks and one more.
+    pub(crate) fn with(&self, alloc: Global, block: Block) -> Result<Blocks, Memory>
+        requires { length self.now < 2 ^ 58 }
+        ensures { IfOk result (λ list. list ≡ self.now ++ block ∷ []) }
+    {
+        let list = with_block(alloc, self.as_slice(), block)?;
+        Ok(Blocks {
+            list: Some(Arc::new(alloc, list)?),
+        })
+    }
+
+    /// Whether no other list has this memory. A list of no block has none.
+    #[cfg(test)]
+    pub(crate) fn is_sole(&mut self) -> bool {
+        match &mut self.list {
+            Some(list) => Arc::get_mut(list).is_some(),
+            None => true,
+        }
+    }
+}
+
+// A list of the same blocks and one more.
+fn with_block(alloc: Global, blocks: &[Block], block: Block) -> Result<Vec<Block>, Memory>
     requires { length blocks.now < 2 ^ 58 }
     ensures { IfOk result (λ list. list.items ≡ blocks.now ++ block ∷ []) }
 {

@@ -8,6 +8,7 @@
 mod block;
 mod memory;
 mod parse;
+mod path;
 mod ped;
 mod pedigree;
 mod ranks;

@@ -1,35 +1,28 @@
 ghost use Rattle.std.specs.Prelude.{◌≡◌, ◌<◌, ◌^◌, ◌↔◌, ℕ, List, [], ◌∷◌, ◌++◌, length, All, IfOk, IfSome, IsTrue, slice_get, slice_index};
 ghost use Rattle.ped_path.specs.Path.{IsRank, IsBefore};
 
-use crate::block::{BLOCK, Block, with_block};
 use crate::memory::Memory;
+use crate::path::Path;
 use crate::ranks::{Ranks, compare};
 use std::alloc::Global;
 use std::marker::Model;
 use std::sync::Arc;
 
-/// How many blocks a path has at most, so that its length fits. No machine has memory for as many.
-const MOST_BLOCKS: usize = 1 << 58;
-
 /// A path: the ranks of the spawns that lead to a function's instance, from the program's start. It is seen as the list of these
-/// ranks, each below 2^32. A path never changes, and the paths of an instance's children share all its full blocks of 16 ranks.
+/// ranks, each below 2^32. A path never changes, so all its copies are one place in memory, and the paths of an instance's children
+/// share all its full blocks of 16 ranks.
 #[derive(Drop)]
 pub struct Ped {
-    blocks: Arc<Vec<Block>>,
-    last: [u32; BLOCK],
-    count: usize,
+    path: Arc<Path>,
 }
 
 impl Model for Ped {
     ghost use Rattle.std.specs.Prelude.{ℕ, List};
     ghost use Rattle.std.specs.Arc.{arc_value};
-    ghost use Rattle.ped_path.specs.Blocks.{joined, IsBlocked};
 
     ghost Value = { List ℕ };
 
-    ghost view = { λ p. joined (arc_value p.blocks).items p.last p.count };
-
-    ghost invariant = { λ p. IsBlocked (arc_value p.blocks).items p.last p.count };
+    ghost view = { λ p. arc_value p.path };
 }
 
 impl Ped {
@@ -38,9 +31,7 @@ impl Ped {
         ensures { IfOk result (λ p. p ≡ []) }
     {
         Ok(Ped {
-            blocks: Arc::new(alloc, Vec::new(alloc))?,
-            last: [0; BLOCK],
-            count: 0,
+            path: Arc::new(alloc, Path::root())?,
         })
     }
 
@@ -50,35 +41,18 @@ impl Ped {
         requires { IsRank rank }
         ensures { IfOk result (λ p. p ≡ self.now ++ rank ∷ []) }
     {
-        let mut last = self.last;
-        last[self.count] = rank as u32;
-        if self.count + 1 < BLOCK {
-            return Ok(Ped {
-                blocks: Arc::try_clone(&self.blocks)?,
-                last,
-                count: self.count + 1,
-            });
-        }
-        if self.blocks.len() == MOST_BLOCKS {
-            return Err(Memory);
-        }
-        let block = Block::new(alloc, last)?;
-        let blocks = with_block(alloc, self.blocks.as_slice(), block)?;
+        let path = self.path.child(alloc, rank)?;
         Ok(Ped {
-            blocks: Arc::new(alloc, blocks)?,
-            last: [0; BLOCK],
-            count: 0,
+            path: Arc::new(alloc, path)?,
         })
     }
 
-    /// The same path, over the same blocks.
+    /// The same path, over the same memory.
     pub fn share(&self) -> Result<Ped, Memory>
         ensures { IfOk result (λ p. p ≡ self.now) }
     {
         Ok(Ped {
-            blocks: Arc::try_clone(&self.blocks)?,
-            last: self.last,
-            count: self.count,
+            path: Arc::try_clone(&self.path)?,
         })
     }
 
@@ -89,7 +63,7 @@ impl Ped {
         ensures small { length self.now < 2 ^ 63 }
         ensures ranks { All IsRank self.now }
     {
-        (self.blocks.len() * BLOCK + self.count) as u64
+        self.path.len()
     }
 
     /// The rank at this index, from 0 at the program's start. There is none exactly where the index is not below the length.
@@ -127,12 +101,7 @@ impl Ranks for Ped {
     }
 
     fn rank(&self, i: u64) -> u64 {
-        let (block, place) = (i as usize / BLOCK, i as usize % BLOCK);
-        if block < self.blocks.len() {
-            self.blocks[block].rank(place)
-        } else {
-            self.last[place] as u64
-        }
+        self.path.rank(i)
     }
 }
 
@@ -141,47 +110,14 @@ mod tests {
     use super::*;
     use std::test::Fail;
 
-    // A path of so many ranks: 0, 1, 2 and so on.
-    fn counted(alloc: Global, len: u32) -> Result<Ped, Memory> {
-        let mut path = Ped::root(alloc)?;
-        for rank in 0..len {
-            path = path.child(alloc, rank as u64)?;
-        }
-        Ok(path)
-    }
-
     #[test]
-    fn a_child_shares_the_blocks(rt: HostRuntime) -> Result<(), Fail> {
+    fn a_copy_shares_the_path(rt: HostRuntime) -> Result<(), Fail> {
         let alloc = rt.alloc();
-        let parent = counted(alloc, 16)?;
-        let child = parent.child(alloc, 0)?;
-        let mut blocks = child.blocks;
-        assert!(rt; Arc::get_mut(&mut blocks).is_none());
-        drop(parent);
-        assert!(rt; Arc::get_mut(&mut blocks).is_some());
-        Ok(())
-    }
-
-    #[test]
-    fn a_copy_shares_the_blocks(rt: HostRuntime) -> Result<(), Fail> {
-        let alloc = rt.alloc();
-        let path = counted(alloc, 16)?;
-        let copy = path.share()?;
-        let mut blocks = copy.blocks;
-        assert!(rt; Arc::get_mut(&mut blocks).is_none());
+        let path = Ped::root(alloc)?.child(alloc, 3)?;
+        let mut copy = path.share()?;
+        assert!(rt; Arc::get_mut(&mut copy.path).is_none());
         drop(path);
-        assert!(rt; Arc::get_mut(&mut blocks).is_some());
-        Ok(())
-    }
-
-    // The path of 32 ranks has a list of its own, in which the first block is its parent's.
-    #[test]
-    fn a_new_list_has_the_same_blocks(rt: HostRuntime) -> Result<(), Fail> {
-        let alloc = rt.alloc();
-        let parent = counted(alloc, 31)?;
-        let child = parent.child(alloc, 31)?;
-        let owners: Vec<usize> = child.blocks.iter().map(Block::owners).collect(alloc)?;
-        assert_eq!(rt; owners.as_slice(), [2, 1].as_slice());
+        assert!(rt; Arc::get_mut(&mut copy.path).is_some());
         Ok(())
     }
 }

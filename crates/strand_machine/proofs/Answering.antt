@@ -47,7 +47,7 @@ at-drop [] (suc n) m i h = refl
 at-drop (o ∷ os) (suc n) zero i h = absurd (omega arith)
 at-drop (o ∷ os) (suc n) (suc m) i h = at-drop os n m i (omega arith)
 
-answer-tags-more : (xs : List AnswerView) (a : AnswerView) → answer_tags (xs ++ a ∷ []) ≡ answer_tags xs ++ tag a.plan a.origin ∷ []
+pub answer-tags-more : (xs : List AnswerView) (a : AnswerView) → answer_tags (xs ++ a ∷ []) ≡ answer_tags xs ++ tag a.plan a.origin ∷ []
 answer-tags-more [] a = refl
 answer-tags-more (b ∷ xs) a = ap (λ l. tag b.plan b.origin ∷ l) (answer-tags-more xs a)
 

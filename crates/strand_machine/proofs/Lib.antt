@@ -2,6 +2,7 @@ pub mod Advancing
 pub mod Answering
 pub mod Arms
 pub mod Dispatch
+pub mod Faulting
 pub mod Halves
 pub mod Handed
 pub mod Moving

@@ -1,5 +1,6 @@
 pub mod Bodies
 pub mod Family
+pub mod Faults
 pub mod Going
 pub mod Noted
 pub mod Parts

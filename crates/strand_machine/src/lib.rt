@@ -6,6 +6,7 @@
 mod advance;
 mod body;
 mod family;
+mod fault;
 mod going;
 mod memory;
 mod note;
@@ -19,6 +20,7 @@ mod stop;
 mod task;
 mod work;
 
+pub use fault::is_fault;
 pub use memory::Memory;
 pub use note::Noted;
 pub use origin::share_origin;

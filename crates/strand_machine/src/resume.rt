@@ -100,7 +100,12 @@ fn take_all(
 }
 
 /// The task with its children's answers.
-fn go_on(body: Body, alloc: Global, work: Work, answers: Items<Answer>) -> Result<Task, Memory>
+pub(crate) fn go_on(
+    body: Body,
+    alloc: Global,
+    work: Work,
+    answers: Items<Answer>,
+) -> Result<Task, Memory>
     requires sound { IsAnswered body work }
     requires tags { answer_tags answers ≡ tags body.family.plan (awaited body.pieces.handed) }
     ensures { IfOk result (λ task. task ≡ view_on (view_of body work)) }

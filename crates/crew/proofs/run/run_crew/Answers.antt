@@ -5,5 +5,5 @@ use Rattle.crew.proofs.Shares.{hand_sends}
 use Rattle.crew.proofs.run.run_crew.Goals as goal
 
 -- field by field: the two rows are too large to be compared
-pub for_each_mut-requires-send-T : goal.for_each_mut-requires-send-T
-for_each_mut-requires-send-T g c κs within = record { owned = hand_sends.owned; leaving = λ k. Quiet-if (k (of_param 1)) _ _ (hand_sends.leaving yes) (λ x w. tt) }
+pub at_each-requires-send-T : goal.at_each-requires-send-T
+at_each-requires-send-T g c κs within = record { owned = hand_sends.owned; leaving = λ k. Quiet-if (k (of_param 1)) _ _ (hand_sends.leaving yes) (λ x w. tt) }

@@ -1,4 +1,4 @@
-use Rattle.crew.proofs.Turning.{spawned, waits, has_answers, went, ended}
+use Rattle.crew.proofs.Turning.{spawned, waits, has_answers, went, known_fault, answer_below, all_ended, ended}
 use Rattle.crew.proofs.turn.turn.Goals as goal
 
 pub resume_with-requires-clause-waits : goal.resume_with-requires-clause-waits
@@ -14,5 +14,14 @@ returns-in_ok-push-in-Spawn c =
 pub returns-in_ok-task-in-Wait : goal.returns-in_ok-task-in-Wait
 returns-in_ok-task-in-Wait c = went c.args.stack c.requires c.in-Wait.rest (rw c.in-Wait.is at c.in_ok-stop.ensures) _ _ c.of-top-in-Wait.ensures c.in_ok-task-in-Wait.ensures
 
-pub returns-in-Done : goal.returns-in-Done
-returns-in-Done c = ended c.args.stack c.requires c.in-Done.answer c.in-Done.give (rw c.in-Done.is at c.in_ok-stop.ensures) c.answered.result c.answered.ensures.parent c.answered.ensures.last
+pub end_all-requires-clause-known : goal.end_all-requires-clause-known
+end_all-requires-clause-known c = known_fault c.args.stack c.requires c.in-Done.answer c.in-Done.give (rw c.in-Done.is at c.in_ok-stop.ensures)
+
+pub end_all-requires-clause-below : goal.end_all-requires-clause-below
+end_all-requires-clause-below c = answer_below c.args.stack c.requires c.in-Done.answer c.in-Done.give (rw c.in-Done.is at c.in_ok-stop.ensures)
+
+pub returns-then-is_fault : goal.returns-then-is_fault
+returns-then-is_fault c = all_ended c.args.stack c.requires c.in-Done.answer c.in-Done.give (rw c.in-Done.is at c.in_ok-stop.ensures) _ c.in_ok-last-in-Done.ensures
+
+pub returns-else-is_fault : goal.returns-else-is_fault
+returns-else-is_fault c = ended c.args.stack c.requires c.in-Done.answer c.in-Done.give (rw c.in-Done.is at c.in_ok-stop.ensures) c.answered.result c.answered.ensures.parent c.answered.ensures.last

@@ -14,4 +14,4 @@ load-requires g c = let s = c.args.seat.now in (
 
 pub exchange-requires : goal.exchange-requires
 exchange-requires g c = let t = c.load.ensures.2 in let m = c.args.seat.now.me in
-    (search rules, (Some t.0, ap (λ k. k.1) t.2 ∙ ap (λ p. (p, Some t.0) ∷ m.1) c.requires.place ∙ ap (λ k. (c.args.place, Some t.0) ∷ rest k.1) (sym t.2)))
+    (search rules, (Some (Some t.0), ap (λ k. k.1) t.2 ∙ ap (λ p. (p, Some (Some t.0)) ∷ m.1) c.requires.place ∙ ap (λ k. (c.args.place, Some (Some t.0)) ∷ rest k.1) (sym t.2)))

@@ -14,5 +14,5 @@ fetch_sub-requires g c =
       search rules,
       search rules,
       arrives _ _ _ place _ (child m.0.own Claimed m.0.tags) c.args.value
-          (c.exchange.ensures.3 ∙ ap (λ m. (m.0, (place, Some c.args.value) ∷ rest m.1)) c.load.ensures.2) c.self.inside.placed refl (c.requires ∙ sym c.self.view_is),
+          (c.exchange.ensures.3 ∙ ap (λ r. (c.load.new.seat.me.0, (place, Some r) ∷ rest c.load.new.seat.me.1)) c.filled-room.ensures ∙ ap (λ m. (m.0, (place, Some (Some c.args.value)) ∷ rest m.1)) c.load.ensures.2) c.self.inside.placed refl (c.requires ∙ sym c.self.view_is),
     )

@@ -1,0 +1,48 @@
+// How a task ends by the fault of a child.
+ghost use Rattle.std.specs.Prelude.{◌≡◌, ◌∷◌, ◌++◌, [], true, IfOk};
+ghost use Rattle.strand_machine.specs.Family.{tag, tags};
+ghost use Rattle.strand_machine.specs.Faults.{is_fault, EndsByFault};
+ghost use Rattle.strand_machine.specs.Parts.{awaited};
+ghost use Rattle.strand_machine.specs.Stops.{answer_tags};
+
+use crate::body::Body;
+use crate::memory::Memory;
+use crate::resume::go_on;
+use crate::task::Task;
+use meet_block::Give;
+use script_grammar::Items;
+use serial_meaning::{Answer, Outcome};
+use std::alloc::Global;
+
+/// Whether it is of an origin that ended by a fault.
+pub fn is_fault(answer: &Answer) -> bool
+    ensures { result ≡ is_fault answer.now.outcome }
+{
+    matches!(answer.outcome, Outcome::Fault(_))
+}
+
+impl Task {
+    /// Ends by the answers of the children that it awaits, in order, of which the last one, `last`, is a fault. Nothing that stands
+    /// behind a fault counts, so what the task would do next isn't done: its answer is what it told and its children's answers, up to
+    /// the first fault. On `Memory` the task and the answers are dropped.
+    pub fn end_by(
+        self,
+        alloc: Global,
+        answers: Items<Answer>,
+        last: Answer,
+    ) -> Result<(Answer, Give<Answer>), Memory>
+        requires tags { answer_tags answers ++ tag last.plan last.origin ∷ [] ≡ tags self.task.plan (awaited self.task.pieces.handed) }
+        requires fault { is_fault last.outcome ≡ true }
+        ensures { IfOk result (λ ended. EndsByFault self ended.0 ended.1) }
+    {
+        let _outcome = &last.outcome;
+        let mut answers = answers;
+        answers.0.push(last)?;
+        let Task { body, work } = self;
+        let Task { body, .. } = go_on(body, alloc, work, answers)?;
+        let Body { family, pieces, .. } = body;
+        let (told, fault) = pieces.told();
+        let Some(fault) = fault else { unreachable!() };
+        Ok(family.answer(told, Outcome::Fault(fault)))
+    }
+}
