@@ -72,6 +72,14 @@ impl Pedigree {
     {
         compare(self, other).is_lt()
     }
+
+    /// Whether this pedigree's list stands strictly before the path's list, in the same order. A pedigree that begins with the
+    /// whole path doesn't.
+    pub fn before_path(&self, path: &Ped) -> bool
+        ensures { IsTrue result ↔ IsBefore self.now path.now }
+    {
+        compare(self, path).is_lt()
+    }
 }
 
 impl Ranks for Pedigree {

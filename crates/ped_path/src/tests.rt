@@ -59,6 +59,25 @@ fn pedigrees_stand_in_serial_order(rt: HostRuntime) -> Result<(), Fail> {
     Ok(())
 }
 
+// Before the path 1.2 stand 0.5, 1 and 1.1; 1.2 itself, 1.2.0 and 1.3 don't.
+#[test]
+fn pedigrees_stand_before_a_path(rt: HostRuntime) -> Result<(), Fail> {
+    let alloc = rt.alloc();
+    let path = Ped::root(alloc)?.child(alloc, 1)?.child(alloc, 2)?;
+    for (text, stands_before) in [
+        ("0.5", true),
+        ("1", true),
+        ("1.1", true),
+        ("1.2", false),
+        ("1.2.0", false),
+        ("1.3", false),
+    ] {
+        let j = parse_pedigree(alloc, text)?;
+        assert_eq!(rt; j.before_path(&path), stands_before, "{text}");
+    }
+    Ok(())
+}
+
 // The lengths about the end of a block of 16 ranks.
 #[test]
 fn long_paths_are_lists_of_ranks(rt: HostRuntime) -> Result<(), Fail> {
