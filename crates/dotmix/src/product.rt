@@ -1,4 +1,4 @@
-ghost use Rattle.std.specs.Prelude.{◌≡◌, ◌+◌, ◌*◌, ◌%◌, ◌<◌, ◌≤◌, [], ◌∷◌, ◌++◌, length};
+ghost use Rattle.std.specs.Prelude.{◌≡◌, ◌+◌, ◌*◌, ◌%◌, ◌<◌, ◌≤◌, ◌^◌, [], ◌∷◌, ◌++◌, length};
 ghost use Rattle.ped_path.specs.Path.{IsRank};
 ghost use Rattle.dotmix.specs.Draws.{coefficient, modulus, IsResidue};
 ghost use Rattle.dotmix.specs.Draws as draws;
@@ -6,6 +6,24 @@ ghost use Rattle.dotmix.specs.Draws as draws;
 use crate::gamma::{Gamma, MODULUS};
 use crate::mixing::{ROUNDS, mix};
 use ped_path::{Ped, Pedigree};
+
+// 2^64, which is 59 modulo the prime.
+const WORD: u128 = 1 << 64;
+
+const FOLD: u128 = 59;
+
+// The remainder by the prime, without a division of 128 bits. The number is so small that once folded it is below the prime's double.
+fn reduced(number: u128) -> u64
+    requires { number < 2 ^ 97 }
+    ensures { result ≡ number % modulus }
+{
+    let folded = number / WORD * FOLD + number % WORD;
+    if folded < MODULUS as u128 {
+        folded as u64
+    } else {
+        (folded - MODULUS as u128) as u64
+    }
+}
 
 /// A dot product with one more term: that of place `i`, from 1, where the pedigree has this rank. It is reduced by the modulus, so
 /// it needs 128 bits only inside.
@@ -18,7 +36,7 @@ pub fn add_term(gamma: &Gamma, dot: u64, i: u32, rank: u64) -> u64
     ensures small { IsResidue result }
 {
     let term = gamma.coeff(i) as u128 * (rank as u128 + 1);
-    ((dot as u128 + term) % MODULUS as u128) as u64
+    reduced(dot as u128 + term)
 }
 
 /// The dot product of a path.
