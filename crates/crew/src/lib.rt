@@ -5,8 +5,6 @@
 //! rests of the tasks that it runs in a deck, and a hand that has nothing to do steals from the others' decks.
 #![tactic(auto)]
 
-#[cfg(test)]
-mod crew_tests;
 mod frames;
 mod gate;
 mod hand;
@@ -21,8 +19,6 @@ mod serial;
 mod sight;
 mod stack;
 mod steps;
-#[cfg(test)]
-mod tests;
 mod turn;
 mod walk;
 

@@ -9,8 +9,6 @@ pub mod refusal;
 pub mod report;
 pub mod script;
 pub mod status;
-#[cfg(test)]
-mod tests;
 pub mod top;
 
 pub use crew::{Gate, OpenGate};

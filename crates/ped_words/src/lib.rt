@@ -10,8 +10,6 @@ mod number;
 mod read;
 mod rule;
 mod table;
-#[cfg(test)]
-mod tests;
 
 pub use command::{Command, Settings};
 pub use read::read_words;

@@ -3,8 +3,6 @@
 
 mod descent;
 mod error;
-#[cfg(test)]
-mod tests;
 
 pub use descent::replay;
 pub use error::ReplayError;

@@ -14,8 +14,6 @@ mod names;
 mod scope;
 mod spawns;
 mod statement;
-#[cfg(test)]
-mod tests;
 mod variable;
 
 pub use checked::{Checked, check};

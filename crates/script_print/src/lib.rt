@@ -9,8 +9,6 @@ mod expression;
 mod memory;
 mod script;
 mod statement;
-#[cfg(test)]
-mod tests;
 mod words;
 
 pub use memory::Memory;

@@ -5,8 +5,6 @@
 
 mod error;
 mod parser;
-#[cfg(test)]
-mod tests;
 
 pub use error::SyntaxError;
 pub use parser::{next_token, parse};

@@ -24,8 +24,6 @@ pub mod laws;
 pub mod lexing;
 mod memory;
 mod spelling;
-#[cfg(test)]
-mod tests;
 pub mod token;
 
 pub use lexing::{Lexed, MAX_BYTES, Misfit, Stop, lexemes, next_token};

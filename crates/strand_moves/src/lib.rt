@@ -15,8 +15,6 @@ mod right;
 mod shown;
 mod spawns;
 mod statement;
-#[cfg(test)]
-mod tests;
 
 pub use instance::Instance;
 pub use memory::Memory;

@@ -1,14 +1,13 @@
-// Scripts with the answers that the language's document gives.
+// Scripts, and the first condition that each violates.
 
-use crate::{CheckError, check};
-use script_text::{MAX_BYTES, parse};
-use std::alloc::{AllocError, Global};
+use super::tree;
+use script_check::{CheckError, check};
+use std::alloc::Global;
 use std::process::Abort;
 
 /// The number and the place of the first violated condition, (0, 0) of a valid script, and (99, 0) where there is no tree.
 fn fault(rt: &impl Abort, alloc: Global, text: &[u8]) -> (u8, u32) {
-    assert!(rt; text.len() <= MAX_BYTES);
-    let Ok(script) = parse(alloc, text) else {
+    let Ok(script) = tree(rt, alloc, text) else {
         return (99, 0);
     };
     match check(alloc, script) {
@@ -18,38 +17,7 @@ fn fault(rt: &impl Abort, alloc: Global, text: &[u8]) -> (u8, u32) {
     }
 }
 
-#[test]
-fn first_violations_are_the_documents(rt: HostRuntime) {
-    let alloc = rt.alloc();
-    for (text, number, at) in [
-        ("", 1, 0),
-        (
-            "fn f() { return 1; } fn main() { let x = 0; let i = 0; while i < 2 { x = x + 1; x = spawn f(); i = i + 1; } return x; }",
-            9,
-            69,
-        ),
-        (
-            "fn f() { return 1; } fn main() { let x = 0; let i = 0; while i < 2 { sync; x = x + 1; x = spawn f(); i = i + 1; } sync; print x; return 0; }",
-            0,
-            0,
-        ),
-        ("fn main(a) { return 0; }", 2, 8),
-        ("fn main() { call f(); return 0; }", 5, 17),
-        ("fn main() { let o = new; print o + 1; return 0; }", 8, 31),
-        ("fn main() { if 1 { let x = 1; } return 0; }", 10, 19),
-        (
-            "fn f() { return 1; } fn main() { let x = 0; if 1 { x = spawn f(); } else { x = 2; } print x; return 0; }",
-            9,
-            90,
-        ),
-        ("fn main() { let a[4096]; return 0; }", 0, 0),
-        ("fn main() { let a[4097]; return 0; }", 12, 18),
-        ("fn main() { let a[0]; return 0; }", 12, 18),
-    ] {
-        assert!(&rt; fault(&rt, alloc, text.as_bytes()) == (number, at));
-    }
-}
-
+// More rows stand with the commands `check` and `run`, whose lines tell the same.
 #[test]
 fn each_rule_has_its_place(rt: HostRuntime) {
     let alloc = rt.alloc();
@@ -271,6 +239,6 @@ fn each_rule_has_its_place(rt: HostRuntime) {
             74,
         ),
     ] {
-        assert!(&rt; fault(&rt, alloc, text.as_bytes()) == (number, at));
+        assert_eq!(rt; fault(&rt, alloc, text.as_bytes()), (number, at), "{text}");
     }
 }

@@ -1,6 +1,6 @@
 // Worked texts, and the largest ones.
 
-use crate::{MAX_BYTES, Memory, Misfit, Stop, Token, TokenKind, Word, lexemes, next_token};
+use script_tokens::{MAX_BYTES, Memory, Misfit, Stop, Token, TokenKind, Word, lexemes, next_token};
 use std::alloc::Global;
 use std::process::Abort;
 use std::test::Fail;

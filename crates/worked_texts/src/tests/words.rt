@@ -1,5 +1,7 @@
-use crate::{Command, Settings, WordError, read_words};
+// Words of command lines, with the command or the first rule that they break.
+
 use ped_gen::Shape;
+use ped_words::{Command, Settings, WordError, read_words};
 use serial_meaning::Show;
 use std::alloc::Global;
 use std::process::Abort;
@@ -21,18 +23,17 @@ fn command_of(alloc: Global, line: &str) -> Result<Command, Fail> {
     Ok(read_words(alloc, &words)?)
 }
 
-fn assert_refused(rt: &impl Abort, alloc: Global, cases: &[(&str, u8, u32)]) -> Result<(), Fail> {
-    for &(line, number, at) in cases {
-        let words = words_of(alloc, line)?;
-        let error = read_words(alloc, &words).err();
-        assert_eq!(rt; error, Some(WordError::Bad { number, at }), "{line}");
-    }
+fn refuses(rt: &impl Abort, alloc: Global, line: &str, number: u8, at: u32) -> Result<(), Fail> {
+    let words = words_of(alloc, line)?;
+    let error = read_words(alloc, &words).err();
+    assert_eq!(rt; error, Some(WordError::Bad { number, at }), "{line}");
     Ok(())
 }
 
+// The name first, then the value by its form and by its range, and last what all words together show.
 #[test]
-fn names_are_judged_in_order(rt: HostRuntime) -> Result<(), Fail> {
-    let cases = [
+fn words_are_judged_in_order(rt: HostRuntime) -> Result<(), Fail> {
+    let rows = [
         ("", 1, 0),
         ("go", 2, 0),
         (" run", 2, 0),
@@ -57,13 +58,6 @@ fn names_are_judged_in_order(rt: HostRuntime) -> Result<(), Fail> {
         ("run -seed", 9, 1),
         ("run --depth 1 x --depth", 9, 3),
         ("run ", 9, 1),
-    ];
-    assert_refused(&rt, rt.alloc(), &cases)
-}
-
-#[test]
-fn values_are_judged_by_form_and_then_by_range(rt: HostRuntime) -> Result<(), Fail> {
-    let cases = [
         ("run --seed ", 6, 2),
         ("run --seed 01", 6, 2),
         ("run --seed +1", 6, 2),
@@ -97,13 +91,6 @@ fn values_are_judged_by_form_and_then_by_range(rt: HostRuntime) -> Result<(), Fa
         ("replay --at 01.4294967296", 6, 2),
         ("gen --shape ring", 6, 2),
         ("gen --size x --shape ring", 6, 2),
-    ];
-    assert_refused(&rt, rt.alloc(), &cases)
-}
-
-#[test]
-fn what_all_words_show_is_judged_last(rt: HostRuntime) -> Result<(), Fail> {
-    let cases = [
         ("hash", 8, 1),
         ("sim", 8, 1),
         ("replay --seed 1", 8, 3),
@@ -120,12 +107,15 @@ fn what_all_words_show_is_judged_last(rt: HostRuntime) -> Result<(), Fail> {
         ("gen --shape loop --size 0", 7, 4),
         ("gen --shape loop --size 4097", 7, 4),
     ];
-    assert_refused(&rt, rt.alloc(), &cases)
+    for (line, number, at) in rows {
+        refuses(&rt, rt.alloc(), line, number, at)?;
+    }
+    Ok(())
 }
 
-// 256 ranks are a pedigree, and 257 are too many.
+// 256 ranks are a pedigree, and 257 are too many. Words behind the first fault are of no account, however many there are.
 #[test]
-fn pedigrees_have_at_most_256_ranks(rt: HostRuntime) -> Result<(), Fail> {
+fn words_may_be_long_and_many(rt: HostRuntime) -> Result<(), Fail> {
     let alloc = rt.alloc();
     let mut line = String::from_str(alloc, "hash --at 0")?;
     for _ in 0..255 {
@@ -136,18 +126,13 @@ fn pedigrees_have_at_most_256_ranks(rt: HostRuntime) -> Result<(), Fail> {
         _other => assert!(rt; false, "not hash"),
     }
     line.push_str(".7")?;
-    assert_refused(&rt, alloc, &[(line.as_str(), 7, 2)])
-}
+    refuses(&rt, alloc, line.as_str(), 7, 2)?;
 
-// Words behind the first fault are of no account, however many there are.
-#[test]
-fn words_may_be_many(rt: HostRuntime) -> Result<(), Fail> {
-    let alloc = rt.alloc();
     let mut line = String::from_str(alloc, "run --depth 1")?;
     for _ in 0..100 {
         line.push_str(" --depth 2")?;
     }
-    assert_refused(&rt, alloc, &[(line.as_str(), 4, 3)])
+    refuses(&rt, alloc, line.as_str(), 4, 3)
 }
 
 fn assert_settings(
@@ -167,36 +152,82 @@ fn assert_settings(
     }
 }
 
-#[test]
-fn options_have_defaults(rt: HostRuntime) -> Result<(), Fail> {
-    let seeded = [16_294_208_416_658_607_535, 7_960_286_522_194_355_700];
-    match command_of(rt.alloc(), "run")? {
-        Command::Run { settings, workers } => {
-            assert_eq!(rt; workers, 4);
-            assert_settings(&rt, &settings, (256, 1_000_000), Show::Plain, &seeded);
-        }
-        _other => assert!(rt; false, "not run"),
-    }
-    Ok(())
-}
+// What the words give beside the settings, and 0 for what they don't: workers, the number of a schedule, the ranks of a pedigree.
+type Beside = (u32, u64, [u64; 3]);
 
-#[test]
-fn a_strand_is_replayed(rt: HostRuntime) -> Result<(), Fail> {
-    match command_of(rt.alloc(), "replay --at 1.0.4294967295 --gamma 7 --depth 2")? {
+/// The words give a command of these settings, with this beside them.
+fn sets(
+    rt: &impl Abort,
+    alloc: Global,
+    line: &str,
+    beside: Beside,
+    limits: (u32, u32),
+    show: Show,
+    coefficients: &[u64],
+) -> Result<(), Fail> {
+    let (settings, given) = match command_of(alloc, line)? {
+        Command::Run { settings, workers } => (settings, (workers, 0, [0; 3])),
+        Command::Serial { settings } => (settings, (0, 0, [0; 3])),
+        Command::Sim {
+            settings,
+            workers,
+            number,
+        } => (settings, (workers, number, [0; 3])),
         Command::Replay { settings, at } => {
-            assert_settings(&rt, &settings, (2, 1_000_000), Show::Plain, &[7, 0]);
-            assert_eq!(rt; at.rank_at(0), Some(1));
-            assert_eq!(rt; at.rank_at(1), Some(0));
-            assert_eq!(rt; at.rank_at(2), Some(4_294_967_295));
+            let rank = |i| at.rank_at(i).unwrap_or(0);
             assert_eq!(rt; at.len(), 3);
+            (settings, (0, 0, [rank(0), rank(1), rank(2)]))
         }
-        _other => assert!(rt; false, "not replay"),
+        _other => panic!(rt; "no settings"),
+    };
+    assert_eq!(rt; given, beside, "{line}");
+    assert_settings(rt, &settings, limits, show, coefficients);
+    Ok(())
+}
+
+const SEEDED: &[u64] = &[16_294_208_416_658_607_535, 7_960_286_522_194_355_700];
+
+#[test]
+fn commands_have_their_settings(rt: HostRuntime) -> Result<(), Fail> {
+    let rows: [(&str, Beside, (u32, u32), Show, &[u64]); 5] = [
+        ("run", (4, 0, [0; 3]), (256, 1_000_000), Show::Plain, SEEDED),
+        (
+            "run --workers 1 --budget 4294967295 --seed 1234567 --depth 1 --show plain",
+            (1, 0, [0; 3]),
+            (1, 4_294_967_295),
+            Show::Plain,
+            &[6_457_827_717_110_365_317],
+        ),
+        (
+            "serial --budget 1 --gamma 18446744073709551556",
+            (0, 0, [0; 3]),
+            (256, 1),
+            Show::Plain,
+            &[18_446_744_073_709_551_556, 0],
+        ),
+        (
+            "sim --show log --number 7 --gamma 5,6 --depth 3 --workers 64 --budget 9",
+            (64, 7, [0; 3]),
+            (3, 9),
+            Show::Log,
+            &[5, 6, 0],
+        ),
+        (
+            "replay --at 1.0.4294967295 --gamma 7 --depth 2",
+            (0, 0, [1, 0, 4_294_967_295]),
+            (2, 1_000_000),
+            Show::Plain,
+            &[7, 0],
+        ),
+    ];
+    for (line, beside, limits, show, coefficients) in rows {
+        sets(&rt, rt.alloc(), line, beside, limits, show, coefficients)?;
     }
     Ok(())
 }
 
 #[test]
-fn a_hash_has_256_coefficients(rt: HostRuntime) -> Result<(), Fail> {
+fn some_commands_have_no_settings(rt: HostRuntime) -> Result<(), Fail> {
     match command_of(rt.alloc(), "hash --gamma 5 --at 0")? {
         Command::Hash { gamma, at } => {
             assert_eq!(rt; gamma.len(), 256);
@@ -207,73 +238,15 @@ fn a_hash_has_256_coefficients(rt: HostRuntime) -> Result<(), Fail> {
         }
         _other => assert!(rt; false, "not hash"),
     }
-    Ok(())
-}
-
-#[test]
-fn some_commands_have_no_options(rt: HostRuntime) -> Result<(), Fail> {
+    for line in ["gen --size 20 --shape tree", "gen --shape tree --size 20"] {
+        match command_of(rt.alloc(), line)? {
+            Command::Gen { shape, size } => assert!(rt; shape == Shape::Tree && size == 20),
+            _other => assert!(rt; false, "not gen"),
+        }
+    }
     let checked = command_of(rt.alloc(), "check")?;
     assert!(rt; matches!(&checked, Command::Check));
     let printed = command_of(rt.alloc(), "fmt")?;
     assert!(rt; matches!(&printed, Command::Fmt));
-    Ok(())
-}
-
-#[test]
-fn options_may_stand_in_any_order(rt: HostRuntime) -> Result<(), Fail> {
-    let line = "sim --show log --number 7 --gamma 5,6 --depth 3 --workers 64 --budget 9";
-    match command_of(rt.alloc(), line)? {
-        Command::Sim {
-            settings,
-            workers,
-            number,
-        } => {
-            assert_eq!(rt; workers, 64);
-            assert_eq!(rt; number, 7);
-            assert_settings(&rt, &settings, (3, 9), Show::Log, &[5, 6, 0]);
-        }
-        _other => assert!(rt; false, "not sim"),
-    }
-    Ok(())
-}
-
-#[test]
-fn ranges_have_their_ends(rt: HostRuntime) -> Result<(), Fail> {
-    let line = "run --workers 1 --budget 4294967295 --seed 1234567 --depth 1 --show plain";
-    match command_of(rt.alloc(), line)? {
-        Command::Run { settings, workers } => {
-            assert_eq!(rt; workers, 1);
-            let first = [6_457_827_717_110_365_317];
-            assert_settings(&rt, &settings, (1, 4_294_967_295), Show::Plain, &first);
-        }
-        _other => assert!(rt; false, "not run"),
-    }
-    Ok(())
-}
-
-#[test]
-fn the_greatest_coefficient_is_below_the_prime(rt: HostRuntime) -> Result<(), Fail> {
-    let line = "serial --budget 1 --gamma 18446744073709551556";
-    match command_of(rt.alloc(), line)? {
-        Command::Serial { settings } => {
-            let list = [18_446_744_073_709_551_556, 0];
-            assert_settings(&rt, &settings, (256, 1), Show::Plain, &list);
-        }
-        _other => assert!(rt; false, "not serial"),
-    }
-    Ok(())
-}
-
-#[test]
-fn a_size_fits_its_shape(rt: HostRuntime) -> Result<(), Fail> {
-    for line in ["gen --size 20 --shape tree", "gen --shape tree --size 20"] {
-        match command_of(rt.alloc(), line)? {
-            Command::Gen { shape, size } => {
-                assert!(rt; shape == Shape::Tree);
-                assert_eq!(rt; size, 20);
-            }
-            _other => assert!(rt; false, "not gen"),
-        }
-    }
     Ok(())
 }

@@ -1,0 +1,17 @@
+// What the calls make of the texts of scripts, and of the words of command lines.
+
+mod checks;
+mod prints;
+mod tokens;
+mod trees;
+mod words;
+
+use script_text::{MAX_BYTES, Script, SyntaxError, parse};
+use std::alloc::Global;
+use std::process::Abort;
+
+/// The tree of this text, or its first fault.
+fn tree(rt: &impl Abort, alloc: Global, text: &[u8]) -> Result<Script, SyntaxError> {
+    assert!(rt; text.len() <= MAX_BYTES);
+    parse(alloc, text)
+}

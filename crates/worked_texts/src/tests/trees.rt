@@ -1,0 +1,259 @@
+// Texts, with their trees or their first faults.
+
+use super::tree;
+use script_text::{
+    Act, Comparison, Expr, Kind, ProductSign, Right, SyntaxError, TokenKind, next_token,
+};
+use std::alloc::{AllocError, Global};
+use std::process::Abort;
+use std::test::Fail;
+
+fn fault(rt: &impl Abort, alloc: Global, text: &[u8]) -> Option<(u8, u32)> {
+    match tree(rt, alloc, text) {
+        Ok(_) => None,
+        Err(SyntaxError::Bad { number, at }) => Some((number, at)),
+        Err(SyntaxError::Memory) => Some((0, 0)),
+    }
+}
+
+#[test]
+fn texts_have_a_tree_or_a_fault_at_its_place(rt: HostRuntime) {
+    let long = "fn main() { let aaaaaaaaaaaaaaaaaaaaaaaaaaaaaaaaa = 1; return 0; }";
+    let unwanted = "fn main() { print 1 aaaaaaaaaaaaaaaaaaaaaaaaaaaaaaaaa; return 0; }";
+    for (text, wanted) in [
+        ("fn main() { print 1 return 0; }", Some((2, 20))),
+        ("fn main() { print 1;", Some((6, 20))),
+        (
+            "fn main() { print 9223372036854775808; return 0; }",
+            Some((3, 18)),
+        ),
+        (
+            "fn main() { print x 9223372036854775808; return 0; }",
+            Some((2, 20)),
+        ),
+        ("fn main() { print 1 ! 2; return 0; }", Some((2, 20))),
+        ("fn main() { print 1 . 2; return 0; }", Some((2, 20))),
+        (long, Some((4, 16))),
+        (unwanted, Some((2, 20))),
+        (
+            "fn main() { pfor i in 0..1 call f(j); return 0; }",
+            Some((2, 34)),
+        ),
+        ("fn main() { if 1 { sync; } else return 0; }", Some((2, 32))),
+        ("fn main() { let a[2] = 1; return 0; }", Some((2, 21))),
+        ("fn main() { return 1 < 2 < 3; }", Some((2, 25))),
+        ("fn main() { return 0; } x", Some((2, 24))),
+        ("fn main() { sync; }", Some((2, 18))),
+        ("f", Some((2, 0))),
+        ("# no script\nreturn", Some((2, 12))),
+        ("fn fn \u{e9}", Some((2, 3))),
+        ("fn \u{e9}", Some((1, 3))),
+        ("# \u{e9}", Some((1, 2))),
+        ("fn main() { return 0; } # \u{e9}\n", Some((1, 26))),
+        ("fn main() { print \u{e9}", Some((1, 18))),
+        ("", None),
+        ("# only a comment", None),
+        ("fn main() { print 1; return 0; }", None),
+        (
+            "fn main() { let aaaaaaaaaaaaaaaaaaaaaaaaaaaaaaaa = 1; return 0; }",
+            None,
+        ),
+        ("fn f(id y)->id{return y;}# end", None),
+        ("fn main(){if 1<2{sync;}else{}return -(1+2);}", None),
+        (
+            "fn main() { print -9223372036854775807 - 1; return 0012; }",
+            None,
+        ),
+        (
+            "fn f(a, id b) { a = spawn f(1, b); spawn f(); x = call f(); call f(a[1]); x = new; return 0; }",
+            None,
+        ),
+        (
+            "fn main() { pfor i in 0..5 into a call sq(i, 1, 2); pfor i in 0..n call f(i); return 0; }",
+            None,
+        ),
+        (
+            "fn main() { a[1] = same(x, y) + older(x, y); while x >= 1 { x = x % 2; } return 0; }",
+            None,
+        ),
+    ] {
+        assert_eq!(rt;
+            fault(&rt, rt.alloc(), text.as_bytes()),
+            wanted,
+            "in {text}"
+        );
+    }
+}
+
+// A front of a script is one itself where it ends behind a function, and has fault 2 where it ends inside a word that can't stand there.
+// Else it is unfinished: fault 6 at its end.
+#[test]
+fn fronts_of_a_script_are_refused(rt: HostRuntime) {
+    let text =
+        b"fn sq(i) { return i * i; } fn main() { let a[5]; pfor i in 0..5 into a call sq(i); let k = 0; while k < 5 { print a[k]; k = k + 1; } return 0; }";
+    for length in 0..text.len() {
+        let wanted = match length {
+            0 | 26 | 27 => None,
+            1 => Some((2, 0)),
+            28 => Some((2, 27)),
+            57 => Some((2, 56)),
+            61 => Some((2, 60)),
+            65..=67 => Some((2, 64)),
+            72..=74 => Some((2, 71)),
+            _ => Some((6, length as u32)),
+        };
+        assert_eq!(rt;
+            fault(&rt, rt.alloc(), &text[..length]),
+            wanted,
+            "at {length}"
+        );
+    }
+}
+
+/// A text of five pieces, of which the second and the fourth stand so many times.
+#[derive(Clone, Copy)]
+struct Repeats {
+    head: &'static [u8],
+    open: &'static [u8],
+    times: u32,
+    middle: &'static [u8],
+    close: &'static [u8],
+    tail: &'static [u8],
+}
+
+impl Repeats {
+    /// Only the second piece stands more than once.
+    fn of(head: &'static [u8], open: &'static [u8], times: u32, tail: &'static [u8]) -> Repeats {
+        Repeats {
+            head,
+            open,
+            times,
+            middle: b"",
+            close: b"",
+            tail,
+        }
+    }
+
+    /// The number 1 in so many parentheses, printed.
+    fn parentheses(times: u32) -> Repeats {
+        Repeats {
+            head: PRINT,
+            open: b"(",
+            times,
+            middle: b"1",
+            close: b")",
+            tail: b"; return 0; }",
+        }
+    }
+
+    fn text(&self, alloc: Global) -> Result<Vec<u8>, AllocError> {
+        let mut text = Vec::new(alloc);
+        text.extend_from_slice(self.head)?;
+        for _ in 0..self.times {
+            text.extend_from_slice(self.open)?;
+        }
+        text.extend_from_slice(self.middle)?;
+        for _ in 0..self.times {
+            text.extend_from_slice(self.close)?;
+        }
+        text.extend_from_slice(self.tail)?;
+        Ok(text)
+    }
+}
+
+const PRINT: &[u8] = b"fn main() { print ";
+
+const FUNCTION: &[u8] = b"fn f0000() { return 0; } ";
+
+// The largest texts show that no recursion goes as deep as they are long. In the row of blocks the word `if` is expected: its block would
+// be nested too deep, and not the word.
+#[test]
+fn limits_hold_up_to_their_ends(rt: HostRuntime) -> Result<(), Fail> {
+    let alloc = rt.alloc();
+    let rows = [
+        (Repeats::parentheses(63), None),
+        (Repeats::parentheses(64), Some((5, 81))),
+        (Repeats::of(PRINT, b"-", 63, b"1; return 0; }"), None),
+        (Repeats::of(PRINT, b"-", 64, b"1"), Some((5, 81))),
+        (
+            Repeats::of(b"fn main() ", b"{ if 1 ", 64, b"{"),
+            Some((5, 458)),
+        ),
+        (Repeats::of(b"", FUNCTION, 1024, b""), None),
+        (Repeats::of(b"", FUNCTION, 1025, b""), Some((7, 25600))),
+        (Repeats::of(b"", b"(", 1_048_576, b""), Some((2, 0))),
+        (Repeats::of(PRINT, b"(", 1_000_000, b""), Some((5, 81))),
+        (Repeats::of(PRINT, b"-", 1_000_000, b""), Some((5, 81))),
+        (Repeats::of(b"fn ", b"a", 1_048_573, b""), Some((4, 3))),
+        (Repeats::of(b"", b"#", 1_048_576, b""), None),
+        (Repeats::of(PRINT, b"1+", 500_000, b"1; return 0; }"), None),
+        (
+            Repeats::of(b"fn main() { ", b"sync; ", 100_000, b"return 0; }"),
+            None,
+        ),
+    ];
+    for (row, wanted) in rows {
+        let text = row.text(alloc)?;
+        assert_eq!(rt; fault(&rt, alloc, &text), wanted, "{}", row.times);
+    }
+    Ok(())
+}
+
+#[test]
+fn a_tree_has_the_offsets_of_its_text(rt: HostRuntime) {
+    let text = b"fn f(id y) { x = -(1 + 2) * a[3] == draw0; return y; }";
+    let script = tree(&rt, rt.alloc(), text).expect(&rt, "a script");
+    let functions = script.functions.as_slice();
+    assert_eq!(rt; functions.len(), 1);
+    let f = &functions[0];
+    assert_eq!(rt; f.name.at, 3);
+    assert_eq!(rt; f.return_at, 43);
+    let params = f.params.as_slice();
+    assert_eq!(rt; params.len(), 1);
+    assert_eq!(rt; (params[0].kind, params[0].name.at), (Kind::Id, 8));
+    let body = f.body.as_slice();
+    assert_eq!(rt; body.len(), 1);
+    assert_eq!(rt; body[0].at, 13);
+    let Act::Set(name, Right::Value(Expr::Compare(left, sign, right))) = &body[0].act else {
+        panic!(rt; "no comparison is set");
+    };
+    assert_eq!(rt; (name.at, *sign), (13, Comparison::Eq));
+    let Expr::Var(draw) = right.get() else {
+        panic!(rt; "no name on the right");
+    };
+    assert_eq!(rt; draw.at, 36);
+    let Expr::Product(first, others) = left.get() else {
+        panic!(rt; "no product on the left");
+    };
+    let Expr::Neg(17, inner) = first.get() else {
+        panic!(rt; "no minus in front");
+    };
+    let Expr::Sum(_, parts) = inner.get() else {
+        panic!(rt; "no sum behind the minus");
+    };
+    assert_eq!(rt; parts.as_slice().len(), 1);
+    assert_eq!(rt; parts.as_slice()[0].minus, false);
+    assert_eq!(rt; others.as_slice().len(), 1);
+    assert_eq!(rt; others.as_slice()[0].sign, ProductSign::Times);
+}
+
+#[test]
+fn tokens_come_one_by_one(rt: HostRuntime) {
+    for (text, from, kind, start, end) in [
+        ("a<=1", 1, TokenKind::Symbol, 1, 3),
+        (" # x\nfn", 0, TokenKind::Keyword, 5, 7),
+        ("12abc", 0, TokenKind::Number, 0, 2),
+        ("a ", 1, TokenKind::End, 2, 2),
+    ] {
+        let token = next_token(text.as_bytes(), from).expect(&rt, "a token");
+        assert_eq!(rt;
+            (token.kind, token.start, token.end),
+            (kind, start, end),
+            "in {text}"
+        );
+    }
+    assert_eq!(rt;
+        next_token(b"a !", 1),
+        Err(SyntaxError::Bad { number: 2, at: 2 })
+    );
+}
