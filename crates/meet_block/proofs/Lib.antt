@@ -3,3 +3,4 @@ pub mod Steps
 pub mod Kept
 pub mod Orders
 pub mod Places
+pub mod Rows

@@ -115,11 +115,11 @@ module _ {T : Type 0} where
       ap (λ l. x.taken ++ l) (mark_there xs b k p q (λ j u here. even (suc j) u here) at lt e)
       ∙ sym (set_right x.taken (taken_of xs) ((length x.tags + offset xs b) + k) (offset xs b + k) true (omega (arith, even 0 x refl)))
 
-  pub holds_here : (ls ps : List (Part T)) (i b : ℕ) (p d : Part T) → Holds ls i b p → ls ≡ ps → d ≡ get_or ps b d → Holds ps i b d
-  holds_here ls ps i b p d h e is =
+  pub holds_here : (ls us ps : List (Part T)) (i b : ℕ) (p d : Part T) → Holds ls i b p → ls ≡ ps → us ≡ ps → Holds ps i b (get_or us b d)
+  holds_here ls us ps i b p d h e f =
       let there : get_elem? ps b ≡ some p = ap (λ l. get_elem? l b) (sym e) ∙ h.here in
-      let here = at_or ps b d (below ps b p there) in
-      let same : p ≡ d = some-injective p d (sym there ∙ here ∙ ap some (sym is)) in
+      let lent : get_elem? us b ≡ some p = ap (λ l. get_elem? l b) f ∙ there in
+      let same : p ≡ get_or us b d = some-injective p (get_or us b d) (sym lent ∙ at_or us b d (below us b p lent)) in
       subst (λ (q : Part T). Holds ps i b q) same record { here = there; from = h.from ∙ ap (λ l. offset l b) e; low = h.low; high = h.high }
 
   pub even_of : (found many : ℕ) (ps : List (Part T)) → InOrder found many ps → Even ps

@@ -1,3 +1,5 @@
 pub mod Counter
 pub mod Blocks
 pub mod Joined
+pub mod Rows
+pub mod RowLends

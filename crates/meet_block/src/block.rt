@@ -18,7 +18,7 @@ use std::marker::{Brand, Model};
 use std::sync::Arc;
 
 // A counter's places. The parent's own party is one more.
-const PLACES: usize = 16;
+const PLACES: u8 = 16;
 
 /// The parent's end of one join counter. Contracts see it as a `Part`.
 #[derive(Drop)]
@@ -28,8 +28,8 @@ pub struct Block<A: Tagged> {
     seat: Seat<Option<Room<A>>, View<A::Key>>,
     // The number of its first child, the places given, and the values that weren't taken.
     first: u64,
-    given: usize,
-    left: usize,
+    given: u8,
+    left: u8,
     // Whether the parent still holds its own party, and so may give more places.
     own_party: bool,
 }
@@ -74,7 +74,7 @@ fn split<A: Tagged, W: TagOf<A::Key>>(
 fn give_up<A: Tagged>(
     counter: &Counter<A>,
     seat: &mut Seat<Option<Room<A>>, View<A::Key>>,
-    given: usize,
+    given: u8,
 )
     requires here { seat.old.table_id ≡ counter.now.shared.table_id }
     requires sized { counter.now.shared.table_id.words ≡ 1 }
@@ -113,7 +113,7 @@ impl<A: Tagged + Drop> Block<A> {
     pub fn new(alloc: Global, first: u64, tag: &A::Key) -> Result<Block<A>, Memory>
         ensures { IfOk result (λ block. block ≡ part first (parent tag.now Open [] [] [])) }
     {
-        let (counter, seat) = Table::vacant(alloc, &[17], PLACES, tag)?;
+        let (counter, seat) = Table::vacant(alloc, &[17], PLACES as usize, tag)?;
         let counter = Arc::new(alloc, counter)?;
         Ok(Block {
             counter: Some(counter),
@@ -150,7 +150,7 @@ impl<A: Tagged + Drop> Block<A> {
         let theirs = Arc::try_clone(counter)?;
         let room = Room::empty(alloc)?;
         let child = split::<A, Brand>(counter, &mut self.seat, tag);
-        let give = Give::of(theirs, child, self.given, room);
+        let give = Give::of(theirs, child, self.given as usize, room);
         self.given += 1;
         self.left += 1;
         if self.given == PLACES {

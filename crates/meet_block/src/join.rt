@@ -1,8 +1,10 @@
 ghost use Rattle.std.specs.Prelude.{◌≡◌, ℕ, ◌+◌, ◌<◌, ◌≤◌, [], ◌∷◌, ◌++◌, IfOk, OnOk, OnErr, IfSome, IfNone, Some, length, slice_get, slice_set, true, false};
 ghost use Rattle.meet_block.specs.Joined.{joined, Answers};
 ghost use Rattle.meet_block.specs.Blocks.{Part, InOrder, Numbered, HandsOut, Searched, FindsAll, FindsOwing, Holds, tags_of, ends_open};
+ghost use Rattle.meet_block.specs.Rows.{listed};
 
 use crate::block::Block;
+use crate::blocks::Blocks;
 use crate::give::Give;
 use crate::memory::Memory;
 use crate::tagged::Tagged;
@@ -16,7 +18,7 @@ use std::marker::Model;
 /// were put and not taken are dropped with it. A join is `Send` where the value is.
 #[derive(Drop)]
 pub struct Join<A: Tagged> {
-    blocks: Vec<Block<A>>,
+    blocks: Blocks<A>,
     // The blocks before this one were found ready.
     found: usize,
     count: u64,
@@ -26,13 +28,14 @@ impl<A: Tagged> Model for Join<A> {
     ghost use Rattle.std.specs.Prelude.{◌≡◌, length};
     ghost use Rattle.meet_block.specs.Joined.{Joined};
     ghost use Rattle.meet_block.specs.Blocks.{InOrder, known, tags_of};
+    ghost use Rattle.meet_block.specs.Rows.{listed};
 
     ghost Value = { Joined A.Key };
 
-    ghost view = { λ j. known j.blocks.items };
+    ghost view = { λ j. known (listed j.blocks) };
 
-    ghost invariant = { λ j. InOrder j.found (length j.blocks.items) j.blocks.items
-        × (j.count ≡ length (tags_of j.blocks.items)) };
+    ghost invariant = { λ j. InOrder j.found (length (listed j.blocks)) (listed j.blocks)
+        × (j.count ≡ length (tags_of (listed j.blocks))) };
 }
 
 /// What a look found.
@@ -73,37 +76,36 @@ fn block_of<A: Tagged + Drop>(blocks: &[Block<A>], i: u64) -> usize
 
 // Gives the first place of a new block.
 fn hand_anew<A: Tagged + Drop>(
-    blocks: &mut Vec<Block<A>>,
+    blocks: &mut Blocks<A>,
     alloc: Global,
     count: u64,
     tag: &A::Key,
 ) -> Result<Give<A>, Memory>
-    requires count { count ≡ length (tags_of blocks.old.items) }
-    requires closed { ends_open blocks.old.items ≡ false }
+    requires count { count ≡ length (tags_of (listed blocks.old)) }
+    requires closed { ends_open (listed blocks.old) ≡ false }
     ensures give { IfOk result (λ give. give ≡ tag.now) }
-    ensures handed { OnOk result (HandsOut blocks.old.items blocks.new.items tag.now) }
-    ensures err { OnErr result (blocks.new.items ≡ blocks.old.items) }
+    ensures handed { OnOk result (HandsOut (listed blocks.old) (listed blocks.new) tag.now) }
+    ensures err { OnErr result (listed blocks.new ≡ listed blocks.old) }
 {
-    blocks.reserve(1)?;
     let mut block = Block::new(alloc, count, tag)?;
     let give = block.hand(alloc, tag)?;
-    blocks.push_reserved(block);
+    blocks.push(alloc, block)?;
     Ok(give)
 }
 
 // Gives the next place of the last block, or the first one of a new block where the last isn't open.
 fn hand_next<A: Tagged + Drop>(
-    blocks: &mut Vec<Block<A>>,
+    blocks: &mut Blocks<A>,
     alloc: Global,
     count: u64,
     tag: &A::Key,
 ) -> Result<Give<A>, Memory>
-    requires { count ≡ length (tags_of blocks.old.items) }
+    requires { count ≡ length (tags_of (listed blocks.old)) }
     ensures give { IfOk result (λ give. give ≡ tag.now) }
-    ensures handed { OnOk result (HandsOut blocks.old.items blocks.new.items tag.now) }
-    ensures err { OnErr result (blocks.new.items ≡ blocks.old.items) }
+    ensures handed { OnOk result (HandsOut (listed blocks.old) (listed blocks.new) tag.now) }
+    ensures err { OnErr result (listed blocks.new ≡ listed blocks.old) }
 {
-    let Some(last) = blocks.last_mut() else {
+    let Some(last) = blocks.as_mut_slice().last_mut() else {
         return hand_anew(blocks, alloc, count, tag);
     };
     if last.is_open() {
@@ -142,7 +144,7 @@ impl<A: Tagged + Drop> Join<A> {
         ensures { IfOk result (λ join. join ≡ joined [] [] true []) }
     {
         Ok(Join {
-            blocks: Vec::new(alloc),
+            blocks: Blocks::Listed(Vec::new(alloc)),
             found: 0,
             count: 0,
         })
@@ -188,7 +190,7 @@ impl<A: Tagged + Drop> Join<A> {
                 Look::NotYet(owing)
             }
             None => {
-                self.found = self.blocks.len();
+                self.found = self.blocks.as_slice().len();
                 Look::Ready
             }
         }
@@ -204,7 +206,7 @@ impl<A: Tagged + Drop> Join<A> {
             ≡ joined self.old.tags (slice_set self.old.taken i true) true self.old.loads }
     {
         let at = block_of(self.blocks.as_slice(), i);
-        let block = &mut self.blocks[at];
+        let block = &mut self.blocks.as_mut_slice()[at];
         let place = (i - block.first()) as usize;
         block.take(place)
     }

@@ -11,6 +11,7 @@
 #![tactic(auto)]
 
 mod block;
+mod blocks;
 mod give;
 mod join;
 mod memory;
