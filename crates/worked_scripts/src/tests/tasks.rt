@@ -1,7 +1,6 @@
 // Tasks by hand, stop after stop.
 
 ghost use Rattle.std.specs.Prelude.{◌≡◌, true, IfOk};
-ghost use Rattle.std.specs.Arc.{arc_value};
 ghost use Rattle.strand_machine.specs.Family.{tag};
 ghost use Rattle.worked_scripts.specs.Stopping.{IsIdle, StopsAt};
 
@@ -16,6 +15,7 @@ use std::process::Abort;
 use std::sync::Arc;
 use std::test::Fail;
 use strand_machine::{Resumed, Stop, Task};
+use strand_meaning::laws;
 
 /// The script's plan where each instance has 100 steps, and may have children.
 pub(super) fn plan(rt: &(impl Abort + AllocGlobal), text: &str) -> Result<Arc<Plan>, Fail> {
@@ -33,9 +33,11 @@ pub(super) fn plan(rt: &(impl Abort + AllocGlobal), text: &str) -> Result<Arc<Pl
 }
 
 /// Main's task, of which nothing is done.
+#[tactic(auto, using(crate::proofs::Stopping::main_known, crate::proofs::Stopping::begun))]
 fn main_task(alloc: Global, plan: Arc<Plan>) -> Result<Task, Fail>
-    ensures idle { IfOk result IsIdle }
+    ensures { IfOk result IsIdle }
 {
+    laws::valid_plans_are_clear();
     let _script = plan.checked.script();
     let origin = plan.main_origin(alloc)?;
     let key = AnswerKey { plan, origin };
@@ -46,6 +48,7 @@ fn main_task(alloc: Global, plan: Arc<Plan>) -> Result<Task, Fail>
 }
 
 /// The next stop of a task that stands in no wait.
+#[tactic(auto, using(crate::proofs::Stopping::stopped))]
 fn stop(alloc: Global, task: Task) -> Result<Stop, Fail>
     requires { IsIdle task }
     ensures { IfOk result (StopsAt task) }
