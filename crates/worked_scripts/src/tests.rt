@@ -1,14 +1,14 @@
 // Runs of the top calls over sources and sinks in memory.
 
 mod commands;
-mod faults;
+mod crews;
 mod runs;
 mod scripts;
 mod strands;
+mod tasks;
 mod workers;
 
-use crate::pedrun;
-use crew::{Gate, OpenGate};
+use engine::{Gate, OpenGate, pedrun};
 use ped_io::{MemSink, MemSource};
 use std::alloc::Global;
 use std::process::Abort;
@@ -36,6 +36,10 @@ const ROLLS: &[u8] =
 // The child ends by a fault, and main goes on until its budget is spent.
 const FAULTY_CHILD: &[u8] =
     b"fn bad() { let z = 0; return 1 / z; } fn main() { print 7; let a = spawn bad(); let i = 0; while i == 0 { i = 0; } sync; print a; return 0; }";
+
+// Each turn awaits the child of the turn before.
+const PENDING_SYNCED: &[u8] =
+    b"fn f() { return 1; } fn main() { let x = 0; let i = 0; while i < 2 { sync; x = x + 1; x = spawn f(); i = i + 1; } sync; print x; return 0; }";
 
 /// What a test's runtime has.
 trait Host: Abort + AllocGlobal + Threads + Wait + Sync {}
@@ -129,11 +133,6 @@ fn ends<R: Host>(
 // The command prints this.
 fn prints<R: Host>(rt: &R, line: &str, script: &[u8], output: &[u8]) -> Result<(), Fail> {
     ends(rt, line, script, 0, output, b"")
-}
-
-// The run prints this, of which the last line is a fault's.
-fn ends_by_fault<R: Host>(rt: &R, line: &str, script: &[u8], output: &[u8]) -> Result<(), Fail> {
-    ends(rt, line, script, 1, output, b"")
 }
 
 // The words or the script are refused by this line.

@@ -1,14 +1,15 @@
 // The commands and their words, and what the streams do to them.
 
 use super::{DRAWS, ONE, SUM, call, generated, prints, refuses, words};
-use crate::pedrun;
-use crew::OpenGate;
+use engine::{OpenGate, pedrun};
 use ped_io::{MemSink, MemSource};
 use std::test::Fail;
 
+// The dots of seed 0 are known from the published generator, the draws are four rounds of mixing of them, as a program of its own has
+// them.
 #[test]
 fn pedigrees_have_their_draws(rt: HostRuntime) -> Result<(), Fail> {
-    let rows: [(&str, &[u8]); 3] = [
+    let rows: [(&str, &[u8]); 5] = [
         (
             "hash --gamma 4294967296 --at 0",
             b"dot 4294967296\ndraw 90194313216\n",
@@ -18,17 +19,6 @@ fn pedigrees_have_their_draws(rt: HostRuntime) -> Result<(), Fail> {
             b"dot 18446744073709551555\ndraw 108965703\n",
         ),
         ("hash --at 0 --gamma 1", b"dot 1\ndraw 21\n"),
-    ];
-    for (line, output) in rows {
-        prints(&rt, line, b"", output)?;
-    }
-    Ok(())
-}
-
-// The first line is known from the published generator. The second is four rounds of mixing of it, as a program of its own has them.
-#[test]
-fn seeds_give_coefficients(rt: HostRuntime) -> Result<(), Fail> {
-    let rows: [(&str, &[u8]); 2] = [
         (
             "hash --seed 0 --at 0",
             b"dot 16294208416658607535\ndraw 5688721021308471510\n",
@@ -101,8 +91,8 @@ fn scripts_have_a_canonical_text(rt: HostRuntime) -> Result<(), Fail> {
 }
 
 #[test]
-fn words_that_give_no_command_are_refused(rt: HostRuntime) -> Result<(), Fail> {
-    let rows: [(&str, &[u8]); 12] = [
+fn words_that_give_no_command_that_runs_are_refused(rt: HostRuntime) -> Result<(), Fail> {
+    let rows: [(&str, &[u8]); 13] = [
         ("", b"words: no command at word 0\n"),
         ("go", b"words: unknown command at word 0\n"),
         ("run --workers 0", b"words: out of range at word 2\n"),
@@ -121,6 +111,7 @@ fn words_that_give_no_command_are_refused(rt: HostRuntime) -> Result<(), Fail> {
             "hash --at 0 --gamma 18446744073709551557",
             b"words: out of range at word 4\n",
         ),
+        ("sim --number 0", b"words: not built yet\n"),
     ];
     for (line, refusal) in rows {
         refuses(&rt, line, ONE, 2, refusal)?;
@@ -128,40 +119,33 @@ fn words_that_give_no_command_are_refused(rt: HostRuntime) -> Result<(), Fail> {
     Ok(())
 }
 
+// A failed read leaves no output. Where the second write fails, a front of the output stands.
 #[test]
-fn commands_that_are_not_built_are_refused(rt: HostRuntime) -> Result<(), Fail> {
-    refuses(&rt, "sim --number 0", ONE, 2, b"words: not built yet\n")
-}
-
-#[test]
-fn faults_of_reads_are_told(rt: HostRuntime) -> Result<(), Fail> {
+fn faults_of_the_streams_are_told(rt: HostRuntime) -> Result<(), Fail> {
     let alloc = rt.alloc();
-    for line in ["run", "run --seed 0"] {
-        let script = ONE.to_vec(alloc)?;
-        let reads = vec![in alloc; 1]?;
-        let read = call(&rt, line, script, 4096, reads, Vec::new(alloc), &OpenGate)?;
-        assert_eq!(rt; read.code, 4, "{line}");
-        assert_eq!(rt; read.out.as_slice(), b"".as_slice(), "{line}");
-        assert_eq!(rt; read.err.as_slice(), b"read fault\n".as_slice(), "{line}");
-    }
-    Ok(())
-}
-
-// The second write fails, and a front of the output stands.
-#[test]
-fn faults_of_writes_are_told(rt: HostRuntime) -> Result<(), Fail> {
-    let alloc = rt.alloc();
-    let rows: [(&str, &[u8], u32, &[u8]); 2] = [
-        ("run --gamma 1", DRAWS, 4, b"21\n2"),
-        ("run --seed 7", SUM, 1, b"5"),
+    let rows: [(&str, &[u8], u32, bool, &[u8]); 4] = [
+        ("run", ONE, 4096, true, b""),
+        ("run --seed 0", ONE, 4096, true, b""),
+        ("run --gamma 1", DRAWS, 4, false, b"21\n2"),
+        ("run --seed 7", SUM, 1, false, b"5"),
     ];
-    for (line, script, step, front) in rows {
+    for (line, script, step, read, front) in rows {
         let script = script.to_vec(alloc)?;
-        let writes = vec![in alloc; 1]?;
-        let write = call(&rt, line, script, step, Vec::new(alloc), writes, &OpenGate)?;
-        assert_eq!(rt; write.code, 5, "{line}");
-        assert_eq!(rt; write.out.as_slice(), front, "{line}");
-        assert_eq!(rt; write.err.as_slice(), b"write fault\n".as_slice(), "{line}");
+        let fails = vec![in alloc; 1]?;
+        let (reads, writes) = if read {
+            (fails, Vec::new(alloc))
+        } else {
+            (Vec::new(alloc), fails)
+        };
+        let told = call(&rt, line, script, step, reads, writes, &OpenGate)?;
+        assert_eq!(rt; told.code, if read { 4 } else { 5 }, "{line}");
+        assert_eq!(rt; told.out.as_slice(), front, "{line}");
+        let refusal = if read {
+            "read fault\n"
+        } else {
+            "write fault\n"
+        };
+        assert_eq!(rt; told.err.as_slice(), refusal.as_bytes(), "{line}");
     }
     Ok(())
 }

@@ -1,6 +1,8 @@
-// What runs print that end well.
+// What runs print, and by which faults they end. `serial` goes by one worker by itself.
 
-use super::{DRAWS, ONE, ROLLS, SQUARES, SUM, TWO_DRAWS, prints};
+use super::{
+    DRAWS, FAULTY_CHILD, ONE, PENDING_SYNCED, ROLLS, SQUARES, SUM, TWO_DRAWS, ends, prints,
+};
 use std::test::Fail;
 
 const SPAWNED: &[u8] =
@@ -9,21 +11,44 @@ const SPAWNED: &[u8] =
 const SPAWNED_DRAW: &[u8] =
     b"fn f() { let x = draw; return x; } fn main() { let a = spawn f(); sync; print a; return 0; }";
 
+const IDS: &[u8] =
+    b"fn mk() -> id { let o = new; return o; } fn main() { let a = spawn mk(); let b = spawn mk(); sync; print a; print b; let c = older(a, b); print c; let s = same(a, a); print s; return 0; }";
+
+const THREE_PRINTS: &[u8] = b"fn main() { print 1; print 2; print 3; return 0; }";
+
+const ONE_SPAWN: &[u8] = b"fn f() { return 0; } fn main() { spawn f(); return 0; }";
+
+const ONE_ITERATION: &[u8] =
+    b"fn f(i) { return i; } fn main() { pfor i in 0..1 call f(i); return 0; }";
+
+const AWAITED: &[u8] =
+    b"fn f() { return 5; } fn main() { print 1; let a = spawn f(); print 2; sync; print a; return 0; }";
+
 #[test]
-fn scripts_print_their_lines(rt: HostRuntime) -> Result<(), Fail> {
-    let rows: [(&str, &[u8], &[u8]); 8] = [
+fn runs_print_their_lines(rt: HostRuntime) -> Result<(), Fail> {
+    let rows: [(&str, &[u8], &[u8]); 14] = [
         ("run --seed 0", ONE, b"1\n"),
         ("run", ONE, b"1\n"),
         ("run --seed 0", SPAWNED, b"1\n"),
         ("run --seed 7", SUM, b"5\n3\n"),
         ("run --workers 64 --seed 18446744073709551615", ONE, b"1\n"),
-        ("run --gamma 1", DRAWS, b"21\n210\n903\n"),
-        ("run --gamma 1,10", SPAWNED_DRAW, b"128271\n"),
+        ("run", PENDING_SYNCED, b"1\n"),
+        ("run --workers 8", SQUARES, b"0\n1\n4\n9\n16\n"),
+        ("run --workers 1", SQUARES, b"0\n1\n4\n9\n16\n"),
+        ("run", IDS, b"0.0\n1.0\n1\n1\n"),
         (
-            "run --gamma 1,1 --show log",
-            TWO_DRAWS,
-            b"draw 0.0 = 210\ndraw 1 = 210\n210\n210\n",
+            "run",
+            b"fn main() { let m = -9223372036854775807 - 1; print m / -1; print m % -1; return 0; }",
+            b"-9223372036854775808\n0\n",
         ),
+        (
+            "run",
+            b"fn f(n) { let r = 0; if n > 0 { r = call f(n - 1); } return r; } fn main() { let r = call f(255); print r; return 0; }",
+            b"0\n",
+        ),
+        ("run --budget 4", THREE_PRINTS, b"1\n2\n3\n"),
+        ("run --depth 2", ONE_SPAWN, b""),
+        ("run --depth 3", ONE_ITERATION, b""),
     ];
     for (line, script, output) in rows {
         prints(&rt, line, script, output)?;
@@ -31,20 +56,22 @@ fn scripts_print_their_lines(rt: HostRuntime) -> Result<(), Fail> {
     Ok(())
 }
 
-#[test]
-fn serial_writes_what_run_writes(rt: HostRuntime) -> Result<(), Fail> {
-    prints(
-        &rt,
-        "serial --gamma 1,1 --show log",
-        TWO_DRAWS,
-        b"draw 0.0 = 210\ndraw 1 = 210\n210\n210\n",
-    )
-}
-
 // Empty loops, calls and implied syncs raise the rank as their own strands do.
 #[test]
 fn draws_follow_the_pedigree(rt: HostRuntime) -> Result<(), Fail> {
-    let rows: [(&str, &[u8], &[u8]); 4] = [
+    let rows: [(&str, &[u8], &[u8]); 8] = [
+        ("run --gamma 1", DRAWS, b"21\n210\n903\n"),
+        ("run --gamma 1,10", SPAWNED_DRAW, b"128271\n"),
+        (
+            "run --gamma 1,1 --show log",
+            TWO_DRAWS,
+            b"draw 0.0 = 210\ndraw 1 = 210\n210\n210\n",
+        ),
+        (
+            "serial --gamma 1,1 --show log",
+            TWO_DRAWS,
+            b"draw 0.0 = 210\ndraw 1 = 210\n210\n210\n",
+        ),
         (
             "run --gamma 1",
             b"fn f(i) { return i; } fn main() { pfor i in 3..3 call f(i); let x = draw; print x; return 0; }",
@@ -69,35 +96,145 @@ fn draws_follow_the_pedigree(rt: HostRuntime) -> Result<(), Fail> {
 }
 
 #[test]
-fn values_come_back(rt: HostRuntime) -> Result<(), Fail> {
-    let rows: [(&str, &[u8], &[u8]); 6] = [
+fn one_worker_prints_its_lines(rt: HostRuntime) -> Result<(), Fail> {
+    let rows: [(&str, &[u8], &[u8]); 10] = [
         (
-            "run",
-            b"fn f() { return 1; } fn main() { let x = 0; let i = 0; while i < 2 { sync; x = x + 1; x = spawn f(); i = i + 1; } sync; print x; return 0; }",
-            b"1\n",
-        ),
-        ("run --workers 8", SQUARES, b"0\n1\n4\n9\n16\n"),
-        ("run --workers 1", SQUARES, b"0\n1\n4\n9\n16\n"),
-        (
-            "run",
-            b"fn mk() -> id { let o = new; return o; } fn main() { let a = spawn mk(); let b = spawn mk(); sync; print a; print b; let c = older(a, b); print c; let s = same(a, a); print s; return 0; }",
-            b"0.0\n1.0\n1\n1\n",
+            "serial --budget 100",
+            b"fn f(x) { print x; return x * 10; } fn main() { print 0; let a = spawn f(1); print 2; let b = spawn f(3); print 4; sync; print a + b; return 0; }",
+            b"0\n1\n2\n3\n4\n40\n",
         ),
         (
-            "run",
-            b"fn main() { let m = -9223372036854775807 - 1; print m / -1; print m % -1; return 0; }",
-            b"-9223372036854775808\n0\n",
+            "serial --budget 100",
+            b"fn fib(n) { let a = n; let b = 0; if 1 < n { a = spawn fib(n - 1); b = spawn fib(n - 2); sync; } return a + b; } fn main() { let x = spawn fib(10); sync; print x; return 0; }",
+            b"55\n",
         ),
         (
-            "run",
-            b"fn f(n) { let r = 0; if n > 0 { r = call f(n - 1); } return r; } fn main() { let r = call f(255); print r; return 0; }",
-            b"0\n",
+            "serial --budget 100",
+            b"fn down(n) { let r = 0; if 0 < n { r = spawn down(n - 1); sync; } return r + 1; } fn main() { let x = spawn down(200); sync; print x; return 0; }",
+            b"201\n",
+        ),
+        (
+            "serial --budget 100",
+            b"fn square(i, k) { print i; return i * i + k; } fn main() { let a[5]; pfor i in 0..5 into a call square(i, 100); print a[0]; print a[4]; print a[3]; return 0; }",
+            b"0\n1\n2\n3\n4\n100\n116\n109\n",
+        ),
+        (
+            "serial --budget 10000",
+            b"fn own(i) { return i; } fn main() { let a[1000]; let k = 0; let s = 0; pfor i in 0..1000 into a call own(i); while k < 1000 { s = s + a[k]; k = k + 1; } print s; return 0; }",
+            b"499500\n",
+        ),
+        ("serial --budget 100", IDS, b"0.0\n1.0\n1\n1\n"),
+        ("serial --depth 2 --budget 100", AWAITED, b"1\n2\n5\n"),
+        (
+            "serial --depth 3 --budget 30",
+            b"fn f(n) { let s = 0; while n { if n % 2 { print n; } else { s = s + n; } n = n - 1; } return s; } fn main() { let x = call f(4); print x; return x + 1; }",
+            b"3\n1\n6\n",
+        ),
+        (
+            "serial --depth 3 --budget 30",
+            b"fn f() { return 1; } fn g() { let x = spawn f(); sync; print x; return x + 1; } fn main() { print 0; let x = call g(); print x; return 2 * x; }",
+            b"0\n1\n2\n",
+        ),
+        (
+            "serial --depth 3 --budget 30",
+            b"fn f(i) { return i; } fn main() { let a[3]; pfor i in 7..9 into a call f(i); print a[0]; print a[1]; print a[2]; return 4; }",
+            b"7\n8\n0\n",
         ),
     ];
     for (line, script, output) in rows {
         prints(&rt, line, script, output)?;
     }
     Ok(())
+}
+
+// Of the first rows the child's fault is before main's, which stands in a loop without end.
+#[test]
+fn runs_end_by_their_least_fault(rt: HostRuntime) -> Result<(), Fail> {
+    let rows: [(&str, &[u8], &[u8]); 14] = [
+        (
+            "run --workers 1",
+            FAULTY_CHILD,
+            b"7\nfault 0.0: division by zero\n",
+        ),
+        (
+            "run --workers 2",
+            FAULTY_CHILD,
+            b"7\nfault 0.0: division by zero\n",
+        ),
+        (
+            "run --workers 64",
+            FAULTY_CHILD,
+            b"7\nfault 0.0: division by zero\n",
+        ),
+        (
+            "serial --budget 100",
+            FAULTY_CHILD,
+            b"7\nfault 0.0: division by zero\n",
+        ),
+        (
+            "run --budget 3",
+            THREE_PRINTS,
+            b"1\n2\n3\nfault 0: budget spent\n",
+        ),
+        ("run --depth 1", ONE_SPAWN, b"fault 0: depth\n"),
+        ("run --depth 2", ONE_ITERATION, b"fault 0: depth\n"),
+        (
+            "run",
+            b"fn f(i) { return i; } fn main() { pfor i in -9223372036854775807 - 1..9223372036854775807 call f(i); return 0; }",
+            b"fault 0: budget spent\n",
+        ),
+        (
+            "run",
+            b"fn sq(i) { return i * i; } fn main() { let a[5]; pfor i in 0..6 into a call sq(i); let k = 0; while k < 5 { print a[k]; k = k + 1; } return 0; }",
+            b"fault 0: index out of range\n",
+        ),
+        (
+            "run",
+            b"fn f(n) { let r = 0; if n > 0 { r = call f(n - 1); } return r; } fn main() { let r = call f(256); print r; return 0; }",
+            b"fault 0: calls\n",
+        ),
+        (
+            "serial --budget 100",
+            b"fn bad() { let z = 0; return 1 / z; } fn main() { print 7; let a = spawn bad(); print 8; sync; print a; return 0; }",
+            b"7\nfault 0.0: division by zero\n",
+        ),
+        (
+            "serial --budget 100",
+            b"fn f(i) { print i; return 6 / (2 - i); } fn main() { let a[4]; pfor i in 0..4 into a call f(i); print 9; return 0; }",
+            b"0\n1\n2\nfault 0.2.0: division by zero\n",
+        ),
+        (
+            "serial --depth 1 --budget 100",
+            AWAITED,
+            b"1\nfault 0: depth\n",
+        ),
+        (
+            "serial --depth 3 --budget 30",
+            b"fn main() { print 1; print 2; let o = new; print 3; while 1 { } return 0; }",
+            b"1\n2\n3\nfault 1: budget spent\n",
+        ),
+    ];
+    for (line, script, output) in rows {
+        ends(&rt, line, script, 1, output, b"")?;
+    }
+    Ok(())
+}
+
+// Each of 199 tasks would hand out two children more.
+#[test]
+fn a_fault_ends_all_tasks_below_at_once(rt: HostRuntime) -> Result<(), Fail> {
+    let alloc = rt.alloc();
+    let mut output = String::new(alloc);
+    let mut path = String::from_str(alloc, "0")?;
+    for n in 1..200 {
+        output.push_str(format!(in alloc; "{n}\n")?.as_str())?;
+        path.push_str(".0")?;
+    }
+    output.push_str(format!(in alloc; "fault {path}: depth\n")?.as_str())?;
+    let script =
+        b"fn f(n) { print n; spawn f(n + 1); spawn f(n); spawn f(n); return 0; } fn main() { spawn f(1); sync; return 0; }";
+    let line = "serial --depth 200 --budget 100";
+    ends(&rt, line, script, 1, output.as_bytes(), b"")
 }
 
 #[test]

@@ -1,13 +1,13 @@
 // Which scripts are refused, and the longest and largest that are taken.
 
-use super::{ONE, SQUARES, plain, prints, refuses};
+use super::{ONE, PENDING_SYNCED, SQUARES, plain, prints, refuses};
 use std::test::Fail;
 
 const LONGEST: usize = 1048576;
 
 #[test]
-fn faults_of_the_text_have_their_places(rt: HostRuntime) -> Result<(), Fail> {
-    let rows: [(&[u8], &[u8]); 4] = [
+fn refusals_have_their_places(rt: HostRuntime) -> Result<(), Fail> {
+    let texts: [(&[u8], &[u8]); 5] = [
         (
             b"fn main() { print 1 return 0; }",
             b"script: unexpected token at byte 20\n",
@@ -21,18 +21,17 @@ fn faults_of_the_text_have_their_places(rt: HostRuntime) -> Result<(), Fail> {
             b"script: number out of range at byte 18\n",
         ),
         (b"\xff", b"script: not ASCII at byte 0\n"),
+        (
+            b"fn main() { let abcdefghijklmnopqrstuvwxyzabcdefg = 1; return 0; }",
+            b"script: name too long at byte 16\n",
+        ),
     ];
-    for (script, refusal) in rows {
+    for (script, refusal) in texts {
         for line in ["run", "check", "fmt"] {
             refuses(&rt, line, script, 3, refusal)?;
         }
     }
-    Ok(())
-}
-
-#[test]
-fn invalid_scripts_have_their_places(rt: HostRuntime) -> Result<(), Fail> {
-    let rows: [(&[u8], &[u8]); 7] = [
+    let invalid: [(&[u8], &[u8]); 9] = [
         (b"", b"script: no main at byte 0\n"),
         (
             b"fn main(a) { return 0; }",
@@ -58,17 +57,38 @@ fn invalid_scripts_have_their_places(rt: HostRuntime) -> Result<(), Fail> {
             b"fn f() { return 1; } fn main() { let x = 0; let i = 0; while i < 2 { x = x + 1; x = spawn f(); i = i + 1; } return x; }",
             b"script: pending variable at byte 69\n",
         ),
+        (
+            b"fn main() { let a[4097]; return 0; }",
+            b"script: array length at byte 18\n",
+        ),
+        (
+            b"fn main() { let a[0]; return 0; }",
+            b"script: array length at byte 18\n",
+        ),
     ];
-    for (script, refusal) in rows {
-        refuses(&rt, "check", script, 3, refusal)?;
-        refuses(&rt, "run", script, 3, refusal)?;
+    for (script, refusal) in invalid {
+        for line in ["run", "check"] {
+            refuses(&rt, line, script, 3, refusal)?;
+        }
     }
-    prints(
-        &rt,
-        "check",
-        b"fn f() { return 1; } fn main() { let x = 0; let i = 0; while i < 2 { sync; x = x + 1; x = spawn f(); i = i + 1; } sync; print x; return 0; }",
-        b"ok\n",
-    )
+    Ok(())
+}
+
+#[test]
+fn scripts_just_within_a_rule_are_taken(rt: HostRuntime) -> Result<(), Fail> {
+    let rows: [(&[u8], &[u8]); 3] = [
+        (
+            b"fn main() { let abcdefghijklmnopqrstuvwxyzabcdef = 1; return 0; }",
+            b"",
+        ),
+        (b"fn main() { let a[4096]; return 0; }", b""),
+        (PENDING_SYNCED, b"1\n"),
+    ];
+    for (script, output) in rows {
+        prints(&rt, "run", script, output)?;
+        prints(&rt, "check", script, b"ok\n")?;
+    }
+    Ok(())
 }
 
 #[test]
@@ -100,37 +120,6 @@ fn expressions_nest_63_deep(rt: HostRuntime) -> Result<(), Fail> {
         3,
         b"script: nested too deep at byte 81\n",
     )
-}
-
-#[test]
-fn names_and_arrays_have_their_longest(rt: HostRuntime) -> Result<(), Fail> {
-    let taken: [&[u8]; 2] = [
-        b"fn main() { let abcdefghijklmnopqrstuvwxyzabcdef = 1; return 0; }",
-        b"fn main() { let a[4096]; return 0; }",
-    ];
-    for script in taken {
-        prints(&rt, "run", script, b"")?;
-        prints(&rt, "check", script, b"ok\n")?;
-    }
-    let rows: [(&[u8], &[u8]); 3] = [
-        (
-            b"fn main() { let abcdefghijklmnopqrstuvwxyzabcdefg = 1; return 0; }",
-            b"script: name too long at byte 16\n",
-        ),
-        (
-            b"fn main() { let a[4097]; return 0; }",
-            b"script: array length at byte 18\n",
-        ),
-        (
-            b"fn main() { let a[0]; return 0; }",
-            b"script: array length at byte 18\n",
-        ),
-    ];
-    for (script, refusal) in rows {
-        refuses(&rt, "run", script, 3, refusal)?;
-        refuses(&rt, "check", script, 3, refusal)?;
-    }
-    Ok(())
 }
 
 #[test]

@@ -1,56 +1,85 @@
 // Replayed strands.
 
-use super::{FAULTY_CHILD, ROLLS, ends, ends_by_fault, prints};
+use super::{FAULTY_CHILD, ROLLS, ends};
 use std::test::Fail;
 
 const FAULTY_CHILD_AWAITED: &[u8] =
     b"fn bad() { let z = 0; return 1 / z; } fn main() { spawn bad(); sync; print 1; return 0; }";
 
+// Events of all kinds, in main, in a spawned child and in the iterations of a loop.
+const EVENTS: &[u8] =
+    b"fn f() { let x = new; print x; return 0; } fn g(i) { print i; let z = new; print z; return 0; } fn main() { spawn f(); let y = new; print y; sync; pfor i in 0..2 call g(i); return 0; }";
+
+// The elision doesn't reach the strand 1 of the script with a faulty child.
 #[test]
-fn strands_print_their_events(rt: HostRuntime) -> Result<(), Fail> {
-    let rows: [(&str, &[u8], &[u8]); 4] = [
-        ("replay --at 0", FAULTY_CHILD, b"7\nspawn 0\n"),
-        ("replay --at 1", FAULTY_CHILD_AWAITED, b"sync 1\n"),
+fn strands_tell_their_events_or_why_there_are_none(rt: HostRuntime) -> Result<(), Fail> {
+    let rows: [(&str, &[u8], u8, &[u8], &[u8]); 21] = [
+        ("replay --at 0", FAULTY_CHILD, 0, b"7\nspawn 0\n", b""),
+        ("replay --at 1", FAULTY_CHILD_AWAITED, 0, b"sync 1\n", b""),
         (
             "replay --gamma 0,1 --at 0.3.0",
             ROLLS,
+            0,
             b"draw 0.3.0 = 2628\n",
+            b"",
         ),
-        ("replay --gamma 0,1 --at 0", ROLLS, b"loop 0\n"),
-    ];
-    for (line, script, output) in rows {
-        prints(&rt, line, script, output)?;
-    }
-    Ok(())
-}
-
-// The elision doesn't reach the second one.
-#[test]
-fn strands_end_by_their_own_faults(rt: HostRuntime) -> Result<(), Fail> {
-    let rows: [(&str, &[u8]); 2] = [
-        ("replay --at 0.0", b"fault 0.0: division by zero\n"),
-        ("replay --at 1", b"fault 1: budget spent\n"),
-    ];
-    for (line, output) in rows {
-        ends_by_fault(&rt, line, FAULTY_CHILD, output)?;
-    }
-    Ok(())
-}
-
-#[test]
-fn strands_that_are_none_are_told(rt: HostRuntime) -> Result<(), Fail> {
-    let rows: [(&str, &[u8], &[u8]); 4] = [
-        ("replay --at 7", FAULTY_CHILD, b"no strand 7\n"),
+        ("replay --gamma 0,1 --at 0", ROLLS, 0, b"loop 0\n", b""),
+        ("replay --at 0", EVENTS, 0, b"spawn 0\n", b""),
+        ("replay --at 0.0", EVENTS, 0, b"new 0.0\n", b""),
+        ("replay --at 0.1", EVENTS, 0, b"0.0\n", b""),
+        ("replay --at 1", EVENTS, 0, b"new 1\n", b""),
+        ("replay --at 2", EVENTS, 0, b"1\nsync 2\n", b""),
+        ("replay --at 3", EVENTS, 0, b"loop 3\n", b""),
+        ("replay --at 3.0.0", EVENTS, 0, b"0\nnew 3.0.0\n", b""),
+        ("replay --at 3.0.1", EVENTS, 0, b"3.0.0\n", b""),
+        ("replay --at 3.1.0", EVENTS, 0, b"1\nnew 3.1.0\n", b""),
+        ("replay --at 3.1.1", EVENTS, 0, b"3.1.0\n", b""),
+        ("replay --at 4", EVENTS, 0, b"sync 4\n", b""),
+        (
+            "replay --at 0.0",
+            FAULTY_CHILD,
+            1,
+            b"fault 0.0: division by zero\n",
+            b"",
+        ),
+        (
+            "replay --budget 10000 --at 1",
+            FAULTY_CHILD,
+            1,
+            b"fault 1: budget spent\n",
+            b"",
+        ),
+        (
+            "replay --budget 10000 --at 7",
+            FAULTY_CHILD,
+            7,
+            b"",
+            b"no strand 7\n",
+        ),
         (
             "replay --at 2",
             FAULTY_CHILD_AWAITED,
+            7,
+            b"",
             b"blocked by fault 0.0\n",
         ),
-        ("replay --gamma 0,1 --at 0.3", ROLLS, b"no strand 0.3\n"),
-        ("replay --gamma 0,1 --at 0.5.0", ROLLS, b"no strand 0.5.0\n"),
+        (
+            "replay --gamma 0,1 --at 0.3",
+            ROLLS,
+            7,
+            b"",
+            b"no strand 0.3\n",
+        ),
+        (
+            "replay --gamma 0,1 --at 0.5.0",
+            ROLLS,
+            7,
+            b"",
+            b"no strand 0.5.0\n",
+        ),
     ];
-    for (line, script, refusal) in rows {
-        ends(&rt, line, script, 7, b"", refusal)?;
+    for (line, script, code, output, refusal) in rows {
+        ends(&rt, line, script, code, output, refusal)?;
     }
     Ok(())
 }

@@ -1,7 +1,7 @@
 // Runs on workers: they work at once, and write the same however they share the work.
 
 use super::{FAULTY_CHILD, Host, SQUARES, TWO_DRAWS, ends, generated, guarded};
-use crew::Gate;
+use engine::Gate;
 use ped_path::Ped;
 use serial_meaning::Origin;
 use std::hint;
@@ -104,49 +104,38 @@ fn repeats<R: Host>(
 }
 
 #[test]
-fn draws_are_the_same_on_any_workers(rt: HostRuntime) -> Result<(), Fail> {
-    repeats(
-        &rt,
-        "run --gamma 1,1 --show log",
-        20,
-        TWO_DRAWS,
-        0,
-        b"draw 0.0 = 210\ndraw 1 = 210\n210\n210\n",
-    )
-}
-
-#[test]
-fn the_least_fault_is_told_on_any_workers(rt: HostRuntime) -> Result<(), Fail> {
-    repeats(
-        &rt,
-        "run --budget 10000",
-        20,
-        FAULTY_CHILD,
-        1,
-        b"7\nfault 0.0: division by zero\n",
-    )
-}
-
-#[test]
-fn loops_are_the_same_on_any_workers(rt: HostRuntime) -> Result<(), Fail> {
-    repeats(&rt, "run", 20, SQUARES, 0, b"0\n1\n4\n9\n16\n")
-}
-
-#[test]
-fn numbers_of_fibonacci_are_the_same_on_any_workers(rt: HostRuntime) -> Result<(), Fail> {
-    let script = generated(&rt, "gen --shape fib --size 20")?;
-    repeats(&rt, "run", 3, &script, 0, b"6765\n")
-}
-
-#[test]
-fn trees_and_long_loops_are_the_same_on_any_workers(rt: HostRuntime) -> Result<(), Fail> {
-    let rows: [(&str, &[u8]); 2] = [
-        ("gen --shape tree --size 10", b"1024\n"),
-        ("gen --shape loop --size 10", b"285\n"),
+fn runs_are_the_same_on_any_workers(rt: HostRuntime) -> Result<(), Fail> {
+    let rows: [(&str, &[u8], u8, &[u8]); 3] = [
+        (
+            "run --gamma 1,1 --show log",
+            TWO_DRAWS,
+            0,
+            b"draw 0.0 = 210\ndraw 1 = 210\n210\n210\n",
+        ),
+        (
+            "run --budget 10000",
+            FAULTY_CHILD,
+            1,
+            b"7\nfault 0.0: division by zero\n",
+        ),
+        ("run", SQUARES, 0, b"0\n1\n4\n9\n16\n"),
     ];
-    for (made, output) in rows {
+    for (line, script, code, output) in rows {
+        repeats(&rt, line, 20, script, code, output)?;
+    }
+    Ok(())
+}
+
+#[test]
+fn generated_scripts_are_the_same_on_any_workers(rt: HostRuntime) -> Result<(), Fail> {
+    let rows: [(&str, u32, &[u8]); 3] = [
+        ("gen --shape fib --size 20", 3, b"6765\n"),
+        ("gen --shape tree --size 10", 10, b"1024\n"),
+        ("gen --shape loop --size 10", 10, b"285\n"),
+    ];
+    for (made, times, output) in rows {
         let script = generated(&rt, made)?;
-        repeats(&rt, "run --gamma 0", 10, &script, 0, output)?;
+        repeats(&rt, "run --gamma 0", times, &script, 0, output)?;
     }
     Ok(())
 }
