@@ -1,4 +1,4 @@
-use Rattle.std.proofs.Common.{◌≡◌, ◌<◌, ◌-◌, ap, ◌∙◌, sym, length, true, false, set, get_or, subst, arith}
+use Rattle.std.proofs.Common.{◌≡◌, ◌-◌, ap, ◌∙◌, sym, length, true, false, set, get_or, subst, arith}
 use lib.ListN.{get_elem?}
 use Rattle.std.specs.Prelude.{slice_get}
 use Rattle.meet_block.specs.Joined.{joined}
