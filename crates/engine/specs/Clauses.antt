@@ -1,10 +1,11 @@
--- The parts of the promise, each in words of its own, and what holds of every run.
+-- What a call of the program promises: its promise, the parts of it, each in words of its own, and what holds of every run.
 use Rattle.std.specs.Prelude.{◌≡◌, ◌⊎◌, ◌<◌, ⊤, ℕ, List, length, Some, None, AllPairs, Contains, IsTrue, IsFalse, Result, Ok, Err}
 use Rattle.std.specs.declared.option.Option.{Option}
 use Rattle.ped_io.specs.Streams.{Appends, IsAtEnd}
 use Rattle.ped_path.specs.Path.{IsBefore}
 use Rattle.ped_words.specs.declared.command.Command.{Command}
 use Rattle.ped_words.specs.declared.command.Command.TheVariants.{Replay}
+use Rattle.ped_words.specs.declared.command.Settings.{Settings}
 use Rattle.ped_words.specs.declared.rule.WordError.{WordError}
 use Rattle.dotmix.specs.Draws.{dotmix}
 use Rattle.script_grammar.specs.declared.tree.Script.{Script as Tree}
@@ -15,10 +16,10 @@ use Rattle.serial_meaning.specs.Open.{faults}
 use Rattle.serial_meaning.specs.Laws.{places, EndsByLeast}
 use Rattle.serial_meaning.specs.declared.event.Event.TheVariants.{Draw}
 use Rattle.engine.specs.declared.status.Status.{Status}
-use Rattle.engine.specs.declared.status.Status.TheVariants.{Done, Faulted, Words, Script, Read, Memory, NoStrand}
+use Rattle.engine.specs.declared.status.Status.TheVariants.{Done, Faulted, Words, Script, Read, Write, Memory, NoStrand}
 use Rattle.engine.specs.Commands.{Reports, Takes, reads_script, runs_today, takes_script}
-use Rattle.engine.specs.Report.{Report, status_of}
-use Rattle.engine.specs.Promise.{Watched, Failed, most_bytes}
+use Rattle.engine.specs.Report.{Report, plan_of, status_of}
+use Rattle.engine.specs.Promise.{KeepsPromise, ReadsNone, Watched, Failed, has_line, has_output, most_bytes, watched}
 
 -- the words give no command that runs today
 abbrev pub SaysNothing : Result Command WordError → Type 0
@@ -95,3 +96,34 @@ pub record IsLawful (plan : PlanView) : Type 0 where
   pub rise : AllPairs IsBefore (places (elision plan).items)
   pub draws : (j : List ℕ) (n : ℕ) → Contains (elision plan).items (Draw j n) → n ≡ dotmix plan.gamma j
   pub least : EndsByLeast (faults plan) (elision plan).ending
+
+-- An object before a call and after it, and how it is seen: what it told, and how often it had failed.
+pub record Change (T : Type 0) : Type 0 where
+  pub told : T → Option (List ℕ)
+  pub faults : T → ℕ
+  pub old : T
+  pub new : T
+
+abbrev pub change : {T : Type 0} → (T → Option (List ℕ)) → (T → ℕ) → T → T → Change T
+change told faults old new = record { told = told; faults = faults; old = old; new = new }
+
+abbrev pub seen : {T : Type 0} → Change T → Watched
+seen c = watched c.told c.faults c.old c.new
+
+-- A call whose words say this, by what it did to its source and its sinks, and its status.
+pub record IsCall {S K E : Type 0} (given : Result Command WordError) (source : Change S) (out : Change K) (err : Change E) (status : Status) : Type 0 where
+  pub promise : KeepsPromise given (seen source) (seen out) (seen err) status
+  -- Words that give no command that reads a script leave the source, and an answer without output or without a line leaves that sink.
+  pub untouched : ReadsNone given → source.new ≡ source.old
+  pub no_output : IsFalse (has_output status) → out.new ≡ out.old
+  pub no_line : IsFalse (has_line status) → err.new ≡ err.old
+  -- The promise, said by its parts.
+  pub words : RefusesWords given status
+  pub script : RefusesScript given (seen source).before status
+  pub report : WritesReport given (seen source) (seen source).before (seen out) status
+  pub no_strand : TellsNoStrand given (seen source).before status
+  pub read : status ≡ Read → Failed (seen source)
+  pub write : status ≡ Write → Failed (seen out)
+  pub complete : Completes given (seen source) (seen source).before (seen out) status
+  -- What holds of each run that is written.
+  pub events : (settings : Settings) (tree : Tree) → IsLawful (plan_of settings tree)

@@ -38,17 +38,14 @@ fn make_plan(settings: Settings, script: Checked) -> Plan
 }
 
 // The plan of the script that these bytes are the text of.
-fn planned(alloc: Global, settings: Settings, bytes: &[u8]) -> Result<Plan, Refusal>
+fn planned(alloc: Global, settings: Settings, bytes: &[u8]) -> Result<Arc<Plan>, Refusal>
     requires lawful { AreLawful settings }
     requires within { length bytes.now ≤ most_bytes }
-    ensures plan { IfOk result (IsPlanOf settings bytes.now) }
+    ensures plan { IfOk result (λ plan. IsPlanOf settings bytes.now (arc_value plan)) }
     ensures refused { IfErr result (IsMisfit IsValid bytes.now) }
 {
-    let script = match valid_script(alloc, bytes) {
-        Ok(script) => script,
-        Err(refusal) => return Err(refusal),
-    };
-    Ok(make_plan(settings, script))
+    let script = valid_script(alloc, bytes)?;
+    Ok(Arc::new(alloc, make_plan(settings, script))?)
 }
 
 fn ending_for(outcome: &Outcome) -> Ending
@@ -88,10 +85,7 @@ pub(crate) fn played(alloc: Global, settings: Settings, bytes: &[u8]) -> Result<
     ensures report { IfOk result (λ report. IsRunOf settings bytes.now (shown report)) }
     ensures refused { IfErr result (IsMisfit IsValid bytes.now) }
 {
-    let plan = match planned(alloc, settings, bytes) {
-        Ok(plan) => Arc::new(alloc, plan)?,
-        Err(refusal) => return Err(refusal),
-    };
+    let plan = planned(alloc, settings, bytes)?;
     let answer = run_alone(alloc, &plan)?;
     Ok(answer_report(alloc, &answer)?)
 }
@@ -111,10 +105,7 @@ pub(crate) fn played_by_crew<R: Threads + Wait + Sync, G: Gate + Sync>(
     ensures report { IfOk result (λ report. IsRunOf settings bytes.now (shown report)) }
     ensures refused { IfErr result (IsMisfit IsValid bytes.now) }
 {
-    let plan = match planned(alloc, settings, bytes) {
-        Ok(plan) => Arc::new(alloc, plan)?,
-        Err(refusal) => return Err(refusal),
-    };
+    let plan = planned(alloc, settings, bytes)?;
     let answer = run_crew(rt, alloc, &plan, workers, gate)?;
     Ok(answer_report(alloc, &answer)?)
 }
@@ -166,9 +157,6 @@ pub(crate) fn replayed(
     ensures report { IfOk result (λ report. IsReplayOf settings at bytes.now (shown report)) }
     ensures refused { IfErr result (IsMisfit IsValid bytes.now) }
 {
-    let plan = match planned(alloc, settings, bytes) {
-        Ok(plan) => Arc::new(alloc, plan)?,
-        Err(refusal) => return Err(refusal),
-    };
+    let plan = planned(alloc, settings, bytes)?;
     replay_report(alloc, &plan, at)
 }

@@ -78,16 +78,13 @@ pub fn script_report(alloc: Global, command: Command, bytes: &[u8]) -> Result<Re
         Command::Serial { settings } => played(alloc, settings, bytes),
         Command::Replay { settings, at } => replayed(alloc, settings, at, bytes),
         Command::Fmt => {
-            let script = match any_script(alloc, bytes) {
-                Ok(script) => script,
-                Err(refusal) => return Err(refusal),
-            };
+            let script = any_script(alloc, bytes)?;
             Ok(Report::said(print_script(alloc, &script)?))
         }
-        Command::Check => match valid_script(alloc, bytes) {
-            Ok(_) => Ok(Report::said(b"ok\n".to_vec(alloc)?)),
-            Err(refusal) => Err(refusal),
-        },
+        Command::Check => {
+            valid_script(alloc, bytes)?;
+            Ok(Report::said(b"ok\n".to_vec(alloc)?))
+        }
         _ => unreachable!(),
     }
 }

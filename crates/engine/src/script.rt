@@ -36,10 +36,7 @@ pub fn valid_script(alloc: Global, bytes: &[u8]) -> Result<Checked, Refusal>
     ensures valid { IfOk result IsValid }
     ensures refused { IfErr result (IsMisfit IsValid bytes.now) }
 {
-    let script = match any_script(alloc, bytes) {
-        Ok(script) => script,
-        Err(refusal) => return Err(refusal),
-    };
+    let script = any_script(alloc, bytes)?;
     match check(alloc, script) {
         Ok(checked) => Ok(checked),
         Err(CheckError::Bad { number, at }) => Err(invalid(alloc, number, at)),

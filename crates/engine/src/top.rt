@@ -1,20 +1,14 @@
 // The top calls.
 
-ghost use Rattle.std.specs.Prelude.{◌≡◌, ◌↔◌, IsTrue, IsFalse, map, string_bytes};
-ghost use Rattle.ped_io.specs.Causes.{Rose};
+ghost use Rattle.std.specs.Prelude.{◌↔◌, IsTrue, map, string_bytes};
 ghost use Rattle.ped_words.specs.Reading.{reading};
-ghost use Rattle.script_grammar.specs.declared.tree.Script.{Script as ScriptTree};
-ghost use Rattle.ped_words.specs.declared.command.Settings.{Settings as RunSettings};
-ghost use Rattle.engine.specs.Clauses.{Completes, IsLawful, RefusesScript, RefusesWords, TellsNoStrand, WritesReport};
+ghost use Rattle.engine.specs.Clauses.{IsCall, change};
 ghost use Rattle.engine.specs.Commands.{IsRun};
-ghost use Rattle.engine.specs.Promise.{KeepsPromise, ReadsNone, has_line, has_output, watched};
-ghost use Rattle.engine.specs.Report.{plan_of};
 
 use crate::call::{perform, perform_by_crew};
 use crate::status::Status;
 use crew::Gate;
 use ped_io::{Sink, Source};
-use serial_meaning::laws;
 use std::alloc::Global;
 use std::sync::Wait;
 use std::thread::Threads;
@@ -31,9 +25,9 @@ pub fn is_run(words: &[String]) -> bool
 
 /// All that the program does, over any source of the script, sink of the output and sink of the error line.
 ///
-/// `words` are those of the command line without the program's name. What each status means, and which bytes were read and written
-/// then, is the clause `promise`; the clauses `words` to `complete` say its parts. Statuses 2 to 7 come with one line on `err`, and whether
-/// `err` takes it changes no status. The clause `events` says what holds of each run.
+/// `words` are those of the command line without the program's name. The clauses are the fields of `IsCall`. What each status means, and
+/// which bytes were read and written then, is `promise`; `words` to `complete` say its parts. Statuses 2 to 7 come with one line on `err`,
+/// and whether `err` takes it changes no status. `events` says what holds of each run.
 ///
 /// The command `run` goes by workers on threads of `rt`, and `gate` is told of their tasks. No clause speaks of the gate, or of the
 /// number of workers beyond the words.
@@ -46,25 +40,8 @@ pub fn pedrun<R: Threads + Wait + Sync, S: Source, K: Sink, E: Sink, G: Gate + S
     err: &mut E,
     gate: &G,
 ) -> Status
-    ensures promise { KeepsPromise (reading (map string_bytes words.now)) (watched S.left S.faults script.old script.new)
-        (watched K.written K.faults out.old out.new) (watched E.written E.faults err.old err.new) result }
-
-    // Words that give no command that reads a script leave the source, and an answer without output or without a line leaves that sink.
-    ensures untouched { ReadsNone (reading (map string_bytes words.now)) → script.new ≡ script.old }
-    ensures no_output { IsFalse (has_output result) → out.new ≡ out.old }
-    ensures no_line { IsFalse (has_line result) → err.new ≡ err.old }
-
-    // The promise, said by its parts.
-    ensures words { RefusesWords (reading (map string_bytes words.now)) result }
-    ensures script { RefusesScript (reading (map string_bytes words.now)) (S.left script.old) result }
-    ensures report { WritesReport (reading (map string_bytes words.now)) (watched S.left S.faults script.old script.new) (S.left script.old) (watched K.written K.faults out.old out.new) result }
-    ensures no_strand { TellsNoStrand (reading (map string_bytes words.now)) (S.left script.old) result }
-    ensures read { result ≡ Status.Read → Rose (S.faults script.old) (S.faults script.new) }
-    ensures write { result ≡ Status.Write → Rose (K.faults out.old) (K.faults out.new) }
-    ensures complete { Completes (reading (map string_bytes words.now)) (watched S.left S.faults script.old script.new) (S.left script.old) (watched K.written K.faults out.old out.new) result }
-
-    // What holds of each run that is written.
-    ensures events { (settings : RunSettings) (tree : ScriptTree) → IsLawful (plan_of settings tree) }
+    ensures { IsCall (reading (map string_bytes words.now)) (change S.left S.faults script.old script.new)
+        (change K.written K.faults out.old out.new) (change E.written E.faults err.old err.new) result }
 {
     if is_run(words) {
         pedrun_run(rt, alloc, words, script, out, err, gate)
@@ -82,29 +59,9 @@ pub fn pedrun_plain<S: Source, K: Sink, E: Sink>(
     err: &mut E,
 ) -> Status
     requires { IsRun (map string_bytes words.now) → ⊥ }
-    ensures promise { KeepsPromise (reading (map string_bytes words.now)) (watched S.left S.faults script.old script.new)
-        (watched K.written K.faults out.old out.new) (watched E.written E.faults err.old err.new) result }
-
-    // Words that give no command that reads a script leave the source, and an answer without output or without a line leaves that sink.
-    ensures untouched { ReadsNone (reading (map string_bytes words.now)) → script.new ≡ script.old }
-    ensures no_output { IsFalse (has_output result) → out.new ≡ out.old }
-    ensures no_line { IsFalse (has_line result) → err.new ≡ err.old }
-
-    // The promise, said by its parts.
-    ensures words { RefusesWords (reading (map string_bytes words.now)) result }
-    ensures script { RefusesScript (reading (map string_bytes words.now)) (S.left script.old) result }
-    ensures report { WritesReport (reading (map string_bytes words.now)) (watched S.left S.faults script.old script.new) (S.left script.old) (watched K.written K.faults out.old out.new) result }
-    ensures no_strand { TellsNoStrand (reading (map string_bytes words.now)) (S.left script.old) result }
-    ensures read { result ≡ Status.Read → Rose (S.faults script.old) (S.faults script.new) }
-    ensures write { result ≡ Status.Write → Rose (K.faults out.old) (K.faults out.new) }
-    ensures complete { Completes (reading (map string_bytes words.now)) (watched S.left S.faults script.old script.new) (S.left script.old) (watched K.written K.faults out.old out.new) result }
-
-    // What holds of each run that is written.
-    ensures events { (settings : RunSettings) (tree : ScriptTree) → IsLawful (plan_of settings tree) }
+    ensures { IsCall (reading (map string_bytes words.now)) (change S.left S.faults script.old script.new)
+        (change K.written K.faults out.old out.new) (change E.written E.faults err.old err.new) result }
 {
-    laws::pedigrees_rise();
-    laws::draws_are_dotmix();
-    laws::fault_is_least();
     perform(alloc, words, script, out, err)
 }
 
@@ -119,28 +76,8 @@ pub fn pedrun_run<R: Threads + Wait + Sync, S: Source, K: Sink, E: Sink, G: Gate
     gate: &G,
 ) -> Status
     requires { IsRun (map string_bytes words.now) }
-    ensures promise { KeepsPromise (reading (map string_bytes words.now)) (watched S.left S.faults script.old script.new)
-        (watched K.written K.faults out.old out.new) (watched E.written E.faults err.old err.new) result }
-
-    // Words that give no command that reads a script leave the source, and an answer without output or without a line leaves that sink.
-    ensures untouched { ReadsNone (reading (map string_bytes words.now)) → script.new ≡ script.old }
-    ensures no_output { IsFalse (has_output result) → out.new ≡ out.old }
-    ensures no_line { IsFalse (has_line result) → err.new ≡ err.old }
-
-    // The promise, said by its parts.
-    ensures words { RefusesWords (reading (map string_bytes words.now)) result }
-    ensures script { RefusesScript (reading (map string_bytes words.now)) (S.left script.old) result }
-    ensures report { WritesReport (reading (map string_bytes words.now)) (watched S.left S.faults script.old script.new) (S.left script.old) (watched K.written K.faults out.old out.new) result }
-    ensures no_strand { TellsNoStrand (reading (map string_bytes words.now)) (S.left script.old) result }
-    ensures read { result ≡ Status.Read → Rose (S.faults script.old) (S.faults script.new) }
-    ensures write { result ≡ Status.Write → Rose (K.faults out.old) (K.faults out.new) }
-    ensures complete { Completes (reading (map string_bytes words.now)) (watched S.left S.faults script.old script.new) (S.left script.old) (watched K.written K.faults out.old out.new) result }
-
-    // What holds of each run that is written.
-    ensures events { (settings : RunSettings) (tree : ScriptTree) → IsLawful (plan_of settings tree) }
+    ensures { IsCall (reading (map string_bytes words.now)) (change S.left S.faults script.old script.new)
+        (change K.written K.faults out.old out.new) (change E.written E.faults err.old err.new) result }
 {
-    laws::pedigrees_rise();
-    laws::draws_are_dotmix();
-    laws::fault_is_least();
     perform_by_crew(rt, alloc, words, script, out, err, gate)
 }

@@ -1,0 +1,33 @@
+-- A call's promise, and what it left alone, are all that holds of it.
+use Rattle.std.proofs.Common.{◌≡◌, Result, IsFalse, refl}
+use Rattle.ped_words.specs.declared.command.Command.{Command}
+use Rattle.ped_words.specs.declared.rule.WordError.{WordError}
+use Rattle.serial_meaning.specs.Plan.{PlanView}
+use Rattle.serial_meaning.proofs.Draws.{draws_are_dotmix}
+use Rattle.serial_meaning.proofs.Least.{fault_is_least}
+use Rattle.serial_meaning.proofs.RisingExec.{elision_rises}
+use Rattle.engine.specs.Clauses.{Change, IsCall, IsLawful, seen}
+use Rattle.engine.specs.Promise.{KeepsPromise, ReadsNone, has_line, has_output}
+use Rattle.engine.specs.Report.{plan_of}
+use Rattle.engine.specs.declared.status.Status.{Status}
+use Rattle.engine.proofs.PromiseLemmas.{words_exactly, read_cause, write_cause, script_refused, report_written, strand_told, completes}
+
+pub lawful : (plan : PlanView) → IsLawful plan
+lawful plan = record { rise = elision_rises plan; draws = draws_are_dotmix plan; least = fault_is_least plan }
+
+pub is_call : {S K E : Type 0} (given : Result Command WordError) (source : Change S) (out : Change K) (err : Change E) (status : Status) → KeepsPromise given (seen source) (seen out) (seen err) status →
+    (ReadsNone given → source.new ≡ source.old) → (IsFalse (has_output status) → out.new ≡ out.old) → (IsFalse (has_line status) → err.new ≡ err.old) → IsCall given source out err status
+is_call given source out err status promise untouched no_output no_line = record {
+  promise = promise;
+  untouched = untouched;
+  no_output = no_output;
+  no_line = no_line;
+  words = words_exactly (seen source) (seen out) (seen err) given status promise;
+  script = script_refused (seen source) (seen out) (seen err) given status promise _ refl;
+  report = report_written (seen source) (seen out) (seen err) given status promise _ refl;
+  no_strand = strand_told (seen source) (seen out) (seen err) given status promise _ refl;
+  read = read_cause (seen source) (seen out) (seen err) given status promise;
+  write = write_cause (seen source) (seen out) (seen err) given status promise;
+  complete = completes (seen source) (seen out) (seen err) given status promise _ refl;
+  events = λ settings tree. lawful (plan_of settings tree);
+}
