@@ -24,7 +24,7 @@ use crate::shown::{Child, Shown};
 use dotmix::Trail;
 use loop_range::IterRange;
 use ped_path::{Ped, Pedigree};
-use script_grammar::{CallText, Expr, Items, Kind, Name};
+use script_grammar::{Boxed, CallText, Expr, Items, Kind, Name};
 use serial_meaning::plan::function_number;
 use serial_meaning::{Event, FaultKind, Origin, Plan, Value};
 use std::alloc::Global;
@@ -58,7 +58,7 @@ impl Instance {
             args,
             path,
         };
-        let child = Child { origin, trail };
+        let child = boxed(alloc, origin, trail)?;
         let instead = filler(alloc, plan, function)?;
         self.receive(alloc, target, instead)?;
         let target = copy_of(alloc, target)?;
@@ -128,7 +128,7 @@ impl Instance {
             path,
             range,
         };
-        let child = Child { origin, trail };
+        let child = boxed(alloc, origin, trail)?;
         Ok(self.hand_loop(alloc, target, child)?)
     }
 
@@ -176,7 +176,7 @@ impl Instance {
         &mut self,
         alloc: Global,
         target: &Option<Name>,
-        child: Child,
+        child: Boxed<Child>,
     ) -> Result<Shown, Memory>
         requires { self.old.rank < 2 ^ 32 }
         ensures shown { IfOk result (λ s. s ≡ shown.Looped (event.Loop (path_of self.old ++ self.old.rank ∷ [])) child target.now) }
@@ -205,6 +205,13 @@ impl Instance {
     {
         Ok(self.trail.child(alloc, &plan.gamma, self.rank)?)
     }
+}
+
+/// A child in a box, so that what a move shows stays small.
+fn boxed(alloc: Global, origin: Origin, trail: Trail) -> Result<Boxed<Child>, Memory>
+    ensures { IfOk result (λ child. child ≡ record { origin = origin; trail = trail }) }
+{
+    Ok(Boxed(Box::new(alloc, Child { origin, trail })?))
 }
 
 /// The same path, over the same memory.
