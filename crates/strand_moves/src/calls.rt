@@ -15,7 +15,6 @@ use crate::activation::{Activation, copy_of};
 use crate::instance::Instance;
 use crate::memory::Memory;
 use crate::shown::{Moved, Shown};
-use crate::spawns::any_spawns;
 use script_grammar::{CallText, Function, Items, Name};
 use serial_meaning::plan::function_number;
 use serial_meaning::{FaultKind, Plan, Value};
@@ -111,10 +110,7 @@ impl Instance {
     fn has_spawns(&self, plan: &Plan) -> bool
         ensures { result ≡ spawns_in (function_at (functions_of plan.now) self.now.top.function) }
     {
-        match function_in(plan, self.top.function) {
-            Some(f) => any_spawns(f.body.as_slice()),
-            None => false,
-        }
+        plan.spawns(self.top.function)
     }
 
     /// The value of the innermost activation's function, as its variables are.

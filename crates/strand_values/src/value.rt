@@ -115,12 +115,7 @@ fn older(variables: &[Variable], left: Value, right: &Expr) -> Result<i64, Halt>
 }
 
 #[cycle(value)]
-fn comparison(
-    variables: &[Variable],
-    left: i64,
-    how: Comparison,
-    right: &Expr,
-) -> Result<i64, Halt>
+fn comparison(variables: &[Variable], left: i64, how: Comparison, right: &Expr) -> Result<i64, Halt>
     ensures { Gives (integral result) (node.comparison left how (value_of right.now variables.now)) }
 {
     let right = integer(variables, right)?;
