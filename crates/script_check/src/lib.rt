@@ -14,6 +14,7 @@ mod names;
 mod scope;
 mod spawns;
 mod statement;
+mod texts;
 mod variable;
 
 pub use checked::{Checked, check};

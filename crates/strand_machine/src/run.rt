@@ -47,6 +47,7 @@ pub(crate) fn show(
         } => {
             body.pieces.tell(alloc, event)?;
             let place = Place::Spawned(height, target);
+            let child = Box::into_inner(child.0);
             spawn(body, alloc, child, place, Work::Runs(Stage::Goes(instance)))
         }
         Shown::Looped {
@@ -56,6 +57,7 @@ pub(crate) fn show(
         } => {
             body.pieces.tell(alloc, event)?;
             let place = Place::Looped(target);
+            let child = Box::into_inner(child.0);
             spawn(
                 body,
                 alloc,

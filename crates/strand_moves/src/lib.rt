@@ -13,7 +13,6 @@ mod instance;
 mod memory;
 mod right;
 mod shown;
-mod spawns;
 mod statement;
 
 pub use instance::Instance;

@@ -1,5 +1,5 @@
 use dotmix::Trail;
-use script_grammar::Name;
+use script_grammar::{Boxed, Name};
 use serial_meaning::{Event, Fault, Origin, Value};
 
 /// A child that is handed out: what it is begun as, and the trail of its path.
@@ -20,7 +20,7 @@ pub enum Shown {
     /// A child was spawned. Its value goes to the variable `target`, if any, of the activation with `height` others below it.
     Spawned {
         event: Event,
-        child: Child,
+        child: Boxed<Child>,
         height: usize,
         target: Option<Name>,
     },
@@ -30,7 +30,7 @@ pub enum Shown {
     /// activation.
     Looped {
         event: Event,
-        child: Child,
+        child: Boxed<Child>,
         target: Option<Name>,
     },
 }

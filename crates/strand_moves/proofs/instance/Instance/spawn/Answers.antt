@@ -38,9 +38,10 @@ returns-clause-shows c = λ st.
     let number = rw (c.functions.ensures.functions, c.as_slice-2.ensures) at c.function_number-function.ensures in
     let received = c.in_ok-receive.ensures in
     let height = c.len-height.ensures ∙ ap (λ (x : Instance). vec_len x.below) received.others in
-    spawned-child plan i st (option_copied c.args.target) c.args.call.now c.in_ok-args.args c.in_ok-instead.instead c.function_number-function.result c.len-height.result
+    rw c.in_ok-child.ensures
+    (spawned-child plan i st (option_copied c.args.target) c.args.call.now c.in_ok-args.args c.in_ok-instead.instead c.function_number-function.result c.len-height.result
     c.in_ok-pedigree.field-0 c.in_ok-path.path c.in_ok-target.target c.receive.new.self.top.env c.receive.new.self
-    known (omega arith) number c.in_ok-pedigree.ensures (c.in_ok-path.ensures ∙ c.in_ok-trail.ensures.path) c.in_ok-instead.ensures received.env received.others (omega arith) c.in_ok-target.ensures
+    known (omega arith) number c.in_ok-pedigree.ensures (c.in_ok-path.ensures ∙ c.in_ok-trail.ensures.path) c.in_ok-instead.ensures received.env received.others (omega arith) c.in_ok-target.ensures)
 
 pub returns-clause-child : goal.returns-clause-child
-returns-clause-child c = record { fits = c.in_ok-trail.ensures.fits; path = sym c.in_ok-path.ensures }
+returns-clause-child c = rw c.in_ok-child.ensures (record { fits = c.in_ok-trail.ensures.fits; path = sym c.in_ok-path.ensures })
