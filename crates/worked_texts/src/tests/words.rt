@@ -227,23 +227,31 @@ fn commands_have_their_settings(rt: HostRuntime) -> Result<(), Fail> {
 }
 
 #[test]
-fn some_commands_have_no_settings(rt: HostRuntime) -> Result<(), Fail> {
+fn a_hash_has_256_coefficients(rt: HostRuntime) -> Result<(), Fail> {
     match command_of(rt.alloc(), "hash --gamma 5 --at 0")? {
         Command::Hash { gamma, at } => {
             assert_eq!(rt; gamma.len(), 256);
-            assert_eq!(rt; gamma.coeff(1), 5);
-            assert_eq!(rt; gamma.coeff(256), 0);
-            assert_eq!(rt; at.rank_at(0), Some(0));
-            assert_eq!(rt; at.len(), 1);
+            assert_eq!(rt; (gamma.coeff(1), gamma.coeff(256)), (5, 0));
+            assert_eq!(rt; (at.len(), at.rank_at(0)), (1, Some(0)));
         }
         _other => assert!(rt; false, "not hash"),
     }
+    Ok(())
+}
+
+#[test]
+fn a_size_fits_its_shape(rt: HostRuntime) -> Result<(), Fail> {
     for line in ["gen --size 20 --shape tree", "gen --shape tree --size 20"] {
         match command_of(rt.alloc(), line)? {
             Command::Gen { shape, size } => assert!(rt; shape == Shape::Tree && size == 20),
             _other => assert!(rt; false, "not gen"),
         }
     }
+    Ok(())
+}
+
+#[test]
+fn some_commands_have_no_options(rt: HostRuntime) -> Result<(), Fail> {
     let checked = command_of(rt.alloc(), "check")?;
     assert!(rt; matches!(&checked, Command::Check));
     let printed = command_of(rt.alloc(), "fmt")?;
