@@ -2,13 +2,13 @@
 
 use ped_gen::Shape;
 use ped_words::{Command, Settings, WordError, read_words};
-use serial_meaning::Show;
+use serial_meaning::{Memory, Show};
 use std::alloc::Global;
 use std::process::Abort;
 use std::test::Fail;
 
 // Words stand between single blanks, so two blanks have an empty word between them.
-fn words_of(alloc: Global, line: &str) -> Result<Vec<String>, Fail> {
+fn words_of(alloc: Global, line: &str) -> Result<Vec<String>, Memory> {
     let mut words = Vec::new(alloc);
     if !line.is_empty() {
         for word in line.split(' ') {
@@ -23,17 +23,22 @@ fn command_of(alloc: Global, line: &str) -> Result<Command, Fail> {
     Ok(read_words(alloc, &words)?)
 }
 
-fn refuses(rt: &impl Abort, alloc: Global, line: &str, number: u8, at: u32) -> Result<(), Fail> {
-    let words = words_of(alloc, line)?;
-    let error = read_words(alloc, &words).err();
-    assert_eq!(rt; error, Some(WordError::Bad { number, at }), "{line}");
-    Ok(())
+/// The number of the first rule that the words break and the word where they do, (0, 0) of a command, and (99, 0) where there is no memory.
+fn refusal(alloc: Global, line: &str) -> (u8, u32) {
+    let Ok(words) = words_of(alloc, line) else {
+        return (99, 0);
+    };
+    match read_words(alloc, &words) {
+        Ok(_) => (0, 0),
+        Err(WordError::Bad { number, at }) => (number, at),
+        Err(WordError::Memory) => (99, 0),
+    }
 }
 
 // The name first, then the value by its form and by its range, and last what all words together show.
 #[test]
-fn words_are_judged_in_order(rt: HostRuntime) -> Result<(), Fail> {
-    let rows = [
+fn words_are_judged_in_order(rt: HostRuntime) {
+    for (line, number, at) in [
         ("", 1, 0),
         ("go", 2, 0),
         (" run", 2, 0),
@@ -106,11 +111,9 @@ fn words_are_judged_in_order(rt: HostRuntime) -> Result<(), Fail> {
         ("gen --shape tree --size 21", 7, 4),
         ("gen --shape loop --size 0", 7, 4),
         ("gen --shape loop --size 4097", 7, 4),
-    ];
-    for (line, number, at) in rows {
-        refuses(&rt, rt.alloc(), line, number, at)?;
+    ] {
+        assert_eq!(rt; refusal(rt.alloc(), line), (number, at), "{line}");
     }
-    Ok(())
 }
 
 // 256 ranks are a pedigree, and 257 are too many. Words behind the first fault are of no account, however many there are.
@@ -126,13 +129,14 @@ fn words_may_be_long_and_many(rt: HostRuntime) -> Result<(), Fail> {
         _other => assert!(rt; false, "not hash"),
     }
     line.push_str(".7")?;
-    refuses(&rt, alloc, line.as_str(), 7, 2)?;
+    assert_eq!(rt; refusal(alloc, line.as_str()), (7, 2));
 
     let mut line = String::from_str(alloc, "run --depth 1")?;
     for _ in 0..100 {
         line.push_str(" --depth 2")?;
     }
-    refuses(&rt, alloc, line.as_str(), 4, 3)
+    assert_eq!(rt; refusal(alloc, line.as_str()), (4, 3));
+    Ok(())
 }
 
 fn assert_settings(
