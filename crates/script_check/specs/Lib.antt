@@ -8,3 +8,4 @@ pub mod Statements
 pub mod Valid
 pub mod Walk
 pub mod Laws
+pub mod Spawns

@@ -13,6 +13,7 @@ use Rattle.script_check.specs.Valid.{IsValid}
 use Rattle.script_check.specs.declared.scope.Change.{Change}
 use Rattle.script_check.specs.declared.scope.Change.TheVariants.{Added, Cleared}
 use Rattle.script_check.specs.declared.scope.Scope.{Scope}
+use Rattle.script_check.specs.Spawns.{each_spawns}
 use Rattle.script_check.specs.Tables.{Table, table_of}
 use Rattle.script_check.specs.Functions.{first_named}
 use Rattle.script_check.specs.Names.{Names}
@@ -106,7 +107,8 @@ behind_all functions ss state =
     }
 
 -- what a checked script keeps
-pub record IsChecked (script : Script) (first : Table ℕ) : Type 0 where
+pub record IsChecked (script : Script) (first : Table ℕ) (spawns : List Bool) : Type 0 where
   pub valid : IsValid script
   pub text : IsOfText script
   pub index : IsIndex script.functions first
+  pub spawn : spawns ≡ each_spawns script.functions

@@ -1,8 +1,9 @@
 // Checked scripts.
 
-ghost use Rattle.std.specs.Prelude.{◌≡◌, ◌≢◌, ◌<◌, ℕ, ◌++◌, Some, Err, IfOk, IfSome, OnOk, length};
+ghost use Rattle.std.specs.Prelude.{◌≡◌, ◌≢◌, ◌<◌, ℕ, ◌++◌, Some, Err, IfOk, IfSome, OnOk, length, slice_get};
 ghost use Rattle.script_grammar.specs.Text.{IsOfText};
 ghost use Rattle.script_check.specs.Functions.{first_named, function_named, main_name};
+ghost use Rattle.script_check.specs.Spawns.{spawns_in};
 ghost use Rattle.script_check.specs.Tables.{table_of};
 ghost use Rattle.script_check.specs.Valid.{IsValid, CheckFault, all_function_faults, main_faults};
 ghost use Rattle.script_check.specs.Violations.{noted};
@@ -14,7 +15,8 @@ use crate::function::{judge_function, judge_main};
 use crate::functions::{Functions, index};
 use crate::memory::Memory;
 use crate::names::NameTable;
-use script_grammar::{Name, Script};
+use crate::texts::each_spawns;
+use script_grammar::{Items, Name, Script};
 use std::alloc::Global;
 use std::marker::Model;
 
@@ -23,6 +25,8 @@ use std::marker::Model;
 pub struct Checked {
     script: Script,
     first: NameTable<u32>,
+    /// Whether the word `spawn` stands in the text of each function.
+    spawns: Items<bool>,
 }
 
 impl Model for Checked {
@@ -30,6 +34,7 @@ impl Model for Checked {
     ghost use Rattle.script_grammar.specs.declared.tree.Script.{Script};
     ghost use Rattle.script_grammar.specs.contracts.tree.Script as script_type;
     ghost use Rattle.script_check.specs.Tables.{table_of};
+    ghost use Rattle.script_check.specs.Spawns.{each_spawns};
     ghost use Rattle.script_check.specs.Walk.{IsChecked};
 
     ghost Value = { Script };
@@ -38,7 +43,7 @@ impl Model for Checked {
 
     ghost view = { λ c. c.script };
 
-    ghost invariant = { λ c. IsChecked c.script (table_of c.first.map) };
+    ghost invariant = { λ c. IsChecked c.script (table_of c.first.map) c.spawns };
 }
 
 /// Checks a script that a text is of. `Ok` comes exactly for valid scripts, apart from want of memory; else the error tells the
@@ -52,8 +57,13 @@ pub fn check(alloc: Global, script: Script) -> Result<Checked, CheckError>
     let mut found = Findings::new();
     let first = index(alloc, &mut found, script.functions.as_slice())?;
     judge_script(alloc, &mut found, &script, &first)?;
+    let spawns = each_spawns(alloc, script.functions.as_slice())?;
     match found.least() {
-        None => Ok(Checked { script, first }),
+        None => Ok(Checked {
+            script,
+            first,
+            spawns,
+        }),
         Some(Violation { at, number }) => Err(CheckError::Bad { number, at }),
     }
 }
@@ -102,5 +112,15 @@ impl Checked {
         ensures within { IfSome result (λ i. i < length self.now.functions) }
     {
         self.first.get(name.bytes.as_slice())
+    }
+
+    /// Whether the word `spawn` stands in the text of the function at this place, if there is one.
+    pub fn spawns(&self, function: u32) -> bool
+        ensures { result ≡ spawns_in (slice_get self.now.functions function) }
+    {
+        match self.spawns.as_slice().get(function as usize) {
+            Some(spawns) => *spawns,
+            None => false,
+        }
     }
 }

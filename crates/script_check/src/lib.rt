@@ -16,6 +16,7 @@ mod spawns;
 mod statement;
 #[cfg(test)]
 mod tests;
+mod texts;
 mod variable;
 
 pub use checked::{Checked, check};

@@ -7,7 +7,10 @@ use std::alloc::Global;
 use std::marker::Model;
 use std::mem;
 
-/// A list of events. It is kept in segments, which are moved and never copied where a list is put behind another one.
+/// How many events are moved at most where a list is put behind another one.
+const MOST_MOVED: usize = 8;
+
+/// A list of events. It is kept in segments, which are moved and not copied where a list of more than a few events is put behind another one.
 #[derive(Drop)]
 pub struct Out {
     count: u64,
@@ -53,7 +56,7 @@ impl Out {
         match &mut self.segments {
             Some(segments) => segments.last.push(event)?,
             None => {
-                let mut last = Vec::new(alloc);
+                let mut last = Vec::with_capacity(alloc, 1)?;
                 last.push(event)?;
                 self.segments = Some(Segments {
                     full: Vec::new(alloc),
@@ -118,9 +121,32 @@ impl Out {
 impl Segments {
     ghost use Rattle.serial_meaning.specs.Segments.{segments_events};
 
-    /// Puts the other segments behind these, whose last one grows no more.
-    #[tactic(auto, using(crate::proofs::SegmentLemmas::joined_after))]
+    /// Puts the other segments behind these, whose last one grows no more. A few events are moved to the end of that one, so that
+    /// there are fewer segments to go on with.
     fn append(&mut self, others: Segments) -> Result<(), Memory>
+        ensures ok { OnOk result (segments_events self.new ≡ segments_events self.old ++ segments_events others) }
+        ensures err { OnErr result (segments_events self.new ≡ segments_events self.old) }
+    {
+        if others.full.is_empty() && others.last.len() <= MOST_MOVED {
+            self.take_in(others.last)
+        } else {
+            self.follow(others)
+        }
+    }
+
+    /// Puts events at the end of the last segment.
+    fn take_in(&mut self, mut events: Vec<Event>) -> Result<(), Memory>
+        ensures ok { OnOk result (segments_events self.new ≡ segments_events self.old ++ events.items) }
+        ensures err { OnErr result (segments_events self.new ≡ segments_events self.old) }
+    {
+        self.last.try_reserve(events.len())?;
+        self.last.append(&mut events).unwrap();
+        Ok(())
+    }
+
+    /// Puts the other segments behind these.
+    #[tactic(auto, using(crate::proofs::SegmentLemmas::joined_after))]
+    fn follow(&mut self, others: Segments) -> Result<(), Memory>
         ensures ok { OnOk result (segments_events self.new ≡ segments_events self.old ++ segments_events others) }
         ensures err { OnErr result (segments_events self.new ≡ segments_events self.old) }
     {

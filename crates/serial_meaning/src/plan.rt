@@ -1,4 +1,5 @@
-ghost use Rattle.std.specs.Prelude.{◌≡◌, ◌≤◌, length, IfOk};
+ghost use Rattle.std.specs.Prelude.{◌≡◌, ◌≤◌, length, IfOk, slice_get};
+ghost use Rattle.script_check.specs.Spawns.{spawns_in};
 ghost use Rattle.serial_meaning.specs.Plan.{IsPlan, functions_of};
 ghost use Rattle.serial_meaning.specs.Functions.{number_of};
 ghost use Rattle.serial_meaning.specs.Eval.{main_origin};
@@ -76,6 +77,13 @@ impl Plan {
     {
         functions_are_few();
         self.checked.script().functions.as_slice()
+    }
+
+    /// Whether the word `spawn` stands in the text of the function at this place, if there is one.
+    pub fn spawns(&self, function: u32) -> bool
+        ensures { result ≡ spawns_in (slice_get (functions_of self.now) function) }
+    {
+        self.checked.spawns(function)
     }
 
     /// The origin of a whole run: `main` at the empty path.

@@ -1,6 +1,7 @@
 -- What each statement does, once it is paid.
 use Rattle.std.proofs.Common.{◌≡◌, ℕ, suc, ◌+◌, Bool, true, false, nat_lt, List, [], ◌∷◌, ◌++◌, Option, Some, None, Ok, Err, refl, ap, ◌∙◌, length, if◌then◌else◌}
 use Rattle.std.proofs.Common.{ℤ, pos, w64}
+use Rattle.std.proofs.lemmas.List.{append-nil}
 use Rattle.std.specs.Int.{cast_signed}
 use Rattle.dotmix.specs.Draws.{dotmix}
 use Rattle.script_grammar.specs.declared.tree.Name.{Name}
@@ -29,7 +30,7 @@ use Rattle.serial_meaning.specs.declared.event.Fault.{Fault}
 use Rattle.serial_meaning.specs.declared.event.Event.TheVariants as event
 use Rattle.serial_meaning.specs.declared.origin.Origin.{Origin}
 use Rattle.serial_meaning.specs.declared.origin.Origin.TheVariants as origin
-use Rattle.strand_meaning.specs.Machine.{Spawned, Token, Told, Handed, handing, inside, place_of, Activation, Machine, Reached, Stands, state_of, with_left, with_scalar, entered, reached, statement_move}
+use Rattle.strand_meaning.specs.Machine.{Spawned, Token, Told, Handed, handing, inside, place_of, Activation, Machine, Reached, Stands, state_of, with_left, with_scalar, entered, reached, statement_move, sync_tokens}
 use Rattle.strand_moves.specs.Moves.{acted, call_to, spawn_to}
 
 abbrev pub with_env : Machine → Env → Machine
@@ -123,6 +124,11 @@ module _ (plan : PlanView) (path : List ℕ) (m : Machine) (st : Stmt) where
   pub array : (x : Name) (n : Number) (env : Env) → env ≡ with_slot m.top.env x.bytes (Array (zeros (count_of n.value))) → acted plan path m st (act.Array x n) ≡ went [] (with_env m env)
   unfolding acted
   array x n env h = rw h refl
+
+  pub sync : acted plan path m st act.Sync ≡ went (Told (event.Sync (path ++ m.rank ∷ [])) ∷ sync_tokens m.top.spawned) (record m { rank = m.rank + 1; top = record m.top { spawned = false } })
+  unfolding acted
+  sync =
+      ap (λ (tokens : List Token). went (Told (event.Sync (path ++ m.rank ∷ [])) ∷ tokens) (record m { rank = m.rank + 1; top = record m.top { spawned = false } })) (append-nil (sync_tokens m.top.spawned))
 
   pub print : (e : Expr) (v : Value) → value_of e m.top.env ≡ Ok v → acted plan path m st (act.Print e) ≡ went (Told (event.Print (path ++ m.rank ∷ []) v) ∷ []) m
   unfolding acted

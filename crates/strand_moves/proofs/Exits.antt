@@ -8,21 +8,21 @@ use Rattle.strand_meaning.specs.Machine.{Token, Machine, Reached}
 use Rattle.strand_values.specs.Gives.{Gives}
 use Rattle.strand_values.specs.declared.halt.Halt as values
 use Rattle.strand_values.specs.declared.halt.Halt.TheVariants as halt
-use Rattle.strand_moves.specs.declared.shown.Shown.{Shown}
-use Rattle.strand_moves.specs.Moves.{Shows}
+use Rattle.strand_moves.specs.declared.shown.Moved.{Moved}
+use Rattle.strand_moves.specs.Moves.{Makes}
 use Rattle.strand_moves.proofs.Equations.{faults}
 
 module _ (run : Run Token Fault Reached) (strand : List ℕ) (m : Machine) where
-  shows-halt : {A : Type 0} (h : values.Halt) (defined : Result A FaultKind) → Gives (Err h) defined → ((kind : FaultKind) → defined ≡ Err kind → run ≡ faults kind strand) → Shows run strand m (Err h)
+  shows-halt : {A : Type 0} (h : values.Halt) (defined : Result A FaultKind) → Gives (Err h) defined → ((kind : FaultKind) → defined ≡ Err kind → run ≡ faults kind strand) → Makes run strand m (Err h)
   shows-halt (halt.Fault kind) defined g f = f kind g
   shows-halt halt.Memory defined g f = tt
 
   -- by what a calculation answered
-  pub shows-exit : {A : Type 0} (r : Result Shown values.Halt) (h : values.Halt) (defined : Result A FaultKind) → IsErrAnd r (λ y. y ≡ h) → Gives (Err h) defined →
-      ((kind : FaultKind) → defined ≡ Err kind → run ≡ faults kind strand) → Shows run strand m r
+  pub shows-exit : {A : Type 0} (r : Result Moved values.Halt) (h : values.Halt) (defined : Result A FaultKind) → IsErrAnd r (λ y. y ≡ h) → Gives (Err h) defined →
+      ((kind : FaultKind) → defined ≡ Err kind → run ≡ faults kind strand) → Makes run strand m r
   shows-exit (Ok s) h defined e g f = absurd e
-  shows-exit (Err y) h defined e g f = let P : values.Halt → Type 0 = λ z. Shows run strand m (Err z) in subst P (sym e) (shows-halt h defined g f)
+  shows-exit (Err y) h defined e g f = let P : values.Halt → Type 0 = λ z. Makes run strand m (Err z) in subst P (sym e) (shows-halt h defined g f)
 
-  pub shows-fault : (r : Result Shown values.Halt) (kind : FaultKind) → IsErrAnd r (λ y. y ≡ halt.Fault kind) → run ≡ faults kind strand → Shows run strand m r
+  pub shows-fault : (r : Result Moved values.Halt) (kind : FaultKind) → IsErrAnd r (λ y. y ≡ halt.Fault kind) → run ≡ faults kind strand → Makes run strand m r
   shows-fault (Ok s) kind e f = absurd e
-  shows-fault (Err y) kind e f = let P : values.Halt → Type 0 = λ z. Shows run strand m (Err z) in subst P (sym e) f
+  shows-fault (Err y) kind e f = let P : values.Halt → Type 0 = λ z. Makes run strand m (Err z) in subst P (sym e) f

@@ -1,6 +1,7 @@
 pub mod BelowLemmas
 pub mod CallLemmas
 pub mod ChildLemmas
+pub mod Conditions
 pub mod CursorLemmas
 pub mod Ending
 pub mod Entering

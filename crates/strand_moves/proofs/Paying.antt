@@ -13,15 +13,15 @@ use Rattle.serial_meaning.specs.declared.event.Fault.{Fault}
 use Rattle.strand_meaning.specs.Machine.{Token, Machine, Reached, statement_move}
 use Rattle.strand_values.specs.declared.halt.Halt as values
 use Rattle.strand_moves.specs.declared.instance.Instance.{Instance}
-use Rattle.strand_moves.specs.declared.shown.Shown.{Shown}
+use Rattle.strand_moves.specs.declared.shown.Moved.{Moved}
 use Rattle.strand_moves.specs.Acts.{Acts}
 use Rattle.strand_moves.specs.Cursors.{IsBehind}
 use Rattle.strand_moves.specs.Machines.{body_of, machine_of, path_of}
-use Rattle.strand_moves.specs.Moves.{acted, Shows, strand_of}
+use Rattle.strand_moves.specs.Moves.{acted, Makes, strand_of}
 use Rattle.strand_moves.proofs.Equations.{behind_statement, paid-move}
 
-pub shows-same : (run other : Run Token Fault Reached) (strand : List ℕ) (m : Machine) (result : Result Shown values.Halt) → run ≡ other → Shows other strand m result → Shows run strand m result
-shows-same run other strand m result e h = let P : Run Token Fault Reached → Type 0 = λ r. Shows r strand m result in subst P (sym e) h
+pub shows-same : (run other : Run Token Fault Reached) (strand : List ℕ) (m : Machine) (result : Result Moved values.Halt) → run ≡ other → Makes other strand m result → Makes run strand m result
+shows-same run other strand m result e h = let P : Run Token Fault Reached → Type 0 = λ r. Makes r strand m result in subst P (sym e) h
 
 -- an act by its variant
 pub act-is : (d : Act-F Act Stmt) (a b : Act) → a ≡ b → roll-Act d ≡ b → out-Act a ≡ d
@@ -38,8 +38,8 @@ module _ (plan : PlanView) (path : List ℕ) (m : Machine) (st : Stmt) (x : Name
   spawn-at = refl
 
 module _ (plan : PlanView) (i paid : Instance) (n : ℕ) (is-paid : paid ≡ record i { steps = n }) (less : n + 1 ≡ i.steps) where
-  pub statement-paid : (st : Stmt) (a : Act-F Act Stmt) (new : Instance) (result : Result Shown values.Halt) → out-Act (out-Stmt st).act ≡ a → Acts plan st a paid new result →
-      Shows (statement_move plan (path_of i) (machine_of plan i) st (machine_of plan i).top.left) (strand_of (path_of i) (machine_of plan i)) (machine_of plan new) result
+  pub statement-paid : (st : Stmt) (a : Act-F Act Stmt) (new : Instance) (result : Result Moved values.Halt) → out-Act (out-Stmt st).act ≡ a → Acts plan st a paid new result →
+      Makes (statement_move plan (path_of i) (machine_of plan i) st (machine_of plan i).top.left) (strand_of (path_of i) (machine_of plan i)) (machine_of plan new) result
   statement-paid st a new result e h =
       let m = machine_of plan i in
       let one : m.steps ≡ suc n = omega arith in

@@ -61,12 +61,6 @@ Makes run strand m (Ok moved) = run ≡ run_of moved m
 Makes run strand m (Err (halt.Fault kind)) = run ≡ record { items = []; ending = Err (record { kind = kind; at = strand }) }
 Makes run strand m (Err halt.Memory) = Unit {0}
 
--- the same for a move that goes on
-abbrev pub Shows : Run Token Fault Reached → List ℕ → Machine → Result Shown values.Halt → Type 0
-Shows run strand m (Ok s) = run ≡ record { items = tokens_of s; ending = Ok (Stands m) }
-Shows run strand m (Err (halt.Fault kind)) = run ≡ record { items = []; ending = Err (record { kind = kind; at = strand }) }
-Shows run strand m (Err halt.Memory) = Unit {0}
-
 abbrev pub strand_of : List ℕ → Machine → List ℕ
 strand_of path m = path ++ m.rank ∷ []
 

@@ -9,13 +9,12 @@ ghost use Rattle.strand_meaning.specs.Machine.{return_move, spawns_in, with_scal
 ghost use Rattle.strand_values.specs.Gives.{Gives};
 ghost use Rattle.strand_moves.specs.Acts.{Acts, Costs, IsCallee, result_of};
 ghost use Rattle.strand_moves.specs.Machines.{IsInstance, machine_of, path_of};
-ghost use Rattle.strand_moves.specs.Moves.{Makes, MovesTrail, Shows, ShowsTrail, call_to, strand_of};
+ghost use Rattle.strand_moves.specs.Moves.{Makes, MovesTrail, call_to, strand_of};
 
 use crate::activation::{Activation, copy_of};
 use crate::instance::Instance;
 use crate::memory::Memory;
 use crate::shown::{Moved, Shown};
-use crate::spawns::any_spawns;
 use script_grammar::{CallText, Function, Items, Name};
 use serial_meaning::plan::function_number;
 use serial_meaning::{FaultKind, Plan, Value};
@@ -34,9 +33,9 @@ impl Instance {
         plan: &Plan,
         target: Option<&Name>,
         call: &CallText,
-    ) -> Result<Shown, Halt>
+    ) -> Result<Moved, Halt>
         ensures shows { (st : Stmt) → Acts plan.now st (call_to (option_copied target.entry) call.now) self.old self.new result }
-        ensures child { IfOk result (ShowsTrail plan.now) }
+        ensures child { IfOk result (MovesTrail plan.now) }
         ensures trail { self.new.trail ≡ self.old.trail }
         ensures few { Costs self.old self.new }
     {
@@ -49,7 +48,7 @@ impl Instance {
             Some(function) => self.open(alloc, number, function, args, target)?,
             None => self.receive(alloc, target, Value::Int(0))?,
         }
-        Ok(Shown::Nothing)
+        Ok(Moved::Went(Shown::Nothing))
     }
 
     /// Begins a function over the innermost activation.
@@ -91,30 +90,27 @@ impl Instance {
     }
 
     /// The step of a return and the sync that it implies.
-    pub(crate) fn return_step(&mut self, plan: &Plan) -> Result<Shown, Halt>
+    pub(crate) fn return_step(&mut self, plan: &Plan) -> Result<Moved, Halt>
         requires { IsInstance plan.now self.old }
         ensures shows { let m = machine_of plan.now self.old in
-            Shows (return_move plan.now (path_of self.old) m false) (strand_of (path_of self.old) m) (machine_of plan.now self.new) result }
-        ensures child { IfOk result (ShowsTrail plan.now) }
+            Makes (return_move plan.now (path_of self.old) m false) (strand_of (path_of self.old) m) (machine_of plan.now self.new) result }
+        ensures child { IfOk result (MovesTrail plan.now) }
         ensures trail { self.new.trail ≡ self.old.trail }
         ensures few { self.new.rank + self.new.steps ≤ self.old.rank + self.old.steps }
     {
         self.pay()?;
         self.top.returning = true;
         if self.has_spawns(plan) {
-            return Ok(self.sync()?);
+            return Ok(Moved::Went(self.sync()?));
         }
-        Ok(Shown::Nothing)
+        Ok(Moved::Went(Shown::Nothing))
     }
 
     /// Whether the word `spawn` stands in the text of the innermost activation.
     fn has_spawns(&self, plan: &Plan) -> bool
         ensures { result ≡ spawns_in (function_at (functions_of plan.now) self.now.top.function) }
     {
-        match function_in(plan, self.top.function) {
-            Some(f) => any_spawns(f.body.as_slice()),
-            None => false,
-        }
+        plan.spawns(self.top.function)
     }
 
     /// The value of the innermost activation's function, as its variables are.

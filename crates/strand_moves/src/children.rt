@@ -13,14 +13,14 @@ ghost use Rattle.serial_meaning.specs.declared.event.Event.TheVariants as event;
 ghost use Rattle.strand_meaning.specs.Machine.{Told, sync_tokens};
 ghost use Rattle.strand_moves.specs.Acts.{Acts, Costs, loop_begins};
 ghost use Rattle.strand_moves.specs.Machines.{IsInstance, path_of};
-ghost use Rattle.strand_moves.specs.Moves.{spawn_to, tokens_of, ShowsTrail};
+ghost use Rattle.strand_moves.specs.Moves.{spawn_to, tokens_of, MovesTrail, ShowsTrail};
 ghost use Rattle.strand_moves.specs.declared.shown.Shown.TheVariants as shown;
 
 use crate::activation::copy_of;
 use crate::calls::function_in;
 use crate::instance::Instance;
 use crate::memory::Memory;
-use crate::shown::{Child, Shown};
+use crate::shown::{Child, Moved, Shown};
 use dotmix::Trail;
 use loop_range::IterRange;
 use ped_path::{Ped, Pedigree};
@@ -38,10 +38,10 @@ impl Instance {
         plan: &Plan,
         target: Option<&Name>,
         call: &CallText,
-    ) -> Result<Shown, Halt>
+    ) -> Result<Moved, Halt>
         requires { IsInstance plan.now self.old }
         ensures shows { (st : Stmt) → Acts plan.now st (spawn_to (option_copied target.entry) call.now) self.old self.new result }
-        ensures child { IfOk result (ShowsTrail plan.now) }
+        ensures child { IfOk result (MovesTrail plan.now) }
         ensures trail { self.new.trail ≡ self.old.trail }
         ensures few { Costs self.old self.new }
     {
@@ -65,12 +65,12 @@ impl Instance {
         self.rank += 1;
         self.top.spawned = true;
         let height = self.below.len();
-        Ok(Shown::Spawned {
+        Ok(Moved::Went(Shown::Spawned {
             event,
             child,
             height,
             target,
-        })
+        }))
     }
 
     /// A sync, written or implied.
@@ -102,10 +102,10 @@ impl Instance {
         hi: &Expr,
         target: &Option<Name>,
         call: &CallText,
-    ) -> Result<Shown, Halt>
+    ) -> Result<Moved, Halt>
         requires { IsInstance plan.now self.old }
         ensures shows { (st : Stmt) (var : _) → Acts plan.now st (act.Pfor var lo.now hi.now target.now call.now) self.old self.new result }
-        ensures child { IfOk result (ShowsTrail plan.now) }
+        ensures child { IfOk result (MovesTrail plan.now) }
         ensures trail { self.new.trail ≡ self.old.trail }
         ensures few { Costs self.old self.new }
     {
@@ -115,7 +115,7 @@ impl Instance {
         let count = iterations(first, end);
         self.begin_loop(plan, target, count)?;
         if count == 0 {
-            return Ok(self.pass_loop(alloc, target)?);
+            return Ok(Moved::Went(self.pass_loop(alloc, target)?));
         }
         let function = function_number(plan.functions(), call.name.bytes.as_slice());
         let trail = self.child_trail(alloc, plan)?;
@@ -129,7 +129,7 @@ impl Instance {
             range,
         };
         let child = boxed(alloc, origin, trail)?;
-        Ok(self.hand_loop(alloc, target, child)?)
+        Ok(Moved::Went(self.hand_loop(alloc, target, child)?))
     }
 
     /// The steps of a loop of so many iterations, the room of its target, and the depth of its iterations.

@@ -7,7 +7,7 @@ ghost use Rattle.strand_meaning.specs.Machine.{Stands, begun, move};
 
 use crate::activation::{Activation, body};
 use crate::memory::Memory;
-use crate::shown::{Moved, Shown};
+use crate::shown::Moved;
 use dotmix::Trail;
 use ped_path::Pedigree;
 use script_grammar::Items;
@@ -85,9 +85,9 @@ impl Instance {
         ensures few { self.new.rank + self.new.steps ≤ self.old.rank + self.old.steps }
     {
         match self.top.cursor.pass(body(plan, self.top.function)) {
-            Some(statement) => Ok(Moved::Went(self.statement(alloc, plan, statement)?)),
+            Some(statement) => self.statement(alloc, plan, statement),
             None if self.top.returning => self.end(alloc, plan),
-            None => Ok(Moved::Went(self.return_step(plan)?)),
+            None => self.return_step(plan),
         }
     }
 

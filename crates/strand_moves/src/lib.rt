@@ -13,7 +13,6 @@ mod instance;
 mod memory;
 mod right;
 mod shown;
-mod spawns;
 mod statement;
 #[cfg(test)]
 mod tests;

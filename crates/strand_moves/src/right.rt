@@ -7,10 +7,10 @@ ghost use Rattle.script_grammar.specs.declared.tree.Stmt.{Stmt};
 ghost use Rattle.serial_meaning.specs.Plan.{PlanView};
 ghost use Rattle.strand_moves.specs.Acts.{Acts, Costs};
 ghost use Rattle.strand_moves.specs.Machines.{IsInstance};
-ghost use Rattle.strand_moves.specs.Moves.{ShowsTrail};
+ghost use Rattle.strand_moves.specs.Moves.{MovesTrail};
 
 use crate::instance::Instance;
-use crate::shown::Shown;
+use crate::shown::{Moved, Shown};
 use script_grammar::{Expr, Name, Right};
 use serial_meaning::{Event, Plan, Value};
 use std::alloc::Global;
@@ -24,10 +24,10 @@ impl Instance {
         plan: &Plan,
         x: &Name,
         r: &Right,
-    ) -> Result<Shown, Halt>
+    ) -> Result<Moved, Halt>
         requires { IsInstance plan.now self.old }
         ensures shows { (st : Stmt) → Acts plan.now st (act.Set x.now r.now) self.old self.new result }
-        ensures child { IfOk result (ShowsTrail plan.now) }
+        ensures child { IfOk result (MovesTrail plan.now) }
         ensures trail { self.new.trail ≡ self.old.trail }
         ensures few { Costs self.old self.new }
     {
@@ -40,21 +40,21 @@ impl Instance {
         }
     }
 
-    fn set_value(&mut self, alloc: Global, x: &Name, e: &Expr) -> Result<Shown, Halt>
+    fn set_value(&mut self, alloc: Global, x: &Name, e: &Expr) -> Result<Moved, Halt>
         ensures shows { (plan : PlanView) (st : Stmt) → Acts plan st (act.Set x.now (right.Value e.now)) self.old self.new result }
-        ensures child { (plan : PlanView) → IfOk result (ShowsTrail plan) }
+        ensures child { (plan : PlanView) → IfOk result (MovesTrail plan) }
         ensures trail { self.new.trail ≡ self.old.trail }
         ensures few { Costs self.old self.new }
     {
         let value = self.top.env.value(e)?;
         self.top.env.set_scalar(alloc, x, value)?;
-        Ok(Shown::Nothing)
+        Ok(Moved::Went(Shown::Nothing))
     }
 
-    fn set_draw(&mut self, alloc: Global, plan: &Plan, x: &Name) -> Result<Shown, Halt>
+    fn set_draw(&mut self, alloc: Global, plan: &Plan, x: &Name) -> Result<Moved, Halt>
         requires { IsInstance plan.now self.old }
         ensures shows { (st : Stmt) (at : ℕ) → Acts plan.now st (act.Set x.now (right.Draw at)) self.old self.new result }
-        ensures child { (plan : PlanView) → IfOk result (ShowsTrail plan) }
+        ensures child { (plan : PlanView) → IfOk result (MovesTrail plan) }
         ensures trail { self.new.trail ≡ self.old.trail }
         ensures few { Costs self.old self.new }
     {
@@ -64,13 +64,13 @@ impl Instance {
             .env
             .set_scalar(alloc, x, Value::Int(word.cast_signed()))?;
         self.rank += 1;
-        Ok(Shown::Told(event))
+        Ok(Moved::Went(Shown::Told(event)))
     }
 
-    fn set_new(&mut self, alloc: Global, x: &Name) -> Result<Shown, Halt>
+    fn set_new(&mut self, alloc: Global, x: &Name) -> Result<Moved, Halt>
         requires { self.old.rank < 2 ^ 32 }
         ensures shows { (plan : PlanView) (st : Stmt) (at : ℕ) → Acts plan st (act.Set x.now (right.New at)) self.old self.new result }
-        ensures child { (plan : PlanView) → IfOk result (ShowsTrail plan) }
+        ensures child { (plan : PlanView) → IfOk result (MovesTrail plan) }
         ensures trail { self.new.trail ≡ self.old.trail }
         ensures few { Costs self.old self.new }
     {
@@ -78,6 +78,6 @@ impl Instance {
         let object = self.pedigree()?;
         self.top.env.set_scalar(alloc, x, Value::Id(object))?;
         self.rank += 1;
-        Ok(Shown::Told(event))
+        Ok(Moved::Went(Shown::Told(event)))
     }
 }

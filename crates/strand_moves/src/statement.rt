@@ -9,14 +9,14 @@ ghost use Rattle.strand_meaning.specs.Machine.{statement_move};
 ghost use Rattle.strand_moves.specs.Acts.{Acts, Costs};
 ghost use Rattle.strand_moves.specs.Cursors.{IsBehind};
 ghost use Rattle.strand_moves.specs.Machines.{IsInstance, machine_of, path_of, body_of};
-ghost use Rattle.strand_moves.specs.Moves.{Shows, ShowsTrail, strand_of};
+ghost use Rattle.strand_moves.specs.Moves.{Makes, MovesTrail, strand_of};
 
 use crate::instance::Instance;
-use crate::shown::Shown;
+use crate::shown::{Moved, Shown};
 use script_grammar::{Act, Expr, Name, Number, Stmt};
 use serial_meaning::{Event, FaultKind, Plan};
 use std::alloc::Global;
-use strand_values::{Halt, count, is_true, number};
+use strand_values::{Halt, count};
 
 impl Instance {
     /// A statement, behind which the cursor stands: its step, and then what it does.
@@ -25,12 +25,12 @@ impl Instance {
         alloc: Global,
         plan: &Plan,
         statement: &Stmt,
-    ) -> Result<Shown, Halt>
+    ) -> Result<Moved, Halt>
         requires instance { IsInstance plan.now self.old }
         requires behind { IsBehind (body_of plan.now self.old.top.function) self.old.top.cursor statement.now }
         ensures shows { let m = machine_of plan.now self.old in
-            Shows (statement_move plan.now (path_of self.old) m statement.now m.top.left) (strand_of (path_of self.old) m) (machine_of plan.now self.new) result }
-        ensures child { IfOk result (ShowsTrail plan.now) }
+            Makes (statement_move plan.now (path_of self.old) m statement.now m.top.left) (strand_of (path_of self.old) m) (machine_of plan.now self.new) result }
+        ensures child { IfOk result (MovesTrail plan.now) }
         ensures trail { self.new.trail ≡ self.old.trail }
         ensures few { self.new.rank + self.new.steps ≤ self.old.rank + self.old.steps }
     {
@@ -42,7 +42,7 @@ impl Instance {
             Act::Store(x, i, e) => self.store(x, i, e),
             Act::Spawn(c) => self.spawn(alloc, plan, None, c),
             Act::Call(c) => self.call(alloc, plan, None, c),
-            Act::Sync => Ok(self.sync()?),
+            Act::Sync => self.wait(),
             Act::Print(e) => self.print(e),
             Act::If(e, _, _) => self.branch(e),
             Act::While(e, _) => self.turn(e),
@@ -56,64 +56,75 @@ impl Instance {
         }
     }
 
-    fn array(&mut self, alloc: Global, x: &Name, n: Number) -> Result<Shown, Halt>
+    fn array(&mut self, alloc: Global, x: &Name, n: Number) -> Result<Moved, Halt>
         ensures shows { (plan : PlanView) (st : Stmt) → Acts plan st (act.Array x.now n) self.old self.new result }
-        ensures child { (plan : PlanView) → IfOk result (ShowsTrail plan) }
+        ensures child { (plan : PlanView) → IfOk result (MovesTrail plan) }
         ensures trail { self.new.trail ≡ self.old.trail }
         ensures few { Costs self.old self.new }
     {
         self.top.env.set_array(alloc, x, count(n.value))?;
-        Ok(Shown::Nothing)
+        Ok(Moved::Went(Shown::Nothing))
     }
 
-    fn store(&mut self, x: &Name, i: &Expr, e: &Expr) -> Result<Shown, Halt>
+    fn store(&mut self, x: &Name, i: &Expr, e: &Expr) -> Result<Moved, Halt>
         ensures shows { (plan : PlanView) (st : Stmt) → Acts plan st (act.Store x.now i.now e.now) self.old self.new result }
-        ensures child { (plan : PlanView) → IfOk result (ShowsTrail plan) }
+        ensures child { (plan : PlanView) → IfOk result (MovesTrail plan) }
         ensures trail { self.new.trail ≡ self.old.trail }
         ensures few { Costs self.old self.new }
     {
-        let index = number(&self.top.env.value(i)?);
+        let index = self.top.env.integer(i)?;
         if self.top.env.item(x, index).is_none() {
             return Err(Halt::Fault(FaultKind::Index));
         }
         let value = self.top.env.value(e)?;
         self.top.env.set_item(x, index, &value);
-        Ok(Shown::Nothing)
+        Ok(Moved::Went(Shown::Nothing))
     }
 
-    fn print(&mut self, e: &Expr) -> Result<Shown, Halt>
+    fn wait(&mut self) -> Result<Moved, Halt>
+        requires { self.old.rank < 2 ^ 32 }
+        ensures shows { (plan : PlanView) (st : Stmt) → Acts plan st act.Sync self.old self.new result }
+        ensures child { (plan : PlanView) → IfOk result (MovesTrail plan) }
+        ensures trail { self.new.trail ≡ self.old.trail }
+        ensures few { Costs self.old self.new }
+    {
+        Ok(Moved::Went(self.sync()?))
+    }
+
+    fn print(&mut self, e: &Expr) -> Result<Moved, Halt>
         requires { self.old.rank < 2 ^ 32 }
         ensures shows { (plan : PlanView) (st : Stmt) → Acts plan st (act.Print e.now) self.old self.new result }
-        ensures child { (plan : PlanView) → IfOk result (ShowsTrail plan) }
+        ensures child { (plan : PlanView) → IfOk result (MovesTrail plan) }
         ensures trail { self.new.trail ≡ self.old.trail }
         ensures few { Costs self.old self.new }
     {
         let value = self.top.env.value(e)?;
-        Ok(Shown::Told(Event::Print(self.pedigree()?, value)))
+        Ok(Moved::Went(Shown::Told(Event::Print(self.pedigree()?, value))))
     }
 
-    fn branch(&mut self, e: &Expr) -> Result<Shown, Halt>
+    fn branch(&mut self, e: &Expr) -> Result<Moved, Halt>
         ensures shows { (plan : PlanView) (st : Stmt) (yes no : List Stmt) → IsBehind (body_of plan self.old.top.function) self.old.top.cursor st →
             out-Act (out-Stmt st).act ≡ act.If e.now yes no → Acts plan st (act.If e.now yes no) self.old self.new result }
-        ensures child { (plan : PlanView) → IfOk result (ShowsTrail plan) }
+        ensures child { (plan : PlanView) → IfOk result (MovesTrail plan) }
         ensures trail { self.new.trail ≡ self.old.trail }
         ensures few { Costs self.old self.new }
     {
-        let holds = is_true(&self.top.env.value(e)?);
+        let holds = self.top.env.holds(e)?;
         self.top.cursor.enter(holds)?;
-        Ok(Shown::Nothing)
+        Ok(Moved::Went(Shown::Nothing))
     }
 
-    fn turn(&mut self, e: &Expr) -> Result<Shown, Halt>
+    fn turn(&mut self, e: &Expr) -> Result<Moved, Halt>
         ensures shows { (plan : PlanView) (st : Stmt) (body : List Stmt) → IsBehind (body_of plan self.old.top.function) self.old.top.cursor st →
             out-Act (out-Stmt st).act ≡ act.While e.now body → Acts plan st (act.While e.now body) self.old self.new result }
-        ensures child { (plan : PlanView) → IfOk result (ShowsTrail plan) }
+        ensures child { (plan : PlanView) → IfOk result (MovesTrail plan) }
         ensures trail { self.new.trail ≡ self.old.trail }
         ensures few { Costs self.old self.new }
     {
-        if is_true(&self.top.env.value(e)?) {
+        let holds = self.top.env.holds(e)?;
+        if holds {
             self.top.cursor.turn()?;
         }
-        Ok(Shown::Nothing)
+        Ok(Moved::Went(Shown::Nothing))
     }
 }

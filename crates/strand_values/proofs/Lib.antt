@@ -1,3 +1,4 @@
 pub mod ItemLemmas
+pub mod NumberLemmas
 pub mod PlaceLemmas
 pub mod ValueLemmas

@@ -1,6 +1,10 @@
 -- What a calculation in a running program answers, beside what is defined.
-use Rattle.std.specs.Prelude.{◌≡◌, Result, Ok, Err}
+use Rattle.std.specs.Prelude.{◌≡◌, Bool, Result, Ok, Err}
+use Rattle.std.specs.Prelude.{ℤ}
+use Rattle.serial_meaning.specs.Values.{number, is_true}
 use Rattle.serial_meaning.specs.declared.event.FaultKind.{FaultKind}
+use Rattle.serial_meaning.specs.declared.value.Value.{Value}
+use Rattle.serial_meaning.specs.declared.value.Value.TheVariants.{Int}
 use Rattle.strand_values.specs.declared.halt.Halt.{Halt}
 use Rattle.strand_values.specs.declared.halt.Halt.TheVariants as halt
 
@@ -9,3 +13,18 @@ abbrev pub Gives : {A : Type 0} → Result A Halt → Result A FaultKind → Typ
 Gives (Ok a) defined = defined ≡ Ok a
 Gives (Err (halt.Fault kind)) defined = defined ≡ Err kind
 Gives (Err halt.Memory) defined = Unit {0}
+
+-- the number that a value counts as
+abbrev pub numbered : {E : Type 0} → Result Value E → Result ℤ E
+numbered (Ok v) = Ok (number v)
+numbered (Err e) = Err e
+
+-- a number as the value that it is
+abbrev pub integral : {E : Type 0} → Result ℤ E → Result Value E
+integral (Ok n) = Ok (Int n)
+integral (Err e) = Err e
+
+-- whether a condition of a value holds
+abbrev pub holding : {E : Type 0} → Result Value E → Result Bool E
+holding (Ok v) = Ok (is_true v)
+holding (Err e) = Err e

@@ -1,31 +1,33 @@
 ghost use Rattle.std.specs.Prelude.{◌≡◌, ◌-ℤ◌};
 ghost use Rattle.serial_meaning.specs.Values.{product, added, compared};
 ghost use Rattle.serial_meaning.specs.Exec.{count_of};
+ghost use Rattle.serial_meaning.specs.declared.value.Value.TheVariants.{Int};
+ghost use Rattle.strand_values.specs.Gives.{integral};
 
 use script_grammar::{Comparison, ProductSign};
-use serial_meaning::{FaultKind, Value};
+use serial_meaning::FaultKind;
 
 /// A product, quotient or remainder modulo 2^64, and the fault `Divide` where the divisor is 0.
-pub(crate) fn product(sign: ProductSign, x: i64, y: i64) -> Result<Value, FaultKind>
-    ensures { result ≡ product sign x y }
+pub(crate) fn product(sign: ProductSign, x: i64, y: i64) -> Result<i64, FaultKind>
+    ensures { integral result ≡ product sign x y }
 {
     match sign {
-        ProductSign::Times => Ok(Value::Int(x.wrapping_mul(y))),
+        ProductSign::Times => Ok(x.wrapping_mul(y)),
         ProductSign::Over | ProductSign::Modulo if y == 0 => Err(FaultKind::Divide),
-        ProductSign::Over => Ok(Value::Int(x.wrapping_div(y))),
-        ProductSign::Modulo => Ok(Value::Int(x.wrapping_rem(y))),
+        ProductSign::Over => Ok(x.wrapping_div(y)),
+        ProductSign::Modulo => Ok(x.wrapping_rem(y)),
     }
 }
 
 /// A sum, or a difference where `minus` is set, modulo 2^64.
-pub(crate) fn sum(minus: bool, x: i64, y: i64) -> Value
-    ensures { added minus x y ≡ Ok result }
+pub(crate) fn sum(minus: bool, x: i64, y: i64) -> i64
+    ensures { added minus x y ≡ Ok (Int result) }
 {
-    Value::Int(if minus {
+    if minus {
         x.wrapping_sub(y)
     } else {
         x.wrapping_add(y)
-    })
+    }
 }
 
 pub(crate) fn compare(how: Comparison, x: i64, y: i64) -> bool

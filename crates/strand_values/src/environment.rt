@@ -3,7 +3,7 @@ ghost use Rattle.std.specs.Option.{option_copied};
 ghost use Rattle.serial_meaning.specs.declared.environment.Slot.TheVariants.{Scalar, Array};
 ghost use Rattle.serial_meaning.specs.Values.{value_of, values_of, slot_of, items_of, at_index};
 ghost use Rattle.serial_meaning.specs.Exec.{bound, with_slot, zeros, set_item, has_room, filled};
-ghost use Rattle.strand_values.specs.Gives.{Gives};
+ghost use Rattle.strand_values.specs.Gives.{Gives, numbered, holding};
 ghost use Rattle.strand_values.specs.Targets.{IsUnknown};
 
 use crate::halt::Halt;
@@ -53,6 +53,20 @@ impl Environment {
         ensures { Gives result (value_of e.now self.now) }
     {
         value::value(&self.variables, e)
+    }
+
+    /// The number that the value of an expression counts as.
+    pub fn integer(&self, e: &Expr) -> Result<i64, Halt>
+        ensures { Gives result (numbered (value_of e.now self.now)) }
+    {
+        value::integer(&self.variables, e)
+    }
+
+    /// Whether a condition holds: its value isn't 0.
+    pub fn holds(&self, e: &Expr) -> Result<bool, Halt>
+        ensures { Gives result (holding (value_of e.now self.now)) }
+    {
+        Ok(value::integer(&self.variables, e)? != 0)
     }
 
     /// The values of arguments from left to right, or the fault that is met first.

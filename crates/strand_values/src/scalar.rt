@@ -3,6 +3,7 @@ ghost use Rattle.std.specs.Str.{bytes_eq};
 ghost use Rattle.std.specs.Ordering.{nat_cmp, is_lt};
 ghost use Rattle.std.specs.Cmp.Lexicographic.{slice_cmp};
 ghost use Rattle.serial_meaning.specs.Values.{number, object, truth, is_true};
+ghost use Rattle.serial_meaning.specs.declared.value.Value.TheVariants.{Int};
 
 use serial_meaning::Value;
 
@@ -24,10 +25,10 @@ pub fn is_true(value: &Value) -> bool
 }
 
 /// The value of a comparison: 1 or 0.
-pub(crate) fn truth(holds: bool) -> Value
-    ensures { result ≡ truth holds }
+pub(crate) fn truth(holds: bool) -> i64
+    ensures { Int result ≡ truth holds }
 {
-    Value::Int(if holds { 1 } else { 0 })
+    if holds { 1 } else { 0 }
 }
 
 /// Whether both are one object. An integer, which no valid script takes for an id, counts as one with no rank.

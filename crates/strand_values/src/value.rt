@@ -1,14 +1,16 @@
-// The value of an expression.
+// The value of an expression. Each kind of node has a function of its own, and what only its number counts of is never made a value.
 
 ghost use Rattle.std.specs.Prelude.{◌≡◌, map};
 ghost use Rattle.serial_meaning.specs.Values.{value_of, values_of, sums, products, sum_part, product_part};
-ghost use Rattle.strand_values.specs.Gives.{Gives};
+ghost use Rattle.serial_meaning.specs.declared.value.Value.TheVariants.{Int};
+ghost use Rattle.strand_values.specs.Gives.{Gives, numbered, integral};
+ghost use Rattle.strand_values.specs.Nodes as node;
 
 use crate::arithmetic::{compare, product, sum};
 use crate::halt::Halt;
 use crate::scalar::{is_older, is_same, number, truth};
-use crate::variables::{item, scalar};
-use script_grammar::{Expr, Items, ProductPart, SumPart};
+use crate::variables::{item, number_of, scalar};
+use script_grammar::{Comparison, Expr, Items, Name, ProductPart, SumPart};
 use serial_meaning::{FaultKind, Value, Variable};
 use std::alloc::Global;
 
@@ -17,65 +19,151 @@ pub(crate) fn value(variables: &[Variable], e: &Expr) -> Result<Value, Halt>
     ensures { Gives result (value_of e.now variables.now) }
 {
     match e {
-        Expr::Number(number) => Ok(Value::Int(number.value)),
-        Expr::Var(name) => Ok(scalar(variables, name.bytes.as_slice())?),
-        Expr::Item(name, index) => {
-            let index = value(variables, index.get())?;
-            match item(variables, name.bytes.as_slice(), number(&index)) {
-                Some(item) => Ok(Value::Int(item)),
-                None => Err(Halt::Fault(FaultKind::Index)),
-            }
-        }
-        Expr::Neg(_, operand) => {
-            let operand = value(variables, operand.get())?;
-            Ok(Value::Int(number(&operand).wrapping_neg()))
-        }
-        Expr::Same(_, left, right) => {
-            let left = value(variables, left.get())?;
-            let right = value(variables, right.get())?;
-            Ok(truth(is_same(&left, &right)))
-        }
-        Expr::Older(_, left, right) => {
-            let left = value(variables, left.get())?;
-            let right = value(variables, right.get())?;
-            Ok(truth(is_older(&left, &right)))
-        }
-        Expr::Compare(left, how, right) => {
-            let left = value(variables, left.get())?;
-            let right = value(variables, right.get())?;
-            Ok(truth(compare(*how, number(&left), number(&right))))
-        }
-        Expr::Sum(first, rest) => {
-            let first = value(variables, first.get())?;
-            add_rest(variables, first, rest.as_slice())
-        }
-        Expr::Product(first, rest) => {
-            let first = value(variables, first.get())?;
-            multiply_rest(variables, first, rest.as_slice())
-        }
+        Expr::Var(name) => scalar(variables, name.bytes.as_slice()),
+        Expr::Sum(first, rest) => match value(variables, first.get()) {
+            Ok(first) => sum_value(variables, first, rest.as_slice()),
+            Err(halt) => Err(halt),
+        },
+        Expr::Product(first, rest) => match value(variables, first.get()) {
+            Ok(first) => product_value(variables, first, rest.as_slice()),
+            Err(halt) => Err(halt),
+        },
+        Expr::Number(_) => whole(integer(variables, e)),
+        Expr::Item(_, _) => whole(integer(variables, e)),
+        Expr::Neg(_, _) => whole(integer(variables, e)),
+        Expr::Same(_, _, _) => whole(integer(variables, e)),
+        Expr::Older(_, _, _) => whole(integer(variables, e)),
+        Expr::Compare(_, _, _) => whole(integer(variables, e)),
+    }
+}
+
+/// The number that the value counts as.
+#[cycle(value)]
+pub(crate) fn integer(variables: &[Variable], e: &Expr) -> Result<i64, Halt>
+    ensures { Gives result (numbered (value_of e.now variables.now)) }
+{
+    match e {
+        Expr::Number(number) => Ok(number.value),
+        Expr::Var(name) => Ok(number_of(variables, name.bytes.as_slice())),
+        Expr::Item(name, index) => item_at(variables, name, index.get()),
+        Expr::Neg(_, operand) => negated(variables, operand.get()),
+        Expr::Same(_, left, right) => match value(variables, left.get()) {
+            Ok(left) => same(variables, left, right.get()),
+            Err(halt) => Err(halt),
+        },
+        Expr::Older(_, left, right) => match value(variables, left.get()) {
+            Ok(left) => older(variables, left, right.get()),
+            Err(halt) => Err(halt),
+        },
+        Expr::Compare(left, how, right) => match integer(variables, left.get()) {
+            Ok(left) => comparison(variables, left, *how, right.get()),
+            Err(halt) => Err(halt),
+        },
+        Expr::Sum(first, rest) => match integer(variables, first.get()) {
+            Ok(first) => add(variables, first, rest.as_slice()),
+            Err(halt) => Err(halt),
+        },
+        Expr::Product(first, rest) => match integer(variables, first.get()) {
+            Ok(first) => multiply(variables, first, rest.as_slice()),
+            Err(halt) => Err(halt),
+        },
+    }
+}
+
+/// A number as a value.
+fn whole(number: Result<i64, Halt>) -> Result<Value, Halt>
+    ensures { result ≡ integral number }
+{
+    match number {
+        Ok(number) => Ok(Value::Int(number)),
+        Err(halt) => Err(halt),
     }
 }
 
 #[cycle(value)]
-fn add_rest(variables: &[Variable], first: Value, rest: &[SumPart]) -> Result<Value, Halt>
+fn item_at(variables: &[Variable], name: &Name, index: &Expr) -> Result<i64, Halt>
+    ensures { Gives (integral result) (node.item_at variables.now name.now.bytes (value_of index.now variables.now)) }
+{
+    let index = integer(variables, index)?;
+    match item(variables, name.bytes.as_slice(), index) {
+        Some(item) => Ok(item),
+        None => Err(Halt::Fault(FaultKind::Index)),
+    }
+}
+
+#[cycle(value)]
+fn negated(variables: &[Variable], operand: &Expr) -> Result<i64, Halt>
+    ensures { Gives (integral result) (node.negated (value_of operand.now variables.now)) }
+{
+    Ok(integer(variables, operand)?.wrapping_neg())
+}
+
+#[cycle(value)]
+fn same(variables: &[Variable], left: Value, right: &Expr) -> Result<i64, Halt>
+    ensures { Gives (integral result) (node.same left (value_of right.now variables.now)) }
+{
+    let right = value(variables, right)?;
+    Ok(truth(is_same(&left, &right)))
+}
+
+#[cycle(value)]
+fn older(variables: &[Variable], left: Value, right: &Expr) -> Result<i64, Halt>
+    ensures { Gives (integral result) (node.older left (value_of right.now variables.now)) }
+{
+    let right = value(variables, right)?;
+    Ok(truth(is_older(&left, &right)))
+}
+
+#[cycle(value)]
+fn comparison(variables: &[Variable], left: i64, how: Comparison, right: &Expr) -> Result<i64, Halt>
+    ensures { Gives (integral result) (node.comparison left how (value_of right.now variables.now)) }
+{
+    let right = integer(variables, right)?;
+    Ok(truth(compare(how, left, right)))
+}
+
+/// A sum as it is, also where nothing is added.
+#[cycle(value)]
+fn sum_value(variables: &[Variable], first: Value, rest: &[SumPart]) -> Result<Value, Halt>
     ensures { Gives result (sums variables.now first (map sum_part rest.now)) }
+{
+    if rest.is_empty() {
+        return Ok(first);
+    }
+    whole(add(variables, number(&first), rest))
+}
+
+#[cycle(value)]
+fn add(variables: &[Variable], first: i64, rest: &[SumPart]) -> Result<i64, Halt>
+    ensures { Gives (integral result) (sums variables.now (Int first) (map sum_part rest.now)) }
 {
     let mut total = first;
     for part in rest {
-        let operand = value(variables, &part.operand)?;
-        total = sum(part.minus, number(&total), number(&operand));
+        let operand = integer(variables, &part.operand)?;
+        total = sum(part.minus, total, operand);
     }
     Ok(total)
 }
 
+/// A product as it is, also where nothing is multiplied.
 #[cycle(value)]
-fn multiply_rest(variables: &[Variable], first: Value, rest: &[ProductPart]) -> Result<Value, Halt>
+fn product_value(variables: &[Variable], first: Value, rest: &[ProductPart]) -> Result<Value, Halt>
     ensures { Gives result (products variables.now first (map product_part rest.now)) }
+{
+    if rest.is_empty() {
+        return Ok(first);
+    }
+    whole(multiply(variables, number(&first), rest))
+}
+
+#[cycle(value)]
+fn multiply(variables: &[Variable], first: i64, rest: &[ProductPart]) -> Result<i64, Halt>
+    ensures { Gives (integral result) (products variables.now (Int first) (map product_part rest.now)) }
 {
     let mut total = first;
     for part in rest {
-        let operand = value(variables, &part.operand)?;
-        total = product(part.sign, number(&total), number(&operand))?;
+        let operand = integer(variables, &part.operand)?;
+        total = product(part.sign, total, operand)?;
     }
     Ok(total)
 }

@@ -1,11 +1,12 @@
 // Variables by their names.
 
-ghost use Rattle.std.specs.Prelude.{◌≡◌, IfOk, position};
+ghost use Rattle.std.specs.Prelude.{◌≡◌, Ok, position};
 ghost use Rattle.std.specs.Option.{option_copied};
 ghost use Rattle.std.specs.Str.{bytes_eq};
-ghost use Rattle.serial_meaning.specs.Values.{slot_of, scalar, items_of, at_index};
+ghost use Rattle.serial_meaning.specs.Values.{slot_of, scalar, number, items_of, at_index};
+ghost use Rattle.strand_values.specs.Gives.{Gives};
 
-use crate::memory::Memory;
+use crate::halt::Halt;
 use serial_meaning::{Slot, Value, Variable};
 
 /// The place of the variable of this name.
@@ -27,12 +28,32 @@ fn slot<'a>(variables: &'a [Variable], name: &[u8]) -> Option<&'a Slot>
 }
 
 /// A scalar's value; an id shares its memory.
-pub(crate) fn scalar(variables: &[Variable], name: &[u8]) -> Result<Value, Memory>
-    ensures { IfOk result (λ value. value ≡ scalar (slot_of variables.now name.now)) }
+pub(crate) fn scalar(variables: &[Variable], name: &[u8]) -> Result<Value, Halt>
+    ensures { Gives result (Ok (scalar (slot_of variables.now name.now))) }
 {
     match slot(variables, name) {
-        Some(Slot::Scalar(value)) => Ok(value.share()?),
+        Some(Slot::Scalar(Value::Int(number))) => Ok(Value::Int(*number)),
+        Some(Slot::Scalar(value)) => shared(value),
         Some(Slot::Array(_)) | None => Ok(Value::Int(0)),
+    }
+}
+
+fn shared(value: &Value) -> Result<Value, Halt>
+    ensures { Gives result (Ok value.now) }
+{
+    match value.share() {
+        Ok(value) => Ok(value),
+        Err(_) => Err(Halt::Memory),
+    }
+}
+
+/// The number that a scalar counts as.
+pub(crate) fn number_of(variables: &[Variable], name: &[u8]) -> i64
+    ensures { result ≡ number (scalar (slot_of variables.now name.now)) }
+{
+    match slot(variables, name) {
+        Some(Slot::Scalar(Value::Int(number))) => *number,
+        Some(Slot::Scalar(Value::Id(_))) | Some(Slot::Array(_)) | None => 0,
     }
 }
 

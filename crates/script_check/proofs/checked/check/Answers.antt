@@ -2,6 +2,7 @@ use Rattle.std.proofs.Common.{◌≡◌, ℕ, [], Some, None, Result, Err, sym, 
 use Rattle.script_check.specs.declared.checked.Checked.{Checked}
 use Rattle.script_check.specs.declared.error.CheckError.{CheckError}
 use Rattle.script_check.specs.declared.error.CheckError.TheVariants.{Bad}
+use Rattle.script_check.specs.Spawns.{each_spawns}
 use Rattle.script_check.specs.Tables.{table_of}
 use Rattle.script_check.specs.Valid.{functions_twice, violations}
 use Rattle.script_check.specs.Violations.{noted}
@@ -38,8 +39,10 @@ invariant_of-result c =
     let first : c.index.new.found ≡ noted None (functions_twice [] script.functions) = search rules in
     let least : c.judge_script.new.found ≡ None = sym c.least.ensures ∙ c.in-None.is in
     let index : IsIndex script.functions (table_of c.in_ok-first.first.map) = search rules in
+    let spawn : c.in_ok-spawns.spawns ≡ each_spawns script.functions = search rules in
     record {
       valid = nothing_noted (violations script) (sym (all_noted script c.index.new.found c.judge_script.new.found first c.in_ok-judge_script.ensures) ∙ least);
       text = c.requires;
       index = index;
+      spawn = spawn;
     }

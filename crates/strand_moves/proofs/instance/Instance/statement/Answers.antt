@@ -57,6 +57,17 @@ returns-in-Call-clause-shows c =
     let is = act-is (act.Call c.in-Call.c) st.act (variant.Call c.in-Call.c) c.in-Call.is (variant.rolls-Call c.in-Call.c) in
     statement-paid plan c.args.self.now p p.steps c.in_ok-pay.ensures.ok c.in_ok-pay.ensures.paid st (act.Call c.in-Call.c) c.call.new.self c.call.result is (c.call.ensures.shows st)
 
+pub returns-in-Sync-clause-shows : goal.returns-in-Sync-clause-shows
+returns-in-Sync-clause-shows c =
+    let plan = c.args.plan.now in
+    let p = c.pay.new.self in
+    let st = c.args.statement.now in
+    let is = act-is act.Sync st.act variant.Sync c.in-Sync.is variant.rolls-Sync in
+    statement-paid plan c.args.self.now p p.steps c.in_ok-pay.ensures.ok c.in_ok-pay.ensures.paid st act.Sync c.wait.new.self c.wait.result is (c.wait.ensures.shows plan st)
+
+pub returns-in-Sync-clause-child : goal.returns-in-Sync-clause-child
+returns-in-Sync-clause-child c = c.wait.ensures.child c.args.plan.now
+
 pub returns-in-Print-clause-shows : goal.returns-in-Print-clause-shows
 returns-in-Print-clause-shows c =
     let plan = c.args.plan.now in
