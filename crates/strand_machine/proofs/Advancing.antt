@@ -9,15 +9,18 @@ use Rattle.serial_meaning.specs.declared.event.Fault.{Fault}
 use Rattle.serial_meaning.specs.declared.origin.Origin.{Origin}
 use Rattle.serial_meaning.specs.declared.origin.Origin.TheVariants.{Instance, Loop}
 use Rattle.serial_meaning.specs.declared.answer.Outcome.{Outcome}
-use Rattle.strand_meaning.specs.Laws.{IsOf, MovesFall}
+use Rattle.strand_meaning.specs.Laws.{IsOf, IsSoundStop, MovesFall, StopsAreSound}
 use Rattle.strand_meaning.specs.Left.{moves_left}
 use Rattle.strand_meaning.specs.Machine.{Token, Reached, Stands, Gives, move}
 use Rattle.strand_meaning.specs.Pieces.{Part}
+use Rattle.strand_meaning.specs.Sound.{IsTask}
 use Rattle.strand_meaning.specs.Task as meaning
 use Rattle.strand_meaning.specs.Task.{Task, Stop, IsNext, Now, Later, own_instance, stage_after, child_in, stops_at, passing, moved, ends_unless, faults_behind, gave, stage_step, split_step, over_step, work_step}
 use Rattle.strand_machine.specs.Family.{tag}
-use Rattle.strand_machine.specs.Stops.{IsStep, IsStop, IsRun, LeadsTo, GoesOn, stage_goes_on, work_goes_on, Keeps, stop_of}
-use Rattle.strand_machine.specs.Tasks.{TaskView, fresh}
+use Rattle.strand_machine.specs.Stops.{IsStep, IsStop, IsRun, LeadsTo, IsKnownStop, GoesOn, stage_goes_on, work_goes_on, Keeps, stop_of}
+use Rattle.strand_machine.specs.Tasks.{TaskView, IsSound, fresh, view_of}
+use Rattle.strand_machine.specs.declared.body.Body.{Body}
+use Rattle.strand_machine.specs.declared.work.Work.{Work}
 use Rattle.strand_machine.specs.declared.stop.Step.{Step as MadeStep}
 use Rattle.strand_machine.specs.declared.stop.Step.TheVariants as step-in
 use Rattle.strand_machine.specs.declared.stop.Stop.{Stop as MadeStop}
@@ -123,10 +126,16 @@ keeps-first first now (stop-in.Wait rest) h k = (k.0 ∙ h.children, k.1 ∙ h.l
 keeps-first first now (stop-in.Done answer give) h k =
     (k.0 ∙ h.plan, k.1 ∙ h.origin, k.2 ∙ ap (λ (p : PlanView). tag p now.task.origin) h.plan ∙ ap (tag first.task.plan) h.origin)
 
-pub stops-there : (first now : TaskView) (s : MadeStep) (stop : MadeStop) → LeadsTo first now → IsStep now s → s ≡ step-in.Stops stop → IsStop first stop
-stops-there first now s stop h g e =
+known-of : (t : TaskView) (stop : MadeStop) → IsSoundStop t.task (stop_of stop) → IsKnownStop t stop
+known-of t (stop-in.Spawn child rest) h = h.0
+known-of t (stop-in.Wait rest) h = tt
+known-of t (stop-in.Done answer give) h = h.1
+
+pub stops-there : StopsAreSound → (first now : TaskView) (s : MadeStep) (stop : MadeStop) → IsTask first.task → LeadsTo first now → IsStep now s → s ≡ step-in.Stops stop → IsStop first stop
+stops-there law first now s stop sound h g e =
     let k : IsStep now (step-in.Stops stop) = subst (IsStep now) e g in
-    record { next = h.next (stop_of stop) (Now k.is); keeps = keeps-first first now stop h k.keeps }
+    let n : IsNext first.task (stop_of stop) = h.next (stop_of stop) (Now k.is) in
+    record { next = n; keeps = keeps-first first now stop h k.keeps; known = known-of first stop (law first.task (stop_of stop) sound n) }
 
 -- What a call that makes moves in a row leads to
 
@@ -157,6 +166,10 @@ run-falls law now next s g e =
     let last : moves_left next.task < moves_left r.before.task = falls law r.before next s r.step e in
     omega (arith, last, r.leads.fewer)
 
-pub run-stops : (first now : TaskView) (s : MadeStep) (stop : MadeStop) → LeadsTo first now → GoesOn now s → s ≡ step-in.Stops stop → IsStop first stop
-run-stops first now s stop h g e =
-    let r = runs now s g in stops-there first r.before s stop (leads-over first now r.before h r.leads) r.step e
+pub run-stops : StopsAreSound → (first now : TaskView) (s : MadeStep) (stop : MadeStop) → IsTask first.task → LeadsTo first now → GoesOn now s → s ≡ step-in.Stops stop → IsStop first stop
+run-stops law first now s stop sound h g e =
+    let r = runs now s g in stops-there law first r.before s stop sound (leads-over first now r.before h r.leads) r.step e
+
+-- what holds of a task by its type
+pub is-task : (b : Body) (w : Work) (t : TaskView) → view_of b w ≡ t → IsSound b w → IsTask t.task
+is-task b w t view h = subst (λ (v : TaskView). IsTask v.task) view h.task

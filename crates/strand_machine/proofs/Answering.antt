@@ -1,13 +1,11 @@
 -- The answers of children.
-use Rattle.std.proofs.Common.{◌≡◌, ℕ, zero, suc, ◌+◌, ◌-◌, ◌<◌, ◌≤◌, Bool, true, false, List, [], ◌∷◌, ◌++◌, Some, Result, length, length-append, length-drop, take, drop, replicate, refl, sym, ap, ◌∙◌, subst, arith, add-one}
+use Rattle.std.proofs.Common.{◌≡◌, ℕ, zero, suc, ◌+◌, ◌-◌, ◌<◌, ◌≤◌, Bool, true, false, List, [], ◌∷◌, ◌++◌, Some, length, length-append, length-drop, take, drop, replicate, refl, sym, ap, ◌∙◌, subst, arith, add-one}
 use Rattle.std.proofs.Math.ListN.{set, length-replicate}
 use Rattle.std.specs.Prelude.{slice_get}
 use Rattle.serial_meaning.specs.Answer.{AnswerView, IsEval, IsAnswer}
 use Rattle.serial_meaning.specs.Eval.{Evaluation, eval}
 use Rattle.serial_meaning.specs.Plan.{PlanView}
-use Rattle.serial_meaning.specs.declared.value.Value.{Value}
 use Rattle.serial_meaning.specs.declared.event.Event.{Event}
-use Rattle.serial_meaning.specs.declared.event.Fault.{Fault}
 use Rattle.serial_meaning.specs.declared.origin.Origin.{Origin}
 use Rattle.serial_meaning.specs.declared.answer.Outcome.{Outcome}
 use Rattle.serial_meaning.specs.declared.answer.Outcome.TheVariants as outcome
@@ -15,6 +13,7 @@ use Rattle.strand_meaning.specs.Answers.{evaluation_of}
 use Rattle.strand_meaning.specs.Laws.{AnswersAreEvaluations}
 use Rattle.strand_meaning.specs.Pieces.{Part}
 use Rattle.strand_machine.specs.Family.{FamilyView, AwaitsCount, tag, tags, origins}
+use Rattle.strand_machine.specs.Going.{ending_of}
 use Rattle.strand_machine.specs.Parts.{awaited}
 use Rattle.strand_machine.specs.Stops.{answer_tags}
 use Rattle.strand_machine.specs.Tasks.{AwaitsLast}
@@ -27,12 +26,17 @@ eval-of plan o out (outcome.Values vs) h = h
 eval-of plan o out (outcome.Fault f) h = h
 eval-of plan o out (outcome.Cut f) h = absurd h
 
+says : (out : List Event) (ended : Outcome) → evaluation_of out ended ≡ record { items = out; ending = ending_of ended }
+says out (outcome.Value v) = refl
+says out (outcome.Values vs) = refl
+says out (outcome.Fault f) = refl
+says out (outcome.Cut f) = refl
+
 -- an answer says the evaluation of its origin
-pub answer-says : AnswersAreEvaluations → (plan : PlanView) (o : Origin) (out : List Event) (ended : Outcome) (ending : Result (List Value) Fault) (a : AnswerView) →
+pub answer-says : AnswersAreEvaluations → (plan : PlanView) (o : Origin) (out : List Event) (ended : Outcome) (a : AnswerView) →
     ◌≡◌ {A = AnswerView} (record { plan = plan; origin = o; out = out; outcome = ended }) a → IsAnswer plan o out ended →
-    ((events : List Event) → evaluation_of events ended ≡ record { items = events; ending = ending }) →
-    ◌≡◌ {A = Evaluation} (record { items = out; ending = ending }) (eval a.plan a.origin)
-answer-says law plan o out ended ending a view h is = sym (is out) ∙ law plan o out ended (eval-of plan o out ended h) ∙ ap (λ (b : AnswerView). eval b.plan b.origin) view
+    ◌≡◌ {A = Evaluation} (record { items = out; ending = ending_of ended }) (eval a.plan a.origin)
+answer-says law plan o out ended a view h = sym (says out ended) ∙ law plan o out ended (eval-of plan o out ended h) ∙ ap (λ (b : AnswerView). eval b.plan b.origin) view
 
 -- The answers of the last children
 

@@ -26,7 +26,7 @@ use Rattle.strand_machine.specs.Family.{FamilyView}
 use Rattle.strand_machine.specs.Parts.{awaited, place_of}
 use Rattle.strand_machine.specs.Shown.{shown_task, IsSoundShown}
 use Rattle.strand_machine.specs.Stops.{IsStep, IsRun, LeadsTo, KeepsStep, step_of}
-use Rattle.strand_machine.specs.Tasks.{TaskView, task_of, view_of, fresh, AwaitsLast, RunsAt, IsSound, gone, with_child}
+use Rattle.strand_machine.specs.Tasks.{TaskView, task_of, view_of, fresh, AwaitsLast, RunsAt, IsSound, gone, waiting, with_child}
 use Rattle.strand_machine.specs.declared.body.Body.{Body}
 use Rattle.strand_machine.specs.declared.place.Place.{Place}
 use Rattle.strand_machine.specs.declared.place.Place.TheVariants as place
@@ -37,7 +37,7 @@ use Rattle.strand_machine.specs.declared.work.Stage.TheVariants as stage
 use Rattle.strand_machine.specs.declared.work.Work.{Work}
 use Rattle.strand_machine.specs.declared.work.Work.TheVariants as work
 use Rattle.strand_machine.proofs.Advancing.{falls, leads-on}
-use Rattle.strand_machine.proofs.Dispatch.{awaits-more, pass-sound, pass-is, go-went, go-gave, go-faulted, shown-sound}
+use Rattle.strand_machine.proofs.Dispatch.{awaits-more, pass-sound, pass-is, wait-sound, wait-is, go-went, go-gave, go-faulted, shown-sound}
 
 -- An event changes no child
 
@@ -252,10 +252,44 @@ module _ (b : Body) (i next : RawInstance) (plan : PlanView) (m : Moved) (p : pl
       moves_left (task_of (gone (with_pieces b q)) (work.Runs (stage.Goes next))) < moves_left (task_of b (work.Runs (stage.Goes i)))
   tells-falls fall s t q is shows g = falls fall (view_of b (work.Runs (stage.Goes i))) (view_of (gone (with_pieces b q)) (work.Runs (stage.Goes next))) _ (tells-is s t q is shows g) refl
 
+  -- one that ends the moves in a row: a wait at a sync, a value, a fault
+
+  abbrev syncs : Work
+  syncs = work.Runs (stage.AtSync next)
+
+  pub syncs-sound : StepsAreSound → (s : Shown) (t : Event) (q : Pieces) → m ≡ moved-in.Went s → s ≡ shown-in.Synced t → q ≡ tell t b.pieces →
+      moves.path_of next ≡ moves.path_of i → moves.IsInstance plan next → MovesTrail plan m → IsSound (waiting (gone (with_pieces b q))) syncs
+  syncs-sound law s t q is shows g path sound trail =
+      let k = synced-sound b next s t q shows g (went-sound law s is path sound trail) in wait-sound law (gone (with_pieces b q)) syncs syncs k refl k.works
+
+  pub syncs-run : MovesFall → (first : TaskView) → LeadsTo first (view_of b (work.Runs (stage.Goes i))) → (s : Shown) (t : Event) (q : Pieces) → m ≡ moved-in.Went s → s ≡ shown-in.Synced t → q ≡ tell t b.pieces →
+      (r : MadeStep) → r ≡ step-in.Stops (stop-in.Wait (view_of (waiting (gone (with_pieces b q))) syncs)) → IsRun first r
+  syncs-run fall first leads s t q is shows g r e = record {
+    before = view_of (gone (with_pieces b q)) syncs;
+    leads = leads-on fall first _ _ _ leads (went-one s (step-in.Passes (view_of (gone (with_pieces b q)) syncs)) is (synced-step b next s t q _ shows g refl) (refl, refl)) refl;
+    step = wait-is (gone (with_pieces b q)) syncs syncs r refl e;
+  }
+
+  pub gives-run : MovesFall → (first : TaskView) → LeadsTo first (view_of b (work.Runs (stage.Goes i))) → (v : Value) → m ≡ moved-in.Gave v →
+      (r : MadeStep) → IsStep (view_of (gone b) (work.Runs (stage.Gave v))) r → IsRun first r
+  gives-run fall first leads v is r e = record {
+    before = view_of (gone b) (work.Runs (stage.Gave v));
+    leads = leads-on fall first _ _ _ leads (gave-is v (step-in.Passes (view_of (gone b) (work.Runs (stage.Gave v)))) is refl) refl;
+    step = e;
+  }
+
+  pub faults-run : MovesFall → (first : TaskView) → LeadsTo first (view_of b (work.Runs (stage.Goes i))) → (f : Fault) → m ≡ moved-in.Faulted f →
+      (r : MadeStep) → IsStep (view_of (gone b) (work.Runs (stage.Faulted f))) r → IsRun first r
+  faults-run fall first leads f is r e = record {
+    before = view_of (gone b) (work.Runs (stage.Faulted f));
+    leads = leads-on fall first _ _ _ leads (faulted-is f (step-in.Passes (view_of (gone b) (work.Runs (stage.Faulted f)))) is refl) refl;
+    step = e;
+  }
+
 -- Moves in a row
 
 module _ (first : TaskView) (b : Body) (i : RawInstance) (h : IsOnRun first b i) where
-  pub run-is : (r : MadeStep) → IsStep (view_of b (work.Runs (stage.Goes i))) r → IsRun first r
+  run-is : (r : MadeStep) → IsStep (view_of b (work.Runs (stage.Goes i))) r → IsRun first r
   run-is r k = record { before = view_of b (work.Runs (stage.Goes i)); leads = h.leads; step = k }
 
   pub run-is-ok : {E : Type 0} (r : Result MadeStep E) → IfOk r (IsStep (view_of b (work.Runs (stage.Goes i)))) → IfOk r (IsRun first)

@@ -9,9 +9,10 @@ use Rattle.serial_meaning.specs.Open.{Item, Own, Joined}
 use Rattle.serial_meaning.specs.declared.event.Event.{Event}
 use Rattle.serial_meaning.specs.declared.event.Fault.{Fault}
 use Rattle.serial_meaning.specs.declared.origin.Origin.{Origin}
-use Rattle.strand_meaning.specs.Laws.{KeepsOrigin, MovesFall, StopsKeepOrigins}
+use Rattle.strand_meaning.specs.Laws.{KeepsOrigin, MovesFall, StopsAreSound, StopsKeepOrigins}
 use Rattle.strand_meaning.specs.Notes as meaning
 use Rattle.strand_meaning.specs.Notes.{had, newest, also, no_notes, at_ranks, task_ranks, stage_notes, work_notes, step_notes, stop_ranks, Shows, Now, Later}
+use Rattle.strand_meaning.specs.Sound.{IsTask}
 use Rattle.strand_meaning.specs.Strands.{own_events, events_at}
 use Rattle.strand_meaning.specs.Task as meaning-task
 use Rattle.strand_meaning.specs.Task.{Task, Stop, Now as NextNow}
@@ -179,12 +180,12 @@ module _ (first : TaskView) (j : List ℕ) (now : TaskView) (notes after : Notes
   stop-there (stop-in.Wait rest) k = ap (λ (o : Origin). had (path_of o) j (task_ranks rest.task)) (k.1 ∙ h.leads.origin)
   stop-there (stop-in.Done answer give) k = refl
 
-  pub noted-stop : StopsKeepOrigins → (stop : MadeStop) (s : MadeStep) (there : Bool) → IsStep now s → s ≡ step-in.Stops stop → there ≡ stop_had j stop →
+  pub noted-stop : StopsKeepOrigins → StopsAreSound → IsTask first.task → (stop : MadeStop) (s : MadeStep) (there : Bool) → IsStep now s → s ≡ step-in.Stops stop → there ≡ stop_had j stop →
       IsNoted first j (record { stop = stop; reached = reached || there; events = after.events; fault = after.fault; joined = after.joined })
-  noted-stop law stop s there g e r =
+  noted-stop law sounds sound stop s there g e r =
       let k : IsStep now (step-in.Stops stop) = subst (IsStep now) e g in
       record {
-        stop = stops-there first now s stop h.leads g e;
+        stop = stops-there sounds first now s stop sound h.leads g e;
         notes = also h.front (also step-shows (at_ranks (stop_ranks (stop_of stop))));
         shows = h.shows (also step-shows (at_ranks (stop_ranks (stop_of stop)))) (stop_of stop) (Now k.is refl);
         reached = ap (λ (b : Bool). reached || b) (r ∙ stop-there stop (law now.task (stop_of stop) (NextNow k.is))) ∙ had-step (stop_ranks (stop_of stop));

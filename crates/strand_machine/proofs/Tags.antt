@@ -22,9 +22,10 @@ length_origins [] = refl
 length_origins (t ∷ ts) = ap suc (length_origins ts)
 
 -- one more tag of the plan
-pub hand_keeps : (plan : PlanView) (ts : List AnswerTag) (o : Origin) → ts ≡ tags plan (origins ts) → ts ++ tag plan o ∷ [] ≡ tags plan (origins (ts ++ tag plan o ∷ []))
-hand_keeps plan ts o h =
-    ap (λ l. l ++ tag plan o ∷ []) h ∙ sym (tags_append plan (origins ts) (o ∷ [])) ∙ ap (tags plan) (sym (origins_append ts (tag plan o ∷ [])))
+pub hand_keeps : (plan : PlanView) (ts : List AnswerTag) (t : AnswerTag) → ts ≡ tags plan (origins ts) → t.plan ≡ plan → ts ++ t ∷ [] ≡ tags plan (origins (ts ++ t ∷ []))
+hand_keeps plan ts t h e =
+    ap (λ (l : List AnswerTag). l ++ t ∷ []) h ∙ ap (λ (p : PlanView). tags plan (origins ts) ++ tag p t.origin ∷ []) e
+    ∙ sym (tags_append plan (origins ts) (t.origin ∷ [])) ∙ ap (tags plan) (sym (origins_append ts (t ∷ [])))
 
 pub origin_at : (ts : List AnswerTag) (i : ℕ) (t : AnswerTag) → slice_get ts i ≡ Some t → slice_get (origins ts) i ≡ Some t.origin
 origin_at [] i t h = absurd (cc)

@@ -1,6 +1,7 @@
 -- A task that takes its children's answers, and goes on.
 use Rattle.std.proofs.Common.{◌≡◌, ℕ, Bool, false, List, [], ◌∷◌, Option, Some, None, Result, Ok, Err, length, refl, sym, ap, ◌∙◌, subst, arith, append-nil}
 use Rattle.serial_meaning.specs.Answer.{AnswerView, AnswerTag}
+use Rattle.std.specs.Prelude.{OnOk}
 use Rattle.std.specs.Borrow.{Bor}
 use Rattle.std.specs.Option.{option_copied}
 use Rattle.script_grammar.specs.declared.tree.Name.{Name}
@@ -128,17 +129,23 @@ runs-on w before after is h = subst (λ (x : Work). BecomesWork (resumed_work []
   works = λ plan o k. h.stands plan (origins-of.path_of (own_instance o)) k;
 })
 
+-- the stage behind an answer, by the child's place
+pub placed : (p : Place) (q : machine.Place) (ending : Result (List Value) Fault) (before after : Stage) → place_of p ≡ q → BecomesStage (takes q ending) before after → BecomesStage (takes (place_of p) ending) before after
+placed p q ending before after at h = subst (λ (x : machine.Place). BecomesStage (takes x ending) before after) (sym at) h
+
 -- what remains is an instance, whose stage changed
-pub taken-at : (p : Place) (q : machine.Place) (ending : Result (List Value) Fault) (w : Work) (before after r : Stage) → place_of p ≡ q → r ≡ after → w ≡ work.Runs before →
-    BecomesStage (takes q ending) before after → BecomesWork (with_stage (takes (place_of p) ending)) w (work.Runs r)
-taken-at p q ending w before after r at same is h = record {
-  is = λ plan. ap (λ (s : Stage). meaning.Runs (stage_of plan s)) same ∙ ap (λ s. meaning.Runs s) (h.is plan) ∙ ap (λ x. with_stage (takes x ending) (meaning.Runs (stage_of plan before))) (sym at)
-      ∙ ap (λ (x : Work). with_stage (takes (place_of p) ending) (work_of plan x)) (sym is);
-  works = λ plan o k. subst (λ (s : Stage). StandsAt plan (origins-of.path_of (own_instance o)) s) (sym same) (h.stands plan (origins-of.path_of (own_instance o)) (subst (λ (x : Work). WorksAt plan o x) is k));
-}
+pub runs-taken : (change : meaning.Stage → meaning.Stage) (w : Work) (before after : Stage) → w ≡ work.Runs before → BecomesStage change before after → BecomesWork (with_stage change) w (work.Runs after)
+runs-taken change w before after is h = subst (λ (x : Work). BecomesWork (with_stage change) x (work.Runs after)) (sym is) (record {
+  is = λ plan. ap (λ s. meaning.Runs s) (h.is plan);
+  works = λ plan o k. h.stands plan (origins-of.path_of (own_instance o)) k;
+})
 
 pub stage-stays : (ending : Result (List Value) Fault) (s : Stage) → BecomesStage (takes Half ending) s s
 stage-stays ending s = record { is = λ plan. refl; stands = λ plan path h. h }
+
+pub on-ok : {A E : Type 0} (r : Result A E) (P Q : Type 0) → (P → Q) → OnOk r P → OnOk r Q
+on-ok (Ok x) P Q f h = f h
+on-ok (Err x) P Q f h = tt
 
 -- One child
 

@@ -1,9 +1,13 @@
 -- A task that takes its children's answers.
-use Rattle.std.specs.Prelude.{◌≡◌, ℕ, List, [], ◌∷◌, length}
+use Rattle.std.specs.Prelude.{◌≡◌, ℕ, List, [], ◌∷◌, Result, Ok, Err, length}
 use Rattle.serial_meaning.specs.Answer.{AnswerTag}
 use Rattle.serial_meaning.specs.Eval.{Evaluation, eval}
 use Rattle.serial_meaning.specs.Plan.{PlanView}
+use Rattle.serial_meaning.specs.declared.answer.Outcome.{Outcome}
+use Rattle.serial_meaning.specs.declared.answer.Outcome.TheVariants as outcome
+use Rattle.serial_meaning.specs.declared.event.Fault.{Fault}
 use Rattle.serial_meaning.specs.declared.origin.Origin.{Origin}
+use Rattle.serial_meaning.specs.declared.value.Value.{Value}
 use Rattle.strand_meaning.specs.Pieces.{Part, Pieces, heard_all}
 use Rattle.strand_meaning.specs.Sound.{IsTask}
 use Rattle.strand_meaning.specs.Task as meaning
@@ -13,6 +17,13 @@ use Rattle.strand_machine.specs.declared.body.Body.{Body}
 use Rattle.strand_machine.specs.declared.going.Going.{Going}
 use Rattle.strand_machine.specs.declared.work.Stage.{Stage}
 use Rattle.strand_machine.specs.declared.work.Work.{Work}
+
+-- the values of an outcome, or its fault
+abbrev pub ending_of : Outcome → Result (List Value) Fault
+ending_of (outcome.Value v) = Ok (v ∷ [])
+ending_of (outcome.Values vs) = Ok vs
+ending_of (outcome.Fault f) = Err f
+ending_of (outcome.Cut f) = Err f
 
 -- what remains, with the instance's stage changed where an instance remains
 abbrev pub with_stage : (meaning.Stage → meaning.Stage) → meaning.Work → meaning.Work

@@ -2,6 +2,8 @@
 use Rattle.std.specs.Prelude.{◌≡◌, ◌≤◌, List, [], ◌∷◌, ◌++◌}
 use Rattle.serial_meaning.specs.Answer.{AnswerView, AnswerTag, IsAnswer}
 use Rattle.serial_meaning.specs.Eval.{eval}
+use Rattle.serial_meaning.specs.Laws.{IsOriginOf}
+use Rattle.strand_meaning.specs.Laws.{IsFaultOf}
 use Rattle.strand_meaning.specs.Left.{moves_left}
 use Rattle.strand_meaning.specs.Rest.{evaluations}
 use Rattle.strand_meaning.specs.Task as meaning
@@ -74,10 +76,17 @@ work_goes_on (meaning.Over v gone_on) = IsStep
 abbrev pub GoesOn : TaskView → Step → Type 0
 GoesOn t = work_goes_on t.task.work t
 
+-- a child is of an origin of the plan, and a fault by which the task ended is one of the plan's
+abbrev pub IsKnownStop : TaskView → Stop → Type 0
+IsKnownStop t (stop.Spawn child rest) = IsOriginOf t.task.plan child.task.origin
+IsKnownStop t (stop.Wait rest) = Unit {0}
+IsKnownStop t (stop.Done answer give) = IsFaultOf t.task.plan answer.outcome
+
 -- The next stop of a task.
 pub record IsStop (t : TaskView) (s : Stop) : Type 0 where
   pub next : IsNext t.task (stop_of s)
   pub keeps : Keeps t s
+  pub known : IsKnownStop t s
 
 -- The task with the answers of its children, which are their evaluations.
 abbrev pub went_on : TaskView → meaning.Task

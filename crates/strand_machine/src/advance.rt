@@ -16,6 +16,8 @@ impl Task {
         ensures { IfOk result (IsStop self) }
     {
         laws::moves_fall();
+        laws::stops_are_sound();
+        let _work = &self.work;
         let mut task = self;
         loop {
             match step(task, alloc)? {

@@ -4,7 +4,6 @@ ghost use Rattle.serial_meaning.specs.Answer.{IsAnswer};
 ghost use Rattle.strand_machine.specs.Family.{tag, handed, Looked};
 
 use crate::memory::Memory;
-use crate::origin::share_origin;
 use meet_block::{Give, Join, Look};
 use serial_meaning::{Answer, AnswerKey, Origin, Out, Outcome, Plan};
 use std::alloc::Global;
@@ -83,17 +82,14 @@ impl Family {
         &self.origin
     }
 
-    /// The give of one more child.
+    /// The give of one more child, by a key of the task's plan.
     #[tactic(auto, using(crate::proofs::Tags::origins_append, crate::proofs::Tags::hand_keeps))]
-    pub fn hand(&mut self, alloc: Global, child: &Origin) -> Result<Give<Answer>, Memory>
-        ensures give { IfOk result (λ give. give ≡ tag self.old.plan child.now) }
-        ensures handed { OnOk result (self.new ≡ handed self.old child.now) }
+    pub fn hand(&mut self, alloc: Global, child: &AnswerKey) -> Result<Give<Answer>, Memory>
+        requires { child.now.plan ≡ self.old.plan }
+        ensures give { IfOk result (λ give. give ≡ child.now) }
+        ensures handed { OnOk result (self.new ≡ handed self.old child.now.origin) }
     {
-        let key = AnswerKey {
-            plan: Arc::try_clone(&self.plan)?,
-            origin: share_origin(alloc, child)?,
-        };
-        Ok(self.join.hand(alloc, &key)?)
+        Ok(self.join.hand(alloc, child)?)
     }
 
     /// How many children were handed out.

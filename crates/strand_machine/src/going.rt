@@ -1,14 +1,12 @@
 // What the answers of children change.
-ghost use Rattle.std.specs.Prelude.{◌≡◌, ◌∷◌, [], List, Ok, IfOk, OnOk};
+ghost use Rattle.std.specs.Prelude.{◌≡◌, ◌∷◌, ◌++◌, [], Ok, IfOk, OnOk};
 ghost use Rattle.serial_meaning.specs.Eval.{eval, first_of};
-ghost use Rattle.serial_meaning.specs.declared.event.Event.{Event};
 ghost use Rattle.serial_meaning.specs.Plan.{PlanView};
-ghost use Rattle.strand_meaning.specs.Answers.{evaluation_of};
 ghost use Rattle.strand_meaning.specs.Machine.{Spawned, Looped, Half};
 ghost use Rattle.strand_meaning.specs.Pieces.{Part, heard};
 ghost use Rattle.strand_meaning.specs.Task.{takes, changed, answered, more_values};
 ghost use Rattle.strand_moves.specs.Machines.{IsInstance, machine_of, path_of};
-ghost use Rattle.strand_machine.specs.Going.{BecomesStage, BecomesWork, Takes, pieces_of, with_stage};
+ghost use Rattle.strand_machine.specs.Going.{BecomesStage, BecomesWork, Takes, ending_of, pieces_of, with_stage};
 ghost use Rattle.strand_machine.specs.Parts.{place_of, part_of};
 
 use crate::memory::Memory;
@@ -30,9 +28,9 @@ pub(crate) struct Going {
     pub work: Work,
 }
 
-/// The values of an answer, or its fault.
+/// The values of a loop's answer, or its fault.
 fn ending(alloc: Global, outcome: Outcome) -> Result<Result<Items<Value>, Fault>, Memory>
-    ensures { IfOk result (λ ending. (out : List Event) → evaluation_of out outcome ≡ record { items = out; ending = ending }) }
+    ensures { IfOk result (λ ending. ending ≡ ending_of outcome) }
 {
     Ok(match outcome {
         Outcome::Value(value) => Ok(Items(vec![in alloc; value]?)),
@@ -53,169 +51,173 @@ fn first_of(values: Items<Value>) -> Value
 }
 
 /// An instance that takes the answer of a child that it spawned.
-fn take_spawned(
-    instance: &mut Instance,
-    height: usize,
-    target: Option<Name>,
-    ending: Result<Items<Value>, Fault>,
-)
+fn take_spawned(instance: &mut Instance, height: usize, target: Option<Name>, outcome: Outcome)
     ensures machine { (plan : PlanView) → machine_of plan instance.new
-        ≡ changed height (answered target ending) (machine_of plan instance.old) }
+        ≡ changed height (answered target (ending_of outcome)) (machine_of plan instance.old) }
     ensures path { path_of instance.new ≡ path_of instance.old }
     ensures sound { (plan : PlanView) → IsInstance plan instance.old → IsInstance plan instance.new }
 {
-    match ending {
-        Ok(values) => instance.take_value(height, target.as_ref(), first_of(values)),
-        Err(fault) => instance.take_fault(height, fault),
+    match outcome {
+        Outcome::Value(value) => instance.take_value(height, target.as_ref(), value),
+        Outcome::Values(values) => instance.take_value(height, target.as_ref(), first_of(values)),
+        Outcome::Fault(fault) => instance.take_fault(height, fault),
+        Outcome::Cut { by } => instance.take_fault(height, by),
     }
 }
 
 /// The stage behind the answer of a child that an instance spawned.
-fn spawned(
-    stage: Stage,
-    height: usize,
-    target: Option<Name>,
-    ending: Result<Items<Value>, Fault>,
-) -> Stage
-    ensures { BecomesStage (takes (Spawned height target) ending) stage result }
+fn spawned(stage: &mut Stage, height: usize, target: Option<Name>, outcome: Outcome)
+    ensures { BecomesStage (takes (Spawned height target) (ending_of outcome)) stage.old stage.new }
 {
     match stage {
-        Stage::Goes(mut instance) => {
-            take_spawned(&mut instance, height, target, ending);
-            Stage::Goes(instance)
+        Stage::Goes(instance) => take_spawned(instance, height, target, outcome),
+        Stage::AtSync(instance) => take_spawned(instance, height, target, outcome),
+        Stage::AtLoop(instance) => take_spawned(instance, height, target, outcome),
+        Stage::Gave(_) => {}
+        Stage::Faulted(_) => {}
+        Stage::Joined(_) => {}
+    }
+}
+
+/// The stage behind the values of a loop of an instance.
+fn filled(
+    stage: &mut Stage,
+    alloc: Global,
+    target: Option<Name>,
+    values: Items<Value>,
+) -> Result<(), Memory>
+    ensures { OnOk result (BecomesStage (takes (Looped target) (Ok values)) stage.old stage.new) }
+{
+    let into = target.as_ref();
+    let given = values.as_slice();
+    match stage {
+        Stage::Goes(instance) => {
+            instance.take_values(alloc, into, given)?;
+            Ok(())
         }
-        Stage::AtSync(mut instance) => {
-            take_spawned(&mut instance, height, target, ending);
-            Stage::AtSync(instance)
+        Stage::AtSync(instance) => {
+            instance.take_values(alloc, into, given)?;
+            Ok(())
         }
-        Stage::AtLoop(mut instance) => {
-            take_spawned(&mut instance, height, target, ending);
-            Stage::AtLoop(instance)
+        Stage::AtLoop(instance) => {
+            instance.take_values(alloc, into, given)?;
+            Ok(())
         }
-        Stage::Gave(value) => Stage::Gave(value),
-        Stage::Faulted(fault) => Stage::Faulted(fault),
-        Stage::Joined(fault) => Stage::Joined(fault),
+        Stage::Gave(_) => Ok(()),
+        Stage::Faulted(_) => Ok(()),
+        Stage::Joined(_) => Ok(()),
     }
 }
 
 /// The stage behind the answer of a loop of an instance.
 fn looped(
-    stage: Stage,
+    stage: &mut Stage,
     alloc: Global,
     target: Option<Name>,
-    ending: Result<Items<Value>, Fault>,
-) -> Result<Stage, Memory>
-    ensures { IfOk result (BecomesStage (takes (Looped target) ending) stage) }
+    outcome: Outcome,
+) -> Result<(), Memory>
+    ensures { OnOk result (BecomesStage (takes (Looped target) (ending_of outcome)) stage.old stage.new) }
 {
-    let values = match ending {
-        Ok(values) => values,
-        Err(fault) => return Ok(Stage::Joined(fault)),
-    };
-    let into = target.as_ref();
-    let given = values.as_slice();
-    match stage {
-        Stage::Goes(mut instance) => {
-            instance.take_values(alloc, into, given)?;
-            Ok(Stage::Goes(instance))
+    match ending(alloc, outcome)? {
+        Ok(values) => {
+            filled(stage, alloc, target, values)?;
+            Ok(())
         }
-        Stage::AtSync(mut instance) => {
-            instance.take_values(alloc, into, given)?;
-            Ok(Stage::AtSync(instance))
+        Err(fault) => {
+            *stage = Stage::Joined(fault);
+            Ok(())
         }
-        Stage::AtLoop(mut instance) => {
-            instance.take_values(alloc, into, given)?;
-            Ok(Stage::AtLoop(instance))
+    }
+}
+
+/// The stage behind the answer of a child.
+fn taken_stage(
+    stage: &mut Stage,
+    alloc: Global,
+    place: Place,
+    outcome: Outcome,
+) -> Result<(), Memory>
+    ensures { OnOk result (BecomesStage (takes (place_of place) (ending_of outcome)) stage.old stage.new) }
+{
+    match place {
+        Place::Spawned(height, target) => {
+            spawned(stage, height, target, outcome);
+            Ok(())
         }
-        Stage::Gave(value) => Ok(Stage::Gave(value)),
-        Stage::Faulted(fault) => Ok(Stage::Faulted(fault)),
-        Stage::Joined(fault) => Ok(Stage::Joined(fault)),
+        Place::Looped(target) => {
+            looped(stage, alloc, target, outcome)?;
+            Ok(())
+        }
+        Place::Half => Ok(()),
+    }
+}
+
+/// What remains behind the answer of a child.
+fn taken(work: &mut Work, alloc: Global, place: Place, outcome: Outcome) -> Result<(), Memory>
+    ensures { OnOk result (BecomesWork (with_stage (takes (place_of place) (ending_of outcome))) work.old work.new) }
+{
+    match work {
+        Work::Runs(stage) => {
+            taken_stage(stage, alloc, place, outcome)?;
+            Ok(())
+        }
+        Work::Splits(_) => Ok(()),
+        Work::Over(_, _) => Ok(()),
     }
 }
 
 impl Going {
     /// The events of an answer, and where it is no fault then those behind the child.
-    fn hear(
-        &mut self,
-        events: Out,
-        behind: Out,
-        ending: &Result<Items<Value>, Fault>,
-    ) -> Result<(), Memory>
+    fn hear(&mut self, events: Out, behind: Out, outcome: &Outcome) -> Result<(), Memory>
         ensures pieces { OnOk result ((p : Part) → p.behind ≡ behind
-            → pieces_of self.new ≡ heard p (record { items = events; ending = ending.now }) (pieces_of self.old)) }
+            → pieces_of self.new ≡ heard p (record { items = events; ending = ending_of outcome.now }) (pieces_of self.old)) }
         ensures rest { OnOk result ((self.new.values ≡ self.old.values) × (self.new.work ≡ self.old.work)) }
     {
         if self.fault.is_some() {
             return Ok(());
         }
         self.told.append(events)?;
-        match ending {
-            Ok(_) => self.told.append(behind)?,
-            Err(fault) => self.fault = Some(fault.share()?),
+        match outcome {
+            Outcome::Value(_) => self.told.append(behind)?,
+            Outcome::Values(_) => self.told.append(behind)?,
+            Outcome::Fault(fault) => self.fault = Some(fault.share()?),
+            Outcome::Cut { by } => self.fault = Some(by.share()?),
         }
+        Ok(())
+    }
+
+    /// More values of the task's loop.
+    fn add_values(&mut self, values: Items<Value>) -> Result<(), Memory>
+        ensures { OnOk result (self.new ≡ record self.old { values = self.old.values ++ values }) }
+    {
+        let mut values = values;
+        self.values.0.append(&mut values.0)?;
         Ok(())
     }
 
     /// The values of a part of the task's loop.
-    fn add(&mut self, ending: Result<Items<Value>, Fault>) -> Result<(), Memory>
-        ensures { OnOk result (self.new ≡ record self.old { values = more_values Half ending self.old.values }) }
+    fn add(&mut self, outcome: Outcome) -> Result<(), Memory>
+        ensures { OnOk result (self.new ≡ record self.old { values = more_values Half (ending_of outcome) self.old.values }) }
     {
-        if let Ok(values) = ending {
-            let mut values = values;
-            self.values.0.append(&mut values.0)?;
+        match outcome {
+            Outcome::Value(value) => Ok(self.values.0.push(value)?),
+            Outcome::Values(values) => self.add_values(values),
+            Outcome::Fault(_) => Ok(()),
+            Outcome::Cut { .. } => Ok(()),
         }
-        Ok(())
     }
-}
 
-/// What remains behind the answer of a child.
-fn taken(
-    work: Work,
-    alloc: Global,
-    place: Place,
-    ending: Result<Items<Value>, Fault>,
-) -> Result<Work, Memory>
-    ensures { IfOk result (BecomesWork (with_stage (takes (place_of place) ending)) work) }
-{
-    match work {
-        Work::Runs(stage) => Ok(Work::Runs(match place {
-            Place::Spawned(height, target) => spawned(stage, height, target, ending),
-            Place::Looped(target) => looped(stage, alloc, target, ending)?,
-            Place::Half => stage,
-        })),
-        Work::Splits(left) => Ok(Work::Splits(left)),
-        Work::Over(value, gone_on) => Ok(Work::Over(value, gone_on)),
+    /// A child's answer.
+    pub fn take(&mut self, alloc: Global, behind: Behind, answer: Answer) -> Result<(), Memory>
+        ensures { OnOk result (Takes (part_of answer.origin behind ∷ []) (eval answer.plan answer.origin ∷ []) self.old self.new) }
+    {
+        laws::answers_are_evaluations();
+        let Answer { out, outcome, .. } = answer;
+        let Behind { place, events } = behind;
+        self.hear(out, events, &outcome)?;
+        if let Place::Half = place {
+            return self.add(outcome);
+        }
+        taken(&mut self.work, alloc, place, outcome)
     }
-}
-
-/// A child's answer.
-pub(crate) fn take(
-    going: Going,
-    alloc: Global,
-    behind: Behind,
-    answer: Answer,
-) -> Result<Going, Memory>
-    ensures { IfOk result (Takes (part_of answer.origin behind ∷ []) (eval answer.plan answer.origin ∷ []) going) }
-{
-    laws::answers_are_evaluations();
-    let Answer { out, outcome, .. } = answer;
-    let Behind { place, events } = behind;
-    let ending = ending(alloc, outcome)?;
-    let mut going = going;
-    going.hear(out, events, &ending)?;
-    if let Place::Half = place {
-        going.add(ending)?;
-        return Ok(going);
-    }
-    let Going {
-        told,
-        fault,
-        values,
-        work,
-    } = going;
-    Ok(Going {
-        told,
-        fault,
-        values,
-        work: taken(work, alloc, place, ending)?,
-    })
 }

@@ -225,6 +225,8 @@ impl Task {
     {
         laws::moves_fall();
         laws::stops_keep_origins();
+        laws::stops_are_sound();
+        let _work = &self.work;
         let mut notes = Notes::new();
         let mut reached = is_at(&self, at);
         let mut task = self;

@@ -1,5 +1,5 @@
 // How a task goes on from a wait.
-ghost use Rattle.std.specs.Prelude.{◌≡◌, ◌-◌, List, [], true, length, drop, IfOk};
+ghost use Rattle.std.specs.Prelude.{◌≡◌, ◌-◌, List, [], true, length, drop, IfOk, OnOk};
 ghost use Rattle.serial_meaning.specs.Plan.{PlanView};
 ghost use Rattle.strand_meaning.specs.Task.{resumed, resumed_work};
 ghost use Rattle.strand_machine.specs.Family.{tags, origins, AwaitsCount};
@@ -11,7 +11,7 @@ ghost use Rattle.strand_machine.specs.declared.work.Stage.TheVariants as stage;
 
 use crate::body::Body;
 use crate::family::Family;
-use crate::going::{Going, take};
+use crate::going::Going;
 use crate::memory::Memory;
 use crate::pieces::{Behind, Pieces};
 use crate::stop::Resumed;
@@ -79,24 +79,24 @@ fn go_on_work(work: Work) -> Result<Work, Memory>
     }
 }
 
-/// The answers of all awaited children, in order.
+/// Takes the answers of all awaited children, in order.
 fn take_all(
-    mut going: Going,
+    going: &mut Going,
     alloc: Global,
     behind: Vec<Behind>,
     answers: Items<Answer>,
-) -> Result<Going, Memory>
+) -> Result<(), Memory>
     requires { length answers ≡ length behind.items }
-    ensures { let told = answer_tags answers in IfOk result (Takes (parts_of (origins told) behind.items) (meanings told) going) }
+    ensures { let told = answer_tags answers in OnOk result (Takes (parts_of (origins told) behind.items) (meanings told) going.old going.new) }
 {
     let mut answers = answers.0.into_iter();
     for part in behind {
         let Some(answer) = answers.next() else {
             unreachable!()
         };
-        going = take(going, alloc, part, answer)?;
+        going.take(alloc, part, answer)?;
     }
-    Ok(going)
+    Ok(())
 }
 
 /// The task with its children's answers.
@@ -124,18 +124,19 @@ pub(crate) fn go_on(
         behind,
         ..
     } = pieces;
-    let going = Going {
+    let mut going = Going {
         told,
         fault,
         values,
         work,
     };
+    take_all(&mut going, alloc, behind, answers)?;
     let Going {
         told,
         fault,
         values,
         work,
-    } = take_all(going, alloc, behind, answers)?;
+    } = going;
     let pieces = Pieces {
         told,
         fault,

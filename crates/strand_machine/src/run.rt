@@ -11,7 +11,7 @@ ghost use Rattle.strand_machine.specs.declared.work.Work.TheVariants as work;
 use crate::body::Body;
 use crate::memory::Memory;
 use crate::place::Place;
-use crate::step::{pass, spawn};
+use crate::step::{fault, give, pass, spawn, wait};
 use crate::stop::Step;
 use crate::work::{Stage, Work};
 use std::alloc::Global;
@@ -47,7 +47,6 @@ pub(crate) fn show(
         } => {
             body.pieces.tell(alloc, event)?;
             let place = Place::Spawned(height, target);
-            let child = Box::into_inner(child.0);
             spawn(body, alloc, child, place, Work::Runs(Stage::Goes(instance)))
         }
         Shown::Looped {
@@ -57,7 +56,6 @@ pub(crate) fn show(
         } => {
             body.pieces.tell(alloc, event)?;
             let place = Place::Looped(target);
-            let child = Box::into_inner(child.0);
             spawn(
                 body,
                 alloc,
@@ -69,8 +67,8 @@ pub(crate) fn show(
     }
 }
 
-/// Moves of the instance in place, up to the first that shows more than an event. A task that is taken apart for each of them would be
-/// copied each time.
+/// Moves of the instance in place, up to the first that shows more than an event, with the wait or the end that comes of it. A task that
+/// is taken apart for each of them would be copied each time.
 pub(crate) fn go(mut body: Body, alloc: Global, mut instance: Instance) -> Result<Step, Memory>
     requires { IsSound body (work.Runs (stage.Goes instance)) }
     ensures { IfOk result (IsRun (view_of body (work.Runs (stage.Goes instance)))) }
@@ -81,9 +79,20 @@ pub(crate) fn go(mut body: Body, alloc: Global, mut instance: Instance) -> Resul
         match instance.step(alloc, body.family.plan())? {
             Moved::Went(Shown::Nothing) => {}
             Moved::Went(Shown::Told(event)) => body.pieces.tell(alloc, event)?,
+            Moved::Went(Shown::Synced(event)) => {
+                body.pieces.tell(alloc, event)?;
+                body.advanced = true;
+                return Ok(wait(body, Work::Runs(Stage::AtSync(instance))));
+            }
             Moved::Went(shown) => return show(body, alloc, instance, shown),
-            Moved::Gave(value) => return Ok(pass(body, Work::Runs(Stage::Gave(value)))),
-            Moved::Faulted(fault) => return Ok(pass(body, Work::Runs(Stage::Faulted(fault)))),
+            Moved::Gave(value) => {
+                body.advanced = true;
+                return Ok(give(body, value));
+            }
+            Moved::Faulted(own) => {
+                body.advanced = true;
+                return Ok(fault(body, own));
+            }
         }
         body.advanced = true;
     }

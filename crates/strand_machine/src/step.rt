@@ -18,7 +18,8 @@ use crate::run::go;
 use crate::stop::{Step, Stop};
 use crate::task::Task;
 use crate::work::{Left, Stage, Work, begin_last};
-use serial_meaning::{Fault, Origin, Outcome, Value};
+use script_grammar::Boxed;
+use serial_meaning::{AnswerKey, Fault, Origin, Outcome, Value};
 use std::alloc::Global;
 use strand_meaning::laws;
 use strand_moves::Child;
@@ -33,7 +34,7 @@ pub(crate) fn pass(mut body: Body, work: Work) -> Step
 }
 
 /// The task waits, and this remains.
-fn wait(mut body: Body, work: Work) -> Step
+pub(crate) fn wait(mut body: Body, work: Work) -> Step
     requires { IsSound (waiting body) work }
     ensures { result ≡ Step.Stops (Stop.Wait (view_of (waiting body) work)) }
 {
@@ -59,16 +60,19 @@ fn end(body: Body, outcome: Outcome) -> Step
     Step::Stops(Stop::Done { answer, give })
 }
 
-/// Begins a child, and counts it among the family's.
+/// Begins a child, and counts it among the family's. The key by which it is handed out is made of its own plan and origin.
 fn begin_child(family: &mut Family, alloc: Global, child: Child) -> Result<Task, Memory>
     requires known { IsOriginOf family.old.plan child.origin }
     requires trail { IsTrailOf family.old.plan child.origin child.trail }
     ensures child { IfOk result (λ task. task ≡ fresh family.old.plan child.origin) }
     ensures family { OnOk result (family.new ≡ handed family.old child.origin) }
 {
+    let Child { origin, trail } = child;
     let plan = family.share_plan()?;
-    let give = family.hand(alloc, &child.origin)?;
-    Task::begin(alloc, plan, child, give)
+    let key = AnswerKey { plan, origin };
+    let give = family.hand(alloc, &key)?;
+    let AnswerKey { plan, origin } = key;
+    Task::begin(alloc, plan, Child { origin, trail }, give)
 }
 
 /// Begins a child whose value goes to this place.
@@ -85,7 +89,7 @@ fn hand_out(body: &mut Body, alloc: Global, child: Child, place: Place) -> Resul
 }
 
 /// The task hands out a child, and this remains.
-pub(crate) fn spawn(
+fn spawn_part(
     mut body: Body,
     alloc: Global,
     child: Child,
@@ -101,6 +105,23 @@ pub(crate) fn spawn(
     let child = hand_out(&mut body, alloc, child, place)?;
     let rest = Task { body, work };
     Ok(Step::Stops(Stop::Spawn { child, rest }))
+}
+
+/// The same of a child that a move showed.
+pub(crate) fn spawn(
+    body: Body,
+    alloc: Global,
+    child: Boxed<Child>,
+    place: Place,
+    work: Work,
+) -> Result<Step, Memory>
+    requires known { IsOriginOf body.family.plan child.origin }
+    requires trail { IsTrailOf body.family.plan child.origin child.trail }
+    requires sound { IsSound (with_child body child.origin place) work }
+    ensures { IfOk result (λ step. step
+        ≡ Step.Stops (Stop.Spawn (fresh body.family.plan child.origin) (view_of (with_child body child.origin place) work))) }
+{
+    spawn_part(body, alloc, Box::into_inner(child.0), place, work)
 }
 
 /// A loop of which these iterations are left: their lower half is handed out, and the last one is begun.
@@ -119,7 +140,7 @@ fn split(mut body: Body, alloc: Global, left: Left) -> Result<Step, Memory>
         };
         let range = halves.1;
         let work = Work::Splits(Left { range, trail });
-        return spawn(body, alloc, child, Place::Half, work);
+        return spawn_part(body, alloc, child, Place::Half, work);
     }
     if range.len() == 0 {
         let values = body.take_values(alloc);
@@ -130,7 +151,7 @@ fn split(mut body: Body, alloc: Global, left: Left) -> Result<Step, Memory>
 }
 
 /// An instance that ended by a value: the task ends too, or else it was the last iteration of a loop.
-fn give(body: Body, value: Value) -> Step
+pub(crate) fn give(body: Body, value: Value) -> Step
     requires { IsSound body (work.Runs (stage.Gave value)) }
     ensures { IsStep (view_of body (work.Runs (stage.Gave value))) result }
 {
@@ -167,7 +188,7 @@ fn close(body: Body, alloc: Global, value: Value, gone_on: bool) -> Result<Step,
 }
 
 /// An instance that ended by a fault of its own. The task waits for the children that it handed out, and then ends by it.
-fn fault(body: Body, fault: Fault) -> Step
+pub(crate) fn fault(body: Body, fault: Fault) -> Step
     requires { IsSound body (work.Runs (stage.Faulted fault)) }
     ensures { IsStep (view_of body (work.Runs (stage.Faulted fault))) result }
 {

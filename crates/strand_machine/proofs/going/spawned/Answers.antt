@@ -1,20 +1,24 @@
 use Rattle.std.proofs.Common.{refl}
 use Rattle.strand_meaning.specs.Machine.{Spawned}
 use Rattle.strand_meaning.specs.Task.{takes, changed, answered}
+use Rattle.strand_machine.specs.Going.{ending_of}
 use Rattle.strand_machine.proofs.Taking.{at-goes, at-sync, at-loop}
 use Rattle.strand_machine.proofs.going.spawned.Goals as goal
 
 pub returns-in-Goes : goal.returns-in-Goes
 returns-in-Goes c =
     let e = c.take_spawned.ensures in
-    at-goes (takes (Spawned c.args.height c.args.target) c.args.ending) (changed c.args.height (answered c.args.target c.args.ending)) c.args.stage c.in-Goes.instance _ (λ m. refl) c.in-Goes.is e.machine e.path e.sound
+    let ending = ending_of c.args.outcome in
+    at-goes (takes (Spawned c.args.height c.args.target) ending) (changed c.args.height (answered c.args.target ending)) c.args.stage.now _ _ (λ m. refl) c.in-Goes.is e.machine e.path e.sound
 
 pub returns-in-AtSync : goal.returns-in-AtSync
 returns-in-AtSync c =
     let e = c.take_spawned-in-AtSync.ensures in
-    at-sync (takes (Spawned c.args.height c.args.target) c.args.ending) (changed c.args.height (answered c.args.target c.args.ending)) c.args.stage c.in-AtSync.instance _ (λ m. refl) c.in-AtSync.is e.machine e.path e.sound
+    let ending = ending_of c.args.outcome in
+    at-sync (takes (Spawned c.args.height c.args.target) ending) (changed c.args.height (answered c.args.target ending)) c.args.stage.now _ _ (λ m. refl) c.in-AtSync.is e.machine e.path e.sound
 
 pub returns-in-AtLoop : goal.returns-in-AtLoop
 returns-in-AtLoop c =
     let e = c.take_spawned-in-AtLoop.ensures in
-    at-loop (takes (Spawned c.args.height c.args.target) c.args.ending) (changed c.args.height (answered c.args.target c.args.ending)) c.args.stage c.in-AtLoop.instance _ (λ m. refl) c.in-AtLoop.is e.machine e.path e.sound
+    let ending = ending_of c.args.outcome in
+    at-loop (takes (Spawned c.args.height c.args.target) ending) (changed c.args.height (answered c.args.target ending)) c.args.stage.now _ _ (λ m. refl) c.in-AtLoop.is e.machine e.path e.sound

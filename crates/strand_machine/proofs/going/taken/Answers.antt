@@ -1,13 +1,8 @@
-use Rattle.std.proofs.Common.{ap}
+use Rattle.strand_meaning.specs.Task.{takes}
+use Rattle.strand_machine.specs.Going.{ending_of}
 use Rattle.strand_machine.specs.Parts.{place_of}
-use Rattle.strand_machine.proofs.Taking.{taken-at, stage-stays}
+use Rattle.strand_machine.proofs.Taking.{runs-taken}
 use Rattle.strand_machine.proofs.going.taken.Goals as goal
-use Rattle.strand_machine.proofs.going.taken.Goals.{in-Spawned, in-Looped+in_ok-looped-in-Looped, in-Half+in-Ok-1, in-Half+in-Err-1}
 
-pub returns-after-place : goal.returns-after-place
-returns-after-place c = elim c.match-place.branch [
-  | in-Spawned w ↦ taken-at c.args.place _ c.args.ending c.args.work _ _ _ (ap place_of w.in-Spawned.is) w.result-is c.in-Runs.is w.spawned.ensures
-  | in-Looped+in_ok-looped-in-Looped w ↦ taken-at c.args.place _ c.args.ending c.args.work _ _ _ (ap place_of w.in-Looped.is) w.result-is c.in-Runs.is w.in_ok-looped-in-Looped.ensures
-  | in-Half+in-Ok-1 w ↦ taken-at c.args.place _ c.args.ending c.args.work _ _ _ (ap place_of w.in-Half.is) w.result-is c.in-Runs.is (stage-stays c.args.ending _)
-  | in-Half+in-Err-1 w ↦ taken-at c.args.place _ c.args.ending c.args.work _ _ _ (ap place_of w.in-Half.is) w.result-is c.in-Runs.is (stage-stays c.args.ending _)
-]
+pub returns-in_ok-taken_stage-in-Runs : goal.returns-in_ok-taken_stage-in-Runs
+returns-in_ok-taken_stage-in-Runs c = runs-taken (takes (place_of c.args.place) (ending_of c.args.outcome)) c.args.work.now _ _ c.in-Runs.is c.in_ok-taken_stage-in-Runs.ensures

@@ -18,11 +18,11 @@ invariant_of-pieces c = ap length c.new.ensures.items ∙ sym (ap length c.new-2
 pub invariant_of-result : goal.invariant_of-result
 invariant_of-result c =
     let p = c.pieces.inside in
-    goes-on-sound c.args.body c.args.work p.told p.fault p.awaited p.behind.items _ c.in_ok-told.field-0 c.new.result.items c.new-2.result.items c.in_ok-go_on_work.field-0
-    c.pieces.view_is c.pieces.invariant c.requires.tags c.new.ensures.items c.in_ok-told.ensures c.in_ok-go_on_work.ensures c.answers_keep_tasks.ensures c.requires.sound
+    goes-on-sound c.args.body c.args.work p.told p.fault p.awaited p.behind.items _ c.take_all.new.going c.new.result.items c.new-2.result.items c.in_ok-go_on_work.field-0
+    c.pieces.view_is c.pieces.invariant c.requires.tags c.new.ensures.items c.in_ok-take_all.ensures c.in_ok-go_on_work.ensures c.answers_keep_tasks.ensures c.requires.sound
 
 pub returns : goal.returns
 returns c =
     let p = c.pieces.inside in
-    goes-on-view c.args.body c.args.work p.told p.fault p.awaited p.behind.items _ c.in_ok-told.field-0 c.new.result.items c.new-2.result.items c.in_ok-go_on_work.field-0
-    c.pieces.view_is c.pieces.invariant c.requires.tags c.new.ensures.items c.in_ok-told.ensures c.in_ok-go_on_work.ensures
+    goes-on-view c.args.body c.args.work p.told p.fault p.awaited p.behind.items _ c.take_all.new.going c.new.result.items c.new-2.result.items c.in_ok-go_on_work.field-0
+    c.pieces.view_is c.pieces.invariant c.requires.tags c.new.ensures.items c.in_ok-take_all.ensures c.in_ok-go_on_work.ensures

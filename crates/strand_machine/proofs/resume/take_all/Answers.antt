@@ -18,8 +18,8 @@ loop-part-init c =
       answers = c.into_iter-answers.ensures.len ∙ c.answers.inside.0.ok.0 ∙ ap length (sym c.into_iter-answers.ensures.rest);
       parts = gives.1 ∙ c.args.behind.ok.0 ∙ ap length (sym parts);
       same = ap length answers ∙ c.requires ∙ ap length (sym parts);
-      takes = λ after h. subst (λ (xs : List AnswerView). Takes (parts_of (origins (answer_tags xs)) c.args.behind.items) (meanings (answer_tags xs)) c.args.going after) answers
-          (subst (λ (bs : List Behind). Takes (parts_of (origins (answer_tags (into_iter_items c.into_iter-answers.result))) bs) (meanings (answer_tags (into_iter_items c.into_iter-answers.result))) c.args.going after) parts h);
+      takes = λ after h. subst (λ (xs : List AnswerView). Takes (parts_of (origins (answer_tags xs)) c.args.behind.items) (meanings (answer_tags xs)) c.args.going.now after) answers
+          (subst (λ (bs : List Behind). Takes (parts_of (origins (answer_tags (into_iter_items c.into_iter-answers.result))) bs) (meanings (answer_tags (into_iter_items c.into_iter-answers.result))) c.args.going.now after) parts h);
     }
 
 pub unreachable-requires : goal.unreachable-requires
@@ -42,7 +42,7 @@ loop-part-preserved c =
       answers = omega (arith, was.answers, answers.1, fewer);
       parts = omega (arith, was.parts, parts.1, shorter);
       same = omega (arith, was.same, fewer, shorter);
-      takes = λ after h. was.takes after (takes-next _ _ _ _ c.in-Some-next.answer c.in-Some.part c.loop-part.going c.in_ok-going.going after answers.0 parts.0 c.in_ok-going.ensures h);
+      takes = λ after h. was.takes after (takes-next _ _ _ _ c.in-Some-next.answer c.in-Some.part c.loop-part.going c.take.new.self after answers.0 parts.0 c.in_ok-take.ensures h);
     }
 
 pub returns : goal.returns

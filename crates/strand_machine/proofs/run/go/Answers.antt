@@ -2,7 +2,7 @@ use Rattle.strand_machine.specs.Tasks.{view_of}
 use Rattle.strand_machine.specs.declared.work.Stage.TheVariants as stage
 use Rattle.strand_machine.specs.declared.work.Work.TheVariants as work
 use Rattle.strand_machine.proofs.Advancing.{leads-start}
-use Rattle.strand_machine.proofs.Moving.{went-sound, went-is, gave-sound, gave-is, faulted-sound, faulted-is, still-on, still-falls, tells-on, tells-falls, run-is, run-is-ok}
+use Rattle.strand_machine.proofs.Moving.{went-sound, went-is, gave-sound, faulted-sound, syncs-sound, syncs-run, gives-run, faults-run, still-on, still-falls, tells-on, tells-falls, run-is-ok}
 use Rattle.strand_machine.proofs.run.go.Goals as goal
 
 pub loop-instance-init : goal.loop-instance-init
@@ -19,15 +19,22 @@ show-requires c =
     let m = c.in_ok-step.ensures in
     went-sound l.body l.instance c.step.new.self _ _ c.plan.ensures m.moves l.invariant.sound c.steps_are_sound.ensures c.in-Went.shown c.in-Went.is c.step.ensures.path m.sound m.child
 
-pub pass-requires : goal.pass-requires
-pass-requires c =
+pub wait-requires : goal.wait-requires
+wait-requires c =
+    let l = c.loop-instance in
+    let s = c.in-Went-Synced in
+    let m = c.in_ok-step.ensures in
+    syncs-sound l.body l.instance c.step.new.self _ _ c.plan.ensures m.moves l.invariant.sound c.steps_are_sound.ensures s.field-0 s.event c.tell-in-Went-Synced.new.self s.is s.field-0-is c.in_ok-tell-in-Went-Synced.ensures c.step.ensures.path m.sound m.child
+
+pub give-requires : goal.give-requires
+give-requires c =
     let l = c.loop-instance in
     gave-sound l.body l.instance c.step.new.self _ _ c.plan.ensures c.in_ok-step.ensures.moves l.invariant.sound c.steps_are_sound.ensures c.in-Gave.value c.in-Gave.is
 
-pub pass-requires-in-Faulted : goal.pass-requires-in-Faulted
-pass-requires-in-Faulted c =
+pub fault-requires : goal.fault-requires
+fault-requires c =
     let l = c.loop-instance in
-    faulted-sound l.body l.instance c.step.new.self _ _ c.plan.ensures c.in_ok-step.ensures.moves l.invariant.sound c.steps_are_sound.ensures c.in-Faulted.fault c.in-Faulted.is
+    faulted-sound l.body l.instance c.step.new.self _ _ c.plan.ensures c.in_ok-step.ensures.moves l.invariant.sound c.steps_are_sound.ensures c.in-Faulted.own c.in-Faulted.is
 
 pub returns-in-Went : goal.returns-in-Went
 returns-in-Went c =
@@ -35,17 +42,22 @@ returns-in-Went c =
     run-is-ok _ l.body l.instance l.invariant c.show.result
     (went-is l.body l.instance c.step.new.self _ _ c.plan.ensures c.in_ok-step.ensures.moves l.invariant.sound c.in-Went.shown c.show.result c.in-Went.is c.show.ensures.step c.show.ensures.keeps)
 
+pub returns-in-Went-Synced : goal.returns-in-Went-Synced
+returns-in-Went-Synced c =
+    let l = c.loop-instance in
+    let s = c.in-Went-Synced in
+    syncs-run l.body l.instance c.step.new.self _ _ c.plan.ensures c.in_ok-step.ensures.moves l.invariant.sound c.moves_fall.ensures _ l.invariant.leads s.field-0 s.event c.tell-in-Went-Synced.new.self s.is s.field-0-is
+    c.in_ok-tell-in-Went-Synced.ensures c.wait.result c.wait.ensures
+
 pub returns-in-Gave : goal.returns-in-Gave
 returns-in-Gave c =
     let l = c.loop-instance in
-    run-is _ l.body l.instance l.invariant c.pass.result
-    (gave-is l.body l.instance c.step.new.self _ _ c.plan.ensures c.in_ok-step.ensures.moves l.invariant.sound c.in-Gave.value c.pass.result c.in-Gave.is c.pass.ensures)
+    gives-run l.body l.instance c.step.new.self _ _ c.plan.ensures c.in_ok-step.ensures.moves l.invariant.sound c.moves_fall.ensures _ l.invariant.leads c.in-Gave.value c.in-Gave.is c.give.result c.give.ensures
 
 pub returns-in-Faulted : goal.returns-in-Faulted
 returns-in-Faulted c =
     let l = c.loop-instance in
-    run-is _ l.body l.instance l.invariant c.pass-in-Faulted.result
-    (faulted-is l.body l.instance c.step.new.self _ _ c.plan.ensures c.in_ok-step.ensures.moves l.invariant.sound c.in-Faulted.fault c.pass-in-Faulted.result c.in-Faulted.is c.pass-in-Faulted.ensures)
+    faults-run l.body l.instance c.step.new.self _ _ c.plan.ensures c.in_ok-step.ensures.moves l.invariant.sound c.moves_fall.ensures _ l.invariant.leads c.in-Faulted.own c.in-Faulted.is c.fault.result c.fault.ensures
 
 -- the moves before it: nothing
 

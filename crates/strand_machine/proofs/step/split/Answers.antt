@@ -14,8 +14,8 @@ use Rattle.strand_machine.proofs.Dispatch.{end-answers, end-is, part-trail, pass
 use Rattle.strand_machine.proofs.Halves.{many, halves, only-one}
 use Rattle.strand_machine.proofs.step.split.Goals as goal
 
-pub spawn-requires-clause-known : goal.spawn-requires-clause-known
-spawn-requires-clause-known c =
+pub spawn_part-requires-clause-known : goal.spawn_part-requires-clause-known
+spawn_part-requires-clause-known c =
     let b = c.args.body in
     let l = c.args.left in
     let p = c.in-Some.halves in
@@ -26,15 +26,15 @@ spawn-requires-clause-known c =
     (spawn-sound c.steps_are_sound.ensures b (work.Splits l) (work.Splits upper) c.in_ok-origin.origin place.Half c.requires
     (split-many b l upper p.0 c.in_ok-origin.origin two parts.0 parts.1 child) c.requires.works).0
 
-pub spawn-requires-clause-trail : goal.spawn-requires-clause-trail
-spawn-requires-clause-trail c =
+pub spawn_part-requires-clause-trail : goal.spawn_part-requires-clause-trail
+spawn_part-requires-clause-trail c =
     let b = c.args.body in
     let p = c.in-Some.halves in
     let child : c.in_ok-origin.origin ≡ only b.family.origin p.0 = c.in_ok-origin.ensures ∙ ap (λ (o : Origin). only o p.0) c.origin.ensures in
     part-trail b.family.plan b.family.origin c.in_ok-origin.origin p.0 c.args.left.trail c.in_ok-shared.shared child c.in_ok-shared.ensures c.requires.works
 
-pub spawn-requires-clause-sound : goal.spawn-requires-clause-sound
-spawn-requires-clause-sound c =
+pub spawn_part-requires-clause-sound : goal.spawn_part-requires-clause-sound
+spawn_part-requires-clause-sound c =
     let b = c.args.body in
     let l = c.args.left in
     let p = c.in-Some.halves in
@@ -54,10 +54,10 @@ returns-in-Some c =
     let parts = halves l.range c.split.result p c.in-Some.is c.split.ensures.halves in
     let two = many (l.range.hi - l.range.lo) c.split.result p c.in-Some.is c.split.ensures.too_few in
     let child : c.in_ok-origin.origin ≡ only b.family.origin p.0 = c.in_ok-origin.ensures ∙ ap (λ (o : Origin). only o p.0) c.origin.ensures in
-    IfOk-weaker c.spawn.result
+    IfOk-weaker c.spawn_part.result
     (λ s. s ≡ step.Stops (stop.Spawn (fresh b.family.plan c.in_ok-origin.origin) (view_of (with_child b c.in_ok-origin.origin place.Half) (work.Splits upper)))) (IsStep (view_of b (work.Splits l)))
     (λ s h. spawn-is b (work.Splits l) (work.Splits upper) c.in_ok-origin.origin place.Half s (split-many b l upper p.0 c.in_ok-origin.origin two parts.0 parts.1 child) h)
-    c.spawn.ensures
+    c.spawn_part.ensures
 
 pub end-requires : goal.end-requires
 end-requires c =

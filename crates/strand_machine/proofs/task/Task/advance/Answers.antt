@@ -1,4 +1,4 @@
-use Rattle.strand_machine.proofs.Advancing.{leads-start, run-leads, run-falls, run-stops}
+use Rattle.strand_machine.proofs.Advancing.{leads-start, is-task, run-leads, run-falls, run-stops}
 use Rattle.strand_machine.proofs.task.Task.advance.Goals as goal
 
 pub loop-next-init : goal.loop-next-init
@@ -11,4 +11,4 @@ pub loop-next-preserved : goal.loop-next-preserved
 loop-next-preserved c = run-leads c.moves_fall.ensures c.args.self c.loop-next.task c.in-Passes.next _ c.loop-next.invariant c.in_ok-next.ensures c.in-Passes.is
 
 pub returns-in-Stops : goal.returns-in-Stops
-returns-in-Stops c = run-stops c.args.self c.loop-next.task _ c.in-Stops.stop c.loop-next.invariant c.in_ok-next.ensures c.in-Stops.is
+returns-in-Stops c = run-stops c.stops_are_sound.ensures c.args.self c.loop-next.task _ c.in-Stops.stop (is-task c.self.inside.body c.self.inside.work c.args.self c.self.view_is c.self.invariant) c.loop-next.invariant c.in_ok-next.ensures c.in-Stops.is

@@ -1,4 +1,4 @@
-use Rattle.strand_machine.proofs.Advancing.{falls}
+use Rattle.strand_machine.proofs.Advancing.{falls, is-task}
 use Rattle.strand_machine.proofs.Noting.{noted-start, noted-on, noted-stop}
 use Rattle.strand_machine.proofs.task.Task.advance_noted.Goals as goal
 
@@ -17,5 +17,6 @@ loop-notes-preserved c =
 pub returns-in-Stops : goal.returns-in-Stops
 returns-in-Stops c =
     let m = c.in_ok-next.ensures in
-    noted-stop c.args.self c.args.at.now c.loop-notes.task c.loop-notes.notes c.step_noted.new.notes c.loop-notes.reached c.loop-notes.invariant m.notes c.stops_keep_origins.ensures c.in-Stops.stop _ c.stops_at-reached.result m.step
+    noted-stop c.args.self c.args.at.now c.loop-notes.task c.loop-notes.notes c.step_noted.new.notes c.loop-notes.reached c.loop-notes.invariant m.notes c.stops_keep_origins.ensures c.stops_are_sound.ensures
+    (is-task c.self.inside.body c.self.inside.work c.args.self c.self.view_is c.self.invariant) c.in-Stops.stop _ c.stops_at-reached.result m.step
     c.in-Stops.is c.stops_at-reached.ensures
