@@ -23,8 +23,11 @@ pub main_known : (plan same : PlanView) (o : Origin) → same ≡ plan → o ≡
 main_known plan same o h e = subst (IsOriginOf plan) (sym (e ∙ ap main_origin h)) Main
 
 -- A task of which nothing is done is idle.
-pub begun : (plan : PlanView) (o : Origin) (t : TaskView) → IsOriginOf plan o → IsClearPlan plan → t ≡ fresh plan o → IsIdle t × (t.task.plan ≡ plan)
+begun : (plan : PlanView) (o : Origin) (t : TaskView) → IsOriginOf plan o → IsClearPlan plan → t ≡ fresh plan o → IsIdle t × (t.task.plan ≡ plan)
 begun plan o t known clear e = subst (λ (v : TaskView). IsIdle v × (v.task.plan ≡ plan)) (sym e) (record { task = tasks_begin plan o known clear; idle = refl }, refl)
+
+pub main_idle : (plan : PlanView) (t : TaskView) → IsClearPlan plan → t ≡ fresh plan (main_origin plan) → IsIdle t
+main_idle plan t clear e = (begun plan (main_origin plan) t Main clear e).0
 
 pub stopped : (t : TaskView) (s : stop_type.Stop) → IsIdle t → IsStop t s → StopsAt t s
 stopped t (stop.Spawn child rest) is at =

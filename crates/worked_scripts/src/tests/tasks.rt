@@ -1,7 +1,10 @@
 // Tasks by hand, stop after stop.
 
 ghost use Rattle.std.specs.Prelude.{◌≡◌, true, IfOk};
+ghost use Rattle.std.specs.Arc.{arc_value};
+ghost use Rattle.serial_meaning.specs.Eval.{main_origin};
 ghost use Rattle.strand_machine.specs.Family.{tag};
+ghost use Rattle.strand_machine.specs.Tasks.{fresh};
 ghost use Rattle.worked_scripts.specs.Stopping.{IsIdle, StopsAt};
 
 use dotmix::Gamma;
@@ -33,18 +36,28 @@ pub(super) fn plan(rt: &(impl Abort + AllocGlobal), text: &str) -> Result<Arc<Pl
 }
 
 /// Main's task, of which nothing is done.
-#[tactic(auto, using(crate::proofs::Stopping::main_known, crate::proofs::Stopping::begun))]
-fn main_task(alloc: Global, plan: Arc<Plan>) -> Result<Task, Fail>
-    ensures { IfOk result IsIdle }
+#[tactic(auto, using(crate::proofs::Stopping::main_known))]
+fn fresh_main(alloc: Global, plan: &Arc<Plan>) -> Result<Task, Fail>
+    ensures { IfOk result (λ task. task ≡ fresh (arc_value plan.now) (main_origin (arc_value plan.now))) }
 {
-    laws::valid_plans_are_clear();
-    let _script = plan.checked.script();
-    let origin = plan.main_origin(alloc)?;
-    let key = AnswerKey { plan, origin };
+    let key = AnswerKey {
+        plan: Arc::try_clone(plan)?,
+        origin: plan.main_origin(alloc)?,
+    };
     let mut join: Join<Answer> = Join::new(alloc)?;
     let give = join.hand(alloc, &key)?;
     let AnswerKey { plan, origin } = key;
     Ok(Task::start(alloc, plan, origin, give)?)
+}
+
+/// The same, known to be sound.
+#[tactic(auto, using(crate::proofs::Stopping::main_idle))]
+fn main_task(alloc: Global, plan: &Arc<Plan>) -> Result<Task, Fail>
+    ensures { IfOk result IsIdle }
+{
+    laws::valid_plans_are_clear();
+    let _script = plan.checked.script();
+    fresh_main(alloc, plan)
 }
 
 /// The next stop of a task that stands in no wait.
@@ -119,7 +132,7 @@ fn a_task_takes_its_childrens_answers_at_a_wait(rt: HostRuntime) -> Result<(), F
     let text = "fn mk() -> id { let o = new; return o; }
          fn main() { let a = spawn mk(); let b = spawn mk(); sync; print a; print b; return 0; }";
     let plan = plan(&rt, text)?;
-    let (first, rest) = handed_out(&rt, alloc, main_task(alloc, plan)?)?;
+    let (first, rest) = handed_out(&rt, alloc, main_task(alloc, &plan)?)?;
     let (second, rest) = handed_out(&rt, alloc, rest)?;
     let rest = at_wait(&rt, alloc, rest)?;
     let (first, _) = ended(&rt, alloc, first)?;
@@ -173,7 +186,7 @@ fn number(rt: &impl Abort, alloc: Global, task: Task) -> Result<i64, Fail> {
 fn a_task_goes_on_once_its_child_has_answered(rt: HostRuntime) -> Result<(), Fail> {
     let alloc = rt.alloc();
     let text = "fn f() { return 7; } fn main() { let a = spawn f(); sync; print a; return 0; }";
-    let main = main_task(alloc, plan(&rt, text)?)?;
+    let main = main_task(alloc, &plan(&rt, text)?)?;
     assert!(rt; main.is_fresh());
     let (child, rest) = handed_out(&rt, alloc, main)?;
     assert!(rt; child.is_fresh() && !rest.is_fresh());
