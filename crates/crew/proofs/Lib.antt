@@ -1,5 +1,6 @@
 pub mod Ending
 pub mod Handed
+pub mod Looking
 pub mod Mains
 pub mod Meeting
 pub mod Rooted

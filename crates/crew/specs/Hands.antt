@@ -10,8 +10,10 @@ use Rattle.strand_machine.specs.declared.stop.Stop.{Stop}
 use Rattle.strand_machine.specs.declared.stop.Stop.TheVariants as stop
 use Rattle.strand_machine.specs.declared.stop.Resumed.TheVariants as resumed
 use Rattle.crew.specs.declared.held.Held.{Held}
-use Rattle.crew.specs.declared.steps.Front.{Front}
-use Rattle.crew.specs.declared.steps.Front.TheVariants.{Missing, Waits, Goes}
+use Rattle.crew.specs.declared.steps.Found.{Found}
+use Rattle.crew.specs.declared.steps.Found.TheVariants as found
+use Rattle.crew.specs.declared.hand.Looked.{Looked}
+use Rattle.crew.specs.declared.hand.Looked.TheVariants as looked
 use Rattle.crew.specs.declared.hand.Turn.{Turn}
 use Rattle.crew.specs.declared.hand.Turn.TheVariants.{Ran, Answered, Ended, Popped, Resumed as ResumedOne, Waiting, Stole, Idle}
 
@@ -82,11 +84,17 @@ abbrev pub GoesOn : List TaskView → TaskView → List TaskView → Type 0
 GoesOn [] next after = ⊥
 GoesOn (t ∷ ts) next after = IsResumed t (resumed.On next) × (after ≡ ts)
 
--- What a look at the ring's front found, by the ring before it and after it.
-abbrev pub Looks : List TaskView → List TaskView → Front → Type 0
-Looks before after Missing = (before ≡ []) × (after ≡ [])
-Looks before after Waits = IsTurnedOver before after
-Looks before after (Goes t) = GoesOn before t after
+-- What a look at a task that left the ring made of the hand.
+abbrev pub TakesUp : TaskView → HandView → Found → HandView → Type 0
+TakesUp t old found.Missing new = ⊥
+TakesUp t old found.Waits new = (same : TaskView) × IsResumed t (resumed.NotYet same) × (new ≡ record old { ring = old.ring ++ same ∷ [] })
+TakesUp t old found.Goes new = (next : TaskView) × IsResumed t (resumed.On next) × (new ≡ record old { current = Some next })
+
+-- What a look at the ring's front found.
+abbrev pub Looks : HandView → Found → HandView → Type 0
+Looks old found.Missing new = (old.ring ≡ []) × (new ≡ old)
+Looks old found.Waits new = IsTurnedOver old.ring new.ring × (new ≡ record old { ring = new.ring })
+Looks old found.Goes new = (t : TaskView) × GoesOn old.ring t new.ring × (new ≡ record old { current = Some t; ring = new.ring })
 
 -- a thief whose steal took nothing
 abbrev pub missed : ThiefEnd TaskView → ThiefEnd TaskView
@@ -135,3 +143,21 @@ IsTurnFrom None old turn new = Seeks old turn new
 
 abbrev pub IsTurn : HandView → Turn → HandView → Type 0
 IsTurn old turn new = IsTurnFrom old.current old turn new
+
+-- A look between turns
+
+-- The task at the ring's end still waits, and stays there.
+abbrev pub StaysLast : List TaskView → List TaskView → Type 0
+StaysLast before after =
+    (ts : List TaskView) × (t same : TaskView) × (before ≡ ts ++ t ∷ []) × IsResumed t (resumed.NotYet same) × (after ≡ ts ++ same ∷ [])
+
+-- It goes on, and left the ring.
+abbrev pub LastGoesOn : List TaskView → TaskView → List TaskView → Type 0
+LastGoesOn before next after = (t : TaskView) × (before ≡ after ++ t ∷ []) × IsResumed t (resumed.On next)
+
+-- What a look at the ring's end found. No hand looks that has a current task.
+abbrev pub LooksNewest : HandView → Looked → HandView → Type 0
+LooksNewest old looked.Nothing new = (new ≡ old) × (old.current ≡ None → old.ring ≡ [])
+LooksNewest old looked.Waits new = (old.current ≡ None) × StaysLast old.ring new.ring × (new ≡ record old { ring = new.ring })
+LooksNewest old looked.Goes new =
+    (t : TaskView) × (old.current ≡ None) × LastGoesOn old.ring t new.ring × (new ≡ record old { current = Some t; ring = new.ring })

@@ -33,6 +33,17 @@ pub enum Turn {
     Idle,
 }
 
+/// What a look at the newest waiting task of a hand found.
+#[derive(Drop)]
+pub enum Looked {
+    /// The hand has a current task, or none that waits.
+    Nothing,
+    /// The task still waits.
+    Waits,
+    /// All of its children have answered. It is the current one.
+    Goes,
+}
+
 /// The hands of a crew, by number from 0.
 #[derive(Drop)]
 pub struct Hands(pub Items<Hand>);
@@ -63,7 +74,7 @@ impl Hand {
     ghost use Rattle.std.specs.Prelude.{◌≡◌, IfOk, OnOk, OnErr, Some, None, length};
     ghost use Rattle.steal_deck.specs.Ends.{new_thief};
     ghost use Rattle.crew.specs.Crews.{new_hand, with_thief};
-    ghost use Rattle.crew.specs.Hands.{IsTurn};
+    ghost use Rattle.crew.specs.Hands.{IsTurn, LooksNewest};
 
     /// A hand without a task, for a run that the answer of this origin ends. It has no thieves yet.
     pub(crate) fn new(alloc: Global, root: Origin) -> Result<Hand, Memory>
@@ -126,5 +137,17 @@ impl Hand {
     {
         let held: &mut Held = &mut self.held;
         steps::turn(held, alloc, gate)
+    }
+    /// Looks once at the task at the ring's end, where the hand has no current one. It becomes current where all of its children have
+    /// answered, and else stays there.
+    ///
+    /// This is no turn, and none is owed: a task at the ring's end, which waits since the last turn, goes on before one of the deck is
+    /// taken up. It doesn't wait for another thread. On `Memory` the task is dropped, and the run has failed.
+    pub fn look_newest(&mut self, alloc: Global) -> Result<Looked, Memory>
+        ensures ok { IfOk result (λ looked. LooksNewest self.old looked self.new) }
+        ensures err { OnErr result (self.new.current ≡ None) }
+    {
+        let held: &mut Held = &mut self.held;
+        steps::look_newest(held, alloc)
     }
 }

@@ -17,13 +17,15 @@ mod root;
 mod run;
 mod serial;
 mod sight;
+mod signals;
 mod stack;
 mod steps;
+mod threads;
 mod turn;
 mod walk;
 
 pub use gate::{Gate, OpenGate};
-pub use hand::{Hand, Hands, Turn};
+pub use hand::{Hand, Hands, Looked, Turn};
 pub use hiring::Crew;
 pub use memory::Memory;
 pub use node::{Node, walk_node};

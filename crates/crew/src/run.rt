@@ -10,160 +10,47 @@ use crate::hand::{Hand, Turn};
 use crate::hiring::Crew;
 use crate::memory::Memory;
 use crate::root::Root;
-use crossbeam_utils::{Backoff, CachePadded};
+use crate::signals::{Naps, Signals};
+use crate::threads::at_each;
+use crossbeam_utils::Backoff;
 use meet_block::Look;
 use serial_meaning::{Answer, Plan, laws};
-use std::alloc::{AllocError, Global};
-use std::sync::atomic::{AtomicBool, AtomicU64, Ordering};
+use std::alloc::Global;
 use std::sync::{Arc, Wait};
-use std::thread;
-use std::thread::{Builder, Threads};
-use std::time::Duration;
+use std::thread::Threads;
 
-/// How long a hand that finds nothing to do sleeps at first, in microseconds.
-const SHORTEST_NAP: u64 = 50;
-
-/// How long it sleeps at most, for each worker of the crew: all idle hands together look for work about this often.
-const LONGEST_NAP: u64 = 100;
-
-/// The stack of a hand's thread, in bytes.
-const STACK: usize = 1024 * 1024;
-
-/// What is kept for the heap and the stack of the calling thread while the others are started, in bytes. Else they may take all that the
-/// process may have.
-const SPARE: usize = 4 * 1024 * 1024;
-
-/// What the hands tell one another.
-#[derive(Drop)]
-struct Signals {
-    /// 0 as long as the hands take turns, and then 1. A hand that finds nothing to do sleeps on it.
-    stop: CachePadded<AtomicU64>,
-    /// The root's answer was put.
-    ended: CachePadded<AtomicBool>,
-}
-
-impl Signals {
-    fn new() -> Signals {
-        Signals {
-            stop: CachePadded::new(AtomicU64::new(0)),
-            ended: CachePadded::new(AtomicBool::new(false)),
-        }
-    }
-
-    /// No hand takes another turn.
-    fn stop(&self) {
-        let stop: &AtomicU64 = &self.stop;
-        stop.store(1, Ordering::SeqCst);
-        stop.wake_all();
-    }
-
-    fn is_stopped(&self) -> bool {
-        let stop: &AtomicU64 = &self.stop;
-        stop.load(Ordering::SeqCst) != 0
-    }
-
-    /// The root's answer was put, and no hand takes another turn.
-    fn end(&self) {
-        let ended: &AtomicBool = &self.ended;
-        ended.store(true, Ordering::SeqCst);
-        self.stop();
-    }
-
-    fn is_ended(&self) -> bool {
-        let ended: &AtomicBool = &self.ended;
-        ended.load(Ordering::SeqCst)
-    }
-
-    /// Sleeps for so many microseconds, or until the hands stop.
-    fn sleep<R: Wait>(&self, rt: &R, micros: u64) {
-        let stop: &AtomicU64 = &self.stop;
-        stop.park_timeout(rt, 0, Duration::from_micros(micros));
-    }
-}
-
-/// Makes turns until a hand has ended the run, or has failed for want of memory. A hand that finds nothing to do, at no task that it has,
-/// sleeps between its turns, longer from time to time.
+/// Makes turns until a hand has ended the run, or has failed for want of memory. Behind a turn that left a task waiting, its children may
+/// have answered already: then it is the next one, and else it stays in the ring.
 fn work<R: Wait, G: Gate>(
     rt: &R,
     alloc: Global,
-    longest: u64,
+    mut naps: Naps,
     signals: &Signals,
     hand: &mut Hand,
     gate: &G,
 ) {
-    let backoff = Backoff::new();
-    let mut nap = SHORTEST_NAP;
-    let mut vain: usize = 0;
     for _ in rt.forever() {
         if signals.is_stopped() {
             break;
         }
         match hand.turn(alloc, gate) {
-            Ok(Turn::Waiting | Turn::Idle) => {
-                vain = vain.saturating_add(1);
-                if backoff.is_completed() && vain > hand.parked() {
-                    signals.sleep(rt, nap);
-                    nap = nap.saturating_mul(2).min(longest);
-                    vain = 0;
-                } else {
-                    backoff.snooze();
+            Ok(Turn::Ran) => {
+                naps.end();
+                if hand.look_newest(alloc).is_err() {
+                    signals.stop();
                 }
+            }
+            Ok(Turn::Waiting) => naps.wait(rt, signals, hand.parked()),
+            Ok(Turn::Idle) => naps.idle(rt, signals),
+            Ok(Turn::Stole) => {
+                naps.end();
+                signals.wake_one();
             }
             Ok(Turn::Ended(_)) => signals.end(),
+            Ok(_) => naps.end(),
             Err(_) => signals.stop(),
-            Ok(_) => {
-                backoff.reset();
-                nap = SHORTEST_NAP;
-                vain = 0;
-            }
         }
     }
-}
-
-/// Calls f at it.
-fn at_one<T, F: Fn(&mut T)>(f: &F, one: &mut T)
-    requires { F.IsAlwaysCallable f.now }
-{
-    f(one);
-}
-
-/// Calls f at the first of them in this thread, and at each other one in a thread of its own, and returns once all calls have. From the
-/// first one on for which no thread can be made they are left out.
-fn at_each<R: Threads + Wait, T: Send + Drop, F: Fn(&mut T) + Sync>(
-    rt: &R,
-    alloc: Global,
-    mut all: Vec<T>,
-    f: &F,
-)
-    requires { F.IsAlwaysCallable f.now }
-{
-    let whole = all.as_mut_slice();
-    thread::scope(
-        thread::scope_env(),
-        rt,
-        |scope|
-            requires { F.IsAlwaysCallable f.now }
-        {
-            let Some((first, others)) = whole.split_first_mut() else {
-                return;
-            };
-            let spare: Result<Vec<u8>, AllocError> = Vec::with_capacity(alloc, SPARE);
-            for one in others.iter_mut() {
-                let builder = Builder::new().stack_size(STACK);
-                let started = builder.spawn_scoped(
-                    scope,
-                    move ||
-                        requires { F.IsAlwaysCallable f.now }
-                    { at_one(f, one) },
-                );
-                if started.is_err() {
-                    break;
-                }
-            }
-            drop(spare);
-            at_one(f, first);
-        },
-    );
 }
 
 /// Looks until the answer is there.
@@ -209,12 +96,11 @@ pub fn run_crew<R: Threads + Wait + Sync, G: Gate + Sync>(
     let (mut root, hands) = Crew::new(alloc, plan, workers)?;
     let signals = Signals::new();
     let shared = &signals;
-    let longest = u64::from(workers) * LONGEST_NAP;
     at_each(
         rt,
         alloc,
         hands.0.0,
-        &|hand| { work(rt, alloc, longest, shared, hand, gate) },
+        &|hand| { work(rt, alloc, Naps::new(workers), shared, hand, gate) },
     );
     if !signals.is_ended() {
         return Err(Memory);

@@ -1,11 +1,12 @@
 // The steps of a hand's turn.
-ghost use Rattle.std.specs.Prelude.{◌≡◌, ◌≤◌, [], IfOk, OnOk, IfErr, OnErr, IfSome, IfNone, None, length};
+ghost use Rattle.std.specs.Prelude.{◌≡◌, [], ◌∷◌, ◌++◌, IfOk, OnOk, OnErr, IfSome, IfNone, None, true};
 ghost use Rattle.strand_machine.specs.Family.{tag};
-ghost use Rattle.steal_deck.specs.Ends.{Pushes, FindsNone};
-ghost use Rattle.crew.specs.Hands.{view_of, IsPut, IsAnswered, Advances, IsNewest, Looks, AllMiss, FirstSteals, StealsOr, Seeks, IsTurn};
+ghost use Rattle.strand_machine.specs.declared.stop.Stop.TheVariants as stop;
+ghost use Rattle.steal_deck.specs.Ends.{FindsNone};
+ghost use Rattle.crew.specs.Hands.{view_of, IsPut, Runs, IsAnswered, Advances, IsNewest, FindsNoTask, TakesUp, Looks, LooksNewest, AllMiss, FirstSteals, StealsOr, Seeks, IsTurn};
 
 use crate::gate::Gate;
-use crate::hand::Turn;
+use crate::hand::{Looked, Turn};
 use crate::held::Held;
 use crate::memory::Memory;
 use crate::parked::Parked;
@@ -16,36 +17,55 @@ use std::collections::VecDeque;
 use steal_deck::{Deck, Steal, Thief};
 use strand_machine::{Resumed, Stop, Task, share_origin};
 
-/// What a look at the front of a ring found.
+/// What a look at a task of the ring found.
 #[derive(Drop)]
-pub(crate) enum Front {
+pub(crate) enum Found {
     /// There is no task.
     Missing,
-    /// It still waits, and went to the ring's end.
+    /// It still waits, and is at the ring's end.
     Waits,
-    /// It goes on.
-    Goes(Task),
+    /// It is the current one.
+    Goes,
 }
 
-/// Pushes the task where the private list is empty. Hands it back where it isn't, or where the deck refuses it.
-fn push(deck: &mut Deck<Task>, kept: &[Task], task: Task) -> Result<(), Task>
-    ensures ok { OnOk result ((kept.now ≡ []) × Pushes deck.old task deck.new) }
-    ensures err { IfErr result (λ same. (same ≡ task) × (deck.new ≡ deck.old) × (kept.now ≡ [] → 64 ≤ length deck.old.pushed)) }
+/// The rest goes to the end of the private list.
+fn keep(kept: &mut Vec<Task>, rest: Task) -> Result<(), Memory>
+    ensures { OnOk result (kept.new.items ≡ kept.old.items ++ rest ∷ []) }
 {
-    if kept.is_empty() {
-        deck.push(task)
-    } else {
-        Err(task)
-    }
+    kept.push(rest)?;
+    Ok(())
 }
 
 /// The rest of a task that handed out a child goes behind all others.
 fn put_rest(deck: &mut Deck<Task>, kept: &mut Vec<Task>, rest: Task) -> Result<(), Memory>
     ensures { OnOk result (IsPut rest kept.old.items deck.old kept.new.items deck.new) }
 {
-    if let Err(refused) = push(deck, kept.as_slice(), rest) {
-        kept.push(refused)?;
+    if !kept.is_empty() {
+        return keep(kept, rest);
     }
+    match deck.push(rest) {
+        Ok(()) => Ok(()),
+        Err(refused) => keep(kept, refused),
+    }
+}
+
+/// The child becomes current, and the rest of the task that handed it out goes behind all others.
+fn hand_out(held: &mut Held, child: Task, rest: Task) -> Result<(), Memory>
+    requires { held.old.current ≡ None }
+    ensures ok { OnOk result (Runs (stop.Spawn child rest) (view_of held.old) (view_of held.new)) }
+    ensures err { OnErr result (held.new.current ≡ None) }
+{
+    put_rest(&mut held.deck, &mut held.kept, rest)?;
+    held.current = Some(child);
+    Ok(())
+}
+
+/// The task goes to the ring's end.
+fn park(ring: &mut VecDeque<Parked>, task: Task) -> Result<(), Memory>
+    requires { task.task.waiting ≡ true }
+    ensures { OnOk result (ring.new.items ≡ ring.old.items ++ task ∷ []) }
+{
+    ring.push_back(Parked { task })?;
     Ok(())
 }
 
@@ -83,12 +103,11 @@ fn run<G: Gate>(held: &mut Held, task: Task, alloc: Global, gate: &G) -> Result<
     let stop = task.advance(alloc)?;
     match stop {
         Stop::Spawn { child, rest } => {
-            put_rest(&mut held.deck, &mut held.kept, rest)?;
-            held.current = Some(child);
+            hand_out(held, child, rest)?;
             Ok(Turn::Ran)
         }
         Stop::Wait { rest } => {
-            held.ring.push_back(Parked { task: rest })?;
+            park(&mut held.ring, rest)?;
             Ok(Turn::Ran)
         }
         Stop::Done { answer, give } => put_answer(alloc, &held.root, answer, give, gate),
@@ -96,31 +115,62 @@ fn run<G: Gate>(held: &mut Held, task: Task, alloc: Global, gate: &G) -> Result<
 }
 
 /// The newest of the hand's own tasks.
-fn pop(deck: &mut Deck<Task>, kept: &mut Vec<Task>) -> Option<Task>
+fn newest(deck: &mut Deck<Task>, kept: &mut Vec<Task>) -> Option<Task>
     ensures some { IfSome result (λ task. IsNewest task kept.old.items deck.old kept.new.items deck.new) }
     ensures none { IfNone result ((kept.old.items ≡ []) × (kept.new.items ≡ []) × FindsNone deck.old deck.new) }
 {
-    match kept.pop() {
-        Some(task) => Some(task),
-        None => deck.pop(),
+    if kept.is_empty() {
+        deck.pop()
+    } else {
+        kept.pop()
     }
 }
 
-/// Looks at the task at the front.
-fn look(ring: &mut VecDeque<Parked>, alloc: Global) -> Result<Front, Memory>
-    ensures { IfOk result (Looks ring.old.items ring.new.items) }
+/// Takes up the newest of the hand's own tasks.
+fn pop(held: &mut Held) -> Option<Turn>
+    requires { held.old.current ≡ None }
+    ensures some { IfSome result (λ turn. Seeks (view_of held.old) turn (view_of held.new)) }
+    ensures none { IfNone result (FindsNoTask (view_of held.old) (view_of held.new) × (view_of held.new ≡ record (view_of held.old) { deck = held.new.deck })) }
 {
-    let Some(parked) = ring.pop_front() else {
-        return Ok(Front::Missing);
-    };
-    let Parked { task } = parked;
-    match task.resume(alloc)? {
-        Resumed::On(task) => Ok(Front::Goes(task)),
+    held.current = newest(&mut held.deck, &mut held.kept);
+    match &held.current {
+        Some(_) => Some(Turn::Popped),
+        None => None,
+    }
+}
+
+/// Takes up a task that left the ring, where all of its children have answered. Else it goes to the ring's end.
+fn take_up(held: &mut Held, task: Task, alloc: Global) -> Result<Found, Memory>
+    requires current { held.old.current ≡ None }
+    requires waits { task.task.waiting ≡ true }
+    ensures ok { IfOk result (λ found. TakesUp task (view_of held.old) found (view_of held.new)) }
+    ensures err { OnErr result (held.new.current ≡ None) }
+{
+    let resumed = task.resume(alloc)?;
+    match resumed {
+        Resumed::On(task) => {
+            held.current = Some(task);
+            Ok(Found::Goes)
+        }
         Resumed::NotYet(task) => {
-            ring.push_back(Parked { task })?;
-            Ok(Front::Waits)
+            park(&mut held.ring, task)?;
+            Ok(Found::Waits)
         }
     }
+}
+
+/// Looks at the task at the ring's front.
+#[tactic(auto, using(crate::proofs::Looking::looks))]
+fn look(held: &mut Held, alloc: Global) -> Result<Found, Memory>
+    requires { held.old.current ≡ None }
+    ensures ok { IfOk result (λ found. Looks (view_of held.old) found (view_of held.new)) }
+    ensures err { OnErr result (held.new.current ≡ None) }
+{
+    let Some(parked) = held.ring.pop_front() else {
+        return Ok(Found::Missing);
+    };
+    let Parked { task } = parked;
+    take_up(held, task, alloc)
 }
 
 /// Steals from each once, up to the first task.
@@ -138,13 +188,12 @@ fn steal(thieves: &mut [Thief<Task>]) -> Option<Task>
 
 /// Takes up a task of another hand. Where there is none the turn was this.
 fn steal_or(held: &mut Held, otherwise: Turn) -> Turn
+    requires { held.old.current ≡ None }
     ensures { StealsOr otherwise (view_of held.old) result (view_of held.new) }
 {
-    match steal(held.thieves.as_mut_slice()) {
-        Some(task) => {
-            held.current = Some(task);
-            Turn::Stole
-        }
+    held.current = steal(held.thieves.as_mut_slice());
+    match &held.current {
+        Some(_) => Turn::Stole,
         None => otherwise,
     }
 }
@@ -155,17 +204,13 @@ fn seek(held: &mut Held, alloc: Global) -> Result<Turn, Memory>
     ensures ok { IfOk result (λ turn. Seeks (view_of held.old) turn (view_of held.new)) }
     ensures err { OnErr result (held.new.current ≡ None) }
 {
-    if let Some(task) = pop(&mut held.deck, &mut held.kept) {
-        held.current = Some(task);
-        return Ok(Turn::Popped);
+    if let Some(turn) = pop(held) {
+        return Ok(turn);
     }
-    match look(&mut held.ring, alloc)? {
-        Front::Goes(task) => {
-            held.current = Some(task);
-            Ok(Turn::Resumed)
-        }
-        Front::Waits => Ok(steal_or(held, Turn::Waiting)),
-        Front::Missing => Ok(steal_or(held, Turn::Idle)),
+    match look(held, alloc)? {
+        Found::Goes => Ok(Turn::Resumed),
+        Found::Waits => Ok(steal_or(held, Turn::Waiting)),
+        Found::Missing => Ok(steal_or(held, Turn::Idle)),
     }
 }
 
@@ -177,5 +222,25 @@ pub(crate) fn turn<G: Gate>(held: &mut Held, alloc: Global, gate: &G) -> Result<
     match held.current.take() {
         Some(task) => run(held, task, alloc, gate),
         None => seek(held, alloc),
+    }
+}
+
+/// Looks at the task at the ring's end (`Hand::look_newest`).
+#[tactic(auto, using(crate::proofs::Looking::newest_waits, crate::proofs::Looking::newest_goes))]
+pub(crate) fn look_newest(held: &mut Held, alloc: Global) -> Result<Looked, Memory>
+    ensures ok { IfOk result (λ looked. LooksNewest (view_of held.old) looked (view_of held.new)) }
+    ensures err { OnErr result (held.new.current ≡ None) }
+{
+    if held.current.is_some() {
+        return Ok(Looked::Nothing);
+    }
+    let Some(parked) = held.ring.pop_back() else {
+        return Ok(Looked::Nothing);
+    };
+    let Parked { task } = parked;
+    match take_up(held, task, alloc)? {
+        Found::Goes => Ok(Looked::Goes),
+        Found::Waits => Ok(Looked::Waits),
+        Found::Missing => Ok(Looked::Nothing),
     }
 }

@@ -1,0 +1,120 @@
+// What the hands of a crew tell one another, and how one that finds nothing to do sleeps.
+use crossbeam_utils::{Backoff, CachePadded};
+use std::sync::Wait;
+use std::sync::atomic::{AtomicBool, AtomicU64, Ordering};
+use std::time::Duration;
+
+/// How long a hand sleeps at first, in microseconds.
+const SHORTEST_NAP: u64 = 50;
+
+/// How long a hand without a task sleeps at most, for each worker of the crew: all of them together look for work about this often.
+const LONGEST_IDLE: u64 = 100;
+
+/// How long a hand sleeps at most whose tasks wait for children. Nobody else can take them up once the children have answered.
+const LONGEST_WAIT: u64 = 500;
+
+/// What the hands tell one another.
+#[derive(Drop)]
+pub(crate) struct Signals {
+    /// 0 as long as the hands take turns, and then 1. A hand that finds nothing to do sleeps on it.
+    stop: CachePadded<AtomicU64>,
+    /// The root's answer was put.
+    ended: CachePadded<AtomicBool>,
+}
+
+impl Signals {
+    pub fn new() -> Signals {
+        Signals {
+            stop: CachePadded::new(AtomicU64::new(0)),
+            ended: CachePadded::new(AtomicBool::new(false)),
+        }
+    }
+
+    /// No hand takes another turn.
+    pub fn stop(&self) {
+        let stop: &AtomicU64 = &self.stop;
+        stop.store(1, Ordering::SeqCst);
+        stop.wake_all();
+    }
+
+    pub fn is_stopped(&self) -> bool {
+        let stop: &AtomicU64 = &self.stop;
+        stop.load(Ordering::SeqCst) != 0
+    }
+
+    /// The root's answer was put, and no hand takes another turn.
+    pub fn end(&self) {
+        let ended: &AtomicBool = &self.ended;
+        ended.store(true, Ordering::SeqCst);
+        self.stop();
+    }
+
+    pub fn is_ended(&self) -> bool {
+        let ended: &AtomicBool = &self.ended;
+        ended.load(Ordering::SeqCst)
+    }
+
+    /// Sleeps for so many microseconds, or until it is woken.
+    fn sleep<R: Wait>(&self, rt: &R, micros: u64) {
+        let stop: &AtomicU64 = &self.stop;
+        stop.park_timeout(rt, 0, Duration::from_micros(micros));
+    }
+
+    /// One of those that sleep looks for work now.
+    pub fn wake_one(&self) {
+        let stop: &AtomicU64 = &self.stop;
+        stop.wake_one();
+    }
+}
+
+/// The sleep of a hand: at first it only gives way to others, and then each nap is twice as long as the one before.
+#[derive(Drop)]
+pub(crate) struct Naps {
+    backoff: Backoff,
+    /// How long the next one is, in microseconds.
+    next: u64,
+    /// How many turns in a row found nothing to do since the last one.
+    vain: usize,
+    longest_idle: u64,
+}
+
+impl Naps {
+    /// Those of a hand in a crew of so many.
+    pub fn new(workers: u32) -> Naps {
+        Naps {
+            backoff: Backoff::new(),
+            next: SHORTEST_NAP,
+            vain: 0,
+            longest_idle: u64::from(workers) * LONGEST_IDLE,
+        }
+    }
+
+    /// The hand found something to do.
+    pub fn end(&mut self) {
+        self.backoff.reset();
+        self.next = SHORTEST_NAP;
+        self.vain = 0;
+    }
+
+    /// The hand found nothing to do and has no task.
+    pub fn idle<R: Wait>(&mut self, rt: &R, signals: &Signals) {
+        self.nap(rt, signals, 0, self.longest_idle);
+    }
+
+    /// The hand found nothing to do, and so many of its tasks wait. A turn looks at one of them alone, so that it sleeps only once it
+    /// has looked at each.
+    pub fn wait<R: Wait>(&mut self, rt: &R, signals: &Signals, parked: usize) {
+        self.nap(rt, signals, parked, self.longest_idle.min(LONGEST_WAIT));
+    }
+
+    fn nap<R: Wait>(&mut self, rt: &R, signals: &Signals, parked: usize, longest: u64) {
+        self.vain = self.vain.saturating_add(1);
+        if self.backoff.is_completed() && self.vain > parked {
+            signals.sleep(rt, self.next.min(longest));
+            self.next = self.next.saturating_mul(2).min(longest);
+            self.vain = 0;
+        } else {
+            self.backoff.snooze();
+        }
+    }
+}

@@ -1,0 +1,89 @@
+// How the hands of a crew get threads.
+use std::alloc::{AllocError, Global};
+use std::sync::Wait;
+use std::sync::atomic::{AtomicU64, Ordering};
+use std::thread;
+use std::thread::{Builder, Threads};
+
+/// The stack of a hand's thread, in bytes.
+const STACK: usize = 1024 * 1024;
+
+/// How far the stack of the calling thread is grown before the others start, in pages of 4 KiB.
+const ROOM: u64 = 128;
+
+/// What is kept for the heap while the others start, in bytes. Else their stacks may take all that the process may have.
+const SPARE: usize = 4 * 1024 * 1024;
+
+/// Calls itself so many times, each time with a page of 4 KiB on the calling thread's stack, so that the system gives it as many. What is
+/// written hangs on the word and is read behind the call, so that no compiler leaves it out.
+fn grow_stack(word: &AtomicU64, pages: u64) {
+    let page = [word.load(Ordering::SeqCst); 512];
+    if pages > 0 {
+        grow_stack(word, pages - 1);
+    }
+    word.store(page[pages as usize % 512], Ordering::SeqCst);
+}
+
+/// Calls f at it.
+fn at_one<T, F: Fn(&mut T)>(f: &F, one: &mut T)
+    requires { F.IsAlwaysCallable f.now }
+{
+    f(one);
+}
+
+/// A block that is kept while so many other threads start. Before it is taken, the stack of the calling thread is grown. Where so much
+/// memory isn't there, or no thread is to start, there is no block, and the stack is left as it is: to grow it would end the process.
+fn spare(alloc: Global, others: usize) -> Option<Vec<u8>> {
+    if others == 0 {
+        return None;
+    }
+    let room: Result<Vec<u8>, AllocError> = Vec::with_capacity(alloc, STACK);
+    if room.is_err() {
+        return None;
+    }
+    drop(room);
+    grow_stack(&AtomicU64::new(0), ROOM);
+    Vec::with_capacity(alloc, SPARE).ok()
+}
+
+/// Calls f at the first of them in this thread, and at each other one in a thread of its own, and returns once all calls have. From the
+/// first one on for which no thread can be made they are left out, and all others where there is hardly any memory.
+pub(crate) fn at_each<R: Threads + Wait, T: Send + Drop, F: Fn(&mut T) + Sync>(
+    rt: &R,
+    alloc: Global,
+    mut all: Vec<T>,
+    f: &F,
+)
+    requires { F.IsAlwaysCallable f.now }
+{
+    let whole = all.as_mut_slice();
+    thread::scope(
+        thread::scope_env(),
+        rt,
+        |scope|
+            requires { F.IsAlwaysCallable f.now }
+        {
+            let Some((first, others)) = whole.split_first_mut() else {
+                return;
+            };
+            let spare = spare(alloc, others.len());
+            for one in others.iter_mut() {
+                if spare.is_none() {
+                    break;
+                }
+                let builder = Builder::new().stack_size(STACK);
+                let started = builder.spawn_scoped(
+                    scope,
+                    move ||
+                        requires { F.IsAlwaysCallable f.now }
+                    { at_one(f, one) },
+                );
+                if started.is_err() {
+                    break;
+                }
+            }
+            drop(spare);
+            at_one(f, first);
+        },
+    );
+}
