@@ -1,5 +1,5 @@
 -- How the hands of a crew meet.
-use Rattle.std.proofs.Common.{◌≡◌, ◌≤◌, ◌+◌, ◌-◌, ◌<◌, ℕ, zero, suc, List, [], ◌∷◌, ◌++◌, Option, Some, None, length, map, take, drop, set, get_or, refl, sym, ap, ◌∙◌, subst, ap₂, append_assoc, append-nil, length-append, arith}
+use Rattle.std.proofs.Common.{◌≡◌, ◌≤◌, ◌+◌, ◌-◌, ◌<◌, ℕ, zero, suc, List, [], ◌∷◌, ◌++◌, Some, length, map, take, drop, set, get_or, refl, sym, ap, ◌∙◌, ap₂, append_assoc, append-nil, length-append, arith}
 use Rattle.std.proofs.lemmas.List.{map_more, map-append, drop_more, get_or_at, length-map, length-take, take_at, drop_at}
 use Rattle.std.proofs.lemmas.List.Edits.{map_over_more}
 use Rattle.steal_deck.specs.Ends.{DeckId, ThiefEnd, new_owner, new_thief}

@@ -1,8 +1,8 @@
 -- What contracts see of a hand, and what a turn makes of it.
-use Rattle.std.specs.Prelude.{◌≡◌, ℕ, ◌+◌, ◌<◌, ◌≤◌, ◌⊎◌, slice_index_or, List, [], ◌∷◌, ◌++◌, Option, Some, None, length}
+use Rattle.std.specs.Prelude.{◌≡◌, ℕ, ◌<◌, ◌≤◌, ◌⊎◌, slice_index_or, List, [], ◌∷◌, ◌++◌, Option, Some, None, length}
 use Rattle.serial_meaning.specs.Answer.{AnswerView, AnswerTag}
 use Rattle.serial_meaning.specs.declared.origin.Origin.{Origin}
-use Rattle.steal_deck.specs.Ends.{DeckId, OwnerEnd, ThiefEnd, new_owner, risen, Pushes, Pops, FindsNone, Steals}
+use Rattle.steal_deck.specs.Ends.{OwnerEnd, ThiefEnd, risen, Pushes, Pops, FindsNone, Steals}
 use Rattle.strand_machine.specs.Family.{tag}
 use Rattle.strand_machine.specs.Stops.{IsStop, IsResumed}
 use Rattle.strand_machine.specs.Tasks.{TaskView}

@@ -1,4 +1,4 @@
-use Rattle.std.proofs.Common.{◌≡◌, ℕ, List, length, map}
+use Rattle.std.proofs.Common.{◌≡◌, List, length, map}
 use Rattle.steal_deck.specs.Ends.{DeckId}
 use Rattle.serial_meaning.specs.declared.origin.Origin.{Origin}
 use Rattle.crew.specs.Crews.{new_hand}

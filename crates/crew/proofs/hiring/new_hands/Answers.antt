@@ -1,4 +1,4 @@
-use Rattle.std.proofs.Common.{◌≡◌, ◌+◌, List, sym, subst, rules}
+use Rattle.std.proofs.Common.{◌+◌, List, sym, subst, rules}
 use Rattle.std.specs.Arc.{arc_value}
 use Rattle.serial_meaning.specs.Eval.{main_origin}
 use Rattle.crew.specs.Crews.{AreNew}

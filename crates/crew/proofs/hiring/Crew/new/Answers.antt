@@ -1,8 +1,7 @@
 use Rattle.std.proofs.Common.{◌≡◌, ◌≤◌, ◌++◌, ◌∙◌, ap, ap₂, subst, List, Some, length, take, drop, rules}
 use Rattle.std.proofs.lemmas.List.{take_at}
 use Rattle.std.specs.Arc.{arc_value}
-use Rattle.serial_meaning.specs.Eval.{main_origin}
-use Rattle.strand_machine.specs.Tasks.{TaskView, fresh}
+use Rattle.strand_machine.specs.Tasks.{TaskView}
 use Rattle.crew.specs.Crews.{HaveMet}
 use Rattle.crew.specs.Hands.{HandView}
 use Rattle.crew.proofs.Meeting.{begins}
