@@ -26,14 +26,14 @@ each-all : {X : Type 0} (T : X → Type 0) (xs : List X) → Each T xs → All T
 each-all T xs h k d g = each-at T xs k d h g
 
 -- a fault stands below a path
-abbrev Under : List ℕ → Fault → Type 0
+abbrev pub Under : List ℕ → Fault → Type 0
 Under path f = (k : ℕ) × (more : List ℕ) × (f.at ≡ path ++ k ∷ more)
 
 -- and at a rank from lo on and below hi
 abbrev Stands : List ℕ → ℕ → ℕ → Fault → Type 0
 Stands path lo hi f = (k : ℕ) × (more : List ℕ) × (f.at ≡ path ++ k ∷ more) × (lo ≤ k) × (k < hi)
 
-abbrev NotBefore : Fault → Fault → Type 0
+abbrev pub NotBefore : Fault → Fault → Type 0
 NotBefore f g = IsBefore g.at f.at → ⊥
 
 abbrev pub LeastOf : List Fault → Result (List Value) Fault → Type 0
@@ -118,7 +118,7 @@ own-under path hi (Err (Own f)) n = ((n.0, [], n.1), tt)
 own-under path hi (Err (Joined f)) n = tt
 
 -- All faults of an origin's part of the open tree stand below its path.
-faults-under : (plan : PlanView) (left : ℕ) (o : Origin) → Each (Under (path_of o)) (faults_at plan left o)
+pub faults-under : (plan : PlanView) (left : ℕ) (o : Origin) → Each (Under (path_of o)) (faults_at plan left o)
 faults-under plan zero o = let s = node-spread plan (λ o. done []) o in own-under (path_of o) s.hi (node_at plan zero o).ending s.stops
 faults-under plan (suc left) o =
     let s = node-spread plan (eval_at plan left) o in

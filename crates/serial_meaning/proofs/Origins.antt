@@ -22,7 +22,7 @@ use Rattle.serial_meaning.specs.declared.origin.Origin.TheVariants.{Instance, Lo
 
 -- Elements of lists
 
-cons-contained : {X : Type 0} (x y : X) (xs : List X) → Contains (x ∷ xs) y → (x ≡ y) ⊎ Contains xs y
+pub cons-contained : {X : Type 0} (x y : X) (xs : List X) → Contains (x ∷ xs) y → (x ≡ y) ⊎ Contains xs y
 cons-contained x y xs c = from c.0 c.1 c.2
   where
     from : (k : ℕ) → k < length (x ∷ xs) → slice_index_or (x ∷ xs) k y ≡ y → (x ≡ y) ⊎ Contains xs y
@@ -35,7 +35,7 @@ contained-cons x y xs c = (suc c.0, omega (arith, c.1), c.2)
 -- Depth
 
 -- a child of an instance leaves room for a rank of its own, and a loop for its iterations' too
-abbrev Fits : PlanView → Origin → Type 0
+abbrev pub Fits : PlanView → Origin → Type 0
 Fits plan (Instance function args path) = length path + 1 ≤ plan.limits.depth
 Fits plan (Loop function rest first path range) = length path + 2 ≤ plan.limits.depth
 
@@ -44,7 +44,7 @@ ItemFits plan (Happened e) = Unit {0}
 ItemFits plan (Child o) = Fits plan o
 
 -- what is known of an origin of the plan before
-abbrev LoopFits : PlanView → Origin → Type 0
+abbrev pub LoopFits : PlanView → Origin → Type 0
 LoopFits plan (Instance function args path) = Unit {0}
 LoopFits plan (Loop function rest first path range) = length path + 2 ≤ plan.limits.depth
 
@@ -158,7 +158,7 @@ module _ (below : Origin → List Fault) (function : ℕ) (rest : List Value) (f
   abbrev loop_faults : ℕ → ℕ → List Fault
   loop_faults k n = faults_of below (map Child (iterations function rest first path k n))
 
-  from-iteration : (k n : ℕ) (f : Fault) → Contains (loop_faults k n) f → (i : ℕ) × (k ≤ i) × (i < k + n) × Contains (below (turn i)) f
+  pub from-iteration : (k n : ℕ) (f : Fault) → Contains (loop_faults k n) f → (i : ℕ) × (k ≤ i) × (i < k + n) × Contains (below (turn i)) f
   from-iteration k zero f h = absurd (omega (arith, h.1))
   from-iteration k (suc n) f h = by_place (Contains-append_cases (below (turn k)) (loop_faults (k + 1) n) f h) (from-iteration (k + 1) n f)
     where
@@ -166,7 +166,7 @@ module _ (below : Origin → List Fault) (function : ℕ) (rest : List Value) (f
       by_place (inl g) later = (k, omega arith, omega arith, g)
       by_place (inr g) later = let p = later g in (p.0, omega (arith, p.1), omega (arith, p.2), p.3)
 
-  of-iteration : (k n i : ℕ) (f : Fault) → k ≤ i → i < k + n → Contains (below (turn i)) f → Contains (loop_faults k n) f
+  pub of-iteration : (k n i : ℕ) (f : Fault) → k ≤ i → i < k + n → Contains (below (turn i)) f → Contains (loop_faults k n) f
   of-iteration k zero i f a b h = absurd (omega arith)
   of-iteration k (suc n) i f a b h = by_place (nat_lt k i) refl (λ g. of-iteration (k + 1) n i f g (omega arith) h)
     where
@@ -196,12 +196,17 @@ part-faults plan (suc left) function rest first path whole part a b c f h =
         let none : own_fault (node_at plan (suc left) (Loop function rest first path part)).ending ≡ [] = no_own (gathered (eval_at plan left) (iterations function rest first path part.lo (part.hi - part.lo))) in
         let k : Contains [] f = rw none at g in absurd (omega (arith, k.1))
 
+-- a loop has no fault of its own
+pub loop-own : (plan : PlanView) (left function : ℕ) (rest : List Value) (first : ℤ) (path : List ℕ) (range : Range) → own_fault (node_at plan left (Loop function rest first path range)).ending ≡ []
+loop-own plan zero function rest first path range = no_own (gathered (λ o. done []) (iterations function rest first path range.lo (range.hi - range.lo)))
+loop-own plan (suc left) function rest first path range = no_own (gathered (eval_at plan left) (iterations function rest first path range.lo (range.hi - range.lo)))
+
 -- Origins of the plan
 
-abbrev IsPartOfPlan : PlanView → Origin → Type 0
+abbrev pub IsPartOfPlan : PlanView → Origin → Type 0
 IsPartOfPlan plan o = LoopFits plan o × ((f : Fault) → Contains (faults_at plan (depth_left plan o) o) f → Contains (faults plan) f)
 
-child-of : (plan : PlanView) (parent child : Origin) → IsPartOfPlan plan parent → Contains (opened plan parent).items (Child child) →
+pub child-of : (plan : PlanView) (parent child : Origin) → IsPartOfPlan plan parent → Contains (opened plan parent).items (Child child) →
     Fits plan child × ((f : Fault) → Contains (faults_at plan (depth_left plan child) child) f → Contains (faults plan) f)
 child-of plan parent child h k = (fits, inside)
   where
@@ -220,13 +225,18 @@ child-of plan parent child h k = (fits, inside)
         let all : Contains (faults_at plan (suc (depth_left plan child)) parent) f = Contains-append_left (faults_of (faults_at plan (depth_left plan child)) node.items) (own_fault node.ending) f (child-faults (faults_at plan (depth_left plan child)) node.items child f among g) in
         h.1 f (subst (λ n. Contains (faults_at plan n parent) f) (sym one_less) all)
 
-part-of-plan : (plan : PlanView) (o : Origin) → IsOriginOf plan o → IsPartOfPlan plan o
+pub part-of-plan : (plan : PlanView) (o : Origin) → IsOriginOf plan o → IsPartOfPlan plan o
 part-of-plan plan o Main = (tt, λ f g. g)
 part-of-plan plan o (ChildOf parent child h k) =
     let c = child-of plan parent child (part-of-plan plan parent h) k in (loop-fits plan child c.0, c.1)
 part-of-plan plan o (PartOf parent function rest first path whole part h k a b d) =
     let c = child-of plan parent (Loop function rest first path whole) (part-of-plan plan parent h) k in
     (c.0, λ f g. c.1 f (part-faults plan (plan.limits.depth - length path) function rest first path whole part a b d f g))
+
+-- a child has one rank less left below the depth
+pub one-less : (plan : PlanView) (parent child : Origin) → IsOriginOf plan parent → Contains (opened plan parent).items (Child child) → depth_left plan parent ≡ suc (depth_left plan child)
+one-less plan parent child h k =
+    fits-longer plan child (length (path_of parent)) (child-of plan parent child (part-of-plan plan parent h) k).0 (node-child-path plan (depth_left plan parent) parent child k)
 
 ends_within : (fs gs : List Fault) (q : Result (List Value) Fault) → LeastOf fs q → ((f : Fault) → Contains fs f → Contains gs f) → EndsWithin gs q
 ends_within fs gs (Ok vs) l h = tt

@@ -1,5 +1,5 @@
 -- Runs whose pedigrees rise.
-use Rattle.std.proofs.Common.{◌≡◌, ℕ, zero, suc, ◌<◌, ◌≤◌, List, [], ◌∷◌, ◌++◌, Result, Ok, Err, length, get_or, max, refl, ap, arith}
+use Rattle.std.proofs.Common.{◌≡◌, ℕ, zero, suc, ◌+◌, ◌<◌, ◌≤◌, List, [], ◌∷◌, ◌++◌, Result, Ok, Err, length, get_or, max, refl, ap, arith}
 use Rattle.std.specs.Prelude.{AllPairs}
 use Rattle.ped_path.specs.Path.{IsBefore}
 use Rattle.serial_meaning.specs.Laws.{places}
@@ -49,7 +49,7 @@ pub rise-append : (path : List ℕ) (lo mid hi : ℕ) (xs ys : List (List ℕ)) 
 rise-append path lo mid hi [] ys w v r t = t
 rise-append path lo mid hi (x ∷ xs) ys w v r t = (before-append x xs ys r.0 (let a = w.0 in rw a.2 (before_within path a.0 a.1 mid hi ys (omega (arith, a.4)) v)), rise-append path lo mid hi xs ys w.1 v r.1 t)
 
-places-append : (xs ys : List Event) → places (xs ++ ys) ≡ places xs ++ places ys
+pub places-append : (xs ys : List Event) → places (xs ++ ys) ≡ places xs ++ places ys
 places-append [] ys = refl
 places-append (event.Print j v ∷ xs) ys = places-append xs ys
 places-append (event.Draw j n ∷ xs) ys = ap (λ l. j ∷ l) (places-append xs ys)
@@ -67,10 +67,10 @@ within-append : (path : List ℕ) (lo hi : ℕ) (xs ys : List (List ℕ)) → Wi
 within-append path lo hi [] ys a b = b
 within-append path lo hi (x ∷ xs) ys a b = (a.0, within-append path lo hi xs ys a.1 b)
 
--- the rank with which a run ends, or one that no event reached
+-- the rank with which a run ends, or one that no event reached; a fault's rank is above it, or the last below it
 abbrev pub Below : {A : Type 0} → List ℕ → (A → ℕ) → ℕ → ℕ → Result A Fault → Type 0
 Below path rank lo hi (Ok a) = (hi ≡ rank a) × (lo ≤ hi)
-Below path rank lo hi (Err e) = Unit {0}
+Below path rank lo hi (Err f) = (k : ℕ) × (more : List ℕ) × (f.at ≡ path ++ k ∷ more) × (lo ≤ k) × (hi ≤ k + 1)
 
 -- The events of a run rise, and stand between the rank with which it began and the one with which it ended.
 pub record Rising {A : Type 0} (path : List ℕ) (rank : A → ℕ) (lo : ℕ) (r : Run Event Fault A) : Type 0 where
@@ -84,7 +84,7 @@ pub rising-then : {A B : Type 0} (path : List ℕ) (f-rank : A → ℕ) (g-rank 
 rising-then {A = A} {B = B} path f-rank g-rank lo r f h k = from r.items r.ending h.hi h.below h.within h.rise
   where
     from : (items : List Event) (e : Result A Fault) (hi : ℕ) → Below path f-rank lo hi e → Within path lo hi (places items) → Rise (places items) → Rising path g-rank lo (goes_on items e f)
-    from items (Err e) hi b w s = record { hi = hi; below = tt; within = w; rise = s }
+    from items (Err e) hi b w s = record { hi = hi; below = b; within = w; rise = s }
     from items (Ok a) hi b w s = record {
       hi = max hi (k a).hi;
       below = below (f a).ending (k a).below;
@@ -94,4 +94,4 @@ rising-then {A = A} {B = B} path f-rank g-rank lo r f h k = from r.items r.endin
       where
         below : (e : Result B Fault) → Below path g-rank (f-rank a) (k a).hi e → Below path g-rank lo (max hi (k a).hi) e
         below (Ok x) c = (omega arith, omega arith)
-        below (Err e) c = tt
+        below (Err e) c = (c.0, c.1, c.2, omega (arith, c.3), omega (arith, c.3, c.4))

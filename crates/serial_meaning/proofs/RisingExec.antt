@@ -1,5 +1,5 @@
 -- The pedigrees of the elision rise.
-use Rattle.std.proofs.Common.{◌≡◌, ℕ, zero, suc, ◌+◌, ◌-◌, List, [], ◌∷◌, ◌++◌, Option, Some, None, Result, Ok, Err, refl, sym, ap, ◌∙◌, arith, append_assoc, append-nil, subst}
+use Rattle.std.proofs.Common.{◌≡◌, ℕ, zero, suc, ◌+◌, ◌-◌, ◌≤◌, List, [], ◌∷◌, ◌++◌, Option, Some, None, Result, Ok, Err, refl, sym, ap, ◌∙◌, arith, append_assoc, append-nil, subst}
 use Rattle.std.proofs.Common.{ℤ, pos}
 use Rattle.std.specs.Int.{w64, int_wrapping_add}
 use Rattle.std.specs.Prelude.{AllPairs}
@@ -12,7 +12,7 @@ use Rattle.serial_meaning.specs.Eval.{Evaluation, serial, turns, eval_with, eval
 use Rattle.serial_meaning.proofs.RunLaws.{then-then}
 use Rattle.serial_meaning.proofs.Closed.{Closed, closed-exec, returned-q}
 use Rattle.serial_meaning.proofs.Order.{before-prefix}
-use Rattle.serial_meaning.proofs.Rising.{BeforeAll, Rise, rise-pairs, Within, Rising, rising-then, within-wider}
+use Rattle.serial_meaning.proofs.Rising.{BeforeAll, Rise, rise-pairs, Within, Below, Rising, rising-then, within-wider}
 use Rattle.script_grammar.specs.declared.tree.Function.{Function}
 use Rattle.serial_meaning.specs.declared.value.Value.{Value}
 use Rattle.serial_meaning.specs.declared.value.Value.TheVariants.{Int}
@@ -23,11 +23,17 @@ use Rattle.serial_meaning.specs.declared.origin.Origin.{Origin}
 use Rattle.serial_meaning.specs.declared.origin.Origin.TheVariants as origin
 use Rattle.serial_meaning.specs.Plan.{PlanView, functions_of}
 
--- The events of an evaluation rise, and all stand below the path.
+-- a fault's rank is no event's but the last one's
+abbrev pub EndsBehind : List ℕ → ℕ → Result (List Value) Fault → Type 0
+EndsBehind path hi (Ok vs) = Unit {0}
+EndsBehind path hi (Err f) = (k : ℕ) × (more : List ℕ) × (f.at ≡ path ++ k ∷ more) × (hi ≤ k + 1)
+
+-- The events of an evaluation rise, and all stand below the path and at no higher rank than its fault.
 pub record RisesBelow (path : List ℕ) (r : Evaluation) : Type 0 where
   pub hi : ℕ
   pub within : Within path 0 hi (places r.items)
   pub rise : Rise (places r.items)
+  pub ends : EndsBehind path hi r.ending
 
 module _ (plan : PlanView) (path : List ℕ) (child : Origin → Evaluation) (fine : (o : Origin) → RisesBelow (path_of o) (child o)) where
   abbrev rank_of : State (Unit {0}) → ℕ
@@ -53,17 +59,21 @@ module _ (plan : PlanView) (path : List ℕ) (child : Origin → Evaluation) (fi
   one : (k : ℕ) → Within path k (k + 1) ((path ++ k ∷ []) ∷ [])
   one k = ((k, [], refl, omega arith, omega arith), tt)
 
-  with_child : {A B : Type 0} (rank : B → ℕ) (k : ℕ) (e : Event) (items : List Event) (q : Result A Fault) (f : A → B) → ((a : A) → rank (f a) ≡ k + 1) → places (e ∷ items) ≡ (path ++ k ∷ []) ∷ places items →
-      (hi : ℕ) → Within (path ++ k ∷ []) 0 hi (places items) → Rise (places items) → Rising path rank k (behind (e ∷ []) (goes_on items q (λ a. done (f a))))
-  with_child rank k e items (Ok a) f r p hi w s = record {
+  -- a child's fault stands where the child does
+  fault-child : (k hi : ℕ) (f : Fault) → EndsBehind (path ++ k ∷ []) hi (Err f) → (i : ℕ) × (more : List ℕ) × (f.at ≡ path ++ i ∷ more) × (k ≤ i) × (k + 1 ≤ i + 1)
+  fault-child k hi f n = (k, n.0 ∷ n.1, n.2 ∙ append_assoc path (k ∷ []) (n.0 ∷ n.1), omega arith, omega arith)
+
+  with_child : {B : Type 0} (rank : B → ℕ) (k : ℕ) (e : Event) (items : List Event) (q : Result (List Value) Fault) (f : List Value → B) → ((a : List Value) → rank (f a) ≡ k + 1) → places (e ∷ items) ≡ (path ++ k ∷ []) ∷ places items →
+      (hi : ℕ) → Within (path ++ k ∷ []) 0 hi (places items) → Rise (places items) → EndsBehind (path ++ k ∷ []) hi q → Rising path rank k (behind (e ∷ []) (goes_on items q (λ a. done (f a))))
+  with_child rank k e items (Ok a) f r p hi w s n = record {
     hi = k + 1;
     below = (sym (r a), omega arith);
     within = rw (append-nil, p) ((one k).0, below-child k hi (places items) w);
     rise = rw (append-nil, p) (before-child k hi (places items) w, s);
   }
-  with_child rank k e items (Err g) f r p hi w s = record {
+  with_child rank k e items (Err g) f r p hi w s n = record {
     hi = k + 1;
-    below = tt;
+    below = fault-child k hi g n;
     within = rw p ((one k).0, below-child k hi (places items) w);
     rise = rw p (before-child k hi (places items) w, s);
   }
@@ -72,14 +82,14 @@ module _ (plan : PlanView) (path : List ℕ) (child : Origin → Evaluation) (fi
   rules_hold = record {
     p-done = λ s. record { hi = s.rank; below = (refl, omega arith); within = tt; rise = tt };
     q-done = λ v s. record { hi = s.rank; below = (refl, omega arith); within = tt; rise = tt };
-    p-stop = λ k s. record { hi = s.rank; below = tt; within = tt; rise = tt };
-    q-stop = λ k s. record { hi = s.rank; below = tt; within = tt; rise = tt };
+    p-stop = λ k s. record { hi = s.rank; below = (s.rank, [], refl, omega arith, omega arith); within = tt; rise = tt };
+    q-stop = λ k s. record { hi = s.rank; below = (s.rank, [], refl, omega arith, omega arith); within = tt; rise = tt };
     p-print = λ v s. record { hi = s.rank; below = (refl, omega arith); within = tt; rise = tt };
     q-draw = λ s. record { hi = s.rank + 1; below = (refl, omega arith); within = one s.rank; rise = (tt, tt) };
     q-new = λ s. record { hi = s.rank + 1; below = (refl, omega arith); within = one s.rank; rise = (tt, tt) };
     p-join = λ s. record { hi = s.rank + 1; below = (refl, omega arith); within = one s.rank; rise = (tt, tt) };
-    q-child = λ n vs s _. let o = origin.Instance n vs (path ++ s.rank ∷ []) in subst (λ (r : Run Event Fault (Value × State (Unit {0}))). Rising path pair_rank s.rank (behind (event.Spawn (path ++ s.rank ∷ []) ∷ []) r)) (sym (then-then (child o) (λ vs. done (first_of vs, s.spawned)) (λ r. done (r.0, record s { rank = s.rank + 1; spawned = r.1 })))) (with_child pair_rank s.rank (event.Spawn (path ++ s.rank ∷ [])) (child o).items (child o).ending (λ vs. (first_of vs, record s { rank = s.rank + 1 })) (λ a. refl) refl (fine o).hi (fine o).within (fine o).rise);
-    p-loop = λ n vs lo hi target s _. let o = origin.Loop n vs lo (path ++ s.rank ∷ []) (record { lo = 0; hi = hi }) in with_child rank_of s.rank (event.Loop (path ++ s.rank ∷ [])) (child o).items (child o).ending (λ ws. record s { rank = s.rank + 1; env = filled target ws s.env }) (λ a. refl) refl (fine o).hi (fine o).within (fine o).rise;
+    q-child = λ n vs s _. let o = origin.Instance n vs (path ++ s.rank ∷ []) in subst (λ (r : Run Event Fault (Value × State (Unit {0}))). Rising path pair_rank s.rank (behind (event.Spawn (path ++ s.rank ∷ []) ∷ []) r)) (sym (then-then (child o) (λ vs. done (first_of vs, s.spawned)) (λ r. done (r.0, record s { rank = s.rank + 1; spawned = r.1 })))) (with_child pair_rank s.rank (event.Spawn (path ++ s.rank ∷ [])) (child o).items (child o).ending (λ vs. (first_of vs, record s { rank = s.rank + 1 })) (λ a. refl) refl (fine o).hi (fine o).within (fine o).rise (fine o).ends);
+    p-loop = λ n vs lo hi target s _. let o = origin.Loop n vs lo (path ++ s.rank ∷ []) (record { lo = 0; hi = hi }) in with_child rank_of s.rank (event.Loop (path ++ s.rank ∷ [])) (child o).items (child o).ending (λ ws. record s { rank = s.rank + 1; env = filled target ws s.env }) (λ a. refl) refl (fine o).hi (fine o).within (fine o).rise (fine o).ends;
     pp = λ n r f h k. rising-then path rank_of rank_of n r f h k;
     pq = λ n r f h k. rising-then path rank_of pair_rank n r f h k;
     qp = λ n r f h k. rising-then path pair_rank rank_of n r f h k;
@@ -108,29 +118,40 @@ module _ (plan : PlanView) (path : List ℕ) (child : Origin → Evaluation) (fi
   same-places : (o : Option Function) (vs : List Value) → places (value_run o vs then λ v. done (v ∷ [])).items ≡ places (run_of o vs).items
   same-places o vs = mapped (value_run o vs).items (value_run o vs).ending (λ v. done (v ∷ [])) (λ a. refl) ∙ mapped (run_of o vs).items (run_of o vs).ending (λ p. done p.0) (λ a. refl)
 
+  ends-mapped : {A B : Type 0} (rank : A → ℕ) (hi : ℕ) (r : Run Event Fault A) (f : A → B) (g : B → List Value) → Below path rank 0 hi r.ending → EndsBehind path hi ((r then λ a. done (f a)) then λ b. done (g b)).ending
+  ends-mapped {A} {B} rank hi r f g b = from r.items r.ending b
+    where
+      from : (items : List Event) (q : Result A Fault) → Below path rank 0 hi q → EndsBehind path hi (goes_on items q (λ a. done (f a)) then λ b. done (g b)).ending
+      from items (Ok a) c = tt
+      from items (Err e) c = (c.0, c.1, c.2, c.4)
+
   pub instance-rises : (o : Option Function) (vs : List Value) → RisesBelow path ((instance (serial child) plan path o vs) then λ v. done (v ∷ []))
   instance-rises o vs =
-      let r = activation-rises o vs start in record { hi = r.hi; within = subst (Within path 0 r.hi) (sym (same-places o vs)) r.within; rise = subst Rise (sym (same-places o vs)) r.rise }
+      let r = activation-rises o vs start in record { hi = r.hi; within = subst (Within path 0 r.hi) (sym (same-places o vs)) r.within; rise = subst Rise (sym (same-places o vs)) r.rise; ends = ends-mapped pair_rank r.hi (run_of o vs) (λ p. p.0) (λ v. v ∷ []) r.below }
 
   pub turns-rise : (function : ℕ) (rest : List Value) (first : ℤ) (k n : ℕ) → Rising path (λ (vs : List Value). k + n) k (turns child function rest first path k n)
   turns-rise function rest first k zero = record { hi = k; below = (omega arith, omega arith); within = tt; rise = tt }
   turns-rise function rest first k (suc n) =
-      rising-then path (λ (vs : List Value). k + 1) (λ (vs : List Value). k + suc n) k (child o) _ (a_child (child o).ending) (λ vs. rising-then path (λ (ws : List Value). k + 1 + n) (λ (ws : List Value). k + suc n) (k + 1) (turns child function rest first path (k + 1) n) _ (turns-rise function rest first (k + 1) n) (λ ws. record { hi = k + 1 + n; below = (omega arith, omega arith); within = tt; rise = tt }))
+      rising-then path (λ (vs : List Value). k + 1) (λ (vs : List Value). k + suc n) k (child o) _ (a_child (child o).ending (fine o).ends) (λ vs. rising-then path (λ (ws : List Value). k + 1 + n) (λ (ws : List Value). k + suc n) (k + 1) (turns child function rest first path (k + 1) n) _ (turns-rise function rest first (k + 1) n) (λ ws. record { hi = k + 1 + n; below = (omega arith, omega arith); within = tt; rise = tt }))
     where
       o : Origin
       o = origin.Instance function (Int (int_wrapping_add w64 first (pos k)) ∷ rest) (path ++ k ∷ [])
 
-      a_child : (q : Result (List Value) Fault) → Rising path (λ (vs : List Value). k + 1) k (record { items = (child o).items; ending = q })
-      a_child (Ok vs) = record { hi = k + 1; below = (refl, omega arith); within = below-child k (fine o).hi (places (child o).items) (fine o).within; rise = (fine o).rise }
-      a_child (Err e) = record { hi = k + 1; below = tt; within = below-child k (fine o).hi (places (child o).items) (fine o).within; rise = (fine o).rise }
+      a_child : (q : Result (List Value) Fault) → EndsBehind (path ++ k ∷ []) (fine o).hi q → Rising path (λ (vs : List Value). k + 1) k (record { items = (child o).items; ending = q })
+      a_child (Ok vs) n = record { hi = k + 1; below = (refl, omega arith); within = below-child k (fine o).hi (places (child o).items) (fine o).within; rise = (fine o).rise }
+      a_child (Err e) n = record { hi = k + 1; below = fault-child k (fine o).hi e n; within = below-child k (fine o).hi (places (child o).items) (fine o).within; rise = (fine o).rise }
 
 pub eval_with-rises : (plan : PlanView) (child : Origin → Evaluation) → ((o : Origin) → RisesBelow (path_of o) (child o)) → (o : Origin) → RisesBelow (path_of o) (eval_with plan child o)
 eval_with-rises plan child fine (origin.Instance function args path) = instance-rises plan path child fine (function_at (functions_of plan) function) args
 eval_with-rises plan child fine (origin.Loop function rest first path range) =
-    let r = turns-rise plan path child fine function rest first range.lo (range.hi - range.lo) in record { hi = r.hi; within = within-wider path range.lo 0 r.hi r.hi _ (omega arith) (omega arith) r.within; rise = r.rise }
+    let r = turns-rise plan path child fine function rest first range.lo (range.hi - range.lo) in record { hi = r.hi; within = within-wider path range.lo 0 r.hi r.hi _ (omega arith) (omega arith) r.within; rise = r.rise; ends = by_end (turns child function rest first path range.lo (range.hi - range.lo)).ending r.hi r.below }
+  where
+    by_end : (q : Result (List Value) Fault) (hi : ℕ) → Below path (λ (vs : List Value). range.lo + (range.hi - range.lo)) range.lo hi q → EndsBehind path hi q
+    by_end (Ok vs) hi b = tt
+    by_end (Err f) hi b = (b.0, b.1, b.2, b.4)
 
 pub eval_at-rises : (plan : PlanView) (left : ℕ) (o : Origin) → RisesBelow (path_of o) (eval_at plan left o)
-eval_at-rises plan zero o = eval_with-rises plan (λ o. done []) (λ o. record { hi = 0; within = tt; rise = tt }) o
+eval_at-rises plan zero o = eval_with-rises plan (λ o. done []) (λ o. record { hi = 0; within = tt; rise = tt; ends = tt }) o
 eval_at-rises plan (suc left) o = eval_with-rises plan (eval_at plan left) (eval_at-rises plan left) o
 
 -- Of two events of the elision that are no printing, the earlier one's pedigree is before the later one's.

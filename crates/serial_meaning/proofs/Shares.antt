@@ -9,6 +9,7 @@ use Rattle.std.specs.contracts.sync.Arc as arc
 use Rattle.script_check.proofs.Shares.{checked_sends, checked_syncs}
 use Rattle.dotmix.proofs.gamma.Gamma.TheSendSync as gamma_shared
 use Rattle.serial_meaning.proofs.answer.Outcome.TheSendSync as outcome_shared
+use Rattle.serial_meaning.proofs.event.Fault.TheSendSync as fault_shared
 use Rattle.serial_meaning.proofs.origin.Origin.TheSendSync as origin_shared
 use Rattle.serial_meaning.proofs.out.Out.TheSendSync as out_shared
 use Rattle.serial_meaning.proofs.plan.Limits.TheSendSync as limits_shared
@@ -17,6 +18,8 @@ use Rattle.serial_meaning.specs.contracts.answer.Answer as answer
 use Rattle.serial_meaning.specs.contracts.answer.Answer.TheInside as answer_inside
 use Rattle.serial_meaning.specs.contracts.answer_key.AnswerKey as key
 use Rattle.serial_meaning.specs.contracts.answer_key.AnswerKey.TheInside as key_inside
+use Rattle.serial_meaning.specs.contracts.known.Known as known
+use Rattle.serial_meaning.specs.contracts.known.Known.TheInside as known_inside
 use Rattle.serial_meaning.specs.contracts.plan.Plan as plan
 use Rattle.serial_meaning.specs.contracts.plan.Plan.TheInside as plan_inside
 
@@ -63,3 +66,15 @@ key_sends = view_send key_inside.the_row _ _ _ _ key_inside_sends
 
 pub key_syncs : IsSync key.the_row
 key_syncs = view_sync key_inside.the_row _ _ _ _ key_inside_syncs
+
+known_inside_sends : IsSend known_inside.the_row
+known_inside_sends = declared_send known_inside.the_type (shared_plan_sends, (fault_shared.the_send, tt))
+
+known_inside_syncs : IsSync known_inside.the_row
+known_inside_syncs = declared_sync known_inside.the_type (shared_plan_syncs, (fault_shared.the_sync, tt))
+
+pub known_sends : IsSend known.the_row
+known_sends = view_send known_inside.the_row _ _ _ _ known_inside_sends
+
+pub known_syncs : IsSync known.the_row
+known_syncs = view_sync known_inside.the_row _ _ _ _ known_inside_syncs

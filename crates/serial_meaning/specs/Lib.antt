@@ -1,10 +1,12 @@
 pub mod Answer
 pub mod Columns
+pub mod Cuts
 pub mod Eval
 pub mod Examples
 pub mod Exec
 pub mod Functions
 pub mod Laws
+pub mod Loops
 pub mod Names
 pub mod Open
 pub mod Plan

@@ -18,12 +18,13 @@ pub enum Outcome {
     /// The values of a loop's iterations, in order.
     Values(Items<Value>),
     Fault(Fault),
-    /// The origin wasn't run to its end, since a fault of the plan stands before all that it can do.
+    /// The origin wasn't run to its end, since a fault of the plan stands before its path and before those of the loops that it
+    /// belongs to. What it would have done comes behind that fault in the serial elision, which so never comes to it.
     Cut { by: Fault },
 }
 
-/// What an origin gave under a plan. It is the serial meaning of the origin: a value of this type can't be made with any other
-/// events or outcome.
+/// What an origin gave under a plan. It is the serial meaning of the origin, or a cut: a value of this type can't be made with any
+/// other events or outcome. The events of a cut mean nothing.
 #[derive(Drop)]
 pub struct Answer {
     pub plan: Arc<Plan>,

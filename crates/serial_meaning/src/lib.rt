@@ -8,12 +8,16 @@ pub mod answer_key;
 pub mod environment;
 pub mod event;
 pub mod examples;
+pub mod known;
 pub mod laws;
 pub mod memory;
 pub mod origin;
 pub mod out;
 pub mod plan;
 pub mod render;
+mod same_expression;
+mod same_plan;
+mod same_statement;
 #[cfg(test)]
 mod tests;
 pub mod value;
@@ -22,6 +26,7 @@ pub use answer::{Answer, Outcome, Strand};
 pub use answer_key::AnswerKey;
 pub use environment::{Slot, Variable};
 pub use event::{Event, Fault, FaultKind};
+pub use known::Known;
 pub use memory::Memory;
 pub use origin::Origin;
 pub use out::Out;
@@ -41,4 +46,5 @@ pub fn all_are_shared() {
     is_shared::<Plan>();
     is_shared::<Answer>();
     is_shared::<AnswerKey>();
+    is_shared::<Known>();
 }

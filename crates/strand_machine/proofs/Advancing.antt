@@ -1,7 +1,11 @@
 -- How a task that was advanced comes to its next stop.
-use Rattle.std.proofs.Common.{arith, ◌≡◌, ◌<◌, ℕ, zero, suc, ◌-◌, true, false, List, [], ◌∷◌, ◌++◌, Option, Some, None, Result, Ok, Err, refl, ap, ◌∙◌, subst}
+use Rattle.std.proofs.Common.{arith, ◌≡◌, ◌<◌, ℕ, zero, suc, ◌-◌, true, false, List, [], ◌∷◌, ◌++◌, Option, Some, None, Result, Ok, Err, refl, sym, ap, ◌∙◌, subst}
+use Rattle.std.proofs.Common.{Bool}
+use Rattle.std.proofs.lemmas.Bool.{true≢false}
 use Rattle.loop_range.specs.Range.{Range}
+use Rattle.serial_meaning.specs.Answer.{AnswerTag, AnswerView, IsAnswer}
 use Rattle.serial_meaning.specs.Eval.{path_of}
+use Rattle.serial_meaning.specs.declared.event.Event.{Event}
 use Rattle.serial_meaning.specs.Open.{Own, Joined}
 use Rattle.serial_meaning.specs.Plan.{PlanView}
 use Rattle.serial_meaning.specs.declared.value.Value.{Value}
@@ -17,10 +21,11 @@ use Rattle.strand_meaning.specs.Sound.{IsTask}
 use Rattle.strand_meaning.specs.Task as meaning
 use Rattle.strand_meaning.specs.Task.{Task, Stop, IsNext, Now, Later, own_instance, stage_after, child_in, stops_at, passing, moved, ends_unless, faults_behind, gave, stage_step, split_step, over_step, work_step}
 use Rattle.strand_machine.specs.Family.{tag}
-use Rattle.strand_machine.specs.Stops.{IsStep, IsStop, IsRun, LeadsTo, IsKnownStop, GoesOn, stage_goes_on, work_goes_on, Keeps, stop_of}
-use Rattle.strand_machine.specs.Tasks.{TaskView, IsSound, fresh, view_of}
+use Rattle.strand_machine.specs.Stops.{IsStep, IsStop, IsRun, LeadsTo, IsKnownStop, Advances, advances, GoesOn, stage_goes_on, work_goes_on, Keeps, stop_of}
+use Rattle.strand_machine.specs.Tasks.{TaskView, Holds, IsCutShort, IsSound, fresh_with, is_cut_short, cut_of, view_of}
 use Rattle.strand_machine.specs.declared.body.Body.{Body}
 use Rattle.strand_machine.specs.declared.work.Work.{Work}
+use Rattle.strand_machine.specs.declared.work.Work.TheVariants as work
 use Rattle.strand_machine.specs.declared.stop.Step.{Step as MadeStep}
 use Rattle.strand_machine.specs.declared.stop.Step.TheVariants as step-in
 use Rattle.strand_machine.specs.declared.stop.Stop.{Stop as MadeStop}
@@ -87,8 +92,8 @@ pass-of t next e = subst (KeepsOf t) e (of-work t t.work)
 
 -- Moves in a row
 
-pub leads-start : (t : TaskView) → LeadsTo t t
-leads-start t = record { next = λ stop n. n; fewer = omega arith; plan = refl; origin = refl; children = refl; loads = refl }
+pub leads-start : (t : TaskView) → t.cut ≡ None → LeadsTo t t
+leads-start t goes = record { next = λ stop n. n; fewer = omega arith; plan = refl; origin = refl; children = refl; loads = refl; knows = refl; cut = goes }
 
 leads-over : (first now next : TaskView) → LeadsTo first now → LeadsTo now next → LeadsTo first next
 leads-over first now next h g = record {
@@ -98,6 +103,8 @@ leads-over first now next h g = record {
   origin = g.origin ∙ h.origin;
   children = g.children ∙ h.children;
   loads = g.loads ∙ h.loads;
+  knows = g.knows ∙ h.knows;
+  cut = g.cut;
 }
 
 pub falls : MovesFall → (now next : TaskView) (s : MadeStep) → IsStep now s → s ≡ step-in.Passes next → moves_left next.task < moves_left now.task
@@ -117,12 +124,19 @@ leads-on law first now next s h g e =
       origin = of.1 ∙ h.origin;
       children = k.keeps.0 ∙ h.children;
       loads = k.keeps.1 ∙ h.loads;
+      knows = k.keeps.2 ∙ h.knows;
+      cut = k.keeps.3;
     }
 
 keeps-first : (first now : TaskView) (stop : MadeStop) → LeadsTo first now → Keeps now stop → Keeps first stop
-keeps-first first now (stop-in.Spawn child rest) h k =
-    (k.0 ∙ ap (λ (p : PlanView). fresh p child.task.origin) h.plan, k.1 ∙ ap (λ (l : List Origin). l ++ child.task.origin ∷ []) h.children, k.2 ∙ h.loads)
-keeps-first first now (stop-in.Wait rest) h k = (k.0 ∙ h.children, k.1 ∙ h.loads)
+keeps-first first now (stop-in.Spawn child rest) h k = (
+  k.0 ∙ ap (λ (b : Bool). fresh_with b now.task.plan child.task.origin) h.knows ∙ ap (λ (p : PlanView). fresh_with first.knows p child.task.origin) h.plan,
+  k.1 ∙ ap (λ (l : List Origin). l ++ child.task.origin ∷ []) h.children,
+  k.2 ∙ h.loads,
+  k.3 ∙ h.knows,
+  k.4,
+)
+keeps-first first now (stop-in.Wait rest) h k = (k.0 ∙ h.children, k.1 ∙ h.loads, k.2 ∙ h.knows, k.3)
 keeps-first first now (stop-in.Done answer give) h k =
     (k.0 ∙ h.plan, k.1 ∙ h.origin, k.2 ∙ ap (λ (p : PlanView). tag p now.task.origin) h.plan ∙ ap (tag first.task.plan) h.origin)
 
@@ -139,37 +153,101 @@ stops-there law first now s stop sound h g e =
 
 -- What a call that makes moves in a row leads to
 
-one-step : (now : TaskView) (s : MadeStep) → IsStep now s → IsRun now s
-one-step now s g = record { before = now; leads = leads-start now; step = g }
+one-step : (now : TaskView) (s : MadeStep) → now.cut ≡ None → IsStep now s → IsRun now s
+one-step now s goes g = record { before = now; leads = leads-start now goes; step = g }
 
-runs : (now : TaskView) (s : MadeStep) → GoesOn now s → IsRun now s
-runs now s g = by_work now.task.work g
+runs : (now : TaskView) (s : MadeStep) → now.cut ≡ None → GoesOn now s → IsRun now s
+runs now s goes g = by_work now.task.work g
   where
     by_stage : (stage : meaning.Stage) → stage_goes_on stage now s → IsRun now s
     by_stage (meaning.Goes m) h = h
-    by_stage (meaning.AtSync m) h = one-step now s h
-    by_stage (meaning.AtLoop m) h = one-step now s h
-    by_stage (meaning.Ended e) h = one-step now s h
+    by_stage (meaning.AtSync m) h = one-step now s goes h
+    by_stage (meaning.AtLoop m) h = one-step now s goes h
+    by_stage (meaning.Ended e) h = one-step now s goes h
 
     by_work : (work : meaning.Work) → work_goes_on work now s → IsRun now s
-    by_work (meaning.Splits left) h = one-step now s h
+    by_work (meaning.Splits left) h = one-step now s goes h
     by_work (meaning.Runs stage) h = by_stage stage h
-    by_work (meaning.Over v gone_on) h = one-step now s h
+    by_work (meaning.Over v gone_on) h = one-step now s goes h
 
 pub run-leads : MovesFall → (first now next : TaskView) (s : MadeStep) → LeadsTo first now → GoesOn now s → s ≡ step-in.Passes next → LeadsTo first next
 run-leads law first now next s h g e =
-    let r = runs now s g in leads-on law first r.before next s (leads-over first now r.before h r.leads) r.step e
+    let r = runs now s h.cut g in leads-on law first r.before next s (leads-over first now r.before h r.leads) r.step e
 
-pub run-falls : MovesFall → (now next : TaskView) (s : MadeStep) → GoesOn now s → s ≡ step-in.Passes next → moves_left next.task < moves_left now.task
-run-falls law now next s g e =
-    let r = runs now s g in
+pub run-falls : MovesFall → (now next : TaskView) (s : MadeStep) → now.cut ≡ None → GoesOn now s → s ≡ step-in.Passes next → moves_left next.task < moves_left now.task
+run-falls law now next s goes g e =
+    let r = runs now s goes g in
     let last : moves_left next.task < moves_left r.before.task = falls law r.before next s r.step e in
     omega (arith, last, r.leads.fewer)
 
 pub run-stops : StopsAreSound → (first now : TaskView) (s : MadeStep) (stop : MadeStop) → IsTask first.task → LeadsTo first now → GoesOn now s → s ≡ step-in.Stops stop → IsStop first stop
 run-stops law first now s stop sound h g e =
-    let r = runs now s g in stops-there law first r.before s stop sound (leads-over first now r.before h r.leads) r.step e
+    let r = runs now s h.cut g in stops-there law first r.before s stop sound (leads-over first now r.before h r.leads) r.step e
 
--- what holds of a task by its type
-pub is-task : (b : Body) (w : Work) (t : TaskView) → view_of b w ≡ t → IsSound b w → IsTask t.task
-is-task b w t view h = subst (λ (v : TaskView). IsTask v.task) view h.task
+-- what holds of a task by its type, where it took no cut
+pub holds-sound : (b : Body) (w : Work) → cut_of w ≡ None → Holds b w → IsSound b w
+holds-sound b (work.Splits left) e h = h
+holds-sound b (work.Runs s) e h = h
+holds-sound b (work.Over v gone_on) e h = h
+holds-sound b (work.Cut ended) e h = absurd (cc)
+
+pub sound_holds : (b : Body) (w : Work) → IsSound b w → Holds b w
+sound_holds b (work.Splits left) h = h
+sound_holds b (work.Runs s) h = h
+sound_holds b (work.Over v gone_on) h = h
+sound_holds b (work.Cut ended) h = absurd h.works
+
+pub is-sound : (b : Body) (w : Work) (t : TaskView) → view_of b w ≡ t → t.cut ≡ None → Holds b w → IsSound b w
+is-sound b w t view goes h = holds-sound b w (ap (λ (v : TaskView). v.cut) view ∙ goes) h
+
+pub is-task : (b : Body) (w : Work) (t : TaskView) → view_of b w ≡ t → t.cut ≡ None → Holds b w → IsTask t.task
+is-task b w t view goes h = subst (λ (v : TaskView). IsTask v.task) view (is-sound b w t view goes h).task
+
+-- a task that waits took none
+pub waits-sound : (b : Body) (w : Work) (t : TaskView) → view_of b w ≡ t → t.task.waiting ≡ true → Holds b w → IsSound b w
+waits-sound b (work.Splits left) t view waits h = h
+waits-sound b (work.Runs s) t view waits h = h
+waits-sound b (work.Over v gone_on) t view waits h = h
+waits-sound b (work.Cut ended) t view waits h = absurd (true≢false (sym waits ∙ ap (λ (v : TaskView). v.task.waiting) (sym view) ∙ h.waits))
+
+pub waits-uncut : (b : Body) (w : Work) (t : TaskView) → view_of b w ≡ t → t.task.waiting ≡ true → Holds b w → t.cut ≡ None
+waits-uncut b (work.Splits left) t view waits h = ap (λ (v : TaskView). v.cut) (sym view)
+waits-uncut b (work.Runs s) t view waits h = ap (λ (v : TaskView). v.cut) (sym view)
+waits-uncut b (work.Over v gone_on) t view waits h = ap (λ (v : TaskView). v.cut) (sym view)
+waits-uncut b (work.Cut ended) t view waits h = absurd (true≢false (sym waits ∙ ap (λ (v : TaskView). v.task.waiting) (sym view) ∙ h.waits))
+
+-- one that took none, and one that did
+not-cut : (o : Option Outcome) → is_cut_short o ≡ false → o ≡ None
+not-cut None e = refl
+not-cut (Some ended) e = absurd (true≢false e)
+
+pub goes-on-uncut : (o : Option Outcome) (r : Bool) → r ≡ is_cut_short o → r ≡ false → o ≡ None
+goes-on-uncut o r e f = not-cut o (sym e ∙ f)
+
+pub advances-uncut : (t : TaskView) (stop : MadeStop) → t.cut ≡ None → IsStop t stop → Advances t stop
+advances-uncut t stop e h = subst (λ (o : Option Outcome). advances o t stop) (sym e) h
+
+-- one that took a cut ends so
+
+pub is-short : (b : Body) (w : Work) (t : TaskView) → view_of b w ≡ t → is_cut_short t.cut ≡ true → ((o : Outcome) → w ≡ work.Cut o → ⊥) → ⊥
+is-short b w t view short other = by_work w (ap (λ (v : TaskView). is_cut_short v.cut) view ∙ short) other
+  where
+    by_work : (x : Work) → is_cut_short (cut_of x) ≡ true → ((o : Outcome) → x ≡ work.Cut o → ⊥) → ⊥
+    by_work (work.Splits left) e h = true≢false (sym e)
+    by_work (work.Runs s) e h = true≢false (sym e)
+    by_work (work.Over v gone_on) e h = true≢false (sym e)
+    by_work (work.Cut o) e h = h o refl
+
+held-short : (b : Body) (w : Work) (o : Outcome) → w ≡ work.Cut o → Holds b w → IsCutShort b o
+held-short b w o is h = subst (Holds b) is h
+
+pub short-answers : (b : Body) (w : Work) (o : Outcome) (told : List Event) → w ≡ work.Cut o → told ≡ b.pieces.told → Holds b w → IsAnswer b.family.plan b.family.origin told o
+short-answers b w o told is same h = subst (λ (es : List Event). IsAnswer b.family.plan b.family.origin es o) (sym same) (held-short b w o is h).answers
+
+pub short-ends : (b : Body) (w : Work) (o : Outcome) (t : TaskView) → view_of b w ≡ t → w ≡ work.Cut o → Holds b w → (told : List Event) (answer : AnswerView) (give : AnswerTag) → told ≡ b.pieces.told →
+    answer ≡ record { plan = b.family.plan; origin = b.family.origin; out = told; outcome = o } → give ≡ tag b.family.plan b.family.origin → Advances t (stop-in.Done answer give)
+short-ends b w o t view is h told answer give same e g = subst (λ (v : TaskView). Advances v (stop-in.Done answer give)) view (subst (λ (x : Work). Advances (view_of b x) (stop-in.Done answer give)) (sym is) (record {
+  is = ap (λ (a : AnswerView). stop-in.Done a give) (e ∙ ap (λ (es : List Event). record { plan = b.family.plan; origin = b.family.origin; out = es; outcome = o }) same)
+      ∙ ap (λ (y : AnswerTag). stop-in.Done (record { plan = b.family.plan; origin = b.family.origin; out = b.pieces.told; outcome = o }) y) g;
+  known = (held-short b w o is h).known;
+}))

@@ -2,41 +2,27 @@
 use Rattle.std.proofs.Common.{◌≡◌, ℕ, zero, suc, ◌+◌, ◌-◌, ◌<◌, ◌≤◌, Bool, true, false, List, [], ◌∷◌, ◌++◌, Some, length, length-append, length-drop, take, drop, replicate, refl, sym, ap, ◌∙◌, subst, arith, add-one}
 use Rattle.std.proofs.Math.ListN.{set, length-replicate}
 use Rattle.std.specs.Prelude.{slice_get}
+use Rattle.std.proofs.lemmas.Bool.{true≢false}
 use Rattle.serial_meaning.specs.Answer.{AnswerView, IsEval, IsAnswer}
-use Rattle.serial_meaning.specs.Eval.{Evaluation, eval}
 use Rattle.serial_meaning.specs.Plan.{PlanView}
 use Rattle.serial_meaning.specs.declared.event.Event.{Event}
 use Rattle.serial_meaning.specs.declared.origin.Origin.{Origin}
 use Rattle.serial_meaning.specs.declared.answer.Outcome.{Outcome}
 use Rattle.serial_meaning.specs.declared.answer.Outcome.TheVariants as outcome
-use Rattle.strand_meaning.specs.Answers.{evaluation_of}
-use Rattle.strand_meaning.specs.Laws.{AnswersAreEvaluations}
 use Rattle.strand_meaning.specs.Pieces.{Part}
 use Rattle.strand_machine.specs.Family.{FamilyView, AwaitsCount, tag, tags, origins}
-use Rattle.strand_machine.specs.Going.{ending_of}
 use Rattle.strand_machine.specs.Parts.{awaited}
-use Rattle.strand_machine.specs.Stops.{answer_tags}
+use Rattle.strand_machine.specs.Stops.{answer_tags, is_cut}
 use Rattle.strand_machine.specs.Tasks.{AwaitsLast}
 
 -- What an answer says
 
-eval-of : (plan : PlanView) (o : Origin) (out : List Event) (ended : Outcome) → IsAnswer plan o out ended → IsEval plan o out ended
-eval-of plan o out (outcome.Value v) h = h
-eval-of plan o out (outcome.Values vs) h = h
-eval-of plan o out (outcome.Fault f) h = h
-eval-of plan o out (outcome.Cut f) h = absurd h
-
-says : (out : List Event) (ended : Outcome) → evaluation_of out ended ≡ record { items = out; ending = ending_of ended }
-says out (outcome.Value v) = refl
-says out (outcome.Values vs) = refl
-says out (outcome.Fault f) = refl
-says out (outcome.Cut f) = refl
-
--- an answer says the evaluation of its origin
-pub answer-says : AnswersAreEvaluations → (plan : PlanView) (o : Origin) (out : List Event) (ended : Outcome) (a : AnswerView) →
-    ◌≡◌ {A = AnswerView} (record { plan = plan; origin = o; out = out; outcome = ended }) a → IsAnswer plan o out ended →
-    ◌≡◌ {A = Evaluation} (record { items = out; ending = ending_of ended }) (eval a.plan a.origin)
-answer-says law plan o out ended a view h = sym (says out ended) ∙ law plan o out ended (eval-of plan o out ended h) ∙ ap (λ (b : AnswerView). eval b.plan b.origin) view
+-- an answer that is no cut says the evaluation of its origin
+pub eval-of : (plan : PlanView) (o : Origin) (out : List Event) (ended : Outcome) → is_cut ended ≡ false → IsAnswer plan o out ended → IsEval plan o out ended
+eval-of plan o out (outcome.Value v) whole h = h
+eval-of plan o out (outcome.Values vs) whole h = h
+eval-of plan o out (outcome.Fault f) whole h = h
+eval-of plan o out (outcome.Cut f) whole h = absurd (true≢false whole)
 
 -- The answers of the last children
 

@@ -1,5 +1,6 @@
 -- A task among whose pieces a child's answer is a fault.
-use Rattle.std.proofs.Common.{◌≡◌, true, List, [], ◌∷◌, ◌++◌, Option, Some, None, Result, Ok, Err, refl, sym, ap, ◌∙◌, subst}
+use Rattle.std.proofs.lemmas.Bool.{true≢false}
+use Rattle.std.proofs.Common.{◌≡◌, Bool, true, false, ◌||◌, List, [], ◌∷◌, ◌++◌, Option, Some, None, Result, Ok, Err, refl, sym, ap, ◌∙◌, subst}
 use Rattle.serial_meaning.specs.Answer.{AnswerView, AnswerTag, IsAnswer, IsEval, outcome_of}
 use Rattle.serial_meaning.specs.Eval.{Evaluation, eval}
 use Rattle.serial_meaning.specs.Laws.{EndsWithin}
@@ -22,7 +23,7 @@ use Rattle.strand_meaning.specs.Task.{Task}
 use Rattle.strand_machine.specs.Family.{tag, tags}
 use Rattle.strand_machine.specs.Faults.{is_fault, EndsByFault}
 use Rattle.strand_machine.specs.Parts.{awaited}
-use Rattle.strand_machine.specs.Stops.{answer_tags, view_on}
+use Rattle.strand_machine.specs.Stops.{WentOn, answer_tags, any_cut, is_cut, view_on, went}
 use Rattle.strand_machine.specs.Tasks.{TaskView, task_of, view_of, IsSound}
 use Rattle.strand_machine.specs.declared.body.Body.{Body}
 use Rattle.strand_machine.specs.declared.work.Work.{Work}
@@ -44,7 +45,7 @@ pub answers-err : (plan : PlanView) (o : Origin) (out : List Event) (ended : Out
 answers-err plan o out (outcome.Fault f) is h = err-of o (eval plan o).ending (outcome.Fault f) is.ends refl
 answers-err plan o out (outcome.Value v) is h = absurd (cc)
 answers-err plan o out (outcome.Values vs) is h = absurd (cc)
-answers-err plan o out (outcome.Cut f) is h = absurd is
+answers-err plan o out (outcome.Cut f) is h = absurd (cc)
 
 heard-err : (f : Option Fault) (told : List Event) (p : Part) (events : List Event) (ending : Result (List Value) Fault) → IsErr ending → (heard_unless f told p events ending).fault ≡ None → ⊥
 heard-err (Some g) told p events ending is h = absurd (cc)
@@ -92,6 +93,25 @@ pub view-err : (plan : PlanView) (o : Origin) (out : List Event) (ended : Outcom
     IsAnswer plan o out ended → is_fault a.outcome ≡ true → IsErr (eval a.plan a.origin).ending
 view-err plan o out ended a view is h =
     let P : AnswerView → Type 0 = λ b. is_fault b.outcome ≡ true → IsErr (eval b.plan b.origin).ending in subst P view (answers-err plan o out ended is) h
+
+-- none of these is a cut either, where the last is a fault
+whole-more : (xs : List AnswerView) (a : AnswerView) → any_cut xs ≡ false → is_fault a.outcome ≡ true → any_cut (xs ++ a ∷ []) ≡ false
+whole-more [] a h f = by_outcome a.outcome f
+  where
+    by_outcome : (o : Outcome) → is_fault o ≡ true → (is_cut o || false) ≡ false
+    by_outcome (outcome.Value v) g = refl
+    by_outcome (outcome.Values vs) g = refl
+    by_outcome (outcome.Fault g) e = refl
+    by_outcome (outcome.Cut g) e = absurd (true≢false (sym e))
+whole-more (x ∷ xs) a h f = rest (is_cut x.outcome) h
+  where
+    rest : (b : Bool) → (b || any_cut xs) ≡ false → (b || any_cut (xs ++ a ∷ [])) ≡ false
+    rest true g = absurd (true≢false g)
+    rest false g = whole-more xs a g f
+
+pub goes-whole : (xs ys given : List AnswerView) (a : AnswerView) (t next : TaskView) → ys ≡ xs ++ a ∷ [] → xs ≡ given → any_cut given ≡ false → is_fault a.outcome ≡ true → WentOn ys t next → next ≡ view_on t
+goes-whole xs ys given a t next e same whole f on =
+    let none : any_cut ys ≡ false = ap any_cut e ∙ whole-more xs a (ap any_cut same ∙ whole) f in subst (λ (b : Bool). went b ys t next) none on
 
 -- once its children's answers are taken, of which the last is a fault, there is one among a task's pieces
 pub not-none : (v begun after : TaskView) (ts : List AnswerTag) (t : AnswerTag) → begun ≡ v → after ≡ view_on begun → ts ++ t ∷ [] ≡ tags v.task.plan (awaited v.task.pieces.handed) →

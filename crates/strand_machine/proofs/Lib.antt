@@ -1,10 +1,12 @@
 pub mod Advancing
 pub mod Answering
 pub mod Arms
+pub mod Cutting
 pub mod Dispatch
 pub mod Faulting
 pub mod Halves
 pub mod Handed
+pub mod Knowing
 pub mod Moving
 pub mod Noting
 pub mod Starting

@@ -1,5 +1,5 @@
 -- What a task is behind a move of its instance, by what the move showed.
-use Rattle.std.proofs.Common.{◌≡◌, ◌<◌, ℕ, suc, false, List, [], ◌∷◌, ◌++◌, Option, Result, Ok, Err, length, replicate, refl, sym, ap, ◌∙◌, subst}
+use Rattle.std.proofs.Common.{◌≡◌, ◌<◌, ℕ, suc, false, List, [], ◌∷◌, ◌++◌, Option, None, Result, Ok, Err, length, replicate, refl, sym, ap, ◌∙◌, subst}
 use Rattle.std.specs.Prelude.{IfOk}
 use Rattle.script_grammar.specs.declared.tree.Name.{Name}
 use Rattle.serial_meaning.specs.Eval.{path_of}
@@ -23,10 +23,11 @@ use Rattle.strand_moves.specs.declared.shown.Moved.TheVariants as moved-in
 use Rattle.strand_moves.specs.declared.shown.Shown.{Shown}
 use Rattle.strand_moves.specs.declared.shown.Shown.TheVariants as shown-in
 use Rattle.strand_machine.specs.Family.{FamilyView}
+use Rattle.strand_machine.specs.Loops.{IsBelow}
 use Rattle.strand_machine.specs.Parts.{awaited, place_of}
 use Rattle.strand_machine.specs.Shown.{shown_task, IsSoundShown}
 use Rattle.strand_machine.specs.Stops.{IsStep, IsRun, LeadsTo, KeepsStep, step_of}
-use Rattle.strand_machine.specs.Tasks.{TaskView, task_of, view_of, fresh, AwaitsLast, RunsAt, IsSound, gone, waiting, with_child}
+use Rattle.strand_machine.specs.Tasks.{TaskView, task_of, view_of, fresh_with, cut_of, AwaitsLast, RunsAt, IsSound, gone, waiting, with_child}
 use Rattle.strand_machine.specs.declared.body.Body.{Body}
 use Rattle.strand_machine.specs.declared.place.Place.{Place}
 use Rattle.strand_machine.specs.declared.place.Place.TheVariants as place
@@ -118,6 +119,9 @@ module _ (b : Body) (i : RawInstance) where
   pub spawned-trail : (s : Shown) (e : Event) (o : Child) (height : ℕ) (target : Option Name) → s ≡ shown-in.Spawned e o height target → IsSoundShown b i s → IsTrailOf b.family.plan o.origin o.trail
   spawned-trail s e o height target is h = let k : IsSoundShown b i (shown-in.Spawned e o height target) = subst (IsSoundShown b i) is h in k.trail
 
+  pub spawned-below : (s : Shown) (e : Event) (o : Child) (height : ℕ) (target : Option Name) → s ≡ shown-in.Spawned e o height target → IsSoundShown b i s → IsBelow b.family.origin o.origin
+  spawned-below s e o height target is h = let k : IsSoundShown b i (shown-in.Spawned e o height target) = subst (IsSoundShown b i) is h in k.below
+
   spawned-at : (e : Event) (o : Child) (height : ℕ) (target : Option Name) → IsSoundShown b i (shown-in.Spawned e o height target) →
       IsSound (with_child (with_pieces b (tell e b.pieces)) o.origin (place.Spawned height target)) goes
   spawned-at e o height target h = record {
@@ -132,7 +136,7 @@ module _ (b : Body) (i : RawInstance) where
       subst (λ (x : Pieces). IsSound (with_child (with_pieces b x) o.origin (place.Spawned height target)) goes) (sym q) (spawned-at e o height target (subst (IsSoundShown b i) is h))
 
   pub spawned-step : (s : Shown) (e : Event) (o : Child) (height : ℕ) (target : Option Name) (p : Pieces) (r : MadeStep) → s ≡ shown-in.Spawned e o height target → p ≡ tell e b.pieces →
-      r ≡ step-in.Stops (stop-in.Spawn (fresh b.family.plan o.origin) (view_of (with_child (with_pieces b p) o.origin (place.Spawned height target)) goes)) →
+      r ≡ step-in.Stops (stop-in.Spawn (fresh_with b.family.knows b.family.plan o.origin) (view_of (with_child (with_pieces b p) o.origin (place.Spawned height target)) goes)) →
       step_of r ≡ stops_at (child_in (tokens_of s)) (shown_task b i s)
   spawned-step s e o height target p r is q h = rw (h, q, is) refl
 
@@ -146,6 +150,9 @@ module _ (b : Body) (i : RawInstance) where
 
   pub looped-trail : (s : Shown) (e : Event) (o : Child) (target : Option Name) → s ≡ shown-in.Looped e o target → IsSoundShown b i s → IsTrailOf b.family.plan o.origin o.trail
   looped-trail s e o target is h = let k : IsSoundShown b i (shown-in.Looped e o target) = subst (IsSoundShown b i) is h in k.trail
+
+  pub looped-below : (s : Shown) (e : Event) (o : Child) (target : Option Name) → s ≡ shown-in.Looped e o target → IsSoundShown b i s → IsBelow b.family.origin o.origin
+  looped-below s e o target is h = let k : IsSoundShown b i (shown-in.Looped e o target) = subst (IsSoundShown b i) is h in k.below
 
   looped-at : (e : Event) (o : Child) (target : Option Name) → IsSoundShown b i (shown-in.Looped e o target) →
       IsSound (with_child (with_pieces b (tell e b.pieces)) o.origin (place.Looped target)) at-loop
@@ -161,18 +168,18 @@ module _ (b : Body) (i : RawInstance) where
       subst (λ (x : Pieces). IsSound (with_child (with_pieces b x) o.origin (place.Looped target)) at-loop) (sym q) (looped-at e o target (subst (IsSoundShown b i) is h))
 
   pub looped-step : (s : Shown) (e : Event) (o : Child) (target : Option Name) (p : Pieces) (r : MadeStep) → s ≡ shown-in.Looped e o target → p ≡ tell e b.pieces →
-      r ≡ step-in.Stops (stop-in.Spawn (fresh b.family.plan o.origin) (view_of (with_child (with_pieces b p) o.origin (place.Looped target)) at-loop)) →
+      r ≡ step-in.Stops (stop-in.Spawn (fresh_with b.family.knows b.family.plan o.origin) (view_of (with_child (with_pieces b p) o.origin (place.Looped target)) at-loop)) →
       step_of r ≡ stops_at (child_in (tokens_of s)) (shown_task b i s)
   looped-step s e o target p r is q h = rw (h, q, is) refl
 
 -- What the family keeps
 
-pub passes-keep : (b : Body) (p : Pieces) (w next : Work) (r : MadeStep) → r ≡ step-in.Passes (view_of (gone (with_pieces b p)) next) → KeepsStep (view_of b w) r
-passes-keep b p w next r h = rw h (refl, refl)
+pub passes-keep : (b : Body) (p : Pieces) (w next : Work) (r : MadeStep) → cut_of next ≡ None → r ≡ step-in.Passes (view_of (gone (with_pieces b p)) next) → KeepsStep (view_of b w) r
+passes-keep b p w next r none h = rw h (refl, refl, refl, none)
 
-pub spawns-keep : (b : Body) (p : Pieces) (w next : Work) (o : Origin) (at : Place) (r : MadeStep) →
-    r ≡ step-in.Stops (stop-in.Spawn (fresh b.family.plan o) (view_of (with_child (with_pieces b p) o at) next)) → KeepsStep (view_of b w) r
-spawns-keep b p w next o at r h = rw h (refl, refl, refl)
+pub spawns-keep : (b : Body) (p : Pieces) (w next : Work) (o : Origin) (at : Place) (r : MadeStep) → cut_of next ≡ None →
+    r ≡ step-in.Stops (stop-in.Spawn (fresh_with b.family.knows b.family.plan o) (view_of (with_child (with_pieces b p) o at) next)) → KeepsStep (view_of b w) r
+spawns-keep b p w next o at r none h = rw h (refl, refl, refl, refl, none)
 
 keeps-alike : (b : Body) (w other : Work) (r : MadeStep) → KeepsStep (view_of b w) r → KeepsStep (view_of b other) r
 keeps-alike b w other (step-in.Passes next) h = h
@@ -188,7 +195,7 @@ pub record IsOnRun (first : TaskView) (b : Body) (i : RawInstance) : Type 0 wher
 -- A move
 
 module _ (b : Body) (i next : RawInstance) (plan : PlanView) (m : Moved) (p : plan ≡ b.family.plan) (e : move plan (moves.path_of i) (moves.machine_of plan i) ≡ run_of m (moves.machine_of plan next)) (h : IsSound b (work.Runs (stage.Goes i))) where
-  runs-on : moves.path_of next ≡ moves.path_of i → moves.IsInstance plan next → RunsAt b.family.plan (path_of (own_instance b.family.origin)) next
+  pub runs-on : moves.path_of next ≡ moves.path_of i → moves.IsInstance plan next → RunsAt b.family.plan (path_of (own_instance b.family.origin)) next
   runs-on path sound = record { sound = subst (λ (q : PlanView). moves.IsInstance q next) p sound; at = path ∙ h.works.at }
 
   moves-so : (n : Moved) → m ≡ n → move b.family.plan (moves.path_of i) (moves.machine_of b.family.plan i) ≡ run_of n (moves.machine_of b.family.plan next)
@@ -198,20 +205,20 @@ module _ (b : Body) (i next : RawInstance) (plan : PlanView) (m : Moved) (p : pl
 
   pub went-sound : StepsAreSound → (s : Shown) → m ≡ moved-in.Went s → moves.path_of next ≡ moves.path_of i → moves.IsInstance plan next → MovesTrail plan m → IsSoundShown b next s
   went-sound law s is path sound trail =
-      shown-sound b i law next s h (go-went b i next s h.works (moves-so (moved-in.Went s) is)) (runs-on path sound)
+      shown-sound b i law next s h (moves-so (moved-in.Went s) is) (runs-on path sound)
       (subst (λ (q : PlanView). ShowsTrail q s) p (subst (MovesTrail plan) is trail))
 
   pub gave-sound : StepsAreSound → (v : Value) → m ≡ moved-in.Gave v → IsSound (gone b) (work.Runs (stage.Gave v))
   gave-sound law v is = pass-sound law b (work.Runs (stage.Goes i)) (work.Runs (stage.Gave v)) h (go-gave b i next v h.works (moves-so (moved-in.Gave v) is)) tt
 
   pub gave-is : (v : Value) (r : MadeStep) → m ≡ moved-in.Gave v → r ≡ step-in.Passes (view_of (gone b) (work.Runs (stage.Gave v))) → IsStep (view_of b (work.Runs (stage.Goes i))) r
-  gave-is v r is = pass-is b (work.Runs (stage.Goes i)) (work.Runs (stage.Gave v)) r (go-gave b i next v h.works (moves-so (moved-in.Gave v) is))
+  gave-is v r is = pass-is b (work.Runs (stage.Goes i)) (work.Runs (stage.Gave v)) r tt (go-gave b i next v h.works (moves-so (moved-in.Gave v) is))
 
   pub faulted-sound : StepsAreSound → (f : Fault) → m ≡ moved-in.Faulted f → IsSound (gone b) (work.Runs (stage.Faulted f))
   faulted-sound law f is = pass-sound law b (work.Runs (stage.Goes i)) (work.Runs (stage.Faulted f)) h (go-faulted b i next f h.works (moves-so (moved-in.Faulted f) is)) tt
 
   pub faulted-is : (f : Fault) (r : MadeStep) → m ≡ moved-in.Faulted f → r ≡ step-in.Passes (view_of (gone b) (work.Runs (stage.Faulted f))) → IsStep (view_of b (work.Runs (stage.Goes i))) r
-  faulted-is f r is = pass-is b (work.Runs (stage.Goes i)) (work.Runs (stage.Faulted f)) r (go-faulted b i next f h.works (moves-so (moved-in.Faulted f) is))
+  faulted-is f r is = pass-is b (work.Runs (stage.Goes i)) (work.Runs (stage.Faulted f)) r tt (go-faulted b i next f h.works (moves-so (moved-in.Faulted f) is))
 
   went-one : (s : Shown) (r : MadeStep) → m ≡ moved-in.Went s → step_of r ≡ stops_at (child_in (tokens_of s)) (shown_task b next s) → KeepsStep (view_of b (work.Runs (stage.Goes next))) r →
       IsStep (view_of b (work.Runs (stage.Goes i))) r
@@ -225,7 +232,7 @@ module _ (b : Body) (i next : RawInstance) (plan : PlanView) (m : Moved) (p : pl
   -- one that shows nothing, or an event alone: the instance goes on
 
   still-is : (s : Shown) → m ≡ moved-in.Went s → s ≡ shown-in.Nothing → IsStep (view_of b (work.Runs (stage.Goes i))) (step-in.Passes (view_of (gone b) (work.Runs (stage.Goes next))))
-  still-is s is shows = went-one s _ is (nothing-step b next s _ shows refl) (refl, refl)
+  still-is s is shows = went-one s _ is (nothing-step b next s _ shows refl) (refl, refl, refl, refl)
 
   pub still-on : StepsAreSound → MovesFall → (first : TaskView) → LeadsTo first (view_of b (work.Runs (stage.Goes i))) → (s : Shown) → m ≡ moved-in.Went s → s ≡ shown-in.Nothing →
       moves.path_of next ≡ moves.path_of i → moves.IsInstance plan next → MovesTrail plan m → IsOnRun first (gone b) next
@@ -239,7 +246,7 @@ module _ (b : Body) (i next : RawInstance) (plan : PlanView) (m : Moved) (p : pl
 
   tells-is : (s : Shown) (t : Event) (q : Pieces) → m ≡ moved-in.Went s → s ≡ shown-in.Told t → q ≡ tell t b.pieces →
       IsStep (view_of b (work.Runs (stage.Goes i))) (step-in.Passes (view_of (gone (with_pieces b q)) (work.Runs (stage.Goes next))))
-  tells-is s t q is shows g = went-one s _ is (told-step b next s t q _ shows g refl) (refl, refl)
+  tells-is s t q is shows g = went-one s _ is (told-step b next s t q _ shows g refl) (refl, refl, refl, refl)
 
   pub tells-on : StepsAreSound → MovesFall → (first : TaskView) → LeadsTo first (view_of b (work.Runs (stage.Goes i))) → (s : Shown) (t : Event) (q : Pieces) → m ≡ moved-in.Went s → s ≡ shown-in.Told t → q ≡ tell t b.pieces →
       moves.path_of next ≡ moves.path_of i → moves.IsInstance plan next → MovesTrail plan m → IsOnRun first (gone (with_pieces b q)) next
@@ -263,11 +270,11 @@ module _ (b : Body) (i next : RawInstance) (plan : PlanView) (m : Moved) (p : pl
       let k = synced-sound b next s t q shows g (went-sound law s is path sound trail) in wait-sound law (gone (with_pieces b q)) syncs syncs k refl k.works
 
   pub syncs-run : MovesFall → (first : TaskView) → LeadsTo first (view_of b (work.Runs (stage.Goes i))) → (s : Shown) (t : Event) (q : Pieces) → m ≡ moved-in.Went s → s ≡ shown-in.Synced t → q ≡ tell t b.pieces →
-      (r : MadeStep) → r ≡ step-in.Stops (stop-in.Wait (view_of (waiting (gone (with_pieces b q))) syncs)) → IsRun first r
-  syncs-run fall first leads s t q is shows g r e = record {
+      RunsAt b.family.plan (path_of (own_instance b.family.origin)) next → (r : MadeStep) → r ≡ step-in.Stops (stop-in.Wait (view_of (waiting (gone (with_pieces b q))) syncs)) → IsRun first r
+  syncs-run fall first leads s t q is shows g at r e = record {
     before = view_of (gone (with_pieces b q)) syncs;
-    leads = leads-on fall first _ _ _ leads (went-one s (step-in.Passes (view_of (gone (with_pieces b q)) syncs)) is (synced-step b next s t q _ shows g refl) (refl, refl)) refl;
-    step = wait-is (gone (with_pieces b q)) syncs syncs r refl e;
+    leads = leads-on fall first _ _ _ leads (went-one s (step-in.Passes (view_of (gone (with_pieces b q)) syncs)) is (synced-step b next s t q _ shows g refl) (refl, refl, refl, refl)) refl;
+    step = wait-is (gone (with_pieces b q)) syncs syncs r at refl e;
   }
 
   pub gives-run : MovesFall → (first : TaskView) → LeadsTo first (view_of b (work.Runs (stage.Goes i))) → (v : Value) → m ≡ moved-in.Gave v →

@@ -123,9 +123,9 @@ pub record LeadsNoted (first : TaskView) (j : List ℕ) (now : TaskView) (notes 
   pub joined : notes.joined ≡ front.joined
   pub had_rank : reached ≡ (had (path_of first.task.origin) j front.ranks || had (path_of first.task.origin) j (task_ranks now.task))
 
-pub noted-start : (t : TaskView) (j : List ℕ) (notes : Notes) (reached : Bool) → notes ≡ record { events = []; fault = None; joined = None } → reached ≡ had (path_of t.task.origin) j (task_ranks t.task) → LeadsNoted t j t notes reached
-noted-start t j notes reached h r = record {
-  leads = leads-start t;
+pub noted-start : (t : TaskView) (j : List ℕ) (notes : Notes) (reached : Bool) → t.cut ≡ None → notes ≡ record { events = []; fault = None; joined = None } → reached ≡ had (path_of t.task.origin) j (task_ranks t.task) → LeadsNoted t j t notes reached
+noted-start t j notes reached goes h r = record {
+  leads = leads-start t goes;
   front = no_notes;
   shows = λ later stop s. subst (λ (n : meaning.Notes). Shows t.task n stop) (also-nothing later) s;
   events = ap (λ (n : Notes). n.events) h;

@@ -13,6 +13,7 @@ use Rattle.serial_meaning.specs.contracts.answer.Answer as answer
 use Rattle.serial_meaning.specs.contracts.answer_key.AnswerKey as key
 use Rattle.serial_meaning.specs.contracts.answer_key.AnswerTagged.TheImpl.{ghosts}
 use Rattle.serial_meaning.specs.contracts.value.Value as value
+use Rattle.strand_machine.proofs.loops.Loops.TheSendSync as loops_shared
 use Rattle.strand_machine.proofs.pieces.Pieces.TheSendSync as pieces_shared
 use Rattle.strand_machine.proofs.work.Work.TheSendSync as work_shared
 use Rattle.strand_machine.specs.contracts.body.Body as body
@@ -30,7 +31,7 @@ join_sends : IsSend (join.the_row answer.the_row key.the_row ghosts)
 join_sends = join_shared.the_send answer.the_row key.the_row ghosts answer_sends
 
 family_inside_sends : IsSend family_inside.the_row
-family_inside_sends = declared_send family_inside.the_type (shared_plan_sends, (origin_shared.the_send, (give_sends, (join_sends, tt))))
+family_inside_sends = declared_send family_inside.the_type (shared_plan_sends, (origin_shared.the_send, (loops_shared.the_send, (give_sends, (join_sends, tt)))))
 
 family_sends : IsSend family.the_row
 family_sends = view_send family_inside.the_row _ _ _ _ family_inside_sends

@@ -1,5 +1,5 @@
 -- A task that takes its children's answers, and goes on.
-use Rattle.std.proofs.Common.{◌≡◌, ℕ, Bool, false, List, [], ◌∷◌, Option, Some, None, Result, Ok, Err, length, refl, sym, ap, ◌∙◌, subst, arith, append-nil}
+use Rattle.std.proofs.Common.{◌≡◌, ℕ, Bool, true, false, List, [], ◌∷◌, Option, Some, None, Result, Ok, Err, length, refl, sym, ap, ◌∙◌, subst, arith, append-nil}
 use Rattle.serial_meaning.specs.Answer.{AnswerView, AnswerTag}
 use Rattle.std.specs.Prelude.{OnOk}
 use Rattle.std.specs.Borrow.{Bor}
@@ -23,10 +23,11 @@ use Rattle.strand_meaning.specs.Task.{Splits, Runs, Over, Task, changed, answere
 use Rattle.strand_machine.specs.Family.{FamilyView, HasPassed, HasStopped, tags, origins}
 use Rattle.strand_machine.specs.Going.{BecomesStage, BecomesWork, Takes, IsAnswered, with_stage, pieces_of, meanings}
 use Rattle.strand_machine.specs.Parts.{awaited, part_of, parts_of, place_of}
-use Rattle.strand_machine.specs.Stops.{answer_tags, went_on, view_on}
+use Rattle.strand_meaning.specs.Cuts.{AreAnswersOf}
+use Rattle.strand_machine.specs.Stops.{WentOn, answer_tags, any_cut, resumes, view_on, went}
 use Rattle.strand_moves.specs.Machines.{IsInstance, machine_of, path_of}
 use Rattle.strand_moves.specs.declared.instance.Instance.{Instance}
-use Rattle.strand_machine.specs.Tasks.{TaskView, stage_of, work_of, task_of, view_of, StandsAt, WorksAt, AwaitsLast, IsSound}
+use Rattle.strand_machine.specs.Tasks.{TaskView, stage_of, cut_of, work_of, task_of, view_of, StandsAt, WorksAt, AwaitsLast, IsSound}
 use Rattle.strand_machine.specs.declared.body.Body.{Body}
 use Rattle.strand_machine.specs.declared.going.Going.{Going}
 use Rattle.strand_machine.specs.declared.pieces.Behind.{Behind}
@@ -39,7 +40,7 @@ use Rattle.strand_machine.specs.declared.work.Work.TheVariants as work
 use Rattle.strand_machine.proofs.Answering.{origins-tags, awaits-count, taken-length}
 use Rattle.strand_machine.proofs.Handed.{awaited_parts}
 
-same-stage : (w : meaning.Work) → with_stage (λ s. s) w ≡ w
+pub same-stage : (w : meaning.Work) → with_stage (λ s. s) w ≡ w
 same-stage (Splits left) = refl
 same-stage (Runs stage) = refl
 same-stage (Over v gone_on) = refl
@@ -154,28 +155,6 @@ other-values (place.Spawned height target) h ending values = refl
 other-values (place.Looped target) h ending values = refl
 other-values place.Half h ending values = absurd (h refl)
 
--- a part of a loop, whose values join those of the task
-pub takes-half : (p : Part) (e : Evaluation) (before heard-it after : Going) → p.place ≡ Half → pieces_of heard-it ≡ heard p e (pieces_of before) → heard-it.values ≡ before.values →
-    heard-it.work ≡ before.work → after ≡ record heard-it { values = more_values Half e.ending heard-it.values } → Takes (p ∷ []) (e ∷ []) before after
-takes-half p e before heard-it after half pieces values work is = record {
-  pieces = ap pieces_of is ∙ pieces;
-  values = ap (λ (g : Going). g.values) is ∙ ap (λ vs. more_values Half e.ending vs) values ∙ ap (λ place. more_values place e.ending before.values) (sym half);
-  work = record {
-    is = λ plan. ap (λ (g : Going). work_of plan g.work) is ∙ ap (λ w. work_of plan w) work ∙ sym (same-stage (work_of plan before.work)) ∙ ap (λ place. with_stage (takes place e.ending) (work_of plan before.work)) (sym half);
-    works = λ plan o h. subst (λ w. WorksAt plan o w) (sym (ap (λ (g : Going). g.work) is ∙ work)) h;
-  };
-}
-
--- any other child
-pub takes-other : (p : Part) (e : Evaluation) (before heard-it after : Going) → more_values p.place e.ending before.values ≡ before.values → pieces_of heard-it ≡ heard p e (pieces_of before) →
-    heard-it.values ≡ before.values → heard-it.work ≡ before.work → BecomesWork (with_stage (takes p.place e.ending)) heard-it.work after.work → after ≡ record heard-it { work = after.work } →
-    Takes (p ∷ []) (e ∷ []) before after
-takes-other p e before heard-it after other pieces values work becomes is = record {
-  pieces = ap pieces_of is ∙ pieces;
-  values = ap (λ (g : Going). g.values) is ∙ values ∙ sym other;
-  work = subst (λ w. BecomesWork (with_stage (takes p.place e.ending)) w after.work) work becomes;
-}
-
 -- One child, and then the others
 
 pub takes-then : (p : Part) (ps : List Part) (e : Evaluation) (es : List Evaluation) (before between after : Going) → Takes (p ∷ []) (e ∷ []) before between → Takes ps es between after →
@@ -227,21 +206,6 @@ goes-on t before after rest pieces values work h over =
     ∙ ap (λ (vs : List Value). record t { pieces = heard_all ps es (record t.pieces { handed = [] }); values = vs; work = work_of t.plan rest; waiting = false }) given
     ∙ ap (λ (w : meaning.Work). record t { pieces = heard_all ps es (record t.pieces { handed = [] }); values = all_values ps es t.values; work = w; waiting = false }) left
 
--- The loop over the children
-
-pub takes-next : (xs ys : List AnswerView) (bs cs : List Behind) (a : AnswerView) (b : Behind) (before between after : Going) → xs ≡ a ∷ ys → bs ≡ b ∷ cs →
-    Takes (part_of a.origin b ∷ []) (eval a.plan a.origin ∷ []) before between → Takes (parts_of (origins (answer_tags ys)) cs) (meanings (answer_tags ys)) between after →
-    Takes (parts_of (origins (answer_tags xs)) bs) (meanings (answer_tags xs)) before after
-takes-next xs ys bs cs a b before between after e k h more =
-    let all : Takes (parts_of (origins (answer_tags (a ∷ ys))) (b ∷ cs)) (meanings (answer_tags (a ∷ ys))) before after =
-    takes-then (part_of a.origin b) (parts_of (origins (answer_tags ys)) cs) (eval a.plan a.origin) (meanings (answer_tags ys)) before between after h more in
-    subst (λ (ds : List Behind). Takes (parts_of (origins (answer_tags xs)) ds) (meanings (answer_tags xs)) before after) (sym k)
-    (subst (λ (zs : List AnswerView). Takes (parts_of (origins (answer_tags zs)) (b ∷ cs)) (meanings (answer_tags zs)) before after) (sym e) all)
-
-pub takes-no-more : (xs : List AnswerView) (bs : List Behind) (g : Going) → length xs ≡ 0 → length bs ≡ 0 → Takes (parts_of (origins (answer_tags xs)) bs) (meanings (answer_tags xs)) g g
-takes-no-more [] bs g h k = takes-none g
-takes-no-more (x ∷ xs) bs g h k = absurd (omega arith)
-
 -- The task behind its wait
 
 module _ (b : Body) (w : Work) (told : List Event) (fault : Option Fault) (os : List Origin) (bs : List Behind) (ts : List AnswerTag) (after : Going) (new-os : List Origin) (new-bs : List Behind) (rest : Work) where
@@ -249,7 +213,7 @@ module _ (b : Body) (w : Work) (told : List Event) (fault : Option Fault) (os : 
   next-body = record { family = b.family; pieces = record { told = after.told; fault = after.fault; handed = parts_of new-os new-bs }; values = after.values; waiting = false; advanced = b.advanced }
 
   abbrev begins : Going
-  begins = record { told = told; fault = fault; values = b.values; work = w }
+  begins = record { told = told; fault = fault; values = b.values; work = w; cut = false; by_cut = false }
 
   task-on : ◌≡◌ {A = Pieces} (record { told = told; fault = fault; handed = parts_of os bs }) b.pieces → length os ≡ length bs → ts ≡ tags b.family.plan (awaited b.pieces.handed) → new-os ≡ [] →
       Takes (parts_of (origins ts) bs) (meanings ts) begins after → BecomesWork (resumed_work [] []) after.work rest →
@@ -305,20 +269,53 @@ taken-answered b w g k ready loads e d same h =
     subst (λ (x : FamilyView). IsAnswered (record b { family = x }) w) (sym d) there
 
 pub looked-same : (b : Body) (w : Work) (g : FamilyView) (ready : Bool) (loads : List ℕ) → g ≡ record b.family { ready = ready; loads = loads } → (t : TaskView) → view_of b w ≡ t → HasStopped b.family.loads g.loads →
-    (task_of (record b { family = g }) w ≡ t.task) × (g.children ≡ t.children) × HasStopped t.loads g.loads
+    (task_of (record b { family = g }) w ≡ t.task) × (g.children ≡ t.children) × HasStopped t.loads g.loads × (g.knows ≡ t.knows) × (cut_of w ≡ t.cut)
 looked-same b w g ready loads e t view stopped = (
   ap (λ (f : FamilyView). task_of (record b { family = f }) w) e ∙ ap (λ (v : TaskView). v.task) view,
   ap (λ (f : FamilyView). f.children) e ∙ ap (λ (v : TaskView). v.children) view,
   subst (λ (l : List ℕ). HasStopped l g.loads) (ap (λ (v : TaskView). v.loads) view) stopped,
+  ap (λ (f : FamilyView). f.knows) e ∙ ap (λ (v : TaskView). v.knows) view,
+  ap (λ (v : TaskView). v.cut) view,
 )
 
-pub went-on-is : (b : Body) (w : Work) (g k : FamilyView) (ready : Bool) (loads : List ℕ) → g ≡ record b.family { ready = ready; loads = loads } → k ≡ record g { taken = k.taken } →
-    (t next : TaskView) → view_of b w ≡ t → next ≡ view_on (view_of (record b { family = k }) w) → HasPassed b.family.loads g.loads →
-    (next.task ≡ went_on t) × (next.children ≡ t.children) × HasPassed t.loads next.loads
-went-on-is b w g k ready loads e d t next view is passed =
-    let same : k ≡ record b.family { ready = ready; loads = loads; taken = k.taken } = d ∙ ap (λ (f : FamilyView). record f { taken = k.taken }) e in
-    let read : next.loads ≡ g.loads = ap (λ (v : TaskView). v.loads) is ∙ ap (λ (f : FamilyView). f.loads) d in (
-      ap (λ (v : TaskView). v.task) is ∙ ap (λ (f : FamilyView). went_on (view_of (record b { family = f }) w)) same ∙ ap went_on view,
-      ap (λ (v : TaskView). v.children) is ∙ ap (λ (f : FamilyView). f.children) same ∙ ap (λ (v : TaskView). v.children) view,
-      subst (λ (l : List ℕ). HasPassed t.loads l) (sym read) (subst (λ (l : List ℕ). HasPassed l g.loads) (ap (λ (v : TaskView). v.loads) view) passed),
+-- with the numbers that the look has loaded
+taken-view : (b : Body) (w : Work) (g k : FamilyView) (ready : Bool) (loads : List ℕ) → g ≡ record b.family { ready = ready; loads = loads } → k ≡ record g { taken = k.taken } → (t : TaskView) → view_of b w ≡ t →
+    view_of (record b { family = k }) w ≡ record t { loads = g.loads }
+taken-view b w g k ready loads e d t view =
+    ap (λ (f : FamilyView). view_of (record b { family = f }) w) d
+    ∙ ap (λ (f : FamilyView). record (view_of (record b { family = record f { taken = k.taken } }) w) { loads = g.loads }) e
+    ∙ ap (λ (v : TaskView). record v { loads = g.loads }) view
+
+pub resumed-on : (b : Body) (w : Work) (g k : FamilyView) (ready : Bool) (loads : List ℕ) → g ≡ record b.family { ready = ready; loads = loads } → k ≡ record g { taken = k.taken } →
+    (t next : TaskView) → view_of b w ≡ t → t.cut ≡ None → (answers : List AnswerView) → AreAnswersOf k.plan b.pieces.handed answers → WentOn answers (view_of (record b { family = k }) w) next → HasPassed b.family.loads g.loads →
+    (xs : List AnswerView) × AreAnswersOf t.task.plan t.task.pieces.handed xs × resumes (any_cut xs) xs t next × HasPassed t.loads next.loads
+resumed-on b w g k ready loads e d t next view goes answers are on passed = (answers, answered, by_cut (any_cut answers) there)
+  where
+    plan : k.plan ≡ t.task.plan
+    plan = ap (λ (f : FamilyView). f.plan) d ∙ ap (λ (f : FamilyView). f.plan) e ∙ ap (λ (v : TaskView). v.task.plan) view
+
+    answered : AreAnswersOf t.task.plan t.task.pieces.handed answers
+    answered = subst (λ (v : TaskView). AreAnswersOf t.task.plan v.task.pieces.handed answers) view (subst (λ (p : PlanView). AreAnswersOf p b.pieces.handed answers) plan are)
+
+    there : went (any_cut answers) answers (record t { loads = g.loads }) next
+    there = subst (λ (v : TaskView). WentOn answers v next) (taken-view b w g k ready loads e d t view) on
+
+    read : next.loads ≡ g.loads → HasPassed t.loads next.loads
+    read same = subst (λ (l : List ℕ). HasPassed t.loads l) (sym same) (subst (λ (l : List ℕ). HasPassed l g.loads) (ap (λ (v : TaskView). v.loads) view) passed)
+
+    by_cut : (cut : Bool) → went cut answers (record t { loads = g.loads }) next → resumes cut answers t next × HasPassed t.loads next.loads
+    by_cut false h = (
+      (ap (λ (v : TaskView). v.task) h, ap (λ (v : TaskView). v.children) h, ap (λ (v : TaskView). v.knows) h, ap (λ (v : TaskView). v.cut) h ∙ goes),
+      read (ap (λ (v : TaskView). v.loads) h),
     )
+    by_cut true h = (record {
+      plan = h.0.plan;
+      origin = h.0.origin;
+      told = h.0.told;
+      handed = h.0.handed;
+      waits = h.0.waits;
+      advanced = h.0.advanced;
+      cut = h.0.cut;
+      children = h.0.children;
+      knows = h.0.knows;
+    }, read h.1)

@@ -1,6 +1,6 @@
 -- A task that takes its children's answers.
-use Rattle.std.specs.Prelude.{◌≡◌, ℕ, List, [], ◌∷◌, Result, Ok, Err, length}
-use Rattle.serial_meaning.specs.Answer.{AnswerTag}
+use Rattle.std.specs.Prelude.{◌≡◌, ℕ, Bool, true, false, ◌||◌, Option, Some, None, List, [], ◌∷◌, Result, Ok, Err, length}
+use Rattle.serial_meaning.specs.Answer.{AnswerTag, AnswerView, IsAnswer}
 use Rattle.serial_meaning.specs.Eval.{Evaluation, eval}
 use Rattle.serial_meaning.specs.Plan.{PlanView}
 use Rattle.serial_meaning.specs.declared.answer.Outcome.{Outcome}
@@ -8,11 +8,16 @@ use Rattle.serial_meaning.specs.declared.answer.Outcome.TheVariants as outcome
 use Rattle.serial_meaning.specs.declared.event.Fault.{Fault}
 use Rattle.serial_meaning.specs.declared.origin.Origin.{Origin}
 use Rattle.serial_meaning.specs.declared.value.Value.{Value}
+use Rattle.strand_meaning.specs.Answers.{answer_evaluations}
+use Rattle.strand_meaning.specs.Cuts.{IsByFaultOf, ended_after}
+use Rattle.strand_meaning.specs.Machine.{Place}
 use Rattle.strand_meaning.specs.Pieces.{Part, Pieces, heard_all}
 use Rattle.strand_meaning.specs.Sound.{IsTask}
 use Rattle.strand_meaning.specs.Task as meaning
-use Rattle.strand_meaning.specs.Task.{Splits, Runs, Over, takes_all, all_values}
-use Rattle.strand_machine.specs.Tasks.{stage_of, work_of, task_of, StandsAt, WorksAt}
+use Rattle.strand_meaning.specs.Task.{Splits, Runs, Over, takes, takes_all, more_values, all_values}
+use Rattle.strand_machine.specs.Family.{FamilyView}
+use Rattle.strand_machine.specs.Stops.{any_cut}
+use Rattle.strand_machine.specs.Tasks.{TaskView, stage_of, work_of, task_of, StandsAt, WorksAt}
 use Rattle.strand_machine.specs.declared.body.Body.{Body}
 use Rattle.strand_machine.specs.declared.going.Going.{Going}
 use Rattle.strand_machine.specs.declared.work.Stage.{Stage}
@@ -49,6 +54,55 @@ pub record Takes (parts : List Part) (answers : List Evaluation) (before after :
   pub pieces : pieces_of after ≡ heard_all parts answers (pieces_of before)
   pub values : after.values ≡ all_values parts answers before.values
   pub work : BecomesWork (with_stage (takes_all parts answers)) before.work after.work
+
+-- the first fault or cut among the answers so far
+abbrev pub end_of : Option Fault → Bool → Option Outcome
+end_of None by_cut = None
+end_of (Some f) false = Some (outcome.Fault f)
+end_of (Some f) true = Some (outcome.Cut f)
+
+abbrev pub ended_of : Going → Option Outcome
+ended_of g = end_of g.fault g.by_cut
+
+-- what an answer that was heard changes besides
+pub record Puts (at : Place) (ending : Result (List Value) Fault) (before after : Going) : Type 0 where
+  pub pieces : pieces_of after ≡ pieces_of before
+  pub ended : ended_of after ≡ ended_of before
+  pub cut : after.cut ≡ before.cut
+  pub values : after.values ≡ more_values at ending before.values
+  pub work : BecomesWork (with_stage (takes at ending)) before.work after.work
+
+-- these are answers
+abbrev pub AreSaid : List AnswerView → Type 0
+AreSaid [] = Unit {0}
+AreSaid (a ∷ answers) = IsAnswer a.plan a.origin a.out a.outcome × AreSaid answers
+
+-- A task took these answers of these children.
+pub record TakesAnswers (parts : List Part) (answers : List AnswerView) (before after : Going) : Type 0 where
+  pub takes : Takes parts (answer_evaluations answers) before after
+  pub ended : ended_of after ≡ ended_after (ended_of before) answers
+  pub cut : after.cut ≡ (before.cut || any_cut answers)
+  pub said : AreSaid answers
+
+-- How a task ends that took a cut.
+pub record EndsShort (family : FamilyView) (g : Going) : Type 0 where
+  pub outcome : Outcome
+  pub ended : ended_of g ≡ Some outcome
+  pub answers : IsAnswer family.plan family.origin g.told outcome
+  pub known : IsByFaultOf family.plan outcome
+
+-- what is left of it
+pub record IsShort (family : FamilyView) (g : Going) (was_advanced : Bool) (next : TaskView) : Type 0 where
+  pub plan : next.task.plan ≡ family.plan
+  pub origin : next.task.origin ≡ family.origin
+  pub told : next.task.pieces.told ≡ g.told
+  pub handed : next.task.pieces.handed ≡ []
+  pub waits : next.task.waiting ≡ false
+  pub advanced : next.task.advanced ≡ was_advanced
+  pub cut : next.cut ≡ ended_of g
+  pub children : next.children ≡ family.children
+  pub loads : next.loads ≡ family.loads
+  pub knows : next.knows ≡ family.knows
 
 -- what origins give by the serial meaning
 abbrev pub meanings : List AnswerTag → List Evaluation

@@ -2,6 +2,7 @@ pub mod Bodies
 pub mod Family
 pub mod Faults
 pub mod Going
+pub mod Loops
 pub mod Noted
 pub mod Parts
 pub mod Shown

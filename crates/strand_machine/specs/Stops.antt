@@ -1,16 +1,21 @@
 -- What a call on a task gives, by the meaning of tasks.
-use Rattle.std.specs.Prelude.{◌≡◌, ◌≤◌, List, [], ◌∷◌, ◌++◌}
+use Rattle.std.specs.Prelude.{◌≡◌, ◌≤◌, Bool, true, false, ◌||◌, List, [], ◌∷◌, ◌++◌, Option, Some, None}
 use Rattle.serial_meaning.specs.Answer.{AnswerView, AnswerTag, IsAnswer}
 use Rattle.serial_meaning.specs.Eval.{eval}
 use Rattle.serial_meaning.specs.Laws.{IsOriginOf}
 use Rattle.strand_meaning.specs.Laws.{IsFaultOf}
+use Rattle.strand_meaning.specs.Answers.{answer_evaluations}
+use Rattle.strand_meaning.specs.Cuts.{AreAnswersOf, IsByFaultOf, by_fault, ended_after}
 use Rattle.strand_meaning.specs.Left.{moves_left}
+use Rattle.strand_meaning.specs.Pieces.{heard_all}
 use Rattle.strand_meaning.specs.Rest.{evaluations}
 use Rattle.strand_meaning.specs.Task as meaning
 use Rattle.strand_meaning.specs.Task.{IsNext, on}
 use Rattle.strand_machine.specs.Family.{tag, HasPassed, HasStopped}
 use Rattle.serial_meaning.specs.declared.answer.Outcome.{Outcome}
-use Rattle.strand_machine.specs.Tasks.{TaskView, fresh, ended_by}
+use Rattle.serial_meaning.specs.declared.answer.Outcome.TheVariants as outcome
+use Rattle.serial_meaning.specs.declared.event.Event.{Event}
+use Rattle.strand_machine.specs.Tasks.{TaskView, fresh_with, ended_by}
 use Rattle.strand_machine.specs.declared.body.Body.{Body}
 use Rattle.strand_machine.specs.declared.stop.Stop.{Stop}
 use Rattle.strand_machine.specs.declared.stop.Stop.TheVariants as stop
@@ -28,16 +33,17 @@ abbrev pub step_of : Step → meaning.Step
 step_of (step.Passes next) = meaning.Passes next.task
 step_of (step.Stops stop) = meaning.Stops (stop_of stop)
 
--- A child is a fresh task of the plan, and its origin is the last of those that the rest handed out. An answer is the origin's, and so is
+-- A child is a fresh task of the plan, which knows of the loops on its path where the task does, and its origin is the last of those that the rest handed out. An answer is the origin's, and so is
 -- the give.
 abbrev pub Keeps : TaskView → Stop → Type 0
 Keeps t (stop.Spawn child rest) =
-    (child ≡ fresh t.task.plan child.task.origin) × (rest.children ≡ t.children ++ child.task.origin ∷ []) × (rest.loads ≡ t.loads)
-Keeps t (stop.Wait rest) = (rest.children ≡ t.children) × (rest.loads ≡ t.loads)
+    (child ≡ fresh_with t.knows t.task.plan child.task.origin) × (rest.children ≡ t.children ++ child.task.origin ∷ []) × (rest.loads ≡ t.loads)
+    × (rest.knows ≡ t.knows) × (rest.cut ≡ None)
+Keeps t (stop.Wait rest) = (rest.children ≡ t.children) × (rest.loads ≡ t.loads) × (rest.knows ≡ t.knows) × (rest.cut ≡ None)
 Keeps t (stop.Done answer give) = (answer.plan ≡ t.task.plan) × (answer.origin ≡ t.task.origin) × (give ≡ tag t.task.plan t.task.origin)
 
 abbrev pub KeepsStep : TaskView → Step → Type 0
-KeepsStep t (step.Passes next) = (next.children ≡ t.children) × (next.loads ≡ t.loads)
+KeepsStep t (step.Passes next) = (next.children ≡ t.children) × (next.loads ≡ t.loads) × (next.knows ≡ t.knows) × (next.cut ≡ None)
 KeepsStep t (step.Stops stop) = Keeps t stop
 
 -- The next move or stop of a task.
@@ -54,6 +60,8 @@ pub record LeadsTo (first now : TaskView) : Type 0 where
   pub origin : now.task.origin ≡ first.task.origin
   pub children : now.children ≡ first.children
   pub loads : now.loads ≡ first.loads
+  pub knows : now.knows ≡ first.knows
+  pub cut : now.cut ≡ None
 
 -- Moves of a task in a row, and the next move or stop behind them.
 pub record IsRun (t : TaskView) (s : Step) : Type 0 where
@@ -88,14 +96,59 @@ pub record IsStop (t : TaskView) (s : Stop) : Type 0 where
   pub keeps : Keeps t s
   pub known : IsKnownStop t s
 
+-- The end of a task that took a cut.
+pub record IsCutEnd (t : TaskView) (ended : Outcome) (s : Stop) : Type 0 where
+  pub is : s ≡ stop.Done (record { plan = t.task.plan; origin = t.task.origin; out = t.task.pieces.told; outcome = ended }) (tag t.task.plan t.task.origin)
+  pub known : IsByFaultOf t.task.plan ended
+
+abbrev pub advances : Option Outcome → TaskView → Stop → Type 0
+advances None t s = IsStop t s
+advances (Some ended) t s = IsCutEnd t ended s
+
+-- The next stop of a task that took no cut, and else its end.
+abbrev pub Advances : TaskView → Stop → Type 0
+Advances t s = advances t.cut t s
+
 -- The task with the answers of its children, which are their evaluations.
 abbrev pub went_on : TaskView → meaning.Task
 went_on t = on (evaluations (eval t.task.plan) t.task.pieces.handed) t.task
 
--- The wait is over; or the task is as it was, and a look has loaded a number that isn't 0.
+abbrev pub is_cut : Outcome → Bool
+is_cut (outcome.Value v) = false
+is_cut (outcome.Values vs) = false
+is_cut (outcome.Fault f) = false
+is_cut (outcome.Cut f) = true
+
+-- one of these answers is a cut
+abbrev pub any_cut : List AnswerView → Bool
+any_cut [] = false
+any_cut (a ∷ answers) = is_cut a.outcome || any_cut answers
+
+-- what a task told once it heard these answers
+abbrev pub told_with : List AnswerView → meaning.Task → List Event
+told_with answers t = (heard_all t.pieces.handed (answer_evaluations answers) (record t.pieces { handed = [] })).told
+
+-- A task that took these answers, of which one is a cut. It ends by the first fault or cut in the order of its pieces.
+pub record IsCutOn (answers : List AnswerView) (t next : TaskView) : Type 0 where
+  pub plan : next.task.plan ≡ t.task.plan
+  pub origin : next.task.origin ≡ t.task.origin
+  pub told : next.task.pieces.told ≡ told_with answers t.task
+  pub handed : next.task.pieces.handed ≡ []
+  pub waits : next.task.waiting ≡ false
+  pub advanced : next.task.advanced ≡ t.task.advanced
+  pub cut : next.cut ≡ ended_after (by_fault t.task.pieces.fault) answers
+  pub children : next.children ≡ t.children
+  pub knows : next.knows ≡ t.knows
+
+abbrev pub resumes : Bool → List AnswerView → TaskView → TaskView → Type 0
+resumes false answers t next = (next.task ≡ went_on t) × (next.children ≡ t.children) × (next.knows ≡ t.knows) × (next.cut ≡ None)
+resumes true answers t next = IsCutOn answers t next
+
+-- The wait is over, and the task took these answers of its children; or it is as it was, and a look has loaded a number that isn't 0.
 abbrev pub IsResumed : TaskView → Resumed → Type 0
-IsResumed t (resumed.On next) = (next.task ≡ went_on t) × (next.children ≡ t.children) × HasPassed t.loads next.loads
-IsResumed t (resumed.NotYet same) = (same.task ≡ t.task) × (same.children ≡ t.children) × HasStopped t.loads same.loads
+IsResumed t (resumed.On next) =
+    (answers : List AnswerView) × AreAnswersOf t.task.plan t.task.pieces.handed answers × resumes (any_cut answers) answers t next × HasPassed t.loads next.loads
+IsResumed t (resumed.NotYet same) = (same.task ≡ t.task) × (same.children ≡ t.children) × HasStopped t.loads same.loads × (same.knows ≡ t.knows) × (same.cut ≡ t.cut)
 
 abbrev pub answer_tags : List AnswerView → List AnswerTag
 answer_tags [] = []
@@ -104,6 +157,14 @@ answer_tags (answer ∷ answers) = tag answer.plan answer.origin ∷ answer_tags
 -- the task once it went on with its children's answers
 abbrev pub view_on : TaskView → TaskView
 view_on t = record t { task = went_on t }
+
+abbrev pub went : Bool → List AnswerView → TaskView → TaskView → Type 0
+went false answers t next = next ≡ view_on t
+went true answers t next = IsCutOn answers t next × (next.loads ≡ t.loads)
+
+-- the task once it went on with these answers of its children
+abbrev pub WentOn : List AnswerView → TaskView → TaskView → Type 0
+WentOn answers t next = went (any_cut answers) answers t next
 
 -- that a task may end so, and its end: by the fault among its pieces, or else so
 abbrev pub CanEnd : Body → Outcome → Type 0

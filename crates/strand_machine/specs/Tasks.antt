@@ -1,12 +1,16 @@
 -- A running task in the words of its meaning.
 use Rattle.std.specs.Prelude.{◌≡◌, ℕ, Bool, true, false, List, [], ◌++◌, Option, Some, None, Ok, Err, length, replicate}
+use Rattle.std.specs.Prelude.{pos}
+use Rattle.serial_meaning.specs.Answer.{IsAnswer}
 use Rattle.serial_meaning.specs.Eval.{path_of}
 use Rattle.serial_meaning.specs.Open.{Own, Joined}
 use Rattle.serial_meaning.specs.Plan.{PlanView}
 use Rattle.serial_meaning.specs.declared.event.Fault.{Fault}
+use Rattle.serial_meaning.specs.declared.value.Value.TheVariants.{Int}
 use Rattle.serial_meaning.specs.declared.origin.Origin.{Origin}
 use Rattle.serial_meaning.specs.declared.answer.Outcome.{Outcome}
 use Rattle.serial_meaning.specs.declared.answer.Outcome.TheVariants as outcome
+use Rattle.strand_meaning.specs.Cuts.{IsByFaultOf}
 use Rattle.strand_meaning.specs.Pieces.{Part, hand}
 use Rattle.strand_meaning.specs.Task as meaning
 use Rattle.strand_meaning.specs.Task.{Task, start, own_instance}
@@ -15,6 +19,7 @@ use Rattle.strand_moves.specs.Machines as moves
 use Rattle.strand_moves.specs.Moves.{IsTrailOf}
 use Rattle.strand_moves.specs.declared.instance.Instance.{Instance}
 use Rattle.strand_machine.specs.Family.{FamilyView, handed}
+use Rattle.strand_machine.specs.Loops.{is_root}
 use Rattle.strand_machine.specs.Parts.{awaited, place_of}
 use Rattle.strand_machine.specs.declared.body.Body.{Body}
 use Rattle.strand_machine.specs.declared.place.Place.{Place}
@@ -24,14 +29,22 @@ use Rattle.strand_machine.specs.declared.work.Work.{Work}
 use Rattle.strand_machine.specs.declared.work.Work.TheVariants as work
 
 -- A task as contracts see it: what it is by its meaning, the origins of all children that it handed out, in order, and the numbers that
--- looks at their join have loaded.
+-- looks at their join have loaded; whether it knows of the loops on its path; and of a task that took a cut for an answer, how it ends. Such
+-- a task isn't finished: of its meaning its plan and origin count, and what it told.
 pub record TaskView : Type 0 where
   pub task : Task
   pub children : List Origin
   pub loads : List ℕ
+  pub knows : Bool
+  pub cut : Option Outcome
 
+-- a task of which nothing is done, which knows or doesn't
+abbrev pub fresh_with : Bool → PlanView → Origin → TaskView
+fresh_with knows plan o = record { task = start plan o; children = []; loads = []; knows = knows; cut = None }
+
+-- one that nobody handed out
 abbrev pub fresh : PlanView → Origin → TaskView
-fresh plan o = record { task = start plan o; children = []; loads = [] }
+fresh plan o = fresh_with (is_root o) plan o
 
 abbrev pub stage_of : PlanView → Stage → meaning.Stage
 stage_of plan (stage.Goes i) = meaning.Goes (moves.machine_of plan i)
@@ -45,6 +58,17 @@ abbrev pub work_of : PlanView → Work → meaning.Work
 work_of plan (work.Splits left) = meaning.Splits left.range
 work_of plan (work.Runs s) = meaning.Runs (stage_of plan s)
 work_of plan (work.Over v gone_on) = meaning.Over v gone_on
+work_of plan (work.Cut o) = meaning.Over (Int (pos 0)) true
+
+abbrev pub cut_of : Work → Option Outcome
+cut_of (work.Splits left) = None
+cut_of (work.Runs s) = None
+cut_of (work.Over v gone_on) = None
+cut_of (work.Cut o) = Some o
+
+abbrev pub is_cut_short : Option Outcome → Bool
+is_cut_short None = false
+is_cut_short (Some ended) = true
 
 abbrev pub task_with : Body → meaning.Work → Task
 task_with b w = record {
@@ -61,7 +85,7 @@ abbrev pub task_of : Body → Work → Task
 task_of b w = task_with b (work_of b.family.plan w)
 
 abbrev pub view_of : Body → Work → TaskView
-view_of b w = record { task = task_of b w; children = b.family.children; loads = b.family.loads }
+view_of b w = record { task = task_of b w; children = b.family.children; loads = b.family.loads; knows = b.family.knows; cut = cut_of w }
 
 -- The join's last tags are those of the children whose answers aren't taken.
 pub record AwaitsLast (family : FamilyView) (parts : List Part) : Type 0 where
@@ -89,12 +113,26 @@ abbrev pub WorksAt : PlanView → Origin → Work → Type 0
 WorksAt plan o (work.Splits left) = IsTrailOf plan o left.trail
 WorksAt plan o (work.Runs s) = StandsAt plan (path_of (own_instance o)) s
 WorksAt plan o (work.Over v gone_on) = Unit {0}
+WorksAt plan o (work.Cut ended) = ⊥
 
--- What holds of a task at all times.
+-- What holds of a task that took no cut.
 pub record IsSound (b : Body) (w : Work) : Type 0 where
   pub task : IsTask (task_of b w)
   pub family : AwaitsLast b.family b.pieces.handed
   pub works : WorksAt b.family.plan b.family.origin w
+
+-- What holds of a task that took a cut: it ends so.
+pub record IsCutShort (b : Body) (ended : Outcome) : Type 0 where
+  pub answers : IsAnswer b.family.plan b.family.origin b.pieces.told ended
+  pub known : IsByFaultOf b.family.plan ended
+  pub waits : b.waiting ≡ false
+
+-- What holds of a task at all times.
+abbrev pub Holds : Body → Work → Type 0
+Holds b (work.Splits left) = IsSound b (work.Splits left)
+Holds b (work.Runs s) = IsSound b (work.Runs s)
+Holds b (work.Over v gone_on) = IsSound b (work.Over v gone_on)
+Holds b (work.Cut ended) = IsCutShort b ended
 
 -- after a step; where it waits; where it handed out a child
 abbrev pub gone : Body → Body

@@ -1,22 +1,50 @@
-ghost use Rattle.std.specs.Prelude.{IfOk};
+ghost use Rattle.std.specs.Prelude.{◌≡◌, ◌<◌, [], IfOk, IsTrue, ◌↔◌, true};
 
+use crate::body::Body;
 use crate::memory::Memory;
 use crate::step::step;
 use crate::stop::{Step, Stop};
 use crate::task::Task;
+use crate::work::Work;
 use std::alloc::Global;
 use strand_meaning::laws;
 
 impl Task {
-    ghost use Rattle.strand_machine.specs.Stops.{IsStop};
+    ghost use Rattle.strand_machine.specs.Stops.{Advances};
+    ghost use Rattle.strand_machine.specs.Tasks.{is_cut_short};
 
-    /// Runs to the next stop: a child that is handed out, a wait, or the end. A task that waits stops at its wait again. On `Memory` it
-    /// is dropped.
+    /// Whether it took an answer that is a cut, so that it ends by its next advance.
+    fn is_cut_short(&self) -> bool
+        ensures { result ≡ is_cut_short self.now.cut }
+    {
+        matches!(self.work, Work::Cut(_))
+    }
+
+    /// The end of a task that took an answer that is a cut.
+    fn end_short(self) -> Stop
+        requires { is_cut_short self.cut ≡ true }
+        ensures { Advances self result }
+    {
+        let Task { body, work } = self;
+        let Work::Cut(ended) = work else {
+            unreachable!()
+        };
+        let Body { family, pieces, .. } = body;
+        let (told, _) = pieces.told();
+        let (answer, give) = family.answer(told, ended);
+        Stop::Done { answer, give }
+    }
+
+    /// Runs to the next stop: a child that is handed out, a wait, or the end. A task that waits stops at its wait again. One that took an
+    /// answer that is a cut ends by the first fault or cut in the order of its pieces. On `Memory` it is dropped.
     pub fn advance(self, alloc: Global) -> Result<Stop, Memory>
-        ensures { IfOk result (IsStop self) }
+        ensures { IfOk result (Advances self) }
     {
         laws::moves_fall();
         laws::stops_are_sound();
+        if self.is_cut_short() {
+            return Ok(self.end_short());
+        }
         let _work = &self.work;
         let mut task = self;
         loop {

@@ -3,18 +3,20 @@ ghost use Rattle.std.specs.Arc.{arc_value};
 ghost use Rattle.serial_meaning.specs.Answer.{IsAnswer};
 ghost use Rattle.strand_machine.specs.Family.{tag, handed, Looked};
 
+use crate::loops::Loops;
 use crate::memory::Memory;
 use meet_block::{Give, Join, Look};
-use serial_meaning::{Answer, AnswerKey, Origin, Out, Outcome, Plan};
+use serial_meaning::{Answer, AnswerKey, Fault, Origin, Out, Outcome, Plan};
 use std::alloc::Global;
 use std::marker::Model;
 use std::sync::Arc;
 
-/// What ties a task to others: its plan and origin, the give by which it answers its parent, and the join of its children.
+/// What ties a task to others: its plan and origin, what is known of the loops on the origin's path, the give by which it answers its parent, and the join of its children.
 #[derive(Drop)]
 pub(crate) struct Family {
     plan: Arc<Plan>,
     origin: Origin,
+    loops: Loops,
     give: Give<Answer>,
     join: Join<Answer>,
 }
@@ -25,6 +27,7 @@ impl Model for Family {
     ghost use Rattle.std.specs.Coded.{codes};
     ghost use Rattle.serial_meaning.specs.contracts.plan.Plan as plan_type;
     ghost use Rattle.strand_machine.specs.Family.{FamilyView, tag, tags, origins};
+    ghost use Rattle.strand_machine.specs.Loops.{IsLoops, knows_of};
 
     ghost Value = { FamilyView };
 
@@ -33,6 +36,7 @@ impl Model for Family {
     ghost view = { λ f. record {
       plan = arc_value f.plan;
       origin = f.origin;
+      knows = knows_of f.loops;
       children = origins f.join.tags;
       taken = f.join.taken;
       ready = f.join.ready;
@@ -40,25 +44,32 @@ impl Model for Family {
     } };
 
     ghost invariant = { λ f. (f.give ≡ tag (arc_value f.plan) f.origin)
-        × (f.join.tags ≡ tags (arc_value f.plan) (origins f.join.tags)) };
+        × (f.join.tags ≡ tags (arc_value f.plan) (origins f.join.tags))
+        × IsLoops (arc_value f.plan) f.origin f.loops };
 }
 
 impl Family {
+    ghost use Rattle.std.specs.Prelude.{◌↔◌, IsTrue};
+    ghost use Rattle.serial_meaning.specs.Laws.{IsOriginOf};
     ghost use Rattle.strand_machine.specs.Family.{FamilyView, alone};
+    ghost use Rattle.strand_machine.specs.Loops.{IsBelow, IsLoops, StandsBefore, knows_of};
 
     /// A task's family before it has children.
     pub fn new(
         alloc: Global,
         plan: Arc<Plan>,
         origin: Origin,
+        loops: Loops,
         give: Give<Answer>,
     ) -> Result<Family, Memory>
-        requires { give ≡ tag (arc_value plan) origin }
-        ensures { IfOk result (λ family. family ≡ alone (arc_value plan) origin) }
+        requires give { give ≡ tag (arc_value plan) origin }
+        requires loops { IsLoops (arc_value plan) origin loops }
+        ensures { IfOk result (λ family. family ≡ alone (arc_value plan) origin (knows_of loops)) }
     {
         Ok(Family {
             plan,
             origin,
+            loops,
             give,
             join: Join::new(alloc)?,
         })
@@ -70,10 +81,34 @@ impl Family {
         &self.plan
     }
 
+    pub fn shared_plan(&self) -> &Arc<Plan>
+        ensures { arc_value result.now ≡ self.now.plan }
+    {
+        &self.plan
+    }
+
     pub fn share_plan(&self) -> Result<Arc<Plan>, Memory>
         ensures { IfOk result (λ plan. arc_value plan ≡ self.now.plan) }
     {
         Ok(Arc::try_clone(&self.plan)?)
+    }
+
+    /// What a child knows of the loops on its path.
+    pub fn loops_below(&self, child: &Origin) -> Loops
+        requires own { IsOriginOf self.now.plan self.now.origin }
+        requires known { IsOriginOf self.now.plan child.now }
+        requires below { IsBelow self.now.origin child.now }
+        ensures are { IsLoops self.now.plan child.now result }
+        ensures knows { knows_of result ≡ self.now.knows }
+    {
+        self.loops.below(child)
+    }
+
+    /// Whether it is known that the fault stands before the origin's path, and before the path of each loop on it.
+    pub fn stands_behind(&self, by: &Fault) -> bool
+        ensures { IsTrue result ↔ (IsTrue self.now.knows × StandsBefore self.now.plan self.now.origin by.now) }
+    {
+        self.loops.stand_behind(&self.origin, by)
     }
 
     pub fn origin(&self) -> &Origin

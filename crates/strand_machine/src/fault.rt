@@ -1,9 +1,9 @@
 // How a task ends by the fault of a child.
-ghost use Rattle.std.specs.Prelude.{◌≡◌, ◌∷◌, ◌++◌, [], true, IfOk};
+ghost use Rattle.std.specs.Prelude.{◌≡◌, ◌∷◌, ◌++◌, [], true, false, None, IfOk};
 ghost use Rattle.strand_machine.specs.Family.{tag, tags};
 ghost use Rattle.strand_machine.specs.Faults.{is_fault, EndsByFault};
 ghost use Rattle.strand_machine.specs.Parts.{awaited};
-ghost use Rattle.strand_machine.specs.Stops.{answer_tags};
+ghost use Rattle.strand_machine.specs.Stops.{answer_tags, any_cut};
 
 use crate::body::Body;
 use crate::memory::Memory;
@@ -24,7 +24,7 @@ pub fn is_fault(answer: &Answer) -> bool
 impl Task {
     /// Ends by the answers of the children that it awaits, in order, of which the last one, `last`, is a fault. Nothing that stands
     /// behind a fault counts, so what the task would do next isn't done: its answer is what it told and its children's answers, up to
-    /// the first fault. On `Memory` the task and the answers are dropped.
+    /// the first fault. None of them may be a cut. On `Memory` the task and the answers are dropped.
     pub fn end_by(
         self,
         alloc: Global,
@@ -33,6 +33,8 @@ impl Task {
     ) -> Result<(Answer, Give<Answer>), Memory>
         requires tags { answer_tags answers ++ tag last.plan last.origin ∷ [] ≡ tags self.task.plan (awaited self.task.pieces.handed) }
         requires fault { is_fault last.outcome ≡ true }
+        requires whole { any_cut answers ≡ false }
+        requires goes_on { self.cut ≡ None }
         ensures { IfOk result (λ ended. EndsByFault self ended.0 ended.1) }
     {
         let _outcome = &last.outcome;

@@ -1,13 +1,15 @@
 // What the answers of children change.
-ghost use Rattle.std.specs.Prelude.{◌≡◌, ◌∷◌, ◌++◌, [], Ok, IfOk, OnOk};
-ghost use Rattle.serial_meaning.specs.Eval.{eval, first_of};
+ghost use Rattle.std.specs.Prelude.{◌≡◌, ◌∷◌, ◌++◌, ◌||◌, [], Ok, IfOk, OnOk};
+ghost use Rattle.serial_meaning.specs.Eval.{first_of};
 ghost use Rattle.serial_meaning.specs.Plan.{PlanView};
+ghost use Rattle.strand_meaning.specs.Cuts.{or_ends};
 ghost use Rattle.strand_meaning.specs.Machine.{Spawned, Looped, Half};
 ghost use Rattle.strand_meaning.specs.Pieces.{Part, heard};
 ghost use Rattle.strand_meaning.specs.Task.{takes, changed, answered, more_values};
 ghost use Rattle.strand_moves.specs.Machines.{IsInstance, machine_of, path_of};
-ghost use Rattle.strand_machine.specs.Going.{BecomesStage, BecomesWork, Takes, ending_of, pieces_of, with_stage};
+ghost use Rattle.strand_machine.specs.Going.{BecomesStage, BecomesWork, Puts, TakesAnswers, ended_of, ending_of, pieces_of, with_stage};
 ghost use Rattle.strand_machine.specs.Parts.{place_of, part_of};
+ghost use Rattle.strand_machine.specs.Stops.{is_cut};
 
 use crate::memory::Memory;
 use crate::pieces::Behind;
@@ -16,7 +18,6 @@ use crate::work::{Stage, Work};
 use script_grammar::{Items, Name};
 use serial_meaning::{Answer, Fault, Out, Outcome, Value};
 use std::alloc::Global;
-use strand_meaning::laws;
 use strand_moves::Instance;
 
 /// A task that takes its children's answers.
@@ -26,6 +27,16 @@ pub(crate) struct Going {
     pub fault: Option<Fault>,
     pub values: Items<Value>,
     pub work: Work,
+    /// Whether one of the answers is a cut.
+    pub cut: bool,
+    /// Whether the fault is one by which a child was cut.
+    pub by_cut: bool,
+}
+
+fn is_cut(outcome: &Outcome) -> bool
+    ensures { result ≡ is_cut outcome.now }
+{
+    matches!(outcome, Outcome::Cut { .. })
 }
 
 /// The values of a loop's answer, or its fault.
@@ -163,16 +174,20 @@ fn taken(work: &mut Work, alloc: Global, place: Place, outcome: Outcome) -> Resu
         }
         Work::Splits(_) => Ok(()),
         Work::Over(_, _) => Ok(()),
+        Work::Cut(_) => Ok(()),
     }
 }
 
 impl Going {
-    /// The events of an answer, and where it is no fault then those behind the child.
+    /// The events of an answer, and where it is neither a fault nor a cut then those behind the child.
     fn hear(&mut self, events: Out, behind: Out, outcome: &Outcome) -> Result<(), Memory>
         ensures pieces { OnOk result ((p : Part) → p.behind ≡ behind
             → pieces_of self.new ≡ heard p (record { items = events; ending = ending_of outcome.now }) (pieces_of self.old)) }
+        ensures ended { OnOk result (ended_of self.new ≡ or_ends (ended_of self.old) outcome.now) }
+        ensures cut { OnOk result (self.new.cut ≡ (self.old.cut || is_cut outcome.now)) }
         ensures rest { OnOk result ((self.new.values ≡ self.old.values) × (self.new.work ≡ self.old.work)) }
     {
+        self.cut |= is_cut(outcome);
         if self.fault.is_some() {
             return Ok(());
         }
@@ -180,8 +195,14 @@ impl Going {
         match outcome {
             Outcome::Value(_) => self.told.append(behind)?,
             Outcome::Values(_) => self.told.append(behind)?,
-            Outcome::Fault(fault) => self.fault = Some(fault.share()?),
-            Outcome::Cut { by } => self.fault = Some(by.share()?),
+            Outcome::Fault(fault) => {
+                self.fault = Some(fault.share()?);
+                self.by_cut = false;
+            }
+            Outcome::Cut { by } => {
+                self.fault = Some(by.share()?);
+                self.by_cut = true;
+            }
         }
         Ok(())
     }
@@ -207,17 +228,23 @@ impl Going {
         }
     }
 
-    /// A child's answer.
-    pub fn take(&mut self, alloc: Global, behind: Behind, answer: Answer) -> Result<(), Memory>
-        ensures { OnOk result (Takes (part_of answer.origin behind ∷ []) (eval answer.plan answer.origin ∷ []) self.old self.new) }
+    /// What an answer that was heard changes of the values, or of what remains.
+    fn put(&mut self, alloc: Global, place: Place, outcome: Outcome) -> Result<(), Memory>
+        ensures { OnOk result (Puts (place_of place) (ending_of outcome) self.old self.new) }
     {
-        laws::answers_are_evaluations();
-        let Answer { out, outcome, .. } = answer;
-        let Behind { place, events } = behind;
-        self.hear(out, events, &outcome)?;
         if let Place::Half = place {
             return self.add(outcome);
         }
         taken(&mut self.work, alloc, place, outcome)
+    }
+
+    /// A child's answer.
+    pub fn take(&mut self, alloc: Global, behind: Behind, answer: Answer) -> Result<(), Memory>
+        ensures { OnOk result (TakesAnswers (part_of answer.origin behind ∷ []) (answer ∷ []) self.old self.new) }
+    {
+        let Answer { out, outcome, .. } = answer;
+        let Behind { place, events } = behind;
+        self.hear(out, events, &outcome)?;
+        self.put(alloc, place, outcome)
     }
 }

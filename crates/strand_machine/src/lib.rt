@@ -8,6 +8,7 @@ mod body;
 mod family;
 mod fault;
 mod going;
+mod loops;
 mod memory;
 mod note;
 mod origin;

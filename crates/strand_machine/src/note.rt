@@ -11,13 +11,14 @@ ghost use Rattle.strand_machine.specs.declared.work.Work.TheVariants as work;
 
 use crate::body::Body;
 use crate::memory::Memory;
+use crate::origin::path;
 use crate::run::show;
 use crate::step::{pass, run, step};
 use crate::stop::{Step, Stop};
 use crate::task::Task;
 use crate::work::{Stage, Work};
-use ped_path::{Ped, Pedigree};
-use serial_meaning::{Event, Fault, Origin, Out};
+use ped_path::Pedigree;
+use serial_meaning::{Event, Fault, Out};
 use std::alloc::Global;
 use strand_meaning::laws;
 use strand_moves::{Instance, Moved, Shown};
@@ -72,16 +73,6 @@ fn share_event(event: &Event) -> Result<Event, Memory>
         Event::Sync(at) => Event::Sync(at.share()?),
         Event::Loop(at) => Event::Loop(at.share()?),
     })
-}
-
-/// The path of an origin.
-fn path(origin: &Origin) -> &Ped
-    ensures { result.now ≡ path_of origin.now }
-{
-    match origin {
-        Origin::Instance { path, .. } => path,
-        Origin::Loop { path, .. } => path,
-    }
 }
 
 /// The rank of the task's own strand, if it has one.
@@ -203,6 +194,7 @@ fn run_noted(
 
 /// A move of the task, or its stop, which is noted.
 fn step_noted(task: Task, alloc: Global, at: &Pedigree, notes: &mut Notes) -> Result<Step, Memory>
+    requires { task.cut ≡ None }
     ensures step { IfOk result (IsStep task) }
     ensures notes { OnOk result (notes.new ≡ with_step at.now (step_notes task.task) notes.old) }
 {
@@ -220,7 +212,8 @@ impl Task {
     /// Runs to the next stop as `advance` does, and notes what the task itself does on its way in the strand of this pedigree. On
     /// `Memory` it is dropped.
     pub fn advance_noted(self, alloc: Global, at: &Pedigree) -> Result<Noted, Memory>
-        requires { IsInstance self.task.origin }
+        requires instance { IsInstance self.task.origin }
+        requires goes_on { self.cut ≡ None }
         ensures { IfOk result (IsNoted self at.now) }
     {
         laws::moves_fall();

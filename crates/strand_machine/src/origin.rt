@@ -1,5 +1,6 @@
 // Origins: copies of them, their trails, and the iterations of loops.
 ghost use Rattle.std.specs.Prelude.{◌≡◌, IfOk};
+ghost use Rattle.serial_meaning.specs.Eval.{path_of};
 ghost use Rattle.serial_meaning.specs.Laws.{IsOriginOf};
 ghost use Rattle.strand_moves.specs.Moves.{IsTrailOf};
 ghost use Rattle.strand_machine.specs.Bodies.{only};
@@ -7,6 +8,7 @@ ghost use Rattle.strand_machine.specs.Bodies.{only};
 use crate::memory::Memory;
 use dotmix::Trail;
 use loop_range::IterRange;
+use ped_path::Ped;
 use script_grammar::Items;
 use serial_meaning::{Origin, Plan, Value};
 use std::alloc::Global;
@@ -51,6 +53,16 @@ pub fn share_origin(alloc: Global, origin: &Origin) -> Result<Origin, Memory>
             range: *range,
         },
     })
+}
+
+/// The path of an origin.
+pub(crate) fn path(origin: &Origin) -> &Ped
+    ensures { result.now ≡ path_of origin.now }
+{
+    match origin {
+        Origin::Instance { path, .. } => path,
+        Origin::Loop { path, .. } => path,
+    }
 }
 
 /// The trail of an origin's path. It adds up the path's terms.

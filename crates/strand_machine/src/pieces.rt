@@ -1,4 +1,4 @@
-ghost use Rattle.std.specs.Prelude.{◌≡◌, ◌∷◌, ◌++◌, [], IfOk, OnOk, IsTrue, ◌↔◌};
+ghost use Rattle.std.specs.Prelude.{◌≡◌, ◌∷◌, ◌++◌, [], None, IfOk, OnOk, IsTrue, ◌↔◌};
 ghost use Rattle.strand_meaning.specs.Pieces.{tell, hand, no_pieces};
 
 use crate::memory::Memory;
@@ -46,6 +46,18 @@ impl Pieces {
     {
         Pieces {
             told: Out::new(),
+            fault: None,
+            awaited: Items(Vec::new(alloc)),
+            behind: Vec::new(alloc),
+        }
+    }
+
+    /// These events alone.
+    pub fn of(alloc: Global, told: Out) -> Pieces
+        ensures { result ≡ record { told = told; fault = None; handed = [] } }
+    {
+        Pieces {
+            told,
             fault: None,
             awaited: Items(Vec::new(alloc)),
             behind: Vec::new(alloc),

@@ -3,9 +3,10 @@ ghost use Rattle.std.specs.Prelude.{◌≡◌, ◌-◌, List, [], true, length, 
 ghost use Rattle.serial_meaning.specs.Plan.{PlanView};
 ghost use Rattle.strand_meaning.specs.Task.{resumed, resumed_work};
 ghost use Rattle.strand_machine.specs.Family.{tags, origins, AwaitsCount};
-ghost use Rattle.strand_machine.specs.Going.{BecomesStage, BecomesWork, IsAnswered, Takes, meanings};
+ghost use Rattle.strand_machine.specs.Going.{BecomesStage, BecomesWork, EndsShort, IsAnswered, IsShort, TakesAnswers, end_of};
 ghost use Rattle.strand_machine.specs.Parts.{awaited, parts_of};
-ghost use Rattle.strand_machine.specs.Stops.{answer_tags, view_on};
+ghost use Rattle.strand_meaning.specs.Cuts.{AreAnswersOf};
+ghost use Rattle.strand_machine.specs.Stops.{WentOn, answer_tags};
 ghost use Rattle.strand_machine.specs.Tasks.{view_of};
 ghost use Rattle.strand_machine.specs.declared.work.Stage.TheVariants as stage;
 
@@ -19,7 +20,7 @@ use crate::task::Task;
 use crate::work::{Stage, Work};
 use meet_block::Look;
 use script_grammar::Items;
-use serial_meaning::Answer;
+use serial_meaning::{Answer, Fault, Outcome};
 use std::alloc::Global;
 use strand_meaning::laws;
 use strand_moves::Instance;
@@ -76,6 +77,7 @@ fn go_on_work(work: Work) -> Result<Work, Memory>
             Ok(Work::Runs(stage))
         }
         Work::Over(value, _) => Ok(Work::Over(value, true)),
+        Work::Cut(ended) => Ok(Work::Cut(ended)),
     }
 }
 
@@ -87,7 +89,7 @@ fn take_all(
     answers: Items<Answer>,
 ) -> Result<(), Memory>
     requires { length answers ≡ length behind.items }
-    ensures { let told = answer_tags answers in OnOk result (Takes (parts_of (origins told) behind.items) (meanings told) going.old going.new) }
+    ensures { let told = answer_tags answers in OnOk result (TakesAnswers (parts_of (origins told) behind.items) answers going.old going.new) }
 {
     let mut answers = answers.0.into_iter();
     for part in behind {
@@ -99,6 +101,44 @@ fn take_all(
     Ok(())
 }
 
+/// What a task ends by that took a cut.
+fn end_of(fault: Option<Fault>, by_cut: bool) -> Option<Outcome>
+    ensures { result ≡ end_of fault by_cut }
+{
+    match fault {
+        Some(by) if by_cut => Some(Outcome::Cut { by }),
+        Some(fault) => Some(Outcome::Fault(fault)),
+        None => None,
+    }
+}
+
+/// What is left of a task that took a cut: it ends by the first fault or cut.
+fn cut_short(family: Family, alloc: Global, going: Going, advanced: bool) -> Task
+    requires { EndsShort family going }
+    ensures { IsShort family going advanced result }
+{
+    let Going {
+        told,
+        fault,
+        by_cut,
+        ..
+    } = going;
+    let Some(outcome) = end_of(fault, by_cut) else {
+        unreachable!()
+    };
+    let body = Body {
+        family,
+        pieces: Pieces::of(alloc, told),
+        values: Items(Vec::new(alloc)),
+        waiting: false,
+        advanced,
+    };
+    Task {
+        body,
+        work: Work::Cut(outcome),
+    }
+}
+
 /// The task with its children's answers.
 pub(crate) fn go_on(
     body: Body,
@@ -108,9 +148,12 @@ pub(crate) fn go_on(
 ) -> Result<Task, Memory>
     requires sound { IsAnswered body work }
     requires tags { answer_tags answers ≡ tags body.family.plan (awaited body.pieces.handed) }
-    ensures { IfOk result (λ task. task ≡ view_on (view_of body work)) }
+    ensures went { IfOk result (WentOn answers (view_of body work)) }
+    ensures answers { IfOk result (λ _. AreAnswersOf body.family.plan body.pieces.handed answers) }
 {
     laws::answers_keep_tasks();
+    laws::answers_are_evaluations();
+    laws::answers_end();
     let Body {
         family,
         pieces,
@@ -129,13 +172,19 @@ pub(crate) fn go_on(
         fault,
         values,
         work,
+        cut: false,
+        by_cut: false,
     };
     take_all(&mut going, alloc, behind, answers)?;
+    if going.cut {
+        return Ok(cut_short(family, alloc, going, advanced));
+    }
     let Going {
         told,
         fault,
         values,
         work,
+        ..
     } = going;
     let pieces = Pieces {
         told,
@@ -159,7 +208,8 @@ pub(crate) fn go_on(
 impl Task {
     ghost use Rattle.strand_machine.specs.Stops.{IsResumed};
 
-    /// Goes on from a wait, where a look finds that all children have answered. On `Memory` the task is dropped.
+    /// Goes on from a wait, where a look finds that all children have answered. Where one of the answers is a cut, the task ends by its next
+    /// advance. On `Memory` the task is dropped.
     pub fn resume(self, alloc: Global) -> Result<Resumed, Memory>
         requires { self.task.waiting ≡ true }
         ensures { IfOk result (IsResumed self) }
@@ -175,12 +225,12 @@ impl Task {
         }
     }
 
-    /// Goes on from a wait with these answers, those of the children that it awaits, in order. On `Memory` the task and the answers are
-    /// dropped.
+    /// Goes on from a wait with these answers, those of the children that it awaits, in order. Where one of them is a cut, the task ends by
+    /// its next advance. On `Memory` the task and the answers are dropped.
     pub fn resume_with(self, alloc: Global, answers: Items<Answer>) -> Result<Task, Memory>
         requires waits { self.task.waiting ≡ true }
         requires tags { answer_tags answers ≡ tags self.task.plan (awaited self.task.pieces.handed) }
-        ensures { IfOk result (λ task. task ≡ view_on self) }
+        ensures { IfOk result (WentOn answers self) }
     {
         let Task { body, work } = self;
         go_on(body, alloc, work, answers)

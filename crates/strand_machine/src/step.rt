@@ -1,11 +1,12 @@
 // Moves of a task, or its stop.
-ghost use Rattle.std.specs.Prelude.{◌≡◌, ◌++◌, ◌∷◌, [], IfOk, OnOk};
+ghost use Rattle.std.specs.Prelude.{◌≡◌, ◌++◌, ◌∷◌, [], None, IfOk, OnOk};
 ghost use Rattle.serial_meaning.specs.Laws.{IsOriginOf};
 ghost use Rattle.serial_meaning.specs.declared.answer.Outcome.TheVariants as outcome;
 ghost use Rattle.strand_moves.specs.Moves.{IsTrailOf};
 ghost use Rattle.strand_machine.specs.Family.{handed};
+ghost use Rattle.strand_machine.specs.Loops.{IsBelow};
 ghost use Rattle.strand_machine.specs.Stops.{IsStep, GoesOn, CanEnd, ended};
-ghost use Rattle.strand_machine.specs.Tasks.{IsSound, view_of, fresh, gone, waiting, with_child};
+ghost use Rattle.strand_machine.specs.Tasks.{IsSound, view_of, fresh_with, gone, waiting, with_child};
 ghost use Rattle.strand_machine.specs.declared.work.Stage.TheVariants as stage;
 ghost use Rattle.strand_machine.specs.declared.work.Work.TheVariants as work;
 
@@ -25,6 +26,7 @@ use strand_meaning::laws;
 use strand_moves::Child;
 
 /// The task goes on with this.
+#[tactic(auto, using(crate::proofs::Advancing::sound_holds))]
 pub(crate) fn pass(mut body: Body, work: Work) -> Step
     requires { IsSound (gone body) work }
     ensures { result ≡ Step.Passes (view_of (gone body) work) }
@@ -34,6 +36,7 @@ pub(crate) fn pass(mut body: Body, work: Work) -> Step
 }
 
 /// The task waits, and this remains.
+#[tactic(auto, using(crate::proofs::Advancing::sound_holds))]
 pub(crate) fn wait(mut body: Body, work: Work) -> Step
     requires { IsSound (waiting body) work }
     ensures { result ≡ Step.Stops (Stop.Wait (view_of (waiting body) work)) }
@@ -62,24 +65,29 @@ fn end(body: Body, outcome: Outcome) -> Step
 
 /// Begins a child, and counts it among the family's. The key by which it is handed out is made of its own plan and origin.
 fn begin_child(family: &mut Family, alloc: Global, child: Child) -> Result<Task, Memory>
+    requires own { IsOriginOf family.old.plan family.old.origin }
     requires known { IsOriginOf family.old.plan child.origin }
     requires trail { IsTrailOf family.old.plan child.origin child.trail }
-    ensures child { IfOk result (λ task. task ≡ fresh family.old.plan child.origin) }
+    requires below { IsBelow family.old.origin child.origin }
+    ensures child { IfOk result (λ task. task ≡ fresh_with family.old.knows family.old.plan child.origin) }
     ensures family { OnOk result (family.new ≡ handed family.old child.origin) }
 {
     let Child { origin, trail } = child;
+    let loops = family.loops_below(&origin);
     let plan = family.share_plan()?;
     let key = AnswerKey { plan, origin };
     let give = family.hand(alloc, &key)?;
     let AnswerKey { plan, origin } = key;
-    Task::begin(alloc, plan, Child { origin, trail }, give)
+    Task::begin(alloc, plan, Child { origin, trail }, loops, give)
 }
 
 /// Begins a child whose value goes to this place.
 fn hand_out(body: &mut Body, alloc: Global, child: Child, place: Place) -> Result<Task, Memory>
+    requires own { IsOriginOf body.old.family.plan body.old.family.origin }
     requires known { IsOriginOf body.old.family.plan child.origin }
     requires trail { IsTrailOf body.old.family.plan child.origin child.trail }
-    ensures child { IfOk result (λ task. task ≡ fresh body.old.family.plan child.origin) }
+    requires below { IsBelow body.old.family.origin child.origin }
+    ensures child { IfOk result (λ task. task ≡ fresh_with body.old.family.knows body.old.family.plan child.origin) }
     ensures body { OnOk result (body.new ≡ with_child body.old child.origin place) }
 {
     let shared = share_origin(alloc, &child.origin)?;
@@ -89,6 +97,7 @@ fn hand_out(body: &mut Body, alloc: Global, child: Child, place: Place) -> Resul
 }
 
 /// The task hands out a child, and this remains.
+#[tactic(auto, using(crate::proofs::Advancing::sound_holds))]
 fn spawn_part(
     mut body: Body,
     alloc: Global,
@@ -98,9 +107,10 @@ fn spawn_part(
 ) -> Result<Step, Memory>
     requires known { IsOriginOf body.family.plan child.origin }
     requires trail { IsTrailOf body.family.plan child.origin child.trail }
+    requires below { IsBelow body.family.origin child.origin }
     requires sound { IsSound (with_child body child.origin place) work }
     ensures { IfOk result (λ step. step
-        ≡ Step.Stops (Stop.Spawn (fresh body.family.plan child.origin) (view_of (with_child body child.origin place) work))) }
+        ≡ Step.Stops (Stop.Spawn (fresh_with body.family.knows body.family.plan child.origin) (view_of (with_child body child.origin place) work))) }
 {
     let child = hand_out(&mut body, alloc, child, place)?;
     let rest = Task { body, work };
@@ -117,9 +127,10 @@ pub(crate) fn spawn(
 ) -> Result<Step, Memory>
     requires known { IsOriginOf body.family.plan child.origin }
     requires trail { IsTrailOf body.family.plan child.origin child.trail }
+    requires below { IsBelow body.family.origin child.origin }
     requires sound { IsSound (with_child body child.origin place) work }
     ensures { IfOk result (λ step. step
-        ≡ Step.Stops (Stop.Spawn (fresh body.family.plan child.origin) (view_of (with_child body child.origin place) work))) }
+        ≡ Step.Stops (Stop.Spawn (fresh_with body.family.knows body.family.plan child.origin) (view_of (with_child body child.origin place) work))) }
 {
     spawn_part(body, alloc, Box::into_inner(child.0), place, work)
 }
@@ -217,6 +228,7 @@ pub(crate) fn run(body: Body, alloc: Global, stage: Stage) -> Result<Step, Memor
 
 /// A move of the task, or its stop. An instance that goes on makes moves in a row.
 pub(crate) fn step(task: Task, alloc: Global) -> Result<Step, Memory>
+    requires { task.cut ≡ None }
     ensures { IfOk result (GoesOn task) }
 {
     let Task { body, work } = task;
@@ -224,5 +236,6 @@ pub(crate) fn step(task: Task, alloc: Global) -> Result<Step, Memory>
         Work::Splits(left) => split(body, alloc, left),
         Work::Runs(stage) => run(body, alloc, stage),
         Work::Over(value, gone_on) => close(body, alloc, value, gone_on),
+        Work::Cut(_) => unreachable!(),
     }
 }

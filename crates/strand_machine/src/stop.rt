@@ -23,7 +23,7 @@ pub(crate) enum Step {
 /// What became of a wait.
 #[derive(Drop)]
 pub enum Resumed {
-    /// All children have answered, and the task goes on.
+    /// All children have answered, and the task goes on. Where one of the answers is a cut, it ends by its next advance.
     On(Task),
     /// Not all of them have, and the task still waits.
     NotYet(Task),

@@ -7,13 +7,14 @@ ghost use Rattle.strand_machine.specs.Parts.{awaited};
 
 use crate::body::Body;
 use crate::family::Family;
+use crate::loops::Loops;
 use crate::memory::Memory;
 use crate::origin::{share_origin, trail_of};
 use crate::pieces::Pieces;
 use crate::work::{Work, begin};
 use meet_block::Give;
 use script_grammar::Items;
-use serial_meaning::{Answer, Origin, Plan};
+use serial_meaning::{Answer, Fault, Origin, Out, Outcome, Plan};
 use std::alloc::Global;
 use std::marker::Model;
 use std::sync::Arc;
@@ -32,7 +33,7 @@ impl Model for Task {
     ghost use Rattle.std.specs.Coded.{codes};
     ghost use Rattle.script_grammar.specs.contracts.tree.Stmt as statement_type;
     ghost use Rattle.serial_meaning.specs.contracts.plan.Plan as plan_type;
-    ghost use Rattle.strand_machine.specs.Tasks.{TaskView, view_of, IsSound};
+    ghost use Rattle.strand_machine.specs.Tasks.{TaskView, view_of, Holds};
 
     ghost Value = { TaskView };
 
@@ -40,13 +41,16 @@ impl Model for Task {
 
     ghost view = { λ t. view_of t.body t.work };
 
-    ghost invariant = { λ t. IsSound t.body t.work };
+    ghost invariant = { λ t. Holds t.body t.work };
 }
 
 impl Task {
-    ghost use Rattle.strand_machine.specs.Tasks.{fresh};
+    ghost use Rattle.std.specs.Prelude.{◌↔◌, IsTrue, [], false};
+    ghost use Rattle.serial_meaning.specs.Answer.{IsCut};
+    ghost use Rattle.strand_machine.specs.Loops.{IsLoops, StandsBefore, knows_of};
+    ghost use Rattle.strand_machine.specs.Tasks.{fresh, fresh_with};
 
-    /// A task of an origin of which nothing is done yet.
+    /// A task of an origin of which nothing is done yet. It knows of the loops on its path where that is empty.
     pub fn start(
         alloc: Global,
         plan: Arc<Plan>,
@@ -57,21 +61,24 @@ impl Task {
         requires known { IsOriginOf (arc_value plan) origin }
         ensures { IfOk result (λ task. task ≡ fresh (arc_value plan) origin) }
     {
+        let loops = Loops::of(&origin);
         let trail = trail_of(&plan, &origin)?;
-        Task::begin(alloc, plan, Child { origin, trail }, give)
+        Task::begin(alloc, plan, Child { origin, trail }, loops, give)
     }
 
-    /// The same, where the trail of the origin's path is at hand.
+    /// The same, where the trail of the origin's path is at hand, and what is known of the loops on it.
     pub(crate) fn begin(
         alloc: Global,
         plan: Arc<Plan>,
         child: Child,
+        loops: Loops,
         give: Give<Answer>,
     ) -> Result<Task, Memory>
         requires give { give ≡ tag (arc_value plan) child.origin }
         requires known { IsOriginOf (arc_value plan) child.origin }
         requires trail { IsTrailOf (arc_value plan) child.origin child.trail }
-        ensures { IfOk result (λ task. task ≡ fresh (arc_value plan) child.origin) }
+        requires loops { IsLoops (arc_value plan) child.origin loops }
+        ensures { IfOk result (λ task. task ≡ fresh_with (knows_of loops) (arc_value plan) child.origin) }
     {
         laws::valid_plans_are_clear();
         laws::tasks_begin();
@@ -79,7 +86,7 @@ impl Task {
         let Child { origin, trail } = child;
         let work = begin(alloc, &plan, &origin, trail)?;
         let body = Body {
-            family: Family::new(alloc, plan, origin, give)?,
+            family: Family::new(alloc, plan, origin, loops, give)?,
             pieces: Pieces::new(alloc),
             values: Items(Vec::new(alloc)),
             waiting: false,
@@ -95,6 +102,13 @@ impl Task {
         self.body.family.origin()
     }
 
+    /// The task's plan.
+    pub fn plan(&self) -> &Arc<Plan>
+        ensures { arc_value result.now ≡ self.now.task.plan }
+    {
+        self.body.family.shared_plan()
+    }
+
     /// A copy of what the task was begun as. Its path shares its memory.
     pub fn share_origin(&self, alloc: Global) -> Result<Origin, Memory>
         ensures { IfOk result (λ origin. origin ≡ self.now.task.origin) }
@@ -107,6 +121,26 @@ impl Task {
         ensures { result ≡ not self.now.task.advanced }
     {
         !self.body.advanced
+    }
+
+    /// Whether the fault stands before the task's path, and before the path of each loop that the task is a part of or below. It is false
+    /// too where the task doesn't know these loops.
+    pub fn may_cut(&self, by: &Fault) -> bool
+        ensures { IsTrue result ↔ (IsTrue self.now.knows × StandsBefore self.now.task.plan self.now.task.origin by.now) }
+    {
+        self.body.family.stands_behind(by)
+    }
+
+    /// Answers without having run: a fault of the plan stands before all that the task could do.
+    pub fn cut(self, by: Fault) -> (Answer, Give<Answer>)
+        requires fresh { self.task.advanced ≡ false }
+        requires stands { IsCut self.task.plan self.task.origin by }
+        ensures answer { result.0 ≡ record { plan = self.task.plan; origin = self.task.origin; out = []; outcome = Outcome.Cut by } }
+        ensures give { result.1 ≡ tag self.task.plan self.task.origin }
+    {
+        let Task { body, .. } = self;
+        let Body { family, .. } = body;
+        family.answer(Out::new(), Outcome::Cut { by })
     }
 
     /// The children that it handed out and whose answers it hasn't taken, in order.

@@ -15,7 +15,7 @@ use crate::origin::share_values;
 use dotmix::Trail;
 use loop_range::IterRange;
 use script_grammar::Items;
-use serial_meaning::{Fault, Origin, Plan, Value};
+use serial_meaning::{Fault, Origin, Outcome, Plan, Value};
 use std::alloc::Global;
 use strand_meaning::laws;
 use strand_moves::Instance;
@@ -53,6 +53,8 @@ pub(crate) enum Work {
     Runs(Stage),
     /// Nothing of a loop whose last iteration gave this value. It is known whether the task has gone on from the wait at its end.
     Over(Value, bool),
+    /// Nothing of a task that took a cut for an answer. It ends so.
+    Cut(Outcome),
 }
 
 /// What remains of an origin of which nothing is done.

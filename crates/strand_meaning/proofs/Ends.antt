@@ -28,12 +28,13 @@ use Rattle.strand_meaning.proofs.Steps.{so_far-same, parts-append, ended-rest, h
 use Rattle.strand_meaning.proofs.Starts.{begun-whole, begun-sound, halves-rest}
 use Rattle.strand_meaning.proofs.Closing.{closed-then, eval-closed}
 use Rattle.strand_meaning.proofs.Finishing.{hand-so_far}
+use Rattle.strand_meaning.proofs.Begun.{shown-more, half-path}
 use Rattle.strand_meaning.proofs.Depth.{loop-of-plan}
 use Rattle.strand_meaning.proofs.Loops.{then-done, eval-loop, halves-turns, own-of-plan, part-of-loop}
 
 -- The end of a task
 
-err-outcome : (o : Origin) (f : Fault) → outcome_of o (Err f) ≡ outcome.Fault f
+pub err-outcome : (o : Origin) (f : Fault) → outcome_of o (Err f) ≡ outcome.Fault f
 err-outcome (Instance function args path) f = refl
 err-outcome (Loop function rest first path range) f = refl
 
@@ -88,7 +89,7 @@ halves-long plan o (p ∷ ps) h k = inr (from p.place h.0 k.0.fits)
 
 -- A task that stands in a wait, or that was advanced, gives the same.
 waits-sound : (t : Task) → IsTask t → IsSoundStep t (waits t)
-waits-sound t is = record { finishes = is.finishes; known = is.known; clear = is.clear; parts = is.parts; work = is.work }
+waits-sound t is = record { finishes = is.finishes; known = is.known; clear = is.clear; parts = is.parts; shown = is.shown; work = is.work }
 
 -- other work that gives the same
 with-work : (t : Task) → IsTask t → (work : Work) → ((vs : List Value) → work_run t.plan t.origin t.pieces.handed t.work vs ≡ work_run t.plan t.origin t.pieces.handed work vs) →
@@ -98,6 +99,7 @@ with-work t is work same sound = record {
   known = is.known;
   clear = is.clear;
   parts = is.parts;
+  shown = is.shown;
   work = sound;
 }
 
@@ -269,6 +271,7 @@ module _ (t : Task) (is : IsTask t) where
         known = is.known;
         clear = is.clear;
         parts = parts-append t.plan t.origin ps _ is.parts (record { known = subst (IsOriginOf t.plan) (sym half-is) known-half; fits = subst IsLongLoop (sym loop) long; same = inl tt }, tt);
+        shown = λ none. shown-more t.origin t.pieces.told ps (record { child = first_half t.origin left; place = Half; behind = [] }) (is.shown none) (inl (tt, half-path t.origin left));
         work = (subst (λ (o : Origin). IsEndOf o (upper_half left)) (sym loop) upper, more ps halves);
       },
     )
@@ -355,6 +358,7 @@ tasks_begin plan (Instance function args path) known clear =
       known = known;
       clear = clear;
       parts = tt;
+      shown = λ none. tt;
       work = (tt, record { front = []; whole = whole }, begun-sound plan function args [] clear tt);
     }
 tasks_begin plan (Loop function rest first path range) known clear = record {
@@ -362,5 +366,6 @@ tasks_begin plan (Loop function rest first path range) known clear = record {
   known = known;
   clear = clear;
   parts = tt;
+  shown = λ none. tt;
   work = ((omega arith, refl, λ h. h), tt);
 }

@@ -66,14 +66,14 @@ paid-append xs ys h k =
     let w : waits_in (xs ++ ys) ≤ waits_in xs + waits_in ys = waits-append xs ys in
     let i : item_stops (token_items (xs ++ ys)) ≡ item_stops (token_items xs) + item_stops (token_items ys) = tokens-append xs ys in omega arith
 
-paid : TokenRules Paid
-paid = record {
+paid : (path : List ℕ) → TokenRules path Paid
+paid path = record {
   none = omega arith;
   more = paid-append;
   told = λ e. omega arith;
-  spawned = λ e o height target. omega arith;
+  spawned = λ e o height target begins. omega arith;
   synced = at_sync;
-  looped = at_loop;
+  looped = λ e o target b begins. at_loop e o target b;
 }
   where
     at_sync : (j : List ℕ) (b : Bool) → Paid (Told (event.Sync j) ∷ sync_tokens b)
@@ -197,7 +197,7 @@ module _ (t : Task) (is : IsTask t) (idle : t.waiting ≡ false) where
     fewer-going : IsSoundStage t.plan ps (Goes m) → FewerStep t (moved t (move t.plan path m).items (move t.plan path m).ending)
     fewer-going sound =
         let r = move t.plan path m in
-        fewer-moved r.items r.ending (tokens-move Paid paid t.plan path m)
+        fewer-moved r.items r.ending (tokens-move Paid t.plan path (paid path) m)
         (open-move t.plan kids path (length m.below) ps sound.0 m (sound-free t.plan ps m sound) (none-known kids ps m sound.1.spawned sound.1.faulted))
 
   -- a wait that the task comes to

@@ -1,9 +1,11 @@
 pub mod Alike
 pub mod AnswerRuns
+pub mod Begun
 pub mod Changed
 pub mod Clears
 pub mod Closing
 pub mod Comes
+pub mod Cutting
 pub mod Depth
 pub mod Ends
 pub mod Falls

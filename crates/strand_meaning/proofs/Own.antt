@@ -1,5 +1,5 @@
 -- What a move shows.
-use Rattle.std.proofs.Common.{ℕ, zero, suc, ◌+◌, Bool, true, false, nat_lt, List, [], ◌∷◌, ◌++◌, Option, Some, None, Result, Ok, Err, sym, subst, append-nil, if◌then◌else◌, length}
+use Rattle.std.proofs.Common.{ℕ, zero, suc, ◌+◌, Bool, true, false, nat_lt, ◌≡◌, List, [], ◌∷◌, ◌++◌, Option, Some, None, Result, Ok, Err, refl, sym, subst, append-nil, if◌then◌else◌, length}
 use Rattle.std.proofs.Common.{ℤ, ◌-ℤ◌}
 use Rattle.script_grammar.specs.declared.tree.Name.{Name}
 use Rattle.script_grammar.specs.declared.tree.CallText.{CallText}
@@ -15,6 +15,8 @@ use Rattle.serial_meaning.specs.Values.{value_of, values_of, slot_of, items_of, 
 use Rattle.serial_meaning.specs.Functions.{number_of, function_at}
 use Rattle.serial_meaning.specs.Plan.{PlanView, functions_of}
 use Rattle.serial_meaning.specs.Exec.{State, Manner, strand, given, paid_from, tested, has_room, fits_depth, spawn, join, implied, activation, called, right_side, found, looped, does, count_of}
+use Rattle.serial_meaning.specs.Laws.{places}
+use Rattle.serial_meaning.specs.Eval.{path_of}
 use Rattle.serial_meaning.specs.Open.{is_empty_loop}
 use Rattle.serial_meaning.proofs.Each.{Each, each-append}
 use Rattle.serial_meaning.specs.declared.value.Value.{Value}
@@ -27,16 +29,22 @@ use Rattle.serial_meaning.specs.declared.origin.Origin.TheVariants as origin
 use Rattle.strand_meaning.specs.Machine.{Place, Spawned, Looped, Token, Told, Handed, Halt, loop_tokens, sync_tokens, handing, inside, place_of, Machine, state_of, spawns_in, value_run, return_move, move_at, move}
 use Rattle.strand_meaning.proofs.Finishing.{NotHalf}
 
+-- an event by which a child of an instance is spawned or begun
+pub record Begins (path : List ℕ) (e : Event) (o : Origin) : Type 0 where
+  pub rank : ℕ
+  pub at : path_of o ≡ path ++ rank ∷ []
+  pub place : places (e ∷ []) ≡ path_of o ∷ []
+
 -- what holds of all lists of tokens that a move shows
-pub record TokenRules (P : List Token → Type 0) : Type 0 where
+pub record TokenRules (path : List ℕ) (P : List Token → Type 0) : Type 0 where
   pub none : P []
   pub more : (xs ys : List Token) → P xs → P ys → P (xs ++ ys)
   pub told : (e : Event) → P (Told e ∷ [])
-  pub spawned : (e : Event) (o : Origin) (height : ℕ) (target : Option Name) → P (Told e ∷ Handed o (Spawned height target) ∷ [])
+  pub spawned : (e : Event) (o : Origin) (height : ℕ) (target : Option Name) → Begins path e o → P (Told e ∷ Handed o (Spawned height target) ∷ [])
   pub synced : (j : List ℕ) (b : Bool) → P (Told (event.Sync j) ∷ sync_tokens b)
-  pub looped : (e : Event) (o : Origin) (target : Option Name) (b : Bool) → P (Told e ∷ loop_tokens b o (Looped target))
+  pub looped : (e : Event) (o : Origin) (target : Option Name) (b : Bool) → Begins path e o → P (Told e ∷ loop_tokens b o (Looped target))
 
-module _ (P : List Token → Type 0) (rules : TokenRules P) (plan : PlanView) (path : List ℕ) where
+module _ (P : List Token → Type 0) (plan : PlanView) (path : List ℕ) (rules : TokenRules path P) where
   abbrev Owns : {A : Type 0} → Run Token Halt A → Type 0
   Owns r = P r.items
 
@@ -67,7 +75,7 @@ module _ (P : List Token → Type 0) (rules : TokenRules P) (plan : PlanView) (p
 
   owns-spawn : (height : ℕ) (target : Option Name) (c : CallText) (s : State Bool) → Owns (spawn (what (Spawned height target)) plan path c s)
   owns-spawn height target c s =
-      owns-given (Spawned height target) (values_of c.args s.env) s _ (λ vs. owns-tested (Spawned height target) (nat_lt (length path + 1) plan.limits.depth) Depth s _ (rules.spawned _ _ height target))
+      owns-given (Spawned height target) (values_of c.args s.env) s _ (λ vs. owns-tested (Spawned height target) (nat_lt (length path + 1) plan.limits.depth) Depth s _ (rules.spawned _ _ height target (record { rank = s.rank; at = refl; place = refl })))
 
   owns-called : (place : Place) (calls : ℕ) (c : CallText) (s : State Bool) → Owns (called (what place) plan path inside calls c s)
   owns-called place calls c s =
@@ -88,7 +96,7 @@ module _ (P : List Token → Type 0) (rules : TokenRules P) (plan : PlanView) (p
   owns-loop : (target : Option Name) (c : CallText) (lo : ℤ) (hi : ℕ) (vs : List Value) (s : State Bool) → Owns (looped (what (Looped target)) plan path lo hi vs target c s)
   owns-loop target c lo hi vs s =
       owns-tested place (nat_lt hi (s.steps + 1)) Budget s _ (owns-tested place (has_room target hi s.env) Index _ _ (owns-tested place (fits_depth (what place) plan path hi) Depth _ _
-      (subst P (sym (append-nil (Told e ∷ loop_tokens (is_empty_loop o) o place))) (rules.looped e o target (is_empty_loop o)))))
+      (subst P (sym (append-nil (Told e ∷ loop_tokens (is_empty_loop o) o place))) (rules.looped e o target (is_empty_loop o) (record { rank = s.rank; at = refl; place = refl })))))
     where
       place : Place
       place = Looped target
@@ -143,14 +151,14 @@ module _ (P : List Token → Type 0) (rules : TokenRules P) (plan : PlanView) (p
       by_left (st ∷ left) = owns-paid (place_of (length m.below) (out-Act (out-Stmt st).act)) m.steps (state_of m) _ (λ s. owns-does (length m.below) st (out-Act (out-Stmt st).act) s)
 
 -- The children that a move hands out are an instance's.
-not-half : TokenRules (Each NotHalf)
-not-half = record {
+not-half : (path : List ℕ) → TokenRules path (Each NotHalf)
+not-half path = record {
   none = tt;
   more = each-append NotHalf;
   told = λ e. (tt, tt);
-  spawned = λ e o height target. (tt, (tt, tt));
+  spawned = λ e o height target begins. (tt, (tt, tt));
   synced = λ j b. (tt, at_sync b);
-  looped = λ e o target b. (tt, at_loop o target b);
+  looped = λ e o target b begins. (tt, at_loop o target b);
 }
   where
     at_sync : (b : Bool) → Each NotHalf (sync_tokens b)
@@ -162,4 +170,4 @@ not-half = record {
     at_loop o target false = (tt, (tt, tt))
 
 pub own-move : (plan : PlanView) (path : List ℕ) (m : Machine) → Each NotHalf (move plan path m).items
-own-move plan path m = tokens-move (Each NotHalf) not-half plan path m
+own-move plan path m = tokens-move (Each NotHalf) plan path (not-half path) m

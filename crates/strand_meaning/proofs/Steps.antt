@@ -25,6 +25,7 @@ use Rattle.strand_meaning.proofs.SoundMoves.{sound-free, SoundEnd, sound-move}
 use Rattle.strand_meaning.proofs.Alike.{Alike, alike-tokens, alike-takes, alike-parts, alike-stage}
 use Rattle.strand_meaning.proofs.Depth.{loop-of-plan, same-answer}
 use Rattle.strand_meaning.proofs.Own.{own-move}
+use Rattle.strand_meaning.proofs.Begun.{Shows, tokens-fault, move-shows}
 use Rattle.strand_meaning.proofs.Closing.{behind-then}
 use Rattle.strand_meaning.proofs.Finishing.{NotHalf, so_far, played, tokens-so_far, SameChild, played-closed}
 use Rattle.strand_meaning.proofs.Keeps.{first-contained, later-contained}
@@ -131,13 +132,14 @@ module _ (t : Task) (is : IsTask t) (m : Machine) (own-known : IsOriginOf t.plan
           (Contains-append_left (far.front ++ token_items ts) (rest then all_of).items (Child c) (Contains-append_right far.front (token_items ts) (Child c) k))
 
   -- the task behind the move
-  next-task : (ts : List Token) → Each NotHalf ts → (rest : Run Item Ending Value) → Leaves ts rest → (stage : Stage) →
+  next-task : (ts : List Token) → Each NotHalf ts → Shows t.origin ts → (rest : Run Item Ending Value) → Leaves ts rest → (stage : Stage) →
       rest ≡ rest_open t.plan kids path (ps ++ token_parts ts) stage → IsSoundStage t.plan (ps ++ token_parts ts) stage → IsTask (passing t ts (Runs stage))
-  next-task ts own-tokens rest leaves stage lands fits = record {
+  next-task ts own-tokens shows rest leaves stage lands fits = record {
     finishes = finishes;
     known = is.known;
     clear = is.clear;
     parts = alike-parts t.plan t.origin alike (parts-append t.plan t.origin ps (token_parts ts) is.parts (new-parts t.plan t.origin ts own-tokens (known ts rest leaves)));
+    shown = λ none. let before : t.pieces.fault ≡ None = sym (tokens-fault ts t.pieces) ∙ none in shows t.pieces before (is.shown before);
     work = (is-loop, record { front = far.front ++ token_items ts; whole = further ts rest leaves ∙ ap (λ (r : Run Item Ending Value). behind (far.front ++ token_items ts) (r then all_of)) lands-here }, alike-stage t.plan alike stage fits);
   }
     where
@@ -163,25 +165,25 @@ module _ (t : Task) (is : IsTask t) (m : Machine) (own-known : IsOriginOf t.plan
           ∙ ap (λ (w : Work). so_far (eval t.plan) t.pieces t.values (work_run t.plan t.origin ps w)) (sym at)
           ∙ is.finishes
 
-  sound-moved : (ts : List Token) (e : Result Reached Fault) → Each NotHalf ts → Leaves ts (shown_with t.plan kids path ps ts e) → SoundEnd t.plan ps ts e → IsSoundStep t (moved t ts e)
-  sound-moved ts (Ok (Stands k)) own-tokens leaves fits = by_child (child_in ts) refl
+  sound-moved : (ts : List Token) (e : Result Reached Fault) → Each NotHalf ts → Shows t.origin ts → Leaves ts (shown_with t.plan kids path ps ts e) → SoundEnd t.plan ps ts e → IsSoundStep t (moved t ts e)
+  sound-moved ts (Ok (Stands k)) own-tokens shows leaves fits = by_child (child_in ts) refl
     where
       next : Task
       next = passing t ts (Runs (stage_after ts k))
 
       is-next : IsTask next
-      is-next = next-task ts own-tokens (rest_open t.plan kids path (ps ++ token_parts ts) (stage_after ts k)) leaves (stage_after ts k) refl fits
+      is-next = next-task ts own-tokens shows (rest_open t.plan kids path (ps ++ token_parts ts) (stage_after ts k)) leaves (stage_after ts k) refl fits
 
       by_child : (o : Option Origin) → child_in ts ≡ o → IsSoundStep t (stops_at o next)
       by_child None h = is-next
       by_child (Some c) h = (child-known t.plan t.origin ts c (known ts (rest_open t.plan kids path (ps ++ token_parts ts) (stage_after ts k)) leaves) h, is-next)
-  sound-moved ts (Ok (Gives v)) own-tokens leaves fits =
-      next-task ts own-tokens (done v) leaves (Ended (Ok v)) (sym (ended-rest t.plan kids path 0 (ps ++ token_parts ts) (halves-places (ps ++ token_parts ts) halves) (Ok v))) halves
+  sound-moved ts (Ok (Gives v)) own-tokens shows leaves fits =
+      next-task ts own-tokens shows (done v) leaves (Ended (Ok v)) (sym (ended-rest t.plan kids path 0 (ps ++ token_parts ts) (halves-places (ps ++ token_parts ts) halves) (Ok v))) halves
     where
       halves : AreHalves (ps ++ token_parts ts)
       halves = subst AreHalves (sym (ap (λ (l : List Part). ps ++ l) fits.0 ∙ append-nil ps)) fits.1
-  sound-moved ts (Err f) own-tokens leaves fits =
-      next-task ts own-tokens (stopped (Own f)) leaves (Ended (Err (Own f))) (sym (ended-rest t.plan kids path fits.1 (ps ++ token_parts ts) places (Err (Own f)))) (fits.1, places)
+  sound-moved ts (Err f) own-tokens shows leaves fits =
+      next-task ts own-tokens shows (stopped (Own f)) leaves (Ended (Err (Own f))) (sym (ended-rest t.plan kids path fits.1 (ps ++ token_parts ts) places (Err (Own f)))) (fits.1, places)
     where
       places : ArePlaces fits.1 (ps ++ token_parts ts)
       places = subst (ArePlaces fits.1) (sym (ap (λ (l : List Part). ps ++ l) fits.0 ∙ append-nil ps)) fits.2
@@ -189,6 +191,6 @@ module _ (t : Task) (is : IsTask t) (m : Machine) (own-known : IsOriginOf t.plan
   pub sound-going : IsSoundStep t (moved t (move t.plan path m).items (move t.plan path m).ending)
   sound-going =
       let r = move t.plan path m in
-      sound-moved r.items r.ending (own-move t.plan path m)
+      sound-moved r.items r.ending (own-move t.plan path m) (move-shows t.origin t.plan m)
       (open-move t.plan kids path (length m.below) ps sound.0 m (sound-free t.plan ps m sound) (none-known kids ps m sound.1.spawned sound.1.faulted))
       (sound-move t.plan path is.clear ps m sound)

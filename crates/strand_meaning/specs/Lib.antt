@@ -1,5 +1,6 @@
 pub mod Answers
 pub mod Clear
+pub mod Cuts
 pub mod Examples
 pub mod Laws
 pub mod Left

@@ -1,5 +1,5 @@
 -- What holds of a task at all times.
-use Rattle.std.specs.Prelude.{◌≡◌, ◌≤◌, ◌<◌, ℕ, ◌+◌, Bool, true, false, ◌||◌, ◌⊎◌, nat_eq, List, [], ◌∷◌, ◌++◌, Option, None, Ok, Err, length, if◌then◌else◌}
+use Rattle.std.specs.Prelude.{◌≡◌, ◌≤◌, ◌<◌, ℕ, ◌+◌, Bool, true, false, ◌||◌, ◌⊎◌, nat_eq, List, [], ◌∷◌, ◌++◌, Option, None, Ok, Err, Contains, length, if◌then◌else◌}
 use Rattle.loop_range.specs.Range.{Range}
 use Rattle.script_grammar.specs.declared.tree.Name.{Name}
 use Rattle.serial_meaning.specs.Runs.{done, behind, ◌then◌}
@@ -8,7 +8,8 @@ use Rattle.serial_meaning.specs.Functions.{function_at, any_spawns}
 use Rattle.serial_meaning.specs.Plan.{PlanView, functions_of}
 use Rattle.serial_meaning.specs.Eval.{path_of, eval}
 use Rattle.serial_meaning.specs.Open.{Item, Own, Joined, opened}
-use Rattle.serial_meaning.specs.Laws.{IsOriginOf}
+use Rattle.serial_meaning.specs.Laws.{IsOriginOf, places}
+use Rattle.serial_meaning.specs.declared.event.Event.{Event}
 use Rattle.serial_meaning.specs.declared.origin.Origin.{Origin}
 use Rattle.serial_meaning.specs.declared.origin.Origin.TheVariants.{Instance, Loop}
 use Rattle.strand_meaning.specs.Clear.{IsApart, IsClear, IsClearPlan, target_names}
@@ -137,10 +138,24 @@ IsSoundWork plan o parts (Runs stage) = IsInstanceOrLoop o × IsSoFar plan (own_
 IsSoundWork plan o parts (Over v true) = IsLoop o × (parts ≡ [])
 IsSoundWork plan o parts (Over v false) = IsLoop o × AreHalves parts
 
+-- Children as they were handed out
+
+-- A half of the task's loop has its path. Any other child's path is that of a strand of the task's own instance, and stands among these
+-- events as the one by which the child was spawned or begun.
+abbrev pub IsShownBy : Origin → List Event → Part → Type 0
+IsShownBy o events p =
+    (IsHalf p.place × (path_of p.child ≡ path_of o)) ⊎ ((rank : ℕ) × (path_of p.child ≡ path_of (own_instance o) ++ rank ∷ []) × Contains (places events) (path_of p.child))
+
+-- the first is shown by these events, and each other by those between it and the child in front of it
+abbrev pub AreShownBy : Origin → List Event → List Part → Type 0
+AreShownBy o events [] = Unit {0}
+AreShownBy o events (p ∷ ps) = IsShownBy o events p × AreShownBy o p.behind ps
+
 -- The invariant: to finish a task gives the evaluation of its origin.
 pub record IsTask (t : Task) : Type 0 where
   pub finishes : finish t ≡ eval t.plan t.origin
   pub known : IsOriginOf t.plan t.origin
   pub clear : IsClearPlan t.plan
   pub parts : AreParts t.plan t.origin t.pieces.handed
+  pub shown : t.pieces.fault ≡ None → AreShownBy t.origin t.pieces.told t.pieces.handed
   pub work : IsSoundWork t.plan t.origin t.pieces.handed t.work

@@ -1,5 +1,6 @@
 //! Laws of tasks and strands, each the contract of a function that does nothing. A proof that wants a law calls it.
 
+ghost use Rattle.strand_meaning.specs.Cuts.{AnswersEnd, CutsPass, FaultsPass};
 ghost use Rattle.strand_meaning.specs.StrandLaws.{StrandsAreTheElisions};
 ghost use Rattle.strand_meaning.specs.Laws.{AnswersAreEvaluations, AnswersKeepTasks, AnswersLeaveNoMore, AnswersShowNothing, MovesFall, MovesLeaveUnfilledAlone, NotesBegin, NotesGoOn, OriginsFit, StepsAreSound, StopsAreOne, StopsAreShown, StopsAreSound, StopsCome, StopsFall, StopsKeepOrigins, TasksBegin, ValidPlansAreClear};
 
@@ -99,4 +100,19 @@ pub fn answers_show_nothing()
 /// What a task shows up to its next stop can be noted.
 pub fn stops_are_shown()
     ensures { StopsAreShown }
+{}
+
+/// A task may be cut by what cuts a child of it, where the children in front of that one gave values.
+pub fn cuts_pass()
+    ensures { CutsPass }
+{}
+
+/// A child's fault is its parent's, where the children in front of it gave values.
+pub fn faults_pass()
+    ensures { FaultsPass }
+{}
+
+/// A task that heard a fault or a cut answers by the first of them in the order of its pieces.
+pub fn answers_end()
+    ensures { AnswersEnd }
 {}

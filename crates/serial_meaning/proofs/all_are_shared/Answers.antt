@@ -1,6 +1,6 @@
 use denote.Param.Send.{IsSend, IsSync, param_send, param_sync}
 use contract.Lifetimes.{Lfts}
-use Rattle.serial_meaning.proofs.Shares.{plan_sends, plan_syncs, answer_sends, answer_syncs, key_sends, key_syncs}
+use Rattle.serial_meaning.proofs.Shares.{plan_sends, plan_syncs, answer_sends, answer_syncs, key_sends, key_syncs, known_sends, known_syncs}
 use Rattle.serial_meaning.proofs.all_are_shared.Lts as types
 use Rattle.serial_meaning.proofs.all_are_shared.Goals as goal
 
@@ -23,6 +23,12 @@ key_goes κs = record { owned = key_sends.owned; leaving = key_sends.leaving }
 key_is_read : (κs : Lfts 1) → IsSync (types.arg-6-0 κs)
 key_is_read κs = record { shared = key_syncs.shared }
 
+known_goes : (κs : Lfts 1) → IsSend (types.arg-7-0 κs)
+known_goes κs = record { owned = known_sends.owned; leaving = known_sends.leaving }
+
+known_is_read : (κs : Lfts 1) → IsSync (types.arg-7-0 κs)
+known_is_read κs = record { shared = known_syncs.shared }
+
 pub is_shared-requires-5-send-T : goal.is_shared-requires-5-send-T
 is_shared-requires-5-send-T c κs = param_send 0 (types.arg-4-0 κs) (plan_goes κs)
 
@@ -40,3 +46,9 @@ is_shared-requires-7-send-T c κs = param_send 0 (types.arg-6-0 κs) (key_goes �
 
 pub is_shared-requires-7-sync-T : goal.is_shared-requires-7-sync-T
 is_shared-requires-7-sync-T c κs = param_sync 0 (types.arg-6-0 κs) (key_is_read κs)
+
+pub is_shared-requires-8-send-T : goal.is_shared-requires-8-send-T
+is_shared-requires-8-send-T c κs = param_send 0 (types.arg-7-0 κs) (known_goes κs)
+
+pub is_shared-requires-8-sync-T : goal.is_shared-requires-8-sync-T
+is_shared-requires-8-sync-T c κs = param_sync 0 (types.arg-7-0 κs) (known_is_read κs)

@@ -2,11 +2,11 @@ use Rattle.std.proofs.Common.{◌≡◌, List, length, sym, ap, ◌∙◌, subst
 use Rattle.std.specs.Vec.Iter.{into_iter_items}
 use Rattle.serial_meaning.specs.Answer.{AnswerView}
 use Rattle.strand_machine.specs.Family.{origins}
-use Rattle.strand_machine.specs.Going.{Takes, meanings}
+use Rattle.strand_machine.specs.Going.{TakesAnswers}
 use Rattle.strand_machine.specs.Parts.{parts_of}
 use Rattle.strand_machine.specs.Stops.{answer_tags}
 use Rattle.strand_machine.specs.declared.pieces.Behind.{Behind}
-use Rattle.strand_machine.proofs.Taking.{takes-next, takes-no-more}
+use Rattle.strand_machine.proofs.Cutting.{answers-next, answers-no-more}
 use Rattle.strand_machine.proofs.resume.take_all.Goals as goal
 
 pub loop-part-init : goal.loop-part-init
@@ -18,8 +18,8 @@ loop-part-init c =
       answers = c.into_iter-answers.ensures.len ∙ c.answers.inside.0.ok.0 ∙ ap length (sym c.into_iter-answers.ensures.rest);
       parts = gives.1 ∙ c.args.behind.ok.0 ∙ ap length (sym parts);
       same = ap length answers ∙ c.requires ∙ ap length (sym parts);
-      takes = λ after h. subst (λ (xs : List AnswerView). Takes (parts_of (origins (answer_tags xs)) c.args.behind.items) (meanings (answer_tags xs)) c.args.going.now after) answers
-          (subst (λ (bs : List Behind). Takes (parts_of (origins (answer_tags (into_iter_items c.into_iter-answers.result))) bs) (meanings (answer_tags (into_iter_items c.into_iter-answers.result))) c.args.going.now after) parts h);
+      takes = λ after h. subst (λ (xs : List AnswerView). TakesAnswers (parts_of (origins (answer_tags xs)) c.args.behind.items) xs c.args.going.now after) answers
+          (subst (λ (bs : List Behind). TakesAnswers (parts_of (origins (answer_tags (into_iter_items c.into_iter-answers.result))) bs) (into_iter_items c.into_iter-answers.result) c.args.going.now after) parts h);
     }
 
 pub unreachable-requires : goal.unreachable-requires
@@ -42,7 +42,7 @@ loop-part-preserved c =
       answers = omega (arith, was.answers, answers.1, fewer);
       parts = omega (arith, was.parts, parts.1, shorter);
       same = omega (arith, was.same, fewer, shorter);
-      takes = λ after h. was.takes after (takes-next _ _ _ _ c.in-Some-next.answer c.in-Some.part c.loop-part.going c.take.new.self after answers.0 parts.0 c.in_ok-take.ensures h);
+      takes = λ after h. was.takes after (answers-next _ _ _ _ c.in-Some-next.answer c.in-Some.part c.loop-part.going c.take.new.self after answers.0 parts.0 c.in_ok-take.ensures h);
     }
 
 pub returns : goal.returns
@@ -50,4 +50,4 @@ returns c =
     let was = c.loop-part.invariant in
     let none = c.in-None.ensures.steps in
     let left : length (into_iter_items c.loop-part.part-iterator) ≡ 0 = sym was.parts ∙ none.0 in
-    was.takes c.loop-part.going (takes-no-more _ _ c.loop-part.going (was.same ∙ left) left)
+    was.takes c.loop-part.going (answers-no-more _ _ c.loop-part.going (was.same ∙ left) left)

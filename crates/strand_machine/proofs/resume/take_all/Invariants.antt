@@ -1,7 +1,7 @@
 use Rattle.std.proofs.Common.{◌≡◌, length}
 use Rattle.std.specs.Vec.Iter.{into_iter_items, into_iter_len}
 use Rattle.strand_machine.specs.Family.{origins}
-use Rattle.strand_machine.specs.Going.{Takes, meanings}
+use Rattle.strand_machine.specs.Going.{TakesAnswers}
 use Rattle.strand_machine.specs.Parts.{parts_of}
 use Rattle.strand_machine.specs.Stops.{answer_tags}
 use Rattle.strand_machine.specs.declared.going.Going.{Going}
@@ -16,5 +16,5 @@ invariant-loop-part l =
       answers : into_iter_len l.answers ≡ length (into_iter_items l.answers);
       parts : into_iter_len l.part-iterator ≡ length (into_iter_items l.part-iterator);
       same : length (into_iter_items l.answers) ≡ length (into_iter_items l.part-iterator);
-      takes : (after : Going) → Takes (parts_of (origins left) (into_iter_items l.part-iterator)) (meanings left) l.going after → Takes (parts_of (origins all) l.fn.behind.items) (meanings all) l.fn.going after;
+      takes : (after : Going) → TakesAnswers (parts_of (origins left) (into_iter_items l.part-iterator)) (into_iter_items l.answers) l.going after → TakesAnswers (parts_of (origins all) l.fn.behind.items) l.fn.answers l.initial.going after;
     }

@@ -2,11 +2,11 @@ use Rattle.strand_machine.specs.Tasks.{view_of}
 use Rattle.strand_machine.specs.declared.work.Stage.TheVariants as stage
 use Rattle.strand_machine.specs.declared.work.Work.TheVariants as work
 use Rattle.strand_machine.proofs.Advancing.{leads-start}
-use Rattle.strand_machine.proofs.Moving.{went-sound, went-is, gave-sound, faulted-sound, syncs-sound, syncs-run, gives-run, faults-run, still-on, still-falls, tells-on, tells-falls, run-is-ok}
+use Rattle.strand_machine.proofs.Moving.{went-sound, went-is, gave-sound, faulted-sound, syncs-sound, syncs-run, gives-run, faults-run, still-on, still-falls, tells-on, tells-falls, run-is-ok, runs-on}
 use Rattle.strand_machine.proofs.run.go.Goals as goal
 
 pub loop-instance-init : goal.loop-instance-init
-loop-instance-init c = record { sound = c.requires; leads = leads-start (view_of c.args.body (work.Runs (stage.Goes c.args.instance))) }
+loop-instance-init c = record { sound = c.requires; leads = leads-start (view_of c.args.body (work.Runs (stage.Goes c.args.instance))) refl }
 
 pub step-requires : goal.step-requires
 step-requires c = rw c.plan.ensures c.loop-instance.invariant.sound.works.sound
@@ -47,7 +47,7 @@ returns-in-Went-Synced c =
     let l = c.loop-instance in
     let s = c.in-Went-Synced in
     syncs-run l.body l.instance c.step.new.self _ _ c.plan.ensures c.in_ok-step.ensures.moves l.invariant.sound c.moves_fall.ensures _ l.invariant.leads s.field-0 s.event c.tell-in-Went-Synced.new.self s.is s.field-0-is
-    c.in_ok-tell-in-Went-Synced.ensures c.wait.result c.wait.ensures
+    c.in_ok-tell-in-Went-Synced.ensures (runs-on l.body l.instance c.step.new.self _ _ c.plan.ensures c.in_ok-step.ensures.moves l.invariant.sound c.step.ensures.path c.in_ok-step.ensures.sound) c.wait.result c.wait.ensures
 
 pub returns-in-Gave : goal.returns-in-Gave
 returns-in-Gave c =

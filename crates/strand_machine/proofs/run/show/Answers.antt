@@ -4,14 +4,14 @@ use Rattle.strand_meaning.specs.Task.{stops_at, child_in}
 use Rattle.strand_moves.specs.Moves.{tokens_of}
 use Rattle.strand_machine.specs.Shown.{shown_task}
 use Rattle.strand_machine.specs.Stops.{KeepsStep, step_of}
-use Rattle.strand_machine.specs.Tasks.{view_of, fresh, with_child}
+use Rattle.strand_machine.specs.Tasks.{view_of, fresh_with, with_child}
 use Rattle.strand_machine.specs.declared.place.Place.TheVariants as place
 use Rattle.strand_machine.specs.declared.stop.Step.{Step}
 use Rattle.strand_machine.specs.declared.stop.Step.TheVariants as step
 use Rattle.strand_machine.specs.declared.stop.Stop.TheVariants as stop
 use Rattle.strand_machine.specs.declared.work.Stage.TheVariants as stage
 use Rattle.strand_machine.specs.declared.work.Work.TheVariants as work
-use Rattle.strand_machine.proofs.Moving.{nothing-sound, nothing-step, told-sound, told-step, synced-sound, synced-step, spawned-known, spawned-trail, spawned-sound, spawned-step, looped-known, looped-trail, looped-sound, looped-step, passes-keep, spawns-keep, with_pieces}
+use Rattle.strand_machine.proofs.Moving.{nothing-sound, nothing-step, told-sound, told-step, synced-sound, synced-step, spawned-known, spawned-trail, spawned-below, spawned-sound, spawned-step, looped-known, looped-trail, looped-below, looped-sound, looped-step, passes-keep, spawns-keep, with_pieces}
 use Rattle.strand_machine.proofs.run.show.Goals as goal
 
 -- nothing
@@ -25,7 +25,7 @@ returns-in-Nothing-clause-step c = nothing-step c.args.body c.args.instance c.ar
 pub returns-in-Nothing-clause-keeps : goal.returns-in-Nothing-clause-keeps
 returns-in-Nothing-clause-keeps c =
     let w = work.Runs (stage.Goes c.args.instance) in
-    passes-keep c.args.body c.args.body.pieces w w c.pass.result c.pass.ensures
+    passes-keep c.args.body c.args.body.pieces w w c.pass.result refl c.pass.ensures
 
 -- an event
 
@@ -39,7 +39,7 @@ returns-in_ok-tell-in-Told-clause-step c =
 pub returns-in_ok-tell-in-Told-clause-keeps : goal.returns-in_ok-tell-in-Told-clause-keeps
 returns-in_ok-tell-in-Told-clause-keeps c =
     let w = work.Runs (stage.Goes c.args.instance) in
-    passes-keep c.args.body c.tell.new.self w w c.pass-in-Told.result c.pass-in-Told.ensures
+    passes-keep c.args.body c.tell.new.self w w c.pass-in-Told.result refl c.pass-in-Told.ensures
 
 -- a sync
 
@@ -53,7 +53,7 @@ returns-in_ok-tell-in-Synced-clause-step c =
 pub returns-in_ok-tell-in-Synced-clause-keeps : goal.returns-in_ok-tell-in-Synced-clause-keeps
 returns-in_ok-tell-in-Synced-clause-keeps c =
     let i = c.args.instance in
-    passes-keep c.args.body c.tell-in-Synced.new.self (work.Runs (stage.Goes i)) (work.Runs (stage.AtSync i)) c.pass-in-Synced.result c.pass-in-Synced.ensures
+    passes-keep c.args.body c.tell-in-Synced.new.self (work.Runs (stage.Goes i)) (work.Runs (stage.AtSync i)) c.pass-in-Synced.result refl c.pass-in-Synced.ensures
 
 -- a child
 
@@ -64,6 +64,10 @@ spawn-requires-clause-known c =
 pub spawn-requires-clause-trail : goal.spawn-requires-clause-trail
 spawn-requires-clause-trail c =
     spawned-trail c.args.body c.args.instance c.args.shown c.in-Spawned.event c.in-Spawned.child c.in-Spawned.height c.in-Spawned.target c.in-Spawned.is c.requires
+
+pub spawn-requires-clause-below : goal.spawn-requires-clause-below
+spawn-requires-clause-below c =
+    spawned-below c.args.body c.args.instance c.args.shown c.in-Spawned.event c.in-Spawned.child c.in-Spawned.height c.in-Spawned.target c.in-Spawned.is c.requires
 
 pub spawn-requires-clause-sound : goal.spawn-requires-clause-sound
 spawn-requires-clause-sound c =
@@ -76,7 +80,7 @@ returns-in_ok-tell-in-Spawned-clause-step c =
     let s = c.in-Spawned in
     let p = c.tell-in-Spawned.new.self in
     IfOk-weaker c.spawn.result
-    (λ (r : Step). r ≡ step.Stops (stop.Spawn (fresh b.family.plan s.child.origin) (view_of (with_child (with_pieces b p) s.child.origin (place.Spawned s.height s.target)) (work.Runs (stage.Goes i)))))
+    (λ (r : Step). r ≡ step.Stops (stop.Spawn (fresh_with b.family.knows b.family.plan s.child.origin) (view_of (with_child (with_pieces b p) s.child.origin (place.Spawned s.height s.target)) (work.Runs (stage.Goes i)))))
     (λ (r : Step). step_of r ≡ stops_at (child_in (tokens_of c.args.shown)) (shown_task b i c.args.shown))
     (λ r h. spawned-step b i c.args.shown s.event s.child s.height s.target p r s.is c.in_ok-tell-in-Spawned.ensures h) c.spawn.ensures
 
@@ -88,8 +92,8 @@ returns-in_ok-tell-in-Spawned-clause-keeps c =
     let p = c.tell-in-Spawned.new.self in
     let at = place.Spawned s.height s.target in
     IfOk-weaker c.spawn.result
-    (λ (r : Step). r ≡ step.Stops (stop.Spawn (fresh b.family.plan s.child.origin) (view_of (with_child (with_pieces b p) s.child.origin at) w)))
-    (KeepsStep (view_of b w)) (λ r h. spawns-keep b p w w s.child.origin at r h) c.spawn.ensures
+    (λ (r : Step). r ≡ step.Stops (stop.Spawn (fresh_with b.family.knows b.family.plan s.child.origin) (view_of (with_child (with_pieces b p) s.child.origin at) w)))
+    (KeepsStep (view_of b w)) (λ r h. spawns-keep b p w w s.child.origin at r refl h) c.spawn.ensures
 
 -- a loop
 
@@ -100,6 +104,10 @@ spawn-requires-in-Looped-clause-known c =
 pub spawn-requires-in-Looped-clause-trail : goal.spawn-requires-in-Looped-clause-trail
 spawn-requires-in-Looped-clause-trail c =
     looped-trail c.args.body c.args.instance c.args.shown c.in-Looped.event c.in-Looped.child c.in-Looped.target c.in-Looped.is c.requires
+
+pub spawn-requires-in-Looped-clause-below : goal.spawn-requires-in-Looped-clause-below
+spawn-requires-in-Looped-clause-below c =
+    looped-below c.args.body c.args.instance c.args.shown c.in-Looped.event c.in-Looped.child c.in-Looped.target c.in-Looped.is c.requires
 
 pub spawn-requires-in-Looped-clause-sound : goal.spawn-requires-in-Looped-clause-sound
 spawn-requires-in-Looped-clause-sound c =
@@ -112,7 +120,7 @@ returns-in_ok-tell-in-Looped-clause-step c =
     let s = c.in-Looped in
     let p = c.tell-in-Looped.new.self in
     IfOk-weaker c.spawn-in-Looped.result
-    (λ (r : Step). r ≡ step.Stops (stop.Spawn (fresh b.family.plan s.child.origin) (view_of (with_child (with_pieces b p) s.child.origin (place.Looped s.target)) (work.Runs (stage.AtLoop i)))))
+    (λ (r : Step). r ≡ step.Stops (stop.Spawn (fresh_with b.family.knows b.family.plan s.child.origin) (view_of (with_child (with_pieces b p) s.child.origin (place.Looped s.target)) (work.Runs (stage.AtLoop i)))))
     (λ (r : Step). step_of r ≡ stops_at (child_in (tokens_of c.args.shown)) (shown_task b i c.args.shown))
     (λ r h. looped-step b i c.args.shown s.event s.child s.target p r s.is c.in_ok-tell-in-Looped.ensures h) c.spawn-in-Looped.ensures
 
@@ -124,5 +132,5 @@ returns-in_ok-tell-in-Looped-clause-keeps c =
     let p = c.tell-in-Looped.new.self in
     let at = place.Looped s.target in
     IfOk-weaker c.spawn-in-Looped.result
-    (λ (r : Step). r ≡ step.Stops (stop.Spawn (fresh b.family.plan s.child.origin) (view_of (with_child (with_pieces b p) s.child.origin at) (work.Runs (stage.AtLoop i)))))
-    (KeepsStep (view_of b (work.Runs (stage.Goes i)))) (λ r h. spawns-keep b p (work.Runs (stage.Goes i)) (work.Runs (stage.AtLoop i)) s.child.origin at r h) c.spawn-in-Looped.ensures
+    (λ (r : Step). r ≡ step.Stops (stop.Spawn (fresh_with b.family.knows b.family.plan s.child.origin) (view_of (with_child (with_pieces b p) s.child.origin at) (work.Runs (stage.AtLoop i)))))
+    (KeepsStep (view_of b (work.Runs (stage.Goes i)))) (λ r h. spawns-keep b p (work.Runs (stage.Goes i)) (work.Runs (stage.AtLoop i)) s.child.origin at r refl h) c.spawn-in-Looped.ensures

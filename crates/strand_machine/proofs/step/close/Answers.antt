@@ -32,7 +32,7 @@ pub returns-then-is_long : goal.returns-then-is_long
 returns-then-is_long c =
     let b = c.args.body in
     let v = c.args.value in
-    wait-is b (work.Over v c.args.gone_on) (work.Over v false) c.wait.result (over-long b v c.args.gone_on c.if-gone_on.false (sym c.is_long.ensures ∙ c.if-is_long.true)) c.wait.ensures
+    wait-is b (work.Over v c.args.gone_on) (work.Over v false) c.wait.result tt (over-long b v c.args.gone_on c.if-gone_on.false (sym c.is_long.ensures ∙ c.if-is_long.true)) c.wait.ensures
 
 pub close_with-requires-2 : goal.close_with-requires-2
 close_with-requires-2 c =

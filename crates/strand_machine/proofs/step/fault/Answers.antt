@@ -29,5 +29,5 @@ pub returns : goal.returns
 returns c =
     let b = c.args.body in
     let f = c.args.fault in
-    wait-is b (work.Runs (stage.Faulted f)) (work.Runs (stage.Faulted f)) c.wait.result
+    wait-is b (work.Runs (stage.Faulted f)) (work.Runs (stage.Faulted f)) c.wait.result tt
     (fault-behind b f (λ none. true≢false (sym (c.is_alone.ensures.1 none) ∙ c.if-is_alone.false))) c.wait.ensures

@@ -25,4 +25,4 @@ returns-in-Instance c =
 pub returns-in-Loop : goal.returns-in-Loop
 returns-in-Loop c =
     let v = c.args.value in
-    pass-is c.args.body (work.Runs (stage.Gave v)) (work.Over v false) _ (give-loop c.args.body v _ _ _ _ _ (sym c.origin.ensures ∙ c.in-Loop.is)) c.pass.ensures
+    pass-is c.args.body (work.Runs (stage.Gave v)) (work.Over v false) _ tt (give-loop c.args.body v _ _ _ _ _ (sym c.origin.ensures ∙ c.in-Loop.is)) c.pass.ensures

@@ -17,13 +17,13 @@ pub wait-requires : goal.wait-requires
 wait-requires c = sync-sound c.steps_are_sound.ensures c.args.body c.args.stage c.in-AtSync.instance c.in-AtSync.is c.requires
 
 pub returns-in-AtSync : goal.returns-in-AtSync
-returns-in-AtSync c = sync-is c.args.body c.args.stage c.in-AtSync.instance c.wait.result c.in-AtSync.is c.wait.ensures
+returns-in-AtSync c = sync-is c.args.body c.args.stage c.in-AtSync.instance c.wait.result c.in-AtSync.is c.requires c.wait.ensures
 
 pub wait-requires-in-AtLoop : goal.wait-requires-in-AtLoop
 wait-requires-in-AtLoop c = loop-sound c.steps_are_sound.ensures c.args.body c.args.stage c.in-AtLoop.instance c.in-AtLoop.is c.requires
 
 pub returns-in-AtLoop : goal.returns-in-AtLoop
-returns-in-AtLoop c = loop-is c.args.body c.args.stage c.in-AtLoop.instance c.wait-in-AtLoop.result c.in-AtLoop.is c.wait-in-AtLoop.ensures
+returns-in-AtLoop c = loop-is c.args.body c.args.stage c.in-AtLoop.instance c.wait-in-AtLoop.result c.in-AtLoop.is c.requires c.wait-in-AtLoop.ensures
 
 pub give-requires : goal.give-requires
 give-requires c = stage-sound c.args.body c.args.stage (stage.Gave c.in-Gave.value) c.in-Gave.is c.requires

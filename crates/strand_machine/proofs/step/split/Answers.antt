@@ -4,13 +4,13 @@ use Rattle.serial_meaning.specs.declared.origin.Origin.{Origin}
 use Rattle.serial_meaning.specs.declared.answer.Outcome.TheVariants as outcome
 use Rattle.strand_machine.specs.Bodies.{only}
 use Rattle.strand_machine.specs.Stops.{IsStep}
-use Rattle.strand_machine.specs.Tasks.{view_of, with_child, fresh}
+use Rattle.strand_machine.specs.Tasks.{view_of, with_child, fresh_with}
 use Rattle.strand_machine.specs.declared.stop.Step.TheVariants as step
 use Rattle.strand_machine.specs.declared.stop.Stop.TheVariants as stop
 use Rattle.strand_machine.specs.declared.place.Place.TheVariants as place
 use Rattle.strand_machine.specs.declared.work.Left.{Left}
 use Rattle.strand_machine.specs.declared.work.Work.TheVariants as work
-use Rattle.strand_machine.proofs.Dispatch.{end-answers, end-is, part-trail, pass-sound, pass-is, spawn-sound, spawn-is, split-many, split-none, split-one}
+use Rattle.strand_machine.proofs.Dispatch.{below-half, end-answers, end-is, part-trail, pass-sound, pass-is, spawn-sound, spawn-is, split-many, split-none, split-one}
 use Rattle.strand_machine.proofs.Halves.{many, halves, only-one}
 use Rattle.strand_machine.proofs.step.split.Goals as goal
 
@@ -32,6 +32,13 @@ spawn_part-requires-clause-trail c =
     let p = c.in-Some.halves in
     let child : c.in_ok-origin.origin ≡ only b.family.origin p.0 = c.in_ok-origin.ensures ∙ ap (λ (o : Origin). only o p.0) c.origin.ensures in
     part-trail b.family.plan b.family.origin c.in_ok-origin.origin p.0 c.args.left.trail c.in_ok-shared.shared child c.in_ok-shared.ensures c.requires.works
+
+pub spawn_part-requires-clause-below : goal.spawn_part-requires-clause-below
+spawn_part-requires-clause-below c =
+    let b = c.args.body in
+    let p = c.in-Some.halves in
+    let child : c.in_ok-origin.origin ≡ only b.family.origin p.0 = c.in_ok-origin.ensures ∙ ap (λ (o : Origin). only o p.0) c.origin.ensures in
+    below-half b.family.origin c.in_ok-origin.origin c.args.left.range p.0 c.requires.task.work.0 child
 
 pub spawn_part-requires-clause-sound : goal.spawn_part-requires-clause-sound
 spawn_part-requires-clause-sound c =
@@ -55,8 +62,8 @@ returns-in-Some c =
     let two = many (l.range.hi - l.range.lo) c.split.result p c.in-Some.is c.split.ensures.too_few in
     let child : c.in_ok-origin.origin ≡ only b.family.origin p.0 = c.in_ok-origin.ensures ∙ ap (λ (o : Origin). only o p.0) c.origin.ensures in
     IfOk-weaker c.spawn_part.result
-    (λ s. s ≡ step.Stops (stop.Spawn (fresh b.family.plan c.in_ok-origin.origin) (view_of (with_child b c.in_ok-origin.origin place.Half) (work.Splits upper)))) (IsStep (view_of b (work.Splits l)))
-    (λ s h. spawn-is b (work.Splits l) (work.Splits upper) c.in_ok-origin.origin place.Half s (split-many b l upper p.0 c.in_ok-origin.origin two parts.0 parts.1 child) h)
+    (λ s. s ≡ step.Stops (stop.Spawn (fresh_with b.family.knows b.family.plan c.in_ok-origin.origin) (view_of (with_child b c.in_ok-origin.origin place.Half) (work.Splits upper)))) (IsStep (view_of b (work.Splits l)))
+    (λ s h. spawn-is b (work.Splits l) (work.Splits upper) c.in_ok-origin.origin place.Half s c.requires.works (split-many b l upper p.0 c.in_ok-origin.origin two parts.0 parts.1 child) h)
     c.spawn_part.ensures
 
 pub end-requires : goal.end-requires
@@ -86,4 +93,4 @@ returns c =
     let b = c.args.body in
     let l = c.args.left in
     let one = only-one (l.range.hi - l.range.lo) c.split.result c.in_default.is c.split.ensures.too_few (λ z. c.if-len-eq0.false (c.len.ensures.count ∙ z)) in
-    pass-is b (work.Splits l) c.in_ok-work.work c.pass.result (split-one b l c.in_ok-work.work one (rw (c.plan.ensures, c.origin-2.ensures) at c.in_ok-work.ensures.begun)) c.pass.ensures
+    pass-is b (work.Splits l) c.in_ok-work.work c.pass.result (rw (c.plan.ensures, c.origin-2.ensures) at c.in_ok-work.ensures.works) (split-one b l c.in_ok-work.work one (rw (c.plan.ensures, c.origin-2.ensures) at c.in_ok-work.ensures.begun)) c.pass.ensures

@@ -2,7 +2,7 @@ use Rattle.std.proofs.Common.{IfOk, subst}
 use Rattle.strand_machine.specs.Stops.{GoesOn}
 use Rattle.strand_machine.specs.Tasks.{TaskView}
 use Rattle.strand_machine.specs.declared.work.Work.TheVariants as work
-use Rattle.strand_machine.proofs.Arms.{work-sound, work-view}
+use Rattle.strand_machine.proofs.Arms.{never-cut, work-sound, work-view}
 use Rattle.strand_machine.proofs.step.step.Goals as goal
 
 pub split-requires : goal.split-requires
@@ -28,3 +28,6 @@ pub returns-in-Over : goal.returns-in-Over
 returns-in-Over c =
     let same = work-view c.task.inside.body c.task.inside.work (work.Over c.in-Over.value c.in-Over.gone_on) c.args.task c.in-Over.is c.task.view_is in
     subst (λ (t : TaskView). IfOk c.close.result (GoesOn t)) same c.close.ensures
+
+pub unreachable-requires : goal.unreachable-requires
+unreachable-requires c = never-cut c.task.inside.body c.task.inside.work _ c.args.task c.in-Cut.is c.task.view_is c.requires

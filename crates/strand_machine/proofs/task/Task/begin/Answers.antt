@@ -4,7 +4,10 @@ use Rattle.script_check.specs.Valid.{IsValid}
 use Rattle.serial_meaning.specs.Plan.{PlanView}
 use Rattle.strand_meaning.specs.Task.{begun_work}
 use Rattle.strand_machine.specs.Tasks.{work_of, WorksAt}
-use Rattle.strand_machine.proofs.Starting.{start-sound}
+use Rattle.strand_machine.specs.Loops.{knows_of}
+use Rattle.strand_machine.proofs.Advancing.{sound_holds}
+use Rattle.strand_machine.proofs.Dispatch.{works-on}
+use Rattle.strand_machine.proofs.Starting.{start-sound, start-view}
 use Rattle.strand_machine.proofs.task.Task.begin.Goals as goal
 
 pub invariant_of-result : goal.invariant_of-result
@@ -16,4 +19,13 @@ invariant_of-result c =
     let begun : work_of plan w ≡ begun_work plan o = subst (λ (p : PlanView). work_of p w ≡ begun_work p o) c.deref-2.ensures c.in_ok-work.ensures.begun in
     let works : WorksAt plan o w = subst (λ (p : PlanView). WorksAt p o w) c.deref-2.ensures c.in_ok-work.ensures.works in
     rw c.new-3.ensures.items
-    (start-sound plan o w c.in_ok-new.field-0 c.new-2.result c.in_ok-new.ensures c.new-2.ensures begun c.tasks_begin.ensures c.valid_plans_are_clear.ensures c.requires.known valid works)
+    (sound_holds _ w (start-sound plan o w c.in_ok-new.field-0 c.new-2.result (knows_of c.args.loops) c.in_ok-new.ensures c.new-2.ensures begun c.tasks_begin.ensures c.valid_plans_are_clear.ensures c.requires.known valid works))
+
+pub returns : goal.returns
+returns c =
+    let plan = arc_value c.args.plan in
+    let o = c.args.child.origin in
+    let w = c.in_ok-work.work in
+    let begun : work_of plan w ≡ begun_work plan o = subst (λ (p : PlanView). work_of p w ≡ begun_work p o) c.deref-2.ensures c.in_ok-work.ensures.begun in
+    let works : WorksAt plan o w = subst (λ (p : PlanView). WorksAt p o w) c.deref-2.ensures c.in_ok-work.ensures.works in
+    rw c.new-3.ensures.items (start-view plan o w c.in_ok-new.field-0 c.new-2.result (knows_of c.args.loops) c.in_ok-new.ensures c.new-2.ensures begun (works-on plan o w works))

@@ -2,12 +2,17 @@ use Rattle.std.proofs.Common.{ℕ, ◌-◌, true, false, length, drop, sym, ap, 
 use Rattle.serial_meaning.specs.Plan.{PlanView}
 use Rattle.strand_machine.specs.Family.{FamilyView, AwaitsCount, tags}
 use Rattle.strand_machine.specs.Parts.{awaited}
+use Rattle.strand_machine.proofs.Advancing.{sound_holds, waits-sound, waits-uncut}
 use Rattle.strand_machine.proofs.Answering.{awaits-count, last-awaited}
-use Rattle.strand_machine.proofs.Taking.{looked-last, looked-same, looked-sound, taken-answered, went-on-is}
+use Rattle.strand_machine.proofs.Taking.{looked-last, looked-same, looked-sound, taken-answered, resumed-on}
 use Rattle.strand_machine.proofs.task.Task.resume.Goals as goal
 
 pub invariant_of-result : goal.invariant_of-result
-invariant_of-result c = looked-sound c.self.inside.body c.self.inside.work c.look.new.self false c.look.new.self.loads c.in-NotYet.ensures.1 c.self.invariant
+invariant_of-result c =
+    let b = c.self.inside.body in
+    let w = c.self.inside.work in
+    let sound = waits-sound b w c.args.self c.self.view_is c.requires c.self.invariant in
+    sound_holds (record b { family = c.look.new.self }) w (looked-sound b w c.look.new.self false c.look.new.self.loads c.in-NotYet.ensures.1 sound)
 
 pub take_answers-requires-clause-ready : goal.take_answers-requires-clause-ready
 take_answers-requires-clause-ready c = ap (λ (f : FamilyView). f.ready) c.in-Ready.ensures.1
@@ -15,18 +20,23 @@ take_answers-requires-clause-ready c = ap (λ (f : FamilyView). f.ready) c.in-Re
 pub take_answers-requires-clause-last : goal.take_answers-requires-clause-last
 take_answers-requires-clause-last c =
     let b = c.self.inside.body in
-    let last = looked-last b.family c.look.new.self b.pieces.handed true c.look.new.self.loads c.in-Ready.ensures.1 c.self.invariant.family in
+    let sound = waits-sound b c.self.inside.work c.args.self c.self.view_is c.requires c.self.invariant in
+    let last = looked-last b.family c.look.new.self b.pieces.handed true c.look.new.self.loads c.in-Ready.ensures.1 sound.family in
     subst (AwaitsCount c.look.new.self) (sym (ap length (c.as_slice.ensures ∙ c.awaited.ensures))) (awaits-count c.look.new.self b.pieces.handed last)
 
 pub go_on-requires-clause-sound : goal.go_on-requires-clause-sound
 go_on-requires-clause-sound c =
-    taken-answered c.self.inside.body c.self.inside.work c.look.new.self c.take_answers.new.family true c.look.new.self.loads c.in-Ready.ensures.1 c.take_answers.ensures.family c.take_answers.ensures.length c.self.invariant
+    let b = c.self.inside.body in
+    let w = c.self.inside.work in
+    let sound = waits-sound b w c.args.self c.self.view_is c.requires c.self.invariant in
+    taken-answered b w c.look.new.self c.take_answers.new.family true c.look.new.self.loads c.in-Ready.ensures.1 c.take_answers.ensures.family c.take_answers.ensures.length sound
 
 pub go_on-requires-clause-tags : goal.go_on-requires-clause-tags
 go_on-requires-clause-tags c =
     let b = c.self.inside.body in
     let g = c.look.new.self in
-    let last = looked-last b.family g b.pieces.handed true g.loads c.in-Ready.ensures.1 c.self.invariant.family in
+    let sound = waits-sound b c.self.inside.work c.args.self c.self.view_is c.requires c.self.invariant in
+    let last = looked-last b.family g b.pieces.handed true g.loads c.in-Ready.ensures.1 sound.family in
     c.in_ok-answers-in-Ready.ensures.tags ∙ ap (λ (n : ℕ). tags g.plan (drop (length g.children - n) g.children)) (ap length (c.as_slice.ensures ∙ c.awaited.ensures))
     ∙ ap (tags g.plan) (last-awaited g b.pieces.handed last) ∙ ap (λ (p : PlanView). tags p (awaited b.pieces.handed)) (sym (ap (λ (f : FamilyView). f.plan) c.take_answers.ensures.family))
 
@@ -35,5 +45,7 @@ returns-in-NotYet c = looked-same c.self.inside.body c.self.inside.work c.look.n
 
 pub returns-in_ok-go_on-in-Ready : goal.returns-in_ok-go_on-in-Ready
 returns-in_ok-go_on-in-Ready c =
-    went-on-is c.self.inside.body c.self.inside.work c.look.new.self c.take_answers.new.family true c.look.new.self.loads c.in-Ready.ensures.1 c.take_answers.ensures.family c.args.self _ c.self.view_is
-    c.in_ok-go_on-in-Ready.ensures c.in-Ready.ensures.0
+    let b = c.self.inside.body in
+    let w = c.self.inside.work in
+    resumed-on b w c.look.new.self c.take_answers.new.family true c.look.new.self.loads c.in-Ready.ensures.1 c.take_answers.ensures.family c.args.self _ c.self.view_is
+    (waits-uncut b w c.args.self c.self.view_is c.requires c.self.invariant) _ c.in_ok-go_on-in-Ready.ensures.answers c.in_ok-go_on-in-Ready.ensures.went c.in-Ready.ensures.0

@@ -1,0 +1,5 @@
+use Rattle.serial_meaning.proofs.Loops.{before_front}
+use Rattle.serial_meaning.proofs.laws.before_front.Goals as goal
+
+pub returns : goal.returns
+returns c = before_front

@@ -1,0 +1,5 @@
+use Rattle.serial_meaning.proofs.Before.{before-longer}
+use Rattle.serial_meaning.proofs.laws.before_lasts.Goals as goal
+
+pub returns : goal.returns
+returns c = before-longer

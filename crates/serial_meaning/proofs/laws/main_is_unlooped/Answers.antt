@@ -1,0 +1,5 @@
+use Rattle.serial_meaning.proofs.Loops.{main_is_unlooped}
+use Rattle.serial_meaning.proofs.laws.main_is_unlooped.Goals as goal
+
+pub returns : goal.returns
+returns c = main_is_unlooped

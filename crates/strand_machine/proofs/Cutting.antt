@@ -1,0 +1,237 @@
+-- A task that takes its children's answers, of which some may be cuts.
+use Rattle.std.proofs.Common.{◌≡◌, ℕ, Bool, true, false, ◌||◌, List, [], ◌∷◌, ◌++◌, Option, Some, None, Result, Ok, Err, length, refl, sym, ap, ◌∙◌, subst, arith}
+use Rattle.std.proofs.lemmas.Bool.{true≢false}
+use Rattle.serial_meaning.specs.Answer.{AnswerView, AnswerTag, IsAnswer}
+use Rattle.serial_meaning.specs.Eval.{Evaluation, eval}
+use Rattle.serial_meaning.specs.Plan.{PlanView}
+use Rattle.serial_meaning.specs.declared.value.Value.{Value}
+use Rattle.serial_meaning.specs.declared.event.Event.{Event}
+use Rattle.serial_meaning.specs.declared.event.Fault.{Fault}
+use Rattle.serial_meaning.specs.declared.origin.Origin.{Origin}
+use Rattle.serial_meaning.specs.declared.answer.Outcome.{Outcome}
+use Rattle.serial_meaning.specs.declared.answer.Outcome.TheVariants as outcome
+use Rattle.strand_meaning.specs.Answers.{evaluation_of, answer_evaluations}
+use Rattle.strand_meaning.specs.Cuts.{AreAnswersOf, AnswersEnd, IsByFaultOf, by_fault, ended_after, or_ends}
+use Rattle.strand_meaning.specs.Laws.{AnswersAreEvaluations}
+use Rattle.strand_meaning.specs.Machine.{Half}
+use Rattle.strand_meaning.specs.Pieces.{Part, Pieces, heard, heard_all}
+use Rattle.strand_meaning.specs.Sound.{IsTask}
+use Rattle.strand_meaning.specs.Task.{Task, takes, more_values}
+use Rattle.strand_machine.specs.Family.{FamilyView, tag, tags, origins}
+use Rattle.strand_machine.specs.Going.{AreSaid, BecomesWork, EndsShort, IsAnswered, IsShort, Puts, Takes, TakesAnswers, end_of, ended_of, ending_of, meanings, pieces_of, with_stage}
+use Rattle.strand_machine.specs.Parts.{awaited, part_of, parts_of, place_of}
+use Rattle.strand_machine.specs.declared.place.Place.{Place}
+use Rattle.strand_machine.specs.declared.place.Place.TheVariants as place
+use Rattle.strand_machine.specs.Stops.{IsCutOn, answer_tags, any_cut, is_cut, told_with}
+use Rattle.strand_machine.specs.Tasks.{TaskView, IsCutShort, task_of, view_of, work_of}
+use Rattle.strand_machine.specs.declared.body.Body.{Body}
+use Rattle.strand_machine.specs.declared.going.Going.{Going}
+use Rattle.strand_machine.specs.declared.pieces.Behind.{Behind}
+use Rattle.strand_machine.specs.declared.work.Work.{Work}
+use Rattle.strand_machine.specs.declared.work.Work.TheVariants as work
+use Rattle.strand_machine.proofs.Answering.{eval-of, origins-tags}
+use Rattle.strand_machine.proofs.Handed.{awaited_parts}
+use Rattle.strand_machine.proofs.Taking.{other-values, same-stage, takes-then, takes-none}
+
+-- One child
+
+says : (out : List Event) (ended : Outcome) → evaluation_of out ended ≡ record { items = out; ending = ending_of ended }
+says out (outcome.Value v) = refl
+says out (outcome.Values vs) = refl
+says out (outcome.Fault f) = refl
+says out (outcome.Cut f) = refl
+
+or-false : (b : Bool) → (b || false) ≡ b
+or-false true = refl
+or-false false = refl
+
+pub takes-answer : (p : Part) (a : AnswerView) (before heard-it after : Going) → pieces_of heard-it ≡ heard p (record { items = a.out; ending = ending_of a.outcome }) (pieces_of before) →
+    ended_of heard-it ≡ or_ends (ended_of before) a.outcome → heard-it.cut ≡ (before.cut || is_cut a.outcome) → heard-it.values ≡ before.values → heard-it.work ≡ before.work →
+    Puts p.place (ending_of a.outcome) heard-it after → IsAnswer a.plan a.origin a.out a.outcome → TakesAnswers (p ∷ []) (a ∷ []) before after
+takes-answer p a before heard-it after pieces ended cut values work h said = record {
+  takes = subst (λ (e : Evaluation). Takes (p ∷ []) (e ∷ []) before after) (sym (says a.out a.outcome)) (record {
+    pieces = h.pieces ∙ pieces;
+    values = h.values ∙ ap (λ vs. more_values p.place (ending_of a.outcome) vs) values;
+    work = subst (λ w. BecomesWork (with_stage (takes p.place (ending_of a.outcome))) w after.work) work h.work;
+  });
+  ended = h.ended ∙ ended;
+  cut = h.cut ∙ cut ∙ ap (λ (b : Bool). before.cut || b) (sym (or-false (is_cut a.outcome)));
+  said = (said, tt);
+}
+
+pub puts-half : (p : Place) (ending : Result (List Value) Fault) (before after : Going) → p ≡ place.Half → after ≡ record before { values = more_values Half ending before.values } → Puts (place_of p) ending before after
+puts-half p ending before after at is =
+    let there : Puts Half ending before (record before { values = more_values Half ending before.values }) = record {
+      pieces = refl;
+      ended = refl;
+      cut = refl;
+      values = refl;
+      work = record { is = λ plan. sym (same-stage (work_of plan before.work)); works = λ plan o h. h };
+    } in
+    subst (λ (g : Going). Puts (place_of p) ending before g) (sym is) (subst (λ (q : Place). Puts (place_of q) ending before (record before { values = more_values Half ending before.values })) (sym at) there)
+
+pub puts-other : (p : Place) (ending : Result (List Value) Fault) (before : Going) (w : Work) → (p ≡ place.Half → ⊥) → BecomesWork (with_stage (takes (place_of p) ending)) before.work w →
+    Puts (place_of p) ending before (record before { work = w })
+puts-other p ending before w other h = record { pieces = refl; ended = refl; cut = refl; values = sym (other-values p other ending before.values); work = h }
+
+-- One child, and then the others
+
+or-assoc : (a b c : Bool) → ((a || b) || c) ≡ (a || (b || c))
+or-assoc true b c = refl
+or-assoc false b c = refl
+
+answers-then : (p : Part) (ps : List Part) (a : AnswerView) (answers : List AnswerView) (before between after : Going) → TakesAnswers (p ∷ []) (a ∷ []) before between → TakesAnswers ps answers between after →
+    TakesAnswers (p ∷ ps) (a ∷ answers) before after
+answers-then p ps a answers before between after h k = record {
+  takes = takes-then p ps (evaluation_of a.out a.outcome) (answer_evaluations answers) before between after h.takes k.takes;
+  ended = k.ended ∙ ap (λ (o : Option Outcome). ended_after o answers) h.ended;
+  cut = k.cut ∙ ap (λ (b : Bool). b || any_cut answers) (h.cut ∙ ap (λ (b : Bool). before.cut || b) (or-false (is_cut a.outcome))) ∙ or-assoc before.cut (is_cut a.outcome) (any_cut answers);
+  said = (h.said.0, k.said);
+}
+
+pub answers-next : (xs ys : List AnswerView) (bs cs : List Behind) (a : AnswerView) (b : Behind) (before between after : Going) → xs ≡ a ∷ ys → bs ≡ b ∷ cs →
+    TakesAnswers (part_of a.origin b ∷ []) (a ∷ []) before between → TakesAnswers (parts_of (origins (answer_tags ys)) cs) ys between after →
+    TakesAnswers (parts_of (origins (answer_tags xs)) bs) xs before after
+answers-next xs ys bs cs a b before between after e k h more =
+    let all : TakesAnswers (parts_of (origins (answer_tags (a ∷ ys))) (b ∷ cs)) (a ∷ ys) before after =
+    answers-then (part_of a.origin b) (parts_of (origins (answer_tags ys)) cs) a ys before between after h more in
+    subst (λ (ds : List Behind). TakesAnswers (parts_of (origins (answer_tags xs)) ds) xs before after) (sym k)
+    (subst (λ (zs : List AnswerView). TakesAnswers (parts_of (origins (answer_tags zs)) (b ∷ cs)) zs before after) (sym e) all)
+
+pub answers-no-more : (xs : List AnswerView) (bs : List Behind) (g : Going) → length xs ≡ 0 → length bs ≡ 0 → TakesAnswers (parts_of (origins (answer_tags xs)) bs) xs g g
+answers-no-more [] bs g h k = record { takes = takes-none g; ended = refl; cut = sym (or-false g.cut); said = tt }
+answers-no-more (x ∷ xs) bs g h k = absurd (omega arith)
+
+-- Answers of which none is a cut
+
+or-left : (a b : Bool) → (a || b) ≡ false → a ≡ false
+or-left false b h = refl
+or-left true b h = absurd (true≢false h)
+
+or-right : (a b : Bool) → (a || b) ≡ false → b ≡ false
+or-right false b h = h
+or-right true b h = absurd (true≢false h)
+
+pub whole-answers : AnswersAreEvaluations → (answers : List AnswerView) → AreSaid answers → any_cut answers ≡ false → answer_evaluations answers ≡ meanings (answer_tags answers)
+whole-answers law [] said whole = refl
+whole-answers law (a ∷ answers) said whole =
+    ap (λ (e : Evaluation). e ∷ answer_evaluations answers) (law a.plan a.origin a.out a.outcome (eval-of a.plan a.origin a.out a.outcome (or-left (is_cut a.outcome) (any_cut answers) whole) said.0))
+    ∙ ap (λ (es : List Evaluation). eval a.plan a.origin ∷ es) (whole-answers law answers said.1 (or-right (is_cut a.outcome) (any_cut answers) whole))
+
+-- Answers of children
+
+pub answers-of : (plan : PlanView) (ps : List Part) (answers : List AnswerView) → AreSaid answers → answer_tags answers ≡ tags plan (awaited ps) → AreAnswersOf plan ps answers
+answers-of plan [] [] said e = tt
+answers-of plan [] (a ∷ answers) said e = absurd (cc)
+answers-of plan (p ∷ ps) [] said e = absurd (cc)
+answers-of plan (p ∷ ps) (a ∷ answers) said e =
+    let same : tag a.plan a.origin ≡ tag plan p.child = cc in
+    (ap (λ (t : AnswerTag). t.plan) same, ap (λ (t : AnswerTag). t.origin) same, said.0, answers-of plan ps answers said.1 (cc))
+
+-- an end comes of a cut
+ends-some : (o : Option Outcome) (answers : List AnswerView) → any_cut answers ≡ true → (ended : Outcome) × (ended_after o answers ≡ Some ended)
+ends-some o [] cut = absurd (true≢false (sym cut))
+ends-some (Some ended) (a ∷ answers) cut = stays (a ∷ answers)
+  where
+    stays : (xs : List AnswerView) → (other : Outcome) × (ended_after (Some ended) xs ≡ Some other)
+    stays [] = (ended, refl)
+    stays (x ∷ xs) = stays xs
+ends-some None (a ∷ answers) cut = by_outcome a.outcome cut
+  where
+    there : (f : Outcome) (xs : List AnswerView) → (other : Outcome) × (ended_after (Some f) xs ≡ Some other)
+    there f [] = (f, refl)
+    there f (x ∷ xs) = there f xs
+
+    by_outcome : (o : Outcome) → (is_cut o || any_cut answers) ≡ true → (other : Outcome) × (ended_after (or_ends None o) answers ≡ Some other)
+    by_outcome (outcome.Value v) c = ends-some None answers c
+    by_outcome (outcome.Values vs) c = ends-some None answers c
+    by_outcome (outcome.Fault f) c = there (outcome.Fault f) answers
+    by_outcome (outcome.Cut f) c = there (outcome.Cut f) answers
+
+fault-first : (f : Option Fault) → end_of f false ≡ by_fault f
+fault-first None = refl
+fault-first (Some f) = refl
+
+pub own-children : (b : Body) (told : List Event) (fault : Option Fault) (os : List Origin) (bs : List Behind) (ts : List AnswerTag) → ◌≡◌ {A = Pieces} (record { told = told; fault = fault; handed = parts_of os bs }) b.pieces →
+    length os ≡ length bs → ts ≡ tags b.family.plan (awaited b.pieces.handed) → origins ts ≡ os
+own-children b told fault os bs ts view same e =
+    ap origins e ∙ origins-tags b.family.plan (awaited b.pieces.handed) ∙ ap (λ (p : Pieces). awaited p.handed) (sym view) ∙ awaited_parts os bs same
+
+-- What is left of a task that took a cut
+
+module _ (b : Body) (w : Work) (told : List Event) (fault : Option Fault) (os : List Origin) (bs : List Behind) (answers : List AnswerView) (after : Going) where
+  abbrev begun : Going
+  begun = record { told = told; fault = fault; values = b.values; work = w; cut = false; by_cut = false }
+
+  module _ (view : ◌≡◌ {A = Pieces} (record { told = told; fault = fault; handed = parts_of os bs }) b.pieces) (children : origins (answer_tags answers) ≡ os)
+      (h : TakesAnswers (parts_of (origins (answer_tags answers)) bs) answers begun after) where
+    handed : parts_of (origins (answer_tags answers)) bs ≡ b.pieces.handed
+    handed = ap (λ (cs : List Origin). parts_of cs bs) children ∙ ap (λ (p : Pieces). p.handed) view
+
+    front : pieces_of begun ≡ record b.pieces { handed = [] }
+    front = ap (λ (p : Pieces). record p { handed = [] }) view
+
+    told-same : after.told ≡ told_with answers (task_of b w)
+    told-same =
+        ap (λ (p : Pieces). p.told) h.takes.pieces ∙ ap (λ (ps : List Part). (heard_all ps (answer_evaluations answers) (pieces_of begun)).told) handed
+        ∙ ap (λ (p : Pieces). (heard_all b.pieces.handed (answer_evaluations answers) p).told) front
+
+    ended-same : ended_of after ≡ ended_after (by_fault b.pieces.fault) answers
+    ended-same = h.ended ∙ ap (λ (o : Option Outcome). ended_after o answers) (fault-first fault ∙ ap (λ (p : Pieces). by_fault p.fault) view)
+
+    pub ends-short : AnswersEnd → IsTask (task_of b w) → AreAnswersOf b.family.plan b.pieces.handed answers → any_cut answers ≡ true → EndsShort b.family after
+    ends-short law is are cut =
+        let some = ends-some (by_fault b.pieces.fault) answers cut in
+        let end = law (task_of b w) answers some.0 is are some.1 in
+        record { outcome = some.0; ended = ended-same ∙ some.1; answers = subst (λ (es : List Event). IsAnswer b.family.plan b.family.origin es some.0) (sym told-same) end.0; known = end.1 }
+
+    pub short-on : (next : TaskView) → IsShort b.family after b.advanced next → IsCutOn answers (view_of b w) next × (next.loads ≡ b.family.loads)
+    short-on next s = (
+      record {
+        plan = s.plan;
+        origin = s.origin;
+        told = s.told ∙ told-same;
+        handed = s.handed;
+        waits = s.waits;
+        advanced = s.advanced;
+        cut = s.cut ∙ ended-same;
+        children = s.children;
+        knows = s.knows;
+      },
+      s.loads,
+    )
+
+-- the task itself
+
+pub short-some : (family : FamilyView) (g : Going) (r : Option Outcome) → EndsShort family g → r ≡ ended_of g → r ≡ None → ⊥
+short-some family g r h e none = let some : Some h.outcome ≡ None = sym h.ended ∙ sym e ∙ none in absurd (cc)
+
+same-end : (family : FamilyView) (g : Going) (h : EndsShort family g) (o : Outcome) (r : Option Outcome) → r ≡ ended_of g → r ≡ Some o → h.outcome ≡ o
+same-end family g h o r e is = let some : Some h.outcome ≡ Some o = sym h.ended ∙ sym e ∙ is in cc
+
+pub short-holds : (family : FamilyView) (g : Going) → EndsShort family g → (o : Outcome) (r : Option Outcome) → r ≡ ended_of g → r ≡ Some o →
+    (b : Body) → b.family ≡ family → b.pieces ≡ record { told = g.told; fault = None; handed = [] } → b.waiting ≡ false → IsCutShort b o
+short-holds family g h o r e is b same pieces waits =
+    let told : b.pieces.told ≡ g.told = ap (λ (p : Pieces). p.told) pieces in
+    let end = same-end family g h o r e is in
+    record {
+      answers = subst (λ (f : FamilyView). IsAnswer f.plan f.origin b.pieces.told o) (sym same)
+          (subst (λ (es : List Event). IsAnswer family.plan family.origin es o) (sym told) (subst (IsAnswer family.plan family.origin g.told) end h.answers));
+      known = subst (λ (f : FamilyView). IsByFaultOf f.plan o) (sym same) (subst (IsByFaultOf family.plan) end h.known);
+      waits = waits;
+    }
+
+pub short-view : (family : FamilyView) (g : Going) (advanced : Bool) (o : Outcome) (r : Option Outcome) → r ≡ ended_of g → r ≡ Some o →
+    (b : Body) → b.family ≡ family → b.pieces ≡ record { told = g.told; fault = None; handed = [] } → b.waiting ≡ false → b.advanced ≡ advanced → IsShort family g advanced (view_of b (work.Cut o))
+short-view family g advanced o r e is b same pieces waits was = record {
+  plan = ap (λ (f : FamilyView). f.plan) same;
+  origin = ap (λ (f : FamilyView). f.origin) same;
+  told = ap (λ (p : Pieces). p.told) pieces;
+  handed = ap (λ (p : Pieces). p.handed) pieces;
+  waits = waits;
+  advanced = was;
+  cut = sym is ∙ e;
+  children = ap (λ (f : FamilyView). f.children) same;
+  loads = ap (λ (f : FamilyView). f.loads) same;
+  knows = ap (λ (f : FamilyView). f.knows) same;
+}

@@ -1,0 +1,5 @@
+use Rattle.strand_meaning.proofs.Cutting.{answers_end}
+use Rattle.strand_meaning.proofs.laws.answers_end.Goals as goal
+
+pub returns : goal.returns
+returns c = answers_end

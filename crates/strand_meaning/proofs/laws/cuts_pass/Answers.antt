@@ -1,0 +1,5 @@
+use Rattle.strand_meaning.proofs.Cutting.{cuts_pass}
+use Rattle.strand_meaning.proofs.laws.cuts_pass.Goals as goal
+
+pub returns : goal.returns
+returns c = cuts_pass

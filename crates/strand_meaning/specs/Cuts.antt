@@ -1,0 +1,83 @@
+-- What a task is once answers are taken of which one is a fault or a cut.
+use Rattle.std.specs.Prelude.{◌≡◌, List, [], ◌∷◌, ◌++◌, Option, Some, None, Result, Ok, Err, Contains}
+use Rattle.serial_meaning.specs.Plan.{PlanView}
+use Rattle.serial_meaning.specs.Eval.{Evaluation, eval}
+use Rattle.serial_meaning.specs.Open.{faults}
+use Rattle.serial_meaning.specs.Answer.{AnswerView, IsEval, IsCut, IsAnswer}
+use Rattle.serial_meaning.specs.declared.value.Value.{Value}
+use Rattle.serial_meaning.specs.declared.event.Fault.{Fault}
+use Rattle.serial_meaning.specs.declared.origin.Origin.{Origin}
+use Rattle.serial_meaning.specs.declared.answer.Outcome.{Outcome}
+use Rattle.serial_meaning.specs.declared.answer.Outcome.TheVariants as outcome
+use Rattle.strand_meaning.specs.Answers.{answer_evaluations}
+use Rattle.strand_meaning.specs.Pieces.{Part, Pieces, heard_all}
+use Rattle.strand_meaning.specs.Sound.{IsTask}
+use Rattle.strand_meaning.specs.Task.{Task}
+use Rattle.strand_meaning.specs.Rest.{evaluations}
+
+-- One child
+
+abbrev pub GaveValue : Result (List Value) Fault → Type 0
+GaveValue (Ok vs) = Unit {0}
+GaveValue (Err f) = ⊥
+
+-- the evaluations of these children are values
+abbrev pub GaveValues : (Origin → Evaluation) → List Part → Type 0
+GaveValues child [] = Unit {0}
+GaveValues child (p ∷ ps) = GaveValue (child p.child).ending × GaveValues child ps
+
+-- what a task has heard once these children have answered by their evaluations
+abbrev pub heard_of : Task → List Part → Pieces
+heard_of t ps = heard_all ps (evaluations (eval t.plan) ps) (record t.pieces { handed = [] })
+
+-- A child's cut is one of its parent, where the children in front of it gave values.
+abbrev pub CutsPass : Type 0
+CutsPass =
+    (t : Task) (front : List Part) (p : Part) (later : List Part) (by : Fault) → IsTask t → t.pieces.fault ≡ None → t.pieces.handed ≡ front ++ p ∷ later →
+    GaveValues (eval t.plan) front → IsCut t.plan p.child by → IsCut t.plan t.origin by
+
+-- A child's fault is its parent's, where the children in front of it gave values: what was heard up to it is the parent's evaluation,
+-- whatever the later children gave.
+abbrev pub FaultsPass : Type 0
+FaultsPass =
+    (t : Task) (front : List Part) (p : Part) (later : List Part) (f : Fault) → IsTask t → t.pieces.fault ≡ None → t.pieces.handed ≡ front ++ p ∷ later →
+    GaveValues (eval t.plan) front → (eval t.plan p.child).ending ≡ Err f → IsEval t.plan t.origin (heard_of t (front ++ p ∷ [])).told (outcome.Fault f) × Contains (faults t.plan) f
+
+-- All children
+
+-- these are answers of these children
+abbrev pub AreAnswersOf : PlanView → List Part → List AnswerView → Type 0
+AreAnswersOf plan [] [] = Unit {0}
+AreAnswersOf plan [] (a ∷ answers) = ⊥
+AreAnswersOf plan (p ∷ ps) [] = ⊥
+AreAnswersOf plan (p ∷ ps) (a ∷ answers) = (a.plan ≡ plan) × (a.origin ≡ p.child) × IsAnswer a.plan a.origin a.out a.outcome × AreAnswersOf plan ps answers
+
+-- the first outcome that isn't values, a fault or a cut
+abbrev pub or_ends : Option Outcome → Outcome → Option Outcome
+or_ends (Some ended) next = Some ended
+or_ends None (outcome.Value v) = None
+or_ends None (outcome.Values vs) = None
+or_ends None (outcome.Fault f) = Some (outcome.Fault f)
+or_ends None (outcome.Cut f) = Some (outcome.Cut f)
+
+abbrev pub ended_after : Option Outcome → List AnswerView → Option Outcome
+ended_after ended [] = ended
+ended_after ended (a ∷ answers) = ended_after (or_ends ended a.outcome) answers
+
+abbrev pub by_fault : Option Fault → Option Outcome
+by_fault None = None
+by_fault (Some f) = Some (outcome.Fault f)
+
+-- the fault that an outcome names, if it does, is the plan's
+abbrev pub IsByFaultOf : PlanView → Outcome → Type 0
+IsByFaultOf plan (outcome.Value v) = Unit {0}
+IsByFaultOf plan (outcome.Values vs) = Unit {0}
+IsByFaultOf plan (outcome.Fault f) = Contains (faults plan) f
+IsByFaultOf plan (outcome.Cut f) = Contains (faults plan) f
+
+-- Once a task has heard all its children's answers, the first fault or cut in the order of its pieces is its own answer, with what it
+-- heard up to there. Where that is a fault, the answers behind it may be cuts.
+abbrev pub AnswersEnd : Type 0
+AnswersEnd =
+    (t : Task) (answers : List AnswerView) (ended : Outcome) → IsTask t → AreAnswersOf t.plan t.pieces.handed answers → ended_after (by_fault t.pieces.fault) answers ≡ Some ended →
+    IsAnswer t.plan t.origin (heard_all t.pieces.handed (answer_evaluations answers) (record t.pieces { handed = [] })).told ended × IsByFaultOf t.plan ended
