@@ -32,6 +32,10 @@ abbrev pub mix : ℕ → ℕ → ℕ
 mix z zero = z
 mix z (suc n) = round (mix z n)
 
--- four rounds of the dot product
-abbrev pub dotmix : List ℕ → List ℕ → ℕ
-dotmix gamma ranks = mix (dot gamma ranks) 4
+-- a draw takes at most so many rounds
+abbrev pub most_rounds : ℕ
+most_rounds = 8
+
+-- so many rounds of the dot product
+abbrev pub dotmix : List ℕ → List ℕ → ℕ → ℕ
+dotmix gamma ranks rounds = mix (dot gamma ranks) rounds

@@ -1,7 +1,7 @@
 //! DotMix: random numbers that belong to strands.
 //!
 //! A draw is a hash of the strand's pedigree: the dot product of the ranks with coefficients that a seed gives, modulo a prime, and
-//! then four rounds of mixing. So it doesn't depend on the schedule. After Leiserson, Schardl and Sukha, "Deterministic Parallel
+//! then some rounds of mixing, four where no one asks for another number. So it doesn't depend on the schedule. After Leiserson, Schardl and Sukha, "Deterministic Parallel
 //! Random-Number Generation for Dynamic-Multithreading Platforms" (PPoPP 2012); that a rank counts one more than itself, the prime,
 //! the coefficients from SplitMix64 and the exact rounds are this project's own.
 #![tactic(auto)]
@@ -16,7 +16,7 @@ mod trail;
 
 pub use gamma::{Gamma, GammaError, MODULUS};
 pub use memory::Memory;
-pub use mixing::mix;
+pub use mixing::{MOST_ROUNDS, mix};
 pub use product::{add_term, dot, dotmix};
 pub use trail::Trail;
 

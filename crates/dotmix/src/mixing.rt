@@ -1,8 +1,8 @@
 ghost use Rattle.std.specs.Prelude.{◌≡◌};
 ghost use Rattle.dotmix.specs.Draws.{mix, round, swap_halves};
 
-/// How often a draw is mixed.
-pub(crate) const ROUNDS: u32 = 4;
+/// How often a draw is mixed at most.
+pub const MOST_ROUNDS: u32 = 8;
 
 const HALF: u64 = 1 << 32;
 
@@ -19,7 +19,8 @@ fn mixed_once(z: u64) -> u64
     swapped(z.wrapping_mul(2).wrapping_mul(z).wrapping_add(z))
 }
 
-/// Mixes a number by so many rounds of 2z² + z modulo 2^64, each followed by an exchange of the two halves. A draw takes four.
+/// Mixes a number by so many rounds of 2z² + z modulo 2^64, each followed by an exchange of the two halves. A draw takes at most
+/// `MOST_ROUNDS`.
 #[tactic(auto, using(crate::proofs::MixLemmas::mix_more))]
 pub fn mix(z: u64, rounds: u32) -> u64
     ensures { result ≡ mix z rounds }

@@ -1,10 +1,10 @@
 ghost use Rattle.std.specs.Prelude.{◌≡◌, ◌+◌, ◌*◌, ◌%◌, ◌<◌, ◌≤◌, ◌^◌, [], ◌∷◌, ◌++◌, length};
 ghost use Rattle.ped_path.specs.Path.{IsRank};
-ghost use Rattle.dotmix.specs.Draws.{coefficient, modulus, IsResidue};
+ghost use Rattle.dotmix.specs.Draws.{coefficient, modulus, most_rounds, IsResidue};
 ghost use Rattle.dotmix.specs.Draws as draws;
 
 use crate::gamma::{Gamma, MODULUS};
-use crate::mixing::{ROUNDS, mix};
+use crate::mixing::mix;
 use ped_path::{Ped, Pedigree};
 
 // 2^64, which is 59 modulo the prime.
@@ -75,10 +75,11 @@ pub fn dot(gamma: &Gamma, j: &Pedigree) -> u64
     dot_with_rank(gamma, &j.path, path_dot(gamma, &j.path), j.rank)
 }
 
-/// The number that the strand with this pedigree draws: four rounds of mixing of its dot product.
-pub fn dotmix(gamma: &Gamma, j: &Pedigree) -> u64
-    requires { length j.now ≤ length gamma.now }
-    ensures { result ≡ draws.dotmix gamma.now j.now }
+/// The number that the strand with this pedigree draws: so many rounds of mixing of its dot product, at most `MOST_ROUNDS`.
+pub fn dotmix(gamma: &Gamma, j: &Pedigree, rounds: u32) -> u64
+    requires within { length j.now ≤ length gamma.now }
+    requires rounds { rounds ≤ most_rounds }
+    ensures { result ≡ draws.dotmix gamma.now j.now rounds }
 {
-    mix(dot(gamma, j), ROUNDS)
+    mix(dot(gamma, j), rounds)
 }

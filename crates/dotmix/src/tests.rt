@@ -55,14 +55,14 @@ fn dot_products_of_seed_0(rt: HostRuntime) -> Result<(), Fail> {
     };
     assert_eq!(rt; first.len(), 1);
     assert_eq!(rt; dot(&gamma, &first), 16_294_208_416_658_607_535);
-    assert_eq!(rt; dotmix(&gamma, &first), mix(16_294_208_416_658_607_535, 4));
+    assert_eq!(rt; dotmix(&gamma, &first, 4), mix(16_294_208_416_658_607_535, 4));
     let child = Pedigree {
         path: Ped::root(alloc)?.child(alloc, 0)?,
         rank: 0,
     };
     assert_eq!(rt; child.len(), 2);
     assert_eq!(rt; dot(&gamma, &child), 5_807_750_865_143_411_678);
-    assert_eq!(rt; dotmix(&gamma, &child), mix(5_807_750_865_143_411_678, 4));
+    assert_eq!(rt; dotmix(&gamma, &child, 4), mix(5_807_750_865_143_411_678, 4));
     Ok(())
 }
 
@@ -104,7 +104,7 @@ fn draws_of_one_coefficient(rt: HostRuntime) -> Result<(), Fail> {
         assert_eq!(rt; gamma.len(), 1);
         assert_eq!(rt; j.len(), 1);
         assert_eq!(rt; dot(&gamma, &j), product);
-        assert_eq!(rt; dotmix(&gamma, &j), drawn);
+        assert_eq!(rt; dotmix(&gamma, &j, 4), drawn);
     }
     Ok(())
 }
@@ -117,7 +117,8 @@ fn a_trail_draws_what_its_pedigree_draws(rt: HostRuntime) -> Result<(), Fail> {
     assert_eq!(rt; gamma.len(), 2);
     assert_eq!(rt; path.len(), 1);
     let trail = Trail::of(&gamma, path);
-    assert_eq!(rt; trail.draw(&gamma, 0), 128_271);
+    assert_eq!(rt; trail.draw(&gamma, 0, 4), 128_271);
+    assert_eq!(rt; trail.draw(&gamma, 0, 0), 11);
     let child = trail.child(alloc, &gamma, 0)?;
     assert_eq!(rt; child.path.len(), 2);
     assert_eq!(rt; child.path.rank_at(0), Some(0));

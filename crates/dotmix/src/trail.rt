@@ -1,10 +1,11 @@
 ghost use Rattle.std.specs.Prelude.{◌≡◌, ◌<◌, ◌≤◌, [], ◌∷◌, ◌++◌, length, IfOk};
 ghost use Rattle.ped_path.specs.Path.{IsRank};
+ghost use Rattle.dotmix.specs.Draws.{most_rounds};
 ghost use Rattle.dotmix.specs.Draws as draws;
 
 use crate::gamma::Gamma;
 use crate::memory::Memory;
-use crate::mixing::{ROUNDS, mix};
+use crate::mixing::mix;
 use crate::product::{dot_with_rank, path_dot};
 use ped_path::Ped;
 use std::alloc::Global;
@@ -56,13 +57,14 @@ impl Trail {
         })
     }
 
-    /// What the strand of this rank draws. It adds one term.
-    pub fn draw(&self, gamma: &Gamma, rank: u64) -> u64
+    /// What the strand of this rank draws: one term more, and so many rounds of mixing, at most `MOST_ROUNDS`.
+    pub fn draw(&self, gamma: &Gamma, rank: u64, rounds: u32) -> u64
         requires fits { FitsGamma gamma.now self.now }
         requires within { length self.now.path < length gamma.now }
         requires rank { IsRank rank }
-        ensures { result ≡ draws.dotmix gamma.now (self.now.path ++ rank ∷ []) }
+        requires rounds { rounds ≤ most_rounds }
+        ensures { result ≡ draws.dotmix gamma.now (self.now.path ++ rank ∷ []) rounds }
     {
-        mix(dot_with_rank(gamma, &self.path, self.sum, rank), ROUNDS)
+        mix(dot_with_rank(gamma, &self.path, self.sum, rank), rounds)
     }
 }

@@ -7,10 +7,9 @@ use Rattle.ped_words.specs.declared.command.Command.{Command}
 use Rattle.ped_words.specs.declared.command.Command.TheVariants.{Replay}
 use Rattle.ped_words.specs.declared.command.Settings.{Settings}
 use Rattle.ped_words.specs.declared.rule.WordError.{WordError}
-use Rattle.dotmix.specs.Draws.{dotmix}
 use Rattle.script_grammar.specs.declared.tree.Script.{Script as Tree}
 use Rattle.script_grammar.specs.Text.{Text}
-use Rattle.serial_meaning.specs.Plan.{PlanView}
+use Rattle.serial_meaning.specs.Plan.{PlanView, drawn}
 use Rattle.serial_meaning.specs.Eval.{elision}
 use Rattle.serial_meaning.specs.Open.{faults}
 use Rattle.serial_meaning.specs.Laws.{places, EndsByLeast}
@@ -94,7 +93,7 @@ Completes given source told out status = ⊤
 -- its pedigree; and its fault is the least of the open tree's.
 pub record IsLawful (plan : PlanView) : Type 0 where
   pub rise : AllPairs IsBefore (places (elision plan).items)
-  pub draws : (j : List ℕ) (n : ℕ) → Contains (elision plan).items (Draw j n) → n ≡ dotmix plan.gamma j
+  pub draws : (j : List ℕ) (n : ℕ) → Contains (elision plan).items (Draw j n) → n ≡ drawn plan j
   pub least : EndsByLeast (faults plan) (elision plan).ending
 
 -- An object before a call and after it, and how it is seen: what it told, and how often it had failed.

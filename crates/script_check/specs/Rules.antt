@@ -49,9 +49,13 @@ pending_variable p x = broken (p x.bytes) 9 x.at
 abbrev pub let_in_a_block : Bool → ℕ → List Violation
 let_in_a_block in_block at = broken in_block 10 at
 
--- the name is new where 256 are known
+-- a function has at most so many variables at a place
+abbrev pub most_variables : ℕ
+most_variables = 256
+
+-- the name is new where as many are known
 abbrev pub too_many_variables : Known → Name → List Violation
-too_many_variables known x = broken (is_none (known.what x.bytes) && nat_eq known.count 256) 11 x.at
+too_many_variables known x = broken (is_none (known.what x.bytes) && nat_eq known.count most_variables) 11 x.at
 
 abbrev pub array_length : Number → List Violation
 array_length n = broken (int_lt n.value (pos 1) || int_lt (pos 4096) n.value) 12 n.at

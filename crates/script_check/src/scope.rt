@@ -15,6 +15,9 @@ use script_grammar::Name;
 use std::alloc::Global;
 use std::mem;
 
+/// How many variables a function has at most at a place.
+const MOST_VARIABLES: usize = 256;
+
 /// What undoes a change of the pending set: the name that came in, or the set that a sync emptied.
 #[derive(Drop)]
 pub(crate) enum Change {
@@ -83,7 +86,7 @@ impl Scope {
         let bytes = name.bytes.as_slice();
         let is_known = self.known.get(bytes).is_some();
         found.note_if(is_known, 4, name.at);
-        found.note_if(!is_known && self.known.len() == 256, 11, name.at);
+        found.note_if(!is_known && self.known.len() == MOST_VARIABLES, 11, name.at);
         self.known.insert(alloc, bytes, variable)
     }
 

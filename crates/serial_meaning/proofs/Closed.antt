@@ -4,7 +4,6 @@ use Rattle.std.proofs.Common.{ℤ, pos, ◌-ℤ◌}
 use Rattle.std.specs.Int.{w64, cast_signed}
 use Rattle.serial_meaning.specs.Runs.{Run, done, happens, ◌then◌}
 use Rattle.serial_meaning.specs.Values.{value_of, values_of, slot_of, items_of, number, is_true, at_index}
-use Rattle.dotmix.specs.Draws.{dotmix}
 use Rattle.serial_meaning.specs.Functions.{number_of, function_at, any_spawns}
 use Rattle.serial_meaning.specs.Exec.{State, Manner, Block, strand, fault, emit, given, paid_from, tested, has_room, fits_depth, filled, spawn, join, implied, returned, activation, called, right_side, found, looped, does, statement, each, statements, exec, count_of, set_scalar, set_array, bound}
 use Rattle.script_grammar.specs.declared.tree.Name.{Name}
@@ -22,7 +21,7 @@ use Rattle.serial_meaning.specs.declared.event.FaultKind.{FaultKind}
 use Rattle.serial_meaning.specs.declared.event.FaultKind.TheVariants.{Index, Depth, Calls, Budget}
 use Rattle.serial_meaning.specs.declared.event.Event.TheVariants as event
 use Rattle.serial_meaning.specs.declared.origin.Origin.TheVariants as origin
-use Rattle.serial_meaning.specs.Plan.{PlanView, functions_of}
+use Rattle.serial_meaning.specs.Plan.{PlanView, functions_of, drawn}
 
 module _ {I E K : Type 0} (how : Manner I E K) (plan : PlanView) (path : List ℕ) where
   abbrev pub Goes : Type 0
@@ -38,7 +37,7 @@ module _ {I E K : Type 0} (how : Manner I E K) (plan : PlanView) (path : List �
     pub p-stop : (kind : FaultKind) (s : State K) → P s.rank (fault how plan path kind s)
     pub q-stop : (kind : FaultKind) (s : State K) → Q s.rank (fault how plan path kind s)
     pub p-print : (v : Value) (s : State K) → P s.rank (happens (how.event (event.Print (strand path s) v)) s)
-    pub q-draw : (s : State K) → let n = dotmix plan.gamma (strand path s) in Q s.rank (emit how plan path (λ j. event.Draw j n) s then λ s'. done (Int (cast_signed w64 n), s'))
+    pub q-draw : (s : State K) → let n = drawn plan (strand path s) in Q s.rank (emit how plan path (λ j. event.Draw j n) s then λ s'. done (Int (cast_signed w64 n), s'))
     pub q-new : (s : State K) → Q s.rank (emit how plan path event.New s then λ s'. done (Id (strand path s), s'))
     pub p-join : (s : State K) → P s.rank (join how plan path s)
     pub q-child : (n : ℕ) (vs : List Value) (s : State K) → nat_lt (length path + 1) plan.limits.depth ≡ true → Q s.rank (happens (how.event (event.Spawn (strand path s))) s then λ s. how.spawn (origin.Instance n vs (strand path s)) s.spawned then λ r. done (r.0, record s { rank = s.rank + 1; spawned = r.1 }))

@@ -2,10 +2,9 @@
 use Rattle.std.proofs.Common.{◌≡◌, ℕ, zero, suc, ◌+◌, ◌-◌, List, [], refl}
 use Rattle.std.proofs.Common.{ℤ}
 use Rattle.std.specs.Prelude.{Contains}
-use Rattle.dotmix.specs.Draws.{dotmix}
 use Rattle.serial_meaning.specs.Runs.{done}
 use Rattle.serial_meaning.specs.Functions.{function_at}
-use Rattle.serial_meaning.specs.Plan.{PlanView, functions_of}
+use Rattle.serial_meaning.specs.Plan.{PlanView, functions_of, drawn}
 use Rattle.serial_meaning.specs.Eval.{Evaluation, serial, iteration, turns, first_of, eval_with, eval_at, depth_left, main_origin, elision}
 use Rattle.serial_meaning.proofs.Each.{Each, each-then, each-contained, Parts, instance-each}
 use Rattle.serial_meaning.specs.declared.value.Value.{Value}
@@ -17,7 +16,7 @@ use Rattle.serial_meaning.specs.declared.origin.Origin.TheVariants as origin
 module _ (plan : PlanView) where
   abbrev IsTrueDraw : Event → Type 0
   IsTrueDraw (event.Print j v) = Unit {0}
-  IsTrueDraw (event.Draw j n) = n ≡ dotmix plan.gamma j
+  IsTrueDraw (event.Draw j n) = n ≡ drawn plan j
   IsTrueDraw (event.New j) = Unit {0}
   IsTrueDraw (event.Spawn j) = Unit {0}
   IsTrueDraw (event.Sync j) = Unit {0}
@@ -51,6 +50,6 @@ module _ (plan : PlanView) where
   eval_at-each zero o = eval_with-each (λ o. done []) (λ o. tt) o
   eval_at-each (suc left) o = eval_with-each (eval_at plan left) (eval_at-each left) o
 
-pub draws_are_dotmix : (plan : PlanView) (j : List ℕ) (n : ℕ) → Contains (elision plan).items (event.Draw j n) → n ≡ dotmix plan.gamma j
+pub draws_are_dotmix : (plan : PlanView) (j : List ℕ) (n : ℕ) → Contains (elision plan).items (event.Draw j n) → n ≡ drawn plan j
 draws_are_dotmix plan j n c =
     each-contained (IsTrueDraw plan) (elision plan).items (event.Draw j n) (eval_at-each plan (depth_left plan (main_origin plan)) (main_origin plan)) c

@@ -2,10 +2,9 @@
 use Rattle.std.proofs.Common.{◌≡◌, ℕ, zero, suc, ◌+◌, ◌<◌, true, List, [], ◌∷◌, ◌++◌, Option, Some, None, Result, Ok, Err, length, get_or, nat_lt, arith}
 use Rattle.std.proofs.Common.{ℤ}
 use Rattle.std.specs.Prelude.{Contains}
-use Rattle.dotmix.specs.Draws.{dotmix}
 use Rattle.script_grammar.specs.declared.tree.Function.{Function}
 use Rattle.serial_meaning.specs.Runs.{Run, done, goes_on, ◌then◌}
-use Rattle.serial_meaning.specs.Plan.{PlanView}
+use Rattle.serial_meaning.specs.Plan.{PlanView, drawn}
 use Rattle.serial_meaning.specs.Exec.{State, Manner, strand, activation, exec, instance, filled, fits_depth, bound}
 use Rattle.serial_meaning.proofs.Closed.{Closed, closed-exec, returned-q}
 use Rattle.serial_meaning.specs.declared.value.Value.{Value}
@@ -41,7 +40,7 @@ module _ {X : Type 0} (T : X → Type 0) where
 module _ {I E K : Type 0} (how : Manner I E K) (plan : PlanView) (path : List ℕ) (T : I → Type 0) where
   pub record Parts : Type 0 where
     pub print : (s : State K) (v : Value) → T (how.event (event.Print (strand path s) v))
-    pub draw : (s : State K) → T (how.event (event.Draw (strand path s) (dotmix plan.gamma (strand path s))))
+    pub draw : (s : State K) → T (how.event (event.Draw (strand path s) (drawn plan (strand path s))))
     pub new : (s : State K) → T (how.event (event.New (strand path s)))
     pub sync : (s : State K) → T (how.event (event.Sync (strand path s)))
     pub spawn : (s : State K) → T (how.event (event.Spawn (strand path s)))

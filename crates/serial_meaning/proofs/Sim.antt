@@ -4,7 +4,6 @@ use Rattle.std.proofs.Common.{ℤ, pos, ◌-ℤ◌}
 use Rattle.std.specs.Int.{w64, cast_signed}
 use Rattle.serial_meaning.specs.Runs.{Run, done, behind, goes_on, ◌then◌}
 use Rattle.serial_meaning.specs.Values.{Env, value_of, values_of, slot_of, items_of, number, is_true, at_index}
-use Rattle.dotmix.specs.Draws.{dotmix}
 use Rattle.serial_meaning.specs.Functions.{number_of, function_at, any_spawns}
 use Rattle.serial_meaning.specs.Exec.{State, Block, fault, given, paid_from, tested, has_room, fits_depth, filled, spawn, implied, returned, activation, called, right_side, found, looped, does, statement, each, statements, exec, instance, count_of, set_scalar, set_array, bound}
 use Rattle.script_grammar.specs.declared.tree.Name.{Name}
@@ -28,7 +27,7 @@ use Rattle.serial_meaning.proofs.Cut.{Cuts, Matches, cut, in_front, child_first,
 use Rattle.serial_meaning.specs.declared.event.Fault.{Fault}
 use Rattle.serial_meaning.specs.declared.event.Event.{Event}
 use Rattle.serial_meaning.specs.declared.origin.Origin.{Origin}
-use Rattle.serial_meaning.specs.Plan.{PlanView, functions_of}
+use Rattle.serial_meaning.specs.Plan.{PlanView, functions_of, drawn}
 use Rattle.std.proofs.Common.{refl, ap, ◌∙◌, append-nil, map}
 
 abbrev S : Type 0
@@ -114,7 +113,7 @@ module _ (plan : PlanView) (path : List ℕ) (child : Origin → Evaluation) (em
 
     right_side-c : (calls : ℕ) (r : Right) (s : State (Unit {0})) → Cuts child lift_pair (right_side (serial child) plan path b calls r s) (right_side (put_off_all plan child) plan path c calls r (lift s))
     right_side-c calls (right.Value e) s = given-c lift_pair (value_of e s.env) s _ _ (λ v. ((v, s), refl, refl))
-    right_side-c calls (right.Draw at) s = ((Int (cast_signed w64 (dotmix plan.gamma (path ++ s.rank ∷ []))), record s { rank = s.rank + 1 }), refl, refl)
+    right_side-c calls (right.Draw at) s = ((Int (cast_signed w64 (drawn plan (path ++ s.rank ∷ []))), record s { rank = s.rank + 1 }), refl, refl)
     right_side-c calls (right.New at) s = ((Id (path ++ s.rank ∷ []), record s { rank = s.rank + 1 }), refl, refl)
     right_side-c calls (right.Call at t) s = called-c calls t s
     right_side-c calls (right.Spawn at t) s = spawn-c t s

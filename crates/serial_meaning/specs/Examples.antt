@@ -23,7 +23,7 @@ twenty_or_more n = suc (suc (suc (suc (suc (suc (suc (suc (suc (suc (suc (suc (s
 
 -- a plan with the coefficients 1, 0, 0
 abbrev pub plan_of : List Function → ℕ → PlanView
-plan_of functions budget = record { script = record { functions = functions }; gamma = 1 ∷ 0 ∷ 0 ∷ []; limits = record { depth = 3; budget = budget }; show = Plain }
+plan_of functions budget = record { script = record { functions = functions }; gamma = 1 ∷ 0 ∷ 0 ∷ []; limits = record { depth = 3; budget = budget }; show = Plain; rounds = 4 }
 
 abbrev pub three_prints : List Function
 three_prints =

@@ -6,7 +6,6 @@ use Rattle.std.specs.Prelude.{ℕ, zero, suc, ◌+◌, ◌-◌, Bool, true, fals
 use Rattle.std.specs.Prelude.{ℤ, pos, negsuc, ◌-ℤ◌}
 use Rattle.std.specs.Int.{w64, cast_signed}
 use Rattle.std.specs.Str.{bytes_eq}
-use Rattle.dotmix.specs.Draws.{dotmix}
 use Rattle.script_grammar.specs.declared.tree.Name.{Name}
 use Rattle.script_grammar.specs.declared.tree.Param.{Param}
 use Rattle.script_grammar.specs.declared.tree.Function.{Function}
@@ -21,7 +20,7 @@ use Rattle.script_grammar.specs.declared.tree.Act.TheOpen.{Act-F}
 use Rattle.serial_meaning.specs.Runs.{Run, done, stopped, happens, ◌then◌}
 use Rattle.serial_meaning.specs.Values.{Env, slot_of, items_of, number, is_true, at_index, value_of, values_of}
 use Rattle.serial_meaning.specs.Functions.{number_of, function_at, any_spawns}
-use Rattle.serial_meaning.specs.Plan.{PlanView, functions_of}
+use Rattle.serial_meaning.specs.Plan.{PlanView, functions_of, drawn}
 use Rattle.serial_meaning.specs.declared.value.Value.{Value}
 use Rattle.serial_meaning.specs.declared.value.Value.TheVariants.{Int, Id}
 use Rattle.serial_meaning.specs.declared.environment.Slot.{Slot}
@@ -110,6 +109,10 @@ module _ {K : Type 0} where
   abbrev pub strand : List ℕ → State K → List ℕ
   strand path s = path ++ s.rank ∷ []
 
+-- an instance has at most so many open calls
+abbrev pub most_calls : ℕ
+most_calls = 256
+
 module _ {I E K : Type 0} (how : Manner I E K) (plan : PlanView) (path : List ℕ) where
   -- the instance ends by a fault of its own
   abbrev pub fault : {A : Type 0} → FaultKind → State K → Run I E A
@@ -180,7 +183,7 @@ module _ {I E K : Type 0} (how : Manner I E K) (plan : PlanView) (path : List �
   abbrev pub called : Block → ℕ → CallText → State K → Run I E (Value × State K)
   called block calls c s =
       given (values_of c.args s.env) s λ vs.
-      tested (nat_lt calls 256) Calls s
+      tested (nat_lt calls most_calls) Calls s
       (activation block (calls + 1) (function_at (functions_of plan) (number_of (functions_of plan) c.name.bytes)) vs s then λ r.
       done (r.0, record s { rank = r.1.rank; steps = r.1.steps }))
 
@@ -188,7 +191,7 @@ module _ {I E K : Type 0} (how : Manner I E K) (plan : PlanView) (path : List �
   abbrev pub right_side : Block → ℕ → Right → State K → Run I E (Value × State K)
   right_side block calls (right.Value e) s = given (value_of e s.env) s λ v. done (v, s)
   right_side block calls (right.Draw at) s =
-      let n = dotmix plan.gamma (strand path s) in
+      let n = drawn plan (strand path s) in
       emit (λ j. event.Draw j n) s then λ s'.
       done (Int (cast_signed w64 n), s')
   right_side block calls (right.New at) s = emit event.New s then λ s'. done (Id (strand path s), s')

@@ -3,14 +3,13 @@
 use Rattle.std.specs.Prelude.{◌≡◌, ◌≤◌, ℕ, List, [], ◌∷◌, ◌++◌, Result, Ok, Err, All, AllPairs, Contains}
 use Rattle.std.specs.Prelude.{ℤ}
 use Rattle.ped_path.specs.Path.{IsBefore}
-use Rattle.dotmix.specs.Draws.{dotmix}
 use Rattle.loop_range.specs.Range.{Range}
 use Rattle.script_grammar.specs.declared.tree.Expr.{Expr}
 use Rattle.script_grammar.specs.declared.tree.Stmt.{Stmt}
 use Rattle.serial_meaning.specs.Runs.{done, ◌then◌}
 use Rattle.serial_meaning.specs.Values.{Env, slot_of, value_of}
 use Rattle.serial_meaning.specs.Names.{names_in}
-use Rattle.serial_meaning.specs.Plan.{PlanView}
+use Rattle.serial_meaning.specs.Plan.{PlanView, drawn}
 use Rattle.serial_meaning.specs.Exec.{State, Manner, statement, exec}
 use Rattle.serial_meaning.specs.Eval.{Evaluation, serial, eval, main_origin, elision}
 use Rattle.serial_meaning.specs.Open.{Child, put_off_all, opened, faults}
@@ -58,7 +57,7 @@ PedigreesRise = (plan : PlanView) → AllPairs IsBefore (places (elision plan).i
 
 -- Each draw of the elision is DotMix of its pedigree.
 abbrev pub DrawsAreDotMix : Type 0
-DrawsAreDotMix = (plan : PlanView) (j : List ℕ) (n : ℕ) → Contains (elision plan).items (event.Draw j n) → n ≡ dotmix plan.gamma j
+DrawsAreDotMix = (plan : PlanView) (j : List ℕ) (n : ℕ) → Contains (elision plan).items (event.Draw j n) → n ≡ drawn plan j
 
 -- Expressions
 

@@ -30,7 +30,7 @@ pub use known::Known;
 pub use memory::Memory;
 pub use origin::Origin;
 pub use out::Out;
-pub use plan::{Limits, Plan, Show};
+pub use plan::{Limits, MOST_DEPTH, Plan, Show};
 pub use render::{render_run, render_strand};
 pub use value::Value;
 

@@ -14,10 +14,13 @@ use script_grammar::{Function, Items};
 use std::alloc::Global;
 use std::marker::Model;
 
+/// How many ranks a pedigree has at most, whatever the limits of a run.
+pub const MOST_DEPTH: u32 = 256;
+
 /// The limits of a run.
 #[derive(Clone, Copy, Debug, PartialEq, Eq)]
 pub struct Limits {
-    /// How long a pedigree may be, from 1 to 256.
+    /// How long a pedigree may be, from 1 to `MOST_DEPTH`.
     pub depth: u32,
     /// How many steps an instance has, from 1 to 4294967295.
     pub budget: u32,
@@ -32,14 +35,16 @@ pub enum Show {
     Log,
 }
 
-/// All that the meaning of a run depends on. The script is valid, there are as many coefficients as the depth, and the limits are
-/// in range. No number of workers stands here, nor anything else that could let the answer depend on them.
+/// All that the meaning of a run depends on. The script is valid, there are as many coefficients as the depth, and the limits and
+/// the rounds are in range. No number of workers stands here, nor anything else that could let the answer depend on them.
 #[derive(Drop)]
 pub struct Plan {
     pub checked: Checked,
     pub gamma: Gamma,
     pub limits: Limits,
     pub show: Show,
+    /// How often a draw is mixed, from 0 to 8.
+    pub rounds: u32,
 }
 
 impl Model for Plan {
@@ -51,22 +56,23 @@ impl Model for Plan {
 
     ghost coded = { Prim.hlevel (codes, script_type.the_row.coded) };
 
-    ghost view = { λ p. record { script = p.checked; gamma = p.gamma; limits = p.limits; show = p.show } };
+    ghost view = { λ p. record { script = p.checked; gamma = p.gamma; limits = p.limits; show = p.show; rounds = p.rounds } };
 
-    ghost invariant = { λ p. IsPlan p.gamma p.limits };
+    ghost invariant = { λ p. IsPlan p.gamma p.limits p.rounds };
 }
 
 impl Plan {
     /// The plan of a valid script. It takes no memory.
-    pub fn new(checked: Checked, gamma: Gamma, limits: Limits, show: Show) -> Plan
-        requires { IsPlan gamma limits }
-        ensures { result ≡ record { script = checked; gamma = gamma; limits = limits; show = show } }
+    pub fn new(checked: Checked, gamma: Gamma, limits: Limits, show: Show, rounds: u32) -> Plan
+        requires { IsPlan gamma limits rounds }
+        ensures { result ≡ record { script = checked; gamma = gamma; limits = limits; show = show; rounds = rounds } }
     {
         Plan {
             checked,
             gamma,
             limits,
             show,
+            rounds,
         }
     }
 

@@ -67,13 +67,14 @@ fn same_gamma(gamma: &Gamma, other: &Gamma) -> bool
 }
 
 impl Plan {
-    /// Whether both say the same of a run: script, coefficients, limits and what is shown. It takes no memory, and looks at all of
+    /// Whether both say the same of a run: script, coefficients, limits, what is shown and rounds. It takes no memory, and looks at all of
     /// both, so a caller may look first whether they are one value.
     pub fn same(&self, other: &Plan) -> bool
         ensures { IsTrue result ↔ (self.now ≡ other.now) }
     {
         self.limits == other.limits
             && self.show == other.show
+            && self.rounds == other.rounds
             && same_gamma(&self.gamma, &other.gamma)
             && same_script(self.checked.script(), other.checked.script())
     }

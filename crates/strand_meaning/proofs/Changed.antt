@@ -2,7 +2,6 @@
 use Rattle.std.proofs.Common.{◌≡◌, ℕ, zero, suc, ◌+◌, ◌-◌, ◌<◌, ◌≤◌, Bool, true, false, nat_eq, nat_lt, List, [], ◌∷◌, ◌++◌, Option, Some, None, Result, Ok, Err, refl, sym, ap, ◌∙◌, if◌then◌else◌, length, arith}
 use Rattle.std.proofs.Common.{ℤ, pos, ◌-ℤ◌}
 use Rattle.std.proofs.lemmas.Bool.{eqb-true, eq-eqb}
-use Rattle.dotmix.specs.Draws.{dotmix}
 use Rattle.script_grammar.specs.declared.tree.Name.{Name}
 use Rattle.script_grammar.specs.declared.tree.Expr.{Expr}
 use Rattle.script_grammar.specs.declared.tree.CallText.{CallText}
@@ -17,7 +16,7 @@ use Rattle.serial_meaning.specs.Runs.{Run, done, happens, ◌then◌}
 use Rattle.serial_meaning.specs.Names.{names_in}
 use Rattle.serial_meaning.specs.Values.{Env, value_of, values_of, slot_of, items_of, number, is_true, at_index}
 use Rattle.serial_meaning.specs.Functions.{number_of, function_at}
-use Rattle.serial_meaning.specs.Plan.{PlanView, functions_of}
+use Rattle.serial_meaning.specs.Plan.{PlanView, functions_of, drawn}
 use Rattle.serial_meaning.specs.Exec.{State, Manner, strand, given, paid_from, tested, has_room, fits_depth, filled, spawn, join, implied, activation, called, right_side, found, store, looped, does, count_of, with_slot, set_item, set_array, bound}
 use Rattle.serial_meaning.specs.Open.{is_empty_loop, filler}
 use Rattle.serial_meaning.specs.declared.value.Value.{Value}
@@ -204,7 +203,7 @@ module _ (plan : PlanView) (path : List ℕ) (fix : Env → Env) (mark : Option 
           by_value : (o : Result Value FaultKind) → Same (given (what place) plan path o (there n) (λ v. done (v, there n)) then λ p. done (sets (Some x) p)) (given (what place) plan path o (here n) (λ v. done (v, here n)) then λ p. done (sets (Some x) p))
           by_value (Ok v) = so-set [] (Some x) v (here n) (k.0, tt)
           by_value (Err f) = refl
-      so-right place x (right.Draw at) n enters k = so-set (Told (event.Draw (path ++ m.rank ∷ []) (dotmix plan.gamma (path ++ m.rank ∷ []))) ∷ []) (Some x) _ (record (here n) { rank = m.rank + 1 }) (k.0, tt)
+      so-right place x (right.Draw at) n enters k = so-set (Told (event.Draw (path ++ m.rank ∷ []) (drawn plan (path ++ m.rank ∷ []))) ∷ []) (Some x) _ (record (here n) { rank = m.rank + 1 }) (k.0, tt)
       so-right place x (right.New at) n enters k = so-set (Told (event.New (path ++ m.rank ∷ [])) ∷ []) (Some x) _ (record (here n) { rank = m.rank + 1 }) (k.0, tt)
       so-right place x (right.Call at c) n enters k = so-call place (Some x) c n enters k.1 (k.0, tt)
       so-right place x (right.Spawn at c) n enters k = so-spawn place (Some x) c n k.1 (k.0, tt)

@@ -3,7 +3,6 @@ use Rattle.std.proofs.Common.{◌≡◌, ℕ, suc, ◌+◌, Bool, true, false, n
 use Rattle.std.proofs.Common.{ℤ, pos, w64}
 use Rattle.std.proofs.lemmas.List.{append-nil}
 use Rattle.std.specs.Int.{cast_signed}
-use Rattle.dotmix.specs.Draws.{dotmix}
 use Rattle.script_grammar.specs.declared.tree.Name.{Name}
 use Rattle.script_grammar.specs.declared.tree.Number.{Number}
 use Rattle.script_grammar.specs.declared.tree.Expr.{Expr}
@@ -18,7 +17,7 @@ use Rattle.script_grammar.specs.declared.tree.Act.TheOpen.{Act-F}
 use Rattle.serial_meaning.specs.Runs.{Run}
 use Rattle.serial_meaning.specs.Values.{Env, value_of, values_of, slot_of, items_of, number, is_true, at_index}
 use Rattle.serial_meaning.specs.Functions.{number_of, function_at}
-use Rattle.serial_meaning.specs.Plan.{PlanView, functions_of}
+use Rattle.serial_meaning.specs.Plan.{PlanView, functions_of, drawn}
 use Rattle.serial_meaning.specs.Exec.{with_slot, does, bound, set_item, zeros, count_of, paid_from}
 use Rattle.serial_meaning.specs.Open.{filler}
 use Rattle.serial_meaning.specs.declared.value.Value.{Value}
@@ -111,7 +110,7 @@ module _ (plan : PlanView) (path : List ℕ) (m : Machine) (st : Stmt) where
   unfolding acted
   set-value-fault x e kind h = rw h refl
 
-  pub set-draw : (x : Name) (at n : ℕ) (env : Env) → n ≡ dotmix plan.gamma (path ++ m.rank ∷ []) → env ≡ with_slot m.top.env x.bytes (Scalar (Int (cast_signed w64 n))) →
+  pub set-draw : (x : Name) (at n : ℕ) (env : Env) → n ≡ drawn plan (path ++ m.rank ∷ []) → env ≡ with_slot m.top.env x.bytes (Scalar (Int (cast_signed w64 n))) →
       acted plan path m st (act.Set x (right.Draw at)) ≡ went (Told (event.Draw (path ++ m.rank ∷ []) n) ∷ []) (record (with_env m env) { rank = m.rank + 1 })
   unfolding acted
   set-draw x at n env h k = rw (k, h) refl

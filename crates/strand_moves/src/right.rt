@@ -58,7 +58,7 @@ impl Instance {
         ensures trail { self.new.trail ≡ self.old.trail }
         ensures few { Costs self.old self.new }
     {
-        let word = self.trail.draw(&plan.gamma, self.rank);
+        let word = self.trail.draw(&plan.gamma, self.rank, plan.rounds);
         let event = Event::Draw(self.pedigree()?, word);
         self.top
             .env
