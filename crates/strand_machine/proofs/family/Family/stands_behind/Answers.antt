@@ -7,7 +7,7 @@ use Rattle.strand_machine.proofs.Knowing.{first-within}
 use Rattle.strand_machine.proofs.family.Family.stands_behind.Goals as goal
 
 pub stand_behind-requires : goal.stand_behind-requires
-stand_behind-requires c = first-within (arc_value c.self.inside.plan) c.self.inside.origin c.self.inside.loops c.self.invariant.2
+stand_behind-requires c = record { within = first-within (arc_value c.self.inside.plan) c.self.inside.origin c.self.inside.loops c.self.invariant.2 }
 
 pub returns : goal.returns
 returns c =
