@@ -1,5 +1,5 @@
 -- A task that takes its children's answers, of which some may be cuts.
-use Rattle.std.proofs.Common.{◌≡◌, ℕ, Bool, true, false, ◌||◌, List, [], ◌∷◌, ◌++◌, Option, Some, None, Result, Ok, Err, length, refl, sym, ap, ◌∙◌, subst, arith}
+use Rattle.std.proofs.Common.{◌≡◌, Bool, true, false, ◌||◌, List, [], ◌∷◌, Option, Some, None, Result, length, refl, sym, ap, ◌∙◌, subst, arith}
 use Rattle.std.proofs.lemmas.Bool.{true≢false}
 use Rattle.serial_meaning.specs.Answer.{AnswerView, AnswerTag, IsAnswer}
 use Rattle.serial_meaning.specs.Eval.{Evaluation, eval}
@@ -16,9 +16,9 @@ use Rattle.strand_meaning.specs.Laws.{AnswersAreEvaluations}
 use Rattle.strand_meaning.specs.Machine.{Half}
 use Rattle.strand_meaning.specs.Pieces.{Part, Pieces, heard, heard_all}
 use Rattle.strand_meaning.specs.Sound.{IsTask}
-use Rattle.strand_meaning.specs.Task.{Task, takes, more_values}
+use Rattle.strand_meaning.specs.Task.{takes, more_values}
 use Rattle.strand_machine.specs.Family.{FamilyView, tag, tags, origins}
-use Rattle.strand_machine.specs.Going.{AreSaid, BecomesWork, EndsShort, IsAnswered, IsShort, Puts, Takes, TakesAnswers, end_of, ended_of, ending_of, meanings, pieces_of, with_stage}
+use Rattle.strand_machine.specs.Going.{AreSaid, BecomesWork, EndsShort, IsShort, Puts, Takes, TakesAnswers, end_of, ended_of, ending_of, meanings, pieces_of, with_stage}
 use Rattle.strand_machine.specs.Parts.{awaited, part_of, parts_of, place_of}
 use Rattle.strand_machine.specs.declared.place.Place.{Place}
 use Rattle.strand_machine.specs.declared.place.Place.TheVariants as place

@@ -15,7 +15,7 @@ use Rattle.serial_meaning.specs.declared.origin.Origin.{Origin}
 use Rattle.serial_meaning.specs.declared.answer.Outcome.{Outcome}
 use Rattle.strand_meaning.specs.Machine as machine
 use Rattle.strand_meaning.specs.Machine.{Half}
-use Rattle.strand_meaning.specs.Pieces.{Part, Pieces, heard, heard_all}
+use Rattle.strand_meaning.specs.Pieces.{Part, Pieces, heard_all}
 use Rattle.strand_meaning.specs.Laws.{AnswersKeepTasks}
 use Rattle.strand_meaning.specs.Rest.{evaluations}
 use Rattle.strand_meaning.specs.Sound.{IsTask}
@@ -23,12 +23,12 @@ use Rattle.strand_meaning.specs.Task as meaning
 use Rattle.strand_meaning.specs.Task.{Splits, Runs, Over, Task, changed, answered, with_values, joins, resumed, takes, takes_all, more_values, all_values, resumed_work, on, own_instance}
 use Rattle.strand_machine.specs.Family.{FamilyView, HasPassed, HasStopped, tags, origins}
 use Rattle.strand_machine.specs.Going.{BecomesStage, BecomesWork, Takes, IsAnswered, with_stage, pieces_of, meanings}
-use Rattle.strand_machine.specs.Parts.{awaited, part_of, parts_of, place_of}
+use Rattle.strand_machine.specs.Parts.{awaited, parts_of, place_of}
 use Rattle.strand_meaning.specs.Cuts.{AreAnswersOf}
-use Rattle.strand_machine.specs.Stops.{WentOn, answer_tags, any_cut, resumes, view_on, went}
+use Rattle.strand_machine.specs.Stops.{WentOn, any_cut, resumes, view_on, went}
 use Rattle.strand_moves.specs.Machines.{IsInstance, machine_of, path_of}
 use Rattle.strand_moves.specs.declared.instance.Instance.{Instance}
-use Rattle.strand_machine.specs.Tasks.{TaskView, stage_of, cut_of, work_of, task_of, view_of, StandsAt, WorksAt, AwaitsLast, IsSound}
+use Rattle.strand_machine.specs.Tasks.{TaskView, cut_of, work_of, task_of, view_of, AwaitsLast, IsSound}
 use Rattle.strand_machine.specs.declared.body.Body.{Body}
 use Rattle.strand_machine.specs.declared.going.Going.{Going}
 use Rattle.strand_machine.specs.declared.pieces.Behind.{Behind}
@@ -314,17 +314,20 @@ resumed-on b w g k ready loads e d t next view goes answers are went-on passed =
       (ap (λ (v : TaskView). v.task) h, ap (λ (v : TaskView). v.children) h, ap (λ (v : TaskView). v.knows) h, ap (λ (v : TaskView). v.cut) h ∙ goes),
       read (ap (λ (v : TaskView). v.loads) h),
     )
-    by_cut true h = (record {
-      plan = h.0.plan;
-      origin = h.0.origin;
-      told = h.0.told;
-      handed = h.0.handed;
-      waits = h.0.waits;
-      advanced = h.0.advanced;
-      cut = h.0.cut;
-      children = h.0.children;
-      knows = h.0.knows;
-    }, read h.1)
+    by_cut true h = (
+      record {
+        plan = h.0.plan;
+        origin = h.0.origin;
+        told = h.0.told;
+        handed = h.0.handed;
+        waits = h.0.waits;
+        advanced = h.0.advanced;
+        cut = h.0.cut;
+        children = h.0.children;
+        knows = h.0.knows;
+      },
+      read h.1,
+    )
 
     both : resumes (any_cut answers) answers t next × HasPassed t.loads next.loads
     both = by_cut (any_cut answers) there

@@ -1,12 +1,10 @@
-use Rattle.std.proofs.Common.{◌≡◌, Bool, List, length, sym, ap, ◌∙◌, subst}
-use Rattle.serial_meaning.specs.Answer.{AnswerTag}
+use Rattle.std.proofs.Common.{length, sym, ap, ◌∙◌}
 use Rattle.strand_meaning.specs.Pieces.{Pieces}
-use Rattle.strand_machine.specs.Family.{origins}
-use Rattle.strand_machine.specs.Parts.{awaited, parts_of}
+use Rattle.strand_machine.specs.Parts.{awaited}
 use Rattle.strand_machine.specs.Stops.{answer_tags}
 use Rattle.strand_machine.specs.Tasks.{view_of}
 use Rattle.strand_machine.proofs.Advancing.{sound_holds}
-use Rattle.strand_machine.proofs.Answering.{length-answer-tags, length-tags, origins-tags}
+use Rattle.strand_machine.proofs.Answering.{length-answer-tags, length-tags}
 use Rattle.strand_machine.proofs.Cutting.{answers-of, ends-short, own-children, short-on, takes-whole, went-short, went-whole}
 use Rattle.strand_machine.proofs.Handed.{awaited_parts}
 use Rattle.strand_machine.proofs.Taking.{goes-on-sound, goes-on-view}

@@ -1,4 +1,3 @@
-use Rattle.std.proofs.Common.{refl}
 use Rattle.strand_machine.proofs.Advancing.{is-short, short-answers, short-ends}
 use Rattle.strand_machine.proofs.task.Task.end_short.Goals as goal
 
