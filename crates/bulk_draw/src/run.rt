@@ -6,7 +6,8 @@ use crate::lanes::{LANES, mix_each};
 use dotmix::{Gamma, MODULUS, dot};
 use ped_path::Pedigree;
 
-/// The sum of two numbers below the modulus, modulo it.
+/// The sum of two numbers below the modulus, modulo it. What is added back where the difference went below 0 is a number and no way
+/// to go on, so that no jump depends on it.
 fn sum_of(dot: u64, step: u64) -> u64
     requires dot { IsResidue dot }
     requires step { IsResidue step }
@@ -14,7 +15,8 @@ fn sum_of(dot: u64, step: u64) -> u64
     ensures small { IsResidue result }
 {
     let room = MODULUS - step;
-    if dot < room { dot + step } else { dot - room }
+    let back = if dot < room { MODULUS } else { 0 };
+    dot.wrapping_sub(room).wrapping_add(back)
 }
 
 /// Writes this dot product and those after it, and gives the one that comes next.
