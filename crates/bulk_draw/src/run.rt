@@ -2,7 +2,7 @@ ghost use Rattle.std.specs.Prelude.{◌≡◌, ◌+◌, ◌*◌, ◌%◌, ◌≤
 ghost use Rattle.dotmix.specs.Draws.{modulus, most_rounds, IsResidue};
 ghost use Rattle.bulk_draw.specs.Streams.{dots, last_rank, stream};
 
-use crate::lanes::{LANES, mix_each};
+use crate::lanes::{LANES, mix_each, write_lanes};
 use dotmix::{Gamma, MODULUS, dot};
 use ped_path::Pedigree;
 
@@ -53,7 +53,7 @@ pub fn draw_run(gamma: &Gamma, at: &Pedigree, rounds: u32, out: &mut [u64])
         let mut lanes = [0; LANES];
         next = write_dots(&mut lanes, next, step);
         mix_each(&mut lanes, rounds);
-        out[start..start + LANES].copy_from_slice(&lanes);
+        write_lanes(out, start, &lanes);
     }
     let rest = &mut out[blocks * LANES..];
     write_dots(rest, next, step);
