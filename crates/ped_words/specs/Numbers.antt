@@ -1,5 +1,5 @@
 -- Which words are numbers, and lists of numbers, in which range.
-use Rattle.std.specs.Prelude.{◌≡◌, ℕ, ◌^◌, Bool, true, false, ◌&&◌, ◌||◌, ◌==◌, not, nat_le, nat_lt, if◌then◌else◌, Option, Some, None, List, length, map, slice_index}
+use Rattle.std.specs.Prelude.{◌≡◌, ℕ, ◌^◌, Bool, true, false, ◌&&◌, ◌||◌, ◌==◌, not, nat_le, nat_lt, if◌then◌else◌, Option, Some, None, Result, Ok, Err, List, length, map, slice_index}
 use Rattle.std.specs.List.{list_all, slice_split}
 use Rattle.std.specs.Str.{all_ascii_digits}
 use Rattle.std.specs.Str.Parse.{digits_value}
@@ -22,11 +22,16 @@ number_rule least most word = if is_number word then (if nat_le least (value_of 
 abbrev pub parts_of : List ℕ → List (List ℕ)
 parts_of word = slice_split (λ c. c == 44) word
 
--- the rule that a word breaks where numbers joined by commas are due: the form of all is judged before the range of any
-abbrev pub list_rule : List ℕ → Option Rule
-list_rule word =
+-- There are no more of them than that, where there is a greatest count.
+abbrev pub are_few : Option ℕ → ℕ → Bool
+are_few None count = true
+are_few (Some most) count = nat_le count most
+
+-- the rule that a word breaks where numbers joined by commas are due, at most so many: the form of all is judged before any range
+abbrev pub list_rule : Option ℕ → List ℕ → Option Rule
+list_rule most word =
     if list_all is_number (parts_of word)
-    then (if list_all (λ part. nat_lt (value_of part) (2 ^ 64)) (parts_of word) then None else Some OutOfRange)
+    then (if are_few most (length (parts_of word)) && list_all (λ part. nat_lt (value_of part) (2 ^ 64)) (parts_of word) then None else Some OutOfRange)
     else Some BadValue
 
 abbrev pub numbers_of : List ℕ → List ℕ
@@ -36,3 +41,8 @@ numbers_of word = map value_of (parts_of word)
 abbrev pub AreValues : List (Bor (List ℕ)) → Option (List ℕ) → Type 0
 AreValues words None = list_all (λ x. nat_lt (value_of x.now) (2 ^ 64)) words ≡ false
 AreValues words (Some values) = (list_all (λ x. nat_lt (value_of x.now) (2 ^ 64)) words ≡ true) × (values ≡ map (λ x. value_of x.now) words)
+
+-- These are the numbers of a word, or the rule that it breaks.
+abbrev pub IsList : Option ℕ → List ℕ → Result (Vec ℕ) Rule → Type 0
+IsList most word (Ok numbers) = (list_rule most word ≡ None) × (numbers.items ≡ numbers_of word)
+IsList most word (Err rule) = list_rule most word ≡ Some rule
