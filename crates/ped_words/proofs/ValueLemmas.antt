@@ -1,9 +1,9 @@
 -- The values that pairs give, one pair more, and how many there are.
-use Rattle.std.proofs.Common.{◌≡◌, ℕ, suc, ◌+◌, ◌*◌, ◌≤◌, Bool, true, false, cond, ◌||◌, leb, Option, Some, Result, List, [], ◌∷◌, length, refl, ap, sym, ◌∙◌, arith, add-one}
+use Rattle.std.proofs.Common.{◌≡◌, ℕ, suc, ◌+◌, ◌*◌, ◌<◌, ◌≤◌, Bool, true, false, cond, ◌||◌, leb, Option, Some, None, Result, List, [], ◌∷◌, length, refl, ap, sym, ◌∙◌, arith, add-one}
 use Rattle.std.specs.Prelude.{is_some}
 use Rattle.ped_words.specs.Judging.{broken_pair, broken_value, judged_name}
 use Rattle.ped_words.specs.Table.{name_of}
-use Rattle.ped_words.specs.Values.{Values, all_names, count_among, count_of, has, is_name, name_word, one_of, value_word, values_of}
+use Rattle.ped_words.specs.Values.{Values, IsPlace, all_names, count_among, count_of, has, is_name, name_word, one_of, value_word, values_of}
 use Rattle.ped_words.specs.declared.rule.Rule.{Rule}
 use Rattle.ped_words.specs.declared.table.Name.{Name}
 use Rattle.ped_words.specs.declared.table.Name.TheVariants as name
@@ -53,6 +53,19 @@ next_values words k o m = cond (is_name o m) (Some (value_word words k, 2 * k + 
 
 pub count_pair : (words : List (List ℕ)) (k : ℕ) (n : Name) → name_of (name_word words k) ≡ Some n → has (values_of words k) n ≡ false → count_of (values_of words (k + 1)) ≡ count_of (values_of words k) + 1
 count_pair words k n named fresh = rw add-one (ap (λ o. count_of (next_values words k o)) named ∙ count_more n (value_word words k, 2 * k + 2) (values_of words k) fresh)
+
+-- where the value of an option stands, one pair more
+
+module _ (words : List (List ℕ)) (k : ℕ) (n : Name) where
+  here : (b : Bool) → is_name (name_of (name_word words k)) n ≡ b → values_of words (k + 1) n ≡ cond b (Some (value_word words k, 2 * k + 2)) (values_of words k n)
+  here b named = rw add-one (ap (λ t. cond t (Some (value_word words k, 2 * k + 2)) (values_of words k n)) named)
+
+  pub place_here : (word : List ℕ) → word ≡ name_word words k → is_name (name_of word) n ≡ true → 2 * k + 2 < length words → IsPlace words (k + 1) n (Some (2 * k + 2))
+  place_here word is named within = (here true (ap (λ w. is_name (name_of w) n) (sym is) ∙ named), within)
+
+  pub place_before : (word : List ℕ) → word ≡ name_word words k → is_name (name_of word) n ≡ false → (o : Option ℕ) → IsPlace words k n o → IsPlace words (k + 1) n o
+  place_before word is named None p = here false (ap (λ w. is_name (name_of w) n) (sym is) ∙ named) ∙ p
+  place_before word is named (Some at) p = (here false (ap (λ w. is_name (name_of w) n) (sym is) ∙ named) ∙ p.0, p.1)
 
 pub judged_pair : (verb : Verb) (words : List (List ℕ)) (k len last : ℕ) (given : Values) (word : List ℕ) (r : Result Name Rule) → given ≡ values_of words k → word ≡ name_word words k → len ≡ length words → last ≡ 2 * k + 2 → r ≡ judged_name verb given word (leb len last) → broken_pair verb words k ≡ broken_value words k r
 judged_pair verb words k len last given word r values named long behind judged =

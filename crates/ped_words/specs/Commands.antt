@@ -1,5 +1,5 @@
 -- What holds of every command that words give, so that it can be carried out.
-use Rattle.std.specs.Prelude.{◌≡◌, ℕ, ◌+◌, ◌≤◌, ◌^◌, length, IfSome}
+use Rattle.std.specs.Prelude.{◌≡◌, ℕ, ◌+◌, ◌≤◌, ◌^◌, List, length, IfSome}
 use Rattle.dotmix.specs.Draws.{most_rounds}
 use Rattle.ped_gen.specs.Shapes.{Fits}
 use Rattle.serial_meaning.specs.Plan.{IsPlan}

@@ -1,5 +1,5 @@
 -- Which words are numbers, and lists of numbers, in which range.
-use Rattle.std.specs.Prelude.{◌≡◌, ℕ, ◌^◌, Bool, true, false, ◌&&◌, ◌||◌, ◌==◌, not, nat_le, nat_lt, if◌then◌else◌, Option, Some, None, Result, Ok, Err, List, length, map, slice_index}
+use Rattle.std.specs.Prelude.{◌≡◌, ℕ, ◌^◌, Bool, true, false, ◌&&◌, ◌||◌, ◌==◌, not, nat_le, nat_lt, if◌then◌else◌, Option, Some, None, List, length, map, slice_index}
 use Rattle.std.specs.List.{list_all, slice_split}
 use Rattle.std.specs.Str.{all_ascii_digits}
 use Rattle.std.specs.Str.Parse.{digits_value}
@@ -41,8 +41,3 @@ numbers_of word = map value_of (parts_of word)
 abbrev pub AreValues : List (Bor (List ℕ)) → Option (List ℕ) → Type 0
 AreValues words None = list_all (λ x. nat_lt (value_of x.now) (2 ^ 64)) words ≡ false
 AreValues words (Some values) = (list_all (λ x. nat_lt (value_of x.now) (2 ^ 64)) words ≡ true) × (values ≡ map (λ x. value_of x.now) words)
-
--- These are the numbers of a word, or the rule that it breaks.
-abbrev pub IsList : Option ℕ → List ℕ → Result (Vec ℕ) Rule → Type 0
-IsList most word (Ok numbers) = (list_rule most word ≡ None) × (numbers.items ≡ numbers_of word)
-IsList most word (Err rule) = list_rule most word ≡ Some rule

@@ -1,6 +1,6 @@
 // What the pairs behind the command give: of each option the word that is its value.
 
-ghost use Rattle.std.specs.Prelude.{◌≡◌, ◌*◌, ◌<◌, ◌^◌, IfErr, IfOk, IfSome, length, map, string_bytes, unwrap_or};
+ghost use Rattle.std.specs.Prelude.{◌≡◌, ◌+◌, ◌*◌, ◌<◌, ◌≤◌, ◌^◌, IfErr, IfOk, IfSome, length, map, string_bytes, unwrap_or};
 ghost use Rattle.ped_words.specs.Pedigrees.{most_ranks};
 ghost use Rattle.ped_words.specs.Table.{kind_of, name_of};
 ghost use Rattle.ped_words.specs.Values.{IsPlace, IsPlaced, IsSmall, IsWithin, has, is_name, number, number_as, pedigree, shape, show, values_in, word_at};
@@ -59,11 +59,23 @@ fn place_of(words: &[String], pairs: u32, name: Name) -> Option<u32>
 {
     let mut place = None;
     for pair in 0..pairs {
-        if is_name(text_at(words, 2 * pair as usize + 1), name) {
-            place = Some(2 * pair + 2);
-        }
+        place = next_place(words, pair, name, place);
     }
     place
+}
+
+/// The index of the word that gives an option among the pairs with this one, from that among those before it.
+fn next_place(words: &[String], pair: u32, name: Name, before: Option<u32>) -> Option<u32>
+    requires within { 2 * pair + 2 < length words.now }
+    requires small { 2 * pair + 2 < 2 ^ 32 }
+    requires before { IsPlace (map string_bytes words.now) pair name before }
+    ensures { IsPlace (map string_bytes words.now) (pair + 1) name result }
+{
+    if is_name(text_at(words, 2 * pair as usize + 1), name) {
+        Some(2 * pair + 2)
+    } else {
+        before
+    }
 }
 
 impl<'a> Given<'a> {

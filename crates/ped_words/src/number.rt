@@ -1,8 +1,8 @@
-ghost use Rattle.std.specs.Prelude.{◌≡◌, ◌≤◌, None, Some, IfOk, IfErr, map, true};
+ghost use Rattle.std.specs.Prelude.{◌≡◌, ◌≤◌, None, Some, IfOk, IfErr, MatchResult, map, true};
 ghost use Rattle.std.specs.Char.{is_ascii_digit};
 ghost use Rattle.std.specs.List.{list_all};
 ghost use Rattle.std.specs.Option.{option_map};
-ghost use Rattle.ped_words.specs.Numbers.{AreValues, IsList, are_few, is_number, number_rule, parts_of, value_of};
+ghost use Rattle.ped_words.specs.Numbers.{AreValues, are_few, is_number, list_rule, number_rule, numbers_of, parts_of, value_of};
 
 use crate::rule::Rule;
 use std::alloc::{AllocError, Global};
@@ -44,7 +44,7 @@ pub(crate) fn number_list(
     word: &str,
     most: Option<u64>,
 ) -> Result<Result<Vec<u64>, Rule>, AllocError>
-    ensures { IfOk result (IsList most word.now) }
+    ensures { IfOk result (λ read. MatchResult read (λ numbers. (list_rule most word.now ≡ None) × (numbers.items ≡ numbers_of word.now)) (λ rule. list_rule most word.now ≡ Some rule)) }
 {
     let parts = split_list(alloc, word)?;
     if !all_numbers(&parts) {
