@@ -1,0 +1,23 @@
+-- Streams: the draws of consecutive ranks on one path.
+use Rattle.std.specs.Prelude.{ℕ, ◌+◌, ◌-◌, ◌*◌, ◌%◌, List, [], ◌∷◌, ◌++◌, length, map, take, slice_index}
+use Rattle.std.specs.List.{range_with_len}
+use Rattle.dotmix.specs.Draws.{dotmix, modulus}
+
+-- a pedigree's path: its ranks but the last one
+abbrev pub path : List ℕ → List ℕ
+path j = take (length j - 1) j
+
+abbrev pub last_rank : List ℕ → ℕ
+last_rank j = slice_index j (length j - 1)
+
+-- the pedigree that stands so many ranks later on the same path
+abbrev pub later : List ℕ → ℕ → List ℕ
+later j i = path j ++ (last_rank j + i) ∷ []
+
+-- the draws of so many consecutive ranks, from this pedigree's own on
+abbrev pub stream : List ℕ → List ℕ → ℕ → ℕ → List ℕ
+stream gamma j n rounds = map (λ i. dotmix gamma (later j i) rounds) (range_with_len 0 n)
+
+-- so many dot products, from the first one on, of which each is the one before it and a step
+abbrev pub dots : ℕ → ℕ → ℕ → List ℕ
+dots first step n = map (λ i. (first + i * step) % modulus) (range_with_len 0 n)
