@@ -1,5 +1,5 @@
 -- The values that pairs give, one pair more, and how many there are.
-use Rattle.std.proofs.Common.{◌≡◌, ℕ, suc, ◌+◌, ◌*◌, ◌<◌, ◌≤◌, Bool, true, false, cond, ◌||◌, leb, Option, Some, None, Result, List, [], ◌∷◌, length, refl, ap, sym, ◌∙◌, arith, add-one}
+use Rattle.std.proofs.Common.{◌≡◌, ℕ, ◌+◌, ◌*◌, ◌<◌, ◌≤◌, Bool, true, false, cond, ◌||◌, leb, Option, Some, None, Result, List, [], ◌∷◌, length, refl, ap, sym, ◌∙◌, arith, add-one}
 use Rattle.std.specs.Prelude.{is_some}
 use Rattle.ped_words.specs.Judging.{broken_pair, broken_value, judged_name}
 use Rattle.ped_words.specs.Table.{name_of}

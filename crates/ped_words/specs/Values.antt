@@ -1,5 +1,5 @@
 -- The values that the options have. Behind the command stand pairs of a name and a value: pair k, from 0, is the words 2k + 1 and 2k + 2.
-use Rattle.std.specs.Prelude.{◌≡◌, ℕ, zero, suc, ◌+◌, ◌*◌, ◌^◌, ◌<◌, ◌≤◌, length, Bool, true, false, ◌||◌, ◌==◌, if◌then◌else◌, is_some, option_and_then, Option, Some, None, List, [], ◌∷◌}
+use Rattle.std.specs.Prelude.{◌≡◌, ℕ, zero, suc, ◌+◌, ◌*◌, ◌^◌, ◌<◌, ◌≤◌, length, Bool, false, ◌||◌, ◌==◌, if◌then◌else◌, is_some, option_and_then, Option, Some, None, List, [], ◌∷◌}
 use Rattle.std.specs.List.{slice_index_or}
 use Rattle.std.specs.Option.{option_map}
 use Rattle.ped_gen.specs.declared.shape.Shape.{Shape}

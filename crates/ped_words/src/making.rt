@@ -103,9 +103,8 @@ impl<'a> Given<'a> {
         let Some(at) = self.pedigree(alloc)? else {
             return Err(self.lacks());
         };
-        let gamma = self.coefficients(alloc, HASH_DEPTH)?;
         Ok(Command::Hash {
-            gamma,
+            gamma: self.coefficients(alloc, HASH_DEPTH)?,
             at,
             rounds: self.rounds(),
         })

@@ -1,4 +1,4 @@
-use Rattle.std.proofs.Common.{◌≡◌, ◌+◌, ◌*◌, ◌-◌, ◌<◌, ◌≤◌, None, length, map}
+use Rattle.std.proofs.Common.{◌≡◌, ◌*◌, ◌-◌, ◌<◌, ◌≤◌, None, length, map}
 use Rattle.std.specs.Prelude.{string_bytes}
 use Rattle.ped_words.specs.Judging.{broken_pair, first_below, pairs_in}
 use Rattle.ped_words.specs.Values.{count_of, values_of}

@@ -1,6 +1,6 @@
-use Rattle.std.proofs.Common.{◌≡◌, Some, Option, List, ℕ, length, ◌∙◌, ap, sym, subst, rules, arith}
+use Rattle.std.proofs.Common.{Some, length, ◌∙◌, ap, rules}
 use Rattle.ped_words.specs.Values.{IsPlacedList, values_in}
-use Rattle.ped_words.proofs.GammaLemmas.{Judged, gamma_err, gamma_ok, seed_long}
+use Rattle.ped_words.proofs.GammaLemmas.{gamma_err, gamma_ok, seed_long}
 use Rattle.ped_words.proofs.given.Given.coefficients.Goals as goal
 
 pub returns-in-Ok-clause-fits : goal.returns-in-Ok-clause-fits
