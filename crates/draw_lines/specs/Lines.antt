@@ -1,5 +1,5 @@
 -- The text of a stream of draws: a decimal line for each number.
-use Rattle.std.specs.Prelude.{◌≡◌, ℕ, ◌+◌, ◌%◌, ◌≤◌, ◌≢◌, ◌^◌, Option, Some, None, IfSome, List, ◌++◌, codes, decimal, flat_map, length, map}
+use Rattle.std.specs.Prelude.{ℕ, ◌+◌, ◌-◌, ◌%◌, ◌<◌, ◌≤◌, ◌≢◌, ◌^◌, Option, Some, None, IfSome, List, ◌++◌, codes, decimal, flat_map, length, map}
 use Rattle.dotmix.specs.Draws.{most_rounds}
 use Rattle.bulk_draw.specs.Streams.{last_rank, later, stream}
 use Rattle.draw_lines.specs.declared.stream.Stream.{Stream}
@@ -19,9 +19,9 @@ stream_text gamma at count rounds below = flat_map number_line (reduced below (s
 abbrev pub lines_of : Stream → ℕ → List ℕ
 lines_of s count = stream_text s.gamma s.at count s.rounds s.below
 
--- So many numbers can be drawn: the coefficients and the ranks are enough.
+-- So many numbers can be drawn: the coefficients reach to the pedigree's last rank, and the ranks are enough.
 pub record CanDraw (s : Stream) (count : ℕ) : Type 0 where
-  pub within : length s.at ≤ length s.gamma
+  pub within : length s.at - 1 < length s.gamma
   pub rounds : s.rounds ≤ most_rounds
   pub ranks : last_rank s.at + count ≤ 2 ^ 32
   pub below : IfSome s.below (λ m. m ≢ 0)
