@@ -3,11 +3,12 @@
 # The options of a command.
 _pedrun_options() {
   case $1 in
-    run) echo --seed --gamma --depth --budget --workers --show ;;
-    serial) echo --seed --gamma --depth --budget --show ;;
-    replay) echo --at --seed --gamma --depth --budget ;;
-    hash) echo --at --seed --gamma ;;
+    run) echo --seed --gamma --depth --budget --rounds --workers --show ;;
+    serial) echo --seed --gamma --depth --budget --rounds --show ;;
+    replay) echo --at --seed --gamma --depth --budget --rounds ;;
+    hash) echo --at --seed --gamma --rounds ;;
     gen) echo --shape --size ;;
+    stream) echo --at --count --seed --gamma --rounds --below ;;
   esac
 }
 
@@ -17,7 +18,7 @@ _pedrun_left() {
   shift
   if [ $# -eq 0 ]; then
     case $command in
-      run | serial | check | fmt | replay | hash | gen) echo --help ;;
+      run | serial | check | fmt | replay | hash | gen | stream) echo --help ;;
     esac
   fi
   for option in $(_pedrun_options "$command"); do
@@ -41,7 +42,7 @@ _pedrun() {
       ;;
   esac
   if [ "$COMP_CWORD" -eq 1 ]; then
-    choices='run serial check fmt replay hash gen --help --version'
+    choices='run serial check fmt replay hash gen stream --help --version'
   elif [ $((COMP_CWORD % 2)) -eq 0 ]; then
     choices=$(_pedrun_left "${COMP_WORDS[1]}" "${COMP_WORDS[@]:2:COMP_CWORD-2}")
   else
@@ -51,6 +52,7 @@ _pedrun() {
       --workers) choices='1 2 4 8 16 32 64' ;;
       --depth) choices=256 ;;
       --budget) choices=1000000 ;;
+      --rounds) choices=4 ;;
     esac
   fi
   mapfile -t COMPREPLY < <(compgen -W "$choices" -- "$word")

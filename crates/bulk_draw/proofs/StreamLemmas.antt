@@ -48,7 +48,7 @@ dot-later gamma p r m n h =
 
 -- ---- a stream in two parts
 
-range-split : (f g : ℕ → ℕ) (m n : ℕ) → ((i : ℕ) → f (m + i) ≡ g i) → map f (range_with_len 0 (m + n)) ≡ map f (range_with_len 0 m) ++ map g (range_with_len 0 n)
+pub range-split : (f g : ℕ → ℕ) (m n : ℕ) → ((i : ℕ) → f (m + i) ≡ g i) → map f (range_with_len 0 (m + n)) ≡ map f (range_with_len 0 m) ++ map g (range_with_len 0 n)
 range-split f g m n same =
     same_lists _ _ (simp (length-append, length-map-range_with_len) refl) (λ k d h.
       let within : k < m + n = rw (length-map-range_with_len f 0 (m + n)) at h in

@@ -1,12 +1,15 @@
 -- What a refusal of bytes and a delivered report say of a command.
-use Rattle.std.proofs.Common.{◌≡◌, ℕ, List, Result, Ok, Err, IfErr, IsTrue, inl, inr, sym, subst}
+use Rattle.std.proofs.Common.{◌≡◌, ◌≢◌, ◌≤◌, ℕ, List, [], Option, Some, None, Result, Ok, Err, IfErr, IfSome, IsTrue, inl, inr, refl, sym, subst, arith}
+use Rattle.draw_lines.specs.Lines.{CanDraw, stream_text}
+use Rattle.ped_words.specs.Commands.{IsLawful}
 use Rattle.ped_words.specs.declared.command.Command.{Command}
+use Rattle.ped_words.specs.declared.command.Command.TheVariants.{Stream}
 use Rattle.engine.specs.Commands.{Takes, runs_today, takes_script}
 use Rattle.serial_meaning.specs.declared.event.Fault.{Fault}
 use Rattle.engine.specs.Lines.{blocked_line}
 use Rattle.engine.specs.Promise.{Watched, Answers, HasOutput, HasReport, ReadWhole, TellsNone, Told}
 use Rattle.engine.specs.Refusal.{Delivers, IsCause, IsMisfit, Puts}
-use Rattle.engine.specs.Report.{Report}
+use Rattle.engine.specs.Report.{Report, said}
 use Rattle.engine.specs.declared.refusal.Refusal.{Refusal}
 use Rattle.engine.specs.declared.refusal.Refusal.TheVariants.{TooLong, Untaken, Read, Memory}
 use Rattle.engine.specs.declared.report.Ending.{Ending}
@@ -47,3 +50,19 @@ module _ (output : List ℕ) (ending : Ending) (out err : Watched) where
 
   pub blocked_delivers : (fault : Fault) (line : List ℕ) (status : Status) → ending ≡ E.Blocked fault → status ≡ S.NoStrand → line ≡ blocked_line fault.at → Told err line → Delivers output ending out err status
   blocked_delivers fault line status blocked none same told = delivers_at S.NoStrand status (sym none) (subst (TellsNone err) (sym blocked) (subst (Told err) same told))
+
+-- A stream that is lawful can be drawn, and delivered it is its command's report.
+module _ (command : Command) (gamma at : List ℕ) (count rounds : ℕ) (below : Option ℕ) (is : command ≡ Stream gamma at count rounds below) where
+  not_zero : (o : Option ℕ) → IfSome o (λ m. 1 ≤ m) → IfSome o (λ m. m ≢ 0)
+  not_zero None above = tt
+  not_zero (Some m) above = λ zero. absurd (omega (arith, above, zero))
+
+  pub can_draw : IsLawful command → CanDraw (record { gamma = gamma; at = at; rounds = rounds; below = below }) count
+  can_draw lawful =
+      let l : IsLawful (Stream gamma at count rounds below) = subst IsLawful is lawful in
+      record { within = omega (arith, l.0.few, l.0.coefficients); rounds = l.0.rounds_limit; ranks = l.1.ranks; below = not_zero below l.2 }
+
+  pub stream_answers : (source out err : Watched) (status : Status) → Delivers (stream_text gamma at count rounds below) E.Done out err status → Answers command source out err status
+  stream_answers source out err status d =
+      let P : Command → Type 0 = λ c. Answers c source out err status in
+      subst P (sym is) (delivered_answers (Stream gamma at count rounds below) source out err refl (said (stream_text gamma at count rounds below)) ([], (λ takes. absurd (cc)), refl) status d)

@@ -46,10 +46,11 @@ taken_script (command.Run settings workers) takes bytes report r = (r.0, r.1, r.
 taken_script (command.Serial settings) takes bytes report r = (r.0, r.1, r.2)
 taken_script (command.Sim settings workers number) takes bytes report r = (r.0, r.1, r.2)
 taken_script (command.Replay settings at) takes bytes report r = (r.0, r.1, r.2)
-taken_script (command.Hash gamma at) takes bytes report r = absurd (cc)
+taken_script (command.Hash gamma at rounds) takes bytes report r = absurd (cc)
 taken_script command.Check takes bytes report r = (r.0, r.1, r.2)
 taken_script command.Fmt takes bytes report r = (r.0, r.1, r.2)
 taken_script (command.Gen shape size) takes bytes report r = absurd (cc)
+taken_script (command.Stream gamma at count rounds below) takes bytes report r = absurd (cc)
 
 -- what a command that takes none reports has nothing to do with the source
 alone : (command : Command) → IsFalse (takes_script command) → (bytes other : List ℕ) (report : Report) → Reports command bytes report → Reports command other report
@@ -57,10 +58,11 @@ alone (command.Run settings workers) takes bytes other report r = absurd (cc)
 alone (command.Serial settings) takes bytes other report r = absurd (cc)
 alone (command.Sim settings workers number) takes bytes other report r = absurd (cc)
 alone (command.Replay settings at) takes bytes other report r = absurd (cc)
-alone (command.Hash gamma at) takes bytes other report r = r
+alone (command.Hash gamma at rounds) takes bytes other report r = r
 alone command.Check takes bytes other report r = absurd (cc)
 alone command.Fmt takes bytes other report r = absurd (cc)
 alone (command.Gen shape size) takes bytes other report r = r
+alone (command.Stream gamma at count rounds below) takes bytes other report r = r
 
 module _ (source out err : Watched) where
   -- where the words give a command
@@ -216,10 +218,11 @@ module _ (source out err : Watched) where
   replay_tells (command.Serial settings) bytes report r tells = absurd (no_run_tells (elision (plan_of settings r.0)).ending (tells_at report _ r.3 tells))
   replay_tells (command.Sim settings workers number) bytes report r tells = absurd (tells_at report _ r.3 tells)
   replay_tells (command.Replay settings at) bytes report r tells = tt
-  replay_tells (command.Hash gamma at) bytes report r tells = absurd (tells_at report _ r tells)
+  replay_tells (command.Hash gamma at rounds) bytes report r tells = absurd (tells_at report _ r tells)
   replay_tells command.Check bytes report r tells = absurd (tells_at report _ r.3 tells)
   replay_tells command.Fmt bytes report r tells = absurd (tells_at report _ r.3 tells)
   replay_tells (command.Gen shape size) bytes report r tells = absurd (tells_at report _ r tells)
+  replay_tells (command.Stream gamma at count rounds below) bytes report r tells = absurd (tells_at report _ r tells)
 
   -- where the words give a command, and the source tells its bytes
   module _ (command : Command) (bytes : List ℕ) (told : source.before ≡ Some bytes) where

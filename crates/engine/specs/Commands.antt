@@ -4,9 +4,10 @@ use Rattle.script_check.specs.Valid.{IsValid}
 use Rattle.script_grammar.specs.declared.tree.Script.{Script}
 use Rattle.script_grammar.specs.Text.{Text}
 use Rattle.script_print.specs.Canonical.{canonical}
+use Rattle.draw_lines.specs.Lines.{stream_text}
 use Rattle.ped_gen.specs.Scripts.{generated}
 use Rattle.ped_words.specs.declared.command.Command.{Command}
-use Rattle.ped_words.specs.declared.command.Command.TheVariants.{Run, Serial, Sim, Replay, Hash, Check, Fmt, Gen}
+use Rattle.ped_words.specs.declared.command.Command.TheVariants.{Run, Serial, Sim, Replay, Hash, Check, Fmt, Gen, Stream}
 use Rattle.engine.specs.Report.{Report, said, plan_of, run_report, replay_report, hash_text}
 
 -- The first word says the command that runs on workers.
@@ -19,20 +20,27 @@ runs_today (Run settings workers) = true
 runs_today (Serial settings) = true
 runs_today (Sim settings workers number) = false
 runs_today (Replay settings at) = true
-runs_today (Hash gamma at) = true
+runs_today (Hash gamma at rounds) = true
 runs_today Check = true
 runs_today Fmt = true
 runs_today (Gen shape size) = true
+runs_today (Stream gamma at count rounds below) = true
 
 abbrev pub takes_script : Command → Bool
 takes_script (Run settings workers) = true
 takes_script (Serial settings) = true
 takes_script (Sim settings workers number) = true
 takes_script (Replay settings at) = true
-takes_script (Hash gamma at) = false
+takes_script (Hash gamma at rounds) = false
 takes_script Check = true
 takes_script Fmt = true
 takes_script (Gen shape size) = false
+takes_script (Stream gamma at count rounds below) = false
+
+-- The command's report is made whole before it is written. A stream is written block by block.
+abbrev pub IsWhole : Command → Type 0
+IsWhole (Stream gamma at count rounds below) = ⊥
+IsWhole command = ⊤
 
 abbrev pub reads_script : Command → Bool
 reads_script command = runs_today command && takes_script command
@@ -52,6 +60,7 @@ report_of command script = said (codes "ok\n")
 
 -- The command writes this where the source has these bytes, which only matter where it reads a script.
 abbrev pub Reports : Command → List ℕ → Report → Type 0
-Reports (Hash gamma at) bytes report = report ≡ said (hash_text gamma at)
+Reports (Hash gamma at rounds) bytes report = report ≡ said (hash_text gamma at rounds)
 Reports (Gen shape size) bytes report = report ≡ said (generated shape size)
+Reports (Stream gamma at count rounds below) bytes report = report ≡ said (stream_text gamma at count rounds below)
 Reports command bytes report = (script : Script) × Text bytes script × Takes command script × (report ≡ report_of command script)

@@ -1,5 +1,6 @@
 pub mod Clauses
 pub mod Commands
+pub mod Laws
 pub mod Lines
 pub mod Promise
 pub mod Refusal

@@ -32,7 +32,7 @@ said output = record { output = output; ending = Done }
 
 -- the plan of a run
 abbrev pub plan_of : Settings → Script → PlanView
-plan_of settings script = record { script = script; gamma = settings.gamma; limits = settings.limits; show = settings.show }
+plan_of settings script = record { script = script; gamma = settings.gamma; limits = settings.limits; show = settings.show; rounds = settings.rounds }
 
 abbrev pub ending_of : Result (List Value) Fault → Ending
 ending_of (Ok values) = Done
@@ -75,9 +75,9 @@ IsReplayOf settings j bytes report = (script : Script) × Text bytes script × I
 abbrev pub IsRunOf : Settings → List ℕ → Report → Type 0
 IsRunOf settings bytes report = (script : Script) × Text bytes script × IsValid script × (report ≡ run_report (plan_of settings script))
 
--- the dot product of a pedigree, and its draw
-abbrev pub hash_text : List ℕ → List ℕ → List ℕ
-hash_text gamma j = codes "dot " ++ decimal (dot gamma j) ++ codes "\ndraw " ++ decimal (dotmix gamma j) ++ codes "\n"
+-- the dot product of a pedigree, and its draw in so many rounds
+abbrev pub hash_text : List ℕ → List ℕ → ℕ → List ℕ
+hash_text gamma j rounds = codes "dot " ++ decimal (dot gamma j) ++ codes "\ndraw " ++ decimal (dotmix gamma j rounds) ++ codes "\n"
 
 -- how a report ends of an answer that ended so
 abbrev pub outcome_ending : Outcome → Ending

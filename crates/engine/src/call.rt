@@ -1,9 +1,10 @@
 // What a call does, from its words to its status.
 
 ghost use Rattle.std.specs.Prelude.{◌≡◌, codes, IfOk, IfErr, IsTrue, IsFalse, map, string_bytes};
+ghost use Rattle.draw_lines.specs.Lines.{CanDraw, lines_of};
 ghost use Rattle.ped_words.specs.Reading.{reading};
 ghost use Rattle.ped_words.specs.Commands.{AreLawful, IsLawful, IsWorkers};
-ghost use Rattle.engine.specs.Commands.{reads_script, runs_today, takes_script};
+ghost use Rattle.engine.specs.Commands.{IsWhole, reads_script, runs_today, takes_script};
 ghost use Rattle.engine.specs.Promise.{Answers, HasReport, KeepsPromise, ReadWhole, ReadsNone, Refuses, Told, has_line, has_output, watched};
 ghost use Rattle.engine.specs.Refusal.{Delivers, IsCause, IsLate, Puts, Refused};
 ghost use Rattle.engine.specs.Report.{shown};
@@ -15,6 +16,7 @@ use crate::refusal::Refusal;
 use crate::report::{Ending, Report, alone_report, script_report};
 use crate::status::Status;
 use crew::Gate;
+use draw_lines::{Stream, StreamError, write_stream};
 use ped_io::{ReadError, Sink, Source, read_all, write_all};
 use ped_words::{Command, Settings, WordError, read_words};
 use std::alloc::Global;
@@ -40,6 +42,7 @@ fn fetch<S: Source>(alloc: Global, source: &mut S) -> Result<Vec<u8>, Refusal>
 fn prepare<S: Source>(alloc: Global, command: Command, source: &mut S) -> Result<Report, Refusal>
     requires today { IsTrue (runs_today command) }
     requires lawful { IsLawful command }
+    requires whole { IsWhole command }
     ensures ready { IfOk result (λ report. HasReport command (watched S.left S.faults source.old source.new) (shown report)) }
     ensures refused { IfErr result (IsCause command (watched S.left S.faults source.old source.new)) }
     ensures untouched { IsFalse (takes_script command) → source.new ≡ source.old }
@@ -169,6 +172,52 @@ fn refuse_words<E: Sink>(alloc: Global, error: WordError, err: &mut E) -> Status
     }
 }
 
+// Runs a command whose report is made whole.
+fn serve_whole<S: Source, K: Sink, E: Sink>(
+    alloc: Global,
+    command: Command,
+    source: &mut S,
+    out: &mut K,
+    err: &mut E,
+) -> Status
+    requires today { IsTrue (runs_today command) }
+    requires lawful { IsLawful command }
+    requires whole { IsWhole command }
+    ensures answers { Answers command (watched S.left S.faults source.old source.new) (watched K.written K.faults out.old out.new)
+        (watched E.written E.faults err.old err.new) result }
+    ensures untouched { IsFalse (takes_script command) → source.new ≡ source.old }
+    ensures no_output { IsFalse (has_output result) → out.new ≡ out.old }
+    ensures no_line { IsFalse (has_line result) → err.new ≡ err.old }
+{
+    match prepare(alloc, command, source) {
+        Ok(report) => deliver(alloc, &report, out, err),
+        Err(refusal) => refuse(&refusal, err),
+    }
+}
+
+// Writes a stream, block by block.
+fn serve_stream<K: Sink, E: Sink>(
+    alloc: Global,
+    stream: Stream,
+    count: u32,
+    out: &mut K,
+    err: &mut E,
+) -> Status
+    requires { CanDraw stream count }
+    ensures delivered { Delivers (lines_of stream count) Ending.Done (watched K.written K.faults out.old out.new) (watched E.written E.faults err.old err.new) result }
+    ensures no_output { IsFalse (has_output result) → out.new ≡ out.old }
+    ensures no_line { IsFalse (has_line result) → err.new ≡ err.old }
+{
+    match write_stream(alloc, stream, count, out) {
+        Ok(()) => Status::Done,
+        Err(StreamError::Fault) => {
+            tell(err, b"write fault\n");
+            Status::Write
+        }
+        Err(StreamError::Memory) => want(err),
+    }
+}
+
 // Runs a command.
 fn serve<S: Source, K: Sink, E: Sink>(
     alloc: Global,
@@ -188,9 +237,23 @@ fn serve<S: Source, K: Sink, E: Sink>(
         tell(err, b"words: not built yet\n");
         return Status::Words;
     }
-    match prepare(alloc, command, source) {
-        Ok(report) => deliver(alloc, &report, out, err),
-        Err(refusal) => refuse(&refusal, err),
+    match command {
+        Command::Stream {
+            gamma,
+            at,
+            count,
+            rounds,
+            below,
+        } => {
+            let stream = Stream {
+                gamma,
+                at,
+                rounds,
+                below,
+            };
+            serve_stream(alloc, stream, count, out, err)
+        }
+        command => serve_whole(alloc, command, source, out, err),
     }
 }
 

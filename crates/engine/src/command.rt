@@ -16,5 +16,8 @@ pub fn runs_today(command: &Command) -> bool
 pub fn takes_script(command: &Command) -> bool
     ensures { result ≡ takes_script command.now }
 {
-    !matches!(command, Command::Hash { .. } | Command::Gen { .. })
+    !matches!(
+        command,
+        Command::Hash { .. } | Command::Gen { .. } | Command::Stream { .. }
+    )
 }

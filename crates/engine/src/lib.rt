@@ -3,6 +3,7 @@
 
 pub mod call;
 pub mod command;
+pub mod laws;
 pub mod line;
 mod play;
 pub mod refusal;

@@ -33,8 +33,9 @@ fn make_plan(settings: Settings, script: Checked) -> Plan
         gamma,
         limits,
         show,
+        rounds,
     } = settings;
-    Plan::new(script, gamma, limits, show)
+    Plan::new(script, gamma, limits, show, rounds)
 }
 
 // The plan of the script that these bytes are the text of.

@@ -1,8 +1,9 @@
 // What a command writes.
 
 ghost use Rattle.std.specs.Prelude.{◌≡◌, ℕ, ◌≤◌, List, IsTrue, IsFalse, IfErr, IfOk, length};
+ghost use Rattle.dotmix.specs.Draws.{most_rounds};
 ghost use Rattle.ped_words.specs.Commands.{IsLawful};
-ghost use Rattle.engine.specs.Commands.{Reports, Takes, runs_today, takes_script};
+ghost use Rattle.engine.specs.Commands.{IsWhole, Reports, Takes, runs_today, takes_script};
 ghost use Rattle.engine.specs.Promise.{most_bytes};
 ghost use Rattle.engine.specs.Refusal.{IsMisfit};
 ghost use Rattle.engine.specs.Report.{hash_text, said, shown};
@@ -52,13 +53,19 @@ impl Report {
     }
 }
 
-// The lines of a pedigree's dot product and draw.
-fn hash_report(alloc: Global, gamma: &Gamma, at: &Pedigree) -> Result<Report, Memory>
-    requires { length at.now ≤ length gamma.now }
-    ensures { IfOk result (λ report. shown report ≡ said (hash_text gamma.now at.now)) }
+// The lines of a pedigree's dot product, and of its draw in so many rounds.
+fn hash_report(
+    alloc: Global,
+    gamma: &Gamma,
+    at: &Pedigree,
+    rounds: u32,
+) -> Result<Report, Memory>
+    requires within { length at.now ≤ length gamma.now }
+    requires rounds { rounds ≤ most_rounds }
+    ensures { IfOk result (λ report. shown report ≡ said (hash_text gamma.now at.now rounds)) }
 {
     let sum = dot(gamma, at);
-    let number = dotmix(gamma, at);
+    let number = dotmix(gamma, at, rounds);
     let text = format!(in alloc; "dot {sum}\ndraw {number}\n")?;
     Ok(Report::said(text.into_bytes()))
 }
@@ -89,14 +96,15 @@ pub fn script_report(alloc: Global, command: Command, bytes: &[u8]) -> Result<Re
     }
 }
 
-/// What a command writes that is about no script.
+/// What a command writes that is about no script, and whose report is made whole.
 pub fn alone_report(alloc: Global, command: Command) -> Result<Report, Memory>
     requires alone { IsFalse (takes_script command) }
+    requires whole { IsWhole command }
     requires lawful { IsLawful command }
     ensures { IfOk result (λ report. (bytes : List ℕ) → Reports command bytes (shown report)) }
 {
     match command {
-        Command::Hash { gamma, at } => hash_report(alloc, &gamma, &at),
+        Command::Hash { gamma, at, rounds } => hash_report(alloc, &gamma, &at, rounds),
         Command::Gen { shape, size } => match gen_script(alloc, shape, size) {
             Ok(text) => Ok(Report::said(text)),
             Err(_) => Err(Memory),

@@ -1,6 +1,7 @@
 -- Which lists of numbers make coefficients of a depth.
-use Rattle.std.proofs.Common.{◌≡◌, ℕ, ◌+◌, ◌-◌, ◌%◌, ◌<◌, ◌≤◌, ◌↔◌, replicate, Bool, true, false, cond, ◌&&◌, not, leb, Option, Some, None, Result, Ok, Err, List, length, refl, ap, sym, ◌∙◌, subst, arith, length-append}
-use Rattle.std.specs.Prelude.{is_some, position, option_and_then, unwrap_or}
+use Rattle.std.proofs.Common.{◌≡◌, ℕ, ◌+◌, ◌-◌, ◌%◌, ◌<◌, ◌≤◌, ◌↔◌, replicate, Bool, true, false, ◌&&◌, not, leb, Option, Some, None, Result, Ok, Err, List, length, refl, ap, sym, ◌∙◌, subst, arith, length-append}
+use Rattle.std.specs.Prelude.{is_some, position, unwrap_or}
+use Rattle.std.specs.Option.{option_map}
 use Rattle.std.proofs.lemmas.Bool.Decides.{nat_tests}
 use Rattle.std.proofs.lemmas.List.{length-replicate}
 use Rattle.std.proofs.lemmas.List.FromFn.{length-map-range_with_len}
@@ -9,11 +10,12 @@ use Rattle.dotmix.specs.Words.{coefficients, word}
 use Rattle.dotmix.specs.GammaState.{is_too_big, padded, IsFirstTooBig}
 use Rattle.dotmix.specs.declared.gamma.GammaError.{GammaError}
 use Rattle.dotmix.specs.declared.gamma.GammaError.TheVariants.{TooMany, TooBig, Memory}
-use Rattle.ped_words.specs.Making.{broken_gamma, gamma_error, gamma_from, gamma_of, is_gamma}
+use Rattle.ped_words.specs.Making.{gamma_error, gamma_fits, gamma_from, gamma_of, holds_for, is_gamma, unfit}
 use Rattle.ped_words.specs.Rules.{breaks, IsRefusal}
-use Rattle.ped_words.specs.Values.{Values}
+use Rattle.ped_words.specs.Values.{IsPlacedList, Values, number}
 use Rattle.ped_words.specs.declared.rule.Rule.TheVariants.{OutOfRange}
 use Rattle.ped_words.specs.declared.rule.WordError.{WordError}
+use Rattle.ped_words.specs.declared.table.Name.TheVariants as name
 
 leb_true : (m n : ℕ) → (n < m → ⊥) → leb m n ≡ true
 leb_true m n le = grind (arith, nat_tests)
@@ -50,13 +52,29 @@ is_gamma_err list depth (TooBig i) other j =
     ap (λ o. leb (length list) depth && not (is_some o)) (((j.too_big i).0 refl).1) ∙ and_false (leb (length list) depth)
 is_gamma_err list depth Memory other j = absurd (other refl)
 
-broken_by : (values : Values) (list : List ℕ) (at depth : ℕ) (b : Bool) → values.gamma ≡ Some (list, at) → is_gamma list depth ≡ b → broken_gamma values depth ≡ cond b None (Some (breaks OutOfRange at))
-broken_by values list at depth b given fits =
-    ap (option_and_then (λ (g : List ℕ × ℕ). cond (is_gamma g.0 depth) None (Some (breaks OutOfRange g.1)))) given ∙ ap (λ x. cond x None (Some (breaks OutOfRange at))) fits
+-- what the list that is given for coefficients shows
+module _ (values : Values) (given : List ℕ) (at depth : ℕ) (placed : IsPlacedList values (Some (given, at))) where
+  fits_by : (b : Bool) → is_gamma given depth ≡ b → gamma_fits values depth ≡ b
+  fits_by b fits = ap (holds_for (λ g. is_gamma g depth)) placed.0 ∙ fits
 
-pub gamma_ok : (values : Values) (list gamma : List ℕ) (at depth : ℕ) → values.gamma ≡ Some (list, at) → Judged list depth (Ok gamma) → gamma ≡ padded list depth → (broken_gamma values depth ≡ None) × (gamma ≡ gamma_of values depth)
-gamma_ok values list gamma at depth given j made =
-    (broken_by values list at depth true given (is_gamma_ok list gamma depth j), made ∙ sym (ap (λ g. gamma_from g (unwrap_or values.seed 0) depth) given))
+  pub gamma_ok : (gamma : List ℕ) → Judged given depth (Ok gamma) → gamma ≡ padded given depth → (gamma ≡ gamma_of values depth) × (gamma_fits values depth ≡ true)
+  gamma_ok gamma j made = (made ∙ sym (ap (λ g. gamma_from g (unwrap_or (number values name.Seed) 0) depth) placed.0), fits_by true (is_gamma_ok given gamma depth j))
+
+  pub gamma_err : (error : GammaError) (e : WordError) → Judged given depth (Err error) → e ≡ gamma_error error at → IsRefusal (unfit values name.Gamma (gamma_fits values depth)) e
+  gamma_err error e j is = subst (λ (x : WordError). IsRefusal (unfit values name.Gamma (gamma_fits values depth)) x) (sym is) (at_error error j)
+    where
+      broken : (error : GammaError) → (error ≡ Memory → ⊥) → Judged given depth (Err error) → unfit values name.Gamma (gamma_fits values depth) ≡ Some (breaks OutOfRange at)
+      broken error other j = ap (unfit values name.Gamma) (fits_by false (is_gamma_err given depth error other j)) ∙ ap (option_map (λ i. breaks OutOfRange i)) placed.1
+
+      at_error : (error : GammaError) → Judged given depth (Err error) → IsRefusal (unfit values name.Gamma (gamma_fits values depth)) (gamma_error error at)
+      at_error TooMany j = broken TooMany (λ h. cc h) j
+      at_error (TooBig i) j = broken (TooBig i) (λ h. cc h) j
+      at_error Memory j = tt
+
+-- Without a list the seed's coefficients fit.
+pub seed_ok : (values : Values) (depth seed : ℕ) (gamma : List ℕ) → IsPlacedList values None → seed ≡ unwrap_or (number values name.Seed) 0 → gamma ≡ coefficients seed depth → (gamma ≡ gamma_of values depth) × (gamma_fits values depth ≡ true)
+seed_ok values depth seed gamma none is made =
+    (made ∙ ap (λ s. coefficients s depth) is ∙ sym (ap (λ g. gamma_from g (unwrap_or (number values name.Seed) 0) depth) none), ap (holds_for (λ g. is_gamma g depth)) none)
 
 pub gamma_long : (list gamma : List ℕ) (depth : ℕ) → Judged list depth (Ok gamma) → gamma ≡ padded list depth → length gamma ≡ depth
 gamma_long list gamma depth j made =
@@ -67,14 +85,3 @@ gamma_long list gamma depth j made =
 
 pub seed_long : (seed depth : ℕ) → length (coefficients seed depth) ≡ depth
 seed_long seed depth = length-map-range_with_len (λ i. word seed i % modulus) 1 depth
-
-pub gamma_err : (values : Values) (list : List ℕ) (at depth : ℕ) (error : GammaError) (e : WordError) → values.gamma ≡ Some (list, at) → Judged list depth (Err error) → e ≡ gamma_error error at → IsRefusal (broken_gamma values depth) e
-gamma_err values list at depth error e given j is = subst (λ (x : WordError). IsRefusal (broken_gamma values depth) x) (sym is) (at_error error j)
-  where
-    broken : (error : GammaError) → (error ≡ Memory → ⊥) → Judged list depth (Err error) → broken_gamma values depth ≡ Some (breaks OutOfRange at)
-    broken error other j = broken_by values list at depth false given (is_gamma_err list depth error other j)
-
-    at_error : (error : GammaError) → Judged list depth (Err error) → IsRefusal (broken_gamma values depth) (gamma_error error at)
-    at_error TooMany j = broken TooMany (λ h. cc h) j
-    at_error (TooBig i) j = broken (TooBig i) (λ h. cc h) j
-    at_error Memory j = tt

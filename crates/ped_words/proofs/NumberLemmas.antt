@@ -1,5 +1,5 @@
 -- What `parse` says of a word that is a number.
-use Rattle.std.proofs.Common.{◌≡◌, ℕ, ◌<◌, ◌≤◌, ◌^◌, Bool, true, false, cond, ◌&&◌, ltb, leb, Some, None, Err, List, [], ◌∷◌, length, map, refl, sym, ap, ◌∙◌, arith}
+use Rattle.std.proofs.Common.{◌≡◌, ℕ, ◌<◌, ◌≤◌, ◌^◌, Bool, true, false, cond, ◌&&◌, ltb, leb, Option, Some, None, Err, List, [], ◌∷◌, length, map, refl, sym, ap, ◌∙◌, arith}
 use Rattle.std.specs.Char.{is_ascii_digit}
 use Rattle.std.specs.List.{list_all}
 use Rattle.std.specs.Str.{all_ascii_digits}
@@ -7,8 +7,9 @@ use Rattle.std.specs.Str.Parse.{ParsesUnsigned, digits_value}
 use Rattle.std.proofs.lemmas.Bool.Decides.{nat_tests}
 use Rattle.std.proofs.lemmas.Str.Parse.{IsNumeralModel, numerals_by_value, parse_digits, tells_all_ascii_digits}
 use Rattle.std.specs.Borrow.{Bor}
+use Rattle.std.proofs.lemmas.List.{length-map}
 use Rattle.std.proofs.lemmas.List.Folds.{list_all-map}
-use Rattle.ped_words.specs.Numbers.{AreValues, is_number, list_rule, number_rule, numbers_of, parts_of, value_of}
+use Rattle.ped_words.specs.Numbers.{AreValues, are_few, is_number, list_rule, number_rule, numbers_of, parts_of, value_of}
 use Rattle.ped_words.specs.declared.rule.Rule.TheVariants.{BadValue, OutOfRange}
 
 pub all_digits_same : (bytes : List ℕ) → list_all is_ascii_digit bytes ≡ all_ascii_digits bytes
@@ -57,15 +58,22 @@ module _ (word : List ℕ) (parts : List (Bor (List ℕ))) (split : map (λ (x :
   all_parts : (p : List ℕ → Bool) → list_all p (parts_of word) ≡ list_all (λ x. p x.now) parts
   all_parts p = ap (list_all p) (sym split) ∙ list_all-map p (λ (x : Bor (List ℕ)). x.now) parts
 
-  pub form_broken : list_all (λ x. is_number x.now) parts ≡ false → list_rule word ≡ Some BadValue
-  form_broken bad = ap (λ b. cond b (cond (list_all is_small (parts_of word)) None (Some OutOfRange)) (Some BadValue)) (all_parts is_number ∙ bad)
+  part_count : length (parts_of word) ≡ length parts
+  part_count = ap length (sym split) ∙ length-map parts (λ (x : Bor (List ℕ)). x.now)
 
-  judged_small : (b : Bool) → list_all (λ x. is_number x.now) parts ≡ true → list_all (λ x. is_small x.now) parts ≡ b → list_rule word ≡ cond b None (Some OutOfRange)
-  judged_small b good small =
-      ap (λ t. cond t (cond (list_all is_small (parts_of word)) None (Some OutOfRange)) (Some BadValue)) (all_parts is_number ∙ good) ∙ ap (λ t. cond t None (Some OutOfRange)) (all_parts is_small ∙ small)
+  module _ (most : Option ℕ) where
+    pub form_broken : list_all (λ x. is_number x.now) parts ≡ false → list_rule most word ≡ Some BadValue
+    form_broken bad = ap (λ b. cond b (cond (are_few most (length (parts_of word)) && list_all is_small (parts_of word)) None (Some OutOfRange)) (Some BadValue)) (all_parts is_number ∙ bad)
 
-  pub range_broken : list_all (λ x. is_number x.now) parts ≡ true → AreValues parts None → list_rule word ≡ Some OutOfRange
-  range_broken good big = judged_small false good big
+    judged : (few small : Bool) → list_all (λ x. is_number x.now) parts ≡ true → are_few most (length parts) ≡ few → list_all (λ x. is_small x.now) parts ≡ small → list_rule most word ≡ cond (few && small) None (Some OutOfRange)
+    judged few small good count sizes =
+        ap (λ t. cond t (cond (are_few most (length (parts_of word)) && list_all is_small (parts_of word)) None (Some OutOfRange)) (Some BadValue)) (all_parts is_number ∙ good) ∙ ap (λ n. cond (are_few most n && list_all is_small (parts_of word)) None (Some OutOfRange)) (part_count) ∙ ap (λ t. cond (t && list_all is_small (parts_of word)) None (Some OutOfRange)) count ∙ ap (λ t. cond (few && t) None (Some OutOfRange)) (all_parts is_small ∙ sizes)
 
-  pub list_good : (values : List ℕ) → list_all (λ x. is_number x.now) parts ≡ true → AreValues parts (Some values) → (list_rule word ≡ None) × (values ≡ numbers_of word)
-  list_good values good are = (judged_small true good are.0, are.1 ∙ sym (map-seen value_of parts) ∙ ap (map value_of) split)
+    pub count_broken : list_all (λ x. is_number x.now) parts ≡ true → are_few most (length parts) ≡ false → list_rule most word ≡ Some OutOfRange
+    count_broken good many = judged false (list_all (λ x. is_small x.now) parts) good many refl
+
+    pub range_broken : list_all (λ x. is_number x.now) parts ≡ true → are_few most (length parts) ≡ true → AreValues parts None → list_rule most word ≡ Some OutOfRange
+    range_broken good few big = judged true false good few big
+
+    pub list_good : (values : List ℕ) → list_all (λ x. is_number x.now) parts ≡ true → are_few most (length parts) ≡ true → AreValues parts (Some values) → (list_rule most word ≡ None) × (values ≡ numbers_of word)
+    list_good values good few are = (judged true true good few are.0, are.1 ∙ sym (map-seen value_of parts) ∙ ap (map value_of) split)

@@ -1,25 +1,41 @@
 -- What holds of every command that words give, so that it can be carried out.
-use Rattle.std.specs.Prelude.{◌≡◌, ℕ, ◌≤◌, length}
+use Rattle.std.specs.Prelude.{◌≡◌, ℕ, ◌+◌, ◌≤◌, ◌^◌, List, length, IfSome}
+use Rattle.dotmix.specs.Draws.{most_rounds}
 use Rattle.ped_gen.specs.Shapes.{Fits}
+use Rattle.serial_meaning.specs.Plan.{IsPlan}
+use Rattle.ped_words.specs.Making.{hash_depth}
+use Rattle.ped_words.specs.Pedigrees.{last_rank, most_ranks}
+use Rattle.ped_words.specs.Table.{most_count}
 use Rattle.ped_words.specs.declared.command.Command.{Command}
-use Rattle.ped_words.specs.declared.command.Command.TheVariants.{Run, Serial, Sim, Replay, Hash, Check, Fmt, Gen}
+use Rattle.ped_words.specs.declared.command.Command.TheVariants.{Run, Serial, Sim, Replay, Hash, Check, Fmt, Gen, Stream}
 use Rattle.ped_words.specs.declared.command.Settings.{Settings}
 
-pub record AreLawful (settings : Settings) : Type 0 where
-  pub coefficients : length settings.gamma ≡ settings.limits.depth
-  pub some_depth : 1 ≤ settings.limits.depth
-  pub depth_limit : settings.limits.depth ≤ 256
-  pub some_step : 1 ≤ settings.limits.budget
+-- A script with these settings is a plan.
+abbrev pub AreLawful : Settings → Type 0
+AreLawful settings = IsPlan settings.gamma settings.limits settings.rounds
 
 abbrev pub IsWorkers : ℕ → Type 0
 IsWorkers n = (1 ≤ n) × (n ≤ 64)
+
+-- A pedigree may be hashed with these coefficients in so many rounds.
+pub record IsHash (gamma at : List ℕ) (rounds : ℕ) : Type 0 where
+  pub coefficients : length gamma ≡ hash_depth
+  pub few : length at ≤ hash_depth
+  pub rounds_limit : rounds ≤ most_rounds
+
+-- So many numbers may be drawn from a pedigree on: they aren't too many, and the ranks are enough.
+pub record IsCount (at : List ℕ) (count : ℕ) : Type 0 where
+  pub some : 1 ≤ count
+  pub few : count ≤ most_count
+  pub ranks : last_rank at + count ≤ 2 ^ 32
 
 abbrev pub IsLawful : Command → Type 0
 IsLawful (Run settings workers) = AreLawful settings × IsWorkers workers
 IsLawful (Serial settings) = AreLawful settings
 IsLawful (Sim settings workers number) = AreLawful settings × IsWorkers workers
-IsLawful (Replay settings at) = AreLawful settings × (length at ≤ 256)
-IsLawful (Hash gamma at) = (length gamma ≡ 256) × (length at ≤ 256)
+IsLawful (Replay settings at) = AreLawful settings × (length at ≤ most_ranks)
+IsLawful (Hash gamma at rounds) = IsHash gamma at rounds
 IsLawful Check = Unit {0}
 IsLawful Fmt = Unit {0}
 IsLawful (Gen shape size) = Fits shape size
+IsLawful (Stream gamma at count rounds below) = IsHash gamma at rounds × IsCount at count × IfSome below (λ m. 1 ≤ m)

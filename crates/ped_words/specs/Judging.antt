@@ -1,17 +1,18 @@
 -- Which rule the words behind the command break first, and where.
-use Rattle.std.specs.Prelude.{ℕ, zero, suc, ◌+◌, ◌*◌, ◌-◌, ◌/◌, ◌^◌, Bool, not, nat_eq, nat_le, is_some, if◌then◌else◌, Option, Some, None, Result, Ok, Err, List, length, codes}
+use Rattle.std.specs.Prelude.{ℕ, zero, suc, ◌+◌, ◌*◌, ◌/◌, Bool, not, nat_eq, nat_le, is_some, if◌then◌else◌, Option, Some, None, Result, Ok, Err, List, length, codes}
 use Rattle.std.specs.List.{starts_with}
 use Rattle.std.specs.Option.{option_or}
 use Rattle.ped_words.specs.Numbers.{list_rule, number_rule}
 use Rattle.ped_words.specs.Pedigrees.{ped_rule}
 use Rattle.ped_words.specs.Rules.{breaks, broken_at}
-use Rattle.ped_words.specs.Table.{name_of, shape_of, show_of, takes}
+use Rattle.ped_words.specs.Table.{kind_of, name_of, shape_of, show_of, takes}
 use Rattle.ped_words.specs.Values.{Values, has, name_word, value_word, values_of}
 use Rattle.ped_words.specs.declared.rule.Rule.{Rule}
 use Rattle.ped_words.specs.declared.rule.Rule.TheVariants as rule
 use Rattle.ped_words.specs.declared.rule.WordError.{WordError}
+use Rattle.ped_words.specs.declared.table.Kind.{Kind}
+use Rattle.ped_words.specs.declared.table.Kind.TheVariants as kind
 use Rattle.ped_words.specs.declared.table.Name.{Name}
-use Rattle.ped_words.specs.declared.table.Name.TheVariants as name
 use Rattle.ped_words.specs.declared.table.Verb.{Verb}
 
 -- a name that a word may have: the command has such an option, it wasn't given before, and a word follows
@@ -24,18 +25,17 @@ judged_option verb given is_last (Some n) =
 abbrev pub judged_name : Verb → Values → List ℕ → Bool → Result Name Rule
 judged_name verb given word is_last = if starts_with nat_eq word (codes "--") then judged_option verb given is_last (name_of word) else Err rule.StrayWord
 
+-- the rule that a word breaks as a value of this kind
+abbrev pub kind_rule : Kind → List ℕ → Option Rule
+kind_rule (kind.Number least most) word = number_rule least most word
+kind_rule (kind.Numbers most) word = list_rule most word
+kind_rule kind.Pedigree word = ped_rule word
+kind_rule kind.Show word = if is_some (show_of word) then None else Some rule.BadValue
+kind_rule kind.Shape word = if is_some (shape_of word) then None else Some rule.BadValue
+
 -- the rule that a word breaks as the value of this option
 abbrev pub value_rule : Name → List ℕ → Option Rule
-value_rule name.Seed word = number_rule 0 (2 ^ 64 - 1) word
-value_rule name.Gamma word = list_rule word
-value_rule name.Depth word = number_rule 1 256 word
-value_rule name.Budget word = number_rule 1 4294967295 word
-value_rule name.Workers word = number_rule 1 64 word
-value_rule name.Show word = if is_some (show_of word) then None else Some rule.BadValue
-value_rule name.Number word = number_rule 0 (2 ^ 64 - 1) word
-value_rule name.At word = ped_rule word
-value_rule name.Shape word = if is_some (shape_of word) then None else Some rule.BadValue
-value_rule name.Size word = number_rule 0 (2 ^ 64 - 1) word
+value_rule n word = kind_rule (kind_of n) word
 
 -- the rule that the value of pair k breaks, where its name breaks none
 abbrev pub broken_value : List (List ℕ) → ℕ → Result Name Rule → Option WordError

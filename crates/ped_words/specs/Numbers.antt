@@ -22,11 +22,16 @@ number_rule least most word = if is_number word then (if nat_le least (value_of 
 abbrev pub parts_of : List ℕ → List (List ℕ)
 parts_of word = slice_split (λ c. c == 44) word
 
--- the rule that a word breaks where numbers joined by commas are due: the form of all is judged before the range of any
-abbrev pub list_rule : List ℕ → Option Rule
-list_rule word =
+-- There are no more of them than that, where there is a greatest count.
+abbrev pub are_few : Option ℕ → ℕ → Bool
+are_few None count = true
+are_few (Some most) count = nat_le count most
+
+-- the rule that a word breaks where numbers joined by commas are due, at most so many: the form of all is judged before any range
+abbrev pub list_rule : Option ℕ → List ℕ → Option Rule
+list_rule most word =
     if list_all is_number (parts_of word)
-    then (if list_all (λ part. nat_lt (value_of part) (2 ^ 64)) (parts_of word) then None else Some OutOfRange)
+    then (if are_few most (length (parts_of word)) && list_all (λ part. nat_lt (value_of part) (2 ^ 64)) (parts_of word) then None else Some OutOfRange)
     else Some BadValue
 
 abbrev pub numbers_of : List ℕ → List ℕ

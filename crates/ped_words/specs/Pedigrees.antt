@@ -1,5 +1,5 @@
 -- Which words are pedigrees: ranks joined by full stops, judged from left to right.
-use Rattle.std.specs.Prelude.{ℕ, ◌-◌, ◌^◌, ◌==◌, nat_lt, if◌then◌else◌, Option, Some, None, List, [], ◌∷◌, length, map}
+use Rattle.std.specs.Prelude.{◌≡◌, ℕ, ◌-◌, ◌^◌, ◌≤◌, ◌==◌, nat_lt, if◌then◌else◌, Option, Some, None, Result, Ok, Err, List, [], ◌∷◌, length, map, slice_index}
 use Rattle.std.specs.Char.{is_ascii_digit}
 use Rattle.std.specs.List.{slice_split, take_while}
 use Rattle.std.specs.Option.{option_or}
@@ -24,9 +24,21 @@ abbrev pub ranks_rule : List (List ℕ) → ℕ → Option Rule
 ranks_rule [] room = None
 ranks_rule (part ∷ parts) room = if room == 0 then Some OutOfRange else option_or (rank_rule part) (ranks_rule parts (room - 1))
 
+-- how many ranks a text may have
+abbrev pub most_ranks : ℕ
+most_ranks = 256
+
 -- the rule that a word breaks where a pedigree's text is due
 unfoldable pub ped_rule : List ℕ → Option Rule
-ped_rule word = ranks_rule (ranks_in word) 256
+ped_rule word = ranks_rule (ranks_in word) most_ranks
 
 unfoldable pub ped_of : List ℕ → List ℕ
 ped_of word = map value_of (ranks_in word)
+
+abbrev pub last_rank : List ℕ → ℕ
+last_rank j = slice_index j (length j - 1)
+
+-- This is the pedigree of a word, or the rule that the word breaks.
+abbrev pub IsRead : List ℕ → Result (List ℕ) Rule → Type 0
+IsRead word (Ok j) = (ped_rule word ≡ None) × (j ≡ ped_of word) × (length j ≤ most_ranks)
+IsRead word (Err rule) = ped_rule word ≡ Some rule

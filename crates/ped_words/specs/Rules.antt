@@ -35,6 +35,11 @@ breaks rule at = Bad (number_of rule) at
 abbrev pub broken_at : ℕ → Option Rule → Option WordError
 broken_at at rule = option_map (λ r. breaks r at) rule
 
+-- what a word is that breaks no rule
+abbrev pub kept : {X : Type 0} → Option Rule → X → Option X
+kept None x = Some x
+kept (Some rule) x = None
+
 -- what is broken, or else this
 abbrev pub unless : {X : Type 0} → Option WordError → Result X WordError → Result X WordError
 unless None r = r

@@ -1,11 +1,15 @@
--- The commands, and which options each one has.
-use Rattle.std.specs.Prelude.{ℕ, Bool, if◌then◌else◌, ◌==◌, Option, Some, None, List, [], ◌∷◌, codes}
+-- The commands, which options each one has, and what the value of an option is.
+use Rattle.std.specs.Prelude.{ℕ, ◌-◌, ◌^◌, Bool, if◌then◌else◌, ◌==◌, Option, Some, None, List, [], ◌∷◌, codes}
 use Rattle.std.specs.List.{list_any}
 use Rattle.std.specs.Str.{bytes_eq}
+use Rattle.dotmix.specs.Draws.{most_rounds}
 use Rattle.ped_gen.specs.declared.shape.Shape.{Shape}
 use Rattle.ped_gen.specs.declared.shape.Shape.TheVariants as shape
+use Rattle.serial_meaning.specs.Plan.{most_depth}
 use Rattle.serial_meaning.specs.declared.plan.Show.{Show}
 use Rattle.serial_meaning.specs.declared.plan.Show.TheVariants as show
+use Rattle.ped_words.specs.declared.table.Kind.{Kind}
+use Rattle.ped_words.specs.declared.table.Kind.TheVariants as kind
 use Rattle.ped_words.specs.declared.table.Verb.{Verb}
 use Rattle.ped_words.specs.declared.table.Verb.TheVariants as verb
 use Rattle.ped_words.specs.declared.table.Name.{Name}
@@ -27,6 +31,7 @@ verb_of word =
     (codes "check", verb.Check) ∷
     (codes "fmt", verb.Fmt) ∷
     (codes "gen", verb.Gen) ∷
+    (codes "stream", verb.Stream) ∷
     [])
     word
 
@@ -43,18 +48,22 @@ name_of word =
     (codes "--at", name.At) ∷
     (codes "--shape", name.Shape) ∷
     (codes "--size", name.Size) ∷
+    (codes "--rounds", name.Rounds) ∷
+    (codes "--count", name.Count) ∷
+    (codes "--below", name.Below) ∷
     [])
     word
 
 abbrev pub options : Verb → List Name
-options verb.Run = name.Seed ∷ name.Gamma ∷ name.Depth ∷ name.Budget ∷ name.Workers ∷ name.Show ∷ []
-options verb.Serial = name.Seed ∷ name.Gamma ∷ name.Depth ∷ name.Budget ∷ name.Show ∷ []
-options verb.Sim = name.Number ∷ name.Seed ∷ name.Gamma ∷ name.Depth ∷ name.Budget ∷ name.Workers ∷ name.Show ∷ []
-options verb.Replay = name.At ∷ name.Seed ∷ name.Gamma ∷ name.Depth ∷ name.Budget ∷ []
-options verb.Hash = name.At ∷ name.Seed ∷ name.Gamma ∷ []
+options verb.Run = name.Seed ∷ name.Gamma ∷ name.Depth ∷ name.Budget ∷ name.Workers ∷ name.Show ∷ name.Rounds ∷ []
+options verb.Serial = name.Seed ∷ name.Gamma ∷ name.Depth ∷ name.Budget ∷ name.Show ∷ name.Rounds ∷ []
+options verb.Sim = name.Number ∷ name.Seed ∷ name.Gamma ∷ name.Depth ∷ name.Budget ∷ name.Workers ∷ name.Show ∷ name.Rounds ∷ []
+options verb.Replay = name.At ∷ name.Seed ∷ name.Gamma ∷ name.Depth ∷ name.Budget ∷ name.Rounds ∷ []
+options verb.Hash = name.At ∷ name.Seed ∷ name.Gamma ∷ name.Rounds ∷ []
 options verb.Check = []
 options verb.Fmt = []
 options verb.Gen = name.Shape ∷ name.Size ∷ []
+options verb.Stream = name.At ∷ name.Count ∷ name.Seed ∷ name.Gamma ∷ name.Rounds ∷ name.Below ∷ []
 
 -- a number for each name, so that names can be compared
 abbrev pub place : Name → ℕ
@@ -68,9 +77,32 @@ place name.Number = 6
 place name.At = 7
 place name.Shape = 8
 place name.Size = 9
+place name.Rounds = 10
+place name.Count = 11
+place name.Below = 12
 
 abbrev pub takes : Verb → Name → Bool
 takes v n = list_any (λ m. place m == place n) (options v)
+
+-- a stream has at most so many numbers
+abbrev pub most_count : ℕ
+most_count = 1048576
+
+-- what the value of an option is, and its range
+abbrev pub kind_of : Name → Kind
+kind_of name.Seed = kind.Number 0 (2 ^ 64 - 1)
+kind_of name.Gamma = kind.Numbers None
+kind_of name.Depth = kind.Number 1 most_depth
+kind_of name.Budget = kind.Number 1 4294967295
+kind_of name.Workers = kind.Number 1 64
+kind_of name.Show = kind.Show
+kind_of name.Number = kind.Number 0 (2 ^ 64 - 1)
+kind_of name.At = kind.Pedigree
+kind_of name.Shape = kind.Shape
+kind_of name.Size = kind.Number 0 (2 ^ 64 - 1)
+kind_of name.Rounds = kind.Number 0 most_rounds
+kind_of name.Count = kind.Number 1 most_count
+kind_of name.Below = kind.Number 1 (2 ^ 64 - 1)
 
 abbrev pub show_of : List ℕ → Option Show
 show_of word = entry ((codes "plain", show.Plain) ∷ (codes "log", show.Log) ∷ []) word

@@ -10,6 +10,8 @@ pub struct Settings {
     pub gamma: Gamma,
     pub limits: Limits,
     pub show: Show,
+    /// How often a draw is mixed, from 0 to 8.
+    pub rounds: u32,
 }
 
 /// The commands with their options.
@@ -35,10 +37,11 @@ pub enum Command {
         settings: Settings,
         at: Pedigree,
     },
-    /// Prints the draw of a pedigree. There are 256 coefficients.
+    /// Prints the draw of a pedigree in so many rounds, from 0 to 8. There are 256 coefficients.
     Hash {
         gamma: Gamma,
         at: Pedigree,
+        rounds: u32,
     },
     /// Checks a script.
     Check,
@@ -48,5 +51,14 @@ pub enum Command {
     Gen {
         shape: Shape,
         size: u64,
+    },
+    /// Prints the draws of so many consecutive ranks, from 1 to 1048576, from a pedigree's own on. The ranks are below 2^32, the
+    /// coefficients and rounds as for `Hash`. Each number is printed modulo `below`, which isn't 0, where there is one.
+    Stream {
+        gamma: Gamma,
+        at: Pedigree,
+        count: u32,
+        rounds: u32,
+        below: Option<u64>,
     },
 }

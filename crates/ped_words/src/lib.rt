@@ -6,10 +6,12 @@
 
 mod command;
 mod given;
+mod making;
 mod number;
 mod read;
 mod rule;
 mod table;
+mod value;
 
 pub use command::{Command, Settings};
 pub use read::read_words;

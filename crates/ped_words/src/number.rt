@@ -1,11 +1,10 @@
-ghost use Rattle.std.specs.Prelude.{◌≡◌, ◌≤◌, None, Some, IfOk, IfErr, map, true};
+ghost use Rattle.std.specs.Prelude.{◌≡◌, ◌≤◌, None, Some, IfOk, IfErr, MatchResult, map, true};
 ghost use Rattle.std.specs.Char.{is_ascii_digit};
 ghost use Rattle.std.specs.List.{list_all};
 ghost use Rattle.std.specs.Option.{option_map};
-ghost use Rattle.ped_words.specs.Numbers.{AreValues, is_number, list_rule, number_rule, numbers_of, parts_of, value_of};
-ghost use Rattle.ped_words.specs.Rules.{broken_at, IsRefusal};
+ghost use Rattle.ped_words.specs.Numbers.{AreValues, are_few, is_number, list_rule, number_rule, numbers_of, parts_of, value_of};
 
-use crate::rule::{Rule, WordError};
+use crate::rule::Rule;
 use std::alloc::{AllocError, Global};
 
 /// Whether a word is a number: `0`, or digits of which the first isn't `0`.
@@ -38,18 +37,34 @@ pub(crate) fn number_in(word: &str, least: u64, most: u64) -> Result<u64, Rule>
     }
 }
 
-/// The numbers of a word, which are joined by commas. The form of all is judged before the range of any.
-pub(crate) fn number_list(alloc: Global, word: &str, at: u32) -> Result<Vec<u64>, WordError>
-    ensures ok { IfOk result (λ numbers. (list_rule word.now ≡ None) × (numbers.items ≡ numbers_of word.now)) }
-    ensures err { IfErr result (IsRefusal (broken_at at (list_rule word.now))) }
+/// The numbers of a word, which are joined by commas. There may be at most so many where there is a greatest count. The form of all
+/// is judged before the range of any.
+pub(crate) fn number_list(
+    alloc: Global,
+    word: &str,
+    most: Option<u64>,
+) -> Result<Result<Vec<u64>, Rule>, AllocError>
+    ensures { IfOk result (λ read. MatchResult read (λ numbers. (list_rule most word.now ≡ None) × (numbers.items ≡ numbers_of word.now)) (λ rule. list_rule most word.now ≡ Some rule)) }
 {
     let parts = split_list(alloc, word)?;
     if !all_numbers(&parts) {
-        return Err(Rule::BadValue.at(at));
+        return Ok(Err(Rule::BadValue));
+    }
+    if !are_few(most, parts.len() as u64) {
+        return Ok(Err(Rule::OutOfRange));
     }
     match values(alloc, &parts)? {
-        Some(numbers) => Ok(numbers),
-        None => Err(Rule::OutOfRange.at(at)),
+        Some(numbers) => Ok(Ok(numbers)),
+        None => Ok(Err(Rule::OutOfRange)),
+    }
+}
+
+fn are_few(most: Option<u64>, count: u64) -> bool
+    ensures { result ≡ are_few most count }
+{
+    match most {
+        Some(most) => count <= most,
+        None => true,
     }
 }
 

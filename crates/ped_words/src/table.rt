@@ -1,5 +1,15 @@
-ghost use Rattle.std.specs.Prelude.{◌≡◌};
-ghost use Rattle.ped_words.specs.Table.{verb_of, name_of, takes};
+ghost use Rattle.std.specs.Prelude.{◌≡◌, ◌==◌};
+ghost use Rattle.ped_words.specs.Table.{verb_of, name_of, place, takes, kind_of};
+
+use dotmix::MOST_ROUNDS;
+use serial_meaning::MOST_DEPTH;
+
+const MOST_BUDGET: u64 = 4_294_967_295;
+
+const MOST_WORKERS: u64 = 64;
+
+/// How many numbers a stream has at most.
+const MOST_COUNT: u64 = 1_048_576;
 
 /// The commands.
 #[derive(Clone, Copy, Debug, PartialEq, Eq)]
@@ -12,6 +22,7 @@ pub(crate) enum Verb {
     Check,
     Fmt,
     Gen,
+    Stream,
 }
 
 /// The options of all commands.
@@ -27,6 +38,21 @@ pub(crate) enum Name {
     At,
     Shape,
     Size,
+    Rounds,
+    Count,
+    Below,
+}
+
+/// What the value of an option is.
+#[derive(Clone, Copy, Debug, PartialEq, Eq)]
+pub(crate) enum Kind {
+    /// A number of this range.
+    Number { least: u64, most: u64 },
+    /// Numbers joined by commas, at most so many where there is a greatest count.
+    Numbers { most: Option<u64> },
+    Pedigree,
+    Show,
+    Shape,
 }
 
 impl Verb {
@@ -43,6 +69,7 @@ impl Verb {
             "check" => Some(Verb::Check),
             "fmt" => Some(Verb::Fmt),
             "gen" => Some(Verb::Gen),
+            "stream" => Some(Verb::Stream),
             _ => None,
         }
     }
@@ -51,16 +78,43 @@ impl Verb {
     pub(crate) fn takes(self, name: Name) -> bool
         ensures { result ≡ takes self name }
     {
-        match name {
-            Name::Seed | Name::Gamma => !matches!(self, Verb::Check | Verb::Fmt | Verb::Gen),
-            Name::Depth | Name::Budget => {
-                matches!(self, Verb::Run | Verb::Serial | Verb::Sim | Verb::Replay)
-            }
-            Name::Show => matches!(self, Verb::Run | Verb::Serial | Verb::Sim),
-            Name::Workers => matches!(self, Verb::Run | Verb::Sim),
-            Name::Number => self == Verb::Sim,
-            Name::At => matches!(self, Verb::Replay | Verb::Hash),
-            Name::Shape | Name::Size => self == Verb::Gen,
+        match self {
+            Verb::Run => matches!(
+                name,
+                Name::Seed
+                    | Name::Gamma
+                    | Name::Depth
+                    | Name::Budget
+                    | Name::Workers
+                    | Name::Show
+                    | Name::Rounds
+            ),
+            Verb::Serial => matches!(
+                name,
+                Name::Seed | Name::Gamma | Name::Depth | Name::Budget | Name::Show | Name::Rounds
+            ),
+            Verb::Sim => matches!(
+                name,
+                Name::Number
+                    | Name::Seed
+                    | Name::Gamma
+                    | Name::Depth
+                    | Name::Budget
+                    | Name::Workers
+                    | Name::Show
+                    | Name::Rounds
+            ),
+            Verb::Replay => matches!(
+                name,
+                Name::At | Name::Seed | Name::Gamma | Name::Depth | Name::Budget | Name::Rounds
+            ),
+            Verb::Hash => matches!(name, Name::At | Name::Seed | Name::Gamma | Name::Rounds),
+            Verb::Check | Verb::Fmt => false,
+            Verb::Gen => matches!(name, Name::Shape | Name::Size),
+            Verb::Stream => matches!(
+                name,
+                Name::At | Name::Count | Name::Seed | Name::Gamma | Name::Rounds | Name::Below
+            ),
         }
     }
 }
@@ -81,7 +135,63 @@ impl Name {
             "--at" => Some(Name::At),
             "--shape" => Some(Name::Shape),
             "--size" => Some(Name::Size),
+            "--rounds" => Some(Name::Rounds),
+            "--count" => Some(Name::Count),
+            "--below" => Some(Name::Below),
             _ => None,
+        }
+    }
+
+    fn place(self) -> u8
+        ensures { result ≡ place self }
+    {
+        self as u8
+    }
+
+    /// Whether both are the same option.
+    pub(crate) fn is(self, other: Name) -> bool
+        ensures { result ≡ (place self == place other) }
+    {
+        self.place() == other.place()
+    }
+
+    /// What the option's value is, and its range.
+    pub(crate) fn kind(self) -> Kind
+        ensures { result ≡ kind_of self }
+    {
+        match self {
+            Name::Seed | Name::Number | Name::Size => Kind::Number {
+                least: 0,
+                most: u64::MAX,
+            },
+            Name::Gamma => Kind::Numbers { most: None },
+            Name::Depth => Kind::Number {
+                least: 1,
+                most: MOST_DEPTH as u64,
+            },
+            Name::Budget => Kind::Number {
+                least: 1,
+                most: MOST_BUDGET,
+            },
+            Name::Workers => Kind::Number {
+                least: 1,
+                most: MOST_WORKERS,
+            },
+            Name::Show => Kind::Show,
+            Name::At => Kind::Pedigree,
+            Name::Shape => Kind::Shape,
+            Name::Rounds => Kind::Number {
+                least: 0,
+                most: MOST_ROUNDS as u64,
+            },
+            Name::Count => Kind::Number {
+                least: 1,
+                most: MOST_COUNT,
+            },
+            Name::Below => Kind::Number {
+                least: 1,
+                most: u64::MAX,
+            },
         }
     }
 }

@@ -20,6 +20,7 @@ pub enum Topic {
     Replay,
     Hash,
     Gen,
+    Stream,
 }
 
 // Whether the words behind a command ask for its help.
@@ -45,6 +46,7 @@ impl Topic {
             "replay" => Some(Topic::Replay),
             "hash" => Some(Topic::Hash),
             "gen" => Some(Topic::Gen),
+            "stream" => Some(Topic::Stream),
             _ => None,
         }
     }
@@ -75,6 +77,7 @@ impl Topic {
             Topic::Replay => text::REPLAY,
             Topic::Hash => text::HASH,
             Topic::Gen => text::GEN,
+            Topic::Stream => text::STREAM,
         }
     }
 }

@@ -22,6 +22,7 @@ Commands:
   replay   prints what one strand of the script on standard input did
   hash     prints the dot product of a pedigree and its draw
   gen      prints a script of a shape and a size
+  stream   prints the draws of consecutive ranks
 
 Options, in any order, each at most once:
   --seed N         the seed of the draws, from 0 to 18446744073709551615
@@ -32,6 +33,7 @@ Options, in any order, each at most once:
                    (default 256)
   --budget N       how many steps each instance may make, from 1 to 4294967295
                    (default 1000000)
+  --rounds N       how often a draw is mixed, from 0 to 8 (default 4)
   --workers N      from 1 to 64 (default 4)
   --show WHAT      plain, or log to see draws and objects too (default plain)
   --at PEDIGREE    the name of a strand, such as 0.3.1: from 1 to 256 ranks, each
@@ -39,6 +41,9 @@ Options, in any order, each at most once:
   --shape SHAPE    fib, tree or loop
   --size N         at most 30 for fib, at most 20 for tree, from 1 to 4096 for
                    loop
+  --count N        how many draws a stream has, from 1 to 1048576
+  --below N        what each draw of a stream is reduced by, from 1 to
+                   18446744073709551615 (default: it is printed whole)
 
 Exit status:
   0  the whole output was written
@@ -71,6 +76,7 @@ Options, in any order, each at most once; a gamma excludes a seed:
                    (default 256)
   --budget N       how many steps each instance may make, from 1 to 4294967295
                    (default 1000000)
+  --rounds N       how often a draw is mixed, from 0 to 8 (default 4)
   --workers N      from 1 to 64 (default 4)
   --show WHAT      plain, or log to see draws and objects too (default plain)
 
@@ -97,6 +103,7 @@ Options, in any order, each at most once; a gamma excludes a seed:
                    (default 256)
   --budget N       how many steps each instance may make, from 1 to 4294967295
                    (default 1000000)
+  --rounds N       how often a draw is mixed, from 0 to 8 (default 4)
   --show WHAT      plain, or log to see draws and objects too (default plain)
 
 Exit status: 0; 1 where the last line is a fault's; 2 faulty words; 3 no valid
@@ -153,6 +160,7 @@ Options, in any order, each at most once; a gamma excludes a seed:
                    (default 256)
   --budget N       how many steps each instance may make, from 1 to 4294967295
                    (default 1000000)
+  --rounds N       how often a draw is mixed, from 0 to 8 (default 4)
 
 Exit status: 0; 1 where the last line is the strand's own fault; 2 faulty words;
 3 no valid script; 4 a failed read; 5 a failed write; 6 no memory; 7 where no
@@ -176,6 +184,7 @@ Options, in any order, each at most once; a gamma excludes a seed:
                    (default 0)
   --gamma N,N,..   the coefficients of the draws in place of a seed, each below
                    18446744073709551557, at most 256
+  --rounds N       how often a draw is mixed, from 0 to 8 (default 4)
 
 Exit status: 0; 2 faulty words; 5 a failed write; 6 no memory.
 
@@ -200,4 +209,31 @@ Exit status: 0; 2 faulty words; 5 a failed write; 6 no memory.
 
 Example:
   $ pedrun gen --shape fib --size 20 | pedrun run
+";
+
+/// `pedrun stream --help`.
+pub const STREAM: &str = "\
+Prints the draws of consecutive ranks from a pedigree on, a number on a line: what
+the strands draw whose names differ from the pedigree's in the last rank alone. It
+reads no script.
+
+Usage: pedrun stream --at PEDIGREE --count N [--OPTION VALUE]...
+
+Options, in any order, each at most once; a gamma excludes a seed:
+  --at PEDIGREE    the first strand's name, such as 0.3.1: from 1 to 256 ranks,
+                   each from 0 to 4294967295 (must be given)
+  --count N        how many draws, from 1 to 1048576; the last one's rank is at
+                   most 4294967295 (must be given)
+  --seed N         the seed of the draws, from 0 to 18446744073709551615
+                   (default 0)
+  --gamma N,N,..   the coefficients of the draws in place of a seed, each below
+                   18446744073709551557, at most 256
+  --rounds N       how often a draw is mixed, from 0 to 8 (default 4)
+  --below N        what each draw is reduced by, from 1 to 18446744073709551615
+                   (default: it is printed whole)
+
+Exit status: 0; 2 faulty words; 5 a failed write; 6 no memory.
+
+Example:
+  $ pedrun stream --seed 7 --at 0.0 --count 10 --below 6
 ";

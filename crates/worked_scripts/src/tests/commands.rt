@@ -34,6 +34,66 @@ fn pedigrees_have_their_draws(rt: HostRuntime) -> Result<(), Fail> {
     Ok(())
 }
 
+// With the only coefficient 1 the dot product of the strand 0 is 1.
+#[test]
+fn rounds_mix_the_dot_product(rt: HostRuntime) -> Result<(), Fail> {
+    for (rounds, draw) in [
+        (0, 1),
+        (1, 12_884_901_888u64),
+        (2, 3),
+        (4, 21),
+        (6, 903),
+        (8, 1_631_721),
+    ] {
+        let line = format!(in rt.alloc(); "hash --gamma 1 --at 0 --rounds {rounds}")?;
+        let output = format!(in rt.alloc(); "dot 1\ndraw {draw}\n")?;
+        prints(&rt, line.as_str(), b"", output.as_bytes())?;
+    }
+    prints(&rt, "run --gamma 5 --rounds 0", DRAWS, b"5\n10\n15\n")
+}
+
+#[test]
+fn streams_are_draws_of_consecutive_ranks(rt: HostRuntime) -> Result<(), Fail> {
+    let rows: [(&str, &[u8]); 4] = [
+        (
+            "stream --gamma 1 --at 0 --count 11",
+            b"21\n210\n903\n2628\n6105\n12246\n22155\n37128\n58653\n88410\n128271\n",
+        ),
+        (
+            "stream --gamma 18446744073709551556 --at 1 --count 2",
+            b"108965703\n116319378\n",
+        ),
+        (
+            "stream --gamma 1 --at 0 --count 3 --below 10",
+            b"1\n0\n3\n",
+        ),
+        (
+            "stream --gamma 1 --at 4294967294 --count 2 --rounds 0",
+            b"4294967295\n4294967296\n",
+        ),
+    ];
+    for (line, output) in rows {
+        prints(&rt, line, b"", output)?;
+    }
+    Ok(())
+}
+
+// A stream of several blocks has the lines of the shorter streams that it is made of.
+#[test]
+fn streams_go_on_behind_a_block(rt: HostRuntime) -> Result<(), Fail> {
+    let alloc = rt.alloc();
+    let mut parts = Vec::new(alloc);
+    for line in [
+        "stream --seed 3 --at 2.10 --count 4096",
+        "stream --seed 3 --at 2.4106 --count 4096",
+        "stream --seed 3 --at 2.8202 --count 1",
+    ] {
+        parts.extend_from_slice(generated(&rt, line)?.as_slice())?;
+    }
+    let line = "stream --seed 3 --at 2.10 --count 8193";
+    prints(&rt, line, b"", parts.as_slice())
+}
+
 #[test]
 fn pedigrees_have_at_most_256_ranks(rt: HostRuntime) -> Result<(), Fail> {
     let mut line = String::from_str(rt.alloc(), "hash --gamma 1 --at 0")?;
@@ -92,7 +152,7 @@ fn scripts_have_a_canonical_text(rt: HostRuntime) -> Result<(), Fail> {
 
 #[test]
 fn words_that_give_no_command_that_runs_are_refused(rt: HostRuntime) -> Result<(), Fail> {
-    let rows: [(&str, &[u8]); 13] = [
+    let rows: [(&str, &[u8]); 16] = [
         ("", b"words: no command at word 0\n"),
         ("go", b"words: unknown command at word 0\n"),
         ("run --workers 0", b"words: out of range at word 2\n"),
@@ -109,6 +169,18 @@ fn words_that_give_no_command_that_runs_are_refused(rt: HostRuntime) -> Result<(
         ("replay --at 01", b"words: bad value at word 2\n"),
         (
             "hash --at 0 --gamma 18446744073709551557",
+            b"words: out of range at word 4\n",
+        ),
+        (
+            "hash --gamma 1 --at 0 --rounds 9",
+            b"words: out of range at word 6\n",
+        ),
+        (
+            "hash --gamma 1 --at 0 --rounds 01",
+            b"words: bad value at word 6\n",
+        ),
+        (
+            "stream --at 4294967295 --count 2",
             b"words: out of range at word 4\n",
         ),
         ("sim --number 0", b"words: not built yet\n"),

@@ -50,6 +50,10 @@ fn words_are_judged_in_order(rt: HostRuntime) {
         ("serial --workers 1", 3, 1),
         ("hash --depth 1", 3, 1),
         ("gen --seed 1", 3, 1),
+        ("gen --rounds 1", 3, 1),
+        ("hash --count 1", 3, 1),
+        ("stream --depth 1", 3, 1),
+        ("stream --size 1", 3, 1),
         ("fmt --seed", 3, 1),
         ("replay --at 0 --show log", 3, 3),
         ("run --seed 1 --seed 2", 4, 3),
@@ -78,6 +82,14 @@ fn words_are_judged_in_order(rt: HostRuntime) {
         ("run --workers 65", 7, 2),
         ("run --workers 0 --depth x", 7, 2),
         ("run --seed 1 --workers 0", 7, 4),
+        ("run --rounds 9", 7, 2),
+        ("serial --rounds 08", 6, 2),
+        ("hash --gamma 1 --at 0 --rounds 9", 7, 6),
+        ("hash --gamma 1 --at 0 --rounds 01", 6, 6),
+        ("stream --count 0", 7, 2),
+        ("stream --count 1048577", 7, 2),
+        ("stream --below 0", 7, 2),
+        ("stream --below 18446744073709551616", 7, 2),
         ("run --show all", 6, 2),
         ("run --show Plain", 6, 2),
         ("run --gamma 1,", 6, 2),
@@ -101,6 +113,8 @@ fn words_are_judged_in_order(rt: HostRuntime) {
         ("replay --seed 1", 8, 3),
         ("sim --gamma 18446744073709551557", 8, 3),
         ("gen --shape fib", 8, 3),
+        ("stream --at 0", 8, 3),
+        ("stream --count 5", 8, 3),
         ("gen --size 31", 8, 3),
         ("run --gamma 1,2 --depth 1", 7, 2),
         ("run --depth 1 --gamma 1,2", 7, 4),
@@ -111,6 +125,10 @@ fn words_are_judged_in_order(rt: HostRuntime) {
         ("gen --shape tree --size 21", 7, 4),
         ("gen --shape loop --size 0", 7, 4),
         ("gen --shape loop --size 4097", 7, 4),
+        ("stream --at 4294967295 --count 2", 7, 4),
+        ("stream --count 1048576 --at 1.4293918721", 7, 2),
+        ("stream --count 2 --at 4294967295 --gamma 18446744073709551557", 7, 6),
+        ("stream --count 2 --at 4294967295 --x", 3, 5),
     ] {
         assert_eq!(rt; refusal(rt.alloc(), line), (number, at), "{line}");
     }
@@ -233,12 +251,49 @@ fn commands_have_their_settings(rt: HostRuntime) -> Result<(), Fail> {
 #[test]
 fn a_hash_has_256_coefficients(rt: HostRuntime) -> Result<(), Fail> {
     match command_of(rt.alloc(), "hash --gamma 5 --at 0")? {
-        Command::Hash { gamma, at } => {
-            assert_eq!(rt; gamma.len(), 256);
+        Command::Hash { gamma, at, rounds } => {
+            assert_eq!(rt; (gamma.len(), rounds), (256, 4));
             assert_eq!(rt; (gamma.coeff(1), gamma.coeff(256)), (5, 0));
             assert_eq!(rt; (at.len(), at.rank_at(0)), (1, Some(0)));
         }
         _other => assert!(rt; false, "not hash"),
+    }
+    Ok(())
+}
+
+// The coefficients of a stream are those of a hash, so 200 of them are accepted.
+#[test]
+fn a_stream_has_a_count_that_its_ranks_are_enough_for(rt: HostRuntime) -> Result<(), Fail> {
+    let alloc = rt.alloc();
+    let line = "stream --count 1048576 --at 1.4293918720 --rounds 8 --below 6";
+    match command_of(alloc, line)? {
+        Command::Stream {
+            gamma,
+            at,
+            count,
+            rounds,
+            below,
+        } => {
+            assert_eq!(rt; (gamma.len(), count, rounds, below), (256, 1_048_576, 8, Some(6)));
+            assert_eq!(rt; (at.len(), at.rank_at(1)), (2, Some(4_293_918_720)));
+        }
+        _other => assert!(rt; false, "not stream"),
+    }
+    let mut line = String::from_str(alloc, "stream --at 0 --count 1 --gamma 5")?;
+    for _ in 1..200 {
+        line.push_str(",7")?;
+    }
+    match command_of(alloc, line.as_str())? {
+        Command::Stream {
+            gamma,
+            rounds,
+            below,
+            ..
+        } => {
+            assert_eq!(rt; (gamma.len(), gamma.coeff(200), gamma.coeff(201)), (256, 7, 0));
+            assert_eq!(rt; (rounds, below), (4, None));
+        }
+        _other => assert!(rt; false, "not stream"),
     }
     Ok(())
 }

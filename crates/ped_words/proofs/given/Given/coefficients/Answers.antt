@@ -1,24 +1,21 @@
-use Rattle.std.proofs.Common.{◌≡◌, Some, length, ◌∙◌, ap, rules, arith}
-use Rattle.ped_words.proofs.GammaLemmas.{gamma_err, gamma_long, gamma_ok, seed_long}
+use Rattle.std.proofs.Common.{Some, length, ◌∙◌, ap, rules}
+use Rattle.ped_words.specs.Values.{IsPlacedList, values_in}
+use Rattle.ped_words.proofs.GammaLemmas.{gamma_err, gamma_ok, seed_long}
 use Rattle.ped_words.proofs.given.Given.coefficients.Goals as goal
 
-pub returns-in-Ok-clause-ok : goal.returns-in-Ok-clause-ok
-returns-in-Ok-clause-ok c =
-    let given : c.args.self.now.gamma ≡ Some (c.deref.result.now, c.in-Some.at) = first_of (cc, search rules, grind arith) in
-    gamma_ok c.args.self.now c.deref.result.now c.in-Ok.gamma c.in-Some.at c.args.depth given
+pub returns-in-Ok-clause-fits : goal.returns-in-Ok-clause-fits
+returns-in-Ok-clause-fits c =
+    let placed : IsPlacedList (values_in c.args.self.now) (Some (c.deref.result.now, c.in-Some.at)) = search rules in
+    (gamma_ok (values_in c.args.self.now) c.deref.result.now c.in-Some.at c.args.depth placed c.in-Ok.gamma
     (record { too_many = c.in-Ok.ensures.too_many; too_big = c.in-Ok.ensures.too_big })
-    c.in-Ok.ensures.ok
+    c.in-Ok.ensures.ok).1
 
-pub returns-in-Ok-clause-long : goal.returns-in-Ok-clause-long
-returns-in-Ok-clause-long c =
-    gamma_long c.deref.result.now c.in-Ok.gamma c.args.depth (record { too_many = c.in-Ok.ensures.too_many; too_big = c.in-Ok.ensures.too_big }) c.in-Ok.ensures.ok
-
-pub returns-in-Err-clause-err : goal.returns-in-Err-clause-err
-returns-in-Err-clause-err c =
-    let given : c.args.self.now.gamma ≡ Some (c.deref.result.now, c.in-Some.at) = first_of (cc, search rules, grind arith) in
-    gamma_err c.args.self.now c.deref.result.now c.in-Some.at c.args.depth c.in-Err.error c.gamma_error.result given
+pub returns-in-Some-clause-err : goal.returns-in-Some-clause-err
+returns-in-Some-clause-err c =
+    let placed : IsPlacedList (values_in c.args.self.now) (Some (c.deref.result.now, c.in-Some.at)) = search rules in
+    gamma_err (values_in c.args.self.now) c.deref.result.now c.in-Some.at c.args.depth placed c.in-Err.error c.gamma_error.result
     (record { too_many = c.in-Err.ensures.too_many; too_big = c.in-Err.ensures.too_big })
     c.gamma_error.ensures
 
-pub returns-in_ok-of_seed-in-None-clause-long : goal.returns-in_ok-of_seed-in-None-clause-long
-returns-in_ok-of_seed-in-None-clause-long c = ap length c.in_ok-of_seed-in-None.ensures ∙ seed_long c.unwrap_or.result c.args.depth
+pub returns-clause-long : goal.returns-clause-long
+returns-clause-long c = ap length c.in_ok-of_seed-in-None.ensures ∙ seed_long c.unwrap_or-seed.result c.args.depth

@@ -1,16 +1,16 @@
-use Rattle.std.proofs.Common.{◌≡◌, ◌-◌, ◌≤◌, None, map}
+use Rattle.std.proofs.Common.{◌≡◌, ◌*◌, ◌-◌, ◌<◌, ◌≤◌, None, length, map}
 use Rattle.std.specs.Prelude.{string_bytes}
 use Rattle.ped_words.specs.Judging.{broken_pair, first_below, pairs_in}
 use Rattle.ped_words.specs.Values.{count_of, values_of}
-use Rattle.ped_words.proofs.read.read_pairs.Given as goal
+use Rattle.ped_words.proofs.read.judge_pairs.Given as goal
 
--- The pairs in front break no rule, and each gave an option that had not been given.
+-- The pairs in front break no rule, have values, and each gave an option that had not been given.
 abbrev pub invariant-loop-pair : goal.invariant-loop-pair
 invariant-loop-pair l = record {
   within : l.pair ≤ pairs_in (map string_bytes l.words);
   whole : first_below (broken_pair l.verb (map string_bytes l.words)) l.pair ≡ None;
-  read : l.given ≡ values_of (map string_bytes l.words) l.pair;
-  counted : count_of l.given ≡ l.pair;
+  valued : 2 * l.pair < length l.words;
+  counted : count_of (values_of (map string_bytes l.words) l.pair) ≡ l.pair;
 }
 
 abbrev pub decreases-loop-pair : goal.decreases-loop-pair

@@ -1,0 +1,29 @@
+use Rattle.std.proofs.Common.{◌≡◌, ℕ, None, Some, Ok, true, sym, ◌∙◌, ap, subst}
+use Rattle.std.specs.Option.{option_or}
+use Rattle.ped_words.specs.Making.{depth_of, gamma_fits, made, made_of, settings_of, unfit, workers_of}
+use Rattle.ped_words.specs.Values.{Values, values_in}
+use Rattle.ped_words.specs.declared.command.Command.TheVariants as command
+use Rattle.ped_words.specs.declared.command.Settings.{Settings}
+use Rattle.ped_words.specs.declared.table.Name.TheVariants as name
+use Rattle.ped_words.specs.declared.table.Verb.{Verb}
+use Rattle.ped_words.specs.declared.table.Verb.TheVariants as verb
+use Rattle.ped_words.proofs.given.Given.command.Goals as goal
+
+module _ (v : Verb) (values : Values) (words : ℕ) (s : Settings) (fits : gamma_fits values (depth_of values) ≡ true) (same : s ≡ settings_of values) where
+  run_made : (w : ℕ) → v ≡ verb.Run → w ≡ workers_of values → made v values words ≡ Ok (command.Run s w)
+  run_made w is workers =
+      subst (λ (x : Verb). made x values words ≡ Ok (command.Run s w)) (sym is)
+      (ap (λ b. made_of (option_or (unfit values name.Gamma b) None) words (Some (command.Run (settings_of values) (workers_of values)))) fits ∙ ap (λ t. Ok (command.Run t (workers_of values))) (sym same) ∙ ap (λ n. Ok (command.Run s n)) (sym workers))
+
+  serial_made : v ≡ verb.Serial → made v values words ≡ Ok (command.Serial s)
+  serial_made is =
+      subst (λ (x : Verb). made x values words ≡ Ok (command.Serial s)) (sym is)
+      (ap (λ b. made_of (option_or (unfit values name.Gamma b) None) words (Some (command.Serial (settings_of values)))) fits ∙ ap (λ t. Ok (command.Serial t)) (sym same))
+
+pub returns-in_ok-settings-in-Run-clause-value : goal.returns-in_ok-settings-in-Run-clause-value
+returns-in_ok-settings-in-Run-clause-value c =
+    run_made c.args.verb (values_in c.args.self.now) _ c.in_ok-settings-in-Run.field-0 c.in_ok-settings-in-Run.ensures.fits c.in_ok-settings-in-Run.ensures.ok c.workers.result c.in-Run.is c.workers.ensures.value
+
+pub returns-in_ok-settings-in-Serial-clause-value : goal.returns-in_ok-settings-in-Serial-clause-value
+returns-in_ok-settings-in-Serial-clause-value c =
+    serial_made c.args.verb (values_in c.args.self.now) _ c.in_ok-settings-in-Serial.field-0 c.in_ok-settings-in-Serial.ensures.fits c.in_ok-settings-in-Serial.ensures.ok c.in-Serial.is

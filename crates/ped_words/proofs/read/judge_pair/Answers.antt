@@ -1,0 +1,94 @@
+use Rattle.std.proofs.Common.{◌≡◌, ℕ, ◌+◌, ◌*◌, false, Some, None, Result, Ok, Err, List, length, map, sym, ◌∙◌, ap, refl, arith}
+use Rattle.std.specs.Prelude.{OnOk, IfErr, string_bytes}
+use Rattle.std.proofs.lemmas.List.{length-map}
+use Rattle.ped_words.specs.Judging.{broken_pair, broken_value, kind_rule, value_rule}
+use Rattle.ped_words.specs.Rules.{broken_at, IsRefusal}
+use Rattle.ped_words.specs.Values.{has, name_word, value_word, values_in, values_of, word_at}
+use Rattle.ped_words.specs.Table.{kind_of, name_of}
+use Rattle.ped_words.specs.declared.rule.WordError.{WordError}
+use Rattle.ped_words.specs.declared.table.Kind.{Kind}
+use Rattle.ped_words.specs.declared.table.Name.{Name}
+use Rattle.ped_words.specs.declared.table.Verb.{Verb}
+use Rattle.ped_words.proofs.RuleLemmas.{refused_as}
+use Rattle.ped_words.proofs.ValueLemmas.{count_pair, judged_pair}
+use Rattle.ped_words.proofs.read.judge_pair.Goals as goal
+
+-- What is known behind the name of a pair that breaks no rule.
+record Named (verb : Verb) (words : List (List ℕ)) (k : ℕ) (n : Name) (kind : Kind) (word : List ℕ) (at : ℕ) : Type 0 where
+  judged : broken_pair verb words k ≡ broken_value words k (Ok n)
+  kind_is : kind ≡ kind_of n
+  value : word ≡ value_word words k
+  place : at ≡ 2 * k + 2
+
+broken_same : (verb : Verb) (words : List (List ℕ)) (k : ℕ) (n : Name) (kind : Kind) (word : List ℕ) (at : ℕ) → Named verb words k n kind word at → broken_pair verb words k ≡ broken_at at (kind_rule kind word)
+broken_same verb words k n kind word at h =
+    h.judged ∙ ap (λ w. broken_at (2 * k + 2) (value_rule n w)) (sym h.value) ∙ ap (λ i. broken_at i (value_rule n word)) (sym h.place) ∙ ap (λ q. broken_at at (kind_rule q word)) (sym h.kind_is)
+
+on_ok : (P : Type 0) (r : Result (Unit {0}) WordError) → P → OnOk r P
+on_ok P (Ok u) p = p
+on_ok P (Err e) p = tt
+
+module _ (verb : Verb) (words : List (List ℕ)) (k : ℕ) (n : Name) (kind : Kind) (word : List ℕ) (at : ℕ) (h : Named verb words k n kind word at) where
+  no_rule : (r : Result (Unit {0}) WordError) → OnOk r (kind_rule kind word ≡ None) → OnOk r (broken_pair verb words k ≡ None)
+  no_rule (Ok u) none = broken_same verb words k n kind word at h ∙ ap (broken_at at) none
+  no_rule (Err e) none = tt
+
+  refused : (r : Result (Unit {0}) WordError) → IfErr r (IsRefusal (broken_at at (kind_rule kind word))) → IfErr r (IsRefusal (broken_pair verb words k))
+  refused (Ok u) h2 = tt
+  refused (Err e) h2 = refused_as _ _ e (broken_same verb words k n kind word at h) h2
+
+pub returns-in-Err-clause-err : goal.returns-in-Err-clause-err
+returns-in-Err-clause-err c =
+    let words = map string_bytes c.args.words.now in
+    let judged : broken_pair c.args.verb words c.args.pair ≡ broken_value words c.args.pair (Err c.in-Err.rule) = judged_pair
+    c.args.verb
+    words
+    c.args.pair
+    (length c.args.words.now)
+    (2 * c.args.pair + 1 + 1)
+    (values_in c.new-given.result)
+    c.text_at.result.now
+    (Err c.in-Err.rule)
+    (ap values_in c.new-given.ensures)
+    c.text_at.ensures
+    (sym (length-map c.args.words.now string_bytes))
+    (omega arith)
+    c.in-Err.ensures.value
+    in refused_as _ _ c.at.result judged (rw c.at.ensures refl)
+
+name_known : (c : goal.After-judge_value) → Named c.args.verb (map string_bytes c.args.words.now) c.args.pair c.in-Ok.name c.kind.result c.text_at-2.result.now (2 * c.args.pair + 1 + 1)
+name_known c =
+    let words = map string_bytes c.args.words.now in
+    let next : 2 * c.args.pair + 1 + 1 ≡ 2 * c.args.pair + 2 = omega arith in
+    record {
+      judged = judged_pair
+          c.args.verb
+          words
+          c.args.pair
+          (length c.args.words.now)
+          (2 * c.args.pair + 1 + 1)
+          (values_in c.new-given.result)
+          c.text_at.result.now
+          (Ok c.in-Ok.name)
+          (ap values_in c.new-given.ensures)
+          c.text_at.ensures
+          (sym (length-map c.args.words.now string_bytes))
+          next
+          c.in-Ok.ensures.value;
+      kind_is = c.kind.ensures;
+      value = c.text_at-2.ensures ∙ ap (word_at words) next;
+      place = next;
+    }
+
+pub returns-clause-broken : goal.returns-clause-broken
+returns-clause-broken c = no_rule _ _ _ _ _ _ _ (name_known c) c.judge_value.result c.judge_value.ensures.ok
+
+pub returns-clause-counted : goal.returns-clause-counted
+returns-clause-counted c =
+    let words = map string_bytes c.args.words.now in
+    let named : name_of (name_word words c.args.pair) ≡ Some c.in-Ok.name = ap name_of (sym c.text_at.ensures) ∙ c.in-Ok.ensures.named in
+    let fresh : has (values_of words c.args.pair) c.in-Ok.name ≡ false = ap (λ g. has (values_in g) c.in-Ok.name) (sym c.new-given.ensures) ∙ c.in-Ok.ensures.fresh in
+    on_ok _ c.judge_value.result (count_pair words c.args.pair c.in-Ok.name named fresh)
+
+pub returns-clause-err : goal.returns-clause-err
+returns-clause-err c = refused _ _ _ _ _ _ _ (name_known c) c.judge_value.result c.judge_value.ensures.err

@@ -1,0 +1,240 @@
+// The command that the given values make, and what is judged behind the last word.
+
+ghost use Rattle.std.specs.Prelude.{◌≡◌, ◌<◌, ◌^◌, IfErr, IfOk, None, length, true};
+ghost use Rattle.std.specs.Option.{option_map};
+ghost use Rattle.ped_words.specs.Commands.{AreLawful, IsLawful, IsWorkers};
+ghost use Rattle.ped_words.specs.Making.{budget_of, depth_of, gamma_error, gamma_fits, gamma_of, made, rounds_of, settings_of, unfit, workers_of};
+ghost use Rattle.ped_words.specs.Rules.{IsRefusal, IsUnlessMemory, breaks};
+ghost use Rattle.ped_words.specs.Table.{kind_of};
+ghost use Rattle.ped_words.specs.Values.{IsPlacedList, IsWithin, values_in};
+
+use crate::command::{Command, Settings};
+use crate::given::Given;
+use crate::number::number_list;
+use crate::rule::{Rule, WordError};
+use crate::table::{Name, Verb};
+use dotmix::{Gamma, GammaError};
+use serial_meaning::{Limits, Show};
+use std::alloc::{AllocError, Global};
+
+/// How long pedigrees may be where no depth is given.
+const DEFAULT_DEPTH: u32 = 256;
+
+/// How many coefficients there are where a command takes no depth.
+const HASH_DEPTH: u32 = 256;
+
+const DEFAULT_BUDGET: u32 = 1_000_000;
+
+const DEFAULT_WORKERS: u32 = 4;
+
+const DEFAULT_ROUNDS: u32 = 4;
+
+/// How many ranks there are on a path.
+const RANKS: u64 = 1 << 32;
+
+impl<'a> Given<'a> {
+    /// The command that all pairs give.
+    pub(crate) fn command(&self, alloc: Global, verb: Verb) -> Result<Command, WordError>
+        requires few { length self.now.words < 2 ^ 32 }
+        ensures value { IsUnlessMemory (made verb (values_in self.now) (length self.now.words)) result }
+        ensures lawful { IfOk result IsLawful }
+    {
+        match verb {
+            Verb::Run => Ok(Command::Run {
+                settings: self.settings(alloc)?,
+                workers: self.workers(),
+            }),
+            Verb::Serial => Ok(Command::Serial {
+                settings: self.settings(alloc)?,
+            }),
+            Verb::Sim => self.simulation(alloc),
+            Verb::Replay => self.replay(alloc),
+            Verb::Hash => self.hash(alloc),
+            Verb::Check => Ok(Command::Check),
+            Verb::Fmt => Ok(Command::Fmt),
+            Verb::Gen => self.generation(),
+            Verb::Stream => self.stream(alloc),
+        }
+    }
+
+    /// An option is missing.
+    fn lacks(&self) -> WordError
+        requires { length self.now.words < 2 ^ 32 }
+        ensures { result ≡ breaks Rule.MissingOption (length self.now.words) }
+    {
+        Rule::MissingOption.at(self.len() as u32)
+    }
+
+    /// The command `sim`, which needs a number.
+    fn simulation(&self, alloc: Global) -> Result<Command, WordError>
+        requires { length self.now.words < 2 ^ 32 }
+        ensures value { IsUnlessMemory (made Verb.Sim (values_in self.now) (length self.now.words)) result }
+        ensures lawful { IfOk result IsLawful }
+    {
+        let Some(number) = self.number(Name::Number) else {
+            return Err(self.lacks());
+        };
+        Ok(Command::Sim {
+            settings: self.settings(alloc)?,
+            workers: self.workers(),
+            number,
+        })
+    }
+
+    /// The command `replay`, which needs a pedigree.
+    fn replay(&self, alloc: Global) -> Result<Command, WordError>
+        requires { length self.now.words < 2 ^ 32 }
+        ensures value { IsUnlessMemory (made Verb.Replay (values_in self.now) (length self.now.words)) result }
+        ensures lawful { IfOk result IsLawful }
+    {
+        let Some(at) = self.pedigree(alloc)? else {
+            return Err(self.lacks());
+        };
+        let settings = self.settings(alloc)?;
+        Ok(Command::Replay { settings, at })
+    }
+
+    /// The command `hash`, which needs a pedigree.
+    fn hash(&self, alloc: Global) -> Result<Command, WordError>
+        requires { length self.now.words < 2 ^ 32 }
+        ensures value { IsUnlessMemory (made Verb.Hash (values_in self.now) (length self.now.words)) result }
+        ensures lawful { IfOk result IsLawful }
+    {
+        let Some(at) = self.pedigree(alloc)? else {
+            return Err(self.lacks());
+        };
+        Ok(Command::Hash {
+            gamma: self.coefficients(alloc, HASH_DEPTH)?,
+            at,
+            rounds: self.rounds(),
+        })
+    }
+
+    /// The command `gen`, which needs a shape and a size that fits it.
+    fn generation(&self) -> Result<Command, WordError>
+        requires { length self.now.words < 2 ^ 32 }
+        ensures value { IsUnlessMemory (made Verb.Gen (values_in self.now) (length self.now.words)) result }
+        ensures lawful { IfOk result IsLawful }
+    {
+        let (Some(shape), Some((size, at))) = (self.shape(), self.placed(Name::Size)) else {
+            return Err(self.lacks());
+        };
+        if !shape.fits(size) {
+            return Err(Rule::OutOfRange.at(at));
+        }
+        Ok(Command::Gen { shape, size })
+    }
+
+    /// The command `stream`, which needs a pedigree and a count that its ranks are enough for.
+    fn stream(&self, alloc: Global) -> Result<Command, WordError>
+        requires { length self.now.words < 2 ^ 32 }
+        ensures value { IsUnlessMemory (made Verb.Stream (values_in self.now) (length self.now.words)) result }
+        ensures lawful { IfOk result IsLawful }
+    {
+        let Some(at) = self.pedigree(alloc)? else {
+            return Err(self.lacks());
+        };
+        let Some((count, count_at)) = self.placed(Name::Count) else {
+            return Err(self.lacks());
+        };
+        let gamma = self.coefficients(alloc, HASH_DEPTH)?;
+        if at.rank + count > RANKS {
+            return Err(Rule::OutOfRange.at(count_at));
+        }
+        Ok(Command::Stream {
+            gamma,
+            at,
+            count: count as u32,
+            rounds: self.rounds(),
+            below: self.number(Name::Below),
+        })
+    }
+
+    fn settings(&self, alloc: Global) -> Result<Settings, WordError>
+        ensures ok { IfOk result (λ settings. settings ≡ settings_of (values_in self.now)) }
+        ensures fits { IfOk result (λ settings. gamma_fits (values_in self.now) (depth_of (values_in self.now)) ≡ true) }
+        ensures err { IfErr result (IsRefusal (unfit (values_in self.now) Name.Gamma (gamma_fits (values_in self.now) (depth_of (values_in self.now))))) }
+        ensures lawful { IfOk result AreLawful }
+    {
+        let depth = self.depth();
+        Ok(Settings {
+            gamma: self.coefficients(alloc, depth)?,
+            limits: Limits {
+                depth,
+                budget: self.budget(),
+            },
+            show: self.show().unwrap_or(Show::Plain),
+            rounds: self.rounds(),
+        })
+    }
+
+    fn depth(&self) -> u32
+        ensures value { result ≡ depth_of (values_in self.now) }
+        ensures range { IsWithin (kind_of Name.Depth) result }
+    {
+        self.small_number(Name::Depth, DEFAULT_DEPTH)
+    }
+
+    fn budget(&self) -> u32
+        ensures value { result ≡ budget_of (values_in self.now) }
+        ensures range { IsWithin (kind_of Name.Budget) result }
+    {
+        self.small_number(Name::Budget, DEFAULT_BUDGET)
+    }
+
+    fn workers(&self) -> u32
+        ensures value { result ≡ workers_of (values_in self.now) }
+        ensures range { IsWorkers result }
+    {
+        self.small_number(Name::Workers, DEFAULT_WORKERS)
+    }
+
+    fn rounds(&self) -> u32
+        ensures value { result ≡ rounds_of (values_in self.now) }
+        ensures range { IsWithin (kind_of Name.Rounds) result }
+    {
+        self.small_number(Name::Rounds, DEFAULT_ROUNDS)
+    }
+
+    /// The list that is given for coefficients, with the index of its word.
+    fn list(&self, alloc: Global) -> Result<Option<(Vec<u64>, u32)>, AllocError>
+        ensures { IfOk result (λ placed. IsPlacedList (values_in self.now) (option_map (λ p. (p.0.items, p.1)) placed)) }
+    {
+        let Some(at) = self.place(Name::Gamma) else {
+            return Ok(None);
+        };
+        match number_list(alloc, self.text(at), None)? {
+            Ok(list) => Ok(Some((list, at))),
+            Err(_) => Ok(None),
+        }
+    }
+
+    /// The coefficients of this depth, of the list that is given or else of the seed.
+    fn coefficients(&self, alloc: Global, depth: u32) -> Result<Gamma, WordError>
+        ensures ok { IfOk result (λ gamma. gamma ≡ gamma_of (values_in self.now) depth) }
+        ensures fits { IfOk result (λ gamma. gamma_fits (values_in self.now) depth ≡ true) }
+        ensures err { IfErr result (IsRefusal (unfit (values_in self.now) Name.Gamma (gamma_fits (values_in self.now) depth))) }
+        ensures long { IfOk result (λ gamma. length gamma ≡ depth) }
+    {
+        match self.list(alloc)? {
+            Some((list, at)) => match Gamma::of_list(alloc, &list, depth) {
+                Ok(gamma) => Ok(gamma),
+                Err(error) => Err(gamma_error(error, at)),
+            },
+            None => {
+                let seed = self.number(Name::Seed).unwrap_or(0);
+                Ok(Gamma::of_seed(alloc, seed, depth)?)
+            }
+        }
+    }
+}
+
+/// The coefficients in the word at this index make no list of the depth.
+fn gamma_error(error: GammaError, at: u32) -> WordError
+    ensures { result ≡ gamma_error error at }
+{
+    match error {
+        GammaError::TooMany | GammaError::TooBig(_) => Rule::OutOfRange.at(at),
+        GammaError::Memory => WordError::Memory,
+    }
+}

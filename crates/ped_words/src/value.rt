@@ -1,0 +1,96 @@
+// Values of options: what each one is, and which rule a word breaks that is none.
+
+ghost use Rattle.std.specs.Prelude.{◌≡◌, ◌<◌, ◌≤◌, if◌then◌else◌, None, Some, All, IfErr, IfOk, OnOk, length};
+ghost use Rattle.ped_path.specs.Path.{IsRank};
+ghost use Rattle.ped_words.specs.Judging.{kind_rule};
+ghost use Rattle.ped_words.specs.Pedigrees.{IsRead, most_ranks};
+ghost use Rattle.ped_words.specs.Rules.{IsRefusal, broken_at};
+ghost use Rattle.ped_words.specs.Table.{shape_of, show_of};
+
+use crate::number::{number_in, number_list};
+use crate::rule::{Rule, WordError};
+use crate::table::Kind;
+use ped_gen::Shape;
+use ped_path::{Pedigree, parse_pedigree};
+use serial_meaning::Show;
+use std::alloc::Global;
+
+/// Judges the word at this index as a value of this kind.
+pub(crate) fn judge_value(alloc: Global, kind: Kind, word: &str, at: u32) -> Result<(), WordError>
+    ensures ok { OnOk result (kind_rule kind word.now ≡ None) }
+    ensures err { IfErr result (IsRefusal (broken_at at (kind_rule kind word.now))) }
+{
+    match broken_rule(alloc, kind, word)? {
+        Some(rule) => Err(rule.at(at)),
+        None => Ok(()),
+    }
+}
+
+/// The rule that a word breaks as a value of this kind.
+fn broken_rule(alloc: Global, kind: Kind, word: &str) -> Result<Option<Rule>, WordError>
+    ensures rule { IfOk result (λ rule. rule ≡ kind_rule kind word.now) }
+    ensures memory { IfErr result (λ e. e ≡ WordError.Memory) }
+{
+    match kind {
+        Kind::Number { least, most } => Ok(number_in(word, least, most).err()),
+        Kind::Numbers { most } => Ok(number_list(alloc, word, most)?.err()),
+        Kind::Pedigree => Ok(pedigree_in(alloc, word)?.err()),
+        Kind::Show => Ok(unnamed(show_of(word).is_some())),
+        Kind::Shape => Ok(unnamed(shape_of(word).is_some())),
+    }
+}
+
+/// What is broken by a word that should name something.
+fn unnamed(names: bool) -> Option<Rule>
+    ensures { result ≡ (if names then None else Some Rule.BadValue) }
+{
+    if names { None } else { Some(Rule::BadValue) }
+}
+
+/// How many ranks a pedigree has, each of them below 2^32.
+fn rank_count(pedigree: &Pedigree) -> u64
+    ensures count { result ≡ length pedigree.now }
+    ensures some { 0 < length pedigree.now }
+    ensures ranks { All IsRank pedigree.now }
+{
+    let _rank = pedigree.rank;
+    pedigree.len()
+}
+
+/// The pedigree of this text, or the rule that the text breaks.
+pub(crate) fn pedigree_in(alloc: Global, word: &str) -> Result<Result<Pedigree, Rule>, WordError>
+    ensures read { IfOk result (IsRead word.now) }
+    ensures memory { IfErr result (λ e. e ≡ WordError.Memory) }
+{
+    match parse_pedigree(alloc, word) {
+        Ok(pedigree) => {
+            prove!(rank_count(&pedigree) > 0);
+            Ok(Ok(pedigree))
+        }
+        Err(error) => match Rule::of_text(error) {
+            Some(rule) => Ok(Err(rule)),
+            None => Err(WordError::Memory),
+        },
+    }
+}
+
+pub(crate) fn show_of(word: &str) -> Option<Show>
+    ensures { result ≡ show_of word.now }
+{
+    match word {
+        "plain" => Some(Show::Plain),
+        "log" => Some(Show::Log),
+        _ => None,
+    }
+}
+
+pub(crate) fn shape_of(word: &str) -> Option<Shape>
+    ensures { result ≡ shape_of word.now }
+{
+    match word {
+        "fib" => Some(Shape::Fib),
+        "tree" => Some(Shape::Tree),
+        "loop" => Some(Shape::Loop),
+        _ => None,
+    }
+}
