@@ -1,7 +1,8 @@
 -- Plans, and what is answered under them, may go to other threads and be read by several at once. A plan is reached by all tasks of a
 -- run, from an `Arc` each.
-use denote.Param.Send.{IsSend, IsSync, view_send, view_sync}
+use denote.Param.Send.{IsSend, IsSync, view_send, view_sync, sendable}
 use denote.Param.SendFields.{declared_send, declared_sync}
+use denote.Builtin.{u32}
 use Rattle.std.proofs.Crossing.{Arc-send, Arc-sync}
 use Rattle.std.specs.contracts.alloc.Global as global
 use Rattle.std.specs.contracts.impls.GlobalAllocator.TheImpl.{ghosts}
@@ -25,11 +26,17 @@ use Rattle.serial_meaning.specs.contracts.plan.Plan.TheInside as plan_inside
 
 -- to another thread, and read by several
 
+number_sends : IsSend u32
+number_sends = search sendable
+
+number_syncs : IsSync u32
+number_syncs = search sendable
+
 plan_inside_sends : IsSend plan_inside.the_row
-plan_inside_sends = declared_send plan_inside.the_type (checked_sends, (gamma_shared.the_send, (limits_shared.the_send, (show_shared.the_send, tt))))
+plan_inside_sends = declared_send plan_inside.the_type (checked_sends, (gamma_shared.the_send, (limits_shared.the_send, (show_shared.the_send, (number_sends, tt)))))
 
 plan_inside_syncs : IsSync plan_inside.the_row
-plan_inside_syncs = declared_sync plan_inside.the_type (checked_syncs, (gamma_shared.the_sync, (limits_shared.the_sync, (show_shared.the_sync, tt))))
+plan_inside_syncs = declared_sync plan_inside.the_type (checked_syncs, (gamma_shared.the_sync, (limits_shared.the_sync, (show_shared.the_sync, (number_syncs, tt)))))
 
 pub plan_sends : IsSend plan.the_row
 plan_sends = view_send plan_inside.the_row _ _ _ _ plan_inside_sends
