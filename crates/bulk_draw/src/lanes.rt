@@ -24,7 +24,7 @@ fn mix_once(z: &mut [u64])
 }
 
 /// Mixes each number by so many rounds. All numbers take a round before any takes the next one, so that a processor works on
-/// several at once. Where they are a few in an array of fixed length, they stay in registers.
+/// several at once. The few of an array of fixed length stay in registers meanwhile.
 pub(crate) fn mix_each(z: &mut [u64], rounds: u32)
     ensures { z.new ≡ map (λ n. mix n rounds) z.old }
 {
@@ -33,7 +33,7 @@ pub(crate) fn mix_each(z: &mut [u64], rounds: u32)
     }
 }
 
-/// Writes eight numbers from this index on, one by one: as one piece of memory they would have to leave their registers before.
+/// Writes eight numbers from this index on, one by one: copied as one piece they would go through memory.
 pub(crate) fn write_lanes(out: &mut [u64], start: usize, lanes: &[u64; LANES])
     requires { start + 8 ≤ length out.old }
     ensures { out.new ≡ with_lanes out.old start lanes.now }

@@ -43,6 +43,7 @@ pub fn draw_run(gamma: &Gamma, at: &Pedigree, rounds: u32, out: &mut [u64])
     requires ranks { last_rank at.now + length out.old ≤ 2 ^ 32 }
     ensures { out.new ≡ stream gamma.now at.now (length out.old) rounds }
 {
+    // So the place fits 32 bits.
     let places = gamma.len();
     prove!(at.len() <= places as u64);
     let step = gamma.coeff(at.path.len() as u32 + 1);

@@ -1,6 +1,6 @@
-use crate::{draw_run, mix_lanes, reduce};
 ghost use Rattle.std.specs.Prelude.{◌≡◌, [], ◌∷◌, IfOk};
 
+use crate::{draw_run, mix_lanes, reduce};
 use dotmix::{Gamma, dotmix, mix};
 use ped_path::{Memory, Ped, Pedigree};
 use std::alloc::Global;
@@ -75,7 +75,11 @@ fn a_run_draws_what_each_strand_draws(rt: HostRuntime) -> Result<(), Fail> {
                 let rank = 5 + i as u64;
                 let j = Pedigree { path, rank };
                 assert_eq!(rt; j.len(), 2);
-                let expected = if i < len { dotmix(&gamma, &j, rounds) } else { 0 };
+                let expected = if i < len {
+                    dotmix(&gamma, &j, rounds)
+                } else {
+                    0
+                };
                 assert_eq!(rt; *drawn, expected, "at {i} of {len}");
             }
         }
@@ -93,7 +97,11 @@ fn lanes_are_mixed_as_numbers_are(rt: HostRuntime) {
         let before = numbers;
         mix_lanes(&mut numbers[..len], 4);
         for (i, number) in numbers.iter().enumerate() {
-            let expected = if i < len { mix(before[i], 4) } else { before[i] };
+            let expected = if i < len {
+                mix(before[i], 4)
+            } else {
+                before[i]
+            };
             assert_eq!(rt; *number, expected, "at {i} of {len}");
         }
     }

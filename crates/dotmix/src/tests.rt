@@ -55,14 +55,20 @@ fn dot_products_of_seed_0(rt: HostRuntime) -> Result<(), Fail> {
     };
     assert_eq!(rt; first.len(), 1);
     assert_eq!(rt; dot(&gamma, &first), 16_294_208_416_658_607_535);
-    assert_eq!(rt; dotmix(&gamma, &first, 4), mix(16_294_208_416_658_607_535, 4));
+    assert_eq!(rt;
+        dotmix(&gamma, &first, 4),
+        mix(16_294_208_416_658_607_535, 4)
+    );
     let child = Pedigree {
         path: Ped::root(alloc)?.child(alloc, 0)?,
         rank: 0,
     };
     assert_eq!(rt; child.len(), 2);
     assert_eq!(rt; dot(&gamma, &child), 5_807_750_865_143_411_678);
-    assert_eq!(rt; dotmix(&gamma, &child, 4), mix(5_807_750_865_143_411_678, 4));
+    assert_eq!(rt;
+        dotmix(&gamma, &child, 4),
+        mix(5_807_750_865_143_411_678, 4)
+    );
     Ok(())
 }
 

@@ -1,4 +1,4 @@
-use Rattle.std.proofs.Common.{◌≡◌, ◌<◌, ◌≤◌, ◌+◌, ◌*◌, ◌-◌, ◌/◌, ◌∙◌, length, map, take, drop, ap, refl, subst, sym, arith, length-take, length-drop}
+use Rattle.std.proofs.Common.{◌≡◌, ◌≤◌, ◌+◌, ◌*◌, ◌-◌, ◌/◌, ◌∙◌, length, map, take, drop, ap, refl, subst, sym, arith, length-take, length-drop}
 use Rattle.dotmix.specs.Draws.{dot, mix}
 use Rattle.bulk_draw.specs.Streams.{dots, later, stream}
 use Rattle.bulk_draw.proofs.StreamLemmas.{block_next, block_written, dot-IsResidue, last_block_written, later-none, length-behind, IsBlock}
