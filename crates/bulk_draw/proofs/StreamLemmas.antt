@@ -1,5 +1,5 @@
 -- Streams: where a pedigree's path and rank stand, and how a stream goes on.
-use Rattle.std.proofs.Common.{◌≡◌, ℕ, ◌<◌, ◌≤◌, ◌+◌, ◌-◌, ◌*◌, ◌%◌, List, [], ◌∷◌, ◌++◌, length, get_or, map, take, refl, sym, ap, ◌∙◌, arith, length-append, inl, inr}
+use Rattle.std.proofs.Common.{◌≡◌, ℕ, ◌<◌, ◌≤◌, ◌+◌, ◌-◌, ◌*◌, ◌%◌, List, [], ◌∷◌, ◌++◌, length, map, take, refl, sym, ap, ◌∙◌, arith, length-append, inl, inr}
 use Rattle.std.specs.List.{range_with_len}
 use Rattle.std.proofs.lemmas.Bool.{cases_lt}
 use Rattle.std.proofs.lemmas.List.{append-nil, drop-drop, drop_all, get_or_append_left, get_or-append_right, get_or_at, length-map, same_lists, take_at}
@@ -51,13 +51,13 @@ dot-later gamma p r m n h =
 pub range-split : (f g : ℕ → ℕ) (m n : ℕ) → ((i : ℕ) → f (m + i) ≡ g i) → map f (range_with_len 0 (m + n)) ≡ map f (range_with_len 0 m) ++ map g (range_with_len 0 n)
 range-split f g m n same =
     same_lists _ _ (simp (length-append, length-map-range_with_len) refl) (λ k d h.
-      let within : k < m + n = rw (length-map-range_with_len f 0 (m + n)) at h in
-      get_or-map-range_with_len f 0 (m + n) k k d within (omega arith) ∙ sym (elim (cases_lt k m) [
-        inl lt ↦ get_or_append_left (map f (range_with_len 0 m)) (map g (range_with_len 0 n)) d k (rw (length-map-range_with_len f 0 m) lt) ∙ get_or-map-range_with_len f 0 m k k d lt (omega arith)
+    let within : k < m + n = rw (length-map-range_with_len f 0 (m + n)) at h in
+    get_or-map-range_with_len f 0 (m + n) k k d within (omega arith) ∙ sym (elim (cases_lt k m) [
+      | inl lt ↦ get_or_append_left (map f (range_with_len 0 m)) (map g (range_with_len 0 n)) d k (rw (length-map-range_with_len f 0 m) lt) ∙ get_or-map-range_with_len f 0 m k k d lt (omega arith)
       | inr le ↦
           let moved : m + (k - m) ≡ k = omega arith in
           get_or-append_right (map f (range_with_len 0 m)) (map g (range_with_len 0 n)) m k d (length-map-range_with_len f 0 m) le ∙ get_or-map-range_with_len g 0 n (k - m) (k - m) d (omega arith) (omega arith) ∙ sym (same (k - m)) ∙ ap f moved
-      ]))
+    ]))
 
 length-dots : (first step n : ℕ) → length (dots first step n) ≡ n
 length-dots first step n = length-map-range_with_len (λ i. (first + i * step) % modulus) 0 n

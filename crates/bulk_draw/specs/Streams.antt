@@ -1,5 +1,5 @@
 -- Streams: the draws of consecutive ranks on one path.
-use Rattle.std.specs.Prelude.{ℕ, ◌+◌, ◌-◌, ◌*◌, ◌%◌, List, [], ◌∷◌, ◌++◌, length, map, take, slice_index}
+use Rattle.std.specs.Prelude.{ℕ, ◌+◌, ◌-◌, ◌*◌, ◌%◌, List, [], ◌∷◌, ◌++◌, length, map, take, drop, slice_index}
 use Rattle.std.specs.List.{range_with_len}
 use Rattle.dotmix.specs.Draws.{dotmix, modulus}
 
@@ -21,3 +21,7 @@ stream gamma j n rounds = map (λ i. dotmix gamma (later j i) rounds) (range_wit
 -- so many dot products, from the first one on, of which each is the one before it and a step
 abbrev pub dots : ℕ → ℕ → ℕ → List ℕ
 dots first step n = map (λ i. (first + i * step) % modulus) (range_with_len 0 n)
+
+-- the list with eight numbers in the place of those from this index on
+abbrev pub with_lanes : List ℕ → ℕ → List ℕ → List ℕ
+with_lanes xs at lanes = take at xs ++ (lanes ++ drop 8 (drop at xs))

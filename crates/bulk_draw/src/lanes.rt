@@ -1,5 +1,6 @@
-ghost use Rattle.std.specs.Prelude.{◌≡◌, ◌≤◌, map};
+ghost use Rattle.std.specs.Prelude.{◌≡◌, ◌+◌, ◌≤◌, length, map};
 ghost use Rattle.dotmix.specs.Draws.{mix, most_rounds, round};
+ghost use Rattle.bulk_draw.specs.Streams.{with_lanes};
 
 /// How many numbers are mixed side by side.
 pub(crate) const LANES: usize = 8;
@@ -23,12 +24,22 @@ fn mix_once(z: &mut [u64])
 }
 
 /// Mixes each number by so many rounds. All numbers take a round before any takes the next one, so that a processor works on
-/// several at once. Where they are a few in an array of fixed length, they stay in registers.
+/// several at once. The few of an array of fixed length stay in registers meanwhile.
 pub(crate) fn mix_each(z: &mut [u64], rounds: u32)
     ensures { z.new ≡ map (λ n. mix n rounds) z.old }
 {
     for _i in 0..rounds {
         mix_once(z);
+    }
+}
+
+/// Writes eight numbers from this index on, one by one: copied as one piece they would go through memory.
+pub(crate) fn write_lanes(out: &mut [u64], start: usize, lanes: &[u64; LANES])
+    requires { start + 8 ≤ length out.old }
+    ensures { out.new ≡ with_lanes out.old start lanes.now }
+{
+    for i in 0..LANES {
+        out[start + i] = lanes[i];
     }
 }
 
@@ -43,7 +54,7 @@ pub fn mix_lanes(z: &mut [u64], rounds: u32)
         let mut lanes = [0; LANES];
         lanes.copy_from_slice(&z[start..start + LANES]);
         mix_each(&mut lanes, rounds);
-        z[start..start + LANES].copy_from_slice(&lanes);
+        write_lanes(z, start, &lanes);
     }
     mix_each(&mut z[blocks * LANES..], rounds);
 }

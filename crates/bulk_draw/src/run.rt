@@ -2,11 +2,12 @@ ghost use Rattle.std.specs.Prelude.{◌≡◌, ◌+◌, ◌*◌, ◌%◌, ◌≤
 ghost use Rattle.dotmix.specs.Draws.{modulus, most_rounds, IsResidue};
 ghost use Rattle.bulk_draw.specs.Streams.{dots, last_rank, stream};
 
-use crate::lanes::{LANES, mix_each};
+use crate::lanes::{LANES, mix_each, write_lanes};
 use dotmix::{Gamma, MODULUS, dot};
 use ped_path::Pedigree;
 
-/// The sum of two numbers below the modulus, modulo it.
+/// The sum of two numbers below the modulus, modulo it. What is added back where the difference went below 0 is a number and no way
+/// to go on, so that no jump depends on it.
 fn sum_of(dot: u64, step: u64) -> u64
     requires dot { IsResidue dot }
     requires step { IsResidue step }
@@ -14,7 +15,8 @@ fn sum_of(dot: u64, step: u64) -> u64
     ensures small { IsResidue result }
 {
     let room = MODULUS - step;
-    if dot < room { dot + step } else { dot - room }
+    let back = if dot < room { MODULUS } else { 0 };
+    dot.wrapping_sub(room).wrapping_add(back)
 }
 
 /// Writes this dot product and those after it, and gives the one that comes next.
@@ -41,6 +43,7 @@ pub fn draw_run(gamma: &Gamma, at: &Pedigree, rounds: u32, out: &mut [u64])
     requires ranks { last_rank at.now + length out.old ≤ 2 ^ 32 }
     ensures { out.new ≡ stream gamma.now at.now (length out.old) rounds }
 {
+    // So the place fits 32 bits.
     let places = gamma.len();
     prove!(at.len() <= places as u64);
     let step = gamma.coeff(at.path.len() as u32 + 1);
@@ -51,7 +54,7 @@ pub fn draw_run(gamma: &Gamma, at: &Pedigree, rounds: u32, out: &mut [u64])
         let mut lanes = [0; LANES];
         next = write_dots(&mut lanes, next, step);
         mix_each(&mut lanes, rounds);
-        out[start..start + LANES].copy_from_slice(&lanes);
+        write_lanes(out, start, &lanes);
     }
     let rest = &mut out[blocks * LANES..];
     write_dots(rest, next, step);

@@ -5,8 +5,8 @@ use Rattle.bulk_draw.proofs.lanes.mix_lanes.Goals as goal
 
 pub loop-block-preserved : goal.loop-block-preserved
 loop-block-preserved c =
-    let written = c.copy_from_slice-in-loop-block.ensures.after ∙ c.mix_each.ensures ∙ ap (map (λ n. mix n c.args.rounds)) c.copy_from_slice.ensures.after in
-    block_mapped (λ n. mix n c.args.rounds) c.args.z.now c.loop-block.z _ (c.loop-block.block * 8) _ _ ((c.loop-block.block + 1) * 8) (omega arith) refl (omega arith) c.loop-block.invariant written
+    let written = c.mix_each.ensures ∙ ap (map (λ n. mix n c.args.rounds)) c.copy_from_slice.ensures.after in
+    c.write_lanes.ensures ∙ block_mapped (λ n. mix n c.args.rounds) c.args.z.now c.loop-block.z _ (c.loop-block.block * 8) _ 8 ((c.loop-block.block + 1) * 8) (omega arith) (omega arith) (omega arith) c.loop-block.invariant written
 
 pub returns : goal.returns
 returns c =

@@ -1,4 +1,4 @@
-use Rattle.std.proofs.Common.{◌≡◌, ◌<◌, ◌≤◌, ◌+◌, ◌*◌, ◌-◌, ◌/◌, ◌∙◌, length, map, take, drop, ap, refl, subst, sym, arith, length-take, length-drop}
+use Rattle.std.proofs.Common.{◌≡◌, ◌≤◌, ◌+◌, ◌*◌, ◌-◌, ◌/◌, ◌∙◌, length, map, take, drop, ap, refl, subst, sym, arith, length-take, length-drop}
 use Rattle.dotmix.specs.Draws.{dot, mix}
 use Rattle.bulk_draw.specs.Streams.{dots, later, stream}
 use Rattle.bulk_draw.proofs.StreamLemmas.{block_next, block_written, dot-IsResidue, last_block_written, later-none, length-behind, IsBlock}
@@ -15,7 +15,7 @@ pub loop-block-preserved : goal.loop-block-preserved
 loop-block-preserved c =
     let start = c.loop-block.block * 8 in
     let long = length-behind _ _ _ c.at.view_is in
-    let is : IsBlock c.args.gamma.now c.args.at.now c.at.inside.path c.at.inside.rank c.args.rounds start 8 ((c.loop-block.block + 1) * 8) c.loop-block.next c.coeff-step.result c.loop-block.out c.copy_from_slice.new.self = record {
+    let is : IsBlock c.args.gamma.now c.args.at.now c.at.inside.path c.at.inside.rank c.args.rounds start 8 ((c.loop-block.block + 1) * 8) c.loop-block.next c.coeff-step.result c.loop-block.out c.mix_each.new.z = record {
       pedigree = c.at.view_is;
       within = omega arith;
       step_is = rw (sym c.len-2.ensures.length) c.coeff-step.ensures.value;
@@ -23,10 +23,10 @@ loop-block-preserved c =
       ends = omega arith;
       room = omega arith;
       before = c.loop-block.invariant.written;
-      mixed = c.copy_from_slice.ensures.after ∙ c.mix_each.ensures ∙ ap (map (λ n. mix n c.args.rounds)) c.write_dots-next.ensures.list;
+      mixed = c.mix_each.ensures ∙ ap (map (λ n. mix n c.args.rounds)) c.write_dots-next.ensures.list;
     } in
     record {
-      written = block_written _ _ _ _ _ _ _ _ _ _ _ _ _ is;
+      written = ap (take ((c.loop-block.block + 1) * 8)) c.write_lanes.ensures ∙ block_written _ _ _ _ _ start 8 8 _ _ _ _ _ is;
       next = c.write_dots-next.ensures.next ∙ block_next _ _ _ _ _ _ _ _ _ _ _ _ is;
       small = c.write_dots-next.ensures.small;
     }

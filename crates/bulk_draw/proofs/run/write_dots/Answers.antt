@@ -1,4 +1,4 @@
-use Rattle.std.proofs.Common.{◌≡◌, ◌<◌, ◌∙◌, length, refl, arith}
+use Rattle.std.proofs.Common.{◌<◌, ◌∙◌, length, arith}
 use Rattle.std.proofs.lemmas.List.{take_more_set}
 use Rattle.bulk_draw.proofs.StreamLemmas.{dots_more, dot_more}
 use Rattle.bulk_draw.proofs.run.write_dots.Goals as goal
