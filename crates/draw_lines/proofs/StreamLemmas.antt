@@ -1,6 +1,6 @@
 -- A stream goes on, and so do its lines and what a sink took of them.
-use Rattle.std.proofs.Common.{◌≡◌, ℕ, ◌+◌, ◌-◌, ◌<◌, ◌≤◌, ◌⊎◌, Option, Some, None, Result, Ok, Err, List, [], ◌∷◌, ◌++◌, length, take, drop, map, flat_map, refl, sym, ap, ◌∙◌, subst, append_assoc, length-append, append-nil, arith, inl, inr}
-use Rattle.std.specs.Prelude.{OnErr, OnOk}
+use Rattle.std.proofs.Common.{◌≡◌, ℕ, ◌+◌, ◌-◌, ◌<◌, ◌≤◌, Option, Some, None, Result, Ok, Err, List, [], ◌∷◌, ◌++◌, length, take, drop, map, flat_map, refl, sym, ap, ◌∙◌, subst, append_assoc, length-append, append-nil, arith}
+use Rattle.std.specs.Prelude.{OnErr}
 use Rattle.std.proofs.KnownBytes.{Appends-trans}
 use Rattle.std.proofs.Math.Seq.{take-append-add}
 use Rattle.std.proofs.lemmas.Grind.{flat_map-append}
@@ -8,7 +8,6 @@ use Rattle.std.proofs.lemmas.List.{length-take, map-append, take-append-le}
 use Rattle.dotmix.specs.Draws.{dotmix}
 use Rattle.bulk_draw.specs.Streams.{last_rank, later, path, stream}
 use Rattle.bulk_draw.proofs.StreamLemmas.{last_rank-behind, later-behind, path-behind, range-split}
-use Rattle.ped_io.specs.Causes.{Rose}
 use Rattle.ped_io.specs.Streams.{Appends, AppendsFront}
 use Rattle.draw_lines.specs.Lines.{CanDraw, later_stream, lines_of, number_line, reduced}
 use Rattle.draw_lines.specs.declared.stream.Stream.{Stream}
@@ -25,11 +24,11 @@ reduced-append None xs ys = refl
 reduced-append (Some m) xs ys = map-append _ xs ys
 
 -- some numbers, and then the others
-pub lines-append : (s : Stream) (m n : ℕ) → lines_of s (m + n) ≡ lines_of s m ++ lines_of (later_stream s m) n
+lines-append : (s : Stream) (m n : ℕ) → lines_of s (m + n) ≡ lines_of s m ++ lines_of (later_stream s m) n
 lines-append s m n =
     ap (λ xs. flat_map number_line (reduced s.below xs)) (stream-append s.gamma s.at m n s.rounds) ∙ ap (flat_map number_line) (reduced-append s.below (stream s.gamma s.at m s.rounds) (stream s.gamma (later s.at m) n s.rounds)) ∙ flat_map-append number_line (reduced s.below (stream s.gamma s.at m s.rounds)) (reduced s.below (stream s.gamma (later s.at m) n s.rounds))
 
-pub can_go_on : (s : Stream) (m n : ℕ) → CanDraw s (m + n) → CanDraw (later_stream s m) n
+can_go_on : (s : Stream) (m n : ℕ) → CanDraw s (m + n) → CanDraw (later_stream s m) n
 can_go_on s m n can =
     let long : length (later s.at m) ≡ length (path s.at) + 1 = length-append (path s.at) ((last_rank s.at + m) ∷ []) in
     let short : length (path s.at) ≤ length s.at - 1 = rw (length-take (length s.at - 1) s.at) (omega arith) in
@@ -38,32 +37,45 @@ can_go_on s m n can =
     let before = can.within in
     record { within = omega (arith, long, short, before); rounds = can.rounds; ranks = omega (arith, rank, enough); below = can.below }
 
-pub can_less : (s : Stream) (m n : ℕ) → m ≤ n → CanDraw s n → CanDraw s m
-can_less s m n le can = let enough = can.ranks in record { within = can.within; rounds = can.rounds; ranks = omega (arith, le, enough); below = can.below }
-
 -- ---- a sink that took some lines goes on
 
 module _ (a b c : Option (List ℕ)) (front xs rest whole : List ℕ) (taken : Appends a b front) (split : whole ≡ front ++ (xs ++ rest)) where
-  pub front_more : AppendsFront b c xs → AppendsFront a c whole
+  front_more : AppendsFront b c xs → AppendsFront a c whole
   front_more (n, le, more) =
       let cut : take (length front + n) whole ≡ front ++ take n xs = ap (take (length front + n)) split ∙ take-append-add front (xs ++ rest) n ∙ ap (λ l. front ++ l) (take-append-le n xs rest le) in
       let long : length whole ≡ length front + (length xs + length rest) = ap length split ∙ length-append front (xs ++ rest) ∙ ap (λ k. length front + k) (length-append xs rest) in
       (length front + n, omega (arith, long, le), subst (Appends a c) (sym cut) (Appends-trans a b c front (take n xs) taken more))
 
-pub rose_since : (a b c : ℕ) → a ≤ b → Rose b c → Rose a c
-rose_since a b c le (inl lt) = inl (omega (arith, le, lt))
-rose_since a b c le (inr top) = inr top
+-- A sink took the first lines of a whole, and the stream goes on with so many others.
+abbrev pub Going : Option (List ℕ) → Option (List ℕ) → List ℕ → Stream → ℕ → Type 0
+Going a b whole s left = (front : List ℕ) × Appends a b front × (whole ≡ front ++ lines_of s left)
+
+module _ (a b c : Option (List ℕ)) (whole : List ℕ) (s : Stream) (left n m : ℕ) (parts : n + m ≡ left) where
+  lines_split : lines_of s left ≡ lines_of s n ++ lines_of (later_stream s n) m
+  lines_split = ap (lines_of s) (sym parts) ∙ lines-append s n m
+
+  pub goes_on : (next : Stream) → next ≡ later_stream s n → Going a b whole s left → Appends b c (lines_of s n) → Going a c whole next m
+  goes_on next is (front, taken, split) more = (
+    front ++ lines_of s n,
+    Appends-trans a b c front (lines_of s n) taken more,
+    split ∙ ap (λ l. front ++ l) lines_split ∙ sym (append_assoc front (lines_of s n) (lines_of (later_stream s n) m)) ∙ ap (λ t. (front ++ lines_of s n) ++ lines_of t m) (sym is),
+  )
+
+  pub can_still : (next : Stream) → next ≡ later_stream s n → CanDraw s left → CanDraw next m
+  can_still next is can =
+      let P : Stream → Type 0 = λ t. CanDraw t m in
+      let Q : ℕ → Type 0 = λ k. CanDraw s k in
+      subst P (sym is) (can_go_on s n m (subst Q (sym parts) can))
+
+  pub front_of : Going a b whole s left → AppendsFront b c (lines_of s n) → AppendsFront a c whole
+  front_of (front, taken, split) more = front_more a b c front (lines_of s n) (lines_of (later_stream s n) m) whole taken (split ∙ ap (λ l. front ++ l) lines_split) more
+
+pub on_err : {E : Type 0} (P : Type 0) (r : Result (Unit {0}) E) → P → OnErr r P
+on_err {E} P (Ok u) p = tt
+on_err {E} P (Err e) p = p
 
 -- the last lines, by what the write of them answered
-module _ (a b c : Option (List ℕ)) (front xs whole : List ℕ) (taken : Appends a b front) (split : whole ≡ front ++ xs) {E : Type 0} where
-  pub all_then : (r : Result (Unit {0}) E) → OnOk r (Appends b c xs) → OnOk r (Appends a c whole)
-  all_then (Ok u) more = subst (Appends a c) (sym split) (Appends-trans a b c front xs taken more)
-  all_then (Err e) more = tt
-
-  pub front_then : (r : Result (Unit {0}) E) → OnErr r (AppendsFront b c xs) → OnErr r (AppendsFront a c whole)
-  front_then (Ok u) more = tt
-  front_then (Err e) more = front_more a b c front xs [] whole taken (split ∙ ap (λ l. front ++ l) (sym (append-nil xs))) more
-
-pub failed_since : {E : Type 0} (a b c : ℕ) (r : Result (Unit {0}) E) → a ≤ b → OnErr r (Rose b c) → OnErr r (Rose a c)
-failed_since {E} a b c (Ok u) le rose = tt
-failed_since {E} a b c (Err e) le rose = rose_since a b c le rose
+pub front_then : (a b c : Option (List ℕ)) (whole : List ℕ) (s : Stream) (left n : ℕ) {E : Type 0} (r : Result (Unit {0}) E) → OnErr r (AppendsFront b c (lines_of s n)) → left ≡ n → Going a b whole s left → OnErr r (AppendsFront a c whole)
+front_then a b c whole s left n {E} (Ok u) more all going = tt
+front_then a b c whole s left n {E} (Err e) more all (front, taken, split) =
+    front_more a b c front (lines_of s n) [] whole taken (split ∙ ap (λ k. front ++ lines_of s k) all ∙ ap (λ l. front ++ l) (sym (append-nil (lines_of s n)))) more

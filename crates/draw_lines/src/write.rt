@@ -40,7 +40,7 @@ fn write_blocks<K: Sink>(
 {
     let block = numbers.len() as u64;
     let mut left = count;
-    'blocks: while block < left {
+    'writing: while block < left {
         write_block(stream, numbers, text, out)?;
         stream.advance(block);
         left -= block;

@@ -38,9 +38,16 @@ takes_script (Gen shape size) = false
 takes_script (Stream gamma at count rounds below) = false
 
 -- The command's report is made whole before it is written. A stream is written block by block.
-abbrev pub IsWhole : Command → Type 0
-IsWhole (Stream gamma at count rounds below) = ⊥
-IsWhole command = ⊤
+abbrev pub is_whole : Command → Bool
+is_whole (Run settings workers) = true
+is_whole (Serial settings) = true
+is_whole (Sim settings workers number) = true
+is_whole (Replay settings at) = true
+is_whole (Hash gamma at rounds) = true
+is_whole Check = true
+is_whole Fmt = true
+is_whole (Gen shape size) = true
+is_whole (Stream gamma at count rounds below) = false
 
 abbrev pub reads_script : Command → Bool
 reads_script command = runs_today command && takes_script command

@@ -4,12 +4,12 @@ ghost use Rattle.std.specs.Prelude.{◌≡◌, codes, IfOk, IfErr, IsTrue, IsFal
 ghost use Rattle.draw_lines.specs.Lines.{CanDraw, lines_of};
 ghost use Rattle.ped_words.specs.Reading.{reading};
 ghost use Rattle.ped_words.specs.Commands.{AreLawful, IsLawful, IsWorkers};
-ghost use Rattle.engine.specs.Commands.{IsWhole, reads_script, runs_today, takes_script};
-ghost use Rattle.engine.specs.Promise.{Answers, HasReport, KeepsPromise, ReadWhole, ReadsNone, Refuses, Told, has_line, has_output, watched};
+ghost use Rattle.engine.specs.Commands.{is_whole, reads_script, runs_today, takes_script};
+ghost use Rattle.engine.specs.Promise.{Answers, HasReport, KeepsPromise, ReadWhole, ReadsNone, Refuses, Told, Watched, has_line, has_output, watched};
 ghost use Rattle.engine.specs.Refusal.{Delivers, IsCause, IsLate, Puts, Refused};
 ghost use Rattle.engine.specs.Report.{shown};
 
-use crate::command::{runs_today, takes_script};
+use crate::command::{is_whole, runs_today, takes_script};
 use crate::line::{blocked_line, no_strand_line, words_line};
 use crate::play::played_by_crew;
 use crate::refusal::Refusal;
@@ -42,7 +42,7 @@ fn fetch<S: Source>(alloc: Global, source: &mut S) -> Result<Vec<u8>, Refusal>
 fn prepare<S: Source>(alloc: Global, command: Command, source: &mut S) -> Result<Report, Refusal>
     requires today { IsTrue (runs_today command) }
     requires lawful { IsLawful command }
-    requires whole { IsWhole command }
+    requires whole { IsTrue (is_whole command) }
     ensures ready { IfOk result (λ report. HasReport command (watched S.left S.faults source.old source.new) (shown report)) }
     ensures refused { IfErr result (IsCause command (watched S.left S.faults source.old source.new)) }
     ensures untouched { IsFalse (takes_script command) → source.new ≡ source.old }
@@ -182,7 +182,7 @@ fn serve_whole<S: Source, K: Sink, E: Sink>(
 ) -> Status
     requires today { IsTrue (runs_today command) }
     requires lawful { IsLawful command }
-    requires whole { IsWhole command }
+    requires whole { IsTrue (is_whole command) }
     ensures answers { Answers command (watched S.left S.faults source.old source.new) (watched K.written K.faults out.old out.new)
         (watched E.written E.faults err.old err.new) result }
     ensures untouched { IsFalse (takes_script command) → source.new ≡ source.old }
@@ -218,6 +218,39 @@ fn serve_stream<K: Sink, E: Sink>(
     }
 }
 
+// Runs a command whose report is written in parts, which reads no source.
+fn serve_in_parts<K: Sink, E: Sink>(
+    alloc: Global,
+    command: Command,
+    out: &mut K,
+    err: &mut E,
+) -> Status
+    requires lawful { IsLawful command }
+    requires in_parts { IsFalse (is_whole command) }
+    ensures answers { (source : Watched) → Answers command source (watched K.written K.faults out.old out.new) (watched E.written E.faults err.old err.new) result }
+    ensures no_output { IsFalse (has_output result) → out.new ≡ out.old }
+    ensures no_line { IsFalse (has_line result) → err.new ≡ err.old }
+{
+    match command {
+        Command::Stream {
+            gamma,
+            at,
+            count,
+            rounds,
+            below,
+        } => {
+            let stream = Stream {
+                gamma,
+                at,
+                rounds,
+                below,
+            };
+            serve_stream(alloc, stream, count, out, err)
+        }
+        _ => unreachable!(),
+    }
+}
+
 // Runs a command.
 fn serve<S: Source, K: Sink, E: Sink>(
     alloc: Global,
@@ -237,23 +270,10 @@ fn serve<S: Source, K: Sink, E: Sink>(
         tell(err, b"words: not built yet\n");
         return Status::Words;
     }
-    match command {
-        Command::Stream {
-            gamma,
-            at,
-            count,
-            rounds,
-            below,
-        } => {
-            let stream = Stream {
-                gamma,
-                at,
-                rounds,
-                below,
-            };
-            serve_stream(alloc, stream, count, out, err)
-        }
-        command => serve_whole(alloc, command, source, out, err),
+    if is_whole(&command) {
+        serve_whole(alloc, command, source, out, err)
+    } else {
+        serve_in_parts(alloc, command, out, err)
     }
 }
 

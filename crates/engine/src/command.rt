@@ -1,7 +1,7 @@
 // Which commands run today, and which take a script.
 
 ghost use Rattle.std.specs.Prelude.{◌≡◌};
-ghost use Rattle.engine.specs.Commands.{runs_today, takes_script};
+ghost use Rattle.engine.specs.Commands.{is_whole, runs_today, takes_script};
 
 use ped_words::Command;
 
@@ -10,6 +10,13 @@ pub fn runs_today(command: &Command) -> bool
     ensures { result ≡ runs_today command.now }
 {
     !matches!(command, Command::Sim { .. })
+}
+
+/// Whether the command's report is made whole before it is written. A stream is written block by block.
+pub fn is_whole(command: &Command) -> bool
+    ensures { result ≡ is_whole command.now }
+{
+    !matches!(command, Command::Stream { .. })
 }
 
 /// Whether the command is about a script, which it reads from the source.

@@ -3,7 +3,7 @@
 ghost use Rattle.std.specs.Prelude.{◌≡◌, ℕ, ◌≤◌, List, IsTrue, IsFalse, IfErr, IfOk, length};
 ghost use Rattle.dotmix.specs.Draws.{most_rounds};
 ghost use Rattle.ped_words.specs.Commands.{IsLawful};
-ghost use Rattle.engine.specs.Commands.{IsWhole, Reports, Takes, runs_today, takes_script};
+ghost use Rattle.engine.specs.Commands.{Reports, Takes, is_whole, runs_today, takes_script};
 ghost use Rattle.engine.specs.Promise.{most_bytes};
 ghost use Rattle.engine.specs.Refusal.{IsMisfit};
 ghost use Rattle.engine.specs.Report.{hash_text, said, shown};
@@ -54,12 +54,7 @@ impl Report {
 }
 
 // The lines of a pedigree's dot product, and of its draw in so many rounds.
-fn hash_report(
-    alloc: Global,
-    gamma: &Gamma,
-    at: &Pedigree,
-    rounds: u32,
-) -> Result<Report, Memory>
+fn hash_report(alloc: Global, gamma: &Gamma, at: &Pedigree, rounds: u32) -> Result<Report, Memory>
     requires within { length at.now ≤ length gamma.now }
     requires rounds { rounds ≤ most_rounds }
     ensures { IfOk result (λ report. shown report ≡ said (hash_text gamma.now at.now rounds)) }
@@ -99,7 +94,7 @@ pub fn script_report(alloc: Global, command: Command, bytes: &[u8]) -> Result<Re
 /// What a command writes that is about no script, and whose report is made whole.
 pub fn alone_report(alloc: Global, command: Command) -> Result<Report, Memory>
     requires alone { IsFalse (takes_script command) }
-    requires whole { IsWhole command }
+    requires whole { IsTrue (is_whole command) }
     requires lawful { IsLawful command }
     ensures { IfOk result (λ report. (bytes : List ℕ) → Reports command bytes (shown report)) }
 {

@@ -31,7 +31,7 @@ pub(super) fn plan(rt: &(impl Abort + AllocGlobal), text: &str) -> Result<Arc<Pl
         depth: 2,
         budget: 100,
     };
-    let plan = Plan::new(checked, gamma, limits, Show::Plain);
+    let plan = Plan::new(checked, gamma, limits, Show::Plain, 4);
     Ok(Arc::new(alloc, plan)?)
 }
 

@@ -4,12 +4,12 @@ use Rattle.draw_lines.specs.Lines.{CanDraw, lines_of}
 use Rattle.draw_lines.proofs.write.write_blocks.Given as goal
 
 -- The first lines were written, and the stream goes on with the others.
-abbrev pub invariant-blocks : goal.invariant-blocks
-invariant-blocks g l = record {
+abbrev pub invariant-writing : goal.invariant-writing
+invariant-writing g l = record {
   can : CanDraw l.stream l.left;
   written : (front : List ℕ) × Appends (g.K.Sink.written l.initial.out) (g.K.Sink.written l.out) front × (lines_of l.initial.stream l.count ≡ front ++ lines_of l.stream l.left);
   later : g.K.Sink.faults l.initial.out ≤ g.K.Sink.faults l.out;
 }
 
-abbrev pub decreases-blocks : goal.decreases-blocks
-decreases-blocks g l = l.left
+abbrev pub decreases-writing : goal.decreases-writing
+decreases-writing g l = l.left

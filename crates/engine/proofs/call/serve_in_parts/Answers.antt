@@ -1,0 +1,16 @@
+use Rattle.std.proofs.Common.{◌≡◌, rules}
+use Rattle.ped_words.specs.declared.command.Command.{Command}
+use Rattle.engine.specs.Promise.{watched}
+use Rattle.engine.proofs.CallLemmas.{can_draw, stream_answers}
+use Rattle.engine.proofs.call.serve_in_parts.Goals as goal
+
+pub serve_stream-requires : goal.serve_stream-requires
+serve_stream-requires g c =
+    can_draw c.args.command c.in-Stream.gamma c.in-Stream.at c.in-Stream.count c.in-Stream.rounds c.in-Stream.below c.in-Stream.is c.requires.lawful
+
+pub returns-in-Stream-clause-answers : goal.returns-in-Stream-clause-answers
+returns-in-Stream-clause-answers g c = λ source.
+    stream_answers c.args.command c.in-Stream.gamma c.in-Stream.at c.in-Stream.count c.in-Stream.rounds c.in-Stream.below c.in-Stream.is source
+    (watched g.K.Sink.written g.K.Sink.faults c.args.out.now c.serve_stream.new.out)
+    (watched g.E.Sink.written g.E.Sink.faults c.args.err.now c.serve_stream.new.err)
+    c.serve_stream.result c.serve_stream.ensures.delivered
