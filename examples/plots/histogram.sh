@@ -1,0 +1,28 @@
+#!/bin/sh
+# Draws how often pi.ped estimates what, over many seeds: histogram.sh PICTURE [SEEDS]
+# PICTURE ends in .svg or .png. SEEDS is how many seeds from 1 on, by default 1000. PEDRUN names the program, by default pedrun on the PATH.
+set -u
+
+fail() {
+  echo "histogram.sh: $2" >&2
+  exit "$1"
+}
+
+case ${1-} in
+  *.svg) terminal=svg font=12 ;;
+  *.png) terminal=pngcairo font=10 ;;
+  *) fail 2 'usage: histogram.sh PICTURE [SEEDS], with a PICTURE that ends in .svg or .png' ;;
+esac
+command -v gnuplot > /dev/null || fail 127 'there is no command gnuplot'
+here=$(cd "$(dirname "$0")" && pwd) || exit
+seeds=${2:-1000}
+trap 'rm -rf "${room-}"' EXIT
+room=$(mktemp -d) || exit
+
+"$here/../cluster/seeds.sh" "$here/../pi.ped" 1 "$seeds" > "$room/runs" || exit
+# The third line of a run is pi times 10000.
+awk '/^seed / { seed = $2; line = 0 } { line++ } line == 3 { print seed, $1 / 10000 }' "$room/runs" > "$room/estimates"
+[ "$(wc -l < "$room/estimates")" -eq "$seeds" ] || fail 1 'a run printed something else than two numbers'
+gnuplot -e "data = '$room/estimates'; seeds = $seeds" -e "set terminal $terminal size 640,400 background rgb 'white' font 'sans-serif,$font'" \
+  "$here/histogram.gnuplot" > "$room/picture" || fail 5 'gnuplot failed'
+cp "$room/picture" "$1"

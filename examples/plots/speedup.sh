@@ -1,0 +1,38 @@
+#!/bin/sh
+# Draws how much faster more workers are, from the table that bench/run prints: speedup.sh MEASURED PICTURE
+# MEASURED is what bench/run printed, or docs/PERFORMANCE.md, which has such a table. PICTURE ends in .svg or .png. Scripts that take less than a tenth of a second are left out: they are over before all workers have begun.
+set -u
+
+fail() {
+  echo "speedup.sh: $2" >&2
+  exit "$1"
+}
+
+case ${2-} in
+  *.svg) terminal=svg font=12 ;;
+  *.png) terminal=pngcairo font=10 ;;
+  *) fail 2 'usage: speedup.sh MEASURED PICTURE, with a PICTURE that ends in .svg or .png' ;;
+esac
+command -v gnuplot > /dev/null || fail 127 'there is no command gnuplot'
+[ -f "$1" ] || fail 4 "there is no file $1"
+here=$(cd "$(dirname "$0")" && pwd) || exit
+trap 'rm -rf "${room-}"' EXIT
+room=$(mktemp -d) || exit
+
+# Of each script a block: its name, and lines of a number of workers and the time of serial over theirs. The fourth to the sixth cell of a
+# row are those of 1, 2 and 4 workers, and a cell begins with its seconds.
+awk -F ' *[|] *' '
+  /^\| Script \| serial / { inside = 1; for (i = 4; i <= 6; i++) { split($i, words, " "); workers[i] = $i ~ /^run, / ? words[2] : words[1] } }
+  !/^\|/ { inside = 0 }
+  inside && $3 + 0 >= 0.1 && $2 !~ /^(plain|set|draw)$/ {
+    if (blocks++) printf "\n\n"
+    print "\"" $2 "\""
+    for (i = 4; i <= 6; i++) { split($3, serial, " "); split($i, parallel, " "); print workers[i], serial[1] / parallel[1] }
+  }' "$1" > "$room/curves"
+blocks=$(grep -c '^"' "$room/curves")
+[ "$blocks" -gt 0 ] || fail 1 "$1 has no table of bench/run with a script that takes a tenth of a second"
+# The machine, its processors, its system and the day.
+machine=$(grep -m 1 ' processors, ' "$1" | cut -d ';' -f 1,2 | sed "s/[\"'\\]//g")
+gnuplot -e "data = '$room/curves'; blocks = $blocks; machine = '$machine'" \
+  -e "set terminal $terminal size 640,440 background rgb 'white' font 'sans-serif,$font'" "$here/speedup.gnuplot" > "$room/picture" || fail 5 'gnuplot failed'
+cp "$room/picture" "$2"
