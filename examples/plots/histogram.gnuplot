@@ -10,7 +10,7 @@ set title sprintf("Pi by %d random points, estimated by %d seeds", points, seeds
 set xlabel "Estimate of pi (one run of pi.ped)"
 set ylabel sprintf("Seeds in a bin %.3f wide", width)
 set xrange [pi - 4.2 * deviation : pi + 4.2 * deviation]
-set yrange [0 : expected(pi) * 1.3]
+set yrange [0 : expected(pi) * 1.3 < *]
 set xtics 0.02 out nomirror format "%.2f"
 set ytics out nomirror
 set border 3
