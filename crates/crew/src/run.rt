@@ -3,10 +3,11 @@ ghost use Rattle.std.specs.Prelude.{◌≡◌, ◌≤◌, IfOk, true};
 ghost use Rattle.std.specs.Arc.{arc_value};
 ghost use Rattle.serial_meaning.specs.Eval.{main_origin};
 ghost use Rattle.serial_meaning.specs.Laws.{IsOriginOf};
+ghost use Rattle.serial_meaning.specs.Render.{IsWhole};
 ghost use Rattle.strand_meaning.specs.Laws.{IsFaultOf};
 
 use crate::gate::Gate;
-use crate::hand::{Hand, Turn};
+use crate::hand::{Hand, Looked, Turn};
 use crate::hiring::Crew;
 use crate::memory::Memory;
 use crate::root::Root;
@@ -19,8 +20,27 @@ use std::alloc::Global;
 use std::sync::{Arc, Wait};
 use std::thread::Threads;
 
-/// Makes turns until a hand has ended the run, or has failed for want of memory. Behind a turn that left a task waiting, its children may
-/// have answered already: then it is the next one, and else it stays in the ring.
+/// Looks at the newest waiting task, since its last child may have answered just now. Says whether the hand goes on.
+///
+/// Where the hand cuts all that it takes up, it would only take further tasks from those that hand them out, and leave them waiting too. So
+/// it sleeps in between.
+fn look_on<R: Wait>(
+    rt: &R,
+    alloc: Global,
+    naps: &mut Naps,
+    signals: &Signals,
+    hand: &mut Hand,
+    parks: bool,
+) {
+    match hand.look_newest(alloc) {
+        Ok(Looked::Waits) if parks && hand.cuts() => naps.wait(rt, signals, 0),
+        Ok(_) => {}
+        Err(_) => signals.stop(),
+    }
+}
+
+/// Makes turns until a hand has ended the run, or has failed for want of memory. Behind a turn that left a task waiting or that answered
+/// one, all children of the newest waiting task may have answered: then it is the next one, and else it stays in the ring.
 fn work<R: Wait, G: Gate>(
     rt: &R,
     alloc: Global,
@@ -33,21 +53,18 @@ fn work<R: Wait, G: Gate>(
         if signals.is_stopped() {
             break;
         }
-        match hand.turn(alloc, gate) {
-            Ok(Turn::Ran) => {
-                naps.end();
-                if hand.look_newest(alloc).is_err() {
-                    signals.stop();
-                }
-            }
+        let turn = hand.turn(alloc, gate);
+        if !hand.cuts() && !matches!(turn, Ok(Turn::Waiting | Turn::Idle)) {
+            naps.end();
+        }
+        match turn {
+            Ok(Turn::Ran) => look_on(rt, alloc, &mut naps, signals, hand, true),
+            Ok(Turn::Answered(_)) => look_on(rt, alloc, &mut naps, signals, hand, false),
             Ok(Turn::Waiting) => naps.wait(rt, signals, hand.parked()),
             Ok(Turn::Idle) => naps.idle(rt, signals),
-            Ok(Turn::Stole) => {
-                naps.end();
-                signals.wake_one();
-            }
+            Ok(Turn::Stole) => signals.wake_one(),
             Ok(Turn::Ended(_)) => signals.end(),
-            Ok(_) => naps.end(),
+            Ok(_) => {}
             Err(_) => signals.stop(),
         }
     }
@@ -68,12 +85,14 @@ fn wait_ready<R: Wait>(rt: &R, root: &mut Root)
     unreachable!()
 }
 
-/// Where it is the answer of an origin of the plan, no fault but one of the plan's ends it.
+/// Where it is the answer of an origin of the plan and no cut, no fault but one of the plan's ends it.
 fn ends_within_faults(answer: &Answer)
-    requires { IsOriginOf answer.now.plan answer.now.origin }
+    requires known { IsOriginOf answer.now.plan answer.now.origin }
+    requires whole { IsWhole answer.now.outcome }
     ensures { IsFaultOf answer.now.plan answer.now.outcome }
 {
     laws::origins_end_within_faults();
+    laws::whole_answers_are_evals();
     let _outcome = &answer.outcome;
 }
 
