@@ -41,7 +41,7 @@ fn known(alloc: Global, plan: &Arc<Plan>, fault: &Fault) -> Option<Box<Known>>
 
 /// Whether the fault stands before this one, if there is one.
 fn is_news(front: Option<&Known>, fault: &Fault) -> bool
-    ensures { IsTrue result → IfSome front (λ f. IsBefore fault.now.at f.now.fault.at) }
+    ensures { IsTrue result → IfSome front.entry (λ f. IsBefore fault.now.at f.now.fault.at) }
 {
     match front {
         Some(front) => fault.at.before(&front.fault.at),
@@ -97,10 +97,10 @@ impl Faults {
     /// Reads on.
     fn read_on(&mut self) {
         for i in self.read..self.cells.len() {
-            if self.cells[i].get().is_none() {
-                return;
+            match self.cells.get(i) {
+                Some(cell) if cell.get().is_some() => self.read = i + 1,
+                _ => return,
             }
-            self.read = i + 1;
         }
     }
 
@@ -108,11 +108,14 @@ impl Faults {
     fn offer(&mut self, known: Box<Known>) {
         let mut known = known;
         for i in self.read..self.cells.len() {
+            let Some(cell) = self.cells.get(i) else {
+                return;
+            };
             let front = self.least();
             if !is_news(front, &known.fault) {
                 return;
             }
-            let Some(back) = set(&self.cells[i], front, known) else {
+            let Some(back) = set(cell, front, known) else {
                 return;
             };
             known = back;

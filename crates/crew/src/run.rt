@@ -20,27 +20,22 @@ use std::alloc::Global;
 use std::sync::{Arc, Wait};
 use std::thread::Threads;
 
-/// Looks at the newest waiting task, since its last child may have answered just now. Says whether the hand goes on.
-///
-/// Where the hand cuts all that it takes up, it would only take further tasks from those that hand them out, and leave them waiting too. So
-/// it sleeps in between.
-fn look_on<R: Wait>(
-    rt: &R,
-    alloc: Global,
-    naps: &mut Naps,
-    signals: &Signals,
-    hand: &mut Hand,
-    parks: bool,
-) {
+/// Looks at the newest waiting task, since its last child may have answered in the turn before. Says whether it still waits.
+fn look_on(alloc: Global, signals: &Signals, hand: &mut Hand) -> bool {
     match hand.look_newest(alloc) {
-        Ok(Looked::Waits) if parks && hand.cuts() => naps.wait(rt, signals, 0),
-        Ok(_) => {}
-        Err(_) => signals.stop(),
+        Ok(looked) => matches!(looked, Looked::Waits),
+        Err(_) => {
+            signals.stop();
+            false
+        }
     }
 }
 
-/// Makes turns until a hand has ended the run, or has failed for want of memory. Behind a turn that left a task waiting or that answered
-/// one, all children of the newest waiting task may have answered: then it is the next one, and else it stays in the ring.
+/// Makes turns until a hand has ended the run, or has failed for want of memory. Behind a turn that left a task waiting or answered one, all
+/// children of the newest waiting task may have answered: then it is the next one, and else it stays in the ring.
+///
+/// Where all tasks that a hand begins are cut, it sleeps behind each that it leaves waiting, and its steals wake nobody: the hands from
+/// which it steals come to the ends of their tasks faster by themselves.
 fn work<R: Wait, G: Gate>(
     rt: &R,
     alloc: Global,
@@ -54,15 +49,22 @@ fn work<R: Wait, G: Gate>(
             break;
         }
         let turn = hand.turn(alloc, gate);
-        if !hand.cuts() && !matches!(turn, Ok(Turn::Waiting | Turn::Idle)) {
+        let cuts = hand.cuts();
+        if !cuts && !matches!(turn, Ok(Turn::Waiting | Turn::Idle)) {
             naps.end();
         }
         match turn {
-            Ok(Turn::Ran) => look_on(rt, alloc, &mut naps, signals, hand, true),
-            Ok(Turn::Answered(_)) => look_on(rt, alloc, &mut naps, signals, hand, false),
+            Ok(Turn::Ran) => {
+                if look_on(alloc, signals, hand) && cuts {
+                    naps.wait(rt, signals, 0);
+                }
+            }
+            Ok(Turn::Answered(_)) => {
+                look_on(alloc, signals, hand);
+            }
             Ok(Turn::Waiting) => naps.wait(rt, signals, hand.parked()),
             Ok(Turn::Idle) => naps.idle(rt, signals),
-            Ok(Turn::Stole) => signals.wake_one(),
+            Ok(Turn::Stole) if !cuts => signals.wake_one(),
             Ok(Turn::Ended(_)) => signals.end(),
             Ok(_) => {}
             Err(_) => signals.stop(),

@@ -4,7 +4,8 @@ use Rattle.serial_meaning.specs.Plan.{PlanView}
 use Rattle.serial_meaning.specs.Eval.{eval, elision, main_origin}
 use Rattle.serial_meaning.specs.Laws.{IsOriginOf, Main}
 use Rattle.serial_meaning.specs.Answer.{AnswerView, IsAnswer, IsEval, outcome_of}
-use Rattle.serial_meaning.specs.Render.{answer_text}
+use Rattle.serial_meaning.specs.Cuts.{WholeAnswersAreEvals}
+use Rattle.serial_meaning.specs.Render.{IsWhole, answer_text}
 use Rattle.serial_meaning.specs.declared.value.Value.{Value}
 use Rattle.serial_meaning.specs.declared.event.Fault.{Fault}
 use Rattle.ped_words.specs.declared.command.Settings.{Settings}
@@ -12,17 +13,7 @@ use Rattle.strand_meaning.specs.Strands.{strand_at}
 use Rattle.engine.specs.declared.refusal.Refusal.{Refusal}
 use Rattle.engine.specs.declared.report.Report as report
 use Rattle.engine.specs.Report.{IsPlanOf, IsReplayOf, ending_of, found_report, outcome_ending, run_report, shown}
-use Rattle.serial_meaning.specs.declared.event.Event.{Event}
 use Rattle.serial_meaning.specs.declared.origin.Origin.{Origin}
-use Rattle.serial_meaning.specs.declared.answer.Outcome.{Outcome}
-use Rattle.serial_meaning.specs.declared.answer.Outcome.TheVariants as outcome
-
--- An answer that wasn't cut is its origin's evaluation.
-evaluated : (plan : PlanView) (origin : Origin) (out : List Event) (ended : Outcome) → IsAnswer plan origin out ended → IsEval plan origin out ended
-evaluated plan origin out (outcome.Value v) is = is
-evaluated plan origin out (outcome.Values vs) is = is
-evaluated plan origin out (outcome.Fault f) is = is
-evaluated plan origin out (outcome.Cut f) is = absurd is
 
 ends_so : (plan : PlanView) (e : Result (List Value) Fault) → outcome_ending (outcome_of (main_origin plan) e) ≡ ending_of e
 ends_so plan (Ok values) = refl
@@ -33,9 +24,9 @@ pub main_is_origin : (plan seen : PlanView) (origin : Origin) → seen ≡ plan 
 main_is_origin plan seen origin same main = subst (IsOriginOf plan) (sym (main ∙ ap main_origin same)) Main
 
 -- the answer of main's origin under a plan
-module _ (a : AnswerView) (plan : PlanView) (is : IsAnswer a.plan a.origin a.out a.outcome) (same : a.plan ≡ plan) (main : a.origin ≡ main_origin plan) where
+module _ (a : AnswerView) (plan : PlanView) (evals : WholeAnswersAreEvals) (is : IsAnswer a.plan a.origin a.out a.outcome) (uncut : IsWhole a.outcome) (same : a.plan ≡ plan) (main : a.origin ≡ main_origin plan) where
   whole : IsEval a.plan a.origin a.out a.outcome
-  whole = evaluated a.plan a.origin a.out a.outcome is
+  whole = evals a.plan a.origin a.out a.outcome is uncut
 
   run : eval a.plan a.origin ≡ elision plan
   run = rw (same, main) refl

@@ -20,7 +20,7 @@ use ped_path::Pedigree;
 use ped_words::Settings;
 use replay::{ReplayError, replay};
 use script_check::Checked;
-use serial_meaning::{Answer, Memory, Outcome, Plan, Strand, render_run, render_strand};
+use serial_meaning::{Answer, Memory, Outcome, Plan, Strand, laws, render_run, render_strand};
 use std::alloc::Global;
 use std::sync::{Arc, Wait};
 use std::thread::Threads;
@@ -63,6 +63,7 @@ fn answer_report(alloc: Global, answer: &Answer) -> Result<Report, Memory>
     requires whole { IsWhole answer.now.outcome }
     ensures { IfOk result (λ report. shown report ≡ run_report answer.now.plan) }
 {
+    laws::whole_answers_are_evals();
     let output = render_run(alloc, answer)?;
     let ending = ending_for(&answer.outcome);
     Ok(Report { output, ending })
