@@ -1,5 +1,5 @@
 -- A task that takes its children's answers, of which some may be cuts.
-use Rattle.std.proofs.Common.{◌≡◌, ℕ, Bool, true, false, ◌||◌, List, [], ◌∷◌, ◌++◌, Option, Some, None, Result, Ok, Err, length, refl, sym, ap, ◌∙◌, subst, arith}
+use Rattle.std.proofs.Common.{◌≡◌, Bool, true, false, ◌||◌, List, [], ◌∷◌, Option, Some, None, Result, length, refl, sym, ap, ◌∙◌, subst, arith}
 use Rattle.std.proofs.lemmas.Bool.{true≢false}
 use Rattle.serial_meaning.specs.Answer.{AnswerView, AnswerTag, IsAnswer}
 use Rattle.serial_meaning.specs.Eval.{Evaluation, eval}
@@ -16,13 +16,13 @@ use Rattle.strand_meaning.specs.Laws.{AnswersAreEvaluations}
 use Rattle.strand_meaning.specs.Machine.{Half}
 use Rattle.strand_meaning.specs.Pieces.{Part, Pieces, heard, heard_all}
 use Rattle.strand_meaning.specs.Sound.{IsTask}
-use Rattle.strand_meaning.specs.Task.{Task, takes, more_values}
+use Rattle.strand_meaning.specs.Task.{takes, more_values}
 use Rattle.strand_machine.specs.Family.{FamilyView, tag, tags, origins}
-use Rattle.strand_machine.specs.Going.{AreSaid, BecomesWork, EndsShort, IsAnswered, IsShort, Puts, Takes, TakesAnswers, end_of, ended_of, ending_of, meanings, pieces_of, with_stage}
+use Rattle.strand_machine.specs.Going.{AreSaid, BecomesWork, EndsShort, IsShort, Puts, Takes, TakesAnswers, end_of, ended_of, ending_of, meanings, pieces_of, with_stage}
 use Rattle.strand_machine.specs.Parts.{awaited, part_of, parts_of, place_of}
 use Rattle.strand_machine.specs.declared.place.Place.{Place}
 use Rattle.strand_machine.specs.declared.place.Place.TheVariants as place
-use Rattle.strand_machine.specs.Stops.{IsCutOn, answer_tags, any_cut, is_cut, told_with}
+use Rattle.strand_machine.specs.Stops.{IsCutOn, WentOn, answer_tags, any_cut, is_cut, told_with, view_on, went}
 use Rattle.strand_machine.specs.Tasks.{TaskView, IsCutShort, task_of, view_of, work_of}
 use Rattle.strand_machine.specs.declared.body.Body.{Body}
 use Rattle.strand_machine.specs.declared.going.Going.{Going}
@@ -128,25 +128,25 @@ answers-of plan (p ∷ ps) (a ∷ answers) said e =
     let same : tag a.plan a.origin ≡ tag plan p.child = cc in
     (ap (λ (t : AnswerTag). t.plan) same, ap (λ (t : AnswerTag). t.origin) same, said.0, answers-of plan ps answers said.1 (cc))
 
--- an end comes of a cut
-ends-some : (o : Option Outcome) (answers : List AnswerView) → any_cut answers ≡ true → (ended : Outcome) × (ended_after o answers ≡ Some ended)
-ends-some o [] cut = absurd (true≢false (sym cut))
-ends-some (Some ended) (a ∷ answers) cut = stays (a ∷ answers)
-  where
-    stays : (xs : List AnswerView) → (other : Outcome) × (ended_after (Some ended) xs ≡ Some other)
-    stays [] = (ended, refl)
-    stays (x ∷ xs) = stays xs
-ends-some None (a ∷ answers) cut = by_outcome a.outcome cut
-  where
-    there : (f : Outcome) (xs : List AnswerView) → (other : Outcome) × (ended_after (Some f) xs ≡ Some other)
-    there f [] = (f, refl)
-    there f (x ∷ xs) = there f xs
+-- an end stays, and one comes of a cut
 
-    by_outcome : (o : Outcome) → (is_cut o || any_cut answers) ≡ true → (other : Outcome) × (ended_after (or_ends None o) answers ≡ Some other)
-    by_outcome (outcome.Value v) c = ends-some None answers c
-    by_outcome (outcome.Values vs) c = ends-some None answers c
-    by_outcome (outcome.Fault f) c = there (outcome.Fault f) answers
-    by_outcome (outcome.Cut f) c = there (outcome.Cut f) answers
+abbrev EndsAfter : Option Outcome → List AnswerView → Type 0
+EndsAfter o answers = (ended : Outcome) × (ended_after o answers ≡ Some ended)
+
+end-stays : (ended : Outcome) (answers : List AnswerView) → EndsAfter (Some ended) answers
+end-stays ended [] = (ended, refl)
+end-stays ended (a ∷ answers) = end-stays ended answers
+
+ends-next : (o : Outcome) (answers : List AnswerView) → (any_cut answers ≡ true → EndsAfter None answers) → (is_cut o || any_cut answers) ≡ true → EndsAfter (or_ends None o) answers
+ends-next (outcome.Value v) answers later cut = later cut
+ends-next (outcome.Values vs) answers later cut = later cut
+ends-next (outcome.Fault f) answers later cut = end-stays (outcome.Fault f) answers
+ends-next (outcome.Cut f) answers later cut = end-stays (outcome.Cut f) answers
+
+ends-some : (o : Option Outcome) (answers : List AnswerView) → any_cut answers ≡ true → EndsAfter o answers
+ends-some o [] cut = absurd (true≢false (sym cut))
+ends-some (Some ended) (a ∷ answers) cut = end-stays ended answers
+ends-some None (a ∷ answers) cut = ends-next a.outcome answers (ends-some None answers) cut
 
 fault-first : (f : Option Fault) → end_of f false ≡ by_fault f
 fault-first None = refl
@@ -157,11 +157,22 @@ pub own-children : (b : Body) (told : List Event) (fault : Option Fault) (os : L
 own-children b told fault os bs ts view same e =
     ap origins e ∙ origins-tags b.family.plan (awaited b.pieces.handed) ∙ ap (λ (p : Pieces). awaited p.handed) (sym view) ∙ awaited_parts os bs same
 
+pub went-whole : (answers : List AnswerView) (t next : TaskView) → any_cut answers ≡ false → next ≡ view_on t → WentOn answers t next
+went-whole answers t next whole h = subst (λ (cut : Bool). went cut answers t next) (sym whole) h
+
+pub went-short : (answers : List AnswerView) (t next : TaskView) → any_cut answers ≡ true → IsCutOn answers t next × (next.loads ≡ t.loads) → WentOn answers t next
+went-short answers t next cut h = subst (λ (c : Bool). went c answers t next) (sym cut) h
+
 -- What is left of a task that took a cut
 
 module _ (b : Body) (w : Work) (told : List Event) (fault : Option Fault) (os : List Origin) (bs : List Behind) (answers : List AnswerView) (after : Going) where
   abbrev begun : Going
   begun = record { told = told; fault = fault; values = b.values; work = w; cut = false; by_cut = false }
+
+  -- where none is a cut they are the children's evaluations
+  pub takes-whole : AnswersAreEvaluations → TakesAnswers (parts_of (origins (answer_tags answers)) bs) answers begun after → any_cut answers ≡ false →
+      Takes (parts_of (origins (answer_tags answers)) bs) (meanings (answer_tags answers)) begun after
+  takes-whole law h whole = subst (λ (es : List Evaluation). Takes (parts_of (origins (answer_tags answers)) bs) es begun after) (whole-answers law answers h.said whole) h.takes
 
   module _ (view : ◌≡◌ {A = Pieces} (record { told = told; fault = fault; handed = parts_of os bs }) b.pieces) (children : origins (answer_tags answers) ≡ os)
       (h : TakesAnswers (parts_of (origins (answer_tags answers)) bs) answers begun after) where

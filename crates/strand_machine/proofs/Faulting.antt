@@ -84,6 +84,9 @@ faulted-answer t is f h =
 pub faulted-known : (t : Task) → IsTask t → (f : Fault) → t.pieces.fault ≡ Some f → IsFaultOf t.plan (outcome.Fault f)
 faulted-known t is f h = subst (λ (q : Evaluation). EndsWithin (faults t.plan) q.ending) (sym (faulted-same t is f h)) (origins_end_within_faults t.plan t.origin is.known)
 
+pub answers-by : (b : Body) (w : Work) (told : List Event) (f : Fault) → IsSound b w → told ≡ b.pieces.told → b.pieces.fault ≡ Some f → IsEval b.family.plan b.family.origin told (outcome.Fault f)
+answers-by b w told f sound same h = subst (λ (es : List Event). IsEval b.family.plan b.family.origin es (outcome.Fault f)) (sym same) (faulted-answer (task_of b w) sound.task f h)
+
 -- The call
 
 pub tags-with : (xs ys given : List AnswerView) (a : AnswerView) (ts : List AnswerTag) → ys ≡ xs ++ a ∷ [] → xs ≡ given → answer_tags given ++ tag a.plan a.origin ∷ [] ≡ ts → answer_tags ys ≡ ts
@@ -94,24 +97,24 @@ pub view-err : (plan : PlanView) (o : Origin) (out : List Event) (ended : Outcom
 view-err plan o out ended a view is h =
     let P : AnswerView → Type 0 = λ b. is_fault b.outcome ≡ true → IsErr (eval b.plan b.origin).ending in subst P view (answers-err plan o out ended is) h
 
+fault-whole : (o : Outcome) → is_fault o ≡ true → (is_cut o || false) ≡ false
+fault-whole (outcome.Value v) h = refl
+fault-whole (outcome.Values vs) h = refl
+fault-whole (outcome.Fault f) h = refl
+fault-whole (outcome.Cut f) h = absurd (true≢false (sym h))
+
+or-both : (a b c : Bool) → (b ≡ false → c ≡ false) → (a || b) ≡ false → (a || c) ≡ false
+or-both true b c f h = absurd (true≢false h)
+or-both false b c f h = f h
+
 -- none of these is a cut either, where the last is a fault
-whole-more : (xs : List AnswerView) (a : AnswerView) → any_cut xs ≡ false → is_fault a.outcome ≡ true → any_cut (xs ++ a ∷ []) ≡ false
-whole-more [] a h f = by_outcome a.outcome f
-  where
-    by_outcome : (o : Outcome) → is_fault o ≡ true → (is_cut o || false) ≡ false
-    by_outcome (outcome.Value v) g = refl
-    by_outcome (outcome.Values vs) g = refl
-    by_outcome (outcome.Fault g) e = refl
-    by_outcome (outcome.Cut g) e = absurd (true≢false (sym e))
-whole-more (x ∷ xs) a h f = rest (is_cut x.outcome) h
-  where
-    rest : (b : Bool) → (b || any_cut xs) ≡ false → (b || any_cut (xs ++ a ∷ [])) ≡ false
-    rest true g = absurd (true≢false g)
-    rest false g = whole-more xs a g f
+whole-more : (xs : List AnswerView) (a : AnswerView) → is_fault a.outcome ≡ true → any_cut xs ≡ false → any_cut (xs ++ a ∷ []) ≡ false
+whole-more [] a f h = fault-whole a.outcome f
+whole-more (x ∷ xs) a f h = or-both (is_cut x.outcome) (any_cut xs) (any_cut (xs ++ a ∷ [])) (whole-more xs a f) h
 
 pub goes-whole : (xs ys given : List AnswerView) (a : AnswerView) (t next : TaskView) → ys ≡ xs ++ a ∷ [] → xs ≡ given → any_cut given ≡ false → is_fault a.outcome ≡ true → WentOn ys t next → next ≡ view_on t
 goes-whole xs ys given a t next e same whole f on =
-    let none : any_cut ys ≡ false = ap any_cut e ∙ whole-more xs a (ap any_cut same ∙ whole) f in subst (λ (b : Bool). went b ys t next) none on
+    let none : any_cut ys ≡ false = ap any_cut e ∙ whole-more xs a f (ap any_cut same ∙ whole) in subst (λ (b : Bool). went b ys t next) none on
 
 -- once its children's answers are taken, of which the last is a fault, there is one among a task's pieces
 pub not-none : (v begun after : TaskView) (ts : List AnswerTag) (t : AnswerTag) → begun ≡ v → after ≡ view_on begun → ts ++ t ∷ [] ≡ tags v.task.plan (awaited v.task.pieces.handed) →

@@ -12,9 +12,10 @@ use Rattle.serial_meaning.specs.declared.value.Value.{Value}
 use Rattle.serial_meaning.specs.declared.event.Event.{Event}
 use Rattle.serial_meaning.specs.declared.event.Fault.{Fault}
 use Rattle.serial_meaning.specs.declared.origin.Origin.{Origin}
+use Rattle.serial_meaning.specs.declared.answer.Outcome.{Outcome}
 use Rattle.strand_meaning.specs.Machine as machine
 use Rattle.strand_meaning.specs.Machine.{Half}
-use Rattle.strand_meaning.specs.Pieces.{Part, Pieces, heard, heard_all}
+use Rattle.strand_meaning.specs.Pieces.{Part, Pieces, heard_all}
 use Rattle.strand_meaning.specs.Laws.{AnswersKeepTasks}
 use Rattle.strand_meaning.specs.Rest.{evaluations}
 use Rattle.strand_meaning.specs.Sound.{IsTask}
@@ -22,12 +23,12 @@ use Rattle.strand_meaning.specs.Task as meaning
 use Rattle.strand_meaning.specs.Task.{Splits, Runs, Over, Task, changed, answered, with_values, joins, resumed, takes, takes_all, more_values, all_values, resumed_work, on, own_instance}
 use Rattle.strand_machine.specs.Family.{FamilyView, HasPassed, HasStopped, tags, origins}
 use Rattle.strand_machine.specs.Going.{BecomesStage, BecomesWork, Takes, IsAnswered, with_stage, pieces_of, meanings}
-use Rattle.strand_machine.specs.Parts.{awaited, part_of, parts_of, place_of}
+use Rattle.strand_machine.specs.Parts.{awaited, parts_of, place_of}
 use Rattle.strand_meaning.specs.Cuts.{AreAnswersOf}
-use Rattle.strand_machine.specs.Stops.{WentOn, answer_tags, any_cut, resumes, view_on, went}
+use Rattle.strand_machine.specs.Stops.{WentOn, any_cut, resumes, view_on, went}
 use Rattle.strand_moves.specs.Machines.{IsInstance, machine_of, path_of}
 use Rattle.strand_moves.specs.declared.instance.Instance.{Instance}
-use Rattle.strand_machine.specs.Tasks.{TaskView, stage_of, cut_of, work_of, task_of, view_of, StandsAt, WorksAt, AwaitsLast, IsSound}
+use Rattle.strand_machine.specs.Tasks.{TaskView, cut_of, work_of, task_of, view_of, AwaitsLast, IsSound}
 use Rattle.strand_machine.specs.declared.body.Body.{Body}
 use Rattle.strand_machine.specs.declared.going.Going.{Going}
 use Rattle.strand_machine.specs.declared.pieces.Behind.{Behind}
@@ -38,6 +39,7 @@ use Rattle.strand_machine.specs.declared.work.Stage.TheVariants as stage
 use Rattle.strand_machine.specs.declared.work.Work.{Work}
 use Rattle.strand_machine.specs.declared.work.Work.TheVariants as work
 use Rattle.strand_machine.proofs.Answering.{origins-tags, awaits-count, taken-length}
+use Rattle.strand_machine.proofs.Dispatch.{works-on}
 use Rattle.strand_machine.proofs.Handed.{awaited_parts}
 
 pub same-stage : (w : meaning.Work) → with_stage (λ s. s) w ≡ w
@@ -228,8 +230,12 @@ module _ (b : Body) (w : Work) (told : List Event) (fault : Option Fault) (os : 
       ∙ goes-on (task_of b w) begins after rest (ap (λ (p : Pieces). record p { handed = [] }) view) refl refl taken over
 
   pub goes-on-view : ◌≡◌ {A = Pieces} (record { told = told; fault = fault; handed = parts_of os bs }) b.pieces → length os ≡ length bs → ts ≡ tags b.family.plan (awaited b.pieces.handed) → new-os ≡ [] →
-      Takes (parts_of (origins ts) bs) (meanings ts) begins after → BecomesWork (resumed_work [] []) after.work rest → view_of next-body rest ≡ view_on (view_of b w)
-  goes-on-view view same are none h over = ap (λ (t : Task). record (view_of b w) { task = t }) (task-on view same are none h over)
+      Takes (parts_of (origins ts) bs) (meanings ts) begins after → BecomesWork (resumed_work [] []) after.work rest → IsAnswered b w →
+      view_of next-body rest ≡ view_on (view_of b w)
+  goes-on-view view same are none h over sound =
+      let plan = b.family.plan in
+      let uncut : cut_of rest ≡ cut_of w = works-on plan b.family.origin rest (over.works plan _ (h.work.works plan _ sound.works)) ∙ sym (works-on plan b.family.origin w sound.works) in
+      ap (λ (t : Task). record (view_of b w) { task = t; cut = cut_of rest }) (task-on view same are none h over) ∙ ap (λ (o : Option Outcome). record (view_on (view_of b w)) { cut = o }) uncut
 
   pub goes-on-sound : ◌≡◌ {A = Pieces} (record { told = told; fault = fault; handed = parts_of os bs }) b.pieces → length os ≡ length bs → ts ≡ tags b.family.plan (awaited b.pieces.handed) → new-os ≡ [] →
       Takes (parts_of (origins ts) bs) (meanings ts) begins after → BecomesWork (resumed_work [] []) after.work rest → AnswersKeepTasks → IsAnswered b w → IsSound next-body rest
@@ -289,7 +295,7 @@ taken-view b w g k ready loads e d t view =
 pub resumed-on : (b : Body) (w : Work) (g k : FamilyView) (ready : Bool) (loads : List ℕ) → g ≡ record b.family { ready = ready; loads = loads } → k ≡ record g { taken = k.taken } →
     (t next : TaskView) → view_of b w ≡ t → t.cut ≡ None → (answers : List AnswerView) → AreAnswersOf k.plan b.pieces.handed answers → WentOn answers (view_of (record b { family = k }) w) next → HasPassed b.family.loads g.loads →
     (xs : List AnswerView) × AreAnswersOf t.task.plan t.task.pieces.handed xs × resumes (any_cut xs) xs t next × HasPassed t.loads next.loads
-resumed-on b w g k ready loads e d t next view goes answers are on passed = (answers, answered, by_cut (any_cut answers) there)
+resumed-on b w g k ready loads e d t next view goes answers are went-on passed = (answers, answered, both.0, both.1)
   where
     plan : k.plan ≡ t.task.plan
     plan = ap (λ (f : FamilyView). f.plan) d ∙ ap (λ (f : FamilyView). f.plan) e ∙ ap (λ (v : TaskView). v.task.plan) view
@@ -298,7 +304,7 @@ resumed-on b w g k ready loads e d t next view goes answers are on passed = (ans
     answered = subst (λ (v : TaskView). AreAnswersOf t.task.plan v.task.pieces.handed answers) view (subst (λ (p : PlanView). AreAnswersOf p b.pieces.handed answers) plan are)
 
     there : went (any_cut answers) answers (record t { loads = g.loads }) next
-    there = subst (λ (v : TaskView). WentOn answers v next) (taken-view b w g k ready loads e d t view) on
+    there = subst (λ (v : TaskView). WentOn answers v next) (taken-view b w g k ready loads e d t view) went-on
 
     read : next.loads ≡ g.loads → HasPassed t.loads next.loads
     read same = subst (λ (l : List ℕ). HasPassed t.loads l) (sym same) (subst (λ (l : List ℕ). HasPassed l g.loads) (ap (λ (v : TaskView). v.loads) view) passed)
@@ -308,14 +314,20 @@ resumed-on b w g k ready loads e d t next view goes answers are on passed = (ans
       (ap (λ (v : TaskView). v.task) h, ap (λ (v : TaskView). v.children) h, ap (λ (v : TaskView). v.knows) h, ap (λ (v : TaskView). v.cut) h ∙ goes),
       read (ap (λ (v : TaskView). v.loads) h),
     )
-    by_cut true h = (record {
-      plan = h.0.plan;
-      origin = h.0.origin;
-      told = h.0.told;
-      handed = h.0.handed;
-      waits = h.0.waits;
-      advanced = h.0.advanced;
-      cut = h.0.cut;
-      children = h.0.children;
-      knows = h.0.knows;
-    }, read h.1)
+    by_cut true h = (
+      record {
+        plan = h.0.plan;
+        origin = h.0.origin;
+        told = h.0.told;
+        handed = h.0.handed;
+        waits = h.0.waits;
+        advanced = h.0.advanced;
+        cut = h.0.cut;
+        children = h.0.children;
+        knows = h.0.knows;
+      },
+      read h.1,
+    )
+
+    both : resumes (any_cut answers) answers t next × HasPassed t.loads next.loads
+    both = by_cut (any_cut answers) there

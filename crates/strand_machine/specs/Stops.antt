@@ -33,8 +33,8 @@ abbrev pub step_of : Step → meaning.Step
 step_of (step.Passes next) = meaning.Passes next.task
 step_of (step.Stops stop) = meaning.Stops (stop_of stop)
 
--- A child is a fresh task of the plan, which knows of the loops on its path where the task does, and its origin is the last of those that the rest handed out. An answer is the origin's, and so is
--- the give.
+-- A child is a fresh task of the plan, which knows of the loops on its path where the task does, and its origin is the last of those that
+-- the rest handed out. An answer is the origin's, and so is the give.
 abbrev pub Keeps : TaskView → Stop → Type 0
 Keeps t (stop.Spawn child rest) =
     (child ≡ fresh_with t.knows t.task.plan child.task.origin) × (rest.children ≡ t.children ++ child.task.origin ∷ []) × (rest.loads ≡ t.loads)

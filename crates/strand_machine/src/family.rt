@@ -11,7 +11,8 @@ use std::alloc::Global;
 use std::marker::Model;
 use std::sync::Arc;
 
-/// What ties a task to others: its plan and origin, what is known of the loops on the origin's path, the give by which it answers its parent, and the join of its children.
+/// What ties a task to others: its plan and origin, what is known of the loops on the origin's path, the give by which it answers its
+/// parent, and the join of its children.
 #[derive(Drop)]
 pub(crate) struct Family {
     plan: Arc<Plan>,
@@ -105,10 +106,10 @@ impl Family {
     }
 
     /// Whether it is known that the fault stands before the origin's path, and before the path of each loop on it.
-    pub fn stands_behind(&self, by: &Fault) -> bool
+    pub fn stands_after(&self, by: &Fault) -> bool
         ensures { IsTrue result ↔ (IsTrue self.now.knows × StandsBefore self.now.plan self.now.origin by.now) }
     {
-        self.loops.stand_behind(&self.origin, by)
+        self.loops.stand_after(&self.origin, by)
     }
 
     pub fn origin(&self) -> &Origin

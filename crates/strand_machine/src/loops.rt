@@ -99,7 +99,7 @@ impl Loops {
 
     /// Whether it is known that the fault stands before the origin's path, and before the path of each loop that the origin is a part of
     /// or below. What stands before the shortest one stands before all.
-    pub fn stand_behind(self, origin: &Origin, by: &Fault) -> bool
+    pub fn stand_after(self, origin: &Origin, by: &Fault) -> bool
         requires within { (n : _) → self ≡ Loops.First n → n ≤ length (path_of origin.now) }
         ensures { (plan : PlanView) → IsLoops plan origin.now self → (IsTrue result ↔ (IsTrue (knows_of self) × StandsBefore plan origin.now by.now)) }
     {

@@ -128,7 +128,7 @@ impl Task {
     pub fn may_cut(&self, by: &Fault) -> bool
         ensures { IsTrue result ↔ (IsTrue self.now.knows × StandsBefore self.now.task.plan self.now.task.origin by.now) }
     {
-        self.body.family.stands_behind(by)
+        self.body.family.stands_after(by)
     }
 
     /// Answers without having run: a fault of the plan stands before all that the task could do.

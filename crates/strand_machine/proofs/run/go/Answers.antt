@@ -1,3 +1,4 @@
+use Rattle.std.proofs.Common.{refl}
 use Rattle.strand_machine.specs.Tasks.{view_of}
 use Rattle.strand_machine.specs.declared.work.Stage.TheVariants as stage
 use Rattle.strand_machine.specs.declared.work.Work.TheVariants as work

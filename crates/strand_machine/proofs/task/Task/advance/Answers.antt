@@ -1,4 +1,3 @@
-use Rattle.std.proofs.Common.{◌∙◌}
 use Rattle.strand_machine.proofs.Advancing.{leads-start, is-task, run-leads, run-falls, run-stops, goes-on-uncut, advances-uncut}
 use Rattle.strand_machine.proofs.task.Task.advance.Goals as goal
 

@@ -1,9 +1,9 @@
 use Rattle.std.proofs.Common.{ap, length, ◌∙◌}
 use Rattle.strand_machine.proofs.Knowing.{first-stands, nowhere-stands, of-path, unknown-stands, within-path}
-use Rattle.strand_machine.proofs.loops.Loops.stand_behind.Goals as goal
+use Rattle.strand_machine.proofs.loops.Loops.stand_after.Goals as goal
 
 pub stands_before-requires : goal.stands_before-requires
-stands_before-requires c = within-path _ _ c.in-First.count c.path-path.ensures (c.requires c.in-First.count c.in-First.is)
+stands_before-requires c = within-path _ _ c.in-First.count c.path-path.ensures (c.requires.within c.in-First.count c.in-First.is)
 
 pub returns-in-First : goal.returns-in-First
 returns-in-First c = λ plan h.
