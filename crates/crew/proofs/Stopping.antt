@@ -104,7 +104,7 @@ waits_still t same h at = rw at.0 h
 pub record GivesOwn (t : TaskView) (answer : AnswerView) (give : AnswerTag) : Type 0 where
   pub plan : answer.plan ≡ t.task.plan
   pub origin : answer.origin ≡ t.task.origin
-  pub give : give ≡ tag t.task.plan t.task.origin
+  pub given : give ≡ tag t.task.plan t.task.origin
   pub known : IsByFaultOf t.task.plan answer.outcome
 
 by-fault : (plan : PlanView) (ended : Outcome) → IsFaultOf plan ended → IsByFaultOf plan ended
@@ -114,13 +114,13 @@ by-fault plan (outcome.Fault f) h = h
 by-fault plan (outcome.Cut f) h = absurd h
 
 gives-as : (c : Option Outcome) (t : TaskView) (answer : AnswerView) (give : AnswerTag) → advances c t (stop.Done answer give) → GivesOwn t answer give
-gives-as None t answer give at = record { plan = at.keeps.0; origin = at.keeps.1; give = at.keeps.2; known = by-fault t.task.plan answer.outcome at.known }
+gives-as None t answer give at = record { plan = at.keeps.0; origin = at.keeps.1; given = at.keeps.2; known = by-fault t.task.plan answer.outcome at.known }
 gives-as (Some ended) t answer give at =
     let e = at.is in
     record {
       plan = (cc);
       origin = (cc);
-      give = (cc);
+      given = (cc);
       known = subst (IsByFaultOf t.task.plan) (let o : ended ≡ answer.outcome = (cc) in o) at.known;
     }
 
@@ -129,7 +129,7 @@ gives t answer give at = gives-as t.cut t answer give at
 
 pub gives_its_own : (t : TaskView) (answer : AnswerView) (give : AnswerTag) → Advances t (stop.Done answer give) → tag answer.plan answer.origin ≡ give
 gives_its_own t answer give at =
-    let g = gives t answer give at in ap (λ (p : PlanView). tag p answer.origin) g.plan ∙ ap (tag t.task.plan) g.origin ∙ sym g.give
+    let g = gives t answer give at in ap (λ (p : PlanView). tag p answer.origin) g.plan ∙ ap (tag t.task.plan) g.origin ∙ sym g.given
 
 pub ends_by_its_plans : (t : TaskView) (answer : AnswerView) (give : AnswerTag) → Advances t (stop.Done answer give) → IsByFaultOf answer.plan answer.outcome
 ends_by_its_plans t answer give at = let g = gives t answer give at in subst (λ (p : PlanView). IsByFaultOf p answer.outcome) (sym g.plan) g.known

@@ -1,5 +1,6 @@
 -- A turn of a worker keeps its stack sound.
 use Rattle.std.proofs.Common.{◌≡◌, Bool, true, false, ◌||◌, List, [], ◌∷◌, ◌++◌, Option, Some, None, Result, Ok, Err, IfOk, append-nil, refl, sym, ap, ◌∙◌, subst}
+use Rattle.std.proofs.lemmas.Bool.{true≢false}
 use Rattle.serial_meaning.specs.Answer.{AnswerView, AnswerTag}
 use Rattle.serial_meaning.specs.Eval.{Evaluation, eval}
 use Rattle.serial_meaning.specs.Plan.{PlanView}
@@ -52,14 +53,22 @@ uncut plan (outcome.Values vs) h = refl
 uncut plan (outcome.Fault f) h = refl
 uncut plan (outcome.Cut f) h = absurd h
 
+or-first : (a b : Bool) → (a || b) ≡ false → a ≡ false
+or-first true b h = h
+or-first false b h = refl
+
+or-second : (a b : Bool) → (a || b) ≡ false → b ≡ false
+or-second true b h = absurd (true≢false h)
+or-second false b h = h
+
+neither : (a b : Bool) → a ≡ false → b ≡ false → (a || b) ≡ false
+neither a b g h = ap (λ c. c || b) g ∙ h
+
 pub more-uncut : (answers : List AnswerView) (a : AnswerView) → any_cut answers ≡ false → is_cut a.outcome ≡ false → any_cut (answers ++ a ∷ []) ≡ false
 more-uncut [] a whole h = ap (λ (b : Bool). b || false) h
-more-uncut (x ∷ answers) a whole h = either (is_cut x.outcome) refl
-  where
-    either : (b : Bool) → is_cut x.outcome ≡ b → any_cut (x ∷ (answers ++ a ∷ [])) ≡ false
-    either true e = absurd (let no : true ≡ false = sym (ap (λ (c : Bool). c || any_cut answers) e) ∙ whole in (cc))
-    either false e =
-        ap (λ (c : Bool). c || any_cut (answers ++ a ∷ [])) e ∙ more-uncut answers a (sym (ap (λ (c : Bool). c || any_cut answers) e) ∙ whole) h
+more-uncut (x ∷ answers) a whole h =
+    let cut = is_cut x.outcome in
+    neither cut (any_cut (answers ++ a ∷ [])) (or-first cut (any_cut answers) whole) (more-uncut answers a (or-second cut (any_cut answers) whole) h)
 
 -- A task that took no cut comes to its next stop.
 pub stopped : (t : TaskView) (s : stops.Stop) → t.cut ≡ None → Advances t s → IsStop t s

@@ -40,7 +40,6 @@ impl Root {
     }
 
     /// Takes the answer, which has to be there. It is no cut: nothing stands before main's path.
-    #[tactic(auto, using(crate::proofs::Rooted::only_one, crate::proofs::Rooted::is_whole))]
     pub fn take(self) -> Answer
         requires { self.ready ≡ true }
         ensures tag { self.tags ≡ tag result.plan result.origin ∷ [] }

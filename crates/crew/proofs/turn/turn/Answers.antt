@@ -13,8 +13,8 @@ returns-in_ok-push-in-Spawn c =
 
 pub returns-in_ok-task-in-Wait : goal.returns-in_ok-task-in-Wait
 returns-in_ok-task-in-Wait c =
-    went_up c.args.stack c.requires c.in-Wait.rest (stopped _ _ c.requires.top.goes_on (rw c.in-Wait.is at c.in_ok-stop.ensures)) _ _ c.of-top-in-Wait.ensures
-    (went_whole _ _ _ c.requires.top.whole c.in_ok-task-in-Wait.ensures)
+    went_up c.args.stack c.requires c.in-Wait.rest (stopped _ _ c.requires.top.goes_on (rw c.in-Wait.is at c.in_ok-stop.ensures)) _ c.in_ok-task-in-Wait.task c.of-top-in-Wait.ensures
+    (went_whole c.args.stack.top.answers c.in-Wait.rest c.in_ok-task-in-Wait.task c.requires.top.whole c.in_ok-task-in-Wait.ensures)
 
 pub end_all-requires-clause-known : goal.end_all-requires-clause-known
 end_all-requires-clause-known c = known_fault c.args.stack c.requires c.in-Done.answer c.in-Done.give (stopped _ _ c.requires.top.goes_on (rw c.in-Done.is at c.in_ok-stop.ensures))
