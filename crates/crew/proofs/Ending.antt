@@ -1,10 +1,12 @@
--- An answer of an origin of the plan ends by no fault but one of the plan's.
+-- An answer of an origin of the plan that is no cut ends by no fault but one of the plan's.
 use Rattle.std.proofs.Common.{List, Result, Ok, Err, sym, subst}
-use Rattle.serial_meaning.specs.Answer.{IsAnswer, IsEval, outcome_of}
+use Rattle.serial_meaning.specs.Answer.{IsAnswer, outcome_of}
+use Rattle.serial_meaning.specs.Cuts.{WholeAnswersAreEvals}
 use Rattle.serial_meaning.specs.Eval.{eval}
 use Rattle.serial_meaning.specs.Laws.{IsOriginOf, EndsWithin, OriginsEndWithinFaults}
 use Rattle.serial_meaning.specs.Open.{faults}
 use Rattle.serial_meaning.specs.Plan.{PlanView}
+use Rattle.serial_meaning.specs.Render.{IsWhole}
 use Rattle.serial_meaning.specs.declared.value.Value.{Value}
 use Rattle.serial_meaning.specs.declared.event.Fault.{Fault}
 use Rattle.serial_meaning.specs.declared.event.Event.{Event}
@@ -20,12 +22,7 @@ fault-of plan (Instance function args path) (Err f) h = h
 fault-of plan (Loop function rest first path range) (Ok vs) h = tt
 fault-of plan (Loop function rest first path range) (Err f) h = h
 
-is-eval : (plan : PlanView) (o : Origin) (out : List Event) (ended : Outcome) → IsAnswer plan o out ended → IsEval plan o out ended
-is-eval plan o out (outcome.Value v) h = h
-is-eval plan o out (outcome.Values vs) h = h
-is-eval plan o out (outcome.Fault f) h = h
-is-eval plan o out (outcome.Cut f) h = absurd h
-
-pub ends_within : (plan : PlanView) (o : Origin) (out : List Event) (ended : Outcome) → OriginsEndWithinFaults → IsOriginOf plan o → IsAnswer plan o out ended → IsFaultOf plan ended
-ends_within plan o out ended law known is =
-    subst (IsFaultOf plan) (sym (is-eval plan o out ended is).ends) (fault-of plan o (eval plan o).ending (law plan o known))
+pub ends_within : (plan : PlanView) (o : Origin) (out : List Event) (ended : Outcome) → OriginsEndWithinFaults → WholeAnswersAreEvals → IsOriginOf plan o →
+    IsAnswer plan o out ended → IsWhole ended → IsFaultOf plan ended
+ends_within plan o out ended law evals known is whole =
+    subst (IsFaultOf plan) (sym (evals plan o out ended is whole).ends) (fault-of plan o (eval plan o).ending (law plan o known))

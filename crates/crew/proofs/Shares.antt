@@ -1,15 +1,20 @@
 -- A hand may go to another thread, with the tasks that it has.
-use denote.Param.Send.{IsSend, view_send}
+use denote.Param.Send.{IsSend, IsSync, sendable, view_send}
 use denote.Param.SendFields.{declared_send}
-use Rattle.std.proofs.Crossing.{Vec-send, Deque-send}
+use Rattle.once_cell.proofs.race.once_box.OnceBox.TheSendSync as cell_shared
+use Rattle.once_cell.specs.contracts.race.once_box.OnceBox as cell
+use Rattle.std.proofs.Crossing.{Arc-send, Box-send, Vec-send, Vec-sync, Deque-send}
 use Rattle.std.proofs.option.Option.TheSendSync as option_shared
 use Rattle.crossbeam_utils.proofs.cache_padded.CachePadded.TheSendSync as padded_shared
+use Rattle.serial_meaning.proofs.Shares.{known_sends, known_syncs}
 use Rattle.serial_meaning.proofs.origin.Origin.TheSendSync as origin_shared
+use Rattle.serial_meaning.specs.contracts.known.Known as known
 use Rattle.steal_deck.proofs.deck.Deck.TheSendSync as deck_shared
 use Rattle.steal_deck.proofs.thief.Thief.TheSendSync as thief_shared
 use Rattle.steal_deck.specs.contracts.thief.Thief as thief
 use Rattle.strand_machine.proofs.Shares.{task_sends}
 use Rattle.strand_machine.specs.contracts.task.Task as task
+use Rattle.crew.specs.contracts.faults.Faults as faults
 use Rattle.crew.specs.contracts.hand.Hand as hand
 use Rattle.crew.specs.contracts.hand.Hand.TheInside as hand_inside
 use Rattle.crew.specs.contracts.held.Held as held
@@ -22,6 +27,18 @@ parked_inside_sends = declared_send parked_inside.the_type (task_sends, tt)
 parked_sends : IsSend parked.the_row
 parked_sends = view_send parked_inside.the_row _ _ _ _ parked_inside_sends
 
+cell_sends : IsSend (cell.the_row known.the_row)
+cell_sends = cell_shared.the_send known.the_row known_sends
+
+cell_syncs : IsSync (cell.the_row known.the_row)
+cell_syncs = cell_shared.the_sync known.the_row known_sends known_syncs
+
+faults_sends : IsSend faults.the_row
+faults_sends = declared_send faults.the_type (
+  Arc-send _ (Vec-send _ cell_sends) (Vec-sync _ cell_syncs),
+  (search sendable, (option_shared.the_send _ (Box-send known.the_row known_sends), (search sendable, tt))),
+)
+
 held_sends : IsSend held.the_row
 held_sends = declared_send held.the_type (
   origin_shared.the_send,
@@ -33,7 +50,7 @@ held_sends = declared_send held.the_type (
         deck_shared.the_send task.the_row task_sends,
         (
           Deque-send parked.the_row parked_sends,
-          (Vec-send (thief.the_row task.the_row) (thief_shared.the_send task.the_row task_sends), tt),
+          (Vec-send (thief.the_row task.the_row) (thief_shared.the_send task.the_row task_sends), (faults_sends, tt)),
         ),
       ),
     ),

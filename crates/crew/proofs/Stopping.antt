@@ -1,4 +1,4 @@
--- Where a task stops at a wait, it stands in it; and what it gives at its end is its give's.
+-- Where a task stops at a wait, it stands in it; what it gives at its end is its give's; and a fault by which it ends is one of its plan's.
 use Rattle.std.proofs.Common.{◌≡◌, ℕ, zero, suc, ◌-◌, true, false, List, [], ◌∷◌, Option, Some, None, Result, Ok, Err, refl, sym, ap, ◌∙◌, subst}
 use Rattle.loop_range.specs.Range.{Range}
 use Rattle.serial_meaning.specs.Answer.{AnswerView, AnswerTag}
@@ -10,11 +10,14 @@ use Rattle.serial_meaning.specs.declared.event.Fault.{Fault}
 use Rattle.serial_meaning.specs.declared.origin.Origin.{Origin}
 use Rattle.serial_meaning.specs.declared.origin.Origin.TheVariants.{Instance, Loop}
 use Rattle.serial_meaning.specs.declared.answer.Outcome.{Outcome}
+use Rattle.serial_meaning.specs.declared.answer.Outcome.TheVariants as outcome
 use Rattle.strand_meaning.specs.Machine.{Token, Reached, Stands, Gives, move}
 use Rattle.strand_meaning.specs.Pieces.{Part}
 use Rattle.strand_meaning.specs.Task.{Stage, Goes, AtSync, AtLoop, Ended, Work, Splits, Runs, Over, Task, own_instance, Step, Passes, Stops, Stop, Spawn, Wait, End, IsNext, Now, Later, stage_after, child_in, stops_at, passing, moved, ends_unless, faults_behind, gave, stage_step, split_step, over_step, work_step}
 use Rattle.strand_machine.specs.Family.{tag}
-use Rattle.strand_machine.specs.Stops.{IsStop, IsResumed}
+use Rattle.strand_meaning.specs.Cuts.{IsByFaultOf}
+use Rattle.strand_meaning.specs.Laws.{IsFaultOf}
+use Rattle.strand_machine.specs.Stops.{IsStop, IsCutEnd, IsResumed, advances, Advances}
 use Rattle.strand_machine.specs.Tasks.{TaskView}
 use Rattle.strand_machine.specs.declared.stop.Stop.TheVariants as stop
 use Rattle.strand_machine.specs.declared.stop.Resumed.TheVariants as resumed
@@ -82,12 +85,51 @@ stands-in : (t : Task) (stop : Stop) → IsNext t stop → StandsIn stop
 stands-in t stop (Now h) = subst StandsInStep h (at-work t t.work)
 stands-in t stop (Later next h n) = stands-in next stop n
 
-pub waits_there : (t rest : TaskView) → IsStop t (stop.Wait rest) → rest.task.waiting ≡ true
-waits_there t rest at = let w : StandsIn (Wait rest.task) = stands-in t.task (Wait rest.task) at.next in w
+-- Only its end comes of a task that took a cut.
+by_cut : {X : Type 0} (t : TaskView) (ended : Outcome) (rest : TaskView) → IsCutEnd t ended (stop.Wait rest) → X
+by_cut t ended rest at = absurd (let e = at.is in (cc))
+
+waits-as : (c : Option Outcome) (t rest : TaskView) → advances c t (stop.Wait rest) → rest.task.waiting ≡ true
+waits-as None t rest at = let w : StandsIn (Wait rest.task) = stands-in t.task (Wait rest.task) at.next in w
+waits-as (Some ended) t rest at = by_cut t ended rest at
+
+pub waits_there : (t rest : TaskView) → Advances t (stop.Wait rest) → rest.task.waiting ≡ true
+waits_there t rest at = waits-as t.cut t rest at
 
 pub waits_still : (t same : TaskView) → t.task.waiting ≡ true → IsResumed t (resumed.NotYet same) → same.task.waiting ≡ true
 waits_still t same h at = rw at.0 h
 
-pub gives_its_own : (t : TaskView) (answer : AnswerView) (give : AnswerTag) → IsStop t (stop.Done answer give) → tag answer.plan answer.origin ≡ give
+-- What a task gives at its end
+
+pub record GivesOwn (t : TaskView) (answer : AnswerView) (give : AnswerTag) : Type 0 where
+  pub plan : answer.plan ≡ t.task.plan
+  pub origin : answer.origin ≡ t.task.origin
+  pub given : give ≡ tag t.task.plan t.task.origin
+  pub known : IsByFaultOf t.task.plan answer.outcome
+
+by-fault : (plan : PlanView) (ended : Outcome) → IsFaultOf plan ended → IsByFaultOf plan ended
+by-fault plan (outcome.Value v) h = h
+by-fault plan (outcome.Values vs) h = h
+by-fault plan (outcome.Fault f) h = h
+by-fault plan (outcome.Cut f) h = absurd h
+
+gives-as : (c : Option Outcome) (t : TaskView) (answer : AnswerView) (give : AnswerTag) → advances c t (stop.Done answer give) → GivesOwn t answer give
+gives-as None t answer give at = record { plan = at.keeps.0; origin = at.keeps.1; given = at.keeps.2; known = by-fault t.task.plan answer.outcome at.known }
+gives-as (Some ended) t answer give at =
+    let e = at.is in
+    record {
+      plan = (cc);
+      origin = (cc);
+      given = (cc);
+      known = subst (IsByFaultOf t.task.plan) (let o : ended ≡ answer.outcome = (cc) in o) at.known;
+    }
+
+gives : (t : TaskView) (answer : AnswerView) (give : AnswerTag) → Advances t (stop.Done answer give) → GivesOwn t answer give
+gives t answer give at = gives-as t.cut t answer give at
+
+pub gives_its_own : (t : TaskView) (answer : AnswerView) (give : AnswerTag) → Advances t (stop.Done answer give) → tag answer.plan answer.origin ≡ give
 gives_its_own t answer give at =
-    ap (λ (p : PlanView). tag p answer.origin) at.keeps.0 ∙ ap (tag t.task.plan) at.keeps.1 ∙ sym at.keeps.2
+    let g = gives t answer give at in ap (λ (p : PlanView). tag p answer.origin) g.plan ∙ ap (tag t.task.plan) g.origin ∙ sym g.given
+
+pub ends_by_its_plans : (t : TaskView) (answer : AnswerView) (give : AnswerTag) → Advances t (stop.Done answer give) → IsByFaultOf answer.plan answer.outcome
+ends_by_its_plans t answer give at = let g = gives t answer give at in subst (λ (p : PlanView). IsByFaultOf p answer.outcome) (sym g.plan) g.known

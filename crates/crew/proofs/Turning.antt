@@ -1,5 +1,6 @@
 -- A turn of a worker keeps its stack sound.
-use Rattle.std.proofs.Common.{◌≡◌, true, List, [], ◌∷◌, ◌++◌, Option, Some, None, Result, Ok, Err, IfOk, append-nil, refl, sym, ap, ◌∙◌, subst}
+use Rattle.std.proofs.Common.{◌≡◌, Bool, true, false, ◌||◌, List, [], ◌∷◌, ◌++◌, Option, Some, None, Result, Ok, Err, IfOk, append-nil, refl, sym, ap, ◌∙◌, subst}
+use Rattle.std.proofs.lemmas.Bool.{true≢false}
 use Rattle.serial_meaning.specs.Answer.{AnswerView, AnswerTag}
 use Rattle.serial_meaning.specs.Eval.{Evaluation, eval}
 use Rattle.serial_meaning.specs.Plan.{PlanView}
@@ -7,6 +8,8 @@ use Rattle.serial_meaning.specs.declared.value.Value.{Value}
 use Rattle.serial_meaning.specs.declared.event.Event.{Event}
 use Rattle.serial_meaning.specs.declared.event.Fault.{Fault}
 use Rattle.serial_meaning.specs.declared.origin.Origin.{Origin}
+use Rattle.serial_meaning.specs.declared.answer.Outcome.{Outcome}
+use Rattle.serial_meaning.specs.declared.answer.Outcome.TheVariants as outcome
 use Rattle.strand_meaning.specs.Laws.{IsFaultOf, IsOf, IsSoundStop, KeepsOrigin, LeavesFewer}
 use Rattle.strand_meaning.specs.Pieces.{Part, Pieces, heard_unless, heard, heard_all}
 use Rattle.strand_meaning.specs.Rest.{evaluations}
@@ -18,9 +21,11 @@ use Rattle.strand_meaning.proofs.Onward.{answers_keep_tasks}
 use Rattle.strand_meaning.proofs.Stops.{stops_are_sound, stops_keep_origins}
 use Rattle.strand_machine.specs.Family.{tag, tags}
 use Rattle.strand_machine.specs.Faults.{is_fault, EndsByFault}
+use Rattle.strand_machine.specs.Loops.{is_root}
 use Rattle.strand_machine.specs.Parts.{awaited}
-use Rattle.strand_machine.specs.Stops.{IsStop, answer_tags, went_on, view_on}
-use Rattle.strand_machine.specs.Tasks.{TaskView, fresh}
+use Rattle.strand_machine.specs.Stops.{IsStop, Advances, WentOn, advances, answer_tags, any_cut, is_cut, went, went_on, view_on}
+use Rattle.strand_machine.specs.Tasks.{TaskView, fresh, fresh_with}
+use Rattle.strand_machine.specs.declared.stop.Stop as stops
 use Rattle.strand_machine.specs.declared.stop.Stop.TheVariants as stop
 use Rattle.crew.specs.Stacks.{task_of, IsFrame, AreBelow, IsStack, root_of, tasks, IsAnswerOf, task_of_answer, with_answer, Follows, Closes, IsTurn}
 use Rattle.crew.specs.declared.frames.Frame.{Frame}
@@ -39,6 +44,39 @@ tags-append plan (o ∷ os) more = ap (λ l. tag plan o ∷ l) (tags-append plan
 pub answer-tags-append : (first more : List AnswerView) → answer_tags (first ++ more) ≡ answer_tags first ++ answer_tags more
 answer-tags-append [] more = refl
 answer-tags-append (a ∷ first) more = ap (λ l. tag a.plan a.origin ∷ l) (answer-tags-append first more)
+
+-- No answer is a cut
+
+pub uncut : (plan : PlanView) (ended : Outcome) → IsFaultOf plan ended → is_cut ended ≡ false
+uncut plan (outcome.Value v) h = refl
+uncut plan (outcome.Values vs) h = refl
+uncut plan (outcome.Fault f) h = refl
+uncut plan (outcome.Cut f) h = absurd h
+
+or-first : (a b : Bool) → (a || b) ≡ false → a ≡ false
+or-first true b h = h
+or-first false b h = refl
+
+or-second : (a b : Bool) → (a || b) ≡ false → b ≡ false
+or-second true b h = absurd (true≢false h)
+or-second false b h = h
+
+neither : (a b : Bool) → a ≡ false → b ≡ false → (a || b) ≡ false
+neither a b g h = ap (λ c. c || b) g ∙ h
+
+pub more-uncut : (answers : List AnswerView) (a : AnswerView) → any_cut answers ≡ false → is_cut a.outcome ≡ false → any_cut (answers ++ a ∷ []) ≡ false
+more-uncut [] a whole h = ap (λ (b : Bool). b || false) h
+more-uncut (x ∷ answers) a whole h =
+    let cut = is_cut x.outcome in
+    neither cut (any_cut (answers ++ a ∷ [])) (or-first cut (any_cut answers) whole) (more-uncut answers a (or-second cut (any_cut answers) whole) h)
+
+-- A task that took no cut comes to its next stop.
+pub stopped : (t : TaskView) (s : stops.Stop) → t.cut ≡ None → Advances t s → IsStop t s
+stopped t s uncut at = subst (λ (c : Option Outcome). advances c t s) uncut at
+
+-- By answers of which none is a cut it goes on.
+pub went_whole : (answers : List AnswerView) (t next : TaskView) → any_cut answers ≡ false → WentOn answers t next → next ≡ view_on t
+went_whole answers t next whole h = subst (λ (b : Bool). went b answers t next) whole h
 
 -- Children that a wait is over with aren't awaited
 
@@ -63,12 +101,12 @@ pub root-same : (t u : Task) (fs : List Frame) → IsOf t u → IsOf (root_of t 
 root-same t u [] same = same
 root-same t u (f ∷ fs) same = (refl, refl)
 
-begun-frame : (plan : PlanView) (o : Origin) → IsTask (start plan o) → IsFrame [] (record { task = fresh plan o; answers = [] })
-begun-frame plan o is = record { task = is; idle = refl; answers = refl }
+begun-frame : (knows : Bool) (plan : PlanView) (o : Origin) → IsTask (start plan o) → IsFrame [] (record { task = fresh_with knows plan o; answers = [] })
+begun-frame knows plan o is = record { task = is; idle = refl; goes_on = refl; whole = refl; answers = refl }
 
 -- the stack of an origin's task alone
 pub begun_stack : (plan : PlanView) (o : Origin) (top : Frame) (below : List Frame) → IsTask (start plan o) → top ≡ record { task = fresh plan o; answers = [] } → below ≡ [] → IsStack (record { top = top; below = below })
-begun_stack plan o top below is e h = record { top = subst (IsFrame []) (sym e) (begun-frame plan o is); below = subst (AreBelow (task_of top)) (sym h) tt }
+begun_stack plan o top below is e h = record { top = subst (IsFrame []) (sym e) (begun-frame (is_root o) plan o is); below = subst (AreBelow (task_of top)) (sym h) tt }
 
 -- A turn of a sound stack, by the stop of its topmost task
 module _ (s : Stack) (is : IsStack s) where
@@ -85,7 +123,7 @@ module _ (s : Stack) (is : IsStack s) where
     abbrev to : Stop
     to = Spawn c rest.task
 
-    is-fresh : child ≡ fresh t.plan c
+    is-fresh : child ≡ fresh_with s.top.task.knows t.plan c
     is-fresh = at.keeps.0
 
     begun : child.task ≡ start t.plan c
@@ -94,8 +132,8 @@ module _ (s : Stack) (is : IsStack s) where
     with-child : IsSoundStop t to → KeepsOrigin t to → LeavesFewer t to → HandsStop t to → Follows s (record { top = frame child []; below = frame rest s.top.answers ∷ s.below })
     with-child sound same fewer hands = record {
       sound = record {
-        top = subst (λ (v : TaskView). IsFrame [] (frame v [])) (sym is-fresh) (begun-frame t.plan c (tasks_begin t.plan c sound.0 is.top.task.clear));
-        below = (ap (λ (u : Task). u.plan) begun ∙ sym same.0, record { task = sound.1; idle = fewer.1; answers = answers }, below-same t rest.task s.below same is.below);
+        top = subst (λ (v : TaskView). IsFrame [] (frame v [])) (sym is-fresh) (begun-frame s.top.task.knows t.plan c (tasks_begin t.plan c sound.0 is.top.task.clear));
+        below = (ap (λ (u : Task). u.plan) begun ∙ sym same.0, record { task = sound.1; idle = fewer.1; goes_on = at.keeps.4; whole = is.top.whole; answers = answers }, below-same t rest.task s.below same is.below);
       };
       root = root-same t rest.task s.below same;
       stop = to;
@@ -131,7 +169,7 @@ module _ (s : Stack) (is : IsStack s) where
     gone-on : IsSoundStop t (Wait rest.task) → KeepsOrigin t (Wait rest.task) → Follows s (record { top = frame (view_on rest) []; below = s.below })
     gone-on sound same = record {
       sound = record {
-        top = record { task = answers_keep_tasks rest.task sound; idle = refl; answers = ap (λ (l : List Part). tags rest.task.plan (awaited l)) (sym none) };
+        top = record { task = answers_keep_tasks rest.task sound; idle = refl; goes_on = at.keeps.3; whole = refl; answers = ap (λ (l : List Part). tags rest.task.plan (awaited l)) (sym none) };
         below = below-same t (went_on rest) s.below same is.below;
       };
       root = root-same t (went_on rest) s.below same;
@@ -141,21 +179,24 @@ module _ (s : Stack) (is : IsStack s) where
     }
 
     -- It goes on.
-    pub went : (top : Frame) (v : TaskView) → top ≡ record { task = v; answers = [] } → v ≡ view_on rest → Follows s (record { top = top; below = s.below })
-    went top v e h =
+    pub went_up : (top : Frame) (v : TaskView) → top ≡ record { task = v; answers = [] } → v ≡ view_on rest → Follows s (record { top = top; below = s.below })
+    went_up top v e h =
         subst (λ (f : Frame). Follows s (record { top = f; below = s.below })) (sym (e ∙ ap (λ (w : TaskView). frame w []) h))
         (gone-on (stops_are_sound t (Wait rest.task) is.top.task at.next) (stops_keep_origins t (Wait rest.task) at.next))
 
   module _ (answer : AnswerView) (give : AnswerTag) (at : IsStop s.top.task (stop.Done answer give)) where
     to-parent : (f : Frame) (fs : List Frame) → s.below ≡ f ∷ fs → AreBelow t (f ∷ fs) → Follows s (with_answer answer f fs)
     to-parent f fs e b = record {
-      sound = record { top = record { task = b.1.task; idle = b.1.idle; answers = answers }; below = b.2 };
+      sound = record { top = record { task = b.1.task; idle = b.1.idle; goes_on = b.1.goes_on; whole = more-uncut f.answers answer b.1.whole whole; answers = answers }; below = b.2 };
       root = subst (λ (l : List Frame). IsOf (root_of t l) (root_of (task_of f) fs)) (sym e) (refl, refl);
       stop = End answer.out answer.outcome;
       comes = at.next;
       leaves = ap tasks (sym e);
     }
       where
+        whole : is_cut answer.outcome ≡ false
+        whole = uncut t.plan answer.outcome at.known
+
         answers : answer_tags (f.answers ++ answer ∷ []) ++ [] ≡ tags (task_of f).plan (awaited (task_of f).pieces.handed)
         answers =
             append-nil (answer_tags (f.answers ++ answer ∷ [])) ∙ answer-tags-append f.answers (answer ∷ [])

@@ -1,5 +1,5 @@
 -- A stop further on the walk through an instance keeps all that is to be seen of it.
-use Rattle.std.proofs.Common.{◌≡◌, ◌<◌, ◌≤◌, ℕ, Bool, true, List, [], ◌∷◌, ◌++◌, Option, append-nil, refl, sym, ap, ◌∙◌, subst, arith}
+use Rattle.std.proofs.Common.{◌≡◌, ◌<◌, ◌≤◌, ℕ, Bool, true, false, List, [], ◌∷◌, ◌++◌, Option, append-nil, refl, sym, ap, ◌∙◌, subst, arith}
 use Rattle.serial_meaning.specs.Answer.{AnswerView, AnswerTag}
 use Rattle.serial_meaning.specs.Eval.{path_of}
 use Rattle.serial_meaning.specs.Laws.{IsOriginOf}
@@ -7,7 +7,7 @@ use Rattle.serial_meaning.specs.Plan.{PlanView}
 use Rattle.serial_meaning.specs.declared.event.Event.{Event}
 use Rattle.serial_meaning.specs.declared.event.Fault.{Fault}
 use Rattle.serial_meaning.specs.declared.origin.Origin.{Origin}
-use Rattle.strand_meaning.specs.Laws.{IsSoundStop, KeepsOrigin, LeavesFewer, NotesBegin, NotesGoOn, AnswersShowNothing}
+use Rattle.strand_meaning.specs.Laws.{IsFaultOf, IsSoundStop, KeepsOrigin, LeavesFewer, NotesBegin, NotesGoOn, AnswersShowNothing}
 use Rattle.strand_meaning.specs.Left.{stops_left}
 use Rattle.strand_meaning.specs.Notes.{IsInstance, no_notes, also, had, OnWay, IsWhole}
 use Rattle.strand_meaning.specs.Sound.{IsTask}
@@ -17,7 +17,7 @@ use Rattle.strand_meaning.proofs.Stops.{stops_are_sound, stops_keep_origins}
 use Rattle.strand_machine.specs.Family.{tag, tags}
 use Rattle.strand_machine.specs.Noted.{IsNoted}
 use Rattle.strand_machine.specs.Parts.{awaited}
-use Rattle.strand_machine.specs.Stops.{stop_of, answer_tags, went_on, view_on}
+use Rattle.strand_machine.specs.Stops.{stop_of, answer_tags, is_cut, went_on, view_on, WentOn}
 use Rattle.strand_machine.specs.Tasks.{TaskView}
 use Rattle.strand_machine.specs.declared.stop.Stop as stops
 use Rattle.strand_machine.specs.declared.stop.Stop.TheVariants as stop
@@ -32,11 +32,11 @@ use Rattle.crew.specs.declared.walk.Walked.{Walked}
 use Rattle.crew.specs.declared.walk.Walked.TheVariants.{Goes, Ends}
 use Rattle.crew.proofs.Sighted.{seen-with, seen_child, seen_none}
 use Rattle.crew.proofs.Showing.{ShowsStop, stops_show}
-use Rattle.crew.proofs.Turning.{answer-tags-append, spawned, waits, has_answers, went}
+use Rattle.crew.proofs.Turning.{answer-tags-append, more-uncut, uncut, spawned, waits, has_answers, went_up, went_whole}
 
 -- a frame that gets the answer it misses
-with-answer : (c : Origin) (f : Frame) (answer : AnswerView) → IsFrame (c ∷ []) f → answer.plan ≡ (task_of f).plan → answer.origin ≡ c → IsFrame [] (record f { answers = f.answers ++ answer ∷ [] })
-with-answer c f answer is p o = record { task = is.task; idle = is.idle; answers = answers }
+with-answer : (c : Origin) (f : Frame) (answer : AnswerView) → IsFrame (c ∷ []) f → answer.plan ≡ (task_of f).plan → answer.origin ≡ c → is_cut answer.outcome ≡ false → IsFrame [] (record f { answers = f.answers ++ answer ∷ [] })
+with-answer c f answer is p o whole = record { task = is.task; idle = is.idle; goes_on = is.goes_on; whole = more-uncut f.answers answer is.whole whole; answers = answers }
   where
     answers : answer_tags (f.answers ++ answer ∷ []) ++ [] ≡ tags (task_of f).plan (awaited (task_of f).pieces.handed)
     answers =
@@ -104,9 +104,9 @@ module _ (plan : PlanView) (o : Origin) (j : List ℕ) (w : Walk) (is : IsWalk p
     missing = let turn = spawned alone is-alone child rest noted.stop _ _ refl refl in turn.sound.below.1
 
     -- The walk goes on with the rest, and with the child's answer.
-    pub walks_by_child : NotesGoOn → (answer : AnswerView) → answer.plan ≡ plan → answer.origin ≡ child.task.origin → (answers : List AnswerView) → answers ≡ f.answers ++ answer ∷ [] →
+    pub walks_by_child : NotesGoOn → (answer : AnswerView) → answer.plan ≡ plan → answer.origin ≡ child.task.origin → IsFaultOf plan answer.outcome → (answers : List AnswerView) → answers ≡ f.answers ++ answer ∷ [] →
         (before sight : Sight) → before ≡ with_notes n.reached n.events n.fault n.joined w.sight → sight ≡ with_child j child.task.origin before → WalksOn plan o j w (Goes (record { frame = record { task = rest; answers = answers }; sight = sight }))
-    walks_by_child go answer p a answers e before sight b h =
+    walks_by_child go answer p a known answers e before sight b h =
         subst (λ (l : List AnswerView). WalksOn plan o j w (Goes (record { frame = record { task = rest; answers = l }; sight = sight }))) (sym e) (walk, less.0)
       where
         kept : KeepsOrigin t (stop_of s)
@@ -124,7 +124,7 @@ module _ (plan : PlanView) (o : Origin) (j : List ℕ) (w : Walk) (is : IsWalk p
         walk : IsWalk plan o j (record { frame = record { task = rest; answers = f.answers ++ answer ∷ [] }; sight = sight })
         walk = record {
           instance = is.instance;
-          frame = with-answer child.task.origin (record { task = rest; answers = f.answers }) answer missing (p ∙ sym is.plan_is ∙ sym kept.0) a;
+          frame = with-answer child.task.origin (record { task = rest; answers = f.answers }) answer missing (p ∙ sym is.plan_is ∙ sym kept.0) a (uncut plan answer.outcome known);
           plan_is = kept.0 ∙ is.plan_is;
           origin_is = kept.1 ∙ is.origin_is;
           notes = also is.notes noted.notes;
@@ -146,10 +146,11 @@ module _ (plan : PlanView) (o : Origin) (j : List ℕ) (w : Walk) (is : IsWalk p
     it_has_answers = has_answers alone is-alone rest noted_wait.stop
 
     -- The walk goes on with the answers.
-    pub walks_by_wait : NotesGoOn → AnswersShowNothing → (v : TaskView) → v ≡ view_on rest → (frame : Frame) → frame ≡ record { task = v; answers = [] } →
+    pub walks_by_wait : NotesGoOn → AnswersShowNothing → (v : TaskView) → WentOn f.answers rest v → (frame : Frame) → frame ≡ record { task = v; answers = [] } →
         (sight : Sight) → sight ≡ with_notes n.reached n.events n.fault n.joined w.sight → WalksOn plan o j w (Goes (record { frame = frame; sight = sight }))
     walks_by_wait go nothing v h frame e sight b =
-        subst (λ (g : Frame). WalksOn plan o j w (Goes (record { frame = g; sight = sight }))) (sym (e ∙ ap (λ (u : TaskView). record { task = u; answers = [] }) h)) (walk, left)
+        subst (λ (g : Frame). WalksOn plan o j w (Goes (record { frame = g; sight = sight })))
+        (sym (e ∙ ap (λ (u : TaskView). record { task = u; answers = [] }) (went_whole f.answers rest v is.frame.whole h))) (walk, left)
       where
         kept : KeepsOrigin t (stop_of at)
         kept = same at n.reached n.events n.fault n.joined noted_wait
@@ -167,7 +168,7 @@ module _ (plan : PlanView) (o : Origin) (j : List ℕ) (w : Walk) (is : IsWalk p
         shows = shown at n.reached n.events n.fault n.joined noted_wait
 
         turn : Follows alone (record { top = record { task = view_on rest; answers = [] }; below = [] })
-        turn = went alone is-alone rest noted_wait.stop _ (view_on rest) refl refl
+        turn = went_up alone is-alone rest noted_wait.stop _ (view_on rest) refl refl
 
         no_more : stops_left (went_on rest) ≤ stops_left rest.task
         no_more = answers_leave_no_more rest.task task it_waits
@@ -212,7 +213,7 @@ pub walk_begins : NotesBegin → (plan : PlanView) (o : Origin) (j : List ℕ) �
 walk_begins begin plan o j i is w e =
     subst (IsWalk plan o j) (sym e) (record {
       instance = i;
-      frame = record { task = is; idle = refl; answers = refl };
+      frame = record { task = is; idle = refl; goes_on = refl; whole = refl; answers = refl };
       plan_is = refl;
       origin_is = refl;
       notes = no_notes;

@@ -1,11 +1,18 @@
 -- How a crew begins.
 use Rattle.std.specs.Prelude.{◌≡◌, ℕ, ◌+◌, List, [], ◌∷◌, ◌++◌, Some, None, length, map}
+use Rattle.serial_meaning.specs.Answer.{AnswerTag}
 use Rattle.serial_meaning.specs.Eval.{main_origin}
 use Rattle.serial_meaning.specs.Plan.{PlanView}
 use Rattle.serial_meaning.specs.declared.origin.Origin.{Origin}
 use Rattle.steal_deck.specs.Ends.{DeckId, ThiefEnd, new_owner, new_thief}
 use Rattle.strand_machine.specs.Tasks.{TaskView, fresh}
 use Rattle.crew.specs.Hands.{HandView}
+
+-- These are the tags of one child, which is main.
+abbrev pub IsMainAlone : List AnswerTag → Type 0
+IsMainAlone [] = ⊥
+IsMainAlone (t ∷ []) = t.origin ≡ main_origin t.plan
+IsMainAlone (t ∷ u ∷ us) = ⊥
 
 -- a hand that has nothing, and no thieves
 abbrev pub new_hand : Origin → DeckId → HandView

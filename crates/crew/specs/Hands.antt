@@ -1,10 +1,11 @@
 -- What contracts see of a hand, and what a turn makes of it.
-use Rattle.std.specs.Prelude.{◌≡◌, ℕ, ◌<◌, ◌≤◌, ◌⊎◌, slice_index_or, List, [], ◌∷◌, ◌++◌, Option, Some, None, length}
-use Rattle.serial_meaning.specs.Answer.{AnswerView, AnswerTag}
+use Rattle.std.specs.Prelude.{◌≡◌, ℕ, ◌<◌, ◌≤◌, ◌⊎◌, slice_index_or, false, List, [], ◌∷◌, ◌++◌, Option, Some, None, length}
+use Rattle.serial_meaning.specs.Answer.{AnswerView, AnswerTag, IsCut}
+use Rattle.serial_meaning.specs.declared.event.Fault.{Fault}
 use Rattle.serial_meaning.specs.declared.origin.Origin.{Origin}
 use Rattle.steal_deck.specs.Ends.{OwnerEnd, ThiefEnd, risen, Pushes, Pops, FindsNone, Steals}
 use Rattle.strand_machine.specs.Family.{tag}
-use Rattle.strand_machine.specs.Stops.{IsStop, IsResumed}
+use Rattle.strand_machine.specs.Stops.{IsResumed, Advances as AdvancesTo}
 use Rattle.strand_machine.specs.Tasks.{TaskView}
 use Rattle.strand_machine.specs.declared.stop.Stop.{Stop}
 use Rattle.strand_machine.specs.declared.stop.Stop.TheVariants as stop
@@ -54,14 +55,19 @@ IsAnswered root asked _ = ⊥
 
 -- The task came to its end.
 abbrev pub HasEnded : TaskView → Type 0
-HasEnded t = (answer : AnswerView) × (give : AnswerTag) × IsStop t (stop.Done answer give)
+HasEnded t = (answer : AnswerView) × (give : AnswerTag) × AdvancesTo t (stop.Done answer give)
+
+-- The task is cut, and nothing of it was done: a fault of its plan stands before its path, and before that of each loop that it is a part of
+-- or below.
+abbrev pub MayBeCut : TaskView → Type 0
+MayBeCut t = (by : Fault) × (t.task.advanced ≡ false) × IsCut t.task.plan t.task.origin by
 
 abbrev pub Ends : TaskView → HandView → Turn → HandView → Type 0
-Ends t old turn new = HasEnded t × IsAnswered old.root (tag t.task.plan t.task.origin) turn × (new ≡ record old { current = None })
+Ends t old turn new = (HasEnded t ⊎ MayBeCut t) × IsAnswered old.root (tag t.task.plan t.task.origin) turn × (new ≡ record old { current = None })
 
--- What a turn does with the current task.
+-- What a turn does with the current task. One that took a cut for an answer comes to no other stop than its end.
 abbrev pub Advances : TaskView → HandView → Turn → HandView → Type 0
-Advances t old Ran new = (stop : Stop) × IsStop t stop × Runs stop old new
+Advances t old Ran new = (stop : Stop) × AdvancesTo t stop × Runs stop old new
 Advances t old turn new = Ends t old turn new
 
 -- The task is the last of the private list, or else the newest of the deck.

@@ -1,5 +1,5 @@
 -- The tasks that one thread runs, each a child of the one below it.
-use Rattle.std.specs.Prelude.{◌≡◌, false, List, [], ◌∷◌, ◌++◌}
+use Rattle.std.specs.Prelude.{◌≡◌, false, List, [], ◌∷◌, ◌++◌, None}
 use Rattle.serial_meaning.specs.Answer.{AnswerView}
 use Rattle.serial_meaning.specs.Eval.{eval}
 use Rattle.serial_meaning.specs.declared.origin.Origin.{Origin}
@@ -9,7 +9,7 @@ use Rattle.strand_meaning.specs.Sound.{IsTask}
 use Rattle.strand_meaning.specs.Task.{Task, start, Stop, Spawn, Wait, End, IsNext, on}
 use Rattle.strand_machine.specs.Family.{tags}
 use Rattle.strand_machine.specs.Parts.{awaited}
-use Rattle.strand_machine.specs.Stops.{answer_tags}
+use Rattle.strand_machine.specs.Stops.{answer_tags, any_cut}
 use Rattle.crew.specs.declared.frames.Frame.{Frame}
 use Rattle.crew.specs.declared.stack.Stack.{Stack}
 use Rattle.crew.specs.declared.stack.Turn.{Turn}
@@ -18,10 +18,13 @@ use Rattle.crew.specs.declared.stack.Turn.TheVariants.{Goes, Ends}
 abbrev pub task_of : Frame → Task
 task_of f = f.task.task
 
--- A task with the answers of the children that it awaits, in order, but for the last ones, which are missing. It stands in no wait.
+-- A task with the answers of the children that it awaits, in order, but for the last ones, which are missing. It stands in no wait, and no
+-- answer is a cut.
 pub record IsFrame (missing : List Origin) (f : Frame) : Type 0 where
   pub task : IsTask (task_of f)
   pub idle : (task_of f).waiting ≡ false
+  pub goes_on : f.task.cut ≡ None
+  pub whole : any_cut f.answers ≡ false
   pub answers : answer_tags f.answers ++ tags (task_of f).plan missing ≡ tags (task_of f).plan (awaited (task_of f).pieces.handed)
 
 -- Of each frame's task the child above it is all that is missing.

@@ -3,10 +3,10 @@ use serial_meaning::Origin;
 /// What is told when tasks begin and when they have answered. A gate may hold up the hand that tells it, and its calls return. Its calls
 /// come from all hands, and have no effect on any answer.
 pub trait Gate {
-    /// Called before a task of this origin is advanced for the first time.
+    /// Called before a task of this origin is advanced for the first time. A task that is cut isn't advanced.
     fn enter(&self, origin: &Origin);
 
-    /// Called once the answer of a task of this origin was put.
+    /// Called once the answer of a task of this origin was put that was advanced.
     fn leave(&self, origin: &Origin);
 }
 

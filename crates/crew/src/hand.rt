@@ -1,3 +1,4 @@
+use crate::faults::Faults;
 use crate::gate::Gate;
 use crate::held::Held;
 use crate::memory::Memory;
@@ -77,7 +78,7 @@ impl Hand {
     ghost use Rattle.crew.specs.Hands.{IsTurn, LooksNewest};
 
     /// A hand without a task, for a run that the answer of this origin ends. It has no thieves yet.
-    pub(crate) fn new(alloc: Global, root: Origin) -> Result<Hand, Memory>
+    pub(crate) fn new(alloc: Global, root: Origin, faults: Faults) -> Result<Hand, Memory>
         ensures { IfOk result (λ hand. hand ≡ new_hand root hand.deck.deck) }
     {
         Ok(Hand {
@@ -88,6 +89,7 @@ impl Hand {
                 deck: Deck::new(alloc)?,
                 ring: VecDeque::new(alloc),
                 thieves: Vec::new(alloc),
+                faults,
             }),
         })
     }
@@ -114,6 +116,11 @@ impl Hand {
         self.held.ring.len()
     }
 
+    /// Whether the last task was cut that it might have cut.
+    pub(crate) fn cuts(&self) -> bool {
+        self.held.faults.cuts()
+    }
+
     /// The task is its current one.
     pub(crate) fn begin(&mut self, task: Task)
         ensures { self.new ≡ record self.old { current = Some task } }
@@ -123,8 +130,10 @@ impl Hand {
 
     /// Does the first of these that applies.
     ///
-    /// 1. Advances the current task. A child that is handed out becomes current, and the rest goes to the back of the hand's deck, or to
-    ///    its private list where that isn't empty or the deck refuses it. A task that waits goes to the end of the ring. An answer is put.
+    /// 1. Cuts or advances the current task. A child that is handed out becomes current, and the rest goes to the back of the hand's deck,
+    ///    or to its private list where that isn't empty or the deck refuses it. A task that waits goes to the end of the ring. An answer is
+    ///    put. A task may be cut that wasn't advanced yet, where a hand of the crew met a fault of the task's plan that stands before all
+    ///    that the task could do.
     /// 2. Takes up the last task of the private list, or the newest of the deck.
     /// 3. Looks at the task at the front of the ring. It becomes current where all of its children have answered, and else goes to the
     ///    ring's end, and the turn goes on.
@@ -138,11 +147,12 @@ impl Hand {
         let held: &mut Held = &mut self.held;
         steps::turn(held, alloc, gate)
     }
+
     /// Looks once at the task at the ring's end, where the hand has no current one. It becomes current where all of its children have
     /// answered, and else stays there.
     ///
-    /// This is no turn, and none is owed: a task at the ring's end, which waits since the last turn, goes on before one of the deck is
-    /// taken up. It doesn't wait for another thread. On `Memory` the task is dropped, and the run has failed.
+    /// This is no turn, and none is owed. Behind a turn that left a task waiting or answered one, the newest waiting task so goes on before
+    /// one of the deck is taken up. It doesn't wait for another thread. On `Memory` the task is dropped, and the run has failed.
     pub fn look_newest(&mut self, alloc: Global) -> Result<Looked, Memory>
         ensures ok { IfOk result (λ looked. LooksNewest self.old looked self.new) }
         ensures err { OnErr result (self.new.current ≡ None) }

@@ -1,3 +1,4 @@
+use crate::faults::Faults;
 use crate::parked::Parked;
 use serial_meaning::Origin;
 use std::collections::VecDeque;
@@ -16,4 +17,6 @@ pub(crate) struct Held {
     pub ring: VecDeque<Parked>,
     /// Those of the other hands' decks, from the next number upwards and round.
     pub thieves: Vec<Thief<Task>>,
+    /// What it knows of the faults that the hands of its crew met.
+    pub faults: Faults,
 }

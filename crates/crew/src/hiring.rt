@@ -7,6 +7,7 @@ ghost use Rattle.strand_machine.specs.Tasks.{fresh};
 ghost use Rattle.meet_block.specs.Joined.{joined};
 ghost use Rattle.crew.specs.Crews.{AreNew, HaveMet, IsNewCrew, thief_of, with_thief};
 
+use crate::faults::Faults;
 use crate::hand::{Hand, Hands};
 use crate::memory::Memory;
 use crate::root::Root;
@@ -42,9 +43,10 @@ fn begin_root(alloc: Global, plan: &Arc<Plan>) -> Result<(Root, Task), Memory>
 fn new_hands(alloc: Global, plan: &Arc<Plan>, workers: u32) -> Result<Vec<Hand>, Memory>
     ensures { IfOk result (λ hands. AreNew (main_origin (arc_value plan.now)) workers hands.items) }
 {
+    let faults = Faults::new(alloc)?;
     let mut hands = Vec::new(alloc);
     for _ in 0..workers {
-        hands.push(Hand::new(alloc, plan.main_origin(alloc)?)?)?;
+        hands.push(Hand::new(alloc, plan.main_origin(alloc)?, faults.share()?)?)?;
     }
     Ok(hands)
 }

@@ -5,6 +5,7 @@
 //! rests of the tasks that it runs in a deck, and a hand that has nothing to do steals from the others' decks.
 #![tactic(auto)]
 
+mod faults;
 mod frames;
 mod gate;
 mod hand;

@@ -1,19 +1,20 @@
 use meet_block::{Join, Look};
-use serial_meaning::Answer;
+use serial_meaning::{Answer, laws};
 use std::marker::Model;
 
-/// The end at which the answer of a whole run comes: a join whose one child is the run's root. A clause sees it as the join.
+/// The end at which the answer of a whole run comes: a join whose one child is main, the run's root. A clause sees it as the join.
 #[derive(Drop)]
 pub struct Root {
     pub(crate) join: Join<Answer>,
 }
 
 impl Model for Root {
-    ghost use Rattle.std.specs.Prelude.{◌≡◌, ◌∷◌, [], false, length};
+    ghost use Rattle.std.specs.Prelude.{◌≡◌, ◌∷◌, [], false};
     ghost use Rattle.std.specs.Coded.{codes};
     ghost use Rattle.serial_meaning.specs.contracts.plan.Plan as plan_type;
     ghost use Rattle.serial_meaning.specs.Answer.{AnswerTag};
     ghost use Rattle.meet_block.specs.Joined.{Joined};
+    ghost use Rattle.crew.specs.Crews.{IsMainAlone};
 
     ghost Value = { Joined AnswerTag };
 
@@ -21,12 +22,13 @@ impl Model for Root {
 
     ghost view = { λ r. r.join };
 
-    ghost invariant = { λ r. (length r.join.tags ≡ 1) × (r.join.taken ≡ false ∷ []) };
+    ghost invariant = { λ r. IsMainAlone r.join.tags × (r.join.taken ≡ false ∷ []) };
 }
 
 impl Root {
     ghost use Rattle.std.specs.Prelude.{◌≡◌, ◌∷◌, [], true};
     ghost use Rattle.meet_block.specs.Joined.{Answers};
+    ghost use Rattle.serial_meaning.specs.Render.{IsWhole};
     ghost use Rattle.strand_machine.specs.Family.{tag};
 
     /// Says whether the answer was put. It takes no memory and doesn't wait.
@@ -37,13 +39,16 @@ impl Root {
         self.join.look()
     }
 
-    /// Takes the answer, which has to be there.
-    #[tactic(auto, using(crate::proofs::Rooted::only_one))]
+    /// Takes the answer, which has to be there. It is no cut: nothing stands before main's path.
     pub fn take(self) -> Answer
         requires { self.ready ≡ true }
-        ensures { self.tags ≡ tag result.plan result.origin ∷ [] }
+        ensures tag { self.tags ≡ tag result.plan result.origin ∷ [] }
+        ensures whole { IsWhole result.outcome }
     {
+        laws::main_is_not_cut();
         let Root { mut join } = self;
-        join.take(0)
+        let answer = join.take(0);
+        let _outcome = &answer.outcome;
+        answer
     }
 }

@@ -3,10 +3,11 @@ ghost use Rattle.std.specs.Prelude.{◌≡◌, ◌≤◌, IfOk, true};
 ghost use Rattle.std.specs.Arc.{arc_value};
 ghost use Rattle.serial_meaning.specs.Eval.{main_origin};
 ghost use Rattle.serial_meaning.specs.Laws.{IsOriginOf};
+ghost use Rattle.serial_meaning.specs.Render.{IsWhole};
 ghost use Rattle.strand_meaning.specs.Laws.{IsFaultOf};
 
 use crate::gate::Gate;
-use crate::hand::{Hand, Turn};
+use crate::hand::{Hand, Looked, Turn};
 use crate::hiring::Crew;
 use crate::memory::Memory;
 use crate::root::Root;
@@ -19,8 +20,22 @@ use std::alloc::Global;
 use std::sync::{Arc, Wait};
 use std::thread::Threads;
 
-/// Makes turns until a hand has ended the run, or has failed for want of memory. Behind a turn that left a task waiting, its children may
-/// have answered already: then it is the next one, and else it stays in the ring.
+/// Looks at the newest waiting task, since its last child may have answered in the turn before. Says whether it still waits.
+fn look_on(alloc: Global, signals: &Signals, hand: &mut Hand) -> bool {
+    match hand.look_newest(alloc) {
+        Ok(looked) => matches!(looked, Looked::Waits),
+        Err(_) => {
+            signals.stop();
+            false
+        }
+    }
+}
+
+/// Makes turns until a hand has ended the run, or has failed for want of memory. Behind a turn that left a task waiting or answered one, all
+/// children of the newest waiting task may have answered: then it is the next one, and else it stays in the ring.
+///
+/// Where all tasks that a hand begins are cut, it sleeps behind each that it leaves waiting, and its steals wake nobody: the hands from
+/// which it steals come to the ends of their tasks faster by themselves.
 fn work<R: Wait, G: Gate>(
     rt: &R,
     alloc: Global,
@@ -33,21 +48,25 @@ fn work<R: Wait, G: Gate>(
         if signals.is_stopped() {
             break;
         }
-        match hand.turn(alloc, gate) {
+        let turn = hand.turn(alloc, gate);
+        let cuts = hand.cuts();
+        if !cuts && !matches!(turn, Ok(Turn::Waiting | Turn::Idle)) {
+            naps.end();
+        }
+        match turn {
             Ok(Turn::Ran) => {
-                naps.end();
-                if hand.look_newest(alloc).is_err() {
-                    signals.stop();
+                if look_on(alloc, signals, hand) && cuts {
+                    naps.wait(rt, signals, 0);
                 }
+            }
+            Ok(Turn::Answered(_)) => {
+                look_on(alloc, signals, hand);
             }
             Ok(Turn::Waiting) => naps.wait(rt, signals, hand.parked()),
             Ok(Turn::Idle) => naps.idle(rt, signals),
-            Ok(Turn::Stole) => {
-                naps.end();
-                signals.wake_one();
-            }
+            Ok(Turn::Stole) if !cuts => signals.wake_one(),
             Ok(Turn::Ended(_)) => signals.end(),
-            Ok(_) => naps.end(),
+            Ok(_) => {}
             Err(_) => signals.stop(),
         }
     }
@@ -68,12 +87,14 @@ fn wait_ready<R: Wait>(rt: &R, root: &mut Root)
     unreachable!()
 }
 
-/// Where it is the answer of an origin of the plan, no fault but one of the plan's ends it.
+/// Where it is the answer of an origin of the plan and no cut, no fault but one of the plan's ends it.
 fn ends_within_faults(answer: &Answer)
-    requires { IsOriginOf answer.now.plan answer.now.origin }
+    requires known { IsOriginOf answer.now.plan answer.now.origin }
+    requires whole { IsWhole answer.now.outcome }
     ensures { IsFaultOf answer.now.plan answer.now.outcome }
 {
     laws::origins_end_within_faults();
+    laws::whole_answers_are_evals();
     let _outcome = &answer.outcome;
 }
 

@@ -109,10 +109,13 @@ impl Naps {
 
     fn nap<R: Wait>(&mut self, rt: &R, signals: &Signals, parked: usize, longest: u64) {
         self.vain = self.vain.saturating_add(1);
-        if self.backoff.is_completed() && self.vain > parked {
+        if self.vain <= parked {
+            return;
+        }
+        self.vain = 0;
+        if self.backoff.is_completed() {
             signals.sleep(rt, self.next.min(longest));
             self.next = self.next.saturating_mul(2).min(longest);
-            self.vain = 0;
         } else {
             self.backoff.snooze();
         }

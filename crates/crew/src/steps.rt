@@ -1,17 +1,20 @@
 // The steps of a hand's turn.
-ghost use Rattle.std.specs.Prelude.{◌≡◌, [], ◌∷◌, ◌++◌, IfOk, OnOk, OnErr, IfSome, IfNone, None, true};
+ghost use Rattle.std.specs.Prelude.{◌≡◌, [], ◌∷◌, ◌++◌, IfOk, OnOk, OnErr, IfSome, IfNone, None, true, false};
+ghost use Rattle.serial_meaning.specs.Answer.{IsCut};
+ghost use Rattle.strand_meaning.specs.Cuts.{IsByFaultOf};
 ghost use Rattle.strand_machine.specs.Family.{tag};
 ghost use Rattle.strand_machine.specs.declared.stop.Stop.TheVariants as stop;
 ghost use Rattle.steal_deck.specs.Ends.{FindsNone};
 ghost use Rattle.crew.specs.Hands.{view_of, IsPut, Runs, IsAnswered, Advances, IsNewest, FindsNoTask, TakesUp, Looks, LooksNewest, AllMiss, FirstSteals, StealsOr, Seeks, IsTurn};
 
+use crate::faults::Faults;
 use crate::gate::Gate;
 use crate::hand::{Looked, Turn};
 use crate::held::Held;
 use crate::memory::Memory;
 use crate::parked::Parked;
 use meet_block::Give;
-use serial_meaning::{Answer, Origin};
+use serial_meaning::{Answer, Fault, Origin, Outcome};
 use std::alloc::Global;
 use std::collections::VecDeque;
 use steal_deck::{Deck, Steal, Thief};
@@ -69,37 +72,61 @@ fn park(ring: &mut VecDeque<Parked>, task: Task) -> Result<(), Memory>
     Ok(())
 }
 
-/// Puts the answer of a task that has ended.
-fn put_answer<G: Gate>(
+/// Puts the answer of a task that has ended or was cut.
+fn put_answer(root: &Origin, answer: Answer, give: Give<Answer>) -> Turn
+    requires { give ≡ tag answer.plan answer.origin }
+    ensures { IsAnswered root.now give result }
+{
+    let is_root = answer.origin.same(root);
+    let arrived = give.put(answer);
+    if is_root {
+        Turn::Ended(arrived)
+    } else {
+        Turn::Answered(arrived)
+    }
+}
+
+/// Tells the hands of the fault by which a task ended, if it did.
+fn tell_fault(alloc: Global, faults: &mut Faults, answer: &Answer)
+    requires { IsByFaultOf answer.now.plan answer.now.outcome }
+{
+    if let Outcome::Fault(fault) = &answer.outcome {
+        faults.tell(alloc, &answer.plan, fault);
+    }
+}
+
+/// Puts the answer of a task that has ended, and tells the gate.
+fn end<G: Gate>(
+    held: &mut Held,
     alloc: Global,
-    root: &Origin,
     answer: Answer,
     give: Give<Answer>,
     gate: &G,
 ) -> Result<Turn, Memory>
-    requires { give ≡ tag answer.plan answer.origin }
-    ensures { IfOk result (IsAnswered root.now give) }
+    requires known { IsByFaultOf answer.plan answer.outcome }
+    requires give { give ≡ tag answer.plan answer.origin }
+    ensures turn { IfOk result (IsAnswered held.old.root give) }
+    ensures held { view_of held.new ≡ view_of held.old }
 {
+    tell_fault(alloc, &mut held.faults, &answer);
     let origin = share_origin(alloc, &answer.origin)?;
-    let arrived = give.put(answer);
+    let turn = put_answer(&held.root, answer, give);
     gate.leave(&origin);
-    if origin.same(root) {
-        Ok(Turn::Ended(arrived))
-    } else {
-        Ok(Turn::Answered(arrived))
-    }
+    Ok(turn)
 }
 
 /// Runs this task, which was the current one, to its next stop.
 #[tactic(auto, using(crate::proofs::Stopping::waits_there, crate::proofs::Stopping::gives_its_own))]
-fn run<G: Gate>(held: &mut Held, task: Task, alloc: Global, gate: &G) -> Result<Turn, Memory>
+fn advance<G: Gate>(
+    held: &mut Held,
+    task: Task,
+    alloc: Global,
+    gate: &G,
+) -> Result<Turn, Memory>
     requires { held.old.current ≡ None }
     ensures ok { IfOk result (λ turn. Advances task (view_of held.old) turn (view_of held.new)) }
     ensures err { OnErr result (held.new.current ≡ None) }
 {
-    if task.is_fresh() {
-        gate.enter(task.origin());
-    }
     let stop = task.advance(alloc)?;
     match stop {
         Stop::Spawn { child, rest } => {
@@ -110,8 +137,34 @@ fn run<G: Gate>(held: &mut Held, task: Task, alloc: Global, gate: &G) -> Result<
             park(&mut held.ring, rest)?;
             Ok(Turn::Ran)
         }
-        Stop::Done { answer, give } => put_answer(alloc, &held.root, answer, give, gate),
+        Stop::Done { answer, give } => end(held, alloc, answer, give, gate),
     }
+}
+
+/// Cuts this task, which was the current one and wasn't advanced yet.
+fn cut(held: &Held, task: Task, by: Fault) -> Turn
+    requires fresh { task.task.advanced ≡ false }
+    requires stands { IsCut task.task.plan task.task.origin by }
+    requires current { held.now.current ≡ None }
+    ensures { Advances task (view_of held.now) result (view_of held.now) }
+{
+    let (answer, give) = task.cut(by);
+    put_answer(&held.root, answer, give)
+}
+
+/// Cuts this task, which was the current one, or runs it to its next stop.
+fn run<G: Gate>(held: &mut Held, task: Task, alloc: Global, gate: &G) -> Result<Turn, Memory>
+    requires { held.old.current ≡ None }
+    ensures ok { IfOk result (λ turn. Advances task (view_of held.old) turn (view_of held.new)) }
+    ensures err { OnErr result (held.new.current ≡ None) }
+{
+    if task.is_fresh() {
+        if let Some(by) = held.faults.cut(&task) {
+            return Ok(cut(held, task, by));
+        }
+        gate.enter(task.origin());
+    }
+    advance(held, task, alloc, gate)
 }
 
 /// The newest of the hand's own tasks.

@@ -1,7 +1,11 @@
 // The turns of hands. That crews answer as one worker does, on any number of workers, is shown by `workers`.
 
+use super::FAULT_BEFORE_ANOTHER;
 use super::tasks::plan;
-use crew::{Crew, OpenGate, Turn};
+use crew::{Crew, Gate, Looked, OpenGate, Turn};
+use meet_block::Look;
+use serial_meaning::{FaultKind, Origin, Outcome};
+use std::sync::atomic::{AtomicU64, Ordering};
 use std::test::Fail;
 
 #[test]
@@ -15,4 +19,95 @@ fn a_new_crew_has_one_task_at_hand_0(rt: HostRuntime) -> Result<(), Fail> {
     assert!(rt; matches!(hands[0].turn(alloc, &OpenGate)?, Turn::Ended(_)));
     drop(root);
     Ok(())
+}
+
+#[test]
+fn a_hand_looks_at_its_newest_task_between_turns(rt: HostRuntime) -> Result<(), Fail> {
+    let alloc = rt.alloc();
+    let script = "fn f() { return 1; } fn main() { let a = spawn f(); sync; print a; return 0; }";
+    let (_root, hands) = Crew::new(alloc, &plan(&rt, script)?, 1)?;
+    let mut hands = hands.0.0;
+    let hand = &mut hands[0];
+    assert!(rt; matches!(hand.turn(alloc, &OpenGate)?, Turn::Ran));
+    assert!(rt; matches!(hand.look_newest(alloc)?, Looked::Nothing));
+    assert!(rt; matches!(hand.turn(alloc, &OpenGate)?, Turn::Answered(_)));
+    assert!(rt; matches!(hand.turn(alloc, &OpenGate)?, Turn::Popped));
+    assert!(rt; matches!(hand.turn(alloc, &OpenGate)?, Turn::Ran));
+    assert!(rt; matches!(hand.look_newest(alloc)?, Looked::Goes));
+    assert!(rt; matches!(hand.turn(alloc, &OpenGate)?, Turn::Ended(_)));
+    Ok(())
+}
+
+/// Of which tasks a gate was told, in order: of each a digit, 1 for main, 2 and 3 for its first two children, and 9 for any other.
+#[derive(Drop)]
+struct Record {
+    entered: AtomicU64,
+    left: AtomicU64,
+}
+
+impl Record {
+    fn new() -> Record {
+        Record {
+            entered: AtomicU64::new(0),
+            left: AtomicU64::new(0),
+        }
+    }
+}
+
+fn digit(origin: &Origin) -> u64 {
+    match origin {
+        Origin::Instance { path, .. } => match (path.len(), path.rank_at(0)) {
+            (0, _) => 1,
+            (1, Some(0)) => 2,
+            (1, Some(1)) => 3,
+            _ => 9,
+        },
+        Origin::Loop { .. } => 9,
+    }
+}
+
+// No two threads tell it at once.
+fn write(list: &AtomicU64, origin: &Origin) {
+    let before = list.load(Ordering::SeqCst);
+    let after = before.wrapping_mul(10).wrapping_add(digit(origin));
+    list.store(after, Ordering::SeqCst);
+}
+
+impl Gate for Record {
+    fn enter(&self, origin: &Origin) {
+        write(&self.entered, origin);
+    }
+
+    fn leave(&self, origin: &Origin) {
+        write(&self.left, origin);
+    }
+}
+
+#[test]
+fn a_task_behind_a_known_fault_is_cut(rt: HostRuntime) -> Result<(), Fail> {
+    let alloc = rt.alloc();
+    let (mut root, hands) = Crew::new(alloc, &plan(&rt, FAULT_BEFORE_ANOTHER)?, 1)?;
+    let mut hands = hands.0.0;
+    let hand = &mut hands[0];
+    let gate = Record::new();
+    assert!(rt; matches!(hand.turn(alloc, &gate)?, Turn::Ran));
+    assert!(rt; matches!(hand.turn(alloc, &gate)?, Turn::Answered(_)));
+    assert!(rt; matches!(hand.turn(alloc, &gate)?, Turn::Popped));
+    assert!(rt; matches!(hand.turn(alloc, &gate)?, Turn::Ran));
+    assert!(rt; matches!(hand.turn(alloc, &gate)?, Turn::Answered(_)));
+    assert!(rt; matches!(hand.turn(alloc, &gate)?, Turn::Popped));
+    assert!(rt; matches!(hand.turn(alloc, &gate)?, Turn::Ran));
+    assert!(rt; matches!(hand.turn(alloc, &gate)?, Turn::Resumed));
+    assert!(rt; matches!(hand.turn(alloc, &gate)?, Turn::Ended(_)));
+    assert_eq!(rt; gate.entered.load(Ordering::SeqCst), 12);
+    assert_eq!(rt; gate.left.load(Ordering::SeqCst), 21);
+    if let Look::Ready = root.look() {
+        let Outcome::Fault(fault) = root.take().outcome else {
+            panic!(rt; "main ends by its child's fault");
+        };
+        assert!(rt; fault.kind == FaultKind::Divide);
+        assert!(rt; fault.at.path.rank_at(0) == Some(0) && fault.at.rank == 0);
+        return Ok(());
+    }
+    panic!(rt; "main has answered")
 }

@@ -1,6 +1,6 @@
 // Runs on workers: they work at once, and write the same however they share the work.
 
-use super::{FAULTY_CHILD, Host, SQUARES, TWO_DRAWS, ends, generated, guarded};
+use super::{FAULT_BEFORE_ANOTHER, FAULTY_CHILD, Host, SQUARES, TWO_DRAWS, ends, generated, guarded};
 use engine::Gate;
 use ped_path::Ped;
 use serial_meaning::Origin;
@@ -105,7 +105,7 @@ fn repeats<R: Host>(
 
 #[test]
 fn runs_are_the_same_on_any_workers(rt: HostRuntime) -> Result<(), Fail> {
-    let rows: [(&str, &[u8], u8, &[u8]); 3] = [
+    let rows: [(&str, &[u8], u8, &[u8]); 4] = [
         (
             "run --gamma 1,1 --show log",
             TWO_DRAWS,
@@ -119,6 +119,12 @@ fn runs_are_the_same_on_any_workers(rt: HostRuntime) -> Result<(), Fail> {
             b"7\nfault 0.0: division by zero\n",
         ),
         ("run", SQUARES, 0, b"0\n1\n4\n9\n16\n"),
+        (
+            "run",
+            FAULT_BEFORE_ANOTHER.as_bytes(),
+            1,
+            b"fault 0.0: division by zero\n",
+        ),
     ];
     for (line, script, code, output) in rows {
         repeats(&rt, line, 20, script, code, output)?;
@@ -138,4 +144,17 @@ fn generated_scripts_are_the_same_on_any_workers(rt: HostRuntime) -> Result<(), 
         repeats(&rt, "run --gamma 0", times, &script, 0, output)?;
     }
     Ok(())
+}
+
+// Without cuts each level would take three times as long as the one before.
+#[test]
+fn what_stands_behind_a_known_fault_is_not_run(rt: HostRuntime) -> Result<(), Fail> {
+    let alloc = rt.alloc();
+    let mut output = String::from_str(alloc, "fault 0")?;
+    for _ in 1..100 {
+        output.push_str(".0")?;
+    }
+    output.push_str(": depth\n")?;
+    let script = b"fn f(n) { spawn f(n); spawn f(n); spawn f(n); return 0; } fn main() { spawn f(1); sync; return 0; }";
+    repeats(&rt, "run --depth 100", 2, script, 1, output.as_bytes())
 }

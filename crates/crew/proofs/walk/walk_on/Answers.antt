@@ -12,7 +12,7 @@ resume_with-requires-clause-tags c = it_has_answers _ _ _ _ c.requires.walk c.in
 pub returns-in_ok-push-in-Spawn : goal.returns-in_ok-push-in-Spawn
 returns-in_ok-push-in-Spawn c =
     walks_by_child _ _ _ _ c.requires.walk c.in_ok-stop.field-0 c.in_ok-stop.ensures c.in-Spawn.child c.in-Spawn.rest c.in-Spawn.is c.notes_go_on.ensures c.in_ok-answer-in-Spawn.answer
-    c.in_ok-answer-in-Spawn.ensures.plan (c.in_ok-answer-in-Spawn.ensures.origin ∙ c.in_ok-share_origin-in-Spawn.ensures) _
+    c.in_ok-answer-in-Spawn.ensures.plan (c.in_ok-answer-in-Spawn.ensures.origin ∙ c.in_ok-share_origin-in-Spawn.ensures) c.in_ok-answer-in-Spawn.ensures.fault _
     (c.in_ok-push-in-Spawn.ensures.items ∙ ap (λ l. l ++ c.in_ok-answer-in-Spawn.answer ∷ []) c.answers.view_is) _ _ c.in_ok-sight.ensures
     (c.in_ok-see-in-Spawn.ensures ∙ ap (λ j. with_child j c.in-Spawn.child.task.origin c.in_ok-sight.sight) c.requires.same)
 
