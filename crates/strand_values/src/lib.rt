@@ -4,6 +4,7 @@
 #![tactic(auto)]
 
 mod arithmetic;
+mod entry;
 mod environment;
 mod halt;
 mod memory;
