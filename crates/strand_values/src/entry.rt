@@ -7,6 +7,7 @@ ghost use Rattle.serial_meaning.specs.Values.{items_of};
 ghost use Rattle.serial_meaning.specs.Exec.{with_item, with_front};
 
 use crate::memory::Memory;
+use crate::names::same_name;
 use crate::slots::{fill_slot, set_at};
 use serial_meaning::{Slot, Value};
 use smallvec::SmallVec;
@@ -41,7 +42,7 @@ impl Entry {
     pub fn has_name(&self, name: &[u8]) -> bool
         ensures { result ≡ bytes_eq self.now.name name.now }
     {
-        self.name.as_slice() == name
+        same_name(self.name.as_slice(), name)
     }
 
     pub fn slot(&self) -> &Slot

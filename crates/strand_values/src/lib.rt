@@ -8,6 +8,7 @@ mod entry;
 mod environment;
 mod halt;
 mod memory;
+mod names;
 mod scalar;
 mod slots;
 #[cfg(test)]
