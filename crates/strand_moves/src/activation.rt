@@ -3,7 +3,7 @@
 ghost use Rattle.std.specs.Prelude.{◌≡◌, false, None, IfOk};
 ghost use Rattle.std.specs.Option.{option_copied};
 ghost use Rattle.serial_meaning.specs.Exec.{bound};
-ghost use Rattle.strand_moves.specs.Machines.{body_of};
+ghost use Rattle.strand_moves.specs.Running.{body_of};
 
 use crate::cursor::Cursor;
 use crate::memory::Memory;
