@@ -7,8 +7,8 @@ ghost use Rattle.serial_meaning.specs.Plan.{PlanView};
 ghost use Rattle.strand_meaning.specs.Task.{answered, changed, with_answer, with_values};
 ghost use Rattle.strand_moves.specs.Running.{IsInstance, machine_of, path_of};
 
-use crate::running::Running;
 use crate::memory::Memory;
+use crate::running::Running;
 use script_grammar::Name;
 use serial_meaning::{Fault, Value};
 use std::alloc::Global;

@@ -12,8 +12,8 @@ ghost use Rattle.strand_moves.specs.Running.{IsInstance, machine_of, path_of};
 ghost use Rattle.strand_moves.specs.Moves.{Makes, MovesTrail, call_to, strand_of};
 
 use crate::activation::{Activation, copy_of};
-use crate::running::Running;
 use crate::memory::Memory;
+use crate::running::Running;
 use crate::shown::{Moved, Shown};
 use script_grammar::{CallText, Function, Items, Name};
 use serial_meaning::plan::function_number;

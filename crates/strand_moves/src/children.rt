@@ -18,8 +18,8 @@ ghost use Rattle.strand_moves.specs.declared.shown.Shown.TheVariants as shown;
 
 use crate::activation::copy_of;
 use crate::calls::function_in;
-use crate::running::Running;
 use crate::memory::Memory;
+use crate::running::Running;
 use crate::shown::{Child, Moved, Shown};
 use dotmix::Trail;
 use loop_range::IterRange;
