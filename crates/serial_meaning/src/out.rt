@@ -10,6 +10,9 @@ use std::mem;
 /// How many events are moved at most where a list is put behind another one.
 const MOST_MOVED: usize = 8;
 
+/// For how many events a list takes memory at its first one. Most lists come to so few.
+const FIRST_ROOM: usize = 4;
+
 /// A list of events. It is kept in segments, which are moved and not copied where a list of more than a few events is put behind another one.
 #[derive(Drop)]
 pub struct Out {
@@ -56,7 +59,7 @@ impl Out {
         match &mut self.segments {
             Some(segments) => segments.last.push(event)?,
             None => {
-                let mut last = Vec::with_capacity(alloc, 1)?;
+                let mut last = Vec::with_capacity(alloc, FIRST_ROOM)?;
                 last.push(event)?;
                 self.segments = Some(Segments {
                     full: Vec::new(alloc),

@@ -7,8 +7,8 @@ use Rattle.serial_meaning.specs.Plan.{PlanView}
 use Rattle.strand_meaning.specs.Machine.{Activation, Machine}
 use Rattle.strand_meaning.specs.Task.{changed, changed_at}
 use Rattle.strand_moves.specs.declared.activation.Activation as own
-use Rattle.strand_moves.specs.declared.instance.Instance.{Instance}
-use Rattle.strand_moves.specs.Machines.{machine_of, activation_of}
+use Rattle.strand_moves.specs.declared.running.Running.{Running}
+use Rattle.strand_moves.specs.Running.{machine_of, activation_of}
 
 module _ {X : Type 0} (view : X → Activation) (change : Activation → Activation) where
   at-top : (b : Bool) (h : ℕ) (a : Activation) (below : List Activation) → nat_eq h (length below) ≡ b → changed_at h change (a ∷ below) ≡ (if b then change a ∷ below else a ∷ changed_at h change below)
@@ -74,7 +74,7 @@ module _ (change : Activation → Activation) where
   below-changed b h m below e f g =
       sym (ap (λ (t : Bool). if t then record m { top = change m.top } else record m { below = changed_at h change m.below }) (e ∙ f) ∙ ap (λ (l : List Activation). record m { below = l }) g)
 
-module _ (plan : PlanView) (change : Activation → Activation) (h : ℕ) (i : Instance) where
+module _ (plan : PlanView) (change : Activation → Activation) (h : ℕ) (i : Running) where
   other : (n : ℕ) → h < n ⊎ n < h → nat_eq h n ≡ false
   other n l = grind (arith, eq-eqb)
 

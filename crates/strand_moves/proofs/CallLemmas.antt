@@ -8,10 +8,10 @@ use Rattle.serial_meaning.specs.Functions.{function_at}
 use Rattle.serial_meaning.specs.Plan.{PlanView, functions_of}
 use Rattle.serial_meaning.specs.declared.value.Value.{Value}
 use Rattle.strand_moves.specs.declared.activation.Activation.{Activation}
-use Rattle.strand_moves.specs.declared.instance.Instance.{Instance}
+use Rattle.strand_moves.specs.declared.running.Running.{Running}
 use Rattle.strand_moves.specs.Acts.{IsCallee}
 use Rattle.strand_moves.specs.Cursors.{left_of}
-use Rattle.strand_moves.specs.Machines.{activation_of, body_in, body_of, machine_of}
+use Rattle.strand_moves.specs.Running.{activation_of, body_in, body_of, machine_of}
 use Rattle.strand_moves.proofs.Equations.{callee}
 
 -- Tests
@@ -28,7 +28,7 @@ is_not_below a b h = by_test (nat_lt a b) refl
 
 -- Machines
 
-pub calls-open : (plan : PlanView) (i : Instance) → length (machine_of plan i).below ≡ length i.below.items
+pub calls-open : (plan : PlanView) (i : Running) → length (machine_of plan i).below ≡ length i.below.items
 calls-open plan i = length-map (reverse i.below.items) (activation_of plan) ∙ length-reverse i.below.items
 
 -- the activations below, with one more
@@ -41,7 +41,7 @@ module _ (plan : PlanView) (number : ℕ) (f : Function) (vs : List Value) (targ
       let left = ap (λ (n : ℕ). left_of (body_of plan n) a.cursor) is.function ∙ ap (λ (o : Option Function). left_of (body_in o) a.cursor) h ∙ is.left in
       rw (left, is.function, is.returning, is.env, is.spawned, is.faulted, is.target) refl
 
-  pub machine-begun : (old new : Instance) → IsCallee number f vs target new.top → new.below.items ≡ old.below.items ++ old.top ∷ [] → new.rank ≡ old.rank → new.steps ≡ old.steps →
+  pub machine-begun : (old new : Running) → IsCallee number f vs target new.top → new.below.items ≡ old.below.items ++ old.top ∷ [] → new.rank ≡ old.rank → new.steps ≡ old.steps →
       function_at (functions_of plan) number ≡ Some f →
       machine_of plan new ≡ record { rank = old.rank; steps = old.steps; top = callee target number f vs; below = activation_of plan old.top ∷ map (activation_of plan) (reverse old.below.items) }
   machine-begun old new is b r s h = rw (callee-begun new.top is h, b, below-more plan old.below.items old.top, r, s) refl

@@ -1,5 +1,5 @@
 -- Blocks that are entered and left.
-use Rattle.std.proofs.Common.{◌≡◌, ℕ, ◌+◌, ◌-◌, ◌<◌, ◌≤◌, Bool, true, false, List, [], ◌∷◌, ◌++◌, Option, Some, length, drop, slice_get, refl, sym, ap, ◌∙◌, arith, if◌then◌else◌}
+use Rattle.std.proofs.Common.{◌≡◌, ℕ, ◌+◌, ◌-◌, ◌<◌, ◌≤◌, Bool, true, false, List, [], ◌∷◌, ◌++◌, Option, Some, None, IsSome, length, drop, slice_get, refl, sym, ap, ◌∙◌, arith, if◌then◌else◌}
 use Rattle.std.proofs.lemmas.List.{append-nil, append_assoc, drop_all, drop_more}
 use Rattle.std.proofs.lemmas.Option.{slice_get_within, get_or_from_slice_get}
 use Rattle.script_grammar.specs.declared.tree.Stmt.{Stmt, out-Stmt}
@@ -8,6 +8,11 @@ use Rattle.strand_moves.specs.declared.cursor.Part.TheVariants as part
 use Rattle.strand_moves.specs.declared.cursor.Entered.{Entered}
 use Rattle.strand_moves.specs.declared.cursor.Cursor.{Cursor}
 use Rattle.strand_moves.specs.Cursors.{part_of, part_at, place_before, block_in, block_of, behind_of, left_of, IsBehind, Passes}
+
+-- where no block is entered, none can be left
+pub nothing-there : (es : List Entered) → (0 < length es → IsSome {T = Entered} None) → es ≡ []
+nothing-there [] f = refl
+nothing-there (e ∷ es) f = let some : false ≡ true = f (omega arith) in absurd (cc)
 
 -- what is left where these blocks are entered, from this place in the innermost one on
 abbrev pub rest_of : List Stmt → List Entered → ℕ → List Stmt

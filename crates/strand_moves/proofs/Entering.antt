@@ -10,9 +10,9 @@ use Rattle.serial_meaning.specs.Plan.{PlanView}
 use Rattle.serial_meaning.specs.declared.value.Value.{Value}
 use Rattle.strand_moves.specs.declared.cursor.Part.TheVariants as part
 use Rattle.strand_moves.specs.declared.cursor.Cursor.{Cursor}
-use Rattle.strand_moves.specs.declared.instance.Instance.{Instance}
+use Rattle.strand_moves.specs.declared.running.Running.{Running}
 use Rattle.strand_moves.specs.Cursors.{part_of, left_of}
-use Rattle.strand_moves.specs.Machines.{machine_of, path_of, body_of}
+use Rattle.strand_moves.specs.Running.{machine_of, path_of, body_of}
 use Rattle.strand_moves.specs.Moves.{acted}
 use Rattle.strand_moves.proofs.Equations.{went, branch, turn}
 
@@ -20,11 +20,11 @@ part-if : (e : Expr) (first second : List Stmt) (b : Bool) → part_of (act.If e
 part-if e first second true = refl
 part-if e first second false = refl
 
-module _ (plan : PlanView) (i : Instance) (st : Stmt) (e : Expr) (v : Value) (cursor : Cursor) (known : value_of e i.top.env ≡ Ok v) where
+module _ (plan : PlanView) (i : Running) (st : Stmt) (e : Expr) (v : Value) (cursor : Cursor) (known : value_of e i.top.env ≡ Ok v) where
   abbrev within : List Stmt
   within = body_of plan i.top.function
 
-  abbrev pub with_cursor : Instance
+  abbrev pub with_cursor : Running
   with_cursor = record i { top = record i.top { cursor = cursor } }
 
   pub branch-into : (first second : List Stmt) (b : Bool) → b ≡ is_true v → out-Act (out-Stmt st).act ≡ act.If e first second →

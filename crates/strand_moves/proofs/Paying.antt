@@ -12,11 +12,11 @@ use Rattle.serial_meaning.specs.Plan.{PlanView}
 use Rattle.serial_meaning.specs.declared.event.Fault.{Fault}
 use Rattle.strand_meaning.specs.Machine.{Token, Machine, Reached, statement_move}
 use Rattle.strand_values.specs.declared.halt.Halt as values
-use Rattle.strand_moves.specs.declared.instance.Instance.{Instance}
+use Rattle.strand_moves.specs.declared.running.Running.{Running}
 use Rattle.strand_moves.specs.declared.shown.Moved.{Moved}
 use Rattle.strand_moves.specs.Acts.{Acts}
 use Rattle.strand_moves.specs.Cursors.{IsBehind}
-use Rattle.strand_moves.specs.Machines.{body_of, machine_of, path_of}
+use Rattle.strand_moves.specs.Running.{body_of, machine_of, path_of}
 use Rattle.strand_moves.specs.Moves.{acted, Makes, strand_of}
 use Rattle.strand_moves.proofs.Equations.{behind_statement, paid-move}
 
@@ -37,8 +37,8 @@ module _ (plan : PlanView) (path : List ℕ) (m : Machine) (st : Stmt) (x : Name
   unfolding acted
   spawn-at = refl
 
-module _ (plan : PlanView) (i paid : Instance) (n : ℕ) (is-paid : paid ≡ record i { steps = n }) (less : n + 1 ≡ i.steps) where
-  pub statement-paid : (st : Stmt) (a : Act-F Act Stmt) (new : Instance) (result : Result Moved values.Halt) → out-Act (out-Stmt st).act ≡ a → Acts plan st a paid new result →
+module _ (plan : PlanView) (i paid : Running) (n : ℕ) (is-paid : paid ≡ record i { steps = n }) (less : n + 1 ≡ i.steps) where
+  pub statement-paid : (st : Stmt) (a : Act-F Act Stmt) (new : Running) (result : Result Moved values.Halt) → out-Act (out-Stmt st).act ≡ a → Acts plan st a paid new result →
       Makes (statement_move plan (path_of i) (machine_of plan i) st (machine_of plan i).top.left) (strand_of (path_of i) (machine_of plan i)) (machine_of plan new) result
   statement-paid st a new result e h =
       let m = machine_of plan i in
@@ -48,4 +48,4 @@ module _ (plan : PlanView) (i paid : Instance) (n : ℕ) (is-paid : paid ≡ rec
       (paid-move plan (path_of i) m st m.top.left n one ∙ ap (λ (b : Act-F Act Stmt). acted plan (path_of i) (behind_statement m n m.top.left) st b) e) acts
 
   pub paid-behind : (st : Stmt) → IsBehind (body_of plan i.top.function) i.top.cursor st → IsBehind (body_of plan paid.top.function) paid.top.cursor st
-  paid-behind st h = let P : Instance → Type 0 = λ x. IsBehind (body_of plan x.top.function) x.top.cursor st in subst P (sym is-paid) h
+  paid-behind st h = let P : Running → Type 0 = λ x. IsBehind (body_of plan x.top.function) x.top.cursor st in subst P (sym is-paid) h

@@ -15,19 +15,19 @@ use Rattle.serial_meaning.specs.declared.event.FaultKind.{FaultKind}
 use Rattle.serial_meaning.specs.declared.event.FaultKind.TheVariants.{Index, Depth, Budget}
 use Rattle.strand_values.specs.declared.halt.Halt as values
 use Rattle.strand_moves.specs.declared.activation.Activation.{Activation}
-use Rattle.strand_moves.specs.declared.instance.Instance.{Instance}
+use Rattle.strand_moves.specs.declared.running.Running.{Running}
 use Rattle.strand_moves.specs.declared.shown.Moved.{Moved}
 use Rattle.strand_moves.specs.Cursors.{left_of}
-use Rattle.strand_moves.specs.Machines.{machine_of, path_of}
+use Rattle.strand_moves.specs.Running.{machine_of, path_of}
 use Rattle.strand_moves.specs.Moves.{acted, Makes, strand_of}
 
 -- the call shows and leaves what this act does, and a fault is one of this strand
-abbrev pub Acts : PlanView → Stmt → Act-F Act Stmt → Instance → Instance → Result Moved values.Halt → Type 0
+abbrev pub Acts : PlanView → Stmt → Act-F Act Stmt → Running → Running → Result Moved values.Halt → Type 0
 Acts plan st a old new result =
     Makes (acted plan (path_of old) (machine_of plan old) st a) (strand_of (path_of old) (machine_of plan old)) (machine_of plan new) result
 
 -- the step, the rank, and whether it may still be a rank
-abbrev pub Costs : Instance → Instance → Type 0
+abbrev pub Costs : Running → Running → Type 0
 Costs old new = new.rank + new.steps < old.rank + old.steps + 2
 
 -- the pedigrees in the iterations of a loop, if there are any, are within the depth

@@ -2,3 +2,4 @@ pub mod Acts
 pub mod Cursors
 pub mod Machines
 pub mod Moves
+pub mod Running

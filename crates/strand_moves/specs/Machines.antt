@@ -1,48 +1,16 @@
--- What an instance is in the words of the strand's meaning.
-use Rattle.std.specs.Prelude.{ℕ, ◌+◌, ◌<◌, ◌^◌, List, [], Option, Some, None, map, reverse, length}
-use Rattle.dotmix.specs.Trails.{FitsGamma}
-use Rattle.script_grammar.specs.declared.tree.Function.{Function}
-use Rattle.script_grammar.specs.declared.tree.Stmt.{Stmt}
-use Rattle.serial_meaning.specs.Functions.{function_at}
-use Rattle.serial_meaning.specs.Plan.{PlanView, functions_of}
+-- What an instance is in the words of the strand's meaning: what stands in its box.
+use Rattle.std.specs.Prelude.{ℕ, List}
+use Rattle.serial_meaning.specs.Plan.{PlanView}
 use Rattle.strand_meaning.specs.Machine as meaning
-use Rattle.strand_moves.specs.declared.activation.Activation.{Activation}
 use Rattle.strand_moves.specs.declared.instance.Instance.{Instance}
-use Rattle.strand_moves.specs.Cursors.{left_of}
-
-abbrev pub body_in : Option Function → List Stmt
-body_in None = []
-body_in (Some f) = f.body
-
--- a function's body, by its place in the script
-abbrev pub body_of : PlanView → ℕ → List Stmt
-body_of plan function = body_in (function_at (functions_of plan) function)
-
-abbrev pub activation_of : PlanView → Activation → meaning.Activation
-activation_of plan a = record {
-  function = a.function;
-  left = left_of (body_of plan a.function) a.cursor;
-  returning = a.returning;
-  env = a.env;
-  spawned = a.spawned;
-  faulted = a.faulted;
-  target = a.target;
-}
+use Rattle.strand_moves.specs.Running as running
 
 abbrev pub machine_of : PlanView → Instance → meaning.Machine
-machine_of plan i = record {
-  rank = i.rank;
-  steps = i.steps;
-  top = activation_of plan i.top;
-  below = map (activation_of plan) (reverse i.below.items);
-}
+machine_of plan i = running.machine_of plan i.running.value
 
 abbrev pub path_of : Instance → List ℕ
-path_of i = i.trail.path
+path_of i = running.path_of i.running.value
 
--- An instance of this plan: its trail is one of the plan's coefficients, its strands are in the depth, and its ranks and steps
--- together are in 32 bits, since a rank costs a step.
-pub record IsInstance (plan : PlanView) (i : Instance) : Type 0 where
-  pub fits : FitsGamma plan.gamma i.trail
-  pub within : length i.trail.path < length plan.gamma
-  pub few : i.rank + i.steps < 2 ^ 32
+-- An instance of this plan.
+abbrev pub IsInstance : PlanView → Instance → Type 0
+IsInstance plan i = running.IsInstance plan i.running.value

@@ -3,11 +3,11 @@
 ghost use Rattle.std.specs.Prelude.{◌≡◌, false, None, IfOk};
 ghost use Rattle.std.specs.Option.{option_copied};
 ghost use Rattle.serial_meaning.specs.Exec.{bound};
-ghost use Rattle.strand_moves.specs.Machines.{body_of};
+ghost use Rattle.strand_moves.specs.Running.{body_of};
 
 use crate::cursor::Cursor;
 use crate::memory::Memory;
-use script_grammar::{Function, Items, Name, Stmt};
+use script_grammar::{Act, Function, Items, Name, Stmt};
 use serial_meaning::{Fault, Plan, Value};
 use std::alloc::Global;
 use strand_values::Environment;
@@ -48,7 +48,8 @@ impl Activation {
         ensures faulted { IfOk result (λ a. a.faulted ≡ None) }
         ensures target { IfOk result (λ a. a.target ≡ target) }
     {
-        let env = Environment::bound(alloc, function.params.as_slice(), args)?;
+        let more = lets(function.body.as_slice());
+        let env = Environment::bound(alloc, function.params.as_slice(), args, more)?;
         Ok(Activation {
             function: number,
             cursor: Cursor::start(alloc),
@@ -59,6 +60,17 @@ impl Activation {
             target,
         })
     }
+}
+
+/// How many variables the statements make, but for those of the blocks inside them.
+fn lets(body: &[Stmt]) -> usize {
+    let mut count: usize = 0;
+    for statement in body {
+        if let Act::Let(_, _) | Act::Array(_, _) = &statement.act {
+            count = count.saturating_add(1);
+        }
+    }
+    count
 }
 
 /// The statements of the function at this place, and none where there is no function.

@@ -5,16 +5,16 @@ ghost use Rattle.std.specs.Option.{option_copied};
 ghost use Rattle.serial_meaning.specs.Open.{least};
 ghost use Rattle.serial_meaning.specs.Plan.{PlanView};
 ghost use Rattle.strand_meaning.specs.Task.{answered, changed, with_answer, with_values};
-ghost use Rattle.strand_moves.specs.Machines.{IsInstance, machine_of, path_of};
+ghost use Rattle.strand_moves.specs.Running.{IsInstance, machine_of, path_of};
 
-use crate::instance::Instance;
 use crate::memory::Memory;
+use crate::running::Running;
 use script_grammar::Name;
 use serial_meaning::{Fault, Value};
 use std::alloc::Global;
 use strand_values::Environment;
 
-impl Instance {
+impl Running {
     /// Takes the fault of a child of the activation with `height` others below it.
     pub fn take_fault(&mut self, height: usize, fault: Fault)
         ensures machine { (plan : PlanView) (target : _) → machine_of plan self.new ≡ changed height (answered target (Err fault)) (machine_of plan self.old) }

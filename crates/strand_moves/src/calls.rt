@@ -8,12 +8,12 @@ ghost use Rattle.serial_meaning.specs.Plan.{functions_of};
 ghost use Rattle.strand_meaning.specs.Machine.{return_move, spawns_in, with_scalar};
 ghost use Rattle.strand_values.specs.Gives.{Gives};
 ghost use Rattle.strand_moves.specs.Acts.{Acts, Costs, IsCallee, result_of};
-ghost use Rattle.strand_moves.specs.Machines.{IsInstance, machine_of, path_of};
+ghost use Rattle.strand_moves.specs.Running.{IsInstance, machine_of, path_of};
 ghost use Rattle.strand_moves.specs.Moves.{Makes, MovesTrail, call_to, strand_of};
 
 use crate::activation::{Activation, copy_of};
-use crate::instance::Instance;
 use crate::memory::Memory;
+use crate::running::Running;
 use crate::shown::{Moved, Shown};
 use script_grammar::{CallText, Function, Items, Name};
 use serial_meaning::plan::function_number;
@@ -25,7 +25,7 @@ use strand_values::Halt;
 /// How many calls may be open in an instance.
 const MOST_CALLS: usize = 256;
 
-impl Instance {
+impl Running {
     /// A call, whose value goes to a variable, if any.
     pub(crate) fn call(
         &mut self,

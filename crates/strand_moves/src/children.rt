@@ -12,14 +12,14 @@ ghost use Rattle.serial_meaning.specs.Plan.{PlanView, functions_of};
 ghost use Rattle.serial_meaning.specs.declared.event.Event.TheVariants as event;
 ghost use Rattle.strand_meaning.specs.Machine.{Told, sync_tokens};
 ghost use Rattle.strand_moves.specs.Acts.{Acts, Costs, loop_begins};
-ghost use Rattle.strand_moves.specs.Machines.{IsInstance, path_of};
+ghost use Rattle.strand_moves.specs.Running.{IsInstance, path_of};
 ghost use Rattle.strand_moves.specs.Moves.{spawn_to, tokens_of, MovesTrail, ShowsTrail};
 ghost use Rattle.strand_moves.specs.declared.shown.Shown.TheVariants as shown;
 
 use crate::activation::copy_of;
 use crate::calls::function_in;
-use crate::instance::Instance;
 use crate::memory::Memory;
+use crate::running::Running;
 use crate::shown::{Child, Moved, Shown};
 use dotmix::Trail;
 use loop_range::IterRange;
@@ -30,7 +30,7 @@ use serial_meaning::{Event, FaultKind, Origin, Plan, Value};
 use std::alloc::Global;
 use strand_values::{Halt, iterations, number};
 
-impl Instance {
+impl Running {
     /// A spawn, whose child's value is to go to a variable, if any.
     pub(crate) fn spawn(
         &mut self,

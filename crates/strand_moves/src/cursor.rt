@@ -8,27 +8,29 @@ ghost use Rattle.strand_moves.specs.Cursors.{part_of, block_in, block_of, left_o
 
 use crate::memory::Memory;
 use script_grammar::{Act, Stmt};
+use smallvec::SmallVec;
 use std::alloc::Global;
 
 /// A block of a statement: one of the two of an `if`, or a loop's body.
-#[derive(Clone, Copy, Debug, PartialEq, Eq)]
+#[derive(Clone, Copy, Debug, Default, PartialEq, Eq)]
 pub(crate) enum Part {
+    #[default]
     Yes,
     No,
     Turn,
 }
 
 /// A block that was entered, and the index at which the enclosing block goes on: at a loop itself, and behind an `if`.
-#[derive(Clone, Copy, Debug, PartialEq, Eq)]
+#[derive(Clone, Copy, Debug, Default, PartialEq, Eq)]
 pub(crate) struct Entered {
     pub(crate) part: Part,
     pub(crate) back: usize,
 }
 
-/// A place in a function's body: the blocks that were entered, the outermost first, and the index in the innermost block.
+/// A place in a function's body: the blocks that were entered, the outermost first, of which two take no memory, and the index in the innermost block.
 #[derive(Drop)]
 pub(crate) struct Cursor {
-    pub(crate) entered: Vec<Entered>,
+    pub(crate) entered: SmallVec<Entered, 2>,
     pub(crate) next: usize,
 }
 
@@ -81,7 +83,7 @@ impl Cursor {
         ensures { (body : List Stmt) → left_of body result ≡ body }
     {
         Cursor {
-            entered: Vec::new(alloc),
+            entered: SmallVec::new(alloc),
             next: 0,
         }
     }

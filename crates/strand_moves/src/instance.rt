@@ -1,35 +1,29 @@
-// Instances, and their moves.
+// Instances.
 
-ghost use Rattle.std.specs.Prelude.{◌≡◌, ◌<◌, ◌≤◌, ◌+◌, ◌^◌, ◌++◌, ◌∷◌, [], Err, IfOk, OnOk, length};
+ghost use Rattle.std.specs.Prelude.{◌≡◌, ◌<◌, [], ◌∷◌, Ok, Err, IfOk, OnOk, length};
+ghost use Rattle.std.specs.Option.{option_copied};
 ghost use Rattle.dotmix.specs.Trails.{FitsGamma};
-ghost use Rattle.serial_meaning.specs.Plan.{functions_of};
+ghost use Rattle.serial_meaning.specs.Plan.{PlanView, functions_of};
 ghost use Rattle.strand_meaning.specs.Machine.{Stands, begun, move};
+ghost use Rattle.strand_meaning.specs.Task.{answered, changed, with_values};
 
-use crate::activation::{Activation, body};
 use crate::memory::Memory;
+use crate::running::Running;
 use crate::shown::Moved;
 use dotmix::Trail;
-use ped_path::Pedigree;
-use script_grammar::Items;
-use serial_meaning::{Fault, FaultKind, Plan, Value};
+use script_grammar::{Items, Name};
+use serial_meaning::{Fault, Plan, Value};
 use std::alloc::Global;
-use strand_values::Halt;
 
-/// An instance that is running: its path, its rank and the steps that it has left, and its activations.
+/// An instance that is running. It stands in a box, since the tasks above are moved again and again.
 #[derive(Drop)]
 pub struct Instance {
-    pub(crate) trail: Trail,
-    pub(crate) rank: u64,
-    pub(crate) steps: u64,
-    /// The innermost activation.
-    pub(crate) top: Activation,
-    /// The others, which are its open calls, the outermost first.
-    pub(crate) below: Vec<Activation>,
+    running: Box<Running>,
 }
 
 impl Instance {
     ghost use Rattle.strand_moves.specs.Machines.{IsInstance, machine_of, path_of};
-    ghost use Rattle.strand_moves.specs.Moves.{run_of, Makes, MovesTrail, strand_of};
+    ghost use Rattle.strand_moves.specs.Moves.{run_of, MovesTrail};
 
     /// An instance of the function at this place in the script, before its first move.
     pub fn begin(
@@ -46,13 +40,9 @@ impl Instance {
         ensures path { IfOk result (λ i. path_of i ≡ trail.path) }
         ensures sound { IfOk result (IsInstance plan.now) }
     {
-        let f = &plan.functions()[function as usize];
+        let running = Running::begin(alloc, plan, function, args, trail)?;
         Ok(Instance {
-            trail,
-            rank: 0,
-            steps: plan.limits.budget as u64,
-            top: Activation::new(alloc, function, f, args, None)?,
-            below: Vec::new(alloc),
+            running: Box::new(alloc, running)?,
         })
     }
 
@@ -64,61 +54,52 @@ impl Instance {
         ensures path { path_of self.new ≡ path_of self.old }
         ensures sound { IfOk result (λ _. IsInstance plan.now self.new) }
     {
-        let rank = self.rank;
-        match self.go_on(alloc, plan) {
-            Ok(moved) => Ok(moved),
-            Err(Halt::Fault(kind)) => {
-                let path = self.trail.path.share()?;
-                let at = Pedigree { path, rank };
-                Ok(Moved::Faulted(Fault { kind, at }))
-            }
-            Err(Halt::Memory) => Err(Memory),
-        }
-    }
-
-    fn go_on(&mut self, alloc: Global, plan: &Plan) -> Result<Moved, Halt>
-        requires { IsInstance plan.now self.old }
-        ensures moves { let m = machine_of plan.now self.old in
-            Makes (move plan.now (path_of self.old) m) (strand_of (path_of self.old) m) (machine_of plan.now self.new) result }
-        ensures child { IfOk result (MovesTrail plan.now) }
-        ensures trail { self.new.trail ≡ self.old.trail }
-        ensures few { self.new.rank + self.new.steps ≤ self.old.rank + self.old.steps }
-    {
-        match self.top.cursor.pass(body(plan, self.top.function)) {
-            Some(statement) => self.statement(alloc, plan, statement),
-            None if self.top.returning => self.end(alloc, plan),
-            None => self.return_step(plan),
-        }
+        self.running.step(alloc, plan)
     }
 
     /// The rank that it has, or will have once it goes on from the sync or the loop behind which it waits.
     pub fn rank(&self) -> u64
-        ensures { result ≡ self.now.rank }
+        ensures { result ≡ self.now.running.value.rank }
     {
-        self.rank
+        self.running.rank()
     }
 
-    /// Pays a step.
-    pub(crate) fn pay(&mut self) -> Result<(), FaultKind>
-        ensures ok { OnOk result (self.new ≡ record self.old { steps = self.new.steps }) }
-        ensures paid { OnOk result (self.new.steps + 1 ≡ self.old.steps) }
-        ensures err { (kind : _) → result ≡ Err kind → (self.new ≡ self.old) × (self.old.steps ≡ 0) × (kind ≡ FaultKind.Budget) }
+    /// Takes the fault of a child of the activation with `height` others below it.
+    pub fn take_fault(&mut self, height: usize, fault: Fault)
+        ensures machine { (plan : PlanView) (target : _) → machine_of plan self.new ≡ changed height (answered target (Err fault)) (machine_of plan self.old) }
+        ensures path { path_of self.new ≡ path_of self.old }
+        ensures sound { (plan : PlanView) → IsInstance plan self.old → IsInstance plan self.new }
     {
-        if self.steps == 0 {
-            return Err(FaultKind::Budget);
-        }
-        self.steps -= 1;
-        Ok(())
+        self.running.take_fault(height, fault);
     }
 
-    /// The pedigree of the strand.
-    pub(crate) fn pedigree(&self) -> Result<Pedigree, Memory>
-        requires { self.now.rank < 2 ^ 32 }
-        ensures { IfOk result (λ j. j ≡ path_of self.now ++ self.now.rank ∷ []) }
+    /// Takes the value of a child of the activation with `height` others below it. A variable that isn't there doesn't come to be.
+    pub fn take_value(&mut self, height: usize, target: Option<&Name>, value: Value)
+        ensures machine { (plan : PlanView) → machine_of plan self.new ≡ changed height (answered (option_copied target.entry) (Ok (value ∷ []))) (machine_of plan self.old) }
+        ensures path { path_of self.new ≡ path_of self.old }
+        ensures sound { (plan : PlanView) → IsInstance plan self.old → IsInstance plan self.new }
     {
-        Ok(Pedigree {
-            path: self.trail.path.share()?,
-            rank: self.rank,
-        })
+        self.running.take_value(height, target, value);
+    }
+
+    /// Takes the values of a loop of the innermost activation. Where there was no memory for it the instance is of no more use.
+    pub fn take_values(
+        &mut self,
+        alloc: Global,
+        target: Option<&Name>,
+        values: &[Value],
+    ) -> Result<(), Memory>
+        ensures machine { OnOk result ((plan : PlanView) → machine_of plan self.new ≡ with_values (option_copied target.entry) values.now (machine_of plan self.old)) }
+        ensures path { OnOk result (path_of self.new ≡ path_of self.old) }
+        ensures sound { OnOk result ((plan : PlanView) → IsInstance plan self.old → IsInstance plan self.new) }
+    {
+        self.running.take_values(alloc, target, values)
+    }
+
+    /// The least fault among the answers that the innermost activation took since its last sync.
+    pub fn faulted(&self) -> Option<&Fault>
+        ensures { (plan : PlanView) → option_copied result ≡ (machine_of plan self.now).top.faulted }
+    {
+        self.running.faulted()
     }
 }

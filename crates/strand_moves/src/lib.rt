@@ -12,6 +12,7 @@ mod cursor;
 mod instance;
 mod memory;
 mod right;
+mod running;
 mod shown;
 mod statement;
 

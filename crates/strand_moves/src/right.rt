@@ -6,17 +6,17 @@ ghost use Rattle.script_grammar.specs.declared.tree.Right.TheVariants as right;
 ghost use Rattle.script_grammar.specs.declared.tree.Stmt.{Stmt};
 ghost use Rattle.serial_meaning.specs.Plan.{PlanView};
 ghost use Rattle.strand_moves.specs.Acts.{Acts, Costs};
-ghost use Rattle.strand_moves.specs.Machines.{IsInstance};
+ghost use Rattle.strand_moves.specs.Running.{IsInstance};
 ghost use Rattle.strand_moves.specs.Moves.{MovesTrail};
 
-use crate::instance::Instance;
+use crate::running::Running;
 use crate::shown::{Moved, Shown};
 use script_grammar::{Expr, Name, Right};
 use serial_meaning::{Event, Plan, Value};
 use std::alloc::Global;
 use strand_values::Halt;
 
-impl Instance {
+impl Running {
     /// `let x = R` or `x = R`.
     pub(crate) fn assign(
         &mut self,

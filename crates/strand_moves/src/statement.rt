@@ -8,17 +8,17 @@ ghost use Rattle.serial_meaning.specs.Plan.{PlanView};
 ghost use Rattle.strand_meaning.specs.Machine.{statement_move};
 ghost use Rattle.strand_moves.specs.Acts.{Acts, Costs};
 ghost use Rattle.strand_moves.specs.Cursors.{IsBehind};
-ghost use Rattle.strand_moves.specs.Machines.{IsInstance, machine_of, path_of, body_of};
+ghost use Rattle.strand_moves.specs.Running.{IsInstance, machine_of, path_of, body_of};
 ghost use Rattle.strand_moves.specs.Moves.{Makes, MovesTrail, strand_of};
 
-use crate::instance::Instance;
+use crate::running::Running;
 use crate::shown::{Moved, Shown};
 use script_grammar::{Act, Expr, Name, Number, Stmt};
 use serial_meaning::{Event, FaultKind, Plan};
 use std::alloc::Global;
 use strand_values::{Halt, count};
 
-impl Instance {
+impl Running {
     /// A statement, behind which the cursor stands: its step, and then what it does.
     pub(crate) fn statement(
         &mut self,

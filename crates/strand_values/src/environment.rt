@@ -6,21 +6,21 @@ ghost use Rattle.serial_meaning.specs.Exec.{bound, with_slot, zeros, set_item, h
 ghost use Rattle.strand_values.specs.Gives.{Gives, numbered, holding};
 ghost use Rattle.strand_values.specs.Targets.{IsUnknown};
 
+use crate::entry::Entry;
 use crate::halt::Halt;
 use crate::memory::Memory;
 use crate::scalar::number;
-use crate::slots::{fill_slot, set_at};
 use crate::value;
 use crate::variables::{item, items, place};
 use script_grammar::{Expr, Items, Name, Param};
-use serial_meaning::{Slot, Value, Variable};
+use serial_meaning::{Slot, Value};
 use std::alloc::Global;
 use std::marker::Model;
 
 /// The variables of an activation, in the order in which they were made: its parameters, and then those of its `let` statements.
 #[derive(Drop)]
 pub struct Environment {
-    variables: Vec<Variable>,
+    variables: Vec<Entry>,
 }
 
 impl Model for Environment {
@@ -33,17 +33,22 @@ impl Model for Environment {
 }
 
 impl Environment {
-    /// The parameters with their arguments, as far as there are both.
-    pub fn bound(alloc: Global, params: &[Param], args: Items<Value>) -> Result<Environment, Memory>
+    /// The parameters with their arguments, as far as there are both. So many more variables can be made without their list growing.
+    pub fn bound(
+        alloc: Global,
+        params: &[Param],
+        args: Items<Value>,
+        more: usize,
+    ) -> Result<Environment, Memory>
         ensures { IfOk result (λ env. env ≡ bound params.now args) }
     {
-        let mut variables = Vec::with_capacity(alloc, params.len())?;
+        let mut variables = Vec::with_capacity(alloc, params.len().saturating_add(more))?;
         let mut values = args.0.into_iter();
         for param in params {
             let Some(value) = values.next() else { break };
-            let name = Items(param.name.bytes.as_slice().to_vec(alloc)?);
             let slot = Slot::Scalar(value);
-            variables.push(Variable { name, slot })?;
+            let name = param.name.bytes.as_slice();
+            variables.push(Entry::new(alloc, name, slot)?)?;
         }
         Ok(Environment { variables })
     }
@@ -98,7 +103,7 @@ impl Environment {
         ensures missing { IsNone (slot_of self.old name.now.bytes) → self.new ≡ self.old }
     {
         if let Some(i) = place(&self.variables, name.bytes.as_slice()) {
-            self.variables[i].slot = Slot::Scalar(value);
+            self.variables[i].set_slot(Slot::Scalar(value));
         }
     }
 
@@ -117,7 +122,7 @@ impl Environment {
         ensures { self.new ≡ with_slot self.old name.now.bytes (Array (set_item (items_of (slot_of self.old name.now.bytes)) index value.now)) }
     {
         match place(&self.variables, name.bytes.as_slice()) {
-            Some(i) => set_at(&mut self.variables[i].slot, index as usize, number(value)),
+            Some(i) => self.variables[i].set_at(index as usize, number(value)),
             None => unreachable!(),
         }
     }
@@ -146,7 +151,7 @@ impl Environment {
         let Some(name) = target else { return Ok(()) };
         match place(&self.variables, name.bytes.as_slice()) {
             Some(i) => {
-                fill_slot(&mut self.variables[i].slot, alloc, values);
+                self.variables[i].set_front(alloc, values);
                 Ok(())
             }
             None => {
@@ -162,12 +167,12 @@ impl Environment {
     {
         match place(&self.variables, name) {
             Some(i) => {
-                self.variables[i].slot = slot;
+                self.variables[i].set_slot(slot);
                 Ok(())
             }
             None => {
-                let name = Items(name.to_vec(alloc)?);
-                self.variables.push(Variable { name, slot })?;
+                let entry = Entry::new(alloc, name, slot)?;
+                self.variables.push(entry)?;
                 Ok(())
             }
         }

@@ -4,9 +4,11 @@
 #![tactic(auto)]
 
 mod arithmetic;
+mod entry;
 mod environment;
 mod halt;
 mod memory;
+mod names;
 mod scalar;
 mod slots;
 #[cfg(test)]

@@ -7,15 +7,16 @@ ghost use Rattle.strand_values.specs.Gives.{Gives, numbered, integral};
 ghost use Rattle.strand_values.specs.Nodes as node;
 
 use crate::arithmetic::{compare, product, sum};
+use crate::entry::Entry;
 use crate::halt::Halt;
 use crate::scalar::{is_older, is_same, number, truth};
 use crate::variables::{item, number_of, scalar};
 use script_grammar::{Comparison, Expr, Items, Name, ProductPart, SumPart};
-use serial_meaning::{FaultKind, Value, Variable};
+use serial_meaning::{FaultKind, Value};
 use std::alloc::Global;
 
 #[cycle(value)]
-pub(crate) fn value(variables: &[Variable], e: &Expr) -> Result<Value, Halt>
+pub(crate) fn value(variables: &[Entry], e: &Expr) -> Result<Value, Halt>
     ensures { Gives result (value_of e.now variables.now) }
 {
     match e {
@@ -39,7 +40,7 @@ pub(crate) fn value(variables: &[Variable], e: &Expr) -> Result<Value, Halt>
 
 /// The number that the value counts as.
 #[cycle(value)]
-pub(crate) fn integer(variables: &[Variable], e: &Expr) -> Result<i64, Halt>
+pub(crate) fn integer(variables: &[Entry], e: &Expr) -> Result<i64, Halt>
     ensures { Gives result (numbered (value_of e.now variables.now)) }
 {
     match e {
@@ -81,7 +82,7 @@ fn whole(number: Result<i64, Halt>) -> Result<Value, Halt>
 }
 
 #[cycle(value)]
-fn item_at(variables: &[Variable], name: &Name, index: &Expr) -> Result<i64, Halt>
+fn item_at(variables: &[Entry], name: &Name, index: &Expr) -> Result<i64, Halt>
     ensures { Gives (integral result) (node.item_at variables.now name.now.bytes (value_of index.now variables.now)) }
 {
     let index = integer(variables, index)?;
@@ -92,14 +93,14 @@ fn item_at(variables: &[Variable], name: &Name, index: &Expr) -> Result<i64, Hal
 }
 
 #[cycle(value)]
-fn negated(variables: &[Variable], operand: &Expr) -> Result<i64, Halt>
+fn negated(variables: &[Entry], operand: &Expr) -> Result<i64, Halt>
     ensures { Gives (integral result) (node.negated (value_of operand.now variables.now)) }
 {
     Ok(integer(variables, operand)?.wrapping_neg())
 }
 
 #[cycle(value)]
-fn same(variables: &[Variable], left: Value, right: &Expr) -> Result<i64, Halt>
+fn same(variables: &[Entry], left: Value, right: &Expr) -> Result<i64, Halt>
     ensures { Gives (integral result) (node.same left (value_of right.now variables.now)) }
 {
     let right = value(variables, right)?;
@@ -107,7 +108,7 @@ fn same(variables: &[Variable], left: Value, right: &Expr) -> Result<i64, Halt>
 }
 
 #[cycle(value)]
-fn older(variables: &[Variable], left: Value, right: &Expr) -> Result<i64, Halt>
+fn older(variables: &[Entry], left: Value, right: &Expr) -> Result<i64, Halt>
     ensures { Gives (integral result) (node.older left (value_of right.now variables.now)) }
 {
     let right = value(variables, right)?;
@@ -115,7 +116,7 @@ fn older(variables: &[Variable], left: Value, right: &Expr) -> Result<i64, Halt>
 }
 
 #[cycle(value)]
-fn comparison(variables: &[Variable], left: i64, how: Comparison, right: &Expr) -> Result<i64, Halt>
+fn comparison(variables: &[Entry], left: i64, how: Comparison, right: &Expr) -> Result<i64, Halt>
     ensures { Gives (integral result) (node.comparison left how (value_of right.now variables.now)) }
 {
     let right = integer(variables, right)?;
@@ -124,7 +125,7 @@ fn comparison(variables: &[Variable], left: i64, how: Comparison, right: &Expr) 
 
 /// A sum as it is, also where nothing is added.
 #[cycle(value)]
-fn sum_value(variables: &[Variable], first: Value, rest: &[SumPart]) -> Result<Value, Halt>
+fn sum_value(variables: &[Entry], first: Value, rest: &[SumPart]) -> Result<Value, Halt>
     ensures { Gives result (sums variables.now first (map sum_part rest.now)) }
 {
     if rest.is_empty() {
@@ -134,7 +135,7 @@ fn sum_value(variables: &[Variable], first: Value, rest: &[SumPart]) -> Result<V
 }
 
 #[cycle(value)]
-fn add(variables: &[Variable], first: i64, rest: &[SumPart]) -> Result<i64, Halt>
+fn add(variables: &[Entry], first: i64, rest: &[SumPart]) -> Result<i64, Halt>
     ensures { Gives (integral result) (sums variables.now (Int first) (map sum_part rest.now)) }
 {
     let mut total = first;
@@ -147,7 +148,7 @@ fn add(variables: &[Variable], first: i64, rest: &[SumPart]) -> Result<i64, Halt
 
 /// A product as it is, also where nothing is multiplied.
 #[cycle(value)]
-fn product_value(variables: &[Variable], first: Value, rest: &[ProductPart]) -> Result<Value, Halt>
+fn product_value(variables: &[Entry], first: Value, rest: &[ProductPart]) -> Result<Value, Halt>
     ensures { Gives result (products variables.now first (map product_part rest.now)) }
 {
     if rest.is_empty() {
@@ -157,7 +158,7 @@ fn product_value(variables: &[Variable], first: Value, rest: &[ProductPart]) -> 
 }
 
 #[cycle(value)]
-fn multiply(variables: &[Variable], first: i64, rest: &[ProductPart]) -> Result<i64, Halt>
+fn multiply(variables: &[Entry], first: i64, rest: &[ProductPart]) -> Result<i64, Halt>
     ensures { Gives (integral result) (products variables.now (Int first) (map product_part rest.now)) }
 {
     let mut total = first;
@@ -171,7 +172,7 @@ fn multiply(variables: &[Variable], first: i64, rest: &[ProductPart]) -> Result<
 /// The values of arguments, from left to right.
 pub(crate) fn values(
     alloc: Global,
-    variables: &[Variable],
+    variables: &[Entry],
     args: &[Expr],
 ) -> Result<Items<Value>, Halt>
     ensures { Gives result (values_of args.now variables.now) }

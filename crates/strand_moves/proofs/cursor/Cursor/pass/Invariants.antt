@@ -1,4 +1,4 @@
-use Rattle.std.proofs.Common.{◌≡◌, vec_len}
+use Rattle.std.proofs.Common.{◌≡◌, length}
 use Rattle.strand_moves.specs.Cursors.{left_of}
 use Rattle.strand_moves.proofs.cursor.Cursor.pass.Given as goal
 
@@ -6,4 +6,4 @@ abbrev pub invariant-loop-statement : goal.invariant-loop-statement
 invariant-loop-statement l = left_of l.body l.self ≡ left_of l.body l.initial.self
 
 abbrev pub decreases-loop-statement : goal.decreases-loop-statement
-decreases-loop-statement l = vec_len l.self.entered
+decreases-loop-statement l = length l.self.entered.items

@@ -4,6 +4,6 @@ use Rattle.strand_moves.proofs.cursor.Cursor.turn.Goals as goal
 
 pub returns : goal.returns
 returns c = λ body st behind.
-    let pushed = c.in_ok-push.ensures.items in
+    let pushed = c.in_ok-push.ensures.ok in
     let back = c.saturating_sub.ensures in
     left-turn body c.args.self.now _ st behind (cc) refl

@@ -8,19 +8,20 @@ use Rattle.strand_values.proofs.environment.Environment.set.Goals as goal
 pub returns-in-Some-clause-ok : goal.returns-in-Some-clause-ok
 returns-in-Some-clause-ok c =
     let there = sym (rw c.deref.ensures.value at c.place.ensures) ∙ c.in-Some.is in
-    set_found c.in-Some.i c.self.inside.variables.items c.args.name.now c.args.slot c.index_mut.result.now there c.index_mut.ensures.value
-    ∙ ap (λ (vs : Env). with_slot vs c.args.name.now c.args.slot) c.self.view_is
+    rw c.set_slot.ensures
+    (set_found c.in-Some.i c.self.inside.variables.items c.args.name.now c.args.slot c.index_mut.result.now there c.index_mut.ensures.value
+    ∙ ap (λ (vs : Env). with_slot vs c.args.name.now c.args.slot) c.self.view_is)
 
 pub returns-in_ok-push-in-None-clause-ok : goal.returns-in_ok-push-in-None-clause-ok
 returns-in_ok-push-in-None-clause-ok c =
     let missing = sym (rw c.deref.ensures.value at c.place.ensures) ∙ c.in-None.is in
     (rw c.in_ok-push-in-None.was at c.push.ensures.items)
-    ∙ ap (λ name. c.self.inside.variables.items ++ record { name = name; slot = c.args.slot } ∷ []) (c.in_ok-to_vec-in-None.ensures.items_if_clones_equal (λ x y h. h))
+    ∙ ap (λ (entry : Variable). c.self.inside.variables.items ++ entry ∷ []) c.in_ok-entry-in-None.ensures
     ∙ set_missing c.self.inside.variables.items c.args.name.now c.args.slot missing
     ∙ ap (λ (vs : Env). with_slot vs c.args.name.now c.args.slot) c.self.view_is
 
-pub returns-in_err-to_vec-in-None-clause-err : goal.returns-in_err-to_vec-in-None-clause-err
-returns-in_err-to_vec-in-None-clause-err c =
+pub returns-in_err-entry-in-None-clause-err : goal.returns-in_err-entry-in-None-clause-err
+returns-in_err-entry-in-None-clause-err c =
     let missing = sym (rw c.deref.ensures.value at c.place.ensures) ∙ c.in-None.is in
     let e = ap (λ (vs : Env). slot_of vs c.args.name.now) (sym c.self.view_is) ∙ slot_missing c.self.inside.variables.items c.args.name.now missing in
     on_err c.from_residual.result _ (refl, not_there _ e)

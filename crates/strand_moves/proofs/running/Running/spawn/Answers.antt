@@ -1,0 +1,47 @@
+use Rattle.std.proofs.Common.{◌+◌, length, vec_len, sym, ap, ◌∙◌, arith}
+use Rattle.std.specs.Option.{option_copied}
+use Rattle.serial_meaning.specs.Plan.{PlanView}
+use Rattle.serial_meaning.specs.Values.{values_of}
+use Rattle.strand_moves.specs.declared.running.Running.{Running}
+use Rattle.strand_moves.specs.Running.{machine_of, path_of}
+use Rattle.strand_moves.specs.Moves.{acted, spawn_to, strand_of}
+use Rattle.strand_moves.proofs.CallLemmas.{is_not_below}
+use Rattle.strand_moves.proofs.ChildLemmas.{spawned-child}
+use Rattle.strand_moves.proofs.Equations.{spawn-args-fault, spawn-depth-fault}
+use Rattle.strand_moves.proofs.Exits.{shows-exit}
+use Rattle.strand_moves.proofs.running.Running.spawn.Goals as goal
+
+pub returns-in_err-args-clause-shows : goal.returns-in_err-args-clause-shows
+returns-in_err-args-clause-shows c = λ st.
+    let i = c.args.self.now in
+    let plan = c.args.plan.now in
+    let to = option_copied c.args.target in
+    let known = rw c.as_slice.ensures at c.in_err-args.ensures in
+    shows-exit (acted plan (path_of i) (machine_of plan i) st (spawn_to to c.args.call.now)) (strand_of (path_of i) (machine_of plan i)) _ c.from_residual.result c.in_err-args.field-0.0
+    (values_of c.args.call.now.args i.top.env) c.from_residual.ensures.1 known (spawn-args-fault plan (path_of i) (machine_of plan i) st to c.args.call.now)
+
+pub returns-then-len-plan-clause-shows : goal.returns-then-len-plan-clause-shows
+returns-then-len-plan-clause-shows c = λ st.
+    let i = c.args.self.now in
+    let plan = c.args.plan.now in
+    let known = rw c.as_slice.ensures at c.in_ok-args.ensures in
+    let depth = ap (λ (p : PlanView). p.limits.depth) c.plan.view_is in
+    spawn-depth-fault plan (path_of i) (machine_of plan i) st (option_copied c.args.target) c.args.call.now c.in_ok-args.args known
+    (is_not_below (length (path_of i) + 1) plan.limits.depth (omega arith))
+
+pub returns-clause-shows : goal.returns-clause-shows
+returns-clause-shows c = λ st.
+    let i = c.args.self.now in
+    let plan = c.args.plan.now in
+    let known = rw c.as_slice.ensures at c.in_ok-args.ensures in
+    let depth = ap (λ (p : PlanView). p.limits.depth) c.plan.view_is in
+    let number = rw (c.functions.ensures.functions, c.as_slice-2.ensures) at c.function_number-function.ensures in
+    let received = c.in_ok-receive.ensures in
+    let height = c.len-height.ensures ∙ ap (λ (x : Running). vec_len x.below) received.others in
+    rw c.in_ok-child.ensures
+    (spawned-child plan i st (option_copied c.args.target) c.args.call.now c.in_ok-args.args c.in_ok-instead.instead c.function_number-function.result c.len-height.result
+    c.in_ok-pedigree.field-0 c.in_ok-path.path c.in_ok-target.target c.receive.new.self.top.env c.receive.new.self
+    known (omega arith) number c.in_ok-pedigree.ensures (c.in_ok-path.ensures ∙ c.in_ok-trail.ensures.path) c.in_ok-instead.ensures received.env received.others (omega arith) c.in_ok-target.ensures)
+
+pub returns-clause-child : goal.returns-clause-child
+returns-clause-child c = rw c.in_ok-child.ensures (record { fits = c.in_ok-trail.ensures.fits; path = sym c.in_ok-path.ensures })

@@ -1,0 +1,124 @@
+// What an instance is, and its moves.
+
+ghost use Rattle.std.specs.Prelude.{◌≡◌, ◌<◌, ◌≤◌, ◌+◌, ◌^◌, ◌++◌, ◌∷◌, [], Err, IfOk, OnOk, length};
+ghost use Rattle.dotmix.specs.Trails.{FitsGamma};
+ghost use Rattle.serial_meaning.specs.Plan.{functions_of};
+ghost use Rattle.strand_meaning.specs.Machine.{Stands, begun, move};
+
+use crate::activation::{Activation, body};
+use crate::memory::Memory;
+use crate::shown::Moved;
+use dotmix::Trail;
+use ped_path::Pedigree;
+use script_grammar::Items;
+use serial_meaning::{Fault, FaultKind, Plan, Value};
+use std::alloc::Global;
+use strand_values::Halt;
+
+/// What stands in an instance's box: its path, its rank and the steps that it has left, and its activations.
+#[derive(Drop)]
+pub(crate) struct Running {
+    pub(crate) trail: Trail,
+    pub(crate) rank: u64,
+    pub(crate) steps: u64,
+    /// The innermost activation.
+    pub(crate) top: Activation,
+    /// The others, which are its open calls, the outermost first.
+    pub(crate) below: Vec<Activation>,
+}
+
+impl Running {
+    ghost use Rattle.strand_moves.specs.Running.{IsInstance, machine_of, path_of};
+    ghost use Rattle.strand_moves.specs.Moves.{run_of, Makes, MovesTrail, strand_of};
+
+    /// An instance of the function at this place in the script, before its first move.
+    pub fn begin(
+        alloc: Global,
+        plan: &Plan,
+        function: u32,
+        args: Items<Value>,
+        trail: Trail,
+    ) -> Result<Running, Memory>
+        requires there { function < length (functions_of plan.now) }
+        requires fits { FitsGamma plan.now.gamma trail }
+        requires within { length trail.path < plan.now.limits.depth }
+        ensures begins { IfOk result (λ i. begun plan.now function args ≡ Stands (machine_of plan.now i)) }
+        ensures path { IfOk result (λ i. path_of i ≡ trail.path) }
+        ensures sound { IfOk result (IsInstance plan.now) }
+    {
+        let f = &plan.functions()[function as usize];
+        Ok(Running {
+            trail,
+            rank: 0,
+            steps: plan.limits.budget as u64,
+            top: Activation::new(alloc, function, f, args, None)?,
+            below: Vec::new(alloc),
+        })
+    }
+
+    /// One move. Where there was no memory for it the instance is of no more use.
+    pub fn step(&mut self, alloc: Global, plan: &Plan) -> Result<Moved, Memory>
+        requires { IsInstance plan.now self.old }
+        ensures moves { IfOk result (λ moved. move plan.now (path_of self.old) (machine_of plan.now self.old) ≡ run_of moved (machine_of plan.now self.new)) }
+        ensures child { IfOk result (MovesTrail plan.now) }
+        ensures path { path_of self.new ≡ path_of self.old }
+        ensures sound { IfOk result (λ _. IsInstance plan.now self.new) }
+    {
+        let rank = self.rank;
+        match self.go_on(alloc, plan) {
+            Ok(moved) => Ok(moved),
+            Err(Halt::Fault(kind)) => {
+                let path = self.trail.path.share()?;
+                let at = Pedigree { path, rank };
+                Ok(Moved::Faulted(Fault { kind, at }))
+            }
+            Err(Halt::Memory) => Err(Memory),
+        }
+    }
+
+    fn go_on(&mut self, alloc: Global, plan: &Plan) -> Result<Moved, Halt>
+        requires { IsInstance plan.now self.old }
+        ensures moves { let m = machine_of plan.now self.old in
+            Makes (move plan.now (path_of self.old) m) (strand_of (path_of self.old) m) (machine_of plan.now self.new) result }
+        ensures child { IfOk result (MovesTrail plan.now) }
+        ensures trail { self.new.trail ≡ self.old.trail }
+        ensures few { self.new.rank + self.new.steps ≤ self.old.rank + self.old.steps }
+    {
+        match self.top.cursor.pass(body(plan, self.top.function)) {
+            Some(statement) => self.statement(alloc, plan, statement),
+            None if self.top.returning => self.end(alloc, plan),
+            None => self.return_step(plan),
+        }
+    }
+
+    /// The rank that it has, or will have once it goes on from the sync or the loop behind which it waits.
+    pub fn rank(&self) -> u64
+        ensures { result ≡ self.now.rank }
+    {
+        self.rank
+    }
+
+    /// Pays a step.
+    pub(crate) fn pay(&mut self) -> Result<(), FaultKind>
+        ensures ok { OnOk result (self.new ≡ record self.old { steps = self.new.steps }) }
+        ensures paid { OnOk result (self.new.steps + 1 ≡ self.old.steps) }
+        ensures err { (kind : _) → result ≡ Err kind → (self.new ≡ self.old) × (self.old.steps ≡ 0) × (kind ≡ FaultKind.Budget) }
+    {
+        if self.steps == 0 {
+            return Err(FaultKind::Budget);
+        }
+        self.steps -= 1;
+        Ok(())
+    }
+
+    /// The pedigree of the strand.
+    pub(crate) fn pedigree(&self) -> Result<Pedigree, Memory>
+        requires { self.now.rank < 2 ^ 32 }
+        ensures { IfOk result (λ j. j ≡ path_of self.now ++ self.now.rank ∷ []) }
+    {
+        Ok(Pedigree {
+            path: self.trail.path.share()?,
+            rank: self.rank,
+        })
+    }
+}
