@@ -213,9 +213,9 @@ Example:
 
 /// `pedrun stream --help`.
 pub const STREAM: &str = "\
-Prints the draws of consecutive ranks from a pedigree on, a number on a line: what
-the strands draw whose names differ from the pedigree's in the last rank alone. It
-reads no script.
+Prints the draws of consecutive ranks from a pedigree on, a number on a line:
+what the strands draw whose names differ from the pedigree's in the last rank
+alone. It reads no script.
 
 Usage: pedrun stream --at PEDIGREE --count N [--OPTION VALUE]...
 

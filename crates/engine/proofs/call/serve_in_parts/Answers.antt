@@ -8,8 +8,8 @@ pub serve_stream-requires : goal.serve_stream-requires
 serve_stream-requires g c =
     can_draw c.args.command c.in-Stream.gamma c.in-Stream.at c.in-Stream.count c.in-Stream.rounds c.in-Stream.below c.in-Stream.is c.requires.lawful
 
-pub returns-in-Stream-clause-answers : goal.returns-in-Stream-clause-answers
-returns-in-Stream-clause-answers g c = λ source.
+pub returns-clause-answers : goal.returns-clause-answers
+returns-clause-answers g c = λ source.
     stream_answers c.args.command c.in-Stream.gamma c.in-Stream.at c.in-Stream.count c.in-Stream.rounds c.in-Stream.below c.in-Stream.is source
     (watched g.K.Sink.written g.K.Sink.faults c.args.out.now c.serve_stream.new.out)
     (watched g.E.Sink.written g.E.Sink.faults c.args.err.now c.serve_stream.new.err)
