@@ -13,7 +13,6 @@ use Rattle.serial_meaning.specs.declared.event.Event.{Event}
 use Rattle.serial_meaning.specs.declared.origin.Origin.{Origin}
 use Rattle.serial_meaning.specs.declared.origin.Origin.TheVariants.{Instance, Loop}
 use Rattle.serial_meaning.specs.declared.answer.Outcome.{Outcome}
-use Rattle.serial_meaning.specs.declared.answer.Outcome.TheVariants as outcome
 use Rattle.strand_meaning.specs.Laws.{IsFaultOf}
 
 fault-of : (plan : PlanView) (o : Origin) (r : Result (List Value) Fault) → EndsWithin (faults plan) r → IsFaultOf plan (outcome_of o r)

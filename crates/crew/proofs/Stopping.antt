@@ -17,7 +17,7 @@ use Rattle.strand_meaning.specs.Task.{Stage, Goes, AtSync, AtLoop, Ended, Work, 
 use Rattle.strand_machine.specs.Family.{tag}
 use Rattle.strand_meaning.specs.Cuts.{IsByFaultOf}
 use Rattle.strand_meaning.specs.Laws.{IsFaultOf}
-use Rattle.strand_machine.specs.Stops.{IsStop, IsCutEnd, IsResumed, advances, Advances}
+use Rattle.strand_machine.specs.Stops.{IsCutEnd, IsResumed, advances, Advances}
 use Rattle.strand_machine.specs.Tasks.{TaskView}
 use Rattle.strand_machine.specs.declared.stop.Stop.TheVariants as stop
 use Rattle.strand_machine.specs.declared.stop.Resumed.TheVariants as resumed

@@ -117,12 +117,7 @@ fn end<G: Gate>(
 
 /// Runs this task, which was the current one, to its next stop.
 #[tactic(auto, using(crate::proofs::Stopping::waits_there, crate::proofs::Stopping::gives_its_own))]
-fn advance<G: Gate>(
-    held: &mut Held,
-    task: Task,
-    alloc: Global,
-    gate: &G,
-) -> Result<Turn, Memory>
+fn advance<G: Gate>(held: &mut Held, task: Task, alloc: Global, gate: &G) -> Result<Turn, Memory>
     requires { held.old.current ≡ None }
     ensures ok { IfOk result (λ turn. Advances task (view_of held.old) turn (view_of held.new)) }
     ensures err { OnErr result (held.new.current ≡ None) }
