@@ -18,7 +18,7 @@ meeting_hand root deck made others = record (new_hand root deck) { deck = record
 abbrev pub unmet : Origin → ℕ → List DeckId → List HandView
 unmet root made decks = map (λ deck. meeting_hand root deck made []) decks
 
--- those of these decks, which have theirs, between the decks before them and behind them
+-- those of these decks, which have theirs, between the decks before them and after them
 abbrev pub met : Origin → ℕ → List DeckId → List DeckId → List DeckId → List HandView
 met root made before [] behind = []
 met root made before (deck ∷ decks) behind = meeting_hand root deck made ((decks ++ behind) ++ before) ∷ met root made (before ++ deck ∷ []) decks behind

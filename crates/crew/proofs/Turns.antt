@@ -35,7 +35,7 @@ next-is t stop n = stops_are_one t (stops_come t).0 stop (stops_come t).1 n
 abbrev gone_on : Task → Task
 gone_on t = on (evaluations (eval t.plan) t.pieces.handed) t
 
--- this stop, and what comes behind it
+-- this stop, and what comes after it
 abbrev with_stop : (Origin → ℕ) → (Task → ℕ) → Stop → ℕ
 with_stop child rest (Spawn o t) = suc (child o + rest t)
 with_stop child rest (Wait t) = suc (rest (gone_on t))
@@ -56,7 +56,7 @@ record IsAt (plan : PlanView) (o : Origin) (t : Task) : Type 0 where
   plan_is : t.plan ≡ plan
   origin_is : t.origin ≡ o
 
--- what holds behind a stop
+-- what holds after a stop
 abbrev Behind : PlanView → Origin → ℕ → Stop → Type 0
 Behind plan o n (Spawn c t) = IsOriginOf plan c × IsSmaller plan o c × IsAt plan o t × (stops_left t < n)
 Behind plan o n (Wait t) = IsAt plan o (gone_on t) × (stops_left (gone_on t) < n)

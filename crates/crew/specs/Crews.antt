@@ -41,7 +41,7 @@ idle_hand root deck others = record {
   thieves = map new_thief others;
 }
 
--- The hands with these decks, which stand behind those with the decks `before`. Each has its thieves from the next hand upwards and round.
+-- The hands with these decks, which stand after those with the decks `before`. Each has its thieves from the next hand upwards and round.
 abbrev pub idle_hands : Origin → List DeckId → List DeckId → List HandView
 idle_hands root before [] = []
 idle_hands root before (deck ∷ decks) = idle_hand root deck (decks ++ before) ∷ idle_hands root (before ++ deck ∷ []) decks

@@ -18,7 +18,7 @@ use Rattle.crew.specs.declared.hand.Looked.TheVariants as looked
 use Rattle.crew.specs.declared.hand.Turn.{Turn}
 use Rattle.crew.specs.declared.hand.Turn.TheVariants.{Ran, Answered, Ended, Popped, Resumed as ResumedOne, Waiting, Stole, Idle}
 
--- A hand's tasks: the current one; its deck, by the owner's end, with the private list behind it; the ring of those that wait; and its ends of
+-- A hand's tasks: the current one; its deck, by the owner's end, with the private list after it; the ring of those that wait; and its ends of
 -- the other hands' decks. The root is the origin whose answer ends the run.
 pub record HandView : Type 0 where
   pub root : Origin
@@ -40,7 +40,7 @@ IsPut rest kept deck kept' deck' =
     ((kept ≡ []) × (kept' ≡ []) × Pushes deck rest deck')
     ⊎ ((kept ≡ [] → 64 ≤ length deck.pushed) × (kept' ≡ kept ++ rest ∷ []) × (deck' ≡ deck))
 
--- A stop that is no end: the rest goes behind the others and the child becomes current, or the task goes to the ring's end.
+-- A stop that is no end: the rest goes after the others and the child becomes current, or the task goes to the ring's end.
 abbrev pub Runs : Stop → HandView → HandView → Type 0
 Runs (stop.Spawn child rest) old new =
     IsPut rest old.kept old.deck new.kept new.deck × (new ≡ record old { current = Some child; kept = new.kept; deck = new.deck })

@@ -15,7 +15,7 @@ pub record IsBelow (path j : List ℕ) : Type 0 where
   pub begins : take (length path) j ≡ path
   pub longer : length path < length j
 
--- By the ranks of the pedigree behind the path: at the last one the instance shows a strand, and at another one a child. It shows neither
+-- By the ranks of the pedigree after the path: at the last one the instance shows a strand, and at another one a child. It shows neither
 -- where a child's fault blocks that rank.
 abbrev pub shown_at : List ℕ → open_tree.Node → List ℕ → Node
 shown_at path n [] = record { strand = None; child = None; joined = None }

@@ -17,7 +17,7 @@ use strand_machine::Task;
 const CELLS: usize = 256;
 
 /// What a hand knows of the faults that the hands of its crew met. All share one list of cells, which are set in order, each by a fault
-/// that stands before that of the cell in front of it.
+/// that stands before that of the cell before it.
 #[derive(Drop)]
 pub(crate) struct Faults {
     cells: Arc<Vec<OnceBox<Known>>>,
@@ -49,7 +49,7 @@ fn is_news(front: Option<&Known>, fault: &Fault) -> bool
     }
 }
 
-/// Sets a cell by a fault that stands before that of the cell in front of it. It comes back where the cell was set before.
+/// Sets a cell by a fault that stands before that of the cell before it. It comes back where the cell was set before.
 fn set(cell: &OnceBox<Known>, front: Option<&Known>, known: Box<Known>) -> Option<Box<Known>>
     requires { IfSome front (λ f. IsBefore known.value.fault.at f.now.fault.at) }
 {

@@ -151,7 +151,7 @@ impl Hand {
     /// Looks once at the task at the ring's end, where the hand has no current one. It becomes current where all of its children have
     /// answered, and else stays there.
     ///
-    /// This is no turn, and none is owed. Behind a turn that left a task waiting or answered one, the newest waiting task so goes on before
+    /// This is no turn, and none is owed. After a turn that left a task waiting or answered one, the newest waiting task so goes on before
     /// one of the deck is taken up. It doesn't wait for another thread. On `Memory` the task is dropped, and the run has failed.
     pub fn look_newest(&mut self, alloc: Global) -> Result<Looked, Memory>
         ensures ok { IfOk result (λ looked. LooksNewest self.old looked self.new) }

@@ -11,7 +11,7 @@ pub(crate) struct Held {
     /// The origin whose answer ends the run.
     pub root: Origin,
     pub current: Option<Task>,
-    /// What the deck refused, and what came behind it. It is the back part of the deck.
+    /// What the deck refused, and what came after it. It is the back part of the deck.
     pub kept: Vec<Task>,
     pub deck: Deck<Task>,
     pub ring: VecDeque<Parked>,

@@ -62,7 +62,7 @@ fn add_thieves(thieves: &mut Vec<Thief<Task>>, hands: &mut [Hand]) -> Result<(),
     Ok(())
 }
 
-/// Gives a hand its thieves of the others' decks: those behind it first, and then those in front of it.
+/// Gives a hand its thieves of the others' decks: those after it first, and then those before it.
 fn introduce(
     alloc: Global,
     front: &mut [Hand],

@@ -26,7 +26,7 @@ pub struct Node {
     pub joined: Option<Fault>,
 }
 
-/// The pedigree up to the rank behind this path.
+/// The pedigree up to the rank after this path.
 fn next_strand(path: &Ped, at: &Pedigree) -> Result<Pedigree, Memory>
     requires { IsBelow path.now at.now }
     ensures { IfOk result (λ here. here ≡ take (length path.now + 1) at.now) }

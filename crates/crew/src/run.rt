@@ -31,10 +31,10 @@ fn look_on(alloc: Global, signals: &Signals, hand: &mut Hand) -> bool {
     }
 }
 
-/// Makes turns until a hand has ended the run, or has failed for want of memory. Behind a turn that left a task waiting or answered one, all
+/// Makes turns until a hand has ended the run, or has failed for want of memory. After a turn that left a task waiting or answered one, all
 /// children of the newest waiting task may have answered: then it is the next one, and else it stays in the ring.
 ///
-/// Where all tasks that a hand begins are cut, it sleeps behind each that it leaves waiting, and its steals wake nobody: the hands from
+/// Where all tasks that a hand begins are cut, it sleeps after each that it leaves waiting, and its steals wake nobody: the hands from
 /// which it steals come to the ends of their tasks faster by themselves.
 fn work<R: Wait, G: Gate>(
     rt: &R,

@@ -39,7 +39,7 @@ fn keep(kept: &mut Vec<Task>, rest: Task) -> Result<(), Memory>
     Ok(())
 }
 
-/// The rest of a task that handed out a child goes behind all others.
+/// The rest of a task that handed out a child goes after all others.
 fn put_rest(deck: &mut Deck<Task>, kept: &mut Vec<Task>, rest: Task) -> Result<(), Memory>
     ensures { OnOk result (IsPut rest kept.old.items deck.old kept.new.items deck.new) }
 {
@@ -52,7 +52,7 @@ fn put_rest(deck: &mut Deck<Task>, kept: &mut Vec<Task>, rest: Task) -> Result<(
     }
 }
 
-/// The child becomes current, and the rest of the task that handed it out goes behind all others.
+/// The child becomes current, and the rest of the task that handed it out goes after all others.
 fn hand_out(held: &mut Held, child: Task, rest: Task) -> Result<(), Memory>
     requires { held.old.current ≡ None }
     ensures ok { OnOk result (Runs (stop.Spawn child rest) (view_of held.old) (view_of held.new)) }

@@ -15,7 +15,7 @@ const ROOM: u64 = 128;
 const SPARE: usize = 4 * 1024 * 1024;
 
 /// Calls itself so many times, each time with a page of 4 KiB on the calling thread's stack, so that the system gives it as many. What is
-/// written hangs on the word and is read behind the call, so that no compiler leaves it out.
+/// written hangs on the word and is read after the call, so that no compiler leaves it out.
 fn grow_stack(word: &AtomicU64, pages: u64) {
     let page = [word.load(Ordering::SeqCst); 512];
     if pages > 0 {

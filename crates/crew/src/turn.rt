@@ -1,4 +1,4 @@
-// One turn of a worker that runs each child to its end before what stands behind it.
+// One turn of a worker that runs each child to its end before what stands after it.
 ghost use Rattle.std.specs.Prelude.{◌≡◌, List, [], ◌∷◌, true, IfOk};
 ghost use Rattle.strand_meaning.specs.Laws.{IsFaultOf};
 ghost use Rattle.strand_machine.specs.Faults.{is_fault};
@@ -27,7 +27,7 @@ fn answered(answer: Answer, mut below: Frames) -> Result<Turn, Memory>
 }
 
 /// The answer of the task at the bottom, where this one, of the task on top, is a fault. It is the fault of each task below too, since
-/// nothing that stands behind it counts.
+/// nothing that stands after it counts.
 fn end_all(alloc: Global, answer: Answer, mut below: Frames) -> Result<Answer, Memory>
     requires fault { is_fault answer.outcome ≡ true }
     requires known { IsFaultOf answer.plan answer.outcome }

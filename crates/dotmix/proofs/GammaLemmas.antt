@@ -13,7 +13,7 @@ use Rattle.dotmix.specs.Draws.{modulus, IsResidue}
 use Rattle.dotmix.specs.GammaState.{IsGamma, is_too_big, padded}
 use Rattle.dotmix.specs.Words.{word, output, coefficients}
 
--- the state behind i words
+-- the state after i words
 abbrev pub state_after : ℕ → ℕ → ℕ
 state_after seed i = (seed + i * 0x9E3779B97F4A7C15) % 2 ^ 64
 

@@ -6,7 +6,7 @@ pub record IsGamma (gamma : List ℕ) : Type 0 where
   pub few : length gamma < 2 ^ 32
   pub small : All IsResidue gamma
 
--- the list, and zeros behind it
+-- the list, and zeros after it
 abbrev pub padded : List ℕ → ℕ → List ℕ
 padded list depth = list ++ replicate (depth - length list) 0
 

@@ -73,7 +73,7 @@ impl Gamma {
         Ok(Gamma { coefficients })
     }
 
-    /// The numbers of a list, and zeros behind them up to the depth. `TooMany` comes exactly where the list is longer than the
+    /// The numbers of a list, and zeros after them up to the depth. `TooMany` comes exactly where the list is longer than the
     /// depth, and else `TooBig` exactly where a number isn't below the modulus.
     pub fn of_list(alloc: Global, list: &[u64], depth: u32) -> Result<Gamma, GammaError>
         ensures ok { IfOk result (λ gamma. gamma ≡ padded list.now depth) }
@@ -112,7 +112,7 @@ impl Gamma {
         self.coefficients.len() as u32
     }
 
-    /// The place of a rank that stands behind this path.
+    /// The place of a rank that stands after this path.
     pub(crate) fn place_behind(&self, path: &Ped) -> u32
         requires { length path.now < length self.now }
         ensures { result ≡ length path.now + 1 }

@@ -55,7 +55,7 @@ pub(crate) fn path_dot(gamma: &Gamma, path: &Ped) -> u64
     sum
 }
 
-/// The dot product of a path with one more rank behind it, from that of the path.
+/// The dot product of a path with one more rank after it, from that of the path.
 pub(crate) fn dot_with_rank(gamma: &Gamma, path: &Ped, path_dot: u64, rank: u64) -> u64
     requires within { length path.now < length gamma.now }
     requires dot { path_dot ≡ draws.dot gamma.now path.now }

@@ -4,7 +4,7 @@ use Rattle.std.specs.Prelude.{decimal}
 use Rattle.std.proofs.Math.Seq.{drop-cons}
 use Rattle.draw_lines.specs.Lines.{number_line}
 
--- the digits before a line feed and what stands behind it
+-- the digits before a line feed and what stands after it
 pub line_behind : (n : ℕ) (rest : List ℕ) → decimal n ++ 10 ∷ rest ≡ number_line n ++ rest
 line_behind n rest = sym (append_assoc (decimal n) (codes "\n") rest)
 

@@ -150,7 +150,7 @@ module _ {T : Type 0} where
   numbered_more n [] q h e = (e ∙ omega arith, tt)
   numbered_more n (x ∷ xs) q h e = (h.0, numbered_more (n + length x.tags) xs q h.1 (omega (arith, e, length-append x.tags (tags_of xs))))
 
-  -- a number more that was read, where none was behind the block
+  -- a number more that was read, where none was after the block
   loads_none : (ps : List (Part T)) → ((k : ℕ) (p : Part T) → get_elem? ps k ≡ some p → p.loads ≡ []) → loads_of ps ≡ []
   loads_none [] h = refl
   loads_none (x ∷ xs) h = λ k. h 0 x refl k ++ loads_none xs (λ j p. h (suc j) p) k
@@ -219,7 +219,7 @@ module _ {T : Type 0} where
   pub order_closed : (found : ℕ) (ps : List (Part T)) → InOrder found (length ps) ps → ((k : ℕ) (p : Part T) → k + 1 ≡ length ps → get_elem? ps k ≡ some p → p.stage ≢ Open) → InOrder found 0 ps
   order_closed found ps o ne = record { within = o.within; each = λ k p at. none_open found (length ps) k p (o.each k p at) (λ l. ne k p l at); numbered = o.numbered }
 
-  -- behind the blocks that were found ready
+  -- after the blocks that were found ready
   pub is_behind : (found many k : ℕ) (p : Part T) → Stands found many k p → p.stage ≡ Open → found ≤ k
   is_behind found many k p s e = dite (ℕ_discrete (found - k) 0) (λ z. omega arith) (λ ne. let r = s.before (omega arith) in let f : Open ≡ Ready = sym e ∙ r in absurd (cc))
 

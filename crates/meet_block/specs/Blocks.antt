@@ -74,7 +74,7 @@ module _ {T : Type 0} where
   Numbered n [] = Unit {0}
   Numbered n (p ∷ ps) = (p.first ≡ n) × Numbered (n + length p.tags) ps
 
-  -- The block k. The first `found` were found ready, no look went past the one behind them, and only the last block may be open: `many` is the number of
+  -- The block k. The first `found` were found ready, no look went past the one after them, and only the last block may be open: `many` is the number of
   -- blocks, or 0 where none is open
   pub record Stands (found many k : ℕ) (p : Part T) : Type 0 where
     pub before : k < found → p.stage ≡ Ready

@@ -63,7 +63,7 @@ module _ {A T : Type 0} (tag : A → T) where
   Vacant [] = Unit {0}
   Vacant (h ∷ hs) = (h ≡ some None) × Vacant hs
 
-  -- the places from the one behind `before` on, each with one seat
+  -- the places from the one after `before` on, each with one seat
   abbrev pub Places : List T → List T → List Bool → List (View T) → List (Maybe (Slot A)) → Type 0
   Places before [] [] [] homes = Vacant homes
   Places before (t ∷ ts) (b ∷ bs) (c ∷ cs) (h ∷ hs) = (c.own ≡ t) × (c.tags ≡ before ++ t ∷ []) × Place t b c.stage h × Places (before ++ t ∷ []) ts bs cs hs

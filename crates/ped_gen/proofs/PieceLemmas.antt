@@ -1,7 +1,7 @@
 -- Texts that were made piece by piece.
 use Rattle.std.proofs.Common.{◌≡◌, ℕ, List, ◌++◌, append_assoc}
 
--- a line's end, its line feed, and the lines behind it
+-- a line's end, its line feed, and the lines after it
 abbrev pub with_end : List ℕ → List ℕ → List ℕ → List ℕ → List ℕ
 with_end size ending feed rest = ((size ++ ending) ++ feed) ++ rest
 

@@ -14,7 +14,7 @@ pub consumes_at_most : (a b c : Option (List ℕ)) (xs ys : List ℕ) (most : �
 consumes_at_most a b c xs ys most first second short =
     (xs ++ ys, omega (arith, length-append xs ys), Consumes-trans a b c xs ys first second)
 
--- A clause reads `&bytes[i..]` as the first `length bytes - i` of what stands behind i.
+-- A clause reads `&bytes[i..]` as the first `length bytes - i` of what stands after i.
 pub appends_then : (a b c : Option (List ℕ)) (bytes : List ℕ) (i n : ℕ) → Appends a b (take i bytes) → Appends b c (take n (take (length bytes - i) (drop i bytes))) → Appends a c (take (i + n) bytes)
 appends_then a b c bytes i n first second =
     let rest = rw (take_rest bytes i) at second in

@@ -39,7 +39,7 @@ digit_small c passes =
     let h = high c passes in
     let v = digit_value_digit c (low c passes, h) in omega arith
 
--- the digits at the front, and what is behind them
+-- the digits at the front, and what is after them
 
 front_case : (c : ℕ) (cs : List ℕ) (b : Bool) → is_ascii_digit c ≡ b → AllDigits 10 cs → AllDigits 10 (cond b (c ∷ cs) [])
 front_case c cs true passes all = (digit_small c passes, all)
@@ -86,7 +86,7 @@ value_more ds i v w within all so_far next =
     let more = digits_value_more 10 ds i within in
     let digit = digit_value_digit (get_or ds i 0) (digit_at ds i all within) in omega (arith, more, digit)
 
--- the digits at the front, and what is behind them
+-- the digits at the front, and what is after them
 pub record IsSplit (rest digits behind : List ℕ) : Type 0 where
   pub all : AllDigits 10 digits
   pub ended : begins_with_digit behind ≡ false
@@ -116,7 +116,7 @@ too_big rest digits behind s some needed big = record {
   big = omega (arith, big);
 }
 
--- How far a text has been read: these ranks, each with a full stop behind it, and this rest at this offset.
+-- How far a text has been read: these ranks, each with a full stop after it, and this rest at this offset.
 pub record ReadSoFar (text path : List ℕ) (count at : ℕ) (rest : List ℕ) : Type 0 where
   pub counted : length path ≡ count
   pub bounded : All IsRank path
@@ -132,7 +132,7 @@ read_none text path rest e f =
 pub front_of : (text path : List ℕ) (count at : ℕ) (rest : List ℕ) → ReadSoFar text path count at rest → IsBehindRanks text count at rest
 front_of text path count at rest s = record { ranks = path; counted = s.counted; bounded = s.bounded; whole = s.whole; offset = s.offset }
 
--- a full stop behind one more rank
+-- a full stop after one more rank
 stopped-push : (path : List ℕ) (rank : ℕ) → stopped (path ++ rank ∷ []) ≡ stopped path ++ (decimal rank ++ codes ".")
 stopped-push path rank = stopped-append path (rank ∷ []) ∙ ap (λ t. stopped path ++ t) (append-nil (decimal rank ++ codes "."))
 
@@ -180,7 +180,7 @@ refused_at text path count at rest (TooBig k) some few s f = stands text count a
 refused_at text path count at rest TooLong some few s f = absurd f
 refused_at text path count at rest Memory some few s f = absurd f
 
--- another byte behind a rank
+-- another byte after a rank
 pub refused_behind : (text path : List ℕ) (count at end rank : ℕ) (rest behind : List ℕ) → text ≢ [] → count < 256 → ReadSoFar text path count at rest → IsRankThen rest rank behind → end ≡ at + (length rest - length behind) → 0 < length behind → get_or behind 0 0 ≢ 46 → IsRefused text (BadByte end)
 refused_behind text path count at end rank rest [] some few s r e more other = absurd (omega arith)
 refused_behind text path count at end rank rest (c ∷ cs) some few s r e more other =
@@ -193,7 +193,7 @@ refused_behind text path count at end rank rest (c ∷ cs) some few s r e more o
       ),
     )
 
--- the end behind a rank
+-- the end after a rank
 pub read_whole : (text path j : List ℕ) (count at rank : ℕ) (rest behind : List ℕ) → ReadSoFar text path count at rest → IsRankThen rest rank behind → length behind ≡ 0 → path ++ rank ∷ [] ≡ j → text ≡ ped_text j
 read_whole text path j count at rank rest [] s r none e =
     s.whole ∙ ap (λ t. stopped path ++ t) (r.split ∙ append-nil (decimal rank)) ∙ ped_text-append path j rank e

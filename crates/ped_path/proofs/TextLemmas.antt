@@ -37,11 +37,11 @@ text_split : (p j : List ℕ) (r i : ℕ) → p ++ r ∷ [] ≡ j → stopped (t
 text_split p j r i v =
     sym (append_assoc (stopped (take i p)) (stopped (drop i p)) (decimal r)) ∙ ap (λ t. t ++ decimal r) (stopped-split p i) ∙ ped_text-append p j r v
 
--- in front of the rank at i
+-- before the rank at i
 pub front-take : (p j : List ℕ) (r i : ℕ) (old new : List ℕ) → p ++ r ∷ [] ≡ j → new ≡ old ++ stopped (take i p) → AppendsFront old new (ped_text j)
 front-take p j r i old new v e = front_from old new (stopped (take i p)) (stopped (drop i p) ++ decimal r) (ped_text j) e (text_split p j r i v)
 
--- behind the rank at i
+-- after the rank at i
 pub front-rank : (p j : List ℕ) (r i : ℕ) (old new : List ℕ) → p ++ r ∷ [] ≡ j → i < length p → new ≡ (old ++ stopped (take i p)) ++ decimal (slice_index p i) → AppendsFront old new (ped_text j)
 front-rank p j r i old new v h e =
     front_from old new (stopped (take i p) ++ decimal (slice_index p i)) (codes "." ++ (stopped (drop (i + 1) p) ++ decimal r)) (ped_text j)

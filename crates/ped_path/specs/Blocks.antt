@@ -1,4 +1,4 @@
--- How a path keeps its ranks: full blocks of 16, and the last ranks in front of an unfinished one.
+-- How a path keeps its ranks: full blocks of 16, and the last ranks before an unfinished one.
 use Rattle.std.specs.Prelude.{◌≡◌, ℕ, [], ◌++◌, ◌<◌, ◌≤◌, ◌^◌, List, All, Option, Some, None, length, take}
 use Rattle.std.specs.List.{concat}
 use Rattle.std.specs.Arc.{arc_value}

@@ -11,7 +11,7 @@ abbrev pub begins_with_digit : List ℕ → Bool
 begins_with_digit [] = false
 begins_with_digit (c ∷ cs) = is_ascii_digit c
 
--- a 0, and a digit behind it
+-- a 0, and a digit after it
 abbrev pub has_needless_zero : List ℕ → Bool
 has_needless_zero [] = false
 has_needless_zero (c ∷ cs) = (c == 48) && begins_with_digit cs
@@ -25,7 +25,7 @@ pub record BeginsTooBig (rest : List ℕ) : Type 0 where
   pub needed : has_needless_zero rest ≡ false
   pub big : 2 ^ 32 ≤ digits_value 10 digits
 
--- A rank stands in front, and what stands behind it goes on with no digit.
+-- A rank stands in front, and what stands after it goes on with no digit.
 pub record IsRankThen (rest : List ℕ) (rank : ℕ) (behind : List ℕ) : Type 0 where
   pub bounded : IsRank rank
   pub split : rest ≡ decimal rank ++ behind
@@ -40,7 +40,7 @@ IsRankFault rest start Empty = ⊥
 IsRankFault rest start TooLong = ⊥
 IsRankFault rest start Memory = ⊥
 
--- The text begins with so many ranks, each with a full stop behind it, and this rest stands at this offset.
+-- The text begins with so many ranks, each with a full stop after it, and this rest stands at this offset.
 pub record IsBehindRanks (text : List ℕ) (count at : ℕ) (rest : List ℕ) : Type 0 where
   pub ranks : List ℕ
   pub counted : length ranks ≡ count
@@ -56,7 +56,7 @@ pub record StandsAt (text : List ℕ) (start : ℕ) (P : List ℕ → Type 0) : 
   pub front : IsBehindRanks text count start rest
   pub here : P rest
 
--- A rank stands in front, and behind it at this offset a byte that is neither a digit nor a full stop.
+-- A rank stands in front, and after it at this offset a byte that is neither a digit nor a full stop.
 pub record LacksStop (start at : ℕ) (rest : List ℕ) : Type 0 where
   pub rank : ℕ
   pub byte : ℕ

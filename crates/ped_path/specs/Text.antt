@@ -6,7 +6,7 @@ use Rattle.std.specs.List.{join_by}
 abbrev pub ped_text : List ℕ → List ℕ
 ped_text ranks = join_by decimal (codes ".") ranks
 
--- ranks in decimal, each with a full stop behind it
+-- ranks in decimal, each with a full stop after it
 abbrev pub stopped : List ℕ → List ℕ
 stopped ranks = flat_map (λ r. decimal r ++ codes ".") ranks
 

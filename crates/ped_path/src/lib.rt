@@ -1,6 +1,6 @@
 //! Paths and pedigrees of strands.
 //!
-//! A strand of a fork-join program is named by the ranks along the path of spawns that leads to it, and by its own rank behind them:
+//! A strand of a fork-join program is named by the ranks along the path of spawns that leads to it, and by its own rank after them:
 //! its pedigree, after Leiserson, Schardl and Sukha, "Deterministic Parallel Random-Number Generation for Dynamic-Multithreading
 //! Platforms" (PPoPP 2012). The names don't depend on how the program was scheduled.
 #![tactic(auto)]

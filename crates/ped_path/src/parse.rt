@@ -22,9 +22,9 @@ const MOST_RANK: u64 = 4_294_967_295;
 pub enum PedTextError {
     /// The text is empty.
     Empty,
-    /// At this offset a digit is needed, and another byte or the end stands there; or behind a rank neither a full stop nor the end.
+    /// At this offset a digit is needed, and another byte or the end stands there; or after a rank neither a full stop nor the end.
     BadByte(u32),
-    /// The rank that begins at this offset is a 0 with a digit behind it.
+    /// The rank that begins at this offset is a 0 with a digit after it.
     Zeros(u32),
     /// The rank that begins at this offset is above 4294967295.
     TooBig(u32),
@@ -71,7 +71,7 @@ pub fn parse_pedigree(alloc: Global, text: &str) -> Result<Pedigree, PedTextErro
     Err(PedTextError::TooLong)
 }
 
-/// Reads the rank at the front of this rest of a text, which begins at this offset, and gives what stands behind it.
+/// Reads the rank at the front of this rest of a text, which begins at this offset, and gives what stands after it.
 fn read_rank(rest: &[u8], at: u32) -> Result<(u64, &[u8]), PedTextError>
     ensures ok { IfOk result (λ r. IsRankThen rest.now r.0 r.1.now) }
     ensures err { IfErr result (λ e. IsRankFault rest.now at e) }

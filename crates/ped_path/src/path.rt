@@ -9,7 +9,7 @@ use std::marker::Model;
 /// How many blocks a path has at most, so that its length fits. No machine has memory for as many.
 const MOST_BLOCKS: usize = 1 << 58;
 
-/// What the copies of a path have in common: its full blocks, which the paths of the children share, and the ranks behind them. It is
+/// What the copies of a path have in common: its full blocks, which the paths of the children share, and the ranks after them. It is
 /// seen as the list of its ranks.
 #[derive(Drop)]
 pub(crate) struct Path {

@@ -14,7 +14,7 @@ fn write_rank(rank: u64, out: &mut Vec<u8>) -> Result<(), Memory>
     Ok(())
 }
 
-/// Appends the text of a pedigree: its ranks in decimal, joined by full stops. On `Memory` a front of the text may stand behind the
+/// Appends the text of a pedigree: its ranks in decimal, joined by full stops. On `Memory` a front of the text may stand after the
 /// old bytes.
 pub fn write_pedigree(j: &Pedigree, out: &mut Vec<u8>) -> Result<(), Memory>
     ensures ok { OnOk result (out.new.items ≡ out.old.items ++ ped_text j.now) }

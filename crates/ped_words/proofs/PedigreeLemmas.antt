@@ -89,7 +89,7 @@ first_part : (rest : List ℕ) → Cut rest
 first_part [] = record { part = []; parts = []; cut = refl; digits = refl }
 first_part (c ∷ cs) = cut_case c cs (eqb c 46) refl (first_part cs)
 
--- Behind its digits the first part goes on with this byte.
+-- After its digits the first part goes on with this byte.
 record GoesOn (ds : List ℕ) (byte : ℕ) (rest : List ℕ) : Type 0 where
   more : List ℕ
   parts : List (List ℕ)
@@ -185,7 +185,7 @@ no_stops [] all k d lt = absurd (omega arith)
 no_stops (c ∷ cs) all zero d lt = digit_no_stop c (and_both (is_ascii_digit c) (all_ascii_digits cs) all).0
 no_stops (c ∷ cs) all (suc k) d lt = no_stops cs (and_both (is_ascii_digit c) (all_ascii_digits cs) all).1 k d (omega arith)
 
--- ranks with a full stop behind each
+-- ranks with a full stop after each
 
 All-rest : (r : ℕ) (rs : List ℕ) → All IsRank (r ∷ rs) → All IsRank rs
 All-rest r rs all = λ k d lt. all (suc k) d (omega arith)

@@ -1,4 +1,4 @@
--- Which rule the words behind the command break first, and where.
+-- Which rule the words after the command break first, and where.
 use Rattle.std.specs.Prelude.{ℕ, zero, suc, ◌+◌, ◌*◌, ◌/◌, Bool, not, nat_eq, nat_le, is_some, if◌then◌else◌, Option, Some, None, Result, Ok, Err, List, length, codes}
 use Rattle.std.specs.List.{starts_with}
 use Rattle.std.specs.Option.{option_or}
@@ -55,6 +55,6 @@ first_below f (suc n) = option_or (first_below f n) (f n)
 abbrev pub pairs_in : List (List ℕ) → ℕ
 pairs_in words = length words / 2
 
--- the first rule that a word behind the command breaks
+-- the first rule that a word after the command breaks
 abbrev pub first_broken : Verb → List (List ℕ) → Option WordError
 first_broken verb words = first_below (broken_pair verb words) (pairs_in words)

@@ -1,4 +1,4 @@
--- Which command the values of the options make, by which defaults, and what is judged behind the last word.
+-- Which command the values of the options make, by which defaults, and what is judged after the last word.
 use Rattle.std.specs.Prelude.{ℕ, ◌+◌, ◌^◌, Bool, true, ◌&&◌, not, nat_le, is_some, if◌then◌else◌, Option, Some, None, Result, Ok, Err, List, [], ◌∷◌, length, position, unwrap_or, option_and_then}
 use Rattle.std.specs.Option.{option_map, option_or}
 use Rattle.dotmix.specs.GammaState.{is_too_big, padded}
@@ -43,7 +43,7 @@ workers_of values = unwrap_or (number values name.Workers) 4
 abbrev pub rounds_of : Values → ℕ
 rounds_of values = unwrap_or (number values name.Rounds) 4
 
--- a list with zeros behind it, or else the coefficients of a seed
+-- a list with zeros after it, or else the coefficients of a seed
 abbrev pub gamma_from : Option (List ℕ) → ℕ → ℕ → List ℕ
 gamma_from None seed depth = coefficients seed depth
 gamma_from (Some given) seed depth = padded given depth
@@ -126,6 +126,6 @@ abbrev pub made_of : Option WordError → ℕ → Option Command → Result Comm
 made_of broken words None = Err (breaks rule.MissingOption words)
 made_of broken words (Some c) = unless broken (Ok c)
 
--- the command that these values make behind so many words, or the first rule that they break there
+-- the command that these values make after so many words, or the first rule that they break there
 abbrev pub made : Verb → Values → ℕ → Result Command WordError
 made verb values words = made_of (first_late verb values (late_rules verb values)) words (command_of verb values)

@@ -1,4 +1,4 @@
--- The values that the options have. Behind the command stand pairs of a name and a value: pair k, from 0, is the words 2k + 1 and 2k + 2.
+-- The values that the options have. After the command stand pairs of a name and a value: pair k, from 0, is the words 2k + 1 and 2k + 2.
 use Rattle.std.specs.Prelude.{◌≡◌, ℕ, zero, suc, ◌+◌, ◌*◌, ◌^◌, ◌<◌, ◌≤◌, length, Bool, false, ◌||◌, ◌==◌, if◌then◌else◌, is_some, option_and_then, Option, Some, None, List, [], ◌∷◌}
 use Rattle.std.specs.List.{slice_index_or}
 use Rattle.std.specs.Option.{option_map}
@@ -93,7 +93,7 @@ abbrev pub IsSmall : Kind → Type 0
 IsSmall (kind.Number least most) = most < 2 ^ 32
 IsSmall _ = ⊥
 
--- the words of a command line, and how many of the pairs behind the command are looked at
+-- the words of a command line, and how many of the pairs after the command are looked at
 pub record GivenWords : Type 0 where
   pub words : List (List ℕ)
   pub pairs : ℕ

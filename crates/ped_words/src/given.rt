@@ -1,4 +1,4 @@
-// What the pairs behind the command give: of each option the word that is its value.
+// What the pairs after the command give: of each option the word that is its value.
 
 ghost use Rattle.std.specs.Prelude.{◌≡◌, ◌+◌, ◌*◌, ◌<◌, ◌≤◌, ◌^◌, IfErr, IfOk, IfSome, length, map, string_bytes, unwrap_or};
 ghost use Rattle.ped_words.specs.Pedigrees.{most_ranks};

@@ -1,7 +1,7 @@
 //! The words of a command line: which command they are, or the first rule that they break.
 //!
-//! The first word is the command. Behind it stand pairs of a word `--NAME` and a value, in any order. Words are judged from left to
-//! right, beginning with the command, and what only all words together can show is judged behind the last one.
+//! The first word is the command. After it stand pairs of a word `--NAME` and a value, in any order. Words are judged from left to
+//! right, beginning with the command, and what only all words together can show is judged after the last one.
 #![tactic(auto)]
 
 mod command;

@@ -1,4 +1,4 @@
-// The command that the given values make, and what is judged behind the last word.
+// The command that the given values make, and what is judged after the last word.
 
 ghost use Rattle.std.specs.Prelude.{◌≡◌, ◌<◌, ◌^◌, IfErr, IfOk, None, length, true};
 ghost use Rattle.std.specs.Option.{option_map};

@@ -15,8 +15,8 @@ use std::alloc::Global;
 
 /// The command that these words are, or the first rule that they break, with the index of the word that breaks it.
 ///
-/// The first word is the command. Behind it stand pairs of a word `--NAME` and a value, in any order, each name at most once. What
-/// only all words together can show is judged behind the last one: a missing option, coefficients beyond the depth, a size beyond
+/// The first word is the command. After it stand pairs of a word `--NAME` and a value, in any order, each name at most once. What
+/// only all words together can show is judged after the last one: a missing option, coefficients beyond the depth, a size beyond
 /// the shape, a count beyond the last rank. Words that are a command are refused only for want of memory.
 #[tactic(auto, unfolding(crate::specs::Reading::reading))]
 pub fn read_words(alloc: Global, words: &[String]) -> Result<Command, WordError>
@@ -50,7 +50,7 @@ fn judge_pairs(alloc: Global, verb: Verb, words: &[String]) -> Result<(), WordEr
     Ok(())
 }
 
-/// Judges a pair behind others that break no rule.
+/// Judges a pair after others that break no rule.
 fn judge_pair(alloc: Global, verb: Verb, words: &[String], pair: u32) -> Result<(), WordError>
     requires within { pair < pairs_in (map string_bytes words.now) }
     requires small { 2 * pair + 2 < 2 ^ 32 }

@@ -23,7 +23,7 @@ pub(crate) enum Rule {
 pub enum WordError {
     /// The first rule that is broken, and the index of the word that breaks it, from 0. Words are judged from left to right; at one word 9, 3, 4
     /// and 5 in this order where a name is due, and 6 before 7 at a value. A value of another form than its option's is 6; one of the right form
-    /// beyond its range is 7 (docs/LANGUAGE.md, "Command words"). 8 is judged behind the last word, and then 7 of what only all words show.
+    /// beyond its range is 7 (docs/LANGUAGE.md, "Command words"). 8 is judged after the last word, and then 7 of what only all words show.
     ///
     /// | Number | Rule | Word |
     /// |---|---|---|

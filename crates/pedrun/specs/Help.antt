@@ -16,12 +16,12 @@ topic_of_command word =
     else if bytes_eq word (codes "stream") then Some Stream
     else None
 
--- the words behind a command ask for its help: they are `--help` alone
+-- the words after a command ask for its help: they are `--help` alone
 abbrev pub asks_help : List (List ℕ) → Bool
 asks_help (word ∷ []) = bytes_eq word (codes "--help")
 asks_help words = false
 
--- `--help` and `--version` count as the first word, `--help` also as the only word behind a command
+-- `--help` and `--version` count as the first word, `--help` also as the only word after a command
 abbrev pub topic_of : List (List ℕ) → Option Topic
 topic_of [] = None
 topic_of (word ∷ words) =

@@ -23,7 +23,7 @@ pub enum Topic {
     Stream,
 }
 
-// Whether the words behind a command ask for its help.
+// Whether the words after a command ask for its help.
 fn asks_help(words: &[String]) -> bool
     ensures { result ≡ asks_help (map string_bytes words.now) }
 {
@@ -51,7 +51,7 @@ impl Topic {
         }
     }
 
-    /// What the words ask for: help where `--help` is the first, or the only one behind a command that has a text, and the version where
+    /// What the words ask for: help where `--help` is the first, or the only one after a command that has a text, and the version where
     /// `--version` is the first. `None` where they ask for nothing of this.
     pub fn of_words(words: &[String]) -> Option<Topic>
         ensures { result ≡ topic_of (map string_bytes words.now) }

@@ -1,4 +1,4 @@
--- One node of the walk down, by what is left of the pedigree behind its path.
+-- One node of the walk down, by what is left of the pedigree after its path.
 use Rattle.std.proofs.Common.{◌≡◌, ℕ, suc, ◌+◌, ◌-◌, ◌<◌, Bool, true, false, nat_lt, List, [], ◌∷◌, ◌++◌, Option, Some, None, Ok, length, length-append, append_assoc, drop, slice_get, if◌then◌else◌, refl, sym, ap, ◌∙◌, subst, arith}
 use Rattle.std.proofs.Common.{ℤ}
 use Rattle.std.proofs.Math.Seq.{take-append_seam, drop-append_seam, get_or-append_seam}
@@ -60,13 +60,13 @@ module _ (plan : PlanView) (o : Origin) where
   has-child (rank ∷ []) c strand joined h = let e : Some c ≡ None = ap (λ (m : Node). m.child) h in absurd (cc)
   has-child (rank ∷ k ∷ ranks) c strand joined h = record { rank = rank; k = k; more = ranks; is = refl; at = sym (ap (λ (m : Node). m.child) h) }
 
--- Ranks behind a path
+-- Ranks after a path
 
 module _ (path : List ℕ) (j : List ℕ) (below : IsBelow path j) where
   pub whole : path ++ drop (length path) j ≡ j
   whole = ap (λ (l : List ℕ). l ++ drop (length path) j) (sym below.begins) ∙ take-append-drop (length path) j
 
--- a pedigree of this form is below the path, with these ranks behind it
+-- a pedigree of this form is below the path, with these ranks after it
 below-path : (path : List ℕ) (k : ℕ) (ranks j : List ℕ) → path ++ k ∷ ranks ≡ j → IsBelow path j
 below-path path k ranks j e = subst (IsBelow path) e (record { begins = take-append_seam path (k ∷ ranks); longer = longer })
   where

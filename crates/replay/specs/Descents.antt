@@ -23,7 +23,7 @@ pub record IsOnWayTo (plan : PlanView) (j : List ℕ) (o : Origin) : Type 0 wher
   pub instance : IsInstance o
   pub below : IsBelow (path_of o) j
 
--- the instance below a child: itself, or the iteration of a loop that a pedigree names behind the loop's path, and not at its end
+-- the instance below a child: itself, or the iteration of a loop that a pedigree names after the loop's path, and not at its end
 abbrev pub iteration_at : Option ℕ → Origin → Option Origin
 iteration_at (Some k) (origin.Loop function rest first path range) =
     if nat_lt k (range.hi - range.lo) then Some (iteration function rest first path k) else None

@@ -53,7 +53,7 @@ two_sets a b p i y = cases (a y) (b y) (p y) i
     cases false true c = refl
     cases false false c = refl
 
--- statements behind which nothing earlier is pending
+-- statements after which nothing earlier is pending
 pub kept_more : (ss : List Stmt) (i j : ℕ) (s : Stmt) → i ≡ j + 1 → j < length ss → s ≡ get_or ss j s → keeps_all (drop j ss) ≡ (keeps s && keeps_all (drop i ss))
 kept_more ss i j s n h e = ap keeps_all (at_index ss j s h e) ∙ ap (λ k. keeps s && keeps_all (drop k ss)) (sym n)
 

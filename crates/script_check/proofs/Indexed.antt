@@ -22,7 +22,7 @@ abbrev or_else : Option ℕ → Option ℕ → Option ℕ
 or_else None o = o
 or_else (Some k) o = Some k
 
--- the first of a name where one function stands behind the others
+-- the first of a name where one function stands after the others
 snoc : (fs : List Function) (f : Function) (q : List ℕ) → first_named (fs ++ f ∷ []) q ≡ or_else (first_named fs q) (if bytes_eq f.name.bytes q then Some (length fs) else None)
 snoc [] f q = alone (bytes_eq f.name.bytes q)
   where

@@ -1,4 +1,4 @@
--- Behind statements a name is pending because they made it so, or because they keep what was pending.
+-- After statements a name is pending because they made it so, or because they keep what was pending.
 use Rattle.std.proofs.Common.{◌≡◌, ℕ, Bool, true, false, ◌||◌, ◌&&◌, List, [], ◌∷◌, refl, sym, ap, ◌∙◌}
 use Rattle.std.specs.Str.{bytes_eq}
 use Rattle.script_grammar.specs.declared.tree.Name.{Name}
@@ -13,7 +13,7 @@ use Rattle.script_check.specs.Statements.{Judged, judge, judge_act, judge_what, 
 use Rattle.script_check.specs.Walk.{keeps_act, keeps, keeps_what, keeps_all}
 use Rattle.script_check.proofs.Induction.{Each, Inside, statement, induct, induct_each, judge_open, keeps_open}
 
--- what is pending behind is what the statements add to p, and of r what they keep
+-- what is pending after is what the statements add to p, and of r what they keep
 abbrev pub IsLinear : (Names → Names) → Bool → Type 0
 IsLinear f kept = (p r : Names) (x : List ℕ) → f (both p r) x ≡ (f p x || (kept && r x))
 

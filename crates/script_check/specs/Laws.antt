@@ -5,7 +5,7 @@ use Rattle.script_check.specs.Names.{Names, IsWithin, both}
 use Rattle.script_check.specs.Rules.{Known}
 use Rattle.script_check.specs.Statements.{Place, judge_all, faults_each, after}
 
--- Statements that are valid from a set are valid from each subset of it, with no more pending behind them.
+-- Statements that are valid from a set are valid from each subset of it, with no more pending after them.
 abbrev pub FewerPendingStaysValid : Type 0
 FewerPendingStaysValid =
     (statements : List Stmt) (place : Place) (known : Known) (fewer p : Names) → IsWithin fewer p →

@@ -1,4 +1,4 @@
--- Sets of names, and the names that are pending behind statements.
+-- Sets of names, and the names that are pending after statements.
 use Rattle.std.specs.Prelude.{◌≡◌, ℕ, Bool, true, false, ◌||◌, ◌&&◌, List, [], ◌∷◌}
 use Rattle.std.specs.Str.{bytes_eq}
 use Rattle.script_grammar.specs.declared.tree.Name.{Name}

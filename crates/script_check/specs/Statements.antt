@@ -89,7 +89,7 @@ pub record Place : Type 0 where
 abbrev pub place : List Function → Bool → Place
 place functions in_block = record { functions = functions; in_block = in_block }
 
--- what a statement is to those behind it, and its violations
+-- what a statement is to those after it, and its violations
 pub record Judged : Type 0 where
   pub after : Names → Names
   pub known : List Function → Known → Known
@@ -155,6 +155,6 @@ judge_what = fold-Act (ℕ → Judged) Judged judge_act (λ s. s.act s.at)
 abbrev pub judge_all : List Stmt → List Judged
 judge_all = map judge
 
--- the names that are pending behind statements
+-- the names that are pending after statements
 abbrev pub after : List Stmt → Names → Names
 after ss = after_each (λ (j : Judged). j.after) (judge_all ss)

@@ -21,7 +21,7 @@ abbrev pub param_faults : List Param → Known → List Violation
 param_faults [] known = []
 param_faults (q ∷ params) known = declaration known q.name ++ param_faults params (with_first known q.name.bytes (Scalar q.kind))
 
--- The violations in a function: of its parameters, its body, and the result, which is read behind a sync of all that was spawned.
+-- The violations in a function: of its parameters, its body, and the result, which is read after a sync of all that was spawned.
 abbrev pub function_faults : List Function → Function → List Violation
 function_faults functions f =
     let known = known_params f.params no_entries in

@@ -32,17 +32,17 @@ names_of table name = is_some (table.what name)
 abbrev pub without_name : List ℕ → Names → Names
 without_name x p y = not (bytes_eq x y) && p y
 
--- the pending set in front of a change, of the one behind it
+-- the pending set before a change, of the one after it
 abbrev pub undo : Change → Names → Names
 undo (Added name) p = without_name name.items p
 undo (Cleared old) p = names_of (table_of old.map)
 
--- the same in front of several changes, which are undone from the last to the first
+-- the same before several changes, which are undone from the last to the first
 abbrev pub undone : List Change → Names → Names
 undone [] p = p
 undone (c ∷ cs) p = undo c (undone cs p)
 
--- What the walk knows in front of a statement: the variables, the pending set, whether what was pending where the innermost block
+-- What the walk knows before a statement: the variables, the pending set, whether what was pending where the innermost block
 -- began may still be so, and the set that was pending there.
 pub record State : Type 0 where
   pub known : Known
@@ -60,7 +60,7 @@ abbrev pub state_of : Scope → State
 state_of scope =
     record { known = known_in scope; names = pending_in scope; keeps = scope.block.keeps; before = undone scope.block.changes.items (pending_in scope) }
 
--- whether what is pending in front may still be pending behind
+-- whether what is pending in front may still be pending after
 abbrev pub keeps_each : List Bool → Bool
 keeps_each [] = true
 keeps_each (b ∷ bs) = b && keeps_each bs
@@ -87,7 +87,7 @@ keeps_what = fold-Act Bool Bool keeps_act (λ s. s.act)
 abbrev pub keeps_all : List Stmt → Bool
 keeps_all ss = keeps_each (map keeps ss)
 
--- the state behind a statement
+-- the state after a statement
 abbrev pub behind : List Function → Stmt → State → State
 behind functions s state =
     record {

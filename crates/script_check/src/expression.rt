@@ -148,7 +148,7 @@ pub(crate) fn want(scope: &Scope, found: &mut Findings, kind: Kind, e: &Expr) ->
     seen.at
 }
 
-/// The operands of a sum behind the first.
+/// The operands of a sum after the first.
 #[cycle(expressions)]
 #[tactic(auto, using(crate::proofs::Noted::noted_append))]
 fn want_summands(scope: &Scope, found: &mut Findings, parts: &[SumPart])
@@ -159,7 +159,7 @@ fn want_summands(scope: &Scope, found: &mut Findings, parts: &[SumPart])
     }
 }
 
-/// The operands of a product behind the first.
+/// The operands of a product after the first.
 #[cycle(expressions)]
 #[tactic(auto, using(crate::proofs::Noted::noted_append))]
 fn want_factors(scope: &Scope, found: &mut Findings, parts: &[ProductPart])

@@ -46,7 +46,7 @@ fn declare_params(
     Ok(())
 }
 
-/// A function. Its result is read behind a sync of all that it spawned.
+/// A function. Its result is read after a sync of all that it spawned.
 pub(crate) fn judge_function(
     alloc: Global,
     functions: &Functions,

@@ -1,4 +1,4 @@
-// What is known and what is pending in front of a statement.
+// What is known and what is pending before a statement.
 
 ghost use Rattle.std.specs.Prelude.{◌≡◌, false, true, OnOk, ◌&&◌};
 ghost use Rattle.script_check.specs.Names.{nobody, only, with_name};
@@ -135,7 +135,7 @@ impl Scope {
         mem::replace(&mut self.block, inner)
     }
 
-    /// Ends a block: what was pending where it began is so again. The answer tells whether it may still be so behind the block.
+    /// Ends a block: what was pending where it began is so again. The answer tells whether it may still be so after the block.
     pub(crate) fn leave(&mut self, outer: Block) -> bool
         ensures keeps { result ≡ self.old.block.keeps }
         ensures state { state_of self.new ≡ record (state_of self.old) {

@@ -11,7 +11,7 @@ use script_grammar::{Act, Right, Stmt};
 use std::alloc::Global;
 
 /// Adds the names that these statements leave pending where nothing was before. The answer tells whether what was pending before
-/// may still be so behind them. The statements are taken from the last to the first, so that a sync is met before what it ends.
+/// may still be so after them. The statements are taken from the last to the first, so that a sync is met before what it ends.
 #[cycle(spawns)]
 pub(crate) fn collect(alloc: Global, scope: &mut Scope, statements: &[Stmt]) -> Result<bool, Memory>
     ensures keeps { IfOk result (λ b. b ≡ keeps_all statements.now) }

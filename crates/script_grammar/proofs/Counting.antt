@@ -23,7 +23,7 @@ use Rattle.script_grammar.specs.Grammar.{IsParam, int_param, id_param, IsMorePar
 use Rattle.script_grammar.specs.Fault.{is_fn, functions_begun, too_many_functions, WithinBehind}
 use Rattle.script_grammar.specs.Text.{FunctionsAreFew}
 
--- what is behind a part has no more of them
+-- what is after a part has no more of them
 
 sum_sign : (a : ℕ) (k : Word) (t : List ℕ) (s : Bool) (ts : List Token) → IsSumSign k s → functions_begun (tok a k t ∷ ts) ≡ functions_begun ts
 sum_sign a k t s ts a_plus = refl

@@ -20,42 +20,42 @@ abbrev pub functions_begun : List Token → ℕ
 functions_begun [] = 0
 functions_begun (t ∷ ts) = if is_fn t.word then suc (functions_begun ts) else functions_begun ts
 
--- in a script that goes on with the token behind these, the nesting at the token is n
+-- in a script that goes on with the token after these, the nesting at the token is n
 abbrev pub IsNested : List Token → Token → ℕ → Type 0
 IsNested before t n =
     (more : List Token) × (functions : List Function) × (d : IsScript (before ++ t ∷ more) functions)
     × (slice_get (functions_nesting d 0) (length before) ≡ Some n)
 
--- the token behind these breaks the limit that a fault of that number names
+-- the token after these breaks the limit that a fault of that number names
 pub data BreaksLimit (before : List Token) (t : Token) : ℕ → Type 0 where
   number_out_of_range : t.word ≡ word.Number → 9223372036854775807 < decimal 0 t.text → BreaksLimit before t 3
   name_too_long : t.word ≡ word.Name → 32 < length t.text → BreaksLimit before t 4
   nested_too_deep : {n : ℕ} → IsNested before t n → 64 < n → BreaksLimit before t 5
   too_many_functions : t.word ≡ word.Fn → 1024 ≤ functions_begun before → BreaksLimit before t 7
 
--- the token behind these is at fault: it is unexpected, or breaks a limit
+-- the token after these is at fault: it is unexpected, or breaks a limit
 pub data IsFault (before : List Token) (t : Token) : ℕ → Type 0 where
   unexpected : (IsViable (before ++ t ∷ []) → ⊥) → IsFault before t 2
   breaks_limit : {n : ℕ} → IsViable (before ++ t ∷ []) → BreaksLimit before t n → IsFault before t n
 
--- what stands behind the last token: where the text ends, and why there is no further token
+-- what stands after the last token: where the text ends, and why there is no further token
 pub record Ending : Type 0 where
   pub end : ℕ
   pub stop : Stop
 
--- The fault behind all tokens, its number and its place: 6 where the text ends and they are no script yet, else what stopped them.
+-- The fault after all tokens, its number and its place: 6 where the text ends and they are no script yet, else what stopped them.
 abbrev pub FaultAtStop : ℕ → Stop → List Token → ℕ → ℕ → Type 0
 FaultAtStop end End tokens number at = (number ≡ 6) × (at ≡ end) × ((functions : List Function) → IsScript tokens functions → ⊥)
 FaultAtStop end (NotAscii place) tokens number at = (number ≡ 1) × (at ≡ place)
 FaultAtStop end (NoToken place) tokens number at = (number ≡ 2) × (at ≡ place)
 
--- the first fault behind the tokens `before`, its number and its place
+-- the first fault after the tokens `before`, its number and its place
 abbrev pub FaultBehind : Ending → List Token → List Token → ℕ → ℕ → Type 0
 FaultBehind ending before [] number at = FaultAtStop ending.end ending.stop before number at
 FaultBehind ending before (t ∷ ts) number at =
     (IsFault before t number × (at ≡ t.at)) ⊎ (((n : ℕ) → IsFault before t n → ⊥) × FaultBehind ending (before ++ t ∷ []) ts number at)
 
--- no token behind the tokens `before` breaks a limit
+-- no token after the tokens `before` breaks a limit
 abbrev pub WithinBehind : List Token → List Token → Type 0
 WithinBehind before [] = Unit {0}
 WithinBehind before (t ∷ ts) = ((n : ℕ) → BreaksLimit before t n → ⊥) × WithinBehind (before ++ t ∷ []) ts

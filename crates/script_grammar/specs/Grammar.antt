@@ -1,6 +1,6 @@
 -- The grammar, as derivations of lists of tokens.
 --
--- `IsX tokens x rest`: the tokens in front of `rest` derive from X, and `x` is their tree. Each constructor is a rule; its tokens
+-- `IsX tokens x rest`: the tokens before `rest` derive from X, and `x` is their tree. Each constructor is a rule; its tokens
 -- stand in the first index in the order of the text.
 use Rattle.std.specs.Prelude.{ℕ, ◌+◌, ◌*◌, ◌-◌, pos, Bool, true, false, List, [], ◌∷◌, ◌++◌, Option, Some, None}
 use Rattle.script_tokens.specs.declared.token.Word.{Word}

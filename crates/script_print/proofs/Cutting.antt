@@ -82,7 +82,7 @@ abbrev pub starts : (ℕ → Bool) → List ℕ → Bool
 starts f [] = true
 starts f (b ∷ bs) = f b
 
--- a token is the longest, where no byte that may stand behind it makes one more token of it
+-- a token is the longest, where no byte that may stand after it makes one more token of it
 pub longest_by : (w : Word) (text : List ℕ) (f : ℕ → Bool) → word_of text ≡ Some w → ((b : ℕ) → f b ≡ true → word_of (text ++ b ∷ []) ≡ None) →
     (rest : List ℕ) → starts f rest ≡ true → IsLongest (text ++ rest) (length text) w
 longest_by w text f e none [] s =

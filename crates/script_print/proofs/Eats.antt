@@ -1,4 +1,4 @@
--- A derivation reads the tokens in front of its rest, and no `fn` among them but where a function begins.
+-- A derivation reads the tokens before its rest, and no `fn` among them but where a function begins.
 use Rattle.std.proofs.Common.{◌≡◌, ℕ, suc, ◌+◌, List, [], ◌∷◌, length, Bool, true, false, Option, if◌then◌else◌, refl, sym, ap, ◌∙◌, arith}
 use Rattle.script_tokens.specs.declared.token.Word.{Word}
 use Rattle.script_tokens.specs.declared.token.Word.TheVariants as word
@@ -17,7 +17,7 @@ use Rattle.script_grammar.specs.declared.tree.Function.{Function}
 use Rattle.script_grammar.specs.Grammar.{Token, tok, IsSumSign, a_plus, a_minus, IsProductSign, a_times, an_over, a_modulo, IsComparison, an_eq, a_ne, a_lt, a_le, a_gt, a_ge, IsFactor, a_neg, a_number, a_name, an_item, a_group, a_same, an_older, IsTerm, factors, IsFactors, no_factors, one_factor, IsSum, terms, IsTerms, no_terms, one_term, IsExpr, alone, compared, IsMoreArgs, no_more_args, one_more_arg, IsArgs, no_args, some_args, IsCall, a_call, IsRight, right_value, right_draw, right_new, right_call, right_spawn, IsInto, no_into, an_into, IsStmt, a_let, an_array, a_set, a_store, a_spawn, a_call_stmt, a_sync, a_print, an_if, a_while, a_pfor, IsStmts, no_stmts, one_stmt, IsBlock, a_block, IsElse, no_else, an_else, IsParam, int_param, id_param, IsMoreParams, no_more_params, one_more_param, IsParams, no_params, some_params, IsAnswer, int_answer, id_answer, IsFunction, a_function, IsFunctions, no_functions, one_function}
 use Rattle.script_grammar.specs.Fault.{is_fn, functions_begun}
 
--- the tokens in front of the rest, among which there is no `fn`
+-- the tokens before the rest, among which there is no `fn`
 pub data Eats : List Token → List Token → Type 0 where
   eaten : {ts : List Token} → Eats ts ts
   one : {t : Token} {ts rest : List Token} → is_fn t.word ≡ false → Eats ts rest → Eats (t ∷ ts) rest

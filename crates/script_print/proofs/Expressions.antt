@@ -229,7 +229,7 @@ operand_front need x n s rest = go (nat_lt (printed x).level need)
     go true = refl
     go false = s.front rest
 
--- a text in front of others begins as they do
+-- a text before others begins as they do
 front_first : (t u : List ℕ) → ((rest : List ℕ) → starts no_arrow (t ++ rest) ≡ true) → (rest : List ℕ) → starts no_arrow (t ++ u ++ rest) ≡ true
 front_first t u h rest = ap (starts no_arrow) (append_assoc t u rest) ∙ h (u ++ rest)
 
@@ -379,7 +379,7 @@ comparison_form Le = weaken (spaced_word word.Le (codes "<=") refl refl refl) (c
 comparison_form Gt = weaken (spaced_word word.Gt (codes ">") refl refl refl) (comparison_signed a_gt)
 comparison_form Ge = weaken (spaced_word word.Ge (codes ">=") refl refl refl) (comparison_signed a_ge)
 
--- A text behind an operand, which ends no name and no number of it.
+-- A text after an operand, which ends no name and no number of it.
 pub record Tail (text : List ℕ) (D : List Token → List Token → Type 0) : Type 0 where
   pub form : Forms text calm D
   pub front : (rest : List ℕ) → starts calm rest ≡ true → starts calm (text ++ rest) ≡ true

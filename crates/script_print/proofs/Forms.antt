@@ -1,4 +1,4 @@
--- Texts that are cut into tokens of a form, whatever stands behind them.
+-- Texts that are cut into tokens of a form, whatever stands after them.
 use Rattle.std.proofs.Common.{◌≡◌, ℕ, suc, ◌+◌, ◌≤◌, List, [], ◌∷◌, ◌++◌, length, codes, Some, None, Bool, true, false, not, nat_eq, refl, sym, ap, ◌∙◌, subst, arith, append_assoc}
 use Rattle.std.proofs.lemmas.Bool.{eqb-true}
 use Rattle.script_tokens.specs.declared.token.Word.{Word}
@@ -8,18 +8,18 @@ use Rattle.script_tokens.specs.Lexing.{is_blank}
 use Rattle.script_grammar.specs.Grammar.{Token, tok}
 use Rattle.script_print.proofs.Cutting.{IsModest, Spells, spells_token, spells_blank, starts, longest_by}
 
--- between the tokens from the first on and those behind the last
+-- between the tokens from the first on and those after the last
 abbrev pub Relation : Type 1
 Relation = List Token → List Token → Type 0
 
--- The bytes are cut into tokens whose last are those of what stands behind, and the others are of the form.
+-- The bytes are cut into tokens whose last are those of what stands after, and the others are of the form.
 pub record Cut (D : List Token → List Token → Type 0) (at : ℕ) (bytes : List ℕ) (behind : ℕ → List Token) : Type 0 where
   pub tokens : List Token
   pub spells : Spells at bytes tokens
   pub end : ℕ
   pub form : D tokens (behind end)
 
--- Wherever the text stands, and whatever stands behind it that begins with a byte that passes, it is of the form.
+-- Wherever the text stands, and whatever stands after it that begins with a byte that passes, it is of the form.
 pub record Forms (text : List ℕ) (passes : ℕ → Bool) (D : List Token → List Token → Type 0) : Type 0 where
   pub cut : (rest : List ℕ) (behind : ℕ → List Token) → starts passes rest ≡ true → ((at : ℕ) → Spells at rest (behind at)) → (at : ℕ) → Cut D at (text ++ rest) behind
 
@@ -56,14 +56,14 @@ weaken a h = record {
       record { tokens = c.tokens; spells = c.spells; end = c.end; form = h c.tokens (behind c.end) c.form };
 }
 
--- fewer bytes may stand behind
+-- fewer bytes may stand after
 pub before : {t : List ℕ} {f : ℕ → Bool} {D : List Token → List Token → Type 0} (g : ℕ → Bool) → Forms t f D → ((rest : List ℕ) → starts g rest ≡ true → starts f rest ≡ true) → Forms t g D
 before g a h = record { cut = λ rest behind s spells at. a.cut rest behind (h rest s) spells at }
 
 pub empty : {f : ℕ → Bool} → Forms [] f IsNothing
 empty = record { cut = λ rest behind s spells at. record { tokens = behind at; spells = spells at; end = at; form = nothing } }
 
--- any byte may stand behind
+-- any byte may stand after
 abbrev pub any : ℕ → Bool
 any b = true
 
@@ -107,7 +107,7 @@ is_fixed _ = true
 pub fixed_is_modest : (at : ℕ) (w : Word) (text : List ℕ) → is_fixed w ≡ true → IsModest (tok at w text)
 fixed_is_modest at w text h = record { number = λ e. let f = ap is_fixed e in absurd cc; name = λ e. let f = ap is_fixed e in absurd cc }
 
--- a keyword or symbol in front of any byte, or of one byte
+-- a keyword or symbol before any byte, or of one byte
 pub symbol : (w : Word) (text : List ℕ) → is_fixed w ≡ true → word_of text ≡ Some w → ((b : ℕ) → word_of (text ++ b ∷ []) ≡ None) → Forms text any (IsToken w text)
 symbol w text h e none = token_before w text any e (λ b s. none b) (λ at. fixed_is_modest at w text h)
 

@@ -87,7 +87,7 @@ name_goes_on (c ∷ cs) h b s =
 pub name_form : (text : List ℕ) → word_of text ≡ Some word.Name → length text ≤ 32 → Forms text calm (IsToken word.Name text)
 name_form text e short = token_before word.Name text calm e (name_goes_on text (name_is text e)) (λ at. record { number = λ e. absurd cc; name = λ e. short })
 
--- a keyword in front of what begins no name
+-- a keyword before what begins no name
 pub keyword : (w : Word) (text : List ℕ) → is_fixed w ≡ true → word_of text ≡ Some w → is_name text ≡ true → Forms text calm (IsToken w text)
 keyword w text h e named = token_before w text calm e (name_goes_on text named) (λ at. fixed_is_modest at w text h)
 

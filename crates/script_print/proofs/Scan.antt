@@ -1,4 +1,4 @@
--- The nesting at each token, told from the tokens in front of it alone.
+-- The nesting at each token, told from the tokens before it alone.
 use Rattle.std.proofs.Common.{◌≡◌, ℕ, zero, suc, ◌+◌, List, [], ◌∷◌, ◌++◌, Option, Bool, true, false, refl, sym, ap, ◌∙◌, append_assoc, append-nil}
 use Rattle.script_tokens.specs.declared.token.Word.{Word}
 use Rattle.script_tokens.specs.declared.token.Word.TheVariants as word
@@ -49,7 +49,7 @@ pub data Mode : Type 0 where
   named : Mode
   done : Mode
 
--- how many brackets and minuses are open here, and without the minuses behind the last bracket; and both in front of each open bracket
+-- how many brackets and minuses are open here, and without the minuses after the last bracket; and both before each open bracket
 pub record State : Type 0 where
   pub mode : Mode
   pub depth : ℕ
@@ -59,7 +59,7 @@ pub record State : Type 0 where
 abbrev pub at : Mode → ℕ → ℕ → List (ℕ × ℕ) → State
 at q m b o = record { mode = q; depth = m; inside = b; outer = o }
 
--- behind a name, the minuses in front of it have ended, unless a bracket follows
+-- after a name, the minuses before it have ended, unless a bracket follows
 abbrev pub settled : Mode → ℕ → ℕ → ℕ
 settled due m b = m
 settled named m b = b
@@ -268,7 +268,7 @@ mutual
   else_scanned no_else b o = stay
   else_scanned (an_else d) b o = take (else_block d b o)
 
-  -- behind `else`
+  -- after `else`
   else_block : {ts rest : List Token} {xs : List Stmt} (d : IsBlock ts xs rest) (b : ℕ) (o : List (ℕ × ℕ)) → Goes ts (at due b b o) (block_nesting d b) rest (at done b b o)
   else_block (a_block d) b o = take (next (stmts_scanned d (suc b) ((b, b) ∷ o)) (take stay))
 

@@ -23,7 +23,7 @@ use Rattle.script_print.proofs.Expressions.{Low, IsSound, Sound}
 use Rattle.script_print.proofs.Functions.{FunctionsOf, functions_shown}
 use Rattle.script_print.proofs.Scan.{State, effect, nested, step, scan, start, script_scanned}
 
--- The state behind these tokens.
+-- The state after these tokens.
 abbrev after : State → List Token → State
 after s [] = s
 after s (t ∷ ts) = after (step (effect t.word) s) ts
@@ -32,7 +32,7 @@ after-more : (s : State) (before : List Token) (t : Token) → after s (before +
 after-more s [] t = refl
 after-more s (b ∷ bs) t = after-more (step (effect b.word) s) bs t
 
--- the nesting at a token is told by those in front of it
+-- the nesting at a token is told by those before it
 scan_at : (s : State) (before : List Token) (t : Token) (more : List Token) → slice_get (scan s (before ++ t ∷ more)) (length before) ≡ Some (nested (effect t.word) (after s before))
 scan_at s [] t more = refl
 scan_at s (b ∷ bs) t more = scan_at (step (effect b.word) s) bs t more

@@ -95,7 +95,7 @@ sum_part_text = fold-SumPart Printed (List ℕ) (List ℕ) expr_at product_part_
 abbrev pub expr_text : Expr → List ℕ
 expr_text x = (printed x).text
 
--- Lists, with a comma and a space in front of each item but the first.
+-- Lists, with a comma and a space before each item but the first.
 
 abbrev pub behind_commas : {A : Type 0} → (A → List ℕ) → List A → List ℕ
 behind_commas f xs = flat_map (λ x. codes ", " ++ f x) xs
@@ -140,7 +140,7 @@ abbrev pub else_text : List Indented → Indented
 else_text [] margin = []
 else_text (stmt ∷ stmts) margin = codes " else " ++ block_text (stmt ∷ stmts) margin
 
--- what a statement does, behind its margin
+-- what a statement does, after its margin
 abbrev pub act_at : Act-F Indented Indented → Indented
 act_at (act.Let x r) margin = codes "let " ++ x.bytes ++ codes " = " ++ right_text r ++ codes ";"
 act_at (act.Array a n) margin = codes "let " ++ a.bytes ++ codes "[" ++ signed_decimal n.value ++ codes "];"

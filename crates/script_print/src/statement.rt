@@ -8,7 +8,7 @@ use crate::words::{write_name, write_number};
 use script_grammar::{Act, CallText, Expr, Name, Number, Right, Stmt};
 use std::alloc::Global;
 
-// The expressions, each behind a comma and a space.
+// The expressions, each after a comma and a space.
 fn write_behind_commas(args: &[Expr], text: &mut Vec<u8>) -> Result<(), Memory>
     ensures { OnOk result (text.new.items ≡ text.old.items ++ behind_commas expr_text args.now) }
 {
@@ -168,7 +168,7 @@ fn deeper(alloc: Global, margin: &[u8]) -> Result<Vec<u8>, Memory>
     Ok(inner)
 }
 
-// Appends the lines of these statements, each behind the margin.
+// Appends the lines of these statements, each after the margin.
 #[cycle(statements)]
 #[tactic(auto, using(crate::proofs::Computing::act_rules))]
 pub(crate) fn write_stmts(

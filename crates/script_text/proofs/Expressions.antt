@@ -151,7 +151,7 @@ factor_number_err source d rest l (Bad number at) e k = λ n s f.
     let fault : ◌≡◌ {A = Option (ℕ × ℕ)} (Some (3, l.start)) (Some (number, at)) = cc in
     ap (judge (ending source) n (factor ∷ s)) t ∙ number_big (ending source) n l.start (text_of source.bytes.now l) (factor ∷ s) s (seen source rest) k.0 refl ∙ fault
 
--- the machine behind a factor's name
+-- the machine after a factor's name
 pub names : (source : Source) (d : ℕ) (rest : List Lexeme) (l : Lexeme) (x : Name) → l.word ≡ word.Name → d ≤ 64 → Names source l (Ok x) → Leads (factor ∷ []) (index ∷ []) source d (l ∷ rest) rest
 names source d rest l x e h k = λ n s f.
     ap (judge (ending source) n (factor ∷ s)) (seen-next word.Name source l.start (l ∷ rest) rest (first_is l (l ∷ rest) rest refl e))
@@ -172,7 +172,7 @@ factor_name_err source d rest l (Bad number at) e k = λ n s f.
     let fault : ◌≡◌ {A = Option (ℕ × ℕ)} (Some (4, l.start)) (Some (number, at)) = cc in
     ap (judge (ending source) n (factor ∷ s)) t ∙ name_long (ending source) n l.start (text_of source.bytes.now l) (factor ∷ s) (index ∷ s) (seen source rest) k.0 refl ∙ fault
 
--- the machine behind the bracket of an item
+-- the machine after the bracket of an item
 pub item_enters : (source : Source) (d at : ℕ) (rest behind : List Lexeme) (l : Lexeme) (x : Name) → l.word ≡ word.Name → d < 64 → Names source l (Ok x) → NextIs word.OpenItem at rest behind
     → Leads (factor ∷ []) (expr_then (only word.CloseItem ∷ [])) source d (l ∷ rest) behind
 item_enters source d at rest behind l x e h k g = λ n s f.

@@ -1,4 +1,4 @@
--- The machine follows each derivation, and its depth behind each token is the nesting there.
+-- The machine follows each derivation, and its depth after each token is the nesting there.
 use Rattle.std.proofs.Common.{◌≡◌, ℕ, List, [], ◌∷◌, ◌++◌, Option, Some, None, Bool, true, false, ◌&&◌, cond, option_and_then, refl, sym, ap, ◌∙◌, subst, append_assoc, append-nil}
 use Rattle.std.proofs.lemmas.Bool.{eq-eqb}
 use Rattle.script_tokens.specs.declared.token.Word.{Word}
@@ -347,7 +347,7 @@ first_param : {ts rest : List Token} {x : Param} (d : IsParam ts x rest) → (s 
 first_param int_param s = take refl (stay refl)
 first_param id_param s = take refl (take refl (stay refl))
 
--- the parenthesis behind parameters comes
+-- the parenthesis after parameters comes
 abbrev IsParamsEnd : List Token → Type 0
 IsParamsEnd [] = ⊥
 IsParamsEnd (t ∷ ts) = Skips more_params t × Skips params t

@@ -17,7 +17,7 @@ use Rattle.script_text.proofs.Words.{same_words}
 use Rattle.script_text.proofs.Follows.{behind, script_traced, script_runs}
 use Rattle.script_text.proofs.Sound.{Derives, run_sound, run-append, whole, left_out, viable, taken}
 
--- the machine stands here behind these tokens
+-- the machine stands here after these tokens
 abbrev Stands : List Token → List Sym → Type 0
 Stands before s = run before (functions ∷ []) ≡ Some s
 
@@ -42,7 +42,7 @@ slice_get-seam : (ns : List ℕ) (n : ℕ) (more : List ℕ) → slice_get (ns +
 slice_get-seam [] n more = refl
 slice_get-seam (m ∷ ns) n more = slice_get-seam ns n more
 
--- a run, step by step, with the depth behind each token
+-- a run, step by step, with the depth after each token
 data Steps : List Token → List Sym → List ℕ → List Sym → Type 0 where
   stopped : {s : List Sym} → Steps [] s [] s
   stepped : {t : Token} {ts : List Token} {s x s' : List Sym} {ns : List ℕ} → step t.word t.text s ≡ Some x → Steps ts x ns s' → Steps (t ∷ ts) s (depth x ∷ ns) s'
@@ -68,7 +68,7 @@ trace-append {s' = s'} us (stepped {t = t} {ts = ts} {x = x} {ns = ns} e r) =
     longer n ns None = refl
     longer n ns (Some p) = refl
 
--- the depth behind a token is its nesting in every script that goes on so
+-- the depth after a token is its nesting in every script that goes on so
 nested_so : (before : List Token) (t : Token) (s s' : List Sym) → Stands before s → step t.word t.text s ≡ Some s' → (n : ℕ) → IsNested before t n → n ≡ depth s'
 nested_so before t s s' st e n h =
     let r = steps before (functions ∷ []) s st in
@@ -170,7 +170,7 @@ not_broken before t d nest e k (nested_too_deep {n = n} h deep) =
     last false false false true e = absurd (none-some _ (sym e))
     last false false false false e = refl
 
--- what an answer says of the tokens behind these
+-- what an answer says of the tokens after these
 abbrev Says : Ending → List Token → List Token → Option Fault → Type 0
 Says ending before ts (Some f) = FaultBehind ending before ts f.0 f.1
 Says ending before ts None = (ending.stop ≡ End) × WithinBehind before ts × ((fs : List Function) × IsScript (before ++ ts) fs)

@@ -278,7 +278,7 @@ stmt_taken : {A : Type 0} {ts rest : List Token} {x : Stmt} → IsStmt ts x rest
 stmt_taken {ts = []} d e = absurd e
 stmt_taken {ts = t ∷ ts} d e = absurd (stmt_word d e.0)
 
--- what stands behind two tokens that are one
+-- what stands after two tokens that are one
 cut2 : {t u v w : Token} {ts us : List Token} → ◌≡◌ {A = List Token} (t ∷ u ∷ ts) (v ∷ w ∷ us) → ts ≡ us
 cut2 e = cut (cut e)
 

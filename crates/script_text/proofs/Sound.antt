@@ -51,7 +51,7 @@ pub data IsParamList : List Token → List Token → Type 0 where
 pub data IsBody : List Token → List Token → Type 0 where
   body_of : {e f g h : ℕ} {w x y z : List ℕ} {vs ws rest : List Token} {p : List Stmt} {r : Expr} → IsStmts vs p (tok f word.Return x ∷ ws) → IsExpr ws r (tok g word.Semicolon y ∷ tok h word.CloseBlock z ∷ rest) → IsBody (tok e word.OpenBlock w ∷ vs) rest
 
--- the tokens of ts in front of rest derive from the symbol
+-- the tokens of ts before rest derive from the symbol
 abbrev pub From : Sym → List Token → List Token → Type 0
 From (only k) ts rest = IsKind k ts rest
 From (exactly n) ts rest = IsNamed n ts rest

@@ -56,7 +56,7 @@ module _ (source : Source) (d : ℕ) (old rest : List Lexeme) (l : Lexeme) (e : 
   pub right_value_err : (g : SyntaxError) → (l.word ≡ word.Draw → ⊥) → (l.word ≡ word.New → ⊥) → (l.word ≡ word.Call → ⊥) → (l.word ≡ word.Spawn → ⊥) → Errs (expr_then []) source d old g → Errs (machine.right ∷ []) source d old g
   right_value_err g p q r u f = err_first source d (machine.right ∷ []) (expr_then []) [] d old g (right_same p q r u) (λ s h. h) f
 
-  -- the machine behind a word that a right side may begin with
+  -- the machine after a word that a right side may begin with
   right_enters : (w : Word) (next : List Sym) → l.word ≡ w → is_plain w ≡ true → ((text : List ℕ) (s : List Sym) → step w text (machine.right ∷ s) ≡ Some (next ++ s)) → ((s : List Sym) → depth (next ++ s) ≡ depth s) → d ≤ 64
       → Leads (machine.right ∷ []) next source d old rest
   right_enters w next p q g k h = λ n s f.
@@ -128,7 +128,7 @@ module _ (source : Source) (d : ℕ) (old : List Lexeme) (e : SyntaxError) where
   pub call_of_err_end : (mid : List Lexeme) (x : CallText) → Comes IsCall (only word.Name ∷ call_args ∷ []) source d old x mid → Errs (only word.Semicolon ∷ []) source d mid e → Errs (only word.Name ∷ call_args ∷ only word.Semicolon ∷ []) source d old e
   call_of_err_end mid x a f = err_behind (only word.Name ∷ call_args ∷ only word.Semicolon ∷ []) (only word.Semicolon ∷ []) [] source d d old mid e (λ n s r. a.1 n (only word.Semicolon ∷ s) r) (λ s r. r) f
 
--- Brackets behind a name: [n]; and [E] = E;
+-- Brackets after a name: [n]; and [E] = E;
 
 none_of_two : (a : Sym) (v w : Word) (p q : List Sym) (old : List Lexeme) (bytes : List ℕ) → rules a ≡ rule v p ∷ rule w q ∷ [] → NextIsNot v old → NextIsNot w old → HasNone a old bytes
 none_of_two a v w p q [] bytes e h k = tt

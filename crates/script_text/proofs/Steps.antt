@@ -132,7 +132,7 @@ abbrev pub Opened : Word → Source → ℕ → List Lexeme → List Lexeme → 
 Opened w source d old rest =
     ((at : ℕ) × NextIs w at old rest) × (d < 64) × ((a : Sym) (inside : List Sym) → IsBracket a w inside → Leads (a ∷ []) inside source d old rest)
 
--- a fault that is found behind what was read, where these symbols are still expected
+-- a fault that is found after what was read, where these symbols are still expected
 pub err_behind : (front next tail : List Sym) (source : Source) (d d' : ℕ) (old mid : List Lexeme) (e : SyntaxError) → Leads front (next ++ tail) source d old mid → ((s : List Sym) → depth s ≡ d → depth (tail ++ s) ≡ d')
     → Errs next source d' mid e → Errs front source d old e
 err_behind front next tail source d d' old mid Memory g h f = tt

@@ -91,7 +91,7 @@ sum_then s = factor ∷ more_factors ∷ more_terms ∷ s
 abbrev pub expr_then : List Sym → List Sym
 expr_then s = factor ∷ more_factors ∷ more_terms ∷ comparison ∷ s
 
--- the rules of a factor, with what stands behind it
+-- the rules of a factor, with what stands after it
 abbrev pub factor_rules : List Sym → List Rule
 factor_rules s =
     rule word.Name (index ∷ s)
@@ -193,7 +193,7 @@ choose (Some r) b s o = Some (r ++ s)
 choose None true s o = o
 choose None false s o = None
 
--- the stack behind a token, where it may come
+-- the stack after a token, where it may come
 abbrev pub step : Word → List ℕ → List Sym → Option (List Sym)
 step w text [] = None
 step w text (a ∷ s) = choose (find_rule w text (rules a)) (is_empty a) s (step w text s)
@@ -223,7 +223,7 @@ abbrev pub onward : Option (List Sym) → (List Sym → Trace) → Trace
 onward None go = None
 onward (Some s) go = option_and_then (λ p. Some (depth s ∷ p.0, p.1)) (go s)
 
--- the nesting behind each token, and the stack in the end
+-- the nesting after each token, and the stack in the end
 abbrev pub trace : List Token → List Sym → Trace
 trace [] s = Some ([], s)
 trace (t ∷ ts) s = onward (step t.word t.text s) (trace ts)
@@ -254,7 +254,7 @@ at_stop end End s = if all_empty s then None else Some (6, end)
 at_stop end (NotAscii place) s = Some (1, place)
 at_stop end (NoToken place) s = Some (2, place)
 
--- how many functions have begun behind a token
+-- how many functions have begun after a token
 abbrev pub begun : Token → ℕ → ℕ
 begun t n = if is_fn t.word then suc n else n
 

@@ -31,7 +31,7 @@ seen source ls = tokens_of source.bytes.now ls
 abbrev pub ending : Source → Ending
 ending source = record { end = source.end; stop = source.stop }
 
--- the machine comes from the symbols in front to those behind, by the lexemes between
+-- the machine comes from the symbols in front to those after, by the lexemes between
 abbrev pub Leads : List Sym → List Sym → Source → ℕ → List Lexeme → List Lexeme → Type 0
 Leads front back source d old rest =
     (n : ℕ) (s : List Sym) → depth s ≡ d → judge (ending source) n (front ++ s) (seen source old) ≡ judge (ending source) n (back ++ s) (seen source rest)
@@ -61,7 +61,7 @@ abbrev pub unexpected_in : Source → List Lexeme → SyntaxError
 unexpected_in source [] = stopped_at source.end source.stop
 unexpected_in source (l ∷ ls) = Bad 2 l.start
 
--- that word comes next, at that place and with these behind it; or it doesn't
+-- that word comes next, at that place and with these after it; or it doesn't
 abbrev pub NextIs : Word → ℕ → List Lexeme → List Lexeme → Type 0
 NextIs w at old rest = (l : Lexeme) × (old ≡ l ∷ rest) × (l.word ≡ w) × (l.start ≡ at)
 
@@ -80,7 +80,7 @@ abbrev pub Passes : Word → Source → ℕ → List Lexeme → Result (Bor (Lis
 Passes w source d old (Ok rest) = ((at : ℕ) × NextIs w at old rest.now) × Leads (only w ∷ []) [] source d old rest.now
 Passes w source d old (Err e) = Errs (only w ∷ []) source d old e
 
--- a symbol that has to be a bracket with these behind it
+-- a symbol that has to be a bracket with these after it
 pub record IsBracket (a : Sym) (w : Word) (inside : List Sym) : Type 0 where
   pub needed : is_empty a ≡ false
   pub only_rule : rules a ≡ rule w inside ∷ []
@@ -115,7 +115,7 @@ abbrev pub Signs : {X : Type 0} → Sym → (Word → X → Type 0) → Word →
 Signs a R w None = (text : List ℕ) → find_rule w text (rules a) ≡ None
 Signs a R w (Some sign) = R w sign
 
--- a sign comes next, and what stands behind it; or the symbol has no rule for what comes next
+-- a sign comes next, and what stands after it; or the symbol has no rule for what comes next
 abbrev pub SignNext : {X : Type 0} → Sym → (Word → X → Type 0) → List Lexeme → Option (X × Bor (List Lexeme)) → Type 0
 SignNext a R [] None = Unit {0}
 SignNext a R (l ∷ ls) None = (text : List ℕ) → find_rule l.word text (rules a) ≡ None
@@ -142,7 +142,7 @@ pub data IsName : List Token → Name → List Token → Type 0 where
 pub data IsNumber : List Token → Number → List Token → Type 0 where
   a_number_token : {a : ℕ} {t : List ℕ} {rest : List Token} → IsNumber (tok a word.Number t ∷ rest) (number_at a t) rest
 
--- { "," expr }, with these expressions in front of its own
+-- { "," expr }, with these expressions before its own
 abbrev pub AddsArgs : List Expr → List Token → List Expr → List Token → Type 0
 AddsArgs found ts xs rest = (more : List Expr) × (xs ≡ found ++ more) × IsMoreArgs ts more rest
 
@@ -191,7 +191,7 @@ abbrev pub NoStmt : List Lexeme → Type 0
 NoStmt [] = Unit {0}
 NoStmt (l ∷ ls) = begins_stmt l.word ≡ false
 
--- What was read behind a lexeme makes with it a statement that does this.
+-- What was read after a lexeme makes with it a statement that does this.
 abbrev pub ReadsAct : Source → ℕ → Lexeme → List Lexeme → Result (Act × Bor (List Lexeme)) SyntaxError → Type 0
 ReadsAct source d first rest (Ok p) =
     IsStmt (seen source (first ∷ rest)) (stmt_at first.start p.0) (seen source p.1.now) × Leads (stmts ∷ []) (stmts ∷ []) source d (first ∷ rest) p.1.now
@@ -220,7 +220,7 @@ abbrev pub Repeats : List ℕ → Source → ℕ → List Lexeme → Result (Bor
 Repeats n source d old (Ok rest) = ((l : Lexeme) × NextLexeme word.Name l old rest.now × (text_of source.bytes.now l ≡ n)) × Leads (exactly n ∷ []) [] source d old rest.now
 Repeats n source d old (Err e) = Errs (exactly n ∷ []) source d old e
 
--- { "," param }, with these parameters in front of its own
+-- { "," param }, with these parameters before its own
 abbrev pub AddsParams : List Param → List Token → List Param → List Token → Type 0
 AddsParams found ts xs rest = (more : List Param) × (xs ≡ found ++ more) × IsMoreParams ts more rest
 

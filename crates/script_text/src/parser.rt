@@ -26,7 +26,7 @@ use std::alloc::Global;
 /// bytes, numbers up to 9223372036854775807, at most 1024 functions, and at most 64 open brackets and unary minuses at a place. There is
 /// never more than one tree.
 ///
-/// [`SyntaxError::Bad`] names the first fault, and nothing behind it is judged. A token is unexpected where no further tokens make a script of
+/// [`SyntaxError::Bad`] names the first fault, and nothing after it is judged. A token is unexpected where no further tokens make a script of
 /// it and those in front; limits are judged only of a token that may stand where it does. [`SyntaxError::Memory`] is want of memory.
 ///
 /// The time is linear in the length of the text; the call stack is bounded by the limit of the nesting.
@@ -52,12 +52,12 @@ pub fn parse(alloc: Global, bytes: &[u8]) -> Result<Script, SyntaxError>
     script(&source, lexed.lexemes.as_slice())
 }
 
-/// The token that comes next from the offset `from` on, behind blanks and comments. Where none comes it is `End`, which begins and ends at the
+/// The token that comes next from the offset `from` on, after blanks and comments. Where none comes it is `End`, which begins and ends at the
 /// length of the text. An offset inside of a token is taken as the beginning of the text: what comes next is judged from there on. The call
 /// takes no memory, and its error is never [`SyntaxError::Memory`].
 ///
-/// The error is `Bad` 1 exactly where a byte from 128 on stands among these blanks and comments or directly behind them, at the first such
-/// byte, and else `Bad` 2 exactly where a byte stands directly behind them at which no token begins, at that byte. The length of names and
+/// The error is `Bad` 1 exactly where a byte from 128 on stands among these blanks and comments or directly after them, at the first such
+/// byte, and else `Bad` 2 exactly where a byte stands directly after them at which no token begins, at that byte. The length of names and
 /// the size of numbers isn't judged here.
 pub fn next_token(bytes: &[u8], from: u32) -> Result<Token, SyntaxError>
     requires size { length bytes.now ≤ MAX_BYTES }

@@ -98,7 +98,7 @@ comes_blank from b bs r h c =
     let place : suc from + gap_length bs ≡ from + suc (gap_length bs) = omega arith in
     subst (λ n. Stands (from + n) (drop n (b ∷ bs)) r) (sym gap) (subst (λ n. Stands n (drop (gap_length bs) bs) r) place c)
 
--- A token in front is the first lexeme. `rest` is what stands behind it.
+-- A token in front is the first lexeme. `rest` is what stands after it.
 pub lexes_token : (from : ℕ) (text rest : List ℕ) (word : Word) (ls : List Lexeme) (stop : Stop) →
     IsLongest (text ++ rest) (length text) word → Lexes (from + length text) rest ls stop →
     Lexes from (text ++ rest) (lexeme word from (from + length text) ∷ ls) stop

@@ -150,7 +150,7 @@ not_below_128 b r e h = grind (arith, nat_tests)
 pub below_128 : (b : ℕ) (r : Bool) → r ≡ is_ascii b → r ≡ true → b < 128
 below_128 b r e h = grind (arith, nat_tests)
 
--- The lexemes so far are `ls`, and `from` is the end of the last. `Begins` says that whatever lexemes come behind them make the text's.
+-- The lexemes so far are `ls`, and `from` is the end of the last. `Begins` says that whatever lexemes come after them make the text's.
 abbrev pub Begins : List ℕ → List Lexeme → ℕ → Type 0
 Begins text ls from = (ms : List Lexeme) (stop : Stop) → Lexes from (drop from text) ms stop → Lexes 0 text (ls ++ ms) stop
 

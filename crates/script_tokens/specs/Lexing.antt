@@ -21,7 +21,7 @@ abbrev mutual
   gap_length [] = 0
   gap_length (b ∷ bs) = if is_blank b then suc (gap_length bs) else if b == 35 then suc (comment_length bs) else 0
 
-  -- the same behind the `#`
+  -- the same after the `#`
   pub comment_length : List ℕ → ℕ
   comment_length [] = 0
   comment_length (b ∷ bs) = if b == 10 then suc (gap_length bs) else if nat_lt b 128 then suc (comment_length bs) else 0
@@ -51,7 +51,7 @@ pub data Stands : (at : ℕ) → (bytes : List ℕ) → Result Lexeme Stop → T
   not_ascii : {at b : ℕ} {bs : List ℕ} → 128 ≤ b → Stands at (b ∷ bs) (Err (NotAscii at))
   no_token : {at b : ℕ} {bs : List ℕ} → b < 128 → BeginsNoToken (b ∷ bs) → Stands at (b ∷ bs) (Err (NoToken at))
 
--- What comes next behind the offset `from`, of which `left` is the rest of the text: what stands there behind the gap.
+-- What comes next after the offset `from`, of which `left` is the rest of the text: what stands there after the gap.
 abbrev pub Comes : (from : ℕ) → (left : List ℕ) → Result Lexeme Stop → Type 0
 Comes from left next = Stands (from + gap_length left) (drop (gap_length left) left) next
 

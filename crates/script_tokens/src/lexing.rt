@@ -25,9 +25,9 @@ pub enum Stop {
 /// Why no token comes next: a [`Stop`] other than the end.
 #[derive(Clone, Copy, Debug, PartialEq, Eq)]
 pub enum Misfit {
-    /// At this offset stands a byte from 128 on, in the gap or directly behind it.
+    /// At this offset stands a byte from 128 on, in the gap or directly after it.
     NotAscii(u32),
-    /// At this offset, directly behind the gap, stands a byte below 128 at which no token begins.
+    /// At this offset, directly after the gap, stands a byte below 128 at which no token begins.
     NoToken(u32),
 }
 
@@ -59,7 +59,7 @@ fn lexeme_at(at: u32, rest: &[u8]) -> Result<Lexeme, Stop>
     }
 }
 
-// The lexeme that comes next behind the offset `from`, or why there is none.
+// The lexeme that comes next after the offset `from`, or why there is none.
 fn next_lexeme(bytes: &[u8], from: u32) -> Result<Lexeme, Stop>
     requires size { length bytes.now ≤ MAX_BYTES }
     requires within { from ≤ length bytes.now }
@@ -73,7 +73,7 @@ fn next_lexeme(bytes: &[u8], from: u32) -> Result<Lexeme, Stop>
 /// Cuts a text into its lexemes, up to its end or to the first byte that fits nowhere.
 ///
 /// The time is linear in the length of the text, and the memory in the number of its lexemes. `Err` is want of memory alone: a text that
-/// can't be read to its end gives the lexemes in front of the byte that stopped it, and that byte's offset in `stop`.
+/// can't be read to its end gives the lexemes before the byte that stopped it, and that byte's offset in `stop`.
 pub fn lexemes(alloc: Global, bytes: &[u8]) -> Result<Lexed, Memory>
     requires { length bytes.now ≤ MAX_BYTES }
     ensures { IfOk result (λ lexed. Lexes 0 bytes.now lexed.lexemes.items lexed.stop) }
@@ -91,11 +91,11 @@ pub fn lexemes(alloc: Global, bytes: &[u8]) -> Result<Lexed, Memory>
     }
 }
 
-/// The token that comes next from the offset `from` on, behind the blanks and comments that stand there. It takes no memory.
+/// The token that comes next from the offset `from` on, after the blanks and comments that stand there. It takes no memory.
 ///
 /// At the end of the text this is the token [`TokenKind::End`], whose `start` and `end` are the text's length. There is none exactly where a
-/// byte from 128 on stands among these blanks and comments or directly behind them (`NotAscii`, with the offset of the first such byte), or
-/// else where the byte directly behind them begins no token (`NoToken`, with its offset). An offset inside a token or a comment is taken
+/// byte from 128 on stands among these blanks and comments or directly after them (`NotAscii`, with the offset of the first such byte), or
+/// else where the byte directly after them begins no token (`NoToken`, with its offset). An offset inside a token or a comment is taken
 /// as the start of a text.
 pub fn next_token(bytes: &[u8], from: u32) -> Result<Token, Misfit>
     requires size { length bytes.now ≤ MAX_BYTES }

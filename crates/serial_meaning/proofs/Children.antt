@@ -1,4 +1,4 @@
--- The children of a node of the open tree have paths of one rank more, which rise, and its own fault stands behind them.
+-- The children of a node of the open tree have paths of one rank more, which rise, and its own fault stands after them.
 use Rattle.std.proofs.Common.{◌≡◌, ℕ, zero, suc, ◌+◌, ◌-◌, ◌<◌, ◌≤◌, Bool, true, false, List, [], ◌∷◌, ◌++◌, Option, Some, None, Result, Ok, Err, map, refl, sym, subst, append-nil, if◌then◌else◌, arith}
 use Rattle.std.proofs.Common.{ℤ}
 use Rattle.script_grammar.specs.declared.tree.Function.{Function}
@@ -36,7 +36,7 @@ children-append path lo mid hi (Happened e ∷ xs) ys a b c d = children-append 
 children-append path lo mid hi (Child o ∷ xs) ys a b c d =
     (c.0, c.1, c.2, omega (arith, c.3), children-append path (c.0 + 1) mid hi xs ys (omega (arith, c.3)) b c.4 d)
 
--- a fault of the node's own stands at the rank hi or behind it
+-- a fault of the node's own stands at the rank hi or after it
 abbrev pub Stops : List ℕ → ℕ → Ending → Type 0
 Stops path hi (Own f) = (k : ℕ) × (f.at ≡ path ++ k ∷ []) × (hi ≤ k)
 Stops path hi (Joined f) = Unit {0}

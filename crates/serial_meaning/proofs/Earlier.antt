@@ -65,7 +65,7 @@ before-own plan function args path known by of_plan k b there = from (before-beg
     reached : k < rises.hi
     reached = rank-within path 0 rises.hi k (places (eval plan o).items) rises.within there
 
-    -- the fault would stand in front of the one by which the instance ends
+    -- the fault would stand before the one by which the instance ends
     inside : Contains (faults_at plan (depth_left plan o) o) by → (q : Result (List Value) Fault) → LeastOf (faults_at plan (depth_left plan o) o) q → EndsBehind path rises.hi q → ⊥
     inside h (Ok vs) l n = let g : Contains [] by = subst (λ (fs : List Fault). Contains fs by) l h in omega (arith, g.1)
     inside h (Err f) l n =

@@ -301,7 +301,7 @@ module _ {I E K : Type 0} (how : Manner I E K) (plan : PlanView) (path : List �
       ∙ sym (then-then (statement how plan path (exec how plan path) calls x s) (exec how plan path calls xs) (exec how plan path calls ys))
       ∙ ap (λ r. r then exec how plan path calls ys) (sym (exec-cons calls x xs s))
 
-  -- A turn of a loop puts the body and the loop again in front of the other statements.
+  -- A turn of a loop puts the body and the loop again before the other statements.
   pub exec-turn : (calls : ℕ) (st : Stmt) (body sts : List Stmt) (s : State K) →
       ((exec how plan path calls body s then exec how plan path calls (st ∷ [])) then exec how plan path calls sts) ≡ exec how plan path calls (body ++ (st ∷ sts)) s
   exec-turn calls st body sts s =

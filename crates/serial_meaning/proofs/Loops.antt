@@ -1,4 +1,4 @@
--- What is known of the loops in front of a path.
+-- What is known of the loops before a path.
 use Rattle.std.proofs.Common.{◌≡◌, ◌≤◌, ◌<◌, ◌+◌, ◌↔◌, ℕ, zero, suc, Bool, true, false, nat_lt, List, [], ◌∷◌, ◌++◌, Option, Some, None, length, take, drop, length-append, refl, sym, ap, ◌∙◌, subst, append-nil, arith, inl, inr}
 use Rattle.std.specs.Prelude.{Contains}
 use Rattle.std.proofs.lemmas.Bool.Decides.{nat_tests}
@@ -31,7 +31,7 @@ none-taken (suc k) h = refl
 pub main_is_unlooped : (plan : PlanView) → IsUnlooped plan []
 main_is_unlooped plan k h loop = paths_are_of_one_kind plan _ [] [] Main (subst (IsLoopPath plan) (none-taken k h) loop)
 
--- ranks behind a path leave its loops
+-- ranks after a path leave its loops
 pub loops_last : (plan : PlanView) (path more : List ℕ) (n : ℕ) → IsOutermost plan path n → IsOutermost plan (path ++ more) n
 loops_last plan path more n h = record {
   within = let l = length-append path more in omega (arith, h.within, l);

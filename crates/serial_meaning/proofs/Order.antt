@@ -17,7 +17,7 @@ nat_cmp-same n = sym (nat_cmp_is n n Equal refl)
 nat_cmp-less : (j k : ℕ) → j < k → nat_cmp j k ≡ Less
 nat_cmp-less j k h = sym (nat_cmp_is j k Less h)
 
--- what stands in front of both doesn't matter
+-- what stands before both doesn't matter
 slice_cmp-behind : (path xs ys : List ℕ) → cmp (path ++ xs) (path ++ ys) ≡ cmp xs ys
 slice_cmp-behind [] xs ys = refl
 slice_cmp-behind (r ∷ path) xs ys =

@@ -30,7 +30,7 @@ first-same x y xs ys e = ap first e
     first [] = x
     first (z ∷ zs) = z
 
--- the rank behind one path
+-- the rank after one path
 pub rank-same : (path : List ℕ) (k i : ℕ) (xs ys : List ℕ) → path ++ k ∷ xs ≡ path ++ i ∷ ys → k ≡ i
 rank-same path k i xs ys e = first-same k i xs ys (append_cancel_left path (k ∷ xs) (i ∷ ys) e)
 
@@ -45,7 +45,7 @@ nothing-longer : (xs : List ℕ) (y : ℕ) → [] ≡ xs ++ y ∷ [] → ⊥
 nothing-longer [] y e = absurd (cc)
 nothing-longer (x ∷ xs) y e = absurd (cc)
 
--- a path's last rank, and what stands in front of it
+-- a path's last rank, and what stands before it
 parent-same : (xs ys : List ℕ) (k i : ℕ) → xs ++ k ∷ [] ≡ ys ++ i ∷ [] → xs ≡ ys
 parent-same [] [] k i e = refl
 parent-same [] (y ∷ ys) k i e = absurd (nothing-longer ys i (tail-same k y [] (ys ++ i ∷ []) e))
@@ -240,7 +240,7 @@ child-of-fault below (Child o ∷ is) f h = from (Contains-append_cases (below o
     from (inl g) later = (o, (0, omega arith, refl), g)
     from (inr g) later = let p = later g in (p.0, (suc p.1.0, omega (arith, p.1.1), p.1.2), p.2)
 
--- an own fault stands behind all children
+-- an own fault stands after all children
 not-own : (path : List ℕ) (hi k : ℕ) (more : List ℕ) (e : Result (List Value) Ending) (f : Fault) → NodeStops path hi e → f.at ≡ path ++ k ∷ more → k < hi → Contains (own_fault e) f → ⊥
 not-own path hi k more (Ok vs) f n at h g = omega (arith, g.1)
 not-own path hi k more (Err (Joined x)) f n at h g = omega (arith, g.1)

@@ -25,7 +25,7 @@ slice_get-behind (x ∷ xs) ys zero h = absurd (omega arith)
 slice_get-behind (x ∷ xs) ys (suc i) h =
     let e : suc i - suc (length xs) ≡ i - length xs = omega arith in rw e (slice_get-behind xs ys i (omega arith))
 
--- The segments from the k-th on are that one and those behind it.
+-- The segments from the k-th on are that one and those after it.
 pub joined_at : (segments : List (Vec Event Global)) (k : ℕ) (d : Vec Event Global) (last : List Event) → k < length segments →
     joined (drop k segments) ++ last ≡ (get_or segments k d).items ++ (joined (drop (k + 1) segments) ++ last)
 joined_at segments k d last h =
@@ -38,13 +38,13 @@ found_here o segments k left segment last h is e small =
     let front : slice_get (segment.items ++ (joined (drop (k + 1) segments) ++ last)) left ≡ slice_get segment.items left = slice_get-front segment.items (joined (drop (k + 1) segments) ++ last) left small in
     e ∙ ap (λ l. slice_get l left) (joined_at segments k segment last h ∙ ap (λ (s : Vec Event Global). s.items ++ (joined (drop (k + 1) segments) ++ last)) (sym is)) ∙ front
 
--- and where it is behind that segment
+-- and where it is after that segment
 pub found_later : (o : Option Event) (segments : List (Vec Event Global)) (k left : ℕ) (segment : Vec Event Global) (last : List Event) → k < length segments → segment ≡ get_or segments k segment →
     o ≡ slice_get (joined (drop k segments) ++ last) left → length segment.items ≤ left → o ≡ slice_get (joined (drop (k + 1) segments) ++ last) (left - length segment.items)
 found_later o segments k left segment last h is e big =
     let behind : slice_get (segment.items ++ (joined (drop (k + 1) segments) ++ last)) left ≡ slice_get (joined (drop (k + 1) segments) ++ last) (left - length segment.items) = slice_get-behind segment.items (joined (drop (k + 1) segments) ++ last) left big in
     e ∙ ap (λ l. slice_get l left) (joined_at segments k segment last h ∙ ap (λ (s : Vec Event Global). s.items ++ (joined (drop (k + 1) segments) ++ last)) (sym is)) ∙ behind
 
--- Behind all full segments stands the last one.
+-- After all full segments stands the last one.
 pub found_last : (o : Option Event) (segments : List (Vec Event Global)) (k left : ℕ) (last : List Event) → length segments ≤ k → o ≡ slice_get (joined (drop k segments) ++ last) left → o ≡ slice_get last left
 found_last o segments k left last h e = let past : drop k segments ≡ [] = drop_of_length-le segments h in rw past at e

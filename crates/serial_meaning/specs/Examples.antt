@@ -133,7 +133,7 @@ endless_calls =
     ∷ function (codes "main") [] (stated (act.Call (applied (codes "f") [])) ∷ []) (number 0)
     ∷ []
 
--- The call behind 256 open ones is a fault.
+-- The call after 256 open ones is a fault.
 abbrev pub CallsEndAt256 : Type 0
 CallsEndAt256 = elision (plan_of endless_calls 300) ≡ record { items = []; ending = Err (record { kind = fault.Calls; at = 0 ∷ [] }) }
 

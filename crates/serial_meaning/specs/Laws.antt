@@ -22,7 +22,7 @@ use Rattle.serial_meaning.specs.declared.origin.Origin.TheVariants.{Loop}
 
 -- The equations of statements
 
--- Statements in a row are the first and then the others, and a turn of a loop puts its body and the loop in front of them. No number
+-- Statements in a row are the first and then the others, and a turn of a loop puts its body and the loop before them. No number
 -- of levels stands here.
 pub record Equations {I E K : Type 0} (how : Manner I E K) (plan : PlanView) (path : List ℕ) : Type 0 where
   pub nothing : (calls : ℕ) (s : State K) → exec how plan path calls [] s ≡ done s

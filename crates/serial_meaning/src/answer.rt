@@ -19,7 +19,7 @@ pub enum Outcome {
     Values(Items<Value>),
     Fault(Fault),
     /// The origin wasn't run to its end, since a fault of the plan stands before its path and before those of the loops that it
-    /// belongs to. What it would have done comes behind that fault in the serial elision, which so never comes to it.
+    /// belongs to. What it would have done comes after that fault in the serial elision, which so never comes to it.
     Cut { by: Fault },
 }
 

@@ -69,12 +69,12 @@ pub fn paths_are_of_one_kind()
     ensures { PathsAreOfOneKind }
 {}
 
-/// No loop stands in front of `main`.
+/// No loop stands before `main`.
 pub fn main_is_unlooped()
     ensures { MainIsUnlooped }
 {}
 
-/// Which loop in front of a parent is the outermost one tells it of a child.
+/// Which loop before a parent is the outermost one tells it of a child.
 pub fn children_know_loops()
     ensures { ChildrenKnowLoops }
 {}
@@ -84,7 +84,7 @@ pub fn loops_last()
     ensures { LoopsLast }
 {}
 
-/// A fault of the plan cuts what has its outermost loop, or where there is none itself, behind the fault.
+/// A fault of the plan cuts what has its outermost loop, or where there is none itself, after the fault.
 pub fn cuts_are_told()
     ensures { CutsAreTold }
 {}

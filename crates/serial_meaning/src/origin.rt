@@ -14,7 +14,7 @@ pub enum Origin {
         args: Items<Value>,
         path: Ped,
     },
-    /// `path` is the pedigree of the loop's strand. Iteration k is the instance with this path and k behind it, and with the
+    /// `path` is the pedigree of the loop's strand. Iteration k is the instance with this path and k after it, and with the
     /// arguments `first + k` and then `rest`.
     Loop {
         function: u32,

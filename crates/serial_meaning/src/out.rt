@@ -7,13 +7,13 @@ use std::alloc::Global;
 use std::marker::Model;
 use std::mem;
 
-/// How many events are moved at most where a list is put behind another one.
+/// How many events are moved at most where a list is put after another one.
 const MOST_MOVED: usize = 8;
 
 /// For how many events a list takes memory at its first one. Most lists come to so few.
 const FIRST_ROOM: usize = 4;
 
-/// A list of events. It is kept in segments, which are moved and not copied where a list of more than a few events is put behind another one.
+/// A list of events. It is kept in segments, which are moved and not copied where a list of more than a few events is put after another one.
 #[derive(Drop)]
 pub struct Out {
     count: u64,
@@ -124,7 +124,7 @@ impl Out {
 impl Segments {
     ghost use Rattle.serial_meaning.specs.Segments.{segments_events};
 
-    /// Puts the other segments behind these, whose last one grows no more. A few events are moved to the end of that one, so that
+    /// Puts the other segments after these, whose last one grows no more. A few events are moved to the end of that one, so that
     /// there are fewer segments to go on with.
     fn append(&mut self, others: Segments) -> Result<(), Memory>
         ensures ok { OnOk result (segments_events self.new ≡ segments_events self.old ++ segments_events others) }
@@ -147,7 +147,7 @@ impl Segments {
         Ok(())
     }
 
-    /// Puts the other segments behind these.
+    /// Puts the other segments after these.
     #[tactic(auto, using(crate::proofs::SegmentLemmas::joined_after))]
     fn follow(&mut self, others: Segments) -> Result<(), Memory>
         ensures ok { OnOk result (segments_events self.new ≡ segments_events self.old ++ segments_events others) }

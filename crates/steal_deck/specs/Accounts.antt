@@ -22,7 +22,7 @@ module _ {T : Type 0} where
   AreOf pushed [] = Unit {0}
   AreOf pushed (e ∷ es) = (get_elem? pushed e.0 ≡ some e.1) × AreOf pushed es
 
-  -- the entry in front of the others, unless it was taken so many times
+  -- the entry before the others, unless it was taken so many times
   abbrev pub unless : ℕ → ℕ × T → List (ℕ × T) → List (ℕ × T)
   unless zero e es = e ∷ es
   unless (suc k) e es = es

@@ -31,7 +31,7 @@ work-sound b w v e h = subst (λ (x : Work). Holds b x) e h
 pub work-view : (b : Body) (w v : Work) (t : TaskView) → w ≡ v → view_of b w ≡ t → view_of b v ≡ t
 work-view b w v t e h = ap (λ (x : Work). view_of b x) (sym e) ∙ h
 
--- a wait behind a sync, and behind a loop
+-- a wait after a sync, and after a loop
 pub sync-sound : StepsAreSound → (b : Body) (s : Stage) (i : Instance) → s ≡ stage.AtSync i → IsSound b (work.Runs s) → IsSound (waiting b) (work.Runs (stage.AtSync i))
 sync-sound law b s i e h =
     let k = stage-sound b s (stage.AtSync i) e h in wait-sound law b (work.Runs (stage.AtSync i)) (work.Runs (stage.AtSync i)) k refl k.works

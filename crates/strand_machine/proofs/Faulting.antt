@@ -123,7 +123,7 @@ not-none v begun after ts t same on tagged err none =
     let is : after ≡ view_on v = on ∙ ap view_on same in
     last-err v.task.plan v.task.pieces.handed ts t tagged err (record v.task.pieces { handed = [] }) (ap (λ (w : TaskView). w.task.pieces.fault) (sym is) ∙ none)
 
--- the answer of the task behind them is the task's own
+-- the answer of the task after them is the task's own
 pub ends-by : (b : Body) (w : Work) (v begun after : TaskView) → begun ≡ v → after ≡ view_on begun → view_of b w ≡ after → IsSound b w → (f : Fault) → b.pieces.fault ≡ Some f →
     (out : List Event) (answer : AnswerView) (by : AnswerTag) → answer ≡ record { plan = b.family.plan; origin = b.family.origin; out = out; outcome = outcome.Fault f } → by ≡ tag b.family.plan b.family.origin →
     EndsByFault v answer by

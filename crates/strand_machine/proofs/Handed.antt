@@ -1,4 +1,4 @@
--- The parts of children, and events behind the last one.
+-- The parts of children, and events after the last one.
 use Rattle.std.proofs.Common.{◌≡◌, ℕ, ◌+◌, ◌<◌, ◌==◌, Bool, true, Option, List, [], ◌∷◌, ◌++◌, length, get_or, refl, sym, ap, ◌∙◌, arith}
 use Rattle.std.specs.Prelude.{IsTrue}
 use Rattle.std.proofs.lemmas.Bool.Decides.{nat_tests}
@@ -29,7 +29,7 @@ alone [] bs n r h k e = (λ t. refl, λ x. e ∙ ap (λ (m : ℕ). m == 0) k)
 alone (o ∷ os) [] n r h k e = absurd (omega arith)
 alone (o ∷ os) (b ∷ bs) n r h k e = (λ t. absurd (not-zero n (omega arith) (sym e ∙ t)), λ x. absurd (cc))
 
--- an event behind the last child
+-- an event after the last child
 tell_last : (o : Origin) (os : List Origin) (c : Behind) (cs : List Behind) (b : Behind) (e : Event) → length os ≡ length cs → b ≡ get_or (c ∷ cs) (length cs) b →
     behind_last (part_of o c) (parts_of os cs) e ≡ parts_of (o ∷ os) (set (c ∷ cs) (length cs) (record b { events = b.events ++ e ∷ [] }))
 tell_last o [] c [] b e h g = ap (λ (d : Behind). part_of o (record d { events = d.events ++ e ∷ [] }) ∷ []) (sym g)

@@ -1,4 +1,4 @@
--- What a task is behind a move of its instance, by what the move showed.
+-- What a task is after a move of its instance, by what the move showed.
 use Rattle.std.proofs.Common.{◌≡◌, ◌<◌, ℕ, suc, false, List, [], ◌∷◌, ◌++◌, Option, None, Result, Ok, Err, length, replicate, refl, sym, ap, ◌∙◌, subst}
 use Rattle.std.specs.Prelude.{IfOk}
 use Rattle.script_grammar.specs.declared.tree.Name.{Name}
@@ -66,7 +66,7 @@ awaits-told family pieces e h = from pieces.handed refl
     from [] g = h
     from (p ∷ ps) g = awaits-same family (p ∷ ps) (behind_last p ps e) (awaited-behind p ps e) (length-behind p ps e) (subst (AwaitsLast family) g h)
 
--- The body behind an event
+-- The body after an event
 
 abbrev pub with_pieces : Body → Pieces → Body
 with_pieces b p = record b { pieces = p }

@@ -31,7 +31,7 @@ use Rattle.strand_machine.proofs.Advancing.{leads-start, leads-on, stops-there}
 
 -- The pedigree of a strand
 
--- the last of a list that has one behind these
+-- the last of a list that has one after these
 last_rank : List ℕ → ℕ → ℕ
 last_rank [] d = d
 last_rank (x ∷ xs) d = last_rank xs x
@@ -113,7 +113,7 @@ also-nothing : (later : meaning.Notes) → later ≡ also no_notes later
 also-nothing later =
     ap (λ (f : Option Fault). record later { fault = f }) (sym (newest-none later.fault)) ∙ ap (λ (f : Option Fault). record later { fault = newest None later.fault; joined = f }) (sym (newest-none later.joined))
 
--- What comes next of a task comes next of the first one, behind what is noted, of which the notes have what is of the pedigree j.
+-- What comes next of a task comes next of the first one, after what is noted, of which the notes have what is of the pedigree j.
 pub record LeadsNoted (first : TaskView) (j : List ℕ) (now : TaskView) (notes : Notes) (reached : Bool) : Type 0 where
   pub leads : LeadsTo first now
   pub front : meaning.Notes

@@ -132,7 +132,7 @@ runs-on w before after is h = subst (λ (x : Work). BecomesWork (resumed_work []
   works = λ plan o k. h.stands plan (origins-of.path_of (own_instance o)) k;
 })
 
--- the stage behind an answer, by the child's place
+-- the stage after an answer, by the child's place
 pub placed : (p : Place) (q : machine.Place) (ending : Result (List Value) Fault) (before after : Stage) → place_of p ≡ q → BecomesStage (takes q ending) before after → BecomesStage (takes (place_of p) ending) before after
 placed p q ending before after at h = subst (λ (x : machine.Place). BecomesStage (takes x ending) before after) (sym at) h
 
@@ -208,7 +208,7 @@ goes-on t before after rest pieces values work h over =
     ∙ ap (λ (vs : List Value). record t { pieces = heard_all ps es (record t.pieces { handed = [] }); values = vs; work = work_of t.plan rest; waiting = false }) given
     ∙ ap (λ (w : meaning.Work). record t { pieces = heard_all ps es (record t.pieces { handed = [] }); values = all_values ps es t.values; work = w; waiting = false }) left
 
--- The task behind its wait
+-- The task after its wait
 
 module _ (b : Body) (w : Work) (told : List Event) (fault : Option Fault) (os : List Origin) (bs : List Behind) (ts : List AnswerTag) (after : Going) (new-os : List Origin) (new-bs : List Behind) (rest : Work) where
   abbrev next-body : Body

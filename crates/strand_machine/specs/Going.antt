@@ -36,7 +36,7 @@ with_stage change (Splits left) = Splits left
 with_stage change (Runs stage) = Runs (change stage)
 with_stage change (Over v gone_on) = Over v gone_on
 
--- By its meaning the stage behind it is the one before it, changed so, and an instance in it is still one of the plan.
+-- By its meaning the stage after it is the one before it, changed so, and an instance in it is still one of the plan.
 pub record BecomesStage (change : meaning.Stage → meaning.Stage) (before after : Stage) : Type 0 where
   pub is : (plan : PlanView) → stage_of plan after ≡ change (stage_of plan before)
   pub stands : (plan : PlanView) (path : List ℕ) → StandsAt plan path before → StandsAt plan path after

@@ -1,4 +1,4 @@
--- The children whose answers aren't taken, with what stands behind each.
+-- The children whose answers aren't taken, with what stands after each.
 use Rattle.std.specs.Prelude.{List, [], ◌∷◌}
 use Rattle.serial_meaning.specs.declared.origin.Origin.{Origin}
 use Rattle.strand_meaning.specs.Machine as meaning

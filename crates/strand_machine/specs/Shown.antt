@@ -15,7 +15,7 @@ use Rattle.strand_machine.specs.Loops.{IsBelow}
 use Rattle.strand_machine.specs.Tasks.{RunsAt, AwaitsLast, task_with}
 use Rattle.strand_machine.specs.declared.body.Body.{Body}
 
--- the task behind a move that showed this and left the instance so
+-- the task after a move that showed this and left the instance so
 abbrev pub shown_task : Body → Instance → Shown → Task
 shown_task b i s =
     let m = machine_of b.family.plan i in

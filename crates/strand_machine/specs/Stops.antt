@@ -63,7 +63,7 @@ pub record LeadsTo (first now : TaskView) : Type 0 where
   pub knows : now.knows ≡ first.knows
   pub cut : now.cut ≡ None
 
--- Moves of a task in a row, and the next move or stop behind them.
+-- Moves of a task in a row, and the next move or stop after them.
 pub record IsRun (t : TaskView) (s : Step) : Type 0 where
   pub before : TaskView
   pub leads : LeadsTo t before

@@ -76,7 +76,7 @@ fn take_spawned(instance: &mut Instance, height: usize, target: Option<Name>, ou
     }
 }
 
-/// The stage behind the answer of a child that an instance spawned.
+/// The stage after the answer of a child that an instance spawned.
 fn spawned(stage: &mut Stage, height: usize, target: Option<Name>, outcome: Outcome)
     ensures { BecomesStage (takes (Spawned height target) (ending_of outcome)) stage.old stage.new }
 {
@@ -90,7 +90,7 @@ fn spawned(stage: &mut Stage, height: usize, target: Option<Name>, outcome: Outc
     }
 }
 
-/// The stage behind the values of a loop of an instance.
+/// The stage after the values of a loop of an instance.
 fn filled(
     stage: &mut Stage,
     alloc: Global,
@@ -120,7 +120,7 @@ fn filled(
     }
 }
 
-/// The stage behind the answer of a loop of an instance.
+/// The stage after the answer of a loop of an instance.
 fn looped(
     stage: &mut Stage,
     alloc: Global,
@@ -141,7 +141,7 @@ fn looped(
     }
 }
 
-/// The stage behind the answer of a child.
+/// The stage after the answer of a child.
 fn taken_stage(
     stage: &mut Stage,
     alloc: Global,
@@ -163,7 +163,7 @@ fn taken_stage(
     }
 }
 
-/// What remains behind the answer of a child.
+/// What remains after the answer of a child.
 fn taken(work: &mut Work, alloc: Global, place: Place, outcome: Outcome) -> Result<(), Memory>
     ensures { OnOk result (BecomesWork (with_stage (takes (place_of place) (ending_of outcome))) work.old work.new) }
 {
@@ -179,7 +179,7 @@ fn taken(work: &mut Work, alloc: Global, place: Place, outcome: Outcome) -> Resu
 }
 
 impl Going {
-    /// The events of an answer, and where it is neither a fault nor a cut then those behind the child.
+    /// The events of an answer, and where it is neither a fault nor a cut then those after the child.
     fn hear(&mut self, events: Out, behind: Out, outcome: &Outcome) -> Result<(), Memory>
         ensures pieces { OnOk result ((p : Part) → p.behind ≡ behind
             → pieces_of self.new ≡ heard p (record { items = events; ending = ending_of outcome.now }) (pieces_of self.old)) }

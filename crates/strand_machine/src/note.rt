@@ -29,7 +29,7 @@ pub struct Noted {
     /// Where the task stopped.
     pub stop: Stop,
     /// Whether the task's own strand had the pedigree when the call began, or later in it. A strand whose instance waits at a sync or
-    /// a loop hasn't the rank behind it yet.
+    /// a loop hasn't the rank after it yet.
     pub reached: bool,
     /// The task's own events with the pedigree that came in this call, in order.
     pub events: Out,

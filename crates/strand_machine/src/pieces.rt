@@ -8,15 +8,15 @@ use serial_meaning::{Event, Fault, Origin, Out};
 use std::alloc::Global;
 use std::marker::Model;
 
-/// Where a child's value goes, and the task's own events behind it, up to the next child.
+/// Where a child's value goes, and the task's own events after it, up to the next child.
 #[derive(Drop)]
 pub(crate) struct Behind {
     pub place: Place,
     pub events: Out,
 }
 
-/// What a task gave so far, in the order of the serial elision: the events in front of the first child whose answer isn't taken, the
-/// fault that ends these, if there is one, and then the children with the events behind each.
+/// What a task gave so far, in the order of the serial elision: the events before the first child whose answer isn't taken, the
+/// fault that ends these, if there is one, and then the children with the events after each.
 #[derive(Drop)]
 pub(crate) struct Pieces {
     pub told: Out,
@@ -110,7 +110,7 @@ impl Pieces {
         self.awaited.as_slice().is_empty()
     }
 
-    /// The events in front of the first child, and the fault that ends them, if there is one.
+    /// The events before the first child, and the fault that ends them, if there is one.
     pub fn told(self) -> (Out, Option<Fault>)
         ensures told { result.0 ≡ self.told }
         ensures fault { result.1 ≡ self.fault }

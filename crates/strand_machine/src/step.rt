@@ -173,7 +173,7 @@ pub(crate) fn give(body: Body, value: Value) -> Step
     }
 }
 
-/// A loop that ends with this value behind those that were taken.
+/// A loop that ends with this value after those that were taken.
 fn close_with(mut body: Body, alloc: Global, value: Value) -> Result<Step, Memory>
     requires { CanEnd body (outcome.Values (body.values ++ value ∷ [])) }
     ensures { IfOk result (λ step. step ≡ ended body (outcome.Values (body.values ++ value ∷ []))) }

@@ -25,9 +25,9 @@ use strand_moves::Instance;
 pub(crate) enum Stage {
     /// It goes on.
     Goes(Instance),
-    /// It waits behind a sync.
+    /// It waits after a sync.
     AtSync(Instance),
-    /// It waits behind a loop.
+    /// It waits after a loop.
     AtLoop(Instance),
     /// It has ended by a value.
     Gave(Value),

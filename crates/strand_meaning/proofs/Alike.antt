@@ -1,4 +1,4 @@
--- Parts that differ only in the events behind them.
+-- Parts that differ only in the events after them.
 use Rattle.std.proofs.Common.{◌≡◌, ℕ, ◌||◌, List, [], ◌∷◌, ◌++◌, Option, Ok, Err, length, refl, sym, ap, append_assoc, append-nil, subst}
 use Rattle.serial_meaning.specs.Plan.{PlanView}
 use Rattle.serial_meaning.specs.Names.{Names}
@@ -44,7 +44,7 @@ alike-tell e pieces = from pieces.handed
     from [] = End
     from (p ∷ ps) = alike-behind p ps e
 
--- what a move shows stands behind the parts
+-- what a move shows stands after the parts
 pub alike-tokens : (ts : List Token) (pieces : Pieces) → Alike (pieces.handed ++ token_parts ts) (with_tokens ts pieces).handed
 alike-tokens [] pieces = subst (λ (l : List Part). Alike l pieces.handed) (sym (append-nil pieces.handed)) (alike-itself pieces.handed)
 alike-tokens (Told e ∷ ts) pieces = alike-then (alike-append (token_parts ts) (alike-tell e pieces)) (alike-tokens ts (tell e pieces))

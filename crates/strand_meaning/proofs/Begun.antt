@@ -1,4 +1,4 @@
--- Each child that a task handed out is shown by the events in front of it.
+-- Each child that a task handed out is shown by the events before it.
 use Rattle.std.proofs.Common.{◌≡◌, ℕ, Bool, true, false, List, [], ◌∷◌, ◌++◌, Option, None, refl, sym, ap, ◌∙◌, subst, inr}
 use Rattle.std.specs.Prelude.{Contains}
 use Rattle.std.proofs.lemmas.List.Elements.{Contains-append_right}
@@ -20,7 +20,7 @@ use Rattle.strand_meaning.specs.Sound.{IsShownBy, AreShownBy}
 use Rattle.strand_meaning.proofs.Keeps.{first-contained}
 use Rattle.strand_meaning.proofs.Own.{Begins, TokenRules, tokens-move}
 
--- the events in front of the next child
+-- the events before the next child
 abbrev pub front_of : List Event → List Part → List Event
 front_of events [] = events
 front_of events (p ∷ ps) = front_of p.behind ps
@@ -81,7 +81,7 @@ module _ (o : Origin) where
   abbrev own_path : List ℕ
   own_path = path_of (own_instance o)
 
-  -- a child behind the event by which it begins
+  -- a child after the event by which it begins
   begun-shown : (e : Event) (c : Origin) (place : Place) → Begins own_path e c → (pieces : Pieces) → pieces.fault ≡ None → Shown pieces → Shown (hand c place (tell e pieces))
   begun-shown e c place b pieces none h =
       shown-more o (tell e pieces).told (tell e pieces).handed (record { child = c; place = place; behind = [] }) (tell-shown e pieces h) (inr (b.rank, b.at, there))
@@ -95,7 +95,7 @@ module _ (o : Origin) where
       there : Contains (places (front_of (tell e pieces).told (tell e pieces).handed)) (path_of c)
       there = subst (λ (l : List (List ℕ)). Contains l (path_of c)) (sym (ap places (front-told e pieces none) ∙ places-append old (e ∷ []) ∙ ap (λ (l : List (List ℕ)). places old ++ l) b.place)) last
 
-  -- tokens behind which all is still shown
+  -- tokens after which all is still shown
   abbrev pub Shows : List Token → Type 0
   Shows ts = (pieces : Pieces) → pieces.fault ≡ None → Shown pieces → Shown (with_tokens ts pieces)
 
@@ -121,7 +121,7 @@ module _ (o : Origin) where
       at_loop e c target true begins pieces none s = tell-shown e pieces s
       at_loop e c target false begins pieces none s = begun-shown e c (Looped target) begins pieces none s
 
-  -- A move hands out no child but behind the event by which it begins.
+  -- A move hands out no child but after the event by which it begins.
   pub move-shows : (plan : PlanView) (m : Machine) → Shows (move plan own_path m).items
   move-shows plan m = tokens-move Shows plan own_path shows m
 

@@ -1,4 +1,4 @@
--- A move neither reads nor writes an unfilled variable: a child's value may be put in before it or behind it.
+-- A move neither reads nor writes an unfilled variable: a child's value may be put in before it or after it.
 use Rattle.std.proofs.Common.{◌≡◌, ℕ, zero, suc, ◌+◌, ◌-◌, ◌<◌, ◌≤◌, Bool, true, false, nat_eq, nat_lt, List, [], ◌∷◌, ◌++◌, Option, Some, None, Result, Ok, Err, refl, sym, ap, ◌∙◌, if◌then◌else◌, length, arith}
 use Rattle.std.proofs.Common.{ℤ, pos, ◌-ℤ◌}
 use Rattle.std.proofs.lemmas.Bool.{eqb-true, eq-eqb}
@@ -306,7 +306,7 @@ module _ (plan : PlanView) (path : List ℕ) (fix : Env → Env) (mark : Option 
   abbrev rebuilt : Machine → List Stmt → Bool → Machine
   rebuilt m left returning = record m { top = record m.top { left = left; returning = returning } }
 
-  -- the innermost activation altered before the move, or behind it
+  -- the innermost activation altered before the move, or after it
   abbrev TopMoves : Machine → Type 0
   TopMoves m = move plan path (record m { top = change m.top }) ≡ changed_run (changed (length m.below) change) (move plan path m)
 

@@ -177,7 +177,7 @@ right-within x (right.Spawn at c) p all w name h = from (Contains-append_cases (
 -- Statements
 
 -- The names that it may add to the pending ones; a block makes nothing known; what is pending stays known; and it is clear where what
--- is behind it is.
+-- is after it is.
 record IsGood (j : Judged) (s : Stmt) : Type 0 where
   own : Names
   stays : (place : Place) (known : Known) (p : check.Names) → place.in_block ≡ true → j.faults place known p ≡ [] → j.known place.functions known ≡ known

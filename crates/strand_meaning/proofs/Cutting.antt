@@ -31,7 +31,7 @@ use Rattle.strand_meaning.proofs.Closing.{behind-then}
 use Rattle.strand_meaning.proofs.Ends.{err-outcome}
 
 module _ (child : Origin → Evaluation) where
-  -- What stands in front of a child is among what the pieces give, where the children in front of it gave values.
+  -- What stands before a child is among what the pieces give, where the children before it gave values.
   shown-comes : (events : List Event) (front : List Part) (p : Part) (later : List Part) (values : List Value) (tail : List Value → Evaluation) (j : List ℕ) → GaveValues child front →
       Contains (places (front_of events front)) j → Contains (places (events ++ (parts_run child (front ++ p ∷ later) values then tail).items)) j
   shown-comes events [] p later values tail j gave c =
@@ -52,7 +52,7 @@ module _ (child : Origin → Evaluation) where
           front_events : List Event
           front_events = events ++ (child q.child).items
 
-          -- the items are those of the child, and then those behind it
+          -- the items are those of the child, and then those after it
           split : events ++ (with_end (Ok vs) then tail).items ≡ front_events ++ (q.behind ++ (rest vs then tail).items)
           split =
               ap (λ (r : Evaluation). events ++ r.items) (behind-then (child q.child).items (behind q.behind (rest vs)) tail ∙ ap (behind (child q.child).items) (behind-then q.behind (rest vs) tail))
@@ -104,12 +104,12 @@ module _ (child : Origin → Evaluation) where
           ∙ ap (λ (l : List Event). record { items = l; ending = (rest vs then tail).ending }) (ap (λ (l : List Event). told ++ l) (sym (append_assoc (child q.child).items q.behind (rest vs then tail).items)) ∙ sym (append_assoc told ((child q.child).items ++ q.behind) (rest vs then tail).items))
           ∙ h vs
 
--- how the child behind the front ones is shown
+-- how the child after the front ones is shown
 shown-at : (o : Origin) (events : List Event) (front : List Part) (p : Part) (later : List Part) → AreShownBy o events (front ++ p ∷ later) → IsShownBy o (front_of events front) p
 shown-at o events [] p later h = h.0
 shown-at o events (q ∷ front) p later h = shown-at o q.behind front p later h.1
 
--- a task's pieces without a fault, in front of the rest
+-- a task's pieces without a fault, before the rest
 pieces-whole : (t : Task) (ps : List Part) → IsTask t → t.pieces.fault ≡ None → t.pieces.handed ≡ ps →
     behind t.pieces.told (parts_run (eval t.plan) ps t.values then work_run t.plan t.origin ps t.work) ≡ eval t.plan t.origin
 pieces-whole t ps is none e = sym (ap run none) ∙ ap whole (sym e) ∙ is.finishes
@@ -199,7 +199,7 @@ faults_pass t front p later f is none e gave ended = (eval-fault t.plan t.origin
 
 -- All answers
 
--- behind a fault nothing is heard
+-- after a fault nothing is heard
 heard-faulted : (ps : List Part) (answers : List Evaluation) (told : List Event) (f : Fault) → (heard_all ps answers (record { told = told; fault = Some f; handed = [] })).told ≡ told
 heard-faulted [] answers told f = refl
 heard-faulted (p ∷ ps) [] told f = refl

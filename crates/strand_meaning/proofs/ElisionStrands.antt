@@ -45,7 +45,7 @@ module _ (child : Origin → Evaluation) (under : (c : Origin) → StaysUnder (p
   children : (k : ℕ) (o : Origin) → path_of o ≡ path ++ k ∷ [] → Each NotHere (child o).items
   children k o e = each-by (child o).items (λ i u. child-not_here k (path_of o) (pedigree_of i) e u) (under o).events
 
-  -- no own event at the rank stands behind a later rank
+  -- no own event at the rank stands after a later rank
   own-later : (lo hi : ℕ) (is : List Item) → ItemsRise path lo hi is → rank < lo → events_at J (own_events is) ≡ []
   own-later lo hi [] r h = refl
   own-later lo hi (Happened e ∷ is) r h =

@@ -1,4 +1,4 @@
--- Fewer stops are left behind each stop.
+-- Fewer stops are left after each stop.
 use Rattle.std.proofs.Common.{◌≡◌, ℕ, zero, suc, ◌+◌, ◌-◌, ◌/◌, ◌<◌, ◌≤◌, Bool, true, false, List, [], ◌∷◌, ◌++◌, Option, Some, None, Result, Ok, Err, length, refl, sym, ap, ◌∙◌, subst, arith}
 use Rattle.loop_range.specs.Range.{Range}
 use Rattle.serial_meaning.specs.Runs.{Run, behind}
@@ -102,7 +102,7 @@ end-few : (parts : List Part) → at_end false parts ≤ 2
 end-few [] = omega arith
 end-few (p ∷ ps) = omega arith
 
--- the stops that are left behind a move
+-- the stops that are left after a move
 stage-stops : (plan : PlanView) (child : Origin → Evaluation) (path : List ℕ) (parts : List Part) (ts : List Token) (k : Machine) →
     stage_stops plan child path false parts (stage_after ts k) ≤ waits_in ts + (3 + item_stops (rest_open plan child path parts (stage_after ts k)).items)
 stage-stops plan child path parts [] k = omega arith
@@ -143,7 +143,7 @@ module _ (t : Task) (is : IsTask t) (idle : t.waiting ≡ false) where
   fewer-ends None ended = tt
   fewer-ends (Some f) ended = tt
 
-  -- behind a move
+  -- after a move
   module _ (m : Machine) (at : t.work ≡ Runs (Goes m)) where
     abbrev before : ℕ
     before = item_stops (rest_open t.plan kids path ps (Goes m)).items

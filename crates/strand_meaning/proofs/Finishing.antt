@@ -87,7 +87,7 @@ module _ (child : Origin → Evaluation) where
   hand-so_far o place pieces values tail =
       told-same pieces _ _ (parts-hand pieces.handed (record { child = o; place = place; behind = [] }) values tail)
 
-  -- What a move showed stands behind the pieces, and in front of the rest.
+  -- What a move showed stands after the pieces, and before the rest.
   pub tokens-so_far : (ts : List Token) → Each NotHalf ts → (pieces : Pieces) (values : List Value) (tail : List Value → Evaluation) →
       so_far (with_tokens ts pieces) values tail ≡ so_far pieces values (λ vs. played ts (tail vs))
   tokens-so_far [] own pieces values tail = refl

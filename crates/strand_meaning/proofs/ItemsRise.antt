@@ -1,4 +1,4 @@
--- The own events of a node and its children have paths of one rank more, which rise, and its own fault stands behind the children.
+-- The own events of a node and its children have paths of one rank more, which rise, and its own fault stands after the children.
 use Rattle.std.proofs.Common.{◌≡◌, ℕ, zero, suc, ◌+◌, ◌-◌, ◌<◌, ◌≤◌, Bool, true, false, List, [], ◌∷◌, ◌++◌, Option, Some, None, Result, Ok, Err, map, refl, sym, subst, append-nil, if◌then◌else◌, arith}
 use Rattle.std.proofs.Common.{ℤ}
 use Rattle.script_grammar.specs.declared.tree.Function.{Function}
@@ -24,7 +24,7 @@ abbrev pub IsWhole : Origin → Type 0
 IsWhole (origin.Instance function args path) = Unit {0}
 IsWhole (origin.Loop function rest first path range) = range.lo ≡ 0
 
--- Each has the path with one more rank, from lo on and up to hi. The ranks don't fall, and rise behind a child.
+-- Each has the path with one more rank, from lo on and up to hi. The ranks don't fall, and rise after a child.
 abbrev pub ItemsRise : List ℕ → ℕ → ℕ → List Item → Type 0
 ItemsRise path lo hi [] = Unit {0}
 ItemsRise path lo hi (Happened e ∷ is) = (k : ℕ) × (pedigree_of e ≡ path ++ k ∷ []) × (lo ≤ k) × (k ≤ hi) × ItemsRise path k hi is

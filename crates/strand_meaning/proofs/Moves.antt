@@ -56,7 +56,7 @@ module _ (plan : PlanView) (child : Origin → Evaluation) (path : List ℕ) whe
   abbrev pub left_of : Machine → List Stmt → Machine
   left_of m left = record m { top = record m.top { left = left } }
 
-  -- what remains behind a statement
+  -- what remains after a statement
   abbrev pub later : Machine → List Stmt → State (Option Fault) → Run Item Ending Value
   later m left s = remains plan child path (left_of m left).top (length m.below) s then remains_below plan child path m.below m.top.target
 
@@ -111,7 +111,7 @@ module _ (plan : PlanView) (child : Origin → Evaluation) (path : List ℕ) whe
         by_spawned false h None g = ap (behind (Happened e ∷ [])) (ap (λ (k : Option Fault). go (record (opens m.top.faulted s) { rank = s.rank + 1; spawned = k })) (sym g) ∙ same (next false))
         by_spawned false h (Some f) g = let none_here : None ≡ Some f = sym (none h) ∙ g in absurd (cc)
 
-  -- A statement. What it goes inside to stands in front of the others.
+  -- A statement. What it goes inside to stands before the others.
   module _ (m : Machine) (left : List Stmt) (st : Stmt) where
     abbrev height : ℕ
     height = length m.below
@@ -136,7 +136,7 @@ module _ (plan : PlanView) (child : Origin → Evaluation) (path : List ℕ) whe
     abbrev sets : {K : Type 0} → Option Name → Value × State K → State K
     sets target p = record p.1 { env = with_scalar target p.0 p.1.env }
 
-    -- a child behind its arguments and the test of the depth
+    -- a child after its arguments and the test of the depth
     abbrev child_run : {I E K : Type 0} → Manner I E K → CallText → List Value → State K → Run I E (Value × State K)
     child_run how c vs s =
         happens (how.event (event.Spawn (strand path s))) s then λ s.
@@ -240,7 +240,7 @@ module _ (plan : PlanView) (child : Origin → Evaluation) (path : List ℕ) whe
       right-shows (right.Call at c) enters n = called-shows c enters n
       right-shows (right.Spawn at c) enters n = spawned-shows c n
 
-    -- statements in front of the others
+    -- statements before the others
     in-front : (first : Run Item Ending S) → ((first then exec tree plan path height left) then closes plan child path m.top.returning (function_at (functions_of plan) m.top.function)) then remains_below plan child path m.below m.top.target ≡ (first then go)
     in-front first =
         ap (λ (r : Run Item Ending (Value × S)). r then remains_below plan child path m.below m.top.target) (then-then first (exec tree plan path height left) (closes plan child path m.top.returning (function_at (functions_of plan) m.top.function)))
@@ -285,7 +285,7 @@ module _ (plan : PlanView) (child : Origin → Evaluation) (path : List ℕ) whe
           by_item None r q h = refl
           by_item (Some old) r q h = h
 
-    -- a loop behind its bounds and arguments
+    -- a loop after its bounds and arguments
     loop-shows : (into : List Stmt → State Bool → Machine) (target : Option Name) (c : CallText) (lo : ℤ) (hi : ℕ) (vs : List Value) (n : ℕ) →
         Moves into (looped (what (Looped target)) plan path lo hi vs target c (here n)) (looped tree plan path lo hi vs target c (there n))
     loop-shows into target c lo hi vs n =

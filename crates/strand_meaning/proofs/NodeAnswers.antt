@@ -36,7 +36,7 @@ taken-rank : (child : Origin → Evaluation) (ps : List Part) (m : Machine) → 
 taken-rank child [] m = refl
 taken-rank child (p ∷ ps) m = taken-rank child ps (take p.place (child p.child).ending m) ∙ take-rank p.place (child p.child).ending m
 
--- A stage behind a loop takes a loop's values, or ends by its fault.
+-- A stage after a loop takes a loop's values, or ends by its fault.
 abbrev LoopOr : ℕ → Stage → Type 0
 LoopOr rank (Goes m) = ⊥
 LoopOr rank (AtSync m) = ⊥

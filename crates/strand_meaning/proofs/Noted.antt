@@ -175,7 +175,7 @@ module _ (path : List ℕ) where
 
 -- A move
 
--- where an instance stands behind a move
+-- where an instance stands after a move
 abbrev stage_moved : List Token → Result Reached Fault → Stage
 stage_moved ts (Ok (Stands k)) = stage_after ts k
 stage_moved ts (Ok (Gives v)) = Ended (Ok v)

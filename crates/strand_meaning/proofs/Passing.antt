@@ -49,7 +49,7 @@ pub events_at-none : (j : List ℕ) (es : List Event) → Each (λ e. pedigree_o
 events_at-none j [] h = refl
 events_at-none j (e ∷ es) h = events_at-skip j e es h.0 ∙ events_at-none j es h.1
 
--- events in front of which none is at the pedigree
+-- events before which none is at the pedigree
 pub events_at-behind : (j : List ℕ) (xs ys : List Event) → Each (λ e. pedigree_of e ≡ j → ⊥) xs → events_at j (xs ++ ys) ≡ events_at j ys
 events_at-behind j [] ys h = refl
 events_at-behind j (e ∷ xs) ys h = events_at-skip j e (xs ++ ys) h.0 ∙ events_at-behind j xs ys h.1
@@ -93,7 +93,7 @@ module _ (child : Origin → Evaluation) (under : (c : Origin) → StaysUnder (p
   other-fault : (k : ℕ) (o : Origin) (f : Fault) → path_of o ≡ path ++ k ∷ [] → (k ≡ rank → ⊥) → (child o).ending ≡ Err f → f.at ≡ J → ⊥
   other-fault k o f e n g = other-not_here k (path_of o) f.at e n (let u : EndUnder (path_of o) (child o).ending = (under o).ends in rw g at u)
 
-  -- Behind the child
+  -- After the child
 
   abbrev NoFaultHere : Option Fault → Type 0
   NoFaultHere None = Unit {0}

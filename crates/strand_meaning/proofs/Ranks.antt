@@ -50,7 +50,7 @@ module _ (plan : PlanView) (path : List ℕ) (k : ℕ) where
   abbrev pub at : List ℕ
   at = path ++ k ∷ []
 
-  -- the rank behind a run, which begins at rank k
+  -- the rank after a run, which begins at rank k
   abbrev RankEnd : {A : Type 0} → (A → ℕ) → List Token → Result A Halt → Type 0
   RankEnd rank ts (Ok a) = rank a ≡ k + tokens_raise ts
   RankEnd rank ts (Err (Faulted f)) = (ts ≡ []) × (f.at ≡ at)
@@ -162,7 +162,7 @@ module _ (plan : PlanView) (path : List ℕ) (k : ℕ) where
       ranks-given of-state (Looped target) (value_of lo s.env) s e _ (λ l. ranks-given of-state (Looped target) (value_of hi s.env) s e _ (λ h. ranks-given of-state (Looped target) (values_of c.args s.env) s e _
       (λ vs. ranks-loop target c (number l) (count_of (number h -ℤ number l)) vs s e)))
 
-  -- the rank behind a move
+  -- the rank after a move
   abbrev pub MoveEnd : List Token → Result Reached Fault → Type 0
   MoveEnd ts (Ok (Stands m)) = m.rank ≡ k + tokens_raise ts
   MoveEnd ts (Ok (Gives v)) = ts ≡ []

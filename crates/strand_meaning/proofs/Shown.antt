@@ -27,7 +27,7 @@ same-number n = eq-eqb n n refl
 pub changed-top : (change : Activation → Activation) (m : Machine) → changed (length m.below) change m ≡ record m { top = change m.top }
 changed-top change m = rw (same-number (length m.below)) refl
 
--- what remains behind a move that showed these
+-- what remains after a move that showed these
 abbrev pub shown : PlanView → (Origin → Evaluation) → List ℕ → List Token → Result Reached Fault → Run Item Ending Value
 shown plan child path ts (Ok (Stands m)) = rest_open plan child path (token_parts ts) (stage_after ts m)
 shown plan child path ts (Ok (Gives v)) = done v

@@ -169,7 +169,7 @@ or-right : (a : Bool) → (a || true) ≡ true
 or-right true = refl
 or-right false = refl
 
--- what holds behind a move
+-- what holds after a move
 abbrev pub SoundEnd : PlanView → List Part → List Token → Result Reached Fault → Type 0
 SoundEnd plan parts ts (Ok (Stands k)) = IsSoundStage plan (parts ++ token_parts ts) (stage_after ts k)
 SoundEnd plan parts ts (Ok (Gives v)) = (token_parts ts ≡ []) × AreHalves parts
@@ -383,7 +383,7 @@ module _ (plan : PlanView) (path : List ℕ) (clear-plan : IsClearPlan plan) (pa
         by_item None r h = (refl, height, sound.0)
         by_item (Some old) r h = h
 
-    -- behind a sync nothing is pending
+    -- after a sync nothing is pending
     fine-sync : (n : ℕ) → IsClear [] left ends → Fine (join (what (Spawned height None)) plan path (here n))
     fine-sync n clear = by_spawned m.top.spawned refl
       where
@@ -643,7 +643,7 @@ free-of (q ∷ ps) m p free c = by_index c.0 c.1 c.2 (λ d. free-of ps m p free.
     by_index zero d e later = subst (λ (r : Part). IsFreePlace (shape_of m) r.place) e free.0
     by_index (suc i) d e later = later (i, omega arith, e)
 
--- An answer may be taken before a move or behind it.
+-- An answer may be taken before a move or after it.
 pub moves_leave_unfilled_alone : (plan : PlanView) (path : List ℕ) (parts : List Part) (m : Machine) (p : Part) (owner : ℕ) (target : Option Name) (ended : Result (List Value) Fault) →
     IsSoundStage plan parts (Goes m) → Contains parts p → p.place ≡ Spawned owner target →
     move plan path (changed owner (answered target ended) m) ≡ changed_run (changed owner (answered target ended)) (move plan path m)

@@ -131,7 +131,7 @@ module _ (t : Task) (is : IsTask t) (m : Machine) (own-known : IsOriginOf t.plan
           subst (λ (r : Run Item Ending (List Value)). Contains r.items (Child c)) (sym (further ts rest h))
           (Contains-append_left (far.front ++ token_items ts) (rest then all_of).items (Child c) (Contains-append_right far.front (token_items ts) (Child c) k))
 
-  -- the task behind the move
+  -- the task after the move
   next-task : (ts : List Token) → Each NotHalf ts → Shows t.origin ts → (rest : Run Item Ending Value) → Leaves ts rest → (stage : Stage) →
       rest ≡ rest_open t.plan kids path (ps ++ token_parts ts) stage → IsSoundStage t.plan (ps ++ token_parts ts) stage → IsTask (passing t ts (Runs stage))
   next-task ts own-tokens shows rest leaves stage lands fits = record {

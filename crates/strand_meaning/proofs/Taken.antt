@@ -101,7 +101,7 @@ module _ (plan : PlanView) (path : List ℕ) where
     comes = λ caller more h e. keeps-nothing (target_names m.top.target);
   }
 
-  -- an answer taken before the move, or behind it
+  -- an answer taken before the move, or after it
   pub take-move : (place : Place) (ended : Result (List Value) Fault) (m : Machine) → IsFreePlace (shape_of m) place → move plan path (take place ended m) ≡ changed_run (take place ended) (move plan path m)
   take-move (Spawned owner target) (Ok vs) m free =
       altered-move plan path (with_answer target (first_of vs)) (λ known. known) owner m (free-answer owner target m free (first_of vs) (λ known. known))
@@ -160,7 +160,7 @@ stage-in change (Handed o place ∷ ts) m = stage-in change ts m
 stage-in change (Syncs ∷ ts) m = refl
 stage-in change (Loops ∷ ts) m = refl
 
--- what remains behind a move of a machine with these parts
+-- what remains after a move of a machine with these parts
 abbrev pub shown_with : PlanView → (Origin → Evaluation) → List ℕ → List Part → List Token → Result Reached Fault → Run Item Ending Value
 shown_with plan child path ps ts (Ok (Stands m)) = rest_open plan child path (ps ++ token_parts ts) (stage_after ts m)
 shown_with plan child path ps ts (Ok (Gives v)) = done v

@@ -18,7 +18,7 @@ use Rattle.serial_meaning.specs.declared.origin.Origin.TheVariants as origin
 use Rattle.strand_meaning.specs.Strands.{pedigree_of}
 use Rattle.strand_meaning.specs.Rest.{child_at}
 
--- a pedigree has ranks behind the path
+-- a pedigree has ranks after the path
 abbrev pub IsUnder : List ℕ → List ℕ → Type 0
 IsUnder path j = (k : ℕ) × (more : List ℕ) × (j ≡ path ++ k ∷ more)
 

@@ -49,7 +49,7 @@ touched (act.If e a b) = names_in e
 touched (act.While e a) = names_in e
 touched (act.Pfor x lo hi target c) = names_in lo ++ (names_in hi ++ (names_in_all c.args ++ target_names target))
 
--- a spawn's target is pending from then on, and nothing is behind a sync
+-- a spawn's target is pending from then on, and nothing is after a sync
 abbrev pub pending_right : Name → Right → Names → Names
 pending_right x (right.Value e) pending = pending
 pending_right x (right.Draw at) pending = pending

@@ -30,13 +30,13 @@ GaveValues child (p ∷ ps) = GaveValue (child p.child).ending × GaveValues chi
 abbrev pub heard_of : Task → List Part → Pieces
 heard_of t ps = heard_all ps (evaluations (eval t.plan) ps) (record t.pieces { handed = [] })
 
--- A child's cut is one of its parent, where the children in front of it gave values.
+-- A child's cut is one of its parent, where the children before it gave values.
 abbrev pub CutsPass : Type 0
 CutsPass =
     (t : Task) (front : List Part) (p : Part) (later : List Part) (by : Fault) → IsTask t → t.pieces.fault ≡ None → t.pieces.handed ≡ front ++ p ∷ later →
     GaveValues (eval t.plan) front → IsCut t.plan p.child by → IsCut t.plan t.origin by
 
--- A child's fault is its parent's, where the children in front of it gave values: what was heard up to it is the parent's evaluation,
+-- A child's fault is its parent's, where the children before it gave values: what was heard up to it is the parent's evaluation,
 -- whatever the later children gave.
 abbrev pub FaultsPass : Type 0
 FaultsPass =
@@ -76,7 +76,7 @@ IsByFaultOf plan (outcome.Fault f) = Contains (faults plan) f
 IsByFaultOf plan (outcome.Cut f) = Contains (faults plan) f
 
 -- Once a task has heard all its children's answers, the first fault or cut in the order of its pieces is its own answer, with what it
--- heard up to there. Where that is a fault, the answers behind it may be cuts.
+-- heard up to there. Where that is a fault, the answers after it may be cuts.
 abbrev pub AnswersEnd : Type 0
 AnswersEnd =
     (t : Task) (answers : List AnswerView) (ended : Outcome) → IsTask t → AreAnswersOf t.plan t.pieces.handed answers → ended_after (by_fault t.pieces.fault) answers ≡ Some ended →

@@ -43,7 +43,7 @@ ReturnWaitsForAChild =
     main_marks 8 (f_of_nothing ∷ function (codes "main") [] (stated (act.Spawn (applied (codes "f") [])) ∷ []) (number 0) ∷ [])
     ≡ ToChild ∷ ToWait ∷ ToEnd ∷ []
 
--- A sync behind no spawn is passed.
+-- A sync after no spawn is passed.
 abbrev pub SyncAloneIsPassed : Type 0
 SyncAloneIsPassed = main_marks 8 (function (codes "main") [] (stated act.Sync ∷ []) (number 0) ∷ []) ≡ ToEnd ∷ []
 

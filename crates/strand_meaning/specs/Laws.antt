@@ -69,7 +69,7 @@ on_reached change (Err f) = Err f
 abbrev pub changed_run : (Machine → Machine) → Run Token Fault Reached → Run Token Fault Reached
 changed_run change r = record { items = r.items; ending = on_reached change r.ending }
 
--- A child's value or fault may be put in before a move or behind it, and the move shows the same: no move reads or writes an unfilled
+-- A child's value or fault may be put in before a move or after it, and the move shows the same: no move reads or writes an unfilled
 -- variable.
 abbrev pub MovesLeaveUnfilledAlone : Type 0
 MovesLeaveUnfilledAlone =
@@ -86,7 +86,7 @@ KeepsOrigin t (Spawn child rest) = IsOf t rest
 KeepsOrigin t (Wait rest) = IsOf t rest
 KeepsOrigin t (End out ended) = Unit {0}
 
--- fewer stops are left behind one
+-- fewer stops are left after one
 abbrev pub LeavesFewer : Task → Stop → Type 0
 LeavesFewer t (Spawn child rest) = (stops_left rest < stops_left t) × (rest.waiting ≡ false)
 LeavesFewer t (Wait rest) = (stops_left rest < stops_left t) × (rest.waiting ≡ true)

@@ -85,7 +85,7 @@ place_of height (act.Pfor x lo hi target c) = Looped target
 -- The stack
 
 -- A function that was begun: its place in the script, the statements left, and whether these and the sync that its return implies are
--- behind it; its variables; whether it spawned since its own last sync, and the least fault among the answers of these children that
+-- after it; its variables; whether it spawned since its own last sync, and the least fault among the answers of these children that
 -- were taken; and the variable of the activation below it that its value goes to.
 pub record Activation : Type 0 where
   pub function : ℕ
@@ -115,7 +115,7 @@ state_of m = record { env = m.top.env; rank = m.rank; steps = m.steps; spawned =
 abbrev pub with_left : Machine → List Stmt → State Bool → Machine
 with_left m left s = record m { rank = s.rank; steps = s.steps; top = record m.top { left = left; env = s.env; spawned = s.spawned } }
 
--- its return is paid, and its last sync is behind it
+-- its return is paid, and its last sync is after it
 abbrev pub with_returning : Machine → State Bool → Machine
 with_returning m s = record m { rank = s.rank; steps = s.steps; top = record m.top { returning = true; env = s.env; spawned = s.spawned } }
 

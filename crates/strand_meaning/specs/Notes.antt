@@ -59,7 +59,7 @@ also notes later = record {
 abbrev pub at_ranks : List ℕ → Notes
 at_ranks ranks = record no_notes { ranks = ranks }
 
--- The rank of an instance's strand, if it has one. Where it waits behind a sync or a loop it doesn't have the rank behind that yet. An
+-- The rank of an instance's strand, if it has one. Where it waits after a sync or a loop it doesn't have the rank after that yet. An
 -- instance that has ended has no strand, and one that wasn't begun stands at rank 0.
 abbrev pub rank_unbegun : Bool → List ℕ
 rank_unbegun true = []

@@ -7,14 +7,14 @@ use Rattle.serial_meaning.specs.declared.event.Event.{Event}
 use Rattle.serial_meaning.specs.declared.origin.Origin.{Origin}
 use Rattle.strand_meaning.specs.Machine.{Place, Token, Told, Handed, Syncs, Loops}
 
--- a child that was handed out and whose answer isn't taken, where its value goes, and the task's own events behind it, up to the next
+-- a child that was handed out and whose answer isn't taken, where its value goes, and the task's own events after it, up to the next
 -- child
 pub record Part : Type 0 where
   pub child : Origin
   pub place : Place
   pub behind : List Event
 
--- The events in front of the first child whose answer isn't taken, up to the first fault among these, and that fault, behind which
+-- The events before the first child whose answer isn't taken, up to the first fault among these, and that fault, after which
 -- nothing counts; and then the children.
 pub record Pieces : Type 0 where
   pub told : List Event
@@ -55,13 +55,13 @@ with_tokens (Loops ∷ ts) pieces = with_tokens ts pieces
 
 -- Answers
 
--- the answer's events, and where it is no fault then those behind the child
+-- the answer's events, and where it is no fault then those after the child
 abbrev pub heard_unless : Option Fault → List Event → Part → List Event → Result (List Value) Fault → Pieces
 heard_unless (Some f) told p events ending = record { told = told; fault = Some f; handed = [] }
 heard_unless None told p events (Ok vs) = record { told = told ++ (events ++ p.behind); fault = None; handed = [] }
 heard_unless None told p events (Err f) = record { told = told ++ events; fault = Some f; handed = [] }
 
--- pieces without children, behind which a child's answer was taken
+-- pieces without children, after which a child's answer was taken
 abbrev pub heard : Part → Evaluation → Pieces → Pieces
 heard p answer pieces = heard_unless pieces.fault pieces.told p answer.items answer.ending
 

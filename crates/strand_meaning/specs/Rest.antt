@@ -40,7 +40,7 @@ module _ (plan : PlanView) (child : Origin → Evaluation) (path : List ℕ) whe
   valued (Some f) s = given (put_off_all plan child) plan path (value_of f.result s.env) s λ v. done (v, s)
   valued None s = done (Int (pos 0), s)
 
-  -- a return, or what is left of it behind its sync
+  -- a return, or what is left of it after its sync
   abbrev pub closes : Bool → Option Function → State (Option Fault) → Run Item Ending (Value × State (Option Fault))
   closes false f s = paid (put_off_all plan child) plan path s λ s. implied (put_off_all plan child) plan path (spawns_in f) s then valued f
   closes true f s = valued f s
@@ -100,7 +100,7 @@ abbrev pub told_run : Pieces → Run Event Fault (Unit {0})
 told_run pieces = record { items = pieces.told; ending = told_end pieces.fault }
 
 module _ (child : Origin → Evaluation) where
-  -- the children's evaluations and the events behind them, with the values of a loop's parts behind those that were taken
+  -- the children's evaluations and the events after them, with the values of a loop's parts after those that were taken
   abbrev pub parts_run : List Part → List Value → Run Event Fault (List Value)
   parts_run [] values = done values
   parts_run (p ∷ ps) values = child p.child then λ vs. behind p.behind (parts_run ps (more_values p.place (Ok vs) values))
@@ -110,7 +110,7 @@ module _ (child : Origin → Evaluation) where
   turns_left (Instance function args path) left = done []
   turns_left (Loop function rest first path range) left = turns child function rest first path left.lo (left.hi - left.lo)
 
--- an instance's value by itself, or behind those of a loop's other iterations
+-- an instance's value by itself, or after those of a loop's other iterations
 abbrev pub all_with : Origin → List Value → Value → List Value
 all_with (Instance function args path) values v = v ∷ []
 all_with (Loop function rest first path range) values v = values ++ v ∷ []

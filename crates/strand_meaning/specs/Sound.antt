@@ -146,7 +146,7 @@ abbrev pub IsShownBy : Origin → List Event → Part → Type 0
 IsShownBy o events p =
     (IsHalf p.place × (path_of p.child ≡ path_of o)) ⊎ ((rank : ℕ) × (path_of p.child ≡ path_of (own_instance o) ++ rank ∷ []) × Contains (places events) (path_of p.child))
 
--- the first is shown by these events, and each other by those between it and the child in front of it
+-- the first is shown by these events, and each other by those between it and the child before it
 abbrev pub AreShownBy : Origin → List Event → List Part → Type 0
 AreShownBy o events [] = Unit {0}
 AreShownBy o events (p ∷ ps) = IsShownBy o events p × AreShownBy o p.behind ps

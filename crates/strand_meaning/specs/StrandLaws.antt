@@ -8,7 +8,7 @@ use Rattle.serial_meaning.specs.declared.value.Value.{Value}
 use Rattle.serial_meaning.specs.declared.event.Fault.{Fault}
 use Rattle.strand_meaning.specs.Strands.{events_at, Strand, Reached, strand_at}
 
--- No fault ended it before this pedigree: it has none, or its fault is there or behind it.
+-- No fault ended it before this pedigree: it has none, or its fault is there or after it.
 abbrev pub IsWholeUpTo : List ℕ → Result (List Value) Fault → Type 0
 IsWholeUpTo j (Ok vs) = Unit {0}
 IsWholeUpTo j (Err f) = IsBefore f.at j → ⊥

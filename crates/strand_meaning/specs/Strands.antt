@@ -28,7 +28,7 @@ abbrev pub events_at : List ℕ → List Event → List Event
 events_at j [] = []
 events_at j (e ∷ es) = if bytes_eq (pedigree_of e) j then e ∷ events_at j es else events_at j es
 
--- the rank rises by one behind each event but a print
+-- the rank rises by one after each event but a print
 abbrev pub raise : Event → ℕ
 raise (event.Print j v) = 0
 raise (event.Draw j n) = 1
@@ -50,7 +50,7 @@ own_events (Happened e ∷ items) = e ∷ own_events items
 own_events (Child o ∷ items) = own_events items
 
 -- The last rank that the instance reached. It begins at rank 0. Where it ended by the fault of a child, it ended at the sync or the
--- loop that is its last event, and no rank behind that was reached.
+-- loop that is its last event, and no rank after that was reached.
 abbrev pub last_rank_by : ℕ → Result (List Value) Ending → ℕ
 last_rank_by raised (Ok vs) = raised
 last_rank_by raised (Err (Own f)) = raised

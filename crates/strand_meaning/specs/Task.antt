@@ -20,7 +20,7 @@ use Rattle.serial_meaning.specs.declared.answer.Outcome.TheVariants as outcome
 use Rattle.strand_meaning.specs.Machine.{Place, Spawned, Looped, Half, Token, Told, Handed, Syncs, Loops, Activation, Machine, Reached, Stands, Gives, begun, move}
 use Rattle.strand_meaning.specs.Pieces.{Part, Pieces, no_pieces, with_tokens, hand, heard_all}
 
--- where an instance stands: it goes on; it waits behind a sync, or behind a loop; it has ended, by a value or as a node of the open
+-- where an instance stands: it goes on; it waits after a sync, or after a loop; it has ended, by a value or as a node of the open
 -- tree ends
 pub data Stage : Type 0 where
   Goes : Machine → Stage
@@ -66,7 +66,7 @@ own_instance (Loop function rest first path range) = iteration function rest fir
 
 -- The next stop
 
--- a child to be begun, and the task behind it; a wait; the end, with all events and how the origin ended
+-- a child to be begun, and the task after it; a wait; the end, with all events and how the origin ended
 pub data Stop : Type 0 where
   Spawn : Origin → Task → Stop
   Wait : Task → Stop

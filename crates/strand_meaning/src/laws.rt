@@ -102,12 +102,12 @@ pub fn stops_are_shown()
     ensures { StopsAreShown }
 {}
 
-/// A task may be cut by what cuts a child of it, where the children in front of that one gave values.
+/// A task may be cut by what cuts a child of it, where the children before that one gave values.
 pub fn cuts_pass()
     ensures { CutsPass }
 {}
 
-/// A child's fault is its parent's, where the children in front of it gave values.
+/// A child's fault is its parent's, where the children before it gave values.
 pub fn faults_pass()
     ensures { FaultsPass }
 {}

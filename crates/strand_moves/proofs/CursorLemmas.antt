@@ -49,13 +49,13 @@ drop-next block n st h =
 rest-next : (body : List Stmt) (es : List Entered) (n : ℕ) (st : Stmt) → slice_get (block_of body es) n ≡ Some st → rest_of body es n ≡ st ∷ rest_of body es (n + 1)
 rest-next body es n st h = ap (λ (l : List Stmt). l ++ behind_of body es) (drop-next (block_of body es) n st h)
 
--- back to the statement that stands in front of this place
+-- back to the statement that stands before this place
 rest-back : (body : List Stmt) (es : List Entered) (n : ℕ) (st : Stmt) → 0 < n → slice_get (block_of body es) (n - 1) ≡ Some st → rest_of body es (n - 1) ≡ st ∷ rest_of body es n
 rest-back body es n st l h =
     let next : n - 1 + 1 ≡ n = omega arith in
     rest-next body es (n - 1) st h ∙ ap (λ (k : ℕ). st ∷ rest_of body es k) next
 
--- the cursor as it was, and with a block of the statement in front of it entered
+-- the cursor as it was, and with a block of the statement before it entered
 pub left-entered : (body : List Stmt) (c d : Cursor) (e : Entered) (st : Stmt) → d.entered.items ≡ c.entered.items ++ e ∷ [] → d.next ≡ 0 → slice_get (block_of body c.entered.items) (place_before e.part e.back) ≡ Some st →
     left_of body d ≡ part_of (out-Act (out-Stmt st).act) e.part ++ rest_of body c.entered.items e.back
 unfolding left_of
@@ -79,7 +79,7 @@ left-turn body c d st behind h k =
     left-entered body c d (record { part = part.Turn; back = c.next - 1 }) st h k behind.there
     ∙ ap (λ (l : List Stmt). part_of (out-Act (out-Stmt st).act) part.Turn ++ l) (rest-back body c.entered.items c.next st behind.some behind.there ∙ ap (λ (l : List Stmt). st ∷ l) (left-is body c))
 
--- behind the next statement
+-- after the next statement
 pub passes : (body : List Stmt) (c d : Cursor) (st : Stmt) → slice_get (block_of body c.entered.items) c.next ≡ Some st → d.entered.items ≡ c.entered.items → d.next ≡ c.next + 1 → Passes body c d st
 unfolding left_of
 passes body c d st there h k =

@@ -44,7 +44,7 @@ faults kind strand = record { items = []; ending = Err (record { kind = kind; at
 
 -- The step
 
--- a machine whose step is paid and that is behind a statement
+-- a machine whose step is paid and that is after a statement
 abbrev pub behind_statement : Machine → ℕ → List Stmt → Machine
 behind_statement m n left = record m { steps = n; top = record m.top { left = left } }
 

@@ -1,4 +1,4 @@
--- What the call for a statement answers and leaves, where the statement is paid and the cursor stands behind it.
+-- What the call for a statement answers and leaves, where the statement is paid and the cursor stands after it.
 use Rattle.std.specs.Prelude.{◌≡◌, ℕ, zero, suc, ◌+◌, ◌<◌, Bool, true, false, nat_lt, List, Option, Some, None, Result, Ok, Err, length}
 use Rattle.std.specs.Prelude.{pos}
 use Rattle.script_grammar.specs.declared.tree.Name.{Name}

@@ -31,7 +31,7 @@ abbrev pub part_at : Option Stmt → Part → List Stmt
 part_at None p = []
 part_at (Some st) p = part_of (out-Act (out-Stmt st).act) p
 
--- where the statement stands that was entered: the enclosing block goes on at a loop itself, and behind an `if`
+-- where the statement stands that was entered: the enclosing block goes on at a loop itself, and after an `if`
 abbrev pub place_before : Part → ℕ → ℕ
 place_before part.Yes back = back - 1
 place_before part.No back = back - 1
@@ -54,12 +54,12 @@ behind_of block (e ∷ es) = behind_of (block_in block e) es ++ drop e.back bloc
 unfoldable pub left_of : List Stmt → Cursor → List Stmt
 left_of body c = drop c.next (block_of body c.entered.items) ++ behind_of body c.entered.items
 
--- The cursor stands behind this statement.
+-- The cursor stands after this statement.
 pub record IsBehind (body : List Stmt) (c : Cursor) (st : Stmt) : Type 0 where
   pub some : 0 < c.next
   pub there : slice_get (block_of body c.entered.items) (c.next - 1) ≡ Some st
 
--- the next statement and those behind it
+-- the next statement and those after it
 pub record Passes (body : List Stmt) (old new : Cursor) (st : Stmt) : Type 0 where
   pub first : left_of body old ≡ st ∷ left_of body new
   pub behind : IsBehind body new st

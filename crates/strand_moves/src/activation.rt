@@ -18,7 +18,7 @@ pub(crate) struct Activation {
     /// Its place in the script.
     pub(crate) function: u32,
     pub(crate) cursor: Cursor,
-    /// Whether its return is paid, and the sync that this implies is behind it.
+    /// Whether its return is paid, and the sync that this implies is after it.
     pub(crate) returning: bool,
     pub(crate) env: Environment,
     /// Whether it spawned since its last sync.

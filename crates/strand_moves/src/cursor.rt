@@ -20,7 +20,7 @@ pub(crate) enum Part {
     Turn,
 }
 
-/// A block that was entered, and the index at which the enclosing block goes on: at a loop itself, and behind an `if`.
+/// A block that was entered, and the index at which the enclosing block goes on: at a loop itself, and after an `if`.
 #[derive(Clone, Copy, Debug, Default, PartialEq, Eq)]
 pub(crate) struct Entered {
     pub(crate) part: Part,
@@ -88,7 +88,7 @@ impl Cursor {
         }
     }
 
-    /// Goes behind the next statement of this body, and gives it.
+    /// Goes after the next statement of this body, and gives it.
     pub(crate) fn pass<'a>(&mut self, body: &'a [Stmt]) -> Option<&'a Stmt>
         ensures { MatchOption result ((left_of body.now self.old ≡ []) × (left_of body.now self.new ≡ [])) (λ st. Passes body.now self.old self.new st.now) }
     {
@@ -105,7 +105,7 @@ impl Cursor {
         }
     }
 
-    /// Enters a block of the `if` behind which the cursor stands.
+    /// Enters a block of the `if` after which the cursor stands.
     pub(crate) fn enter(&mut self, yes: bool) -> Result<(), Memory>
         ensures { IfOk result (λ _. (body : List Stmt) (st : Stmt) → IsBehind body self.old st →
             left_of body self.new ≡ part_of (out-Act (out-Stmt st).act) (if yes then part.Yes else part.No) ++ left_of body self.old) }
@@ -118,7 +118,7 @@ impl Cursor {
         Ok(())
     }
 
-    /// Enters the body of the loop behind which the cursor stands. The loop is left again behind it.
+    /// Enters the body of the loop after which the cursor stands. The loop is left again after it.
     pub(crate) fn turn(&mut self) -> Result<(), Memory>
         ensures { IfOk result (λ _. (body : List Stmt) (st : Stmt) → IsBehind body self.old st →
             left_of body self.new ≡ part_of (out-Act (out-Stmt st).act) part.Turn ++ (st ∷ left_of body self.old)) }

@@ -57,7 +57,7 @@ impl Instance {
         self.running.step(alloc, plan)
     }
 
-    /// The rank that it has, or will have once it goes on from the sync or the loop behind which it waits.
+    /// The rank that it has, or will have once it goes on from the sync or the loop after which it waits.
     pub fn rank(&self) -> u64
         ensures { result ≡ self.now.running.value.rank }
     {

@@ -15,7 +15,7 @@ pub struct Child {
 #[derive(Drop)]
 pub enum Shown {
     Nothing,
-    /// An event, and nothing behind it.
+    /// An event, and nothing after it.
     Told(Event),
     /// A child was spawned. Its value goes to the variable `target`, if any, of the activation with `height` others below it.
     Spawned {

@@ -19,7 +19,7 @@ use std::alloc::Global;
 use strand_values::{Halt, count};
 
 impl Running {
-    /// A statement, behind which the cursor stands: its step, and then what it does.
+    /// A statement, after which the cursor stands: its step, and then what it does.
     pub(crate) fn statement(
         &mut self,
         alloc: Global,

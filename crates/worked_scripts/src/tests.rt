@@ -38,7 +38,8 @@ const FAULTY_CHILD: &[u8] =
     b"fn bad() { let z = 0; return 1 / z; } fn main() { print 7; let a = spawn bad(); let i = 0; while i == 0 { i = 0; } sync; print a; return 0; }";
 
 // The first child ends by a fault, and nothing of the second one counts.
-const FAULT_BEFORE_ANOTHER: &str = "fn bad() { let z = 0; return 1 / z; } fn ok() { return 1; } fn main() { spawn bad(); spawn ok(); sync; return 0; }";
+const FAULT_BEFORE_ANOTHER: &str =
+    "fn bad() { let z = 0; return 1 / z; } fn ok() { return 1; } fn main() { spawn bad(); spawn ok(); sync; return 0; }";
 
 // Each turn awaits the child of the turn before.
 const PENDING_SYNCED: &[u8] =

@@ -12,7 +12,7 @@ use crate::parser::source::{Source, after, expect, expect_name, open};
 use script_grammar::{CallText, Expr, Items};
 use script_tokens::{Lexeme, Word};
 
-// What stands behind an argument: further ones, each behind a comma. They are put behind those that were found before.
+// What stands after an argument: further ones, each after a comma. They are put after those that were found before.
 pub(crate) fn more_args<'t>(
     source: &Source<'_>,
     mut found: Vec<Expr>,
@@ -31,7 +31,7 @@ pub(crate) fn more_args<'t>(
     Ok((Items(found), left))
 }
 
-// The arguments behind an opening parenthesis, and the closing one.
+// The arguments after an opening parenthesis, and the closing one.
 fn arguments<'t>(
     source: &Source<'_>,
     tokens: &'t [Lexeme],

@@ -206,7 +206,7 @@ fn factor<'t>(
     }
 }
 
-// A factor that begins with a name, behind which `rest` stands.
+// A factor that begins with a name, after which `rest` stands.
 #[cycle(expressions)]
 fn name_or_item<'t>(
     source: &Source<'_>,

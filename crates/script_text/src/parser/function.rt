@@ -42,7 +42,7 @@ fn param<'t>(
     ))
 }
 
-// What stands behind a parameter: further ones, each behind a comma. They are put behind those that were found before.
+// What stands after a parameter: further ones, each after a comma. They are put after those that were found before.
 fn more_params<'t>(
     source: &Source<'_>,
     mut found: Vec<Param>,
@@ -61,7 +61,7 @@ fn more_params<'t>(
     Ok((Items(found), left))
 }
 
-// The parameters behind an opening parenthesis, and the closing one.
+// The parameters after an opening parenthesis, and the closing one.
 fn params<'t>(
     source: &Source<'_>,
     tokens: &'t [Lexeme],
@@ -116,7 +116,7 @@ fn body<'t>(
     Ok((acts, return_at, x, rest))
 }
 
-// What stands behind `fn`.
+// What stands after `fn`.
 fn function<'t>(
     source: &Source<'_>,
     tokens: &'t [Lexeme],

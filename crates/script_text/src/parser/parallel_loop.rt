@@ -100,7 +100,7 @@ fn loop_call<'t>(
     Ok((CallText { name, args }, rest))
 }
 
-// What stands behind the name, which has to come again.
+// What stands after the name, which has to come again.
 fn repeated<'t>(
     source: &Source<'_>,
     name: &Name,

@@ -84,7 +84,7 @@ fn value_of(digits: &[u8]) -> Option<u64>
     Some(value)
 }
 
-// The lexeme of that word and what stands behind it, where it comes next.
+// The lexeme of that word and what stands after it, where it comes next.
 pub(crate) fn next(tokens: &[Lexeme], word: Word) -> Option<(Lexeme, &[Lexeme])>
     ensures { MatchOption result (NextIsNot word tokens.now) (λ p. NextLexeme word p.0 tokens.now p.1.now) }
 {
@@ -96,7 +96,7 @@ pub(crate) fn next(tokens: &[Lexeme], word: Word) -> Option<(Lexeme, &[Lexeme])>
     }
 }
 
-// The place of the word and what stands behind it, where it comes next.
+// The place of the word and what stands after it, where it comes next.
 pub(crate) fn after(tokens: &[Lexeme], word: Word) -> Option<(u32, &[Lexeme])>
     ensures { MatchOption result (NextIsNot word tokens.now) (λ p. NextIs word p.0 tokens.now p.1.now) }
 {
@@ -129,7 +129,7 @@ pub(crate) fn deeper(depth: u8, at: u32) -> Result<u8, SyntaxError>
     }
 }
 
-// What stands behind the word, which has to come next.
+// What stands after the word, which has to come next.
 pub(crate) fn expect<'t>(
     source: &Source<'_>,
     tokens: &'t [Lexeme],
@@ -146,7 +146,7 @@ pub(crate) fn expect<'t>(
     }
 }
 
-// What stands behind an opening bracket, which has to come next.
+// What stands after an opening bracket, which has to come next.
 pub(crate) fn open<'t>(
     source: &Source<'_>,
     tokens: &'t [Lexeme],

@@ -46,7 +46,7 @@ fn right_side<'t>(
     }
 }
 
-// A right side and the semicolon behind it.
+// A right side and the semicolon after it.
 fn value<'t>(
     source: &Source<'_>,
     tokens: &'t [Lexeme],
@@ -60,7 +60,7 @@ fn value<'t>(
     Ok((side, rest))
 }
 
-// An expression and the semicolon behind it.
+// An expression and the semicolon after it.
 pub(crate) fn ended_expr<'t>(
     source: &Source<'_>,
     tokens: &'t [Lexeme],
@@ -74,7 +74,7 @@ pub(crate) fn ended_expr<'t>(
     Ok((x, rest))
 }
 
-// A call and the semicolon behind it.
+// A call and the semicolon after it.
 fn ended_call<'t>(
     source: &Source<'_>,
     tokens: &'t [Lexeme],
@@ -187,7 +187,7 @@ fn begins(word: Word) -> bool
     )
 }
 
-// The first lexeme of a statement and what stands behind it, where one begins.
+// The first lexeme of a statement and what stands after it, where one begins.
 fn next_stmt(tokens: &[Lexeme]) -> Option<(Lexeme, &[Lexeme])>
     ensures { MatchOption result (NoStmt tokens.now)
         (λ p. (tokens.now ≡ p.0 ∷ p.1.now) × (begins_stmt p.0.word ≡ true)) }
@@ -309,7 +309,7 @@ fn block<'t>(
     Ok((body, rest))
 }
 
-// The block behind `else`. Where no `else` comes, it is empty.
+// The block after `else`. Where no `else` comes, it is empty.
 #[cycle(statements)]
 fn otherwise<'t>(
     source: &Source<'_>,

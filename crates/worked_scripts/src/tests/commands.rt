@@ -63,10 +63,7 @@ fn streams_are_draws_of_consecutive_ranks(rt: HostRuntime) -> Result<(), Fail> {
             "stream --gamma 18446744073709551556 --at 1 --count 2",
             b"108965703\n116319378\n",
         ),
-        (
-            "stream --gamma 1 --at 0 --count 3 --below 10",
-            b"1\n0\n3\n",
-        ),
+        ("stream --gamma 1 --at 0 --count 3 --below 10", b"1\n0\n3\n"),
         (
             "stream --gamma 1 --at 4294967294 --count 2 --rounds 0",
             b"4294967295\n4294967296\n",

@@ -105,7 +105,7 @@ fn ended(rt: &impl Abort, alloc: Global, task: Task) -> Result<(Answer, Give<Ans
     }
 }
 
-/// The task behind its wait with these answers, those of the two children that it awaits.
+/// The task after its wait with these answers, those of the two children that it awaits.
 fn with_answers(
     rt: &impl Abort,
     alloc: Global,
@@ -161,7 +161,7 @@ fn still_waiting(rt: &impl Abort, alloc: Global, task: Task) -> Result<Task, Fai
     }
 }
 
-/// The task behind its wait, since all of its children have answered.
+/// The task after its wait, since all of its children have answered.
 fn gone_on(rt: &impl Abort, alloc: Global, task: Task) -> Result<Task, Fail>
     requires { task.task.waiting ≡ true }
 {

@@ -1,6 +1,8 @@
 // Runs on workers: they work at once, and write the same however they share the work.
 
-use super::{FAULT_BEFORE_ANOTHER, FAULTY_CHILD, Host, SQUARES, TWO_DRAWS, ends, generated, guarded};
+use super::{
+    FAULT_BEFORE_ANOTHER, FAULTY_CHILD, Host, SQUARES, TWO_DRAWS, ends, generated, guarded,
+};
 use engine::Gate;
 use ped_path::Ped;
 use serial_meaning::Origin;
@@ -155,6 +157,7 @@ fn what_stands_behind_a_known_fault_is_not_run(rt: HostRuntime) -> Result<(), Fa
         output.push_str(".0")?;
     }
     output.push_str(": depth\n")?;
-    let script = b"fn f(n) { spawn f(n); spawn f(n); spawn f(n); return 0; } fn main() { spawn f(1); sync; return 0; }";
+    let script =
+        b"fn f(n) { spawn f(n); spawn f(n); spawn f(n); return 0; } fn main() { spawn f(1); sync; return 0; }";
     repeats(&rt, "run --depth 100", 2, script, 1, output.as_bytes())
 }

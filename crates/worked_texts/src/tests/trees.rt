@@ -83,7 +83,7 @@ fn texts_have_a_tree_or_a_fault_at_its_place(rt: HostRuntime) {
     }
 }
 
-// A front of a script is one itself where it ends behind a function, and has fault 2 where it ends inside a word that can't stand there.
+// A front of a script is one itself where it ends after a function, and has fault 2 where it ends inside a word that can't stand there.
 // Else it is unfinished: fault 6 at its end.
 #[test]
 fn fronts_of_a_script_are_refused(rt: HostRuntime) {

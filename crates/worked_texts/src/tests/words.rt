@@ -127,14 +127,18 @@ fn words_are_judged_in_order(rt: HostRuntime) {
         ("gen --shape loop --size 4097", 7, 4),
         ("stream --at 4294967295 --count 2", 7, 4),
         ("stream --count 1048576 --at 1.4293918721", 7, 2),
-        ("stream --count 2 --at 4294967295 --gamma 18446744073709551557", 7, 6),
+        (
+            "stream --count 2 --at 4294967295 --gamma 18446744073709551557",
+            7,
+            6,
+        ),
         ("stream --count 2 --at 4294967295 --x", 3, 5),
     ] {
         assert_eq!(rt; refusal(rt.alloc(), line), (number, at), "{line}");
     }
 }
 
-// 256 ranks are a pedigree, and 257 are too many. Words behind the first fault are of no account, however many there are.
+// 256 ranks are a pedigree, and 257 are too many. Words after the first fault are of no account, however many there are.
 #[test]
 fn words_may_be_long_and_many(rt: HostRuntime) -> Result<(), Fail> {
     let alloc = rt.alloc();
@@ -274,7 +278,10 @@ fn a_stream_has_a_count_that_its_ranks_are_enough_for(rt: HostRuntime) -> Result
             rounds,
             below,
         } => {
-            assert_eq!(rt; (gamma.len(), count, rounds, below), (256, 1_048_576, 8, Some(6)));
+            assert_eq!(rt;
+                (gamma.len(), count, rounds, below),
+                (256, 1_048_576, 8, Some(6))
+            );
             assert_eq!(rt; (at.len(), at.rank_at(1)), (2, Some(4_293_918_720)));
         }
         _other => assert!(rt; false, "not stream"),
@@ -290,7 +297,10 @@ fn a_stream_has_a_count_that_its_ranks_are_enough_for(rt: HostRuntime) -> Result
             below,
             ..
         } => {
-            assert_eq!(rt; (gamma.len(), gamma.coeff(200), gamma.coeff(201)), (256, 7, 0));
+            assert_eq!(rt;
+                (gamma.len(), gamma.coeff(200), gamma.coeff(201)),
+                (256, 7, 0)
+            );
             assert_eq!(rt; (rounds, below), (4, None));
         }
         _other => assert!(rt; false, "not stream"),

@@ -13,7 +13,7 @@ use Rattle.ped_words.proofs.RuleLemmas.{refused_as}
 use Rattle.ped_words.proofs.ValueLemmas.{count_pair, judged_pair}
 use Rattle.ped_words.proofs.read.judge_pair.Goals as goal
 
--- What is known behind the name of a pair that breaks no rule.
+-- What is known after the name of a pair that breaks no rule.
 record Named (verb : Verb) (words : List (List ℕ)) (k : ℕ) (n : Name) (kind : Kind) (word : List ℕ) (at : ℕ) : Type 0 where
   judged : broken_pair verb words k ≡ broken_value words k (Ok n)
   kind_is : kind ≡ kind_of n
