@@ -297,10 +297,8 @@ fn a_stream_has_a_count_that_its_ranks_are_enough_for(rt: HostRuntime) -> Result
             below,
             ..
         } => {
-            assert_eq!(rt;
-                (gamma.len(), gamma.coeff(200), gamma.coeff(201)),
-                (256, 7, 0)
-            );
+            assert_eq!(rt; gamma.len(), 256);
+            assert_eq!(rt; (gamma.coeff(200), gamma.coeff(201)), (7, 0));
             assert_eq!(rt; (rounds, below), (4, None));
         }
         _other => assert!(rt; false, "not stream"),
