@@ -27,6 +27,7 @@ fn a_hand_looks_at_its_newest_task_between_turns(rt: HostRuntime) -> Result<(), 
     let script = "fn f() { return 1; } fn main() { let a = spawn f(); sync; print a; return 0; }";
     let (_root, hands) = Crew::new(alloc, &plan(&rt, script)?, 1)?;
     let mut hands = hands.0.0;
+    assert!(rt; hands.len() == 1);
     let hand = &mut hands[0];
     assert!(rt; matches!(hand.turn(alloc, &OpenGate)?, Turn::Ran));
     assert!(rt; matches!(hand.look_newest(alloc)?, Looked::Nothing));
@@ -88,6 +89,7 @@ fn a_task_behind_a_known_fault_is_cut(rt: HostRuntime) -> Result<(), Fail> {
     let alloc = rt.alloc();
     let (mut root, hands) = Crew::new(alloc, &plan(&rt, FAULT_BEFORE_ANOTHER)?, 1)?;
     let mut hands = hands.0.0;
+    assert!(rt; hands.len() == 1);
     let hand = &mut hands[0];
     let gate = Record::new();
     assert!(rt; matches!(hand.turn(alloc, &gate)?, Turn::Ran));
