@@ -104,7 +104,8 @@ fn a_task_behind_a_known_fault_is_cut(rt: HostRuntime) -> Result<(), Fail> {
     assert_eq!(rt; gate.entered.load(Ordering::SeqCst), 12);
     assert_eq!(rt; gate.left.load(Ordering::SeqCst), 21);
     if let Look::Ready = root.look() {
-        let Outcome::Fault(fault) = root.take().outcome else {
+        let answer = root.take();
+        let Outcome::Fault(fault) = &answer.outcome else {
             panic!(rt; "main ends by its child's fault");
         };
         assert!(rt; fault.kind == FaultKind::Divide);

@@ -60,6 +60,13 @@ fn main_task(alloc: Global, plan: &Arc<Plan>) -> Result<Task, Fail>
     fresh_main(alloc, plan)
 }
 
+/// Main's task of the script.
+fn main_of(rt: &(impl Abort + AllocGlobal), text: &str) -> Result<Task, Fail>
+    ensures { IfOk result IsIdle }
+{
+    main_task(rt.alloc(), &plan(rt, text)?)
+}
+
 /// The next stop of a task that stands in no wait.
 #[tactic(auto, using(crate::proofs::Stopping::stopped))]
 fn stop(alloc: Global, task: Task) -> Result<Stop, Fail>
@@ -126,18 +133,32 @@ fn with_answers(
     Ok(rest.resume_with(alloc, Items(answers))?)
 }
 
+/// The task after its wait for two children, which run to their ends first.
+fn with_both(
+    rt: &impl Abort,
+    alloc: Global,
+    rest: Task,
+    first: Task,
+    second: Task,
+) -> Result<Task, Fail>
+    requires waits { rest.task.waiting ≡ true }
+    requires first { IsIdle first × (first.task.plan ≡ rest.task.plan) }
+    requires second { IsIdle second × (second.task.plan ≡ rest.task.plan) }
+{
+    let (first, _) = ended(rt, alloc, first)?;
+    let (second, _) = ended(rt, alloc, second)?;
+    with_answers(rt, alloc, rest, first, second)
+}
+
 #[test]
 fn a_task_takes_its_childrens_answers_at_a_wait(rt: HostRuntime) -> Result<(), Fail> {
     let alloc = rt.alloc();
     let text = "fn mk() -> id { let o = new; return o; }
          fn main() { let a = spawn mk(); let b = spawn mk(); sync; print a; print b; return 0; }";
-    let plan = plan(&rt, text)?;
-    let (first, rest) = handed_out(&rt, alloc, main_task(alloc, &plan)?)?;
+    let (first, rest) = handed_out(&rt, alloc, main_of(&rt, text)?)?;
     let (second, rest) = handed_out(&rt, alloc, rest)?;
     let rest = at_wait(&rt, alloc, rest)?;
-    let (first, _) = ended(&rt, alloc, first)?;
-    let (second, _) = ended(&rt, alloc, second)?;
-    let task = with_answers(&rt, alloc, rest, first, second)?;
+    let task = with_both(&rt, alloc, rest, first, second)?;
     assert!(rt; task.awaited().as_slice().is_empty());
     Ok(())
 }
@@ -186,7 +207,7 @@ fn number(rt: &impl Abort, alloc: Global, task: Task) -> Result<i64, Fail> {
 fn a_task_goes_on_once_its_child_has_answered(rt: HostRuntime) -> Result<(), Fail> {
     let alloc = rt.alloc();
     let text = "fn f() { return 7; } fn main() { let a = spawn f(); sync; print a; return 0; }";
-    let main = main_task(alloc, &plan(&rt, text)?)?;
+    let main = main_of(&rt, text)?;
     assert!(rt; main.is_fresh());
     let (child, rest) = handed_out(&rt, alloc, main)?;
     assert!(rt; child.is_fresh() && !rest.is_fresh());
