@@ -2,9 +2,11 @@
 
 use super::FAULT_BEFORE_ANOTHER;
 use super::tasks::plan;
-use crew::{Crew, Gate, Looked, OpenGate, Turn};
+use crew::{Crew, Gate, Hand, Looked, OpenGate, Turn};
 use meet_block::Look;
 use serial_meaning::{FaultKind, Origin, Outcome};
+use std::alloc::Global;
+use std::process::Abort;
 use std::sync::atomic::{AtomicU64, Ordering};
 use std::test::Fail;
 
@@ -21,6 +23,35 @@ fn a_new_crew_has_one_task_at_hand_0(rt: HostRuntime) -> Result<(), Fail> {
     Ok(())
 }
 
+/// What a turn did.
+fn word(turn: &Turn) -> &'static str {
+    match turn {
+        Turn::Ran => "ran",
+        Turn::Answered(_) => "answered",
+        Turn::Ended(_) => "ended",
+        Turn::Popped => "popped",
+        Turn::Resumed => "resumed",
+        Turn::Waiting => "waiting",
+        Turn::Stole => "stole",
+        Turn::Idle => "idle",
+    }
+}
+
+/// The hand's next turns did this.
+fn turns<G: Gate>(
+    rt: &impl Abort,
+    alloc: Global,
+    hand: &mut Hand,
+    gate: &G,
+    words: &[&str],
+) -> Result<(), Fail> {
+    for &wanted in words {
+        let turn = hand.turn(alloc, gate)?;
+        assert_eq!(rt; word(&turn), wanted);
+    }
+    Ok(())
+}
+
 #[test]
 fn a_hand_looks_at_its_newest_task_between_turns(rt: HostRuntime) -> Result<(), Fail> {
     let alloc = rt.alloc();
@@ -29,14 +60,11 @@ fn a_hand_looks_at_its_newest_task_between_turns(rt: HostRuntime) -> Result<(), 
     let mut hands = hands.0.0;
     assert!(rt; hands.len() == 1);
     let hand = &mut hands[0];
-    assert!(rt; matches!(hand.turn(alloc, &OpenGate)?, Turn::Ran));
+    turns(&rt, alloc, hand, &OpenGate, &["ran"])?;
     assert!(rt; matches!(hand.look_newest(alloc)?, Looked::Nothing));
-    assert!(rt; matches!(hand.turn(alloc, &OpenGate)?, Turn::Answered(_)));
-    assert!(rt; matches!(hand.turn(alloc, &OpenGate)?, Turn::Popped));
-    assert!(rt; matches!(hand.turn(alloc, &OpenGate)?, Turn::Ran));
+    turns(&rt, alloc, hand, &OpenGate, &["answered", "popped", "ran"])?;
     assert!(rt; matches!(hand.look_newest(alloc)?, Looked::Goes));
-    assert!(rt; matches!(hand.turn(alloc, &OpenGate)?, Turn::Ended(_)));
-    Ok(())
+    turns(&rt, alloc, hand, &OpenGate, &["ended"])
 }
 
 /// Of which tasks a gate was told, in order: of each a digit, 1 for main, 2 and 3 for its first two children, and 9 for any other.
@@ -92,15 +120,10 @@ fn a_task_behind_a_known_fault_is_cut(rt: HostRuntime) -> Result<(), Fail> {
     assert!(rt; hands.len() == 1);
     let hand = &mut hands[0];
     let gate = Record::new();
-    assert!(rt; matches!(hand.turn(alloc, &gate)?, Turn::Ran));
-    assert!(rt; matches!(hand.turn(alloc, &gate)?, Turn::Answered(_)));
-    assert!(rt; matches!(hand.turn(alloc, &gate)?, Turn::Popped));
-    assert!(rt; matches!(hand.turn(alloc, &gate)?, Turn::Ran));
-    assert!(rt; matches!(hand.turn(alloc, &gate)?, Turn::Answered(_)));
-    assert!(rt; matches!(hand.turn(alloc, &gate)?, Turn::Popped));
-    assert!(rt; matches!(hand.turn(alloc, &gate)?, Turn::Ran));
-    assert!(rt; matches!(hand.turn(alloc, &gate)?, Turn::Resumed));
-    assert!(rt; matches!(hand.turn(alloc, &gate)?, Turn::Ended(_)));
+    let words = [
+        "ran", "answered", "popped", "ran", "answered", "popped", "ran", "resumed", "ended",
+    ];
+    turns(&rt, alloc, hand, &gate, &words)?;
     assert_eq!(rt; gate.entered.load(Ordering::SeqCst), 12);
     assert_eq!(rt; gate.left.load(Ordering::SeqCst), 21);
     if let Look::Ready = root.look() {
