@@ -210,12 +210,6 @@ waits-sound b (work.Runs s) t view waits h = h
 waits-sound b (work.Over v gone_on) t view waits h = h
 waits-sound b (work.Cut ended) t view waits h = absurd (true≢false (sym waits ∙ ap (λ (v : TaskView). v.task.waiting) (sym view) ∙ h.waits))
 
-pub waits-uncut : (b : Body) (w : Work) (t : TaskView) → view_of b w ≡ t → t.task.waiting ≡ true → Holds b w → t.cut ≡ None
-waits-uncut b (work.Splits left) t view waits h = ap (λ (v : TaskView). v.cut) (sym view)
-waits-uncut b (work.Runs s) t view waits h = ap (λ (v : TaskView). v.cut) (sym view)
-waits-uncut b (work.Over v gone_on) t view waits h = ap (λ (v : TaskView). v.cut) (sym view)
-waits-uncut b (work.Cut ended) t view waits h = absurd (true≢false (sym waits ∙ ap (λ (v : TaskView). v.task.waiting) (sym view) ∙ h.waits))
-
 -- one that took none, and one that did
 not-cut : (o : Option Outcome) → is_cut_short o ≡ false → o ≡ None
 not-cut None e = refl

@@ -163,6 +163,14 @@ went-whole answers t next whole h = subst (λ (cut : Bool). went cut answers t n
 pub went-short : (answers : List AnswerView) (t next : TaskView) → any_cut answers ≡ true → IsCutOn answers t next × (next.loads ≡ t.loads) → WentOn answers t next
 went-short answers t next cut h = subst (λ (c : Bool). went c answers t next) (sym cut) h
 
+-- what the parts gave out is what the task had
+pub taken-from : (b : Body) (w : Work) (told : List Event) (fault : Option Fault) (values : List Value) (left : Work) (ps : List Part) (answers : List AnswerView) (after : Going) → values ≡ b.values → left ≡ w →
+    TakesAnswers ps answers (record { told = told; fault = fault; values = values; work = left; cut = false; by_cut = false }) after →
+    TakesAnswers ps answers (record { told = told; fault = fault; values = b.values; work = w; cut = false; by_cut = false }) after
+taken-from b w told fault values left ps answers after vs ws h =
+    subst (λ (x : Work). TakesAnswers ps answers (record { told = told; fault = fault; values = b.values; work = x; cut = false; by_cut = false }) after) ws
+    (subst (λ (xs : List Value). TakesAnswers ps answers (record { told = told; fault = fault; values = xs; work = left; cut = false; by_cut = false }) after) vs h)
+
 -- What is left of a task that took a cut
 
 module _ (b : Body) (w : Work) (told : List Event) (fault : Option Fault) (os : List Origin) (bs : List Behind) (answers : List AnswerView) (after : Going) where

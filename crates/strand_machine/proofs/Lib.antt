@@ -7,6 +7,7 @@ pub mod Faulting
 pub mod Halves
 pub mod Handed
 pub mod Knowing
+pub mod Making
 pub mod Moving
 pub mod Noting
 pub mod Starting

@@ -224,10 +224,10 @@ module _ (b : Body) (i next : RawInstance) (plan : PlanView) (m : Moved) (p : pl
       IsStep (view_of b (work.Runs (stage.Goes i))) r
   went-one s r is g k = record { is = go-went b i next s h.works (moves-so (moved-in.Went s) is) ∙ sym g; keeps = keeps-alike b (work.Runs (stage.Goes next)) (work.Runs (stage.Goes i)) r k }
 
-  pub went-is : {E : Type 0} (s : Shown) (r : Result MadeStep E) → m ≡ moved-in.Went s → IfOk r (λ x. step_of x ≡ stops_at (child_in (tokens_of s)) (shown_task b next s)) →
-      IfOk r (KeepsStep (view_of b (work.Runs (stage.Goes next)))) → IfOk r (IsStep (view_of b (work.Runs (stage.Goes i))))
-  went-is s (Ok x) is g k = went-one s x is g k
-  went-is s (Err x) is g k = tt
+  pub went-is : {X E : Type 0} (f : X → MadeStep) (s : Shown) (r : Result X E) → m ≡ moved-in.Went s → IfOk r (λ x. step_of (f x) ≡ stops_at (child_in (tokens_of s)) (shown_task b next s)) →
+      IfOk r (λ x. KeepsStep (view_of b (work.Runs (stage.Goes next))) (f x)) → IfOk r (λ x. IsStep (view_of b (work.Runs (stage.Goes i))) (f x))
+  went-is f s (Ok x) is g k = went-one s (f x) is g k
+  went-is f s (Err x) is g k = tt
 
   -- one that shows nothing, or an event alone: the instance goes on
 
@@ -299,6 +299,6 @@ module _ (first : TaskView) (b : Body) (i : RawInstance) (h : IsOnRun first b i)
   run-is : (r : MadeStep) → IsStep (view_of b (work.Runs (stage.Goes i))) r → IsRun first r
   run-is r k = record { before = view_of b (work.Runs (stage.Goes i)); leads = h.leads; step = k }
 
-  pub run-is-ok : {E : Type 0} (r : Result MadeStep E) → IfOk r (IsStep (view_of b (work.Runs (stage.Goes i)))) → IfOk r (IsRun first)
-  run-is-ok (Ok x) k = run-is x k
-  run-is-ok (Err x) k = tt
+  pub run-is-ok : {X E : Type 0} (f : X → MadeStep) (r : Result X E) → IfOk r (λ x. IsStep (view_of b (work.Runs (stage.Goes i))) (f x)) → IfOk r (λ x. IsRun first (f x))
+  run-is-ok f (Ok x) k = run-is (f x) k
+  run-is-ok f (Err x) k = tt

@@ -13,12 +13,14 @@ use Rattle.serial_meaning.specs.contracts.answer.Answer as answer
 use Rattle.serial_meaning.specs.contracts.answer_key.AnswerKey as key
 use Rattle.serial_meaning.specs.contracts.answer_key.AnswerTagged.TheImpl.{ghosts}
 use Rattle.serial_meaning.specs.contracts.value.Value as value
+use Rattle.std.proofs.Crossing.{Box-send}
 use Rattle.strand_machine.proofs.loops.Loops.TheSendSync as loops_shared
 use Rattle.strand_machine.proofs.pieces.Pieces.TheSendSync as pieces_shared
 use Rattle.strand_machine.proofs.work.Work.TheSendSync as work_shared
 use Rattle.strand_machine.specs.contracts.body.Body as body
 use Rattle.strand_machine.specs.contracts.family.Family as family
 use Rattle.strand_machine.specs.contracts.family.Family.TheInside as family_inside
+use Rattle.strand_machine.specs.contracts.parts.Parts as parts
 use Rattle.strand_machine.specs.contracts.stop.Resumed as resumed
 use Rattle.strand_machine.specs.contracts.stop.Stop as stop
 use Rattle.strand_machine.specs.contracts.task.Task as task
@@ -39,8 +41,11 @@ family_sends = view_send family_inside.the_row _ _ _ _ family_inside_sends
 body_sends : IsSend body.the_row
 body_sends = declared_send body.the_type (family_sends, (pieces_shared.the_send, (items_shared.the_send value.the_row value_shared.the_send, (search sendable, (search sendable, tt)))))
 
+parts_sends : IsSend parts.the_row
+parts_sends = declared_send parts.the_type (body_sends, (work_shared.the_send, tt))
+
 task_inside_sends : IsSend task_inside.the_row
-task_inside_sends = declared_send task_inside.the_type (body_sends, (work_shared.the_send, tt))
+task_inside_sends = declared_send task_inside.the_type (Box-send parts.the_row parts_sends, tt)
 
 pub task_sends : IsSend task.the_row
 task_sends = view_send task_inside.the_row _ _ _ _ task_inside_sends

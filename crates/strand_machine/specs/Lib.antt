@@ -3,6 +3,7 @@ pub mod Family
 pub mod Faults
 pub mod Going
 pub mod Loops
+pub mod Made
 pub mod Noted
 pub mod Parts
 pub mod Shown

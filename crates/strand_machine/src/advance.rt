@@ -2,12 +2,12 @@ ghost use Rattle.std.specs.Prelude.{◌≡◌, ◌<◌, [], IfOk, IsTrue, ◌↔
 
 use crate::body::Body;
 use crate::memory::Memory;
-use crate::step::step;
-use crate::stop::{Step, Stop};
+use crate::parts::Parts;
+use crate::step::{run_on, stopped};
+use crate::stop::Stop;
 use crate::task::Task;
 use crate::work::Work;
 use std::alloc::Global;
-use strand_meaning::laws;
 
 impl Task {
     ghost use Rattle.strand_machine.specs.Stops.{Advances};
@@ -17,7 +17,7 @@ impl Task {
     fn is_cut_short(&self) -> bool
         ensures { result ≡ is_cut_short self.now.cut }
     {
-        matches!(self.work, Work::Cut(_))
+        matches!(self.parts.work, Work::Cut(_))
     }
 
     /// The end of a task that took an answer that is a cut.
@@ -25,7 +25,8 @@ impl Task {
         requires { is_cut_short self.cut ≡ true }
         ensures { Advances self result }
     {
-        let Task { body, work } = self;
+        let Task { parts } = self;
+        let Parts { body, work } = Box::into_inner(parts);
         let Work::Cut(ended) = work else {
             unreachable!()
         };
@@ -40,18 +41,11 @@ impl Task {
     pub fn advance(self, alloc: Global) -> Result<Stop, Memory>
         ensures { IfOk result (Advances self) }
     {
-        laws::moves_fall();
-        laws::stops_are_sound();
         if self.is_cut_short() {
             return Ok(self.end_short());
         }
-        let _work = &self.work;
-        let mut task = self;
-        loop {
-            match step(task, alloc)? {
-                Step::Passes(next) => task = next,
-                Step::Stops(stop) => return Ok(stop),
-            }
-        }
+        let Task { mut parts } = self;
+        let passed = run_on(&mut parts, alloc)?;
+        Ok(stopped(parts, passed))
     }
 }

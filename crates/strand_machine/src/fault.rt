@@ -7,6 +7,7 @@ ghost use Rattle.strand_machine.specs.Stops.{answer_tags, any_cut};
 
 use crate::body::Body;
 use crate::memory::Memory;
+use crate::parts::Parts;
 use crate::resume::go_on;
 use crate::task::Task;
 use meet_block::Give;
@@ -40,8 +41,9 @@ impl Task {
         let _outcome = &last.outcome;
         let mut answers = answers;
         answers.0.push(last)?;
-        let Task { body, work } = self;
-        let Task { body, .. } = go_on(body, alloc, work, answers)?;
+        let Task { mut parts } = self;
+        go_on(&mut parts, alloc, answers)?;
+        let Parts { body, .. } = Box::into_inner(parts);
         let Body { family, pieces, .. } = body;
         let (told, fault) = pieces.told();
         let Some(fault) = fault else { unreachable!() };

@@ -3,23 +3,26 @@ ghost use Rattle.std.specs.Prelude.{◌≡◌, ◌++◌, ◌∷◌, [], None, If
 ghost use Rattle.serial_meaning.specs.Eval.{path_of};
 ghost use Rattle.strand_meaning.specs.Notes.{had, task_ranks, step_notes};
 ghost use Rattle.strand_meaning.specs.Strands.{pedigree_of, events_at};
+ghost use Rattle.strand_machine.specs.Made.{IsSoundMade, made};
 ghost use Rattle.strand_machine.specs.Noted.{ranks_in, stop_had, with_moved, with_step};
 ghost use Rattle.strand_machine.specs.Stops.{IsStep};
 ghost use Rattle.strand_machine.specs.Tasks.{IsSound, view_of, task_of};
 ghost use Rattle.strand_machine.specs.declared.work.Stage.TheVariants as stage;
 ghost use Rattle.strand_machine.specs.declared.work.Work.TheVariants as work;
 
-use crate::body::Body;
+use crate::leave::pass;
 use crate::memory::Memory;
 use crate::origin::path;
+use crate::parts::Parts;
 use crate::run::show;
-use crate::step::{pass, run, step};
-use crate::stop::{Step, Stop};
+use crate::step::{pass_with, run, stepped};
+use crate::stop::{Passed, Step, Stop};
 use crate::task::Task;
 use crate::work::{Stage, Work};
 use ped_path::Pedigree;
 use serial_meaning::{Event, Fault, Out};
 use std::alloc::Global;
+use std::mem;
 use strand_meaning::laws;
 use strand_moves::{Instance, Moved, Shown};
 
@@ -79,7 +82,7 @@ fn share_event(event: &Event) -> Result<Event, Memory>
 fn rank(task: &Task) -> Option<u64>
     ensures { ranks_in result ≡ task_ranks task.now.task }
 {
-    match &task.work {
+    match &task.parts.work {
         Work::Runs(Stage::Goes(instance)) => Some(instance.rank()),
         Work::Runs(Stage::AtSync(instance)) => Some(instance.rank().saturating_sub(1)),
         Work::Runs(Stage::AtLoop(instance)) => Some(instance.rank().saturating_sub(1)),
@@ -150,46 +153,83 @@ impl Notes {
 
 /// One move of the instance, which is noted.
 fn go_noted(
-    body: Body,
+    parts: &mut Parts,
     alloc: Global,
     at: &Pedigree,
     mut instance: Instance,
     notes: &mut Notes,
-) -> Result<Step, Memory>
-    requires { IsSound body (work.Runs (stage.Goes instance)) }
-    ensures step { IfOk result (IsStep (view_of body (work.Runs (stage.Goes instance)))) }
-    ensures notes { OnOk result (notes.new ≡ with_step at.now (step_notes (task_of body (work.Runs (stage.Goes instance)))) notes.old) }
+) -> Result<Passed, Memory>
+    requires { IsSound parts.old.body (work.Runs (stage.Goes instance)) }
+    ensures step { IfOk result (λ passed. IsStep (view_of parts.old.body (work.Runs (stage.Goes instance))) (made parts.new passed)) }
+    ensures sound { IfOk result (IsSoundMade parts.new) }
+    ensures notes { OnOk result (notes.new ≡ with_step at.now (step_notes (task_of parts.old.body (work.Runs (stage.Goes instance)))) notes.old) }
 {
     laws::steps_are_sound();
-    let moved = instance.step(alloc, body.family.plan())?;
+    let moved = instance.step(alloc, parts.body.family.plan())?;
     notes.see(alloc, at, &moved)?;
     match moved {
-        Moved::Went(shown) => show(body, alloc, instance, shown),
-        Moved::Gave(value) => Ok(pass(body, Work::Runs(Stage::Gave(value)))),
-        Moved::Faulted(fault) => Ok(pass(body, Work::Runs(Stage::Faulted(fault)))),
+        Moved::Went(shown) => show(parts, alloc, instance, shown),
+        Moved::Gave(value) => Ok(pass(parts, Work::Runs(Stage::Gave(value)))),
+        Moved::Faulted(fault) => Ok(pass(parts, Work::Runs(Stage::Faulted(fault)))),
     }
 }
 
 /// A move of the task's instance, or its stop, by where the instance stands, which is noted.
 fn run_noted(
-    body: Body,
+    parts: &mut Parts,
     alloc: Global,
     at: &Pedigree,
     stage: Stage,
     notes: &mut Notes,
-) -> Result<Step, Memory>
-    requires { IsSound body (work.Runs stage) }
-    ensures step { IfOk result (IsStep (view_of body (work.Runs stage))) }
-    ensures notes { OnOk result (notes.new ≡ with_step at.now (step_notes (task_of body (work.Runs stage))) notes.old) }
+) -> Result<Passed, Memory>
+    requires { IsSound parts.old.body (work.Runs stage) }
+    ensures step { IfOk result (λ passed. IsStep (view_of parts.old.body (work.Runs stage)) (made parts.new passed)) }
+    ensures sound { IfOk result (IsSoundMade parts.new) }
+    ensures notes { OnOk result (notes.new ≡ with_step at.now (step_notes (task_of parts.old.body (work.Runs stage))) notes.old) }
 {
     match stage {
-        Stage::Goes(instance) => go_noted(body, alloc, at, instance, notes),
+        Stage::Goes(instance) => go_noted(parts, alloc, at, instance, notes),
         Stage::Joined(fault) => {
             notes.joined = Some(fault.share()?);
-            run(body, alloc, Stage::Joined(fault))
+            run(parts, alloc, Stage::Joined(fault))
         }
-        stage => run(body, alloc, stage),
+        stage => run(parts, alloc, stage),
     }
+}
+
+/// A move of the task in place, or its stop, by what remains, which is noted.
+fn work_noted(
+    parts: &mut Parts,
+    alloc: Global,
+    at: &Pedigree,
+    work: Work,
+    notes: &mut Notes,
+) -> Result<Passed, Memory>
+    requires { IsSound parts.old.body work }
+    ensures step { IfOk result (λ passed. IsStep (view_of parts.old.body work) (made parts.new passed)) }
+    ensures sound { IfOk result (IsSoundMade parts.new) }
+    ensures notes { OnOk result (notes.new ≡ with_step at.now (step_notes (task_of parts.old.body work)) notes.old) }
+{
+    match work {
+        Work::Runs(stage) => run_noted(parts, alloc, at, stage, notes),
+        work => pass_with(parts, alloc, work),
+    }
+}
+
+/// A move of the task in place, or its stop, which is noted.
+fn pass_noted(
+    parts: &mut Parts,
+    alloc: Global,
+    at: &Pedigree,
+    notes: &mut Notes,
+) -> Result<Passed, Memory>
+    requires { IsSound parts.old.body parts.old.work }
+    ensures step { IfOk result (λ passed. IsStep (view_of parts.old.body parts.old.work) (made parts.new passed)) }
+    ensures sound { IfOk result (IsSoundMade parts.new) }
+    ensures notes { OnOk result (notes.new ≡ with_step at.now (step_notes (task_of parts.old.body parts.old.work)) notes.old) }
+{
+    let work = mem::replace(&mut parts.work, Work::nothing());
+    work_noted(parts, alloc, at, work, notes)
 }
 
 /// A move of the task, or its stop, which is noted.
@@ -198,11 +238,9 @@ fn step_noted(task: Task, alloc: Global, at: &Pedigree, notes: &mut Notes) -> Re
     ensures step { IfOk result (IsStep task) }
     ensures notes { OnOk result (notes.new ≡ with_step at.now (step_notes task.task) notes.old) }
 {
-    let Task { body, work } = task;
-    match work {
-        Work::Runs(stage) => run_noted(body, alloc, at, stage, notes),
-        work => step(Task { body, work }, alloc),
-    }
+    let Task { mut parts } = task;
+    let passed = pass_noted(&mut parts, alloc, at, notes)?;
+    Ok(stepped(parts, passed))
 }
 
 impl Task {
@@ -219,7 +257,7 @@ impl Task {
         laws::moves_fall();
         laws::stops_keep_origins();
         laws::stops_are_sound();
-        let _work = &self.work;
+        let _work = &self.parts.work;
         let mut notes = Notes::new();
         let mut reached = is_at(&self, at);
         let mut task = self;

@@ -6,14 +6,15 @@ ghost use Rattle.strand_machine.specs.Family.{tags, origins, AwaitsCount};
 ghost use Rattle.strand_machine.specs.Going.{BecomesStage, BecomesWork, EndsShort, IsAnswered, IsShort, TakesAnswers, end_of};
 ghost use Rattle.strand_machine.specs.Parts.{awaited, parts_of};
 ghost use Rattle.strand_meaning.specs.Cuts.{AreAnswersOf};
-ghost use Rattle.strand_machine.specs.Stops.{WentOn, answer_tags};
-ghost use Rattle.strand_machine.specs.Tasks.{view_of};
+ghost use Rattle.strand_machine.specs.Made.{resumed_as};
+ghost use Rattle.strand_machine.specs.Stops.{IsResumed, WentOn, answer_tags};
+ghost use Rattle.strand_machine.specs.Tasks.{Holds, IsSound, view_of};
 ghost use Rattle.strand_machine.specs.declared.work.Stage.TheVariants as stage;
 
-use crate::body::Body;
 use crate::family::Family;
 use crate::going::Going;
 use crate::memory::Memory;
+use crate::parts::Parts;
 use crate::pieces::{Behind, Pieces};
 use crate::stop::Resumed;
 use crate::task::Task;
@@ -22,6 +23,7 @@ use meet_block::Look;
 use script_grammar::Items;
 use serial_meaning::{Answer, Fault, Outcome};
 use std::alloc::Global;
+use std::mem;
 use strand_meaning::laws;
 use strand_moves::Instance;
 
@@ -113,9 +115,10 @@ fn end_of(fault: Option<Fault>, by_cut: bool) -> Option<Outcome>
 }
 
 /// What is left of a task that took a cut: it ends by the first fault or cut.
-fn cut_short(family: Family, alloc: Global, going: Going, advanced: bool) -> Task
-    requires { EndsShort family going }
-    ensures { IsShort family going advanced result }
+fn cut_short(parts: &mut Parts, alloc: Global, going: Going)
+    requires { EndsShort parts.old.body.family going }
+    ensures short { IsShort parts.old.body.family going parts.old.body.advanced (view_of parts.new.body parts.new.work) }
+    ensures holds { Holds parts.new.body parts.new.work }
 {
     let Going {
         told,
@@ -126,47 +129,31 @@ fn cut_short(family: Family, alloc: Global, going: Going, advanced: bool) -> Tas
     let Some(outcome) = end_of(fault, by_cut) else {
         unreachable!()
     };
-    let body = Body {
-        family,
-        pieces: Pieces::of(alloc, told),
-        values: Items(Vec::new(alloc)),
-        waiting: false,
-        advanced,
-    };
-    Task {
-        body,
-        work: Work::Cut(outcome),
-    }
+    parts.body.pieces = Pieces::of(alloc, told);
+    parts.body.waiting = false;
+    parts.work = Work::Cut(outcome);
 }
 
 /// The task with its children's answers.
-pub(crate) fn go_on(
-    body: Body,
-    alloc: Global,
-    work: Work,
-    answers: Items<Answer>,
-) -> Result<Task, Memory>
-    requires sound { IsAnswered body work }
-    requires tags { answer_tags answers ≡ tags body.family.plan (awaited body.pieces.handed) }
-    ensures went { IfOk result (WentOn answers (view_of body work)) }
-    ensures answers { IfOk result (λ _. AreAnswersOf body.family.plan body.pieces.handed answers) }
+pub(crate) fn go_on(parts: &mut Parts, alloc: Global, answers: Items<Answer>) -> Result<(), Memory>
+    requires sound { IsAnswered parts.old.body parts.old.work }
+    requires tags { answer_tags answers ≡ tags parts.old.body.family.plan (awaited parts.old.body.pieces.handed) }
+    ensures went { OnOk result (WentOn answers (view_of parts.old.body parts.old.work) (view_of parts.new.body parts.new.work)) }
+    ensures answers { OnOk result (AreAnswersOf parts.old.body.family.plan parts.old.body.pieces.handed answers) }
+    ensures holds { OnOk result (Holds parts.new.body parts.new.work) }
 {
     laws::answers_keep_tasks();
     laws::answers_are_evaluations();
     laws::answers_end();
-    let Body {
-        family,
-        pieces,
-        values,
-        advanced,
-        ..
-    } = body;
+    let taken = mem::replace(&mut parts.body.pieces, Pieces::new(alloc));
+    let values = mem::replace(&mut parts.body.values, Items(Vec::new(alloc)));
+    let work = mem::replace(&mut parts.work, Work::nothing());
     let Pieces {
         told,
         fault,
         behind,
         ..
-    } = pieces;
+    } = taken;
     let mut going = Going {
         told,
         fault,
@@ -177,7 +164,8 @@ pub(crate) fn go_on(
     };
     take_all(&mut going, alloc, behind, answers)?;
     if going.cut {
-        return Ok(cut_short(family, alloc, going, advanced));
+        cut_short(parts, alloc, going);
+        return Ok(());
     }
     let Going {
         told,
@@ -192,37 +180,43 @@ pub(crate) fn go_on(
         awaited: Items(Vec::new(alloc)),
         behind: Vec::new(alloc),
     };
-    let body = Body {
-        family,
-        pieces,
-        values,
-        waiting: false,
-        advanced,
-    };
-    Ok(Task {
-        body,
-        work: go_on_work(work)?,
-    })
+    let work = go_on_work(work)?;
+    parts.body.pieces = pieces;
+    parts.body.values = values;
+    parts.body.waiting = false;
+    parts.work = work;
+    Ok(())
+}
+
+/// Looks once. Where all children have answered, the task goes on with their answers, and it is said so.
+fn look_on(parts: &mut Parts, alloc: Global) -> Result<bool, Memory>
+    requires { IsSound parts.old.body parts.old.work }
+    ensures resumed { IfOk result (λ ready. IsResumed (view_of parts.old.body parts.old.work) (resumed_as ready (view_of parts.new.body parts.new.work))) }
+    ensures holds { OnOk result (Holds parts.new.body parts.new.work) }
+{
+    match parts.body.family.look() {
+        Look::NotYet(_) => Ok(false),
+        Look::Ready => {
+            let awaited = parts.body.pieces.awaited().as_slice().len() as u64;
+            let answers = take_answers(&mut parts.body.family, alloc, awaited)?;
+            go_on(parts, alloc, answers)?;
+            Ok(true)
+        }
+    }
 }
 
 impl Task {
-    ghost use Rattle.strand_machine.specs.Stops.{IsResumed};
-
     /// Goes on from a wait, where a look finds that all children have answered. Where one of the answers is a cut, the task ends by its next
     /// advance. On `Memory` the task is dropped.
     pub fn resume(self, alloc: Global) -> Result<Resumed, Memory>
         requires { self.task.waiting ≡ true }
         ensures { IfOk result (IsResumed self) }
     {
-        let Task { mut body, work } = self;
-        match body.family.look() {
-            Look::NotYet(_) => Ok(Resumed::NotYet(Task { body, work })),
-            Look::Ready => {
-                let awaited = body.pieces.awaited().as_slice().len() as u64;
-                let answers = take_answers(&mut body.family, alloc, awaited)?;
-                Ok(Resumed::On(go_on(body, alloc, work, answers)?))
-            }
+        let Task { mut parts } = self;
+        if look_on(&mut parts, alloc)? {
+            return Ok(Resumed::On(Task { parts }));
         }
+        Ok(Resumed::NotYet(Task { parts }))
     }
 
     /// Goes on from a wait with these answers, those of the children that it awaits, in order. Where one of them is a cut, the task ends by
@@ -232,7 +226,8 @@ impl Task {
         requires tags { answer_tags answers ≡ tags self.task.plan (awaited self.task.pieces.handed) }
         ensures { IfOk result (WentOn answers self) }
     {
-        let Task { body, work } = self;
-        go_on(body, alloc, work, answers)
+        let Task { mut parts } = self;
+        go_on(&mut parts, alloc, answers)?;
+        Ok(Task { parts })
     }
 }

@@ -2,17 +2,18 @@
 ghost use Rattle.std.specs.Prelude.{◌≡◌, IfOk};
 ghost use Rattle.strand_meaning.specs.Task.{stops_at, child_in};
 ghost use Rattle.strand_moves.specs.Moves.{tokens_of};
+ghost use Rattle.strand_machine.specs.Made.{IsSoundMade, made};
 ghost use Rattle.strand_machine.specs.Shown.{shown_task, IsSoundShown};
 ghost use Rattle.strand_machine.specs.Stops.{IsRun, KeepsStep, step_of};
 ghost use Rattle.strand_machine.specs.Tasks.{IsSound, view_of};
 ghost use Rattle.strand_machine.specs.declared.work.Stage.TheVariants as stage;
 ghost use Rattle.strand_machine.specs.declared.work.Work.TheVariants as work;
 
-use crate::body::Body;
+use crate::leave::{fault, give, pass, spawn, wait};
 use crate::memory::Memory;
+use crate::parts::Parts;
 use crate::place::Place;
-use crate::step::{fault, give, pass, spawn, wait};
-use crate::stop::Step;
+use crate::stop::Passed;
 use crate::work::{Stage, Work};
 use std::alloc::Global;
 use strand_meaning::laws;
@@ -20,24 +21,25 @@ use strand_moves::{Instance, Moved, Shown};
 
 /// What a move showed joins the pieces; a child is handed out.
 pub(crate) fn show(
-    mut body: Body,
+    parts: &mut Parts,
     alloc: Global,
     instance: Instance,
     shown: Shown,
-) -> Result<Step, Memory>
-    requires { IsSoundShown body instance shown }
-    ensures step { IfOk result (λ step. step_of step ≡ stops_at (child_in (tokens_of shown)) (shown_task body instance shown)) }
-    ensures keeps { IfOk result (KeepsStep (view_of body (work.Runs (stage.Goes instance)))) }
+) -> Result<Passed, Memory>
+    requires { IsSoundShown parts.old.body instance shown }
+    ensures step { IfOk result (λ passed. step_of (made parts.new passed) ≡ stops_at (child_in (tokens_of shown)) (shown_task parts.old.body instance shown)) }
+    ensures keeps { IfOk result (λ passed. KeepsStep (view_of parts.old.body (work.Runs (stage.Goes instance))) (made parts.new passed)) }
+    ensures sound { IfOk result (IsSoundMade parts.new) }
 {
     match shown {
-        Shown::Nothing => Ok(pass(body, Work::Runs(Stage::Goes(instance)))),
+        Shown::Nothing => Ok(pass(parts, Work::Runs(Stage::Goes(instance)))),
         Shown::Told(event) => {
-            body.pieces.tell(alloc, event)?;
-            Ok(pass(body, Work::Runs(Stage::Goes(instance))))
+            parts.body.pieces.tell(alloc, event)?;
+            Ok(pass(parts, Work::Runs(Stage::Goes(instance))))
         }
         Shown::Synced(event) => {
-            body.pieces.tell(alloc, event)?;
-            Ok(pass(body, Work::Runs(Stage::AtSync(instance))))
+            parts.body.pieces.tell(alloc, event)?;
+            Ok(pass(parts, Work::Runs(Stage::AtSync(instance))))
         }
         Shown::Spawned {
             event,
@@ -45,19 +47,25 @@ pub(crate) fn show(
             height,
             target,
         } => {
-            body.pieces.tell(alloc, event)?;
+            parts.body.pieces.tell(alloc, event)?;
             let place = Place::Spawned(height, target);
-            spawn(body, alloc, child, place, Work::Runs(Stage::Goes(instance)))
+            spawn(
+                parts,
+                alloc,
+                child,
+                place,
+                Work::Runs(Stage::Goes(instance)),
+            )
         }
         Shown::Looped {
             event,
             child,
             target,
         } => {
-            body.pieces.tell(alloc, event)?;
+            parts.body.pieces.tell(alloc, event)?;
             let place = Place::Looped(target);
             spawn(
-                body,
+                parts,
                 alloc,
                 child,
                 place,
@@ -67,33 +75,38 @@ pub(crate) fn show(
     }
 }
 
-/// Moves of the instance in place, up to the first that shows more than an event, with the wait or the end that comes of it. A task that
-/// is taken apart for each of them would be copied each time.
-pub(crate) fn go(mut body: Body, alloc: Global, mut instance: Instance) -> Result<Step, Memory>
-    requires { IsSound body (work.Runs (stage.Goes instance)) }
-    ensures { IfOk result (IsRun (view_of body (work.Runs (stage.Goes instance)))) }
+/// Moves of the instance in a row, up to the first that shows more than an event, with the wait or the end that comes of it.
+pub(crate) fn go(parts: &mut Parts, alloc: Global, mut instance: Instance) -> Result<Passed, Memory>
+    requires { IsSound parts.old.body (work.Runs (stage.Goes instance)) }
+    ensures step { IfOk result (λ passed. IsRun (view_of parts.old.body (work.Runs (stage.Goes instance))) (made parts.new passed)) }
+    ensures sound { IfOk result (IsSoundMade parts.new) }
 {
     laws::steps_are_sound();
     laws::moves_fall();
     loop {
-        match instance.step(alloc, body.family.plan())? {
-            Moved::Went(Shown::Nothing) => {}
-            Moved::Went(Shown::Told(event)) => body.pieces.tell(alloc, event)?,
-            Moved::Went(Shown::Synced(event)) => {
-                body.pieces.tell(alloc, event)?;
-                body.advanced = true;
-                return Ok(wait(body, Work::Runs(Stage::AtSync(instance))));
+        match instance.step(alloc, parts.body.family.plan())? {
+            Moved::Went(Shown::Nothing) => {
+                parts.body.advanced = true;
+                continue;
             }
-            Moved::Went(shown) => return show(body, alloc, instance, shown),
+            Moved::Went(Shown::Told(event)) => {
+                parts.body.pieces.tell(alloc, event)?;
+                parts.body.advanced = true;
+            }
+            Moved::Went(Shown::Synced(event)) => {
+                parts.body.pieces.tell(alloc, event)?;
+                parts.body.advanced = true;
+                return Ok(wait(parts, Work::Runs(Stage::AtSync(instance))));
+            }
+            Moved::Went(shown) => return show(parts, alloc, instance, shown),
             Moved::Gave(value) => {
-                body.advanced = true;
-                return Ok(give(body, value));
+                parts.body.advanced = true;
+                return Ok(give(parts, value));
             }
             Moved::Faulted(own) => {
-                body.advanced = true;
-                return Ok(fault(body, own));
+                parts.body.advanced = true;
+                return Ok(fault(parts, own));
             }
         }
-        body.advanced = true;
     }
 }

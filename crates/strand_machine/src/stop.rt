@@ -1,6 +1,6 @@
 use crate::task::Task;
 use meet_block::Give;
-use serial_meaning::Answer;
+use serial_meaning::{Answer, Outcome};
 
 /// Where a task stopped.
 #[derive(Drop)]
@@ -18,6 +18,19 @@ pub enum Stop {
 pub(crate) enum Step {
     Passes(Task),
     Stops(Stop),
+}
+
+/// What a move in place, or a stop, left of a task in its parts.
+#[derive(Drop)]
+pub(crate) enum Passed {
+    /// It goes on.
+    Goes,
+    /// It waits for its children.
+    Waits,
+    /// It handed out a child.
+    Spawned(Task),
+    /// It ends so, but for a fault among its pieces.
+    Ends(Outcome),
 }
 
 /// What became of a wait.

@@ -10,8 +10,9 @@ use crate::family::Family;
 use crate::loops::Loops;
 use crate::memory::Memory;
 use crate::origin::{share_origin, trail_of};
+use crate::parts::Parts;
 use crate::pieces::Pieces;
-use crate::work::{Work, begin};
+use crate::work::begin;
 use meet_block::Give;
 use script_grammar::Items;
 use serial_meaning::{Answer, Fault, Origin, Out, Outcome, Plan};
@@ -25,8 +26,7 @@ use strand_moves::Child;
 /// to finish it gives the serial meaning of its origin, whoever runs its children.
 #[derive(Drop)]
 pub struct Task {
-    pub(crate) body: Body,
-    pub(crate) work: Work,
+    pub(crate) parts: Box<Parts>,
 }
 
 impl Model for Task {
@@ -39,9 +39,9 @@ impl Model for Task {
 
     ghost coded = { Prim.hlevel (codes, statement_type.the_row.coded, plan_type.the_row.coded) };
 
-    ghost view = { λ t. view_of t.body t.work };
+    ghost view = { λ t. view_of t.parts.value.body t.parts.value.work };
 
-    ghost invariant = { λ t. Holds t.body t.work };
+    ghost invariant = { λ t. Holds t.parts.value.body t.parts.value.work };
 }
 
 impl Task {
@@ -92,21 +92,22 @@ impl Task {
             waiting: false,
             advanced: false,
         };
-        Ok(Task { body, work })
+        let parts = Box::new(alloc, Parts { body, work })?;
+        Ok(Task { parts })
     }
 
     /// What the task was begun as.
     pub fn origin(&self) -> &Origin
         ensures { result.now ≡ self.now.task.origin }
     {
-        self.body.family.origin()
+        self.parts.body.family.origin()
     }
 
     /// The task's plan.
     pub fn plan(&self) -> &Arc<Plan>
         ensures { arc_value result.now ≡ self.now.task.plan }
     {
-        self.body.family.shared_plan()
+        self.parts.body.family.shared_plan()
     }
 
     /// A copy of what the task was begun as. Its path shares its memory.
@@ -120,7 +121,7 @@ impl Task {
     pub fn is_fresh(&self) -> bool
         ensures { result ≡ not self.now.task.advanced }
     {
-        !self.body.advanced
+        !self.parts.body.advanced
     }
 
     /// Whether the fault stands before the task's path, and before the path of each loop that the task is a part of or below. It is false
@@ -128,7 +129,7 @@ impl Task {
     pub fn may_cut(&self, by: &Fault) -> bool
         ensures { IsTrue result ↔ (IsTrue self.now.knows × StandsBefore self.now.task.plan self.now.task.origin by.now) }
     {
-        self.body.family.stands_after(by)
+        self.parts.body.family.stands_after(by)
     }
 
     /// Answers without having run: a fault of the plan stands before all that the task could do.
@@ -138,7 +139,8 @@ impl Task {
         ensures answer { result.0 ≡ record { plan = self.task.plan; origin = self.task.origin; out = []; outcome = Outcome.Cut by } }
         ensures give { result.1 ≡ tag self.task.plan self.task.origin }
     {
-        let Task { body, .. } = self;
+        let Task { parts } = self;
+        let Parts { body, .. } = Box::into_inner(parts);
         let Body { family, .. } = body;
         family.answer(Out::new(), Outcome::Cut { by })
     }
@@ -147,6 +149,6 @@ impl Task {
     pub fn awaited(&self) -> &Items<Origin>
         ensures { result.now ≡ awaited self.now.task.pieces.handed }
     {
-        self.body.pieces.awaited()
+        self.parts.body.pieces.awaited()
     }
 }

@@ -57,6 +57,13 @@ pub(crate) enum Work {
     Cut(Outcome),
 }
 
+impl Work {
+    /// What stands in a task's parts while what remains is taken out of them.
+    pub fn nothing() -> Work {
+        Work::Over(Value::Int(0), true)
+    }
+}
+
 /// What remains of an origin of which nothing is done.
 pub(crate) fn begin(
     alloc: Global,

@@ -5,57 +5,72 @@ use Rattle.strand_machine.specs.Stops.{answer_tags}
 use Rattle.strand_machine.specs.Tasks.{view_of}
 use Rattle.strand_machine.proofs.Advancing.{sound_holds}
 use Rattle.strand_machine.proofs.Answering.{length-answer-tags, length-tags}
-use Rattle.strand_machine.proofs.Cutting.{answers-of, ends-short, own-children, short-on, takes-whole, went-short, went-whole}
+use Rattle.strand_machine.proofs.Cutting.{answers-of, ends-short, own-children, short-on, taken-from, takes-whole, went-short, went-whole}
 use Rattle.strand_machine.proofs.Handed.{awaited_parts}
 use Rattle.strand_machine.proofs.Taking.{goes-on-sound, goes-on-view}
 use Rattle.strand_machine.proofs.resume.go_on.Goals as goal
 
 pub take_all-requires : goal.take_all-requires
 take_all-requires c =
-    let p = c.pieces.inside in
-    sym (length-answer-tags c.args.answers) ∙ ap length c.requires.tags ∙ length-tags c.args.body.family.plan (awaited c.args.body.pieces.handed)
-    ∙ ap (λ (x : Pieces). length (awaited x.handed)) (sym c.pieces.view_is) ∙ ap length (awaited_parts p.awaited p.behind.items c.pieces.invariant) ∙ c.pieces.invariant
+    let b = c.args.parts.now.body in
+    let p = c.taken.inside in
+    let view = c.taken.view_is ∙ c.replace-taken.ensures.value in
+    sym (length-answer-tags c.args.answers) ∙ ap length c.requires.tags ∙ length-tags b.family.plan (awaited b.pieces.handed)
+    ∙ ap (λ (x : Pieces). length (awaited x.handed)) (sym view) ∙ ap length (awaited_parts p.awaited p.behind.items c.taken.invariant) ∙ c.taken.invariant
 
 pub cut_short-requires : goal.cut_short-requires
 cut_short-requires c =
-    let p = c.pieces.inside in
-    let h = c.in_ok-take_all.ensures in
-    ends-short c.args.body c.args.work p.told p.fault p.awaited p.behind.items c.args.answers c.take_all.new.going c.pieces.view_is
-    (own-children c.args.body p.told p.fault p.awaited p.behind.items (answer_tags c.args.answers) c.pieces.view_is c.pieces.invariant c.requires.tags) h c.answers_end.ensures c.requires.sound.task
-    (answers-of c.args.body.family.plan c.args.body.pieces.handed c.args.answers h.said c.requires.tags) (sym h.cut ∙ c.if-going.true)
+    let b = c.args.parts.now.body in
+    let w = c.args.parts.now.work in
+    let p = c.taken.inside in
+    let view = c.taken.view_is ∙ c.replace-taken.ensures.value in
+    let h = taken-from b w p.told p.fault _ _ _ c.args.answers c.take_all.new.going c.replace-values.ensures.value c.replace-work.ensures.value c.in_ok-take_all.ensures in
+    ends-short b w p.told p.fault p.awaited p.behind.items c.args.answers c.take_all.new.going view
+    (own-children b p.told p.fault p.awaited p.behind.items (answer_tags c.args.answers) view c.taken.invariant c.requires.tags) h c.answers_end.ensures c.requires.sound.task
+    (answers-of b.family.plan b.pieces.handed c.args.answers h.said c.requires.tags) (sym h.cut ∙ c.if-going.true)
 
 pub returns-then-going-clause-went : goal.returns-then-going-clause-went
 returns-then-going-clause-went c =
-    let p = c.pieces.inside in
-    let h = c.in_ok-take_all.ensures in
-    went-short c.args.answers (view_of c.args.body c.args.work) c.cut_short.result (sym h.cut ∙ c.if-going.true)
-    (short-on c.args.body c.args.work p.told p.fault p.awaited p.behind.items c.args.answers c.take_all.new.going c.pieces.view_is
-    (own-children c.args.body p.told p.fault p.awaited p.behind.items (answer_tags c.args.answers) c.pieces.view_is c.pieces.invariant c.requires.tags) h c.cut_short.result c.cut_short.ensures)
+    let b = c.args.parts.now.body in
+    let w = c.args.parts.now.work in
+    let p = c.taken.inside in
+    let next = view_of c.cut_short.new.parts.body c.cut_short.new.parts.work in
+    let view = c.taken.view_is ∙ c.replace-taken.ensures.value in
+    let h = taken-from b w p.told p.fault _ _ _ c.args.answers c.take_all.new.going c.replace-values.ensures.value c.replace-work.ensures.value c.in_ok-take_all.ensures in
+    went-short c.args.answers (view_of b w) next (sym h.cut ∙ c.if-going.true)
+    (short-on b w p.told p.fault p.awaited p.behind.items c.args.answers c.take_all.new.going view
+    (own-children b p.told p.fault p.awaited p.behind.items (answer_tags c.args.answers) view c.taken.invariant c.requires.tags) h next c.cut_short.ensures.short)
 
 pub returns-then-going-clause-answers : goal.returns-then-going-clause-answers
-returns-then-going-clause-answers c = answers-of c.args.body.family.plan c.args.body.pieces.handed c.args.answers c.in_ok-take_all.ensures.said c.requires.tags
+returns-then-going-clause-answers c = let b = c.args.parts.now.body in answers-of b.family.plan b.pieces.handed c.args.answers c.in_ok-take_all.ensures.said c.requires.tags
 
 pub invariant_of-pieces : goal.invariant_of-pieces
-invariant_of-pieces c = ap length c.new.ensures.items ∙ sym (ap length c.new-2.ensures.items)
-
-pub invariant_of-result : goal.invariant_of-result
-invariant_of-result c =
-    let p = c.pieces.inside in
-    let h = c.in_ok-take_all.ensures in
-    let takes = takes-whole c.args.body c.args.work p.told p.fault p.awaited p.behind.items c.args.answers c.take_all.new.going c.answers_are_evaluations.ensures h (sym h.cut ∙ c.if-going.false) in
-    sound_holds _ c.in_ok-go_on_work.field-0
-    (goes-on-sound c.args.body c.args.work p.told p.fault p.awaited p.behind.items (answer_tags c.args.answers) c.take_all.new.going c.new.result.items c.new-2.result.items c.in_ok-go_on_work.field-0
-    c.pieces.view_is c.pieces.invariant c.requires.tags c.new.ensures.items takes c.in_ok-go_on_work.ensures c.answers_keep_tasks.ensures c.requires.sound)
+invariant_of-pieces c = ap length c.new-3.ensures.items ∙ sym (ap length c.new-4.ensures.items)
 
 pub returns-clause-went : goal.returns-clause-went
 returns-clause-went c =
-    let p = c.pieces.inside in
-    let h = c.in_ok-take_all.ensures in
+    let b = c.args.parts.now.body in
+    let w = c.args.parts.now.work in
+    let p = c.taken.inside in
+    let view = c.taken.view_is ∙ c.replace-taken.ensures.value in
+    let h = taken-from b w p.told p.fault _ _ _ c.args.answers c.take_all.new.going c.replace-values.ensures.value c.replace-work.ensures.value c.in_ok-take_all.ensures in
     let whole = sym h.cut ∙ c.if-going.false in
-    let takes = takes-whole c.args.body c.args.work p.told p.fault p.awaited p.behind.items c.args.answers c.take_all.new.going c.answers_are_evaluations.ensures h whole in
-    went-whole c.args.answers (view_of c.args.body c.args.work) _ whole
-    (goes-on-view c.args.body c.args.work p.told p.fault p.awaited p.behind.items (answer_tags c.args.answers) c.take_all.new.going c.new.result.items c.new-2.result.items c.in_ok-go_on_work.field-0
-    c.pieces.view_is c.pieces.invariant c.requires.tags c.new.ensures.items takes c.in_ok-go_on_work.ensures c.requires.sound)
+    let takes = takes-whole b w p.told p.fault p.awaited p.behind.items c.args.answers c.take_all.new.going c.answers_are_evaluations.ensures h whole in
+    went-whole c.args.answers (view_of b w) _ whole
+    (goes-on-view b w p.told p.fault p.awaited p.behind.items (answer_tags c.args.answers) c.take_all.new.going c.new-3.result.items c.new-4.result.items c.in_ok-work.work
+    view c.taken.invariant c.requires.tags c.new-3.ensures.items takes c.in_ok-work.ensures c.requires.sound)
 
 pub returns-clause-answers : goal.returns-clause-answers
-returns-clause-answers c = answers-of c.args.body.family.plan c.args.body.pieces.handed c.args.answers c.in_ok-take_all.ensures.said c.requires.tags
+returns-clause-answers c = let b = c.args.parts.now.body in answers-of b.family.plan b.pieces.handed c.args.answers c.in_ok-take_all.ensures.said c.requires.tags
+
+pub returns-clause-holds : goal.returns-clause-holds
+returns-clause-holds c =
+    let b = c.args.parts.now.body in
+    let w = c.args.parts.now.work in
+    let p = c.taken.inside in
+    let view = c.taken.view_is ∙ c.replace-taken.ensures.value in
+    let h = taken-from b w p.told p.fault _ _ _ c.args.answers c.take_all.new.going c.replace-values.ensures.value c.replace-work.ensures.value c.in_ok-take_all.ensures in
+    let takes = takes-whole b w p.told p.fault p.awaited p.behind.items c.args.answers c.take_all.new.going c.answers_are_evaluations.ensures h (sym h.cut ∙ c.if-going.false) in
+    sound_holds _ c.in_ok-work.work
+    (goes-on-sound b w p.told p.fault p.awaited p.behind.items (answer_tags c.args.answers) c.take_all.new.going c.new-3.result.items c.new-4.result.items c.in_ok-work.work
+    view c.taken.invariant c.requires.tags c.new-3.ensures.items takes c.in_ok-work.ensures c.answers_keep_tasks.ensures c.requires.sound)

@@ -6,7 +6,7 @@ use Rattle.strand_machine.proofs.Moving.{IsOnRun}
 use Rattle.strand_machine.proofs.run.go.Given as goal
 
 abbrev pub invariant-loop-instance : goal.invariant-loop-instance
-invariant-loop-instance l = IsOnRun (view_of l.fn.body (work.Runs (stage.Goes l.fn.instance))) l.body l.instance
+invariant-loop-instance l = IsOnRun (view_of l.initial.parts.body (work.Runs (stage.Goes l.fn.instance))) l.parts.body l.instance
 
 abbrev pub decreases-loop-instance : goal.decreases-loop-instance
-decreases-loop-instance l = moves_left (task_of l.body (work.Runs (stage.Goes l.instance)))
+decreases-loop-instance l = moves_left (task_of l.parts.body (work.Runs (stage.Goes l.instance)))

@@ -1,5 +1,4 @@
 use Rattle.std.proofs.Common.{◌≡◌, refl}
-use Rattle.std.proofs.lemmas.Result.{IfOk-weaker}
 use Rattle.strand_meaning.specs.Task.{stops_at, child_in}
 use Rattle.strand_moves.specs.Moves.{tokens_of}
 use Rattle.strand_machine.specs.Shown.{shown_task}
@@ -11,126 +10,127 @@ use Rattle.strand_machine.specs.declared.stop.Step.TheVariants as step
 use Rattle.strand_machine.specs.declared.stop.Stop.TheVariants as stop
 use Rattle.strand_machine.specs.declared.work.Stage.TheVariants as stage
 use Rattle.strand_machine.specs.declared.work.Work.TheVariants as work
+use Rattle.strand_machine.proofs.Making.{made-ok}
 use Rattle.strand_machine.proofs.Moving.{nothing-sound, nothing-step, told-sound, told-step, synced-sound, synced-step, spawned-known, spawned-trail, spawned-below, spawned-sound, spawned-step, looped-known, looped-trail, looped-below, looped-sound, looped-step, passes-keep, spawns-keep, with_pieces}
 use Rattle.strand_machine.proofs.run.show.Goals as goal
 
 -- nothing
 
 pub pass-requires : goal.pass-requires
-pass-requires c = nothing-sound c.args.body c.args.instance c.args.shown c.in-Nothing.is c.requires
+pass-requires c = nothing-sound c.args.parts.now.body c.args.instance c.args.shown c.in-Nothing.is c.requires
 
 pub returns-in-Nothing-clause-step : goal.returns-in-Nothing-clause-step
-returns-in-Nothing-clause-step c = nothing-step c.args.body c.args.instance c.args.shown c.pass.result c.in-Nothing.is c.pass.ensures
+returns-in-Nothing-clause-step c = nothing-step c.args.parts.now.body c.args.instance c.args.shown _ c.in-Nothing.is c.pass.ensures.made
 
 pub returns-in-Nothing-clause-keeps : goal.returns-in-Nothing-clause-keeps
 returns-in-Nothing-clause-keeps c =
     let w = work.Runs (stage.Goes c.args.instance) in
-    passes-keep c.args.body c.args.body.pieces w w c.pass.result refl c.pass.ensures
+    passes-keep c.args.parts.now.body c.args.parts.now.body.pieces w w _ refl c.pass.ensures.made
 
 -- an event
 
 pub pass-requires-in-Told : goal.pass-requires-in-Told
-pass-requires-in-Told c = told-sound c.args.body c.args.instance c.args.shown c.in-Told.event c.tell.new.self c.in-Told.is c.in_ok-tell-in-Told.ensures c.requires
+pass-requires-in-Told c = told-sound c.args.parts.now.body c.args.instance c.args.shown c.in-Told.event c.tell.new.self c.in-Told.is c.in_ok-tell-in-Told.ensures c.requires
 
 pub returns-in_ok-tell-in-Told-clause-step : goal.returns-in_ok-tell-in-Told-clause-step
 returns-in_ok-tell-in-Told-clause-step c =
-    told-step c.args.body c.args.instance c.args.shown c.in-Told.event c.tell.new.self c.pass-in-Told.result c.in-Told.is c.in_ok-tell-in-Told.ensures c.pass-in-Told.ensures
+    told-step c.args.parts.now.body c.args.instance c.args.shown c.in-Told.event c.tell.new.self _ c.in-Told.is c.in_ok-tell-in-Told.ensures c.pass-in-Told.ensures.made
 
 pub returns-in_ok-tell-in-Told-clause-keeps : goal.returns-in_ok-tell-in-Told-clause-keeps
 returns-in_ok-tell-in-Told-clause-keeps c =
     let w = work.Runs (stage.Goes c.args.instance) in
-    passes-keep c.args.body c.tell.new.self w w c.pass-in-Told.result refl c.pass-in-Told.ensures
+    passes-keep c.args.parts.now.body c.tell.new.self w w _ refl c.pass-in-Told.ensures.made
 
 -- a sync
 
 pub pass-requires-in-Synced : goal.pass-requires-in-Synced
-pass-requires-in-Synced c = synced-sound c.args.body c.args.instance c.args.shown c.in-Synced.event c.tell-in-Synced.new.self c.in-Synced.is c.in_ok-tell-in-Synced.ensures c.requires
+pass-requires-in-Synced c = synced-sound c.args.parts.now.body c.args.instance c.args.shown c.in-Synced.event c.tell-in-Synced.new.self c.in-Synced.is c.in_ok-tell-in-Synced.ensures c.requires
 
 pub returns-in_ok-tell-in-Synced-clause-step : goal.returns-in_ok-tell-in-Synced-clause-step
 returns-in_ok-tell-in-Synced-clause-step c =
-    synced-step c.args.body c.args.instance c.args.shown c.in-Synced.event c.tell-in-Synced.new.self c.pass-in-Synced.result c.in-Synced.is c.in_ok-tell-in-Synced.ensures c.pass-in-Synced.ensures
+    synced-step c.args.parts.now.body c.args.instance c.args.shown c.in-Synced.event c.tell-in-Synced.new.self _ c.in-Synced.is c.in_ok-tell-in-Synced.ensures c.pass-in-Synced.ensures.made
 
 pub returns-in_ok-tell-in-Synced-clause-keeps : goal.returns-in_ok-tell-in-Synced-clause-keeps
 returns-in_ok-tell-in-Synced-clause-keeps c =
     let i = c.args.instance in
-    passes-keep c.args.body c.tell-in-Synced.new.self (work.Runs (stage.Goes i)) (work.Runs (stage.AtSync i)) c.pass-in-Synced.result refl c.pass-in-Synced.ensures
+    passes-keep c.args.parts.now.body c.tell-in-Synced.new.self (work.Runs (stage.Goes i)) (work.Runs (stage.AtSync i)) _ refl c.pass-in-Synced.ensures.made
 
 -- a child
 
 pub spawn-requires-clause-known : goal.spawn-requires-clause-known
 spawn-requires-clause-known c =
-    spawned-known c.args.body c.args.instance c.args.shown c.in-Spawned.event c.in-Spawned.child c.in-Spawned.height c.in-Spawned.target c.in-Spawned.is c.requires
+    spawned-known c.args.parts.now.body c.args.instance c.args.shown c.in-Spawned.event c.in-Spawned.child c.in-Spawned.height c.in-Spawned.target c.in-Spawned.is c.requires
 
 pub spawn-requires-clause-trail : goal.spawn-requires-clause-trail
 spawn-requires-clause-trail c =
-    spawned-trail c.args.body c.args.instance c.args.shown c.in-Spawned.event c.in-Spawned.child c.in-Spawned.height c.in-Spawned.target c.in-Spawned.is c.requires
+    spawned-trail c.args.parts.now.body c.args.instance c.args.shown c.in-Spawned.event c.in-Spawned.child c.in-Spawned.height c.in-Spawned.target c.in-Spawned.is c.requires
 
 pub spawn-requires-clause-below : goal.spawn-requires-clause-below
 spawn-requires-clause-below c =
-    spawned-below c.args.body c.args.instance c.args.shown c.in-Spawned.event c.in-Spawned.child c.in-Spawned.height c.in-Spawned.target c.in-Spawned.is c.requires
+    spawned-below c.args.parts.now.body c.args.instance c.args.shown c.in-Spawned.event c.in-Spawned.child c.in-Spawned.height c.in-Spawned.target c.in-Spawned.is c.requires
 
 pub spawn-requires-clause-sound : goal.spawn-requires-clause-sound
 spawn-requires-clause-sound c =
-    spawned-sound c.args.body c.args.instance c.args.shown c.in-Spawned.event c.in-Spawned.child c.in-Spawned.height c.in-Spawned.target c.tell-in-Spawned.new.self c.in-Spawned.is c.in_ok-tell-in-Spawned.ensures c.requires
+    spawned-sound c.args.parts.now.body c.args.instance c.args.shown c.in-Spawned.event c.in-Spawned.child c.in-Spawned.height c.in-Spawned.target c.tell-in-Spawned.new.self c.in-Spawned.is c.in_ok-tell-in-Spawned.ensures c.requires
 
 pub returns-in_ok-tell-in-Spawned-clause-step : goal.returns-in_ok-tell-in-Spawned-clause-step
 returns-in_ok-tell-in-Spawned-clause-step c =
-    let b = c.args.body in
+    let b = c.args.parts.now.body in
     let i = c.args.instance in
     let s = c.in-Spawned in
     let p = c.tell-in-Spawned.new.self in
-    IfOk-weaker c.spawn.result
+    made-ok c.spawn.new.parts c.spawn.result
     (λ (r : Step). r ≡ step.Stops (stop.Spawn (fresh_with b.family.knows b.family.plan s.child.origin) (view_of (with_child (with_pieces b p) s.child.origin (place.Spawned s.height s.target)) (work.Runs (stage.Goes i)))))
     (λ (r : Step). step_of r ≡ stops_at (child_in (tokens_of c.args.shown)) (shown_task b i c.args.shown))
-    (λ r h. spawned-step b i c.args.shown s.event s.child s.height s.target p r s.is c.in_ok-tell-in-Spawned.ensures h) c.spawn.ensures
+    (λ r h. spawned-step b i c.args.shown s.event s.child s.height s.target p r s.is c.in_ok-tell-in-Spawned.ensures h) c.spawn.ensures.made
 
 pub returns-in_ok-tell-in-Spawned-clause-keeps : goal.returns-in_ok-tell-in-Spawned-clause-keeps
 returns-in_ok-tell-in-Spawned-clause-keeps c =
-    let b = c.args.body in
+    let b = c.args.parts.now.body in
     let w = work.Runs (stage.Goes c.args.instance) in
     let s = c.in-Spawned in
     let p = c.tell-in-Spawned.new.self in
     let at = place.Spawned s.height s.target in
-    IfOk-weaker c.spawn.result
+    made-ok c.spawn.new.parts c.spawn.result
     (λ (r : Step). r ≡ step.Stops (stop.Spawn (fresh_with b.family.knows b.family.plan s.child.origin) (view_of (with_child (with_pieces b p) s.child.origin at) w)))
-    (KeepsStep (view_of b w)) (λ r h. spawns-keep b p w w s.child.origin at r refl h) c.spawn.ensures
+    (KeepsStep (view_of b w)) (λ r h. spawns-keep b p w w s.child.origin at r refl h) c.spawn.ensures.made
 
 -- a loop
 
 pub spawn-requires-in-Looped-clause-known : goal.spawn-requires-in-Looped-clause-known
 spawn-requires-in-Looped-clause-known c =
-    looped-known c.args.body c.args.instance c.args.shown c.in-Looped.event c.in-Looped.child c.in-Looped.target c.in-Looped.is c.requires
+    looped-known c.args.parts.now.body c.args.instance c.args.shown c.in-Looped.event c.in-Looped.child c.in-Looped.target c.in-Looped.is c.requires
 
 pub spawn-requires-in-Looped-clause-trail : goal.spawn-requires-in-Looped-clause-trail
 spawn-requires-in-Looped-clause-trail c =
-    looped-trail c.args.body c.args.instance c.args.shown c.in-Looped.event c.in-Looped.child c.in-Looped.target c.in-Looped.is c.requires
+    looped-trail c.args.parts.now.body c.args.instance c.args.shown c.in-Looped.event c.in-Looped.child c.in-Looped.target c.in-Looped.is c.requires
 
 pub spawn-requires-in-Looped-clause-below : goal.spawn-requires-in-Looped-clause-below
 spawn-requires-in-Looped-clause-below c =
-    looped-below c.args.body c.args.instance c.args.shown c.in-Looped.event c.in-Looped.child c.in-Looped.target c.in-Looped.is c.requires
+    looped-below c.args.parts.now.body c.args.instance c.args.shown c.in-Looped.event c.in-Looped.child c.in-Looped.target c.in-Looped.is c.requires
 
 pub spawn-requires-in-Looped-clause-sound : goal.spawn-requires-in-Looped-clause-sound
 spawn-requires-in-Looped-clause-sound c =
-    looped-sound c.args.body c.args.instance c.args.shown c.in-Looped.event c.in-Looped.child c.in-Looped.target c.tell-in-Looped.new.self c.in-Looped.is c.in_ok-tell-in-Looped.ensures c.requires
+    looped-sound c.args.parts.now.body c.args.instance c.args.shown c.in-Looped.event c.in-Looped.child c.in-Looped.target c.tell-in-Looped.new.self c.in-Looped.is c.in_ok-tell-in-Looped.ensures c.requires
 
 pub returns-in_ok-tell-in-Looped-clause-step : goal.returns-in_ok-tell-in-Looped-clause-step
 returns-in_ok-tell-in-Looped-clause-step c =
-    let b = c.args.body in
+    let b = c.args.parts.now.body in
     let i = c.args.instance in
     let s = c.in-Looped in
     let p = c.tell-in-Looped.new.self in
-    IfOk-weaker c.spawn-in-Looped.result
+    made-ok c.spawn-in-Looped.new.parts c.spawn-in-Looped.result
     (λ (r : Step). r ≡ step.Stops (stop.Spawn (fresh_with b.family.knows b.family.plan s.child.origin) (view_of (with_child (with_pieces b p) s.child.origin (place.Looped s.target)) (work.Runs (stage.AtLoop i)))))
     (λ (r : Step). step_of r ≡ stops_at (child_in (tokens_of c.args.shown)) (shown_task b i c.args.shown))
-    (λ r h. looped-step b i c.args.shown s.event s.child s.target p r s.is c.in_ok-tell-in-Looped.ensures h) c.spawn-in-Looped.ensures
+    (λ r h. looped-step b i c.args.shown s.event s.child s.target p r s.is c.in_ok-tell-in-Looped.ensures h) c.spawn-in-Looped.ensures.made
 
 pub returns-in_ok-tell-in-Looped-clause-keeps : goal.returns-in_ok-tell-in-Looped-clause-keeps
 returns-in_ok-tell-in-Looped-clause-keeps c =
-    let b = c.args.body in
+    let b = c.args.parts.now.body in
     let i = c.args.instance in
     let s = c.in-Looped in
     let p = c.tell-in-Looped.new.self in
     let at = place.Looped s.target in
-    IfOk-weaker c.spawn-in-Looped.result
+    made-ok c.spawn-in-Looped.new.parts c.spawn-in-Looped.result
     (λ (r : Step). r ≡ step.Stops (stop.Spawn (fresh_with b.family.knows b.family.plan s.child.origin) (view_of (with_child (with_pieces b p) s.child.origin at) (work.Runs (stage.AtLoop i)))))
-    (KeepsStep (view_of b (work.Runs (stage.Goes i)))) (λ r h. spawns-keep b p (work.Runs (stage.Goes i)) (work.Runs (stage.AtLoop i)) s.child.origin at r refl h) c.spawn-in-Looped.ensures
+    (KeepsStep (view_of b (work.Runs (stage.Goes i)))) (λ r h. spawns-keep b p (work.Runs (stage.Goes i)) (work.Runs (stage.AtLoop i)) s.child.origin at r refl h) c.spawn-in-Looped.ensures.made

@@ -1,50 +1,49 @@
-use Rattle.std.proofs.Common.{◌≡◌, false, [], ◌∷◌, ◌++◌, sym, ◌∙◌}
-use Rattle.std.proofs.lemmas.Result.{IfOk-weaker}
+use Rattle.std.proofs.Common.{false, [], ◌∷◌, ◌++◌, sym, ◌∙◌}
 use Rattle.serial_meaning.specs.declared.answer.Outcome.TheVariants as outcome
-use Rattle.strand_machine.specs.Stops.{IsStep, ended}
-use Rattle.strand_machine.specs.Tasks.{view_of}
 use Rattle.strand_machine.specs.declared.work.Work.TheVariants as work
-use Rattle.strand_machine.proofs.Dispatch.{end-answers, end-is, wait-sound, wait-is, over-on, over-long, over-short}
+use Rattle.strand_machine.proofs.Dispatch.{end-answers, wait-sound, wait-is, over-on, over-long, over-short}
+use Rattle.strand_machine.proofs.Making.{closes, closes-sound}
 use Rattle.strand_machine.proofs.step.close.Goals as goal
 
-pub close_with-requires : goal.close_with-requires
-close_with-requires c =
-    let b = c.args.body in
+pub returns-then-gone_on-clause-step : goal.returns-then-gone_on-clause-step
+returns-then-gone_on-clause-step c =
+    let b = c.args.parts.now.body in
     let v = c.args.value in
-    end-answers c.steps_are_sound.ensures b (work.Over v c.args.gone_on) (outcome.Values (b.values ++ v ∷ [])) c.requires (over-on b v c.args.gone_on c.if-gone_on.true)
+    closes b c.close_with.new.body (work.Over v c.args.gone_on) c.args.parts.now.work (outcome.Values (b.values ++ v ∷ [])) c.close_with.result c.close_with.ensures.ends c.close_with.ensures.body
+    (over-on b v c.args.gone_on c.if-gone_on.true)
 
-pub returns-then-gone_on : goal.returns-then-gone_on
-returns-then-gone_on c =
-    let b = c.args.body in
+pub returns-then-gone_on-clause-sound : goal.returns-then-gone_on-clause-sound
+returns-then-gone_on-clause-sound c =
+    let b = c.args.parts.now.body in
     let v = c.args.value in
     let o = outcome.Values (b.values ++ v ∷ []) in
-    IfOk-weaker c.close_with.result (λ s. s ≡ ended b o) (IsStep (view_of b (work.Over v c.args.gone_on)))
-    (λ s h. end-is b (work.Over v c.args.gone_on) o s (over-on b v c.args.gone_on c.if-gone_on.true) h) c.close_with.ensures
+    closes-sound b c.close_with.new.body (work.Over v c.args.gone_on) c.args.parts.now.work o c.close_with.result c.close_with.ensures.ends c.close_with.ensures.body
+    (end-answers c.steps_are_sound.ensures b (work.Over v c.args.gone_on) o c.requires (over-on b v c.args.gone_on c.if-gone_on.true))
 
 pub wait-requires : goal.wait-requires
 wait-requires c =
-    let b = c.args.body in
+    let b = c.args.parts.now.body in
     let v = c.args.value in
     wait-sound c.steps_are_sound.ensures b (work.Over v c.args.gone_on) (work.Over v false) c.requires
     (over-long b v c.args.gone_on c.if-gone_on.false (sym c.is_long.ensures ∙ c.if-is_long.true)) tt
 
-pub returns-then-is_long : goal.returns-then-is_long
-returns-then-is_long c =
-    let b = c.args.body in
+pub returns-then-is_long-clause-step : goal.returns-then-is_long-clause-step
+returns-then-is_long-clause-step c =
+    let b = c.args.parts.now.body in
     let v = c.args.value in
-    wait-is b (work.Over v c.args.gone_on) (work.Over v false) c.wait.result tt (over-long b v c.args.gone_on c.if-gone_on.false (sym c.is_long.ensures ∙ c.if-is_long.true)) c.wait.ensures
+    wait-is b (work.Over v c.args.gone_on) (work.Over v false) _ tt (over-long b v c.args.gone_on c.if-gone_on.false (sym c.is_long.ensures ∙ c.if-is_long.true)) c.wait.ensures.made
 
-pub close_with-requires-2 : goal.close_with-requires-2
-close_with-requires-2 c =
-    let b = c.args.body in
+pub returns-clause-step : goal.returns-clause-step
+returns-clause-step c =
+    let b = c.args.parts.now.body in
     let v = c.args.value in
-    end-answers c.steps_are_sound.ensures b (work.Over v c.args.gone_on) (outcome.Values (b.values ++ v ∷ [])) c.requires
+    closes b c.close_with-2.new.body (work.Over v c.args.gone_on) c.args.parts.now.work (outcome.Values (b.values ++ v ∷ [])) c.close_with-2.result c.close_with-2.ensures.ends c.close_with-2.ensures.body
     (over-short b v c.args.gone_on c.if-gone_on.false (sym c.is_long.ensures ∙ c.if-is_long.false))
 
-pub returns : goal.returns
-returns c =
-    let b = c.args.body in
+pub returns-clause-sound : goal.returns-clause-sound
+returns-clause-sound c =
+    let b = c.args.parts.now.body in
     let v = c.args.value in
     let o = outcome.Values (b.values ++ v ∷ []) in
-    IfOk-weaker c.close_with-2.result (λ s. s ≡ ended b o) (IsStep (view_of b (work.Over v c.args.gone_on)))
-    (λ s h. end-is b (work.Over v c.args.gone_on) o s (over-short b v c.args.gone_on c.if-gone_on.false (sym c.is_long.ensures ∙ c.if-is_long.false)) h) c.close_with-2.ensures
+    closes-sound b c.close_with-2.new.body (work.Over v c.args.gone_on) c.args.parts.now.work o c.close_with-2.result c.close_with-2.ensures.ends c.close_with-2.ensures.body
+    (end-answers c.steps_are_sound.ensures b (work.Over v c.args.gone_on) o c.requires (over-short b v c.args.gone_on c.if-gone_on.false (sym c.is_long.ensures ∙ c.if-is_long.false)))

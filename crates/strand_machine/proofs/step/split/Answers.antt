@@ -1,5 +1,4 @@
-use Rattle.std.proofs.Common.{◌≡◌, ◌-◌, sym, ap, ◌∙◌}
-use Rattle.std.proofs.lemmas.Result.{IfOk-weaker}
+use Rattle.std.proofs.Common.{◌≡◌, ◌-◌, refl, sym, ap, ◌∙◌}
 use Rattle.serial_meaning.specs.declared.origin.Origin.{Origin}
 use Rattle.serial_meaning.specs.declared.answer.Outcome.TheVariants as outcome
 use Rattle.strand_machine.specs.Bodies.{only}
@@ -11,12 +10,13 @@ use Rattle.strand_machine.specs.declared.place.Place.TheVariants as place
 use Rattle.strand_machine.specs.declared.work.Left.{Left}
 use Rattle.strand_machine.specs.declared.work.Work.TheVariants as work
 use Rattle.strand_machine.proofs.Dispatch.{below-half, end-answers, end-is, part-trail, pass-sound, pass-is, spawn-sound, spawn-is, split-many, split-none, split-one}
+use Rattle.strand_machine.proofs.Making.{made-ok}
 use Rattle.strand_machine.proofs.Halves.{many, halves, only-one}
 use Rattle.strand_machine.proofs.step.split.Goals as goal
 
 pub spawn_part-requires-clause-known : goal.spawn_part-requires-clause-known
 spawn_part-requires-clause-known c =
-    let b = c.args.body in
+    let b = c.args.parts.now.body in
     let l = c.args.left in
     let p = c.in-Some.halves in
     let upper : Left = record { range = p.1; trail = l.trail } in
@@ -28,21 +28,21 @@ spawn_part-requires-clause-known c =
 
 pub spawn_part-requires-clause-trail : goal.spawn_part-requires-clause-trail
 spawn_part-requires-clause-trail c =
-    let b = c.args.body in
+    let b = c.args.parts.now.body in
     let p = c.in-Some.halves in
     let child : c.in_ok-origin.origin ≡ only b.family.origin p.0 = c.in_ok-origin.ensures ∙ ap (λ (o : Origin). only o p.0) c.origin.ensures in
     part-trail b.family.plan b.family.origin c.in_ok-origin.origin p.0 c.args.left.trail c.in_ok-shared.shared child c.in_ok-shared.ensures c.requires.works
 
 pub spawn_part-requires-clause-below : goal.spawn_part-requires-clause-below
 spawn_part-requires-clause-below c =
-    let b = c.args.body in
+    let b = c.args.parts.now.body in
     let p = c.in-Some.halves in
     let child : c.in_ok-origin.origin ≡ only b.family.origin p.0 = c.in_ok-origin.ensures ∙ ap (λ (o : Origin). only o p.0) c.origin.ensures in
     below-half b.family.origin c.in_ok-origin.origin c.args.left.range p.0 c.requires.task.work.0 child
 
 pub spawn_part-requires-clause-sound : goal.spawn_part-requires-clause-sound
 spawn_part-requires-clause-sound c =
-    let b = c.args.body in
+    let b = c.args.parts.now.body in
     let l = c.args.left in
     let p = c.in-Some.halves in
     let upper : Left = record { range = p.1; trail = l.trail } in
@@ -52,45 +52,45 @@ spawn_part-requires-clause-sound c =
     (spawn-sound c.steps_are_sound.ensures b (work.Splits l) (work.Splits upper) c.in_ok-origin.origin place.Half c.requires
     (split-many b l upper p.0 c.in_ok-origin.origin two parts.0 parts.1 child) c.requires.works).1
 
-pub returns-in-Some : goal.returns-in-Some
-returns-in-Some c =
-    let b = c.args.body in
+pub returns-in-Some-clause-step : goal.returns-in-Some-clause-step
+returns-in-Some-clause-step c =
+    let b = c.args.parts.now.body in
     let l = c.args.left in
     let p = c.in-Some.halves in
     let upper : Left = record { range = p.1; trail = l.trail } in
     let parts = halves l.range c.split.result p c.in-Some.is c.split.ensures.halves in
     let two = many (l.range.hi - l.range.lo) c.split.result p c.in-Some.is c.split.ensures.too_few in
     let child : c.in_ok-origin.origin ≡ only b.family.origin p.0 = c.in_ok-origin.ensures ∙ ap (λ (o : Origin). only o p.0) c.origin.ensures in
-    IfOk-weaker c.spawn_part.result
+    made-ok c.spawn_part.new.parts c.spawn_part.result
     (λ s. s ≡ step.Stops (stop.Spawn (fresh_with b.family.knows b.family.plan c.in_ok-origin.origin) (view_of (with_child b c.in_ok-origin.origin place.Half) (work.Splits upper)))) (IsStep (view_of b (work.Splits l)))
     (λ s h. spawn-is b (work.Splits l) (work.Splits upper) c.in_ok-origin.origin place.Half s c.requires.works (split-many b l upper p.0 c.in_ok-origin.origin two parts.0 parts.1 child) h)
-    c.spawn_part.ensures
+    c.spawn_part.ensures.made
 
-pub end-requires : goal.end-requires
-end-requires c =
-    let b = c.args.body in
+pub returns-then-len-eq0-clause-step : goal.returns-then-len-eq0-clause-step
+returns-then-len-eq0-clause-step c =
+    let b = c.args.parts.now.body in
+    let l = c.args.left in
+    rw (c.take_values-values.ensures.rest, c.take_values-values.ensures.values)
+    (end-is b (work.Splits l) (outcome.Values b.values) _ (split-none b l (sym c.len.ensures.count ∙ c.if-len-eq0.true)) refl)
+
+pub returns-then-len-eq0-clause-sound : goal.returns-then-len-eq0-clause-sound
+returns-then-len-eq0-clause-sound c =
+    let b = c.args.parts.now.body in
     let l = c.args.left in
     rw (c.take_values-values.ensures.rest, c.take_values-values.ensures.values)
     (end-answers c.steps_are_sound.ensures b (work.Splits l) (outcome.Values b.values) c.requires (split-none b l (sym c.len.ensures.count ∙ c.if-len-eq0.true)))
 
-pub returns-then-len-eq0 : goal.returns-then-len-eq0
-returns-then-len-eq0 c =
-    let b = c.args.body in
-    let l = c.args.left in
-    end-is b (work.Splits l) (outcome.Values b.values) c.end.result (split-none b l (sym c.len.ensures.count ∙ c.if-len-eq0.true))
-    (rw (c.take_values-values.ensures.rest, c.take_values-values.ensures.values) at c.end.ensures)
-
 pub pass-requires : goal.pass-requires
 pass-requires c =
-    let b = c.args.body in
+    let b = c.args.parts.now.body in
     let l = c.args.left in
     let one = only-one (l.range.hi - l.range.lo) c.split.result c.in_default.is c.split.ensures.too_few (λ z. c.if-len-eq0.false (c.len.ensures.count ∙ z)) in
     pass-sound c.steps_are_sound.ensures b (work.Splits l) c.in_ok-work.work c.requires
     (split-one b l c.in_ok-work.work one (rw (c.plan.ensures, c.origin-2.ensures) at c.in_ok-work.ensures.begun)) (rw (c.plan.ensures, c.origin-2.ensures) at c.in_ok-work.ensures.works)
 
-pub returns : goal.returns
-returns c =
-    let b = c.args.body in
+pub returns-clause-step : goal.returns-clause-step
+returns-clause-step c =
+    let b = c.args.parts.now.body in
     let l = c.args.left in
     let one = only-one (l.range.hi - l.range.lo) c.split.result c.in_default.is c.split.ensures.too_few (λ z. c.if-len-eq0.false (c.len.ensures.count ∙ z)) in
-    pass-is b (work.Splits l) c.in_ok-work.work c.pass.result (rw (c.plan.ensures, c.origin-2.ensures) at c.in_ok-work.ensures.works) (split-one b l c.in_ok-work.work one (rw (c.plan.ensures, c.origin-2.ensures) at c.in_ok-work.ensures.begun)) c.pass.ensures
+    pass-is b (work.Splits l) c.in_ok-work.work _ (rw (c.plan.ensures, c.origin-2.ensures) at c.in_ok-work.ensures.works) (split-one b l c.in_ok-work.work one (rw (c.plan.ensures, c.origin-2.ensures) at c.in_ok-work.ensures.begun)) c.pass.ensures.made

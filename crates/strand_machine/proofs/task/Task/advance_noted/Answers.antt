@@ -21,5 +21,5 @@ pub returns-in-Stops : goal.returns-in-Stops
 returns-in-Stops c =
     let m = c.in_ok-next.ensures in
     noted-stop c.args.self c.args.at.now c.loop-notes.task c.loop-notes.notes c.step_noted.new.notes c.loop-notes.reached c.loop-notes.invariant m.notes c.stops_keep_origins.ensures c.stops_are_sound.ensures
-    (is-task c.self.inside.body c.self.inside.work c.args.self c.self.view_is c.requires.goes_on c.self.invariant) c.in-Stops.stop _ c.stops_at-reached.result m.step
+    (is-task c.self.inside.parts.value.body c.self.inside.parts.value.work c.args.self c.self.view_is c.requires.goes_on c.self.invariant) c.in-Stops.stop _ c.stops_at-reached.result m.step
     c.in-Stops.is c.stops_at-reached.ensures

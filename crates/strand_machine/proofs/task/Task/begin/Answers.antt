@@ -1,10 +1,11 @@
-use Rattle.std.proofs.Common.{◌≡◌, ◌∙◌, subst}
+use Rattle.std.proofs.Common.{◌≡◌, sym, ap, ◌∙◌, subst}
 use Rattle.std.specs.Arc.{arc_value}
 use Rattle.script_check.specs.Valid.{IsValid}
 use Rattle.serial_meaning.specs.Plan.{PlanView}
 use Rattle.strand_meaning.specs.Task.{begun_work}
-use Rattle.strand_machine.specs.Tasks.{work_of, WorksAt}
+use Rattle.strand_machine.specs.Tasks.{Holds, view_of, work_of, WorksAt}
 use Rattle.strand_machine.specs.Loops.{knows_of}
+use Rattle.strand_machine.specs.declared.parts.Parts.{Parts}
 use Rattle.strand_machine.proofs.Advancing.{sound_holds}
 use Rattle.strand_machine.proofs.Dispatch.{works-on}
 use Rattle.strand_machine.proofs.Starting.{start-sound, start-view}
@@ -18,8 +19,8 @@ invariant_of-result c =
     let valid : IsValid plan.script = subst (λ (p : PlanView). IsValid p.script) (c.behind-plan.view_is ∙ c.deref.ensures) c.script-script.ensures.valid in
     let begun : work_of plan w ≡ begun_work plan o = subst (λ (p : PlanView). work_of p w ≡ begun_work p o) c.deref-2.ensures c.in_ok-work.ensures.begun in
     let works : WorksAt plan o w = subst (λ (p : PlanView). WorksAt p o w) c.deref-2.ensures c.in_ok-work.ensures.works in
-    rw c.new-3.ensures.items
-    (sound_holds _ w (start-sound plan o w c.in_ok-new.field-0 c.new-2.result (knows_of c.args.loops) c.in_ok-new.ensures c.new-2.ensures begun c.tasks_begin.ensures c.valid_plans_are_clear.ensures c.requires.known valid works))
+    subst (λ (q : Parts). Holds q.body q.work) (sym c.in_ok-parts.ensures.ok) (rw c.new-3.ensures.items
+    (sound_holds _ w (start-sound plan o w c.in_ok-new.field-0 c.new-2.result (knows_of c.args.loops) c.in_ok-new.ensures c.new-2.ensures begun c.tasks_begin.ensures c.valid_plans_are_clear.ensures c.requires.known valid works)))
 
 pub returns : goal.returns
 returns c =
@@ -28,4 +29,5 @@ returns c =
     let w = c.in_ok-work.work in
     let begun : work_of plan w ≡ begun_work plan o = subst (λ (p : PlanView). work_of p w ≡ begun_work p o) c.deref-2.ensures c.in_ok-work.ensures.begun in
     let works : WorksAt plan o w = subst (λ (p : PlanView). WorksAt p o w) c.deref-2.ensures c.in_ok-work.ensures.works in
-    rw c.new-3.ensures.items (start-view plan o w c.in_ok-new.field-0 c.new-2.result (knows_of c.args.loops) c.in_ok-new.ensures c.new-2.ensures begun (works-on plan o w works))
+    ap (λ (q : Parts). view_of q.body q.work) c.in_ok-parts.ensures.ok
+    ∙ rw c.new-3.ensures.items (start-view plan o w c.in_ok-new.field-0 c.new-2.result (knows_of c.args.loops) c.in_ok-new.ensures c.new-2.ensures begun (works-on plan o w works))

@@ -1,51 +1,19 @@
-use Rattle.std.proofs.Common.{ℕ, ◌-◌, true, false, length, drop, sym, ap, ◌∙◌, subst}
-use Rattle.serial_meaning.specs.Plan.{PlanView}
-use Rattle.strand_machine.specs.Family.{FamilyView, AwaitsCount, tags}
-use Rattle.strand_machine.specs.Parts.{awaited}
-use Rattle.strand_machine.proofs.Advancing.{sound_holds, waits-sound, waits-uncut}
-use Rattle.strand_machine.proofs.Answering.{awaits-count, last-awaited}
-use Rattle.strand_machine.proofs.Taking.{looked-last, looked-same, looked-sound, taken-answered, resumed-on}
+use Rattle.std.proofs.Common.{sym, ap, ◌∙◌, subst}
+use Rattle.strand_machine.specs.Tasks.{IsSound, view_of}
+use Rattle.strand_machine.specs.declared.parts.Parts.{Parts}
+use Rattle.strand_machine.proofs.Advancing.{waits-sound}
+use Rattle.strand_machine.proofs.Making.{resumed-so}
 use Rattle.strand_machine.proofs.task.Task.resume.Goals as goal
 
-pub invariant_of-result : goal.invariant_of-result
-invariant_of-result c =
-    let b = c.self.inside.body in
-    let w = c.self.inside.work in
-    let sound = waits-sound b w c.args.self c.self.view_is c.requires c.self.invariant in
-    sound_holds (record b { family = c.look.new.self }) w (looked-sound b w c.look.new.self false c.look.new.self.loads c.in-NotYet.ensures.1 sound)
+pub look_on-requires : goal.look_on-requires
+look_on-requires c =
+    let p = c.self.inside.parts.value in
+    subst (λ (q : Parts). IsSound q.body q.work) (sym c.deref_mut.ensures.value) (waits-sound p.body p.work c.args.self c.self.view_is c.requires c.self.invariant)
 
-pub take_answers-requires-clause-ready : goal.take_answers-requires-clause-ready
-take_answers-requires-clause-ready c = ap (λ (f : FamilyView). f.ready) c.in-Ready.ensures.1
+pub returns-then-branch : goal.returns-then-branch
+returns-then-branch c =
+    let same = ap (λ (q : Parts). view_of q.body q.work) c.deref_mut.ensures.value ∙ c.self.view_is in resumed-so _ c.args.self _ _ _ same c.if-branch.true c.in_ok-look_on.ensures.resumed
 
-pub take_answers-requires-clause-last : goal.take_answers-requires-clause-last
-take_answers-requires-clause-last c =
-    let b = c.self.inside.body in
-    let sound = waits-sound b c.self.inside.work c.args.self c.self.view_is c.requires c.self.invariant in
-    let last = looked-last b.family c.look.new.self b.pieces.handed true c.look.new.self.loads c.in-Ready.ensures.1 sound.family in
-    subst (AwaitsCount c.look.new.self) (sym (ap length (c.as_slice.ensures ∙ c.awaited.ensures))) (awaits-count c.look.new.self b.pieces.handed last)
-
-pub go_on-requires-clause-sound : goal.go_on-requires-clause-sound
-go_on-requires-clause-sound c =
-    let b = c.self.inside.body in
-    let w = c.self.inside.work in
-    let sound = waits-sound b w c.args.self c.self.view_is c.requires c.self.invariant in
-    taken-answered b w c.look.new.self c.take_answers.new.family true c.look.new.self.loads c.in-Ready.ensures.1 c.take_answers.ensures.family c.take_answers.ensures.length sound
-
-pub go_on-requires-clause-tags : goal.go_on-requires-clause-tags
-go_on-requires-clause-tags c =
-    let b = c.self.inside.body in
-    let g = c.look.new.self in
-    let sound = waits-sound b c.self.inside.work c.args.self c.self.view_is c.requires c.self.invariant in
-    let last = looked-last b.family g b.pieces.handed true g.loads c.in-Ready.ensures.1 sound.family in
-    c.in_ok-answers-in-Ready.ensures.tags ∙ ap (λ (n : ℕ). tags g.plan (drop (length g.children - n) g.children)) (ap length (c.as_slice.ensures ∙ c.awaited.ensures))
-    ∙ ap (tags g.plan) (last-awaited g b.pieces.handed last) ∙ ap (λ (p : PlanView). tags p (awaited b.pieces.handed)) (sym (ap (λ (f : FamilyView). f.plan) c.take_answers.ensures.family))
-
-pub returns-in-NotYet : goal.returns-in-NotYet
-returns-in-NotYet c = looked-same c.self.inside.body c.self.inside.work c.look.new.self false c.look.new.self.loads c.in-NotYet.ensures.1 c.args.self c.self.view_is c.in-NotYet.ensures.0
-
-pub returns-in_ok-go_on-in-Ready : goal.returns-in_ok-go_on-in-Ready
-returns-in_ok-go_on-in-Ready c =
-    let b = c.self.inside.body in
-    let w = c.self.inside.work in
-    resumed-on b w c.look.new.self c.take_answers.new.family true c.look.new.self.loads c.in-Ready.ensures.1 c.take_answers.ensures.family c.args.self _ c.self.view_is
-    (waits-uncut b w c.args.self c.self.view_is c.requires c.self.invariant) _ c.in_ok-go_on-in-Ready.ensures.answers c.in_ok-go_on-in-Ready.ensures.went c.in-Ready.ensures.0
+pub returns : goal.returns
+returns c =
+    let same = ap (λ (q : Parts). view_of q.body q.work) c.deref_mut.ensures.value ∙ c.self.view_is in resumed-so _ c.args.self _ _ _ same c.if-branch.false c.in_ok-look_on.ensures.resumed

@@ -1,0 +1,14 @@
+use Rattle.std.proofs.Common.{IfOk, sym, subst}
+use Rattle.strand_machine.specs.Made.{made}
+use Rattle.strand_machine.specs.Stops.{GoesOn}
+use Rattle.strand_machine.specs.Tasks.{view_of}
+use Rattle.strand_machine.specs.declared.work.Work.{Work}
+use Rattle.strand_machine.proofs.Making.{sound-at}
+use Rattle.strand_machine.proofs.step.pass_on.Goals as goal
+
+pub pass_with-requires : goal.pass_with-requires
+pass_with-requires c = let p = c.args.parts.now in sound-at p.body p.work _ (sym c.replace-work.ensures.value) c.requires
+
+pub returns-clause-step : goal.returns-clause-step
+returns-clause-step c =
+    subst (λ (x : Work). IfOk c.pass_with.result (λ passed. GoesOn (view_of c.args.parts.now.body x) (made c.pass_with.new.parts passed))) c.replace-work.ensures.value c.pass_with.ensures.step

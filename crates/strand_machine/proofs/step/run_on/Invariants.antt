@@ -1,0 +1,10 @@
+use Rattle.strand_meaning.specs.Left.{moves_left}
+use Rattle.strand_machine.specs.Tasks.{task_of, view_of}
+use Rattle.strand_machine.proofs.Making.{IsOnWay}
+use Rattle.strand_machine.proofs.step.run_on.Given as goal
+
+abbrev pub invariant-loop-passed : goal.invariant-loop-passed
+invariant-loop-passed l = IsOnWay (view_of l.initial.parts.body l.initial.parts.work) l.parts
+
+abbrev pub decreases-loop-passed : goal.decreases-loop-passed
+decreases-loop-passed l = moves_left (task_of l.parts.body l.parts.work)

@@ -1,0 +1,150 @@
+// What a move leaves of a task in its parts.
+ghost use Rattle.std.specs.Prelude.{◌≡◌, IfOk, OnOk};
+ghost use Rattle.serial_meaning.specs.Laws.{IsOriginOf};
+ghost use Rattle.strand_moves.specs.Moves.{IsTrailOf};
+ghost use Rattle.strand_machine.specs.Family.{handed};
+ghost use Rattle.strand_machine.specs.Loops.{IsBelow};
+ghost use Rattle.strand_machine.specs.Made.{IsSoundMade, made};
+ghost use Rattle.strand_machine.specs.Stops.{IsStep};
+ghost use Rattle.strand_machine.specs.Tasks.{IsSound, view_of, fresh_with, gone, waiting, with_child};
+ghost use Rattle.strand_machine.specs.declared.stop.Step.TheVariants as step;
+ghost use Rattle.strand_machine.specs.declared.stop.Stop.TheVariants as stop;
+ghost use Rattle.strand_machine.specs.declared.work.Stage.TheVariants as stage;
+ghost use Rattle.strand_machine.specs.declared.work.Work.TheVariants as work;
+
+use crate::body::Body;
+use crate::family::Family;
+use crate::memory::Memory;
+use crate::origin::share_origin;
+use crate::parts::Parts;
+use crate::place::Place;
+use crate::stop::Passed;
+use crate::task::Task;
+use crate::work::{Stage, Work};
+use script_grammar::Boxed;
+use serial_meaning::{AnswerKey, Fault, Origin, Outcome, Value};
+use std::alloc::Global;
+use strand_meaning::laws;
+use strand_moves::Child;
+
+/// The task goes on with this.
+pub(crate) fn pass(parts: &mut Parts, work: Work) -> Passed
+    requires { IsSound (gone parts.old.body) work }
+    ensures made { made parts.new result ≡ step.Passes (view_of (gone parts.old.body) work) }
+    ensures sound { IsSoundMade parts.new result }
+{
+    parts.body.advanced = true;
+    parts.work = work;
+    Passed::Goes
+}
+
+/// The task waits, and this remains.
+pub(crate) fn wait(parts: &mut Parts, work: Work) -> Passed
+    requires { IsSound (waiting parts.old.body) work }
+    ensures made { made parts.new result ≡ step.Stops (stop.Wait (view_of (waiting parts.old.body) work)) }
+    ensures sound { IsSoundMade parts.new result }
+{
+    parts.body.waiting = true;
+    parts.body.advanced = true;
+    parts.work = work;
+    Passed::Waits
+}
+
+/// Begins a child, and counts it among the family's. The key by which it is handed out is made of its own plan and origin.
+fn begin_child(family: &mut Family, alloc: Global, child: Child) -> Result<Task, Memory>
+    requires own { IsOriginOf family.old.plan family.old.origin }
+    requires known { IsOriginOf family.old.plan child.origin }
+    requires trail { IsTrailOf family.old.plan child.origin child.trail }
+    requires below { IsBelow family.old.origin child.origin }
+    ensures child { IfOk result (λ task. task ≡ fresh_with family.old.knows family.old.plan child.origin) }
+    ensures family { OnOk result (family.new ≡ handed family.old child.origin) }
+{
+    let Child { origin, trail } = child;
+    let loops = family.loops_below(&origin);
+    let plan = family.share_plan()?;
+    let key = AnswerKey { plan, origin };
+    let give = family.hand(alloc, &key)?;
+    let AnswerKey { plan, origin } = key;
+    Task::begin(alloc, plan, Child { origin, trail }, loops, give)
+}
+
+/// Begins a child whose value goes to this place.
+fn hand_out(body: &mut Body, alloc: Global, child: Child, place: Place) -> Result<Task, Memory>
+    requires own { IsOriginOf body.old.family.plan body.old.family.origin }
+    requires known { IsOriginOf body.old.family.plan child.origin }
+    requires trail { IsTrailOf body.old.family.plan child.origin child.trail }
+    requires below { IsBelow body.old.family.origin child.origin }
+    ensures child { IfOk result (λ task. task ≡ fresh_with body.old.family.knows body.old.family.plan child.origin) }
+    ensures body { OnOk result (body.new ≡ with_child body.old child.origin place) }
+{
+    let shared = share_origin(alloc, &child.origin)?;
+    body.pieces.hand(shared, place)?;
+    body.advanced = true;
+    begin_child(&mut body.family, alloc, child)
+}
+
+/// The task hands out a child, and this remains.
+pub(crate) fn spawn_part(
+    parts: &mut Parts,
+    alloc: Global,
+    child: Child,
+    place: Place,
+    work: Work,
+) -> Result<Passed, Memory>
+    requires known { IsOriginOf parts.old.body.family.plan child.origin }
+    requires trail { IsTrailOf parts.old.body.family.plan child.origin child.trail }
+    requires below { IsBelow parts.old.body.family.origin child.origin }
+    requires sound { IsSound (with_child parts.old.body child.origin place) work }
+    ensures made { let b = parts.old.body in IfOk result (λ passed. made parts.new passed
+        ≡ step.Stops (stop.Spawn (fresh_with b.family.knows b.family.plan child.origin) (view_of (with_child b child.origin place) work))) }
+    ensures sound { IfOk result (IsSoundMade parts.new) }
+{
+    let child = hand_out(&mut parts.body, alloc, child, place)?;
+    parts.work = work;
+    Ok(Passed::Spawned(child))
+}
+
+/// The same of a child that a move showed.
+pub(crate) fn spawn(
+    parts: &mut Parts,
+    alloc: Global,
+    child: Boxed<Child>,
+    place: Place,
+    work: Work,
+) -> Result<Passed, Memory>
+    requires known { IsOriginOf parts.old.body.family.plan child.origin }
+    requires trail { IsTrailOf parts.old.body.family.plan child.origin child.trail }
+    requires below { IsBelow parts.old.body.family.origin child.origin }
+    requires sound { IsSound (with_child parts.old.body child.origin place) work }
+    ensures made { let b = parts.old.body in IfOk result (λ passed. made parts.new passed
+        ≡ step.Stops (stop.Spawn (fresh_with b.family.knows b.family.plan child.origin) (view_of (with_child b child.origin place) work))) }
+    ensures sound { IfOk result (IsSoundMade parts.new) }
+{
+    spawn_part(parts, alloc, Box::into_inner(child.0), place, work)
+}
+
+/// An instance that ended by a value: the task ends too, or else it was the last iteration of a loop.
+pub(crate) fn give(parts: &mut Parts, value: Value) -> Passed
+    requires { IsSound parts.old.body (work.Runs (stage.Gave value)) }
+    ensures step { IsStep (view_of parts.old.body (work.Runs (stage.Gave value))) (made parts.new result) }
+    ensures sound { IsSoundMade parts.new result }
+{
+    laws::steps_are_sound();
+    match parts.body.family.origin() {
+        Origin::Instance { .. } => Passed::Ends(Outcome::Value(value)),
+        Origin::Loop { .. } => pass(parts, Work::Over(value, false)),
+    }
+}
+
+/// An instance that ended by a fault of its own. The task waits for the children that it handed out, and then ends by it.
+pub(crate) fn fault(parts: &mut Parts, fault: Fault) -> Passed
+    requires { IsSound parts.old.body (work.Runs (stage.Faulted fault)) }
+    ensures step { IsStep (view_of parts.old.body (work.Runs (stage.Faulted fault))) (made parts.new result) }
+    ensures sound { IsSoundMade parts.new result }
+{
+    laws::steps_are_sound();
+    if parts.body.pieces.is_alone() {
+        return Passed::Ends(Outcome::Fault(fault));
+    }
+    wait(parts, Work::Runs(Stage::Faulted(fault)))
+}
