@@ -61,13 +61,6 @@ module _ (events : List Event) where
   pub meet-below : (path more : List ℕ) → IsInstance events path → IsMeet events (path ++ more) path path
   meet-below path more h = record { instance = h; first = (more, refl); second = ([], sym (append-nil path)); longest = λ other i b c. begins-length other path c }
 
-  pub meet-above : (path more : List ℕ) → IsInstance events path → IsMeet events path (path ++ more) path
-  meet-above path more h = record { instance = h; first = ([], sym (append-nil path)); second = (more, refl); longest = λ other i b c. begins-length other path b }
-
-  -- Instances below different ranks of one part at that one.
-  pub meet-apart : (path : List ℕ) (r s : ℕ) (xs ys : List ℕ) → IsInstance events path → (r ≡ s → ⊥) → IsMeet events (path ++ r ∷ xs) (path ++ s ∷ ys) path
-  meet-apart path r s xs ys h d = record { instance = h; first = (r ∷ xs, refl); second = (s ∷ ys, refl); longest = λ other i b c. apart-length other path r s xs ys d b c }
-
   some-same : (a b : Event) → Some a ≡ Some b → a ≡ b
   some-same a b e = ap held e
     where

@@ -65,16 +65,3 @@ module _ (events : List Event) where
       from : (m ≡ 0) ⊎ Reaches events (λ i. i < length events) m → IsSpan events m
       from (inl z) = record { chain = []; chained = tt; long = sym z; longest = bound }
       from (inr r) = record { chain = r.last ∷ r.others; chained = r.chained; long = omega (arith, r.long); longest = bound }
-
-  -- A chain's numbers fall.
-  pub chain-short : (i : ℕ) (js : List ℕ) → IsChain events (i ∷ js) → length js ≤ i
-  chain-short i [] c = omega arith
-  chain-short i (j ∷ js) c = let l = chain-short j js c.2 in let e = c.1.ready.earlier in omega (arith, l, e)
-
-  -- So no chain is longer than there are events before its end.
-  pub most-small : (P : ℕ → Type 0) (m n : ℕ) → IsMost events P m → ((i : ℕ) → P i → i < n) → m ≤ n
-  most-small P m n a below = from a.reached
-    where
-      from : (m ≡ 0) ⊎ Reaches events P m → m ≤ n
-      from (inl z) = omega (arith, z)
-      from (inr r) = let l = chain-short r.last r.others r.chained in let b = below r.last r.such in omega (arith, l, b, r.long)
