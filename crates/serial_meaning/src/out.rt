@@ -110,7 +110,7 @@ impl Out {
     }
 
     /// The full segments and the last one, where there is any event.
-    pub(crate) fn segments(&self) -> Option<(&[Vec<Event>], &[Event])>
+    pub fn segments(&self) -> Option<(&[Vec<Event>], &[Event])>
         ensures some { IfSome result (λ parts. joined parts.0.now ++ parts.1.now ≡ self.now) }
         ensures none { IfNone result (self.now ≡ []) }
     {

@@ -1,0 +1,104 @@
+-- No spawn and no loop share a pedigree, and no loop's pedigree is an instance's path.
+use Rattle.std.proofs.Common.{◌≡◌, ◌≤◌, ◌<◌, ◌⊎◌, inl, inr, ℕ, zero, suc, Bool, true, false, nat_lt, List, [], ◌∷◌, ◌++◌, length, length-append, refl, sym, ◌∙◌, ap, subst, arith, append_assoc}
+use Rattle.std.proofs.lemmas.Bool.Decides.{nat_tests}
+use Rattle.std.specs.Prelude.{Contains}
+use Rattle.ped_path.specs.Path.{IsBefore}
+use Rattle.serial_meaning.specs.Laws.{places}
+use Rattle.serial_meaning.specs.Plan.{PlanView}
+use Rattle.serial_meaning.specs.Eval.{depth_left, main_origin, elision}
+use Rattle.serial_meaning.proofs.Each.{each-contained}
+use Rattle.serial_meaning.proofs.Order.{not_before_itself}
+use Rattle.serial_meaning.proofs.Origins.{cons-contained}
+use Rattle.serial_meaning.proofs.Rising.{BeforeAll, Rise, places-append}
+use Rattle.serial_meaning.proofs.RisingExec.{eval_at-rises}
+use Rattle.serial_meaning.specs.declared.event.Event.{Event}
+use Rattle.serial_meaning.specs.declared.event.Event.TheVariants as event
+use Rattle.span_report.specs.Series.{IsInstance, Main, Child, Iteration, IsMeet, Begins}
+use Rattle.span_report.specs.Nested.{Instance, IsNested}
+use Rattle.span_report.proofs.Homes.{same-front, apart-length}
+use Rattle.span_report.proofs.Places.{IsPlaced, all-placed}
+
+before-back : (i : List ℕ) (xs ys : List (List ℕ)) → BeforeAll i (xs ++ ys) → BeforeAll i ys
+before-back i [] ys b = b
+before-back i (x ∷ xs) ys b = before-back i xs ys b.1
+
+rise-back : (xs ys : List (List ℕ)) → Rise (xs ++ ys) → Rise ys
+rise-back [] ys r = r
+rise-back (x ∷ xs) ys r = rise-back xs ys r.1
+
+before-contained : (i : List ℕ) (es : List Event) (e : Event) (j : List ℕ) → places (e ∷ []) ≡ j ∷ [] → Contains es e → BeforeAll i (places es) → IsBefore i j
+before-contained i [] e j p c b = absurd (omega (arith, c.1))
+before-contained i (x ∷ es) e j p c b = from (cons-contained x e es c) (λ d. before-contained i es e j p d (before-back i (places (x ∷ [])) (places es) parts))
+  where
+    parts : BeforeAll i (places (x ∷ []) ++ places es)
+    parts = subst (BeforeAll i) (places-append (x ∷ []) es) b
+
+    from : (x ≡ e) ⊎ Contains es e → (Contains es e → IsBefore i j) → IsBefore i j
+    from (inl q) later = (subst (λ (l : List (List ℕ)). BeforeAll i (l ++ places es)) (ap (λ (y : Event). places (y ∷ [])) q ∙ p) parts).0
+    from (inr d) later = later d
+
+-- Where pedigrees rise, two different events that are no prints have different ones.
+apart : (es : List Event) (a b : Event) (j : List ℕ) → places (a ∷ []) ≡ j ∷ [] → places (b ∷ []) ≡ j ∷ [] → (a ≡ b → ⊥) → Rise (places es) → Contains es a → Contains es b → ⊥
+apart [] a b j p q d r c k = absurd (omega (arith, c.1))
+apart (x ∷ es) a b j p q d r c k = from (cons-contained x a es c) (cons-contained x b es k) (λ m n. apart es a b j p q d (rise-back (places (x ∷ [])) (places es) parts) m n)
+  where
+    parts : Rise (places (x ∷ []) ++ places es)
+    parts = subst Rise (places-append (x ∷ []) es) r
+
+    first : (e : Event) → x ≡ e → places (e ∷ []) ≡ j ∷ [] → BeforeAll j (places es)
+    first e s t = (subst (λ (l : List (List ℕ)). Rise (l ++ places es)) (ap (λ (y : Event). places (y ∷ [])) s ∙ t) parts).0
+
+    from : (x ≡ a) ⊎ Contains es a → (x ≡ b) ⊎ Contains es b → (Contains es a → Contains es b → ⊥) → ⊥
+    from (inl e) (inl f) later = d (sym e ∙ f)
+    from (inl e) (inr m) later = not_before_itself j (before-contained j es b j q m (first a e p))
+    from (inr m) (inl f) later = not_before_itself j (before-contained j es a j p m (first b f q))
+    from (inr m) (inr n) later = later m n
+
+no-end : (xs : List ℕ) (y : ℕ) → [] ≡ xs ++ y ∷ [] → ⊥
+no-end xs y e = let l : length {A = ℕ} [] ≡ length (xs ++ y ∷ []) = ap (λ (k : List ℕ). length k) e in omega (arith, l, length-append xs (y ∷ []))
+
+module _ (all : List Event) (nested : IsNested Instance [] 0 all) (rise : Rise (places all)) where
+  pub spawn-no-loop : (j : List ℕ) → Contains all (event.Spawn j) → Contains all (event.Loop j) → ⊥
+  spawn-no-loop j c k = apart all (event.Spawn j) (event.Loop j) j refl refl (λ e. absurd (cc)) rise c k
+
+  placed-loop : (j : List ℕ) → Contains all (event.Loop j) → IsPlaced all (event.Loop j)
+  placed-loop j c = each-contained (IsPlaced all) all (event.Loop j) (all-placed all nested) c
+
+  -- the instance that a loop belongs to
+  loop-home : (j : List ℕ) (k : ℕ) → Contains all (event.Loop (j ++ k ∷ [])) → IsInstance all j
+  loop-home j k c = let p = placed-loop (j ++ k ∷ []) c in subst (IsInstance all) (same p.path p.rank p.at) p.instance
+    where
+      same : (path : List ℕ) (rank : ℕ) → j ++ k ∷ [] ≡ path ++ rank ∷ [] → path ≡ j
+      same path rank e =
+          let l : length (j ++ k ∷ []) ≡ length (path ++ rank ∷ []) = ap (λ (m : List ℕ). length m) e in
+          same-front path j (rank ∷ []) (k ∷ []) (sym e) (omega (arith, l, length-append j (k ∷ []), length-append path (rank ∷ [])))
+
+  no-loop-within : (n : ℕ) (path : List ℕ) → length path ≤ n → IsInstance all path → Contains all (event.Loop path) → ⊥
+  no-loop-within n path h Main c = let p = placed-loop [] c in no-end p.path p.rank p.at
+  no-loop-within n path h (Child j s) c = spawn-no-loop j s c
+  no-loop-within zero path h (Iteration j k s) c = let l = length-append j (k ∷ []) in absurd (omega (arith, l, h))
+  no-loop-within (suc n) path h (Iteration j k s) c = no-loop-within n j (let l = length-append j (k ∷ []) in omega (arith, l, h)) (loop-home j k c) s
+
+  pub instance-no-loop : (path : List ℕ) → IsInstance all path → Contains all (event.Loop path) → ⊥
+  instance-no-loop path h c = no-loop-within (length path) path (omega arith) h c
+
+  -- Two iterations of a loop of an instance part at that instance.
+  pub meet-turns : (home j : List ℕ) (r k l : ℕ) (xs ys : List ℕ) → IsInstance all home → j ≡ home ++ r ∷ [] → Contains all (event.Loop j) → (k ≡ l → ⊥) → IsMeet all (j ++ k ∷ xs) (j ++ l ∷ ys) home
+  meet-turns home j r k l xs ys h e c d = record { instance = h; first = begins k xs; second = begins l ys; longest = λ other i a b. by other i a b (nat_lt (length home) (length other)) refl }
+    where
+      begins : (m : ℕ) (zs : List ℕ) → Begins home (j ++ m ∷ zs)
+      begins m zs = (r ∷ m ∷ zs, ap (λ (p : List ℕ). p ++ m ∷ zs) e ∙ append_assoc home (r ∷ []) (m ∷ zs))
+
+      long : (other : List ℕ) → IsInstance all other → Begins other (j ++ k ∷ xs) → Begins other (j ++ l ∷ ys) → length home < length other → ⊥
+      long other i a b g =
+          let m = apart-length other j k l xs ys d a b in
+          let n : length j ≡ length (home ++ r ∷ []) = ap (λ (p : List ℕ). length p) e in
+          instance-no-loop j (subst (IsInstance all) (same-front other j a.0 (k ∷ xs) (sym a.1) (omega (arith, m, n, g, length-append home (r ∷ [])))) i) c
+
+      by : (other : List ℕ) → IsInstance all other → Begins other (j ++ k ∷ xs) → Begins other (j ++ l ∷ ys) → (t : Bool) → nat_lt (length home) (length other) ≡ t → length other ≤ length home
+      by other i a b true g = absurd (long other i a b (grind (arith, nat_tests)))
+      by other i a b false g = grind (arith, nat_tests)
+
+-- The elision is such a list.
+pub elision-rise : (plan : PlanView) → Rise (places (elision plan).items)
+elision-rise plan = (eval_at-rises plan (depth_left plan (main_origin plan)) (main_origin plan)).rise

@@ -1,0 +1,13 @@
+pub mod Above
+pub mod Apart
+pub mod Chains
+pub mod Claims
+pub mod Homes
+pub mod Most
+pub mod Nesting
+pub mod Places
+pub mod Positions
+pub mod Ranges
+pub mod Ready
+pub mod Stacks
+pub mod Standing

@@ -1,0 +1,4 @@
+pub mod Nested
+pub mod Opens
+pub mod Series
+pub mod Walks

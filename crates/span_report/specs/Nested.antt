@@ -1,0 +1,34 @@
+-- How the events of a run nest: what a spawned child does stands between its Spawn and its parent's next event, and so do a loop's iterations.
+use Rattle.std.specs.Prelude.{◌+◌, ℕ, List, [], ◌∷◌, ◌++◌}
+use Rattle.serial_meaning.specs.Plan.{PlanView}
+use Rattle.serial_meaning.specs.Eval.{elision}
+use Rattle.serial_meaning.specs.declared.value.Value.{Value}
+use Rattle.serial_meaning.specs.declared.event.Event.{Event}
+use Rattle.serial_meaning.specs.declared.event.Event.TheVariants as event
+
+-- one event that begins no child and raises the rank
+pub data IsStep : List ℕ → Event → Type 0 where
+  Draw : (j : List ℕ) (n : ℕ) → IsStep j (event.Draw j n)
+  New : (j : List ℕ) → IsStep j (event.New j)
+  Sync : (j : List ℕ) → IsStep j (event.Sync j)
+
+-- Whose events a list has: those of the instance with this path from this rank on, or those of the iterations of the loop with this pedigree
+-- from this number on.
+pub data Whose : Type 0 where
+  Instance : Whose
+  Iterations : Whose
+
+-- A run may end anywhere, by a fault.
+pub data IsNested : Whose → List ℕ → ℕ → List Event → Type 0 where
+  Ends : (whose : Whose) (path : List ℕ) (rank : ℕ) → IsNested whose path rank []
+  Prints : (path : List ℕ) (rank : ℕ) (v : Value) (es : List Event) → IsNested Instance path rank es → IsNested Instance path rank (event.Print (path ++ rank ∷ []) v ∷ es)
+  Steps : (path : List ℕ) (rank : ℕ) (e : Event) (es : List Event) → IsStep (path ++ rank ∷ []) e → IsNested Instance path (rank + 1) es → IsNested Instance path rank (e ∷ es)
+  Spawns : (path : List ℕ) (rank : ℕ) (child es : List Event) → IsNested Instance (path ++ rank ∷ []) 0 child → IsNested Instance path (rank + 1) es →
+      IsNested Instance path rank (event.Spawn (path ++ rank ∷ []) ∷ (child ++ es))
+  Loops : (path : List ℕ) (rank : ℕ) (inner es : List Event) → IsNested Iterations (path ++ rank ∷ []) 0 inner → IsNested Instance path (rank + 1) es →
+      IsNested Instance path rank (event.Loop (path ++ rank ∷ []) ∷ (inner ++ es))
+  Iterates : (path : List ℕ) (k : ℕ) (turn es : List Event) → IsNested Instance (path ++ k ∷ []) 0 turn → IsNested Iterations path (k + 1) es → IsNested Iterations path k (turn ++ es)
+
+-- The events of the serial elision nest so.
+abbrev pub ElisionIsNested : Type 0
+ElisionIsNested = (plan : PlanView) → IsNested Instance [] 0 (elision plan).items

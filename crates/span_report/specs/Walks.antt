@@ -1,0 +1,74 @@
+-- The walk along a run's events: what an event does to the open instances.
+use Rattle.std.specs.Prelude.{◌-◌, cond, nat_lt, take, reverse, ℕ, List, [], ◌∷◌, Option, Some, None, length, slice_get}
+use Rattle.serial_meaning.specs.Plan.{PlanView}
+use Rattle.serial_meaning.specs.Eval.{elision}
+use Rattle.serial_meaning.specs.declared.event.Event.{Event}
+use Rattle.serial_meaning.specs.declared.event.Event.TheVariants as event
+use Rattle.span_report.specs.declared.instance.Open.{Open}
+use Rattle.span_report.specs.declared.instance.Begun.TheVariants.{Spawned, Iterated}
+use Rattle.span_report.specs.declared.walk.Walk.{Walk}
+use Rattle.span_report.specs.Series.{IsSpan, pedigree_of}
+use Rattle.span_report.specs.Opens.{begun, joined, leads, noted}
+
+-- The current instance, and those that it stands below, from its parent on.
+pub record Opened : Type 0 where
+  pub top : Open
+  pub under : List Open
+
+abbrev pub opened : Walk → Opened
+opened w = record { top = w.top; under = reverse w.below.items }
+
+-- at the start main alone
+abbrev pub start : Opened
+start = record { top = begun 0 0 Spawned 0; under = [] }
+
+-- after the end of the instances that don't lead to a path
+abbrev pub left : List ℕ → Open → List Open → Opened
+left path o [] = record { top = o; under = [] }
+left path o (p ∷ ps) = cond (leads o path) (record { top = o; under = p ∷ ps }) (left path (joined p o.begun o.within) ps)
+
+-- after the end of all but main
+abbrev pub ended : Open → List Open → Open
+ended o [] = o
+ended o (p ∷ ps) = ended (joined p o.begun o.within) ps
+
+abbrev pub rank_or_zero : Option ℕ → ℕ
+rank_or_zero None = 0
+rank_or_zero (Some r) = r
+
+abbrev pub last_rank : List ℕ → ℕ
+last_rank path = rank_or_zero (slice_get path (length path - 1))
+
+abbrev pub pushed : Opened → Open → Opened
+pushed w o = record { top = o; under = w.top ∷ w.under }
+
+-- where the instance of a path goes on, of which at most an iteration isn't open yet
+abbrev pub entered : List ℕ → Opened → Opened
+entered path w = cond (nat_lt w.top.ranks (length path)) (pushed w (begun (length path) (last_rank path) Iterated w.top.before)) w
+
+abbrev pub went : Opened → Event → Opened
+went w (event.Print j v) = record w { top = noted w.top (event.Print j v) }
+went w (event.Draw j n) = record w { top = noted w.top (event.Draw j n) }
+went w (event.New j) = record w { top = noted w.top (event.New j) }
+went w (event.Spawn j) = pushed (record w { top = noted w.top (event.Spawn j) }) (begun (length j) (last_rank j) Spawned (noted w.top (event.Spawn j)).before)
+went w (event.Sync j) = record w { top = noted w.top (event.Sync j) }
+went w (event.Loop j) = record w { top = noted w.top (event.Loop j) }
+
+-- a pedigree's path, which is all of it but the last rank
+abbrev pub path_of : Event → List ℕ
+path_of e = take (length (pedigree_of e) - 1) (pedigree_of e)
+
+abbrev pub walked : Opened → Event → Opened
+walked w e = went (entered (path_of e) (left (path_of e) w.top w.under)) e
+
+abbrev pub walked_all : Opened → List Event → Opened
+walked_all w [] = w
+walked_all w (e ∷ es) = walked_all (walked w e) es
+
+-- the length of the longest chain, as the walk has it once all instances have ended
+abbrev pub walked_span : List Event → ℕ
+walked_span es = (ended (walked_all start es).top (walked_all start es).under).within
+
+-- The walk along the events of a serial elision comes to their span.
+abbrev pub SpansAreWalked : Type 0
+SpansAreWalked = (plan : PlanView) → IsSpan (elision plan).items (walked_span (elision plan).items)

@@ -1,0 +1,59 @@
+ghost use Rattle.std.specs.Prelude.{◌≡◌, IfOk, OnOk, length};
+ghost use Rattle.serial_meaning.specs.Eval.{main_origin};
+ghost use Rattle.serial_meaning.specs.Render.{IsWhole};
+ghost use Rattle.serial_meaning.specs.Segments.{joined};
+ghost use Rattle.span_report.specs.Series.{IsSpan};
+ghost use Rattle.span_report.specs.Walks.{opened, walked_all, walked_span};
+
+use crate::laws::spans_are_walked;
+use crate::measure::Span;
+use crate::walk::Walk;
+use serial_meaning::laws::whole_answers_are_evals;
+use serial_meaning::{Answer, Event, Memory, Out};
+use std::alloc::Global;
+
+/// Work and span of main's answer. It takes memory for the open instances alone, however many events there are.
+pub fn span(alloc: Global, answer: &Answer) -> Result<Span, Memory>
+    requires main { answer.now.origin ≡ main_origin answer.now.plan }
+    requires whole { IsWhole answer.now.outcome }
+    ensures work { IfOk result (λ s. s.work ≡ length answer.now.out) }
+    ensures span { IfOk result (λ s. IsSpan answer.now.out s.span) }
+{
+    whole_answers_are_evals();
+    spans_are_walked();
+    Ok(Span {
+        work: answer.out.len(),
+        span: longest_chain(alloc, &answer.out)?,
+    })
+}
+
+/// How many events the longest chain has.
+#[tactic(auto, using(crate::proofs::Stacks::walked_append))]
+fn longest_chain(alloc: Global, events: &Out) -> Result<u64, Memory>
+    ensures { IfOk result (λ n. n ≡ walked_span events.now) }
+{
+    let mut walk = Walk::new(alloc);
+    if let Some((full, last)) = events.segments() {
+        note_segments(&mut walk, full)?;
+        note_segment(&mut walk, last)?;
+    }
+    Ok(walk.longest())
+}
+
+fn note_segments(walk: &mut Walk, segments: &[Vec<Event>]) -> Result<(), Memory>
+    ensures { OnOk result (opened walk.new ≡ walked_all (opened walk.old) (joined segments.now)) }
+{
+    for segment in segments {
+        note_segment(walk, segment)?;
+    }
+    Ok(())
+}
+
+fn note_segment(walk: &mut Walk, events: &[Event]) -> Result<(), Memory>
+    ensures { OnOk result (opened walk.new ≡ walked_all (opened walk.old) events.now) }
+{
+    for event in events {
+        walk.note(event)?;
+    }
+    Ok(())
+}

@@ -1,0 +1,110 @@
+ghost use Rattle.std.specs.Prelude.{◌≡◌, OnOk, reverse};
+ghost use Rattle.span_report.specs.Series.{pedigree_of};
+ghost use Rattle.span_report.specs.Opens.{joined};
+ghost use Rattle.span_report.specs.Walks.{ended, entered, left, opened, path_of, pushed, start, walked};
+
+use crate::instance::{Begun, Open};
+use ped_path::{Ped, Pedigree};
+use serial_meaning::{Event, Memory};
+use std::alloc::Global;
+use std::mem;
+
+/// A walk along the events of a run. It keeps the open instances alone: the one that the last event belongs to, or that it spawned,
+/// and those that this one stands below.
+#[derive(Drop)]
+pub(crate) struct Walk {
+    top: Open,
+    /// From main's on.
+    below: Vec<Open>,
+}
+
+impl Walk {
+    pub(crate) fn new(alloc: Global) -> Walk
+        ensures { opened result ≡ start }
+    {
+        Walk {
+            top: Open::begin(0, 0, Begun::Spawned, 0),
+            below: Vec::new(alloc),
+        }
+    }
+
+    /// Goes on by the run's next event.
+    pub(crate) fn note(&mut self, event: &Event) -> Result<(), Memory>
+        ensures { OnOk result (opened self.new ≡ walked (opened self.old) event.now) }
+    {
+        let path = &pedigree_of(event).path;
+        self.leave(path);
+        self.enter(path)?;
+        self.top.note(event)?;
+        if let Event::Spawn(at) = event {
+            let child = Open::begin(at.len(), at.rank, Begun::Spawned, self.top.before);
+            self.begin(child)?;
+        }
+        Ok(())
+    }
+
+    /// Ends the instances that this path's instance neither is nor stands below.
+    fn leave(&mut self, path: &Ped)
+        ensures { opened self.new ≡ left path.now self.old.top (reverse self.old.below.items) }
+    {
+        while !self.top.leads_to(path) {
+            match self.below.pop() {
+                Some(parent) => self.end_in(parent),
+                None => return,
+            }
+        }
+    }
+
+    /// Goes to the instance of this path: the current one, or the next iteration of the loop that this one is in.
+    fn enter(&mut self, path: &Ped) -> Result<(), Memory>
+        ensures { OnOk result (opened self.new ≡ entered path.now (opened self.old)) }
+    {
+        let ranks = path.len();
+        if self.top.ranks < ranks {
+            let last = path.rank_at(ranks - 1).unwrap_or(0);
+            let turn = Open::begin(ranks, last, Begun::Iterated, self.top.before);
+            self.begin(turn)?;
+        }
+        Ok(())
+    }
+
+    /// Ends the current instance, whose parent this is.
+    fn end_in(&mut self, parent: Open)
+        ensures top { self.new.top ≡ joined parent self.old.top.begun self.old.top.within }
+        ensures below { self.new.below ≡ self.old.below }
+    {
+        let child = mem::replace(&mut self.top, parent);
+        self.top.take_in(&child);
+    }
+
+    fn begin(&mut self, child: Open) -> Result<(), Memory>
+        ensures { OnOk result (opened self.new ≡ pushed (opened self.old) child) }
+    {
+        self.below.push(self.top)?;
+        self.top = child;
+        Ok(())
+    }
+
+    /// Ends all instances. The length of the longest chain of all.
+    pub(crate) fn longest(mut self) -> u64
+        ensures { result ≡ (ended self.top (reverse self.below.items)).within }
+    {
+        while let Some(parent) = self.below.pop() {
+            self.end_in(parent);
+        }
+        self.top.within
+    }
+}
+
+fn pedigree_of(event: &Event) -> &Pedigree
+    ensures { result.now ≡ pedigree_of event.now }
+{
+    match event {
+        Event::Print(at, _)
+        | Event::Draw(at, _)
+        | Event::New(at)
+        | Event::Spawn(at)
+        | Event::Sync(at)
+        | Event::Loop(at) => at,
+    }
+}
