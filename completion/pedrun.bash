@@ -9,6 +9,7 @@ _pedrun_options() {
     hash) echo --at --seed --gamma --rounds ;;
     gen) echo --shape --size ;;
     stream) echo --at --count --seed --gamma --rounds --below ;;
+    span) echo --seed --gamma --depth --budget --rounds ;;
   esac
 }
 
@@ -18,7 +19,7 @@ _pedrun_left() {
   shift
   if [ $# -eq 0 ]; then
     case $command in
-      run | serial | check | fmt | replay | hash | gen | stream) echo --help ;;
+      run | serial | check | fmt | replay | hash | gen | stream | span) echo --help ;;
     esac
   fi
   for option in $(_pedrun_options "$command"); do
@@ -42,7 +43,7 @@ _pedrun() {
       ;;
   esac
   if [ "$COMP_CWORD" -eq 1 ]; then
-    choices='run serial check fmt replay hash gen stream --help --version'
+    choices='run serial check fmt replay hash gen stream span --help --version'
   elif [ $((COMP_CWORD % 2)) -eq 0 ]; then
     choices=$(_pedrun_left "${COMP_WORDS[1]}" "${COMP_WORDS[@]:2:COMP_CWORD-2}")
   else

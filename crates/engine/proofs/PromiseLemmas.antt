@@ -51,6 +51,7 @@ taken_script command.Check takes bytes report r = (r.0, r.1, r.2)
 taken_script command.Fmt takes bytes report r = (r.0, r.1, r.2)
 taken_script (command.Gen shape size) takes bytes report r = absurd (cc)
 taken_script (command.Stream gamma at count rounds below) takes bytes report r = absurd (cc)
+taken_script (command.Span settings) takes bytes report r = (r.0, r.1, r.2)
 
 -- what a command that takes none reports has nothing to do with the source
 alone : (command : Command) → IsFalse (takes_script command) → (bytes other : List ℕ) (report : Report) → Reports command bytes report → Reports command other report
@@ -63,6 +64,7 @@ alone command.Check takes bytes other report r = absurd (cc)
 alone command.Fmt takes bytes other report r = absurd (cc)
 alone (command.Gen shape size) takes bytes other report r = r
 alone (command.Stream gamma at count rounds below) takes bytes other report r = r
+alone (command.Span settings) takes bytes other report r = absurd (cc)
 
 module _ (source out err : Watched) where
   -- where the words give a command
@@ -223,6 +225,7 @@ module _ (source out err : Watched) where
   replay_tells command.Fmt bytes report r tells = absurd (tells_at report _ r.3 tells)
   replay_tells (command.Gen shape size) bytes report r tells = absurd (tells_at report _ r tells)
   replay_tells (command.Stream gamma at count rounds below) bytes report r tells = absurd (tells_at report _ r tells)
+  replay_tells (command.Span settings) bytes report r tells = absurd (no_run_tells (elision (plan_of settings r.0)).ending (subst (TellsNone err) r.3.ending tells))
 
   -- where the words give a command, and the source tells its bytes
   module _ (command : Command) (bytes : List ℕ) (told : source.before ≡ Some bytes) where

@@ -1,18 +1,20 @@
 -- What a run's plan holds, and what an answer prints.
-use Rattle.std.proofs.Common.{◌≡◌, ℕ, List, Result, Ok, Err, IfOk, refl, sym, ap, ◌∙◌, subst}
+use Rattle.std.proofs.Common.{◌≡◌, ℕ, List, ◌++◌, length, Result, Ok, Err, IfOk, refl, sym, ap, ◌∙◌, subst}
 use Rattle.serial_meaning.specs.Plan.{PlanView}
 use Rattle.serial_meaning.specs.Eval.{eval, elision, main_origin}
 use Rattle.serial_meaning.specs.Laws.{IsOriginOf, Main}
 use Rattle.serial_meaning.specs.Answer.{AnswerView, IsAnswer, IsEval, outcome_of}
 use Rattle.serial_meaning.specs.Cuts.{WholeAnswersAreEvals}
-use Rattle.serial_meaning.specs.Render.{IsWhole, answer_text}
+use Rattle.serial_meaning.specs.Render.{IsWhole, answer_text, end_line}
 use Rattle.serial_meaning.specs.declared.value.Value.{Value}
+use Rattle.serial_meaning.specs.declared.event.Event.{Event}
 use Rattle.serial_meaning.specs.declared.event.Fault.{Fault}
+use Rattle.span_report.specs.Series.{IsSpan}
 use Rattle.ped_words.specs.declared.command.Settings.{Settings}
 use Rattle.strand_meaning.specs.Strands.{strand_at}
 use Rattle.engine.specs.declared.refusal.Refusal.{Refusal}
 use Rattle.engine.specs.declared.report.Report as report
-use Rattle.engine.specs.Report.{IsPlanOf, IsReplayOf, ending_of, found_report, outcome_ending, run_report, shown}
+use Rattle.engine.specs.Report.{IsPlanOf, IsReplayOf, IsSpanReport, Report, ending_of, found_report, outcome_ending, run_report, shown, span_lines}
 use Rattle.serial_meaning.specs.declared.origin.Origin.{Origin}
 
 ends_so : (plan : PlanView) (e : Result (List Value) Fault) → outcome_ending (outcome_of (main_origin plan) e) ≡ ending_of e
@@ -39,6 +41,19 @@ module _ (a : AnswerView) (plan : PlanView) (evals : WholeAnswersAreEvals) (is :
 
   pub main_ending : outcome_ending a.outcome ≡ (run_report plan).ending
   main_ending = ap outcome_ending ends ∙ ends_so plan (elision plan).ending
+
+-- Work and span of main's answer are the elision's.
+pub span_reported : (a : AnswerView) (told : Report) (work span : ℕ) → WholeAnswersAreEvals → IsAnswer a.plan a.origin a.out a.outcome → IsWhole a.outcome → a.origin ≡ main_origin a.plan → work ≡ length a.out → IsSpan a.out span →
+    told.output ≡ span_lines work span ++ end_line a.outcome → told.ending ≡ outcome_ending a.outcome → IsSpanReport a.plan told
+span_reported a told work span evals is uncut main counted longest output ending =
+    let events : a.out ≡ (elision a.plan).items = (evals a.plan a.origin a.out a.outcome is uncut).events ∙ ap (λ o. (eval a.plan o).items) main in
+    let ended : a.outcome ≡ outcome_of (main_origin a.plan) (elision a.plan).ending = ends a a.plan evals is uncut refl main in
+    record {
+      span = span;
+      longest = subst (λ (es : List Event). IsSpan es span) events longest;
+      output = output ∙ ap (λ n. span_lines n span ++ end_line a.outcome) (counted ∙ ap length events) ∙ ap (λ o. span_lines (length (elision a.plan).items) span ++ end_line o) ended;
+      ending = ending ∙ main_ending a a.plan evals is uncut refl main;
+    }
 
 -- What is written of the strand of a script's plan is a replay of the script.
 pub replayed_of : (settings : Settings) (j bytes : List ℕ) (plan seen : PlanView) → IsPlanOf settings bytes plan → seen ≡ plan → (result : Result report.Report Refusal) → IfOk result (λ r. shown r ≡ found_report j (strand_at seen j)) → IfOk result (λ r. IsReplayOf settings j bytes (shown r))

@@ -7,8 +7,8 @@ use Rattle.script_print.specs.Canonical.{canonical}
 use Rattle.draw_lines.specs.Lines.{stream_text}
 use Rattle.ped_gen.specs.Scripts.{generated}
 use Rattle.ped_words.specs.declared.command.Command.{Command}
-use Rattle.ped_words.specs.declared.command.Command.TheVariants.{Run, Serial, Sim, Replay, Hash, Check, Fmt, Gen, Stream}
-use Rattle.engine.specs.Report.{Report, said, plan_of, run_report, replay_report, hash_text}
+use Rattle.ped_words.specs.declared.command.Command.TheVariants.{Run, Serial, Sim, Replay, Hash, Check, Fmt, Gen, Stream, Span}
+use Rattle.engine.specs.Report.{IsSpanOf, Report, said, plan_of, run_report, replay_report, hash_text}
 
 -- The first word says the command that runs on workers.
 abbrev pub IsRun : List (List ℕ) → Type 0
@@ -25,6 +25,7 @@ runs_today Check = true
 runs_today Fmt = true
 runs_today (Gen shape size) = true
 runs_today (Stream gamma at count rounds below) = true
+runs_today (Span settings) = true
 
 abbrev pub takes_script : Command → Bool
 takes_script (Run settings workers) = true
@@ -36,6 +37,7 @@ takes_script Check = true
 takes_script Fmt = true
 takes_script (Gen shape size) = false
 takes_script (Stream gamma at count rounds below) = false
+takes_script (Span settings) = true
 
 -- The command's report is made whole before it is written. A stream is written block by block.
 abbrev pub is_whole : Command → Bool
@@ -48,6 +50,7 @@ is_whole Check = true
 is_whole Fmt = true
 is_whole (Gen shape size) = true
 is_whole (Stream gamma at count rounds below) = false
+is_whole (Span settings) = true
 
 abbrev pub reads_script : Command → Bool
 reads_script command = runs_today command && takes_script command
@@ -57,7 +60,7 @@ abbrev pub Takes : Command → Script → Type 0
 Takes Fmt script = ⊤
 Takes command script = IsValid script
 
--- what is written for a script that the command takes
+-- what is written for a script that the command takes, where one function says it
 abbrev pub report_of : Command → Script → Report
 report_of (Run settings workers) script = run_report (plan_of settings script)
 report_of (Serial settings) script = run_report (plan_of settings script)
@@ -70,4 +73,5 @@ abbrev pub Reports : Command → List ℕ → Report → Type 0
 Reports (Hash gamma at rounds) bytes report = report ≡ said (hash_text gamma at rounds)
 Reports (Gen shape size) bytes report = report ≡ said (generated shape size)
 Reports (Stream gamma at count rounds below) bytes report = report ≡ said (stream_text gamma at count rounds below)
+Reports (Span settings) bytes report = IsSpanOf settings bytes report
 Reports command bytes report = (script : Script) × Text bytes script × Takes command script × (report ≡ report_of command script)

@@ -1,5 +1,5 @@
 -- What a command writes.
-use Rattle.std.specs.Prelude.{◌≡◌, ℕ, List, [], ◌++◌, Option, Some, None, Result, Ok, Err, codes, decimal}
+use Rattle.std.specs.Prelude.{◌≡◌, ℕ, List, [], ◌++◌, length, Option, Some, None, Result, Ok, Err, codes, decimal}
 use Rattle.dotmix.specs.Draws.{dot, dotmix}
 use Rattle.ped_words.specs.declared.command.Settings.{Settings}
 use Rattle.script_check.specs.Valid.{IsValid}
@@ -8,8 +8,9 @@ use Rattle.script_grammar.specs.declared.tree.Script.{Script}
 use Rattle.serial_meaning.specs.Plan.{PlanView}
 use Rattle.serial_meaning.specs.Eval.{main_origin, elision}
 use Rattle.serial_meaning.specs.Answer.{outcome_of}
-use Rattle.serial_meaning.specs.Render.{rendered, strand_text}
+use Rattle.serial_meaning.specs.Render.{end_line, rendered, strand_text}
 use Rattle.serial_meaning.specs.declared.answer.Strand.{Strand}
+use Rattle.span_report.specs.Series.{IsSpan}
 use Rattle.strand_meaning.specs.Strands.{Found, Reached, Missing, Blocked as Blocks, strand_at}
 use Rattle.serial_meaning.specs.declared.value.Value.{Value}
 use Rattle.serial_meaning.specs.declared.answer.Outcome.{Outcome}
@@ -45,6 +46,16 @@ run_report plan = record {
   ending = ending_of (elision plan).ending;
 }
 
+abbrev pub span_lines : ℕ → ℕ → List ℕ
+span_lines work span = codes "work " ++ decimal work ++ codes "\nspan " ++ decimal span ++ codes "\n"
+
+-- The report is of the serial elision: how many events it has, how many the longest chain of them, and then a line of its fault.
+pub record IsSpanReport (plan : PlanView) (told : Report) : Type 0 where
+  pub span : ℕ
+  pub longest : IsSpan (elision plan).items span
+  pub output : told.output ≡ span_lines (length (elision plan).items) span ++ end_line (outcome_of (main_origin plan) (elision plan).ending)
+  pub ending : told.ending ≡ ending_of (elision plan).ending
+
 -- These bytes are the text of a valid script, and this is its plan.
 abbrev pub IsPlanOf : Settings → List ℕ → PlanView → Type 0
 IsPlanOf settings bytes plan = (script : Script) × Text bytes script × IsValid script × (plan ≡ plan_of settings script)
@@ -74,6 +85,10 @@ IsReplayOf settings j bytes report = (script : Script) × Text bytes script × I
 -- These bytes are the text of a valid script, and a run of it writes this.
 abbrev pub IsRunOf : Settings → List ℕ → Report → Type 0
 IsRunOf settings bytes report = (script : Script) × Text bytes script × IsValid script × (report ≡ run_report (plan_of settings script))
+
+-- These bytes are the text of a valid script, and this is the report of its work and span.
+abbrev pub IsSpanOf : Settings → List ℕ → Report → Type 0
+IsSpanOf settings bytes report = (script : Script) × Text bytes script × IsValid script × IsSpanReport (plan_of settings script) report
 
 -- the dot product of a pedigree, and its draw in so many rounds
 abbrev pub hash_text : List ℕ → List ℕ → ℕ → List ℕ

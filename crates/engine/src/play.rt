@@ -5,12 +5,12 @@ ghost use Rattle.std.specs.Arc.{arc_value};
 ghost use Rattle.ped_words.specs.Commands.{AreLawful, IsWorkers};
 ghost use Rattle.script_check.specs.Valid.{IsValid};
 ghost use Rattle.serial_meaning.specs.Eval.{main_origin};
-ghost use Rattle.serial_meaning.specs.Render.{IsWhole};
+ghost use Rattle.serial_meaning.specs.Render.{IsWhole, end_line};
 ghost use Rattle.strand_meaning.specs.Laws.{IsFaultOf};
 ghost use Rattle.strand_meaning.specs.Strands.{strand_at};
 ghost use Rattle.engine.specs.Promise.{most_bytes};
 ghost use Rattle.engine.specs.Refusal.{IsMisfit};
-ghost use Rattle.engine.specs.Report.{IsPlanOf, IsReplayOf, IsRunOf, found_report, outcome_ending, plan_of, run_report, shown, strand_report};
+ghost use Rattle.engine.specs.Report.{IsPlanOf, IsReplayOf, IsRunOf, IsSpanOf, IsSpanReport, found_report, outcome_ending, plan_of, run_report, shown, span_lines, strand_report};
 
 use crate::refusal::Refusal;
 use crate::report::{Ending, Report};
@@ -20,8 +20,9 @@ use ped_path::Pedigree;
 use ped_words::Settings;
 use replay::{ReplayError, replay};
 use script_check::Checked;
-use serial_meaning::{Answer, Memory, Outcome, Plan, Strand, laws, render_run, render_strand};
-use std::alloc::Global;
+use serial_meaning::{Answer, Memory, Out, Outcome, Plan, Strand, laws, render_run, render_strand};
+use span_report::{Span, span};
+use std::alloc::{AllocError, Global};
 use std::sync::{Arc, Wait};
 use std::thread::Threads;
 
@@ -110,6 +111,59 @@ pub(crate) fn played_by_crew<R: Threads + Wait + Sync, G: Gate + Sync>(
     let plan = planned(alloc, settings, bytes)?;
     let answer = run_crew(rt, alloc, &plan, workers, gate)?;
     Ok(answer_report(alloc, &answer)?)
+}
+
+// The line of the fault by which an answer ended, if it did.
+fn end_line(alloc: Global, outcome: Outcome) -> Result<Vec<u8>, Memory>
+    ensures { IfOk result (λ line. line.items ≡ end_line outcome) }
+{
+    match outcome {
+        Outcome::Fault(fault) => {
+            let end = Strand {
+                events: Out::new(),
+                fault: Some(fault),
+            };
+            render_strand(alloc, &end)
+        }
+        _ => Ok(Vec::new(alloc)),
+    }
+}
+
+fn span_lines(alloc: Global, measured: Span) -> Result<Vec<u8>, AllocError>
+    ensures { IfOk result (λ lines. lines.items ≡ span_lines measured.work measured.span) }
+{
+    let Span { work, span } = measured;
+    let lines = format!(in alloc; "work {work}\nspan {span}\n")?;
+    Ok(lines.into_bytes())
+}
+
+// Work and span of main's answer, and the line of its fault.
+#[tactic(auto, using(crate::proofs::ReportLemmas::span_reported))]
+fn measure_report(alloc: Global, answer: Answer) -> Result<Report, Memory>
+    requires main { answer.origin ≡ main_origin answer.plan }
+    requires whole { IsWhole answer.outcome }
+    ensures { IfOk result (λ report. IsSpanReport answer.plan (shown report)) }
+{
+    laws::whole_answers_are_evals();
+    let measured = span(alloc, &answer)?;
+    let ending = ending_for(&answer.outcome);
+    let mut output = span_lines(alloc, measured)?;
+    let Answer { outcome, .. } = answer;
+    let end = end_line(alloc, outcome)?;
+    output.extend_from_slice(&end)?;
+    Ok(Report { output, ending })
+}
+
+/// The work and the span of a run on the caller's thread, of the script that these bytes are the text of.
+pub(crate) fn measured(alloc: Global, settings: Settings, bytes: &[u8]) -> Result<Report, Refusal>
+    requires lawful { AreLawful settings }
+    requires within { length bytes.now ≤ most_bytes }
+    ensures report { IfOk result (λ report. IsSpanOf settings bytes.now (shown report)) }
+    ensures refused { IfErr result (IsMisfit IsValid bytes.now) }
+{
+    let plan = planned(alloc, settings, bytes)?;
+    let answer = run_alone(alloc, &plan)?;
+    Ok(measure_report(alloc, answer)?)
 }
 
 // What is written of a strand.

@@ -8,7 +8,7 @@ ghost use Rattle.engine.specs.Promise.{most_bytes};
 ghost use Rattle.engine.specs.Refusal.{IsMisfit};
 ghost use Rattle.engine.specs.Report.{hash_text, said, shown};
 
-use crate::play::{played, replayed};
+use crate::play::{measured, played, replayed};
 use crate::refusal::Refusal;
 use crate::script::{any_script, valid_script};
 use dotmix::{Gamma, dot, dotmix};
@@ -79,6 +79,7 @@ pub fn script_report(alloc: Global, command: Command, bytes: &[u8]) -> Result<Re
         Command::Run { settings, .. } => played(alloc, settings, bytes),
         Command::Serial { settings } => played(alloc, settings, bytes),
         Command::Replay { settings, at } => replayed(alloc, settings, at, bytes),
+        Command::Span { settings } => measured(alloc, settings, bytes),
         Command::Fmt => {
             let script = any_script(alloc, bytes)?;
             Ok(Report::said(print_script(alloc, &script)?))

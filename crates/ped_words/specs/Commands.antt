@@ -7,7 +7,7 @@ use Rattle.ped_words.specs.Making.{hash_depth}
 use Rattle.ped_words.specs.Pedigrees.{last_rank, most_ranks}
 use Rattle.ped_words.specs.Table.{most_count}
 use Rattle.ped_words.specs.declared.command.Command.{Command}
-use Rattle.ped_words.specs.declared.command.Command.TheVariants.{Run, Serial, Sim, Replay, Hash, Check, Fmt, Gen, Stream}
+use Rattle.ped_words.specs.declared.command.Command.TheVariants.{Run, Serial, Sim, Replay, Hash, Check, Fmt, Gen, Stream, Span}
 use Rattle.ped_words.specs.declared.command.Settings.{Settings}
 
 -- A script with these settings is a plan.
@@ -39,3 +39,4 @@ IsLawful Check = Unit {0}
 IsLawful Fmt = Unit {0}
 IsLawful (Gen shape size) = Fits shape size
 IsLawful (Stream gamma at count rounds below) = IsHash gamma at rounds × IsCount at count × IfSome below (λ m. 1 ≤ m)
+IsLawful (Span settings) = AreLawful settings

@@ -72,6 +72,7 @@ command_of verb.Fmt values = Some command.Fmt
 command_of verb.Gen values = option_and_then (λ s. option_map (λ n. command.Gen s n) (number values name.Size)) (shape values)
 command_of verb.Stream values =
     option_and_then (λ j. option_map (λ n. command.Stream (gamma_of values hash_depth) j n (rounds_of values) (number values name.Below)) (number values name.Count)) (pedigree values)
+command_of verb.Span values = Some (command.Span (settings_of values))
 
 -- It holds of what is there.
 abbrev pub holds_for : {X : Type 0} → (X → Bool) → Option X → Bool

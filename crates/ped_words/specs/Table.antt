@@ -32,6 +32,7 @@ verb_of word =
     (codes "fmt", verb.Fmt) ∷
     (codes "gen", verb.Gen) ∷
     (codes "stream", verb.Stream) ∷
+    (codes "span", verb.Span) ∷
     [])
     word
 
@@ -64,6 +65,7 @@ options verb.Check = []
 options verb.Fmt = []
 options verb.Gen = name.Shape ∷ name.Size ∷ []
 options verb.Stream = name.At ∷ name.Count ∷ name.Seed ∷ name.Gamma ∷ name.Rounds ∷ name.Below ∷ []
+options verb.Span = name.Seed ∷ name.Gamma ∷ name.Depth ∷ name.Budget ∷ name.Rounds ∷ []
 
 -- a number for each name, so that names can be compared
 abbrev pub place : Name → ℕ

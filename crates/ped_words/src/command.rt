@@ -52,6 +52,10 @@ pub enum Command {
         shape: Shape,
         size: u64,
     },
+    /// Runs a script on the caller's thread, and prints its work and span. It shows what is plain.
+    Span {
+        settings: Settings,
+    },
     /// Prints the draws of so many consecutive ranks, from 1 to 1048576, from a pedigree's own on. The ranks are below 2^32, the
     /// coefficients and rounds as for `Hash`. Each number is printed modulo `below`, which isn't 0, where there is one.
     Stream {

@@ -54,6 +54,9 @@ impl<'a> Given<'a> {
             Verb::Fmt => Ok(Command::Fmt),
             Verb::Gen => self.generation(),
             Verb::Stream => self.stream(alloc),
+            Verb::Span => Ok(Command::Span {
+                settings: self.settings(alloc)?,
+            }),
         }
     }
 

@@ -23,6 +23,7 @@ pub(crate) enum Verb {
     Fmt,
     Gen,
     Stream,
+    Span,
 }
 
 /// The options of all commands.
@@ -70,6 +71,7 @@ impl Verb {
             "fmt" => Some(Verb::Fmt),
             "gen" => Some(Verb::Gen),
             "stream" => Some(Verb::Stream),
+            "span" => Some(Verb::Span),
             _ => None,
         }
     }
@@ -114,6 +116,10 @@ impl Verb {
             Verb::Stream => matches!(
                 name,
                 Name::At | Name::Count | Name::Seed | Name::Gamma | Name::Rounds | Name::Below
+            ),
+            Verb::Span => matches!(
+                name,
+                Name::Seed | Name::Gamma | Name::Depth | Name::Budget | Name::Rounds
             ),
         }
     }

@@ -21,6 +21,7 @@ pub enum Topic {
     Hash,
     Gen,
     Stream,
+    Span,
 }
 
 // Whether the words after a command ask for its help.
@@ -47,6 +48,7 @@ impl Topic {
             "hash" => Some(Topic::Hash),
             "gen" => Some(Topic::Gen),
             "stream" => Some(Topic::Stream),
+            "span" => Some(Topic::Span),
             _ => None,
         }
     }
@@ -78,6 +80,7 @@ impl Topic {
             Topic::Hash => text::HASH,
             Topic::Gen => text::GEN,
             Topic::Stream => text::STREAM,
+            Topic::Span => text::SPAN,
         }
     }
 }

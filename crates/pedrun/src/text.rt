@@ -23,6 +23,8 @@ Commands:
   hash     prints the dot product of a pedigree and its draw
   gen      prints a script of a shape and a size
   stream   prints the draws of consecutive ranks
+  span     prints how many events the script has, and how long their longest
+           chain is
 
 Options, in any order, each at most once:
   --seed N         the seed of the draws, from 0 to 18446744073709551615
@@ -236,4 +238,32 @@ Exit status: 0; 2 faulty words; 5 a failed write; 6 no memory.
 
 Example:
   $ pedrun stream --seed 7 --at 0.0 --count 10 --below 6
+";
+
+/// `pedrun span --help`.
+pub const SPAN: &str = "\
+Runs the script on standard input without workers. It prints its work, which is
+how many events there are, and its span, which is how many of them the longest
+chain has: events of which each is in series before the next. A line of the
+fault follows, if there is one. An event is a print, a draw, a new object, a
+spawn, a sync or a parallel loop. Events are counted, and no time.
+
+Usage: pedrun span [--OPTION VALUE]... < SCRIPT
+
+Options, in any order, each at most once; a gamma excludes a seed:
+  --seed N         the seed of the draws, from 0 to 18446744073709551615
+                   (default 0)
+  --gamma N,N,..   the coefficients of the draws in place of a seed, each below
+                   18446744073709551557, at most as many as the depth
+  --depth N        how many ranks a pedigree may have, from 1 to 256
+                   (default 256)
+  --budget N       how many steps each instance may make, from 1 to 4294967295
+                   (default 1000000)
+  --rounds N       how often a draw is mixed, from 0 to 8 (default 4)
+
+Exit status: 0; 1 where the last line is a fault's; 2 faulty words; 3 no valid
+script; 4 a failed read; 5 a failed write; 6 no memory.
+
+Example:
+  $ pedrun span --seed 7 < examples/pi.ped
 ";

@@ -2,6 +2,7 @@
 
 mod commands;
 mod crews;
+mod measures;
 mod runs;
 mod scripts;
 mod strands;

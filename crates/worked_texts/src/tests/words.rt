@@ -55,6 +55,8 @@ fn words_are_judged_in_order(rt: HostRuntime) {
         ("stream --depth 1", 3, 1),
         ("stream --size 1", 3, 1),
         ("fmt --seed", 3, 1),
+        ("span --show log", 3, 1),
+        ("span --workers 1", 3, 1),
         ("replay --at 0 --show log", 3, 3),
         ("run --seed 1 --seed 2", 4, 3),
         ("run --seed 1 --seed", 4, 3),
@@ -118,6 +120,7 @@ fn words_are_judged_in_order(rt: HostRuntime) {
         ("gen --size 31", 8, 3),
         ("run --gamma 1,2 --depth 1", 7, 2),
         ("run --depth 1 --gamma 1,2", 7, 4),
+        ("span --depth 1 --gamma 1,2", 7, 4),
         ("run --gamma 1,2 --depth 1 x", 9, 5),
         ("run --gamma 18446744073709551557", 7, 2),
         ("hash --at 0 --gamma 18446744073709551557", 7, 4),
@@ -193,7 +196,7 @@ fn sets(
 ) -> Result<(), Fail> {
     let (settings, given) = match command_of(alloc, line)? {
         Command::Run { settings, workers } => (settings, (workers, 0, [0; 3])),
-        Command::Serial { settings } => (settings, (0, 0, [0; 3])),
+        Command::Serial { settings } | Command::Span { settings } => (settings, (0, 0, [0; 3])),
         Command::Sim {
             settings,
             workers,
@@ -215,7 +218,7 @@ const SEEDED: &[u64] = &[16_294_208_416_658_607_535, 7_960_286_522_194_355_700];
 
 #[test]
 fn commands_have_their_settings(rt: HostRuntime) -> Result<(), Fail> {
-    let rows: [(&str, Beside, (u32, u32), Show, &[u64]); 5] = [
+    let rows: [(&str, Beside, (u32, u32), Show, &[u64]); 6] = [
         ("run", (4, 0, [0; 3]), (256, 1_000_000), Show::Plain, SEEDED),
         (
             "run --workers 1 --budget 4294967295 --seed 1234567 --depth 1 --show plain",
@@ -230,6 +233,13 @@ fn commands_have_their_settings(rt: HostRuntime) -> Result<(), Fail> {
             (256, 1),
             Show::Plain,
             &[18_446_744_073_709_551_556, 0],
+        ),
+        (
+            "span --gamma 5 --depth 2 --rounds 0 --budget 7",
+            (0, 0, [0; 3]),
+            (2, 7),
+            Show::Plain,
+            &[5, 0],
         ),
         (
             "sim --show log --number 7 --gamma 5,6 --depth 3 --workers 64 --budget 9",

@@ -25,3 +25,6 @@ returns-in_err-valid_script-in-Check-clause-refused c =
 
 pub returns-in-Replay-clause-refused : goal.returns-in-Replay-clause-refused
 returns-in-Replay-clause-refused c = let P : Command → Type 0 = λ command. IfErr c.replayed.result (IsMisfit (Takes command) c.args.bytes.now) in subst P (sym c.in-Replay.is) c.replayed.ensures.refused
+
+pub returns-in-Span-clause-refused : goal.returns-in-Span-clause-refused
+returns-in-Span-clause-refused c = let P : Command → Type 0 = λ command. IfErr c.measured.result (IsMisfit (Takes command) c.args.bytes.now) in subst P (sym c.in-Span.is) c.measured.ensures.refused

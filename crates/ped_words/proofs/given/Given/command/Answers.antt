@@ -20,6 +20,11 @@ module _ (v : Verb) (values : Values) (words : ℕ) (s : Settings) (fits : gamma
       subst (λ (x : Verb). made x values words ≡ Ok (command.Serial s)) (sym is)
       (ap (λ b. made_of (option_or (unfit values name.Gamma b) None) words (Some (command.Serial (settings_of values)))) fits ∙ ap (λ t. Ok (command.Serial t)) (sym same))
 
+  span_made : v ≡ verb.Span → made v values words ≡ Ok (command.Span s)
+  span_made is =
+      subst (λ (x : Verb). made x values words ≡ Ok (command.Span s)) (sym is)
+      (ap (λ b. made_of (option_or (unfit values name.Gamma b) None) words (Some (command.Span (settings_of values)))) fits ∙ ap (λ t. Ok (command.Span t)) (sym same))
+
 pub returns-in_ok-settings-in-Run-clause-value : goal.returns-in_ok-settings-in-Run-clause-value
 returns-in_ok-settings-in-Run-clause-value c =
     run_made c.args.verb (values_in c.args.self.now) _ c.in_ok-settings-in-Run.field-0 c.in_ok-settings-in-Run.ensures.fits c.in_ok-settings-in-Run.ensures.ok c.workers.result c.in-Run.is c.workers.ensures.value
@@ -27,3 +32,7 @@ returns-in_ok-settings-in-Run-clause-value c =
 pub returns-in_ok-settings-in-Serial-clause-value : goal.returns-in_ok-settings-in-Serial-clause-value
 returns-in_ok-settings-in-Serial-clause-value c =
     serial_made c.args.verb (values_in c.args.self.now) _ c.in_ok-settings-in-Serial.field-0 c.in_ok-settings-in-Serial.ensures.fits c.in_ok-settings-in-Serial.ensures.ok c.in-Serial.is
+
+pub returns-in_ok-settings-in-Span-clause-value : goal.returns-in_ok-settings-in-Span-clause-value
+returns-in_ok-settings-in-Span-clause-value c =
+    span_made c.args.verb (values_in c.args.self.now) _ c.in_ok-settings-in-Span.field-0 c.in_ok-settings-in-Span.ensures.fits c.in_ok-settings-in-Span.ensures.ok c.in-Span.is
