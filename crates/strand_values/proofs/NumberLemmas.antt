@@ -1,16 +1,19 @@
 -- Values of which only the number counts.
-use Rattle.std.proofs.Common.{◌≡◌, Bool, true, false, ◌==◌, List, [], ◌∷◌, map, length, Result, Ok, Err, refl, ap, sym, ◌∙◌}
-use Rattle.std.proofs.Common.{ℤ}
+use Rattle.std.proofs.Common.{◌≡◌, zero, suc, Bool, true, false, ◌==◌, List, [], ◌∷◌, map, length, Result, Ok, Err, refl, ap, sym, subst, ◌∙◌, int_rem, arith}
+use Rattle.std.proofs.lemmas.Bool.{eqb-true}
+use Rattle.std.proofs.Common.{ℤ, pos, negsuc, w64}
+use Rattle.std.specs.Int.{int_wrapping_div}
 use Rattle.script_grammar.specs.declared.tree.Comparison.{Comparison}
 use Rattle.script_grammar.specs.declared.tree.Expr.{Expr, roll-Expr, map-Expr, fold-roll-Expr}
 use Rattle.script_grammar.specs.declared.tree.Expr.TheVariants as variant
 use Rattle.script_grammar.specs.declared.tree.Expr.TheOpen as node
 use Rattle.script_grammar.specs.declared.tree.Expr.TheOpen.{Expr-F}
 use Rattle.script_grammar.specs.declared.tree.ProductSign.{ProductSign}
+use Rattle.script_grammar.specs.declared.tree.ProductSign.TheVariants as sign
 use Rattle.script_grammar.specs.declared.tree.ProductPart.{ProductPart}
 use Rattle.script_grammar.specs.declared.tree.SumPart.{SumPart}
 use Rattle.serial_meaning.specs.Runs.{◌>>=◌}
-use Rattle.serial_meaning.specs.Values.{Val, Env, Meaning, number, truth, compared, sums, products, sum_part, product_part, value_of, value_at, product_at, sum_at}
+use Rattle.serial_meaning.specs.Values.{Val, Env, Meaning, number, truth, compared, added, over, product, sums, products, sum_part, product_part, value_of, value_at, product_at, sum_at}
 use Rattle.serial_meaning.specs.declared.value.Value.{Value}
 use Rattle.serial_meaning.specs.declared.value.Value.TheVariants.{Int}
 use Rattle.strand_values.specs.Gives.{Gives, numbered, integral}
@@ -57,15 +60,71 @@ product_begins env (Ok v) n (p ∷ ps) h = let e : number v ≡ n = cc in rw e r
 pub product_gives : (env : Env) (d : Val) (n : ℤ) (ps : List (ProductSign × Meaning)) (r : Result ℤ Halt) → numbered d ≡ Ok n → Gives (integral r) (products env (Int n) ps) → Gives r (numbered (d >>= λ v. products env v ps))
 product_gives env d n ps r h g = rw (product_begins env d n ps h) (numbered_gives r (products env (Int n) ps) g)
 
--- where there is an operand more, the value begins as its number
+-- Where there is an operand more, the value is an integer
 
-pub sum_from : (env : Env) (v : Value) (n : ℤ) (rest : List SumPart) → (length rest == 0) ≡ false → n ≡ number v → sums env v (map sum_part rest) ≡ sums env (Int n) (map sum_part rest)
-sum_from env v n [] h e = absurd (cc)
-sum_from env v n (p ∷ ps) h e = rw e refl
+abbrev IsInt : Val → Type 0
+IsInt d = d ≡ integral (numbered d)
 
-pub product_from : (env : Env) (v : Value) (n : ℤ) (rest : List ProductPart) → (length rest == 0) ≡ false → n ≡ number v → products env v (map product_part rest) ≡ products env (Int n) (map product_part rest)
-product_from env v n [] h e = absurd (cc)
-product_from env v n (p ∷ ps) h e = rw e refl
+goes_int : (r : Val) (f : Value → Val) → IsInt r → ((m : ℤ) → IsInt (f (Int m))) → IsInt (r >>= f)
+goes_int (Err kind) f h g = refl
+goes_int (Ok v) f h g =
+    let e : v ≡ Int (number v) = cc in
+    let P : Value → Type 0 = λ x. IsInt (f x) in
+    subst P (sym e) (g (number v))
+
+added_is_int : (minus : Bool) (x y : ℤ) → IsInt (added minus x y)
+added_is_int true x y = refl
+added_is_int false x y = refl
+
+over_is_int : (f : ℤ → ℤ → ℤ) (x y : ℤ) → IsInt (over f x y)
+over_is_int f x (pos zero) = refl
+over_is_int f x (pos (suc n)) = refl
+over_is_int f x (negsuc n) = refl
+
+one_product_is_int : (s : ProductSign) (x y : ℤ) → IsInt (product s x y)
+one_product_is_int sign.Times x y = refl
+one_product_is_int sign.Over x y = over_is_int (int_wrapping_div w64) x y
+one_product_is_int sign.Modulo x y = over_is_int int_rem x y
+
+more_added : (env : Env) (minus : Bool) (n : ℤ) (d : Val) (ps : List (Bool × Meaning)) → ((m : ℤ) → IsInt (sums env (Int m) ps)) → IsInt (d >>= λ y. added minus n (number y) >>= λ z. sums env z ps)
+more_added env minus n (Err kind) ps f = refl
+more_added env minus n (Ok y) ps f = goes_int (added minus n (number y)) (λ z. sums env z ps) (added_is_int minus n (number y)) f
+
+more_multiplied : (env : Env) (s : ProductSign) (n : ℤ) (d : Val) (ps : List (ProductSign × Meaning)) → ((m : ℤ) → IsInt (products env (Int m) ps)) →
+    IsInt (d >>= λ y. product s n (number y) >>= λ z. products env z ps)
+more_multiplied env s n (Err kind) ps f = refl
+more_multiplied env s n (Ok y) ps f = goes_int (product s n (number y)) (λ z. products env z ps) (one_product_is_int s n (number y)) f
+
+sums_of_int : (env : Env) (ps : List (Bool × Meaning)) (n : ℤ) → IsInt (sums env (Int n) ps)
+sums_of_int env [] n = refl
+sums_of_int env (p ∷ ps) n = more_added env p.0 n (p.1 env) ps (λ m. sums_of_int env ps m)
+
+products_of_int : (env : Env) (ps : List (ProductSign × Meaning)) (n : ℤ) → IsInt (products env (Int n) ps)
+products_of_int env [] n = refl
+products_of_int env (p ∷ ps) n = more_multiplied env p.0 n (p.1 env) ps (λ m. products_of_int env ps m)
+
+pub sum_is_int : (env : Env) (d : Val) (rest : List SumPart) → (length rest == 0) ≡ false →
+    (d >>= λ v. sums env v (map sum_part rest)) ≡ integral (numbered (d >>= λ v. sums env v (map sum_part rest)))
+sum_is_int env (Err kind) rest h = refl
+sum_is_int env (Ok v) [] h = absurd (cc)
+sum_is_int env (Ok v) (p ∷ ps) h =
+    let q = sum_part p in
+    more_added env q.0 (number v) (q.1 env) (map sum_part ps) (λ m. sums_of_int env (map sum_part ps) m)
+
+pub product_is_int : (env : Env) (d : Val) (rest : List ProductPart) → (length rest == 0) ≡ false →
+    (d >>= λ v. products env v (map product_part rest)) ≡ integral (numbered (d >>= λ v. products env v (map product_part rest)))
+product_is_int env (Err kind) rest h = refl
+product_is_int env (Ok v) [] h = absurd (cc)
+product_is_int env (Ok v) (p ∷ ps) h =
+    let q = product_part p in
+    more_multiplied env q.0 (number v) (q.1 env) (map product_part ps) (λ m. products_of_int env (map product_part ps) m)
+
+-- and without one, it is the first
+
+pub product_of_one : (env : Env) (d : Val) (rest : List ProductPart) → (length rest == 0) ≡ true → (d >>= λ v. products env v (map product_part rest)) ≡ d
+product_of_one env (Err kind) rest h = refl
+product_of_one env (Ok v) [] h = refl
+product_of_one env (Ok v) (p ∷ ps) h = let none : suc (length ps) ≡ 0 = eqb-true (suc (length ps)) 0 h in absurd (omega arith)
 
 -- The cases of the definition
 

@@ -1,3 +1,4 @@
+pub mod Changes
 pub mod Gives
 pub mod Nodes
 pub mod Targets

@@ -2,7 +2,8 @@
 
 ghost use Rattle.std.specs.Prelude.{◌≡◌, ◌<◌, Some, IfOk, length};
 ghost use Rattle.std.specs.Str.{bytes_eq};
-ghost use Rattle.serial_meaning.specs.declared.environment.Slot.TheVariants.{Array};
+ghost use Rattle.serial_meaning.specs.declared.environment.Slot.TheVariants.{Scalar, Array};
+ghost use Rattle.serial_meaning.specs.declared.value.Value.TheVariants.{Int};
 ghost use Rattle.serial_meaning.specs.Values.{items_of};
 ghost use Rattle.serial_meaning.specs.Exec.{with_item, with_front};
 
@@ -55,6 +56,16 @@ impl Entry {
         ensures { self.new ≡ record self.old { slot = slot } }
     {
         self.slot = slot;
+    }
+
+    /// Makes it a scalar of this number.
+    pub fn set_number(&mut self, number: i64)
+        ensures { self.new ≡ record self.old { slot = Scalar (Int number) } }
+    {
+        match &mut self.slot {
+            Slot::Scalar(Value::Int(old)) => *old = number,
+            slot => *slot = Slot::Scalar(Value::Int(number)),
+        }
     }
 
     /// Writes an item of an array that is there.

@@ -1,8 +1,12 @@
-ghost use Rattle.std.specs.Prelude.{◌≡◌, IfOk, OnOk, OnErr, IsSome, IsNone};
+ghost use Rattle.std.specs.Prelude.{◌≡◌, Ok, Err, IfOk, OnOk, OnErr, IsSome, IsNone};
 ghost use Rattle.std.specs.Option.{option_copied};
 ghost use Rattle.serial_meaning.specs.declared.environment.Slot.TheVariants.{Scalar, Array};
 ghost use Rattle.serial_meaning.specs.Values.{value_of, values_of, slot_of, items_of, at_index};
 ghost use Rattle.serial_meaning.specs.Exec.{bound, with_slot, zeros, set_item, has_room, filled};
+ghost use Rattle.serial_meaning.specs.declared.event.FaultKind.{FaultKind};
+ghost use Rattle.serial_meaning.specs.declared.value.Value.TheVariants.{Int};
+ghost use Rattle.strand_values.specs.declared.halt.Halt.TheVariants.{Fault};
+ghost use Rattle.strand_values.specs.Changes.{assigned};
 ghost use Rattle.strand_values.specs.Gives.{Gives, numbered, holding};
 ghost use Rattle.strand_values.specs.Targets.{IsUnknown};
 
@@ -88,6 +92,20 @@ impl Environment {
         item(&self.variables, name.bytes.as_slice(), index)
     }
 
+    /// Gives a scalar the value of an expression, or answers with the fault that is met first. A name that wasn't there stands at the
+    /// end. After a fault, and without memory, everything is as it was.
+    pub fn assign(&mut self, alloc: Global, name: &Name, e: &Expr) -> Result<(), Halt>
+        ensures ok { OnOk result (assigned self.old name.now e.now ≡ Ok self.new) }
+        ensures fault { (kind : FaultKind) → result ≡ Err (Fault kind) → assigned self.old name.now e.now ≡ Err kind }
+        ensures err { OnErr result (self.new ≡ self.old) }
+    {
+        match value::value(&self.variables, e)? {
+            Value::Int(number) => self.set_number(alloc, name.bytes.as_slice(), number)?,
+            value => self.set(alloc, name.bytes.as_slice(), Slot::Scalar(value))?,
+        }
+        Ok(())
+    }
+
     /// Gives a scalar a value. A name that wasn't there stands at the end, and only then it needs memory. Without memory nothing
     /// changes.
     pub fn set_scalar(&mut self, alloc: Global, name: &Name, value: Value) -> Result<(), Memory>
@@ -158,6 +176,19 @@ impl Environment {
                 let nothing = Slot::Array(Items(Vec::new(alloc)));
                 self.set(alloc, name.bytes.as_slice(), nothing)
             }
+        }
+    }
+
+    fn set_number(&mut self, alloc: Global, name: &[u8], number: i64) -> Result<(), Memory>
+        ensures ok { OnOk result (self.new ≡ with_slot self.old name.now (Scalar (Int number))) }
+        ensures err { OnErr result (self.new ≡ self.old) }
+    {
+        match place(&self.variables, name) {
+            Some(i) => {
+                self.variables[i].set_number(number);
+                Ok(())
+            }
+            None => self.set(alloc, name, Slot::Scalar(Value::Int(number))),
         }
     }
 

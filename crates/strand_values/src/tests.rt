@@ -289,6 +289,18 @@ fn scalars_are_set_by_name(rt: HostRuntime) -> Result<(), Fail> {
 }
 
 #[test]
+fn an_assignment_that_faults_changes_nothing(rt: HostRuntime) -> Result<(), Fail> {
+    let alloc = rt.alloc();
+    let mut environment = environment(alloc)?;
+    let n = name(alloc, "n")?;
+    environment.assign(alloc, &n, &int(9))?;
+    let halt = environment.assign(alloc, &n, &divided(alloc)?).err();
+    assert_eq!(rt; halt, Some(Halt::Fault(FaultKind::Divide)));
+    assert_eq!(rt; told(&environment, &variable(alloc, "n")?)?, Ok(9));
+    Ok(())
+}
+
+#[test]
 fn arguments_are_taken_from_the_left(rt: HostRuntime) -> Result<(), Fail> {
     let alloc = rt.alloc();
     let environment = environment(alloc)?;

@@ -9,7 +9,7 @@ ghost use Rattle.strand_values.specs.Nodes as node;
 use crate::arithmetic::{compare, product, sum};
 use crate::entry::Entry;
 use crate::halt::Halt;
-use crate::scalar::{is_older, is_same, number, truth};
+use crate::scalar::{is_older, is_same, truth};
 use crate::variables::{item, number_of, scalar};
 use script_grammar::{Comparison, Expr, Items, Name, ProductPart, SumPart};
 use serial_meaning::{FaultKind, Value};
@@ -21,14 +21,21 @@ pub(crate) fn value(variables: &[Entry], e: &Expr) -> Result<Value, Halt>
 {
     match e {
         Expr::Var(name) => scalar(variables, name.bytes.as_slice()),
-        Expr::Sum(first, rest) => match value(variables, first.get()) {
-            Ok(first) => sum_value(variables, first, rest.as_slice()),
-            Err(halt) => Err(halt),
-        },
-        Expr::Product(first, rest) => match value(variables, first.get()) {
-            Ok(first) => product_value(variables, first, rest.as_slice()),
-            Err(halt) => Err(halt),
-        },
+        // Without a further operand it is the first one as it is, which may be an id.
+        Expr::Sum(first, rest) => {
+            if rest.as_slice().is_empty() {
+                value(variables, first.get())
+            } else {
+                whole(integer(variables, e))
+            }
+        }
+        Expr::Product(first, rest) => {
+            if rest.as_slice().is_empty() {
+                value(variables, first.get())
+            } else {
+                whole(integer(variables, e))
+            }
+        }
         Expr::Number(_) => whole(integer(variables, e)),
         Expr::Item(_, _) => whole(integer(variables, e)),
         Expr::Neg(_, _) => whole(integer(variables, e)),
@@ -123,17 +130,6 @@ fn comparison(variables: &[Entry], left: i64, how: Comparison, right: &Expr) -> 
     Ok(truth(compare(how, left, right)))
 }
 
-/// A sum as it is, also where nothing is added.
-#[cycle(value)]
-fn sum_value(variables: &[Entry], first: Value, rest: &[SumPart]) -> Result<Value, Halt>
-    ensures { Gives result (sums variables.now first (map sum_part rest.now)) }
-{
-    if rest.is_empty() {
-        return Ok(first);
-    }
-    whole(add(variables, number(&first), rest))
-}
-
 #[cycle(value)]
 fn add(variables: &[Entry], first: i64, rest: &[SumPart]) -> Result<i64, Halt>
     ensures { Gives (integral result) (sums variables.now (Int first) (map sum_part rest.now)) }
@@ -144,17 +140,6 @@ fn add(variables: &[Entry], first: i64, rest: &[SumPart]) -> Result<i64, Halt>
         total = sum(part.minus, total, operand);
     }
     Ok(total)
-}
-
-/// A product as it is, also where nothing is multiplied.
-#[cycle(value)]
-fn product_value(variables: &[Entry], first: Value, rest: &[ProductPart]) -> Result<Value, Halt>
-    ensures { Gives result (products variables.now first (map product_part rest.now)) }
-{
-    if rest.is_empty() {
-        return Ok(first);
-    }
-    whole(multiply(variables, number(&first), rest))
 }
 
 #[cycle(value)]

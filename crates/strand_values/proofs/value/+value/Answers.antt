@@ -2,7 +2,7 @@ use Rattle.std.proofs.Common.{◌≡◌, map, sym, ◌∙◌, w64, rules, SFits}
 use Rattle.std.proofs.lemmas.Int.{to_z-of_z}
 use Rattle.serial_meaning.specs.Values.{value_of, sum_part, product_part}
 use Rattle.strand_values.specs.Gives.{numbered, integral}
-use Rattle.strand_values.proofs.NumberLemmas.{whole_gives, comparison_is_int, sum_gives, product_gives, sum_from, product_from, value_of_sum, value_of_product, value_of_comparison}
+use Rattle.strand_values.proofs.NumberLemmas.{whole_gives, comparison_is_int, sum_gives, product_gives, sum_is_int, product_is_int, product_of_one, value_of_sum, value_of_product, value_of_comparison}
 use Rattle.strand_values.proofs.value.+value.Goals as goal
 
 pub integer-returns-in-Ok-integer-2 : goal.integer-returns-in-Ok-integer-2
@@ -23,19 +23,31 @@ integer-returns-in-Ok-integer-3 t c =
     rw (c.in-Product.is, value_of_product env c.in-Product.first c.in-Product.rest)
     (product_gives env (value_of c.in-Product.first env) n (map product_part c.in-Product.rest) c.multiply.result known (rw (c.as_slice-in-Ok-integer-3.ensures, to_z-of_z w64 n fits) at c.multiply.ensures))
 
-pub sum_value-returns : goal.sum_value-returns
-sum_value-returns t c =
-    let n = c.number.result in
-    let fits : SFits w64 n = search rules in
-    let some = sym c.is_empty.ensures ∙ c.if-is_empty.false in
-    rw (c.whole.ensures, sum_from c.args.variables.now c.args.first n c.args.rest.now some c.number.ensures) (rw (to_z-of_z w64 n fits) at c.add.ensures)
+pub value-returns-else-is_empty : goal.value-returns-else-is_empty
+value-returns-else-is_empty t c =
+    let env = c.args.variables.now in
+    let d = value_of c.args.e.now env in
+    let empty = rw c.as_slice-in-Sum.ensures at c.is_empty.ensures in
+    let some = sym empty ∙ c.if-is_empty.false in
+    let whole : d ≡ integral (numbered d) = rw (c.in-Sum.is, value_of_sum env c.in-Sum.first c.in-Sum.rest) (sum_is_int env (value_of c.in-Sum.first env) c.in-Sum.rest some) in
+    rw c.whole.ensures (whole_gives c.integer.result d whole c.integer.ensures)
 
-pub product_value-returns : goal.product_value-returns
-product_value-returns t c =
-    let n = c.number.result in
-    let fits : SFits w64 n = search rules in
-    let some = sym c.is_empty.ensures ∙ c.if-is_empty.false in
-    rw (c.whole.ensures, product_from c.args.variables.now c.args.first n c.args.rest.now some c.number.ensures) (rw (to_z-of_z w64 n fits) at c.multiply.ensures)
+pub value-returns-then-is_empty-2 : goal.value-returns-then-is_empty-2
+value-returns-then-is_empty-2 t c =
+    let env = c.args.variables.now in
+    let empty = rw c.as_slice-in-Product.ensures at c.is_empty-in-Product.ensures in
+    let none = sym empty ∙ c.if-is_empty-2.true in
+    let first = rw c.get-then-is_empty-2.ensures at c.value-then-is_empty-2.ensures in
+    rw (c.in-Product.is, value_of_product env c.in-Product.first c.in-Product.rest, product_of_one env (value_of c.in-Product.first env) c.in-Product.rest none) first
+
+pub value-returns-else-is_empty-2 : goal.value-returns-else-is_empty-2
+value-returns-else-is_empty-2 t c =
+    let env = c.args.variables.now in
+    let d = value_of c.args.e.now env in
+    let empty = rw c.as_slice-in-Product.ensures at c.is_empty-in-Product.ensures in
+    let some = sym empty ∙ c.if-is_empty-2.false in
+    let whole : d ≡ integral (numbered d) = rw (c.in-Product.is, value_of_product env c.in-Product.first c.in-Product.rest) (product_is_int env (value_of c.in-Product.first env) c.in-Product.rest some) in
+    rw c.whole-else-is_empty-2.ensures (whole_gives c.integer-else-is_empty-2.result d whole c.integer-else-is_empty-2.ensures)
 
 pub value-returns-in-Compare : goal.value-returns-in-Compare
 value-returns-in-Compare t c =

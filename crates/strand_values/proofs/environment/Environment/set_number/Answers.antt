@@ -1,0 +1,17 @@
+use Rattle.std.proofs.Common.{◌≡◌, ap, sym, ◌∙◌, w64}
+use Rattle.std.proofs.lemmas.Int.{to_z-of_z}
+use Rattle.serial_meaning.specs.Values.{Env}
+use Rattle.serial_meaning.specs.Exec.{with_slot}
+use Rattle.serial_meaning.specs.declared.environment.Slot.TheVariants.{Scalar}
+use Rattle.serial_meaning.specs.declared.value.Value.TheVariants.{Int}
+use Rattle.strand_values.proofs.PlaceLemmas.{set_found}
+use Rattle.strand_values.proofs.environment.Environment.set_number.Goals as goal
+
+pub returns-in-Some-clause-ok : goal.returns-in-Some-clause-ok
+returns-in-Some-clause-ok c =
+    let there = sym (rw c.deref.ensures.value at c.place.ensures) ∙ c.in-Some.is in
+    let slot = Scalar (Int c.args.number) in
+    let set = rw (to_z-of_z w64 c.args.number c.ranges.number) at c.set_number.ensures in
+    rw set
+    (set_found c.in-Some.i c.self.inside.variables.items c.args.name.now slot c.index_mut.result.now there c.index_mut.ensures.value
+    ∙ ap (λ (vs : Env). with_slot vs c.args.name.now slot) c.self.view_is)
