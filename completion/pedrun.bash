@@ -51,7 +51,7 @@ _pedrun() {
       --show) choices='plain log' ;;
       --shape) choices='fib tree loop' ;;
       --workers) choices='1 2 4 8 16 32 64' ;;
-      --depth) choices=256 ;;
+      --depth) choices='256 512' ;;
       --budget) choices=1000000 ;;
       --rounds) choices=4 ;;
     esac

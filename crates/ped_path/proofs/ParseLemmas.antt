@@ -168,11 +168,11 @@ read_more text path next rest (c ∷ cs) after count at end rank s r n e some st
 moved : (text : List ℕ) (count at k : ℕ) (rest : List ℕ) → k ≡ at → IsBehindRanks text count at rest → IsBehindRanks text count k rest
 moved text count at k rest e f = record { ranks = f.ranks; counted = f.counted; bounded = f.bounded; whole = f.whole; offset = e ∙ f.offset }
 
-stands : (text : List ℕ) (count at k : ℕ) (rest : List ℕ) (P : List ℕ → Type 0) → k ≡ at → count < 256 → IsBehindRanks text count at rest → P rest → StandsAt text k P
+stands : (text : List ℕ) (count at k : ℕ) (rest : List ℕ) (P : List ℕ → Type 0) → k ≡ at → count < 512 → IsBehindRanks text count at rest → P rest → StandsAt text k P
 stands text count at k rest P e few f here = record { count = count; rest = rest; few = few; front = moved text count at k rest e f; here = here }
 
 -- a rank that isn't one
-pub refused_at : (text path : List ℕ) (count at : ℕ) (rest : List ℕ) (fault : PedTextError) → text ≢ [] → count < 256 → ReadSoFar text path count at rest → IsRankFault rest at fault → IsRefused text fault
+pub refused_at : (text path : List ℕ) (count at : ℕ) (rest : List ℕ) (fault : PedTextError) → text ≢ [] → count < 512 → ReadSoFar text path count at rest → IsRankFault rest at fault → IsRefused text fault
 refused_at text path count at rest Empty some few s f = absurd f
 refused_at text path count at rest (BadByte k) some few s f = (some, inl (stands text count at k rest (λ t. begins_with_digit t ≡ false) f.0 few (front_of text path count at rest s) f.1))
 refused_at text path count at rest (Zeros k) some few s f = stands text count at k rest (λ t. has_needless_zero t ≡ true) f.0 few (front_of text path count at rest s) f.1
@@ -181,7 +181,7 @@ refused_at text path count at rest TooLong some few s f = absurd f
 refused_at text path count at rest Memory some few s f = absurd f
 
 -- another byte after a rank
-pub refused_behind : (text path : List ℕ) (count at end rank : ℕ) (rest behind : List ℕ) → text ≢ [] → count < 256 → ReadSoFar text path count at rest → IsRankThen rest rank behind → end ≡ at + (length rest - length behind) → 0 < length behind → get_or behind 0 0 ≢ 46 → IsRefused text (BadByte end)
+pub refused_behind : (text path : List ℕ) (count at end rank : ℕ) (rest behind : List ℕ) → text ≢ [] → count < 512 → ReadSoFar text path count at rest → IsRankThen rest rank behind → end ≡ at + (length rest - length behind) → 0 < length behind → get_or behind 0 0 ≢ 46 → IsRefused text (BadByte end)
 refused_behind text path count at end rank rest [] some few s r e more other = absurd (omega arith)
 refused_behind text path count at end rank rest (c ∷ cs) some few s r e more other =
     let l = len_behind rest (c ∷ cs) rank r in (
@@ -199,7 +199,7 @@ read_whole text path j count at rank rest [] s r none e =
     s.whole ∙ ap (λ t. stopped path ++ t) (r.split ∙ append-nil (decimal rank)) ∙ ped_text-append path j rank e
 read_whole text path j count at rank rest (c ∷ cs) s r none e = absurd (omega arith)
 
-pub read_short : (text path j : List ℕ) (count at rank : ℕ) (rest : List ℕ) → count < 256 → ReadSoFar text path count at rest → path ++ rank ∷ [] ≡ j → length j ≤ 256
+pub read_short : (text path j : List ℕ) (count at rank : ℕ) (rest : List ℕ) → count < 512 → ReadSoFar text path count at rest → path ++ rank ∷ [] ≡ j → length j ≤ 512
 read_short text path j count at rank rest few s e =
     let l : length j ≡ length path + 1 = ap length (sym e) ∙ length-append path (rank ∷ []) in
     let n = s.counted in omega (arith, l, n)

@@ -48,11 +48,11 @@ pub record IsBehindRanks (text : List ℕ) (count at : ℕ) (rest : List ℕ) : 
   pub whole : text ≡ stopped ranks ++ rest
   pub offset : at ≡ length (stopped ranks)
 
--- One of the first 256 ranks should begin at this offset, and what stands from there on is so.
+-- One of the first 512 ranks should begin at this offset, and what stands from there on is so.
 pub record StandsAt (text : List ℕ) (start : ℕ) (P : List ℕ → Type 0) : Type 0 where
   pub count : ℕ
   pub rest : List ℕ
-  pub few : count < 256
+  pub few : count < 512
   pub front : IsBehindRanks text count start rest
   pub here : P rest
 
@@ -71,5 +71,5 @@ IsRefused text Empty = text ≡ []
 IsRefused text (BadByte at) = (text ≢ []) × (StandsAt text at (λ rest. begins_with_digit rest ≡ false) ⊎ ((start : ℕ) × StandsAt text start (LacksStop start at)))
 IsRefused text (Zeros at) = StandsAt text at (λ rest. has_needless_zero rest ≡ true)
 IsRefused text (TooBig at) = StandsAt text at BeginsTooBig
-IsRefused text TooLong = (at : ℕ) × (rest : List ℕ) × IsBehindRanks text 256 at rest
+IsRefused text TooLong = (at : ℕ) × (rest : List ℕ) × IsBehindRanks text 512 at rest
 IsRefused text Memory = Unit {0}

@@ -12,7 +12,7 @@ use crate::pedigree::Pedigree;
 use std::alloc::Global;
 
 /// How many ranks a text may have.
-const MOST_RANKS: u32 = 256;
+const MOST_RANKS: u32 = 512;
 
 /// The greatest rank.
 const MOST_RANK: u64 = 4_294_967_295;
@@ -28,7 +28,7 @@ pub enum PedTextError {
     Zeros(u32),
     /// The rank that begins at this offset is above 4294967295.
     TooBig(u32),
-    /// A full stop follows the 256th rank.
+    /// A full stop follows the 512th rank.
     TooLong,
     /// There was no memory for the call.
     Memory,
@@ -44,9 +44,9 @@ impl From<Memory> for PedTextError {
     }
 }
 
-/// Reads the text of a pedigree: from 1 to 256 ranks in decimal without needless zeros, joined by full stops.
+/// Reads the text of a pedigree: from 1 to 512 ranks in decimal without needless zeros, joined by full stops.
 pub fn parse_pedigree(alloc: Global, text: &str) -> Result<Pedigree, PedTextError>
-    ensures ok { IfOk result (λ j. (text.now ≡ ped_text j) × (length j ≤ 256)) }
+    ensures ok { IfOk result (λ j. (text.now ≡ ped_text j) × (length j ≤ 512)) }
     ensures err { IfErr result (λ e. IsRefused text.now e) }
 {
     if text.is_empty() {

@@ -149,13 +149,13 @@ fn texts_of_pedigrees_are_read(rt: HostRuntime) -> Result<(), Fail> {
 }
 
 #[test]
-fn texts_have_at_most_256_ranks(rt: HostRuntime) -> Result<(), Fail> {
+fn texts_have_at_most_512_ranks(rt: HostRuntime) -> Result<(), Fail> {
     let alloc = rt.alloc();
     let mut text = String::from_str(alloc, "0")?;
-    for _ in 0..255 {
+    for _ in 0..511 {
         text.push_str(".0")?;
     }
-    assert_eq!(rt; parse_pedigree(alloc, text.as_str())?.len(), 256);
+    assert_eq!(rt; parse_pedigree(alloc, text.as_str())?.len(), 512);
     text.push_str(".")?;
     assert_eq!(rt;
         parse_pedigree(alloc, text.as_str()).err(),

@@ -210,15 +210,15 @@ rules_behind (r ∷ rs) parts room left all long =
     with_room (decimal r) (map decimal rs ++ parts) room (omega (arith, long)) ∙ ap (λ t. option_or t (ranks_rule (map decimal rs ++ parts) (room - 1))) (rank_good r (all 0 0 (omega arith))) ∙ rules_behind rs parts (room - 1) left (All-rest r rs all) (omega (arith, long))
 
 -- so many ranks are good
-behind_ranks : (text : List ℕ) (count at left : ℕ) (rest : List ℕ) → IsBehindRanks text count at rest → count + left ≡ 256 → ped_rule text ≡ ranks_rule (ranks_in rest) left
+behind_ranks : (text : List ℕ) (count at left : ℕ) (rest : List ℕ) → IsBehindRanks text count at rest → count + left ≡ 512 → ped_rule text ≡ ranks_rule (ranks_in rest) left
 unfolding ped_rule
 behind_ranks text count at left rest f long =
-    ap (λ t. ranks_rule (ranks_in t) 256) f.whole ∙ ap (λ t. ranks_rule t 256) (parts_behind f.ranks rest f.bounded) ∙ rules_behind f.ranks (ranks_in rest) 256 left f.bounded (omega (arith, long, f.counted))
+    ap (λ t. ranks_rule (ranks_in t) 512) f.whole ∙ ap (λ t. ranks_rule t 512) (parts_behind f.ranks rest f.bounded) ∙ rules_behind f.ranks (ranks_in rest) 512 left f.bounded (omega (arith, long, f.counted))
 
 -- the part at which the text is refused
-refused_part : (text : List ℕ) (count at : ℕ) (rest part : List ℕ) (parts : List (List ℕ)) (rule : Rule) → IsBehindRanks text count at rest → count < 256 → ranks_in rest ≡ part ∷ parts → rank_rule part ≡ Some rule → ped_rule text ≡ Some rule
+refused_part : (text : List ℕ) (count at : ℕ) (rest part : List ℕ) (parts : List (List ℕ)) (rule : Rule) → IsBehindRanks text count at rest → count < 512 → ranks_in rest ≡ part ∷ parts → rank_rule part ≡ Some rule → ped_rule text ≡ Some rule
 refused_part text count at rest part parts rule f few cut bad =
-    behind_ranks text count at (256 - count) rest f (omega (arith, few)) ∙ ap (λ t. ranks_rule t (256 - count)) cut ∙ with_room part parts (256 - count) (omega (arith, few)) ∙ ap (λ t. option_or t (ranks_rule parts (256 - count - 1))) bad
+    behind_ranks text count at (512 - count) rest f (omega (arith, few)) ∙ ap (λ t. ranks_rule t (512 - count)) cut ∙ with_room part parts (512 - count) (omega (arith, few)) ∙ ap (λ t. option_or t (ranks_rule parts (512 - count - 1))) bad
 
 zeros_no_number : (ds : List ℕ) → leb (length ds) 1 ≡ false → eqb (get_or ds 0 0) 48 ≡ true → is_number ds ≡ false
 zeros_no_number ds long is_zero =
@@ -292,7 +292,7 @@ lacks_stop_rule start at rest l =
 
 pub ped_refused : (text : List ℕ) (e : PedTextError) (rule : Rule) → IsRefused text e → text_rule e ≡ Some rule → ped_rule text ≡ Some rule
 unfolding ped_rule
-ped_refused text Empty rule r is = ap (λ t. ranks_rule (ranks_in t) 256) r ∙ is
+ped_refused text Empty rule r is = ap (λ t. ranks_rule (ranks_in t) 512) r ∙ is
 ped_refused text (BadByte at) rule (some, inl s) is =
     let h = first_part s.rest in
     refused_part text s.count at s.rest h.part h.parts BadValue s.front s.few h.cut (no_number h.part [] (h.digits ∙ front_none s.rest s.here) refl) ∙ is
@@ -303,7 +303,7 @@ ped_refused text (Zeros at) rule s is =
 ped_refused text (TooBig at) rule s is =
     let h = first_part s.rest in refused_part text s.count at s.rest h.part h.parts OutOfRange s.front s.few h.cut (too_big_rule s.rest h.part s.here h.digits) ∙ is
 ped_refused text TooLong rule (at, rest, f) is =
-    let h = first_part rest in behind_ranks text 256 at 0 rest f (omega arith) ∙ ap (λ t. ranks_rule t 0) h.cut ∙ is
+    let h = first_part rest in behind_ranks text 512 at 0 rest f (omega arith) ∙ ap (λ t. ranks_rule t 0) h.cut ∙ is
 ped_refused text Memory rule r is = cc
 
 text_more : (x y : ℕ) (ys : List ℕ) → ped_text (x ∷ y ∷ ys) ≡ decimal x ++ 46 ∷ ped_text (y ∷ ys)
@@ -319,13 +319,13 @@ values_back : (ranks : List ℕ) → All IsRank ranks → map value_of (map deci
 values_back [] all = refl
 values_back (q ∷ qs) all = ap (λ n. n ∷ map value_of (map decimal qs)) (rank_value q (all 0 0 (omega arith))) ∙ ap (λ t. q ∷ t) (values_back qs (All-rest q qs all))
 
--- The text of at most 256 ranks is good, and these are its ranks.
-pub ped_good : (text j : List ℕ) → text ≡ ped_text j → 0 < length j → All IsRank j → length j ≤ 256 → (ped_rule text ≡ None) × (j ≡ ped_of text)
+-- The text of at most 512 ranks is good, and these are its ranks.
+pub ped_good : (text j : List ℕ) → text ≡ ped_text j → 0 < length j → All IsRank j → length j ≤ 512 → (ped_rule text ≡ None) × (j ≡ ped_of text)
 unfolding ped_rule ped_of
 ped_good text [] is some ranks few = absurd (omega arith)
 ped_good text (x ∷ xs) is some ranks few =
     let parts : ranks_in text ≡ map decimal (x ∷ xs) = ap ranks_in is ∙ parts_whole x xs ranks in
     let whole : map decimal (x ∷ xs) ≡ map decimal (x ∷ xs) ++ [] = sym (append-nil (map decimal (x ∷ xs))) in (
-      ap (λ t. ranks_rule t 256) (parts ∙ whole) ∙ rules_behind (x ∷ xs) [] 256 (256 - length (x ∷ xs)) ranks (omega (arith, few)),
+      ap (λ t. ranks_rule t 512) (parts ∙ whole) ∙ rules_behind (x ∷ xs) [] 512 (512 - length (x ∷ xs)) ranks (omega (arith, few)),
       sym (ap (map value_of) parts ∙ values_back (x ∷ xs) ranks),
     )

@@ -29,7 +29,7 @@ default_depth = 256
 
 -- how many coefficients there are where a command takes no depth
 abbrev pub hash_depth : ℕ
-hash_depth = 256
+hash_depth = 512
 
 abbrev pub depth_of : Values → ℕ
 depth_of values = unwrap_or (number values name.Depth) default_depth

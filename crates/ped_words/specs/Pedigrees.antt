@@ -26,7 +26,7 @@ ranks_rule (part ∷ parts) room = if room == 0 then Some OutOfRange else option
 
 -- how many ranks a text may have
 abbrev pub most_ranks : ℕ
-most_ranks = 256
+most_ranks = 512
 
 -- the rule that a word breaks where a pedigree's text is due
 unfoldable pub ped_rule : List ℕ → Option Rule

@@ -37,7 +37,7 @@ pub enum Command {
         settings: Settings,
         at: Pedigree,
     },
-    /// Prints the draw of a pedigree in so many rounds, from 0 to 8. There are 256 coefficients.
+    /// Prints the draw of a pedigree in so many rounds, from 0 to 8. There are 512 coefficients.
     Hash {
         gamma: Gamma,
         at: Pedigree,

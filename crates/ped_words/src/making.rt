@@ -21,7 +21,7 @@ use std::alloc::{AllocError, Global};
 const DEFAULT_DEPTH: u32 = 256;
 
 /// How many coefficients there are where a command takes no depth.
-const HASH_DEPTH: u32 = 256;
+const HASH_DEPTH: u32 = 512;
 
 const DEFAULT_BUDGET: u32 = 1_000_000;
 

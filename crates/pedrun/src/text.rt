@@ -31,14 +31,14 @@ Options, in any order, each at most once:
                    (default 0)
   --gamma N,N,..   the coefficients of the draws in place of a seed, each below
                    18446744073709551557, at most as many as the depth
-  --depth N        how many ranks a pedigree may have, from 1 to 256
+  --depth N        how many ranks a pedigree may have, from 1 to 512
                    (default 256)
   --budget N       how many steps each instance may make, from 1 to 4294967295
                    (default 1000000)
   --rounds N       how often a draw is mixed, from 0 to 8 (default 4)
   --workers N      from 1 to 64 (default 4)
   --show WHAT      plain, or log to see draws and objects too (default plain)
-  --at PEDIGREE    the name of a strand, such as 0.3.1: from 1 to 256 ranks, each
+  --at PEDIGREE    the name of a strand, such as 0.3.1: from 1 to 512 ranks, each
                    from 0 to 4294967295
   --shape SHAPE    fib, tree or loop
   --size N         at most 30 for fib, at most 20 for tree, from 1 to 4096 for
@@ -74,7 +74,7 @@ Options, in any order, each at most once; a gamma excludes a seed:
                    (default 0)
   --gamma N,N,..   the coefficients of the draws in place of a seed, each below
                    18446744073709551557, at most as many as the depth
-  --depth N        how many ranks a pedigree may have, from 1 to 256
+  --depth N        how many ranks a pedigree may have, from 1 to 512
                    (default 256)
   --budget N       how many steps each instance may make, from 1 to 4294967295
                    (default 1000000)
@@ -101,7 +101,7 @@ Options, in any order, each at most once; a gamma excludes a seed:
                    (default 0)
   --gamma N,N,..   the coefficients of the draws in place of a seed, each below
                    18446744073709551557, at most as many as the depth
-  --depth N        how many ranks a pedigree may have, from 1 to 256
+  --depth N        how many ranks a pedigree may have, from 1 to 512
                    (default 256)
   --budget N       how many steps each instance may make, from 1 to 4294967295
                    (default 1000000)
@@ -152,13 +152,13 @@ and its own fault. Give it the options with which the script was run.
 Usage: pedrun replay --at PEDIGREE [--OPTION VALUE]... < SCRIPT
 
 Options, in any order, each at most once; a gamma excludes a seed:
-  --at PEDIGREE    the strand's name, such as 0.3.1: from 1 to 256 ranks, each
+  --at PEDIGREE    the strand's name, such as 0.3.1: from 1 to 512 ranks, each
                    from 0 to 4294967295 (must be given)
   --seed N         the seed of the draws, from 0 to 18446744073709551615
                    (default 0)
   --gamma N,N,..   the coefficients of the draws in place of a seed, each below
                    18446744073709551557, at most as many as the depth
-  --depth N        how many ranks a pedigree may have, from 1 to 256
+  --depth N        how many ranks a pedigree may have, from 1 to 512
                    (default 256)
   --budget N       how many steps each instance may make, from 1 to 4294967295
                    (default 1000000)
@@ -180,7 +180,7 @@ reads no script.
 Usage: pedrun hash --at PEDIGREE [--OPTION VALUE]...
 
 Options, in any order, each at most once; a gamma excludes a seed:
-  --at PEDIGREE    the strand's name, such as 0.3.1: from 1 to 256 ranks, each
+  --at PEDIGREE    the strand's name, such as 0.3.1: from 1 to 512 ranks, each
                    from 0 to 4294967295 (must be given)
   --seed N         the seed of the draws, from 0 to 18446744073709551615
                    (default 0)
@@ -222,7 +222,7 @@ alone. It reads no script.
 Usage: pedrun stream --at PEDIGREE --count N [--OPTION VALUE]...
 
 Options, in any order, each at most once; a gamma excludes a seed:
-  --at PEDIGREE    the first strand's name, such as 0.3.1: from 1 to 256 ranks,
+  --at PEDIGREE    the first strand's name, such as 0.3.1: from 1 to 512 ranks,
                    each from 0 to 4294967295 (must be given)
   --count N        how many draws, from 1 to 1048576; the last one's rank is at
                    most 4294967295 (must be given)

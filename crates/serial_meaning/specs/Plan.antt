@@ -16,7 +16,7 @@ pub record PlanView : Type 0 where
 
 -- a pedigree has at most so many ranks
 abbrev pub most_depth : ℕ
-most_depth = 256
+most_depth = 512
 
 pub record IsPlan (gamma : List ℕ) (limits : Limits) (rounds : ℕ) : Type 0 where
   pub coefficients : length gamma ≡ limits.depth

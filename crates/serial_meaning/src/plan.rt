@@ -15,7 +15,7 @@ use std::alloc::Global;
 use std::marker::Model;
 
 /// How many ranks a pedigree has at most, whatever the limits of a run.
-pub const MOST_DEPTH: u32 = 256;
+pub const MOST_DEPTH: u32 = 512;
 
 /// The limits of a run.
 #[derive(Clone, Copy, Debug, PartialEq, Eq)]

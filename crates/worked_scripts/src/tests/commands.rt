@@ -92,9 +92,9 @@ fn streams_go_on_behind_a_block(rt: HostRuntime) -> Result<(), Fail> {
 }
 
 #[test]
-fn pedigrees_have_at_most_256_ranks(rt: HostRuntime) -> Result<(), Fail> {
+fn pedigrees_have_at_most_512_ranks(rt: HostRuntime) -> Result<(), Fail> {
     let mut line = String::from_str(rt.alloc(), "hash --gamma 1 --at 0")?;
-    for _ in 0..255 {
+    for _ in 0..511 {
         line.push_str(".0")?;
     }
     prints(&rt, line.as_str(), b"", b"dot 1\ndraw 21\n")?;
@@ -158,7 +158,7 @@ fn words_that_give_no_command_that_runs_are_refused(rt: HostRuntime) -> Result<(
             "run --budget 4294967296",
             b"words: out of range at word 2\n",
         ),
-        ("run --depth 257", b"words: out of range at word 2\n"),
+        ("run --depth 513", b"words: out of range at word 2\n"),
         ("run --seed 1 --seed 2", b"words: option twice at word 3\n"),
         ("run --seed", b"words: missing value at word 1\n"),
         ("hash", b"words: missing option at word 1\n"),

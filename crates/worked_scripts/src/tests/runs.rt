@@ -220,20 +220,20 @@ fn runs_end_by_their_least_fault(rt: HostRuntime) -> Result<(), Fail> {
     Ok(())
 }
 
-// Each of 199 tasks would hand out two children more.
+// Each of 511 tasks would hand out two children more.
 #[test]
 fn a_fault_ends_all_tasks_below_at_once(rt: HostRuntime) -> Result<(), Fail> {
     let alloc = rt.alloc();
     let mut output = String::new(alloc);
     let mut path = String::from_str(alloc, "0")?;
-    for n in 1..200 {
+    for n in 1..512 {
         output.push_str(format!(in alloc; "{n}\n")?.as_str())?;
         path.push_str(".0")?;
     }
     output.push_str(format!(in alloc; "fault {path}: depth\n")?.as_str())?;
     let script =
         b"fn f(n) { print n; spawn f(n + 1); spawn f(n); spawn f(n); return 0; } fn main() { spawn f(1); sync; return 0; }";
-    let line = "serial --depth 200 --budget 100";
+    let line = "serial --depth 512 --budget 100";
     ends(&rt, line, script, 1, output.as_bytes(), b"")
 }
 

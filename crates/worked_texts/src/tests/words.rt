@@ -77,7 +77,7 @@ fn words_are_judged_in_order(rt: HostRuntime) {
         ("run --seed 1x8446744073709551616", 6, 2),
         ("run --depth 0", 7, 2),
         ("run --depth 00", 6, 2),
-        ("run --depth 257", 7, 2),
+        ("run --depth 513", 7, 2),
         ("run --budget 0", 7, 2),
         ("run --budget 4294967296", 7, 2),
         ("run --workers 0", 7, 2),
@@ -141,16 +141,16 @@ fn words_are_judged_in_order(rt: HostRuntime) {
     }
 }
 
-// 256 ranks are a pedigree, and 257 are too many. Words after the first fault are of no account, however many there are.
+// 512 ranks are a pedigree, and 513 are too many. Words after the first fault are of no account, however many there are.
 #[test]
 fn words_may_be_long_and_many(rt: HostRuntime) -> Result<(), Fail> {
     let alloc = rt.alloc();
     let mut line = String::from_str(alloc, "hash --at 0")?;
-    for _ in 0..255 {
+    for _ in 0..511 {
         line.push_str(".7")?;
     }
     match command_of(alloc, line.as_str())? {
-        Command::Hash { at, .. } => assert_eq!(rt; at.len(), 256),
+        Command::Hash { at, .. } => assert_eq!(rt; at.len(), 512),
         _other => assert!(rt; false, "not hash"),
     }
     line.push_str(".7")?;
@@ -175,7 +175,7 @@ fn assert_settings(
     assert_eq!(rt; settings.limits.budget, limits.1);
     assert!(rt; settings.show == show);
     assert_eq!(rt; settings.gamma.len(), limits.0);
-    for (i, coefficient) in (1u32..=256).zip(coefficients) {
+    for (i, coefficient) in (1u32..=512).zip(coefficients) {
         assert!(rt; 0 < i && i <= settings.gamma.len());
         assert_eq!(rt; settings.gamma.coeff(i), *coefficient);
     }
@@ -263,11 +263,11 @@ fn commands_have_their_settings(rt: HostRuntime) -> Result<(), Fail> {
 }
 
 #[test]
-fn a_hash_has_256_coefficients(rt: HostRuntime) -> Result<(), Fail> {
+fn a_hash_has_512_coefficients(rt: HostRuntime) -> Result<(), Fail> {
     match command_of(rt.alloc(), "hash --gamma 5 --at 0")? {
         Command::Hash { gamma, at, rounds } => {
-            assert_eq!(rt; (gamma.len(), rounds), (256, 4));
-            assert_eq!(rt; (gamma.coeff(1), gamma.coeff(256)), (5, 0));
+            assert_eq!(rt; (gamma.len(), rounds), (512, 4));
+            assert_eq!(rt; (gamma.coeff(1), gamma.coeff(512)), (5, 0));
             assert_eq!(rt; (at.len(), at.rank_at(0)), (1, Some(0)));
         }
         _other => assert!(rt; false, "not hash"),
@@ -275,7 +275,7 @@ fn a_hash_has_256_coefficients(rt: HostRuntime) -> Result<(), Fail> {
     Ok(())
 }
 
-// The coefficients of a stream are those of a hash, so 200 of them are accepted.
+// The coefficients of a stream are those of a hash, so 300 of them are accepted.
 #[test]
 fn a_stream_has_a_count_that_its_ranks_are_enough_for(rt: HostRuntime) -> Result<(), Fail> {
     let alloc = rt.alloc();
@@ -290,14 +290,14 @@ fn a_stream_has_a_count_that_its_ranks_are_enough_for(rt: HostRuntime) -> Result
         } => {
             assert_eq!(rt;
                 (gamma.len(), count, rounds, below),
-                (256, 1_048_576, 8, Some(6))
+                (512, 1_048_576, 8, Some(6))
             );
             assert_eq!(rt; (at.len(), at.rank_at(1)), (2, Some(4_293_918_720)));
         }
         _other => assert!(rt; false, "not stream"),
     }
     let mut line = String::from_str(alloc, "stream --at 0 --count 1 --gamma 5")?;
-    for _ in 1..200 {
+    for _ in 1..300 {
         line.push_str(",7")?;
     }
     match command_of(alloc, line.as_str())? {
@@ -307,8 +307,8 @@ fn a_stream_has_a_count_that_its_ranks_are_enough_for(rt: HostRuntime) -> Result
             below,
             ..
         } => {
-            assert_eq!(rt; gamma.len(), 256);
-            assert_eq!(rt; (gamma.coeff(200), gamma.coeff(201)), (7, 0));
+            assert_eq!(rt; gamma.len(), 512);
+            assert_eq!(rt; (gamma.coeff(300), gamma.coeff(301)), (7, 0));
             assert_eq!(rt; (rounds, below), (4, None));
         }
         _other => assert!(rt; false, "not stream"),
