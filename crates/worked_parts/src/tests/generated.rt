@@ -1,4 +1,4 @@
-use crate::{Shape, gen_script};
+use ped_gen::{Shape, gen_script};
 use std::test::Fail;
 
 #[test]

@@ -1,6 +1,6 @@
 ghost use Rattle.std.specs.Prelude.{◌≤◌};
 
-use super::*;
+use loop_range::{IterRange, cover, iteration_path};
 use ped_path::Ped;
 use std::test::Fail;
 

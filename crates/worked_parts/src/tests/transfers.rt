@@ -1,5 +1,5 @@
 // What no clause says: that calls succeed with ample memory, how reads are cut, and files at the edge.
-use crate::{
+use ped_io::{
     Failed, MemSink, MemSource, ReadError, Sink, Source, StdSink, StdSource, read_all, write_all,
 };
 use std::fs;
