@@ -1,6 +1,6 @@
 ghost use Rattle.std.specs.Prelude.{◌≡◌, [], ◌∷◌, IfOk};
 
-use crate::{draw_run, mix_lanes, reduce};
+use bulk_draw::{draw_run, mix_lanes, reduce};
 use dotmix::{Gamma, dotmix, mix};
 use ped_path::{Memory, Ped, Pedigree};
 use std::alloc::Global;
@@ -15,46 +15,40 @@ fn strand(alloc: Global, rank: u32) -> Result<Pedigree, Memory>
     Ok(Pedigree { path, rank })
 }
 
-// With the coefficient 1 the dot products are 1, 2, 3 and so on.
+// The only coefficient, the first strand's rank, and the draws from it on. With the coefficient 1 the dot products are 1, 2, 3 and so on;
+// the greatest coefficient is the prime less one, so that the products of the second row are the prime less two and less three; the last
+// row has the greatest rank.
+static RUNS: [(u64, u32, &[u64]); 3] = [
+    (
+        1,
+        0,
+        &[
+            21, 210, 903, 2628, 6105, 12_246, 22_155, 37_128, 58_653, 88_410, 128_271,
+        ],
+    ),
+    (18_446_744_073_709_551_556, 1, &[108_965_703, 116_319_378]),
+    (1, 4_294_967_295, &[90_194_313_216]),
+];
+
 #[test]
-fn draws_by_the_table(rt: HostRuntime) -> Result<(), Fail> {
-    let alloc = rt.alloc();
-    let gamma = Gamma::of_list(alloc, &[1], 1)?;
-    assert_eq!(rt; gamma.len(), 1);
-    let mut draws = [0; 11];
-    draw_run(&gamma, &strand(alloc, 0)?, 4, &mut draws);
-    let table = [
-        21, 210, 903, 2628, 6105, 12_246, 22_155, 37_128, 58_653, 88_410, 128_271,
-    ];
-    assert_eq!(rt; draws, table);
-    let mut draws = [0; 3];
-    draw_run(&gamma, &strand(alloc, 0)?, 4, &mut draws);
+fn runs_draw_by_the_table(rt: HostRuntime) -> Result<(), Fail> {
+    for &(coefficient, rank, expected) in &RUNS {
+        let gamma = Gamma::of_list(rt.alloc(), &[coefficient], 1)?;
+        assert_eq!(rt; gamma.len(), 1);
+        let at = strand(rt.alloc(), rank)?;
+        let mut draws = vec![in rt.alloc(); 0u64; expected.len()]?;
+        assert!(rt; draws.len() <= 11 && rank as u64 + draws.len() as u64 <= 4_294_967_296);
+        draw_run(&gamma, &at, 4, &mut draws);
+        assert_eq!(rt; draws.as_slice(), expected, "from {rank} on");
+    }
+    Ok(())
+}
+
+#[test]
+fn draws_are_reduced(rt: HostRuntime) {
+    let mut draws = [21, 210, 903];
     reduce(&mut draws, 10);
     assert_eq!(rt; draws, [1, 0, 3]);
-    Ok(())
-}
-
-// The first dot product is the prime less two, and the next one the prime less three.
-#[test]
-fn dot_products_pass_the_modulus(rt: HostRuntime) -> Result<(), Fail> {
-    let alloc = rt.alloc();
-    let gamma = Gamma::of_list(alloc, &[18_446_744_073_709_551_556], 1)?;
-    assert_eq!(rt; gamma.len(), 1);
-    let mut draws = [0; 2];
-    draw_run(&gamma, &strand(alloc, 1)?, 4, &mut draws);
-    assert_eq!(rt; draws, [108_965_703, 116_319_378]);
-    Ok(())
-}
-
-#[test]
-fn the_greatest_rank_draws(rt: HostRuntime) -> Result<(), Fail> {
-    let alloc = rt.alloc();
-    let gamma = Gamma::of_list(alloc, &[1], 1)?;
-    assert_eq!(rt; gamma.len(), 1);
-    let mut draws = [0];
-    draw_run(&gamma, &strand(alloc, 4_294_967_295)?, 4, &mut draws);
-    assert_eq!(rt; draws, [90_194_313_216]);
-    Ok(())
 }
 
 // Of each length that a block of eight makes different, against one call for each strand.
