@@ -1,6 +1,6 @@
 ghost use Rattle.std.specs.Prelude.{◌≡◌, ◌<◌, [], IfOk, OnOk, IsTrue, false, true, replicate};
 
-use crate::{Arrived, Give, Join, Look, Memory, Tagged};
+use meet_block::{Arrived, Give, Join, Look, Memory, Tagged};
 use std::alloc::Global;
 use std::process::Abort;
 use std::thread;

@@ -1,8 +1,8 @@
 ghost use Rattle.std.specs.Prelude.{◌≡◌, IfOk};
 
-use crate::{Deck, Memory, Steal, Thief};
 use std::alloc::Global;
 use std::thread;
+use steal_deck::{Deck, Memory, Steal, Thief};
 
 fn needs_send<T: Send>(_: &T) {}
 
