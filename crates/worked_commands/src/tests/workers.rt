@@ -1,7 +1,7 @@
 // Runs on workers: they work at once, and write the same however they share the work.
 
 use super::{
-    FAULT_BEFORE_ANOTHER, FAULTY_CHILD, Host, SQUARES, TWO_DRAWS, ends, generated, guarded,
+    FAULT_BEFORE_ANOTHER, FAULTY_CHILD, Host, SQUARES, TWO_DRAWS, compare, ends, generated, guarded,
 };
 use engine::Gate;
 use ped_path::Ped;
@@ -12,8 +12,8 @@ use std::test::Fail;
 
 const WORKERS: [u32; 5] = [1, 2, 3, 8, 64];
 
-const DRAWS_IN_CHILDREN: &[u8] =
-    b"fn f() { let x = draw; return x; } fn main() { let a = spawn f(); let b = spawn f(); sync; print a; print b; return 0; }";
+const DRAWS_IN_CHILDREN: &str =
+    "fn f() { let x = draw; return x; } fn main() { let a = spawn f(); let b = spawn f(); sync; print a; print b; return 0; }";
 
 // Holds main's first child until its second one has come, for so many turns of a loop.
 const MOST_TURNS: u32 = 50000000;
@@ -76,13 +76,10 @@ impl Gate for Second {
 fn two_workers_work_at_once(rt: HostRuntime) -> Result<(), Fail> {
     let gate = Second::new();
     let line = "run --gamma 1,1 --workers 2 --show log";
-    let told = guarded(&rt, line, DRAWS_IN_CHILDREN, &gate)?;
+    let told = guarded(&rt, line, DRAWS_IN_CHILDREN.as_bytes(), &gate)?;
     assert!(rt; gate.has_come() && !gate.is_late());
-    assert_eq!(rt; told.code, 0);
-    assert_eq!(rt;
-        told.out.as_slice(),
-        b"draw 0.0 = 210\ndraw 1.0 = 903\n210\n903\n".as_slice()
-    );
+    let output = "draw 0.0 = 210\ndraw 1.0 = 903\n210\n903\n";
+    compare(&rt, line, &told, 0, output, "");
     Ok(())
 }
 
@@ -91,59 +88,63 @@ fn repeats<R: Host>(
     rt: &R,
     words: &str,
     times: u32,
-    script: &[u8],
+    script: &str,
     code: u8,
-    output: &[u8],
+    output: &str,
 ) -> Result<(), Fail> {
     let alloc = rt.alloc();
     for workers in WORKERS {
         let line = format!(in alloc; "{words} --workers {workers}")?;
         for _ in 0..times {
-            ends(rt, line.as_str(), script, code, output, b"")?;
+            ends(rt, line.as_str(), script, code, output, "")?;
         }
     }
     Ok(())
 }
 
+// The words, the script, the status, and what is printed.
+static RUNS: [(&str, &str, u8, &str); 4] = [
+    (
+        "run --gamma 1,1 --show log",
+        TWO_DRAWS,
+        0,
+        "draw 0.0 = 210\ndraw 1 = 210\n210\n210\n",
+    ),
+    (
+        "run --budget 10000",
+        FAULTY_CHILD,
+        1,
+        "7\nfault 0.0: division by zero\n",
+    ),
+    ("run", SQUARES, 0, "0\n1\n4\n9\n16\n"),
+    (
+        "run",
+        FAULT_BEFORE_ANOTHER,
+        1,
+        "fault 0.0: division by zero\n",
+    ),
+];
+
 #[test]
 fn runs_are_the_same_on_any_workers(rt: HostRuntime) -> Result<(), Fail> {
-    let rows: [(&str, &[u8], u8, &[u8]); 4] = [
-        (
-            "run --gamma 1,1 --show log",
-            TWO_DRAWS,
-            0,
-            b"draw 0.0 = 210\ndraw 1 = 210\n210\n210\n",
-        ),
-        (
-            "run --budget 10000",
-            FAULTY_CHILD,
-            1,
-            b"7\nfault 0.0: division by zero\n",
-        ),
-        ("run", SQUARES, 0, b"0\n1\n4\n9\n16\n"),
-        (
-            "run",
-            FAULT_BEFORE_ANOTHER.as_bytes(),
-            1,
-            b"fault 0.0: division by zero\n",
-        ),
-    ];
-    for (line, script, code, output) in rows {
+    for &(line, script, code, output) in &RUNS {
         repeats(&rt, line, 20, script, code, output)?;
     }
     Ok(())
 }
 
+// The words that generate a script, how often it runs, and what it prints.
+static GENERATED: [(&str, u32, &str); 3] = [
+    ("gen --shape fib --size 20", 3, "6765\n"),
+    ("gen --shape tree --size 10", 10, "1024\n"),
+    ("gen --shape loop --size 10", 10, "285\n"),
+];
+
 #[test]
 fn generated_scripts_are_the_same_on_any_workers(rt: HostRuntime) -> Result<(), Fail> {
-    let rows: [(&str, u32, &[u8]); 3] = [
-        ("gen --shape fib --size 20", 3, b"6765\n"),
-        ("gen --shape tree --size 10", 10, b"1024\n"),
-        ("gen --shape loop --size 10", 10, b"285\n"),
-    ];
-    for (made, times, output) in rows {
+    for &(made, times, output) in &GENERATED {
         let script = generated(&rt, made)?;
-        repeats(&rt, "run --gamma 0", times, &script, 0, output)?;
+        repeats(&rt, "run --gamma 0", times, script.as_str(), 0, output)?;
     }
     Ok(())
 }
@@ -158,6 +159,6 @@ fn what_stands_behind_a_known_fault_is_not_run(rt: HostRuntime) -> Result<(), Fa
     }
     output.push_str(": depth\n")?;
     let script =
-        b"fn f(n) { spawn f(n); spawn f(n); spawn f(n); return 0; } fn main() { spawn f(1); sync; return 0; }";
-    repeats(&rt, "run --depth 100", 2, script, 1, output.as_bytes())
+        "fn f(n) { spawn f(n); spawn f(n); spawn f(n); return 0; } fn main() { spawn f(1); sync; return 0; }";
+    repeats(&rt, "run --depth 100", 2, script, 1, output.as_str())
 }

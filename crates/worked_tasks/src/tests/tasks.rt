@@ -5,35 +5,18 @@ ghost use Rattle.std.specs.Arc.{arc_value};
 ghost use Rattle.serial_meaning.specs.Eval.{main_origin};
 ghost use Rattle.strand_machine.specs.Family.{tag};
 ghost use Rattle.strand_machine.specs.Tasks.{fresh};
-ghost use Rattle.worked_scripts.specs.Stopping.{IsIdle, StopsAt};
+ghost use Rattle.worked_tasks.specs.Stopping.{IsIdle, StopsAt};
 
-use dotmix::Gamma;
+use super::plan;
 use meet_block::{Give, Join};
-use script_check::check;
 use script_grammar::Items;
-use script_text::{MAX_BYTES, parse};
-use serial_meaning::{Answer, AnswerKey, Limits, Outcome, Plan, Show, Value};
+use serial_meaning::{Answer, AnswerKey, Outcome, Plan, Value};
 use std::alloc::Global;
 use std::process::Abort;
 use std::sync::Arc;
 use std::test::Fail;
 use strand_machine::{Resumed, Stop, Task};
 use strand_meaning::laws;
-
-/// The script's plan where each instance has 100 steps, and may have children.
-pub(super) fn plan(rt: &(impl Abort + AllocGlobal), text: &str) -> Result<Arc<Plan>, Fail> {
-    let alloc = rt.alloc();
-    assert!(rt; text.len() <= MAX_BYTES);
-    let checked = check(alloc, parse(alloc, text.as_bytes())?)?;
-    let gamma = Gamma::of_seed(alloc, 0, 2)?;
-    assert!(rt; gamma.len() == 2);
-    let limits = Limits {
-        depth: 2,
-        budget: 100,
-    };
-    let plan = Plan::new(checked, gamma, limits, Show::Plain, 4);
-    Ok(Arc::new(alloc, plan)?)
-}
 
 /// Main's task, of which nothing is done.
 #[tactic(auto, using(crate::proofs::Stopping::main_known))]

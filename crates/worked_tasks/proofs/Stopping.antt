@@ -18,7 +18,7 @@ use Rattle.strand_machine.specs.Stops.{IsStop, Advances, advances, answer_tags}
 use Rattle.strand_machine.specs.Tasks.{TaskView, fresh, fresh_with}
 use Rattle.strand_machine.specs.declared.stop.Stop as stop_type
 use Rattle.strand_machine.specs.declared.stop.Stop.TheVariants as stop
-use Rattle.worked_scripts.specs.Stopping.{IsIdle, StopsAt}
+use Rattle.worked_tasks.specs.Stopping.{IsIdle, StopsAt}
 
 -- The origin of a whole run is one of its plan's.
 pub main_known : (plan same : PlanView) (o : Origin) → same ≡ plan → o ≡ main_origin same → IsOriginOf plan o

@@ -1,7 +1,6 @@
-// The turns of hands. That crews answer as one worker does, on any number of workers, is shown by `workers`.
+// The turns of hands. That crews answer as one worker does, on any number of workers, is shown by `worked_commands`.
 
-use super::FAULT_BEFORE_ANOTHER;
-use super::tasks::plan;
+use super::plan;
 use crew::{Crew, Gate, Hand, Looked, OpenGate, Turn};
 use meet_block::Look;
 use serial_meaning::{FaultKind, Origin, Outcome};
@@ -9,6 +8,10 @@ use std::alloc::Global;
 use std::process::Abort;
 use std::sync::atomic::{AtomicU64, Ordering};
 use std::test::Fail;
+
+// The first child ends by a fault, and nothing of the second one counts.
+const FAULT_BEFORE_ANOTHER: &str =
+    "fn bad() { let z = 0; return 1 / z; } fn ok() { return 1; } fn main() { spawn bad(); spawn ok(); sync; return 0; }";
 
 #[test]
 fn a_new_crew_has_one_task_at_hand_0(rt: HostRuntime) -> Result<(), Fail> {
