@@ -19,8 +19,6 @@
 mod lanes;
 mod reduction;
 mod run;
-#[cfg(test)]
-mod tests;
 
 pub use lanes::mix_lanes;
 pub use reduction::reduce;

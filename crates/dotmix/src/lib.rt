@@ -10,8 +10,6 @@ mod gamma;
 mod memory;
 mod mixing;
 mod product;
-#[cfg(test)]
-mod tests;
 mod trail;
 
 pub use gamma::{Gamma, GammaError, MODULUS};

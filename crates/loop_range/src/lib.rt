@@ -6,8 +6,6 @@
 
 mod memory;
 mod range;
-#[cfg(test)]
-mod tests;
 
 pub use memory::Memory;
 pub use range::{IterRange, cover, iteration_path};

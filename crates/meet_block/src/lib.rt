@@ -18,8 +18,6 @@ mod memory;
 mod room;
 mod rule;
 mod tagged;
-#[cfg(test)]
-mod tests;
 mod view;
 
 pub use give::{Arrived, Give};

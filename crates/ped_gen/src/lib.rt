@@ -4,8 +4,6 @@
 mod memory;
 mod script;
 mod shape;
-#[cfg(test)]
-mod tests;
 
 pub use memory::Memory;
 pub use script::gen_script;

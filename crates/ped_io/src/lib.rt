@@ -13,6 +13,3 @@ pub use mem::{MemSink, MemSource};
 pub use standard::{StdSink, StdSource};
 pub use stream::{Failed, Memory, Sink, Source};
 pub use transfer::{ReadError, read_all, write_all};
-
-#[cfg(test)]
-mod tests;

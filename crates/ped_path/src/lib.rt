@@ -12,8 +12,6 @@ mod path;
 mod ped;
 mod pedigree;
 mod ranks;
-#[cfg(test)]
-mod tests;
 mod text;
 
 pub use memory::Memory;

@@ -18,8 +18,6 @@ pub mod render;
 mod same_expression;
 mod same_plan;
 mod same_statement;
-#[cfg(test)]
-mod tests;
 pub mod value;
 
 pub use answer::{Answer, Outcome, Strand};

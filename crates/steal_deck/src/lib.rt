@@ -24,8 +24,6 @@ mod deck;
 mod memory;
 mod remains;
 mod rule;
-#[cfg(test)]
-mod tests;
 mod thief;
 
 pub use deck::Deck;

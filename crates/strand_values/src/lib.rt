@@ -11,8 +11,6 @@ mod memory;
 mod names;
 mod scalar;
 mod slots;
-#[cfg(test)]
-mod tests;
 mod value;
 mod variables;
 

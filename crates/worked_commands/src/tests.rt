@@ -1,0 +1,156 @@
+// Runs of the top calls over sources and sinks in memory.
+
+mod commands;
+mod measures;
+mod runs;
+mod scripts;
+mod strands;
+mod workers;
+
+use engine::{Gate, OpenGate, pedrun};
+use ped_io::{MemSink, MemSource};
+use std::alloc::Global;
+use std::process::Abort;
+use std::sync::Wait;
+use std::test::Fail;
+use std::thread::Threads;
+
+const ONE: &str = "fn main() { print 1; return 0; }";
+
+const DRAWS: &str =
+    "fn main() { let a = draw; let b = draw; let c = draw; print a; print b; print c; return 0; }";
+
+const SUM: &str =
+    "fn two() { let x = 1 + 1; return x; } fn main() { let a = spawn two(); print 5; sync; print a + 1; return 0; }";
+
+const SQUARES: &str =
+    "fn sq(i) { return i * i; } fn main() { let a[5]; pfor i in 0..5 into a call sq(i); let k = 0; while k < 5 { print a[k]; k = k + 1; } return 0; }";
+
+const TWO_DRAWS: &str =
+    "fn f() { let x = draw; return x; } fn main() { let a = spawn f(); let b = draw; sync; print a; print b; return 0; }";
+
+const ROLLS: &str =
+    "fn roll(i) { let x = draw; return x % 100; } fn main() { let a[5]; pfor i in 0..5 into a call roll(i); let k = 0; while k < 5 { print a[k]; k = k + 1; } return 0; }";
+
+// The child ends by a fault, and main goes on until its budget is spent.
+const FAULTY_CHILD: &str =
+    "fn bad() { let z = 0; return 1 / z; } fn main() { print 7; let a = spawn bad(); let i = 0; while i == 0 { i = 0; } sync; print a; return 0; }";
+
+// The first child ends by a fault, and nothing of the second one counts.
+const FAULT_BEFORE_ANOTHER: &str =
+    "fn bad() { let z = 0; return 1 / z; } fn ok() { return 1; } fn main() { spawn bad(); spawn ok(); sync; return 0; }";
+
+// Each turn awaits the child of the turn before.
+const PENDING_SYNCED: &str =
+    "fn f() { return 1; } fn main() { let x = 0; let i = 0; while i < 2 { sync; x = x + 1; x = spawn f(); i = i + 1; } sync; print x; return 0; }";
+
+/// What a test's runtime has.
+trait Host: Abort + AllocGlobal + Threads + Wait + Sync {}
+
+impl<R: Abort + AllocGlobal + Threads + Wait + Sync> Host for R {}
+
+/// How a call ended: its status, and what stands in its sinks.
+#[derive(Drop)]
+struct Told {
+    code: u8,
+    out: String,
+    err: String,
+}
+
+fn words(alloc: Global, line: &str) -> Result<Vec<String>, Fail> {
+    let mut words = Vec::new(alloc);
+    if line.is_empty() {
+        return Ok(words);
+    }
+    for word in line.split(' ') {
+        words.push(String::from_str(alloc, word)?)?;
+    }
+    Ok(words)
+}
+
+// A call whose writes take this many bytes and whose read and write of these numbers fail.
+fn call<R: Host, G: Gate + Sync>(
+    rt: &R,
+    line: &str,
+    script: Vec<u8>,
+    step: u32,
+    reads: Vec<u64>,
+    writes: Vec<u64>,
+    gate: &G,
+) -> Result<Told, Fail> {
+    let alloc = rt.alloc();
+    let step = step.max(1);
+    let words = words(alloc, line)?;
+    let mut source = MemSource::new(script, 4096, reads);
+    let mut out = MemSink::new(alloc, step, 1048576, writes)?;
+    let mut err = MemSink::new(alloc, 4096, 1048576, Vec::new(alloc))?;
+    let status = pedrun(rt, alloc, &words, &mut source, &mut out, &mut err, gate);
+    Ok(Told {
+        code: status.code(),
+        out: String::from_utf8(out.bytes().to_vec(alloc)?)?,
+        err: String::from_utf8(err.bytes().to_vec(alloc)?)?,
+    })
+}
+
+// A call in which nothing fails.
+fn plain<R: Host>(rt: &R, line: &str, script: &[u8]) -> Result<Told, Fail> {
+    guarded(rt, line, script, &OpenGate)
+}
+
+// A call in which nothing fails, with this gate.
+fn guarded<R: Host, G: Gate + Sync>(
+    rt: &R,
+    line: &str,
+    script: &[u8],
+    gate: &G,
+) -> Result<Told, Fail> {
+    let alloc = rt.alloc();
+    let script = script.to_vec(alloc)?;
+    call(
+        rt,
+        line,
+        script,
+        4096,
+        Vec::new(alloc),
+        Vec::new(alloc),
+        gate,
+    )
+}
+
+// The call of this line ended with this status, and this stands in its sinks.
+fn compare(rt: &impl Abort, line: &str, told: &Told, code: u8, output: &str, refusal: &str) {
+    assert_eq!(rt; told.code, code, "{line}");
+    assert_eq!(rt; told.out.as_str(), output, "{line}");
+    assert_eq!(rt; told.err.as_str(), refusal, "{line}");
+}
+
+// The call ends with this status, and this stands in its sinks.
+fn ends<R: Host>(
+    rt: &R,
+    line: &str,
+    script: &str,
+    code: u8,
+    output: &str,
+    refusal: &str,
+) -> Result<(), Fail> {
+    let told = plain(rt, line, script.as_bytes())?;
+    compare(rt, line, &told, code, output, refusal);
+    Ok(())
+}
+
+// The command prints this.
+fn prints<R: Host>(rt: &R, line: &str, script: &str, output: &str) -> Result<(), Fail> {
+    ends(rt, line, script, 0, output, "")
+}
+
+// The words or the script are refused by this line.
+fn refuses<R: Host>(rt: &R, line: &str, script: &str, code: u8, refusal: &str) -> Result<(), Fail> {
+    ends(rt, line, script, code, "", refusal)
+}
+
+// The script that the words generate.
+fn generated<R: Host>(rt: &R, line: &str) -> Result<String, Fail> {
+    let told = plain(rt, line, b"")?;
+    assert_eq!(rt; told.code, 0, "{line}");
+    Ok(told.out)
+}

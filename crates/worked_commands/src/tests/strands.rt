@@ -1,0 +1,87 @@
+// Replayed strands.
+
+use super::{FAULTY_CHILD, ROLLS, ends};
+use std::test::Fail;
+
+const FAULTY_CHILD_AWAITED: &str =
+    "fn bad() { let z = 0; return 1 / z; } fn main() { spawn bad(); sync; print 1; return 0; }";
+
+// Events of all kinds, in main, in a spawned child and in the iterations of a loop.
+const EVENTS: &str =
+    "fn f() { let x = new; print x; return 0; } fn g(i) { print i; let z = new; print z; return 0; } fn main() { spawn f(); let y = new; print y; sync; pfor i in 0..2 call g(i); return 0; }";
+
+// The words, the script, the status, and what is printed and told.
+static STRANDS: [(&str, &str, u8, &str, &str); 21] = [
+    ("replay --at 0", FAULTY_CHILD, 0, "7\nspawn 0\n", ""),
+    ("replay --at 1", FAULTY_CHILD_AWAITED, 0, "sync 1\n", ""),
+    (
+        "replay --gamma 0,1 --at 0.3.0",
+        ROLLS,
+        0,
+        "draw 0.3.0 = 2628\n",
+        "",
+    ),
+    ("replay --gamma 0,1 --at 0", ROLLS, 0, "loop 0\n", ""),
+    ("replay --at 0", EVENTS, 0, "spawn 0\n", ""),
+    ("replay --at 0.0", EVENTS, 0, "new 0.0\n", ""),
+    ("replay --at 0.1", EVENTS, 0, "0.0\n", ""),
+    ("replay --at 1", EVENTS, 0, "new 1\n", ""),
+    ("replay --at 2", EVENTS, 0, "1\nsync 2\n", ""),
+    ("replay --at 3", EVENTS, 0, "loop 3\n", ""),
+    ("replay --at 3.0.0", EVENTS, 0, "0\nnew 3.0.0\n", ""),
+    ("replay --at 3.0.1", EVENTS, 0, "3.0.0\n", ""),
+    ("replay --at 3.1.0", EVENTS, 0, "1\nnew 3.1.0\n", ""),
+    ("replay --at 3.1.1", EVENTS, 0, "3.1.0\n", ""),
+    ("replay --at 4", EVENTS, 0, "sync 4\n", ""),
+    (
+        "replay --at 0.0",
+        FAULTY_CHILD,
+        1,
+        "fault 0.0: division by zero\n",
+        "",
+    ),
+    (
+        "replay --budget 10000 --at 1",
+        FAULTY_CHILD,
+        1,
+        "fault 1: budget spent\n",
+        "",
+    ),
+    (
+        "replay --budget 10000 --at 7",
+        FAULTY_CHILD,
+        7,
+        "",
+        "no strand 7\n",
+    ),
+    (
+        "replay --at 2",
+        FAULTY_CHILD_AWAITED,
+        7,
+        "",
+        "blocked by fault 0.0\n",
+    ),
+    (
+        "replay --gamma 0,1 --at 0.3",
+        ROLLS,
+        7,
+        "",
+        "no strand 0.3\n",
+    ),
+    (
+        "replay --gamma 0,1 --at 0.5.0",
+        ROLLS,
+        7,
+        "",
+        "no strand 0.5.0\n",
+    ),
+];
+
+// The elision doesn't reach the strand 1 of the script with a faulty child.
+#[test]
+fn strands_tell_their_events_or_why_there_are_none(rt: HostRuntime) -> Result<(), Fail> {
+    for &(line, script, code, output, refusal) in &STRANDS {
+        ends(&rt, line, script, code, output, refusal)?;
+    }
+    Ok(())
+}

@@ -1,0 +1,4 @@
+// What strands draw.
+
+mod runs;
+mod strands;

@@ -1,0 +1,4 @@
+// The two concurrent parts, each by itself.
+
+mod decks;
+mod joins;

@@ -1,0 +1,62 @@
+-- Where tasks stop, by the laws of tasks.
+use Rattle.std.proofs.Common.{◌≡◌, Bool, List, [], ◌∷◌, Option, None, length, get_or, refl, sym, ap, ap₂, ◌∙◌, subst, arith}
+use Rattle.serial_meaning.specs.Answer.{AnswerView, AnswerTag}
+use Rattle.serial_meaning.specs.Eval.{main_origin}
+use Rattle.serial_meaning.specs.Laws.{IsOriginOf, Main}
+use Rattle.serial_meaning.specs.Plan.{PlanView}
+use Rattle.serial_meaning.specs.declared.answer.Outcome.{Outcome}
+use Rattle.serial_meaning.specs.declared.origin.Origin.{Origin}
+use Rattle.strand_meaning.specs.Clear.{IsClearPlan}
+use Rattle.strand_meaning.specs.Laws.{IsSoundStop, KeepsOrigin, LeavesFewer}
+use Rattle.strand_meaning.specs.Task.{Stop, Spawn, Wait}
+use Rattle.strand_meaning.proofs.Ends.{tasks_begin}
+use Rattle.strand_meaning.proofs.Fewer.{stops_fall}
+use Rattle.strand_meaning.proofs.Stops.{stops_are_sound, stops_keep_origins}
+use Rattle.strand_machine.specs.Family.{tag, tags}
+use Rattle.strand_machine.specs.Loops.{is_root}
+use Rattle.strand_machine.specs.Stops.{IsStop, Advances, advances, answer_tags}
+use Rattle.strand_machine.specs.Tasks.{TaskView, fresh, fresh_with}
+use Rattle.strand_machine.specs.declared.stop.Stop as stop_type
+use Rattle.strand_machine.specs.declared.stop.Stop.TheVariants as stop
+use Rattle.worked_tasks.specs.Stopping.{IsIdle, StopsAt}
+
+-- The origin of a whole run is one of its plan's.
+pub main_known : (plan same : PlanView) (o : Origin) → same ≡ plan → o ≡ main_origin same → IsOriginOf plan o
+main_known plan same o h e = subst (IsOriginOf plan) (sym (e ∙ ap main_origin h)) Main
+
+-- A task of which nothing is done is idle.
+begun : (knows : Bool) (plan : PlanView) (o : Origin) (t : TaskView) → IsOriginOf plan o → IsClearPlan plan → t ≡ fresh_with knows plan o → IsIdle t × (t.task.plan ≡ plan)
+begun knows plan o t known clear e = subst (λ (v : TaskView). IsIdle v × (v.task.plan ≡ plan)) (sym e) (record { task = tasks_begin plan o known clear; idle = refl; goes_on = refl }, refl)
+
+pub main_idle : (plan : PlanView) (t : TaskView) → IsClearPlan plan → t ≡ fresh plan (main_origin plan) → IsIdle t
+main_idle plan t clear e = (begun (is_root (main_origin plan)) plan (main_origin plan) t Main clear e).0
+
+stops : (t : TaskView) (s : stop_type.Stop) → IsIdle t → IsStop t s → StopsAt t s
+stops t (stop.Spawn child rest) is at =
+    let to : Stop = Spawn child.task.origin rest.task in
+    let sound : IsSoundStop t.task to = stops_are_sound t.task to is.task at.next in
+    let same : KeepsOrigin t.task to = stops_keep_origins t.task to at.next in
+    let fewer : LeavesFewer t.task to = stops_fall t.task to is.task is.idle at.next in
+    let child_begun = begun t.knows t.task.plan child.task.origin child sound.0 is.task.clear at.keeps.0 in
+    (child_begun.0, child_begun.1, record { task = sound.1; idle = fewer.1; goes_on = at.keeps.4 }, same.0)
+stops t (stop.Wait rest) is at =
+    let to : Stop = Wait rest.task in
+    let same : KeepsOrigin t.task to = stops_keep_origins t.task to at.next in
+    let fewer : LeavesFewer t.task to = stops_fall t.task to is.task is.idle at.next in
+    (fewer.1, same.0)
+stops t (stop.Done answer give) is at =
+    (at.keeps.0, ap (λ (p : PlanView). tag p answer.origin) at.keeps.0 ∙ ap (tag t.task.plan) at.keeps.1 ∙ sym at.keeps.2)
+
+pub stopped : (t : TaskView) (s : stop_type.Stop) → IsIdle t → Advances t s → StopsAt t s
+stopped t s is at = stops t s is (subst (λ (c : Option Outcome). advances c t s) is.goes_on at)
+
+-- two origins are all that is awaited
+pub pair : {A : Type 0} (l : List A) (x y : A) → length l ≡ 2 → x ≡ get_or l 0 x → y ≡ get_or l 1 y → l ≡ x ∷ y ∷ []
+pair {A} [] x y h e f = absurd (omega (arith, h))
+pair {A} (a ∷ []) x y h e f = absurd (omega (arith, h))
+pair {A} (a ∷ b ∷ []) x y h e f = ap₂ (λ (p q : A). p ∷ q ∷ []) (sym e) (sym f)
+pair {A} (a ∷ b ∷ c ∷ l) x y h e f = absurd (omega (arith, h))
+
+-- Answers of these two origins, under this plan, have their tags.
+pub tags_of_two : (plan : PlanView) (a b : AnswerView) (os : List Origin) → a.plan ≡ plan → b.plan ≡ plan → os ≡ a.origin ∷ b.origin ∷ [] → answer_tags (a ∷ b ∷ []) ≡ tags plan os
+tags_of_two plan a b os e f h = rw (e, f, h) refl

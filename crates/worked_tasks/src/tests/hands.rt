@@ -1,0 +1,142 @@
+// The turns of hands. That crews answer as one worker does, on any number of workers, is shown by `worked_commands`.
+
+use super::plan;
+use crew::{Crew, Gate, Hand, Looked, OpenGate, Turn};
+use meet_block::Look;
+use serial_meaning::{FaultKind, Origin, Outcome};
+use std::alloc::Global;
+use std::process::Abort;
+use std::sync::atomic::{AtomicU64, Ordering};
+use std::test::Fail;
+
+// The first child ends by a fault, and nothing of the second one counts.
+const FAULT_BEFORE_ANOTHER: &str =
+    "fn bad() { let z = 0; return 1 / z; } fn ok() { return 1; } fn main() { spawn bad(); spawn ok(); sync; return 0; }";
+
+#[test]
+fn a_new_crew_has_one_task_at_hand_0(rt: HostRuntime) -> Result<(), Fail> {
+    let alloc = rt.alloc();
+    let plan = plan(&rt, "fn main() { print 1; return 0; }")?;
+    let (root, hands) = Crew::new(alloc, &plan, 2)?;
+    let mut hands = hands.0.0;
+    assert!(rt; hands.len() == 2);
+    assert!(rt; matches!(hands[1].turn(alloc, &OpenGate)?, Turn::Idle));
+    assert!(rt; matches!(hands[0].turn(alloc, &OpenGate)?, Turn::Ended(_)));
+    drop(root);
+    Ok(())
+}
+
+/// What a turn did.
+fn word(turn: &Turn) -> &'static str {
+    match turn {
+        Turn::Ran => "ran",
+        Turn::Answered(_) => "answered",
+        Turn::Ended(_) => "ended",
+        Turn::Popped => "popped",
+        Turn::Resumed => "resumed",
+        Turn::Waiting => "waiting",
+        Turn::Stole => "stole",
+        Turn::Idle => "idle",
+    }
+}
+
+/// The hand's next turns did this.
+fn turns<G: Gate>(
+    rt: &impl Abort,
+    alloc: Global,
+    hand: &mut Hand,
+    gate: &G,
+    words: &[&str],
+) -> Result<(), Fail> {
+    for &wanted in words {
+        let turn = hand.turn(alloc, gate)?;
+        assert_eq!(rt; word(&turn), wanted);
+    }
+    Ok(())
+}
+
+#[test]
+fn a_hand_looks_at_its_newest_task_between_turns(rt: HostRuntime) -> Result<(), Fail> {
+    let alloc = rt.alloc();
+    let script = "fn f() { return 1; } fn main() { let a = spawn f(); sync; print a; return 0; }";
+    let (_root, hands) = Crew::new(alloc, &plan(&rt, script)?, 1)?;
+    let mut hands = hands.0.0;
+    assert!(rt; hands.len() == 1);
+    let hand = &mut hands[0];
+    turns(&rt, alloc, hand, &OpenGate, &["ran"])?;
+    assert!(rt; matches!(hand.look_newest(alloc)?, Looked::Nothing));
+    turns(&rt, alloc, hand, &OpenGate, &["answered", "popped", "ran"])?;
+    assert!(rt; matches!(hand.look_newest(alloc)?, Looked::Goes));
+    turns(&rt, alloc, hand, &OpenGate, &["ended"])
+}
+
+/// Of which tasks a gate was told, in order: of each a digit, 1 for main, 2 and 3 for its first two children, and 9 for any other.
+#[derive(Drop)]
+struct Record {
+    entered: AtomicU64,
+    left: AtomicU64,
+}
+
+impl Record {
+    fn new() -> Record {
+        Record {
+            entered: AtomicU64::new(0),
+            left: AtomicU64::new(0),
+        }
+    }
+}
+
+fn digit(origin: &Origin) -> u64 {
+    match origin {
+        Origin::Instance { path, .. } => match (path.len(), path.rank_at(0)) {
+            (0, _) => 1,
+            (1, Some(0)) => 2,
+            (1, Some(1)) => 3,
+            _ => 9,
+        },
+        Origin::Loop { .. } => 9,
+    }
+}
+
+// No two threads tell it at once.
+fn write(list: &AtomicU64, origin: &Origin) {
+    let before = list.load(Ordering::SeqCst);
+    let after = before.wrapping_mul(10).wrapping_add(digit(origin));
+    list.store(after, Ordering::SeqCst);
+}
+
+impl Gate for Record {
+    fn enter(&self, origin: &Origin) {
+        write(&self.entered, origin);
+    }
+
+    fn leave(&self, origin: &Origin) {
+        write(&self.left, origin);
+    }
+}
+
+#[test]
+fn a_task_behind_a_known_fault_is_cut(rt: HostRuntime) -> Result<(), Fail> {
+    let alloc = rt.alloc();
+    let (mut root, hands) = Crew::new(alloc, &plan(&rt, FAULT_BEFORE_ANOTHER)?, 1)?;
+    let mut hands = hands.0.0;
+    assert!(rt; hands.len() == 1);
+    let hand = &mut hands[0];
+    let gate = Record::new();
+    let words = [
+        "ran", "answered", "popped", "ran", "answered", "popped", "ran", "resumed", "ended",
+    ];
+    turns(&rt, alloc, hand, &gate, &words)?;
+    assert_eq!(rt; gate.entered.load(Ordering::SeqCst), 12);
+    assert_eq!(rt; gate.left.load(Ordering::SeqCst), 21);
+    if let Look::Ready = root.look() {
+        let answer = root.take();
+        let Outcome::Fault(fault) = &answer.outcome else {
+            panic!(rt; "main ends by its child's fault");
+        };
+        assert!(rt; fault.kind == FaultKind::Divide);
+        assert!(rt; fault.at.path.rank_at(0) == Some(0) && fault.at.rank == 0);
+        return Ok(());
+    }
+    panic!(rt; "main has answered")
+}

@@ -1,0 +1,7 @@
+//! The values of expressions, the variables of an activation, and the lines and origins of a run, worked by hand.
+//!
+//! The crate is its tests. They stand apart, since the check of a crate that has tests proves the crate twice.
+#![tactic(auto)]
+
+#[cfg(test)]
+mod tests;

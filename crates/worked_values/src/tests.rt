@@ -1,0 +1,4 @@
+// What expressions give, and what is printed of a run.
+
+mod expressions;
+mod lines;

@@ -1,0 +1,396 @@
+// Expressions and writes on small environments.
+
+use ped_path::{Ped, Pedigree};
+use script_grammar::{
+    Boxed, Comparison, Expr, Items, Kind, Name, Number, Param, ProductPart, ProductSign, SumPart,
+};
+use serial_meaning::{FaultKind, Value};
+use std::alloc::Global;
+use std::test::Fail;
+use strand_values::{Environment, Halt, count, is_true, iterations, number};
+
+fn name(alloc: Global, text: &str) -> Result<Name, Fail> {
+    Ok(Name {
+        bytes: Items(text.as_bytes().to_vec(alloc)?),
+        at: 0,
+    })
+}
+
+fn int(value: i64) -> Expr {
+    Expr::Number(Number { at: 0, value })
+}
+
+fn variable(alloc: Global, text: &str) -> Result<Expr, Fail> {
+    Ok(Expr::Var(name(alloc, text)?))
+}
+
+fn boxed(alloc: Global, e: Expr) -> Result<Boxed<Expr>, Fail> {
+    Ok(Boxed(Box::new(alloc, e)?))
+}
+
+fn named(alloc: Global, text: &str) -> Result<Boxed<Expr>, Fail> {
+    boxed(alloc, variable(alloc, text)?)
+}
+
+/// The item `a[i]`.
+fn item_of_a(alloc: Global, i: i64) -> Result<Expr, Fail> {
+    Ok(Expr::Item(name(alloc, "a")?, boxed(alloc, int(i))?))
+}
+
+fn sum(alloc: Global, first: Expr, minus: bool, operand: Expr) -> Result<Expr, Fail> {
+    let rest = vec![in alloc; SumPart { minus, operand }]?;
+    Ok(Expr::Sum(boxed(alloc, first)?, Items(rest)))
+}
+
+fn product(alloc: Global, first: Expr, sign: ProductSign, operand: Expr) -> Result<Expr, Fail> {
+    let rest = vec![in alloc; ProductPart { sign, operand }]?;
+    Ok(Expr::Product(boxed(alloc, first)?, Items(rest)))
+}
+
+/// A fault of the kind `Divide`.
+fn divided(alloc: Global) -> Result<Expr, Fail> {
+    product(alloc, int(1), ProductSign::Over, int(0))
+}
+
+fn param(alloc: Global, kind: Kind, text: &str) -> Result<Param, Fail> {
+    Ok(Param {
+        kind,
+        name: name(alloc, text)?,
+    })
+}
+
+/// The object with the pedigree of this one rank.
+fn object(alloc: Global, rank: u32) -> Result<Value, Fail> {
+    Ok(Value::Id(Pedigree {
+        path: Ped::root(alloc)?,
+        rank: rank as u64,
+    }))
+}
+
+/// An Int `n` of 7, the objects `early` and `late`, and an array `a` of three zeros.
+fn environment(alloc: Global) -> Result<Environment, Fail> {
+    let mut params = Vec::new(alloc);
+    params.push(param(alloc, Kind::Int, "n")?)?;
+    params.push(param(alloc, Kind::Id, "early")?)?;
+    params.push(param(alloc, Kind::Id, "late")?)?;
+    let mut args = Vec::new(alloc);
+    args.push(Value::Int(7))?;
+    args.push(object(alloc, 2)?)?;
+    args.push(object(alloc, 5)?)?;
+    let mut environment = Environment::bound(alloc, &params, Items(args), 0)?;
+    environment.set_array(alloc, &name(alloc, "a")?, 3)?;
+    Ok(environment)
+}
+
+/// The integer that an expression gives there, or its fault.
+fn told(alloc: Global, e: Expr) -> Result<Result<i64, FaultKind>, Fail> {
+    told_in(&environment(alloc)?, &e)
+}
+
+/// The same in this environment.
+fn told_in(environment: &Environment, e: &Expr) -> Result<Result<i64, FaultKind>, Fail> {
+    match environment.value(e) {
+        Ok(value) => Ok(Ok(number(&value))),
+        Err(Halt::Fault(kind)) => Ok(Err(kind)),
+        Err(halt) => Err(halt)?,
+    }
+}
+
+const LEAST: i64 = i64::MIN;
+
+const GREATEST: i64 = i64::MAX;
+
+static PRODUCTS: [(i64, ProductSign, i64, Result<i64, FaultKind>); 13] = [
+    (6, ProductSign::Times, 7, Ok(42)),
+    (GREATEST, ProductSign::Times, 2, Ok(-2)),
+    (LEAST, ProductSign::Times, -1, Ok(LEAST)),
+    (7, ProductSign::Over, 2, Ok(3)),
+    (-7, ProductSign::Over, 2, Ok(-3)),
+    (7, ProductSign::Over, -2, Ok(-3)),
+    (LEAST, ProductSign::Over, -1, Ok(LEAST)),
+    (7, ProductSign::Modulo, 2, Ok(1)),
+    (-7, ProductSign::Modulo, 2, Ok(-1)),
+    (7, ProductSign::Modulo, -2, Ok(1)),
+    (LEAST, ProductSign::Modulo, -1, Ok(0)),
+    (1, ProductSign::Over, 0, Err(FaultKind::Divide)),
+    (1, ProductSign::Modulo, 0, Err(FaultKind::Divide)),
+];
+
+#[test]
+fn products_wrap_and_quotients_are_cut_toward_zero(rt: HostRuntime) -> Result<(), Fail> {
+    for &(x, sign, y, expected) in &PRODUCTS {
+        let e = product(rt.alloc(), int(x), sign, int(y))?;
+        assert_eq!(rt; told(rt.alloc(), e)?, expected, "{x} {sign:?} {y}");
+    }
+    Ok(())
+}
+
+static SUMS: [(i64, bool, i64, i64); 4] = [
+    (1, false, 1, 2),
+    (GREATEST, false, 1, LEAST),
+    (2, true, 3, -1),
+    (LEAST, true, 1, GREATEST),
+];
+
+#[test]
+fn sums_wrap(rt: HostRuntime) -> Result<(), Fail> {
+    for &(x, minus, y, expected) in &SUMS {
+        let e = sum(rt.alloc(), int(x), minus, int(y))?;
+        assert_eq!(rt; told(rt.alloc(), e)?, Ok(expected), "{x} {minus} {y}");
+    }
+    Ok(())
+}
+
+#[test]
+fn minuses_wrap(rt: HostRuntime) -> Result<(), Fail> {
+    for (x, expected) in [(7, -7), (0, 0), (LEAST, LEAST)] {
+        let e = Expr::Neg(0, boxed(rt.alloc(), int(x))?);
+        assert_eq!(rt; told(rt.alloc(), e)?, Ok(expected), "{x}");
+    }
+    Ok(())
+}
+
+// What 0, 1 and 2 give, compared with 1.
+static COMPARISONS: [(Comparison, [i64; 3]); 6] = [
+    (Comparison::Eq, [0, 1, 0]),
+    (Comparison::Ne, [1, 0, 1]),
+    (Comparison::Lt, [1, 0, 0]),
+    (Comparison::Le, [1, 1, 0]),
+    (Comparison::Gt, [0, 0, 1]),
+    (Comparison::Ge, [0, 1, 1]),
+];
+
+/// The comparison of an integer with 1.
+fn with_one(alloc: Global, left: i64, how: Comparison) -> Result<Expr, Fail> {
+    let left = boxed(alloc, int(left))?;
+    Ok(Expr::Compare(left, how, boxed(alloc, int(1))?))
+}
+
+#[test]
+fn comparisons_are_1_or_0(rt: HostRuntime) -> Result<(), Fail> {
+    for &(how, expected) in &COMPARISONS {
+        for i in 0..3usize {
+            let e = with_one(rt.alloc(), i as i64, how)?;
+            assert_eq!(rt; told(rt.alloc(), e)?, Ok(expected[i]), "{i} {how:?} 1");
+        }
+    }
+    Ok(())
+}
+
+#[test]
+fn all_but_0_hold(rt: HostRuntime) {
+    for (number, holds) in [(0, false), (1, true), (-1, true)] {
+        assert_eq!(rt; is_true(&Value::Int(number)), holds, "{number}");
+    }
+}
+
+/// `n - 3 - 4`
+fn two_differences(alloc: Global) -> Result<Expr, Fail> {
+    let three = SumPart {
+        minus: true,
+        operand: int(3),
+    };
+    let four = SumPart {
+        minus: true,
+        operand: int(4),
+    };
+    let parts = vec![in alloc; three, four]?;
+    Ok(Expr::Sum(named(alloc, "n")?, Items(parts)))
+}
+
+#[test]
+fn differences_go_from_the_left(rt: HostRuntime) -> Result<(), Fail> {
+    let e = two_differences(rt.alloc())?;
+    assert_eq!(rt; told(rt.alloc(), e)?, Ok(0));
+    Ok(())
+}
+
+/// `1 / 0 * a[9]`
+fn quotient_and_product(alloc: Global) -> Result<Expr, Fail> {
+    let quotient = ProductPart {
+        sign: ProductSign::Over,
+        operand: int(0),
+    };
+    let factor = ProductPart {
+        sign: ProductSign::Times,
+        operand: item_of_a(alloc, 9)?,
+    };
+    let parts = vec![in alloc; quotient, factor]?;
+    Ok(Expr::Product(boxed(alloc, int(1))?, Items(parts)))
+}
+
+// The quotient is taken before the index is looked at.
+#[test]
+fn an_operation_is_done_before_the_next_operand(rt: HostRuntime) -> Result<(), Fail> {
+    let e = quotient_and_product(rt.alloc())?;
+    assert_eq!(rt; told(rt.alloc(), e)?, Err(FaultKind::Divide));
+    Ok(())
+}
+
+/// `a[9] * (1 / 0)`
+fn two_faults(alloc: Global) -> Result<Expr, Fail> {
+    let left = item_of_a(alloc, 9)?;
+    product(alloc, left, ProductSign::Times, divided(alloc)?)
+}
+
+#[test]
+fn the_left_operand_faults_first(rt: HostRuntime) -> Result<(), Fail> {
+    let e = two_faults(rt.alloc())?;
+    assert_eq!(rt; told(rt.alloc(), e)?, Err(FaultKind::Index));
+    Ok(())
+}
+
+fn same(alloc: Global, left: &str, right: &str) -> Result<Expr, Fail> {
+    Ok(Expr::Same(0, named(alloc, left)?, named(alloc, right)?))
+}
+
+fn older(alloc: Global, left: &str, right: &str) -> Result<Expr, Fail> {
+    Ok(Expr::Older(0, named(alloc, left)?, named(alloc, right)?))
+}
+
+#[test]
+fn ids_are_the_same_by_their_pedigrees(rt: HostRuntime) -> Result<(), Fail> {
+    for (left, right, expected) in [("early", "early", 1), ("early", "late", 0)] {
+        let e = same(rt.alloc(), left, right)?;
+        assert_eq!(rt; told(rt.alloc(), e)?, Ok(expected), "{left} {right}");
+    }
+    Ok(())
+}
+
+#[test]
+fn ids_are_older_by_their_pedigrees(rt: HostRuntime) -> Result<(), Fail> {
+    for (left, right, expected) in [("early", "late", 1), ("late", "early", 0)] {
+        let e = older(rt.alloc(), left, right)?;
+        assert_eq!(rt; told(rt.alloc(), e)?, Ok(expected), "{left} {right}");
+    }
+    Ok(())
+}
+
+/// The array `a` with 9 as its last item.
+fn with_nine(alloc: Global) -> Result<Environment, Fail> {
+    let mut environment = environment(alloc)?;
+    let a = name(alloc, "a")?;
+    if environment.item(&a, 2).is_some() {
+        environment.set_item(&a, 2, &Value::Int(9));
+    }
+    Ok(environment)
+}
+
+#[test]
+fn items_are_read_and_written_within_the_array(rt: HostRuntime) -> Result<(), Fail> {
+    let alloc = rt.alloc();
+    let environment = with_nine(alloc)?;
+    let a = name(alloc, "a")?;
+    for (i, expected) in [
+        (-1, Err(FaultKind::Index)),
+        (0, Ok(0)),
+        (2, Ok(9)),
+        (3, Err(FaultKind::Index)),
+    ] {
+        assert_eq!(rt; environment.item(&a, i), expected.ok(), "item {i}");
+        let item = item_of_a(alloc, i)?;
+        assert_eq!(rt; told_in(&environment, &item)?, expected, "item {i}");
+    }
+    Ok(())
+}
+
+#[test]
+fn arrays_have_room_for_their_length(rt: HostRuntime) -> Result<(), Fail> {
+    let environment = environment(rt.alloc())?;
+    let a = name(rt.alloc(), "a")?;
+    assert!(rt; environment.has_room(None, 4));
+    assert!(rt; environment.has_room(Some(&a), 3));
+    assert!(rt; !environment.has_room(Some(&a), 4));
+    Ok(())
+}
+
+/// The same array after a loop of two iterations into it, and one into no array.
+fn filled(alloc: Global) -> Result<Environment, Fail> {
+    let mut environment = with_nine(alloc)?;
+    let a = name(alloc, "a")?;
+    environment.fill(alloc, Some(&a), &[Value::Int(4), Value::Int(5)])?;
+    environment.fill(alloc, None, &[Value::Int(6)])?;
+    Ok(environment)
+}
+
+#[test]
+fn the_values_of_a_loop_are_the_first_items(rt: HostRuntime) -> Result<(), Fail> {
+    let environment = filled(rt.alloc())?;
+    let a = name(rt.alloc(), "a")?;
+    for (i, expected) in [(0, 4), (1, 5), (2, 9)] {
+        assert_eq!(rt; environment.item(&a, i), Some(expected), "item {i}");
+    }
+    Ok(())
+}
+
+/// The environment where `n` is 8, and there is an `x` of 1.
+fn with_scalars(alloc: Global) -> Result<Environment, Fail> {
+    let mut environment = environment(alloc)?;
+    environment.set_scalar(alloc, &name(alloc, "n")?, Value::Int(8))?;
+    environment.set_scalar(alloc, &name(alloc, "x")?, Value::Int(1))?;
+    Ok(environment)
+}
+
+#[test]
+fn scalars_are_set_by_name(rt: HostRuntime) -> Result<(), Fail> {
+    let environment = with_scalars(rt.alloc())?;
+    for (text, expected) in [("n", 8), ("x", 1)] {
+        let e = variable(rt.alloc(), text)?;
+        assert_eq!(rt; told_in(&environment, &e)?, Ok(expected), "{text}");
+    }
+    Ok(())
+}
+
+#[test]
+fn an_assignment_that_faults_changes_nothing(rt: HostRuntime) -> Result<(), Fail> {
+    let alloc = rt.alloc();
+    let mut environment = environment(alloc)?;
+    let n = name(alloc, "n")?;
+    environment.assign(alloc, &n, &int(9))?;
+    let halt = environment.assign(alloc, &n, &divided(alloc)?).err();
+    assert_eq!(rt; halt, Some(Halt::Fault(FaultKind::Divide)));
+    let e = variable(alloc, "n")?;
+    assert_eq!(rt; told_in(&environment, &e)?, Ok(9));
+    Ok(())
+}
+
+/// The integers that the arguments give.
+fn numbers(alloc: Global, args: &[Expr]) -> Result<Vec<i64>, Fail> {
+    let values = environment(alloc)?.values(alloc, args)?;
+    Ok(values.as_slice().iter().map(number).collect(alloc)?)
+}
+
+#[test]
+fn arguments_are_taken_from_the_left(rt: HostRuntime) -> Result<(), Fail> {
+    let args = vec![in rt.alloc(); variable(rt.alloc(), "n")?, int(3)]?;
+    assert_eq!(rt; numbers(rt.alloc(), &args)?.as_slice(), [7, 3].as_slice());
+    Ok(())
+}
+
+/// The arguments `n`, `3`, `a[9]` and `1 / 0`.
+fn faulty_arguments(alloc: Global) -> Result<Vec<Expr>, Fail> {
+    let mut args = Vec::new(alloc);
+    args.push(variable(alloc, "n")?)?;
+    args.push(int(3))?;
+    args.push(item_of_a(alloc, 9)?)?;
+    args.push(divided(alloc)?)?;
+    Ok(args)
+}
+
+#[test]
+fn the_first_fault_of_arguments_is_told(rt: HostRuntime) -> Result<(), Fail> {
+    let args = faulty_arguments(rt.alloc())?;
+    let halt = environment(rt.alloc())?.values(rt.alloc(), &args).err();
+    assert_eq!(rt; halt, Some(Halt::Fault(FaultKind::Index)));
+    Ok(())
+}
+
+#[test]
+fn a_loop_has_the_integers_between_its_bounds(rt: HostRuntime) {
+    for (lo, hi, turns) in [(3, 5, 2), (5, 3, 0), (LEAST, GREATEST, u64::MAX)] {
+        assert_eq!(rt; iterations(lo, hi), turns, "{lo}..{hi}");
+    }
+    for (number, turns) in [(12, 12), (-1, 0)] {
+        assert_eq!(rt; count(number), turns, "{number}");
+    }
+}

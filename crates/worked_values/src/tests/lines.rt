@@ -1,0 +1,145 @@
+use loop_range::IterRange;
+use ped_path::{Ped, Pedigree};
+use script_grammar::Items;
+use serial_meaning::{Event, Fault, FaultKind, Memory, Origin, Out, Strand, Value, render_strand};
+use std::alloc::Global;
+use std::ops::Range;
+use std::test::Fail;
+
+/// The pedigree of the strand with this rank in main's instance.
+fn strand(alloc: Global, rank: u32) -> Result<Pedigree, Memory> {
+    Ok(Pedigree {
+        path: Ped::root(alloc)?,
+        rank: rank as u64,
+    })
+}
+
+/// The event of this rank, each of another kind.
+fn event(rank: u32, at: Pedigree) -> Event {
+    match rank {
+        0 => Event::Print(at, Value::Int(-3)),
+        1 => Event::Draw(at, 21),
+        2 => Event::New(at),
+        3 => Event::Spawn(at),
+        4 => Event::Sync(at),
+        _ => Event::Loop(at),
+    }
+}
+
+/// An event of each kind, at the ranks from 0 to 5.
+fn events(alloc: Global) -> Result<Out, Memory> {
+    let mut events = Out::new();
+    for rank in 0..6 {
+        events.push(alloc, event(rank, strand(alloc, rank)?))?;
+    }
+    Ok(events)
+}
+
+#[test]
+fn a_strand_prints_a_line_of_each_event_and_its_fault(rt: HostRuntime) -> Result<(), Fail> {
+    let at = strand(rt.alloc(), 6)?;
+    let kind = FaultKind::Index;
+    let strand = Strand {
+        events: events(rt.alloc())?,
+        fault: Some(Fault { kind, at }),
+    };
+    assert_eq!(rt;
+        render_strand(rt.alloc(), &strand)?.as_slice(),
+        b"-3\ndraw 1 = 21\nnew 2\nspawn 3\nsync 4\nloop 5\nfault 6: index out of range\n".as_slice()
+    );
+    Ok(())
+}
+
+/// The objects of these ranks.
+fn objects(alloc: Global, ranks: Range<u32>) -> Result<Out, Memory> {
+    let mut events = Out::new();
+    for rank in ranks {
+        events.push(alloc, Event::New(strand(alloc, rank)?))?;
+    }
+    Ok(events)
+}
+
+/// The objects of the ranks from 0 to 5, appended two by two, with no events between.
+fn appended(alloc: Global) -> Result<Out, Memory> {
+    let mut all = Out::new();
+    for part in 0u32..3 {
+        all.append(objects(alloc, part * 2..part * 2 + 2)?)?;
+        all.append(Out::new())?;
+    }
+    Ok(all)
+}
+
+/// The rank of the object that is event number `i`.
+fn rank_of(events: &Out, i: u64) -> Option<u64> {
+    match events.get(i) {
+        Some(Event::New(at)) => Some(at.rank),
+        _ => None,
+    }
+}
+
+#[test]
+fn appended_events_stand_behind_the_others(rt: HostRuntime) -> Result<(), Fail> {
+    let all = appended(rt.alloc())?;
+    assert_eq!(rt; all.len(), 6);
+    for i in 0u64..6 {
+        assert_eq!(rt; rank_of(&all, i), Some(i));
+    }
+    assert!(rt; all.get(6).is_none());
+    Ok(())
+}
+
+#[test]
+fn a_shared_fault_is_the_same(rt: HostRuntime) -> Result<(), Fail> {
+    let at = strand(rt.alloc(), 3)?;
+    let kind = FaultKind::Calls;
+    let fault = Fault { kind, at };
+    assert!(rt; fault.share()?.at.same(&fault.at));
+    Ok(())
+}
+
+#[test]
+fn a_shared_object_is_the_same(rt: HostRuntime) -> Result<(), Fail> {
+    let object = Value::Id(strand(rt.alloc(), 4)?);
+    match object.share()? {
+        Value::Id(at) => assert_eq!(rt; at.rank, 4),
+        Value::Int(_) => assert!(rt; false),
+    }
+    Ok(())
+}
+
+// Iterations of a loop of the root strand, whose function has one more argument.
+fn loop_origin(alloc: Global, number: i64, range: IterRange) -> Result<Origin, Memory> {
+    Ok(Origin::Loop {
+        function: 0,
+        rest: Items(vec![in alloc; Value::Int(number)]?),
+        first: 0,
+        path: Ped::root(alloc)?.child(alloc, 0)?,
+        range,
+    })
+}
+
+const WHOLE: IterRange = IterRange { lo: 0, hi: 4 };
+
+const HALF: IterRange = IterRange { lo: 0, hi: 2 };
+
+#[test]
+fn origins_are_the_same_where_all_fields_are(rt: HostRuntime) -> Result<(), Fail> {
+    let origin = loop_origin(rt.alloc(), 7, WHOLE)?;
+    for (number, range, same) in [(7, WHOLE, true), (8, WHOLE, false), (7, HALF, false)] {
+        let other = loop_origin(rt.alloc(), number, range)?;
+        assert_eq!(rt; origin.same(&other), same, "{number} {range:?}");
+    }
+    Ok(())
+}
+
+#[test]
+fn a_loop_is_no_instance(rt: HostRuntime) -> Result<(), Fail> {
+    let origin = loop_origin(rt.alloc(), 7, WHOLE)?;
+    let main = Origin::Instance {
+        function: 0,
+        args: Items(Vec::new(rt.alloc())),
+        path: Ped::root(rt.alloc())?,
+    };
+    assert!(rt; !origin.same(&main));
+    Ok(())
+}
