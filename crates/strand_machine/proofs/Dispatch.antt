@@ -32,7 +32,8 @@ use Rattle.strand_moves.specs.declared.instance.Instance.{Instance as RawInstanc
 use Rattle.strand_moves.specs.declared.shown.Shown.{Shown}
 use Rattle.strand_moves.specs.declared.shown.Moved.TheVariants as moved-in
 use Rattle.strand_moves.specs.declared.shown.Shown.TheVariants as shown-in
-use Rattle.strand_machine.specs.Bodies.{is_long, only}
+use Rattle.strand_family.specs.Origins.{only}
+use Rattle.strand_machine.specs.Bodies.{is_long}
 use Rattle.strand_machine.specs.Family.{FamilyView, handed}
 use Rattle.strand_machine.specs.Parts.{awaited, place_of}
 use Rattle.strand_machine.specs.Loops.{IsBelow}

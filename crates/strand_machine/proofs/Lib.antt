@@ -6,11 +6,9 @@ pub mod Dispatch
 pub mod Faulting
 pub mod Halves
 pub mod Handed
-pub mod Knowing
 pub mod Making
 pub mod Moving
 pub mod Noting
 pub mod Starting
-pub mod Tags
 pub mod Taking
 pub mod Shares

@@ -1,42 +1,20 @@
 -- A task may go on in any thread: its plan, its children's answers and its ties to other tasks may go to another thread.
 use denote.Param.Send.{IsSend, view_send, sendable}
 use denote.Param.SendFields.{declared_send, variants_send}
-use Rattle.meet_block.proofs.give.Give.TheSendSync as give_shared
-use Rattle.meet_block.proofs.join.Join.TheSendSync as join_shared
-use Rattle.meet_block.specs.contracts.give.Give as give
-use Rattle.meet_block.specs.contracts.join.Join as join
 use Rattle.script_grammar.proofs.items.Items.TheSendSync as items_shared
-use Rattle.serial_meaning.proofs.Shares.{shared_plan_sends, answer_sends}
-use Rattle.serial_meaning.proofs.origin.Origin.TheSendSync as origin_shared
+use Rattle.serial_meaning.proofs.Shares.{answer_sends}
 use Rattle.serial_meaning.proofs.value.Value.TheSendSync as value_shared
-use Rattle.serial_meaning.specs.contracts.answer.Answer as answer
-use Rattle.serial_meaning.specs.contracts.answer_key.AnswerKey as key
-use Rattle.serial_meaning.specs.contracts.answer_key.AnswerTagged.TheImpl.{ghosts}
 use Rattle.serial_meaning.specs.contracts.value.Value as value
 use Rattle.std.proofs.Crossing.{Box-send}
-use Rattle.strand_machine.proofs.loops.Loops.TheSendSync as loops_shared
+use Rattle.strand_family.proofs.Shares.{family_sends, give_sends}
 use Rattle.strand_machine.proofs.pieces.Pieces.TheSendSync as pieces_shared
 use Rattle.strand_machine.proofs.work.Work.TheSendSync as work_shared
 use Rattle.strand_machine.specs.contracts.body.Body as body
-use Rattle.strand_machine.specs.contracts.family.Family as family
-use Rattle.strand_machine.specs.contracts.family.Family.TheInside as family_inside
 use Rattle.strand_machine.specs.contracts.parts.Parts as parts
 use Rattle.strand_machine.specs.contracts.stop.Resumed as resumed
 use Rattle.strand_machine.specs.contracts.stop.Stop as stop
 use Rattle.strand_machine.specs.contracts.task.Task as task
 use Rattle.strand_machine.specs.contracts.task.Task.TheInside as task_inside
-
-pub give_sends : IsSend (give.the_row answer.the_row key.the_row ghosts)
-give_sends = give_shared.the_send answer.the_row key.the_row ghosts answer_sends
-
-join_sends : IsSend (join.the_row answer.the_row key.the_row ghosts)
-join_sends = join_shared.the_send answer.the_row key.the_row ghosts answer_sends
-
-family_inside_sends : IsSend family_inside.the_row
-family_inside_sends = declared_send family_inside.the_type (shared_plan_sends, (origin_shared.the_send, (loops_shared.the_send, (give_sends, (join_sends, tt)))))
-
-family_sends : IsSend family.the_row
-family_sends = view_send family_inside.the_row _ _ _ _ family_inside_sends
 
 body_sends : IsSend body.the_row
 body_sends = declared_send body.the_type (family_sends, (pieces_shared.the_send, (items_shared.the_send value.the_row value_shared.the_send, (search sendable, (search sendable, tt)))))

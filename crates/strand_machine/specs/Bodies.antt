@@ -7,8 +7,3 @@ use Rattle.serial_meaning.specs.declared.origin.Origin.TheVariants.{Instance, Lo
 abbrev pub is_long : Origin → Bool
 is_long (Instance function args path) = false
 is_long (Loop function rest first path range) = nat_lt 1 (range.hi - range.lo)
-
--- these iterations alone
-abbrev pub only : Origin → Range → Origin
-only (Instance function args path) part = Instance function args path
-only (Loop function rest first path range) part = Loop function rest first path part

@@ -1,11 +1,11 @@
 ghost use Rattle.std.specs.Prelude.{◌≡◌, ◌<◌, [], IsTrue, ◌↔◌};
 
-use crate::family::Family;
 use crate::pieces::Pieces;
 use script_grammar::Items;
 use serial_meaning::{Origin, Value};
 use std::alloc::Global;
 use std::mem;
+use strand_family::Family;
 
 /// A task without what remains of it.
 #[derive(Drop)]

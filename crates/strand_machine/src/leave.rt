@@ -13,7 +13,6 @@ ghost use Rattle.strand_machine.specs.declared.work.Stage.TheVariants as stage;
 ghost use Rattle.strand_machine.specs.declared.work.Work.TheVariants as work;
 
 use crate::body::Body;
-use crate::family::Family;
 use crate::memory::Memory;
 use crate::origin::share_origin;
 use crate::parts::Parts;
@@ -24,6 +23,7 @@ use crate::work::{Stage, Work};
 use script_grammar::Boxed;
 use serial_meaning::{AnswerKey, Fault, Origin, Outcome, Value};
 use std::alloc::Global;
+use strand_family::Family;
 use strand_meaning::laws;
 use strand_moves::Child;
 

@@ -5,11 +5,9 @@
 
 mod advance;
 mod body;
-mod family;
 mod fault;
 mod going;
 mod leave;
-mod loops;
 mod memory;
 mod note;
 mod origin;

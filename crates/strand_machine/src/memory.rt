@@ -29,8 +29,8 @@ impl From<ped_path::Memory> for Memory {
     }
 }
 
-impl From<meet_block::Memory> for Memory {
-    fn from(_: meet_block::Memory) -> Self {
+impl From<strand_family::Memory> for Memory {
+    fn from(_: strand_family::Memory) -> Self {
         Memory
     }
 }

@@ -12,7 +12,6 @@ ghost use Rattle.strand_machine.specs.declared.work.Work.TheVariants as work;
 
 use crate::leave::pass;
 use crate::memory::Memory;
-use crate::origin::path;
 use crate::parts::Parts;
 use crate::run::show;
 use crate::step::{pass_with, run, stepped};
@@ -23,6 +22,7 @@ use ped_path::Pedigree;
 use serial_meaning::{Event, Fault, Out};
 use std::alloc::Global;
 use std::mem;
+use strand_family::path;
 use strand_meaning::laws;
 use strand_moves::{Instance, Moved, Shown};
 

@@ -1,68 +1,19 @@
-// Origins: copies of them, their trails, and the iterations of loops.
+// Origins: copies of them, and their trails.
 ghost use Rattle.std.specs.Prelude.{◌≡◌, IfOk};
-ghost use Rattle.serial_meaning.specs.Eval.{path_of};
 ghost use Rattle.serial_meaning.specs.Laws.{IsOriginOf};
 ghost use Rattle.strand_moves.specs.Moves.{IsTrailOf};
-ghost use Rattle.strand_machine.specs.Bodies.{only};
 
 use crate::memory::Memory;
 use dotmix::Trail;
-use loop_range::IterRange;
-use ped_path::Ped;
-use script_grammar::Items;
-use serial_meaning::{Origin, Plan, Value};
+use serial_meaning::{Origin, Plan};
 use std::alloc::Global;
 use strand_meaning::laws;
-
-/// The same values, over the same memory.
-pub(crate) fn share_values(alloc: Global, values: &[Value]) -> Result<Items<Value>, Memory>
-    ensures { IfOk result (λ shared. shared ≡ values.now) }
-{
-    let mut shared = Vec::with_capacity(alloc, values.len())?;
-    for value in values {
-        shared.push(value.share()?)?;
-    }
-    Ok(Items(shared))
-}
 
 /// The same origin. Its path shares its memory.
 pub fn share_origin(alloc: Global, origin: &Origin) -> Result<Origin, Memory>
     ensures { IfOk result (λ shared. shared ≡ origin.now) }
 {
-    Ok(match origin {
-        Origin::Instance {
-            function,
-            args,
-            path,
-        } => Origin::Instance {
-            function: *function,
-            args: share_values(alloc, args.as_slice())?,
-            path: path.share()?,
-        },
-        Origin::Loop {
-            function,
-            rest,
-            first,
-            path,
-            range,
-        } => Origin::Loop {
-            function: *function,
-            rest: share_values(alloc, rest.as_slice())?,
-            first: *first,
-            path: path.share()?,
-            range: *range,
-        },
-    })
-}
-
-/// The path of an origin.
-pub(crate) fn path(origin: &Origin) -> &Ped
-    ensures { result.now ≡ path_of origin.now }
-{
-    match origin {
-        Origin::Instance { path, .. } => path,
-        Origin::Loop { path, .. } => path,
-    }
+    Ok(strand_family::share_origin(alloc, origin)?)
 }
 
 /// The trail of an origin's path. It adds up the path's terms.
@@ -77,19 +28,4 @@ pub(crate) fn trail_of(plan: &Plan, origin: &Origin) -> Result<Trail, Memory>
         Origin::Loop { path, .. } => path.share()?,
     };
     Ok(Trail::of(&plan.gamma, path))
-}
-
-/// A loop's origin with these of its iterations alone.
-pub(crate) fn part_of(alloc: Global, origin: &Origin, range: IterRange) -> Result<Origin, Memory>
-    ensures { IfOk result (λ part. part ≡ only origin.now range) }
-{
-    let mut part = share_origin(alloc, origin)?;
-    if let Origin::Loop {
-        range: iterations,
-        ..
-    } = &mut part
-    {
-        *iterations = range;
-    }
-    Ok(part)
 }

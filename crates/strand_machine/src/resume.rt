@@ -11,7 +11,6 @@ ghost use Rattle.strand_machine.specs.Stops.{IsResumed, WentOn, answer_tags};
 ghost use Rattle.strand_machine.specs.Tasks.{Holds, IsSound, view_of};
 ghost use Rattle.strand_machine.specs.declared.work.Stage.TheVariants as stage;
 
-use crate::family::Family;
 use crate::going::Going;
 use crate::memory::Memory;
 use crate::parts::Parts;
@@ -24,6 +23,7 @@ use script_grammar::Items;
 use serial_meaning::{Answer, Fault, Outcome};
 use std::alloc::Global;
 use std::mem;
+use strand_family::Family;
 use strand_meaning::laws;
 use strand_moves::Instance;
 

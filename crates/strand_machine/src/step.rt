@@ -9,7 +9,6 @@ ghost use Rattle.strand_machine.specs.declared.work.Work.TheVariants as work;
 use crate::body::Body;
 use crate::leave::{fault, give, pass, spawn_part, wait};
 use crate::memory::Memory;
-use crate::origin::part_of;
 use crate::parts::Parts;
 use crate::place::Place;
 use crate::run::go;
@@ -19,6 +18,7 @@ use crate::work::{Left, Stage, Work, begin_last};
 use serial_meaning::{Outcome, Value};
 use std::alloc::Global;
 use std::mem;
+use strand_family::part_of;
 use strand_meaning::laws;
 use strand_moves::Child;
 

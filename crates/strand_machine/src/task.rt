@@ -6,8 +6,6 @@ ghost use Rattle.strand_machine.specs.Family.{tag};
 ghost use Rattle.strand_machine.specs.Parts.{awaited};
 
 use crate::body::Body;
-use crate::family::Family;
-use crate::loops::Loops;
 use crate::memory::Memory;
 use crate::origin::{share_origin, trail_of};
 use crate::parts::Parts;
@@ -19,6 +17,7 @@ use serial_meaning::{Answer, Fault, Origin, Out, Outcome, Plan};
 use std::alloc::Global;
 use std::marker::Model;
 use std::sync::Arc;
+use strand_family::{Family, Loops};
 use strand_meaning::laws;
 use strand_moves::Child;
 

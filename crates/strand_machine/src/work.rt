@@ -11,12 +11,12 @@ ghost use Rattle.strand_moves.specs.Moves.{IsTrailOf};
 ghost use Rattle.strand_machine.specs.Tasks.{stage_of, work_of, StandsAt, WorksAt};
 
 use crate::memory::Memory;
-use crate::origin::share_values;
 use dotmix::Trail;
 use loop_range::IterRange;
 use script_grammar::Items;
 use serial_meaning::{Fault, Origin, Outcome, Plan, Value};
 use std::alloc::Global;
+use strand_family::share_values;
 use strand_meaning::laws;
 use strand_moves::Instance;
 

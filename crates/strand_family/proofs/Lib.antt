@@ -1,0 +1,3 @@
+pub mod Knowing
+pub mod Shares
+pub mod Tags

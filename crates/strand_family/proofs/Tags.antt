@@ -1,0 +1,50 @@
+-- Tags of children.
+use Rattle.std.proofs.Common.{◌≡◌, ℕ, Bool, zero, suc, List, [], ◌∷◌, ◌++◌, Some, length, refl, sym, ap, ◌∙◌}
+use Rattle.std.specs.Prelude.{slice_get}
+use Rattle.meet_block.specs.Joined.{Joined, Answers}
+use Rattle.meet_block.specs.declared.join.Look.{Look}
+use Rattle.meet_block.specs.declared.join.Look.TheVariants.{Ready, NotYet}
+use Rattle.serial_meaning.specs.Answer.{AnswerTag}
+use Rattle.serial_meaning.specs.Plan.{PlanView}
+use Rattle.serial_meaning.specs.declared.origin.Origin.{Origin}
+use Rattle.strand_family.specs.Family.{FamilyView, Looked, tag, tags, origins}
+
+pub origins_append : (ts us : List AnswerTag) → origins (ts ++ us) ≡ origins ts ++ origins us
+origins_append [] us = refl
+origins_append (t ∷ ts) us = ap (λ l. t.origin ∷ l) (origins_append ts us)
+
+pub tags_append : (plan : PlanView) (os more : List Origin) → tags plan (os ++ more) ≡ tags plan os ++ tags plan more
+tags_append plan [] more = refl
+tags_append plan (o ∷ os) more = ap (λ l. tag plan o ∷ l) (tags_append plan os more)
+
+pub length_origins : (ts : List AnswerTag) → length (origins ts) ≡ length ts
+length_origins [] = refl
+length_origins (t ∷ ts) = ap suc (length_origins ts)
+
+-- one more tag of the plan
+pub hand_keeps : (plan : PlanView) (ts : List AnswerTag) (t : AnswerTag) → ts ≡ tags plan (origins ts) → t.plan ≡ plan → ts ++ t ∷ [] ≡ tags plan (origins (ts ++ t ∷ []))
+hand_keeps plan ts t h e =
+    ap (λ (l : List AnswerTag). l ++ t ∷ []) h ∙ ap (λ (p : PlanView). tags plan (origins ts) ++ tag p t.origin ∷ []) e
+    ∙ sym (tags_append plan (origins ts) (t.origin ∷ [])) ∙ ap (tags plan) (sym (origins_append ts (t ∷ [])))
+
+pub origin_at : (ts : List AnswerTag) (i : ℕ) (t : AnswerTag) → slice_get ts i ≡ Some t → slice_get (origins ts) i ≡ Some t.origin
+origin_at [] i t h = absurd (cc)
+origin_at (u ∷ ts) zero t h = let e : u ≡ t = cc in ap (λ (w : AnswerTag). Some w.origin) e
+origin_at (u ∷ ts) (suc i) t h = origin_at ts i t h
+
+plan_of : (plan : PlanView) (os : List Origin) (i : ℕ) (t : AnswerTag) → slice_get (tags plan os) i ≡ Some t → t.plan ≡ plan
+plan_of plan [] i t h = absurd (cc)
+plan_of plan (o ∷ os) zero t h = let e : tag plan o ≡ t = cc in ap (λ (w : AnswerTag). w.plan) (sym e)
+plan_of plan (o ∷ os) (suc i) t h = plan_of plan os i t h
+
+pub plan_at : (plan : PlanView) (ts : List AnswerTag) (i : ℕ) (t : AnswerTag) → ts ≡ tags plan (origins ts) → slice_get ts i ≡ Some t → t.plan ≡ plan
+plan_at plan ts i t h g = plan_of plan (origins ts) i t (ap (λ (l : List AnswerTag). slice_get l i) (sym h) ∙ g)
+
+-- A look
+
+abbrev seen : PlanView → Origin → Bool → Joined AnswerTag → FamilyView
+seen plan o knows j = record { plan = plan; origin = o; knows = knows; children = origins j.tags; taken = j.taken; ready = j.ready; loads = j.loads }
+
+pub looked : (plan : PlanView) (o : Origin) (knows : Bool) (before after : Joined AnswerTag) (result : Look) → Answers before after result → Looked (seen plan o knows before) (seen plan o knows after) result
+looked plan o knows before after Ready h = ((h.0, ap (λ (j : Joined AnswerTag). j.loads) h.1), rw h.1 refl)
+looked plan o knows before after (NotYet n) h = ((h.2.0, n, h.0, ap (λ (j : Joined AnswerTag). j.loads) h.2.1), rw h.2.1 refl)

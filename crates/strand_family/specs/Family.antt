@@ -1,0 +1,54 @@
+-- What contracts see of a task's ties to its parent and its children.
+use Rattle.std.specs.Prelude.{◌≡◌, ◌≤◌, ℕ, Bool, true, false, List, [], ◌∷◌, ◌++◌, ◌+◌, length, replicate}
+use Rattle.meet_block.specs.declared.join.Look.{Look}
+use Rattle.meet_block.specs.declared.join.Look.TheVariants.{Ready, NotYet}
+use Rattle.serial_meaning.specs.Answer.{AnswerTag}
+use Rattle.serial_meaning.specs.Plan.{PlanView}
+use Rattle.serial_meaning.specs.declared.origin.Origin.{Origin}
+
+-- Whether the loops on the origin's path are known; the origins of all children handed out, in order, and of which of them the answer was
+-- taken; whether all were found to have answered; and the numbers that looks have loaded.
+pub record FamilyView : Type 0 where
+  pub plan : PlanView
+  pub origin : Origin
+  pub knows : Bool
+  pub children : List Origin
+  pub taken : List Bool
+  pub ready : Bool
+  pub loads : List ℕ
+
+abbrev pub alone : PlanView → Origin → Bool → FamilyView
+alone plan o knows = record { plan = plan; origin = o; knows = knows; children = []; taken = []; ready = true; loads = [] }
+
+abbrev pub tag : PlanView → Origin → AnswerTag
+tag plan o = record { plan = plan; origin = o }
+
+abbrev pub tags : PlanView → List Origin → List AnswerTag
+tags plan [] = []
+tags plan (o ∷ os) = tag plan o ∷ tags plan os
+
+abbrev pub origins : List AnswerTag → List Origin
+origins [] = []
+origins (t ∷ ts) = t.origin ∷ origins ts
+
+-- A look loads 0 wherever it passes, and else a number that isn't 0, at which it stops.
+abbrev pub HasPassed : List ℕ → List ℕ → Type 0
+HasPassed before after = (passed : ℕ) × (after ≡ before ++ replicate passed 0)
+
+abbrev pub HasStopped : List ℕ → List ℕ → Type 0
+HasStopped before after = (passed owing : ℕ) × (1 ≤ owing) × (after ≡ before ++ (replicate passed 0 ++ owing ∷ []))
+
+abbrev pub Looked : FamilyView → FamilyView → Look → Type 0
+Looked before after Ready = HasPassed before.loads after.loads × (after ≡ record before { ready = true; loads = after.loads })
+Looked before after (NotYet n) = HasStopped before.loads after.loads × (after ≡ record before { ready = false; loads = after.loads })
+
+-- one more child
+abbrev pub handed : FamilyView → Origin → FamilyView
+handed family child = record family { children = family.children ++ child ∷ []; taken = family.taken ++ false ∷ []; ready = false }
+
+-- so many of the last children have answers that weren't taken
+pub record AwaitsCount (family : FamilyView) (n : ℕ) : Type 0 where
+  pub within : n ≤ length family.children
+  pub passed : List Bool
+  pub same : length passed + n ≡ length family.children
+  pub taken : family.taken ≡ passed ++ replicate n false

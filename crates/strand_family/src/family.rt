@@ -1,0 +1,176 @@
+ghost use Rattle.std.specs.Prelude.{◌≡◌, ℕ, [], ◌∷◌, ◌++◌, IfOk, OnOk, OnErr, Some, None, true, false, length, slice_get, slice_set};
+ghost use Rattle.std.specs.Arc.{arc_value};
+ghost use Rattle.serial_meaning.specs.Answer.{IsAnswer};
+ghost use Rattle.strand_family.specs.Family.{tag, handed, Looked};
+
+use crate::loops::Loops;
+use crate::memory::Memory;
+use meet_block::{Give, Join, Look};
+use serial_meaning::{Answer, AnswerKey, Fault, Origin, Out, Outcome, Plan};
+use std::alloc::Global;
+use std::marker::Model;
+use std::sync::Arc;
+
+/// What ties a task to others: its plan and origin, what is known of the loops on the origin's path, the give by which it answers its
+/// parent, and the join of its children.
+#[derive(Drop)]
+pub struct Family {
+    plan: Arc<Plan>,
+    origin: Origin,
+    loops: Loops,
+    give: Give<Answer>,
+    join: Join<Answer>,
+}
+
+impl Model for Family {
+    ghost use Rattle.std.specs.Prelude.{◌≡◌, map};
+    ghost use Rattle.std.specs.Arc.{arc_value};
+    ghost use Rattle.std.specs.Coded.{codes};
+    ghost use Rattle.serial_meaning.specs.contracts.plan.Plan as plan_type;
+    ghost use Rattle.strand_family.specs.Family.{FamilyView, tag, tags, origins};
+    ghost use Rattle.strand_family.specs.Loops.{IsLoops, knows_of};
+
+    ghost Value = { FamilyView };
+
+    ghost coded = { Prim.hlevel (codes, plan_type.the_row.coded) };
+
+    ghost view = { λ f. record {
+      plan = arc_value f.plan;
+      origin = f.origin;
+      knows = knows_of f.loops;
+      children = origins f.join.tags;
+      taken = f.join.taken;
+      ready = f.join.ready;
+      loads = f.join.loads;
+    } };
+
+    ghost invariant = { λ f. (f.give ≡ tag (arc_value f.plan) f.origin)
+        × (f.join.tags ≡ tags (arc_value f.plan) (origins f.join.tags))
+        × IsLoops (arc_value f.plan) f.origin f.loops };
+}
+
+impl Family {
+    ghost use Rattle.std.specs.Prelude.{◌↔◌, IsTrue};
+    ghost use Rattle.serial_meaning.specs.Laws.{IsOriginOf};
+    ghost use Rattle.strand_family.specs.Family.{FamilyView, alone};
+    ghost use Rattle.strand_family.specs.Loops.{IsBelow, IsLoops, StandsBefore, knows_of};
+
+    /// A task's family before it has children. It takes no memory yet.
+    pub fn new(
+        alloc: Global,
+        plan: Arc<Plan>,
+        origin: Origin,
+        loops: Loops,
+        give: Give<Answer>,
+    ) -> Result<Family, Memory>
+        requires give { give ≡ tag (arc_value plan) origin }
+        requires loops { IsLoops (arc_value plan) origin loops }
+        ensures { IfOk result (λ family. family ≡ alone (arc_value plan) origin (knows_of loops)) }
+    {
+        Ok(Family {
+            plan,
+            origin,
+            loops,
+            give,
+            join: Join::new(alloc)?,
+        })
+    }
+
+    /// The task's plan.
+    pub fn plan(&self) -> &Plan
+        ensures { result.now ≡ self.now.plan }
+    {
+        &self.plan
+    }
+
+    /// The handle of the task's plan.
+    pub fn shared_plan(&self) -> &Arc<Plan>
+        ensures { arc_value result.now ≡ self.now.plan }
+    {
+        &self.plan
+    }
+
+    /// One more handle of the task's plan.
+    pub fn share_plan(&self) -> Result<Arc<Plan>, Memory>
+        ensures { IfOk result (λ plan. arc_value plan ≡ self.now.plan) }
+    {
+        Ok(Arc::try_clone(&self.plan)?)
+    }
+
+    /// What a child knows of the loops on its path.
+    pub fn loops_below(&self, child: &Origin) -> Loops
+        requires own { IsOriginOf self.now.plan self.now.origin }
+        requires known { IsOriginOf self.now.plan child.now }
+        requires below { IsBelow self.now.origin child.now }
+        ensures are { IsLoops self.now.plan child.now result }
+        ensures knows { knows_of result ≡ self.now.knows }
+    {
+        self.loops.below(child)
+    }
+
+    /// Whether it is known that the fault stands before the origin's path, and before the path of each loop on it.
+    pub fn stands_after(&self, by: &Fault) -> bool
+        ensures { IsTrue result ↔ (IsTrue self.now.knows × StandsBefore self.now.plan self.now.origin by.now) }
+    {
+        self.loops.stand_after(&self.origin, by)
+    }
+
+    /// What the task was begun as.
+    pub fn origin(&self) -> &Origin
+        ensures { result.now ≡ self.now.origin }
+    {
+        &self.origin
+    }
+
+    /// The give of one more child, by a key of the task's plan.
+    #[tactic(auto, using(crate::proofs::Tags::origins_append, crate::proofs::Tags::hand_keeps))]
+    pub fn hand(&mut self, alloc: Global, child: &AnswerKey) -> Result<Give<Answer>, Memory>
+        requires { child.now.plan ≡ self.old.plan }
+        ensures give { IfOk result (λ give. give ≡ child.now) }
+        ensures handed { OnOk result (self.new ≡ handed self.old child.now.origin) }
+    {
+        Ok(self.join.hand(alloc, child)?)
+    }
+
+    /// How many children were handed out.
+    #[tactic(auto, using(crate::proofs::Tags::length_origins))]
+    pub fn count(&self) -> u64
+        ensures { result ≡ length self.now.children }
+    {
+        self.join.count()
+    }
+
+    /// Whether all children have answered.
+    pub fn look(&mut self) -> Look
+        ensures { Looked self.old self.new result }
+    {
+        self.join.look()
+    }
+
+    /// The answer of a child, by its number: the first child that was handed out has 0.
+    #[tactic(auto, using(crate::proofs::Tags::origin_at, crate::proofs::Tags::plan_at))]
+    pub fn take(&mut self, i: u64) -> Answer
+        requires ready { self.old.ready ≡ true }
+        requires left { slice_get self.old.taken i ≡ Some false }
+        ensures plan { result.plan ≡ self.old.plan }
+        ensures origin { slice_get self.old.children i ≡ Some result.origin }
+        ensures taken { self.new ≡ record self.old { taken = slice_set self.old.taken i true } }
+    {
+        self.join.take(i)
+    }
+
+    /// What the task answers, and the give for it.
+    pub fn answer(self, out: Out, outcome: Outcome) -> (Answer, Give<Answer>)
+        requires { IsAnswer self.plan self.origin out outcome }
+        ensures answer { result.0 ≡ record { plan = self.plan; origin = self.origin; out = out; outcome = outcome } }
+        ensures give { result.1 ≡ tag self.plan self.origin }
+    {
+        let Family {
+            plan,
+            origin,
+            give,
+            ..
+        } = self;
+        (Answer::new(plan, origin, out, outcome), give)
+    }
+}

@@ -1,0 +1,36 @@
+use std::alloc::{AllocError, AllocFailed};
+
+/// There was no memory for the call.
+#[derive(Clone, Copy, Debug, PartialEq, Eq)]
+pub struct Memory;
+
+impl From<AllocError> for Memory {
+    fn from(_: AllocError) -> Self {
+        Memory
+    }
+}
+
+/// The value that found no room is dropped.
+impl<T: Drop> From<AllocFailed<T>> for Memory {
+    fn from(_: AllocFailed<T>) -> Self {
+        Memory
+    }
+}
+
+impl From<ped_path::Memory> for Memory {
+    fn from(_: ped_path::Memory) -> Self {
+        Memory
+    }
+}
+
+impl From<meet_block::Memory> for Memory {
+    fn from(_: meet_block::Memory) -> Self {
+        Memory
+    }
+}
+
+impl From<serial_meaning::Memory> for Memory {
+    fn from(_: serial_meaning::Memory) -> Self {
+        Memory
+    }
+}

@@ -1,0 +1,77 @@
+// Origins: copies of them, their paths, and the iterations of loops.
+ghost use Rattle.std.specs.Prelude.{◌≡◌, IfOk};
+ghost use Rattle.serial_meaning.specs.Eval.{path_of};
+ghost use Rattle.strand_family.specs.Origins.{only};
+
+use crate::memory::Memory;
+use loop_range::IterRange;
+use ped_path::Ped;
+use script_grammar::Items;
+use serial_meaning::{Origin, Value};
+use std::alloc::Global;
+
+/// The same values, over the same memory.
+pub fn share_values(alloc: Global, values: &[Value]) -> Result<Items<Value>, Memory>
+    ensures { IfOk result (λ shared. shared ≡ values.now) }
+{
+    let mut shared = Vec::with_capacity(alloc, values.len())?;
+    for value in values {
+        shared.push(value.share()?)?;
+    }
+    Ok(Items(shared))
+}
+
+/// The same origin. Its path shares its memory.
+pub fn share_origin(alloc: Global, origin: &Origin) -> Result<Origin, Memory>
+    ensures { IfOk result (λ shared. shared ≡ origin.now) }
+{
+    Ok(match origin {
+        Origin::Instance {
+            function,
+            args,
+            path,
+        } => Origin::Instance {
+            function: *function,
+            args: share_values(alloc, args.as_slice())?,
+            path: path.share()?,
+        },
+        Origin::Loop {
+            function,
+            rest,
+            first,
+            path,
+            range,
+        } => Origin::Loop {
+            function: *function,
+            rest: share_values(alloc, rest.as_slice())?,
+            first: *first,
+            path: path.share()?,
+            range: *range,
+        },
+    })
+}
+
+/// The path of an origin.
+pub fn path(origin: &Origin) -> &Ped
+    ensures { result.now ≡ path_of origin.now }
+{
+    match origin {
+        Origin::Instance { path, .. } => path,
+        Origin::Loop { path, .. } => path,
+    }
+}
+
+/// A loop's origin with these of its iterations alone.
+pub fn part_of(alloc: Global, origin: &Origin, range: IterRange) -> Result<Origin, Memory>
+    ensures { IfOk result (λ part. part ≡ only origin.now range) }
+{
+    let mut part = share_origin(alloc, origin)?;
+    if let Origin::Loop {
+        range: iterations,
+        ..
+    } = &mut part
+    {
+        *iterations = range;
+    }
+    Ok(part)
+}
