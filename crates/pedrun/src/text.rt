@@ -185,7 +185,7 @@ Options, in any order, each at most once; a gamma excludes a seed:
   --seed N         the seed of the draws, from 0 to 18446744073709551615
                    (default 0)
   --gamma N,N,..   the coefficients of the draws in place of a seed, each below
-                   18446744073709551557, at most 256
+                   18446744073709551557, at most 512
   --rounds N       how often a draw is mixed, from 0 to 8 (default 4)
 
 Exit status: 0; 2 faulty words; 5 a failed write; 6 no memory.
@@ -229,7 +229,7 @@ Options, in any order, each at most once; a gamma excludes a seed:
   --seed N         the seed of the draws, from 0 to 18446744073709551615
                    (default 0)
   --gamma N,N,..   the coefficients of the draws in place of a seed, each below
-                   18446744073709551557, at most 256
+                   18446744073709551557, at most 512
   --rounds N       how often a draw is mixed, from 0 to 8 (default 4)
   --below N        what each draw is reduced by, from 1 to 18446744073709551615
                    (default: it is printed whole)
@@ -255,7 +255,7 @@ Options, in any order, each at most once; a gamma excludes a seed:
                    (default 0)
   --gamma N,N,..   the coefficients of the draws in place of a seed, each below
                    18446744073709551557, at most as many as the depth
-  --depth N        how many ranks a pedigree may have, from 1 to 256
+  --depth N        how many ranks a pedigree may have, from 1 to 512
                    (default 256)
   --budget N       how many steps each instance may make, from 1 to 4294967295
                    (default 1000000)
