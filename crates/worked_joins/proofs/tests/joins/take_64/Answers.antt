@@ -1,5 +1,5 @@
 use Rattle.std.proofs.Common.{◌≡◌, ◌≢◌, ℕ, zero, suc, ◌<◌, Bool, true, false, Some, List, [], ◌∷◌, replicate, set, slice_get, refl, ap, ◌∙◌, arith}
-use Rattle.meet_block.proofs.tests.take_64.Goals as goal
+use Rattle.worked_joins.proofs.tests.joins.take_64.Goals as goal
 
 none_taken : (n k : ℕ) → k < n → slice_get (replicate n false) k ≡ Some false
 none_taken zero k lt = absurd (omega arith)

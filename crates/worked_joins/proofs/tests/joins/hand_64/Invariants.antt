@@ -1,5 +1,5 @@
 use Rattle.std.proofs.Common.{◌≡◌, replicate, false}
-use Rattle.meet_block.proofs.tests.hand_64.Given as goal
+use Rattle.worked_joins.proofs.tests.joins.hand_64.Given as goal
 
 abbrev pub invariant-loop-of : goal.invariant-loop-of
 invariant-loop-of l = l.join.taken ≡ replicate l.of-counter false

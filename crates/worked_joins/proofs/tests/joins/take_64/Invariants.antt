@@ -1,5 +1,5 @@
 use Rattle.std.proofs.Common.{◌≡◌, ◌≤◌, ◌<◌, ℕ, true, false, Some, slice_get}
-use Rattle.meet_block.proofs.tests.take_64.Given as goal
+use Rattle.worked_joins.proofs.tests.joins.take_64.Given as goal
 
 abbrev pub invariant-loop-i : goal.invariant-loop-i
 invariant-loop-i g l = record {
