@@ -3,15 +3,20 @@
 
 mod edge;
 mod help;
+mod progress;
+mod recorded;
+mod terminal;
 mod text;
 
 use edge::{refuse, show};
 use engine::{OpenGate, pedrun};
 use help::Topic;
 use ped_io::{StdSink, StdSource};
+use std::io::IsTerminal;
 use std::process::ExitCode;
 use std::rt::Env;
 use std::{env, io};
+use terminal::pedrun_on_terminal;
 
 // The words after the program's name.
 fn words(rt: &(impl Env + AllocGlobal)) -> io::Result<Vec<String>> {
@@ -33,6 +38,10 @@ fn main(rt: HostRuntime) -> ExitCode {
         return ExitCode::from(show(topic.text(), &mut out, &mut err).code());
     }
     let mut script = StdSource::new(rt.stdin());
+    if rt.stderr().is_terminal() {
+        let status = pedrun_on_terminal(&rt, rt.alloc(), &words, script, out, err);
+        return ExitCode::from(status.code());
+    }
     let status = pedrun(
         &rt,
         rt.alloc(),

@@ -1,0 +1,56 @@
+// The call on a terminal. A person who sits at the error output gets more than a program does, which gets the line alone.
+
+use crate::progress::Progress;
+use crate::recorded::{RecordedSink, RecordedSource};
+use crate::text;
+use engine::{Status, pedrun};
+use ped_io::{Sink, Source, write_all};
+use script_excerpt::excerpt;
+use std::alloc::Global;
+use std::io::Eprint;
+use std::sync::Wait;
+use std::thread::Threads;
+use std::time::Clock;
+
+// What the line of a script's fault tells: the fault, and the byte where it stands.
+fn fault_of(line: &[u8]) -> Option<(&str, usize)> {
+    let line = str::from_utf8(line).ok()?;
+    let (message, at) = line
+        .strip_prefix("script: ")?
+        .strip_suffix("\n")?
+        .rsplit_once(" at byte ")?;
+    Some((message, at.parse().ok()?))
+}
+
+// The lines on the place of the fault that the line tells. None where there is no memory for them, or was none for the line or the text.
+fn place_lines(alloc: Global, line: &[u8], text: &[u8]) -> Option<Vec<u8>> {
+    let (message, at) = fault_of(line)?;
+    if at > text.len() {
+        return None;
+    }
+    excerpt(alloc, text, at, message).ok()
+}
+
+/// Does what `engine::pedrun` does, and shows on `err` what helps a person: how many strands have begun and ended while a run takes more
+/// than two seconds, the place of a script's fault after its line, and the help where no word was given.
+pub fn pedrun_on_terminal<
+    R: Threads + Wait + Sync + Clock + Eprint,
+    S: Source + Drop,
+    K: Sink + Drop,
+    E: Sink + Drop,
+>(rt: &R, alloc: Global, words: &[String], script: S, out: K, err: E) -> Status {
+    let progress = Progress::new(rt);
+    let mut script = RecordedSource::new(alloc, script);
+    let mut out = RecordedSink::new(alloc, out, &progress);
+    let mut err = RecordedSink::new(alloc, err, &progress);
+    let status = pedrun(rt, alloc, words, &mut script, &mut out, &mut err, &progress);
+    if status == Status::Script {
+        if let Some(lines) = place_lines(alloc, err.bytes(), script.bytes()) {
+            let _ = write_all(&mut err, &lines);
+        }
+    }
+    if words.is_empty() {
+        let _ = write_all(&mut err, text::PROGRAM.as_bytes());
+    }
+    status
+}

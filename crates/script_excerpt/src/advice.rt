@@ -1,0 +1,72 @@
+// Which word would do at a fault of a text.
+
+ghost use Rattle.std.specs.Prelude.{◌≡◌, ◌≤◌, ◌+◌, IfOk, IfSome, IsFalse, IsTrue, length, string_bytes, true, false};
+ghost use Rattle.script_excerpt.specs.Followers.{GoesOn, with_word};
+
+use script_text::{MAX_BYTES, SyntaxError, parse};
+use std::alloc::{AllocError, Global};
+
+/// The longest text that is looked at: each word is tried by a parse of the text.
+const MOST_BYTES: usize = 65536;
+
+/// The words that stand for themselves.
+const WORDS: [&str; 40] = [
+    "fn", "id", "let", "spawn", "call", "sync", "print", "if", "else", "while", "pfor", "in",
+    "into", "draw", "new", "return", "same", "older", "(", ")", "{", "}", "[", "]", ",", ";", "=",
+    "+", "-", "*", "/", "%", "==", "!=", "<", "<=", ">", ">=", "->", "..",
+];
+
+// The text with a word before its byte `at`.
+fn with_word(alloc: Global, text: &[u8], at: usize, word: &str) -> Result<Vec<u8>, AllocError>
+    requires { at ≤ length text.now }
+    ensures mended { IfOk result (λ mended. mended.items ≡ with_word text.now at word.now) }
+    ensures longer { IfOk result (λ mended. length mended.items ≡ length text.now + length word.now + 2) }
+{
+    let mut mended = text[..at].to_vec(alloc)?;
+    mended.extend_from_slice(b" ")?;
+    mended.extend_from_slice(word.as_bytes())?;
+    mended.extend_from_slice(b" ")?;
+    mended.extend_from_slice(&text[at..])?;
+    Ok(mended)
+}
+
+// Whether the text goes on past its token at `at`, or is a script, where this word stands before that token.
+fn would_do(alloc: Global, text: &[u8], at: usize, word: &str) -> Result<bool, AllocError>
+    requires within { at ≤ length text.now }
+    requires text { length text.now ≤ 65536 }
+    ensures { IfOk result (λ does. IsTrue does → GoesOn text.now at word.now) }
+{
+    let mended = with_word(alloc, text, at, word)?;
+    if mended.len() > MAX_BYTES {
+        return Ok(false);
+    }
+    match parse(alloc, &mended) {
+        Ok(_) => Ok(true),
+        Err(SyntaxError::Bad { at: place, .. }) => {
+            let rest = text.len() - at;
+            Ok(place as usize + rest > mended.len())
+        }
+        Err(SyntaxError::Memory) => Err(AllocError),
+    }
+}
+
+/// The one word that would do before the token at `at`, where a parser stops: with it the text is a script, or its first fault stands
+/// after that token. `None` where no word would do, or more than one, or the text has more than 65536 bytes.
+pub fn follower(alloc: Global, text: &[u8], at: usize) -> Result<Option<&'static str>, AllocError>
+    requires { at ≤ length text.now }
+    ensures { IfOk result (λ found. IfSome found (λ word. GoesOn text.now at word.now)) }
+{
+    if text.len() > MOST_BYTES {
+        return Ok(None);
+    }
+    let mut found = None;
+    for word in WORDS {
+        if would_do(alloc, text, at, word)? {
+            if found.is_some() {
+                return Ok(None);
+            }
+            found = Some(word);
+        }
+    }
+    Ok(found)
+}

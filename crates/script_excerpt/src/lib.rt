@@ -1,0 +1,13 @@
+//! A fault of a script's text as a person wants to see it: line and column, the line itself, and a caret under the byte, with the word
+//! that would do there where one alone would.
+#![tactic(auto)]
+
+mod advice;
+mod lines;
+mod place;
+#[cfg(test)]
+mod tests;
+
+pub use advice::follower;
+pub use lines::excerpt;
+pub use place::{Place, place_of};

@@ -1,0 +1,132 @@
+// The lines that show a fault of a text.
+
+ghost use Rattle.std.specs.Prelude.{◌≡◌, ◌≤◌, ◌++◌, IfOk, OnOk, length, map};
+ghost use Rattle.script_excerpt.specs.Excerpts.{IsAdvice, IsExcerpt, IsWindow, caret_line, place_line, room, shown, text_lines};
+
+use crate::advice::follower;
+use crate::place::{Place, line_start, place_of};
+use std::alloc::{AllocError, Global};
+
+/// How many bytes of the line are shown before the caret at most, and from it on.
+const MOST_SHOWN: usize = 72;
+
+// Which part of the line of byte `at` is shown: from where to where.
+fn window(text: &[u8], at: usize) -> (usize, usize)
+    requires { at ≤ length text.now }
+    ensures { IsWindow text.now at result.0 result.1 }
+{
+    let mut end = at;
+    while end < text.len() && end - at < MOST_SHOWN && text[end] != b'\n' {
+        end += 1;
+    }
+    (line_start(text, at).max(at.saturating_sub(MOST_SHOWN)), end)
+}
+
+// What a terminal gets for a byte, which might else be taken for a command.
+fn shown(byte: u8) -> u8
+    ensures { result ≡ shown byte }
+{
+    match byte {
+        b'\t' | b' '..=b'~' => byte,
+        _ => b'?',
+    }
+}
+
+// What takes as much room on a terminal.
+fn room(byte: u8) -> u8
+    ensures { result ≡ room byte }
+{
+    match byte {
+        b'\t' => b'\t',
+        _ => b' ',
+    }
+}
+
+// Adds the bytes as a terminal may get them.
+fn add_shown(lines: &mut Vec<u8>, bytes: &[u8]) -> Result<(), AllocError>
+    ensures { OnOk result (lines.new.items ≡ lines.old.items ++ map shown bytes.now) }
+{
+    for &byte in bytes {
+        lines.push(shown(byte))?;
+    }
+    Ok(())
+}
+
+// Adds as much room as the bytes take.
+fn add_room(lines: &mut Vec<u8>, bytes: &[u8]) -> Result<(), AllocError>
+    ensures { OnOk result (lines.new.items ≡ lines.old.items ++ map room bytes.now) }
+{
+    for &byte in bytes {
+        lines.push(room(byte))?;
+    }
+    Ok(())
+}
+
+// The line that names a place.
+fn place_line(alloc: Global, place: Place) -> Result<Vec<u8>, AllocError>
+    ensures { IfOk result (λ line. line.items ≡ place_line place.line place.column) }
+{
+    let line = format!(in alloc; "line {}, column {}\n", place.line, place.column)?;
+    Ok(line.into_bytes())
+}
+
+// The text from one byte to another, and below it room up to byte `at`.
+fn text_lines(
+    alloc: Global,
+    text: &[u8],
+    from: usize,
+    at: usize,
+    to: usize,
+) -> Result<Vec<u8>, AllocError>
+    requires { (from ≤ at) × (at ≤ to) × (to ≤ length text.now) }
+    ensures { IfOk result (λ lines. lines.items ≡ text_lines text.now from at to) }
+{
+    let mut lines = Vec::new(alloc);
+    let (line, before) = (&text[..to], &text[..at]);
+    add_shown(&mut lines, &line[from..])?;
+    lines.extend_from_slice(b"\n")?;
+    add_room(&mut lines, &before[from..])?;
+    Ok(lines)
+}
+
+// The word that would do, where one alone would.
+fn advice(alloc: Global, text: &[u8], at: usize) -> Result<Vec<u8>, AllocError>
+    requires { at ≤ length text.now }
+    ensures { IfOk result (λ advice. IsAdvice text.now at advice.items) }
+{
+    let mut advice = Vec::new(alloc);
+    if let Some(word) = follower(alloc, text, at)? {
+        advice.extend_from_slice(b", here a ")?;
+        advice.extend_from_slice(word.as_bytes())?;
+        advice.extend_from_slice(b" would do")?;
+    }
+    Ok(advice)
+}
+
+// The caret with a message and an advice.
+fn caret_line(alloc: Global, message: &str, advice: &[u8]) -> Result<Vec<u8>, AllocError>
+    ensures { IfOk result (λ line. line.items ≡ caret_line message.now advice.now) }
+{
+    let mut line = b"^ ".to_vec(alloc)?;
+    line.extend_from_slice(message.as_bytes())?;
+    line.extend_from_slice(advice)?;
+    line.extend_from_slice(b"\n")?;
+    Ok(line)
+}
+
+/// Three lines on a fault at byte `at` of a text: its line and column, that line, and a caret under the byte with the message and with the
+/// word that would do there, where one alone would (`follower`).
+///
+/// Of a long line the 72 bytes before the byte are shown and 72 from it on. A byte that isn't printable is shown as `?`.
+pub fn excerpt(alloc: Global, text: &[u8], at: usize, message: &str) -> Result<Vec<u8>, AllocError>
+    requires { at ≤ length text.now }
+    ensures { IfOk result (λ lines. IsExcerpt text.now at message.now lines.items) }
+{
+    let place = place_of(text, at);
+    let (from, to) = window(text, at);
+    let advice = advice(alloc, text, at)?;
+    let mut lines = place_line(alloc, place)?;
+    lines.extend_from_slice(&text_lines(alloc, text, from, at, to)?)?;
+    lines.extend_from_slice(&caret_line(alloc, message, &advice)?)?;
+    Ok(lines)
+}
