@@ -1,15 +1,8 @@
 pub mod Ending
-pub mod Handed
 pub mod Looking
 pub mod Mains
 pub mod Meeting
 pub mod Rooted
 pub mod Shares
-pub mod Showing
-pub mod Shows
-pub mod Sighted
 pub mod Stealing
 pub mod Stopping
-pub mod Turning
-pub mod Turns
-pub mod Walking

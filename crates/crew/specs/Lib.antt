@@ -1,5 +1,2 @@
 pub mod Crews
 pub mod Hands
-pub mod Nodes
-pub mod Sights
-pub mod Stacks

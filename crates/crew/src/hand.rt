@@ -86,7 +86,7 @@ impl Hand {
                 root,
                 current: None,
                 kept: Vec::new(alloc),
-                deck: Deck::new(alloc)?,
+                deck: Deck::new(alloc).map_err(|_| Memory)?,
                 ring: VecDeque::new(alloc),
                 thieves: Vec::new(alloc),
                 faults,
@@ -99,7 +99,7 @@ impl Hand {
         ensures thief { IfOk result (λ thief. thief ≡ new_thief self.old.deck.deck) }
         ensures made { OnOk result (self.new ≡ with_thief self.old) }
     {
-        Ok(self.held.deck.thief()?)
+        self.held.deck.thief().map_err(|_| Memory)
     }
 
     /// These are its thieves.

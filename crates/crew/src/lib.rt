@@ -1,38 +1,30 @@
 //! Workers that run a script.
 //!
 //! A worker runs tasks of `strand_machine` and answers the origin that it was given: the answer is the origin's serial meaning, by the
-//! type of answers. One worker by itself is `run_serial`. A crew of them, each in a thread of its own, is `run_crew`: a hand keeps the
-//! rests of the tasks that it runs in a deck, and a hand that has nothing to do steals from the others' decks.
+//! type of answers. One worker by itself is `run_serial`, of `serial_runner`. A crew of them, each in a thread of its own, is `run_crew`:
+//! a hand keeps the rests of the tasks that it runs in a deck, and a hand that has nothing to do steals from the others' decks.
 #![tactic(auto)]
 
 mod faults;
-mod frames;
 mod gate;
 mod hand;
 mod held;
 mod hiring;
 mod memory;
-mod node;
 mod parked;
 mod root;
 mod run;
-mod serial;
-mod sight;
 mod signals;
-mod stack;
 mod steps;
 mod threads;
-mod turn;
-mod walk;
 
 pub use gate::{Gate, OpenGate};
 pub use hand::{Hand, Hands, Looked, Turn};
 pub use hiring::Crew;
 pub use memory::Memory;
-pub use node::{Node, walk_node};
 pub use root::Root;
 pub use run::run_crew;
-pub use serial::run_serial;
+pub use serial_runner::{Node, run_serial, walk_node};
 
 fn is_sent<T: Send>() {}
 

@@ -16,8 +16,8 @@ use Rattle.serial_meaning.specs.declared.event.Fault.{Fault}
 use Rattle.serial_meaning.specs.declared.origin.Origin.{Origin}
 use Rattle.serial_meaning.specs.declared.origin.Origin.TheVariants.{Instance, Loop}
 use Rattle.strand_meaning.specs.Strands.{Strand, Found, Reached, Missing, Blocked, child_at, strand_of, blocks, ended_before, last_step, next_step, walk, strand_at}
-use Rattle.crew.specs.Nodes.{IsBelow, shown_at, node_toward}
-use Rattle.crew.specs.declared.node.Node.{Node}
+use Rattle.serial_runner.specs.Nodes.{IsBelow, shown_at, node_toward}
+use Rattle.serial_runner.specs.declared.node.Node.{Node}
 use Rattle.replay.specs.Descents.{seen_from, IsOnWayTo, iteration_at, entered, Leads}
 use Rattle.replay.specs.declared.descent.Way.TheVariants.{Down}
 use Rattle.replay.proofs.Iterations.{IsChild, child-at, StartsAtZero, whole-loop, iteration-known}

@@ -7,7 +7,7 @@ use Rattle.serial_meaning.specs.declared.origin.Origin.{Origin}
 use Rattle.serial_meaning.specs.declared.origin.Origin.TheVariants as origin
 use Rattle.strand_meaning.specs.Notes.{IsInstance}
 use Rattle.strand_meaning.specs.Strands.{Found, Reached, Missing, Blocked, walk}
-use Rattle.crew.specs.Nodes.{IsBelow}
+use Rattle.serial_runner.specs.Nodes.{IsBelow}
 use Rattle.replay.specs.declared.descent.Way.{Way}
 use Rattle.replay.specs.declared.descent.Way.TheVariants as way
 use Rattle.replay.specs.declared.error.ReplayError.{ReplayError}

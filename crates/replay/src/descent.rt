@@ -9,10 +9,10 @@ ghost use Rattle.replay.specs.Descents.{IsOnWayTo, Leads, entered};
 ghost use Rattle.replay.specs.Replays.{IsReplayOf};
 
 use crate::error::ReplayError;
-use crew::{Node, walk_node};
 use loop_range::iteration_path;
 use ped_path::Pedigree;
 use serial_meaning::{Origin, Plan, Strand, Value};
+use serial_runner::{Node, walk_node};
 use std::alloc::Global;
 use std::sync::Arc;
 use strand_meaning::laws;

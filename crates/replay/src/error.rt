@@ -17,10 +17,10 @@ pub enum ReplayError {
     Memory,
 }
 
-impl From<crew::Memory> for ReplayError {
+impl From<serial_runner::Memory> for ReplayError {
     ghost from_gives = { λ _ e. e ≡ Memory };
 
-    fn from(_: crew::Memory) -> ReplayError {
+    fn from(_: serial_runner::Memory) -> ReplayError {
         ReplayError::Memory
     }
 }

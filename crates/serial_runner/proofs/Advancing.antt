@@ -1,0 +1,263 @@
+-- A stop of the topmost task leaves a sound stack.
+use Rattle.std.proofs.Common.{◌≡◌, Bool, true, false, ◌||◌, List, [], ◌∷◌, ◌++◌, Option, Some, None, Result, Ok, Err, IfOk, append-nil, refl, sym, ap, ◌∙◌, subst}
+use Rattle.std.proofs.lemmas.Bool.{true≢false}
+use Rattle.serial_meaning.specs.Answer.{AnswerView, AnswerTag}
+use Rattle.serial_meaning.specs.Eval.{Evaluation, eval}
+use Rattle.serial_meaning.specs.Plan.{PlanView}
+use Rattle.serial_meaning.specs.declared.value.Value.{Value}
+use Rattle.serial_meaning.specs.declared.event.Event.{Event}
+use Rattle.serial_meaning.specs.declared.event.Fault.{Fault}
+use Rattle.serial_meaning.specs.declared.origin.Origin.{Origin}
+use Rattle.serial_meaning.specs.declared.answer.Outcome.{Outcome}
+use Rattle.serial_meaning.specs.declared.answer.Outcome.TheVariants as outcome
+use Rattle.strand_meaning.specs.Laws.{IsFaultOf, IsOf, IsSoundStop, KeepsOrigin, LeavesFewer}
+use Rattle.strand_meaning.specs.Pieces.{Part, Pieces, heard_unless, heard, heard_all}
+use Rattle.strand_meaning.specs.Rest.{evaluations}
+use Rattle.strand_meaning.specs.Sound.{IsTask}
+use Rattle.strand_meaning.specs.Task.{Task, start, Stop, Spawn, Wait, End}
+use Rattle.strand_meaning.proofs.Ends.{tasks_begin}
+use Rattle.strand_meaning.proofs.Fewer.{stops_fall}
+use Rattle.strand_meaning.proofs.Onward.{answers_keep_tasks}
+use Rattle.strand_meaning.proofs.Stops.{stops_are_sound, stops_keep_origins}
+use Rattle.strand_machine.specs.Family.{tag, tags}
+use Rattle.strand_machine.specs.Faults.{is_fault, EndsByFault}
+use Rattle.strand_machine.specs.Loops.{is_root}
+use Rattle.strand_machine.specs.Parts.{awaited}
+use Rattle.strand_machine.specs.Stops.{IsStop, Advances, WentOn, advances, answer_tags, any_cut, is_cut, went, went_on, view_on}
+use Rattle.strand_machine.specs.Tasks.{TaskView, fresh, fresh_with}
+use Rattle.strand_machine.specs.declared.stop.Stop as stops
+use Rattle.strand_machine.specs.declared.stop.Stop.TheVariants as stop
+use Rattle.serial_runner.specs.Stacks.{task_of, IsFrame, AreBelow, IsStack, root_of, tasks, IsAnswerOf, task_of_answer, with_answer, Follows, Closes, AdvancesTo}
+use Rattle.serial_runner.specs.declared.frames.Frame.{Frame}
+use Rattle.serial_runner.specs.declared.stack.Stack.{Stack}
+use Rattle.serial_runner.specs.declared.stack.Advanced.{Advanced}
+use Rattle.serial_runner.specs.declared.stack.Advanced.TheVariants.{Goes, Ends}
+use Rattle.strand_machine.specs.declared.memory.Memory.{Memory}
+use Rattle.serial_runner.proofs.Handed.{handed, HandsStop, stops_hand}
+
+-- Tags
+
+tags-append : (plan : PlanView) (os more : List Origin) → tags plan (os ++ more) ≡ tags plan os ++ tags plan more
+tags-append plan [] more = refl
+tags-append plan (o ∷ os) more = ap (λ l. tag plan o ∷ l) (tags-append plan os more)
+
+pub answer-tags-append : (first more : List AnswerView) → answer_tags (first ++ more) ≡ answer_tags first ++ answer_tags more
+answer-tags-append [] more = refl
+answer-tags-append (a ∷ first) more = ap (λ l. tag a.plan a.origin ∷ l) (answer-tags-append first more)
+
+-- No answer is a cut
+
+pub uncut : (plan : PlanView) (ended : Outcome) → IsFaultOf plan ended → is_cut ended ≡ false
+uncut plan (outcome.Value v) h = refl
+uncut plan (outcome.Values vs) h = refl
+uncut plan (outcome.Fault f) h = refl
+uncut plan (outcome.Cut f) h = absurd h
+
+or-first : (a b : Bool) → (a || b) ≡ false → a ≡ false
+or-first true b h = h
+or-first false b h = refl
+
+or-second : (a b : Bool) → (a || b) ≡ false → b ≡ false
+or-second true b h = absurd (true≢false h)
+or-second false b h = h
+
+neither : (a b : Bool) → a ≡ false → b ≡ false → (a || b) ≡ false
+neither a b g h = ap (λ c. c || b) g ∙ h
+
+pub more-uncut : (answers : List AnswerView) (a : AnswerView) → any_cut answers ≡ false → is_cut a.outcome ≡ false → any_cut (answers ++ a ∷ []) ≡ false
+more-uncut [] a whole h = ap (λ (b : Bool). b || false) h
+more-uncut (x ∷ answers) a whole h =
+    let cut = is_cut x.outcome in
+    neither cut (any_cut (answers ++ a ∷ [])) (or-first cut (any_cut answers) whole) (more-uncut answers a (or-second cut (any_cut answers) whole) h)
+
+-- A task that took no cut comes to its next stop.
+pub stopped : (t : TaskView) (s : stops.Stop) → t.cut ≡ None → Advances t s → IsStop t s
+stopped t s uncut at = subst (λ (c : Option Outcome). advances c t s) uncut at
+
+-- By answers of which none is a cut it goes on.
+pub went_whole : (answers : List AnswerView) (t next : TaskView) → any_cut answers ≡ false → WentOn answers t next → next ≡ view_on t
+went_whole answers t next whole h = subst (λ (b : Bool). went b answers t next) whole h
+
+-- Children that a wait is over with aren't awaited
+
+heard-none : (f : Option Fault) (told : List Event) (p : Part) (events : List Event) (ending : Result (List Value) Fault) → (heard_unless f told p events ending).handed ≡ []
+heard-none (Some f) told p events ending = refl
+heard-none None told p events (Ok vs) = refl
+heard-none None told p events (Err f) = refl
+
+none-heard : (ps : List Part) (answers : List Evaluation) (pieces : Pieces) → pieces.handed ≡ [] → (heard_all ps answers pieces).handed ≡ []
+none-heard [] answers pieces h = h
+none-heard (p ∷ ps) [] pieces h = h
+none-heard (p ∷ ps) (a ∷ answers) pieces h = none-heard ps answers (heard p a pieces) (heard-none pieces.fault pieces.told p a.items a.ending)
+
+-- Stacks
+
+-- only the plan and the origin of the task above count
+pub below-same : (t u : Task) (fs : List Frame) → IsOf t u → AreBelow t fs → AreBelow u fs
+below-same t u [] same b = tt
+below-same t u (f ∷ fs) same b = (same.0 ∙ b.0, subst (λ (o : Origin). IsFrame (o ∷ []) f) (sym same.1) b.1, b.2)
+
+pub root-same : (t u : Task) (fs : List Frame) → IsOf t u → IsOf (root_of t fs) (root_of u fs)
+root-same t u [] same = same
+root-same t u (f ∷ fs) same = (refl, refl)
+
+begun-frame : (knows : Bool) (plan : PlanView) (o : Origin) → IsTask (start plan o) → IsFrame [] (record { task = fresh_with knows plan o; answers = [] })
+begun-frame knows plan o is = record { task = is; idle = refl; goes_on = refl; whole = refl; answers = refl }
+
+-- the stack of an origin's task alone
+pub begun_stack : (plan : PlanView) (o : Origin) (top : Frame) (below : List Frame) → IsTask (start plan o) → top ≡ record { task = fresh plan o; answers = [] } → below ≡ [] → IsStack (record { top = top; below = below })
+begun_stack plan o top below is e h = record { top = subst (IsFrame []) (sym e) (begun-frame (is_root o) plan o is); below = subst (AreBelow (task_of top)) (sym h) tt }
+
+-- What is left of a sound stack, by the stop of its topmost task
+module _ (s : Stack) (is : IsStack s) where
+  abbrev t : Task
+  t = task_of s.top
+
+  abbrev frame : TaskView → List AnswerView → Frame
+  frame v answers = record { task = v; answers = answers }
+
+  module _ (child rest : TaskView) (at : IsStop s.top.task (stop.Spawn child rest)) where
+    abbrev c : Origin
+    c = child.task.origin
+
+    abbrev to : Stop
+    to = Spawn c rest.task
+
+    is-fresh : child ≡ fresh_with s.top.task.knows t.plan c
+    is-fresh = at.keeps.0
+
+    begun : child.task ≡ start t.plan c
+    begun = ap (λ (v : TaskView). v.task) is-fresh
+
+    with-child : IsSoundStop t to → KeepsOrigin t to → LeavesFewer t to → HandsStop t to → Follows s (record { top = frame child []; below = frame rest s.top.answers ∷ s.below })
+    with-child sound same fewer hands = record {
+      sound = record {
+        top = subst (λ (v : TaskView). IsFrame [] (frame v [])) (sym is-fresh) (begun-frame s.top.task.knows t.plan c (tasks_begin t.plan c sound.0 is.top.task.clear));
+        below = (ap (λ (u : Task). u.plan) begun ∙ sym same.0, record { task = sound.1; idle = fewer.1; goes_on = at.keeps.4; whole = is.top.whole; answers = answers }, below-same t rest.task s.below same is.below);
+      };
+      root = root-same t rest.task s.below same;
+      stop = to;
+      comes = at.next;
+      leaves = ap (λ (u : Task). u ∷ rest.task ∷ tasks s.below) (begun ∙ ap (λ (p : PlanView). start p c) (sym same.0));
+    }
+      where
+        answers : answer_tags s.top.answers ++ tags rest.task.plan (c ∷ []) ≡ tags rest.task.plan (handed rest.task)
+        answers =
+            ap (λ (l : List AnswerTag). l ++ tags rest.task.plan (c ∷ [])) (sym (append-nil (answer_tags s.top.answers)) ∙ is.top.answers ∙ ap (λ (p : PlanView). tags p (handed t)) (sym same.0))
+            ∙ sym (tags-append rest.task.plan (handed t) (c ∷ [])) ∙ ap (tags rest.task.plan) (sym hands.0)
+
+    -- A child goes on top.
+    pub spawned : (top : Frame) (below : List Frame) → top ≡ record { task = child; answers = [] } → below ≡ record { task = rest; answers = s.top.answers } ∷ s.below → Follows s (record { top = top; below = below })
+    spawned top below e h =
+        subst (λ (f : Frame). Follows s (record { top = f; below = below })) (sym e) (subst (λ (fs : List Frame). Follows s (record { top = frame child []; below = fs })) (sym h)
+        (with-child (stops_are_sound t to is.top.task at.next) (stops_keep_origins t to at.next) (stops_fall t to is.top.task is.top.idle at.next) (stops_hand t to is.top.task at.next)))
+
+  module _ (rest : TaskView) (at : IsStop s.top.task (stop.Wait rest)) where
+    -- At a wait the answers are those of all children.
+    pub waits : rest.task.waiting ≡ true
+    waits = let fewer : LeavesFewer t (Wait rest.task) = stops_fall t (Wait rest.task) is.top.task is.top.idle at.next in fewer.1
+
+    pub has_answers : answer_tags s.top.answers ≡ tags rest.task.plan (awaited rest.task.pieces.handed)
+    has_answers =
+        let same : KeepsOrigin t (Wait rest.task) = stops_keep_origins t (Wait rest.task) at.next in
+        let hands : HandsStop t (Wait rest.task) = stops_hand t (Wait rest.task) is.top.task at.next in
+        sym (append-nil (answer_tags s.top.answers)) ∙ is.top.answers ∙ ap (λ (p : PlanView). tags p (handed t)) (sym same.0) ∙ ap (tags rest.task.plan) (sym hands)
+
+    none : (went_on rest).pieces.handed ≡ []
+    none = none-heard rest.task.pieces.handed (evaluations (eval rest.task.plan) rest.task.pieces.handed) _ refl
+
+    gone-on : IsSoundStop t (Wait rest.task) → KeepsOrigin t (Wait rest.task) → Follows s (record { top = frame (view_on rest) []; below = s.below })
+    gone-on sound same = record {
+      sound = record {
+        top = record { task = answers_keep_tasks rest.task sound; idle = refl; goes_on = at.keeps.3; whole = refl; answers = ap (λ (l : List Part). tags rest.task.plan (awaited l)) (sym none) };
+        below = below-same t (went_on rest) s.below same is.below;
+      };
+      root = root-same t (went_on rest) s.below same;
+      stop = Wait rest.task;
+      comes = at.next;
+      leaves = refl;
+    }
+
+    -- It goes on.
+    pub went_up : (top : Frame) (v : TaskView) → top ≡ record { task = v; answers = [] } → v ≡ view_on rest → Follows s (record { top = top; below = s.below })
+    went_up top v e h =
+        subst (λ (f : Frame). Follows s (record { top = f; below = s.below })) (sym (e ∙ ap (λ (w : TaskView). frame w []) h))
+        (gone-on (stops_are_sound t (Wait rest.task) is.top.task at.next) (stops_keep_origins t (Wait rest.task) at.next))
+
+  module _ (answer : AnswerView) (give : AnswerTag) (at : IsStop s.top.task (stop.Done answer give)) where
+    to-parent : (f : Frame) (fs : List Frame) → s.below ≡ f ∷ fs → AreBelow t (f ∷ fs) → Follows s (with_answer answer f fs)
+    to-parent f fs e b = record {
+      sound = record { top = record { task = b.1.task; idle = b.1.idle; goes_on = b.1.goes_on; whole = more-uncut f.answers answer b.1.whole whole; answers = answers }; below = b.2 };
+      root = subst (λ (l : List Frame). IsOf (root_of t l) (root_of (task_of f) fs)) (sym e) (refl, refl);
+      stop = End answer.out answer.outcome;
+      comes = at.next;
+      leaves = ap tasks (sym e);
+    }
+      where
+        whole : is_cut answer.outcome ≡ false
+        whole = uncut t.plan answer.outcome at.known
+
+        answers : answer_tags (f.answers ++ answer ∷ []) ++ [] ≡ tags (task_of f).plan (awaited (task_of f).pieces.handed)
+        answers =
+            append-nil (answer_tags (f.answers ++ answer ∷ [])) ∙ answer-tags-append f.answers (answer ∷ [])
+            ∙ ap (λ (p : PlanView). answer_tags f.answers ++ tag p answer.origin ∷ []) (at.keeps.0 ∙ b.0)
+            ∙ ap (λ (o : Origin). answer_tags f.answers ++ tag (task_of f).plan o ∷ []) at.keeps.1 ∙ b.1.answers
+
+    abbrev IsEnd : List Frame → Type 0
+    IsEnd fs = IsAnswerOf (root_of t fs) answer
+
+    -- An end's answer goes to the task below, or is the one of the task at the bottom.
+    pub ended : (result : Result Advanced Memory) → ((f : Frame) (fs : List Frame) → s.below ≡ f ∷ fs → IfOk result (λ to. to ≡ Goes (with_answer answer f fs))) →
+        (s.below ≡ [] → IfOk result (λ to. to ≡ Ends answer)) → IfOk result (AdvancesTo s)
+    ended (Err e) parent last = tt
+    ended (Ok to) parent last = by_below s.below refl
+      where
+        sound : IsSoundStop t (End answer.out answer.outcome)
+        sound = stops_are_sound t (End answer.out answer.outcome) is.top.task at.next
+
+        by_below : (fs : List Frame) → s.below ≡ fs → AdvancesTo s to
+        by_below [] e =
+            let closes : Closes s answer = subst IsEnd (sym e) (record { plan = at.keeps.0; origin = at.keeps.1; fault = sound.1 }) in subst (AdvancesTo s) (sym (last e)) closes
+        by_below (f ∷ fs) e = let follows : Follows s (with_answer answer f fs) = to-parent f fs e (subst (AreBelow t) e is.below) in subst (AdvancesTo s) (sym (parent f fs e)) follows
+
+    -- An end by a fault ends all tasks.
+    same-task : IsOf t (task_of_answer answer)
+    same-task = (at.keeps.0, at.keeps.1)
+
+    pub known_fault : IsFaultOf answer.plan answer.outcome
+    known_fault =
+        let sound : IsSoundStop t (End answer.out answer.outcome) = stops_are_sound t (End answer.out answer.outcome) is.top.task at.next in
+        subst (λ (p : PlanView). IsFaultOf p answer.outcome) (sym at.keeps.0) sound.1
+
+    pub answer_below : AreBelow (task_of_answer answer) s.below
+    answer_below = below-same t (task_of_answer answer) s.below same-task is.below
+
+    pub all_ended : (last : AnswerView) → IsAnswerOf (root_of (task_of_answer answer) s.below) last → Closes s last
+    all_ended last h =
+        let same : IsOf (root_of t s.below) (root_of (task_of_answer answer) s.below) = root-same t (task_of_answer answer) s.below same-task in
+        record { plan = h.plan ∙ same.0; origin = h.origin ∙ same.1; fault = subst (λ (p : PlanView). IsFaultOf p last.outcome) same.0 h.fault }
+
+-- The tasks below an answer that is a fault
+
+pub record EndsAt (bottom : Task) (answer : AnswerView) (fs : List Frame) : Type 0 where
+  pub below : AreBelow (task_of_answer answer) fs
+  pub fault : is_fault answer.outcome ≡ true
+  pub known : IsFaultOf answer.plan answer.outcome
+  pub root : IsOf bottom (root_of (task_of_answer answer) fs)
+
+pub ends-next : (bottom : Task) (a b : AnswerView) (by : AnswerTag) (f : Frame) (fs gs : List Frame) → gs ≡ f ∷ fs → EndsAt bottom a gs → EndsByFault f.task b by → EndsAt bottom b fs
+ends-next bottom a b by f fs gs e at ends =
+    let was : EndsAt bottom a (f ∷ fs) = subst (EndsAt bottom a) e at in
+    let same : IsOf (task_of f) (task_of_answer b) = (ends.plan, ends.origin) in
+    let lower : IsOf (root_of (task_of f) fs) (root_of (task_of_answer b) fs) = root-same (task_of f) (task_of_answer b) fs same in
+    record {
+      below = below-same (task_of f) (task_of_answer b) fs same was.below.2;
+      fault = ends.fault;
+      known = subst (λ (p : PlanView). IsFaultOf p b.outcome) (sym ends.plan) ends.known;
+      root = (lower.0 ∙ was.root.0, lower.1 ∙ was.root.1);
+    }
+
+pub ends-last : (bottom : Task) (a : AnswerView) (fs : List Frame) → fs ≡ [] → EndsAt bottom a fs → IsAnswerOf bottom a
+ends-last bottom a fs e at =
+    let was : EndsAt bottom a [] = subst (EndsAt bottom a) e at in
+    record { plan = was.root.0; origin = was.root.1; fault = subst (λ (p : PlanView). IsFaultOf p a.outcome) was.root.0 was.known }

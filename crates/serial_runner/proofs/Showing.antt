@@ -1,0 +1,97 @@
+-- The children among what a task of an instance shows up to its next stop: the one that it hands out there, and no other.
+use Rattle.std.proofs.Common.{◌≡◌, true, false, List, [], ◌∷◌, ◌++◌, Option, Some, None, Result, Ok, Err, append-nil, refl, sym, ap, ◌∙◌, subst}
+use Rattle.loop_range.specs.Range.{Range}
+use Rattle.serial_meaning.specs.Eval.{path_of}
+use Rattle.serial_meaning.specs.Open.{Item, Own, Joined}
+use Rattle.serial_meaning.specs.declared.value.Value.{Value}
+use Rattle.serial_meaning.specs.declared.event.Fault.{Fault}
+use Rattle.serial_meaning.specs.declared.origin.Origin.{Origin}
+use Rattle.serial_meaning.specs.declared.origin.Origin.TheVariants.{Instance, Loop}
+use Rattle.serial_meaning.specs.declared.answer.Outcome.{Outcome}
+use Rattle.strand_meaning.specs.Machine.{Token, Told, Handed, Syncs, Loops, Reached, Stands, Gives, move}
+use Rattle.strand_meaning.specs.Notes.{IsInstance, Notes, token_items, work_notes, step_notes, task_ranks, Shows, Now, Later}
+use Rattle.strand_meaning.specs.Pieces.{Part}
+use Rattle.strand_meaning.specs.Task.{Goes, AtSync, AtLoop, Ended, Work, Splits, Runs, Over, Task, own_instance, Step, Passes, Stops, Stop, Spawn, Wait, End, stage_after, child_in, stops_at, passing, moved, ends_unless, faults_behind, gave, work_step}
+use Rattle.strand_meaning.specs.Sound.{IsEndOf, IsLoop, IsSoundWork, IsTask}
+use Rattle.strand_meaning.specs.Laws.{IsSoundStep}
+use Rattle.strand_meaning.proofs.Ends.{steps_are_sound}
+use Rattle.strand_meaning.proofs.Stops.{KeepsStep, step-keeps}
+use Rattle.serial_runner.proofs.Shows.{children, AtMostOne, MoveHands, move_hands}
+use Rattle.serial_runner.proofs.Handed.{first, child-first}
+use Rattle.serial_runner.proofs.Sighted.{item_children, children-append}
+
+token-children : (ts : List Token) → item_children (token_items ts) ≡ children ts
+token-children [] = refl
+token-children (Told e ∷ ts) = token-children ts
+token-children (Handed o place ∷ ts) = ap (λ l. o ∷ l) (token-children ts)
+token-children (Syncs ∷ ts) = token-children ts
+token-children (Loops ∷ ts) = token-children ts
+
+abbrev ShowsStep : List Item → Step → Type 0
+ShowsStep is (Passes next) = item_children is ≡ []
+ShowsStep is (Stops (Spawn child rest)) = item_children is ≡ child ∷ []
+ShowsStep is (Stops (Wait rest)) = item_children is ≡ []
+ShowsStep is (Stops (End out ended)) = item_children is ≡ []
+
+pub no_end : (o : Origin) (left : Range) → IsInstance o → IsEndOf o left → ⊥
+no_end (Instance function args path) left i e = e
+no_end (Loop function rest first path range) left i e = i
+
+pub no_loop : (o : Origin) → IsInstance o → IsLoop o → ⊥
+no_loop (Instance function args path) i e = e
+no_loop (Loop function rest first path range) i e = i
+
+module _ (t : Task) where
+  at-end : (f : Option Fault) (ended : Outcome) → ShowsStep [] (ends_unless f t ended)
+  at-end None ended = refl
+  at-end (Some f) ended = refl
+
+  at-child : (is : List Item) (os : List Origin) (o : Option Origin) (next : Task) → item_children is ≡ os → o ≡ first os → AtMostOne t.plan (path_of (own_instance t.origin)) os → ShowsStep is (stops_at o next)
+  at-child is [] None next h e k = h
+  at-child is [] (Some o) next h e k = absurd (cc)
+  at-child is (c ∷ []) None next h e k = absurd (cc)
+  at-child is (c ∷ []) (Some o) next h e k = let same : c ≡ o = cc in h ∙ ap (λ d. d ∷ []) same
+  at-child is (c ∷ d ∷ os) o next h e k = absurd k
+
+  at-move : (ts : List Token) (e : Result Reached Fault) → MoveHands t.plan (path_of (own_instance t.origin)) (children ts) e → ShowsStep (token_items ts) (moved t ts e)
+  at-move ts (Ok (Stands m)) h = at-child (token_items ts) (children ts) (child_in ts) (passing t ts (Runs (stage_after ts m))) (token-children ts) (child-first ts) h
+  at-move ts (Ok (Gives v)) h = token-children ts ∙ h
+  at-move ts (Err f) h = token-children ts ∙ h
+
+  at-fault : (ps : List Part) (f : Fault) → ShowsStep [] (faults_behind ps t f)
+  at-fault [] f = at-end t.pieces.fault _
+  at-fault (p ∷ ps) f = refl
+
+  at-value : (o : Origin) (v : Value) → ShowsStep [] (gave t o v)
+  at-value (Instance function args path) v = at-end t.pieces.fault _
+  at-value (Loop function rest first path range) v = refl
+
+  at-work : (work : Work) → IsInstance t.origin → IsSoundWork t.plan t.origin t.pieces.handed work → ShowsStep (work_notes t (task_ranks t) work).items (work_step t work)
+  at-work (Splits left) i is = absurd (no_end t.origin left i is.0)
+  at-work (Runs (Goes m)) i is =
+      let path = path_of (own_instance t.origin) in let r = move t.plan path m in at-move r.items r.ending (move_hands t.plan path m)
+  at-work (Runs (AtSync m)) i is = refl
+  at-work (Runs (AtLoop m)) i is = refl
+  at-work (Runs (Ended (Ok v))) i is = at-value t.origin v
+  at-work (Runs (Ended (Err (Own f)))) i is = at-fault t.pieces.handed f
+  at-work (Runs (Ended (Err (Joined f)))) i is = at-end t.pieces.fault _
+  at-work (Over v true) i is = absurd (no_loop t.origin i is.0)
+  at-work (Over v false) i is = absurd (no_loop t.origin i is.0)
+
+abbrev pub ShowsStop : List Item → Stop → Type 0
+ShowsStop is stop = ShowsStep is (Stops stop)
+
+shows-more : (is more : List Item) (stop : Stop) → item_children is ≡ [] → ShowsStop more stop → ShowsStop (is ++ more) stop
+shows-more is more (Spawn child rest) h k = children-append is more ∙ ap (λ l. l ++ item_children more) h ∙ k
+shows-more is more (Wait rest) h k = children-append is more ∙ ap (λ l. l ++ item_children more) h ∙ k
+shows-more is more (End out ended) h k = children-append is more ∙ ap (λ l. l ++ item_children more) h ∙ k
+
+pub stops_show : (t : Task) (notes : Notes) (stop : Stop) → IsTask t → IsInstance t.origin → Shows t notes stop → ShowsStop notes.items stop
+stops_show t notes stop is i (Now h e) =
+    let k : ShowsStop (step_notes t).items stop = subst (ShowsStep (step_notes t).items) h (at-work t t.work i is.work) in
+    subst (λ (l : List Item). ShowsStop l stop) (sym (ap (λ (m : Notes). m.items) e ∙ append-nil (step_notes t).items)) k
+stops_show t notes stop is i (Later next later h n e) =
+    let same : KeepsStep t (Passes next) = subst (KeepsStep t) h (step-keeps t) in
+    let shown : ShowsStep (step_notes t).items (Passes next) = subst (ShowsStep (step_notes t).items) h (at-work t t.work i is.work) in
+    subst (λ (l : List Item). ShowsStop l stop) (sym (ap (λ (m : Notes). m.items) e))
+    (shows-more (step_notes t).items later.items stop shown (stops_show next later stop (subst (IsSoundStep t) h (steps_are_sound t is)) (subst IsInstance (sym same.1) i) n))

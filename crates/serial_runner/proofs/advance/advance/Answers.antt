@@ -1,0 +1,29 @@
+use Rattle.serial_runner.proofs.Advancing.{stopped, went_whole, spawned, waits, has_answers, went_up, known_fault, answer_below, all_ended, ended}
+use Rattle.serial_runner.proofs.advance.advance.Goals as goal
+
+pub resume_with-requires-clause-waits : goal.resume_with-requires-clause-waits
+resume_with-requires-clause-waits c = waits c.args.stack c.requires c.in-Wait.rest (stopped _ _ c.requires.top.goes_on (rw c.in-Wait.is at c.in_ok-stop.ensures))
+
+pub resume_with-requires-clause-tags : goal.resume_with-requires-clause-tags
+resume_with-requires-clause-tags c = has_answers c.args.stack c.requires c.in-Wait.rest (stopped _ _ c.requires.top.goes_on (rw c.in-Wait.is at c.in_ok-stop.ensures))
+
+pub returns-in_ok-push-in-Spawn : goal.returns-in_ok-push-in-Spawn
+returns-in_ok-push-in-Spawn c =
+    spawned c.args.stack c.requires c.in-Spawn.child c.in-Spawn.rest (stopped _ _ c.requires.top.goes_on (rw c.in-Spawn.is at c.in_ok-stop.ensures)) _ _ c.of-top.ensures c.in_ok-push-in-Spawn.ensures
+
+pub returns-in_ok-task-in-Wait : goal.returns-in_ok-task-in-Wait
+returns-in_ok-task-in-Wait c =
+    went_up c.args.stack c.requires c.in-Wait.rest (stopped _ _ c.requires.top.goes_on (rw c.in-Wait.is at c.in_ok-stop.ensures)) _ c.in_ok-task-in-Wait.task c.of-top-in-Wait.ensures
+    (went_whole c.args.stack.top.answers c.in-Wait.rest c.in_ok-task-in-Wait.task c.requires.top.whole c.in_ok-task-in-Wait.ensures)
+
+pub end_all-requires-clause-known : goal.end_all-requires-clause-known
+end_all-requires-clause-known c = known_fault c.args.stack c.requires c.in-Done.answer c.in-Done.give (stopped _ _ c.requires.top.goes_on (rw c.in-Done.is at c.in_ok-stop.ensures))
+
+pub end_all-requires-clause-below : goal.end_all-requires-clause-below
+end_all-requires-clause-below c = answer_below c.args.stack c.requires c.in-Done.answer c.in-Done.give (stopped _ _ c.requires.top.goes_on (rw c.in-Done.is at c.in_ok-stop.ensures))
+
+pub returns-then-is_fault : goal.returns-then-is_fault
+returns-then-is_fault c = all_ended c.args.stack c.requires c.in-Done.answer c.in-Done.give (stopped _ _ c.requires.top.goes_on (rw c.in-Done.is at c.in_ok-stop.ensures)) _ c.in_ok-last-in-Done.ensures
+
+pub returns-else-is_fault : goal.returns-else-is_fault
+returns-else-is_fault c = ended c.args.stack c.requires c.in-Done.answer c.in-Done.give (stopped _ _ c.requires.top.goes_on (rw c.in-Done.is at c.in_ok-stop.ensures)) c.answered.result c.answered.ensures.parent c.answered.ensures.last

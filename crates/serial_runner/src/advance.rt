@@ -1,0 +1,77 @@
+// One stop of a worker that runs each child to its end before what stands after it.
+ghost use Rattle.std.specs.Prelude.{◌≡◌, List, [], ◌∷◌, true, IfOk};
+ghost use Rattle.strand_meaning.specs.Laws.{IsFaultOf};
+ghost use Rattle.strand_machine.specs.Faults.{is_fault};
+ghost use Rattle.serial_runner.specs.declared.frames.Frame.{Frame};
+ghost use Rattle.serial_runner.specs.Stacks.{AreBelow, IsAnswerOf, IsStack, AdvancesTo, root_of, task_of_answer, with_answer};
+
+use crate::frames::{Frame, Frames};
+use crate::stack::{Advanced, Stack};
+use serial_meaning::Answer;
+use std::alloc::Global;
+use strand_machine::{Memory, Stop, is_fault};
+
+/// The answer of a task that has ended goes to the one below it.
+fn answered(answer: Answer, mut below: Frames) -> Result<Advanced, Memory>
+    ensures parent { (f : Frame) (fs : List Frame) → below ≡ f ∷ fs → IfOk result (λ advanced. advanced ≡ Advanced.Goes (with_answer answer f fs)) }
+    ensures last { below ≡ [] → IfOk result (λ advanced. advanced ≡ Advanced.Ends answer) }
+{
+    match below.pop() {
+        Some(mut top) => {
+            top.answers.0.push(answer)?;
+            Ok(Advanced::Goes(Stack { top, below }))
+        }
+        None => Ok(Advanced::Ends(answer)),
+    }
+}
+
+/// The answer of the task at the bottom, where this one, of the task on top, is a fault. It is the fault of each task below too, since
+/// nothing that stands after it counts.
+fn end_all(alloc: Global, answer: Answer, mut below: Frames) -> Result<Answer, Memory>
+    requires fault { is_fault answer.outcome ≡ true }
+    requires known { IsFaultOf answer.plan answer.outcome }
+    requires below { AreBelow (task_of_answer answer) below }
+    ensures { IfOk result (IsAnswerOf (root_of (task_of_answer answer) below)) }
+{
+    let mut answer = answer;
+    while let Some(frame) = below.pop() {
+        let Frame { task, answers } = frame;
+        let (ended, _) = task.end_by(alloc, answers, answer)?;
+        answer = ended;
+    }
+    Ok(answer)
+}
+
+/// Runs the topmost task to its next stop. A child goes on top of it. Where it waits its children have ended, and it takes their
+/// answers. Its own answer goes to the task below, and where it is a fault it ends all of them.
+pub(crate) fn advance(stack: Stack, alloc: Global) -> Result<Advanced, Memory>
+    requires { IsStack stack }
+    ensures { IfOk result (AdvancesTo stack) }
+{
+    let Stack { top, mut below } = stack;
+    let Frame { task, answers } = top;
+    let stop = task.advance(alloc)?;
+    match stop {
+        Stop::Spawn { child, rest } => {
+            let parent = Frame {
+                task: rest,
+                answers,
+            };
+            below.push(parent)?;
+            let top = Frame::of(alloc, child);
+            Ok(Advanced::Goes(Stack { top, below }))
+        }
+        Stop::Wait { rest } => {
+            let task = rest.resume_with(alloc, answers)?;
+            let top = Frame::of(alloc, task);
+            Ok(Advanced::Goes(Stack { top, below }))
+        }
+        Stop::Done { answer, .. } => {
+            if is_fault(&answer) {
+                let last = end_all(alloc, answer, below)?;
+                return Ok(Advanced::Ends(last));
+            }
+            answered(answer, below)
+        }
+    }
+}

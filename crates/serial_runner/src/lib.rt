@@ -1,0 +1,17 @@
+//! One worker by itself.
+//!
+//! It runs tasks of `strand_machine` on the calling thread, each child to its end before the rest of its parent: `run_serial` answers any
+//! origin of a plan. By the same runs `walk_node` says what one instance shows on the way down to a strand.
+#![tactic(auto)]
+
+mod advance;
+mod frames;
+mod node;
+mod serial;
+mod sight;
+mod stack;
+mod walk;
+
+pub use node::{Node, walk_node};
+pub use serial::run_serial;
+pub use strand_machine::Memory;

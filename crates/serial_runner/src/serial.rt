@@ -1,0 +1,69 @@
+// A worker by itself.
+ghost use Rattle.std.specs.Prelude.{◌≡◌, IfOk};
+ghost use Rattle.std.specs.Arc.{arc_value};
+ghost use Rattle.serial_meaning.specs.Laws.{IsOriginOf};
+ghost use Rattle.strand_meaning.specs.Laws.{IsFaultOf};
+ghost use Rattle.strand_meaning.specs.Task.{start};
+ghost use Rattle.strand_machine.specs.Tasks.{fresh};
+ghost use Rattle.serial_runner.specs.Stacks.{IsStack, root};
+
+use crate::advance::advance;
+use crate::frames::{Frame, Frames};
+use crate::stack::{Advanced, Stack};
+use meet_block::Join;
+use serial_meaning::{Answer, AnswerKey, Origin, Plan};
+use std::alloc::Global;
+use std::sync::Arc;
+use strand_machine::{Memory, Task};
+use strand_meaning::laws;
+
+/// A task of the origin. Nobody waits for what it gives.
+pub(crate) fn begin_task(alloc: Global, plan: &Arc<Plan>, origin: Origin) -> Result<Task, Memory>
+    requires { IsOriginOf (arc_value plan.now) origin }
+    ensures { IfOk result (λ task. task ≡ fresh (arc_value plan.now) origin) }
+{
+    let key = AnswerKey {
+        plan: Arc::try_clone(plan)?,
+        origin,
+    };
+    let mut join: Join<Answer> = Join::new(alloc)?;
+    let give = join.hand(alloc, &key)?;
+    let AnswerKey { plan, origin } = key;
+    Ok(Task::start(alloc, plan, origin, give)?)
+}
+
+/// The stack of this task alone.
+pub(crate) fn begin(alloc: Global, plan: &Arc<Plan>, origin: Origin) -> Result<Stack, Memory>
+    requires { IsOriginOf (arc_value plan.now) origin }
+    ensures sound { IfOk result IsStack }
+    ensures root { IfOk result (λ stack. root stack ≡ start (arc_value plan.now) origin) }
+{
+    let _script = plan.checked.script();
+    laws::valid_plans_are_clear();
+    laws::tasks_begin();
+    let task = begin_task(alloc, plan, origin)?;
+    Ok(Stack {
+        top: Frame::of(alloc, task),
+        below: Frames::new(alloc),
+    })
+}
+
+/// Runs an origin of the plan on this thread. A child is run to its end before the rest of the task that handed it out, so that all
+/// children have answered where a task waits.
+///
+/// The tasks that are begun stand in memory, and not on the thread's stack, however deep they are nested. The answers of a task's
+/// children are moved into its own.
+pub fn run_serial(alloc: Global, plan: &Arc<Plan>, origin: Origin) -> Result<Answer, Memory>
+    requires { IsOriginOf (arc_value plan.now) origin }
+    ensures plan { IfOk result (λ answer. answer.plan ≡ arc_value plan.now) }
+    ensures origin { IfOk result (λ answer. answer.origin ≡ origin) }
+    ensures fault { IfOk result (λ answer. IsFaultOf (arc_value plan.now) answer.outcome) }
+{
+    let mut stack = begin(alloc, plan, origin)?;
+    loop {
+        match advance(stack, alloc)? {
+            Advanced::Goes(next) => stack = next,
+            Advanced::Ends(answer) => return Ok(answer),
+        }
+    }
+}

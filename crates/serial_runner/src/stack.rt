@@ -1,0 +1,17 @@
+use crate::frames::{Frame, Frames};
+use serial_meaning::Answer;
+
+/// The task that runs, and below it those that handed out the one above as their last child.
+#[derive(Drop)]
+pub(crate) struct Stack {
+    pub top: Frame,
+    pub below: Frames,
+}
+
+/// What a stop of the topmost task makes of a stack.
+#[derive(Drop)]
+pub(crate) enum Advanced {
+    Goes(Stack),
+    /// The task at the bottom has ended.
+    Ends(Answer),
+}
