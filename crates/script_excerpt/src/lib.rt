@@ -5,8 +5,6 @@
 mod advice;
 mod lines;
 mod place;
-#[cfg(test)]
-mod tests;
 
 pub use advice::follower;
 pub use lines::excerpt;

@@ -1,6 +1,7 @@
 // What the calls make of the texts of scripts, and of the words of command lines.
 
 mod checks;
+mod excerpts;
 mod prints;
 mod tokens;
 mod trees;

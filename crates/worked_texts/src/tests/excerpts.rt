@@ -1,5 +1,5 @@
-// What no clause says: which word would do, and how a long line is cut.
-use crate::excerpt;
+// The lines that show a fault's place, with the word that would do.
+use script_excerpt::excerpt;
 use std::test::Fail;
 
 const EXCERPTS: [(&str, usize, &str); 5] = [
@@ -29,8 +29,26 @@ const EXCERPTS: [(&str, usize, &str); 5] = [
 #[test]
 fn a_fault_is_shown_with_its_line(rt: HostRuntime) -> Result<(), Fail> {
     for (text, at, wanted) in EXCERPTS {
+        assert!(rt; at <= text.len());
         let lines = excerpt(rt.alloc(), text.as_bytes(), at, "fault")?;
         assert_eq!(rt; lines.as_slice(), wanted.as_bytes());
     }
+    Ok(())
+}
+
+#[test]
+fn of_a_long_line_72_bytes_are_shown_on_each_side(rt: HostRuntime) -> Result<(), Fail> {
+    let alloc = rt.alloc();
+    let text = vec![in alloc; b'a'; 300]?;
+    assert!(rt; text.len() == 300);
+    let lines = excerpt(alloc, &text, 150, "fault")?;
+    let mut wanted = b"line 1, column 151\n".to_vec(alloc)?;
+    wanted.extend_from_slice(&text[..144])?;
+    wanted.push(b'\n')?;
+    for _ in 0..72 {
+        wanted.push(b' ')?;
+    }
+    wanted.extend_from_slice(b"^ fault\n")?;
+    assert_eq!(rt; lines.as_slice(), wanted.as_slice());
     Ok(())
 }
