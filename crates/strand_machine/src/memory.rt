@@ -46,3 +46,9 @@ impl From<strand_moves::Memory> for Memory {
         Memory
     }
 }
+
+impl From<meet_block::Memory> for Memory {
+    fn from(_: meet_block::Memory) -> Self {
+        Memory
+    }
+}
