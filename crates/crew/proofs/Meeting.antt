@@ -202,7 +202,7 @@ begins plan workers idle now d h are same few is = (idle, are, by_hands idle sam
 
 -- or is dealt the root tasks, when it has none
 
-HasNone : HandView → Type 0
+abbrev HasNone : HandView → Type 0
 HasNone h = (h.kept ≡ []) × (h.deck.pushed ≡ [])
 
 pub first-has-none : (workers : ℕ) (hands : List HandView) (d h : HandView) → AreIdle workers hands → 1 ≤ workers → h ≡ get_or hands 0 d → (h.kept ≡ []) × (h.deck.pushed ≡ [])

@@ -12,7 +12,8 @@ loop-root-init g c =
     let roots : into_iter_items c.into_iter-root-iterator.result ≡ c.args.roots.items = gives.0 in
     record {
       roots = gives.1 ∙ c.args.roots.ok.0 ∙ ap length (sym roots);
-      answers = λ rest h. subst (λ (rs : List (Joined AnswerTag)). AreAnswersOf rs rest) roots h;
+      answers = λ rest h. subst (λ (l : List AnswerView). AreAnswersOf c.args.roots.items (l ++ rest)) (sym c.new-answers.ensures.items)
+          (subst (λ (rs : List (Joined AnswerTag)). AreAnswersOf rs rest) roots h);
     }
 
 pub loop-root-preserved : goal.loop-root-preserved

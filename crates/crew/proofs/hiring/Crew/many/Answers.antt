@@ -14,7 +14,8 @@ take_on-requires-clause-pushed c = (first-has-none c.args.workers c.in_ok-hands.
 pub returns-clause-hands : goal.returns-clause-hands
 returns-clause-hands c =
     let idle = c.in_ok-hands.hands.items in
+    let tasks = c.in_ok-roots.tasks.items in
     let few : 1 ≤ c.args.workers = c.requires.workers.0 in
-    is_dealt (map arc_value c.args.plans.now) c.args.workers _ idle idle c.index_mut.result.now c.take_on.new.self c.in_ok-hands.ensures.idle refl few
-    c.in_ok-roots.ensures.tasks
-    (subst (λ (h : HandView). IsDealt _ h c.take_on.new.self) c.index_mut.ensures.value c.in_ok-take_on.ensures)
+    let all = rw c.as_slice.ensures at c.in_ok-roots.ensures.tasks in
+    is_dealt (map arc_value c.args.plans.now) c.args.workers tasks idle idle c.index_mut.result.now c.take_on.new.self c.in_ok-hands.ensures.idle refl few all
+    (subst (λ (h : HandView). IsDealt tasks h c.take_on.new.self) c.index_mut.ensures.value c.in_ok-take_on.ensures)
