@@ -14,7 +14,7 @@ use Rattle.seed_batch.specs.Batch.{main_answer, part, batch, batch_text}
 
 -- The answers of the roots of plans are main's
 
-meant : AnswerTag → AnswerView
+abbrev meant : AnswerTag → AnswerView
 meant t = record { plan = t.plan; origin = t.origin; out = (eval t.plan t.origin).items; outcome = outcome_of t.origin (eval t.plan t.origin).ending }
 
 is-meant : (t : AnswerTag) (out : List Event) (ended : Outcome) → IsEval t.plan t.origin out ended → record { plan = t.plan; origin = t.origin; out = out; outcome = ended } ≡ meant t
