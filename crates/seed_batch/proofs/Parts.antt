@@ -1,11 +1,16 @@
 -- What is printed of main's answers under a list of seeds.
-use Rattle.std.proofs.Common.{◌≡◌, ◌≤◌, ◌<◌, ◌+◌, ℕ, List, [], ◌∷◌, ◌++◌, map, length, drop, get_or, refl, sym, ap, ap₂, ◌∙◌, subst, append_assoc, append-nil}
+use Rattle.std.proofs.Common.{◌≡◌, ◌≤◌, ◌<◌, ◌+◌, ℕ, All, List, [], ◌∷◌, ◌++◌, Result, Ok, Err, map, length, drop, get_or, refl, sym, ap, ap₂, ◌∙◌, subst, append_assoc, append-nil}
 use Rattle.std.proofs.lemmas.List.{drop_more, drop_all}
+use Rattle.std.proofs.lemmas.List.Elements.{All-map}
 use Rattle.serial_meaning.specs.Plan.{PlanView}
-use Rattle.serial_meaning.specs.Eval.{eval, main_origin}
+use Rattle.serial_meaning.specs.Eval.{elision, eval, main_origin}
 use Rattle.serial_meaning.specs.Answer.{AnswerTag, AnswerView, IsEval, outcome_of}
-use Rattle.serial_meaning.specs.Render.{answer_text}
+use Rattle.serial_meaning.specs.Render.{IsWhole, answer_text}
+use Rattle.serial_meaning.specs.declared.value.Value.{Value}
+use Rattle.serial_meaning.specs.declared.event.Fault.{Fault}
 use Rattle.serial_meaning.specs.declared.event.Event.{Event}
+use Rattle.serial_meaning.specs.declared.origin.Origin.{Origin}
+use Rattle.serial_meaning.specs.declared.origin.Origin.TheVariants.{Instance, Loop}
 use Rattle.serial_meaning.specs.declared.answer.Outcome.{Outcome}
 use Rattle.meet_block.specs.Joined.{Joined}
 use Rattle.strand_machine.specs.Family.{tag}
@@ -33,6 +38,21 @@ of-plans (p ∷ ps) (a ∷ answers) h = ap₂ (λ x xs. x ∷ xs) (is-mains p a 
 pub all_are_mains : (plans : List PlanView) (roots : List (Joined AnswerTag)) (answers : List AnswerView) → roots ≡ map new_root plans → AreAnswersOf roots answers →
     answers ≡ map main_answer plans
 all_are_mains plans roots answers all h = of-plans plans answers (subst (λ (rs : List (Joined AnswerTag)). AreAnswersOf rs answers) all h)
+
+-- and none of main's answers is a cut
+whole : (o : Origin) (r : Result (List Value) Fault) → IsWhole (outcome_of o r)
+whole (Instance function args path) (Ok vs) = tt
+whole (Instance function args path) (Err f) = tt
+whole (Loop function rest first path range) (Ok vs) = tt
+whole (Loop function rest first path range) (Err f) = tt
+
+main-is-whole : (plan : PlanView) → IsWhole (main_answer plan).outcome
+main-is-whole plan = whole (main_origin plan) (elision plan).ending
+
+pub all_are_whole : (plans : List PlanView) (answers : List AnswerView) → answers ≡ map main_answer plans → All (λ (answer : AnswerView). IsWhole answer.outcome) answers
+all_are_whole plans answers e =
+    subst (All (λ (answer : AnswerView). IsWhole answer.outcome)) (sym e)
+    (All-map (λ (answer : AnswerView). IsWhole answer.outcome) main_answer plans (λ k d within. main-is-whole (get_or plans k d)))
 
 -- One part more is printed
 
