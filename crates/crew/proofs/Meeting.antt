@@ -1,46 +1,41 @@
 -- How the hands of a crew meet.
-use Rattle.std.proofs.Common.{◌≡◌, ◌≤◌, ◌+◌, ◌-◌, ◌<◌, ℕ, zero, suc, List, [], ◌∷◌, ◌++◌, Some, length, map, take, drop, set, get_or, refl, sym, ap, ◌∙◌, ap₂, append_assoc, append-nil, length-append, arith}
+use Rattle.std.proofs.Common.{◌≡◌, ◌≤◌, ◌+◌, ◌-◌, ◌<◌, ℕ, zero, suc, List, [], ◌∷◌, ◌++◌, Some, length, map, take, drop, set, get_or, refl, sym, ap, ◌∙◌, ap₂, subst, append_assoc, append-nil, length-append, arith}
 use Rattle.std.proofs.lemmas.List.{map_more, map-append, drop_more, get_or_at, length-map, length-take, take_at, drop_at}
 use Rattle.std.proofs.lemmas.List.Edits.{map_over_more}
 use Rattle.steal_deck.specs.Ends.{DeckId, ThiefEnd, new_owner, new_thief}
-use Rattle.serial_meaning.specs.Eval.{main_origin}
 use Rattle.serial_meaning.specs.Plan.{PlanView}
-use Rattle.serial_meaning.specs.declared.origin.Origin.{Origin}
-use Rattle.strand_machine.specs.Tasks.{TaskView, fresh}
-use Rattle.crew.specs.Crews.{AreNew, HaveMet, IsNewCrew, idle_hands, new_hand, thief_of, with_thief}
+use Rattle.strand_machine.specs.Tasks.{TaskView}
+use Rattle.crew.specs.Crews.{AreIdle, AreNew, HaveMet, IsCrewOf, IsDealt, IsNewCrew, FirstIsDealt, first_begins, idle_hands, new_hand, root_task, thief_of, with_thief}
 use Rattle.crew.specs.Hands.{HandView}
 
 -- a hand while the crew meets: so many thieves of its deck were made, and it has those of these decks
-abbrev pub meeting_hand : Origin → DeckId → ℕ → List DeckId → HandView
-meeting_hand root deck made others = record (new_hand root deck) { deck = record (new_owner deck) { made = made }; thieves = map new_thief others }
+abbrev pub meeting_hand : DeckId → ℕ → List DeckId → HandView
+meeting_hand deck made others = record (new_hand deck) { deck = record (new_owner deck) { made = made }; thieves = map new_thief others }
 
 -- the hands of these decks, which have no thieves yet
-abbrev pub unmet : Origin → ℕ → List DeckId → List HandView
-unmet root made decks = map (λ deck. meeting_hand root deck made []) decks
+abbrev pub unmet : ℕ → List DeckId → List HandView
+unmet made decks = map (λ deck. meeting_hand deck made []) decks
 
 -- those of these decks, which have theirs, between the decks before them and after them
-abbrev pub met : Origin → ℕ → List DeckId → List DeckId → List DeckId → List HandView
-met root made before [] behind = []
-met root made before (deck ∷ decks) behind = meeting_hand root deck made ((decks ++ behind) ++ before) ∷ met root made (before ++ deck ∷ []) decks behind
+abbrev pub met : ℕ → List DeckId → List DeckId → List DeckId → List HandView
+met made before [] behind = []
+met made before (deck ∷ decks) behind = meeting_hand deck made ((decks ++ behind) ++ before) ∷ met made (before ++ deck ∷ []) decks behind
 
 -- so many of the hands have met the others
-pub record IsMeeting (root : Origin) (decks : List DeckId) (own : ℕ) (hands : List HandView) : Type 0 where
+pub record IsMeeting (decks : List DeckId) (own : ℕ) (hands : List HandView) : Type 0 where
   pub front : List DeckId
   pub back : List DeckId
   pub decks_are : decks ≡ front ++ back
   pub count : length front ≡ own
-  pub are : hands ≡ met root (own - 1) [] front back ++ unmet root own back
+  pub are : hands ≡ met (own - 1) [] front back ++ unmet own back
 
 -- New hands
 
-pub one-more : (root origin : Origin) (workers : ℕ) (hands : List HandView) (h : HandView) → AreNew root workers hands → h ≡ new_hand origin h.deck.deck → origin ≡ root →
-    AreNew root (workers + 1) (hands ++ h ∷ [])
-one-more root origin workers hands h (decks, n, are) is same = (
+pub one-more : (workers : ℕ) (hands : List HandView) (h : HandView) → AreNew workers hands → h ≡ new_hand h.deck.deck → AreNew (workers + 1) (hands ++ h ∷ [])
+one-more workers hands h (decks, n, are) is = (
   decks ++ h.deck.deck ∷ [],
   length-append decks (h.deck.deck ∷ []) ∙ ap (λ k. k + 1) n,
-  ap (λ l. l ++ h ∷ []) are
-      ∙ ap (λ x. map (new_hand root) decks ++ x ∷ []) (is ∙ ap (λ o. new_hand o h.deck.deck) same)
-      ∙ sym (map-append (new_hand root) decks (h.deck.deck ∷ [])),
+  ap (λ l. l ++ h ∷ []) are ∙ ap (λ x. map new_hand decks ++ x ∷ []) is ∙ sym (map-append new_hand decks (h.deck.deck ∷ [])),
 )
 
 -- One thief more of each
@@ -64,88 +59,88 @@ hands-more xs ys i d h lt e is made = ap (set ys i) (made ∙ ap with_thief (sym
 
 -- What a hand's turn to meet the others makes
 
-thief-made : (root : Origin) (made : ℕ) (deck : DeckId) (others : List DeckId) → with_thief (meeting_hand root deck made others) ≡ meeting_hand root deck (made + 1) others
-thief-made root made deck others = refl
+thief-made : (made : ℕ) (deck : DeckId) (others : List DeckId) → with_thief (meeting_hand deck made others) ≡ meeting_hand deck (made + 1) others
+thief-made made deck others = refl
 
-unmet-thief : (root : Origin) (made : ℕ) (decks : List DeckId) → map with_thief (unmet root made decks) ≡ unmet root (made + 1) decks
-unmet-thief root made [] = refl
-unmet-thief root made (d ∷ ds) = ap (λ hs. meeting_hand root d (made + 1) [] ∷ hs) (unmet-thief root made ds)
+unmet-thief : (made : ℕ) (decks : List DeckId) → map with_thief (unmet made decks) ≡ unmet (made + 1) decks
+unmet-thief made [] = refl
+unmet-thief made (d ∷ ds) = ap (λ hs. meeting_hand d (made + 1) [] ∷ hs) (unmet-thief made ds)
 
-met-thief : (root : Origin) (made : ℕ) (before decks behind : List DeckId) → map with_thief (met root made before decks behind) ≡ met root (made + 1) before decks behind
-met-thief root made before [] behind = refl
-met-thief root made before (d ∷ ds) behind = ap (λ hs. meeting_hand root d (made + 1) ((ds ++ behind) ++ before) ∷ hs) (met-thief root made (before ++ d ∷ []) ds behind)
+met-thief : (made : ℕ) (before decks behind : List DeckId) → map with_thief (met made before decks behind) ≡ met (made + 1) before decks behind
+met-thief made before [] behind = refl
+met-thief made before (d ∷ ds) behind = ap (λ hs. meeting_hand d (made + 1) ((ds ++ behind) ++ before) ∷ hs) (met-thief made (before ++ d ∷ []) ds behind)
 
-unmet-decks : (root : Origin) (made : ℕ) (decks : List DeckId) → map thief_of (unmet root made decks) ≡ map new_thief decks
-unmet-decks root made [] = refl
-unmet-decks root made (d ∷ ds) = ap (λ l. new_thief d ∷ l) (unmet-decks root made ds)
+unmet-decks : (made : ℕ) (decks : List DeckId) → map thief_of (unmet made decks) ≡ map new_thief decks
+unmet-decks made [] = refl
+unmet-decks made (d ∷ ds) = ap (λ l. new_thief d ∷ l) (unmet-decks made ds)
 
-met-decks : (root : Origin) (made : ℕ) (before decks behind : List DeckId) → map thief_of (met root made before decks behind) ≡ map new_thief decks
-met-decks root made before [] behind = refl
-met-decks root made before (d ∷ ds) behind = ap (λ l. new_thief d ∷ l) (met-decks root made (before ++ d ∷ []) ds behind)
+met-decks : (made : ℕ) (before decks behind : List DeckId) → map thief_of (met made before decks behind) ≡ map new_thief decks
+met-decks made before [] behind = refl
+met-decks made before (d ∷ ds) behind = ap (λ l. new_thief d ∷ l) (met-decks made (before ++ d ∷ []) ds behind)
 
-met-count : (root : Origin) (made : ℕ) (before decks behind : List DeckId) → length (met root made before decks behind) ≡ length decks
-met-count root made before [] behind = refl
-met-count root made before (d ∷ ds) behind = ap (λ n. suc n) (met-count root made (before ++ d ∷ []) ds behind)
+met-count : (made : ℕ) (before decks behind : List DeckId) → length (met made before decks behind) ≡ length decks
+met-count made before [] behind = refl
+met-count made before (d ∷ ds) behind = ap (λ n. suc n) (met-count made (before ++ d ∷ []) ds behind)
 
 -- the next one joins those that have met
-met-next : (root : Origin) (made : ℕ) (before front : List DeckId) (deck : DeckId) (back : List DeckId) →
-    met root made before (front ++ deck ∷ []) back ≡ met root made before front (deck ∷ back) ++ meeting_hand root deck made (back ++ (before ++ front)) ∷ []
-met-next root made before [] deck back = ap (λ l. meeting_hand root deck made (back ++ l) ∷ []) (sym (append-nil before))
-met-next root made before (d ∷ ds) deck back =
-    ap₂ (λ l hs. meeting_hand root d made (l ++ before) ∷ hs) (append_assoc ds (deck ∷ []) back)
-    (met-next root made (before ++ d ∷ []) ds deck back
-    ∙ ap (λ l. met root made (before ++ d ∷ []) ds (deck ∷ back) ++ meeting_hand root deck made (back ++ l) ∷ []) (append_assoc before (d ∷ []) ds))
+met-next : (made : ℕ) (before front : List DeckId) (deck : DeckId) (back : List DeckId) →
+    met made before (front ++ deck ∷ []) back ≡ met made before front (deck ∷ back) ++ meeting_hand deck made (back ++ (before ++ front)) ∷ []
+met-next made before [] deck back = ap (λ l. meeting_hand deck made (back ++ l) ∷ []) (sym (append-nil before))
+met-next made before (d ∷ ds) deck back =
+    ap₂ (λ l hs. meeting_hand d made (l ++ before) ∷ hs) (append_assoc ds (deck ∷ []) back)
+    (met-next made (before ++ d ∷ []) ds deck back
+    ∙ ap (λ l. met made (before ++ d ∷ []) ds (deck ∷ back) ++ meeting_hand deck made (back ++ l) ∷ []) (append_assoc before (d ∷ []) ds))
 
 -- all have met
-met-all : (root : Origin) (made : ℕ) (before decks : List DeckId) → made ≡ (length before + length decks) - 1 → met root made before decks [] ≡ idle_hands root before decks
-met-all root made before [] e = refl
-met-all root made before (d ∷ ds) e =
+met-all : (made : ℕ) (before decks : List DeckId) → made ≡ (length before + length decks) - 1 → met made before decks [] ≡ idle_hands before decks
+met-all made before [] e = refl
+met-all made before (d ∷ ds) e =
     ap₂ (λ h hs. h ∷ hs)
-    (ap₂ (λ n l. meeting_hand root d n (l ++ before)) (e ∙ omega (arith, length-append ds before)) (append-nil ds))
-    (met-all root made (before ++ d ∷ []) ds (e ∙ omega (arith, length-append before (d ∷ []))))
+    (ap₂ (λ n l. meeting_hand d n (l ++ before)) (e ∙ omega (arith, length-append ds before)) (append-nil ds))
+    (met-all made (before ++ d ∷ []) ds (e ∙ omega (arith, length-append before (d ∷ []))))
 
 -- One hand more has met the others.
 
-pub starts-meeting : (root : Origin) (decks : List DeckId) (hands : List HandView) → hands ≡ map (new_hand root) decks → IsMeeting root decks 0 hands
-starts-meeting root decks hands e = record { front = []; back = decks; decks_are = refl; count = refl; are = e ∙ still decks }
+pub starts-meeting : (decks : List DeckId) (hands : List HandView) → hands ≡ map new_hand decks → IsMeeting decks 0 hands
+starts-meeting decks hands e = record { front = []; back = decks; decks_are = refl; count = refl; are = e ∙ still decks }
   where
-    still : (ds : List DeckId) → map (new_hand root) ds ≡ unmet root 0 ds
+    still : (ds : List DeckId) → map new_hand ds ≡ unmet 0 ds
     still [] = refl
-    still (d ∷ ds) = ap (λ hs. new_hand root d ∷ hs) (still ds)
+    still (d ∷ ds) = ap (λ hs. new_hand d ∷ hs) (still ds)
 
-module _ (root : Origin) (own : ℕ) (decks : List DeckId) (hands front rest one back front' back' : List HandView) (d h : HandView) (m : IsMeeting root decks own hands) (lt : own < length hands)
+module _ (own : ℕ) (decks : List DeckId) (hands front rest one back front' back' : List HandView) (d h : HandView) (m : IsMeeting decks own hands) (lt : own < length hands)
     (in-front : front ≡ take own hands) (in-rest : rest ≡ drop own hands) (is-one : one ≡ take 1 rest) (in-back : back ≡ drop 1 rest)
     (front-is : front' ≡ map with_thief front) (hand-is : h ≡ record (get_or one 0 d) { thieves = map thief_of back ++ map thief_of front }) (back-is : back' ≡ map with_thief back) where
   abbrev P : List HandView
-  P = met root (own - 1) [] m.front m.back
+  P = met (own - 1) [] m.front m.back
 
   long : length P ≡ own
-  long = met-count root (own - 1) [] m.front m.back ∙ m.count
+  long = met-count (own - 1) [] m.front m.back ∙ m.count
 
   front-was : front ≡ P
-  front-was = in-front ∙ ap (take own) m.are ∙ take_at P (unmet root own m.back) own long
+  front-was = in-front ∙ ap (take own) m.are ∙ take_at P (unmet own m.back) own long
 
-  rest-was : rest ≡ unmet root own m.back
-  rest-was = in-rest ∙ ap (drop own) m.are ∙ drop_at P (unmet root own m.back) own long
+  rest-was : rest ≡ unmet own m.back
+  rest-was = in-rest ∙ ap (drop own) m.are ∙ drop_at P (unmet own m.back) own long
 
   -- those before it have one thief more, unless there are none
-  made-more : (n : ℕ) (ds : List DeckId) → length ds ≡ n → map with_thief (met root (n - 1) [] ds m.back) ≡ met root n [] ds m.back
+  made-more : (n : ℕ) (ds : List DeckId) → length ds ≡ n → map with_thief (met (n - 1) [] ds m.back) ≡ met n [] ds m.back
   made-more zero [] e = refl
   made-more zero (x ∷ xs) e = absurd (omega (arith, e))
-  made-more (suc n) ds e = met-thief root (suc n - 1) [] ds m.back ∙ ap (λ k. met root k [] ds m.back) (omega arith)
+  made-more (suc n) ds e = met-thief (suc n - 1) [] ds m.back ∙ ap (λ k. met k [] ds m.back) (omega arith)
 
-  from : (b : DeckId) (bs : List DeckId) → m.back ≡ b ∷ bs → IsMeeting root decks (own + 1) (front' ++ (set one 0 h ++ back'))
+  from : (b : DeckId) (bs : List DeckId) → m.back ≡ b ∷ bs → IsMeeting decks (own + 1) (front' ++ (set one 0 h ++ back'))
   from b bs e =
-      let r : rest ≡ meeting_hand root b own [] ∷ unmet root own bs = rest-was ∙ ap (unmet root own) e in
-      let bk : back ≡ unmet root own bs = in-back ∙ ap (drop 1) r in
-      let on : one ≡ meeting_hand root b own [] ∷ [] = is-one ∙ ap (take 1) r in
-      let hd : h ≡ meeting_hand root b own (bs ++ m.front) =
+      let r : rest ≡ meeting_hand b own [] ∷ unmet own bs = rest-was ∙ ap (unmet own) e in
+      let bk : back ≡ unmet own bs = in-back ∙ ap (drop 1) r in
+      let on : one ≡ meeting_hand b own [] ∷ [] = is-one ∙ ap (take 1) r in
+      let hd : h ≡ meeting_hand b own (bs ++ m.front) =
       hand-is
       ∙ ap₂ (λ (o : List HandView) (l : List (ThiefEnd TaskView)). record (get_or o 0 d) { thieves = l }) on
-      (ap₂ (λ (x y : List (ThiefEnd TaskView)). x ++ y) (ap (map thief_of) bk ∙ unmet-decks root own bs) (ap (map thief_of) front-was ∙ met-decks root (own - 1) [] m.front m.back) ∙ sym (map-append new_thief bs m.front)) in
-      let fr : front' ≡ met root own [] m.front (b ∷ bs) =
-      front-is ∙ ap (map with_thief) front-was ∙ made-more own m.front m.count ∙ ap (met root own [] m.front) e in
-      let bk' : back' ≡ unmet root (own + 1) bs = back-is ∙ ap (map with_thief) bk ∙ unmet-thief root own bs in
+      (ap₂ (λ (x y : List (ThiefEnd TaskView)). x ++ y) (ap (map thief_of) bk ∙ unmet-decks own bs) (ap (map thief_of) front-was ∙ met-decks (own - 1) [] m.front m.back) ∙ sym (map-append new_thief bs m.front)) in
+      let fr : front' ≡ met own [] m.front (b ∷ bs) =
+      front-is ∙ ap (map with_thief) front-was ∙ made-more own m.front m.count ∙ ap (met own [] m.front) e in
+      let bk' : back' ≡ unmet (own + 1) bs = back-is ∙ ap (map with_thief) bk ∙ unmet-thief own bs in
       record {
         front = m.front ++ b ∷ [];
         back = bs;
@@ -153,48 +148,76 @@ module _ (root : Origin) (own : ℕ) (decks : List DeckId) (hands front rest one
         count = length-append m.front (b ∷ []) ∙ ap (λ n. n + 1) m.count;
         are =
             ap₂ (λ x y. x ++ y) fr (ap₂ (λ (o : List HandView) y. set o 0 h ++ y) on bk')
-            ∙ ap (λ x. met root own [] m.front (b ∷ bs) ++ x ∷ unmet root (own + 1) bs) hd
-            ∙ sym (append_assoc (met root own [] m.front (b ∷ bs)) (meeting_hand root b own (bs ++ m.front) ∷ []) (unmet root (own + 1) bs))
-            ∙ ap (λ l. l ++ unmet root (own + 1) bs) (sym (met-next root own [] m.front b bs))
-            ∙ ap (λ k. met root k [] (m.front ++ b ∷ []) bs ++ unmet root (own + 1) bs) (omega arith);
+            ∙ ap (λ x. met own [] m.front (b ∷ bs) ++ x ∷ unmet (own + 1) bs) hd
+            ∙ sym (append_assoc (met own [] m.front (b ∷ bs)) (meeting_hand b own (bs ++ m.front) ∷ []) (unmet (own + 1) bs))
+            ∙ ap (λ l. l ++ unmet (own + 1) bs) (sym (met-next own [] m.front b bs))
+            ∙ ap (λ k. met k [] (m.front ++ b ∷ []) bs ++ unmet (own + 1) bs) (omega arith);
       }
 
-  pub meets-next : IsMeeting root decks (own + 1) (front' ++ (set one 0 h ++ back'))
+  pub meets-next : IsMeeting decks (own + 1) (front' ++ (set one 0 h ++ back'))
   meets-next = by_back m.back refl
     where
-      by_back : (l : List DeckId) → m.back ≡ l → IsMeeting root decks (own + 1) (front' ++ (set one 0 h ++ back'))
+      by_back : (l : List DeckId) → m.back ≡ l → IsMeeting decks (own + 1) (front' ++ (set one 0 h ++ back'))
       by_back [] e =
-          absurd (omega (arith, lt, ap length m.are ∙ length-append P (unmet root own m.back) ∙ ap (λ l. length P + length (unmet root own l)) e, long))
+          absurd (omega (arith, lt, ap length m.are ∙ length-append P (unmet own m.back) ∙ ap (λ l. length P + length (unmet own l)) e, long))
       by_back (b ∷ bs) e = from b bs e
 
-pub all-meet : (root : Origin) (own : ℕ) (decks : List DeckId) (hands : List HandView) → IsMeeting root decks own hands → length hands ≤ own → hands ≡ idle_hands root [] decks
-all-meet root own decks hands m full = by_back m.back refl
+pub all-meet : (own : ℕ) (decks : List DeckId) (hands : List HandView) → IsMeeting decks own hands → length hands ≤ own → hands ≡ idle_hands [] decks
+all-meet own decks hands m full = by_back m.back refl
   where
-    by_back : (l : List DeckId) → m.back ≡ l → hands ≡ idle_hands root [] decks
+    by_back : (l : List DeckId) → m.back ≡ l → hands ≡ idle_hands [] decks
     by_back [] e =
         m.are
-        ∙ ap (λ l. met root (own - 1) [] m.front l ++ unmet root own l) e
-        ∙ append-nil (met root (own - 1) [] m.front [])
-        ∙ met-all root (own - 1) [] m.front (omega (arith, m.count))
-        ∙ ap (idle_hands root []) (sym (m.decks_are ∙ ap (λ l. m.front ++ l) e ∙ append-nil m.front))
+        ∙ ap (λ l. met (own - 1) [] m.front l ++ unmet own l) e
+        ∙ append-nil (met (own - 1) [] m.front [])
+        ∙ met-all (own - 1) [] m.front (omega (arith, m.count))
+        ∙ ap (idle_hands []) (sym (m.decks_are ∙ ap (λ l. m.front ++ l) e ∙ append-nil m.front))
     by_back (b ∷ bs) e =
         absurd
         (omega
-        (arith, full, ap length m.are ∙ length-append (met root (own - 1) [] m.front m.back) (unmet root own m.back) ∙ ap (λ l. length (met root (own - 1) [] m.front m.back) + length (unmet root own l)) e, met-count root (own - 1) [] m.front m.back ∙ m.count))
+        (arith, full, ap length m.are ∙ length-append (met (own - 1) [] m.front m.back) (unmet own m.back) ∙ ap (λ l. length (met (own - 1) [] m.front m.back) + length (unmet own l)) e, met-count (own - 1) [] m.front m.back ∙ m.count))
+
+pub are-idle : (workers : ℕ) (new met : List HandView) → AreNew workers new → HaveMet new met → AreIdle workers met
+are-idle workers new met (decks, n, are) have = (decks, n, have decks are)
+
+idle-count : (before decks : List DeckId) → length (idle_hands before decks) ≡ length decks
+idle-count before [] = refl
+idle-count before (d ∷ ds) = ap (λ n. suc n) (idle-count (before ++ d ∷ []) ds)
+
+pub as-many : (workers : ℕ) (hands : List HandView) → AreIdle workers hands → length hands ≡ workers
+as-many workers hands (decks, n, are) = ap length are ∙ idle-count [] decks ∙ n
 
 -- The first hand begins
 
-pub begins : (plan : PlanView) (workers : ℕ) (new met now : List HandView) (d h : HandView) → AreNew (main_origin plan) workers new → HaveMet new met → now ≡ met → 1 ≤ workers →
-    h ≡ record (get_or now 0 d) { current = Some (fresh plan (main_origin plan)) } → IsNewCrew plan workers (set now 0 h)
-begins plan workers new met now d h (decks, n, are) have same few is = by_decks decks n (same ∙ have (main_origin plan) decks are)
-  where
-    root : Origin
-    root = main_origin plan
+some-are : (workers : ℕ) (hands : List HandView) → AreIdle workers hands → 1 ≤ workers → hands ≡ [] → ⊥
+some-are workers hands are few e = omega (arith, few, as-many workers hands are, ap length e)
 
-    by_decks : (ds : List DeckId) → length ds ≡ workers → now ≡ idle_hands root [] ds → IsNewCrew plan workers (set now 0 h)
-    by_decks [] e all = absurd (omega (arith, few, e))
-    by_decks (x ∷ xs) e all = (
-      x ∷ xs,
-      e,
-      ap₂ (λ l y. set l 0 y) all (is ∙ ap (λ (l : List HandView). record (get_or l 0 d) { current = Some (fresh plan root) }) all),
-    )
+pub begins : (plan : PlanView) (workers : ℕ) (idle now : List HandView) (d h : HandView) → AreIdle workers idle → now ≡ idle → 1 ≤ workers →
+    h ≡ record (get_or now 0 d) { current = Some (root_task plan) } → IsNewCrew plan workers (set now 0 h)
+begins plan workers idle now d h are same few is = (idle, are, by_hands idle same (some-are workers idle are few))
+  where
+    by_hands : (hs : List HandView) → now ≡ hs → (hs ≡ [] → ⊥) → set now 0 h ≡ first_begins (root_task plan) hs
+    by_hands [] e some = absurd (some refl)
+    by_hands (x ∷ xs) e some = ap₂ (λ (l : List HandView) y. set l 0 y) e (is ∙ ap (λ (l : List HandView). record (get_or l 0 d) { current = Some (root_task plan) }) e)
+
+-- or is dealt the root tasks, when it has none
+
+abbrev HasNone : HandView → Type 0
+HasNone h = (h.kept ≡ []) × (h.deck.pushed ≡ [])
+
+pub first-has-none : (workers : ℕ) (hands : List HandView) (d h : HandView) → AreIdle workers hands → 1 ≤ workers → h ≡ get_or hands 0 d → (h.kept ≡ []) × (h.deck.pushed ≡ [])
+first-has-none workers hands d h (decks, n, are) few is = subst HasNone (sym (is ∙ ap (λ (l : List HandView). get_or l 0 d) are)) (by_decks decks n)
+  where
+    by_decks : (ds : List DeckId) → length ds ≡ workers → HasNone (get_or (idle_hands [] ds) 0 d)
+    by_decks [] m = absurd (omega (arith, few, m))
+    by_decks (x ∷ xs) m = (refl, refl)
+
+pub is_dealt : (plans : List PlanView) (workers : ℕ) (tasks : List TaskView) (idle now : List HandView) (d h : HandView) → AreIdle workers idle → now ≡ idle → 1 ≤ workers →
+    tasks ≡ map root_task plans → IsDealt tasks (get_or now 0 d) h → IsCrewOf plans workers (set now 0 h)
+is_dealt plans workers tasks idle now d h are same few all is = (idle, are, by_hands idle same (some-are workers idle are few))
+  where
+    by_hands : (hs : List HandView) → now ≡ hs → (hs ≡ [] → ⊥) → FirstIsDealt (map root_task plans) hs (set now 0 h)
+    by_hands [] e some = absurd (some refl)
+    by_hands (x ∷ xs) e some =
+        subst (λ (l : List HandView). FirstIsDealt (map root_task plans) (x ∷ xs) (set l 0 h)) (sym e)
+        (subst (λ (l : List HandView). IsDealt (map root_task plans) (get_or l 0 d) h) e (subst (λ (ts : List TaskView). IsDealt ts (get_or now 0 d) h) all is), refl)

@@ -7,7 +7,6 @@ use Rattle.std.proofs.Crossing.{Arc-send, Box-send, Vec-send, Vec-sync, Deque-se
 use Rattle.std.proofs.option.Option.TheSendSync as option_shared
 use Rattle.crossbeam_utils.proofs.cache_padded.CachePadded.TheSendSync as padded_shared
 use Rattle.serial_meaning.proofs.Shares.{known_sends, known_syncs}
-use Rattle.serial_meaning.proofs.origin.Origin.TheSendSync as origin_shared
 use Rattle.serial_meaning.specs.contracts.known.Known as known
 use Rattle.steal_deck.proofs.deck.Deck.TheSendSync as deck_shared
 use Rattle.steal_deck.proofs.thief.Thief.TheSendSync as thief_shared
@@ -41,17 +40,14 @@ faults_sends = declared_send faults.the_type (
 
 held_sends : IsSend held.the_row
 held_sends = declared_send held.the_type (
-  origin_shared.the_send,
+  option_shared.the_send task.the_row task_sends,
   (
-    option_shared.the_send task.the_row task_sends,
+    Vec-send task.the_row task_sends,
     (
-      Vec-send task.the_row task_sends,
+      deck_shared.the_send task.the_row task_sends,
       (
-        deck_shared.the_send task.the_row task_sends,
-        (
-          Deque-send parked.the_row parked_sends,
-          (Vec-send (thief.the_row task.the_row) (thief_shared.the_send task.the_row task_sends), (faults_sends, tt)),
-        ),
+        Deque-send parked.the_row parked_sends,
+        (Vec-send (thief.the_row task.the_row) (thief_shared.the_send task.the_row task_sends), (faults_sends, tt)),
       ),
     ),
   ),

@@ -1,26 +1,34 @@
 -- How a crew begins.
-use Rattle.std.specs.Prelude.{◌≡◌, ℕ, ◌+◌, List, [], ◌∷◌, ◌++◌, Some, None, length, map}
-use Rattle.serial_meaning.specs.Answer.{AnswerTag}
+use Rattle.std.specs.Prelude.{◌≡◌, ◌≤◌, ◌⊎◌, ℕ, ◌+◌, List, [], ◌∷◌, ◌++◌, false, Some, None, length, map, reverse}
+use Rattle.serial_meaning.specs.Answer.{AnswerTag, AnswerView, IsEval}
 use Rattle.serial_meaning.specs.Eval.{main_origin}
 use Rattle.serial_meaning.specs.Plan.{PlanView}
-use Rattle.serial_meaning.specs.declared.origin.Origin.{Origin}
 use Rattle.steal_deck.specs.Ends.{DeckId, ThiefEnd, new_owner, new_thief}
+use Rattle.meet_block.specs.Joined.{Joined, joined}
+use Rattle.strand_machine.specs.Family.{tag}
 use Rattle.strand_machine.specs.Tasks.{TaskView, fresh}
-use Rattle.crew.specs.Hands.{HandView}
+use Rattle.crew.specs.Hands.{HandView, IsRoots}
 
 -- These are the tags of one child, which is main.
 abbrev pub IsMainAlone : List AnswerTag → Type 0
 IsMainAlone [] = ⊥
-IsMainAlone (t ∷ []) = t.origin ≡ main_origin t.plan
+IsMainAlone (t ∷ []) = IsRoots t
 IsMainAlone (t ∷ u ∷ us) = ⊥
 
+-- the root of a plan, whose answer wasn't put, and its task
+abbrev pub new_root : PlanView → Joined AnswerTag
+new_root plan = joined (tag plan (main_origin plan) ∷ []) (false ∷ []) false []
+
+abbrev pub root_task : PlanView → TaskView
+root_task plan = fresh plan (main_origin plan)
+
 -- a hand that has nothing, and no thieves
-abbrev pub new_hand : Origin → DeckId → HandView
-new_hand root deck = record { root = root; current = None; kept = []; deck = new_owner deck; ring = []; thieves = [] }
+abbrev pub new_hand : DeckId → HandView
+new_hand deck = record { current = None; kept = []; deck = new_owner deck; ring = []; thieves = [] }
 
 -- so many of them
-abbrev pub AreNew : Origin → ℕ → List HandView → Type 0
-AreNew root workers hands = (decks : List DeckId) × (length decks ≡ workers) × (hands ≡ map (new_hand root) decks)
+abbrev pub AreNew : ℕ → List HandView → Type 0
+AreNew workers hands = (decks : List DeckId) × (length decks ≡ workers) × (hands ≡ map new_hand decks)
 
 -- a thief of the hand's deck
 abbrev pub thief_of : HandView → ThiefEnd TaskView
@@ -31,9 +39,8 @@ abbrev pub with_thief : HandView → HandView
 with_thief h = record h { deck = record h.deck { made = h.deck.made + 1 } }
 
 -- A hand without a task. It has a thief of each of these other decks, and each of their hands has one of its own.
-abbrev pub idle_hand : Origin → DeckId → List DeckId → HandView
-idle_hand root deck others = record {
-  root = root;
+abbrev pub idle_hand : DeckId → List DeckId → HandView
+idle_hand deck others = record {
   current = None;
   kept = [];
   deck = record (new_owner deck) { made = length others };
@@ -42,13 +49,17 @@ idle_hand root deck others = record {
 }
 
 -- The hands with these decks, which stand after those with the decks `before`. Each has its thieves from the next hand upwards and round.
-abbrev pub idle_hands : Origin → List DeckId → List DeckId → List HandView
-idle_hands root before [] = []
-idle_hands root before (deck ∷ decks) = idle_hand root deck (decks ++ before) ∷ idle_hands root (before ++ deck ∷ []) decks
+abbrev pub idle_hands : List DeckId → List DeckId → List HandView
+idle_hands before [] = []
+idle_hands before (deck ∷ decks) = idle_hand deck (decks ++ before) ∷ idle_hands (before ++ deck ∷ []) decks
+
+-- so many hands that have met, each without a task
+abbrev pub AreIdle : ℕ → List HandView → Type 0
+AreIdle workers hands = (decks : List DeckId) × (length decks ≡ workers) × (hands ≡ idle_hands [] decks)
 
 -- Each of these new hands has its thieves of the others' decks.
 abbrev pub HaveMet : List HandView → List HandView → Type 0
-HaveMet old new = (root : Origin) (decks : List DeckId) → old ≡ map (new_hand root) decks → new ≡ idle_hands root [] decks
+HaveMet old new = (decks : List DeckId) → old ≡ map new_hand decks → new ≡ idle_hands [] decks
 
 -- The first of these hands has this task.
 abbrev pub first_begins : TaskView → List HandView → List HandView
@@ -57,5 +68,28 @@ first_begins task (h ∷ hs) = record h { current = Some task } ∷ hs
 
 -- A crew of so many hands before its first turn: main's task is the first hand's, and there is no other.
 abbrev pub IsNewCrew : PlanView → ℕ → List HandView → Type 0
-IsNewCrew plan workers hands =
-    (decks : List DeckId) × (length decks ≡ workers) × (hands ≡ first_begins (fresh plan (main_origin plan)) (idle_hands (main_origin plan) [] decks))
+IsNewCrew plan workers hands = (idle : List HandView) × AreIdle workers idle × (hands ≡ first_begins (root_task plan) idle)
+
+-- These tasks were put after all others of a hand that had none, the last of them first: each was pushed on its deck, but from the first push
+-- on that was refused they stand in its private list. No push among the first 64 is refused.
+pub record IsDealt (tasks : List TaskView) (old new : HandView) : Type 0 where
+  pub all : new.deck.pushed ++ new.kept ≡ reverse tasks
+  pub refused : (new.kept ≡ []) ⊎ (64 ≤ length new.deck.pushed)
+  pub same : new ≡ record old { kept = new.kept; deck = record old.deck { pushed = new.deck.pushed } }
+
+-- The first of these hands was dealt these tasks.
+abbrev pub FirstIsDealt : List TaskView → List HandView → List HandView → Type 0
+FirstIsDealt tasks [] new = new ≡ []
+FirstIsDealt tasks (h ∷ hs) [] = ⊥
+FirstIsDealt tasks (h ∷ hs) (first ∷ others) = IsDealt tasks h first × (others ≡ hs)
+
+-- A crew of so many hands before its first turn, with a root of each plan: the root tasks are the first hand's, the first plan's to be taken
+-- up first, and there is no other.
+abbrev pub IsCrewOf : List PlanView → ℕ → List HandView → Type 0
+IsCrewOf plans workers hands = (idle : List HandView) × AreIdle workers idle × FirstIsDealt (map root_task plans) idle hands
+
+-- Each of these is the answer of a root: it has its tag, and is no cut but the serial meaning.
+abbrev pub AreAnswersOf : List (Joined AnswerTag) → List AnswerView → Type 0
+AreAnswersOf [] answers = answers ≡ []
+AreAnswersOf (r ∷ rs) [] = ⊥
+AreAnswersOf (r ∷ rs) (a ∷ answers) = (r.tags ≡ tag a.plan a.origin ∷ []) × IsEval a.plan a.origin a.out a.outcome × AreAnswersOf rs answers

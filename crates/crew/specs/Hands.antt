@@ -1,8 +1,8 @@
 -- What contracts see of a hand, and what a turn makes of it.
 use Rattle.std.specs.Prelude.{◌≡◌, ℕ, ◌<◌, ◌≤◌, ◌⊎◌, slice_index_or, false, List, [], ◌∷◌, ◌++◌, Option, Some, None, length}
 use Rattle.serial_meaning.specs.Answer.{AnswerView, AnswerTag, IsCut}
+use Rattle.serial_meaning.specs.Eval.{main_origin}
 use Rattle.serial_meaning.specs.declared.event.Fault.{Fault}
-use Rattle.serial_meaning.specs.declared.origin.Origin.{Origin}
 use Rattle.steal_deck.specs.Ends.{OwnerEnd, ThiefEnd, risen, Pushes, Pops, FindsNone, Steals}
 use Rattle.strand_machine.specs.Family.{tag}
 use Rattle.strand_machine.specs.Stops.{IsResumed, Advances as AdvancesTo}
@@ -19,9 +19,8 @@ use Rattle.crew.specs.declared.hand.Turn.{Turn}
 use Rattle.crew.specs.declared.hand.Turn.TheVariants.{Ran, Answered, Ended, Popped, Resumed as ResumedOne, Waiting, Stole, Idle}
 
 -- A hand's tasks: the current one; its deck, by the owner's end, with the private list after it; the ring of those that wait; and its ends of
--- the other hands' decks. The root is the origin whose answer ends the run.
+-- the other hands' decks.
 pub record HandView : Type 0 where
-  pub root : Origin
   pub current : Option TaskView
   pub kept : List TaskView
   pub deck : OwnerEnd TaskView
@@ -29,7 +28,7 @@ pub record HandView : Type 0 where
   pub thieves : List (ThiefEnd TaskView)
 
 abbrev pub view_of : Held → HandView
-view_of h = record { root = h.root; current = h.current; kept = h.kept.items; deck = h.deck; ring = h.ring.items; thieves = h.thieves.items }
+view_of h = record { current = h.current; kept = h.kept.items; deck = h.deck; ring = h.ring.items; thieves = h.thieves.items }
 
 -- The steps of a turn
 
@@ -47,11 +46,15 @@ Runs (stop.Spawn child rest) old new =
 Runs (stop.Wait rest) old new = new ≡ record old { current = None; ring = old.ring ++ rest ∷ [] }
 Runs (stop.Done answer give) old new = ⊥
 
--- The answer for this tag was put, the root's or another's.
-abbrev pub IsAnswered : Origin → AnswerTag → Turn → Type 0
-IsAnswered root asked (Answered arrived) = (arrived ≡ asked) × (asked.origin ≡ root → ⊥)
-IsAnswered root asked (Ended arrived) = (arrived ≡ asked) × (asked.origin ≡ root)
-IsAnswered root asked _ = ⊥
+-- It is a root's tag: main's of its plan. All other origins of a plan are children of others.
+abbrev pub IsRoots : AnswerTag → Type 0
+IsRoots asked = asked.origin ≡ main_origin asked.plan
+
+-- The answer for this tag was put, a root's or another's.
+abbrev pub IsAnswered : AnswerTag → Turn → Type 0
+IsAnswered asked (Answered arrived) = (arrived ≡ asked) × (IsRoots asked → ⊥)
+IsAnswered asked (Ended arrived) = (arrived ≡ asked) × IsRoots asked
+IsAnswered asked _ = ⊥
 
 -- The task came to its end.
 abbrev pub HasEnded : TaskView → Type 0
@@ -63,7 +66,7 @@ abbrev pub MayBeCut : TaskView → Type 0
 MayBeCut t = (by : Fault) × (t.task.advanced ≡ false) × IsCut t.task.plan t.task.origin by
 
 abbrev pub Ends : TaskView → HandView → Turn → HandView → Type 0
-Ends t old turn new = (HasEnded t ⊎ MayBeCut t) × IsAnswered old.root (tag t.task.plan t.task.origin) turn × (new ≡ record old { current = None })
+Ends t old turn new = (HasEnded t ⊎ MayBeCut t) × IsAnswered (tag t.task.plan t.task.origin) turn × (new ≡ record old { current = None })
 
 -- What a turn does with the current task. One that took a cut for an answer comes to no other stop than its end.
 abbrev pub Advances : TaskView → HandView → Turn → HandView → Type 0

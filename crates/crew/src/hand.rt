@@ -6,7 +6,7 @@ use crate::steps;
 use crossbeam_utils::CachePadded;
 use meet_block::Arrived;
 use script_grammar::Items;
-use serial_meaning::{Answer, Origin};
+use serial_meaning::Answer;
 use std::alloc::Global;
 use std::collections::VecDeque;
 use std::marker::Model;
@@ -18,9 +18,9 @@ use strand_machine::Task;
 pub enum Turn {
     /// The current task ran to its next stop, and hasn't ended.
     Ran,
-    /// The current task ended, and its answer was put. It wasn't the root's.
+    /// The current task ended, and its answer was put. It wasn't a root's.
     Answered(Arrived<Answer>),
-    /// The root's task ended, and its answer was put. The run is over.
+    /// A root's task ended, and its answer was put. With the last root the run is over.
     Ended(Arrived<Answer>),
     /// A task of the hand's own was taken up, the newest.
     Popped,
@@ -72,18 +72,17 @@ impl Model for Hand {
 }
 
 impl Hand {
-    ghost use Rattle.std.specs.Prelude.{◌≡◌, IfOk, OnOk, OnErr, Some, None, length};
+    ghost use Rattle.std.specs.Prelude.{◌≡◌, [], IfOk, OnOk, OnErr, Some, None, length};
     ghost use Rattle.steal_deck.specs.Ends.{new_thief};
-    ghost use Rattle.crew.specs.Crews.{new_hand, with_thief};
+    ghost use Rattle.crew.specs.Crews.{new_hand, with_thief, IsDealt};
     ghost use Rattle.crew.specs.Hands.{IsTurn, LooksNewest};
 
-    /// A hand without a task, for a run that the answer of this origin ends. It has no thieves yet.
-    pub(crate) fn new(alloc: Global, root: Origin, faults: Faults) -> Result<Hand, Memory>
-        ensures { IfOk result (λ hand. hand ≡ new_hand root hand.deck.deck) }
+    /// A hand without a task. It has no thieves yet.
+    pub(crate) fn new(alloc: Global, faults: Faults) -> Result<Hand, Memory>
+        ensures { IfOk result (λ hand. hand ≡ new_hand hand.deck.deck) }
     {
         Ok(Hand {
             held: CachePadded::new(Held {
-                root,
                 current: None,
                 kept: Vec::new(alloc),
                 deck: Deck::new(alloc).map_err(|_| Memory)?,
@@ -126,6 +125,16 @@ impl Hand {
         ensures { self.new ≡ record self.old { current = Some task } }
     {
         self.held.current = Some(task);
+    }
+
+    /// These are its tasks, to be taken up in this order. On `Memory` some of them are dropped, and their answers never come.
+    pub(crate) fn take_on(&mut self, tasks: Vec<Task>) -> Result<(), Memory>
+        requires kept { self.old.kept ≡ [] }
+        requires pushed { self.old.deck.pushed ≡ [] }
+        ensures { OnOk result (IsDealt tasks.items self.old self.new) }
+    {
+        let held: &mut Held = &mut self.held;
+        steps::put_all(&mut held.deck, &mut held.kept, tasks)
     }
 
     /// Does the first of these that applies.

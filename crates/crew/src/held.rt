@@ -1,6 +1,5 @@
 use crate::faults::Faults;
 use crate::parked::Parked;
-use serial_meaning::Origin;
 use std::collections::VecDeque;
 use steal_deck::{Deck, Thief};
 use strand_machine::Task;
@@ -8,8 +7,6 @@ use strand_machine::Task;
 /// What a hand has.
 #[derive(Drop)]
 pub(crate) struct Held {
-    /// The origin whose answer ends the run.
-    pub root: Origin,
     pub current: Option<Task>,
     /// What the deck refused, and what came after it. It is the back part of the deck.
     pub kept: Vec<Task>,

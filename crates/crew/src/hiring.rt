@@ -1,16 +1,12 @@
 // How a crew begins.
-ghost use Rattle.std.specs.Prelude.{◌≡◌, ◌≤◌, IfOk, OnOk, false, ◌∷◌, ◌++◌, [], length, map};
+ghost use Rattle.std.specs.Prelude.{◌≡◌, ◌≤◌, IfOk, OnOk, ◌++◌, length, map};
 ghost use Rattle.std.specs.Arc.{arc_value};
-ghost use Rattle.serial_meaning.specs.Eval.{main_origin};
-ghost use Rattle.strand_machine.specs.Family.{tag};
-ghost use Rattle.strand_machine.specs.Tasks.{fresh};
-ghost use Rattle.meet_block.specs.Joined.{joined};
-ghost use Rattle.crew.specs.Crews.{AreNew, HaveMet, IsNewCrew, thief_of, with_thief};
+ghost use Rattle.crew.specs.Crews.{AreIdle, AreNew, HaveMet, IsCrewOf, IsNewCrew, new_root, root_task, thief_of, with_thief};
 
 use crate::faults::Faults;
 use crate::hand::{Hand, Hands};
 use crate::memory::Memory;
-use crate::root::Root;
+use crate::root::{Root, Roots};
 use meet_block::Join;
 use script_grammar::Items;
 use serial_meaning::{Answer, AnswerKey, Plan};
@@ -25,8 +21,8 @@ pub struct Crew;
 /// The root's task, and the end at which its answer comes.
 #[tactic(auto, using(crate::proofs::Mains::main_known))]
 fn begin_root(alloc: Global, plan: &Arc<Plan>) -> Result<(Root, Task), Memory>
-    ensures root { IfOk result (λ begun. begun.0 ≡ joined (tag (arc_value plan.now) (main_origin (arc_value plan.now)) ∷ []) (false ∷ []) false []) }
-    ensures task { IfOk result (λ begun. begun.1 ≡ fresh (arc_value plan.now) (main_origin (arc_value plan.now))) }
+    ensures root { IfOk result (λ begun. begun.0 ≡ new_root (arc_value plan.now)) }
+    ensures task { IfOk result (λ begun. begun.1 ≡ root_task (arc_value plan.now)) }
 {
     let key = AnswerKey {
         plan: Arc::try_clone(plan)?,
@@ -39,14 +35,29 @@ fn begin_root(alloc: Global, plan: &Arc<Plan>) -> Result<(Root, Task), Memory>
     Ok((Root { join }, task))
 }
 
-/// So many hands without a task. Each will end the run by main's answer.
-fn new_hands(alloc: Global, plan: &Arc<Plan>, workers: u32) -> Result<Vec<Hand>, Memory>
-    ensures { IfOk result (λ hands. AreNew (main_origin (arc_value plan.now)) workers hands.items) }
+/// The roots of these plans and their tasks, in order.
+fn begin_roots(alloc: Global, plans: &[Arc<Plan>]) -> Result<(Vec<Root>, Vec<Task>), Memory>
+    ensures roots { IfOk result (λ begun. begun.0.items ≡ map new_root (map arc_value plans.now)) }
+    ensures tasks { IfOk result (λ begun. begun.1.items ≡ map root_task (map arc_value plans.now)) }
+{
+    let mut roots = Vec::new(alloc);
+    let mut tasks = Vec::new(alloc);
+    for plan in plans {
+        let (root, task) = begin_root(alloc, plan)?;
+        roots.push(root)?;
+        tasks.push(task)?;
+    }
+    Ok((roots, tasks))
+}
+
+/// So many hands without a task.
+fn new_hands(alloc: Global, workers: u32) -> Result<Vec<Hand>, Memory>
+    ensures { IfOk result (λ hands. AreNew workers hands.items) }
 {
     let faults = Faults::new(alloc)?;
     let mut hands = Vec::new(alloc);
     for _ in 0..workers {
-        hands.push(Hand::new(alloc, plan.main_origin(alloc)?, faults.share()?)?)?;
+        hands.push(Hand::new(alloc, faults.share()?)?)?;
     }
     Ok(hands)
 }
@@ -93,18 +104,48 @@ fn meet(alloc: Global, hands: &mut [Hand]) -> Result<(), Memory>
     Ok(())
 }
 
+/// So many hands without a task, each with one thief of each other hand's deck.
+fn hire(alloc: Global, workers: u32) -> Result<Vec<Hand>, Memory>
+    ensures idle { IfOk result (λ hands. AreIdle workers hands.items) }
+    ensures count { IfOk result (λ hands. length hands.items ≡ workers) }
+{
+    let mut hands = new_hands(alloc, workers)?;
+    meet(alloc, hands.as_mut_slice())?;
+    Ok(hands)
+}
+
 impl Crew {
     /// A crew of so many hands. The task of main is the current one of hand 0, and nothing else is there. Each hand has one thief of each
     /// other hand's deck, from its own number upwards and round, and no other thief was made.
     pub fn new(alloc: Global, plan: &Arc<Plan>, workers: u32) -> Result<(Root, Hands), Memory>
         requires { (1 ≤ workers) × (workers ≤ 64) }
-        ensures root { IfOk result (λ crew. crew.0 ≡ joined (tag (arc_value plan.now) (main_origin (arc_value plan.now)) ∷ []) (false ∷ []) false []) }
+        ensures root { IfOk result (λ crew. crew.0 ≡ new_root (arc_value plan.now)) }
         ensures hands { IfOk result (λ crew. IsNewCrew (arc_value plan.now) workers crew.1.0) }
     {
         let (root, task) = begin_root(alloc, plan)?;
-        let mut hands = new_hands(alloc, plan, workers)?;
-        meet(alloc, hands.as_mut_slice())?;
+        let mut hands = hire(alloc, workers)?;
         hands[0].begin(task);
         Ok((root, Hands(Items(hands))))
+    }
+
+    /// A crew of so many hands, as of `new`, but for the main of each plan, and no task is a current one: all stand at hand 0. It takes up
+    /// the first plan's task first, and the other hands steal from the last plan on. Two plans may be equal. The roots are in the order of
+    /// the plans.
+    ///
+    /// Tasks that the deck refuses stand in hand 0's private list, so it comes to all roots by itself, whether the other hands work or not.
+    pub fn many(
+        alloc: Global,
+        plans: &Items<Arc<Plan>>,
+        workers: u32,
+    ) -> Result<(Roots, Hands), Memory>
+        requires plans { (1 ≤ length plans.now) × (length plans.now ≤ 256) }
+        requires workers { (1 ≤ workers) × (workers ≤ 64) }
+        ensures roots { IfOk result (λ crew. crew.0.0 ≡ map new_root (map arc_value plans.now)) }
+        ensures hands { IfOk result (λ crew. IsCrewOf (map arc_value plans.now) workers crew.1.0) }
+    {
+        let (roots, tasks) = begin_roots(alloc, plans.as_slice())?;
+        let mut hands = hire(alloc, workers)?;
+        hands[0].take_on(tasks)?;
+        Ok((Roots(Items(roots)), Hands(Items(hands))))
     }
 }

@@ -2,7 +2,8 @@
 //!
 //! A worker runs tasks of `strand_machine` and answers the origin that it was given: the answer is the origin's serial meaning, by the
 //! type of answers. One worker by itself is `run_serial`, of `serial_runner`. A crew of them, each in a thread of its own, is `run_crew`:
-//! a hand keeps the rests of the tasks that it runs in a deck, and a hand that has nothing to do steals from the others' decks.
+//! a hand keeps the rests of the tasks that it runs in a deck, and a hand that has nothing to do steals from the others' decks. A crew may
+//! run main under many plans at once (`Crew::many`, `run_roots`).
 #![tactic(auto)]
 
 mod faults;
@@ -22,8 +23,8 @@ pub use gate::{Gate, OpenGate};
 pub use hand::{Hand, Hands, Looked, Turn};
 pub use hiring::Crew;
 pub use memory::Memory;
-pub use root::Root;
-pub use run::run_crew;
+pub use root::{Root, Roots};
+pub use run::{run_crew, run_roots};
 pub use serial_runner::{Node, run_serial, walk_node};
 
 fn is_sent<T: Send>() {}

@@ -1,4 +1,5 @@
 use meet_block::{Join, Look};
+use script_grammar::Items;
 use serial_meaning::{Answer, laws};
 use std::marker::Model;
 
@@ -24,6 +25,10 @@ impl Model for Root {
 
     ghost invariant = { λ r. IsMainAlone r.join.tags × (r.join.taken ≡ false ∷ []) };
 }
+
+/// The roots of a run, by the numbers of their plans.
+#[derive(Drop)]
+pub struct Roots(pub Items<Root>);
 
 impl Root {
     ghost use Rattle.std.specs.Prelude.{◌≡◌, ◌∷◌, [], true};

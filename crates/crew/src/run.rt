@@ -1,20 +1,24 @@
 // A crew in threads.
-ghost use Rattle.std.specs.Prelude.{◌≡◌, ◌≤◌, IfOk, true};
+ghost use Rattle.std.specs.Prelude.{◌≡◌, ◌≤◌, ◌∷◌, [], IfOk, true};
 ghost use Rattle.std.specs.Arc.{arc_value};
+ghost use Rattle.serial_meaning.specs.Answer.{IsEval};
 ghost use Rattle.serial_meaning.specs.Eval.{main_origin};
 ghost use Rattle.serial_meaning.specs.Laws.{IsOriginOf};
 ghost use Rattle.serial_meaning.specs.Render.{IsWhole};
 ghost use Rattle.strand_meaning.specs.Laws.{IsFaultOf};
+ghost use Rattle.strand_machine.specs.Family.{tag};
+ghost use Rattle.crew.specs.Crews.{AreAnswersOf};
 
 use crate::gate::Gate;
-use crate::hand::{Hand, Looked, Turn};
+use crate::hand::{Hand, Hands, Looked, Turn};
 use crate::hiring::Crew;
 use crate::memory::Memory;
-use crate::root::Root;
+use crate::root::{Root, Roots};
 use crate::signals::{Naps, Signals};
 use crate::threads::at_each;
 use crossbeam_utils::Backoff;
 use meet_block::Look;
+use script_grammar::Items;
 use serial_meaning::{Answer, Plan, laws};
 use std::alloc::Global;
 use std::sync::{Arc, Wait};
@@ -31,7 +35,7 @@ fn look_on(alloc: Global, signals: &Signals, hand: &mut Hand) -> bool {
     }
 }
 
-/// Makes turns until a hand has ended the run, or has failed for want of memory. After a turn that left a task waiting or answered one, all
+/// Makes turns until the hands have ended all roots, or one has failed for want of memory. After a turn that left a task waiting or answered one, all
 /// children of the newest waiting task may have answered: then it is the next one, and else it stays in the ring.
 ///
 /// Where all tasks that a hand begins are cut, it sleeps after each that it leaves waiting, and its steals wake nobody: the hands from
@@ -87,6 +91,27 @@ fn wait_ready<R: Wait>(rt: &R, root: &mut Root)
     unreachable!()
 }
 
+/// An answer that is no cut is the serial meaning.
+fn is_meant(answer: &Answer)
+    requires { IsWhole answer.now.outcome }
+    ensures { IsEval answer.now.plan answer.now.origin answer.now.out answer.now.outcome }
+{
+    laws::whole_answers_are_evals();
+    let _outcome = &answer.outcome;
+}
+
+/// Looks until the root's answer is there, and takes it.
+fn answer_of<R: Wait>(rt: &R, mut root: Root) -> Answer
+    ensures tag { root.tags ≡ tag result.plan result.origin ∷ [] }
+    ensures whole { IsWhole result.outcome }
+    ensures meant { IsEval result.plan result.origin result.out result.outcome }
+{
+    wait_ready(rt, &mut root);
+    let answer = root.take();
+    is_meant(&answer);
+    answer
+}
+
 /// Where it is the answer of an origin of the plan and no cut, no fault but one of the plan's ends it.
 fn ends_within_faults(answer: &Answer)
     requires known { IsOriginOf answer.now.plan answer.now.origin }
@@ -96,6 +121,31 @@ fn ends_within_faults(answer: &Answer)
     laws::origins_end_within_faults();
     laws::whole_answers_are_evals();
     let _outcome = &answer.outcome;
+}
+
+/// Makes the turns of all hands, until as many roots have ended as this. Hand 0 works in this thread and each other one in a thread of its
+/// own, or not at all where none can be made. On `Memory` a hand had no memory.
+fn run_hands<R: Threads + Wait + Sync, G: Gate + Sync>(
+    rt: &R,
+    alloc: Global,
+    hands: Hands,
+    roots: u64,
+    gate: &G,
+) -> Result<(), Memory> {
+    let signals = Signals::new(roots);
+    let shared = &signals;
+    let workers = hands.0.0.len() as u64;
+    at_each(
+        rt,
+        alloc,
+        hands.0.0,
+        &|hand| { work(rt, alloc, Naps::new(workers), shared, hand, gate) },
+    );
+    if signals.is_ended() {
+        Ok(())
+    } else {
+        Err(Memory)
+    }
 }
 
 /// Runs main by so many workers, hand 0 in this thread and each other one in a thread of its own. The hands steal tasks from one another.
@@ -114,20 +164,36 @@ pub fn run_crew<R: Threads + Wait + Sync, G: Gate + Sync>(
     ensures origin { IfOk result (λ answer. answer.origin ≡ main_origin (arc_value plan.now)) }
     ensures fault { IfOk result (λ answer. IsFaultOf (arc_value plan.now) answer.outcome) }
 {
-    let (mut root, hands) = Crew::new(alloc, plan, workers)?;
-    let signals = Signals::new();
-    let shared = &signals;
-    at_each(
-        rt,
-        alloc,
-        hands.0.0,
-        &|hand| { work(rt, alloc, Naps::new(workers), shared, hand, gate) },
-    );
-    if !signals.is_ended() {
-        return Err(Memory);
-    }
-    wait_ready(rt, &mut root);
-    let answer = root.take();
+    let (root, hands) = Crew::new(alloc, plan, workers)?;
+    run_hands(rt, alloc, hands, 1, gate)?;
+    let answer = answer_of(rt, root);
     ends_within_faults(&answer);
     Ok(answer)
+}
+
+/// Takes the answers of these roots, each once it is there.
+fn answers_of<R: Wait>(rt: &R, alloc: Global, roots: Vec<Root>) -> Result<Items<Answer>, Memory>
+    ensures { IfOk result (λ answers. AreAnswersOf roots.items answers) }
+{
+    let mut answers = Vec::new(alloc);
+    for root in roots {
+        answers.push(answer_of(rt, root))?;
+    }
+    Ok(Items(answers))
+}
+
+/// Runs the crew of these roots, which `Crew::many` made, until all have answered, as `run_crew` does. The answers are in the order of the
+/// roots. On `Memory` no answer is given.
+pub fn run_roots<R: Threads + Wait + Sync, G: Gate + Sync>(
+    rt: &R,
+    alloc: Global,
+    roots: Roots,
+    hands: Hands,
+    gate: &G,
+) -> Result<Items<Answer>, Memory>
+    ensures { IfOk result (λ answers. AreAnswersOf roots.0 answers) }
+{
+    let roots = roots.0.0;
+    run_hands(rt, alloc, hands, roots.len() as u64, gate)?;
+    answers_of(rt, alloc, roots)
 }

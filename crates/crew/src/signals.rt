@@ -1,7 +1,7 @@
 // What the hands of a crew tell one another, and how one that finds nothing to do sleeps.
 use crossbeam_utils::{Backoff, CachePadded};
 use std::sync::Wait;
-use std::sync::atomic::{AtomicBool, AtomicU64, Ordering};
+use std::sync::atomic::{AtomicU64, Ordering};
 use std::time::Duration;
 
 /// How long a hand sleeps at first, in microseconds.
@@ -18,15 +18,19 @@ const LONGEST_WAIT: u64 = 500;
 pub(crate) struct Signals {
     /// 0 as long as the hands take turns, and then 1. A hand that finds nothing to do sleeps on it.
     stop: CachePadded<AtomicU64>,
-    /// The root's answer was put.
-    ended: CachePadded<AtomicBool>,
+    /// The answers of so many roots were put.
+    ended: CachePadded<AtomicU64>,
+    /// How many roots there are.
+    roots: u64,
 }
 
 impl Signals {
-    pub fn new() -> Signals {
+    /// Those of a run of so many roots.
+    pub fn new(roots: u64) -> Signals {
         Signals {
             stop: CachePadded::new(AtomicU64::new(0)),
-            ended: CachePadded::new(AtomicBool::new(false)),
+            ended: CachePadded::new(AtomicU64::new(0)),
+            roots,
         }
     }
 
@@ -42,16 +46,19 @@ impl Signals {
         stop.load(Ordering::SeqCst) != 0
     }
 
-    /// The root's answer was put, and no hand takes another turn.
+    /// One more root's answer was put. With the last one no hand takes another turn.
     pub fn end(&self) {
-        let ended: &AtomicBool = &self.ended;
-        ended.store(true, Ordering::SeqCst);
-        self.stop();
+        let ended: &AtomicU64 = &self.ended;
+        let before = ended.fetch_add(1, Ordering::SeqCst);
+        if before.saturating_add(1) >= self.roots {
+            self.stop();
+        }
     }
 
+    /// The answers of all roots were put.
     pub fn is_ended(&self) -> bool {
-        let ended: &AtomicBool = &self.ended;
-        ended.load(Ordering::SeqCst)
+        let ended: &AtomicU64 = &self.ended;
+        ended.load(Ordering::SeqCst) >= self.roots
     }
 
     /// Sleeps for so many microseconds, or until it is woken.
@@ -80,12 +87,12 @@ pub(crate) struct Naps {
 
 impl Naps {
     /// Those of a hand in a crew of so many.
-    pub fn new(workers: u32) -> Naps {
+    pub fn new(workers: u64) -> Naps {
         Naps {
             backoff: Backoff::new(),
             next: SHORTEST_NAP,
             vain: 0,
-            longest_idle: u64::from(workers) * LONGEST_IDLE,
+            longest_idle: workers.saturating_mul(LONGEST_IDLE),
         }
     }
 

@@ -1,6 +1,7 @@
 // The steps of a hand's turn.
-ghost use Rattle.std.specs.Prelude.{◌≡◌, [], ◌∷◌, ◌++◌, IfOk, OnOk, OnErr, IfSome, IfNone, None, true, false};
+ghost use Rattle.std.specs.Prelude.{◌≡◌, ◌≤◌, ◌↔◌, ◌⊎◌, [], ◌∷◌, ◌++◌, length, reverse, IfOk, OnOk, OnErr, IfSome, IfNone, IsTrue, None, true, false};
 ghost use Rattle.serial_meaning.specs.Answer.{IsCut};
+ghost use Rattle.serial_meaning.specs.Eval.{main_origin};
 ghost use Rattle.strand_meaning.specs.Cuts.{IsByFaultOf};
 ghost use Rattle.strand_machine.specs.Family.{tag};
 ghost use Rattle.strand_machine.specs.declared.stop.Stop.TheVariants as stop;
@@ -14,7 +15,8 @@ use crate::held::Held;
 use crate::memory::Memory;
 use crate::parked::Parked;
 use meet_block::Give;
-use serial_meaning::{Answer, Fault, Origin, Outcome};
+use serial_meaning::plan::function_number;
+use serial_meaning::{Answer, Fault, Origin, Outcome, Plan};
 use std::alloc::Global;
 use std::collections::VecDeque;
 use steal_deck::{Deck, Steal, Thief};
@@ -52,6 +54,25 @@ fn put_rest(deck: &mut Deck<Task>, kept: &mut Vec<Task>, rest: Task) -> Result<(
     }
 }
 
+/// Puts all of these tasks after all others, the last of them first. So the first of them is taken up before the others.
+pub(crate) fn put_all(
+    deck: &mut Deck<Task>,
+    kept: &mut Vec<Task>,
+    tasks: Vec<Task>,
+) -> Result<(), Memory>
+    requires pushed { deck.old.pushed ≡ [] }
+    requires kept { kept.old.items ≡ [] }
+    ensures all { OnOk result (deck.new.pushed ++ kept.new.items ≡ reverse tasks.items) }
+    ensures refused { OnOk result ((kept.new.items ≡ []) ⊎ (64 ≤ length deck.new.pushed)) }
+    ensures deck { OnOk result (deck.new ≡ record deck.old { pushed = deck.new.pushed }) }
+{
+    let mut left = tasks;
+    while let Some(task) = left.pop() {
+        put_rest(deck, kept, task)?;
+    }
+    Ok(())
+}
+
 /// The child becomes current, and the rest of the task that handed it out goes after all others.
 fn hand_out(held: &mut Held, child: Task, rest: Task) -> Result<(), Memory>
     requires { held.old.current ≡ None }
@@ -72,14 +93,32 @@ fn park(ring: &mut VecDeque<Parked>, task: Task) -> Result<(), Memory>
     Ok(())
 }
 
-/// Puts the answer of a task that has ended or was cut.
-fn put_answer(root: &Origin, answer: Answer, give: Give<Answer>) -> Turn
-    requires { give ≡ tag answer.plan answer.origin }
-    ensures { IsAnswered root.now give result }
+/// Whether it is main's origin, that of a root.
+fn is_main(plan: &Plan, origin: &Origin) -> bool
+    ensures { IsTrue result ↔ (origin.now ≡ main_origin plan.now) }
 {
-    let is_root = answer.origin.same(root);
+    match origin {
+        Origin::Instance {
+            function,
+            args,
+            path,
+        } => {
+            path.len() == 0
+                && args.as_slice().is_empty()
+                && *function == function_number(plan.functions(), b"main")
+        }
+        Origin::Loop { .. } => false,
+    }
+}
+
+/// Puts the answer of a task that has ended or was cut.
+fn put_answer(answer: Answer, give: Give<Answer>) -> Turn
+    requires { give ≡ tag answer.plan answer.origin }
+    ensures { IsAnswered give result }
+{
+    let is_roots = is_main(&answer.plan, &answer.origin);
     let arrived = give.put(answer);
-    if is_root {
+    if is_roots {
         Turn::Ended(arrived)
     } else {
         Turn::Answered(arrived)
@@ -105,12 +144,12 @@ fn end<G: Gate>(
 ) -> Result<Turn, Memory>
     requires known { IsByFaultOf answer.plan answer.outcome }
     requires give { give ≡ tag answer.plan answer.origin }
-    ensures turn { IfOk result (IsAnswered held.old.root give) }
+    ensures turn { IfOk result (IsAnswered give) }
     ensures held { view_of held.new ≡ view_of held.old }
 {
     tell_fault(alloc, &mut held.faults, &answer);
     let origin = share_origin(alloc, &answer.origin)?;
-    let turn = put_answer(&held.root, answer, give);
+    let turn = put_answer(answer, give);
     gate.leave(&origin);
     Ok(turn)
 }
@@ -144,7 +183,7 @@ fn cut(held: &Held, task: Task, by: Fault) -> Turn
     ensures { Advances task (view_of held.now) result (view_of held.now) }
 {
     let (answer, give) = task.cut(by);
-    put_answer(&held.root, answer, give)
+    put_answer(answer, give)
 }
 
 /// Cuts this task, which was the current one, or runs it to its next stop.

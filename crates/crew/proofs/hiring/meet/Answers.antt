@@ -3,7 +3,7 @@ use Rattle.crew.proofs.Meeting.{starts-meeting, meets-next, all-meet}
 use Rattle.crew.proofs.hiring.meet.Goals as goal
 
 pub loop-own-init : goal.loop-own-init
-loop-own-init c = record { count = search rules; meeting = λ root decks e. starts-meeting root decks c.args.hands.now e }
+loop-own-init c = record { count = search rules; meeting = λ decks e. starts-meeting decks c.args.hands.now e }
 
 pub loop-own-preserved : goal.loop-own-preserved
 loop-own-preserved c =
@@ -13,10 +13,10 @@ loop-own-preserved c =
     let met = c.in_ok-introduce.ensures in
     record {
       count = search rules;
-      meeting = λ root decks e.
-          meets-next root l.own decks l.hands c.split_at_mut-front.result.0.now c.split_at_mut-front.result.1.now c.split_at_mut-one.result.0.now c.split_at_mut-one.result.1.now c.introduce.new.front c.introduce.new.back c.index-one-0.result c.introduce.new.hand
-          (l.invariant.meeting root decks e) (search rules) whole.front whole.back parts.front parts.back met.front met.hand met.back;
+      meeting = λ decks e.
+          meets-next l.own decks l.hands c.split_at_mut-front.result.0.now c.split_at_mut-front.result.1.now c.split_at_mut-one.result.0.now c.split_at_mut-one.result.1.now c.introduce.new.front c.introduce.new.back c.index-one-0.result c.introduce.new.hand
+          (l.invariant.meeting decks e) (search rules) whole.front whole.back parts.front parts.back met.front met.hand met.back;
     }
 
 pub returns-clause-met : goal.returns-clause-met
-returns-clause-met c = λ root decks e. all-meet root c.loop-own.own decks c.loop-own.hands (c.loop-own.invariant.meeting root decks e) (search rules)
+returns-clause-met c = λ decks e. all-meet c.loop-own.own decks c.loop-own.hands (c.loop-own.invariant.meeting decks e) (search rules)

@@ -2,7 +2,7 @@ use mir.Syntax.{of_param}
 use denote.Exit.{yes}
 use denote.Param.Send.{Quiet-if}
 use Rattle.crew.proofs.Shares.{hand_sends}
-use Rattle.crew.proofs.run.run_crew.Goals as goal
+use Rattle.crew.proofs.run.run_hands.Goals as goal
 
 -- field by field: the two rows are too large to be compared
 pub at_each-requires-send-T : goal.at_each-requires-send-T

@@ -1,0 +1,21 @@
+use Rattle.std.proofs.Common.{◌≤◌, refl, map, subst}
+use Rattle.std.specs.Arc.{arc_value}
+use Rattle.crew.specs.Crews.{IsDealt}
+use Rattle.crew.specs.Hands.{HandView}
+use Rattle.crew.proofs.Meeting.{first-has-none, is_dealt}
+use Rattle.crew.proofs.hiring.Crew.many.Goals as goal
+
+pub take_on-requires-clause-kept : goal.take_on-requires-clause-kept
+take_on-requires-clause-kept c = (first-has-none c.args.workers c.in_ok-hands.hands.items c.index_mut.result.now c.index_mut.result.now c.in_ok-hands.ensures.idle c.requires.workers.0 c.index_mut.ensures.value).0
+
+pub take_on-requires-clause-pushed : goal.take_on-requires-clause-pushed
+take_on-requires-clause-pushed c = (first-has-none c.args.workers c.in_ok-hands.hands.items c.index_mut.result.now c.index_mut.result.now c.in_ok-hands.ensures.idle c.requires.workers.0 c.index_mut.ensures.value).1
+
+pub returns-clause-hands : goal.returns-clause-hands
+returns-clause-hands c =
+    let idle = c.in_ok-hands.hands.items in
+    let tasks = c.in_ok-roots.tasks.items in
+    let few : 1 ≤ c.args.workers = c.requires.workers.0 in
+    let all = rw c.as_slice.ensures at c.in_ok-roots.ensures.tasks in
+    is_dealt (map arc_value c.args.plans.now) c.args.workers tasks idle idle c.index_mut.result.now c.take_on.new.self c.in_ok-hands.ensures.idle refl few all
+    (subst (λ (h : HandView). IsDealt tasks h c.take_on.new.self) c.index_mut.ensures.value c.in_ok-take_on.ensures)

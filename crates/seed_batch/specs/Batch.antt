@@ -1,0 +1,29 @@
+-- One script under a list of seeds (docs/LANGUAGE.md, "Printed lines"): what it prints, and main's answers.
+use Rattle.std.specs.Prelude.{ℕ, List, [], ◌∷◌, ◌++◌, codes, decimal, flat_map}
+use Rattle.serial_meaning.specs.Plan.{PlanView}
+use Rattle.serial_meaning.specs.Eval.{elision, main_origin}
+use Rattle.serial_meaning.specs.Answer.{AnswerView, outcome_of}
+use Rattle.serial_meaning.specs.Render.{line, answer_text}
+
+-- main's answer: the serial elision, with its value or fault
+abbrev pub main_answer : PlanView → AnswerView
+main_answer plan = record {
+  plan = plan;
+  origin = main_origin plan;
+  out = (elision plan).items;
+  outcome = outcome_of (main_origin plan) (elision plan).ending;
+}
+
+-- one part of a batch: a line of the seed, and then what is printed under it
+abbrev pub part : ℕ → List ℕ → List ℕ
+part seed text = line (codes "seed " ++ decimal seed) ++ text
+
+-- a part of each seed, in order
+abbrev pub batch : (ℕ → List ℕ) → List ℕ → List ℕ
+batch text_under seeds = flat_map (λ seed. part seed (text_under seed)) seeds
+
+-- a part of each seed and of the answer under it, in order
+abbrev pub batch_text : List ℕ → List AnswerView → List ℕ
+batch_text [] answers = []
+batch_text (seed ∷ seeds) [] = []
+batch_text (seed ∷ seeds) (answer ∷ answers) = part seed (answer_text answer) ++ batch_text seeds answers

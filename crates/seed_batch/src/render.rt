@@ -1,0 +1,43 @@
+// What is printed of a batch.
+ghost use Rattle.std.specs.Prelude.{◌≡◌, ◌++◌, All, IfOk, OnOk, length};
+ghost use Rattle.serial_meaning.specs.Answer.{AnswerView};
+ghost use Rattle.serial_meaning.specs.Render.{IsWhole, answer_text};
+ghost use Rattle.seed_batch.specs.Batch.{batch_text, part};
+
+use crew::Memory;
+use itoa::Buffer;
+use script_grammar::Items;
+use serial_meaning::{Answer, render_run};
+use std::alloc::Global;
+
+/// Writes the part of a seed, with what a run prints of this answer.
+fn write_part(alloc: Global, seed: u64, answer: &Answer, text: &mut Vec<u8>) -> Result<(), Memory>
+    requires { IsWhole answer.now.outcome }
+    ensures { OnOk result (text.new.items ≡ text.old.items ++ part seed (answer_text answer.now)) }
+{
+    let printed = render_run(alloc, answer)?;
+    text.extend_from_slice(b"seed ")?;
+    text.extend_from_slice(Buffer::new().format(seed).as_bytes())?;
+    text.push(b'\n')?;
+    text.extend_from_slice(&printed)?;
+    Ok(())
+}
+
+/// What a batch prints: for each seed, in order, the line `seed S` with the seed in decimal, and then what a run prints of the answer at the
+/// same place.
+pub fn render_batch(
+    alloc: Global,
+    seeds: &Items<u64>,
+    answers: &Items<Answer>,
+) -> Result<Vec<u8>, Memory>
+    requires count { length answers.now ≡ length seeds.now }
+    requires whole { All (λ (answer : AnswerView). IsWhole answer.outcome) answers.now }
+    ensures { IfOk result (λ text. text.items ≡ batch_text seeds.now answers.now) }
+{
+    let seeds = seeds.as_slice();
+    let mut text = Vec::new(alloc);
+    for (i, answer) in answers.as_slice().iter().enumerate() {
+        write_part(alloc, seeds[i], answer, &mut text)?;
+    }
+    Ok(text)
+}

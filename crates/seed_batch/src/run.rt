@@ -1,0 +1,32 @@
+// Main under many plans, on one crew.
+ghost use Rattle.std.specs.Prelude.{◌≡◌, ◌≤◌, IfOk, length, map};
+ghost use Rattle.std.specs.Arc.{arc_value};
+ghost use Rattle.seed_batch.specs.Batch.{main_answer};
+
+use crew::{Crew, Gate, Memory, run_roots};
+use script_grammar::Items;
+use serial_meaning::{Answer, Plan};
+use std::alloc::Global;
+use std::sync::{Arc, Wait};
+use std::thread::Threads;
+
+/// Runs main under each plan, all of them by one crew of so many workers, hand 0 in this thread and each other one in a thread of its own.
+/// The answers are in the order of the plans, whatever the hands did in which order. Two plans may be equal. A fault under one plan ends
+/// nothing under another.
+///
+/// A hand for which no thread can be made is left out. It has no task, and the others finish without it. On `Memory` no answer is given.
+#[tactic(auto, using(crate::proofs::Parts::all_are_mains))]
+pub fn run_batch<R: Threads + Wait + Sync, G: Gate + Sync>(
+    rt: &R,
+    alloc: Global,
+    plans: &Items<Arc<Plan>>,
+    workers: u32,
+    gate: &G,
+) -> Result<Items<Answer>, Memory>
+    requires plans { (1 ≤ length plans.now) × (length plans.now ≤ 256) }
+    requires workers { (1 ≤ workers) × (workers ≤ 64) }
+    ensures { IfOk result (λ answers. answers ≡ map main_answer (map arc_value plans.now)) }
+{
+    let (roots, hands) = Crew::many(alloc, plans, workers)?;
+    run_roots(rt, alloc, roots, hands, gate)
+}
