@@ -155,17 +155,17 @@ fn one_worker_prints_its_lines(rt: HostRuntime) -> Result<(), Fail> {
 
 static FAULTED_RUNS: [Run; 14] = [
     (
-        "run --workers 1",
+        "run --workers 1 --budget 10000",
         FAULTY_CHILD,
         "7\nfault 0.0: division by zero\n",
     ),
     (
-        "run --workers 2",
+        "run --workers 2 --budget 10000",
         FAULTY_CHILD,
         "7\nfault 0.0: division by zero\n",
     ),
     (
-        "run --workers 64",
+        "run --workers 64 --budget 10000",
         FAULTY_CHILD,
         "7\nfault 0.0: division by zero\n",
     ),
