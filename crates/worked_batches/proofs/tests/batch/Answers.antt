@@ -1,0 +1,5 @@
+use Rattle.seed_batch.proofs.Parts.{all_are_whole}
+use Rattle.worked_batches.proofs.tests.batch.Goals as goal
+
+pub render_batch-requires-clause-whole : goal.render_batch-requires-clause-whole
+render_batch-requires-clause-whole g c = all_are_whole _ _ c.in_ok-answers.ensures
