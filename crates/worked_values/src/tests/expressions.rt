@@ -294,13 +294,18 @@ fn items_are_read_and_written_within_the_array(rt: HostRuntime) -> Result<(), Fa
     Ok(())
 }
 
+/// Whether the array has room for so many values.
+fn has_room(environment: &Environment, array: &Name, count: u64) -> bool {
+    environment.has_room(Some(array), count)
+}
+
 #[test]
 fn arrays_have_room_for_their_length(rt: HostRuntime) -> Result<(), Fail> {
     let environment = environment(rt.alloc())?;
     let a = name(rt.alloc(), "a")?;
     assert!(rt; environment.has_room(None, 4));
-    assert!(rt; environment.has_room(Some(&a), 3));
-    assert!(rt; !environment.has_room(Some(&a), 4));
+    assert!(rt; has_room(&environment, &a, 3));
+    assert!(rt; !has_room(&environment, &a, 4));
     Ok(())
 }
 
@@ -357,7 +362,11 @@ fn an_assignment_that_faults_changes_nothing(rt: HostRuntime) -> Result<(), Fail
 /// The integers that the arguments give.
 fn numbers(alloc: Global, args: &[Expr]) -> Result<Vec<i64>, Fail> {
     let values = environment(alloc)?.values(alloc, args)?;
-    Ok(values.as_slice().iter().map(number).collect(alloc)?)
+    let mut numbers = Vec::new(alloc);
+    for value in values.as_slice() {
+        numbers.push(number(value))?;
+    }
+    Ok(numbers)
 }
 
 #[test]
