@@ -153,7 +153,7 @@ fn one_worker_prints_its_lines(rt: HostRuntime) -> Result<(), Fail> {
     Ok(())
 }
 
-static FAULTED_RUNS: [Run; 14] = [
+static FAULTED_RUNS: [Run; 18] = [
     (
         "run --workers 1 --budget 10000",
         FAULTY_CHILD,
@@ -190,6 +190,29 @@ static FAULTED_RUNS: [Run; 14] = [
         "run",
         "fn sq(i) { return i * i; } fn main() { let a[5]; pfor i in 0..6 into a call sq(i); let k = 0; while k < 5 { print a[k]; k = k + 1; } return 0; }",
         "fault 0: index out of range\n",
+    ),
+    // The array is looked at before the depth, and the budget before the array.
+    (
+        "run --depth 2",
+        "fn f(i) { return i; } fn main() { let a[1]; pfor i in 0..2 into a call f(i); return 0; }",
+        "fault 0: index out of range\n",
+    ),
+    (
+        "run --budget 3",
+        "fn f(i) { return i; } fn main() { let a[1]; pfor i in 0..2 into a call f(i); return 0; }",
+        "fault 0: budget spent\n",
+    ),
+    // Arguments are evaluated before the depth is looked at.
+    (
+        "run --depth 1",
+        "fn f(n) { return n; } fn main() { let z = 0; spawn f(1 / z); return 0; }",
+        "fault 0: division by zero\n",
+    ),
+    // The spawn and the sync that the return implies raise the rank.
+    (
+        "run",
+        "fn f() { return 0; } fn main() { let z = 0; spawn f(); return 1 / z; }",
+        "fault 2: division by zero\n",
     ),
     (
         "run",

@@ -4,10 +4,9 @@ use super::{
     FAULT_BEFORE_ANOTHER, FAULTY_CHILD, Host, SQUARES, TWO_DRAWS, compare, ends, generated, guarded,
 };
 use engine::Gate;
-use ped_path::Ped;
 use serial_meaning::Origin;
 use std::hint;
-use std::sync::atomic::{AtomicBool, Ordering};
+use std::sync::atomic::{AtomicBool, AtomicU64, Ordering};
 use std::test::Fail;
 
 const WORKERS: [u32; 5] = [1, 2, 3, 8, 64];
@@ -15,35 +14,49 @@ const WORKERS: [u32; 5] = [1, 2, 3, 8, 64];
 const DRAWS_IN_CHILDREN: &str =
     "fn f() { let x = draw; return x; } fn main() { let a = spawn f(); let b = spawn f(); sync; print a; print b; return 0; }";
 
-// Holds main's first child until its second one has come, for so many turns of a loop.
+const THREE_CHILDREN: &str =
+    "fn f(n) { return n; } fn main() { let a = spawn f(1); let b = spawn f(2); let c = spawn f(3); sync; print a + b + c; return 0; }";
+
+const CHILD_AFTER_A_SYNC: &str =
+    "fn f(n) { return n; } fn main() { let a = spawn f(1); sync; print a; let b = spawn f(2); sync; print b; return 0; }";
+
+// A strand is held for at most so many turns of a loop.
 const MOST_TURNS: u32 = 50000000;
 
+// Strands that wait for others, of which so many are to come.
 #[derive(Drop)]
-struct Second {
-    came: AtomicBool,
+struct Meeting {
+    wanted: u64,
+    came: AtomicU64,
     late: AtomicBool,
 }
 
-impl Second {
-    fn new() -> Second {
-        Second {
-            came: AtomicBool::new(false),
+impl Meeting {
+    fn of(wanted: u64) -> Meeting {
+        Meeting {
+            wanted,
+            came: AtomicU64::new(0),
             late: AtomicBool::new(false),
         }
     }
 
-    fn has_come(&self) -> bool {
-        self.came.load(Ordering::SeqCst)
+    fn come(&self) {
+        self.came.fetch_add(1, Ordering::SeqCst);
     }
 
-    fn is_late(&self) -> bool {
-        self.late.load(Ordering::SeqCst)
+    fn is_whole(&self) -> bool {
+        self.came.load(Ordering::SeqCst) >= self.wanted
     }
 
-    // Waits for the second child.
+    // Whether all came, and none waited in vain.
+    fn took_place(&self) -> bool {
+        self.is_whole() && !self.late.load(Ordering::SeqCst)
+    }
+
+    // Waits until all have come.
     fn hold(&self) {
         for _ in 0..MOST_TURNS {
-            if self.has_come() {
+            if self.is_whole() {
                 return;
             }
             hint::spin_loop();
@@ -52,18 +65,24 @@ impl Second {
     }
 }
 
-// Whether this is the path of main's child of this rank.
-fn is_child(path: &Ped, rank: u64) -> bool {
-    path.len() == 1 && path.rank_at(0) == Some(rank)
+// Whether this is main's child of this rank.
+fn is_child(origin: &Origin, rank: u64) -> bool {
+    match origin {
+        Origin::Instance { path, .. } => path.len() == 1 && path.rank_at(0) == Some(rank),
+        Origin::Loop { .. } => false,
+    }
 }
 
-impl Gate for Second {
+// Main's first children, each of which waits for the others where it begins.
+#[derive(Drop)]
+struct Together(Meeting);
+
+impl Gate for Together {
     fn enter(&self, origin: &Origin) {
-        if let Origin::Instance { path, .. } = origin {
-            if is_child(path, 0) {
-                self.hold();
-            } else if is_child(path, 1) {
-                self.came.store(true, Ordering::SeqCst);
+        for rank in 0..self.0.wanted {
+            if is_child(origin, rank) {
+                self.0.come();
+                self.0.hold();
             }
         }
     }
@@ -71,15 +90,55 @@ impl Gate for Second {
     fn leave(&self, _origin: &Origin) {}
 }
 
-// One worker alone would hold the first child to the end.
+// How many children main has, on as many workers, and what is printed.
+static AT_ONCE: [(u64, &str, &str, &str); 2] = [
+    (
+        2,
+        "run --gamma 1,1 --workers 2 --show log",
+        DRAWS_IN_CHILDREN,
+        "draw 0.0 = 210\ndraw 1.0 = 903\n210\n903\n",
+    ),
+    (3, "run --workers 3", THREE_CHILDREN, "6\n"),
+];
+
+// With one worker less a child would be held to the end.
 #[test]
-fn two_workers_work_at_once(rt: HostRuntime) -> Result<(), Fail> {
-    let gate = Second::new();
-    let line = "run --gamma 1,1 --workers 2 --show log";
-    let told = guarded(&rt, line, DRAWS_IN_CHILDREN.as_bytes(), &gate)?;
-    assert!(rt; gate.has_come() && !gate.is_late());
-    let output = "draw 0.0 = 210\ndraw 1.0 = 903\n210\n903\n";
-    compare(&rt, line, &told, 0, output, "");
+fn workers_work_at_once(rt: HostRuntime) -> Result<(), Fail> {
+    for &(children, line, script, output) in &AT_ONCE {
+        let gate = Together(Meeting::of(children));
+        let told = guarded(&rt, line, script.as_bytes(), &gate)?;
+        assert!(rt; gate.0.took_place(), "{line}");
+        compare(&rt, line, &told, 0, output, "");
+    }
+    Ok(())
+}
+
+// Main's first child, which is held at its end until the child has begun that main spawns after its sync, at the rank 2.
+#[derive(Drop)]
+struct HeldAtItsEnd(Meeting);
+
+impl Gate for HeldAtItsEnd {
+    fn enter(&self, origin: &Origin) {
+        if is_child(origin, 2) {
+            self.0.come();
+        }
+    }
+
+    fn leave(&self, origin: &Origin) {
+        if is_child(origin, 0) {
+            self.0.hold();
+        }
+    }
+}
+
+// A gate is left when the answer has been put, so main goes on with it meanwhile.
+#[test]
+fn an_answer_is_put_before_its_task_leaves(rt: HostRuntime) -> Result<(), Fail> {
+    let gate = HeldAtItsEnd(Meeting::of(1));
+    let line = "run --workers 2";
+    let told = guarded(&rt, line, CHILD_AFTER_A_SYNC.as_bytes(), &gate)?;
+    assert!(rt; gate.0.took_place());
+    compare(&rt, line, &told, 0, "1\n2\n", "");
     Ok(())
 }
 
