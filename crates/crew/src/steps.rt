@@ -148,9 +148,10 @@ fn end<G: Gate>(
     ensures held { view_of held.new ≡ view_of held.old }
 {
     tell_fault(alloc, &mut held.faults, &answer);
-    let origin = share_origin(alloc, &answer.origin)?;
+    // An answer that is there is put, also where no memory is left for what comes after.
+    let origin = share_origin(alloc, &answer.origin);
     let turn = put_answer(answer, give);
-    gate.leave(&origin);
+    gate.leave(&origin?);
     Ok(turn)
 }
 
