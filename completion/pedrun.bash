@@ -35,7 +35,7 @@ _pedrun() {
   local word=${COMP_WORDS[COMP_CWORD]} before=${COMP_WORDS[COMP_CWORD - 1]} choices=
   COMPREPLY=()
 
-  # The name of a file stands behind a redirection.
+  # The name of a file stands after a redirection.
   case $before in
     '<' | '>' | '>>' | '2>')
       compopt -o default

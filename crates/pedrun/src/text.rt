@@ -5,9 +5,11 @@ pub const VERSION: &str = "pedrun 0.1.0\n";
 
 /// `pedrun --help`.
 pub const PROGRAM: &str = "\
-pedrun runs fork-join scripts on several workers. Each strand of a run has a
-name that no schedule can change, and a random draw is a hash of its strand's
-name: a run prints the same bytes again, on any machine with any workers.
+pedrun runs fork-join scripts on several workers. What a script does between two
+draws, new objects, spawns, syncs and parallel loops is a strand. Each strand
+has a name, its pedigree, that no schedule can change, and a random draw is a
+hash of its strand's name: a run prints the same bytes again, on any machine
+with any workers.
 
 Usage: pedrun COMMAND [--OPTION VALUE]...
        pedrun COMMAND --help
@@ -38,8 +40,8 @@ Options, in any order, each at most once:
   --rounds N       how often a draw is mixed, from 0 to 8 (default 4)
   --workers N      from 1 to 64 (default 4)
   --show WHAT      plain, or log to see draws and objects too (default plain)
-  --at PEDIGREE    the name of a strand, such as 0.3.1: from 1 to 512 ranks, each
-                   from 0 to 4294967295
+  --at PEDIGREE    the name of a strand, such as 0.3.1: from 1 to 512 ranks,
+                   each from 0 to 4294967295
   --shape SHAPE    fib, tree or loop
   --size N         at most 30 for fib, at most 20 for tree, from 1 to 4096 for
                    loop
@@ -117,8 +119,9 @@ Example:
 
 /// `pedrun check --help`.
 pub const CHECK: &str = "\
-Prints ok where the script on standard input is valid. Else it tells on standard
-error the first thing that is wrong with it, and at which byte, counted from 0.
+Prints ok where the script on standard input is valid. Else it reports on
+standard error the first thing that is wrong with it, and at which byte, counted
+from 0.
 
 Usage: pedrun check < SCRIPT
 
