@@ -1,5 +1,6 @@
 // Runs of the top calls over sources and sinks in memory.
 
+mod batches;
 mod commands;
 mod measures;
 mod runs;

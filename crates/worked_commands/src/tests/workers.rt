@@ -15,17 +15,18 @@ const WORKERS: [u32; 5] = [1, 2, 3, 8, 64];
 const DRAWS_IN_CHILDREN: &str =
     "fn f() { let x = draw; return x; } fn main() { let a = spawn f(); let b = spawn f(); sync; print a; print b; return 0; }";
 
-// Holds main's first child until its second one has come, for so many turns of a loop.
+// For so many turns of a loop a task is held at most.
 const MOST_TURNS: u32 = 50000000;
 
+/// Holds one task until a second one has come. As a gate it holds main's first child until the second child comes.
 #[derive(Drop)]
-struct Second {
+pub struct Second {
     came: AtomicBool,
     late: AtomicBool,
 }
 
 impl Second {
-    fn new() -> Second {
+    pub fn new() -> Second {
         Second {
             came: AtomicBool::new(false),
             late: AtomicBool::new(false),
@@ -36,12 +37,18 @@ impl Second {
         self.came.load(Ordering::SeqCst)
     }
 
-    fn is_late(&self) -> bool {
-        self.late.load(Ordering::SeqCst)
+    /// Whether the second task came while the first one was held.
+    pub fn is_in_time(&self) -> bool {
+        self.has_come() && !self.late.load(Ordering::SeqCst)
     }
 
-    // Waits for the second child.
-    fn hold(&self) {
+    /// Says that the second task has come.
+    pub fn come(&self) {
+        self.came.store(true, Ordering::SeqCst);
+    }
+
+    /// Waits for the second task.
+    pub fn hold(&self) {
         for _ in 0..MOST_TURNS {
             if self.has_come() {
                 return;
@@ -63,7 +70,7 @@ impl Gate for Second {
             if is_child(path, 0) {
                 self.hold();
             } else if is_child(path, 1) {
-                self.came.store(true, Ordering::SeqCst);
+                self.come();
             }
         }
     }
@@ -77,7 +84,7 @@ fn two_workers_work_at_once(rt: HostRuntime) -> Result<(), Fail> {
     let gate = Second::new();
     let line = "run --gamma 1,1 --workers 2 --show log";
     let told = guarded(&rt, line, DRAWS_IN_CHILDREN.as_bytes(), &gate)?;
-    assert!(rt; gate.has_come() && !gate.is_late());
+    assert!(rt; gate.is_in_time());
     let output = "draw 0.0 = 210\ndraw 1.0 = 903\n210\n903\n";
     compare(&rt, line, &told, 0, output, "");
     Ok(())
