@@ -10,6 +10,7 @@ _pedrun_options() {
     gen) echo --shape --size ;;
     stream) echo --at --count --seed --gamma --rounds --below ;;
     span) echo --seed --gamma --depth --budget --rounds ;;
+    batch) echo --seeds --depth --budget --rounds --workers --show ;;
   esac
 }
 
@@ -19,7 +20,7 @@ _pedrun_left() {
   shift
   if [ $# -eq 0 ]; then
     case $command in
-      run | serial | check | fmt | replay | hash | gen | stream | span) echo --help ;;
+      run | serial | check | fmt | replay | hash | gen | stream | span | batch) echo --help ;;
     esac
   fi
   for option in $(_pedrun_options "$command"); do
@@ -43,7 +44,7 @@ _pedrun() {
       ;;
   esac
   if [ "$COMP_CWORD" -eq 1 ]; then
-    choices='run serial check fmt replay hash gen stream span --help --version'
+    choices='run serial check fmt replay hash gen stream span batch --help --version'
   elif [ $((COMP_CWORD % 2)) -eq 0 ]; then
     choices=$(_pedrun_left "${COMP_WORDS[1]}" "${COMP_WORDS[@]:2:COMP_CWORD-2}")
   else

@@ -2,7 +2,7 @@
 # Runs a script by each seed from FIRST to LAST on many machines, by GNU parallel: parallel.sh SCRIPT FIRST LAST [LOGINS]
 # It prints what seeds.sh prints on one machine, in the order of the seeds. LOGINS are those of parallel's --sshlogin, such as
 # 8/alpha,16/beta; by default this machine. The program, this folder and the script stand at the same paths on all of them.
-# EACH is how many seeds a job takes, by default 1. What fails is tried again elsewhere, three times in all.
+# EACH is how many seeds a job takes, by default 16; BATCH and WORKERS are as for seeds.sh. What fails is tried again elsewhere, three times in all.
 set -u
 
 fail() {
@@ -22,7 +22,7 @@ is_number() {
 quoted() { printf "'%s'" "$(printf %s "$1" | sed "s/'/'\\\\''/g")"; }
 
 [ $# -eq 3 ] || [ $# -eq 4 ] || usage "there are $# words and not 3 or 4"
-first=$2 last=$3 logins=${4:-:} each=${EACH:-1}
+first=$2 last=$3 logins=${4:-:} each=${EACH:-16}
 is_number "$first" || usage "FIRST is no seed: $first"
 is_number "$last" || usage "LAST is no seed: $last"
 [ "$first" -le "$last" ] || usage "FIRST is above LAST"
@@ -56,7 +56,7 @@ jobs() {
 # Prints all that the jobs print, in the order of the seeds, and leaves parallel's status in the room.
 run() {
   jobs | parallel --keep-order --colsep ' ' --retries 3 --halt soon,fail=1 --sshlogin "$logins" \
-    env "PEDRUN=$(quoted "$pedrun")" "WORKERS=$(quoted "${WORKERS:-1}")" "$(quoted "$here/seeds.sh")" "$(quoted "$script")" '{1}' '{2}'
+    env "PEDRUN=$(quoted "$pedrun")" "WORKERS=$(quoted "${WORKERS:-1}")" "BATCH=$(quoted "${BATCH:-256}")" "$(quoted "$here/seeds.sh")" "$(quoted "$script")" '{1}' '{2}'
   echo "$?" > "$room/status"
 }
 

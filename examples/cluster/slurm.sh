@@ -7,7 +7,7 @@
 #   sbatch --array=0-9 examples/cluster/slurm.sh SCRIPT FIRST LAST FOLDER
 # The tasks are numbered from 0, and task k takes the k-th part of the seeds. It leaves what it printed in FOLDER/part-k, between a line
 # that says which part of what it is and a line that ends it, once all of it is there. When the array has ended, join.sh puts the parts
-# together. To run some tasks again, give TASKS, the number of all of them. PEDRUN and WORKERS are as for seeds.sh. CLUSTER names the
+# together. To run some tasks again, give TASKS, the number of all of them. PEDRUN, WORKERS and BATCH are as for seeds.sh. CLUSTER names the
 # folder of seeds.sh, by default examples/cluster where the array was submitted.
 set -u
 

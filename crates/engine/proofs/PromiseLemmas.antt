@@ -1,5 +1,6 @@
 -- The parts of the promise follow from it.
 use Rattle.std.proofs.Common.{◌≡◌, ℕ, ◌≤◌, ◌<◌, ◌+◌, Bool, true, false, ◌&&◌, List, ◌++◌, length, length-append, append-nil, Option, Some, None, Result, Ok, Err, IsTrue, IsFalse, ◌⊎◌, inl, inr, refl, sym, ap, ◌∙◌, subst, arith}
+use Rattle.std.specs.List.{list_any}
 use Rattle.ped_io.specs.Streams.{Appends, Consumes, IsAtEnd}
 use Rattle.ped_words.specs.declared.command.Command.{Command}
 use Rattle.ped_words.specs.declared.command.Command.TheVariants as command
@@ -9,8 +10,9 @@ use Rattle.script_grammar.specs.declared.tree.Script.{Script as Tree}
 use Rattle.script_grammar.specs.Text.{Text}
 use Rattle.engine.specs.declared.status.Status.{Status}
 use Rattle.engine.specs.declared.status.Status.TheVariants.{Done, Faulted, Words, Script, Read, Write, Memory, NoStrand}
+use Rattle.engine.specs.Batches.{batch_ending, is_faulted, plan_under}
 use Rattle.engine.specs.Commands.{Reports, Takes, reads_script, runs_today, takes_script}
-use Rattle.engine.specs.Report.{Report, ending_of, plan_of, status_of}
+use Rattle.engine.specs.Report.{Report, ending_of, plan_of, run_report, status_of}
 use Rattle.engine.specs.Promise.{Watched, Failed, ReadWhole, HasNoScript, HasReport, Answers, HasOutput, Refuses, TellsNone, KeepsPromise, most_bytes}
 use Rattle.engine.specs.Clauses.{RefusesWords, IsBad, RefusesScript, WroteReport, WritesReport, IsReplay, FindsNone, TellsNoStrand, IsComplete, Completes}
 use Rattle.engine.specs.declared.report.Ending.{Ending}
@@ -52,6 +54,7 @@ taken_script command.Fmt takes bytes report r = (r.0, r.1, r.2)
 taken_script (command.Gen shape size) takes bytes report r = absurd (cc)
 taken_script (command.Stream gamma at count rounds below) takes bytes report r = absurd (cc)
 taken_script (command.Span settings) takes bytes report r = (r.0, r.1, r.2)
+taken_script (command.Batch seeds limits show rounds workers) takes bytes report r = (r.0, r.1, r.2)
 
 -- what a command that takes none reports has nothing to do with the source
 alone : (command : Command) → IsFalse (takes_script command) → (bytes other : List ℕ) (report : Report) → Reports command bytes report → Reports command other report
@@ -65,6 +68,7 @@ alone command.Fmt takes bytes other report r = absurd (cc)
 alone (command.Gen shape size) takes bytes other report r = r
 alone (command.Stream gamma at count rounds below) takes bytes other report r = r
 alone (command.Span settings) takes bytes other report r = absurd (cc)
+alone (command.Batch seeds limits show rounds workers) takes bytes other report r = absurd (cc)
 
 module _ (source out err : Watched) where
   -- where the words give a command
@@ -200,6 +204,10 @@ module _ (source out err : Watched) where
   no_run_tells (Ok values) tells = tells
   no_run_tells (Err fault) tells = tells
 
+  no_batch_tells : (b : Bool) → TellsNone err (batch_ending b) → ⊥
+  no_batch_tells true tells = tells
+  no_batch_tells false tells = tells
+
   none_ends : (ending : Ending) → TellsNone err ending → status_of ending ≡ NoStrand
   none_ends E.Done tells = absurd tells
   none_ends E.Faulted tells = absurd tells
@@ -226,6 +234,8 @@ module _ (source out err : Watched) where
   replay_tells (command.Gen shape size) bytes report r tells = absurd (tells_at report _ r tells)
   replay_tells (command.Stream gamma at count rounds below) bytes report r tells = absurd (tells_at report _ r tells)
   replay_tells (command.Span settings) bytes report r tells = absurd (no_run_tells (elision (plan_of settings r.0)).ending (subst (TellsNone err) r.3.ending tells))
+  replay_tells (command.Batch seeds limits show rounds workers) bytes report r tells =
+      absurd (no_batch_tells (list_any (λ seed. is_faulted (run_report (plan_under (record { seeds = seeds; limits = limits; show = show; rounds = rounds }) r.0 seed)).ending) seeds) (tells_at report _ r.3 tells))
 
   -- where the words give a command, and the source tells its bytes
   module _ (command : Command) (bytes : List ℕ) (told : source.before ≡ Some bytes) where

@@ -1,5 +1,5 @@
 -- Which commands run today, which of them read a script, and which scripts they take.
-use Rattle.std.specs.Prelude.{◌≡◌, ⊤, ℕ, Bool, true, false, ◌&&◌, List, [], ◌∷◌, codes}
+use Rattle.std.specs.Prelude.{◌≡◌, ◌⊎◌, ⊤, ℕ, Bool, true, false, ◌&&◌, List, [], ◌∷◌, codes}
 use Rattle.script_check.specs.Valid.{IsValid}
 use Rattle.script_grammar.specs.declared.tree.Script.{Script}
 use Rattle.script_grammar.specs.Text.{Text}
@@ -7,13 +7,18 @@ use Rattle.script_print.specs.Canonical.{canonical}
 use Rattle.draw_lines.specs.Lines.{stream_text}
 use Rattle.ped_gen.specs.Scripts.{generated}
 use Rattle.ped_words.specs.declared.command.Command.{Command}
-use Rattle.ped_words.specs.declared.command.Command.TheVariants.{Run, Serial, Sim, Replay, Hash, Check, Fmt, Gen, Stream, Span}
+use Rattle.ped_words.specs.declared.command.Command.TheVariants.{Run, Serial, Sim, Replay, Hash, Check, Fmt, Gen, Stream, Span, Batch}
+use Rattle.engine.specs.Batches.{IsBatchOf}
 use Rattle.engine.specs.Report.{IsSpanOf, Report, said, plan_of, run_report, replay_report, hash_text}
 
--- The first word says the command that runs on workers.
+-- The word names a command that runs on workers.
+abbrev pub IsRunWord : List ℕ → Type 0
+IsRunWord word = (word ≡ codes "run") ⊎ (word ≡ codes "batch")
+
+-- The first word says such a command.
 abbrev pub IsRun : List (List ℕ) → Type 0
 IsRun [] = ⊥
-IsRun (word ∷ words) = word ≡ codes "run"
+IsRun (word ∷ words) = IsRunWord word
 
 abbrev pub runs_today : Command → Bool
 runs_today (Run settings workers) = true
@@ -26,6 +31,7 @@ runs_today Fmt = true
 runs_today (Gen shape size) = true
 runs_today (Stream gamma at count rounds below) = true
 runs_today (Span settings) = true
+runs_today (Batch seeds limits show rounds workers) = true
 
 abbrev pub takes_script : Command → Bool
 takes_script (Run settings workers) = true
@@ -38,6 +44,7 @@ takes_script Fmt = true
 takes_script (Gen shape size) = false
 takes_script (Stream gamma at count rounds below) = false
 takes_script (Span settings) = true
+takes_script (Batch seeds limits show rounds workers) = true
 
 -- The command's report is made whole before it is written. A stream is written block by block.
 abbrev pub is_whole : Command → Bool
@@ -51,6 +58,21 @@ is_whole Fmt = true
 is_whole (Gen shape size) = true
 is_whole (Stream gamma at count rounds below) = false
 is_whole (Span settings) = true
+is_whole (Batch seeds limits show rounds workers) = true
+
+-- A batch runs on workers alone. The other commands also go on the caller's thread.
+abbrev pub is_batch : Command → Bool
+is_batch (Run settings workers) = false
+is_batch (Serial settings) = false
+is_batch (Sim settings workers number) = false
+is_batch (Replay settings at) = false
+is_batch (Hash gamma at rounds) = false
+is_batch Check = false
+is_batch Fmt = false
+is_batch (Gen shape size) = false
+is_batch (Stream gamma at count rounds below) = false
+is_batch (Span settings) = false
+is_batch (Batch seeds limits show rounds workers) = true
 
 abbrev pub reads_script : Command → Bool
 reads_script command = runs_today command && takes_script command
@@ -74,4 +96,5 @@ Reports (Hash gamma at rounds) bytes report = report ≡ said (hash_text gamma a
 Reports (Gen shape size) bytes report = report ≡ said (generated shape size)
 Reports (Stream gamma at count rounds below) bytes report = report ≡ said (stream_text gamma at count rounds below)
 Reports (Span settings) bytes report = IsSpanOf settings bytes report
+Reports (Batch seeds limits show rounds workers) bytes report = IsBatchOf (record { seeds = seeds; limits = limits; show = show; rounds = rounds }) bytes report
 Reports command bytes report = (script : Script) × Text bytes script × Takes command script × (report ≡ report_of command script)

@@ -1,3 +1,4 @@
+pub mod Batches
 pub mod Clauses
 pub mod Commands
 pub mod Laws

@@ -60,6 +60,10 @@ pub record IsSpanReport (plan : PlanView) (told : Report) : Type 0 where
 abbrev pub IsPlanOf : Settings → List ℕ → PlanView → Type 0
 IsPlanOf settings bytes plan = (script : Script) × Text bytes script × IsValid script × (plan ≡ plan_of settings script)
 
+-- Of whatever script these bytes are the text, this is its plan.
+abbrev pub IsPlanIn : Settings → List ℕ → PlanView → Type 0
+IsPlanIn settings bytes plan = (script : Script) → Text bytes script → plan ≡ plan_of settings script
+
 -- a strand's lines, of which the last one may be a fault's
 abbrev pub strand_ending : Option Fault → Ending
 strand_ending None = Done

@@ -4,11 +4,13 @@ ghost use Rattle.std.specs.Prelude.{◌≡◌, codes, IfOk, IfErr, IsTrue, IsFal
 ghost use Rattle.draw_lines.specs.Lines.{CanDraw, lines_of};
 ghost use Rattle.ped_words.specs.Reading.{reading};
 ghost use Rattle.ped_words.specs.Commands.{AreLawful, IsLawful, IsWorkers};
-ghost use Rattle.engine.specs.Commands.{is_whole, reads_script, runs_today, takes_script};
+ghost use Rattle.engine.specs.Batches.{IsReady, batch_command};
+ghost use Rattle.engine.specs.Commands.{IsRun, is_batch, is_whole, reads_script, runs_today, takes_script};
 ghost use Rattle.engine.specs.Promise.{Answers, HasReport, KeepsPromise, ReadWhole, ReadsNone, Refuses, Told, Watched, has_line, has_output, watched};
 ghost use Rattle.engine.specs.Refusal.{Delivers, IsCause, IsLate, Puts, Refused};
 ghost use Rattle.engine.specs.Report.{shown};
 
+use crate::batch::{Batch, played_batch};
 use crate::command::{is_whole, runs_today, takes_script};
 use crate::line::{blocked_line, no_strand_line, words_line};
 use crate::play::played_by_crew;
@@ -43,6 +45,7 @@ fn prepare<S: Source>(alloc: Global, command: Command, source: &mut S) -> Result
     requires today { IsTrue (runs_today command) }
     requires lawful { IsLawful command }
     requires whole { IsTrue (is_whole command) }
+    requires alone { IsFalse (is_batch command) }
     ensures ready { IfOk result (λ report. HasReport command (watched S.left S.faults source.old source.new) (shown report)) }
     ensures refused { IfErr result (IsCause command (watched S.left S.faults source.old source.new)) }
     ensures untouched { IsFalse (takes_script command) → source.new ≡ source.old }
@@ -71,6 +74,24 @@ fn prepare_run<R: Threads + Wait + Sync, S: Source, G: Gate + Sync>(
 {
     let bytes = fetch(alloc, source)?;
     played_by_crew(rt, alloc, settings, workers, &bytes, gate)
+}
+
+// What a batch on so many workers writes, of the script of the source.
+fn prepare_batch<R: Threads + Wait + Sync, S: Source, G: Gate + Sync>(
+    rt: &R,
+    alloc: Global,
+    batch: &Batch,
+    workers: u32,
+    source: &mut S,
+    gate: &G,
+) -> Result<Report, Refusal>
+    requires ready { IsReady batch.now }
+    requires workers { IsWorkers workers }
+    ensures ready { IfOk result (λ report. HasReport (batch_command batch.now workers) (watched S.left S.faults source.old source.new) (shown report)) }
+    ensures refused { IfErr result (IsCause (batch_command batch.now workers) (watched S.left S.faults source.old source.new)) }
+{
+    let bytes = fetch(alloc, source)?;
+    played_batch(rt, alloc, batch, workers, &bytes, gate)
 }
 
 // Writes a line of the error output. A failed write changes nothing else.
@@ -183,6 +204,7 @@ fn serve_whole<S: Source, K: Sink, E: Sink>(
     requires today { IsTrue (runs_today command) }
     requires lawful { IsLawful command }
     requires whole { IsTrue (is_whole command) }
+    requires alone { IsFalse (is_batch command) }
     ensures answers { Answers command (watched S.left S.faults source.old source.new) (watched K.written K.faults out.old out.new)
         (watched E.written E.faults err.old err.new) result }
     ensures untouched { IsFalse (takes_script command) → source.new ≡ source.old }
@@ -251,7 +273,7 @@ fn serve_in_parts<K: Sink, E: Sink>(
     }
 }
 
-// Runs a command.
+// Runs a command that is no batch, on the caller's thread.
 fn serve<S: Source, K: Sink, E: Sink>(
     alloc: Global,
     command: Command,
@@ -260,6 +282,7 @@ fn serve<S: Source, K: Sink, E: Sink>(
     err: &mut E,
 ) -> Status
     requires lawful { IsLawful command }
+    requires alone { IsFalse (is_batch command) }
     ensures answers { Answers command (watched S.left S.faults source.old source.new) (watched K.written K.faults out.old out.new)
         (watched E.written E.faults err.old err.new) result }
     ensures untouched { IsFalse (reads_script command) → source.new ≡ source.old }
@@ -301,7 +324,31 @@ fn serve_run<R: Threads + Wait + Sync, S: Source, K: Sink, E: Sink, G: Gate + Sy
     }
 }
 
-/// Reads the words and runs their command on the caller's thread.
+// Runs a script under a list of seeds, on so many workers.
+fn serve_batch<R: Threads + Wait + Sync, S: Source, K: Sink, E: Sink, G: Gate + Sync>(
+    rt: &R,
+    alloc: Global,
+    batch: &Batch,
+    workers: u32,
+    source: &mut S,
+    out: &mut K,
+    err: &mut E,
+    gate: &G,
+) -> Status
+    requires ready { IsReady batch.now }
+    requires workers { IsWorkers workers }
+    ensures answers { Answers (batch_command batch.now workers) (watched S.left S.faults source.old source.new) (watched K.written K.faults out.old out.new)
+        (watched E.written E.faults err.old err.new) result }
+    ensures no_output { IsFalse (has_output result) → out.new ≡ out.old }
+    ensures no_line { IsFalse (has_line result) → err.new ≡ err.old }
+{
+    match prepare_batch(rt, alloc, batch, workers, source, gate) {
+        Ok(report) => deliver(alloc, &report, out, err),
+        Err(refusal) => refuse(&refusal, err),
+    }
+}
+
+/// Reads the words and runs their command on the caller's thread. The first word isn't that of a command that runs on workers.
 pub(crate) fn perform<S: Source, K: Sink, E: Sink>(
     alloc: Global,
     words: &[String],
@@ -309,6 +356,7 @@ pub(crate) fn perform<S: Source, K: Sink, E: Sink>(
     out: &mut K,
     err: &mut E,
 ) -> Status
+    requires { IsRun (map string_bytes words.now) → ⊥ }
     ensures promise { KeepsPromise (reading (map string_bytes words.now)) (watched S.left S.faults script.old script.new)
         (watched K.written K.faults out.old out.new) (watched E.written E.faults err.old err.new) result }
     ensures untouched { ReadsNone (reading (map string_bytes words.now)) → script.new ≡ script.old }
@@ -321,7 +369,7 @@ pub(crate) fn perform<S: Source, K: Sink, E: Sink>(
     }
 }
 
-/// The same, but `run` goes by workers on threads. The gate is told of their tasks.
+/// Reads the words and runs their command. `run` and `batch` go by workers on threads. The gate is told of their tasks.
 pub(crate) fn perform_by_crew<
     R: Threads + Wait + Sync,
     S: Source,
@@ -346,6 +394,23 @@ pub(crate) fn perform_by_crew<
     match read_words(alloc, words) {
         Ok(Command::Run { settings, workers }) => {
             serve_run(rt, alloc, settings, workers, script, out, err, gate)
+        }
+        Ok(
+            Command::Batch {
+                seeds,
+                limits,
+                show,
+                rounds,
+                workers,
+            },
+        ) => {
+            let batch = Batch {
+                seeds,
+                limits,
+                show,
+                rounds,
+            };
+            serve_batch(rt, alloc, &batch, workers, script, out, err, gate)
         }
         Ok(command) => serve(alloc, command, script, out, err),
         Err(error) => refuse_words(alloc, error, err),

@@ -1,7 +1,7 @@
 // Which commands run today, and which take a script.
 
 ghost use Rattle.std.specs.Prelude.{◌≡◌};
-ghost use Rattle.engine.specs.Commands.{is_whole, runs_today, takes_script};
+ghost use Rattle.engine.specs.Commands.{is_batch, is_whole, runs_today, takes_script};
 
 use ped_words::Command;
 
@@ -17,6 +17,13 @@ pub fn is_whole(command: &Command) -> bool
     ensures { result ≡ is_whole command.now }
 {
     !matches!(command, Command::Stream { .. })
+}
+
+/// Whether the command is a batch, which runs on workers alone.
+pub fn is_batch(command: &Command) -> bool
+    ensures { result ≡ is_batch command.now }
+{
+    matches!(command, Command::Batch { .. })
 }
 
 /// Whether the command is about a script, which it reads from the source.

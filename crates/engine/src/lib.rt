@@ -1,6 +1,7 @@
 //! The program's top calls.
 #![tactic(auto)]
 
+pub mod batch;
 pub mod call;
 pub mod command;
 pub mod laws;

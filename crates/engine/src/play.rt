@@ -10,7 +10,7 @@ ghost use Rattle.strand_meaning.specs.Laws.{IsFaultOf};
 ghost use Rattle.strand_meaning.specs.Strands.{strand_at};
 ghost use Rattle.engine.specs.Promise.{most_bytes};
 ghost use Rattle.engine.specs.Refusal.{IsMisfit};
-ghost use Rattle.engine.specs.Report.{IsPlanOf, IsReplayOf, IsRunOf, IsSpanOf, IsSpanReport, found_report, outcome_ending, plan_of, run_report, shown, span_lines, strand_report};
+ghost use Rattle.engine.specs.Report.{IsPlanIn, IsPlanOf, IsReplayOf, IsRunOf, IsSpanOf, IsSpanReport, found_report, outcome_ending, plan_of, run_report, shown, span_lines, strand_report};
 
 use crate::refusal::Refusal;
 use crate::report::{Ending, Report};
@@ -39,11 +39,13 @@ fn make_plan(settings: Settings, script: Checked) -> Plan
     Plan::new(script, gamma, limits, show, rounds)
 }
 
-// The plan of the script that these bytes are the text of.
-fn planned(alloc: Global, settings: Settings, bytes: &[u8]) -> Result<Arc<Plan>, Refusal>
+/// The plan of the script that these bytes are the text of.
+#[tactic(auto, using(crate::proofs::BatchLemmas::only_plan))]
+pub(crate) fn planned(alloc: Global, settings: Settings, bytes: &[u8]) -> Result<Arc<Plan>, Refusal>
     requires lawful { AreLawful settings }
     requires within { length bytes.now ≤ most_bytes }
     ensures plan { IfOk result (λ plan. IsPlanOf settings bytes.now (arc_value plan)) }
+    ensures only { IfOk result (λ plan. IsPlanIn settings bytes.now (arc_value plan)) }
     ensures refused { IfErr result (IsMisfit IsValid bytes.now) }
 {
     let script = valid_script(alloc, bytes)?;

@@ -71,6 +71,16 @@ impl From<crew::Memory> for Refusal {
     }
 }
 
+impl From<dotmix::Memory> for Refusal {
+    ghost use Rattle.engine.specs.declared.refusal.Refusal.TheVariants as R;
+
+    ghost from_gives = { λ _ e. e ≡ R.Memory };
+
+    fn from(_: dotmix::Memory) -> Self {
+        Refusal::Memory
+    }
+}
+
 impl From<serial_meaning::Memory> for Refusal {
     ghost use Rattle.engine.specs.declared.refusal.Refusal.TheVariants as R;
 

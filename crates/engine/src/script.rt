@@ -35,6 +35,8 @@ pub fn valid_script(alloc: Global, bytes: &[u8]) -> Result<Checked, Refusal>
     ensures script { IfOk result (Text bytes.now) }
     ensures valid { IfOk result IsValid }
     ensures refused { IfErr result (IsMisfit IsValid bytes.now) }
+    ensures one_script { (first second : ScriptTree) → Text bytes.now first → Text bytes.now second
+        → first ≡ second }
 {
     let script = any_script(alloc, bytes)?;
     match check(alloc, script) {

@@ -3,7 +3,7 @@
 ghost use Rattle.std.specs.Prelude.{◌↔◌, IsTrue, map, string_bytes};
 ghost use Rattle.ped_words.specs.Reading.{reading};
 ghost use Rattle.engine.specs.Clauses.{IsCall, change};
-ghost use Rattle.engine.specs.Commands.{IsRun};
+ghost use Rattle.engine.specs.Commands.{IsRun, IsRunWord};
 
 use crate::call::{perform, perform_by_crew};
 use crate::status::Status;
@@ -13,12 +13,19 @@ use std::alloc::Global;
 use std::sync::Wait;
 use std::thread::Threads;
 
-/// Whether the words say the command that runs on workers: the first one is `run`.
+// Whether a word names a command that runs on workers.
+fn is_run_word(word: &str) -> bool
+    ensures { IsTrue result ↔ IsRunWord word.now }
+{
+    matches!(word, "run" | "batch")
+}
+
+/// Whether the words say a command that runs on workers: the first one is `run` or `batch`.
 pub fn is_run(words: &[String]) -> bool
     ensures { IsTrue result ↔ IsRun (map string_bytes words.now) }
 {
     match words {
-        [word, ..] => word.as_str() == "run",
+        [word, ..] => is_run_word(word.as_str()),
         [] => false,
     }
 }
@@ -29,7 +36,7 @@ pub fn is_run(words: &[String]) -> bool
 /// which bytes were read and written then, is `promise`; `words` to `complete` say its parts. Statuses 2 to 7 come with one line on `err`,
 /// and whether `err` takes it changes no status. `events` says what holds of each run.
 ///
-/// The command `run` goes by workers on threads of `rt`, and `gate` is told of their tasks. No clause speaks of the gate, or of the
+/// The commands `run` and `batch` go by workers on threads of `rt`, and `gate` is told of their tasks. No clause speaks of the gate, or of the
 /// number of workers beyond the words.
 pub fn pedrun<R: Threads + Wait + Sync, S: Source, K: Sink, E: Sink, G: Gate + Sync>(
     rt: &R,
@@ -50,7 +57,7 @@ pub fn pedrun<R: Threads + Wait + Sync, S: Source, K: Sink, E: Sink, G: Gate + S
     }
 }
 
-/// What `pedrun` does where the first word isn't `run`, or there is none: it starts no thread, waits for none, and returns.
+/// What `pedrun` does where the first word is neither `run` nor `batch`, or there is none: it starts no thread, waits for none, and returns.
 pub fn pedrun_plain<S: Source, K: Sink, E: Sink>(
     alloc: Global,
     words: &[String],
@@ -65,7 +72,7 @@ pub fn pedrun_plain<S: Source, K: Sink, E: Sink>(
     perform(alloc, words, script, out, err)
 }
 
-/// What `pedrun` does where the first word is `run`. It may wait for its threads.
+/// What `pedrun` does where the first word is `run` or `batch`. It may wait for its threads.
 pub fn pedrun_run<R: Threads + Wait + Sync, S: Source, K: Sink, E: Sink, G: Gate + Sync>(
     rt: &R,
     alloc: Global,

@@ -1,5 +1,5 @@
 -- When a fault may be told: where the object's own count of faults rose.
-use Rattle.std.specs.Prelude.{◌≡◌, ℕ, ◌-◌, ◌^◌, ◌<◌, ◌≤◌, ◌⊎◌, Result, OnErr}
+use Rattle.std.specs.Prelude.{◌≡◌, ℕ, ◌+◌, ◌-◌, ◌^◌, ◌<◌, ◌≤◌, ◌⊎◌, min, Result, OnErr, MatchResult}
 
 -- The count is greater than it was, or stands at a counter's last value, 18446744073709551615.
 abbrev pub Rose : ℕ → ℕ → Type 0
@@ -9,3 +9,11 @@ Rose before now = (before < now) ⊎ (now ≡ 2 ^ 64 - 1)
 pub record HasCause {T E : Type 0} (before now : ℕ) (result : Result T E) : Type 0 where
   pub later : before ≤ now
   pub failed : OnErr result (Rose before now)
+
+-- A counter goes up by one, and stays at its last value, 18446744073709551615.
+abbrev pub next : ℕ → ℕ
+next n = min (n + 1) (2 ^ 64 - 1)
+
+-- The count goes up by one where the call fails, and else stays.
+abbrev pub Counts : {T E : Type 0} → ℕ → ℕ → Result T E → Type 0
+Counts before now result = MatchResult result (λ _. now ≡ before) (λ _. now ≡ next before)

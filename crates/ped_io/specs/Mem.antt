@@ -1,9 +1,6 @@
 -- The source and the sink in memory: their states, and each call as a step from state to state.
-use Rattle.std.specs.Prelude.{◌≡◌, ℕ, ◌+◌, ◌-◌, ◌^◌, ◌≤◌, ◌⊎◌, ◌↔◌, ◌++◌, min, List, length, take, drop, Contains, Result, IsErr, IfOk, OnErr}
-
--- A counter goes up by one, and stays at its last value, 18446744073709551615.
-abbrev pub next : ℕ → ℕ
-next n = min (n + 1) (2 ^ 64 - 1)
+use Rattle.std.specs.Prelude.{◌≡◌, ℕ, ◌-◌, ◌≤◌, ◌⊎◌, ◌↔◌, ◌++◌, min, List, length, take, drop, Contains, Result, IsErr, IfOk, OnErr}
+use Rattle.ped_io.specs.Causes.{next}
 
 pub record SourceState : Type 0 where
   pub left : List ℕ

@@ -1,10 +1,14 @@
 // A source over a reader of std, and a sink over a writer.
-ghost use Rattle.std.specs.Prelude.{◌≡◌};
+ghost use Rattle.std.specs.Prelude.{◌≡◌, ◌<◌, length};
+ghost use Rattle.std.specs.Io.{ReadsAtMost};
+ghost use Rattle.ped_io.specs.Causes.{Counts, HasCause};
+ghost use Rattle.ped_io.specs.Streams.{Reads, TakesSome, Writes};
 
 use crate::stream::{Failed, Sink, Source};
 use std::io::{Read, Write};
 
-/// A source over a reader, which counts the reads that fail.
+/// A source over a reader. A read asks the reader once and hands on what it gives, and the count of faults
+/// rises, by one, exactly where the reader fails.
 ///
 /// It tells the bytes that the reader tells. Standard input tells none.
 #[derive(Debug, Drop)]
@@ -28,7 +32,13 @@ impl<R: Read> Source for StdSource<R> {
 
     ghost faults = { λ s. s.faults };
 
-    fn read(&mut self, buf: &mut [u8]) -> Result<usize, Failed> {
+    fn read(&mut self, buf: &mut [u8]) -> Result<usize, Failed>
+        requires { 0 < length buf.old }
+        ensures bound { ReadsAtMost result buf.new }
+        ensures bytes { Reads (⟦<StdSource<R> as Source>⟧.left self.old) (⟦<StdSource<R> as Source>⟧.left self.new) result buf.new }
+        ensures cause { HasCause (⟦<StdSource<R> as Source>⟧.faults self.old) (⟦<StdSource<R> as Source>⟧.faults self.new) result }
+        ensures count { Counts (⟦<StdSource<R> as Source>⟧.faults self.old) (⟦<StdSource<R> as Source>⟧.faults self.new) result }
+    {
         match self.inner.read(buf) {
             Ok(count) => Ok(count),
             Err(_) => {
@@ -39,7 +49,8 @@ impl<R: Read> Source for StdSource<R> {
     }
 }
 
-/// A sink over a writer, which counts the writes that fail. A write that takes no byte has failed.
+/// A sink over a writer. A write asks the writer once and hands on what it takes, and the count of faults
+/// rises, by one, exactly where the writer fails. A writer that takes no byte has failed.
 ///
 /// It tells the bytes that the writer tells. Standard output and standard error tell none.
 #[derive(Debug, Drop)]
@@ -63,7 +74,13 @@ impl<W: Write> Sink for StdSink<W> {
 
     ghost faults = { λ s. s.faults };
 
-    fn write(&mut self, bytes: &[u8]) -> Result<usize, Failed> {
+    fn write(&mut self, bytes: &[u8]) -> Result<usize, Failed>
+        requires { 0 < length bytes.now }
+        ensures bound { TakesSome result bytes.now }
+        ensures bytes { Writes (⟦<StdSink<W> as Sink>⟧.written self.old) (⟦<StdSink<W> as Sink>⟧.written self.new) result bytes.now }
+        ensures cause { HasCause (⟦<StdSink<W> as Sink>⟧.faults self.old) (⟦<StdSink<W> as Sink>⟧.faults self.new) result }
+        ensures count { Counts (⟦<StdSink<W> as Sink>⟧.faults self.old) (⟦<StdSink<W> as Sink>⟧.faults self.new) result }
+    {
         match self.inner.write(bytes) {
             Ok(count) if 0 < count => Ok(count),
             _ => {

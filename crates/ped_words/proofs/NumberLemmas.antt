@@ -1,5 +1,5 @@
 -- What `parse` says of a word that is a number.
-use Rattle.std.proofs.Common.{◌≡◌, ℕ, ◌<◌, ◌≤◌, ◌^◌, Bool, true, false, cond, ◌&&◌, ltb, leb, Option, Some, None, Err, List, [], ◌∷◌, length, map, refl, sym, ap, ◌∙◌, arith}
+use Rattle.std.proofs.Common.{◌≡◌, ℕ, ◌<◌, ◌≤◌, ◌^◌, Bool, true, false, cond, ◌&&◌, eqb, ltb, leb, Option, Some, None, Err, List, [], ◌∷◌, length, map, refl, sym, ap, ◌∙◌, arith}
 use Rattle.std.specs.Char.{is_ascii_digit}
 use Rattle.std.specs.List.{list_all}
 use Rattle.std.specs.Str.{all_ascii_digits}
@@ -8,8 +8,12 @@ use Rattle.std.proofs.lemmas.Bool.Decides.{nat_tests}
 use Rattle.std.proofs.lemmas.Str.Parse.{IsNumeralModel, numerals_by_value, parse_digits, tells_all_ascii_digits}
 use Rattle.std.specs.Borrow.{Bor}
 use Rattle.std.proofs.lemmas.List.{length-map}
+use Rattle.std.proofs.lemmas.List.Splits.{length-slice_split}
 use Rattle.std.proofs.lemmas.List.Folds.{list_all-map}
 use Rattle.ped_words.specs.Numbers.{AreValues, are_few, is_number, list_rule, number_rule, numbers_of, parts_of, value_of}
+use Rattle.ped_words.specs.Values.{HasCount}
+use Rattle.ped_words.specs.declared.table.Kind.{Kind}
+use Rattle.ped_words.specs.declared.table.Kind.TheVariants.{Numbers}
 use Rattle.ped_words.specs.declared.rule.Rule.TheVariants.{BadValue, OutOfRange}
 
 pub all_digits_same : (bytes : List ℕ) → list_all is_ascii_digit bytes ≡ all_ascii_digits bytes
@@ -77,3 +81,17 @@ module _ (word : List ℕ) (parts : List (Bor (List ℕ))) (split : map (λ (x :
 
     pub list_good : (values : List ℕ) → list_all (λ x. is_number x.now) parts ≡ true → are_few most (length parts) ≡ true → AreValues parts (Some values) → (list_rule most word ≡ None) × (values ≡ numbers_of word)
     list_good values good few are = (judged true true good few are.0, are.1 ∙ sym (map-seen value_of parts) ∙ ap (map value_of) split)
+
+-- A list that breaks no rule has at least one number, and no more than its kind takes.
+pub counted : (most : Option ℕ) (word : List ℕ) → list_rule most word ≡ None → HasCount (Numbers most) (length (numbers_of word))
+counted most word none =
+    let long : length (numbers_of word) ≡ length (parts_of word) = length-map (parts_of word) value_of in
+    let some = length-slice_split (λ c. eqb c 44) word in (
+      omega (arith, long, some),
+      ap (are_few most) long ∙ few (list_all is_number (parts_of word)) (are_few most (length (parts_of word))) (list_all is_small (parts_of word)) none,
+    )
+  where
+    few : (a b c : Bool) → cond a (cond (b && c) None (Some OutOfRange)) (Some BadValue) ≡ None → b ≡ true
+    few true true c e = refl
+    few true false c e = absurd (cc)
+    few false b c e = absurd (cc)

@@ -25,7 +25,7 @@ count_among_le : (names : List Name) (values : Values) → count_among names val
 count_among_le [] values = omega arith
 count_among_le (n ∷ names) values = let one = one_le (is_some (values n)) in let more = count_among_le names values in omega (arith, one, more)
 
-pub count_le : (values : Values) → count_of values ≤ 13
+pub count_le : (values : Values) → count_of values ≤ 14
 count_le values = count_among_le all_names values
 
 -- the values with one that an option gives
@@ -46,6 +46,7 @@ count_more name.Size w values fresh = let b : one_of (is_some (values name.Size)
 count_more name.Rounds w values fresh = let b : one_of (is_some (values name.Rounds)) ≡ 0 = ap one_of fresh in omega (arith, b)
 count_more name.Count w values fresh = let b : one_of (is_some (values name.Count)) ≡ 0 = ap one_of fresh in omega (arith, b)
 count_more name.Below w values fresh = let b : one_of (is_some (values name.Below)) ≡ 0 = ap one_of fresh in omega (arith, b)
+count_more name.Seeds w values fresh = let b : one_of (is_some (values name.Seeds)) ≡ 0 = ap one_of fresh in omega (arith, b)
 
 -- the values with pair k, whose name is this one
 abbrev next_values : List (List ℕ) → ℕ → Option Name → Values

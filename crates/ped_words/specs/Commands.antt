@@ -1,13 +1,15 @@
 -- What holds of every command that words give, so that it can be carried out.
 use Rattle.std.specs.Prelude.{◌≡◌, ℕ, ◌+◌, ◌≤◌, ◌^◌, List, length, IfSome}
 use Rattle.dotmix.specs.Draws.{most_rounds}
+use Rattle.dotmix.specs.Words.{coefficients}
 use Rattle.ped_gen.specs.Shapes.{Fits}
 use Rattle.serial_meaning.specs.Plan.{IsPlan}
+use Rattle.serial_meaning.specs.declared.plan.Limits.{Limits}
 use Rattle.ped_words.specs.Making.{hash_depth}
 use Rattle.ped_words.specs.Pedigrees.{last_rank, most_ranks}
-use Rattle.ped_words.specs.Table.{most_count}
+use Rattle.ped_words.specs.Table.{most_count, most_seeds}
 use Rattle.ped_words.specs.declared.command.Command.{Command}
-use Rattle.ped_words.specs.declared.command.Command.TheVariants.{Run, Serial, Sim, Replay, Hash, Check, Fmt, Gen, Stream, Span}
+use Rattle.ped_words.specs.declared.command.Command.TheVariants.{Run, Serial, Sim, Replay, Hash, Check, Fmt, Gen, Stream, Span, Batch}
 use Rattle.ped_words.specs.declared.command.Settings.{Settings}
 
 -- A script with these settings is a plan.
@@ -29,6 +31,12 @@ pub record IsCount (at : List ℕ) (count : ℕ) : Type 0 where
   pub few : count ≤ most_count
   pub ranks : last_rank at + count ≤ 2 ^ 32
 
+-- Seeds aren't too many, and a script under each of them is a plan.
+pub record IsBatch (seeds : List ℕ) (limits : Limits) (rounds : ℕ) : Type 0 where
+  pub some : 1 ≤ length seeds
+  pub few : length seeds ≤ most_seeds
+  pub plans : (seed : ℕ) → IsPlan (coefficients seed limits.depth) limits rounds
+
 abbrev pub IsLawful : Command → Type 0
 IsLawful (Run settings workers) = AreLawful settings × IsWorkers workers
 IsLawful (Serial settings) = AreLawful settings
@@ -40,3 +48,4 @@ IsLawful Fmt = Unit {0}
 IsLawful (Gen shape size) = Fits shape size
 IsLawful (Stream gamma at count rounds below) = IsHash gamma at rounds × IsCount at count × IfSome below (λ m. 1 ≤ m)
 IsLawful (Span settings) = AreLawful settings
+IsLawful (Batch seeds limits show rounds workers) = IsBatch seeds limits rounds × IsWorkers workers

@@ -7,6 +7,7 @@ use Rattle.dotmix.specs.declared.gamma.GammaError.{GammaError}
 use Rattle.dotmix.specs.declared.gamma.GammaError.TheVariants.{TooMany, TooBig, Memory}
 use Rattle.ped_gen.specs.declared.shape.Shape.{Shape}
 use Rattle.ped_gen.specs.declared.shape.Shape.TheVariants.{Fib, Tree, Loop}
+use Rattle.serial_meaning.specs.declared.plan.Limits.{Limits}
 use Rattle.serial_meaning.specs.declared.plan.Show.TheVariants.{Plain}
 use Rattle.ped_words.specs.Pedigrees.{last_rank}
 use Rattle.ped_words.specs.Rules.{breaks, unless}
@@ -37,6 +38,9 @@ depth_of values = unwrap_or (number values name.Depth) default_depth
 abbrev pub budget_of : Values → ℕ
 budget_of values = unwrap_or (number values name.Budget) 1000000
 
+abbrev pub limits_of : Values → Limits
+limits_of values = record { depth = depth_of values; budget = budget_of values }
+
 abbrev pub workers_of : Values → ℕ
 workers_of values = unwrap_or (number values name.Workers) 4
 
@@ -55,7 +59,7 @@ gamma_of values depth = gamma_from (list values name.Gamma) (unwrap_or (number v
 abbrev pub settings_of : Values → Settings
 settings_of values = record {
   gamma = gamma_of values (depth_of values);
-  limits = record { depth = depth_of values; budget = budget_of values };
+  limits = limits_of values;
   show = unwrap_or (show values) Plain;
   rounds = rounds_of values;
 }
@@ -73,6 +77,8 @@ command_of verb.Gen values = option_and_then (λ s. option_map (λ n. command.Ge
 command_of verb.Stream values =
     option_and_then (λ j. option_map (λ n. command.Stream (gamma_of values hash_depth) j n (rounds_of values) (number values name.Below)) (number values name.Count)) (pedigree values)
 command_of verb.Span values = Some (command.Span (settings_of values))
+command_of verb.Batch values =
+    option_map (λ s. command.Batch s (limits_of values) (unwrap_or (show values) Plain) (rounds_of values) (workers_of values)) (list values name.Seeds)
 
 -- It holds of what is there.
 abbrev pub holds_for : {X : Type 0} → (X → Bool) → Option X → Bool

@@ -33,6 +33,7 @@ verb_of word =
     (codes "gen", verb.Gen) ∷
     (codes "stream", verb.Stream) ∷
     (codes "span", verb.Span) ∷
+    (codes "batch", verb.Batch) ∷
     [])
     word
 
@@ -52,6 +53,7 @@ name_of word =
     (codes "--rounds", name.Rounds) ∷
     (codes "--count", name.Count) ∷
     (codes "--below", name.Below) ∷
+    (codes "--seeds", name.Seeds) ∷
     [])
     word
 
@@ -66,6 +68,7 @@ options verb.Fmt = []
 options verb.Gen = name.Shape ∷ name.Size ∷ []
 options verb.Stream = name.At ∷ name.Count ∷ name.Seed ∷ name.Gamma ∷ name.Rounds ∷ name.Below ∷ []
 options verb.Span = name.Seed ∷ name.Gamma ∷ name.Depth ∷ name.Budget ∷ name.Rounds ∷ []
+options verb.Batch = name.Seeds ∷ name.Depth ∷ name.Budget ∷ name.Workers ∷ name.Show ∷ name.Rounds ∷ []
 
 -- a number for each name, so that names can be compared
 abbrev pub place : Name → ℕ
@@ -82,6 +85,7 @@ place name.Size = 9
 place name.Rounds = 10
 place name.Count = 11
 place name.Below = 12
+place name.Seeds = 13
 
 abbrev pub takes : Verb → Name → Bool
 takes v n = list_any (λ m. place m == place n) (options v)
@@ -89,6 +93,10 @@ takes v n = list_any (λ m. place m == place n) (options v)
 -- a stream has at most so many numbers
 abbrev pub most_count : ℕ
 most_count = 1048576
+
+-- a batch has at most so many seeds
+abbrev pub most_seeds : ℕ
+most_seeds = 256
 
 -- what the value of an option is, and its range
 abbrev pub kind_of : Name → Kind
@@ -105,6 +113,7 @@ kind_of name.Size = kind.Number 0 (2 ^ 64 - 1)
 kind_of name.Rounds = kind.Number 0 most_rounds
 kind_of name.Count = kind.Number 1 most_count
 kind_of name.Below = kind.Number 1 (2 ^ 64 - 1)
+kind_of name.Seeds = kind.Numbers (Some most_seeds)
 
 abbrev pub show_of : List ℕ → Option Show
 show_of word = entry ((codes "plain", show.Plain) ∷ (codes "log", show.Log) ∷ []) word

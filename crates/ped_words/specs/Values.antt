@@ -1,10 +1,10 @@
 -- The values that the options have. After the command stand pairs of a name and a value: pair k, from 0, is the words 2k + 1 and 2k + 2.
-use Rattle.std.specs.Prelude.{◌≡◌, ℕ, zero, suc, ◌+◌, ◌*◌, ◌^◌, ◌<◌, ◌≤◌, length, Bool, false, ◌||◌, ◌==◌, if◌then◌else◌, is_some, option_and_then, Option, Some, None, List, [], ◌∷◌}
+use Rattle.std.specs.Prelude.{◌≡◌, ℕ, zero, suc, ◌+◌, ◌*◌, ◌^◌, ◌<◌, ◌≤◌, length, Bool, true, false, ◌||◌, ◌==◌, if◌then◌else◌, is_some, option_and_then, Option, Some, None, List, [], ◌∷◌}
 use Rattle.std.specs.List.{slice_index_or}
 use Rattle.std.specs.Option.{option_map}
 use Rattle.ped_gen.specs.declared.shape.Shape.{Shape}
 use Rattle.serial_meaning.specs.declared.plan.Show.{Show}
-use Rattle.ped_words.specs.Numbers.{list_rule, number_rule, numbers_of, value_of}
+use Rattle.ped_words.specs.Numbers.{are_few, list_rule, number_rule, numbers_of, value_of}
 use Rattle.ped_words.specs.Pedigrees.{ped_of, ped_rule}
 use Rattle.ped_words.specs.Rules.{kept}
 use Rattle.ped_words.specs.Table.{kind_of, name_of, place, shape_of, show_of}
@@ -106,14 +106,19 @@ abbrev pub IsPlaced : Values → Name → Option (ℕ × ℕ) → Type 0
 IsPlaced values n None = number values n ≡ None
 IsPlaced values n (Some placed) = (number values n ≡ Some placed.0) × (index values n ≡ Some placed.1) × IsWithin (kind_of n) placed.0
 
--- This is the list that is given for coefficients, and the index of its word.
-abbrev pub IsPlacedList : Values → Option (List ℕ × ℕ) → Type 0
-IsPlacedList values None = list values name.Gamma ≡ None
-IsPlacedList values (Some placed) = (list values name.Gamma ≡ Some placed.0) × (index values name.Gamma ≡ Some placed.1)
+-- This is the list that an option gives, and the index of its word.
+abbrev pub IsPlacedList : Values → Name → Option (List ℕ × ℕ) → Type 0
+IsPlacedList values n None = list values n ≡ None
+IsPlacedList values n (Some placed) = (list values n ≡ Some placed.0) × (index values n ≡ Some placed.1)
+
+-- The kind takes so many numbers.
+abbrev pub HasCount : Kind → ℕ → Type 0
+HasCount (kind.Numbers most) n = (1 ≤ n) × (are_few most n ≡ true)
+HasCount _ n = ⊥
 
 abbrev pub all_names : List Name
 all_names =
-    name.Seed ∷ name.Gamma ∷ name.Depth ∷ name.Budget ∷ name.Workers ∷ name.Show ∷ name.Number ∷ name.At ∷ name.Shape ∷ name.Size ∷ name.Rounds ∷ name.Count ∷ name.Below ∷ []
+    name.Seed ∷ name.Gamma ∷ name.Depth ∷ name.Budget ∷ name.Workers ∷ name.Show ∷ name.Number ∷ name.At ∷ name.Shape ∷ name.Size ∷ name.Rounds ∷ name.Count ∷ name.Below ∷ name.Seeds ∷ []
 
 abbrev pub one_of : Bool → ℕ
 one_of b = if b then 1 else 0

@@ -1,6 +1,7 @@
 use dotmix::Gamma;
 use ped_gen::Shape;
 use ped_path::Pedigree;
+use script_grammar::Items;
 use serial_meaning::{Limits, Show};
 
 /// What a run depends on beside its script.
@@ -55,6 +56,15 @@ pub enum Command {
     /// Runs a script on the caller's thread, and prints its work and span. It shows what is plain.
     Span {
         settings: Settings,
+    },
+    /// Runs a script under each of these seeds, from 1 to 256 of them, on so many workers, from 1 to 64. A seed may stand twice. The
+    /// coefficients of a run are its seed's, as many as the depth.
+    Batch {
+        seeds: Items<u64>,
+        limits: Limits,
+        show: Show,
+        rounds: u32,
+        workers: u32,
     },
     /// Prints the draws of so many consecutive ranks, from 1 to 1048576, from a pedigree's own on. The ranks are below 2^32, the
     /// coefficients and rounds as for `Hash`. Each number is printed modulo `below`, which isn't 0, where there is one.

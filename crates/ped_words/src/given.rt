@@ -1,18 +1,19 @@
 // What the pairs after the command give: of each option the word that is its value.
 
 ghost use Rattle.std.specs.Prelude.{◌≡◌, ◌+◌, ◌*◌, ◌<◌, ◌≤◌, ◌^◌, IfErr, IfOk, IfSome, length, map, string_bytes, unwrap_or};
+ghost use Rattle.std.specs.Option.{option_map};
 ghost use Rattle.ped_words.specs.Pedigrees.{most_ranks};
 ghost use Rattle.ped_words.specs.Table.{kind_of, name_of};
-ghost use Rattle.ped_words.specs.Values.{IsPlace, IsPlaced, IsSmall, IsWithin, has, is_name, number, number_as, pedigree, shape, show, values_in, word_at};
+ghost use Rattle.ped_words.specs.Values.{HasCount, IsPlace, IsPlaced, IsPlacedList, IsSmall, IsWithin, has, is_name, list_as, number, number_as, pedigree, shape, show, values_in, word_at};
 
-use crate::number::number_in;
+use crate::number::{number_in, number_list};
 use crate::rule::WordError;
 use crate::table::{Kind, Name};
 use crate::value::{pedigree_in, shape_of, show_of};
 use ped_gen::Shape;
 use ped_path::Pedigree;
 use serial_meaning::Show;
-use std::alloc::Global;
+use std::alloc::{AllocError, Global};
 use std::marker::Model;
 
 /// The words of a command line, of which the first pairs are looked at. Each of these pairs has a value.
@@ -159,6 +160,24 @@ impl<'a> Given<'a> {
         }
     }
 
+    /// The list that an option gives, with the index of its word.
+    pub(crate) fn list(
+        &self,
+        alloc: Global,
+        name: Name,
+    ) -> Result<Option<(Vec<u64>, u32)>, AllocError>
+        ensures value { IfOk result (λ placed. IsPlacedList (values_in self.now) name (option_map (λ p. (p.0.items, p.1)) placed)) }
+        ensures count { IfOk result (λ placed. IfSome placed (λ p. HasCount (kind_of name) (length p.0.items))) }
+    {
+        let Some(at) = self.place(name) else {
+            return Ok(None);
+        };
+        match list_as(alloc, name.kind(), self.text(at))? {
+            Some(list) => Ok(Some((list, at))),
+            None => Ok(None),
+        }
+    }
+
     /// The pedigree that is given.
     pub(crate) fn pedigree(&self, alloc: Global) -> Result<Option<Pedigree>, WordError>
         ensures value { IfOk result (λ j. j ≡ pedigree (values_in self.now)) }
@@ -206,5 +225,20 @@ fn number_as(kind: Kind, word: &str) -> Option<u64>
     match number_in(word, least, most) {
         Ok(number) => Some(number),
         Err(_) => None,
+    }
+}
+
+/// The numbers that a word is, as a value of this kind.
+#[tactic(auto, using(crate::proofs::NumberLemmas::counted))]
+fn list_as(alloc: Global, kind: Kind, word: &str) -> Result<Option<Vec<u64>>, AllocError>
+    ensures value { IfOk result (λ list. option_map (λ l. l.items) list ≡ list_as kind word.now) }
+    ensures count { IfOk result (λ list. IfSome list (λ l. HasCount kind (length l.items))) }
+{
+    let Kind::Numbers { most } = kind else {
+        return Ok(None);
+    };
+    match number_list(alloc, word, most)? {
+        Ok(numbers) => Ok(Some(numbers)),
+        Err(_) => Ok(None),
     }
 }

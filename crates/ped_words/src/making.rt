@@ -1,21 +1,20 @@
 // The command that the given values make, and what is judged after the last word.
 
 ghost use Rattle.std.specs.Prelude.{◌≡◌, ◌<◌, ◌^◌, IfErr, IfOk, None, length, true};
-ghost use Rattle.std.specs.Option.{option_map};
 ghost use Rattle.ped_words.specs.Commands.{AreLawful, IsLawful, IsWorkers};
-ghost use Rattle.ped_words.specs.Making.{budget_of, depth_of, gamma_error, gamma_fits, gamma_of, made, rounds_of, settings_of, unfit, workers_of};
+ghost use Rattle.ped_words.specs.Making.{budget_of, depth_of, gamma_error, gamma_fits, gamma_of, limits_of, made, rounds_of, settings_of, unfit, workers_of};
 ghost use Rattle.ped_words.specs.Rules.{IsRefusal, IsUnlessMemory, breaks};
 ghost use Rattle.ped_words.specs.Table.{kind_of};
-ghost use Rattle.ped_words.specs.Values.{IsPlacedList, IsWithin, values_in};
+ghost use Rattle.ped_words.specs.Values.{IsWithin, values_in};
 
 use crate::command::{Command, Settings};
 use crate::given::Given;
-use crate::number::number_list;
 use crate::rule::{Rule, WordError};
 use crate::table::{Name, Verb};
 use dotmix::{Gamma, GammaError};
+use script_grammar::Items;
 use serial_meaning::{Limits, Show};
-use std::alloc::{AllocError, Global};
+use std::alloc::Global;
 
 /// How long pedigrees may be where no depth is given.
 const DEFAULT_DEPTH: u32 = 256;
@@ -57,6 +56,7 @@ impl<'a> Given<'a> {
             Verb::Span => Ok(Command::Span {
                 settings: self.settings(alloc)?,
             }),
+            Verb::Batch => self.batch(alloc),
         }
     }
 
@@ -153,22 +153,48 @@ impl<'a> Given<'a> {
         })
     }
 
+    /// The command `batch`, which needs seeds.
+    fn batch(&self, alloc: Global) -> Result<Command, WordError>
+        requires { length self.now.words < 2 ^ 32 }
+        ensures value { IsUnlessMemory (made Verb.Batch (values_in self.now) (length self.now.words)) result }
+        ensures lawful { IfOk result IsLawful }
+    {
+        let Some((seeds, _)) = self.list(alloc, Name::Seeds)? else {
+            return Err(self.lacks());
+        };
+        Ok(Command::Batch {
+            seeds: Items(seeds),
+            limits: self.limits(),
+            show: self.show().unwrap_or(Show::Plain),
+            rounds: self.rounds(),
+            workers: self.workers(),
+        })
+    }
+
     fn settings(&self, alloc: Global) -> Result<Settings, WordError>
         ensures ok { IfOk result (λ settings. settings ≡ settings_of (values_in self.now)) }
         ensures fits { IfOk result (λ settings. gamma_fits (values_in self.now) (depth_of (values_in self.now)) ≡ true) }
         ensures err { IfErr result (IsRefusal (unfit (values_in self.now) Name.Gamma (gamma_fits (values_in self.now) (depth_of (values_in self.now))))) }
         ensures lawful { IfOk result AreLawful }
     {
-        let depth = self.depth();
+        let limits = self.limits();
         Ok(Settings {
-            gamma: self.coefficients(alloc, depth)?,
-            limits: Limits {
-                depth,
-                budget: self.budget(),
-            },
+            gamma: self.coefficients(alloc, limits.depth)?,
+            limits,
             show: self.show().unwrap_or(Show::Plain),
             rounds: self.rounds(),
         })
+    }
+
+    fn limits(&self) -> Limits
+        ensures value { result ≡ limits_of (values_in self.now) }
+        ensures depth { IsWithin (kind_of Name.Depth) result.depth }
+        ensures budget { IsWithin (kind_of Name.Budget) result.budget }
+    {
+        Limits {
+            depth: self.depth(),
+            budget: self.budget(),
+        }
     }
 
     fn depth(&self) -> u32
@@ -199,19 +225,6 @@ impl<'a> Given<'a> {
         self.small_number(Name::Rounds, DEFAULT_ROUNDS)
     }
 
-    /// The list that is given for coefficients, with the index of its word.
-    fn list(&self, alloc: Global) -> Result<Option<(Vec<u64>, u32)>, AllocError>
-        ensures { IfOk result (λ placed. IsPlacedList (values_in self.now) (option_map (λ p. (p.0.items, p.1)) placed)) }
-    {
-        let Some(at) = self.place(Name::Gamma) else {
-            return Ok(None);
-        };
-        match number_list(alloc, self.text(at), None)? {
-            Ok(list) => Ok(Some((list, at))),
-            Err(_) => Ok(None),
-        }
-    }
-
     /// The coefficients of this depth, of the list that is given or else of the seed.
     fn coefficients(&self, alloc: Global, depth: u32) -> Result<Gamma, WordError>
         ensures ok { IfOk result (λ gamma. gamma ≡ gamma_of (values_in self.now) depth) }
@@ -219,7 +232,7 @@ impl<'a> Given<'a> {
         ensures err { IfErr result (IsRefusal (unfit (values_in self.now) Name.Gamma (gamma_fits (values_in self.now) depth))) }
         ensures long { IfOk result (λ gamma. length gamma ≡ depth) }
     {
-        match self.list(alloc)? {
+        match self.list(alloc, Name::Gamma)? {
             Some((list, at)) => match Gamma::of_list(alloc, &list, depth) {
                 Ok(gamma) => Ok(gamma),
                 Err(error) => Err(gamma_error(error, at)),

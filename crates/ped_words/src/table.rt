@@ -11,6 +11,9 @@ const MOST_WORKERS: u64 = 64;
 /// How many numbers a stream has at most.
 const MOST_COUNT: u64 = 1_048_576;
 
+/// How many seeds a batch has at most.
+const MOST_SEEDS: u64 = 256;
+
 /// The commands.
 #[derive(Clone, Copy, Debug, PartialEq, Eq)]
 pub(crate) enum Verb {
@@ -24,6 +27,7 @@ pub(crate) enum Verb {
     Gen,
     Stream,
     Span,
+    Batch,
 }
 
 /// The options of all commands.
@@ -42,6 +46,7 @@ pub(crate) enum Name {
     Rounds,
     Count,
     Below,
+    Seeds,
 }
 
 /// What the value of an option is.
@@ -72,6 +77,7 @@ impl Verb {
             "gen" => Some(Verb::Gen),
             "stream" => Some(Verb::Stream),
             "span" => Some(Verb::Span),
+            "batch" => Some(Verb::Batch),
             _ => None,
         }
     }
@@ -121,6 +127,10 @@ impl Verb {
                 name,
                 Name::Seed | Name::Gamma | Name::Depth | Name::Budget | Name::Rounds
             ),
+            Verb::Batch => matches!(
+                name,
+                Name::Seeds | Name::Depth | Name::Budget | Name::Workers | Name::Show | Name::Rounds
+            ),
         }
     }
 }
@@ -144,6 +154,7 @@ impl Name {
             "--rounds" => Some(Name::Rounds),
             "--count" => Some(Name::Count),
             "--below" => Some(Name::Below),
+            "--seeds" => Some(Name::Seeds),
             _ => None,
         }
     }
@@ -197,6 +208,9 @@ impl Name {
             Name::Below => Kind::Number {
                 least: 1,
                 most: u64::MAX,
+            },
+            Name::Seeds => Kind::Numbers {
+                most: Some(MOST_SEEDS),
             },
         }
     }

@@ -2,7 +2,7 @@
 use Rattle.std.specs.Prelude.{ℕ, Bool, false, if◌then◌else◌, Option, Some, None, List, [], ◌∷◌, codes}
 use Rattle.std.specs.Str.{bytes_eq}
 use Rattle.pedrun.specs.declared.help.Topic.{Topic}
-use Rattle.pedrun.specs.declared.help.Topic.TheVariants.{Program, Version, Run, Serial, Check, Fmt, Replay, Hash, Gen, Stream, Span}
+use Rattle.pedrun.specs.declared.help.Topic.TheVariants.{Program, Version, Run, Serial, Check, Fmt, Replay, Hash, Gen, Stream, Span, Batch}
 
 abbrev pub topic_of_command : List ℕ → Option Topic
 topic_of_command word =
@@ -15,6 +15,7 @@ topic_of_command word =
     else if bytes_eq word (codes "gen") then Some Gen
     else if bytes_eq word (codes "stream") then Some Stream
     else if bytes_eq word (codes "span") then Some Span
+    else if bytes_eq word (codes "batch") then Some Batch
     else None
 
 -- the words after a command ask for its help: they are `--help` alone

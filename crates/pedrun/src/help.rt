@@ -22,6 +22,7 @@ pub enum Topic {
     Gen,
     Stream,
     Span,
+    Batch,
 }
 
 // Whether the words after a command ask for its help.
@@ -49,6 +50,7 @@ impl Topic {
             "gen" => Some(Topic::Gen),
             "stream" => Some(Topic::Stream),
             "span" => Some(Topic::Span),
+            "batch" => Some(Topic::Batch),
             _ => None,
         }
     }
@@ -81,6 +83,7 @@ impl Topic {
             Topic::Gen => text::GEN,
             Topic::Stream => text::STREAM,
             Topic::Span => text::SPAN,
+            Topic::Batch => text::BATCH,
         }
     }
 }

@@ -27,6 +27,7 @@ Commands:
   stream   prints the draws of consecutive ranks
   span     prints how many events the script has, and how long their longest
            chain is
+  batch    prints what run prints under each seed of a list
 
 Options, in any order, each at most once:
   --seed N         the seed of the draws, from 0 to 18446744073709551615
@@ -48,10 +49,13 @@ Options, in any order, each at most once:
   --count N        how many draws a stream has, from 1 to 1048576
   --below N        what each draw of a stream is reduced by, from 1 to
                    18446744073709551615 (default: it is printed whole)
+  --seeds N,N,..   the seeds of a batch, from 1 to 256 of them, each from 0 to
+                   18446744073709551615
 
 Exit status:
   0  the whole output was written
-  1  the whole output was written, and its last line is a fault's
+  1  the whole output was written, and its last line is a fault's, or a run of a
+     batch ended by a fault
   2  the words are no command
   3  the script is too long, is no script of the grammar, or isn't valid
   4  a read of the script failed
@@ -269,4 +273,31 @@ script; 4 a failed read; 5 a failed write; 6 no memory.
 
 Example:
   $ pedrun span --seed 7 < examples/pi.ped
+";
+
+/// `pedrun batch --help`.
+pub const BATCH: &str = "\
+Runs the script on standard input under each seed of a list, all on the same
+workers. For each seed, in the list's order, it prints a line with the seed and
+then what pedrun run prints under this seed alone. A fault ends its own run, and
+no other. A seed may stand twice.
+
+Usage: pedrun batch --seeds N,N,.. [--OPTION VALUE]... < SCRIPT
+
+Options, in any order, each at most once:
+  --seeds N,N,..   the seeds, from 1 to 256 of them, each from 0 to
+                   18446744073709551615 (must be given)
+  --depth N        how many ranks a pedigree may have, from 1 to 256
+                   (default 256)
+  --budget N       how many steps each instance may make, from 1 to 4294967295
+                   (default 1000000)
+  --rounds N       how often a draw is mixed, from 0 to 8 (default 4)
+  --workers N      from 1 to 64 (default 4)
+  --show WHAT      plain, or log to see draws and objects too (default plain)
+
+Exit status: 0; 1 where at least one run ended by a fault; 2 faulty words; 3 no
+valid script; 4 a failed read; 5 a failed write; 6 no memory.
+
+Example:
+  $ pedrun batch --seeds 1,2,3,4,5,6 < examples/midpoint.ped
 ";

@@ -1,5 +1,6 @@
 // Runs of the top calls over sources and sinks in memory.
 
+mod batches;
 mod commands;
 mod measures;
 mod runs;
@@ -68,7 +69,7 @@ fn words(alloc: Global, line: &str) -> Result<Vec<String>, Fail> {
     Ok(words)
 }
 
-// A call whose writes take this many bytes and whose read and write of these numbers fail.
+// A call whose reads give and whose writes take this many bytes at most, and fail at these numbers.
 fn call<R: Host, G: Gate + Sync>(
     rt: &R,
     line: &str,
@@ -81,7 +82,7 @@ fn call<R: Host, G: Gate + Sync>(
     let alloc = rt.alloc();
     let step = step.max(1);
     let words = words(alloc, line)?;
-    let mut source = MemSource::new(script, 4096, reads);
+    let mut source = MemSource::new(script, step, reads);
     let mut out = MemSink::new(alloc, step, 1048576, writes)?;
     let mut err = MemSink::new(alloc, 4096, 1048576, Vec::new(alloc))?;
     let status = pedrun(rt, alloc, &words, &mut source, &mut out, &mut err, gate);

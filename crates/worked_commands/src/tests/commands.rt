@@ -1,6 +1,6 @@
 // The commands and their words, and what the streams do to them.
 
-use super::{DRAWS, ONE, SUM, call, compare, generated, prints, refuses, words};
+use super::{DRAWS, ONE, call, compare, generated, prints, refuses, words};
 use engine::{OpenGate, pedrun};
 use ped_io::{MemSink, MemSource};
 use std::test::Fail;
@@ -187,37 +187,38 @@ fn words_that_give_no_command_that_runs_are_refused(rt: HostRuntime) -> Result<(
     Ok(())
 }
 
-// The words, the script, and what is printed before the second read fails.
-static READ_FAULTS: [(&str, &str, &str); 2] = [("run", ONE, ""), ("run --seed 0", ONE, "")];
-
-// A failed read leaves no output.
+// The script's 32 bytes take four reads of 8, and a fifth finds the end. A failed read leaves no output.
 #[test]
 fn a_failed_read_is_told(rt: HostRuntime) -> Result<(), Fail> {
     let alloc = rt.alloc();
-    for &(line, script, front) in &READ_FAULTS {
-        let script = script.as_bytes().to_vec(alloc)?;
-        let reads = vec![in alloc; 1]?;
-        let told = call(&rt, line, script, 4096, reads, Vec::new(alloc), &OpenGate)?;
-        compare(&rt, line, &told, 4, front, "read fault\n");
+    for planned in 0..6u64 {
+        let script = ONE.as_bytes().to_vec(alloc)?;
+        let reads = vec![in alloc; planned]?;
+        let told = call(&rt, "run", script, 8, reads, Vec::new(alloc), &OpenGate)?;
+        if planned < 5 {
+            compare(&rt, "run", &told, 4, "", "read fault\n");
+        } else {
+            compare(&rt, "run", &told, 0, "1\n", "");
+        }
     }
     Ok(())
 }
 
-// The words, the script, the most bytes of a write, and what is printed before the second write fails.
-static WRITE_FAULTS: [(&str, &str, u32, &str); 2] = [
-    ("run --gamma 1", DRAWS, 4, "21\n2"),
-    ("run --seed 7", SUM, 1, "5"),
-];
+// What stands where write 0, 1 or 2 fails: a front of the output.
+static FRONTS: [&str; 3] = ["", "21\n2", "21\n210\n9"];
 
-// A front of the output stands.
 #[test]
 fn a_failed_write_is_told(rt: HostRuntime) -> Result<(), Fail> {
     let alloc = rt.alloc();
-    for &(line, script, step, front) in &WRITE_FAULTS {
-        let script = script.as_bytes().to_vec(alloc)?;
-        let writes = vec![in alloc; 1]?;
-        let told = call(&rt, line, script, step, Vec::new(alloc), writes, &OpenGate)?;
-        compare(&rt, line, &told, 5, front, "write fault\n");
+    let line = "run --gamma 1";
+    for planned in 0..4u64 {
+        let script = DRAWS.as_bytes().to_vec(alloc)?;
+        let writes = vec![in alloc; planned]?;
+        let told = call(&rt, line, script, 4, Vec::new(alloc), writes, &OpenGate)?;
+        match FRONTS.get(planned as usize) {
+            Some(front) => compare(&rt, line, &told, 5, front, "write fault\n"),
+            None => compare(&rt, line, &told, 0, "21\n210\n903\n", ""),
+        }
     }
     Ok(())
 }

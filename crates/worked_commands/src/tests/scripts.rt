@@ -112,6 +112,25 @@ fn scripts_just_within_a_rule_are_taken(rt: HostRuntime) -> Result<(), Fail> {
     Ok(())
 }
 
+// What the script's first bytes are refused by, so many of them.
+fn line_of_front(alloc: Global, length: usize) -> Result<String, Fail> {
+    match length {
+        0 => Ok(String::from_str(alloc, "script: no main at byte 0\n")?),
+        1 => Ok(String::from_str(alloc, "script: unexpected token at byte 0\n")?),
+        _ => Ok(format!(in alloc; "script: unexpected end at byte {length}\n")?),
+    }
+}
+
+#[test]
+fn fronts_are_refused_by_what_is_missing(rt: HostRuntime) -> Result<(), Fail> {
+    for length in 0..ONE.len() {
+        let refusal = line_of_front(rt.alloc(), length)?;
+        let told = plain(&rt, "run", &ONE.as_bytes()[..length])?;
+        compare(&rt, "run", &told, 3, "", refusal.as_str());
+    }
+    Ok(())
+}
+
 #[test]
 fn fronts_of_a_script_are_refused(rt: HostRuntime) -> Result<(), Fail> {
     let script = SQUARES.as_bytes();

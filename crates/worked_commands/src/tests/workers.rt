@@ -23,16 +23,16 @@ const CHILD_AFTER_A_SYNC: &str =
 // A strand is held for at most so many turns of a loop.
 const MOST_TURNS: u32 = 50000000;
 
-// Strands that wait for others, of which so many are to come.
+/// Strands that wait for one another, of which so many are to come.
 #[derive(Drop)]
-struct Meeting {
+pub struct Meeting {
     wanted: u64,
     came: AtomicU64,
     late: AtomicBool,
 }
 
 impl Meeting {
-    fn of(wanted: u64) -> Meeting {
+    pub fn of(wanted: u64) -> Meeting {
         Meeting {
             wanted,
             came: AtomicU64::new(0),
@@ -40,7 +40,8 @@ impl Meeting {
         }
     }
 
-    fn come(&self) {
+    /// One more has come.
+    pub fn come(&self) {
         self.came.fetch_add(1, Ordering::SeqCst);
     }
 
@@ -48,13 +49,13 @@ impl Meeting {
         self.came.load(Ordering::SeqCst) >= self.wanted
     }
 
-    // Whether all came, and none waited in vain.
-    fn took_place(&self) -> bool {
+    /// Whether all came, and none waited in vain.
+    pub fn took_place(&self) -> bool {
         self.is_whole() && !self.late.load(Ordering::SeqCst)
     }
 
-    // Waits until all have come.
-    fn hold(&self) {
+    /// Waits until all have come.
+    pub fn hold(&self) {
         for _ in 0..MOST_TURNS {
             if self.is_whole() {
                 return;

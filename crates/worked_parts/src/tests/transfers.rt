@@ -2,8 +2,9 @@
 use ped_io::{
     Failed, MemSink, MemSource, ReadError, Sink, Source, StdSink, StdSource, read_all, write_all,
 };
-use std::fs;
+use std::io::{ErrorKind, Read, Write};
 use std::test::Fail;
+use std::{fs, io};
 
 const TEXT: &[u8] = b"fn main() { print 1; return 0; }";
 
@@ -114,5 +115,49 @@ fn std_sink_writes_a_file(rt: HostRuntime) -> Result<(), Fail> {
     let mut room = [0u8; 4];
     let mut full = StdSink::new(&mut room[..]);
     assert_eq!(rt; write_all(&mut full, OUTPUT), Err(Failed));
+    Ok(())
+}
+
+/// A device whose first call is interrupted. From the second on it gives and takes one byte a call.
+#[derive(Drop)]
+struct Interrupted {
+    calls: u32,
+}
+
+impl Interrupted {
+    fn next(&mut self) -> io::Result<usize> {
+        self.calls = self.calls.saturating_add(1);
+        if self.calls == 1 {
+            return Err(ErrorKind::Interrupted.into());
+        }
+        Ok(1)
+    }
+}
+
+impl Read for Interrupted {
+    fn read(&mut self, buf: &mut [u8]) -> io::Result<usize> {
+        Ok(self.next()?.min(buf.len()))
+    }
+}
+
+impl Write for Interrupted {
+    fn write(&mut self, bytes: &[u8]) -> io::Result<usize> {
+        Ok(self.next()?.min(bytes.len()))
+    }
+
+    fn flush(&mut self) -> io::Result<()> {
+        Ok(())
+    }
+}
+
+// A failure is told, and not tried again.
+#[test]
+fn a_device_is_asked_once(rt: HostRuntime) -> Result<(), Fail> {
+    let mut source = StdSource::new(Interrupted { calls: 0 });
+    assert_eq!(rt; source.read(&mut [0; 8]), Err(Failed));
+    assert_eq!(rt; source.read(&mut [0; 8]), Ok(1));
+    let mut sink = StdSink::new(Interrupted { calls: 0 });
+    assert_eq!(rt; sink.write(OUTPUT), Err(Failed));
+    assert_eq!(rt; sink.write(OUTPUT), Ok(1));
     Ok(())
 }
