@@ -95,7 +95,7 @@ pass-of t next e = subst (KeepsOf t) e (of-work t t.work)
 pub leads-start : (t : TaskView) → t.cut ≡ None → LeadsTo t t
 leads-start t goes = record { next = λ stop n. n; fewer = omega arith; plan = refl; origin = refl; children = refl; loads = refl; knows = refl; cut = goes }
 
-leads-over : (first now next : TaskView) → LeadsTo first now → LeadsTo now next → LeadsTo first next
+pub leads-over : (first now next : TaskView) → LeadsTo first now → LeadsTo now next → LeadsTo first next
 leads-over first now next h g = record {
   next = λ stop n. h.next stop (g.next stop n);
   fewer = omega (arith, h.fewer, g.fewer);

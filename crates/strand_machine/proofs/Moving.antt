@@ -1,5 +1,5 @@
 -- What a task is after a move of its instance, by what the move showed.
-use Rattle.std.proofs.Common.{◌≡◌, ◌<◌, ℕ, suc, false, List, [], ◌∷◌, ◌++◌, Option, None, Result, Ok, Err, length, replicate, refl, sym, ap, ◌∙◌, subst}
+use Rattle.std.proofs.Common.{◌≡◌, ◌<◌, ℕ, suc, Bool, true, false, List, [], ◌∷◌, ◌++◌, Option, None, Result, Ok, Err, length, replicate, refl, sym, ap, ◌∙◌, subst}
 use Rattle.std.specs.Prelude.{IfOk}
 use Rattle.script_grammar.specs.declared.tree.Name.{Name}
 use Rattle.serial_meaning.specs.Eval.{path_of}
@@ -11,11 +11,14 @@ use Rattle.serial_meaning.specs.declared.origin.Origin.{Origin}
 use Rattle.serial_meaning.specs.declared.value.Value.{Value}
 use Rattle.strand_meaning.specs.Laws.{MovesFall, StepsAreSound}
 use Rattle.strand_meaning.specs.Left.{moves_left}
-use Rattle.strand_meaning.specs.Machine.{move}
+use Rattle.strand_meaning.specs.Machine.{Machine, move}
 use Rattle.strand_meaning.specs.Pieces.{Part, Pieces, tell, tell_at, behind_last}
+use Rattle.strand_meaning.specs.Sound.{IsTask}
+use Rattle.strand_meaning.specs.Task as meaning
 use Rattle.strand_meaning.specs.Task.{own_instance, stops_at, child_in}
 use Rattle.strand_moves.specs.Machines as moves
 use Rattle.strand_moves.specs.Moves.{IsTrailOf, MovesTrail, ShowsTrail, tokens_of, run_of}
+use Rattle.strand_moves.specs.Quick.{IsQuick}
 use Rattle.strand_moves.specs.declared.instance.Instance.{Instance as RawInstance}
 use Rattle.strand_moves.specs.declared.shown.Child.{Child}
 use Rattle.strand_moves.specs.declared.shown.Moved.{Moved}
@@ -27,7 +30,7 @@ use Rattle.strand_machine.specs.Loops.{IsBelow}
 use Rattle.strand_machine.specs.Parts.{awaited, place_of}
 use Rattle.strand_machine.specs.Shown.{shown_task, IsSoundShown}
 use Rattle.strand_machine.specs.Stops.{IsStep, IsRun, LeadsTo, KeepsStep, step_of}
-use Rattle.strand_machine.specs.Tasks.{TaskView, task_of, view_of, fresh_with, cut_of, AwaitsLast, RunsAt, IsSound, gone, waiting, with_child}
+use Rattle.strand_machine.specs.Tasks.{TaskView, task_of, task_with, view_of, fresh_with, cut_of, AwaitsLast, RunsAt, IsSound, gone, waiting, with_child}
 use Rattle.strand_machine.specs.declared.body.Body.{Body}
 use Rattle.strand_machine.specs.declared.place.Place.{Place}
 use Rattle.strand_machine.specs.declared.place.Place.TheVariants as place
@@ -37,7 +40,7 @@ use Rattle.strand_machine.specs.declared.stop.Stop.TheVariants as stop-in
 use Rattle.strand_machine.specs.declared.work.Stage.TheVariants as stage
 use Rattle.strand_machine.specs.declared.work.Work.{Work}
 use Rattle.strand_machine.specs.declared.work.Work.TheVariants as work
-use Rattle.strand_machine.proofs.Advancing.{falls, leads-on}
+use Rattle.strand_machine.proofs.Advancing.{falls, leads-on, leads-over}
 use Rattle.strand_machine.proofs.Dispatch.{awaits-more, pass-sound, pass-is, wait-sound, wait-is, go-went, go-gave, go-faulted, shown-sound}
 
 -- An event changes no child
@@ -302,3 +305,29 @@ module _ (first : TaskView) (b : Body) (i : RawInstance) (h : IsOnRun first b i)
   pub run-is-ok : {X E : Type 0} (f : X → MadeStep) (r : Result X E) → IfOk r (λ x. IsStep (view_of b (work.Runs (stage.Goes i))) (f x)) → IfOk r (λ x. IsRun first (f x))
   run-is-ok f (Ok x) k = run-is (f x) k
   run-is-ok f (Err x) k = tt
+
+-- Quick moves
+
+module _ (first : TaskView) (b : Body) (i j : RawInstance) where
+  -- the same machine in another representation
+  pub on-run-same : IsOnRun first b i → moves.machine_of b.family.plan j ≡ moves.machine_of b.family.plan i → moves.path_of j ≡ moves.path_of i → moves.IsInstance b.family.plan j → IsOnRun first b j
+  on-run-same h same path sound =
+      let w : Machine → meaning.Work = λ m. meaning.Runs (meaning.Goes m) in
+      let P : Machine → Type 0 = λ m. IsTask (task_with b (w m)) in
+      let Q : Machine → Type 0 = λ m. LeadsTo first (record { task = task_with b (w m); children = b.family.children; loads = b.family.loads; knows = b.family.knows; cut = None }) in
+      record {
+        sound = record { task = subst P (sym same) h.sound.task; family = h.sound.family; works = record { sound = sound; at = path ∙ h.sound.works.at } };
+        leads = subst Q (sym same) h.leads;
+      }
+
+pub on-run-over : (first : TaskView) (b c : Body) (i j : RawInstance) → IsOnRun first b i → IsSound c (work.Runs (stage.Goes j)) → LeadsTo (view_of b (work.Runs (stage.Goes i))) (view_of c (work.Runs (stage.Goes j))) → IsOnRun first c j
+on-run-over first b c i j h sound leads = record { sound = sound; leads = leads-over first _ _ h.leads leads }
+
+-- a quick move that was made, as one that shows nothing
+pub quick-made : (plan : PlanView) (path : List ℕ) (m n : Machine) (went : Bool) → went ≡ true → IsQuick plan path m n went → move plan path m ≡ run_of (moved-in.Went shown-in.Nothing) n
+quick-made plan path m n true e h = h
+quick-made plan path m n false e h = absurd (cc)
+
+pub quick-none : (plan : PlanView) (path : List ℕ) (m n : Machine) (went : Bool) → went ≡ false → IsQuick plan path m n went → n ≡ m
+quick-none plan path m n true e h = absurd (cc)
+quick-none plan path m n false e h = h.0

@@ -13,7 +13,6 @@ ghost use Rattle.strand_machine.specs.Tasks.{stage_of, work_of, StandsAt, WorksA
 use crate::memory::Memory;
 use dotmix::Trail;
 use loop_range::IterRange;
-use script_grammar::Items;
 use serial_meaning::{Fault, Origin, Outcome, Plan, Value};
 use std::alloc::Global;
 use strand_family::share_values;
@@ -80,8 +79,7 @@ pub(crate) fn begin(
     let _depth = plan.limits.depth;
     Ok(match origin {
         Origin::Instance { function, args, .. } => {
-            let args = share_values(alloc, args.as_slice())?;
-            Work::Runs(begin_instance(alloc, plan, *function, args, trail)?)
+            Work::Runs(begin_instance(alloc, plan, *function, args.as_slice(), trail)?)
         }
         Origin::Loop { range, .. } => Work::Splits(Left {
             range: *range,
@@ -118,7 +116,7 @@ pub(crate) fn begin_last(
             let mut args = share_values(alloc, rest.as_slice())?;
             args.0.insert(0, Value::Int(number))?;
             let trail = trail.child(alloc, &plan.gamma, k)?;
-            Ok(Work::Runs(begin_instance(alloc, plan, *function, args, trail)?))
+            Ok(Work::Runs(begin_instance(alloc, plan, *function, args.as_slice(), trail)?))
         }
     }
 }
@@ -128,12 +126,12 @@ fn begin_instance(
     alloc: Global,
     plan: &Plan,
     function: u32,
-    args: Items<Value>,
+    args: &[Value],
     trail: Trail,
 ) -> Result<Stage, Memory>
     requires fits { FitsGamma plan.now.gamma trail }
     requires within { length trail.path < plan.now.limits.depth }
-    ensures begun { IfOk result (λ stage. stage_of plan.now stage ≡ begun_stage (begun plan.now function args)) }
+    ensures begun { IfOk result (λ stage. stage_of plan.now stage ≡ begun_stage (begun plan.now function args.now)) }
     ensures stands { IfOk result (StandsAt plan.now trail.path) }
 {
     if function as usize >= plan.functions().len() {

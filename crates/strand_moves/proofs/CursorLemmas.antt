@@ -79,6 +79,10 @@ left-turn body c d st behind h k =
     left-entered body c d (record { part = part.Turn; back = c.next - 1 }) st h k behind.there
     ∙ ap (λ (l : List Stmt). part_of (out-Act (out-Stmt st).act) part.Turn ++ l) (rest-back body c.entered.items c.next st behind.some behind.there ∙ ap (λ (l : List Stmt). st ∷ l) (left-is body c))
 
+pub left-back : (body : List Stmt) (c d : Cursor) (st : Stmt) → IsBehind body c st → d.entered.items ≡ c.entered.items → d.next ≡ c.next - 1 → left_of body d ≡ st ∷ left_of body c
+unfolding left_of
+left-back body c d st behind h k = rw (h, k) (rest-back body c.entered.items c.next st behind.some behind.there)
+
 -- after the next statement
 pub passes : (body : List Stmt) (c d : Cursor) (st : Stmt) → slice_get (block_of body c.entered.items) c.next ≡ Some st → d.entered.items ≡ c.entered.items → d.next ≡ c.next + 1 → Passes body c d st
 unfolding left_of

@@ -10,6 +10,7 @@ use Rattle.strand_values.specs.declared.halt.Halt as values
 use Rattle.strand_values.specs.declared.halt.Halt.TheVariants as halt
 use Rattle.strand_moves.specs.declared.shown.Moved.{Moved}
 use Rattle.strand_moves.specs.Moves.{Makes}
+use Rattle.strand_moves.specs.Quick.{quiet}
 use Rattle.strand_moves.proofs.Equations.{faults}
 
 module _ (run : Run Token Fault Reached) (strand : List ℕ) (m : Machine) where
@@ -26,3 +27,9 @@ module _ (run : Run Token Fault Reached) (strand : List ℕ) (m : Machine) where
   pub shows-fault : (r : Result Moved values.Halt) (kind : FaultKind) → IsErrAnd r (λ y. y ≡ halt.Fault kind) → run ≡ faults kind strand → Makes run strand m r
   shows-fault (Ok s) kind e f = absurd e
   shows-fault (Err y) kind e f = let P : values.Halt → Type 0 = λ z. Makes run strand m (Err z) in subst P (sym e) f
+
+  -- the same of a call that shows nothing
+  pub quiet-exit : {A : Type 0} (r : Result (Unit {0}) values.Halt) (h : values.Halt) (defined : Result A FaultKind) → IsErrAnd r (λ y. y ≡ h) → Gives (Err h) defined →
+      ((kind : FaultKind) → defined ≡ Err kind → run ≡ faults kind strand) → Makes run strand m (quiet r)
+  quiet-exit (Ok u) h defined e g f = absurd e
+  quiet-exit (Err y) h defined e g f = let P : values.Halt → Type 0 = λ z. Makes run strand m (Err z) in subst P (sym e) (shows-halt h defined g f)

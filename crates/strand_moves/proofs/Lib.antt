@@ -1,3 +1,4 @@
+pub mod Assigning
 pub mod BelowLemmas
 pub mod CallLemmas
 pub mod ChildLemmas
@@ -11,4 +12,5 @@ pub mod Going
 pub mod Items
 pub mod LoopEquations
 pub mod Paying
+pub mod QuickLemmas
 pub mod ReplacedLemmas

@@ -2,4 +2,5 @@ pub mod Acts
 pub mod Cursors
 pub mod Machines
 pub mod Moves
+pub mod Quick
 pub mod Running

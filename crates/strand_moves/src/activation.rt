@@ -37,13 +37,13 @@ impl Activation {
         alloc: Global,
         number: u32,
         function: &Function,
-        args: Items<Value>,
+        args: &[Value],
         target: Option<Name>,
     ) -> Result<Activation, Memory>
         ensures function { IfOk result (λ a. a.function ≡ number) }
         ensures left { IfOk result (λ a. left_of function.now.body a.cursor ≡ function.now.body) }
         ensures returning { IfOk result (λ a. a.returning ≡ false) }
-        ensures env { IfOk result (λ a. a.env ≡ bound function.now.params args) }
+        ensures env { IfOk result (λ a. a.env ≡ bound function.now.params args.now) }
         ensures spawned { IfOk result (λ a. a.spawned ≡ false) }
         ensures faulted { IfOk result (λ a. a.faulted ≡ None) }
         ensures target { IfOk result (λ a. a.target ≡ target) }

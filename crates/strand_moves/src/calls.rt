@@ -67,7 +67,7 @@ impl Running {
         ensures steps { self.new.steps ≡ self.old.steps }
     {
         let target = copy_of(alloc, target)?;
-        let callee = Activation::new(alloc, number, function, args, target)?;
+        let callee = Activation::new(alloc, number, function, args.as_slice(), target)?;
         let caller = mem::replace(&mut self.top, callee);
         self.below.push(caller)?;
         Ok(())

@@ -105,6 +105,13 @@ impl Cursor {
         }
     }
 
+    /// Goes back before the statement after which the cursor stands.
+    pub(crate) fn back(&mut self)
+        ensures { (body : List Stmt) (st : Stmt) → IsBehind body self.old st → left_of body self.new ≡ st ∷ left_of body self.old }
+    {
+        self.next = self.next.saturating_sub(1);
+    }
+
     /// Enters a block of the `if` after which the cursor stands.
     pub(crate) fn enter(&mut self, yes: bool) -> Result<(), Memory>
         ensures { IfOk result (λ _. (body : List Stmt) (st : Stmt) → IsBehind body self.old st →

@@ -11,7 +11,7 @@ use crate::memory::Memory;
 use crate::running::Running;
 use crate::shown::Moved;
 use dotmix::Trail;
-use script_grammar::{Items, Name};
+use script_grammar::Name;
 use serial_meaning::{Fault, Plan, Value};
 use std::alloc::Global;
 
@@ -24,19 +24,20 @@ pub struct Instance {
 impl Instance {
     ghost use Rattle.strand_moves.specs.Machines.{IsInstance, machine_of, path_of};
     ghost use Rattle.strand_moves.specs.Moves.{run_of, MovesTrail};
+    ghost use Rattle.strand_moves.specs.Quick.{IsQuick};
 
     /// An instance of the function at this place in the script, before its first move.
     pub fn begin(
         alloc: Global,
         plan: &Plan,
         function: u32,
-        args: Items<Value>,
+        args: &[Value],
         trail: Trail,
     ) -> Result<Instance, Memory>
         requires there { function < length (functions_of plan.now) }
         requires fits { FitsGamma plan.now.gamma trail }
         requires within { length trail.path < plan.now.limits.depth }
-        ensures begins { IfOk result (λ i. begun plan.now function args ≡ Stands (machine_of plan.now i)) }
+        ensures begins { IfOk result (λ i. begun plan.now function args.now ≡ Stands (machine_of plan.now i)) }
         ensures path { IfOk result (λ i. path_of i ≡ trail.path) }
         ensures sound { IfOk result (IsInstance plan.now) }
     {
@@ -55,6 +56,18 @@ impl Instance {
         ensures sound { IfOk result (λ _. IsInstance plan.now self.new) }
     {
         self.running.step(alloc, plan)
+    }
+
+    /// The next move, where it is a statement that shows nothing: it gives a variable the value of an expression, makes an array,
+    /// stores an item, or is an `if` or a `while`, and meets no fault. Otherwise nothing changes, and the answer is no: `step` makes
+    /// each move. Where there was no memory for it the instance is of no more use.
+    pub fn quick(&mut self, alloc: Global, plan: &Plan) -> Result<bool, Memory>
+        requires { IsInstance plan.now self.old }
+        ensures moves { IfOk result (IsQuick plan.now (path_of self.old) (machine_of plan.now self.old) (machine_of plan.now self.new)) }
+        ensures path { path_of self.new ≡ path_of self.old }
+        ensures sound { IfOk result (λ _. IsInstance plan.now self.new) }
+    {
+        self.running.quick(alloc, plan)
     }
 
     /// The rank that it has, or will have once it goes on from the sync or the loop after which it waits.

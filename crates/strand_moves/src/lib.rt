@@ -11,6 +11,7 @@ mod children;
 mod cursor;
 mod instance;
 mod memory;
+mod quick;
 mod right;
 mod running;
 mod shown;

@@ -1,14 +1,18 @@
 // The right sides of `let` and of assignments.
 
-ghost use Rattle.std.specs.Prelude.{◌≡◌, ◌<◌, ◌^◌, ℕ, IfOk};
+ghost use Rattle.std.specs.Prelude.{◌≡◌, ◌<◌, ◌^◌, ℕ, Err, IfOk};
 ghost use Rattle.script_grammar.specs.declared.tree.Act.TheOpen as act;
 ghost use Rattle.script_grammar.specs.declared.tree.Right.TheVariants as right;
 ghost use Rattle.script_grammar.specs.declared.tree.Stmt.{Stmt};
 ghost use Rattle.serial_meaning.specs.Plan.{PlanView};
+ghost use Rattle.serial_meaning.specs.declared.event.FaultKind.{FaultKind};
+ghost use Rattle.strand_values.specs.declared.halt.Halt.TheVariants.{Fault};
 ghost use Rattle.strand_moves.specs.Acts.{Acts, Costs};
 ghost use Rattle.strand_moves.specs.Running.{IsInstance};
 ghost use Rattle.strand_moves.specs.Moves.{MovesTrail};
+ghost use Rattle.strand_moves.specs.Quick.{quiet};
 
+use crate::quick::quiet;
 use crate::running::Running;
 use crate::shown::{Moved, Shown};
 use script_grammar::{Expr, Name, Right};
@@ -32,7 +36,7 @@ impl Running {
         ensures few { Costs self.old self.new }
     {
         match r {
-            Right::Value(e) => self.set_value(alloc, x, e),
+            Right::Value(e) => quiet(self.set_value(alloc, x, e)),
             Right::Draw(_) => self.set_draw(alloc, plan, x),
             Right::New(_) => self.set_new(alloc, x),
             Right::Call(_, c) => self.call(alloc, plan, Some(x), c),
@@ -40,15 +44,13 @@ impl Running {
         }
     }
 
-    fn set_value(&mut self, alloc: Global, x: &Name, e: &Expr) -> Result<Moved, Halt>
-        ensures shows { (plan : PlanView) (st : Stmt) → Acts plan st (act.Set x.now (right.Value e.now)) self.old self.new result }
-        ensures child { (plan : PlanView) → IfOk result (MovesTrail plan) }
+    pub(crate) fn set_value(&mut self, alloc: Global, x: &Name, e: &Expr) -> Result<(), Halt>
+        ensures shows { (plan : PlanView) (st : Stmt) → Acts plan st (act.Set x.now (right.Value e.now)) self.old self.new (quiet result) }
+        ensures same { (kind : FaultKind) → result ≡ Err (Fault kind) → self.new ≡ self.old }
         ensures trail { self.new.trail ≡ self.old.trail }
         ensures few { Costs self.old self.new }
     {
-        let value = self.top.env.value(e)?;
-        self.top.env.set_scalar(alloc, x, value)?;
-        Ok(Moved::Went(Shown::Nothing))
+        self.top.env.assign(alloc, x, e)
     }
 
     fn set_draw(&mut self, alloc: Global, plan: &Plan, x: &Name) -> Result<Moved, Halt>

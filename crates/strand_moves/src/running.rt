@@ -10,7 +10,6 @@ use crate::memory::Memory;
 use crate::shown::Moved;
 use dotmix::Trail;
 use ped_path::Pedigree;
-use script_grammar::Items;
 use serial_meaning::{Fault, FaultKind, Plan, Value};
 use std::alloc::Global;
 use strand_values::Halt;
@@ -36,13 +35,13 @@ impl Running {
         alloc: Global,
         plan: &Plan,
         function: u32,
-        args: Items<Value>,
+        args: &[Value],
         trail: Trail,
     ) -> Result<Running, Memory>
         requires there { function < length (functions_of plan.now) }
         requires fits { FitsGamma plan.now.gamma trail }
         requires within { length trail.path < plan.now.limits.depth }
-        ensures begins { IfOk result (λ i. begun plan.now function args ≡ Stands (machine_of plan.now i)) }
+        ensures begins { IfOk result (λ i. begun plan.now function args.now ≡ Stands (machine_of plan.now i)) }
         ensures path { IfOk result (λ i. path_of i ≡ trail.path) }
         ensures sound { IfOk result (IsInstance plan.now) }
     {

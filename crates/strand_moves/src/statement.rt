@@ -1,16 +1,20 @@
 // Statements.
 
-ghost use Rattle.std.specs.Prelude.{◌≡◌, ◌<◌, ◌≤◌, ◌+◌, ◌^◌, List, IfOk};
+ghost use Rattle.std.specs.Prelude.{◌≡◌, ◌<◌, ◌≤◌, ◌+◌, ◌^◌, List, Err, IfOk};
 ghost use Rattle.script_grammar.specs.declared.tree.Stmt.{Stmt, out-Stmt};
 ghost use Rattle.script_grammar.specs.declared.tree.Act.{out-Act};
 ghost use Rattle.script_grammar.specs.declared.tree.Act.TheOpen as act;
 ghost use Rattle.serial_meaning.specs.Plan.{PlanView};
+ghost use Rattle.serial_meaning.specs.declared.event.FaultKind.{FaultKind};
 ghost use Rattle.strand_meaning.specs.Machine.{statement_move};
+ghost use Rattle.strand_values.specs.declared.halt.Halt.TheVariants.{Fault};
 ghost use Rattle.strand_moves.specs.Acts.{Acts, Costs};
 ghost use Rattle.strand_moves.specs.Cursors.{IsBehind};
 ghost use Rattle.strand_moves.specs.Running.{IsInstance, machine_of, path_of, body_of};
 ghost use Rattle.strand_moves.specs.Moves.{Makes, MovesTrail, strand_of};
+ghost use Rattle.strand_moves.specs.Quick.{quiet};
 
+use crate::quick::quiet;
 use crate::running::Running;
 use crate::shown::{Moved, Shown};
 use script_grammar::{Act, Expr, Name, Number, Stmt};
@@ -37,15 +41,15 @@ impl Running {
         self.pay()?;
         match &statement.act {
             Act::Let(x, r) => self.assign(alloc, plan, x, r),
-            Act::Array(x, n) => self.array(alloc, x, *n),
+            Act::Array(x, n) => quiet(self.array(alloc, x, *n)),
             Act::Set(x, r) => self.assign(alloc, plan, x, r),
-            Act::Store(x, i, e) => self.store(x, i, e),
+            Act::Store(x, i, e) => quiet(self.store(x, i, e)),
             Act::Spawn(c) => self.spawn(alloc, plan, None, c),
             Act::Call(c) => self.call(alloc, plan, None, c),
             Act::Sync => self.wait(),
             Act::Print(e) => self.print(e),
-            Act::If(e, _, _) => self.branch(e),
-            Act::While(e, _) => self.turn(e),
+            Act::If(e, _, _) => quiet(self.branch(e)),
+            Act::While(e, _) => quiet(self.turn(e)),
             Act::Pfor {
                 var: _,
                 lo,
@@ -56,19 +60,19 @@ impl Running {
         }
     }
 
-    fn array(&mut self, alloc: Global, x: &Name, n: Number) -> Result<Moved, Halt>
-        ensures shows { (plan : PlanView) (st : Stmt) → Acts plan st (act.Array x.now n) self.old self.new result }
-        ensures child { (plan : PlanView) → IfOk result (MovesTrail plan) }
+    pub(crate) fn array(&mut self, alloc: Global, x: &Name, n: Number) -> Result<(), Halt>
+        ensures shows { (plan : PlanView) (st : Stmt) → Acts plan st (act.Array x.now n) self.old self.new (quiet result) }
+        ensures same { (kind : FaultKind) → result ≡ Err (Fault kind) → self.new ≡ self.old }
         ensures trail { self.new.trail ≡ self.old.trail }
         ensures few { Costs self.old self.new }
     {
         self.top.env.set_array(alloc, x, count(n.value))?;
-        Ok(Moved::Went(Shown::Nothing))
+        Ok(())
     }
 
-    fn store(&mut self, x: &Name, i: &Expr, e: &Expr) -> Result<Moved, Halt>
-        ensures shows { (plan : PlanView) (st : Stmt) → Acts plan st (act.Store x.now i.now e.now) self.old self.new result }
-        ensures child { (plan : PlanView) → IfOk result (MovesTrail plan) }
+    pub(crate) fn store(&mut self, x: &Name, i: &Expr, e: &Expr) -> Result<(), Halt>
+        ensures shows { (plan : PlanView) (st : Stmt) → Acts plan st (act.Store x.now i.now e.now) self.old self.new (quiet result) }
+        ensures same { (kind : FaultKind) → result ≡ Err (Fault kind) → self.new ≡ self.old }
         ensures trail { self.new.trail ≡ self.old.trail }
         ensures few { Costs self.old self.new }
     {
@@ -78,7 +82,7 @@ impl Running {
         }
         let value = self.top.env.value(e)?;
         self.top.env.set_item(x, index, &value);
-        Ok(Moved::Went(Shown::Nothing))
+        Ok(())
     }
 
     fn wait(&mut self) -> Result<Moved, Halt>
@@ -102,22 +106,22 @@ impl Running {
         Ok(Moved::Went(Shown::Told(Event::Print(self.pedigree()?, value))))
     }
 
-    fn branch(&mut self, e: &Expr) -> Result<Moved, Halt>
+    pub(crate) fn branch(&mut self, e: &Expr) -> Result<(), Halt>
         ensures shows { (plan : PlanView) (st : Stmt) (yes no : List Stmt) → IsBehind (body_of plan self.old.top.function) self.old.top.cursor st →
-            out-Act (out-Stmt st).act ≡ act.If e.now yes no → Acts plan st (act.If e.now yes no) self.old self.new result }
-        ensures child { (plan : PlanView) → IfOk result (MovesTrail plan) }
+            out-Act (out-Stmt st).act ≡ act.If e.now yes no → Acts plan st (act.If e.now yes no) self.old self.new (quiet result) }
+        ensures same { (kind : FaultKind) → result ≡ Err (Fault kind) → self.new ≡ self.old }
         ensures trail { self.new.trail ≡ self.old.trail }
         ensures few { Costs self.old self.new }
     {
         let holds = self.top.env.holds(e)?;
         self.top.cursor.enter(holds)?;
-        Ok(Moved::Went(Shown::Nothing))
+        Ok(())
     }
 
-    fn turn(&mut self, e: &Expr) -> Result<Moved, Halt>
+    pub(crate) fn turn(&mut self, e: &Expr) -> Result<(), Halt>
         ensures shows { (plan : PlanView) (st : Stmt) (body : List Stmt) → IsBehind (body_of plan self.old.top.function) self.old.top.cursor st →
-            out-Act (out-Stmt st).act ≡ act.While e.now body → Acts plan st (act.While e.now body) self.old self.new result }
-        ensures child { (plan : PlanView) → IfOk result (MovesTrail plan) }
+            out-Act (out-Stmt st).act ≡ act.While e.now body → Acts plan st (act.While e.now body) self.old self.new (quiet result) }
+        ensures same { (kind : FaultKind) → result ≡ Err (Fault kind) → self.new ≡ self.old }
         ensures trail { self.new.trail ≡ self.old.trail }
         ensures few { Costs self.old self.new }
     {
@@ -125,6 +129,6 @@ impl Running {
         if holds {
             self.top.cursor.turn()?;
         }
-        Ok(Moved::Went(Shown::Nothing))
+        Ok(())
     }
 }

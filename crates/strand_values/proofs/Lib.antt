@@ -1,3 +1,4 @@
+pub mod BoundLemmas
 pub mod ItemLemmas
 pub mod NumberLemmas
 pub mod PlaceLemmas

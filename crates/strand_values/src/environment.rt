@@ -37,21 +37,22 @@ impl Model for Environment {
 }
 
 impl Environment {
-    /// The parameters with their arguments, as far as there are both. So many more variables can be made without their list growing.
+    /// The parameters with their arguments, as far as there are both; an id shares its memory. So many more variables can be made
+    /// without their list growing.
+    #[tactic(auto, using(crate::proofs::BoundLemmas::bound_step))]
     pub fn bound(
         alloc: Global,
         params: &[Param],
-        args: Items<Value>,
+        args: &[Value],
         more: usize,
     ) -> Result<Environment, Memory>
-        ensures { IfOk result (λ env. env ≡ bound params.now args) }
+        ensures { IfOk result (λ env. env ≡ bound params.now args.now) }
     {
-        let mut variables = Vec::with_capacity(alloc, params.len().saturating_add(more))?;
-        let mut values = args.0.into_iter();
-        for param in params {
-            let Some(value) = values.next() else { break };
-            let slot = Slot::Scalar(value);
-            let name = param.name.bytes.as_slice();
+        let count = params.len().min(args.len());
+        let mut variables = Vec::with_capacity(alloc, count.saturating_add(more))?;
+        for i in 0..count {
+            let slot = Slot::Scalar(args[i].share()?);
+            let name = params[i].name.bytes.as_slice();
             variables.push(Entry::new(alloc, name, slot)?)?;
         }
         Ok(Environment { variables })

@@ -63,18 +63,31 @@ pub(crate) fn integer(variables: &[Entry], e: &Expr) -> Result<i64, Halt>
             Ok(left) => older(variables, left, right.get()),
             Err(halt) => Err(halt),
         },
-        Expr::Compare(left, how, right) => match integer(variables, left.get()) {
+        Expr::Compare(left, how, right) => match operand(variables, left.get()) {
             Ok(left) => comparison(variables, left, *how, right.get()),
             Err(halt) => Err(halt),
         },
-        Expr::Sum(first, rest) => match integer(variables, first.get()) {
+        Expr::Sum(first, rest) => match operand(variables, first.get()) {
             Ok(first) => add(variables, first, rest.as_slice()),
             Err(halt) => Err(halt),
         },
-        Expr::Product(first, rest) => match integer(variables, first.get()) {
+        Expr::Product(first, rest) => match operand(variables, first.get()) {
             Ok(first) => multiply(variables, first, rest.as_slice()),
             Err(halt) => Err(halt),
         },
+    }
+}
+
+/// The number that an operand counts as. A number and a variable, which most operands are, take no call of their own.
+#[inline(always)]
+#[cycle(value)]
+fn operand(variables: &[Entry], e: &Expr) -> Result<i64, Halt>
+    ensures { Gives result (numbered (value_of e.now variables.now)) }
+{
+    match e {
+        Expr::Number(number) => Ok(number.value),
+        Expr::Var(name) => Ok(number_of(variables, name.bytes.as_slice())),
+        _ => integer(variables, e),
     }
 }
 
@@ -92,7 +105,7 @@ fn whole(number: Result<i64, Halt>) -> Result<Value, Halt>
 fn item_at(variables: &[Entry], name: &Name, index: &Expr) -> Result<i64, Halt>
     ensures { Gives (integral result) (node.item_at variables.now name.now.bytes (value_of index.now variables.now)) }
 {
-    let index = integer(variables, index)?;
+    let index = operand(variables, index)?;
     match item(variables, name.bytes.as_slice(), index) {
         Some(item) => Ok(item),
         None => Err(Halt::Fault(FaultKind::Index)),
@@ -126,7 +139,7 @@ fn older(variables: &[Entry], left: Value, right: &Expr) -> Result<i64, Halt>
 fn comparison(variables: &[Entry], left: i64, how: Comparison, right: &Expr) -> Result<i64, Halt>
     ensures { Gives (integral result) (node.comparison left how (value_of right.now variables.now)) }
 {
-    let right = integer(variables, right)?;
+    let right = operand(variables, right)?;
     Ok(truth(compare(how, left, right)))
 }
 
@@ -136,8 +149,8 @@ fn add(variables: &[Entry], first: i64, rest: &[SumPart]) -> Result<i64, Halt>
 {
     let mut total = first;
     for part in rest {
-        let operand = integer(variables, &part.operand)?;
-        total = sum(part.minus, total, operand);
+        let right = operand(variables, &part.operand)?;
+        total = sum(part.minus, total, right);
     }
     Ok(total)
 }
@@ -148,8 +161,8 @@ fn multiply(variables: &[Entry], first: i64, rest: &[ProductPart]) -> Result<i64
 {
     let mut total = first;
     for part in rest {
-        let operand = integer(variables, &part.operand)?;
-        total = product(part.sign, total, operand)?;
+        let right = operand(variables, &part.operand)?;
+        total = product(part.sign, total, right)?;
     }
     Ok(total)
 }

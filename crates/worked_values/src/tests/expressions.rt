@@ -77,7 +77,7 @@ fn environment(alloc: Global) -> Result<Environment, Fail> {
     args.push(Value::Int(7))?;
     args.push(object(alloc, 2)?)?;
     args.push(object(alloc, 5)?)?;
-    let mut environment = Environment::bound(alloc, &params, Items(args), 0)?;
+    let mut environment = Environment::bound(alloc, &params, &args, 0)?;
     environment.set_array(alloc, &name(alloc, "a")?, 3)?;
     Ok(environment)
 }

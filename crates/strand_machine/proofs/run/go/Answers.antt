@@ -1,93 +1,143 @@
-use Rattle.std.proofs.Common.{refl}
+use Rattle.std.proofs.Common.{refl, arith}
 use Rattle.strand_machine.specs.Made.{made}
 use Rattle.strand_machine.specs.Tasks.{view_of}
 use Rattle.strand_machine.specs.declared.work.Stage.TheVariants as stage
 use Rattle.strand_machine.specs.declared.work.Work.TheVariants as work
 use Rattle.strand_machine.proofs.Advancing.{leads-start}
-use Rattle.strand_machine.proofs.Moving.{went-sound, went-is, gave-sound, faulted-sound, syncs-sound, syncs-run, gives-run, faults-run, still-on, still-falls, tells-on, tells-falls, run-is-ok, runs-on}
+use Rattle.strand_machine.proofs.Moving.{went-sound, went-is, gave-sound, faulted-sound, syncs-sound, syncs-run, gives-run, faults-run, still-on, still-falls, tells-on, tells-falls, run-is-ok, runs-on, on-run-over}
 use Rattle.strand_machine.proofs.run.go.Goals as goal
 
 pub loop-instance-init : goal.loop-instance-init
 loop-instance-init c = record { sound = c.requires; leads = leads-start (view_of c.args.parts.now.body (work.Runs (stage.Goes c.args.instance))) refl }
 
 pub step-requires : goal.step-requires
-step-requires c = rw c.plan.ensures c.loop-instance.invariant.sound.works.sound
+step-requires c = rw c.plan.ensures c.in_ok-go_quickly.ensures.sound.works.sound
 
 -- the last move
 
 pub show-requires : goal.show-requires
 show-requires c =
     let l = c.loop-instance in
+    let b = c.go_quickly.new.body in
+    let i = c.go_quickly.new.instance in
+    let q = c.in_ok-go_quickly.ensures in
+    let k = on-run-over _ l.parts.body b l.instance i l.invariant q.sound q.leads in
     let m = c.in_ok-step.ensures in
-    went-sound l.parts.body l.instance c.step.new.self _ _ c.plan.ensures m.moves l.invariant.sound c.steps_are_sound.ensures c.in-Went.shown c.in-Went.is c.step.ensures.path m.sound m.child
+    went-sound b i c.step.new.self _ _ c.plan.ensures m.moves k.sound c.steps_are_sound.ensures c.in-Went.shown c.in-Went.is c.step.ensures.path m.sound m.child
 
 pub wait-requires : goal.wait-requires
 wait-requires c =
     let l = c.loop-instance in
+    let b = c.go_quickly.new.body in
+    let i = c.go_quickly.new.instance in
+    let q = c.in_ok-go_quickly.ensures in
+    let k = on-run-over _ l.parts.body b l.instance i l.invariant q.sound q.leads in
     let s = c.in-Went-Synced in
     let m = c.in_ok-step.ensures in
-    syncs-sound l.parts.body l.instance c.step.new.self _ _ c.plan.ensures m.moves l.invariant.sound c.steps_are_sound.ensures s.field-0 s.event c.tell-in-Went-Synced.new.self s.is s.field-0-is c.in_ok-tell-in-Went-Synced.ensures c.step.ensures.path m.sound m.child
+    syncs-sound b i c.step.new.self _ _ c.plan.ensures m.moves k.sound c.steps_are_sound.ensures s.field-0 s.event c.tell-in-Went-Synced.new.self s.is s.field-0-is c.in_ok-tell-in-Went-Synced.ensures c.step.ensures.path m.sound m.child
 
 pub give-requires : goal.give-requires
 give-requires c =
     let l = c.loop-instance in
-    gave-sound l.parts.body l.instance c.step.new.self _ _ c.plan.ensures c.in_ok-step.ensures.moves l.invariant.sound c.steps_are_sound.ensures c.in-Gave.value c.in-Gave.is
+    let b = c.go_quickly.new.body in
+    let i = c.go_quickly.new.instance in
+    let q = c.in_ok-go_quickly.ensures in
+    let k = on-run-over _ l.parts.body b l.instance i l.invariant q.sound q.leads in
+    gave-sound b i c.step.new.self _ _ c.plan.ensures c.in_ok-step.ensures.moves k.sound c.steps_are_sound.ensures c.in-Gave.value c.in-Gave.is
 
 pub fault-requires : goal.fault-requires
 fault-requires c =
     let l = c.loop-instance in
-    faulted-sound l.parts.body l.instance c.step.new.self _ _ c.plan.ensures c.in_ok-step.ensures.moves l.invariant.sound c.steps_are_sound.ensures c.in-Faulted.own c.in-Faulted.is
+    let b = c.go_quickly.new.body in
+    let i = c.go_quickly.new.instance in
+    let q = c.in_ok-go_quickly.ensures in
+    let k = on-run-over _ l.parts.body b l.instance i l.invariant q.sound q.leads in
+    faulted-sound b i c.step.new.self _ _ c.plan.ensures c.in_ok-step.ensures.moves k.sound c.steps_are_sound.ensures c.in-Faulted.own c.in-Faulted.is
 
 pub returns-in-Went-clause-step : goal.returns-in-Went-clause-step
 returns-in-Went-clause-step c =
     let l = c.loop-instance in
-    run-is-ok _ l.parts.body l.instance l.invariant (made c.show.new.parts) c.show.result
-    (went-is l.parts.body l.instance c.step.new.self _ _ c.plan.ensures c.in_ok-step.ensures.moves l.invariant.sound (made c.show.new.parts) c.in-Went.shown c.show.result c.in-Went.is c.show.ensures.step c.show.ensures.keeps)
+    let b = c.go_quickly.new.body in
+    let i = c.go_quickly.new.instance in
+    let q = c.in_ok-go_quickly.ensures in
+    let k = on-run-over _ l.parts.body b l.instance i l.invariant q.sound q.leads in
+    run-is-ok _ b i k (made c.show.new.parts) c.show.result
+    (went-is b i c.step.new.self _ _ c.plan.ensures c.in_ok-step.ensures.moves k.sound (made c.show.new.parts) c.in-Went.shown c.show.result c.in-Went.is c.show.ensures.step c.show.ensures.keeps)
 
 pub returns-in-Went-Synced-clause-step : goal.returns-in-Went-Synced-clause-step
 returns-in-Went-Synced-clause-step c =
     let l = c.loop-instance in
+    let b = c.go_quickly.new.body in
+    let i = c.go_quickly.new.instance in
+    let q = c.in_ok-go_quickly.ensures in
+    let k = on-run-over _ l.parts.body b l.instance i l.invariant q.sound q.leads in
     let s = c.in-Went-Synced in
-    syncs-run l.parts.body l.instance c.step.new.self _ _ c.plan.ensures c.in_ok-step.ensures.moves l.invariant.sound c.moves_fall.ensures _ l.invariant.leads s.field-0 s.event c.tell-in-Went-Synced.new.self s.is s.field-0-is
-    c.in_ok-tell-in-Went-Synced.ensures (runs-on l.parts.body l.instance c.step.new.self _ _ c.plan.ensures c.in_ok-step.ensures.moves l.invariant.sound c.step.ensures.path c.in_ok-step.ensures.sound) _ c.wait.ensures.made
+    syncs-run b i c.step.new.self _ _ c.plan.ensures c.in_ok-step.ensures.moves k.sound c.moves_fall.ensures _ k.leads s.field-0 s.event c.tell-in-Went-Synced.new.self s.is s.field-0-is
+    c.in_ok-tell-in-Went-Synced.ensures (runs-on b i c.step.new.self _ _ c.plan.ensures c.in_ok-step.ensures.moves k.sound c.step.ensures.path c.in_ok-step.ensures.sound) _ c.wait.ensures.made
 
 pub returns-in-Gave-clause-step : goal.returns-in-Gave-clause-step
 returns-in-Gave-clause-step c =
     let l = c.loop-instance in
-    gives-run l.parts.body l.instance c.step.new.self _ _ c.plan.ensures c.in_ok-step.ensures.moves l.invariant.sound c.moves_fall.ensures _ l.invariant.leads c.in-Gave.value c.in-Gave.is _ c.give.ensures.step
+    let b = c.go_quickly.new.body in
+    let i = c.go_quickly.new.instance in
+    let q = c.in_ok-go_quickly.ensures in
+    let k = on-run-over _ l.parts.body b l.instance i l.invariant q.sound q.leads in
+    gives-run b i c.step.new.self _ _ c.plan.ensures c.in_ok-step.ensures.moves k.sound c.moves_fall.ensures _ k.leads c.in-Gave.value c.in-Gave.is _ c.give.ensures.step
 
 pub returns-in-Faulted-clause-step : goal.returns-in-Faulted-clause-step
 returns-in-Faulted-clause-step c =
     let l = c.loop-instance in
-    faults-run l.parts.body l.instance c.step.new.self _ _ c.plan.ensures c.in_ok-step.ensures.moves l.invariant.sound c.moves_fall.ensures _ l.invariant.leads c.in-Faulted.own c.in-Faulted.is _ c.fault.ensures.step
+    let b = c.go_quickly.new.body in
+    let i = c.go_quickly.new.instance in
+    let q = c.in_ok-go_quickly.ensures in
+    let k = on-run-over _ l.parts.body b l.instance i l.invariant q.sound q.leads in
+    faults-run b i c.step.new.self _ _ c.plan.ensures c.in_ok-step.ensures.moves k.sound c.moves_fall.ensures _ k.leads c.in-Faulted.own c.in-Faulted.is _ c.fault.ensures.step
 
 -- the moves before it: nothing
 
 pub loop-instance-smaller-in-Went-Nothing : goal.loop-instance-smaller-in-Went-Nothing
 loop-instance-smaller-in-Went-Nothing c =
     let l = c.loop-instance in
+    let b = c.go_quickly.new.body in
+    let i = c.go_quickly.new.instance in
+    let q = c.in_ok-go_quickly.ensures in
+    let k = on-run-over _ l.parts.body b l.instance i l.invariant q.sound q.leads in
     let s = c.in-Went-Nothing in
-    still-falls l.parts.body l.instance c.step.new.self _ _ c.plan.ensures c.in_ok-step.ensures.moves l.invariant.sound c.moves_fall.ensures s.field-0 s.is s.field-0-is
+    let falls = still-falls b i c.step.new.self _ _ c.plan.ensures c.in_ok-step.ensures.moves k.sound c.moves_fall.ensures s.field-0 s.is s.field-0-is in
+    omega (arith, falls, q.leads.fewer)
 
 pub loop-instance-preserved-in-Went-Nothing : goal.loop-instance-preserved-in-Went-Nothing
 loop-instance-preserved-in-Went-Nothing c =
     let l = c.loop-instance in
+    let b = c.go_quickly.new.body in
+    let i = c.go_quickly.new.instance in
+    let q = c.in_ok-go_quickly.ensures in
+    let k = on-run-over _ l.parts.body b l.instance i l.invariant q.sound q.leads in
     let s = c.in-Went-Nothing in
     let m = c.in_ok-step.ensures in
-    still-on l.parts.body l.instance c.step.new.self _ _ c.plan.ensures m.moves l.invariant.sound c.steps_are_sound.ensures c.moves_fall.ensures _ l.invariant.leads s.field-0 s.is s.field-0-is c.step.ensures.path m.sound m.child
+    still-on b i c.step.new.self _ _ c.plan.ensures m.moves k.sound c.steps_are_sound.ensures c.moves_fall.ensures _ k.leads s.field-0 s.is s.field-0-is c.step.ensures.path m.sound m.child
 
 -- an event
 
 pub loop-instance-smaller : goal.loop-instance-smaller
 loop-instance-smaller c =
     let l = c.loop-instance in
+    let b = c.go_quickly.new.body in
+    let i = c.go_quickly.new.instance in
+    let q = c.in_ok-go_quickly.ensures in
+    let k = on-run-over _ l.parts.body b l.instance i l.invariant q.sound q.leads in
     let s = c.in-Went-Told in
-    tells-falls l.parts.body l.instance c.step.new.self _ _ c.plan.ensures c.in_ok-step.ensures.moves l.invariant.sound c.moves_fall.ensures s.field-0 s.event c.tell.new.self s.is s.field-0-is c.in_ok-tell-in-Went-Told.ensures
+    let falls = tells-falls b i c.step.new.self _ _ c.plan.ensures c.in_ok-step.ensures.moves k.sound c.moves_fall.ensures s.field-0 s.event c.tell.new.self s.is s.field-0-is c.in_ok-tell-in-Went-Told.ensures in
+    omega (arith, falls, q.leads.fewer)
 
 pub loop-instance-preserved : goal.loop-instance-preserved
 loop-instance-preserved c =
     let l = c.loop-instance in
+    let b = c.go_quickly.new.body in
+    let i = c.go_quickly.new.instance in
+    let q = c.in_ok-go_quickly.ensures in
+    let k = on-run-over _ l.parts.body b l.instance i l.invariant q.sound q.leads in
     let s = c.in-Went-Told in
     let m = c.in_ok-step.ensures in
-    tells-on l.parts.body l.instance c.step.new.self _ _ c.plan.ensures m.moves l.invariant.sound c.steps_are_sound.ensures c.moves_fall.ensures _ l.invariant.leads s.field-0 s.event c.tell.new.self s.is s.field-0-is
+    tells-on b i c.step.new.self _ _ c.plan.ensures m.moves k.sound c.steps_are_sound.ensures c.moves_fall.ensures _ k.leads s.field-0 s.event c.tell.new.self s.is s.field-0-is
     c.in_ok-tell-in-Went-Told.ensures c.step.ensures.path m.sound m.child

@@ -5,23 +5,23 @@ use Rattle.strand_values.specs.Gives.{numbered, integral}
 use Rattle.strand_values.proofs.NumberLemmas.{whole_gives, comparison_is_int, sum_gives, product_gives, sum_is_int, product_is_int, product_of_one, value_of_sum, value_of_product, value_of_comparison}
 use Rattle.strand_values.proofs.value.+value.Goals as goal
 
-pub integer-returns-in-Ok-integer-2 : goal.integer-returns-in-Ok-integer-2
-integer-returns-in-Ok-integer-2 t c =
+pub integer-returns-in-Ok-operand-2 : goal.integer-returns-in-Ok-operand-2
+integer-returns-in-Ok-operand-2 t c =
     let env = c.args.variables.now in
-    let n = c.in-Ok-integer-2.first in
+    let n = c.in-Ok-operand-2.first in
     let fits : SFits w64 n = search rules in
-    let known = rw c.get-in-Sum.ensures at c.in-Ok-integer-2.ensures in
+    let known = rw c.get-in-Sum.ensures at c.in-Ok-operand-2.ensures in
     rw (c.in-Sum.is, value_of_sum env c.in-Sum.first c.in-Sum.rest)
-    (sum_gives env (value_of c.in-Sum.first env) n (map sum_part c.in-Sum.rest) c.add.result known (rw (c.as_slice-in-Ok-integer-2.ensures, to_z-of_z w64 n fits) at c.add.ensures))
+    (sum_gives env (value_of c.in-Sum.first env) n (map sum_part c.in-Sum.rest) c.add.result known (rw (c.as_slice-in-Ok-operand-2.ensures, to_z-of_z w64 n fits) at c.add.ensures))
 
-pub integer-returns-in-Ok-integer-3 : goal.integer-returns-in-Ok-integer-3
-integer-returns-in-Ok-integer-3 t c =
+pub integer-returns-in-Ok-operand-3 : goal.integer-returns-in-Ok-operand-3
+integer-returns-in-Ok-operand-3 t c =
     let env = c.args.variables.now in
-    let n = c.in-Ok-integer-3.first in
+    let n = c.in-Ok-operand-3.first in
     let fits : SFits w64 n = search rules in
-    let known = rw c.get-in-Product.ensures at c.in-Ok-integer-3.ensures in
+    let known = rw c.get-in-Product.ensures at c.in-Ok-operand-3.ensures in
     rw (c.in-Product.is, value_of_product env c.in-Product.first c.in-Product.rest)
-    (product_gives env (value_of c.in-Product.first env) n (map product_part c.in-Product.rest) c.multiply.result known (rw (c.as_slice-in-Ok-integer-3.ensures, to_z-of_z w64 n fits) at c.multiply.ensures))
+    (product_gives env (value_of c.in-Product.first env) n (map product_part c.in-Product.rest) c.multiply.result known (rw (c.as_slice-in-Ok-operand-3.ensures, to_z-of_z w64 n fits) at c.multiply.ensures))
 
 pub value-returns-else-is_empty : goal.value-returns-else-is_empty
 value-returns-else-is_empty t c =

@@ -1,9 +1,10 @@
 use Rattle.strand_moves.specs.Running.{machine_of, path_of}
 use Rattle.strand_moves.proofs.Paying.{call-at, spawn-at}
+use Rattle.strand_moves.proofs.QuickLemmas.{quiet-child}
 use Rattle.strand_moves.proofs.running.Running.assign.Goals as goal
 
 pub returns-in-Value-clause-shows : goal.returns-in-Value-clause-shows
-returns-in-Value-clause-shows c = λ st. rw c.in-Value.is (c.set_value.ensures.shows c.args.plan.now st)
+returns-in-Value-clause-shows c = λ st. rw (c.in-Value.is, c.quiet.ensures) (c.set_value.ensures.shows c.args.plan.now st)
 
 pub returns-in-Draw-clause-shows : goal.returns-in-Draw-clause-shows
 returns-in-Draw-clause-shows c = λ st. rw c.in-Draw.is (c.set_draw.ensures.shows st c.in-Draw.field-0)
@@ -24,7 +25,7 @@ returns-in-Spawn-clause-shows c = λ st.
     rw (c.in-Spawn.is, spawn-at c.args.plan.now (path_of i) m st c.args.x.now c.in-Spawn.field-0 c.in-Spawn.c) (c.spawn.ensures.shows st)
 
 pub returns-in-Value-clause-child : goal.returns-in-Value-clause-child
-returns-in-Value-clause-child c = c.set_value.ensures.child c.args.plan.now
+returns-in-Value-clause-child c = rw c.quiet.ensures (quiet-child c.args.plan.now c.set_value.result)
 
 pub returns-in-Draw-clause-child : goal.returns-in-Draw-clause-child
 returns-in-Draw-clause-child c = c.set_draw.ensures.child c.args.plan.now

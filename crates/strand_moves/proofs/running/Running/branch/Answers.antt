@@ -7,14 +7,14 @@ use Rattle.strand_values.specs.Gives.{holding}
 use Rattle.strand_moves.proofs.Conditions.{holding-known, holding-fault}
 use Rattle.strand_moves.proofs.Entering.{branch-into}
 use Rattle.strand_moves.proofs.Equations.{branch-fault}
-use Rattle.strand_moves.proofs.Exits.{shows-exit}
+use Rattle.strand_moves.proofs.Exits.{quiet-exit}
 use Rattle.strand_moves.proofs.running.Running.branch.Goals as goal
 
 pub returns-in_err-holds-clause-shows : goal.returns-in_err-holds-clause-shows
 returns-in_err-holds-clause-shows c = λ plan st first second behind a.
     let i = c.args.self.now in
     let d = value_of c.args.e.now i.top.env in
-    shows-exit (acted plan (path_of i) (machine_of plan i) st (act.If c.args.e.now first second)) (strand_of (path_of i) (machine_of plan i)) _ c.from_residual.result c.in_err-holds.field-0.0
+    quiet-exit (acted plan (path_of i) (machine_of plan i) st (act.If c.args.e.now first second)) (strand_of (path_of i) (machine_of plan i)) _ c.from_residual.result c.in_err-holds.field-0.0
     (holding d) c.from_residual.ensures.1 c.in_err-holds.ensures (λ kind h. branch-fault plan (path_of i) (machine_of plan i) st c.args.e.now first second kind (holding-fault d kind h))
 
 pub returns-clause-shows : goal.returns-clause-shows

@@ -1,19 +1,14 @@
-use Rattle.strand_moves.specs.Moves.{acted, strand_of}
-use Rattle.strand_moves.specs.Running.{machine_of, path_of}
-use Rattle.strand_moves.proofs.Equations.{set-value, set-value-fault}
-use Rattle.strand_moves.proofs.Exits.{shows-exit}
-use Rattle.script_grammar.specs.declared.tree.Act.TheOpen as act
-use Rattle.script_grammar.specs.declared.tree.Right.TheVariants as right
-use Rattle.serial_meaning.specs.Values.{value_of}
+use Rattle.std.proofs.Common.{ap}
+use Rattle.strand_moves.proofs.Assigning.{assigned-acts, on-err}
+use Rattle.strand_moves.specs.declared.running.Running.{Running}
+use Rattle.serial_meaning.specs.Values.{Env}
 use Rattle.strand_moves.proofs.running.Running.set_value.Goals as goal
-
-pub returns-in_err-value-clause-shows : goal.returns-in_err-value-clause-shows
-returns-in_err-value-clause-shows c = λ plan st.
-    let i = c.args.self.now in
-    shows-exit (acted plan (path_of i) (machine_of plan i) st (act.Set c.args.x.now (right.Value c.args.e.now))) (strand_of (path_of i) (machine_of plan i)) _ c.from_residual.result c.in_err-value.field-0.0
-    (value_of c.args.e.now i.top.env) c.from_residual.ensures.1 c.in_err-value.ensures (set-value-fault plan (path_of i) (machine_of plan i) st c.args.x.now c.args.e.now)
 
 pub returns-clause-shows : goal.returns-clause-shows
 returns-clause-shows c = λ plan st.
+    assigned-acts plan c.args.self.now c.assign.new.self st c.args.x.now c.args.e.now c.assign.result c.assign.ensures.ok c.assign.ensures.fault
+
+pub returns-clause-same : goal.returns-clause-same
+returns-clause-same c = λ kind h.
     let i = c.args.self.now in
-    set-value plan (path_of i) (machine_of plan i) st c.args.x.now c.args.e.now c.in_ok-value.value c.set_scalar.new.self c.in_ok-value.ensures c.in_ok-set_scalar.ensures.ok
+    ap (λ (env : Env). let r : Running = record i { top = record i.top { env = env } } in r) (on-err c.assign.result _ _ c.assign.ensures.err h)

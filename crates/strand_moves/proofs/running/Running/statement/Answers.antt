@@ -4,6 +4,7 @@ use Rattle.strand_moves.specs.Running.{machine_of, path_of}
 use Rattle.strand_moves.specs.Moves.{acted, strand_of}
 use Rattle.strand_moves.proofs.Equations.{let-is-set}
 use Rattle.strand_moves.proofs.Paying.{act-is, shows-same, statement-paid, paid-behind}
+use Rattle.strand_moves.proofs.QuickLemmas.{quiet-child}
 use Rattle.strand_moves.proofs.running.Running.statement.Goals as goal
 
 pub returns-in-Let-clause-shows : goal.returns-in-Let-clause-shows
@@ -23,7 +24,7 @@ returns-in-Array-clause-shows c =
     let p = c.pay.new.self in
     let st = c.args.statement.now in
     let is = act-is (act.Array c.in-Array.x c.in-Array.n) st.act (variant.Array c.in-Array.x c.in-Array.n) c.in-Array.is (variant.rolls-Array c.in-Array.x c.in-Array.n) in
-    statement-paid plan c.args.self.now p p.steps c.in_ok-pay.ensures.ok c.in_ok-pay.ensures.paid st (act.Array c.in-Array.x c.in-Array.n) c.array.new.self c.array.result is (c.array.ensures.shows plan st)
+    statement-paid plan c.args.self.now p p.steps c.in_ok-pay.ensures.ok c.in_ok-pay.ensures.paid st (act.Array c.in-Array.x c.in-Array.n) c.array.new.self c.quiet.result is (rw c.quiet.ensures (c.array.ensures.shows plan st))
 
 pub returns-in-Set-clause-shows : goal.returns-in-Set-clause-shows
 returns-in-Set-clause-shows c =
@@ -39,7 +40,7 @@ returns-in-Store-clause-shows c =
     let p = c.pay.new.self in
     let st = c.args.statement.now in
     let is = act-is (act.Store c.in-Store.x c.in-Store.i c.in-Store.e) st.act (variant.Store c.in-Store.x c.in-Store.i c.in-Store.e) c.in-Store.is (variant.rolls-Store c.in-Store.x c.in-Store.i c.in-Store.e) in
-    statement-paid plan c.args.self.now p p.steps c.in_ok-pay.ensures.ok c.in_ok-pay.ensures.paid st (act.Store c.in-Store.x c.in-Store.i c.in-Store.e) c.store.new.self c.store.result is (c.store.ensures.shows plan st)
+    statement-paid plan c.args.self.now p p.steps c.in_ok-pay.ensures.ok c.in_ok-pay.ensures.paid st (act.Store c.in-Store.x c.in-Store.i c.in-Store.e) c.store.new.self c.quiet-in-Store.result is (rw c.quiet-in-Store.ensures (c.store.ensures.shows plan st))
 
 pub returns-in-Spawn-clause-shows : goal.returns-in-Spawn-clause-shows
 returns-in-Spawn-clause-shows c =
@@ -83,8 +84,8 @@ returns-in-If-clause-shows c =
     let st = c.args.statement.now in
     let is = act-is (act.If c.in-If.e c.in-If.field-1 c.in-If.field-2) st.act (variant.If c.in-If.e c.in-If.field-1 c.in-If.field-2) c.in-If.is (variant.rolls-If c.in-If.e c.in-If.field-1 c.in-If.field-2) in
     let behind = paid-behind plan c.args.self.now p p.steps c.in_ok-pay.ensures.ok c.in_ok-pay.ensures.paid st c.requires.behind in
-    statement-paid plan c.args.self.now p p.steps c.in_ok-pay.ensures.ok c.in_ok-pay.ensures.paid st (act.If c.in-If.e c.in-If.field-1 c.in-If.field-2) c.branch-self.new.self c.branch-self.result is
-    (c.branch-self.ensures.shows plan st c.in-If.field-1 c.in-If.field-2 behind is)
+    statement-paid plan c.args.self.now p p.steps c.in_ok-pay.ensures.ok c.in_ok-pay.ensures.paid st (act.If c.in-If.e c.in-If.field-1 c.in-If.field-2) c.branch-self.new.self c.quiet-in-If.result is
+    (rw c.quiet-in-If.ensures (c.branch-self.ensures.shows plan st c.in-If.field-1 c.in-If.field-2 behind is))
 
 pub returns-in-While-clause-shows : goal.returns-in-While-clause-shows
 returns-in-While-clause-shows c =
@@ -93,8 +94,8 @@ returns-in-While-clause-shows c =
     let st = c.args.statement.now in
     let is = act-is (act.While c.in-While.e c.in-While.field-1) st.act (variant.While c.in-While.e c.in-While.field-1) c.in-While.is (variant.rolls-While c.in-While.e c.in-While.field-1) in
     let behind = paid-behind plan c.args.self.now p p.steps c.in_ok-pay.ensures.ok c.in_ok-pay.ensures.paid st c.requires.behind in
-    statement-paid plan c.args.self.now p p.steps c.in_ok-pay.ensures.ok c.in_ok-pay.ensures.paid st (act.While c.in-While.e c.in-While.field-1) c.turn.new.self c.turn.result is
-    (c.turn.ensures.shows plan st c.in-While.field-1 behind is)
+    statement-paid plan c.args.self.now p p.steps c.in_ok-pay.ensures.ok c.in_ok-pay.ensures.paid st (act.While c.in-While.e c.in-While.field-1) c.turn.new.self c.quiet-in-While.result is
+    (rw c.quiet-in-While.ensures (c.turn.ensures.shows plan st c.in-While.field-1 behind is))
 
 pub returns-in-Pfor-clause-shows : goal.returns-in-Pfor-clause-shows
 returns-in-Pfor-clause-shows c =
@@ -106,16 +107,16 @@ returns-in-Pfor-clause-shows c =
     (c.pfor.ensures.shows st c.in-Pfor.var)
 
 pub returns-in-Array-clause-child : goal.returns-in-Array-clause-child
-returns-in-Array-clause-child c = c.array.ensures.child c.args.plan.now
+returns-in-Array-clause-child c = rw c.quiet.ensures (quiet-child c.args.plan.now c.array.result)
 
 pub returns-in-Store-clause-child : goal.returns-in-Store-clause-child
-returns-in-Store-clause-child c = c.store.ensures.child c.args.plan.now
+returns-in-Store-clause-child c = rw c.quiet-in-Store.ensures (quiet-child c.args.plan.now c.store.result)
 
 pub returns-in-Print-clause-child : goal.returns-in-Print-clause-child
 returns-in-Print-clause-child c = c.print.ensures.child c.args.plan.now
 
 pub returns-in-If-clause-child : goal.returns-in-If-clause-child
-returns-in-If-clause-child c = c.branch-self.ensures.child c.args.plan.now
+returns-in-If-clause-child c = rw c.quiet-in-If.ensures (quiet-child c.args.plan.now c.branch-self.result)
 
 pub returns-in-While-clause-child : goal.returns-in-While-clause-child
-returns-in-While-clause-child c = c.turn.ensures.child c.args.plan.now
+returns-in-While-clause-child c = rw c.quiet-in-While.ensures (quiet-child c.args.plan.now c.turn.result)

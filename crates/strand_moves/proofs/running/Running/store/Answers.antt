@@ -7,7 +7,7 @@ use Rattle.strand_moves.specs.Moves.{acted, strand_of}
 use Rattle.strand_values.specs.Gives.{numbered}
 use Rattle.strand_moves.proofs.Conditions.{number-known, number-fault}
 use Rattle.strand_moves.proofs.Equations.{store, store-fault, store-index-fault, store-value-fault}
-use Rattle.strand_moves.proofs.Exits.{shows-exit}
+use Rattle.strand_moves.proofs.Exits.{quiet-exit}
 use Rattle.strand_moves.proofs.Items.{missing, there}
 use Rattle.strand_moves.proofs.running.Running.store.Goals as goal
 
@@ -15,7 +15,7 @@ pub returns-in_err-index-clause-shows : goal.returns-in_err-index-clause-shows
 returns-in_err-index-clause-shows c = λ plan st.
     let i = c.args.self.now in
     let d = value_of c.args.i.now i.top.env in
-    shows-exit (acted plan (path_of i) (machine_of plan i) st (act.Store c.args.x.now c.args.i.now c.args.e.now)) (strand_of (path_of i) (machine_of plan i)) _ c.from_residual.result c.in_err-index.field-0.0
+    quiet-exit (acted plan (path_of i) (machine_of plan i) st (act.Store c.args.x.now c.args.i.now c.args.e.now)) (strand_of (path_of i) (machine_of plan i)) _ c.from_residual.result c.in_err-index.field-0.0
     (numbered d) c.from_residual.ensures.1 c.in_err-index.ensures (λ kind h. store-index-fault plan (path_of i) (machine_of plan i) st c.args.x.now c.args.i.now c.args.e.now kind (number-fault d kind h))
 
 pub returns-then-is_none-clause-shows : goal.returns-then-is_none-clause-shows
@@ -35,7 +35,7 @@ returns-in_err-value-clause-shows c = λ plan st.
     let known = number-known (value_of c.args.i.now i.top.env) n c.in_ok-index.ensures in
     let at = rw (to_z-of_z w64 n fits, sym known.1.1) at c.item.ensures in
     let old = there c.item.result c.if-is_none.ensures in
-    shows-exit (acted plan (path_of i) (machine_of plan i) st (act.Store c.args.x.now c.args.i.now c.args.e.now)) (strand_of (path_of i) (machine_of plan i)) _ c.from_residual-in_err-value.result
+    quiet-exit (acted plan (path_of i) (machine_of plan i) st (act.Store c.args.x.now c.args.i.now c.args.e.now)) (strand_of (path_of i) (machine_of plan i)) _ c.from_residual-in_err-value.result
     c.in_err-value.field-0.0 (value_of c.args.e.now i.top.env) c.from_residual-in_err-value.ensures.1 c.in_err-value.ensures
     (λ kind. store-value-fault plan (path_of i) (machine_of plan i) st c.args.x.now c.args.i.now c.args.e.now known.0 old.0 kind known.1.0 (sym at ∙ old.1))
 

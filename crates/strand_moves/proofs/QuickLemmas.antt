@@ -1,0 +1,136 @@
+-- Moves that show nothing, and moves that are taken back.
+use Rattle.std.proofs.Common.{◌≡◌, ℕ, suc, ◌+◌, Bool, true, false, List, [], ◌∷◌, Result, Ok, Err, IfOk, refl, sym, ap, subst, ◌∙◌, arith}
+use Rattle.script_grammar.specs.declared.tree.Name.{Name}
+use Rattle.script_grammar.specs.declared.tree.Right.{Right}
+use Rattle.script_grammar.specs.declared.tree.Right.TheVariants as right
+use Rattle.script_grammar.specs.declared.tree.Stmt.{Stmt, out-Stmt}
+use Rattle.script_grammar.specs.declared.tree.Act.{Act, out-Act}
+use Rattle.script_grammar.specs.declared.tree.Act.TheOpen as act
+use Rattle.script_grammar.specs.declared.tree.Act.TheOpen.{Act-F}
+use Rattle.serial_meaning.specs.Plan.{PlanView}
+use Rattle.serial_meaning.specs.declared.event.FaultKind.{FaultKind}
+use Rattle.strand_meaning.specs.Machine.{Machine, move, move_at}
+use Rattle.strand_values.specs.declared.halt.Halt as values
+use Rattle.strand_values.specs.declared.halt.Halt.TheVariants as halt
+use Rattle.strand_moves.specs.declared.cursor.Cursor.{Cursor}
+use Rattle.strand_moves.specs.declared.running.Running.{Running}
+use Rattle.strand_moves.specs.Acts.{Acts}
+use Rattle.strand_moves.specs.Cursors.{IsBehind, left_of, Passes}
+use Rattle.strand_moves.specs.Running.{IsInstance, body_of, machine_of, path_of}
+use Rattle.strand_moves.specs.Moves.{acted, MovesTrail, strand_of}
+use Rattle.strand_moves.specs.Quick.{ByFault, IsDone, IsQuick, IsQuiet, IsWent, is_plain, plain_next, quiet}
+use Rattle.strand_moves.proofs.Equations.{paid-move, unpaid-move}
+use Rattle.strand_moves.proofs.Equations as equations
+use Rattle.strand_moves.proofs.Going.{moves-on}
+
+-- nothing that is shown is no child
+pub quiet-child : (plan : PlanView) (done : Result (Unit {0}) values.Halt) → IfOk (quiet done) (MovesTrail plan)
+quiet-child plan (Ok u) = tt
+quiet-child plan (Err h) = tt
+
+-- what a call did for a statement, by what it answered
+module _ (st : Stmt) (a : Act-F Act Stmt) (old new : Running) (is : out-Act (out-Stmt st).act ≡ a) where
+  quiet-at : (done : Result (Unit {0}) values.Halt) (went : Bool) → ((plan : PlanView) → IsBehind (body_of plan old.top.function) old.top.cursor st → Acts plan st a old new (quiet done)) →
+      ((kind : FaultKind) → done ≡ Err (halt.Fault kind) → new ≡ old) → IsWent done went → IsQuiet st old new went
+  quiet-at (Ok u) went acts same w =
+      subst (IsQuiet st old new) (sym w) (λ plan behind. ap (λ (b : Act-F Act Stmt). acted plan (path_of old) (machine_of plan old) st b) is ∙ acts plan behind)
+  quiet-at (Err (halt.Fault kind)) went acts same w =
+      subst (IsQuiet st old new) (sym w)
+      (same kind refl, λ plan behind plain. (record { kind = kind; at = strand_of (path_of old) (machine_of plan old) }, ap (λ (b : Act-F Act Stmt). acted plan (path_of old) (machine_of plan old) st b) is ∙ acts plan behind))
+  quiet-at (Err halt.Memory) went acts same w = absurd w
+
+  pub quiet-is : {E : Type 0} (done : Result (Unit {0}) values.Halt) (r : Result Bool E) → ((plan : PlanView) → IsBehind (body_of plan old.top.function) old.top.cursor st → Acts plan st a old new (quiet done)) →
+      ((kind : FaultKind) → done ≡ Err (halt.Fault kind) → new ≡ old) → IfOk r (IsWent done) → IfOk r (IsQuiet st old new)
+  quiet-is done (Ok went) acts same w = quiet-at done went acts same w
+  quiet-is done (Err e) acts same w = tt
+
+-- the same of a call that did this act, whatever the cursor
+module _ (st : Stmt) (a : Act-F Act Stmt) (old new : Running) where
+  done-at : (done : Result (Unit {0}) values.Halt) (went : Bool) → ((plan : PlanView) → Acts plan st a old new (quiet done)) → ((kind : FaultKind) → done ≡ Err (halt.Fault kind) → new ≡ old) → IsWent done went → IsDone st a old new went
+  done-at (Ok u) went acts same w = subst (IsDone st a old new) (sym w) (λ plan. acts plan)
+  done-at (Err (halt.Fault kind)) went acts same w =
+      subst (IsDone st a old new) (sym w) (same kind refl, λ plan plain. (record { kind = kind; at = strand_of (path_of old) (machine_of plan old) }, acts plan))
+  done-at (Err halt.Memory) went acts same w = absurd w
+
+  pub done-is : {E : Type 0} (done : Result (Unit {0}) values.Halt) (r : Result Bool E) → ((plan : PlanView) → Acts plan st a old new (quiet done)) → ((kind : FaultKind) → done ≡ Err (halt.Fault kind) → new ≡ old) →
+      IfOk r (IsWent done) → IfOk r (IsDone st a old new)
+  done-is done (Ok went) acts same w = done-at done went acts same w
+  done-is done (Err e) acts same w = tt
+
+  -- the act of the statement does the same
+  module _ (same : (plan : PlanView) → acted plan (path_of old) (machine_of plan old) st (out-Act (out-Stmt st).act) ≡ acted plan (path_of old) (machine_of plan old) st a) (kind : is_plain (out-Act (out-Stmt st).act) ≡ is_plain a) where
+    quiet-by : (went : Bool) → IsDone st a old new went → IsQuiet st old new went
+    quiet-by true d = λ plan behind. same plan ∙ d plan
+    quiet-by false d = (d.0, λ plan behind plain. let f = d.1 plan (sym kind ∙ plain) in (f.0, same plan ∙ f.1))
+
+    pub done-quiet : {E : Type 0} (r : Result Bool E) → IfOk r (IsDone st a old new) → IfOk r (IsQuiet st old new)
+    done-quiet (Ok went) d = quiet-by went d
+    done-quiet (Err x) d = tt
+
+pub did-quiet : (st : Stmt) (old new : Running) (went : Bool) → went ≡ true → IsQuiet st old new went → IsQuiet st old new true
+did-quiet st old new went e h = subst (IsQuiet st old new) e h
+
+pub did-nothing : (st : Stmt) (old new : Running) (went : Bool) → went ≡ false → IsQuiet st old new went → IsQuiet st old new false
+did-nothing st old new went e h = subst (IsQuiet st old new) e h
+
+-- no move of a plain statement where no step is left
+unpaid-at : (plan : PlanView) (path : List ℕ) (m : Machine) (left : List Stmt) → m.steps ≡ 0 → plain_next left ≡ true → ByFault (move_at plan path m left)
+unpaid-at plan path m [] h plain = absurd (cc)
+unpaid-at plan path m (st ∷ left) h plain = (_, unpaid-move plan path m st left h)
+
+pub unpaid : (plan : PlanView) (path : List ℕ) (m : Machine) → m.steps ≡ 0 → IsQuick plan path m m false
+unpaid plan path m h = (refl, λ plain. unpaid-at plan path m m.top.left h plain)
+
+module _ (plan : PlanView) (i : Running) where
+  abbrev text : List Stmt
+  text = body_of plan i.top.function
+
+  abbrev with_left : ℕ → List Stmt → Machine
+  with_left n left = let m = machine_of plan i in record m { steps = n; top = record m.top { left = left } }
+
+  abbrev pub with_cursor : ℕ → Cursor → Running
+  with_cursor n cursor = record i { steps = n; top = record i.top { cursor = cursor } }
+
+  -- where no statement is left, none is left after that was seen
+  pub none-left : (cursor : Cursor) → left_of text i.top.cursor ≡ [] → left_of text cursor ≡ [] → machine_of plan (with_cursor i.steps cursor) ≡ machine_of plan i
+  none-left cursor h k = ap (λ (left : List Stmt). with_left i.steps left) (k ∙ sym h)
+
+  pub none-quick : (cursor : Cursor) → left_of text i.top.cursor ≡ [] → left_of text cursor ≡ [] → IsQuick plan (path_of i) (machine_of plan i) (machine_of plan (with_cursor i.steps cursor)) false
+  none-quick cursor h k =
+      let none : plain_next (left_of text i.top.cursor) ≡ false = ap (λ (left : List Stmt). plain_next left) h in
+      (none-left cursor h k, λ plain. absurd (cc))
+
+  module _ (st : Stmt) (cursor : Cursor) (n : ℕ) (passes : Passes text i.top.cursor cursor st) (steps : n + 1 ≡ i.steps) where
+    passed : move plan (path_of i) (machine_of plan i) ≡ acted plan (path_of i) (machine_of plan (with_cursor n cursor)) st (out-Act (out-Stmt st).act)
+    passed =
+        let m = machine_of plan i in
+        let left = left_of text cursor in
+        let one : m.steps ≡ suc n = omega arith in
+        moves-on plan (path_of i) m st left passes.first ∙ paid-move plan (path_of i) (record m { top = record m.top { left = left } }) st left n one
+
+    -- a statement that was paid and done
+    pub quick-went : (new : Running) → IsQuiet st (with_cursor n cursor) new true → move plan (path_of i) (machine_of plan i) ≡ equations.went [] (machine_of plan new)
+    quick-went new acts = passed ∙ acts plan passes.behind
+
+    -- one that meets a fault, or isn't plain
+    pub quick-fault : (new : Running) → IsQuiet st (with_cursor n cursor) new false → plain_next (left_of text i.top.cursor) ≡ true → ByFault (move plan (path_of i) (machine_of plan i))
+    quick-fault new acts plain =
+        let f = acts.1 plan passes.behind (sym (ap (λ (left : List Stmt). plain_next left) passes.first) ∙ plain) in
+        (f.0, passed ∙ f.1)
+
+    -- a statement that was taken back
+    module _ (last new : Running) (same : last ≡ with_cursor n cursor) (undone : new ≡ record last { steps = last.steps + 1; top = record last.top { cursor = new.top.cursor } }) where
+      as_it_was : new ≡ with_cursor (n + 1) new.top.cursor
+      as_it_was = let P : Running → Type 0 = λ x. new ≡ record x { steps = x.steps + 1; top = record x.top { cursor = new.top.cursor } } in subst P same undone
+
+      pub quick-undone : ((body : List Stmt) (s : Stmt) → IsBehind body last.top.cursor s → left_of body new.top.cursor ≡ s ∷ left_of body last.top.cursor) → machine_of plan new ≡ machine_of plan i
+      quick-undone back =
+          let P : Running → Type 0 = λ x. IsBehind text x.top.cursor st → left_of text new.top.cursor ≡ st ∷ left_of text x.top.cursor in
+          let left = subst P same (back text st) passes.behind in
+          ap (λ (x : Running). machine_of plan x) as_it_was
+          ∙ ap (λ (l : List Stmt). with_left (n + 1) l) (left ∙ sym passes.first)
+          ∙ ap (λ (k : ℕ). with_left k (left_of text i.top.cursor)) steps
+
+      pub undone-sound : IsInstance plan i → IsInstance plan new
+      undone-sound h =
+          subst (λ (x : Running). IsInstance plan x) (sym as_it_was) (record { fits = h.fits; within = h.within; few = omega (arith, h.few) })

@@ -1,0 +1,6 @@
+use Rattle.std.proofs.Common.{refl}
+use Rattle.strand_moves.proofs.CursorLemmas.{left-back}
+use Rattle.strand_moves.proofs.cursor.Cursor.back.Goals as goal
+
+pub returns : goal.returns
+returns c = λ body st behind. left-back body c.args.self.now _ st behind refl c.saturating_sub-self.ensures

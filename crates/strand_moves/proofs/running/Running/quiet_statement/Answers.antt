@@ -1,0 +1,59 @@
+use Rattle.std.proofs.Common.{ap, ◌∙◌}
+use Rattle.script_grammar.specs.declared.tree.Act.{Act}
+use Rattle.script_grammar.specs.declared.tree.Act.TheOpen as act
+use Rattle.script_grammar.specs.declared.tree.Act.TheOpen.{Act-F}
+use Rattle.script_grammar.specs.declared.tree.Act.TheVariants as variant
+use Rattle.script_grammar.specs.declared.tree.Stmt.{Stmt}
+use Rattle.strand_moves.specs.Running.{machine_of, path_of}
+use Rattle.strand_moves.specs.Moves.{acted}
+use Rattle.strand_moves.specs.Quick.{is_plain}
+use Rattle.strand_moves.proofs.Equations.{let-is-set}
+use Rattle.strand_moves.proofs.Paying.{act-is}
+use Rattle.strand_moves.proofs.QuickLemmas.{quiet-is, done-quiet}
+use Rattle.strand_moves.proofs.running.Running.quiet_statement.Goals as goal
+
+pub returns-in-Let-clause-did : goal.returns-in-Let-clause-did
+returns-in-Let-clause-did c =
+    let i = c.args.self.now in
+    let st = c.args.statement.now in
+    let is = act-is (act.Let c.in-Let.x c.in-Let.r) st.act (variant.Let c.in-Let.x c.in-Let.r) c.in-Let.is (variant.rolls-Let c.in-Let.x c.in-Let.r) in
+    done-quiet st (act.Set c.in-Let.x c.in-Let.r) i c.quiet_right.new.self
+    (λ plan. ap (λ (b : Act-F Act Stmt). acted plan (path_of i) (machine_of plan i) st b) is ∙ let-is-set plan (path_of i) (machine_of plan i) st c.in-Let.x c.in-Let.r)
+    (ap (λ (b : Act-F Act Stmt). is_plain b) is) c.quiet_right.result (c.quiet_right.ensures.did st)
+
+pub returns-in-Set-clause-did : goal.returns-in-Set-clause-did
+returns-in-Set-clause-did c =
+    let i = c.args.self.now in
+    let st = c.args.statement.now in
+    let is = act-is (act.Set c.in-Set.x c.in-Set.r) st.act (variant.Set c.in-Set.x c.in-Set.r) c.in-Set.is (variant.rolls-Set c.in-Set.x c.in-Set.r) in
+    done-quiet st (act.Set c.in-Set.x c.in-Set.r) i c.quiet_right-in-Set.new.self
+    (λ plan. ap (λ (b : Act-F Act Stmt). acted plan (path_of i) (machine_of plan i) st b) is)
+    (ap (λ (b : Act-F Act Stmt). is_plain b) is) c.quiet_right-in-Set.result (c.quiet_right-in-Set.ensures.did st)
+
+pub returns-in-Array-clause-did : goal.returns-in-Array-clause-did
+returns-in-Array-clause-did c =
+    let a = act.Array c.in-Array.x c.in-Array.n in
+    let st = c.args.statement.now in
+    let is = act-is a st.act (variant.Array c.in-Array.x c.in-Array.n) c.in-Array.is (variant.rolls-Array c.in-Array.x c.in-Array.n) in
+    quiet-is st a c.args.self.now c.array.new.self is c.array.result c.went.result (λ plan behind. c.array.ensures.shows plan st) c.array.ensures.same c.went.ensures
+
+pub returns-in-Store-clause-did : goal.returns-in-Store-clause-did
+returns-in-Store-clause-did c =
+    let a = act.Store c.in-Store.x c.in-Store.i c.in-Store.e in
+    let st = c.args.statement.now in
+    let is = act-is a st.act (variant.Store c.in-Store.x c.in-Store.i c.in-Store.e) c.in-Store.is (variant.rolls-Store c.in-Store.x c.in-Store.i c.in-Store.e) in
+    quiet-is st a c.args.self.now c.store.new.self is c.store.result c.went-in-Store.result (λ plan behind. c.store.ensures.shows plan st) c.store.ensures.same c.went-in-Store.ensures
+
+pub returns-in-If-clause-did : goal.returns-in-If-clause-did
+returns-in-If-clause-did c =
+    let a = act.If c.in-If.e c.in-If.field-1 c.in-If.field-2 in
+    let st = c.args.statement.now in
+    let is = act-is a st.act (variant.If c.in-If.e c.in-If.field-1 c.in-If.field-2) c.in-If.is (variant.rolls-If c.in-If.e c.in-If.field-1 c.in-If.field-2) in
+    quiet-is st a c.args.self.now c.branch-self.new.self is c.branch-self.result c.went-in-If.result (λ plan behind. c.branch-self.ensures.shows plan st c.in-If.field-1 c.in-If.field-2 behind is) c.branch-self.ensures.same c.went-in-If.ensures
+
+pub returns-in-While-clause-did : goal.returns-in-While-clause-did
+returns-in-While-clause-did c =
+    let a = act.While c.in-While.e c.in-While.field-1 in
+    let st = c.args.statement.now in
+    let is = act-is a st.act (variant.While c.in-While.e c.in-While.field-1) c.in-While.is (variant.rolls-While c.in-While.e c.in-While.field-1) in
+    quiet-is st a c.args.self.now c.turn.new.self is c.turn.result c.went-in-While.result (λ plan behind. c.turn.ensures.shows plan st c.in-While.field-1 behind is) c.turn.ensures.same c.went-in-While.ensures

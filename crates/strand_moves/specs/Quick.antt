@@ -1,0 +1,84 @@
+-- Moves that show nothing.
+use Rattle.std.specs.Prelude.{◌≡◌, ℕ, Bool, true, false, List, [], ◌∷◌, Result, Ok, Err}
+use Rattle.script_grammar.specs.declared.tree.Right.{Right}
+use Rattle.script_grammar.specs.declared.tree.Right.TheVariants as right
+use Rattle.script_grammar.specs.declared.tree.Stmt.{Stmt, out-Stmt}
+use Rattle.script_grammar.specs.declared.tree.Act.{Act, out-Act}
+use Rattle.script_grammar.specs.declared.tree.Act.TheOpen as act
+use Rattle.script_grammar.specs.declared.tree.Act.TheOpen.{Act-F}
+use Rattle.serial_meaning.specs.Runs.{Run}
+use Rattle.serial_meaning.specs.Plan.{PlanView}
+use Rattle.serial_meaning.specs.declared.event.Fault.{Fault}
+use Rattle.strand_meaning.specs.Machine.{Token, Machine, Reached, move}
+use Rattle.strand_values.specs.declared.halt.Halt as values
+use Rattle.strand_values.specs.declared.halt.Halt.TheVariants as halt
+use Rattle.strand_moves.specs.declared.running.Running.{Running}
+use Rattle.strand_moves.specs.declared.shown.Moved.{Moved}
+use Rattle.strand_moves.specs.declared.shown.Moved.TheVariants as moved
+use Rattle.strand_moves.specs.declared.shown.Shown.TheVariants as shown
+use Rattle.strand_moves.specs.Cursors.{IsBehind}
+use Rattle.strand_moves.specs.Running.{body_of, machine_of, path_of}
+use Rattle.strand_moves.specs.Moves.{acted, run_of}
+
+-- what was done without showing anything, as a move
+abbrev pub quiet : Result (Unit {0}) values.Halt → Result Moved values.Halt
+quiet (Ok u) = Ok (moved.Went shown.Nothing)
+quiet (Err h) = Err h
+
+-- whether it was done; want of memory is no answer
+abbrev pub IsWent : Result (Unit {0}) values.Halt → Bool → Type 0
+IsWent (Ok u) went = went ≡ true
+IsWent (Err (halt.Fault kind)) went = went ≡ false
+IsWent (Err halt.Memory) went = ⊥
+
+-- A plain statement gives a variable the value of an expression, makes an array, stores an item, or is an `if` or a `while`. It shows
+-- nothing, and begins no function.
+abbrev pub is_value : Right → Bool
+is_value (right.Value e) = true
+is_value (right.Draw at) = false
+is_value (right.New at) = false
+is_value (right.Call at c) = false
+is_value (right.Spawn at c) = false
+
+abbrev pub is_plain : Act-F Act Stmt → Bool
+is_plain (act.Let x r) = is_value r
+is_plain (act.Array x n) = true
+is_plain (act.Set x r) = is_value r
+is_plain (act.Store x i e) = true
+is_plain (act.Spawn c) = false
+is_plain (act.Call c) = false
+is_plain act.Sync = false
+is_plain (act.Print e) = false
+is_plain (act.If e a b) = true
+is_plain (act.While e a) = true
+is_plain (act.Pfor x lo hi target c) = false
+
+-- whether the next of these statements is plain
+abbrev pub plain_next : List Stmt → Bool
+plain_next [] = false
+plain_next (st ∷ left) = is_plain (out-Act (out-Stmt st).act)
+
+-- The instance ends by a fault, and nothing is shown.
+abbrev pub ByFault : Run Token Fault Reached → Type 0
+ByFault run = (f : Fault) × (run ≡ record { items = []; ending = Err f })
+
+-- The move was made and showed nothing. Or the machine is as it was, and then the next statement isn't plain, or the move is a fault: no
+-- step is left to pay for it, or its expressions or its index meet one.
+abbrev pub IsQuick : PlanView → List ℕ → Machine → Machine → Bool → Type 0
+IsQuick plan path old new true = move plan path old ≡ run_of (moved.Went shown.Nothing) new
+IsQuick plan path old new false = (new ≡ old) × (plain_next old.top.left ≡ true → ByFault (move plan path old))
+
+-- What a statement does was done and showed nothing. Or nothing changed, and a plain one meets a fault.
+abbrev pub IsDone : Stmt → Act-F Act Stmt → Running → Running → Bool → Type 0
+IsDone st a old new true = (plan : PlanView) → acted plan (path_of old) (machine_of plan old) st a ≡ run_of (moved.Went shown.Nothing) (machine_of plan new)
+IsDone st a old new false = (new ≡ old) × ((plan : PlanView) → is_plain a ≡ true → ByFault (acted plan (path_of old) (machine_of plan old) st a))
+
+-- The same of the statement after which the cursor stands, and whose step is paid.
+abbrev pub IsQuiet : Stmt → Running → Running → Bool → Type 0
+IsQuiet st old new true =
+    (plan : PlanView) → IsBehind (body_of plan old.top.function) old.top.cursor st →
+    acted plan (path_of old) (machine_of plan old) st (out-Act (out-Stmt st).act) ≡ run_of (moved.Went shown.Nothing) (machine_of plan new)
+IsQuiet st old new false =
+    (new ≡ old)
+    × ((plan : PlanView) → IsBehind (body_of plan old.top.function) old.top.cursor st → is_plain (out-Act (out-Stmt st).act) ≡ true →
+    ByFault (acted plan (path_of old) (machine_of plan old) st (out-Act (out-Stmt st).act)))

@@ -1,0 +1,28 @@
+-- Parameters and their arguments.
+use Rattle.std.proofs.Common.{◌≡◌, ℕ, zero, suc, ◌+◌, ◌<◌, ◌≤◌, min, List, [], ◌∷◌, length, get_or, drop, refl, sym, ap, ◌∙◌, arith}
+use Rattle.script_grammar.specs.declared.tree.Param.{Param}
+use Rattle.serial_meaning.specs.Values.{Env}
+use Rattle.serial_meaning.specs.Exec.{bound}
+use Rattle.serial_meaning.specs.declared.environment.Slot.TheVariants.{Scalar}
+use Rattle.serial_meaning.specs.declared.environment.Variable.{Variable}
+use Rattle.serial_meaning.specs.declared.value.Value.{Value}
+use Rattle.strand_values.proofs.ValueLemmas.{bound_to_none}
+
+-- one parameter more
+pub bound_step : (i : ℕ) (ps : List Param) (vs : List Value) (p : Param) (v : Value) → i < length ps → i < length vs → p ≡ get_or ps i p → v ≡ get_or vs i v →
+    bound (drop i ps) (drop i vs) ≡ record { name = p.name.bytes; slot = Scalar v } ∷ bound (drop (suc i) ps) (drop (suc i) vs)
+bound_step i [] vs p v h k e f = absurd (omega arith)
+bound_step i (q ∷ ps) [] p v h k e f = absurd (omega arith)
+bound_step zero (q ∷ ps) (w ∷ vs) p v h k e f =
+    ap (λ (x : Param). let first : Variable = record { name = x.name.bytes; slot = Scalar w } in first ∷ bound ps vs) (sym e)
+    ∙ ap (λ (x : Value). let first : Variable = record { name = p.name.bytes; slot = Scalar x } in first ∷ bound ps vs) (sym f)
+bound_step (suc i) (q ∷ ps) (w ∷ vs) p v h k e f = bound_step i ps vs p v (omega arith) (omega arith) e f
+
+-- and none
+pub bound_done : (i : ℕ) (ps : List Param) (vs : List Value) → min (length ps) (length vs) ≤ i → bound (drop i ps) (drop i vs) ≡ []
+bound_done zero [] vs h = refl
+bound_done (suc i) [] vs h = refl
+bound_done zero (p ∷ ps) [] h = refl
+bound_done (suc i) (p ∷ ps) [] h = bound_to_none (drop i ps)
+bound_done zero (p ∷ ps) (v ∷ vs) h = absurd (omega arith)
+bound_done (suc i) (p ∷ ps) (v ∷ vs) h = bound_done i ps vs (omega arith)
