@@ -1,6 +1,9 @@
 pub mod Changing
 pub mod Counted
+pub mod Good
 pub mod Handed
+pub mod Kept
+pub mod Loads
 pub mod OneStep
 pub mod Shows
 pub mod Weights
