@@ -1,9 +1,13 @@
+pub mod Begun
 pub mod Changing
+pub mod Cores
 pub mod Counted
 pub mod Good
 pub mod Handed
 pub mod Kept
+pub mod Lively
 pub mod Loads
 pub mod OneStep
+pub mod SameOrigin
 pub mod Shows
 pub mod Weights

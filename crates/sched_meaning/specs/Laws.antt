@@ -1,9 +1,10 @@
 -- What holds of all cores, and of the definitions.
-use Rattle.std.specs.Prelude.{◌≡◌, ◌≤◌, ℕ, List, All}
+use Rattle.std.specs.Prelude.{◌≡◌, ◌≤◌, ℕ, List}
 use Rattle.script_check.specs.Valid.{IsValid}
 use Rattle.serial_meaning.specs.Plan.{PlanView}
-use Rattle.sched_meaning.specs.Core.{Core}
+use Rattle.sched_meaning.specs.Core.{Core, IsRootAnswered}
 use Rattle.sched_meaning.specs.Segments.{IsSegments}
+use Rattle.sched_meaning.specs.Sound.{AreEvaluations, IsLively}
 use Rattle.sched_meaning.specs.Steps.{Step, Leads}
 use Rattle.sched_meaning.specs.declared.event.CoreEvent.{CoreEvent}
 
@@ -17,3 +18,19 @@ SegmentsCome = (plan : PlanView) → IsValid plan.script → (n : ℕ) × IsSegm
 
 abbrev pub SegmentsAreOne : Type 0
 SegmentsAreOne = (plan : PlanView) (n m : ℕ) → IsSegments plan n → IsSegments plan m → n ≡ m
+
+-- Of each core to which events lead from a new core, whatever the events and however many workers:
+
+-- Each answer is the evaluation of its origin.
+abbrev pub CoresAnswerByEvaluations : Type 0
+CoresAnswerByEvaluations = (plan : PlanView) (workers : ℕ) (events : List CoreEvent) (c : Core) → IsValid plan.script → Leads plan workers events c → AreEvaluations plan c.answers
+
+-- There are no more run events than segments.
+abbrev pub CoresRunWithinSegments : Type 0
+CoresRunWithinSegments =
+    (plan : PlanView) (workers : ℕ) (events : List CoreEvent) (c : Core) → IsValid plan.script → Leads plan workers events c → (n : ℕ) → IsSegments plan n → c.runs ≤ n
+
+-- While the root isn't answered some event goes on with the work.
+abbrev pub CoresAreLively : Type 0
+CoresAreLively =
+    (plan : PlanView) (workers : ℕ) (events : List CoreEvent) (c : Core) → IsValid plan.script → Leads plan workers events c → (IsRootAnswered c → ⊥) → IsLively c

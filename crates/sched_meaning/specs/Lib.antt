@@ -1,4 +1,6 @@
 pub mod Core
 pub mod Laws
+pub mod Same
 pub mod Segments
+pub mod Sound
 pub mod Steps

@@ -1,6 +1,6 @@
 //! Laws of the machine, each the contract of a function that does nothing. A proof that wants a law calls it.
 
-ghost use Rattle.sched_meaning.specs.Laws.{SegmentsAreOne, SegmentsCome, StepsAreOne};
+ghost use Rattle.sched_meaning.specs.Laws.{CoresAnswerByEvaluations, CoresAreLively, CoresRunWithinSegments, SegmentsAreOne, SegmentsCome, StepsAreOne};
 
 /// An event leads to one core at most.
 pub fn steps_are_one()
@@ -15,4 +15,19 @@ pub fn segments_come()
 /// They are one number.
 pub fn segments_are_one()
     ensures { SegmentsAreOne }
+{}
+
+/// Each answer of a core is the evaluation of its origin, whatever the events before.
+pub fn cores_answer_by_evaluations()
+    ensures { CoresAnswerByEvaluations }
+{}
+
+/// There are no more run events than segments.
+pub fn cores_run_within_segments()
+    ensures { CoresRunWithinSegments }
+{}
+
+/// While the root isn't answered, some event that may happen is neither idle nor a fruitless look.
+pub fn cores_are_lively()
+    ensures { CoresAreLively }
 {}
