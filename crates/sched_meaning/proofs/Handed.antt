@@ -74,26 +74,26 @@ own-longer : (o : Origin) → length (path_of o) ≤ length (path_of (own_instan
 own-longer (Instance function args path) = omega arith
 own-longer (Loop function rest first path range) = let e : length (path ++ (range.hi - 1) ∷ []) ≡ length path + length ((range.hi - 1) ∷ []) = length-append path ((range.hi - 1) ∷ []) in omega arith
 
-deeper-smaller : (plan : PlanView) (o c : Origin) → IsDeeper plan (path_of (own_instance o)) c → IsSmaller plan o c
-deeper-smaller plan o c d = let h : length (path_of o) ≤ length (path_of (own_instance o)) = own-longer o in inl (omega (arith, d.longer, d.fits))
+deeper-smaller : (plan : PlanView) (o c : Origin) (k : ℕ) → IsDeeper plan (path_of (own_instance o)) k c → IsSmaller plan o c
+deeper-smaller plan o c k d = let h : length (path_of o) ≤ length (path_of (own_instance o)) = own-longer o in inl (omega (arith, d.longer, d.fits))
 
 module _ (t : Task) where
   hands-ends : (f : Option Fault) (ended : Outcome) → HandsStep t (ends_unless f t ended)
   hands-ends None ended = tt
   hands-ends (Some f) ended = tt
 
-  hands-at : (os : List Origin) (o : Option Origin) (next : Task) → o ≡ first os → awaited next ≡ awaited t ++ os → AtMostOne t.plan (path_of (own_instance t.origin)) os → HandsStep t (stops_at o next)
-  hands-at [] None next e h k = h ∙ append-nil (awaited t)
-  hands-at [] (Some o) next e h k = absurd (cc)
-  hands-at (c ∷ []) None next e h k = absurd (cc)
-  hands-at (c ∷ []) (Some o) next e h k =
-      let same : c ≡ o = cc in (h ∙ ap (λ d. awaited t ++ d ∷ []) same, subst (λ d. IsSmaller t.plan t.origin d) same (deeper-smaller t.plan t.origin c k))
-  hands-at (c ∷ d ∷ os) o next e h k = absurd k
+  hands-at : (n : ℕ) (os : List Origin) (o : Option Origin) (next : Task) → o ≡ first os → awaited next ≡ awaited t ++ os → AtMostOne t.plan (path_of (own_instance t.origin)) n os → HandsStep t (stops_at o next)
+  hands-at n [] None next e h k = h ∙ append-nil (awaited t)
+  hands-at n [] (Some o) next e h k = absurd (cc)
+  hands-at n (c ∷ []) None next e h k = absurd (cc)
+  hands-at n (c ∷ []) (Some o) next e h k =
+      let same : c ≡ o = cc in (h ∙ ap (λ d. awaited t ++ d ∷ []) same, subst (λ d. IsSmaller t.plan t.origin d) same (deeper-smaller t.plan t.origin c n k))
+  hands-at n (c ∷ d ∷ os) o next e h k = absurd k
 
-  hands-moved : (ts : List Token) (e : Result Reached Fault) → MoveHands t.plan (path_of (own_instance t.origin)) (children ts) e → HandsStep t (moved t ts e)
-  hands-moved ts (Ok (Stands m)) h = hands-at (children ts) (child_in ts) (passing t ts (Runs (stage_after ts m))) (child-first ts) (child-tokens ts t.pieces) h
-  hands-moved ts (Ok (Gives v)) h = child-tokens ts t.pieces ∙ ap (λ os. awaited t ++ os) h ∙ append-nil (awaited t)
-  hands-moved ts (Err f) h = child-tokens ts t.pieces ∙ ap (λ os. awaited t ++ os) h ∙ append-nil (awaited t)
+  hands-moved : (n : ℕ) (ts : List Token) (e : Result Reached Fault) → MoveHands t.plan (path_of (own_instance t.origin)) n (children ts) e → HandsStep t (moved t ts e)
+  hands-moved n ts (Ok (Stands m)) h = hands-at n (children ts) (child_in ts) (passing t ts (Runs (stage_after ts m))) (child-first ts) (child-tokens ts t.pieces) h
+  hands-moved n ts (Ok (Gives v)) h = child-tokens ts t.pieces ∙ ap (λ os. awaited t ++ os) h ∙ append-nil (awaited t)
+  hands-moved n ts (Err f) h = child-tokens ts t.pieces ∙ ap (λ os. awaited t ++ os) h ∙ append-nil (awaited t)
 
   hands-faults : (ps : List Part) (f : Fault) → HandsStep t (faults_behind ps t f)
   hands-faults [] f = hands-ends t.pieces.fault _
@@ -105,7 +105,7 @@ module _ (t : Task) where
 
   hands-stage : (stage : Stage) → HandsStep t (stage_step t stage)
   hands-stage (Goes m) =
-      let path = path_of (own_instance t.origin) in let r = move t.plan path m in hands-moved r.items r.ending (move_hands t.plan path m)
+      let path = path_of (own_instance t.origin) in let r = move t.plan path m in hands-moved m.rank r.items r.ending (move_hands t.plan path m.rank m refl)
   hands-stage (AtSync m) = refl
   hands-stage (AtLoop m) = refl
   hands-stage (Ended (Ok v)) = hands-gave t.origin v
