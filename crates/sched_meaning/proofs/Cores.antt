@@ -1,15 +1,15 @@
 -- What holds of every core that events lead to.
-use Rattle.std.proofs.Common.{◌≡◌, ◌≤◌, ℕ, ◌+◌, ◌*◌, List, [], ◌∷◌, refl, sym, ap, ◌∙◌, subst, arith, one-mul}
+use Rattle.std.proofs.Common.{◌≡◌, ◌≤◌, ℕ, ◌+◌, ◌*◌, Some, Contains, slice_get, List, [], ◌∷◌, refl, sym, ap, ◌∙◌, subst, arith, one-mul}
 use Rattle.script_check.specs.Valid.{IsValid}
 use Rattle.serial_meaning.specs.Plan.{PlanView}
 use Rattle.serial_meaning.specs.Eval.{main_origin}
 use Rattle.serial_meaning.specs.declared.origin.Origin.{Origin}
 use Rattle.strand_meaning.specs.Task.{start}
 use Rattle.strand_meaning.proofs.ClearOfValid.{clear_of_valid}
-use Rattle.sched_meaning.specs.Core.{Core, IsRootAnswered}
+use Rattle.sched_meaning.specs.Core.{Core, all_tasks, origins_of, IsAnswered, IsRootAnswered}
 use Rattle.sched_meaning.specs.Segments.{IsSegments}
 use Rattle.sched_meaning.specs.Steps.{Leads}
-use Rattle.sched_meaning.specs.Sound.{AreEvaluations, IsLively}
+use Rattle.sched_meaning.specs.Sound.{AreEvaluations, IsLively, StandsOnce}
 use Rattle.sched_meaning.specs.declared.event.CoreEvent.{CoreEvent}
 use Rattle.sched_meaning.proofs.Weights.{weight}
 use Rattle.sched_meaning.proofs.Changing.{total}
@@ -18,6 +18,7 @@ use Rattle.sched_meaning.proofs.Loads.{load}
 use Rattle.sched_meaning.proofs.Begun.{each-all}
 use Rattle.sched_meaning.proofs.Kept.{IsKept, IsAnswerOf, leads-keep}
 use Rattle.sched_meaning.proofs.Lively.{lively}
+use Rattle.sched_meaning.proofs.Once.{never-twice, placed}
 
 module _ (plan : PlanView) (workers : ℕ) (events : List CoreEvent) (c : Core) (valid : IsValid plan.script) (led : Leads plan workers events c) where
   pub kept : IsKept plan [] c
@@ -34,3 +35,9 @@ module _ (plan : PlanView) (workers : ℕ) (events : List CoreEvent) (c : Core) 
 
   pub goes-further : (IsRootAnswered c → ⊥) → IsLively c
   goes-further unanswered = lively plan c kept unanswered
+
+  pub begun-once : (o : Origin) (j k : ℕ) → slice_get c.begun j ≡ Some o → slice_get c.begun k ≡ Some o → j ≡ k
+  begun-once = never-twice plan c kept (clear_of_valid plan valid)
+
+  pub stands : (o : Origin) → Contains c.begun o → (IsAnswered c o → ⊥) → StandsOnce o (origins_of (all_tasks c))
+  stands = placed plan c kept (clear_of_valid plan valid)

@@ -26,7 +26,7 @@ segments t = weight 1 nothing t
 abbrev Within : ℕ → Type 0
 Within n = (t : Task) → IsTask t → t.waiting ≡ false → segments t ≤ n → ComesTo t (segments t)
 
-at-least-one : (stop : Stop) → 1 ≤ stop_weight 1 nothing stop
+pub at-least-one : (stop : Stop) → 1 ≤ stop_weight 1 nothing stop
 at-least-one (Spawn child rest) = omega arith
 at-least-one (Wait rest) = omega arith
 at-least-one (End out ended) = omega arith

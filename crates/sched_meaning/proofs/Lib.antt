@@ -7,7 +7,9 @@ pub mod Handed
 pub mod Kept
 pub mod Lively
 pub mod Loads
+pub mod Once
 pub mod OneStep
+pub mod Regions
 pub mod SameOrigin
 pub mod Shows
 pub mod Weights

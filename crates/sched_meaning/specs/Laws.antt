@@ -1,10 +1,11 @@
 -- What holds of all cores, and of the definitions.
-use Rattle.std.specs.Prelude.{◌≡◌, ◌≤◌, ℕ, List}
+use Rattle.std.specs.Prelude.{◌≡◌, ◌≤◌, ℕ, List, Some, Contains, slice_get}
 use Rattle.script_check.specs.Valid.{IsValid}
 use Rattle.serial_meaning.specs.Plan.{PlanView}
-use Rattle.sched_meaning.specs.Core.{Core, IsRootAnswered}
+use Rattle.serial_meaning.specs.declared.origin.Origin.{Origin}
+use Rattle.sched_meaning.specs.Core.{Core, all_tasks, origins_of, IsAnswered, IsRootAnswered}
 use Rattle.sched_meaning.specs.Segments.{IsSegments}
-use Rattle.sched_meaning.specs.Sound.{AreEvaluations, IsLively}
+use Rattle.sched_meaning.specs.Sound.{AreEvaluations, IsLively, StandsOnce}
 use Rattle.sched_meaning.specs.Steps.{Step, Leads}
 use Rattle.sched_meaning.specs.declared.event.CoreEvent.{CoreEvent}
 
@@ -34,3 +35,15 @@ CoresRunWithinSegments =
 abbrev pub CoresAreLively : Type 0
 CoresAreLively =
     (plan : PlanView) (workers : ℕ) (events : List CoreEvent) (c : Core) → IsValid plan.script → Leads plan workers events c → (IsRootAnswered c → ⊥) → IsLively c
+
+-- No origin stands twice among those that were begun.
+abbrev pub CoresBeginOnce : Type 0
+CoresBeginOnce =
+    (plan : PlanView) (workers : ℕ) (events : List CoreEvent) (c : Core) → IsValid plan.script → Leads plan workers events c → (o : Origin) (j k : ℕ) →
+    slice_get c.begun j ≡ Some o → slice_get c.begun k ≡ Some o → j ≡ k
+
+-- An origin that was begun and isn't answered is that of one task, in one place.
+abbrev pub CoresKeepTasksOnce : Type 0
+CoresKeepTasksOnce =
+    (plan : PlanView) (workers : ℕ) (events : List CoreEvent) (c : Core) → IsValid plan.script → Leads plan workers events c → (o : Origin) → Contains c.begun o →
+    (IsAnswered c o → ⊥) → StandsOnce o (origins_of (all_tasks c))

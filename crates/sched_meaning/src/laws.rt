@@ -1,6 +1,6 @@
 //! Laws of the machine, each the contract of a function that does nothing. A proof that wants a law calls it.
 
-ghost use Rattle.sched_meaning.specs.Laws.{CoresAnswerByEvaluations, CoresAreLively, CoresRunWithinSegments, SegmentsAreOne, SegmentsCome, StepsAreOne};
+ghost use Rattle.sched_meaning.specs.Laws.{CoresAnswerByEvaluations, CoresAreLively, CoresBeginOnce, CoresKeepTasksOnce, CoresRunWithinSegments, SegmentsAreOne, SegmentsCome, StepsAreOne};
 
 /// An event leads to one core at most.
 pub fn steps_are_one()
@@ -30,4 +30,15 @@ pub fn cores_run_within_segments()
 /// While the root isn't answered, some event that may happen is neither idle nor a fruitless look.
 pub fn cores_are_lively()
     ensures { CoresAreLively }
+{}
+
+/// No origin is begun twice.
+pub fn cores_begin_once()
+    ensures { CoresBeginOnce }
+{}
+
+/// An origin that was begun and isn't answered is that of exactly one task, which is current or stands at one place of a deque or
+/// a ring.
+pub fn cores_keep_tasks_once()
+    ensures { CoresKeepTasksOnce }
 {}
