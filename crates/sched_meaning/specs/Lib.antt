@@ -2,5 +2,6 @@ pub mod Core
 pub mod Laws
 pub mod Same
 pub mod Segments
+pub mod Simulation
 pub mod Sound
 pub mod Steps
