@@ -1,5 +1,6 @@
 pub mod Begun
 pub mod Changing
+pub mod Choosing
 pub mod Cores
 pub mod Counted
 pub mod Good

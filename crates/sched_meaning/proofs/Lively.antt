@@ -17,12 +17,12 @@ use Rattle.sched_meaning.proofs.Good.{IsIn, IsChild, IsParked, IsGood}
 use Rattle.sched_meaning.proofs.Kept.{IsKept, by_origin}
 use Rattle.sched_meaning.proofs.Begun.{is_it, is-that, Some_at, find-some, in-counts, counts-contain, answered-or, Unanswered, all-or}
 
-record HasBack (xs : List Task) : Type 0 where
-  rest : List Task
-  last : Task
-  is : xs ≡ rest ++ last ∷ []
+pub record HasBack (xs : List Task) : Type 0 where
+  pub rest : List Task
+  pub last : Task
+  pub is : xs ≡ rest ++ last ∷ []
 
-has-back : (t : Task) (ts : List Task) → HasBack (t ∷ ts)
+pub has-back : (t : Task) (ts : List Task) → HasBack (t ∷ ts)
 has-back t [] = record { rest = []; last = t; is = refl }
 has-back t (u ∷ ts) = let b = has-back u ts in record { rest = t ∷ b.rest; last = b.last; is = ap (λ l. t ∷ l) b.is }
 

@@ -1,11 +1,12 @@
 -- What holds of all cores, and of the definitions.
-use Rattle.std.specs.Prelude.{◌≡◌, ◌≤◌, ℕ, List, Some, Contains, slice_get}
+use Rattle.std.specs.Prelude.{◌≡◌, ◌≤◌, ◌↔◌, ℕ, List, Some, Contains, slice_get}
 use Rattle.script_check.specs.Valid.{IsValid}
 use Rattle.serial_meaning.specs.Plan.{PlanView}
 use Rattle.serial_meaning.specs.declared.origin.Origin.{Origin}
 use Rattle.sched_meaning.specs.Core.{Core, all_tasks, origins_of, IsAnswered, IsRootAnswered}
 use Rattle.sched_meaning.specs.Segments.{IsSegments}
-use Rattle.sched_meaning.specs.Sound.{AreEvaluations, IsLively, StandsOnce}
+use Rattle.sched_meaning.specs.Simulation.{choices}
+use Rattle.sched_meaning.specs.Sound.{AreEvaluations, IsFruitful, IsLively, StandsOnce}
 use Rattle.sched_meaning.specs.Steps.{Step, Leads}
 use Rattle.sched_meaning.specs.declared.event.CoreEvent.{CoreEvent}
 
@@ -47,3 +48,7 @@ abbrev pub CoresKeepTasksOnce : Type 0
 CoresKeepTasksOnce =
     (plan : PlanView) (workers : ℕ) (events : List CoreEvent) (c : Core) → IsValid plan.script → Leads plan workers events c → (o : Origin) → Contains c.begun o →
     (IsAnswered c o → ⊥) → StandsOnce o (origins_of (all_tasks c))
+
+-- The choices of a core are the events that may happen and go on with the work.
+abbrev pub ChoicesGoOn : Type 0
+ChoicesGoOn = (c : Core) (e : CoreEvent) → Contains (choices c) e ↔ ((next : Core) × Step e c next × IsFruitful e c)

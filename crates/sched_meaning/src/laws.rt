@@ -1,6 +1,6 @@
 //! Laws of the machine, each the contract of a function that does nothing. A proof that wants a law calls it.
 
-ghost use Rattle.sched_meaning.specs.Laws.{CoresAnswerByEvaluations, CoresAreLively, CoresBeginOnce, CoresKeepTasksOnce, CoresRunWithinSegments, SegmentsAreOne, SegmentsCome, StepsAreOne};
+ghost use Rattle.sched_meaning.specs.Laws.{ChoicesGoOn, CoresAnswerByEvaluations, CoresAreLively, CoresBeginOnce, CoresKeepTasksOnce, CoresRunWithinSegments, SegmentsAreOne, SegmentsCome, StepsAreOne};
 
 /// An event leads to one core at most.
 pub fn steps_are_one()
@@ -41,4 +41,9 @@ pub fn cores_begin_once()
 /// a ring.
 pub fn cores_keep_tasks_once()
     ensures { CoresKeepTasksOnce }
+{}
+
+/// The choices of a simulation are just the events that may happen and are neither idle nor fruitless looks.
+pub fn choices_go_on()
+    ensures { ChoicesGoOn }
 {}
