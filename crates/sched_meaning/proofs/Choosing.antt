@@ -111,7 +111,7 @@ same-any o (p ∷ os) (inr h) = by_test (same_origin o p) (same-any o os h)
 is-answered : (c : Core) (o : Origin) → is_answered c o ≡ true → IsAnswered c o
 is-answered c o h = in-contains (answered c) o (any-same o (answered c) h)
 
-answered-is : (c : Core) (o : Origin) → IsAnswered c o → is_answered c o ≡ true
+pub answered-is : (c : Core) (o : Origin) → IsAnswered c o → is_answered c o ≡ true
 answered-is c o h = same-any o (answered c) (contains-in (answered c) o h)
 
 all-answered : (c : Core) (os : List Origin) → list_all (is_answered c) os ≡ true → All (IsAnswered c) os

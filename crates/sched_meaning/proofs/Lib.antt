@@ -13,4 +13,5 @@ pub mod OneStep
 pub mod Regions
 pub mod SameOrigin
 pub mod Shows
+pub mod Simulated
 pub mod Weights

@@ -5,7 +5,7 @@ use Rattle.serial_meaning.specs.Plan.{PlanView}
 use Rattle.serial_meaning.specs.declared.origin.Origin.{Origin}
 use Rattle.sched_meaning.specs.Core.{Core, all_tasks, origins_of, IsAnswered, IsRootAnswered}
 use Rattle.sched_meaning.specs.Segments.{IsSegments}
-use Rattle.sched_meaning.specs.Simulation.{choices}
+use Rattle.sched_meaning.specs.Simulation.{choices, IsSimWorker}
 use Rattle.sched_meaning.specs.Sound.{AreEvaluations, IsFruitful, IsLively, StandsOnce}
 use Rattle.sched_meaning.specs.Steps.{Step, Leads}
 use Rattle.sched_meaning.specs.declared.event.CoreEvent.{CoreEvent}
@@ -52,3 +52,8 @@ CoresKeepTasksOnce =
 -- The choices of a core are the events that may happen and go on with the work.
 abbrev pub ChoicesGoOn : Type 0
 ChoicesGoOn = (c : Core) (e : CoreEvent) → Contains (choices c) e ↔ ((next : Core) × Step e c next × IsFruitful e c)
+
+-- In a simulation one worker at most answers the root.
+abbrev pub SimWorkersAreOne : Type 0
+SimWorkersAreOne =
+    (plan : PlanView) (workers number v w : ℕ) → IsSimWorker plan workers number v → IsSimWorker plan workers number w → v ≡ w

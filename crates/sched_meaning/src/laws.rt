@@ -1,6 +1,6 @@
 //! Laws of the machine, each the contract of a function that does nothing. A proof that wants a law calls it.
 
-ghost use Rattle.sched_meaning.specs.Laws.{ChoicesGoOn, CoresAnswerByEvaluations, CoresAreLively, CoresBeginOnce, CoresKeepTasksOnce, CoresRunWithinSegments, SegmentsAreOne, SegmentsCome, StepsAreOne};
+ghost use Rattle.sched_meaning.specs.Laws.{ChoicesGoOn, CoresAnswerByEvaluations, CoresAreLively, CoresBeginOnce, CoresKeepTasksOnce, CoresRunWithinSegments, SegmentsAreOne, SegmentsCome, SimWorkersAreOne, StepsAreOne};
 
 /// An event leads to one core at most.
 pub fn steps_are_one()
@@ -46,4 +46,9 @@ pub fn cores_keep_tasks_once()
 /// The choices of a simulation are just the events that may happen and are neither idle nor fruitless looks.
 pub fn choices_go_on()
     ensures { ChoicesGoOn }
+{}
+
+/// One worker at most answers the root in a simulation.
+pub fn sim_workers_are_one()
+    ensures { SimWorkersAreOne }
 {}
