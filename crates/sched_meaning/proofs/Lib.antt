@@ -14,4 +14,5 @@ pub mod Regions
 pub mod SameOrigin
 pub mod Shows
 pub mod Simulated
+pub mod Small
 pub mod Weights

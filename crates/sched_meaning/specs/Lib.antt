@@ -1,4 +1,5 @@
 pub mod Core
+pub mod Examples
 pub mod Laws
 pub mod Same
 pub mod Segments

@@ -4,6 +4,7 @@
 #![tactic(auto)]
 
 pub mod event;
+pub mod examples;
 pub mod laws;
 
 pub use event::CoreEvent;
