@@ -1,9 +1,7 @@
 -- Which origins stand in a list, by counting, and where a list has one.
-use Rattle.std.proofs.Common.{◌≡◌, ℕ, zero, suc, ◌+◌, ◌<◌, ◌≤◌, Bool, true, false, ◌⊎◌, inl, inr, List, [], ◌∷◌, ◌++◌, Option, Some, None, All, Contains, length, get_or, slice_index_or, slice_get, map, refl, sym, ap, ◌∙◌, subst, arith}
-use Rattle.std.proofs.lemmas.List.Elements.{All-from_recursion}
+use Rattle.std.proofs.Common.{◌≡◌, ℕ, zero, suc, ◌<◌, ◌≤◌, Bool, true, false, ◌⊎◌, inl, inr, List, [], ◌∷◌, Some, All, Contains, length, slice_index_or, slice_get, refl, sym, ap, ◌∙◌, arith}
 use Rattle.serial_meaning.specs.declared.origin.Origin.{Origin}
-use Rattle.strand_meaning.specs.Task.{Task}
-use Rattle.sched_meaning.specs.Core.{Worker, Core, current_tasks, answered, IsAnswered, gone_on, awaited, IsReady}
+use Rattle.sched_meaning.specs.Core.{Core, answered, IsAnswered}
 use Rattle.sched_meaning.specs.Same.{same_origin}
 use Rattle.sched_meaning.proofs.SameOrigin.{same-origin}
 use Rattle.sched_meaning.proofs.Changing.{total, Each}

@@ -1,5 +1,5 @@
 -- Lists in which one element changes: sums over them, and what holds of each element.
-use Rattle.std.proofs.Common.{◌≡◌, ℕ, zero, suc, ◌+◌, List, [], ◌∷◌, ◌++◌, Option, Some, None, slice_get, slice_set, remove, take, drop, flat_map, map, refl, sym, ap, ◌∙◌, subst, arith}
+use Rattle.std.proofs.Common.{◌≡◌, ℕ, zero, suc, ◌+◌, List, [], ◌∷◌, ◌++◌, Some, slice_get, slice_set, remove, flat_map, map, refl, ap, subst, arith}
 use Rattle.sched_meaning.proofs.OneStep.{some-one}
 
 abbrev pub total : {A : Type 0} → (A → ℕ) → List A → ℕ

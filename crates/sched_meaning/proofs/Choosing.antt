@@ -1,12 +1,12 @@
 -- The choices of a simulation are the events that may happen and go on with the work.
-use Rattle.std.proofs.Common.{◌≡◌, ◌≢◌, ℕ, zero, suc, ◌+◌, ◌<◌, ◌≤◌, ◌⊎◌, inl, inr, Bool, true, false, cond, ◌&&◌, ◌||◌, not, nat_eq, List, [], ◌∷◌, ◌++◌, Option, Some, None, All, Contains, length, map, filter, flat_map, is_some, slice_index_or, slice_get, slice_set, remove, refl, sym, ap, ◌∙◌, subst, arith}
+use Rattle.std.proofs.Common.{◌≡◌, ℕ, zero, suc, ◌+◌, ◌<◌, inl, inr, Bool, true, false, cond, ◌&&◌, ◌||◌, not, nat_eq, List, [], ◌∷◌, ◌++◌, Option, Some, None, All, Contains, length, map, filter, flat_map, is_some, slice_index_or, slice_get, slice_set, remove, refl, sym, ap, ◌∙◌, subst, arith}
 use Rattle.std.specs.List.{list_any, list_all, range_with_len}
 use Rattle.std.proofs.lemmas.Bool.Decides.{Decides-eqb}
 use Rattle.serial_meaning.specs.Eval.{main_origin}
 use Rattle.serial_meaning.specs.declared.origin.Origin.{Origin}
 use Rattle.strand_meaning.specs.Task.{Task}
 use Rattle.strand_meaning.proofs.Comes.{stops_come}
-use Rattle.sched_meaning.specs.Core.{Worker, Core, free_worker, gone_on, awaited, answered, IsAnswered, IsRootAnswered, IsReady}
+use Rattle.sched_meaning.specs.Core.{Worker, Core, gone_on, awaited, answered, IsAnswered, IsRootAnswered}
 use Rattle.sched_meaning.specs.Same.{same_origin}
 use Rattle.sched_meaning.specs.Simulation.{is_answered, is_ready, may_run, is_free, has_task, may_give, may_resume, goes_on, is_choice, ring_places, all_events, choices}
 use Rattle.sched_meaning.specs.Sound.{IsFruitful}
@@ -17,7 +17,7 @@ use Rattle.sched_meaning.specs.declared.event.CoreEvent.TheVariants.{Run, Pop, S
 use Rattle.sched_meaning.proofs.SameOrigin.{same-origin}
 use Rattle.sched_meaning.proofs.OneStep.{some-one}
 use Rattle.sched_meaning.proofs.Good.{IsIn, in-front}
-use Rattle.sched_meaning.proofs.Lively.{HasBack, has-back}
+use Rattle.sched_meaning.proofs.Lively.{has-back}
 
 -- Lists
 

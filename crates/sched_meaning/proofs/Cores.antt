@@ -1,5 +1,5 @@
 -- What holds of every core that events lead to.
-use Rattle.std.proofs.Common.{◌≡◌, ◌≤◌, ℕ, ◌+◌, ◌*◌, Some, Contains, slice_get, List, [], ◌∷◌, refl, sym, ap, ◌∙◌, subst, arith, one-mul}
+use Rattle.std.proofs.Common.{◌≡◌, ◌≤◌, ℕ, ◌+◌, ◌*◌, Some, Contains, slice_get, List, [], arith}
 use Rattle.script_check.specs.Valid.{IsValid}
 use Rattle.serial_meaning.specs.Plan.{PlanView}
 use Rattle.serial_meaning.specs.Eval.{main_origin}
@@ -11,10 +11,7 @@ use Rattle.sched_meaning.specs.Segments.{IsSegments}
 use Rattle.sched_meaning.specs.Steps.{Leads}
 use Rattle.sched_meaning.specs.Sound.{AreEvaluations, IsLively, StandsOnce}
 use Rattle.sched_meaning.specs.declared.event.CoreEvent.{CoreEvent}
-use Rattle.sched_meaning.proofs.Weights.{weight}
-use Rattle.sched_meaning.proofs.Changing.{total}
 use Rattle.sched_meaning.proofs.Counted.{nothing, segments, main-comes, segments_are_one}
-use Rattle.sched_meaning.proofs.Loads.{load}
 use Rattle.sched_meaning.proofs.Begun.{each-all}
 use Rattle.sched_meaning.proofs.Kept.{IsKept, IsAnswerOf, leads-keep}
 use Rattle.sched_meaning.proofs.Lively.{lively}

@@ -1,5 +1,5 @@
 -- A task comes to a number of segments, which is its weight where each stop weighs one, and to no other number.
-use Rattle.std.proofs.Common.{◌≡◌, ℕ, zero, suc, ◌+◌, ◌≤◌, false, List, refl, sym, ap, ◌∙◌, subst, arith}
+use Rattle.std.proofs.Common.{◌≡◌, ℕ, zero, suc, ◌+◌, ◌≤◌, false, refl, sym, ap, ◌∙◌, subst, arith}
 use Rattle.script_check.specs.Valid.{IsValid}
 use Rattle.serial_meaning.specs.Plan.{PlanView}
 use Rattle.serial_meaning.specs.Eval.{main_origin}
@@ -7,7 +7,6 @@ use Rattle.serial_meaning.specs.Laws.{IsOriginOf, Main}
 use Rattle.serial_meaning.specs.declared.origin.Origin.{Origin}
 use Rattle.strand_meaning.specs.Task.{Task, start, Stop, Spawn, Wait, End, IsNext}
 use Rattle.strand_meaning.specs.Sound.{IsTask}
-use Rattle.strand_meaning.specs.Clear.{IsClearPlan}
 use Rattle.strand_meaning.proofs.Stops.{stops_are_one}
 use Rattle.strand_meaning.proofs.Ends.{tasks_begin}
 use Rattle.strand_meaning.proofs.ClearOfValid.{clear_of_valid}

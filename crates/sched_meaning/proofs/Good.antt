@@ -1,5 +1,5 @@
 -- What holds of the tasks of a worker, and what each step of a worker keeps of it.
-use Rattle.std.proofs.Common.{◌≡◌, ℕ, zero, suc, ◌+◌, true, false, ◌⊎◌, inl, inr, List, [], ◌∷◌, ◌++◌, Option, Some, None, slice_get, remove, refl, sym, ap, ◌∙◌, subst, arith}
+use Rattle.std.proofs.Common.{◌≡◌, ℕ, true, false, ◌⊎◌, inl, inr, List, [], ◌∷◌, ◌++◌, Option, Some, None, remove, refl, sym, ◌∙◌, subst}
 use Rattle.serial_meaning.specs.Plan.{PlanView}
 use Rattle.serial_meaning.specs.Laws.{IsOriginOf}
 use Rattle.serial_meaning.specs.Answer.{IsEval}
@@ -83,24 +83,27 @@ module _ (plan : PlanView) where
           let known : IsOriginOf rest.plan child = subst (λ (p : PlanView). IsOriginOf p child) (sym same.0) sound.0 in
           let small : IsSmaller plan t.origin child = subst (λ (p : PlanView). IsSmaller p t.origin child) is.0.plan_is hands.1 in
           let old : Each (IsChild plan (begun ++ child ∷ []) t.origin) (awaited t) = (grow-task begun (child ∷ []) t is.0).children in
-          let all : Each (IsChild plan (begun ++ child ∷ []) t.origin) (awaited t ++ child ∷ []) = each-append (IsChild plan (begun ++ child ∷ []) t.origin) (awaited t) (child ∷ []) old ((small, in-end begun child), tt) in
-          (
+          let all : Each (IsChild plan (begun ++ child ∷ []) t.origin) (awaited t ++ child ∷ []) = each-append (IsChild plan (begun ++ child ∷ []) t.origin) (awaited t) (child ∷ []) old ((small, in-end begun child), tt) in (
             begin-going (begun ++ child ∷ []) rest child sound.1 plan_is known,
-            (record {
-               task = sound.1;
-               plan_is = plan_is;
-               children = subst (λ (o : Origin). Each (IsChild plan (begun ++ child ∷ []) o) (awaited rest)) (sym same.1) (subst (λ l. Each (IsChild plan (begun ++ child ∷ []) t.origin) l) (sym hands.0) all);
-             },
-             fewer.1),
+            (
+              record {
+                task = sound.1;
+                plan_is = plan_is;
+                children = subst (λ (o : Origin). Each (IsChild plan (begun ++ child ∷ []) o) (awaited rest)) (sym same.1) (subst (λ l. Each (IsChild plan (begun ++ child ∷ []) t.origin) l) (sym hands.0) all);
+              },
+              fewer.1,
+            ),
             same.1,
           )
       from (Wait rest) sound same fewer hands = (
-        (record {
-           task = sound;
-           plan_is = same.0 ∙ is.0.plan_is;
-           children = subst (λ (o : Origin). Each (IsChild plan begun o) (awaited rest)) (sym same.1) (subst (λ l. Each (IsChild plan begun t.origin) l) (sym hands) is.0.children);
-         },
-         fewer.1),
+        (
+          record {
+            task = sound;
+            plan_is = same.0 ∙ is.0.plan_is;
+            children = subst (λ (o : Origin). Each (IsChild plan begun o) (awaited rest)) (sym same.1) (subst (λ l. Each (IsChild plan begun t.origin) l) (sym hands) is.0.children);
+          },
+          fewer.1,
+        ),
         same.1,
       )
       from (End out ended) sound same fewer hands = (is.0.plan_is, subst (λ (p : PlanView). IsEval p t.origin out ended) is.0.plan_is sound.0)
@@ -172,16 +175,16 @@ module _ (plan : PlanView) where
   good-resumes begun k t w next p is =
       subst (IsGood plan begun) (sym p.after)
       (record {
-         current = goes-on plan begun t (each-get (IsParked plan begun) w.ring k t p.there is.ring);
-         deque = is.deque;
-         ring = each-remove (IsParked plan begun) w.ring k is.ring;
-       })
+        current = goes-on plan begun t (each-get (IsParked plan begun) w.ring k t p.there is.ring);
+        deque = is.deque;
+        ring = each-remove (IsParked plan begun) w.ring k is.ring;
+      })
 
   pub good-passes : (begun : List Origin) (k : ℕ) (t : Task) (w next : Worker) → WorkerPasses k t w next → IsGood plan begun w → IsGood plan begun next
   good-passes begun k t w next p is =
       subst (IsGood plan begun) (sym p.after)
       (record {
-         current = is.current;
-         deque = is.deque;
-         ring = each-append (IsParked plan begun) (remove w.ring k) (t ∷ []) (each-remove (IsParked plan begun) w.ring k is.ring) (each-get (IsParked plan begun) w.ring k t p.there is.ring, tt);
-       })
+        current = is.current;
+        deque = is.deque;
+        ring = each-append (IsParked plan begun) (remove w.ring k) (t ∷ []) (each-remove (IsParked plan begun) w.ring k is.ring) (each-get (IsParked plan begun) w.ring k t p.there is.ring, tt);
+      })

@@ -1,6 +1,5 @@
 -- What each step of the core keeps: its tasks are sound, its answers are evaluations, and two sums over all its tasks stay.
-use Rattle.std.proofs.Common.{◌≡◌, ℕ, zero, suc, ◌+◌, ◌*◌, ◌-◌, List, [], ◌∷◌, ◌++◌, Option, Some, None, inl, inr, slice_get, slice_set, map, replicate, refl, sym, ap, ◌∙◌, subst, arith, mul-add, mul-one}
-use Rattle.script_check.specs.Valid.{IsValid}
+use Rattle.std.proofs.Common.{◌≡◌, ℕ, zero, suc, ◌+◌, ◌*◌, ◌-◌, List, [], ◌∷◌, ◌++◌, Some, inl, inr, slice_get, slice_set, map, replicate, refl, sym, ap, ◌∙◌, subst, arith, mul-add, mul-one}
 use Rattle.serial_meaning.specs.Answer.{AnswerView, IsEval}
 use Rattle.serial_meaning.specs.Plan.{PlanView}
 use Rattle.serial_meaning.specs.Eval.{main_origin}
@@ -9,8 +8,7 @@ use Rattle.serial_meaning.specs.declared.origin.Origin.{Origin}
 use Rattle.strand_meaning.specs.Clear.{IsClearPlan}
 use Rattle.strand_meaning.specs.Task.{Task, start, Stop, Spawn, Wait, End, IsNext}
 use Rattle.strand_meaning.proofs.Ends.{tasks_begin}
-use Rattle.strand_meaning.proofs.ClearOfValid.{clear_of_valid}
-use Rattle.sched_meaning.specs.Core.{Worker, Core, free_worker, first_worker, new_core, gone_on, answered}
+use Rattle.sched_meaning.specs.Core.{Worker, Core, free_worker, new_core, gone_on, answered}
 use Rattle.sched_meaning.specs.Steps.{after_stop, WorkerRuns, WorkerPops, WorkerGives, WorkerTakes, WorkerResumes, WorkerPasses, Changes, noted, Happens, Step, Leads}
 use Rattle.sched_meaning.specs.Steps as steps
 use Rattle.sched_meaning.specs.declared.event.CoreEvent.{CoreEvent}
@@ -18,7 +16,7 @@ use Rattle.sched_meaning.specs.declared.event.CoreEvent.TheVariants.{Run, Pop, S
 use Rattle.sched_meaning.proofs.Weights.{weight, stop_weight, weight-stop}
 use Rattle.sched_meaning.proofs.Changing.{total, total-end, total-map, total-set, Each, each-append, each-map, each-get, each-set}
 use Rattle.sched_meaning.proofs.Loads.{load, stop_load, load-stop, load-pops, load-gives, load-takes, load-resumes, load-passes}
-use Rattle.sched_meaning.proofs.Good.{IsTaskOf, IsGoing, IsGood, IsLeft, stop-leaves, grow, current-good, begun_by, good-runs, good-pops, good-given, good-gives, good-takes, good-resumes, good-passes}
+use Rattle.sched_meaning.proofs.Good.{IsGoing, IsGood, IsLeft, stop-leaves, grow, current-good, good-runs, good-pops, good-given, good-gives, good-takes, good-resumes, good-passes}
 
 abbrev pub IsAnswerOf : PlanView → AnswerView → Type 0
 IsAnswerOf plan a = (a.plan ≡ plan) × IsEval plan a.origin a.out a.outcome

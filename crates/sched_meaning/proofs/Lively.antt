@@ -7,15 +7,15 @@ use Rattle.serial_meaning.specs.declared.origin.Origin.{Origin}
 use Rattle.strand_meaning.specs.Task.{Task}
 use Rattle.strand_meaning.proofs.Comes.{stops_come}
 use Rattle.sched_meaning.specs.Core.{Worker, Core, current_tasks, gone_on, awaited, answered, IsAnswered, IsRootAnswered, IsReady}
-use Rattle.sched_meaning.specs.Steps.{after_stop, noted, Resumes, Step}
+use Rattle.sched_meaning.specs.Steps.{after_stop, noted, Resumes}
 use Rattle.sched_meaning.specs.Sound.{IsLively}
 use Rattle.sched_meaning.specs.declared.event.CoreEvent.TheVariants.{Run, Pop, Look}
 use Rattle.sched_meaning.proofs.Handed.{size_of, IsSmaller}
-use Rattle.sched_meaning.proofs.Changing.{total, Each, each-get}
+use Rattle.sched_meaning.proofs.Changing.{total, each-get}
 use Rattle.sched_meaning.proofs.Loads.{load}
 use Rattle.sched_meaning.proofs.Good.{IsIn, IsChild, IsParked, IsGood}
 use Rattle.sched_meaning.proofs.Kept.{IsKept, by_origin}
-use Rattle.sched_meaning.proofs.Begun.{is_it, is-that, Some_at, find-some, in-counts, counts-contain, answered-or, Unanswered, all-or}
+use Rattle.sched_meaning.proofs.Begun.{is_it, is-that, Some_at, find-some, in-counts, answered-or, Unanswered, all-or}
 
 pub record HasBack (xs : List Task) : Type 0 where
   pub rest : List Task

@@ -1,10 +1,10 @@
 -- What a worker's tasks weigh together, where a task of its ring counts as one that went on. No move of a task from one place to another
 -- changes it.
-use Rattle.std.proofs.Common.{◌≡◌, ℕ, zero, suc, ◌+◌, List, [], ◌∷◌, ◌++◌, Option, Some, None, slice_get, slice_set, remove, refl, sym, ap, ◌∙◌, subst, arith}
-use Rattle.strand_meaning.specs.Task.{Task, start, Stop, Spawn, Wait, End, IsNext}
-use Rattle.sched_meaning.specs.Core.{Worker, Core, gone_on, current_tasks}
-use Rattle.sched_meaning.specs.Steps.{after_stop, WorkerRuns, WorkerPops, WorkerGives, WorkerTakes, WorkerResumes, WorkerPasses, Changes}
-use Rattle.sched_meaning.proofs.Changing.{total, total-append, total-end, total-set, total-remove}
+use Rattle.std.proofs.Common.{◌≡◌, ℕ, ◌+◌, [], ◌∷◌, ◌++◌, Option, Some, None, remove, ap, ◌∙◌, arith}
+use Rattle.strand_meaning.specs.Task.{Task, start, Stop, Spawn, Wait, End}
+use Rattle.sched_meaning.specs.Core.{Worker, gone_on, current_tasks}
+use Rattle.sched_meaning.specs.Steps.{after_stop, WorkerPops, WorkerGives, WorkerTakes, WorkerResumes, WorkerPasses}
+use Rattle.sched_meaning.proofs.Changing.{total, total-end, total-remove}
 
 module _ (f : Task → ℕ) where
   abbrev parked : Task → ℕ

@@ -1,17 +1,16 @@
 -- No origin is begun twice, and one that has no answer stands at one place.
-use Rattle.std.proofs.Common.{◌≡◌, ℕ, zero, suc, ◌+◌, ◌*◌, ◌≤◌, ◌⊎◌, inl, inr, Bool, true, false, List, [], ◌∷◌, ◌++◌, Option, Some, None, Contains, slice_get, map, flat_map, refl, sym, ap, ◌∙◌, subst, arith}
+use Rattle.std.proofs.Common.{◌≡◌, ℕ, zero, suc, ◌+◌, ◌*◌, ◌≤◌, ◌⊎◌, inl, inr, Bool, true, false, List, [], ◌∷◌, ◌++◌, Some, Contains, slice_get, refl, sym, ap, ◌∙◌, subst, arith}
 use Rattle.serial_meaning.specs.Plan.{PlanView}
 use Rattle.serial_meaning.specs.Eval.{main_origin}
 use Rattle.serial_meaning.specs.Laws.{IsOriginOf, Main}
 use Rattle.serial_meaning.specs.declared.origin.Origin.{Origin}
 use Rattle.strand_meaning.specs.Clear.{IsClearPlan}
-use Rattle.strand_meaning.specs.Task.{Task, start, Stop, Spawn, Wait, End, IsNext}
+use Rattle.strand_meaning.specs.Task.{Task, start, Stop, Spawn, Wait, End}
 use Rattle.strand_meaning.specs.Sound.{IsTask}
 use Rattle.strand_meaning.proofs.Ends.{tasks_begin}
 use Rattle.sched_meaning.specs.Core.{Worker, Core, gone_on, current_tasks, tasks_of, all_tasks, origins_of, answered, IsAnswered}
 use Rattle.sched_meaning.specs.Same.{same_origin}
 use Rattle.sched_meaning.specs.Sound.{StandsOnce}
-use Rattle.sched_meaning.proofs.SameOrigin.{same-origin}
 use Rattle.sched_meaning.proofs.Weights.{next, next-comes, Behind, behind-stop, weight, stop_weight, weight-stop}
 use Rattle.sched_meaning.proofs.Counted.{nothing, segments, at-least-one}
 use Rattle.sched_meaning.proofs.Regions.{Region, not-own, AreApart, StopRegion, stop-region, on-region}
@@ -19,7 +18,7 @@ use Rattle.sched_meaning.proofs.Changing.{total, total-append, total-map, total-
 use Rattle.sched_meaning.proofs.Loads.{load}
 use Rattle.sched_meaning.proofs.Kept.{IsKept, by_origin}
 use Rattle.sched_meaning.proofs.OneStep.{some-one}
-use Rattle.sched_meaning.proofs.Begun.{one_if, is_it, is-it, is-that, Some_at, find-some, contains-counts, counts-contain, answered-or}
+use Rattle.sched_meaning.proofs.Begun.{one_if, is_it, is-it, is-that, find-some, contains-counts, answered-or}
 
 -- Below a task
 

@@ -1,5 +1,5 @@
 -- The test of two origins is true exactly where they are equal.
-use Rattle.std.proofs.Common.{◌≡◌, ℕ, Bool, true, false, ◌&&◌, nat_eq, List, [], ◌∷◌, ℤ, refl, sym, ap, ◌∙◌, Decides, int_eq}
+use Rattle.std.proofs.Common.{◌≡◌, ℕ, Bool, false, ◌&&◌, nat_eq, List, [], ◌∷◌, refl, ap, Decides, int_eq}
 use Rattle.std.proofs.lemmas.Bool.Decides.{Decides-and, Decides-like, Decides-eqb, Decides-int_eq}
 use Rattle.loop_range.specs.Range.{Range}
 use Rattle.serial_meaning.specs.declared.value.Value.{Value}

@@ -1,11 +1,11 @@
 -- One worker at most answers the root in a simulation: a step of a seed leads to one core, and after the root's answer nothing is picked.
-use Rattle.std.proofs.Common.{◌≡◌, ℕ, zero, suc, ◌+◌, ◌<◌, ◌≤◌, ◌⊎◌, inl, inr, Bool, true, false, cond, ◌&&◌, not, nat_lt, List, [], ◌∷◌, Option, Some, None, MatchOption, filter, refl, sym, ap, ◌∙◌, subst, arith}
+use Rattle.std.proofs.Common.{◌≡◌, ℕ, zero, suc, ◌+◌, ◌<◌, ◌≤◌, Bool, true, false, cond, ◌&&◌, not, nat_lt, List, [], ◌∷◌, Option, Some, None, MatchOption, filter, refl, sym, ap, ◌∙◌, subst, arith}
 use Rattle.std.proofs.lemmas.Bool.Decides.{nat_tests}
 use Rattle.dotmix.specs.Words.{word}
 use Rattle.serial_meaning.specs.Plan.{PlanView}
 use Rattle.serial_meaning.specs.Eval.{main_origin}
-use Rattle.sched_meaning.specs.Core.{Core, new_core, IsRootAnswered}
-use Rattle.sched_meaning.specs.Simulation.{is_answered, goes_on, is_choice, all_events, choices, picked_of, picked, Goes, Simulates, IsSimWorker}
+use Rattle.sched_meaning.specs.Core.{Core, IsRootAnswered}
+use Rattle.sched_meaning.specs.Simulation.{goes_on, is_choice, all_events, picked_of, picked, Goes, Simulates, IsSimWorker}
 use Rattle.sched_meaning.specs.Steps.{Step}
 use Rattle.sched_meaning.specs.declared.event.CoreEvent.{CoreEvent}
 use Rattle.sched_meaning.specs.declared.event.CoreEvent.TheVariants.{Run}

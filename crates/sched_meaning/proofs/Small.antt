@@ -1,12 +1,12 @@
 -- Proofs of the examples.
-use Rattle.std.proofs.Common.{◌≡◌, ◌≢◌, ℕ, ◌+◌, ◌<◌, List, [], ◌∷◌, Option, Some, None, inl, inr, All, Contains, slice_index_or, length, zero, suc, false, refl, sym, ap, ◌∙◌, subst, arith}
+use Rattle.std.proofs.Common.{◌≡◌, ℕ, ◌<◌, List, [], ◌∷◌, Option, Some, None, inl, inr, All, Contains, slice_index_or, length, zero, suc, false, refl, sym, ap, ◌∙◌, subst, arith}
 use Rattle.serial_meaning.specs.Answer.{AnswerView}
 use Rattle.serial_meaning.specs.Plan.{PlanView}
 use Rattle.serial_meaning.specs.Eval.{main_origin}
 use Rattle.serial_meaning.specs.declared.origin.Origin.{Origin}
 use Rattle.strand_meaning.specs.Task.{Task, start, Spawn, Wait, End}
 use Rattle.strand_meaning.proofs.Stops.{stops_keep_origins}
-use Rattle.sched_meaning.specs.Core.{Worker, Core, free_worker, first_worker, new_core, awaited, gone_on, IsAnswered, IsRootAnswered, IsReady}
+use Rattle.sched_meaning.specs.Core.{Worker, Core, free_worker, first_worker, new_core, gone_on, IsAnswered, IsRootAnswered, IsReady}
 use Rattle.sched_meaning.specs.Steps.{Step, Leads, Happens}
 use Rattle.sched_meaning.specs.declared.event.CoreEvent.TheVariants.{Run, Steal, Look}
 use Rattle.sched_meaning.proofs.OneStep.{some-one}

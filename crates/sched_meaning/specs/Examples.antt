@@ -1,12 +1,12 @@
 -- Small cores, event by event. Each is the contract of a function of the module `examples`, which says it in words.
-use Rattle.std.specs.Prelude.{◌≡◌, ◌≢◌, ℕ, false, List, [], ◌∷◌, Option, Some, None}
+use Rattle.std.specs.Prelude.{◌≡◌, ◌≢◌, false, List, [], ◌∷◌, Some, None}
 use Rattle.serial_meaning.specs.Plan.{PlanView}
 use Rattle.serial_meaning.specs.Eval.{main_origin}
 use Rattle.serial_meaning.specs.declared.event.Event.{Event}
 use Rattle.serial_meaning.specs.declared.origin.Origin.{Origin}
 use Rattle.serial_meaning.specs.declared.answer.Outcome.{Outcome}
 use Rattle.strand_meaning.specs.Task.{Task, start, Spawn, Wait, End, IsNext}
-use Rattle.sched_meaning.specs.Core.{Worker, Core, free_worker, new_core, awaited, gone_on, IsRootAnswered}
+use Rattle.sched_meaning.specs.Core.{Core, free_worker, new_core, awaited, gone_on, IsRootAnswered}
 use Rattle.sched_meaning.specs.Simulation.{choices}
 use Rattle.sched_meaning.specs.Steps.{Step, Leads}
 use Rattle.sched_meaning.specs.declared.event.CoreEvent.{CoreEvent}

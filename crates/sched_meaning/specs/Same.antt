@@ -1,5 +1,5 @@
 -- A test whether two origins are the same.
-use Rattle.std.specs.Prelude.{ℕ, Bool, true, false, ◌&&◌, nat_eq, List, [], ◌∷◌}
+use Rattle.std.specs.Prelude.{Bool, true, false, ◌&&◌, nat_eq, List, [], ◌∷◌}
 use Rattle.std.specs.Ordering.{int_eq}
 use Rattle.loop_range.specs.Range.{Range}
 use Rattle.serial_meaning.specs.declared.value.Value.{Value}

@@ -1,10 +1,9 @@
 -- What holds of every core that events lead to.
-use Rattle.std.specs.Prelude.{◌≡◌, ◌≤◌, ℕ, List, [], ◌∷◌, Some, All, Contains, slice_get}
+use Rattle.std.specs.Prelude.{◌≡◌, ℕ, List, Some, All, slice_get}
 use Rattle.serial_meaning.specs.Answer.{AnswerView, IsEval}
 use Rattle.serial_meaning.specs.Plan.{PlanView}
 use Rattle.serial_meaning.specs.declared.origin.Origin.{Origin}
-use Rattle.sched_meaning.specs.Core.{Core, all_tasks, origins_of, IsAnswered, IsRootAnswered}
-use Rattle.sched_meaning.specs.Segments.{IsSegments}
+use Rattle.sched_meaning.specs.Core.{Core}
 use Rattle.sched_meaning.specs.Steps.{Resumes, Step}
 use Rattle.sched_meaning.specs.declared.event.CoreEvent.{CoreEvent}
 use Rattle.sched_meaning.specs.declared.event.CoreEvent.TheVariants.{Run, Pop, Steal, Look, Idle}
