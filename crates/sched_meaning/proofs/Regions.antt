@@ -1,0 +1,357 @@
+-- Which origins a task may still begin, itself or by its children. No stop adds to them; and what a child may begin is apart from what
+-- the rest of its parent may.
+use Rattle.std.proofs.Common.{◌≡◌, ℕ, zero, suc, ◌+◌, ◌-◌, ◌<◌, ◌≤◌, ◌⊎◌, inl, inr, Bool, true, false, nat_eq, List, [], ◌∷◌, ◌++◌, Option, Some, None, Result, Ok, Err, length, append_assoc, refl, sym, ap, ◌∙◌, subst, arith, if◌then◌else◌}
+use Rattle.loop_range.specs.Range.{Range, lower_half, upper_half}
+use Rattle.serial_meaning.specs.Plan.{PlanView}
+use Rattle.serial_meaning.specs.Eval.{Evaluation, path_of, eval}
+use Rattle.serial_meaning.specs.Open.{Own, Joined}
+use Rattle.serial_meaning.specs.declared.value.Value.{Value}
+use Rattle.serial_meaning.specs.declared.event.Fault.{Fault}
+use Rattle.serial_meaning.specs.declared.origin.Origin.{Origin}
+use Rattle.serial_meaning.specs.declared.origin.Origin.TheVariants.{Instance, Loop}
+use Rattle.serial_meaning.specs.declared.answer.Outcome.{Outcome}
+use Rattle.strand_meaning.specs.Machine.{Place, Spawned, Looped, Half, Activation, Token, Told, Handed, Syncs, Loops, Machine, Reached, Stands, Gives, begun, move}
+use Rattle.strand_meaning.specs.Pieces.{Part, hand}
+use Rattle.strand_meaning.specs.Task.{Stage, Goes, AtSync, AtLoop, Ended, Work, Splits, Runs, Over, Task, start, begun_stage, own_instance, begins_last, Step, Passes, Stops, Stop, Spawn, Wait, End, IsNext, Now, Later, stage_after, child_in, stops_at, passing, moved, waits, ends_unless, faults_behind, gave, stage_step, first_half, split_step, over_step, work_step, step, changed, changed_at, answered, takes, joins, resumed, takes_all, resumed_work}
+use Rattle.strand_meaning.specs.Rest.{evaluations}
+use Rattle.strand_meaning.specs.Sound.{IsEndOf, IsSoundWork, IsTask}
+use Rattle.strand_meaning.specs.Laws.{IsSoundStep}
+use Rattle.strand_meaning.proofs.Ends.{steps_are_sound}
+use Rattle.strand_meaning.proofs.Ranks.{Shape, ShowsNothing, Tells, Spawns, WaitsAtSync, WaitsAtLoop, tokens_raise, MoveEnd, move-ranks}
+use Rattle.sched_meaning.specs.Core.{gone_on}
+use Rattle.sched_meaning.proofs.Shows.{children, AtMostOne, MoveHands, move_hands}
+use Rattle.sched_meaning.proofs.Handed.{first, child-first}
+
+-- Paths
+
+longer : (p more : List ℕ) (k : ℕ) → p ≡ p ++ k ∷ more → ⊥
+longer [] more k h = absurd (cc)
+longer (x ∷ p) more k h = longer p more k (cc)
+
+same-rank : (p xs ys : List ℕ) (j k : ℕ) → p ++ j ∷ xs ≡ p ++ k ∷ ys → j ≡ k
+same-rank [] xs ys j k h = cc
+same-rank (x ∷ p) xs ys j k h = same-rank p xs ys j k (cc)
+
+-- Regions
+
+abbrev pub range_of : Origin → Range
+range_of (Instance function args path) = record { lo = 0; hi = 0 }
+range_of (Loop function rest first path range) = range
+
+-- a part of the loop with this path, within these iterations and not all of them
+pub record IsShorter (p : List ℕ) (left : Range) (q : Origin) : Type 0 where
+  path_is : path_of q ≡ p
+  low : left.lo ≤ (range_of q).lo
+  some : (range_of q).lo < (range_of q).hi
+  high : (range_of q).hi ≤ left.hi
+  shorter : (range_of q).hi - (range_of q).lo < left.hi - left.lo
+
+-- below this path, by a rank from k on
+pub record From (w : List ℕ) (k : ℕ) (q : Origin) : Type 0 where
+  rank : ℕ
+  more : List ℕ
+  path_is : path_of q ≡ w ++ rank ∷ more
+  reaches : k ≤ rank
+
+-- below this path, by one of these ranks
+pub record Between (p : List ℕ) (left : Range) (q : Origin) : Type 0 where
+  rank : ℕ
+  more : List ℕ
+  path_is : path_of q ≡ p ++ rank ∷ more
+  low : left.lo ≤ rank
+  high : rank < left.hi
+
+abbrev pub SplitRegion : List ℕ → Range → Origin → Type 0
+SplitRegion p left q = IsShorter p left q ⊎ Between p left q
+
+abbrev pub StageRegion : List ℕ → Stage → Origin → Type 0
+StageRegion w (Goes m) q = From w m.rank q
+StageRegion w (AtSync m) q = From w m.rank q
+StageRegion w (AtLoop m) q = From w m.rank q
+StageRegion w (Ended e) q = ⊥
+
+abbrev pub WorkRegion : Origin → Work → Origin → Type 0
+WorkRegion o (Splits left) q = IsShorter (path_of o) left q ⊎ Between (path_of o) left q
+WorkRegion o (Runs stage) q = StageRegion (path_of (own_instance o)) stage q
+WorkRegion o (Over v gone_on) q = ⊥
+
+abbrev pub Region : Task → Origin → Type 0
+Region t q = WorkRegion t.origin t.work q
+
+from-lower : (w : List ℕ) (j k : ℕ) (q : Origin) → j ≤ k → From w k q → From w j q
+from-lower w j k q h f = record { rank = f.rank; more = f.more; path_is = f.path_is; reaches = lower f.reaches }
+  where
+    lower : k ≤ f.rank → j ≤ f.rank
+    lower g = omega arith
+
+-- what a begun instance may begin is below its path
+begun-below : (w : List ℕ) (q : Origin) (r : Reached) → StageRegion w (begun_stage r) q → From w 0 q
+begun-below w q (Stands m) f = from-lower w 0 m.rank q (omega arith) f
+begun-below w q (Gives v) f = absurd f
+
+-- what a begun origin may begin: a shorter part of the same loop, or what is below its path
+start-below : (plan : PlanView) (c q : Origin) → Region (start plan c) q → IsShorter (path_of c) (range_of c) q ⊎ From (path_of c) 0 q
+start-below plan (Instance function args path) q h = inr (begun-below path q (begun plan function args) h)
+start-below plan (Loop function rest first path range) q (inl s) = inl s
+start-below plan (Loop function rest first path range) q (inr b) = inr (record { rank = b.rank; more = b.more; path_is = b.path_is; reaches = omega arith })
+
+-- and so never itself
+pub not-own : (plan : PlanView) (c : Origin) → Region (start plan c) c → ⊥
+not-own plan c h = from (start-below plan c c h)
+  where
+    from : IsShorter (path_of c) (range_of c) c ⊎ From (path_of c) 0 c → ⊥
+    from (inl s) = absurd (omega (arith, s.shorter))
+    from (inr f) = longer (path_of c) f.more f.rank f.path_is
+
+-- Where the rest of a task and a child are apart
+pub record AreApart (o : Origin) (work : Work) (c : Origin) (rest : Task) : Type 0 where
+  pub own : WorkRegion o work c
+  pub below : (q : Origin) → Region (start rest.plan c) q → WorkRegion o work q
+  pub later : (q : Origin) → Region rest q → WorkRegion o work q
+  pub not_later : Region rest c → ⊥
+  pub apart : (q : Origin) → Region (start rest.plan c) q → Region rest q → ⊥
+
+abbrev pub StepRegion : Origin → Work → Step → Type 0
+StepRegion o work (Passes next) = (q : Origin) → Region next q → WorkRegion o work q
+StepRegion o work (Stops (Spawn c rest)) = AreApart o work c rest
+StepRegion o work (Stops (Wait rest)) = (q : Origin) → Region rest q → WorkRegion o work q
+StepRegion o work (Stops (End out ended)) = Unit {0}
+
+-- Moves
+
+shape-raises : (j : List ℕ) (ts : List Token) (o : Origin) → Shape j ts → child_in ts ≡ Some o → 1 ≤ tokens_raise ts
+shape-raises j _ o ShowsNothing h = absurd (cc)
+shape-raises j _ o (Tells e p) h = absurd (cc)
+shape-raises j _ o (Spawns e c place p r) h = omega arith
+shape-raises j _ o (WaitsAtSync e p r) h = absurd (cc)
+shape-raises j _ o (WaitsAtLoop e c place p r) h = omega arith
+
+after-region : (w : List ℕ) (ts : List Token) (m : Machine) (q : Origin) → StageRegion w (stage_after ts m) q → From w m.rank q
+after-region w [] m q h = h
+after-region w (Told e ∷ ts) m q h = after-region w ts m q h
+after-region w (Handed o place ∷ ts) m q h = after-region w ts m q h
+after-region w (Syncs ∷ ts) m q h = h
+after-region w (Loops ∷ ts) m q h = h
+
+child-named : (plan : PlanView) (w : List ℕ) (k : ℕ) (os : List Origin) (o : Origin) → Some o ≡ first os → AtMostOne plan w k os → path_of o ≡ w ++ k ∷ []
+child-named plan w k [] o e h = absurd (cc)
+child-named plan w k (c ∷ []) o e h = let same : c ≡ o = cc in subst (λ d. path_of d ≡ w ++ k ∷ []) same h.named
+child-named plan w k (c ∷ d ∷ os) o e h = absurd h
+
+-- a child named by this rank, and a rest that is behind it
+module _ (w : List ℕ) (k : ℕ) (plan : PlanView) (c : Origin) (named : path_of c ≡ w ++ k ∷ []) where
+  -- the paths of what is below the child go on from its rank
+  record Through (q : Origin) : Type 0 where
+    more : List ℕ
+    path_is : path_of q ≡ w ++ k ∷ more
+
+  through : (q : Origin) → Region (start plan c) q → Through q
+  through q h = from (start-below plan c q h)
+    where
+      from : IsShorter (path_of c) (range_of c) q ⊎ From (path_of c) 0 q → Through q
+      from (inl s) = record { more = []; path_is = s.path_is ∙ named }
+      from (inr f) = record { more = f.rank ∷ f.more; path_is = f.path_is ∙ ap (λ p. p ++ f.rank ∷ f.more) named ∙ append_assoc w (k ∷ []) (f.rank ∷ f.more) }
+
+  through-from : (q : Origin) → Through q → From w k q
+  through-from q t = record { rank = k; more = t.more; path_is = t.path_is; reaches = omega arith }
+
+  never-later : (q : Origin) → Through q → From w (suc k) q → ⊥
+  never-later q t f = let e : k ≡ f.rank = same-rank w t.more f.more k f.rank (sym t.path_is ∙ f.path_is) in absurd (omega (arith, f.reaches))
+
+  own-through : Through c
+  own-through = record { more = []; path_is = named }
+
+module _ (t : Task) (is : IsTask t) where
+  o : Origin
+  o = t.origin
+
+  region-ends : (work : Work) (f : Option Fault) (ended : Outcome) → StepRegion t.origin work (ends_unless f t ended)
+  region-ends work None ended = tt
+  region-ends work (Some f) ended = tt
+
+  region-waits : (work : Work) → t.work ≡ work → StepRegion t.origin work (waits t)
+  region-waits work at = λ q h. subst (λ (x : Work). WorkRegion t.origin x q) at h
+
+  region-faults : (work : Work) → t.work ≡ work → (ps : List Part) (f : Fault) → StepRegion t.origin work (faults_behind ps t f)
+  region-faults work at [] f = region-ends work t.pieces.fault _
+  region-faults work at (p ∷ ps) f = region-waits work at
+
+  region-gave : (work : Work) (origin : Origin) (v : Value) → StepRegion t.origin work (gave t origin v)
+  region-gave work (Instance function args path) v = region-ends work t.pieces.fault _
+  region-gave work (Loop function rest first path range) v = λ q h. absurd h
+
+  module _ (m : Machine) where
+    abbrev w : List ℕ
+    w = path_of (own_instance t.origin)
+
+    region-at : (ts : List Token) (k : Machine) (c : Option Origin) → child_in ts ≡ c → k.rank ≡ m.rank + tokens_raise ts → Shape (w ++ m.rank ∷ []) ts → AtMostOne t.plan w m.rank (children ts) →
+        StepRegion t.origin (Runs (Goes m)) (stops_at c (passing t ts (Runs (stage_after ts k))))
+    region-at ts k None e up shape hands = λ q h. from-lower w m.rank k.rank q (omega arith) (after-region w ts k q h)
+    region-at ts k (Some c) e up shape hands = record {
+      own = through-from w m.rank t.plan c named c (own-through w m.rank t.plan c named);
+      below = λ q h. through-from w m.rank t.plan c named q (through w m.rank t.plan c named q h);
+      later = λ q h. from-lower w m.rank k.rank q (omega arith) (after-region w ts k q h);
+      not_later = λ h. never-later w m.rank t.plan c named c (own-through w m.rank t.plan c named) (behind c h);
+      apart = λ q h g. never-later w m.rank t.plan c named q (through w m.rank t.plan c named q h) (behind q g);
+    }
+      where
+        named : path_of c ≡ w ++ m.rank ∷ []
+        named = child-named t.plan w m.rank (children ts) c (sym e ∙ child-first ts) hands
+
+        behind : (q : Origin) → StageRegion w (stage_after ts k) q → From w (suc m.rank) q
+        behind q h = let r : 1 ≤ tokens_raise ts = shape-raises (w ++ m.rank ∷ []) ts c shape e in from-lower w (suc m.rank) k.rank q (omega arith) (after-region w ts k q h)
+
+  region-stage : (stage : Stage) → t.work ≡ Runs stage → StepRegion t.origin (Runs stage) (stage_step t stage)
+  region-stage (Goes m) at = by_end (move t.plan path m).items (move t.plan path m).ending (move-ranks t.plan path m.rank m refl) (move_hands t.plan path m.rank m refl)
+    where
+      path : List ℕ
+      path = path_of (own_instance t.origin)
+
+      by_end : (ts : List Token) (e : Result Reached Fault) → Shape (path ++ m.rank ∷ []) ts × MoveEnd t.plan path m.rank ts e → MoveHands t.plan path m.rank (children ts) e → StepRegion t.origin (Runs (Goes m)) (moved t ts e)
+      by_end ts (Ok (Stands k)) r h = region-at m ts k (child_in ts) refl r.1 r.0 h
+      by_end ts (Ok (Gives v)) r h = λ q g. absurd g
+      by_end ts (Err f) r h = λ q g. absurd g
+  region-stage (AtSync m) at = region-waits (Runs (AtSync m)) at
+  region-stage (AtLoop m) at = region-waits (Runs (AtLoop m)) at
+  region-stage (Ended (Ok v)) at = region-gave (Runs (Ended (Ok v))) t.origin v
+  region-stage (Ended (Err (Own f))) at = region-faults (Runs (Ended (Err (Own f)))) at t.pieces.handed f
+  region-stage (Ended (Err (Joined f))) at = region-ends (Runs (Ended (Err (Joined f)))) t.pieces.fault _
+
+  -- Loops
+
+  last-region : (plan : PlanView) (origin : Origin) (left : Range) → IsEndOf origin left → left.hi - left.lo ≡ 1 → (q : Origin) → WorkRegion origin (begins_last plan origin) q → WorkRegion origin (Splits left) q
+  last-region plan (Instance function args path) left is e q h = absurd is
+  last-region plan (Loop function rest first path range) left is e q h = inr (last (begun-below (path ++ (range.hi - 1) ∷ []) q (begun plan function _) h))
+    where
+      last : From (path ++ (range.hi - 1) ∷ []) 0 q → Between path left q
+      last f = record {
+        rank = range.hi - 1;
+        more = f.rank ∷ f.more;
+        path_is = f.path_is ∙ append_assoc path ((range.hi - 1) ∷ []) (f.rank ∷ f.more);
+        low = omega (arith, is.1);
+        high = omega (arith, is.1);
+      }
+
+  -- both halves of what is left
+  halves : (plan : PlanView) (origin : Origin) (left : Range) (n : ℕ) → IsEndOf origin left → left.hi - left.lo ≡ suc (suc n) → (rest : Task) → rest.plan ≡ plan → rest.origin ≡ origin → rest.work ≡ Splits (upper_half left) → AreApart origin (Splits left) (first_half origin left) rest
+  halves plan (Instance function args path) left n is e rest a b d = absurd is
+  halves plan (Loop function more first path range) left n is e rest a b d = record {
+    own = inl (record { path_is = refl; low = omega arith; some = omega arith; high = omega arith; shorter = omega arith });
+    below = λ q h. lower q h;
+    later = λ q h. upper q (up q h);
+    not_later = λ h. never (up c h);
+    apart = λ q h g. apart q h (up q g);
+  }
+    where
+      c : Origin
+      c = Loop function more first path (lower_half left)
+
+      up : (q : Origin) → Region rest q → SplitRegion path (upper_half left) q
+      up q h = subst (λ (x : Work). WorkRegion (Loop function more first path range) x q) d (subst (λ (x : Origin). WorkRegion x rest.work q) b h)
+
+      lower : (q : Origin) → SplitRegion path (lower_half left) q → IsShorter path left q ⊎ Between path left q
+      lower q (inl s) = inl (record { path_is = s.path_is; low = s.low; some = s.some; high = omega (arith, s.high); shorter = omega (arith, s.shorter) })
+      lower q (inr f) = inr (record { rank = f.rank; more = f.more; path_is = f.path_is; low = f.low; high = omega (arith, f.high) })
+
+      upper : (q : Origin) → SplitRegion path (upper_half left) q → IsShorter path left q ⊎ Between path left q
+      upper q (inl s) = inl (record { path_is = s.path_is; low = omega (arith, s.low); some = s.some; high = s.high; shorter = omega (arith, s.shorter) })
+      upper q (inr f) = inr (record { rank = f.rank; more = f.more; path_is = f.path_is; low = omega (arith, f.low); high = f.high })
+
+      never : SplitRegion path (upper_half left) c → ⊥
+      never (inl s) = absurd (omega (arith, s.low))
+      never (inr f) = longer path f.more f.rank f.path_is
+
+      apart : (q : Origin) → SplitRegion path (lower_half left) q → SplitRegion path (upper_half left) q → ⊥
+      apart q (inl s) (inl r) = absurd (omega (arith, s.high, s.some, r.low))
+      apart q (inl s) (inr f) = longer path f.more f.rank (sym s.path_is ∙ f.path_is)
+      apart q (inr f) (inl s) = longer path f.more f.rank (sym s.path_is ∙ f.path_is)
+      apart q (inr f) (inr g) = let e : f.rank ≡ g.rank = same-rank path f.more g.more f.rank g.rank (sym f.path_is ∙ g.path_is) in absurd (omega (arith, f.high, g.low))
+
+  region-split : (left : Range) (n : ℕ) → t.work ≡ Splits left → IsEndOf t.origin left → left.hi - left.lo ≡ n → StepRegion t.origin (Splits left) (split_step t left n)
+  region-split left zero at is e = region-ends (Splits left) t.pieces.fault _
+  region-split left (suc zero) at is e = last-region t.plan t.origin left is e
+  region-split left (suc (suc n)) at is e =
+      halves t.plan t.origin left n is e (record t { pieces = hand (first_half t.origin left) Half t.pieces; work = Splits (upper_half left); advanced = true }) refl refl refl
+
+  region-over : (v : Value) (origin : Origin) → t.work ≡ Over v false → StepRegion t.origin (Over v false) (over_step t v origin)
+  region-over v (Instance function args path) at = region-ends (Over v false) t.pieces.fault _
+  region-over v (Loop function rest first path range) at = by_size (range.hi - range.lo) refl
+    where
+      by_size : (n : ℕ) → range.hi - range.lo ≡ n → StepRegion t.origin (Over v false) (over_step t v (Loop function rest first path range))
+      by_size zero g = rw g (region-ends (Over v false) t.pieces.fault _)
+      by_size (suc zero) g = rw g (region-ends (Over v false) t.pieces.fault _)
+      by_size (suc (suc n)) g = rw g (region-waits (Over v false) at)
+
+  region-work : (work : Work) → t.work ≡ work → IsSoundWork t.plan t.origin t.pieces.handed work → StepRegion t.origin work (work_step t work)
+  region-work (Splits left) at is = region-split left (left.hi - left.lo) at is.0 refl
+  region-work (Runs stage) at is = region-stage stage at
+  region-work (Over v true) at is = region-ends (Over v true) t.pieces.fault _
+  region-work (Over v false) at is = region-over v t.origin at
+
+  region-step : StepRegion t.origin t.work (step t)
+  region-step = region-work t.work refl is.work
+
+abbrev pub StopRegion : Task → Stop → Type 0
+StopRegion t stop = StepRegion t.origin t.work (Stops stop)
+
+region-further : (t next : Task) (stop : Stop) → ((q : Origin) → Region next q → Region t q) → StopRegion next stop → StopRegion t stop
+region-further t next (Spawn c rest) up a = record {
+  own = up c a.own;
+  below = λ q h. up q (a.below q h);
+  later = λ q h. up q (a.later q h);
+  not_later = a.not_later;
+  apart = a.apart;
+}
+region-further t next (Wait rest) up h = λ q g. up q (h q g)
+region-further t next (End out ended) up h = tt
+
+pub stop-region : (t : Task) (stop : Stop) → IsTask t → IsNext t stop → StopRegion t stop
+stop-region t stop is (Now h) = subst (StepRegion t.origin t.work) h (region-step t is)
+stop-region t stop is (Later next h n) =
+    region-further t next stop (subst (StepRegion t.origin t.work) h (region-step t is)) (stop-region next stop (subst (IsSoundStep t) h (steps_are_sound t is)) n)
+
+-- Answers
+
+changed-rank : (height : ℕ) (change : Activation → Activation) (m : Machine) → (changed height change m).rank ≡ m.rank
+changed-rank height change m = by_test (nat_eq height (length m.below))
+  where
+    by_test : (b : Bool) → (if b then record m { top = change m.top } else record m { below = changed_at height change m.below }).rank ≡ m.rank
+    by_test true = refl
+    by_test false = refl
+
+module _ (w : List ℕ) (q : Origin) where
+  takes-region : (place : Place) (ended : Result (List Value) Fault) (stage : Stage) → StageRegion w (takes place ended stage) q → StageRegion w stage q
+  takes-region (Spawned height target) ended (Goes m) h = subst (λ k. From w k q) (changed-rank height (answered target ended) m) h
+  takes-region (Spawned height target) ended (AtSync m) h = subst (λ k. From w k q) (changed-rank height (answered target ended) m) h
+  takes-region (Spawned height target) ended (AtLoop m) h = subst (λ k. From w k q) (changed-rank height (answered target ended) m) h
+  takes-region (Spawned height target) ended (Ended e) h = absurd h
+  takes-region (Looped target) (Ok vs) (Goes m) h = h
+  takes-region (Looped target) (Ok vs) (AtSync m) h = h
+  takes-region (Looped target) (Ok vs) (AtLoop m) h = h
+  takes-region (Looped target) (Ok vs) (Ended e) h = absurd h
+  takes-region (Looped target) (Err f) stage h = absurd h
+  takes-region Half ended stage h = h
+
+  all-region : (ps : List Part) (answers : List Evaluation) (stage : Stage) → StageRegion w (takes_all ps answers stage) q → StageRegion w stage q
+  all-region [] answers stage h = h
+  all-region (p ∷ ps) [] stage h = h
+  all-region (p ∷ ps) (answer ∷ answers) stage h = takes-region p.place answer.ending stage (all-region ps answers (takes p.place answer.ending stage) h)
+
+  joins-region : (f : Option Fault) (m : Machine) → StageRegion w (joins f m) q → From w m.rank q
+  joins-region None m h = h
+  joins-region (Some f) m h = absurd h
+
+  resumed-region : (stage : Stage) → StageRegion w (resumed stage) q → StageRegion w stage q
+  resumed-region (Goes m) h = h
+  resumed-region (AtSync m) h = joins-region m.top.faulted m h
+  resumed-region (AtLoop m) h = h
+  resumed-region (Ended e) h = absurd h
+
+pub on-region : (t : Task) (q : Origin) → Region (gone_on t) q → Region t q
+on-region t q h = by_work t.work h
+  where
+    by_work : (work : Work) → WorkRegion t.origin (resumed_work t.pieces.handed (evaluations (eval t.plan) t.pieces.handed) work) q → WorkRegion t.origin work q
+    by_work (Splits left) h = h
+    by_work (Runs stage) h =
+        let w = path_of (own_instance t.origin) in all-region w q t.pieces.handed (evaluations (eval t.plan) t.pieces.handed) stage (resumed-region w q (takes_all t.pieces.handed (evaluations (eval t.plan) t.pieces.handed) stage) h)
+    by_work (Over v gone) h = absurd h

@@ -1,0 +1,206 @@
+-- The children that a move of an instance hands out: one at most, deeper than the instance, and named by the rank before the move.
+use Rattle.std.proofs.Common.{◌≡◌, ℕ, zero, suc, ◌+◌, ◌-◌, ◌≤◌, Bool, true, false, nat_lt, List, [], ◌∷◌, ◌++◌, Option, Some, None, Result, Ok, Err, length, length-append, append-nil, refl, sym, ap, ◌∙◌, subst, arith, if◌then◌else◌}
+use Rattle.std.proofs.Common.{ℤ, ◌-ℤ◌}
+use Rattle.std.proofs.lemmas.Bool.Decides.{nat_tests}
+use Rattle.script_grammar.specs.declared.tree.Name.{Name}
+use Rattle.script_grammar.specs.declared.tree.CallText.{CallText}
+use Rattle.script_grammar.specs.declared.tree.Function.{Function}
+use Rattle.script_grammar.specs.declared.tree.Right.{Right}
+use Rattle.script_grammar.specs.declared.tree.Right.TheVariants as right
+use Rattle.script_grammar.specs.declared.tree.Stmt.{Stmt, out-Stmt}
+use Rattle.script_grammar.specs.declared.tree.Act.{Act, out-Act}
+use Rattle.script_grammar.specs.declared.tree.Act.TheOpen as act
+use Rattle.script_grammar.specs.declared.tree.Act.TheOpen.{Act-F}
+use Rattle.serial_meaning.specs.Runs.{Run, done, goes_on, ◌then◌}
+use Rattle.serial_meaning.specs.Values.{value_of, values_of, slot_of, items_of, number, is_true, at_index}
+use Rattle.serial_meaning.specs.Functions.{number_of, function_at}
+use Rattle.serial_meaning.specs.Plan.{PlanView, functions_of}
+use Rattle.serial_meaning.specs.Exec.{State, Manner, strand, given, paid_from, tested, has_room, fits_depth, spawn, join, implied, activation, called, right_side, found, looped, does, count_of}
+use Rattle.serial_meaning.specs.Eval.{path_of}
+use Rattle.serial_meaning.specs.Open.{is_zero}
+use Rattle.serial_meaning.specs.declared.value.Value.{Value}
+use Rattle.serial_meaning.specs.declared.event.FaultKind.{FaultKind}
+use Rattle.serial_meaning.specs.declared.event.FaultKind.TheVariants.{Index, Depth, Calls, Budget}
+use Rattle.serial_meaning.specs.declared.event.Fault.{Fault}
+use Rattle.serial_meaning.specs.declared.event.Event.TheVariants as event
+use Rattle.serial_meaning.specs.declared.origin.Origin.{Origin}
+use Rattle.serial_meaning.specs.declared.origin.Origin.TheVariants as origin
+use Rattle.strand_meaning.specs.Machine.{Place, Spawned, Looped, Token, Told, Handed, Syncs, Loops, Halt, Faulted, Inside, loop_tokens, sync_tokens, handing, inside, place_of, Activation, Machine, Reached, Stands, Gives, state_of, with_left, with_returning, back, entered, reached, gives, spawns_in, return_run, value_run, return_move, move_at, move}
+
+-- the children among these
+abbrev pub children : List Token → List Origin
+children [] = []
+children (Told e ∷ ts) = children ts
+children (Handed o place ∷ ts) = o ∷ children ts
+children (Syncs ∷ ts) = children ts
+children (Loops ∷ ts) = children ts
+
+-- a child of the strand at this rank of an instance with this path, for which there is room below the depth
+pub record IsDeeper (plan : PlanView) (path : List ℕ) (k : ℕ) (o : Origin) : Type 0 where
+  pub named : path_of o ≡ path ++ k ∷ []
+  pub longer : length (path_of o) ≡ length path + 1
+  pub fits : length (path_of o) ≤ plan.limits.depth
+
+-- none, or one that is deeper
+abbrev pub AtMostOne : PlanView → List ℕ → ℕ → List Origin → Type 0
+AtMostOne plan path k [] = Unit {0}
+AtMostOne plan path k (o ∷ []) = IsDeeper plan path k o
+AtMostOne plan path k (o ∷ p ∷ os) = ⊥
+
+-- what a move hands out: nothing where it leaves no machine
+abbrev pub MoveHands : PlanView → List ℕ → ℕ → List Origin → Result Reached Fault → Type 0
+MoveHands plan path k os (Ok (Stands m)) = AtMostOne plan path k os
+MoveHands plan path k os (Ok (Gives v)) = os ≡ []
+MoveHands plan path k os (Err f) = os ≡ []
+
+module _ (plan : PlanView) (path : List ℕ) (k : ℕ) where
+  abbrev what : Place → Manner Token Halt Bool
+  what place = handing plan place
+
+  -- a run that hands out one child at most, and none where it ends by a fault
+  abbrev HandsAt : {A : Type 0} → List Origin → Result A Halt → Type 0
+  HandsAt os (Ok a) = AtMostOne plan path k os
+  HandsAt os (Err (Faulted f)) = os ≡ []
+  HandsAt os (Err (Inside calls inner s)) = AtMostOne plan path k os
+
+  abbrev HandsOut : {A : Type 0} → Run Token Halt A → Type 0
+  HandsOut r = HandsAt (children r.items) r.ending
+
+  hands-then : {A B : Type 0} (r : Run Token Halt A) (f : A → B) → HandsOut r → HandsOut (r then λ a. done (f a))
+  hands-then {A = A} {B = B} r f h = from r.items r.ending h
+    where
+      from : (items : List Token) (e : Result A Halt) → HandsAt (children items) e → HandsOut (goes_on items e (λ a. done (f a)))
+      from items (Ok a) q = subst (λ ts. AtMostOne plan path k (children ts)) (sym (append-nil items)) q
+      from items (Err (Faulted x)) q = q
+      from items (Err (Inside calls inner s)) q = q
+
+  hands-given : {A B : Type 0} (place : Place) (o : Result A FaultKind) (s : State Bool) (f : A → Run Token Halt B) → ((a : A) → HandsOut (f a)) → HandsOut (given (what place) plan path o s f)
+  hands-given place (Ok a) s f h = h a
+  hands-given place (Err x) s f h = refl
+
+  hands-tested : {A : Type 0} (place : Place) (b : Bool) (x : FaultKind) (s : State Bool) (f : Run Token Halt A) → (b ≡ true → HandsOut f) → HandsOut (tested (what place) plan path b x s f)
+  hands-tested place true x s f h = h refl
+  hands-tested place false x s f h = refl
+
+  hands-paid : {A : Type 0} (place : Place) (n : ℕ) (s : State Bool) (f : State Bool → Run Token Halt A) → ((after : State Bool) → after.rank ≡ s.rank → HandsOut (f after)) → HandsOut (paid_from (what place) plan path n s f)
+  hands-paid place zero s f h = refl
+  hands-paid place (suc n) s f h = h (record s { steps = n }) refl
+
+  hands-sync : (place : Place) (s : State Bool) → HandsOut (join (what place) plan path s)
+  hands-sync place s = by_known s.spawned
+    where
+      by_known : (b : Bool) → AtMostOne plan path k (children (Told (event.Sync (strand path s)) ∷ (sync_tokens b ++ [])))
+      by_known true = tt
+      by_known false = tt
+
+  one-longer : (r : ℕ) → length (path ++ r ∷ []) ≡ length path + 1
+  one-longer r = simp length-append
+
+  below-depth : (m n d : ℕ) → nat_lt m d ≡ true → n ≤ m → n ≤ d
+  below-depth m n d h e = grind (arith, nat_tests)
+
+  deeper : (o : Origin) (m : ℕ) → path_of o ≡ path ++ k ∷ [] → length path + 1 ≤ m → nat_lt m plan.limits.depth ≡ true → IsDeeper plan path k o
+  deeper o m e h t =
+      let n : length (path_of o) ≡ length path + 1 = ap length e ∙ one-longer k in
+      record { named = e; longer = n; fits = below-depth m (length (path_of o)) plan.limits.depth t (omega arith) }
+
+  hands-spawn : (height : ℕ) (target : Option Name) (c : CallText) (s : State Bool) → s.rank ≡ k → HandsOut (spawn (what (Spawned height target)) plan path c s)
+  hands-spawn height target c s e =
+      hands-given (Spawned height target) (values_of c.args s.env) s _ (λ vs. hands-tested (Spawned height target) (nat_lt (length path + 1) plan.limits.depth) Depth s _
+      (λ h. deeper (origin.Instance (number_of (functions_of plan) c.name.bytes) vs (strand path s)) (length path + 1) (ap (λ (n : ℕ). path ++ n ∷ []) e) (omega arith) h))
+
+  hands-called : (place : Place) (calls : ℕ) (c : CallText) (s : State Bool) → HandsOut (called (what place) plan path inside calls c s)
+  hands-called place calls c s =
+      hands-given place (values_of c.args s.env) s _ (λ vs. hands-tested place (nat_lt calls 256) Calls s _ (λ h. hands-then (activation (what place) plan path inside (calls + 1) (function_at (functions_of plan) (number_of (functions_of plan) c.name.bytes)) vs s) _
+      (by_function vs (function_at (functions_of plan) (number_of (functions_of plan) c.name.bytes)))))
+    where
+      by_function : (vs : List Value) (o : Option Function) → HandsOut (activation (what place) plan path inside (calls + 1) o vs s)
+      by_function vs None = tt
+      by_function vs (Some f) = tt
+
+  hands-right : (height : ℕ) (target : Option Name) (calls : ℕ) (r : Right) (s : State Bool) → s.rank ≡ k → HandsOut (right_side (what (Spawned height target)) plan path inside calls r s)
+  hands-right height target calls (right.Value x) s e = hands-given (Spawned height target) (value_of x s.env) s _ (λ v. tt)
+  hands-right height target calls (right.Draw at) s e = tt
+  hands-right height target calls (right.New at) s e = tt
+  hands-right height target calls (right.Call at c) s e = hands-called (Spawned height target) calls c s
+  hands-right height target calls (right.Spawn at c) s e = hands-spawn height target c s e
+
+  hands-loop : (target : Option Name) (c : CallText) (lo : ℤ) (hi : ℕ) (vs : List Value) (s : State Bool) → s.rank ≡ k → HandsOut (looped (what (Looped target)) plan path lo hi vs target c s)
+  hands-loop target c lo hi vs s at_rank =
+      hands-tested place (nat_lt hi (s.steps + 1)) Budget s _ (λ a. hands-tested place (has_room target hi s.env) Index _ _ (λ b. hands-tested place (fits_depth (what place) plan path hi) Depth _ _ (by_size hi)))
+    where
+      place : Place
+      place = Looped target
+
+      loop_of : ℕ → Origin
+      loop_of n = origin.Loop (number_of (functions_of plan) c.name.bytes) vs lo (path ++ s.rank ∷ []) (record { lo = 0; hi = n })
+
+      by_empty : (n : ℕ) (b : Bool) → is_zero (n - 0) ≡ b → fits_depth (what place) plan path n ≡ true → AtMostOne plan path k (children (loop_tokens b (loop_of n) place ++ []))
+      by_empty n true e h = tt
+      by_empty zero false e h = absurd (cc)
+      by_empty (suc n) false e h = deeper (loop_of (suc n)) (length path + 2) (ap (λ (r : ℕ). path ++ r ∷ []) at_rank) (omega arith) h
+
+      by_size : (n : ℕ) → fits_depth (what place) plan path n ≡ true → AtMostOne plan path k (children (loop_tokens (is_zero (n - 0)) (loop_of n) place ++ []))
+      by_size n h = by_empty n (is_zero (n - 0)) refl h
+
+  hands-does : (height : ℕ) (st : Stmt) (a : Act-F Act Stmt) (s : State Bool) → s.rank ≡ k → HandsOut (does (what (place_of height a)) plan path inside height st a s)
+  hands-does height st (act.Let x r) s at_rank = hands-then (right_side (what (Spawned height (Some x))) plan path inside height r s) _ (hands-right height (Some x) height r s at_rank)
+  hands-does height st (act.Array x n) s at_rank = tt
+  hands-does height st (act.Set x r) s at_rank = hands-then (right_side (what (Spawned height (Some x))) plan path inside height r s) _ (hands-right height (Some x) height r s at_rank)
+  hands-does height st (act.Store x i e) s at_rank =
+      hands-given (Spawned height None) (value_of i s.env) s _ (λ n. by_item (at_index (items_of (slot_of s.env x.bytes)) (number n)) _ (hands-given (Spawned height None) (value_of e s.env) s _ (λ v. tt)))
+    where
+      by_item : (o : Option ℤ) (r : Run Token Halt (State Bool)) → HandsOut r → HandsOut (found (what (Spawned height None)) plan path o s r)
+      by_item None r h = refl
+      by_item (Some old) r h = h
+  hands-does height st (act.Spawn c) s at_rank = hands-then (spawn (what (Spawned height None)) plan path c s) _ (hands-spawn height None c s at_rank)
+  hands-does height st (act.Call c) s at_rank = hands-then (called (what (Spawned height None)) plan path inside height c s) _ (hands-called (Spawned height None) height c s)
+  hands-does height st act.Sync s at_rank = hands-sync (Spawned height None) s
+  hands-does height st (act.Print e) s at_rank = hands-given (Spawned height None) (value_of e s.env) s _ (λ v. tt)
+  hands-does height st (act.If e a b) s at_rank = hands-given (Spawned height None) (value_of e s.env) s _ (λ v. tt)
+  hands-does height st (act.While e a) s at_rank = hands-given (Spawned height None) (value_of e s.env) s _ (λ v. by_test (is_true v))
+    where
+      by_test : (t : Bool) → HandsOut (if t then (inside height a s then inside height (st ∷ [])) else done s)
+      by_test true = tt
+      by_test false = tt
+  hands-does height st (act.Pfor x lo hi target c) s at_rank =
+      hands-given (Looped target) (value_of lo s.env) s _ (λ l. hands-given (Looped target) (value_of hi s.env) s _ (λ h. hands-given (Looped target) (values_of c.args s.env) s _
+      (λ vs. hands-loop target c (number l) (count_of (number h -ℤ number l)) vs s at_rank)))
+
+  -- a move, by what its run came to
+  hands-reached : (os : List Origin) (into : State Bool → Machine) (inner : List Stmt → State Bool → Machine) (e : Result (State Bool) Halt) → HandsAt os e → MoveHands plan path k os (reached plan into inner e)
+  hands-reached os into inner (Ok s) h = h
+  hands-reached os into inner (Err (Faulted f)) h = h
+  hands-reached os into inner (Err (Inside calls sts s)) h = h
+
+  hands-back : (below : List Activation) (target : Option Name) (v : Value) (rank steps : ℕ) → MoveHands plan path k [] (Ok (back below target v rank steps))
+  hands-back [] target v rank steps = refl
+  hands-back (caller ∷ below) target v rank steps = tt
+
+  pub move_hands : (m : Machine) → m.rank ≡ k → MoveHands plan path k (children (move plan path m).items) (move plan path m).ending
+  move_hands m at_rank = by_left m.top.left
+    where
+      by_returning : (b : Bool) → MoveHands plan path k (children (return_move plan path m b).items) (return_move plan path m b).ending
+      by_returning false =
+          hands-reached (children (return_run plan path m).items) (with_returning m) (λ inner s. m) (return_run plan path m).ending
+          (hands-paid (Spawned (length m.below) None) m.steps (state_of m) _ (λ s same. by_text (spawns_in (function_at (functions_of plan) m.top.function)) s))
+        where
+          by_text : (b : Bool) (s : State Bool) → HandsOut (implied (what (Spawned (length m.below) None)) plan path b s)
+          by_text true s = hands-sync (Spawned (length m.below) None) s
+          by_text false s = tt
+      by_returning true = by_function (function_at (functions_of plan) m.top.function)
+        where
+          by_value : (f : Function) (o : Result Value FaultKind) →
+              let r : Run Token Halt (Value × State Bool) = given (what (Spawned (length m.below) None)) plan path o (state_of m) (λ v. done (v, state_of m)) in MoveHands plan path k (children r.items) (gives plan m r.ending)
+          by_value f (Ok v) = hands-back m.below m.top.target v m.rank m.steps
+          by_value f (Err x) = refl
+
+          by_function : (o : Option Function) → MoveHands plan path k (children (value_run plan path o m).items) (gives plan m (value_run plan path o m).ending)
+          by_function None = hands-back m.below m.top.target _ m.rank m.steps
+          by_function (Some f) = by_value f (value_of f.result m.top.env)
+
+      by_left : (left : List Stmt) → MoveHands plan path k (children (move_at plan path m left).items) (move_at plan path m left).ending
+      by_left [] = by_returning m.top.returning
+      by_left (st ∷ left) =
+          let a = out-Act (out-Stmt st).act in
+          let r = hands-paid (place_of (length m.below) a) m.steps (state_of m) _ (λ s same. hands-does (length m.below) st a s (same ∙ at_rank)) in hands-reached _ (with_left m left) (entered plan st a left m) _ r

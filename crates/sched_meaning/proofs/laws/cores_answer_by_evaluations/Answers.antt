@@ -1,0 +1,5 @@
+use Rattle.sched_meaning.proofs.Cores.{answers-are}
+use Rattle.sched_meaning.proofs.laws.cores_answer_by_evaluations.Goals as goal
+
+pub returns : goal.returns
+returns c = answers-are

@@ -1,0 +1,5 @@
+use Rattle.sched_meaning.proofs.Cores.{stands}
+use Rattle.sched_meaning.proofs.laws.cores_keep_tasks_once.Goals as goal
+
+pub returns : goal.returns
+returns c = stands

@@ -1,0 +1,5 @@
+use Rattle.sched_meaning.proofs.Counted.{segments_come}
+use Rattle.sched_meaning.proofs.laws.segments_come.Goals as goal
+
+pub returns : goal.returns
+returns c = segments_come

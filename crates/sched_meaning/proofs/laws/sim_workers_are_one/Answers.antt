@@ -1,0 +1,5 @@
+use Rattle.sched_meaning.proofs.Simulated.{sim_workers_are_one}
+use Rattle.sched_meaning.proofs.laws.sim_workers_are_one.Goals as goal
+
+pub returns : goal.returns
+returns c = sim_workers_are_one

@@ -1,0 +1,5 @@
+use Rattle.sched_meaning.proofs.OneStep.{steps_are_one}
+use Rattle.sched_meaning.proofs.laws.steps_are_one.Goals as goal
+
+pub returns : goal.returns
+returns c = steps_are_one

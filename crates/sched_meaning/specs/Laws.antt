@@ -1,0 +1,59 @@
+-- What holds of all cores, and of the definitions.
+use Rattle.std.specs.Prelude.{◌≡◌, ◌≤◌, ◌↔◌, ℕ, List, Some, Contains, slice_get}
+use Rattle.script_check.specs.Valid.{IsValid}
+use Rattle.serial_meaning.specs.Plan.{PlanView}
+use Rattle.serial_meaning.specs.declared.origin.Origin.{Origin}
+use Rattle.sched_meaning.specs.Core.{Core, all_tasks, origins_of, IsAnswered, IsRootAnswered}
+use Rattle.sched_meaning.specs.Segments.{IsSegments}
+use Rattle.sched_meaning.specs.Simulation.{choices, IsSimWorker}
+use Rattle.sched_meaning.specs.Sound.{AreEvaluations, IsFruitful, IsLively, StandsOnce}
+use Rattle.sched_meaning.specs.Steps.{Step, Leads}
+use Rattle.sched_meaning.specs.declared.event.CoreEvent.{CoreEvent}
+
+-- An event leads to one core at most.
+abbrev pub StepsAreOne : Type 0
+StepsAreOne = (e : CoreEvent) (c next other : Core) → Step e c next → Step e c other → next ≡ other
+
+-- There is a number of segments for a valid script, and one only.
+abbrev pub SegmentsCome : Type 0
+SegmentsCome = (plan : PlanView) → IsValid plan.script → (n : ℕ) × IsSegments plan n
+
+abbrev pub SegmentsAreOne : Type 0
+SegmentsAreOne = (plan : PlanView) (n m : ℕ) → IsSegments plan n → IsSegments plan m → n ≡ m
+
+-- Of each core to which events lead from a new core, whatever the events and however many workers:
+
+-- Each answer is the evaluation of its origin.
+abbrev pub CoresAnswerByEvaluations : Type 0
+CoresAnswerByEvaluations = (plan : PlanView) (workers : ℕ) (events : List CoreEvent) (c : Core) → IsValid plan.script → Leads plan workers events c → AreEvaluations plan c.answers
+
+-- There are no more run events than segments.
+abbrev pub CoresRunWithinSegments : Type 0
+CoresRunWithinSegments =
+    (plan : PlanView) (workers : ℕ) (events : List CoreEvent) (c : Core) → IsValid plan.script → Leads plan workers events c → (n : ℕ) → IsSegments plan n → c.runs ≤ n
+
+-- While the root isn't answered some event goes on with the work.
+abbrev pub CoresAreLively : Type 0
+CoresAreLively =
+    (plan : PlanView) (workers : ℕ) (events : List CoreEvent) (c : Core) → IsValid plan.script → Leads plan workers events c → (IsRootAnswered c → ⊥) → IsLively c
+
+-- No origin stands twice among those that were begun.
+abbrev pub CoresBeginOnce : Type 0
+CoresBeginOnce =
+    (plan : PlanView) (workers : ℕ) (events : List CoreEvent) (c : Core) → IsValid plan.script → Leads plan workers events c → (o : Origin) (j k : ℕ) →
+    slice_get c.begun j ≡ Some o → slice_get c.begun k ≡ Some o → j ≡ k
+
+-- An origin that was begun and isn't answered is that of one task, in one place.
+abbrev pub CoresKeepTasksOnce : Type 0
+CoresKeepTasksOnce =
+    (plan : PlanView) (workers : ℕ) (events : List CoreEvent) (c : Core) → IsValid plan.script → Leads plan workers events c → (o : Origin) → Contains c.begun o →
+    (IsAnswered c o → ⊥) → StandsOnce o (origins_of (all_tasks c))
+
+-- The choices of a core are the events that may happen and go on with the work.
+abbrev pub ChoicesGoOn : Type 0
+ChoicesGoOn = (c : Core) (e : CoreEvent) → Contains (choices c) e ↔ ((next : Core) × Step e c next × IsFruitful e c)
+
+-- In a simulation one worker at most answers the root.
+abbrev pub SimWorkersAreOne : Type 0
+SimWorkersAreOne =
+    (plan : PlanView) (workers number v w : ℕ) → IsSimWorker plan workers number v → IsSimWorker plan workers number w → v ≡ w

@@ -1,0 +1,21 @@
+-- Segments: what a task does between two stops. They are counted by the stops, over all tasks below.
+use Rattle.std.specs.Prelude.{◌≡◌, ℕ, ◌+◌, List}
+use Rattle.serial_meaning.specs.Plan.{PlanView}
+use Rattle.serial_meaning.specs.Eval.{main_origin}
+use Rattle.serial_meaning.specs.declared.event.Event.{Event}
+use Rattle.serial_meaning.specs.declared.origin.Origin.{Origin}
+use Rattle.serial_meaning.specs.declared.answer.Outcome.{Outcome}
+use Rattle.strand_meaning.specs.Task.{Task, start, Spawn, Wait, End, IsNext}
+use Rattle.sched_meaning.specs.Core.{gone_on}
+
+-- A task, with the tasks of its children, all the way down, comes to so many stops, where each wait is over with the evaluations of
+-- the children.
+pub data ComesTo : Task → ℕ → Type 0 where
+  Ends : {t : Task} {n : ℕ} (out : List Event) (ended : Outcome) → IsNext t (End out ended) → n ≡ 1 → ComesTo t n
+  Waits : {t : Task} {n : ℕ} (rest : Task) (later : ℕ) → IsNext t (Wait rest) → ComesTo (gone_on rest) later → n ≡ 1 + later → ComesTo t n
+  Spawns : {t : Task} {n : ℕ} (child : Origin) (rest : Task) (below later : ℕ) → IsNext t (Spawn child rest) → ComesTo (start rest.plan child) below →
+      ComesTo rest later → n ≡ 1 + (below + later) → ComesTo t n
+
+-- main's task comes to so many
+abbrev pub IsSegments : PlanView → ℕ → Type 0
+IsSegments plan n = ComesTo (start plan (main_origin plan)) n

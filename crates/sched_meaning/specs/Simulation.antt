@@ -1,0 +1,100 @@
+-- The simulation: the words of a seed pick among the events that go on with the work.
+use Rattle.std.specs.Prelude.{◌≡◌, ℕ, zero, suc, ◌+◌, ◌%◌, Bool, true, false, ◌&&◌, not, nat_eq, List, [], ◌∷◌, ◌++◌, Option, Some, None, MatchOption, length, map, filter, flat_map, is_some, slice_get}
+use Rattle.std.specs.List.{list_any, list_all, range_with_len}
+use Rattle.dotmix.specs.Words.{word}
+use Rattle.serial_meaning.specs.Plan.{PlanView}
+use Rattle.serial_meaning.specs.Eval.{main_origin}
+use Rattle.serial_meaning.specs.declared.origin.Origin.{Origin}
+use Rattle.strand_meaning.specs.Task.{Task}
+use Rattle.sched_meaning.specs.Core.{Worker, Core, new_core, awaited, answered, IsRootAnswered}
+use Rattle.sched_meaning.specs.Same.{same_origin}
+use Rattle.sched_meaning.specs.Steps.{Step}
+use Rattle.sched_meaning.specs.declared.event.CoreEvent.{CoreEvent}
+use Rattle.sched_meaning.specs.declared.event.CoreEvent.TheVariants.{Run, Pop, Steal, Look, Idle}
+
+-- Tests
+
+abbrev pub is_answered : Core → Origin → Bool
+is_answered c o = list_any (same_origin o) (answered c)
+
+abbrev pub is_ready : Core → Option Task → Bool
+is_ready c None = false
+is_ready c (Some t) = list_all (is_answered c) (awaited t)
+
+-- whether a worker has a current task; whether there is one that has none; whether its deque has a task
+abbrev pub may_run : Option Worker → Bool
+may_run None = false
+may_run (Some w) = is_some w.current
+
+abbrev pub is_free : Option Worker → Bool
+is_free None = false
+is_free (Some w) = not (is_some w.current)
+
+abbrev pub has_task : List Task → Bool
+has_task [] = false
+has_task (t ∷ ts) = true
+
+abbrev pub may_give : Option Worker → Bool
+may_give None = false
+may_give (Some w) = has_task w.deque
+
+abbrev pub may_resume : Core → ℕ → Option Worker → Bool
+may_resume c place None = false
+may_resume c place (Some w) = is_ready c (slice_get w.ring place)
+
+-- whether an event may happen now and goes on with the work
+abbrev pub goes_on : Core → CoreEvent → Bool
+goes_on c (Run w) = may_run (slice_get c.workers w)
+goes_on c (Pop w) = is_free (slice_get c.workers w) && may_give (slice_get c.workers w)
+goes_on c (Steal thief victim) = not (nat_eq thief victim) && (is_free (slice_get c.workers thief) && may_give (slice_get c.workers victim))
+goes_on c (Look w place) = is_free (slice_get c.workers w) && may_resume c place (slice_get c.workers w)
+goes_on c (Idle w) = false
+
+abbrev pub is_choice : Core → CoreEvent → Bool
+is_choice c e = not (is_answered c (main_origin c.plan)) && goes_on c e
+
+-- Choices
+
+abbrev pub ring_places : Option Worker → List ℕ
+ring_places None = []
+ring_places (Some w) = range_with_len 0 (length w.ring)
+
+-- by kind, and of one kind by worker: steals by thief and then by victim, looks by worker and then by place
+abbrev pub all_events : Core → List CoreEvent
+all_events c =
+    let workers = range_with_len 0 (length c.workers) in
+    map (λ w. Run w) workers ++ map (λ w. Pop w) workers ++ flat_map (λ thief. map (λ victim. Steal thief victim) workers) workers
+    ++ flat_map (λ w. map (λ place. Look w place) (ring_places (slice_get c.workers w))) workers
+
+abbrev pub choices : Core → List CoreEvent
+choices c = filter (is_choice c) (all_events c)
+
+-- the choice at the index that a word names, among so many
+abbrev pub picked_of : List CoreEvent → ℕ → Option CoreEvent
+picked_of [] word = None
+picked_of (e ∷ es) word = slice_get (e ∷ es) (word % suc (length es))
+
+abbrev pub picked : Core → ℕ → Option CoreEvent
+picked c word = picked_of (choices c) word
+
+-- Runs of a simulation
+
+-- step i, from 1: what word i of the seed picks happens, or nothing where there is no choice
+abbrev pub Goes : ℕ → ℕ → Core → Core → Type 0
+Goes number i c next = MatchOption (picked c (word number i)) (next ≡ c) (λ e. Step e c next)
+
+-- so many steps lead from a new core to this one
+abbrev pub Simulates : PlanView → ℕ → ℕ → ℕ → Core → Type 0
+Simulates plan workers number zero c = c ≡ new_core plan workers
+Simulates plan workers number (suc n) c = (before : Core) × Simulates plan workers number n before × Goes number (n + 1) before c
+
+-- the worker whose run answered the root
+pub record IsSimWorker (plan : PlanView) (workers number w : ℕ) : Type 0 where
+  pub steps : ℕ
+  pub before : Core
+  pub after : Core
+  pub so_far : Simulates plan workers number steps before
+  pub unanswered : IsRootAnswered before → ⊥
+  pub picks : picked before (word number (steps + 1)) ≡ Some (Run w)
+  pub step : Step (Run w) before after
+  pub answers : IsRootAnswered after

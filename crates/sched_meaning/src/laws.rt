@@ -1,0 +1,54 @@
+//! Laws of the machine, each the contract of a function that does nothing. A proof that wants a law calls it.
+
+ghost use Rattle.sched_meaning.specs.Laws.{ChoicesGoOn, CoresAnswerByEvaluations, CoresAreLively, CoresBeginOnce, CoresKeepTasksOnce, CoresRunWithinSegments, SegmentsAreOne, SegmentsCome, SimWorkersAreOne, StepsAreOne};
+
+/// An event leads to one core at most.
+pub fn steps_are_one()
+    ensures { StepsAreOne }
+{}
+
+/// The segments of a valid script can be counted.
+pub fn segments_come()
+    ensures { SegmentsCome }
+{}
+
+/// They are one number.
+pub fn segments_are_one()
+    ensures { SegmentsAreOne }
+{}
+
+/// Each answer of a core is the evaluation of its origin, whatever the events before.
+pub fn cores_answer_by_evaluations()
+    ensures { CoresAnswerByEvaluations }
+{}
+
+/// There are no more run events than segments.
+pub fn cores_run_within_segments()
+    ensures { CoresRunWithinSegments }
+{}
+
+/// While the root isn't answered, some event that may happen is neither idle nor a fruitless look.
+pub fn cores_are_lively()
+    ensures { CoresAreLively }
+{}
+
+/// No origin is begun twice.
+pub fn cores_begin_once()
+    ensures { CoresBeginOnce }
+{}
+
+/// An origin that was begun and isn't answered is that of exactly one task, which is current or stands at one place of a deque or
+/// a ring.
+pub fn cores_keep_tasks_once()
+    ensures { CoresKeepTasksOnce }
+{}
+
+/// The choices of a simulation are just the events that may happen and are neither idle nor fruitless looks.
+pub fn choices_go_on()
+    ensures { ChoicesGoOn }
+{}
+
+/// One worker at most answers the root in a simulation.
+pub fn sim_workers_are_one()
+    ensures { SimWorkersAreOne }
+{}
