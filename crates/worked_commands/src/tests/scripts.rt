@@ -123,9 +123,10 @@ fn line_of_front(alloc: Global, length: usize) -> Result<String, Fail> {
 
 #[test]
 fn fronts_are_refused_by_what_is_missing(rt: HostRuntime) -> Result<(), Fail> {
-    for length in 0..ONE.len() {
+    let script = ONE.as_bytes();
+    for length in 0..script.len() {
         let refusal = line_of_front(rt.alloc(), length)?;
-        let told = plain(&rt, "run", &ONE.as_bytes()[..length])?;
+        let told = plain(&rt, "run", &script[..length])?;
         compare(&rt, "run", &told, 3, "", refusal.as_str());
     }
     Ok(())
