@@ -57,3 +57,7 @@ ChoicesGoOn = (c : Core) (e : CoreEvent) → Contains (choices c) e ↔ ((next :
 abbrev pub SimWorkersAreOne : Type 0
 SimWorkersAreOne =
     (plan : PlanView) (workers number v w : ℕ) → IsSimWorker plan workers number v → IsSimWorker plan workers number w → v ≡ w
+
+-- And one does.
+abbrev pub SimWorkersCome : Type 0
+SimWorkersCome = (plan : PlanView) (workers number : ℕ) → IsValid plan.script → (w : ℕ) × IsSimWorker plan workers number w

@@ -1,6 +1,6 @@
 //! Laws of the machine, each the contract of a function that does nothing. A proof that wants a law calls it.
 
-ghost use Rattle.sched_meaning.specs.Laws.{ChoicesGoOn, CoresAnswerByEvaluations, CoresAreLively, CoresBeginOnce, CoresKeepTasksOnce, CoresRunWithinSegments, SegmentsAreOne, SegmentsCome, SimWorkersAreOne, StepsAreOne};
+ghost use Rattle.sched_meaning.specs.Laws.{ChoicesGoOn, CoresAnswerByEvaluations, CoresAreLively, CoresBeginOnce, CoresKeepTasksOnce, CoresRunWithinSegments, SegmentsAreOne, SegmentsCome, SimWorkersAreOne, SimWorkersCome, StepsAreOne};
 
 /// An event leads to one core at most.
 pub fn steps_are_one()
@@ -51,4 +51,9 @@ pub fn choices_go_on()
 /// One worker at most answers the root in a simulation.
 pub fn sim_workers_are_one()
     ensures { SimWorkersAreOne }
+{}
+
+/// And one does: each simulation of a valid script ends.
+pub fn sim_workers_come()
+    ensures { SimWorkersCome }
 {}
