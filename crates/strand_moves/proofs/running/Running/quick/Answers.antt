@@ -25,8 +25,7 @@ returns-clause-moves c =
     let q = c.quiet_statement in
     let passes = rw c.body.ensures at c.in-Some.ensures in
     let left = did-nothing st _ q.new.self _ c.if-went.false c.in_ok-went.ensures.did in
-    let less : i.steps - 1 + 1 ≡ i.steps = omega arith in
-    (
+    let less : i.steps - 1 + 1 ≡ i.steps = omega arith in (
       quick-undone c.args.plan.now i st c.pass.new.self (i.steps - 1) passes less q.new.self c.undo.new.self left.0 c.undo.ensures.others c.undo.ensures.left,
       quick-fault c.args.plan.now i st c.pass.new.self (i.steps - 1) passes less q.new.self left,
     )
