@@ -1,15 +1,13 @@
 -- Each simulation ends: some worker's run answers the root.
-use Rattle.std.proofs.Common.{◌≡◌, ℕ, zero, suc, ◌+◌, ◌%◌, ◌<◌, ◌≤◌, ◌⊎◌, inl, inr, Bool, true, false, List, [], ◌∷◌, Option, Some, None, MatchOption, Contains, length, slice_index_or, slice_get, map, refl, sym, ap, ◌∙◌, subst, arith}
+use Rattle.std.proofs.Common.{◌≡◌, ℕ, zero, suc, ◌+◌, ◌%◌, ◌<◌, ◌≤◌, ◌⊎◌, inl, inr, List, [], ◌∷◌, Some, MatchOption, Contains, length, slice_get, map, refl, sym, ap, ◌∙◌, subst, arith}
 use Rattle.script_check.specs.Valid.{IsValid}
 use Rattle.serial_meaning.specs.Answer.{AnswerView}
 use Rattle.dotmix.specs.Words.{word}
 use Rattle.serial_meaning.specs.Plan.{PlanView}
 use Rattle.serial_meaning.specs.Eval.{main_origin}
-use Rattle.strand_meaning.specs.Clear.{IsClearPlan}
 use Rattle.strand_meaning.proofs.ClearOfValid.{clear_of_valid}
 use Rattle.sched_meaning.specs.Core.{Worker, Core, new_core, IsRootAnswered, answered}
-use Rattle.sched_meaning.specs.Simulation.{choices, picked_of, picked, Goes, Simulates, IsSimWorker}
-use Rattle.sched_meaning.specs.Sound.{IsLively}
+use Rattle.sched_meaning.specs.Simulation.{choices, picked_of, picked, Simulates, IsSimWorker}
 use Rattle.sched_meaning.specs.Steps.{Changes, Happens, Step}
 use Rattle.sched_meaning.specs.declared.event.CoreEvent.{CoreEvent}
 use Rattle.sched_meaning.specs.declared.event.CoreEvent.TheVariants.{Run, Pop, Steal, Look, Idle}
@@ -101,17 +99,19 @@ module _ (plan : PlanView) (workers number : ℕ) where
 
         by_root : IsRootAnswered p.advances.0 ⊎ (total (is_it (main_origin p.advances.0.plan)) (answered p.advances.0) ≡ 0) → Answers
         by_root (inl a) =
-            let r = answers-by-run p.event c p.advances.0 p.advances.1.happens a open_yet in
-            (r.worker, record {
-              steps = k;
-              before = c;
-              after = p.advances.0;
-              so_far = led;
-              unanswered = open_yet;
-              picks = p.is ∙ ap (λ e. Some e) r.is;
-              step = subst (λ e. Step e c p.advances.0) r.is p.advances.1;
-              answers = a;
-            })
+            let r = answers-by-run p.event c p.advances.0 p.advances.1.happens a open_yet in (
+              r.worker,
+              record {
+                steps = k;
+                before = c;
+                after = p.advances.0;
+                so_far = led;
+                unanswered = open_yet;
+                picks = p.is ∙ ap (λ e. Some e) r.is;
+                step = subst (λ e. Step e c p.advances.0) r.is p.advances.1;
+                answers = a;
+              },
+            )
         by_root (inr none) =
             go (suc k) p.advances.0 (let l : work_left p.advances.0 < work_left c = less in omega arith) (c, led, subst (λ o. MatchOption o (p.advances.0 ≡ c) (λ e. Step e c p.advances.0)) (sym p.is) p.advances.1) (step-keeps plan p.event c p.advances.0 p.advances.1 is)
             (λ a. (let one : 1 ≤ total (is_it (main_origin p.advances.0.plan)) (answered p.advances.0) = contains-counts (main_origin p.advances.0.plan) (answered p.advances.0) a in absurd (omega arith)))
