@@ -1,15 +1,13 @@
 -- Each simulation ends: some worker's run answers the root.
-use Rattle.std.proofs.Common.{◌≡◌, ℕ, zero, suc, ◌+◌, ◌%◌, ◌<◌, ◌≤◌, ◌⊎◌, inl, inr, Bool, true, false, List, [], ◌∷◌, Option, Some, None, MatchOption, Contains, length, slice_index_or, slice_get, map, refl, sym, ap, ◌∙◌, subst, arith}
+use Rattle.std.proofs.Common.{◌≡◌, ℕ, zero, suc, ◌+◌, ◌%◌, ◌<◌, ◌≤◌, ◌⊎◌, inl, inr, List, [], ◌∷◌, Some, MatchOption, Contains, length, slice_get, map, refl, sym, ap, ◌∙◌, subst, arith}
 use Rattle.script_check.specs.Valid.{IsValid}
 use Rattle.serial_meaning.specs.Answer.{AnswerView}
 use Rattle.dotmix.specs.Words.{word}
 use Rattle.serial_meaning.specs.Plan.{PlanView}
 use Rattle.serial_meaning.specs.Eval.{main_origin}
-use Rattle.strand_meaning.specs.Clear.{IsClearPlan}
 use Rattle.strand_meaning.proofs.ClearOfValid.{clear_of_valid}
 use Rattle.sched_meaning.specs.Core.{Worker, Core, new_core, IsRootAnswered, answered}
-use Rattle.sched_meaning.specs.Simulation.{choices, picked_of, picked, Goes, Simulates, IsSimWorker}
-use Rattle.sched_meaning.specs.Sound.{IsLively}
+use Rattle.sched_meaning.specs.Simulation.{choices, picked_of, picked, Simulates, IsSimWorker}
 use Rattle.sched_meaning.specs.Steps.{Changes, Happens, Step}
 use Rattle.sched_meaning.specs.declared.event.CoreEvent.{CoreEvent}
 use Rattle.sched_meaning.specs.declared.event.CoreEvent.TheVariants.{Run, Pop, Steal, Look, Idle}

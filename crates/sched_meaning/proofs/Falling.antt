@@ -1,14 +1,14 @@
 -- What is left of the work falls with each event that goes on with it: twice the segments left, and the workers without a current task.
-use Rattle.std.proofs.Common.{◌≡◌, ℕ, zero, suc, ◌+◌, ◌*◌, ◌<◌, ◌≤◌, inl, inr, Bool, true, false, List, [], ◌∷◌, Option, Some, None, slice_get, slice_set, refl, sym, ap, ◌∙◌, subst, arith}
+use Rattle.std.proofs.Common.{◌≡◌, ℕ, ◌+◌, ◌<◌, ◌≤◌, inl, inr, [], Option, Some, None, refl, ap, ◌∙◌, arith}
 use Rattle.serial_meaning.specs.Plan.{PlanView}
-use Rattle.strand_meaning.specs.Task.{Task, start, Stop, Spawn, Wait, End}
+use Rattle.strand_meaning.specs.Task.{Task, Stop, Spawn, Wait, End}
 use Rattle.sched_meaning.specs.Core.{Worker, Core}
 use Rattle.sched_meaning.specs.Sound.{IsFruitful}
 use Rattle.sched_meaning.specs.Steps.{after_stop, WorkerRuns, WorkerPops, WorkerGives, WorkerTakes, WorkerResumes, Changes, noted, Happens, Step}
 use Rattle.sched_meaning.specs.Steps as steps
 use Rattle.sched_meaning.specs.declared.event.CoreEvent.{CoreEvent}
 use Rattle.sched_meaning.specs.declared.event.CoreEvent.TheVariants.{Run, Pop, Steal, Look, Idle}
-use Rattle.sched_meaning.proofs.Weights.{weight, stop_weight, weight-stop}
+use Rattle.sched_meaning.proofs.Weights.{stop_weight, weight-stop}
 use Rattle.sched_meaning.proofs.Counted.{nothing, segments}
 use Rattle.sched_meaning.proofs.Changing.{total, total-set, each-get}
 use Rattle.sched_meaning.proofs.Loads.{load, stop_load, load-stop, load-pops, load-gives, load-takes, load-resumes}

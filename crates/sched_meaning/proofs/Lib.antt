@@ -3,6 +3,7 @@ pub mod Changing
 pub mod Choosing
 pub mod Cores
 pub mod Counted
+pub mod Distinct
 pub mod Ending
 pub mod Falling
 pub mod Good

@@ -53,6 +53,10 @@ CoresKeepTasksOnce =
 abbrev pub ChoicesGoOn : Type 0
 ChoicesGoOn = (c : Core) (e : CoreEvent) → Contains (choices c) e ↔ ((next : Core) × Step e c next × IsFruitful e c)
 
+-- None stands twice among them.
+abbrev pub ChoicesStandOnce : Type 0
+ChoicesStandOnce = (c : Core) (e : CoreEvent) (j k : ℕ) → slice_get (choices c) j ≡ Some e → slice_get (choices c) k ≡ Some e → j ≡ k
+
 -- In a simulation one worker at most answers the root.
 abbrev pub SimWorkersAreOne : Type 0
 SimWorkersAreOne =

@@ -1,6 +1,6 @@
 //! Laws of the machine, each the contract of a function that does nothing. A proof that wants a law calls it.
 
-ghost use Rattle.sched_meaning.specs.Laws.{ChoicesGoOn, CoresAnswerByEvaluations, CoresAreLively, CoresBeginOnce, CoresKeepTasksOnce, CoresRunWithinSegments, SegmentsAreOne, SegmentsCome, SimWorkersAreOne, SimWorkersCome, StepsAreOne};
+ghost use Rattle.sched_meaning.specs.Laws.{ChoicesGoOn, ChoicesStandOnce, CoresAnswerByEvaluations, CoresAreLively, CoresBeginOnce, CoresKeepTasksOnce, CoresRunWithinSegments, SegmentsAreOne, SegmentsCome, SimWorkersAreOne, SimWorkersCome, StepsAreOne};
 
 /// An event leads to one core at most.
 pub fn steps_are_one()
@@ -46,6 +46,11 @@ pub fn cores_keep_tasks_once()
 /// The choices of a simulation are just the events that may happen and are neither idle nor fruitless looks.
 pub fn choices_go_on()
     ensures { ChoicesGoOn }
+{}
+
+/// None of them stands twice in the list of choices.
+pub fn choices_stand_once()
+    ensures { ChoicesStandOnce }
 {}
 
 /// One worker at most answers the root in a simulation.
