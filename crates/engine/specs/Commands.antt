@@ -60,20 +60,6 @@ is_whole (Stream gamma at count rounds below) = false
 is_whole (Span settings) = true
 is_whole (Batch seeds limits show rounds workers) = true
 
--- A batch runs on workers alone. The other commands also go on the caller's thread.
-abbrev pub is_batch : Command → Bool
-is_batch (Run settings workers) = false
-is_batch (Serial settings) = false
-is_batch (Sim settings workers number) = false
-is_batch (Replay settings at) = false
-is_batch (Hash gamma at rounds) = false
-is_batch Check = false
-is_batch Fmt = false
-is_batch (Gen shape size) = false
-is_batch (Stream gamma at count rounds below) = false
-is_batch (Span settings) = false
-is_batch (Batch seeds limits show rounds workers) = true
-
 abbrev pub reads_script : Command → Bool
 reads_script command = runs_today command && takes_script command
 

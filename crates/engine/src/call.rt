@@ -3,9 +3,9 @@
 ghost use Rattle.std.specs.Prelude.{◌≡◌, codes, IfOk, IfErr, IsTrue, IsFalse, map, string_bytes};
 ghost use Rattle.draw_lines.specs.Lines.{CanDraw, lines_of};
 ghost use Rattle.ped_words.specs.Reading.{reading};
-ghost use Rattle.ped_words.specs.Commands.{AreLawful, IsLawful, IsWorkers};
+ghost use Rattle.ped_words.specs.Commands.{AreLawful, IsLawful, IsWorkers, is_batch};
 ghost use Rattle.engine.specs.Batches.{IsReady, batch_command};
-ghost use Rattle.engine.specs.Commands.{IsRun, is_batch, is_whole, reads_script, runs_today, takes_script};
+ghost use Rattle.engine.specs.Commands.{IsRun, is_whole, reads_script, runs_today, takes_script};
 ghost use Rattle.engine.specs.Promise.{Answers, HasReport, KeepsPromise, ReadWhole, ReadsNone, Refuses, Told, Watched, has_line, has_output, watched};
 ghost use Rattle.engine.specs.Refusal.{Delivers, IsCause, IsLate, Puts, Refused};
 ghost use Rattle.engine.specs.Report.{shown};

@@ -1,7 +1,8 @@
 // Which commands run today, and which take a script.
 
 ghost use Rattle.std.specs.Prelude.{◌≡◌};
-ghost use Rattle.engine.specs.Commands.{is_batch, is_whole, runs_today, takes_script};
+ghost use Rattle.ped_words.specs.Commands.{is_batch};
+ghost use Rattle.engine.specs.Commands.{is_whole, runs_today, takes_script};
 
 use ped_words::Command;
 

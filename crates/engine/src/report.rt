@@ -2,8 +2,8 @@
 
 ghost use Rattle.std.specs.Prelude.{◌≡◌, ℕ, ◌≤◌, List, IsTrue, IsFalse, IfErr, IfOk, length};
 ghost use Rattle.dotmix.specs.Draws.{most_rounds};
-ghost use Rattle.ped_words.specs.Commands.{IsLawful};
-ghost use Rattle.engine.specs.Commands.{Reports, Takes, is_batch, is_whole, runs_today, takes_script};
+ghost use Rattle.ped_words.specs.Commands.{IsLawful, is_batch};
+ghost use Rattle.engine.specs.Commands.{Reports, Takes, is_whole, runs_today, takes_script};
 ghost use Rattle.engine.specs.Promise.{most_bytes};
 ghost use Rattle.engine.specs.Refusal.{IsMisfit};
 ghost use Rattle.engine.specs.Report.{hash_text, said, shown};

@@ -1,3 +1,4 @@
+pub mod FirstWord
 pub mod GammaLemmas
 pub mod NumberLemmas
 pub mod PedigreeLemmas

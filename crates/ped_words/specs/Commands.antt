@@ -1,5 +1,5 @@
 -- What holds of every command that words give, so that it can be carried out.
-use Rattle.std.specs.Prelude.{◌≡◌, ℕ, ◌+◌, ◌≤◌, ◌^◌, List, length, IfSome}
+use Rattle.std.specs.Prelude.{◌≡◌, ℕ, ◌+◌, ◌≤◌, ◌^◌, Bool, true, false, List, length, IfSome}
 use Rattle.dotmix.specs.Draws.{most_rounds}
 use Rattle.dotmix.specs.Words.{coefficients}
 use Rattle.ped_gen.specs.Shapes.{Fits}
@@ -49,3 +49,17 @@ IsLawful (Gen shape size) = Fits shape size
 IsLawful (Stream gamma at count rounds below) = IsHash gamma at rounds × IsCount at count × IfSome below (λ m. 1 ≤ m)
 IsLawful (Span settings) = AreLawful settings
 IsLawful (Batch seeds limits show rounds workers) = IsBatch seeds limits rounds × IsWorkers workers
+
+-- whether a command is a batch
+abbrev pub is_batch : Command → Bool
+is_batch (Run settings workers) = false
+is_batch (Serial settings) = false
+is_batch (Sim settings workers number) = false
+is_batch (Replay settings at) = false
+is_batch (Hash gamma at rounds) = false
+is_batch Check = false
+is_batch Fmt = false
+is_batch (Gen shape size) = false
+is_batch (Stream gamma at count rounds below) = false
+is_batch (Span settings) = false
+is_batch (Batch seeds limits show rounds workers) = true
