@@ -24,14 +24,31 @@ use std::alloc::Global;
 use std::sync::{Arc, Wait};
 use std::thread::Threads;
 
-/// Looks at the newest waiting task, since its last child may have answered in the turn before. Says whether it still waits.
-fn look_on(alloc: Global, signals: &Signals, hand: &mut Hand) -> bool {
+/// Looks at the newest waiting task, since its last child may have answered in the turn before.
+fn look_on(alloc: Global, signals: &Signals, hand: &mut Hand) -> Option<Looked> {
     match hand.look_newest(alloc) {
-        Ok(looked) => matches!(looked, Looked::Waits),
+        Ok(looked) => Some(looked),
         Err(_) => {
             signals.stop();
-            false
+            None
         }
+    }
+}
+
+/// After a turn in which the current task came to a stop: where it handed out a child, its rest can be stolen. Else it waits, and a hand
+/// that cuts all that it begins sleeps for a while.
+fn go_on<R: Wait>(
+    rt: &R,
+    alloc: Global,
+    naps: &mut Naps,
+    signals: &Signals,
+    hand: &mut Hand,
+    cuts: bool,
+) {
+    match look_on(alloc, signals, hand) {
+        Some(Looked::Waits) if cuts => naps.wait(rt, signals, 0),
+        Some(Looked::Nothing) if !cuts => signals.offer(),
+        _ => {}
     }
 }
 
@@ -55,20 +72,16 @@ fn work<R: Wait, G: Gate>(
         let turn = hand.turn(alloc, gate);
         let cuts = hand.cuts();
         if !cuts && !matches!(turn, Ok(Turn::Waiting | Turn::Idle)) {
-            naps.end();
+            naps.end(signals);
         }
         match turn {
-            Ok(Turn::Ran) => {
-                if look_on(alloc, signals, hand) && cuts {
-                    naps.wait(rt, signals, 0);
-                }
-            }
+            Ok(Turn::Ran) => go_on(rt, alloc, &mut naps, signals, hand, cuts),
             Ok(Turn::Answered(_)) => {
                 look_on(alloc, signals, hand);
             }
             Ok(Turn::Waiting) => naps.wait(rt, signals, hand.parked()),
             Ok(Turn::Idle) => naps.idle(rt, signals),
-            Ok(Turn::Stole) if !cuts => signals.wake_one(),
+            Ok(Turn::Stole) if !cuts => signals.offer(),
             Ok(Turn::Ended(_)) => signals.end(),
             Ok(_) => {}
             Err(_) => signals.stop(),

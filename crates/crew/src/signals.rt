@@ -1,5 +1,6 @@
 // What the hands of a crew tell one another, and how one that finds nothing to do sleeps.
 use crossbeam_utils::{Backoff, CachePadded};
+use std::mem;
 use std::sync::Wait;
 use std::sync::atomic::{AtomicU64, Ordering};
 use std::time::Duration;
@@ -20,6 +21,10 @@ pub(crate) struct Signals {
     stop: CachePadded<AtomicU64>,
     /// The answers of so many roots were put.
     ended: CachePadded<AtomicU64>,
+    /// So many hands look for a task and don't sleep.
+    seeking: CachePadded<AtomicU64>,
+    /// So many hands sleep.
+    asleep: CachePadded<AtomicU64>,
     /// How many roots there are.
     roots: u64,
 }
@@ -30,6 +35,8 @@ impl Signals {
         Signals {
             stop: CachePadded::new(AtomicU64::new(0)),
             ended: CachePadded::new(AtomicU64::new(0)),
+            seeking: CachePadded::new(AtomicU64::new(0)),
+            asleep: CachePadded::new(AtomicU64::new(0)),
             roots,
         }
     }
@@ -61,16 +68,38 @@ impl Signals {
         ended.load(Ordering::SeqCst) >= self.roots
     }
 
+    /// One more hand looks for a task.
+    fn seek(&self) {
+        let seeking: &AtomicU64 = &self.seeking;
+        seeking.fetch_add(1, Ordering::SeqCst);
+    }
+
+    /// A hand that looked for a task has one, or sleeps.
+    fn end_seek(&self) {
+        let seeking: &AtomicU64 = &self.seeking;
+        seeking.fetch_sub(1, Ordering::SeqCst);
+    }
+
     /// Sleeps for so many microseconds, or until it is woken.
     fn sleep<R: Wait>(&self, rt: &R, micros: u64) {
         let stop: &AtomicU64 = &self.stop;
+        let asleep: &AtomicU64 = &self.asleep;
+        self.end_seek();
+        asleep.fetch_add(1, Ordering::SeqCst);
         stop.park_timeout(rt, 0, Duration::from_micros(micros));
+        asleep.fetch_sub(1, Ordering::SeqCst);
+        self.seek();
     }
 
-    /// One of those that sleep looks for work now.
-    pub fn wake_one(&self) {
-        let stop: &AtomicU64 = &self.stop;
-        stop.wake_one();
+    /// There is a task to steal: where no hand looks for one, one of those that sleep does so now. It writes nothing where a hand looks or
+    /// none sleeps, so that a push costs no more than two reads of what seldom changes.
+    pub fn offer(&self) {
+        let seeking: &AtomicU64 = &self.seeking;
+        let asleep: &AtomicU64 = &self.asleep;
+        if seeking.load(Ordering::SeqCst) == 0 && asleep.load(Ordering::SeqCst) != 0 {
+            let stop: &AtomicU64 = &self.stop;
+            stop.wake_one();
+        }
     }
 }
 
@@ -82,6 +111,8 @@ pub(crate) struct Naps {
     next: u64,
     /// How many turns in a row found nothing to do since the last one.
     vain: usize,
+    /// The signals count this hand as one that looks for a task.
+    seeks: bool,
     longest_idle: u64,
 }
 
@@ -92,12 +123,16 @@ impl Naps {
             backoff: Backoff::new(),
             next: SHORTEST_NAP,
             vain: 0,
+            seeks: false,
             longest_idle: workers.saturating_mul(LONGEST_IDLE),
         }
     }
 
     /// The hand found something to do.
-    pub fn end(&mut self) {
+    pub fn end(&mut self, signals: &Signals) {
+        if mem::replace(&mut self.seeks, false) {
+            signals.end_seek();
+        }
         self.backoff.reset();
         self.next = SHORTEST_NAP;
         self.vain = 0;
@@ -120,6 +155,9 @@ impl Naps {
             return;
         }
         self.vain = 0;
+        if !mem::replace(&mut self.seeks, true) {
+            signals.seek();
+        }
         if self.backoff.is_completed() {
             signals.sleep(rt, self.next.min(longest));
             self.next = self.next.saturating_mul(2).min(longest);
