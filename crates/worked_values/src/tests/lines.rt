@@ -88,6 +88,31 @@ fn appended_events_stand_behind_the_others(rt: HostRuntime) -> Result<(), Fail> 
     Ok(())
 }
 
+/// How many events each full segment has, and then the last one.
+fn lengths(alloc: Global, events: &Out) -> Result<Vec<usize>, Memory> {
+    let mut lengths = Vec::new(alloc);
+    if let Some((full, last)) = events.segments() {
+        for segment in full {
+            lengths.push(segment.len())?;
+        }
+        lengths.push(last.len())?;
+    }
+    Ok(lengths)
+}
+
+// Ten events are more than are ever copied.
+#[test]
+fn a_long_list_is_appended_without_a_copy(rt: HostRuntime) -> Result<(), Fail> {
+    let mut all = objects(rt.alloc(), 0..20)?;
+    all.append(objects(rt.alloc(), 20..30)?)?;
+    all.append(objects(rt.alloc(), 30..32)?)?;
+    assert_eq!(rt;
+        lengths(rt.alloc(), &all)?.as_slice(),
+        [20usize, 12].as_slice()
+    );
+    Ok(())
+}
+
 #[test]
 fn a_shared_fault_is_the_same(rt: HostRuntime) -> Result<(), Fail> {
     let at = strand(rt.alloc(), 3)?;
