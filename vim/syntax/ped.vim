@@ -4,9 +4,10 @@ if exists('b:current_syntax')
 endif
 
 syntax case match
+syntax match pedVersion "\%^version 2$"
 syntax keyword pedDeclaration fn let
 syntax keyword pedType id
-syntax keyword pedParallel spawn sync pfor in into
+syntax keyword pedParallel spawn sync pfor in into scope
 syntax keyword pedConditional if else
 syntax keyword pedRepeat while
 syntax keyword pedStatement call return print
@@ -18,6 +19,7 @@ syntax match pedOperator "->\|\.\.\|[-+*/%]\|==\|!=\|<=\|>=\|[<>=]"
 syntax match pedFunction "\%(\<\%(fn\|call\|spawn\)\s\+\)\@<=\h\w*"
 syntax match pedComment "#.*$" contains=pedTodo,@Spell
 
+highlight default link pedVersion PreProc
 highlight default link pedDeclaration Keyword
 highlight default link pedType Type
 highlight default link pedParallel PreProc

@@ -22,10 +22,10 @@ use Rattle.ped_path.specs.declared.parse.PedTextError.{PedTextError}
 use Rattle.ped_path.specs.declared.parse.PedTextError.TheVariants.{Empty, BadByte, Zeros, TooBig, TooLong, Memory}
 use Rattle.ped_path.proofs.TextLemmas.{ped_text-append, stopped-append}
 
-numerals : IsNumeralModel (AllDigits 10) (digits_value 10)
+pub numerals : IsNumeralModel (AllDigits 10) (digits_value 10)
 numerals = numerals_by_value (AllDigits 10) tells_digits
 
-digit_passes : (c : ℕ) → IsInRange 48 57 c → is_ascii_digit c ≡ true
+pub digit_passes : (c : ℕ) → IsInRange 48 57 c → is_ascii_digit c ≡ true
 digit_passes c within = grind (arith, nat_tests)
 
 low : (c : ℕ) → is_ascii_digit c ≡ true → 48 ≤ c

@@ -6,6 +6,7 @@
 #![tactic(auto)]
 
 mod block;
+pub mod laws;
 mod memory;
 mod parse;
 mod path;

@@ -1,5 +1,6 @@
 pub mod Commands
 pub mod Judging
+pub mod Laws
 pub mod Making
 pub mod Numbers
 pub mod Pedigrees

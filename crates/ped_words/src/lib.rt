@@ -6,6 +6,7 @@
 
 mod command;
 mod given;
+pub mod laws;
 mod making;
 mod number;
 mod read;

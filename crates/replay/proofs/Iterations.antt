@@ -1,117 +1,127 @@
--- The children of a node: a loop is handed out whole, and its iterations are origins of the plan.
-use Rattle.std.proofs.Common.{◌≡◌, ℕ, zero, suc, ◌+◌, ◌-◌, ◌<◌, ◌≤◌, Bool, true, false, nat_lt, List, [], ◌∷◌, Option, Some, None, map, bytes_eq, if◌then◌else◌, refl, sym, ap, ◌∙◌, subst, arith}
+-- The child of a node on the way to a pedigree: it is one of the node's items, and what is entered of it is an instance on the way.
+use Rattle.std.proofs.Common.{◌≡◌, ℕ, suc, ◌+◌, ◌-◌, ◌<◌, Bool, true, false, ◌&&◌, nat_lt, List, [], ◌∷◌, ◌++◌, Option, Some, None, length, length-append, append_assoc, if◌then◌else◌, refl, sym, ap, ◌∙◌, subst, arith}
 use Rattle.std.proofs.Common.{ℤ}
-use Rattle.std.specs.Prelude.{Contains}
+use Rattle.std.specs.Prelude.{Contains, slice_get}
+use Rattle.std.proofs.Math.Seq.{take-append_seam}
 use Rattle.std.proofs.lemmas.Bool.Decides.{nat_tests}
 use Rattle.loop_range.specs.Range.{Range}
 use Rattle.serial_meaning.specs.Laws.{IsOriginOf, ChildOf}
-use Rattle.serial_meaning.specs.Runs.{done}
-use Rattle.serial_meaning.specs.Functions.{function_at}
-use Rattle.serial_meaning.specs.Plan.{PlanView, functions_of}
-use Rattle.serial_meaning.specs.Exec.{State, strand}
-use Rattle.serial_meaning.specs.Eval.{Evaluation, path_of, iteration, eval_at, depth_left}
-use Rattle.serial_meaning.specs.Open.{Item, Happened, Child, Ending, put_off_all, joined, loop_end, is_zero, iterations, node_at, opened}
-use Rattle.serial_meaning.proofs.Each.{Each, each-contained, Parts, instance-each}
+use Rattle.serial_meaning.specs.Plan.{PlanView}
+use Rattle.serial_meaning.specs.Eval.{path_of, iteration}
+use Rattle.serial_meaning.specs.Open.{Item, Happened, Child, Opened, Closed, opened}
+use Rattle.serial_meaning.proofs.Origins.{child-below}
 use Rattle.serial_meaning.specs.declared.value.Value.{Value}
-use Rattle.serial_meaning.specs.declared.event.Fault.{Fault}
 use Rattle.serial_meaning.specs.declared.origin.Origin.{Origin}
 use Rattle.serial_meaning.specs.declared.origin.Origin.TheVariants.{Instance, Loop}
-use Rattle.strand_meaning.specs.Notes.{IsInstance}
-use Rattle.strand_meaning.specs.Strands.{child_at}
-use Rattle.strand_meaning.proofs.Variables.{same-name}
+use Rattle.strand_meaning.specs.Rest.{children_of}
+use Rattle.strand_meaning.specs.Strands.{is_below, child_on_way, entered, iteration_on_way}
+use Rattle.strand_meaning.proofs.ItemsRise.{IsWhole, ItemsRise, items-rise}
+use Rattle.strand_meaning.proofs.Loops.{contains-turn}
+use Rattle.serial_runner.specs.Nodes.{IsBelow}
+use Rattle.serial_runner.proofs.Below.{both, below-of}
+use Rattle.replay.specs.Descents.{IsOnWayTo}
 
--- The child at a path is one of the items, with this path
+-- Below a path
 
-abbrev pub IsChild : List ℕ → List Item → Origin → Type 0
-IsChild path is c = Contains is (Child c) × (path_of c ≡ path)
-
-later-child : (path : List ℕ) (i : Item) (is : List Item) (c : Origin) → IsChild path is c → IsChild path (i ∷ is) c
-later-child path i is c h = ((suc h.0.0, omega (arith, h.0.1), h.0.2), h.1)
-
-pub child-at : (path : List ℕ) (is : List Item) (c : Origin) → child_at path is ≡ Some c → IsChild path is c
-child-at path [] c h = absurd (cc)
-child-at path (Happened e ∷ is) c h = later-child path (Happened e) is c (child-at path is c h)
-child-at path (Child o ∷ is) c h = by_path (bytes_eq (path_of o) path) refl h (child-at path is c)
+-- a pedigree of this form is below the path
+pub below-path : (path : List ℕ) (k : ℕ) (ranks j : List ℕ) → j ≡ path ++ k ∷ ranks → IsBelow path j
+below-path path k ranks j e = subst (IsBelow path) (sym e) (record { begins = take-append_seam path (k ∷ ranks); longer = longer })
   where
-    by_path : (b : Bool) → bytes_eq (path_of o) path ≡ b → (if b then Some o else child_at path is) ≡ Some c → (child_at path is ≡ Some c → IsChild path is c) → IsChild path (Child o ∷ is) c
-    by_path true e k later = let same : o ≡ c = cc in ((0, omega arith, ap Child same), ap path_of (sym same) ∙ same-name (path_of o) path e)
-    by_path false e k later = later-child path (Child o) is c (later k)
+    longer : length path < length (path ++ k ∷ ranks)
+    longer = let l : length (path ++ k ∷ ranks) ≡ length path + length (k ∷ ranks) = length-append path (k ∷ ranks) in omega arith
 
--- A loop's iterations are numbered from 0
+-- A child on the way is one of the items, and begins a longer pedigree. A loop is handed out whole.
 
-abbrev pub StartsAtZero : Origin → Type 0
-StartsAtZero (Instance function args path) = Unit {0}
-StartsAtZero (Loop function rest first path range) = range.lo ≡ 0
+record OnWay (j : List ℕ) (is : List Item) (c : Origin) : Type 0 where
+  among : Contains is (Child c)
+  below : is_below (path_of c) j ≡ true
+  whole : IsWhole c
 
-abbrev ItemStarts : Item → Type 0
-ItemStarts (Happened e) = Unit {0}
-ItemStarts (Child o) = StartsAtZero o
+later-one : (i : Item) (is : List Item) (c : Origin) → Contains is (Child c) → Contains (i ∷ is) (Child c)
+later-one i is c k = (suc k.0, omega (arith, k.1), k.2)
 
-module _ (plan : PlanView) (child : Origin → Evaluation) (path : List ℕ) where
-  abbrev S : Type 0
-  S = State (Option Fault)
+on-way : (j : List ℕ) (is : List Item) (c : Origin) → ItemsRise is → child_on_way j is ≡ Some c → OnWay j is c
+on-way j [] c r e = absurd (cc)
+on-way j (Happened x ∷ is) c r e = let w = on-way j is c r.1 e in record { among = later-one (Happened x) is c w.among; below = w.below; whole = w.whole }
+on-way j (Child o ∷ is) c r e = by_test (is_below (path_of o) j) refl e (on-way j is c r.2)
+  where
+    by_test : (b : Bool) → is_below (path_of o) j ≡ b → (if b then Some o else child_on_way j is) ≡ Some c → (child_on_way j is ≡ Some c → OnWay j is c) → OnWay j (Child o ∷ is) c
+    by_test true t h go = let same : o ≡ c = cc in subst (OnWay j (Child o ∷ is)) same (record { among = (0, omega arith, refl); below = t; whole = r.1 })
+    by_test false t h go = let w = go h in record { among = later-one (Child o) is c w.among; below = w.below; whole = w.whole }
+on-way j (Opened k ∷ is) c r e = let w = on-way j is c r e in record { among = later-one (Opened k) is c w.among; below = w.below; whole = w.whole }
+on-way j (Closed k ∷ is) c r e = let w = on-way j is c r e in record { among = later-one (Closed k) is c w.among; below = w.below; whole = w.whole }
 
-  loop-starts : (function : ℕ) (vs : List Value) (lo : ℤ) (hi : ℕ) (s : S) →
-      Each ItemStarts ((put_off_all plan child).loop (Loop function vs lo (strand path s) (record { lo = 0; hi = hi }))).items
-  loop-starts function vs lo hi s = by_size (is_zero (hi - 0))
-    where
-      whole : Origin
-      whole = Loop function vs lo (strand path s) (record { lo = 0; hi = hi })
+-- the iteration that is entered of a loop
 
-      by_size : (b : Bool) → Each ItemStarts (if b then done {I = Item} {E = Ending} [] else record { items = Child whole ∷ []; ending = loop_end (child whole).ending }).items
-      by_size true = tt
-      by_size false = (refl, tt)
+rank-there : (path : List ℕ) (k : ℕ) (more : List ℕ) → slice_get (path ++ k ∷ more) (length path) ≡ Some k
+rank-there [] k more = refl
+rank-there (x ∷ path) k more = rank-there path k more
 
-  parts : Parts (put_off_all plan child) plan path ItemStarts
-  parts = record {
-    print = λ s v. tt;
-    draw = λ s. tt;
-    new = λ s. tt;
-    sync = λ s. tt;
-    spawn = λ s. tt;
-    loop = λ s. tt;
-    at_sync = at_sync;
-    child = λ n vs s h. (tt, tt);
-    iterations = λ n vs lo hi s h. loop-starts n vs lo hi s;
-  }
-    where
-      at_sync : (k : Option Fault) → Each ItemStarts (joined k).items
-      at_sync None = tt
-      at_sync (Some f) = tt
+record Enters (j : List ℕ) (function : ℕ) (rest : List Value) (first : ℤ) (path : List ℕ) (count : ℕ) (c : Origin) : Type 0 where
+  turn : ℕ
+  within : turn < count
+  is : c ≡ iteration function rest first path turn
+  next : ℕ
+  more : List ℕ
+  below : j ≡ (path ++ turn ∷ []) ++ next ∷ more
 
-children-start : (plan : PlanView) (left : ℕ) (o : Origin) → IsInstance o → Each ItemStarts (node_at plan left o).items
-children-start plan zero (Instance function args path) i =
-    let child : Origin → Evaluation = λ o. done [] in instance-each (put_off_all plan child) plan path ItemStarts (parts plan child path) (function_at (functions_of plan) function) args
-children-start plan (suc left) (Instance function args path) i =
-    let child : Origin → Evaluation = eval_at plan left in instance-each (put_off_all plan child) plan path ItemStarts (parts plan child path) (function_at (functions_of plan) function) args
-children-start plan left (Loop function rest first path range) i = absurd i
+enters-turn : (j : List ℕ) (function : ℕ) (rest : List Value) (first : ℤ) (path : List ℕ) (count : ℕ) (k : ℕ) (more : List ℕ) (c : Origin) → j ≡ path ++ k ∷ more →
+    iteration_on_way j function rest first path count (slice_get j (length path)) ≡ Some c → Enters j function rest first path count c
+enters-turn j function rest first path count k more c e h = by_test (nat_lt k count && nat_lt (length path + 1) (length j)) refl named
+  where
+    named : (if nat_lt k count && nat_lt (length path + 1) (length j) then Some (iteration function rest first path k) else None) ≡ Some c
+    named = sym (ap (iteration_on_way j function rest first path count) (ap (λ l. slice_get l (length path)) e ∙ rank-there path k more)) ∙ h
 
-pub whole-loop : (plan : PlanView) (o c : Origin) → IsInstance o → Contains (opened plan o).items (Child c) → StartsAtZero c
-whole-loop plan o c i h = let t : ItemStarts (Child c) = each-contained ItemStarts (opened plan o).items (Child c) (children-start plan (depth_left plan o) o i) h in t
+    more-left : nat_lt (length path + 1) (length j) ≡ true → 0 < length more
+    more-left t = let size : length j ≡ length path + length (k ∷ more) = ap length e ∙ length-append path (k ∷ more) in grind (arith, nat_tests, t, size)
 
--- Its iterations are its children
+    or_this : Option Origin → Origin
+    or_this None = c
+    or_this (Some d) = d
 
-module _ (function : ℕ) (rest : List Value) (first : ℤ) (path : List ℕ) where
-  abbrev turn : ℕ → Origin
-  turn k = iteration function rest first path k
+    by_more : (ranks : List ℕ) → more ≡ ranks → 0 < length more → k < count → iteration function rest first path k ≡ c → Enters j function rest first path count c
+    by_more [] g size low same = let none : length more ≡ 0 = ap length g in absurd (omega (arith, none, size))
+    by_more (i ∷ ranks) g size low same =
+        record { turn = k; within = low; is = sym same; next = i; more = ranks; below = e ∙ ap (λ l. path ++ k ∷ l) g ∙ sym (append_assoc path (k ∷ []) (i ∷ ranks)) }
 
-  among-iterations : (k n i : ℕ) → k ≤ i → i < k + n → Contains (map Child (iterations function rest first path k n)) (Child (turn i))
-  among-iterations k zero i a b = absurd (omega arith)
-  among-iterations k (suc n) i a b = by_place (nat_lt k i) refl (λ g. among-iterations (k + 1) n i g (omega arith))
-    where
-      items : List Item
-      items = map Child (iterations function rest first path (k + 1) n)
+    by_test : (b : Bool) → (nat_lt k count && nat_lt (length path + 1) (length j)) ≡ b → (if b then Some (iteration function rest first path k) else None) ≡ Some c → Enters j function rest first path count c
+    by_test true t g =
+        let b = both (nat_lt k count) (nat_lt (length path + 1) (length j)) t in
+        by_more more refl (more-left b.1) (grind (arith, nat_tests, b.0)) (ap or_this g)
+    by_test false t g = absurd (cc)
 
-      by_place : (c : Bool) → nat_lt k i ≡ c → (k + 1 ≤ i → Contains items (Child (turn i))) → Contains (Child (turn k) ∷ items) (Child (turn i))
-      by_place true e later = let c : Contains items (Child (turn i)) = later (grind (arith, nat_tests)) in (suc c.0, omega (arith, c.1), c.2)
-      by_place false e later = let same : k ≡ i = grind (arith, nat_tests) in (0, omega arith, ap (λ (j : ℕ). Child (turn j)) same)
+-- Into a child
 
-  loop-items : (plan : PlanView) (left : ℕ) (range : Range) → (node_at plan left (Loop function rest first path range)).items ≡ map Child (iterations function rest first path range.lo (range.hi - range.lo))
-  loop-items plan zero range = refl
-  loop-items plan (suc left) range = refl
+-- an instance on the way below another
+pub record IsFurther (plan : PlanView) (j : List ℕ) (o next : Origin) : Type 0 where
+  pub on : IsOnWayTo plan j next
+  pub longer : length (path_of o) < length (path_of next)
 
-  pub iteration-known : (plan : PlanView) (range : Range) (k : ℕ) → range.lo ≡ 0 → k < range.hi - range.lo → IsOriginOf plan (Loop function rest first path range) → IsOriginOf plan (turn k)
-  iteration-known plan range k e h known =
-      ChildOf (Loop function rest first path range) (turn k) known
-      (subst (λ (is : List Item). Contains is (Child (turn k))) (sym (loop-items plan (depth_left plan (Loop function rest first path range)) range))
-      (among-iterations range.lo (range.hi - range.lo) k (omega arith) (omega arith)))
+module _ (plan : PlanView) (j : List ℕ) (o : Origin) (known : IsOriginOf plan o) where
+  longer-child : (c : Origin) → Contains (opened plan o).items (Child c) → length (path_of o) < length (path_of c)
+  longer-child c among =
+      let b = child-below plan o c among in
+      let l : length (path_of c) ≡ length (path_of o) + length (b.0 ∷ b.1) = ap length b.2 ∙ length-append (path_of o) (b.0 ∷ b.1) in omega (arith, l)
+
+  into : (c next : Origin) → OnWay j (opened plan o).items c → entered j c ≡ Some next → IsFurther plan j o next
+  into (Instance function args path) next way e =
+      let c : Origin = Instance function args path in
+      let same : c ≡ next = cc in
+      let b = below-of path j way.below in
+      subst (IsFurther plan j o) same (record { on = record { known = ChildOf o c known way.among; instance = tt; below = below-path path b.0 b.1 j b.2 }; longer = longer-child c way.among })
+  into (Loop function rest first path range) next way e =
+      let c : Origin = Loop function rest first path range in
+      let b = below-of path j way.below in
+      let turn = enters-turn j function rest first path (range.hi - range.lo) b.0 b.1 next b.2 e in
+      let i : Origin = iteration function rest first path turn.turn in
+      let among : Contains (opened plan c).items (Child i) = contains-turn function rest first path range.lo (range.hi - range.lo) turn.turn (let whole = way.whole in omega (arith, whole)) (let whole = way.whole in let low = turn.within in omega (arith, whole, low)) in
+      let l : length (path ++ turn.turn ∷ []) ≡ length path + 1 = length-append path (turn.turn ∷ []) in
+      let m = longer-child c way.among in
+      let further : IsFurther plan j o i = record {
+        on = record { known = ChildOf c i (ChildOf o c known way.among) among; instance = tt; below = below-path (path ++ turn.turn ∷ []) turn.next turn.more j turn.below };
+        longer = omega (arith, l, m);
+      } in
+      subst (IsFurther plan j o) (sym turn.is) further
+
+  pub goes-further : (c next : Origin) → child_on_way j (opened plan o).items ≡ Some c → entered j c ≡ Some next → IsFurther plan j o next
+  goes-further c next e h = into c next (on-way j (opened plan o).items c (items-rise plan (children_of plan o) o) e) h

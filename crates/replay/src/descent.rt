@@ -4,8 +4,8 @@ ghost use Rattle.std.specs.Prelude.{◌≡◌, IfOk, IfErr};
 ghost use Rattle.std.specs.Arc.{arc_value};
 ghost use Rattle.serial_meaning.specs.Eval.{elision};
 ghost use Rattle.strand_meaning.specs.StrandLaws.{IsWholeUpTo, strand_in};
-ghost use Rattle.strand_meaning.specs.Strands.{strand_at};
-ghost use Rattle.replay.specs.Descents.{IsOnWayTo, Leads, entered};
+ghost use Rattle.strand_meaning.specs.Strands.{entered, strand_at};
+ghost use Rattle.replay.specs.Descents.{IsOnWayTo, Leads};
 ghost use Rattle.replay.specs.Replays.{IsReplayOf};
 
 use crate::error::ReplayError;
@@ -42,14 +42,10 @@ fn enter(alloc: Global, child: Origin, at: &Pedigree) -> Result<Option<Origin>, 
     else {
         return Ok(Some(child));
     };
-    let place = path.len();
-    if place + 1 >= at.len() {
-        return Ok(None);
-    }
-    let Some(k) = at.rank_at(place) else {
+    let Some(k) = at.rank_at(path.len()) else {
         return Ok(None);
     };
-    if k >= range.len() {
+    if !(k < range.len() && path.len() + 1 < at.len()) {
         return Ok(None);
     }
     let mut args = rest;
@@ -78,17 +74,17 @@ fn descend(
         child,
         joined,
     } = walk_node(alloc, plan, origin, at)?;
-    if let Some(strand) = strand {
-        return Ok(Way::Found(strand));
-    }
     if let Some(child) = child {
         let Some(next) = enter(alloc, child, at)? else {
             return Err(ReplayError::NoStrand);
         };
         return Ok(Way::Down(next));
     }
-    match joined {
-        Some(fault) => Err(ReplayError::Blocked(fault)),
+    if let Some(fault) = joined {
+        return Err(ReplayError::Blocked(fault));
+    }
+    match strand {
+        Some(strand) => Ok(Way::Found(strand)),
         None => Err(ReplayError::NoStrand),
     }
 }

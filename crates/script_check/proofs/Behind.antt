@@ -114,6 +114,11 @@ module _ (functions : List Function) (a : List Stmt) where
       ∙ ap (λ (m : Known). noted found (wanted Int condition m q ++ faults_each (judge_all a) (place functions true) m q)) k
       ∙ ap (λ (r : Names). noted found (wanted Int condition known r ++ faults_each (judge_all a) (place functions true) known r)) e
 
+  -- a scope: what its block makes known, and after its sync nothing is pending
+  pub scope_state : (state first last : State) → first ≡ with_known functions a state → last ≡ record first { names = nobody; keeps = false } →
+      last ≡ record (with_known functions a state) { names = nobody; keeps = false }
+  scope_state state first last f l = l ∙ ap (λ (t : State). record t { names = nobody; keeps = false }) f
+
 -- a statement of which this is told
 pub behind_by : (functions : List Function) (s : Stmt) (j : Judged) (kept : Bool) (state : State) → judge s ≡ j → keeps s ≡ kept →
     behind functions s state ≡ record { known = j.known functions state.known; names = j.after state.names; keeps = kept && state.keeps; before = state.before }

@@ -100,6 +100,7 @@ open_fine at (act.Pfor x lo hi target c) h = (
       (loop_call_fine (function_named place.functions c.name.bytes) (is_some target) c),
   kept,
 )
+open_fine at (act.Scope a) h = (λ place. each_fine a h (record place { in_block = true }), λ fewer p w x e. e)
 
 all_fine : (s : Stmt) → FineStmt s
 all_fine = induct FineStmt (λ at d h. subst FineJudged (sym (judge_open at d)) (open_fine at d h))

@@ -1,5 +1,5 @@
 -- Induction over statements.
-use Rattle.std.proofs.Common.{◌≡◌, ℕ, Bool, true, ◌||◌, List, [], ◌∷◌, map, ap, subst, ◌∙◌, rules}
+use Rattle.std.proofs.Common.{◌≡◌, ℕ, Bool, true, false, ◌||◌, List, [], ◌∷◌, map, ap, subst, ◌∙◌, rules}
 use Rattle.script_grammar.specs.declared.tree.Stmt.{Stmt, roll-Stmt, ind-Stmt, fold-roll-Stmt}
 use Rattle.script_grammar.specs.declared.tree.Act.{Act, roll-Act, map-Act, fold-roll-Act, the_lemmas}
 use Rattle.script_grammar.specs.declared.tree.Act.TheVariants as variant
@@ -27,6 +27,7 @@ Inside Q (act.Print e) = Unit {0}
 Inside Q (act.If e a b) = Each Q a × Each Q b
 Inside Q (act.While e a) = Each Q a
 Inside Q (act.Pfor x lo hi target c) = Unit {0}
+Inside Q (act.Scope a) = Each Q a
 
 -- a statement with what it does in the open
 abbrev pub statement : ℕ → Act-F Act Stmt → Stmt
@@ -49,6 +50,7 @@ module _ (Q : Stmt → Type 0) where
   inside what tree h (act.If e a b) = (each tree h a, each tree h b)
   inside what tree h (act.While e a) = each tree h a
   inside what tree h (act.Pfor x lo hi target c) = tt
+  inside what tree h (act.Scope a) = each tree h a
 
   pub induct : ((at : ℕ) (d : Act-F Act Stmt) → Inside Q d → Q (statement at d)) → (s : Stmt) → Q s
   induct step =
@@ -89,3 +91,9 @@ judge_while at e a = search (rules, the_lemmas)
 
 pub keeps_while : (e : Expr) (a : List Stmt) → keeps_what (variant.While e a) ≡ true
 keeps_while e a = search (rules, the_lemmas)
+
+pub judge_scope : (at : ℕ) (a : List Stmt) → judge_what (variant.Scope a) at ≡ judge_act (act.Scope (judge_all a)) at
+judge_scope at a = search (rules, the_lemmas)
+
+pub keeps_scope : (a : List Stmt) → keeps_what (variant.Scope a) ≡ false
+keeps_scope a = search (rules, the_lemmas)

@@ -9,6 +9,7 @@ pub mod Indexed
 pub mod Called
 pub mod Behind
 pub mod Least
+pub mod First
 pub mod Functioned
 pub mod Fewer
 pub mod FewerStatements

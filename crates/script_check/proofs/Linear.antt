@@ -94,6 +94,7 @@ linear_open at (act.If e a b) h p r y =
 linear_open at (act.While e a) h p r y =
     ap (λ z. (p y || r y) || z) (linear_each a h p r y) ∙ bool_while (p y) (r y) (after a p y) (keeps_all a)
 linear_open at (act.Pfor x lo hi target c) h p r y = refl
+linear_open at (act.Scope a) h p r y = refl
 
 pub linear : (s : Stmt) → IsLinear (judge s).after (keeps s)
 linear =

@@ -41,8 +41,8 @@ module _ {J : Type 0} (after_one : J → Names → Names) where
   after_each [] p = p
   after_each (j ∷ js) p = after_each js (after_one j p)
 
-  -- A sync empties the set, an `if` ends with the union of its ends, a `while` with its own set and its body's; the other statements
-  -- keep it.
+  -- A sync and the end of a `scope` empty the set, an `if` ends with the union of its ends, a `while` with its own set and its body's; the
+  -- other statements keep it.
   abbrev pub after_act : {A : Type 0} → Act-F A J → Names → Names
   after_act (act.Let x r) p = after_right x r p
   after_act (act.Array x n) p = p
@@ -55,3 +55,4 @@ module _ {J : Type 0} (after_one : J → Names → Names) where
   after_act (act.If e a b) p = both (after_each a p) (after_each b p)
   after_act (act.While e a) p = both p (after_each a p)
   after_act (act.Pfor x lo hi target c) p = p
+  after_act (act.Scope a) p = nobody

@@ -31,6 +31,7 @@ act_spawns (act.Print e) = false
 act_spawns (act.If e a b) = any_true a || any_true b
 act_spawns (act.While e a) = any_true a
 act_spawns (act.Pfor x lo hi target c) = false
+act_spawns (act.Scope a) = any_true a
 
 -- whether the word `spawn` stands in a statement, in blocks inside it too
 abbrev pub spawns : Stmt → Bool

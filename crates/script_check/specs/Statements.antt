@@ -116,6 +116,7 @@ known_act (act.Print e) functions known = known
 known_act (act.If e a b) functions known = known_each b functions (known_each a functions known)
 known_act (act.While e a) functions known = known_each a functions known
 known_act (act.Pfor x lo hi target c) functions known = known
+known_act (act.Scope a) functions known = known_each a functions known
 
 -- the violations of a block
 abbrev pub block_faults : List Judged → Place → Faults
@@ -141,6 +142,7 @@ faults_act (act.While e a) at place known p =
 faults_act (act.Pfor x lo hi target c) at place known p =
     two_wanted Int (read lo) (read hi) known p ++ target_use target known p
     ++ loop_call_of (function_named place.functions c.name.bytes) (is_some target) c known p
+faults_act (act.Scope a) at place known p = block_faults a place known p
 
 -- one statement, with what is told of those inside it in their places
 abbrev pub judge_act : Act-F (ℕ → Judged) Judged → ℕ → Judged

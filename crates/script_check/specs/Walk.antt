@@ -77,6 +77,7 @@ keeps_act (act.Print e) = true
 keeps_act (act.If e a b) = keeps_each a || keeps_each b
 keeps_act (act.While e a) = true
 keeps_act (act.Pfor x lo hi target c) = true
+keeps_act (act.Scope a) = false
 
 abbrev pub keeps : Stmt → Bool
 keeps = fold-Stmt Bool Bool keeps_act (λ s. s.act)

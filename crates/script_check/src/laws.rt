@@ -1,6 +1,6 @@
 //! Laws of the definitions, each the contract of a function that does nothing. A proof that wants a law calls it.
 
-ghost use Rattle.script_check.specs.Laws.{FewerPendingStaysValid, LoopSetIsClosed};
+ghost use Rattle.script_check.specs.Laws.{FaultIsFirst, FaultIsUnique, FewerPendingStaysValid, LoopSetIsClosed};
 
 /// Statements that are valid where some names are pending are valid where only some of these are, and leave no more pending.
 pub fn fewer_pending_stays_valid()
@@ -10,4 +10,14 @@ pub fn fewer_pending_stays_valid()
 /// The set that a `while` is judged with has all that its body leaves pending from that set: another turn adds nothing.
 pub fn loop_set_is_closed()
     ensures { LoopSetIsClosed }
+{}
+
+/// A script has one fault at most.
+pub fn fault_is_unique()
+    ensures { FaultIsUnique }
+{}
+
+/// Of all conditions that a script violates, its fault is one at the first place, and there the one of the least number.
+pub fn fault_is_first()
+    ensures { FaultIsFirst }
 {}

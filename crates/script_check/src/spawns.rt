@@ -11,7 +11,8 @@ use script_grammar::{Act, Right, Stmt};
 use std::alloc::Global;
 
 /// Adds the names that these statements leave pending where nothing was before. The answer tells whether what was pending before
-/// may still be so after them. The statements are taken from the last to the first, so that a sync is met before what it ends.
+/// may still be so after them. The statements are taken from the last to the first, so that a sync, or a
+/// scope, at whose end a sync stands, is met before what it ends.
 #[cycle(spawns)]
 pub(crate) fn collect(alloc: Global, scope: &mut Scope, statements: &[Stmt]) -> Result<bool, Memory>
     ensures keeps { IfOk result (λ b. b ≡ keeps_all statements.now) }
@@ -42,7 +43,7 @@ fn collect_one(alloc: Global, scope: &mut Scope, statement: &Stmt) -> Result<boo
             scope.spawn_to(alloc, x)?;
             Ok(true)
         }
-        Act::Sync => Ok(false),
+        Act::Sync | Act::Scope(_) => Ok(false),
         Act::If(_, a, b) => {
             let first = collect(alloc, scope, a.as_slice())?;
             let second = collect(alloc, scope, b.as_slice())?;

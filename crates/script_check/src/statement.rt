@@ -240,8 +240,8 @@ fn judge_block(
     Ok(scope.leave(outer))
 }
 
-/// One statement. Both blocks of an `if` are judged with what is pending before; a `while` is judged once, with what an earlier
-/// turn may have left pending.
+/// One statement. Both blocks of an `if`, and that of a `scope`, are judged with what is pending before; a `while` is judged once, with
+/// what an earlier turn may have left pending. A `scope` ends with a sync.
 #[cycle(statements)]
 #[tactic(auto, using(crate::proofs::Noted::noted_append))]
 fn judge(
@@ -294,6 +294,10 @@ fn judge(
             target,
             call,
         } => judge_loop(functions, scope, found, lo, hi, target, call),
+        Act::Scope(a) => {
+            judge_block(alloc, functions, scope, found, a.as_slice())?;
+            scope.sync(alloc)?;
+        }
     }
     Ok(())
 }

@@ -39,7 +39,7 @@ fn spawns(statement: &Stmt) -> bool
         Act::Let(_, r) | Act::Set(_, r) => is_spawn(r),
         Act::Spawn(_) => true,
         Act::If(_, yes, no) => any_spawns(yes.as_slice()) || any_spawns(no.as_slice()),
-        Act::While(_, body) => any_spawns(body.as_slice()),
+        Act::While(_, body) | Act::Scope(body) => any_spawns(body.as_slice()),
         _ => false,
     }
 }

@@ -3,18 +3,23 @@
 ghost use Rattle.std.specs.Prelude.{◌≡◌, ◌≤◌, ◌+◌, IfOk, IfSome, IsFalse, IsTrue, length, string_bytes, true, false};
 ghost use Rattle.script_excerpt.specs.Followers.{GoesOn, with_word};
 
-use script_text::{MAX_BYTES, SyntaxError, parse};
+use script_text::{MAX_BYTES, SyntaxError, Version, parse};
 use std::alloc::{AllocError, Global};
 
 /// The longest text that is looked at: each word is tried by a parse of the text.
 const MOST_BYTES: usize = 65536;
 
-/// The words that stand for themselves.
-const WORDS: [&str; 40] = [
+/// The words that stand for themselves, `scope` in version 2 alone.
+const WORDS: [&str; 41] = [
     "fn", "id", "let", "spawn", "call", "sync", "print", "if", "else", "while", "pfor", "in",
     "into", "draw", "new", "return", "same", "older", "(", ")", "{", "}", "[", "]", ",", ";", "=",
-    "+", "-", "*", "/", "%", "==", "!=", "<", "<=", ">", ">=", "->", "..",
+    "+", "-", "*", "/", "%", "==", "!=", "<", "<=", ">", ">=", "->", "..", "scope",
 ];
+
+// Whether the word stands for itself in a text of this version.
+fn is_word(version: Version, word: &str) -> bool {
+    version == Version::Two || word != "scope"
+}
 
 // The text with a word before its byte `at`.
 fn with_word(alloc: Global, text: &[u8], at: usize, word: &str) -> Result<Vec<u8>, AllocError>
@@ -59,8 +64,12 @@ pub fn follower(alloc: Global, text: &[u8], at: usize) -> Result<Option<&'static
     if text.len() > MOST_BYTES {
         return Ok(None);
     }
+    let version = Version::of(text);
     let mut found = None;
     for word in WORDS {
+        if !is_word(version, word) {
+            continue;
+        }
         if would_do(alloc, text, at, word)? {
             if found.is_some() {
                 return Ok(None);

@@ -1,6 +1,7 @@
 -- Each function of a script begins with an `fn` of its own, so that there are no more functions than the limit.
 use Rattle.std.proofs.Common.{◌≡◌, ℕ, suc, ◌+◌, ◌<◌, ◌≤◌, Bool, true, false, if◌then◌else◌, List, [], ◌∷◌, ◌++◌, length, Option, refl, ap, arith}
 use Rattle.std.proofs.Math.Nat.{lt_of_not-le}
+use Rattle.script_tokens.specs.declared.version.Version.{Version}
 use Rattle.script_tokens.specs.declared.token.Word.{Word}
 use Rattle.script_tokens.specs.declared.token.Word.TheVariants as word
 use Rattle.script_grammar.specs.declared.tree.Name.{Name}
@@ -18,7 +19,7 @@ use Rattle.script_grammar.specs.declared.tree.Function.{Function}
 use Rattle.script_grammar.specs.Grammar.{Token, tok, IsSumSign, a_plus, a_minus, IsProductSign, a_times, an_over, a_modulo, IsComparison, an_eq, a_ne, a_lt, a_le, a_gt, a_ge}
 use Rattle.script_grammar.specs.Grammar.{IsFactor, a_neg, a_number, a_name, an_item, a_group, a_same, an_older, IsTerm, factors, IsFactors, no_factors, one_factor, IsSum, terms, IsTerms, no_terms, one_term, IsExpr, alone, compared}
 use Rattle.script_grammar.specs.Grammar.{IsMoreArgs, no_more_args, one_more_arg, IsArgs, no_args, some_args, IsCall, a_call, IsRight, right_value, right_draw, right_new, right_call, right_spawn, IsInto, no_into, an_into}
-use Rattle.script_grammar.specs.Grammar.{IsStmt, a_let, an_array, a_set, a_store, a_spawn, a_call_stmt, a_sync, a_print, an_if, a_while, a_pfor, IsStmts, no_stmts, one_stmt, IsBlock, a_block, IsElse, no_else, an_else}
+use Rattle.script_grammar.specs.Grammar.{IsStmt, a_let, an_array, a_set, a_store, a_spawn, a_call_stmt, a_sync, a_print, an_if, a_while, a_pfor, a_scope, IsStmts, no_stmts, one_stmt, IsBlock, a_block, IsElse, no_else, an_else}
 use Rattle.script_grammar.specs.Grammar.{IsParam, int_param, id_param, IsMoreParams, no_more_params, one_more_param, IsParams, no_params, some_params, IsAnswer, int_answer, id_answer, IsFunction, a_function, IsFunctions, no_functions, one_function}
 use Rattle.script_grammar.specs.Fault.{is_fn, functions_begun, too_many_functions, WithinBehind}
 use Rattle.script_grammar.specs.Text.{FunctionsAreFew}
@@ -105,6 +106,7 @@ mutual
   in_stmt (an_if d e f) = omega (arith, in_expr d, in_block e, in_else f)
   in_stmt (a_while d e) = omega (arith, in_expr d, in_block e)
   in_stmt (a_pfor d e f g) = omega (arith, in_expr d, in_expr e, in_into f, in_more_args g)
+  in_stmt (a_scope d) = in_block d
 
   in_stmts : {ts rest : List Token} {xs : List Stmt} → IsStmts ts xs rest → functions_begun rest ≤ functions_begun ts
   in_stmts no_stmts = omega arith
@@ -192,31 +194,32 @@ is_fn_word word.Gt e = absurd (cc)
 is_fn_word word.Ge e = absurd (cc)
 is_fn_word word.Arrow e = absurd (cc)
 is_fn_word word.Range e = absurd (cc)
+is_fn_word word.Scope e = absurd (cc)
 
 -- no more of them than the limit, where no token breaks it
 abbrev IsFew : List Token → List Token → Type 0
 IsFew before ts = functions_begun before ≤ 1024 → functions_begun before + functions_begun ts ≤ 1024
 
-few_with : (is : Bool) (before : List Token) (t : Token) (ts : List Token) → is_fn t.word ≡ is → WithinBehind before (t ∷ ts) → IsFew (before ++ t ∷ []) ts →
+few_with : (version : Version) (is : Bool) (before : List Token) (t : Token) (ts : List Token) → is_fn t.word ≡ is → WithinBehind version before (t ∷ ts) → IsFew (before ++ t ∷ []) ts →
     functions_begun before ≤ 1024 → functions_begun before + (if is then suc (functions_begun ts) else functions_begun ts) ≤ 1024
-few_with true before t ts e w behind few =
+few_with version true before t ts e w behind few =
     let one : functions_begun (t ∷ []) ≡ 1 = ap (λ is. if is then 1 else 0) e in
     let sum = begun_with before t in
     let less : functions_begun before < 1024 = lt_of_not-le (λ h. w.0 7 (too_many_functions (is_fn_word t.word e) h)) in
     let more = behind (omega (arith, sum, one, less)) in
     omega (arith, sum, one, more)
-few_with false before t ts e w behind few =
+few_with version false before t ts e w behind few =
     let none : functions_begun (t ∷ []) ≡ 0 = ap (λ is. if is then 1 else 0) e in
     let sum = begun_with before t in
     let more = behind (omega (arith, sum, none, few)) in
     omega (arith, sum, none, more)
 
-few_behind : (before ts : List Token) → WithinBehind before ts → IsFew before ts
-few_behind before [] w few = omega (arith, few)
-few_behind before (t ∷ ts) w few = few_with (is_fn t.word) before t ts refl w (few_behind (before ++ t ∷ []) ts w.1) few
+few_behind : (version : Version) (before ts : List Token) → WithinBehind version before ts → IsFew before ts
+few_behind version before [] w few = omega (arith, few)
+few_behind version before (t ∷ ts) w few = few_with version (is_fn t.word) before t ts refl w (few_behind version (before ++ t ∷ []) ts w.1) few
 
 pub functions_are_few : FunctionsAreFew
 functions_are_few script is =
     let all = in_functions is.text.program.derives in
-    let few = few_behind [] _ is.text.program.within (omega arith) in
+    let few = few_behind script.version [] _ is.text.program.within (omega arith) in
     omega (arith, all, few)

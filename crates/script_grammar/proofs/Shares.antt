@@ -14,6 +14,7 @@ use Rattle.script_grammar.specs.contracts.tree.Stmt as stmt
 use Rattle.script_grammar.specs.contracts.tree.Expr as expr
 use Rattle.script_grammar.specs.contracts.tree.Name as name
 use Rattle.script_grammar.specs.contracts.tree.Param as param
+use Rattle.script_tokens.proofs.version.Version.TheSendSync as version_shared
 use Rattle.script_grammar.proofs.boxed.Boxed.TheSendSync as boxed_shared
 use Rattle.script_grammar.proofs.items.Items.TheSendSync as items_shared
 use Rattle.script_grammar.proofs.tree.Name.TheSendSync as name_shared
@@ -58,7 +59,7 @@ function_sends : IsSend function.the_row
 function_sends = declared_send function.the_type (name_shared.the_send, (items_shared.the_send param.the_row param_shared.the_send, (kind_shared.the_send, (items_shared.the_send stmt.the_row stmt_row_sends, (search sendable, (expr_row_sends, tt))))))
 
 pub script_sends : IsSend script.the_row
-script_sends = declared_send script.the_type (items_shared.the_send function.the_row function_sends, tt)
+script_sends = declared_send script.the_type (version_shared.the_send, (items_shared.the_send function.the_row function_sends, tt))
 
 -- read by several
 
@@ -93,4 +94,4 @@ function_syncs : IsSync function.the_row
 function_syncs = declared_sync function.the_type (name_shared.the_sync, (items_shared.the_sync param.the_row param_shared.the_sync, (kind_shared.the_sync, (items_shared.the_sync stmt.the_row stmt_row_syncs, (search sendable, (expr_row_syncs, tt))))))
 
 pub script_syncs : IsSync script.the_row
-script_syncs = declared_sync script.the_type (items_shared.the_sync function.the_row function_syncs, tt)
+script_syncs = declared_sync script.the_type (version_shared.the_sync, (items_shared.the_sync function.the_row function_syncs, tt))

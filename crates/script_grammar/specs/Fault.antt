@@ -1,14 +1,15 @@
 -- The first fault of a list of tokens, and where there is none.
 --
--- A token is unexpected where no further tokens make a script of it and those in front. Limits are judged only of a token that may
+-- A token is unexpected where no further tokens of the version make a script of it and those in front. Limits are judged only of a token that may
 -- stand where it does.
 use Rattle.std.specs.Prelude.{◌≡◌, ℕ, suc, ◌<◌, ◌≤◌, ◌⊎◌, Bool, true, false, List, [], ◌∷◌, ◌++◌, length, slice_get, Some, if◌then◌else◌}
+use Rattle.script_tokens.specs.declared.version.Version.{Version}
 use Rattle.script_tokens.specs.declared.token.Word.{Word}
 use Rattle.script_tokens.specs.declared.token.Word.TheVariants as word
 use Rattle.script_tokens.specs.declared.lexing.Stop.{Stop}
 use Rattle.script_tokens.specs.declared.lexing.Stop.TheVariants.{End, NotAscii, NoToken}
 use Rattle.script_grammar.specs.declared.tree.Function.{Function}
-use Rattle.script_grammar.specs.Grammar.{Token, IsScript, IsViable, decimal}
+use Rattle.script_grammar.specs.Grammar.{Token, IsScript, AreOf, IsScriptOf, IsViable, decimal}
 use Rattle.script_grammar.specs.Nesting.{functions_nesting}
 
 abbrev pub is_fn : Word → Bool
@@ -20,23 +21,23 @@ abbrev pub functions_begun : List Token → ℕ
 functions_begun [] = 0
 functions_begun (t ∷ ts) = if is_fn t.word then suc (functions_begun ts) else functions_begun ts
 
--- in a script that goes on with the token after these, the nesting at the token is n
-abbrev pub IsNested : List Token → Token → ℕ → Type 0
-IsNested before t n =
-    (more : List Token) × (functions : List Function) × (d : IsScript (before ++ t ∷ more) functions)
+-- in a script of the version that goes on with the token after these, the nesting at the token is n
+abbrev pub IsNested : Version → List Token → Token → ℕ → Type 0
+IsNested version before t n =
+    (more : List Token) × (functions : List Function) × AreOf version (before ++ t ∷ more) × (d : IsScript (before ++ t ∷ more) functions)
     × (slice_get (functions_nesting d 0) (length before) ≡ Some n)
 
 -- the token after these breaks the limit that a fault of that number names
-pub data BreaksLimit (before : List Token) (t : Token) : ℕ → Type 0 where
-  number_out_of_range : t.word ≡ word.Number → 9223372036854775807 < decimal 0 t.text → BreaksLimit before t 3
-  name_too_long : t.word ≡ word.Name → 32 < length t.text → BreaksLimit before t 4
-  nested_too_deep : {n : ℕ} → IsNested before t n → 64 < n → BreaksLimit before t 5
-  too_many_functions : t.word ≡ word.Fn → 1024 ≤ functions_begun before → BreaksLimit before t 7
+pub data BreaksLimit (version : Version) (before : List Token) (t : Token) : ℕ → Type 0 where
+  number_out_of_range : t.word ≡ word.Number → 9223372036854775807 < decimal 0 t.text → BreaksLimit version before t 3
+  name_too_long : t.word ≡ word.Name → 32 < length t.text → BreaksLimit version before t 4
+  nested_too_deep : {n : ℕ} → IsNested version before t n → 64 < n → BreaksLimit version before t 5
+  too_many_functions : t.word ≡ word.Fn → 1024 ≤ functions_begun before → BreaksLimit version before t 7
 
 -- the token after these is at fault: it is unexpected, or breaks a limit
-pub data IsFault (before : List Token) (t : Token) : ℕ → Type 0 where
-  unexpected : (IsViable (before ++ t ∷ []) → ⊥) → IsFault before t 2
-  breaks_limit : {n : ℕ} → IsViable (before ++ t ∷ []) → BreaksLimit before t n → IsFault before t n
+pub data IsFault (version : Version) (before : List Token) (t : Token) : ℕ → Type 0 where
+  unexpected : (IsViable version (before ++ t ∷ []) → ⊥) → IsFault version before t 2
+  breaks_limit : {n : ℕ} → IsViable version (before ++ t ∷ []) → BreaksLimit version before t n → IsFault version before t n
 
 -- what stands after the last token: where the text ends, and why there is no further token
 pub record Ending : Type 0 where
@@ -44,23 +45,24 @@ pub record Ending : Type 0 where
   pub stop : Stop
 
 -- The fault after all tokens, its number and its place: 6 where the text ends and they are no script yet, else what stopped them.
-abbrev pub FaultAtStop : ℕ → Stop → List Token → ℕ → ℕ → Type 0
-FaultAtStop end End tokens number at = (number ≡ 6) × (at ≡ end) × ((functions : List Function) → IsScript tokens functions → ⊥)
-FaultAtStop end (NotAscii place) tokens number at = (number ≡ 1) × (at ≡ place)
-FaultAtStop end (NoToken place) tokens number at = (number ≡ 2) × (at ≡ place)
+abbrev pub FaultAtStop : Version → ℕ → Stop → List Token → ℕ → ℕ → Type 0
+FaultAtStop version end End tokens number at = (number ≡ 6) × (at ≡ end) × ((functions : List Function) → IsScriptOf version tokens functions → ⊥)
+FaultAtStop version end (NotAscii place) tokens number at = (number ≡ 1) × (at ≡ place)
+FaultAtStop version end (NoToken place) tokens number at = (number ≡ 2) × (at ≡ place)
 
 -- the first fault after the tokens `before`, its number and its place
-abbrev pub FaultBehind : Ending → List Token → List Token → ℕ → ℕ → Type 0
-FaultBehind ending before [] number at = FaultAtStop ending.end ending.stop before number at
-FaultBehind ending before (t ∷ ts) number at =
-    (IsFault before t number × (at ≡ t.at)) ⊎ (((n : ℕ) → IsFault before t n → ⊥) × FaultBehind ending (before ++ t ∷ []) ts number at)
+abbrev pub FaultBehind : Version → Ending → List Token → List Token → ℕ → ℕ → Type 0
+FaultBehind version ending before [] number at = FaultAtStop version ending.end ending.stop before number at
+FaultBehind version ending before (t ∷ ts) number at =
+    (IsFault version before t number × (at ≡ t.at)) ⊎ (((n : ℕ) → IsFault version before t n → ⊥) × FaultBehind version ending (before ++ t ∷ []) ts number at)
 
 -- no token after the tokens `before` breaks a limit
-abbrev pub WithinBehind : List Token → List Token → Type 0
-WithinBehind before [] = Unit {0}
-WithinBehind before (t ∷ ts) = ((n : ℕ) → BreaksLimit before t n → ⊥) × WithinBehind (before ++ t ∷ []) ts
+abbrev pub WithinBehind : Version → List Token → List Token → Type 0
+WithinBehind version before [] = Unit {0}
+WithinBehind version before (t ∷ ts) = ((n : ℕ) → BreaksLimit version before t n → ⊥) × WithinBehind version (before ++ t ∷ []) ts
 
--- the tokens are a script with these functions, within the limits
-pub record IsProgram (tokens : List Token) (functions : List Function) : Type 0 where
+-- the tokens are a script of the version with these functions, within the limits
+pub record IsProgram (version : Version) (tokens : List Token) (functions : List Function) : Type 0 where
+  pub of_version : AreOf version tokens
   pub derives : IsScript tokens functions
-  pub within : WithinBehind [] tokens
+  pub within : WithinBehind version [] tokens

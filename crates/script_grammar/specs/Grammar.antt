@@ -1,10 +1,14 @@
--- The grammar, as derivations of lists of tokens.
+-- The grammar, as derivations of lists of tokens. There is one for both versions: what version 2 has more begins with a token that no text
+-- of version 1 has, and `AreOf` says so of a list of tokens.
 --
 -- `IsX tokens x rest`: the tokens before `rest` derive from X, and `x` is their tree. Each constructor is a rule; its tokens
 -- stand in the first index in the order of the text.
-use Rattle.std.specs.Prelude.{ℕ, ◌+◌, ◌*◌, ◌-◌, pos, Bool, true, false, List, [], ◌∷◌, ◌++◌, Option, Some, None}
+use Rattle.std.specs.Prelude.{◌≡◌, ℕ, ◌+◌, ◌*◌, ◌-◌, pos, Bool, true, false, List, [], ◌∷◌, ◌++◌, Option, Some, None, if◌then◌else◌}
+use Rattle.script_tokens.specs.declared.version.Version.{Version}
+use Rattle.script_tokens.specs.declared.version.Version.TheVariants.{One, Two}
 use Rattle.script_tokens.specs.declared.token.Word.{Word}
 use Rattle.script_tokens.specs.declared.token.Word.TheVariants as word
+use Rattle.script_tokens.specs.Word.{is_scope}
 use Rattle.script_grammar.specs.declared.tree.Name.{Name}
 use Rattle.script_grammar.specs.declared.tree.Number.{Number}
 use Rattle.script_grammar.specs.declared.tree.Expr.{Expr}
@@ -211,6 +215,10 @@ mutual
         → IsMoreArgs ws xs (tok i word.Close z ∷ tok j word.Semicolon o ∷ rest)
         → IsStmt (tok a word.Pfor t ∷ tok b word.Name n ∷ tok c word.In u ∷ ts)
         (stmt_at a (act.Pfor (name_at b n) lo hi into (record { name = name_at f f'; args = xs }))) rest
+    -- "scope" block, in version 2
+    a_scope : {a : ℕ} {t : List ℕ} {ts rest : List Token} {p : List Stmt}
+        → IsBlock ts p rest
+        → IsStmt (tok a word.Scope t ∷ ts) (stmt_at a (act.Scope p)) rest
 
   -- { stmt }
   pub data IsStmts : List Token → List Stmt → List Token → Type 0 where
@@ -276,6 +284,19 @@ pub data IsFunctions : List Token → List Function → List Token → Type 0 wh
 abbrev pub IsScript : List Token → List Function → Type 0
 IsScript tokens functions = IsFunctions tokens functions []
 
--- some further tokens make it a script
-abbrev pub IsViable : List Token → Type 0
-IsViable tokens = (more : List Token) × (functions : List Function) × IsScript (tokens ++ more) functions
+abbrev pub has_scope : List Token → Bool
+has_scope [] = false
+has_scope (t ∷ ts) = if is_scope t.word then true else has_scope ts
+
+-- the tokens are those of the version: in version 1 none is the word `scope`
+abbrev pub AreOf : Version → List Token → Type 0
+AreOf One tokens = has_scope tokens ≡ false
+AreOf Two tokens = Unit {0}
+
+-- the tokens are a script of the version's grammar, apart from the limits
+abbrev pub IsScriptOf : Version → List Token → List Function → Type 0
+IsScriptOf version tokens functions = AreOf version tokens × IsScript tokens functions
+
+-- some further tokens make it a script of the version's grammar
+abbrev pub IsViable : Version → List Token → Type 0
+IsViable version tokens = (more : List Token) × (functions : List Function) × IsScriptOf version (tokens ++ more) functions

@@ -11,7 +11,7 @@ use Rattle.script_grammar.specs.declared.tree.Stmt.{Stmt}
 use Rattle.script_grammar.specs.declared.tree.Kind.{Kind}
 use Rattle.script_grammar.specs.declared.tree.Param.{Param}
 use Rattle.script_grammar.specs.declared.tree.Function.{Function}
-use Rattle.script_grammar.specs.Grammar.{Token, IsFactor, a_neg, a_number, a_name, an_item, a_group, a_same, an_older, IsTerm, factors, IsFactors, no_factors, one_factor, IsSum, terms, IsTerms, no_terms, one_term, IsExpr, alone, compared, IsMoreArgs, no_more_args, one_more_arg, IsArgs, no_args, some_args, IsCall, a_call, IsRight, right_value, right_draw, right_new, right_call, right_spawn, IsInto, no_into, an_into, IsStmt, a_let, an_array, a_set, a_store, a_spawn, a_call_stmt, a_sync, a_print, an_if, a_while, a_pfor, IsStmts, no_stmts, one_stmt, IsBlock, a_block, IsElse, no_else, an_else, IsParam, int_param, id_param, IsMoreParams, no_more_params, one_more_param, IsParams, no_params, some_params, IsAnswer, int_answer, id_answer, IsFunction, a_function, IsFunctions, no_functions, one_function}
+use Rattle.script_grammar.specs.Grammar.{Token, IsFactor, a_neg, a_number, a_name, an_item, a_group, a_same, an_older, IsTerm, factors, IsFactors, no_factors, one_factor, IsSum, terms, IsTerms, no_terms, one_term, IsExpr, alone, compared, IsMoreArgs, no_more_args, one_more_arg, IsArgs, no_args, some_args, IsCall, a_call, IsRight, right_value, right_draw, right_new, right_call, right_spawn, IsInto, no_into, an_into, IsStmt, a_let, an_array, a_set, a_store, a_spawn, a_call_stmt, a_sync, a_print, an_if, a_while, a_pfor, a_scope, IsStmts, no_stmts, one_stmt, IsBlock, a_block, IsElse, no_else, an_else, IsParam, int_param, id_param, IsMoreParams, no_more_params, one_more_param, IsParams, no_params, some_params, IsAnswer, int_answer, id_answer, IsFunction, a_function, IsFunctions, no_functions, one_function}
 
 abbrev mutual
   pub factor_nesting : {ts rest : List Token} {x : Expr} → IsFactor ts x rest → ℕ → List ℕ
@@ -77,6 +77,7 @@ abbrev mutual
   stmt_nesting (a_while d e) n = n ∷ (expr_nesting d n ++ block_nesting e n)
   stmt_nesting (a_pfor d e f g) n =
       n ∷ n ∷ n ∷ (expr_nesting d n ++ n ∷ (expr_nesting e n ++ (into_nesting f n ++ n ∷ n ∷ suc n ∷ suc n ∷ (more_args_nesting g (suc n) ++ n ∷ n ∷ []))))
+  stmt_nesting (a_scope d) n = n ∷ block_nesting d n
 
   pub stmts_nesting : {ts rest : List Token} {xs : List Stmt} → IsStmts ts xs rest → ℕ → List ℕ
   stmts_nesting no_stmts n = []

@@ -4,7 +4,8 @@ use Rattle.script_tokens.specs.declared.token.Lexeme.{Lexeme}
 use Rattle.script_tokens.specs.declared.lexing.TheConstants.{MAX_BYTES}
 use Rattle.script_tokens.specs.declared.lexing.Stop.{Stop}
 use Rattle.script_tokens.specs.declared.lexing.Stop.TheVariants.{End}
-use Rattle.script_tokens.specs.Lexing.{Lexes, text_of}
+use Rattle.script_tokens.specs.Version.{version_of}
+use Rattle.script_tokens.specs.Lexing.{IsCut, text_of}
 use Rattle.script_grammar.specs.declared.tree.Script.{Script}
 use Rattle.script_grammar.specs.Grammar.{Token, tok}
 use Rattle.script_grammar.specs.Fault.{FaultBehind, IsProgram}
@@ -16,11 +17,12 @@ token_of bytes l = tok l.start l.word (text_of bytes l)
 abbrev pub tokens_of : List ℕ → List Lexeme → List Token
 tokens_of bytes ls = map (token_of bytes) ls
 
--- The bytes are the text of this script: they are cut into tokens up to their end, and these are the script within the limits.
+-- The bytes are the text of this script: they are of its version, what stands after the version's line is cut into tokens up to the end, and
+-- these are the script within the limits. Offsets are those in the bytes.
 pub record Text (bytes : List ℕ) (script : Script) : Type 0 where
   pub lexemes : List Lexeme
-  pub cut : Lexes 0 bytes lexemes End
-  pub program : IsProgram (tokens_of bytes lexemes) script.functions
+  pub cut : IsCut bytes script.version lexemes End
+  pub program : IsProgram script.version (tokens_of bytes lexemes) script.functions
 
 -- a script that a text of at most a mebibyte is of: what a parse can give
 pub record IsOfText (script : Script) : Type 0 where
@@ -32,8 +34,8 @@ pub record IsOfText (script : Script) : Type 0 where
 pub record SyntaxFault (bytes : List ℕ) (number at : ℕ) : Type 0 where
   pub lexemes : List Lexeme
   pub stop : Stop
-  pub cut : Lexes 0 bytes lexemes stop
-  pub fault : FaultBehind (record { end = length bytes; stop = stop }) [] (tokens_of bytes lexemes) number at
+  pub cut : IsCut bytes (version_of bytes) lexemes stop
+  pub fault : FaultBehind (version_of bytes) (record { end = length bytes; stop = stop }) [] (tokens_of bytes lexemes) number at
 
 abbrev pub FunctionsAreFew : Type 0
 FunctionsAreFew = (script : Script) → IsOfText script → length script.functions ≤ 1024

@@ -11,6 +11,7 @@ pub mod tree;
 
 pub use boxed::Boxed;
 pub use items::Items;
+pub use script_tokens::Version;
 pub use tree::{
     Act, CallText, Comparison, Expr, Function, Kind, Name, Number, Param, ProductPart, ProductSign,
     Right, Script, Stmt, SumPart,

@@ -4,6 +4,7 @@
 
 use crate::boxed::Boxed;
 use crate::items::Items;
+use script_tokens::Version;
 
 /// A name's bytes with the offset of its first one.
 #[derive(Drop)]
@@ -12,9 +13,10 @@ pub struct Name {
     pub at: u32,
 }
 
-/// A script: its functions in the order of the text. The run begins at the one named `main`.
+/// A script: its version, and its functions in the order of the text. The run begins at the one named `main`.
 #[derive(Drop)]
 pub struct Script {
+    pub version: Version,
     pub functions: Items<Function>,
 }
 
@@ -102,6 +104,8 @@ pub enum Act {
         target: Option<Name>,
         call: CallText,
     },
+    /// `scope { .. }`, in version 2 alone: its block is one level further in the pedigree.
+    Scope(Items<Stmt>),
 }
 
 /// A number of the text, at most 9223372036854775807.

@@ -100,6 +100,9 @@ act_text-while e p margin = at margin (act.rolls-While e p) ∙ act_text-roll (a
 pub act_text-pfor : (i : Name) (lo hi : Expr) (target : Option Name) (c : CallText) (margin : List ℕ) → act_text (act.Pfor i lo hi target c) margin ≡ range_text i lo hi ++ into_text target ++ loop_call_text i c
 act_text-pfor i lo hi target c margin = at margin (act.rolls-Pfor i lo hi target c) ∙ act_text-roll (act_node.Pfor i lo hi target c) margin
 
+pub act_text-scope : (p : List Stmt) (margin : List ℕ) → act_text (act.Scope p) margin ≡ codes "scope " ++ block_text (map stmt_text p) margin
+act_text-scope p margin = at margin (act.rolls-Scope p) ∙ act_text-roll (act_node.Scope p) margin
+
 pub stmt_text-line : (place : ℕ) (a : Act) (margin : List ℕ) → stmt_text (record { at = place; act = a }) margin ≡ margin ++ act_text a margin ++ codes "\n"
 stmt_text-line place a margin = ap (λ (f : Indented). f margin) (fold_out-Stmt Indented Indented act_at line_at (record { at = place; act = a }))
 
@@ -149,4 +152,4 @@ block_written t0 t1 t2 t3 t4 margin inner block e i f g h =
 
 pub ruleset expr_rules = (printed-sum, printed-product)
 
-pub ruleset act_rules = (act_text-let, act_text-array, act_text-set, act_text-store, act_text-spawn, act_text-call, act_text-sync, act_text-print, act_text-if, act_text-while, act_text-pfor, stmts_text-map)
+pub ruleset act_rules = (act_text-let, act_text-array, act_text-set, act_text-store, act_text-spawn, act_text-call, act_text-sync, act_text-print, act_text-if, act_text-while, act_text-pfor, act_text-scope, stmts_text-map)

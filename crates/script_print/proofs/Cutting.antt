@@ -12,6 +12,7 @@ use Rattle.script_tokens.specs.Lexing.{is_blank, IsLongest, Stands, the_end, Lex
 use Rattle.script_tokens.proofs.Building.{one_more_byte, lexes_token, lexes_blank}
 use Rattle.script_grammar.specs.Grammar.{Token, tok, decimal}
 use Rattle.script_grammar.specs.Text.{tokens_of}
+use Rattle.script_tokens.specs.declared.version.Version.{Version}
 
 -- within the limits on numbers and names
 pub record IsModest (t : Token) : Type 0 where
@@ -23,16 +24,16 @@ Modest [] = Unit {0}
 Modest (t ∷ ts) = IsModest t × Modest ts
 
 -- From the offset `at` on a text goes on with these bytes, and they are cut into these tokens up to its end.
-pub record Spells (at : ℕ) (bytes : List ℕ) (ts : List Token) : Type 0 where
+pub record Spells (version : Version) (at : ℕ) (bytes : List ℕ) (ts : List Token) : Type 0 where
   pub lexemes : List Lexeme
-  pub cut : Lexes at bytes lexemes End
+  pub cut : Lexes version at bytes lexemes End
   pub texts : (front : List ℕ) → length front ≡ at → tokens_of (front ++ bytes) lexemes ≡ ts
   pub modest : Modest ts
 
-pub spells_end : (at : ℕ) → Spells at [] []
-spells_end at = record {
+pub spells_end : {version : Version} (at : ℕ) → Spells version at [] []
+spells_end {version = version} at = record {
   lexemes = [];
-  cut = stops (subst (λ n. Stands n [] (Err End)) (sym (add-zero at)) the_end);
+  cut = stops (subst (λ n. Stands version n [] (Err End)) (sym (add-zero at)) the_end);
   texts = λ front e. refl;
   modest = tt;
 }
@@ -54,11 +55,11 @@ text_there front text rest at w e =
     ap (λ n. take n (drop at (front ++ (text ++ rest)))) size ∙ ap (take (length text)) (drop_front front (text ++ rest) at e) ∙ take_front text rest
 
 -- a token in front
-pub spells_token : (at : ℕ) (w : Word) (text rest : List ℕ) (ts : List Token) → IsLongest (text ++ rest) (length text) w → IsModest (tok at w text) →
-    Spells (at + length text) rest ts → Spells at (text ++ rest) (tok at w text ∷ ts)
-spells_token at w text rest ts longest m s = record {
+pub spells_token : {version : Version} (at : ℕ) (w : Word) (text rest : List ℕ) (ts : List Token) → IsLongest version (text ++ rest) (length text) w → IsModest (tok at w text) →
+    Spells version (at + length text) rest ts → Spells version at (text ++ rest) (tok at w text ∷ ts)
+spells_token {version = version} at w text rest ts longest m s = record {
   lexemes = lexeme w at (at + length text) ∷ s.lexemes;
-  cut = lexes_token at text rest w s.lexemes End longest s.cut;
+  cut = lexes_token version at text rest w s.lexemes End longest s.cut;
   texts = λ front e.
       let size : length (front ++ text) ≡ at + length text = length-append front text ∙ ap (λ n. n + length text) e in
       let others : tokens_of (front ++ (text ++ rest)) s.lexemes ≡ ts = ap (λ z. tokens_of z s.lexemes) (sym (append_assoc front text rest)) ∙ s.texts (front ++ text) size in
@@ -67,10 +68,10 @@ spells_token at w text rest ts longest m s = record {
 }
 
 -- a blank in front
-pub spells_blank : (at b : ℕ) (rest : List ℕ) (ts : List Token) → is_blank b ≡ true → Spells (suc at) rest ts → Spells at (b ∷ rest) ts
-spells_blank at b rest ts h s = record {
+pub spells_blank : {version : Version} (at b : ℕ) (rest : List ℕ) (ts : List Token) → is_blank b ≡ true → Spells version (suc at) rest ts → Spells version at (b ∷ rest) ts
+spells_blank {version = version} at b rest ts h s = record {
   lexemes = s.lexemes;
-  cut = lexes_blank h s.cut;
+  cut = lexes_blank version h s.cut;
   texts = λ front e.
       let size : length (front ++ b ∷ []) ≡ suc at = length-append front (b ∷ []) ∙ (omega (arith, e)) in
       ap (λ z. tokens_of z s.lexemes) (sym (append_assoc front (b ∷ []) rest)) ∙ s.texts (front ++ b ∷ []) size;
@@ -83,11 +84,11 @@ starts f [] = true
 starts f (b ∷ bs) = f b
 
 -- a token is the longest, where no byte that may stand after it makes one more token of it
-pub longest_by : (w : Word) (text : List ℕ) (f : ℕ → Bool) → word_of text ≡ Some w → ((b : ℕ) → f b ≡ true → word_of (text ++ b ∷ []) ≡ None) →
-    (rest : List ℕ) → starts f rest ≡ true → IsLongest (text ++ rest) (length text) w
-longest_by w text f e none [] s =
-    one_more_byte (text ++ []) (length text) w (omega (arith, length-append text [])) (ap word_of (take_front text []) ∙ e)
+pub longest_by : {version : Version} (w : Word) (text : List ℕ) (f : ℕ → Bool) → word_of version text ≡ Some w → ((b : ℕ) → f b ≡ true → word_of version (text ++ b ∷ []) ≡ None) →
+    (rest : List ℕ) → starts f rest ≡ true → IsLongest version (text ++ rest) (length text) w
+longest_by {version = version} w text f e none [] s =
+    one_more_byte version (text ++ []) (length text) w (omega (arith, length-append text [])) (ap (word_of version) (take_front text []) ∙ e)
     (λ h. absurd (omega (arith, length-append text [], h)))
-longest_by w text f e none (b ∷ bs) s =
-    one_more_byte (text ++ b ∷ bs) (length text) w (omega (arith, length-append text (b ∷ bs))) (ap word_of (take_front text (b ∷ bs)) ∙ e)
-    (λ h. ap word_of (take_one_more text b bs) ∙ none b s)
+longest_by {version = version} w text f e none (b ∷ bs) s =
+    one_more_byte version (text ++ b ∷ bs) (length text) w (omega (arith, length-append text (b ∷ bs))) (ap (word_of version) (take_front text (b ∷ bs)) ∙ e)
+    (λ h. ap (word_of version) (take_one_more text b bs) ∙ none b s)

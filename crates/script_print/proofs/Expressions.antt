@@ -24,8 +24,9 @@ use Rattle.script_print.proofs.Computing.{printed-number, printed-variable, prin
 use Rattle.script_print.proofs.Placing.{same_item, same_number, same_variable, same_negation, same_same, same_older, same_comparison, same_sum_part, same_product_part, same_sum, same_product, cons_same}
 use Rattle.script_print.proofs.Cutting.{IsModest, starts}
 use Rattle.script_print.proofs.Forms.{Forms, Then, and_then, IsToken, a_token, IsNothing, nothing, then_, weaken, before, empty, any, anything, calm, no_arrow, calmly, symbol, word_before}
-use Rattle.script_print.proofs.Pieces.{spaced_word, word_space, minus, name_form, number_read, number_form, number_starts, name_starts, nothing_behind, nothing_in_front}
+use Rattle.script_print.proofs.Pieces.{in_each, spaced_word, word_space, minus, name_form, number_read, number_form, number_starts, name_starts, nothing_behind, nothing_in_front}
 use Rattle.script_print.proofs.Eats.{Eats, eaten, one, factor_eats, term_eats, factors_eats, sum_eats, terms_eats, expr_eats}
+use Rattle.script_tokens.specs.declared.version.Version.{Version}
 
 -- the nestings are within the limit
 abbrev pub Low : List ℕ → Type 0
@@ -45,17 +46,17 @@ low_back [] ys l = l
 low_back (x ∷ xs) ys l = low_back xs ys l.1
 
 -- a token that was cut from a text, within the limits
-pub record IsSound (t : Token) : Type 0 where
-  pub word_is : word_of t.text ≡ Some t.word
+pub record IsSound (version : Version) (t : Token) : Type 0 where
+  pub word_is : word_of version t.text ≡ Some t.word
   pub modest : IsModest t
 
-abbrev pub Sound : List Token → Type 0
-Sound [] = Unit {0}
-Sound (t ∷ ts) = IsSound t × Sound ts
+abbrev pub Sound : Version → List Token → Type 0
+Sound version [] = Unit {0}
+Sound version (t ∷ ts) = IsSound version t × Sound version ts
 
-pub sound_behind : {ts rest : List Token} → Eats ts rest → Sound ts → Sound rest
-sound_behind eaten s = s
-sound_behind (one h e) s = sound_behind e s.1
+pub sound_behind : (version : Version) {ts rest : List Token} → Eats ts rest → Sound version ts → Sound version rest
+sound_behind version eaten s = s
+sound_behind version (one h e) s = sound_behind version e s.1
 
 -- The tokens derive a tree that is x apart from offsets, and with up to n open round them their nestings are within the limit.
 pub record ExprOf (x : Expr) (n : ℕ) (us ts : List Token) : Type 0 where
@@ -116,15 +117,15 @@ factor_lower : (x : Expr) (m n : ℕ) → m ≤ n → (us ts : List Token) → F
 factor_lower x m n h us ts d = record { tree = d.tree; derived = d.derived; same = d.same; low = λ k l. d.low k (omega arith) }
 
 -- A printed text is of the expression x: as an expression always, and, by its level, as a sum, a term, a factor. There is room for n round it.
-pub record Shown (p : Printed) (x : Expr) (n : ℕ) : Type 0 where
+pub record Shown (version : Version) (p : Printed) (x : Expr) (n : ℕ) : Type 0 where
   pub low : n ≤ 64
   pub front : (rest : List ℕ) → starts no_arrow (p.text ++ rest) ≡ true
-  pub expr : Forms p.text calm (ExprOf x n)
-  pub sum_too : nat_lt p.level 2 ≡ false → Forms p.text calm (SumOf x n)
-  pub term : nat_lt p.level 3 ≡ false → Forms p.text calm (TermOf x n)
-  pub factor : nat_lt p.level 4 ≡ false → Forms p.text calm (FactorOf x n)
+  pub expr : Forms version p.text calm (ExprOf x n)
+  pub sum_too : nat_lt p.level 2 ≡ false → Forms version p.text calm (SumOf x n)
+  pub term : nat_lt p.level 3 ≡ false → Forms version p.text calm (TermOf x n)
+  pub factor : nat_lt p.level 4 ≡ false → Forms version p.text calm (FactorOf x n)
 
-lower : (p : Printed) (x : Expr) (m n : ℕ) → m ≤ n → Shown p x n → Shown p x m
+lower : {version : Version} (p : Printed) (x : Expr) (m n : ℕ) → m ≤ n → Shown version p x n → Shown version p x m
 lower p x m n h s = record {
   low = omega (arith, s.low);
   front = s.front;
@@ -134,7 +135,7 @@ lower p x m n h s = record {
   factor = λ e. weaken (s.factor e) (factor_lower x m n h);
 }
 
-from_sum : (p : Printed) (x : Expr) (n : ℕ) → n ≤ 64 → ((rest : List ℕ) → starts no_arrow (p.text ++ rest) ≡ true) → nat_lt p.level 3 ≡ true → nat_lt p.level 4 ≡ true → Forms p.text calm (SumOf x n) → Shown p x n
+from_sum : {version : Version} (p : Printed) (x : Expr) (n : ℕ) → n ≤ 64 → ((rest : List ℕ) → starts no_arrow (p.text ++ rest) ≡ true) → nat_lt p.level 3 ≡ true → nat_lt p.level 4 ≡ true → Forms version p.text calm (SumOf x n) → Shown version p x n
 from_sum p x n l front e f d = record {
   low = l;
   front = front;
@@ -144,7 +145,7 @@ from_sum p x n l front e f d = record {
   factor = λ g. absurd cc;
 }
 
-from_term : (p : Printed) (x : Expr) (n : ℕ) → n ≤ 64 → ((rest : List ℕ) → starts no_arrow (p.text ++ rest) ≡ true) → nat_lt p.level 4 ≡ true → Forms p.text calm (TermOf x n) → Shown p x n
+from_term : {version : Version} (p : Printed) (x : Expr) (n : ℕ) → n ≤ 64 → ((rest : List ℕ) → starts no_arrow (p.text ++ rest) ≡ true) → nat_lt p.level 4 ≡ true → Forms version p.text calm (TermOf x n) → Shown version p x n
 from_term p x n l front e d = record {
   low = l;
   front = front;
@@ -154,7 +155,7 @@ from_term p x n l front e d = record {
   factor = λ g. absurd cc;
 }
 
-from_factor : (p : Printed) (x : Expr) (n : ℕ) → n ≤ 64 → ((rest : List ℕ) → starts no_arrow (p.text ++ rest) ≡ true) → Forms p.text calm (FactorOf x n) → Shown p x n
+from_factor : {version : Version} (p : Printed) (x : Expr) (n : ℕ) → n ≤ 64 → ((rest : List ℕ) → starts no_arrow (p.text ++ rest) ≡ true) → Forms version p.text calm (FactorOf x n) → Shown version p x n
 from_factor p x n l front d = record {
   low = l;
   front = front;
@@ -165,17 +166,17 @@ from_factor p x n l front d = record {
 }
 
 -- The expression's text stands there, and where its level is below the need there is room for parentheses.
-pub record Room (need : ℕ) (x : Expr) (n : ℕ) : Type 0 where
-  pub here : Shown (printed x) x n
-  pub room : nat_lt (printed x).level need ≡ true → Shown (printed x) x (suc n)
+pub record Room (version : Version) (need : ℕ) (x : Expr) (n : ℕ) : Type 0 where
+  pub here : Shown version (printed x) x n
+  pub room : nat_lt (printed x).level need ≡ true → Shown version (printed x) x (suc n)
 
-settled : (need : ℕ) (p : Printed) (x : Expr) (n : ℕ) → printed x ≡ p → nat_lt p.level need ≡ false → Shown p x n → Room need x n
-settled need p x n e h s = record {
-  here = subst (λ q. Shown q x n) (sym e) s;
+settled : {version : Version} (need : ℕ) (p : Printed) (x : Expr) (n : ℕ) → printed x ≡ p → nat_lt p.level need ≡ false → Shown version p x n → Room version need x n
+settled {version = version} need p x n e h s = record {
+  here = subst (λ q. Shown version q x n) (sym e) s;
   room = λ g. let f = sym (ap (λ q. nat_lt q.level need) e) ∙ g in absurd cc;
 }
 
-looser : (k : ℕ) (x : Expr) (n : ℕ) → Room (suc k) x n → Room k x n
+looser : {version : Version} (k : ℕ) (x : Expr) (n : ℕ) → Room version (suc k) x n → Room version k x n
 looser k x n r = record { here = r.here; room = λ e. r.room (more (printed x).level e) }
   where
     more : (l : ℕ) → nat_lt l k ≡ true → nat_lt l (suc k) ≡ true
@@ -183,10 +184,10 @@ looser k x n r = record { here = r.here; room = λ e. r.room (more (printed x).l
 
 -- Operands.
 
-pub opened : Forms (codes "(") any (IsToken word.Open (codes "("))
+pub opened : {version : Version} → Forms version (codes "(") any (IsToken word.Open (codes "("))
 opened = symbol word.Open (codes "(") refl refl (λ b. refl)
 
-pub closed : Forms (codes ")") any (IsToken word.Close (codes ")"))
+pub closed : {version : Version} → Forms version (codes ")") any (IsToken word.Close (codes ")"))
 closed = symbol word.Close (codes ")") refl refl (λ b. refl)
 
 group_made : (x : Expr) (n : ℕ) → suc n ≤ 64 → (us ts : List Token) → Then (Then (IsToken word.Open (codes "(")) (ExprOf x (suc n))) (IsToken word.Close (codes ")")) us ts → FactorOf x n us ts
@@ -198,31 +199,31 @@ group_made x n h us ts (and_then (and_then a_token d) a_token) =
       low = λ k l. (omega arith, low_append (expr_nesting d.derived (suc k)) (k ∷ []) (d.low (suc k) (omega arith)) (omega arith, tt));
     }
 
-grouped : (p : Printed) (x : Expr) (n : ℕ) → Shown p x (suc n) → Forms (codes "(" ++ p.text ++ codes ")") calm (FactorOf x n)
+grouped : {version : Version} (p : Printed) (x : Expr) (n : ℕ) → Shown version p x (suc n) → Forms version (codes "(" ++ p.text ++ codes ")") calm (FactorOf x n)
 grouped p x n s = calmly (weaken (then_ (then_ opened s.expr (λ r h. anything (p.text ++ r))) closed (λ r h. refl)) (group_made x n s.low))
 
-at_factor : (x : Expr) (n : ℕ) → Room 4 x n → Forms (operand 4 (printed x)) calm (FactorOf x n)
-at_factor x n r = go (nat_lt (printed x).level 4) refl
+at_factor : {version : Version} (x : Expr) (n : ℕ) → Room version 4 x n → Forms version (operand 4 (printed x)) calm (FactorOf x n)
+at_factor {version = version} x n r = go (nat_lt (printed x).level 4) refl
   where
-    go : (b : Bool) → nat_lt (printed x).level 4 ≡ b → Forms (if b then codes "(" ++ (printed x).text ++ codes ")" else (printed x).text) calm (FactorOf x n)
+    go : (b : Bool) → nat_lt (printed x).level 4 ≡ b → Forms version (if b then codes "(" ++ (printed x).text ++ codes ")" else (printed x).text) calm (FactorOf x n)
     go true e = grouped (printed x) x n (r.room e)
     go false e = r.here.factor e
 
-at_term : (x : Expr) (n : ℕ) → Room 3 x n → Forms (operand 3 (printed x)) calm (TermOf x n)
-at_term x n r = go (nat_lt (printed x).level 3) refl
+at_term : {version : Version} (x : Expr) (n : ℕ) → Room version 3 x n → Forms version (operand 3 (printed x)) calm (TermOf x n)
+at_term {version = version} x n r = go (nat_lt (printed x).level 3) refl
   where
-    go : (b : Bool) → nat_lt (printed x).level 3 ≡ b → Forms (if b then codes "(" ++ (printed x).text ++ codes ")" else (printed x).text) calm (TermOf x n)
+    go : (b : Bool) → nat_lt (printed x).level 3 ≡ b → Forms version (if b then codes "(" ++ (printed x).text ++ codes ")" else (printed x).text) calm (TermOf x n)
     go true e = weaken (grouped (printed x) x n (r.room e)) (as_term x n)
     go false e = r.here.term e
 
-at_sum : (x : Expr) (n : ℕ) → Room 2 x n → Forms (operand 2 (printed x)) calm (SumOf x n)
-at_sum x n r = go (nat_lt (printed x).level 2) refl
+at_sum : {version : Version} (x : Expr) (n : ℕ) → Room version 2 x n → Forms version (operand 2 (printed x)) calm (SumOf x n)
+at_sum {version = version} x n r = go (nat_lt (printed x).level 2) refl
   where
-    go : (b : Bool) → nat_lt (printed x).level 2 ≡ b → Forms (if b then codes "(" ++ (printed x).text ++ codes ")" else (printed x).text) calm (SumOf x n)
+    go : (b : Bool) → nat_lt (printed x).level 2 ≡ b → Forms version (if b then codes "(" ++ (printed x).text ++ codes ")" else (printed x).text) calm (SumOf x n)
     go true e = weaken (weaken (grouped (printed x) x n (r.room e)) (as_term x n)) (as_sum x n)
     go false e = r.here.sum_too e
 
-operand_front : (need : ℕ) (x : Expr) (n : ℕ) → Shown (printed x) x n → (rest : List ℕ) → starts no_arrow (operand need (printed x) ++ rest) ≡ true
+operand_front : {version : Version} (need : ℕ) (x : Expr) (n : ℕ) → Shown version (printed x) x n → (rest : List ℕ) → starts no_arrow (operand need (printed x) ++ rest) ≡ true
 operand_front need x n s rest = go (nat_lt (printed x).level need)
   where
     go : (b : Bool) → starts no_arrow ((if b then codes "(" ++ (printed x).text ++ codes ")" else (printed x).text) ++ rest) ≡ true
@@ -248,10 +249,10 @@ variable_made : (a : ℕ) (t : List ℕ) (n : ℕ) → n ≤ 64 → (us ts : Lis
 variable_made a t n h us ts (a_token {a = b}) =
     record { tree = expr.Var (name_at b t); derived = a_name; same = same_variable (name_at b t) (name_at a t) refl; low = λ k l. (omega arith, tt) }
 
-pub open_item : Forms (codes "[") any (IsToken word.OpenItem (codes "["))
+pub open_item : {version : Version} → Forms version (codes "[") any (IsToken word.OpenItem (codes "["))
 open_item = symbol word.OpenItem (codes "[") refl refl (λ b. refl)
 
-pub close_item : Forms (codes "]") any (IsToken word.CloseItem (codes "]"))
+pub close_item : {version : Version} → Forms version (codes "]") any (IsToken word.CloseItem (codes "]"))
 close_item = symbol word.CloseItem (codes "]") refl refl (λ b. refl)
 
 item_made : (a : ℕ) (t : List ℕ) (x : Expr) (n : ℕ) → suc n ≤ 64 → (us ts : List Token) →
@@ -268,14 +269,14 @@ neg_made : (a : ℕ) (x : Expr) (n : ℕ) → suc n ≤ 64 → (us ts : List Tok
 neg_made a x n h us ts (and_then (a_token {a = b}) d) =
     record { tree = expr.Neg b d.tree; derived = a_neg d.derived; same = same_negation b a d.tree x d.same; low = λ k l. (omega arith, d.low (suc k) (omega arith)) }
 
-pub comma : Forms (codes ", ") any (IsToken word.Comma (codes ","))
+pub comma : {version : Version} → Forms version (codes ", ") any (IsToken word.Comma (codes ","))
 comma = word_space word.Comma (codes ",") refl refl refl
 
-same_open : Forms (codes "same(") any (Then (IsToken word.Same (codes "same")) (IsToken word.Open (codes "(")))
-same_open = then_ (word_before 40 word.Same (codes "same") refl refl refl) opened (λ r h. refl)
+same_open : {version : Version} → Forms version (codes "same(") any (Then (IsToken word.Same (codes "same")) (IsToken word.Open (codes "(")))
+same_open {version = version} = then_ (word_before 40 word.Same (codes "same") refl (in_each version word.Same (codes "same") refl refl) refl) opened (λ r h. refl)
 
-older_open : Forms (codes "older(") any (Then (IsToken word.Older (codes "older")) (IsToken word.Open (codes "(")))
-older_open = then_ (word_before 40 word.Older (codes "older") refl refl refl) opened (λ r h. refl)
+older_open : {version : Version} → Forms version (codes "older(") any (Then (IsToken word.Older (codes "older")) (IsToken word.Open (codes "(")))
+older_open {version = version} = then_ (word_before 40 word.Older (codes "older") refl (in_each version word.Older (codes "older") refl refl) refl) opened (λ r h. refl)
 
 pair_low : (xs ys : List ℕ) (k n : ℕ) → suc n ≤ 64 → k ≤ n → Low xs → Low ys → Low (k ∷ suc k ∷ (xs ++ suc k ∷ (ys ++ k ∷ [])))
 pair_low xs ys k n h l a b = (omega arith, (omega arith, low_append xs (suc k ∷ (ys ++ k ∷ [])) a (omega arith, low_append ys (k ∷ []) b (omega arith, tt))))
@@ -300,42 +301,42 @@ older_made a x y n h us ts (and_then (and_then (and_then (and_then (and_then (a_
       low = λ k l. pair_low (expr_nesting d.derived (suc k)) (expr_nesting e.derived (suc k)) k n h l (d.low (suc k) (omega arith)) (e.low (suc k) (omega arith));
     }
 
-number_shown : (a : ℕ) (t : List ℕ) (n : ℕ) → n ≤ 64 → IsModest (tok a word.Number t) → Room 4 (expr.Number (number_at a t)) n
+number_shown : {version : Version} (a : ℕ) (t : List ℕ) (n : ℕ) → n ≤ 64 → IsModest (tok a word.Number t) → Room version 4 (expr.Number (number_at a t)) n
 number_shown a t n l m =
     let small : decimal 0 t ≤ 9223372036854775807 = m.number refl in
     let p : Printed = at_level 5 (fmt.decimal (decimal 0 t)) in
     settled 4 p (expr.Number (number_at a t)) n (printed-number (number_at a t)) refl
     (from_factor p (expr.Number (number_at a t)) n l (λ r. number_starts (decimal 0 t) r small) (weaken (number_form (decimal 0 t) small) (number_made a t n l small)))
 
-variable_shown : (a : ℕ) (t : List ℕ) (n : ℕ) → n ≤ 64 → IsSound (tok a word.Name t) → Room 4 (expr.Var (name_at a t)) n
-variable_shown a t n l s =
+variable_shown : {version : Version} (a : ℕ) (t : List ℕ) (n : ℕ) → n ≤ 64 → IsSound version (tok a word.Name t) → Room version 4 (expr.Var (name_at a t)) n
+variable_shown {version = version} a t n l s =
     let p : Printed = at_level 5 t in
     settled 4 p (expr.Var (name_at a t)) n (printed-variable (name_at a t)) refl
-    (from_factor p (expr.Var (name_at a t)) n l (λ r. name_starts t r s.word_is) (weaken (name_form t s.word_is (s.modest.name refl)) (variable_made a t n l)))
+    (from_factor p (expr.Var (name_at a t)) n l (λ r. name_starts version t r s.word_is) (weaken (name_form t s.word_is (s.modest.name refl)) (variable_made a t n l)))
 
-item_shown : (a : ℕ) (t : List ℕ) (x : Expr) (n : ℕ) → IsSound (tok a word.Name t) → Shown (printed x) x (suc n) → Room 4 (expr.Item (name_at a t) x) n
-item_shown a t x n s d =
+item_shown : {version : Version} (a : ℕ) (t : List ℕ) (x : Expr) (n : ℕ) → IsSound version (tok a word.Name t) → Shown version (printed x) x (suc n) → Room version 4 (expr.Item (name_at a t) x) n
+item_shown {version = version} a t x n s d =
     let p : Printed = at_level 5 (t ++ codes "[" ++ expr_text x ++ codes "]") in
     settled 4 p (expr.Item (name_at a t) x) n (printed-item (name_at a t) x) refl
     (from_factor p (expr.Item (name_at a t) x) n (omega (arith, d.low))
-    (front_first (t ++ codes "[" ++ expr_text x) (codes "]") (front_first (t ++ codes "[") (expr_text x) (front_first t (codes "[") (λ r. name_starts t r s.word_is))))
+    (front_first (t ++ codes "[" ++ expr_text x) (codes "]") (front_first (t ++ codes "[") (expr_text x) (front_first t (codes "[") (λ r. name_starts version t r s.word_is))))
     (calmly (weaken (then_ (then_ (then_ (name_form t s.word_is (s.modest.name refl)) open_item (λ r h. refl)) d.expr (λ r h. anything (expr_text x ++ r))) close_item (λ r h. refl)) (item_made a t x n d.low))))
 
-neg_shown : (a : ℕ) (x : Expr) (n : ℕ) → Room 4 x (suc n) → Room 4 (expr.Neg a x) n
+neg_shown : {version : Version} (a : ℕ) (x : Expr) (n : ℕ) → Room version 4 x (suc n) → Room version 4 (expr.Neg a x) n
 neg_shown a x n d =
     let p : Printed = at_level 4 (codes "-" ++ operand 4 (printed x)) in
     settled 4 p (expr.Neg a x) n (printed-negation a x) refl
     (from_factor p (expr.Neg a x) n (omega (arith, d.here.low)) (λ r. refl)
     (weaken (then_ minus (at_factor x (suc n) d) (λ r h. operand_front 4 x (suc n) d.here r)) (neg_made a x n d.here.low)))
 
-same_shown : (a : ℕ) (x y : Expr) (n : ℕ) → Shown (printed x) x (suc n) → Shown (printed y) y (suc n) → Room 4 (expr.Same a x y) n
+same_shown : {version : Version} (a : ℕ) (x y : Expr) (n : ℕ) → Shown version (printed x) x (suc n) → Shown version (printed y) y (suc n) → Room version 4 (expr.Same a x y) n
 same_shown a x y n d e =
     let p : Printed = at_level 5 (codes "same(" ++ expr_text x ++ codes ", " ++ expr_text y ++ codes ")") in
     settled 4 p (expr.Same a x y) n (printed-same a x y) refl
     (from_factor p (expr.Same a x y) n (omega (arith, d.low)) (λ r. refl)
     (calmly (weaken (then_ (then_ (then_ (then_ same_open d.expr (λ r h. anything (expr_text x ++ r))) comma (λ r h. refl)) e.expr (λ r h. anything (expr_text y ++ r))) closed (λ r h. refl)) (same_made a x y n d.low))))
 
-older_shown : (a : ℕ) (x y : Expr) (n : ℕ) → Shown (printed x) x (suc n) → Shown (printed y) y (suc n) → Room 4 (expr.Older a x y) n
+older_shown : {version : Version} (a : ℕ) (x y : Expr) (n : ℕ) → Shown version (printed x) x (suc n) → Shown version (printed y) y (suc n) → Room version 4 (expr.Older a x y) n
 older_shown a x y n d e =
     let p : Printed = at_level 5 (codes "older(" ++ expr_text x ++ codes ", " ++ expr_text y ++ codes ")") in
     settled 4 p (expr.Older a x y) n (printed-older a x y) refl
@@ -362,16 +363,16 @@ sum_signed h us ts a_token = a_sum_sign h
 comparison_signed : {k : Word} {s : Comparison} {t : List ℕ} → IsComparison k s → (us ts : List Token) → IsToken k t us ts → ComparisonOf s us ts
 comparison_signed h us ts a_token = a_comparison h
 
-product_sign_form : (s : ProductSign) → Forms (spaced (product_sign_text s)) any (ProductSignOf s)
+product_sign_form : {version : Version} (s : ProductSign) → Forms version (spaced (product_sign_text s)) any (ProductSignOf s)
 product_sign_form Times = weaken (spaced_word word.Times (codes "*") refl refl refl) (product_signed a_times)
 product_sign_form Over = weaken (spaced_word word.Over (codes "/") refl refl refl) (product_signed an_over)
 product_sign_form Modulo = weaken (spaced_word word.Modulo (codes "%") refl refl refl) (product_signed a_modulo)
 
-sum_sign_form : (s : Bool) → Forms (spaced (sum_sign_text s)) any (SumSignOf s)
+sum_sign_form : {version : Version} (s : Bool) → Forms version (spaced (sum_sign_text s)) any (SumSignOf s)
 sum_sign_form true = weaken (spaced_word word.Minus (codes "-") refl refl refl) (sum_signed a_minus)
 sum_sign_form false = weaken (spaced_word word.Plus (codes "+") refl refl refl) (sum_signed a_plus)
 
-comparison_form : (s : Comparison) → Forms (spaced (comparison_text s)) any (ComparisonOf s)
+comparison_form : {version : Version} (s : Comparison) → Forms version (spaced (comparison_text s)) any (ComparisonOf s)
 comparison_form Eq = weaken (spaced_word word.Eq (codes "==") refl refl refl) (comparison_signed an_eq)
 comparison_form Ne = weaken (spaced_word word.Ne (codes "!=") refl refl refl) (comparison_signed a_ne)
 comparison_form Lt = weaken (spaced_word word.Lt (codes "<") refl refl refl) (comparison_signed a_lt)
@@ -380,8 +381,8 @@ comparison_form Gt = weaken (spaced_word word.Gt (codes ">") refl refl refl) (co
 comparison_form Ge = weaken (spaced_word word.Ge (codes ">=") refl refl refl) (comparison_signed a_ge)
 
 -- A text after an operand, which ends no name and no number of it.
-pub record Tail (text : List ℕ) (D : List Token → List Token → Type 0) : Type 0 where
-  pub form : Forms text calm D
+pub record Tail (version : Version) (text : List ℕ) (D : List Token → List Token → Type 0) : Type 0 where
+  pub form : Forms version text calm D
   pub front : (rest : List ℕ) → starts calm rest ≡ true → starts calm (text ++ rest) ≡ true
 
 no_factors_made : (n : ℕ) (us ts : List Token) → IsNothing us ts → FactorsOf [] n us ts
@@ -410,22 +411,22 @@ terms_made s x xs n h us ts (and_then (and_then (a_sum_sign k) d) e) =
       low = λ k l. (omega arith, low_append (term_nesting d.derived k) (terms_nesting e.derived k) (d.low k l) (e.low k l));
     }
 
-factors_tail : (s : ProductSign) (x : Expr) (xs : List ProductPart) (n : ℕ) → Room 4 x n → Tail (flat_map product_part_text xs) (FactorsOf xs n) →
-    Tail (flat_map product_part_text (record { sign = s; operand = x } ∷ xs)) (FactorsOf (record { sign = s; operand = x } ∷ xs) n)
-factors_tail s x xs n r tail =
+factors_tail : {version : Version} (s : ProductSign) (x : Expr) (xs : List ProductPart) (n : ℕ) → Room version 4 x n → Tail version (flat_map product_part_text xs) (FactorsOf xs n) →
+    Tail version (flat_map product_part_text (record { sign = s; operand = x } ∷ xs)) (FactorsOf (record { sign = s; operand = x } ∷ xs) n)
+factors_tail {version = version} s x xs n r tail =
     let text : spaced (product_sign_text s) ++ operand 4 (printed x) ++ flat_map product_part_text xs ≡ flat_map product_part_text (record { sign = s; operand = x } ∷ xs) =
     ap (λ z. z ++ flat_map product_part_text xs) (sym (product_part_text-part s x)) in
-    subst (λ z. Tail z (FactorsOf (record { sign = s; operand = x } ∷ xs) n)) text (record {
+    subst (λ z. Tail version z (FactorsOf (record { sign = s; operand = x } ∷ xs) n)) text (record {
       form = weaken (then_ (then_ (product_sign_form s) (at_factor x n r) (λ q h. anything (operand 4 (printed x) ++ q))) tail.form tail.front) (factors_made s x xs n r.here.low);
       front = λ q h. refl;
     })
 
-terms_tail : (s : Bool) (x : Expr) (xs : List SumPart) (n : ℕ) → Room 3 x n → Tail (flat_map sum_part_text xs) (TermsOf xs n) →
-    Tail (flat_map sum_part_text (record { minus = s; operand = x } ∷ xs)) (TermsOf (record { minus = s; operand = x } ∷ xs) n)
-terms_tail s x xs n r tail =
+terms_tail : {version : Version} (s : Bool) (x : Expr) (xs : List SumPart) (n : ℕ) → Room version 3 x n → Tail version (flat_map sum_part_text xs) (TermsOf xs n) →
+    Tail version (flat_map sum_part_text (record { minus = s; operand = x } ∷ xs)) (TermsOf (record { minus = s; operand = x } ∷ xs) n)
+terms_tail {version = version} s x xs n r tail =
     let text : spaced (sum_sign_text s) ++ operand 3 (printed x) ++ flat_map sum_part_text xs ≡ flat_map sum_part_text (record { minus = s; operand = x } ∷ xs) =
     ap (λ z. z ++ flat_map sum_part_text xs) (sym (sum_part_text-part s x)) in
-    subst (λ z. Tail z (TermsOf (record { minus = s; operand = x } ∷ xs) n)) text (record {
+    subst (λ z. Tail version z (TermsOf (record { minus = s; operand = x } ∷ xs) n)) text (record {
       form = weaken (then_ (then_ (sum_sign_form s) (at_term x n r) (λ q h. anything (operand 3 (printed x) ++ q))) tail.form tail.front) (terms_made s x xs n r.here.low);
       front = λ q h. refl;
     })
@@ -448,14 +449,14 @@ sum_made x p ps n us ts (and_then d e) =
       low = λ k l. low_append (term_nesting d.derived k) (terms_nesting e.derived k) (d.low k l) (e.low k l);
     }
 
-product_shown : (x : Expr) (p : ProductPart) (ps : List ProductPart) (n : ℕ) → Room 4 x n → Tail (flat_map product_part_text (p ∷ ps)) (FactorsOf (p ∷ ps) n) → Room 3 (expr.Product x (p ∷ ps)) n
+product_shown : {version : Version} (x : Expr) (p : ProductPart) (ps : List ProductPart) (n : ℕ) → Room version 4 x n → Tail version (flat_map product_part_text (p ∷ ps)) (FactorsOf (p ∷ ps) n) → Room version 3 (expr.Product x (p ∷ ps)) n
 product_shown x p ps n r tail =
     let q : Printed = at_level 3 (operand 4 (printed x) ++ flat_map product_part_text (p ∷ ps)) in
     settled 3 q (expr.Product x (p ∷ ps)) n (printed-product x (p ∷ ps)) refl
     (from_term q (expr.Product x (p ∷ ps)) n r.here.low (front_first (operand 4 (printed x)) (flat_map product_part_text (p ∷ ps)) (operand_front 4 x n r.here)) refl
     (weaken (then_ (at_factor x n r) tail.form tail.front) (product_made x p ps n)))
 
-sum_shown : (x : Expr) (p : SumPart) (ps : List SumPart) (n : ℕ) → Room 3 x n → Tail (flat_map sum_part_text (p ∷ ps)) (TermsOf (p ∷ ps) n) → Room 2 (expr.Sum x (p ∷ ps)) n
+sum_shown : {version : Version} (x : Expr) (p : SumPart) (ps : List SumPart) (n : ℕ) → Room version 3 x n → Tail version (flat_map sum_part_text (p ∷ ps)) (TermsOf (p ∷ ps) n) → Room version 2 (expr.Sum x (p ∷ ps)) n
 sum_shown x p ps n r tail =
     let q : Printed = at_level 2 (operand 3 (printed x) ++ flat_map sum_part_text (p ∷ ps)) in
     settled 2 q (expr.Sum x (p ∷ ps)) n (printed-sum x (p ∷ ps)) refl
@@ -471,10 +472,10 @@ comparison_made x s y n h us ts (and_then (and_then d (a_comparison k)) e) =
       low = λ k l. low_append (sum_nesting d.derived k) (k ∷ sum_nesting e.derived k) (d.low k l) (omega arith, e.low k l);
     }
 
-comparison_shown : (x : Expr) (s : Comparison) (y : Expr) (n : ℕ) → Room 2 x n → Room 2 y n → Shown (printed (expr.Compare x s y)) (expr.Compare x s y) n
-comparison_shown x s y n d e =
+comparison_shown : {version : Version} (x : Expr) (s : Comparison) (y : Expr) (n : ℕ) → Room version 2 x n → Room version 2 y n → Shown version (printed (expr.Compare x s y)) (expr.Compare x s y) n
+comparison_shown {version = version} x s y n d e =
     let text : List ℕ = operand 2 (printed x) ++ spaced (comparison_text s) ++ operand 2 (printed y) in
-    let made : Shown (at_level 1 text) (expr.Compare x s y) n = record {
+    let made : Shown version (at_level 1 text) (expr.Compare x s y) n = record {
       low = d.here.low;
       front = front_first (operand 2 (printed x) ++ spaced (comparison_text s)) (operand 2 (printed y)) (front_first (operand 2 (printed x)) (spaced (comparison_text s)) (operand_front 2 x n d.here));
       expr = weaken (then_ (then_ (at_sum x n d) (comparison_form s) (λ r h. refl)) (at_sum y n e) (λ r h. anything (operand 2 (printed y) ++ r))) (comparison_made x s y n d.here.low);
@@ -482,66 +483,66 @@ comparison_shown x s y n d e =
       term = λ g. absurd cc;
       factor = λ g. absurd cc;
     } in
-    subst (λ p. Shown p (expr.Compare x s y) n) (sym (printed-comparison x s y)) made
+    subst (λ p. Shown version p (expr.Compare x s y) n) (sym (printed-comparison x s y)) made
 
 -- By the derivation from the tokens that were read.
 
 mutual
-  pub factor_shown : {ts rest : List Token} {x : Expr} (d : IsFactor ts x rest) (n : ℕ) → Low (factor_nesting d n) → Sound ts → Room 4 x n
+  pub factor_shown : {version : Version} {ts rest : List Token} {x : Expr} (d : IsFactor ts x rest) (n : ℕ) → Low (factor_nesting d n) → Sound version ts → Room version 4 x n
   factor_shown (a_neg {a = a} {x = x} d) n l s = neg_shown a x n (factor_shown d (suc n) l.1 s.1)
   factor_shown (a_number {a = a} {t = t}) n l s = number_shown a t n l.0 s.0.modest
   factor_shown (a_name {a = a} {t = t}) n l s = variable_shown a t n l.0 s.0
   factor_shown (an_item {a = a} {t = t} {x = x} d) n l s =
       item_shown a t x n s.0 (expr_shown d (suc n) (low_front (expr_nesting d (suc n)) (n ∷ []) l.1.1) s.1.1)
-  factor_shown (a_group {x = x} d) n l s =
-      let inner : Shown (printed x) x (suc n) = expr_shown d (suc n) (low_front (expr_nesting d (suc n)) (n ∷ []) l.1) s.1 in
+  factor_shown {version = version} (a_group {x = x} d) n l s =
+      let inner : Shown version (printed x) x (suc n) = expr_shown d (suc n) (low_front (expr_nesting d (suc n)) (n ∷ []) l.1) s.1 in
       record { here = lower (printed x) x n (suc n) (omega arith) inner; room = λ e. inner }
-  factor_shown (a_same {a = a} {x = x} {y = y} d e) n l s =
+  factor_shown {version = version} (a_same {a = a} {x = x} {y = y} d e) n l s =
       let behind = low_back (expr_nesting d (suc n)) (suc n ∷ (expr_nesting e (suc n) ++ n ∷ [])) l.1.1 in
       same_shown a x y n
       (expr_shown d (suc n) (low_front (expr_nesting d (suc n)) (suc n ∷ (expr_nesting e (suc n) ++ n ∷ [])) l.1.1) s.1.1)
-      (expr_shown e (suc n) (low_front (expr_nesting e (suc n)) (n ∷ []) behind.1) (sound_behind (expr_eats d) s.1.1).1)
-  factor_shown (an_older {a = a} {x = x} {y = y} d e) n l s =
+      (expr_shown e (suc n) (low_front (expr_nesting e (suc n)) (n ∷ []) behind.1) (sound_behind version (expr_eats d) s.1.1).1)
+  factor_shown {version = version} (an_older {a = a} {x = x} {y = y} d e) n l s =
       let behind = low_back (expr_nesting d (suc n)) (suc n ∷ (expr_nesting e (suc n) ++ n ∷ [])) l.1.1 in
       older_shown a x y n
       (expr_shown d (suc n) (low_front (expr_nesting d (suc n)) (suc n ∷ (expr_nesting e (suc n) ++ n ∷ [])) l.1.1) s.1.1)
-      (expr_shown e (suc n) (low_front (expr_nesting e (suc n)) (n ∷ []) behind.1) (sound_behind (expr_eats d) s.1.1).1)
+      (expr_shown e (suc n) (low_front (expr_nesting e (suc n)) (n ∷ []) behind.1) (sound_behind version (expr_eats d) s.1.1).1)
 
-  pub term_shown : {ts rest : List Token} {x : Expr} (d : IsTerm ts x rest) (n : ℕ) → Low (term_nesting d n) → Sound ts → Room 3 x n
+  pub term_shown : {version : Version} {ts rest : List Token} {x : Expr} (d : IsTerm ts x rest) (n : ℕ) → Low (term_nesting d n) → Sound version ts → Room version 3 x n
   term_shown (factors {x = x} d no_factors) n l s = looser 3 x n (factor_shown d n (low_front (factor_nesting d n) [] l) s)
-  term_shown (factors {x = x} d (one_factor {s = sign} {x = y} {xs = ys} k e f)) n l s =
+  term_shown {version = version} (factors {x = x} d (one_factor {s = sign} {x = y} {xs = ys} k e f)) n l s =
       let behind = low_back (factor_nesting d n) (n ∷ (factor_nesting e n ++ factors_nesting f n)) l in
-      let others = (sound_behind (factor_eats d) s).1 in
+      let others = (sound_behind version (factor_eats d) s).1 in
       product_shown x (record { sign = sign; operand = y }) ys n
       (factor_shown d n (low_front (factor_nesting d n) (n ∷ (factor_nesting e n ++ factors_nesting f n)) l) s)
       (factors_tail sign y ys n (factor_shown e n (low_front (factor_nesting e n) (factors_nesting f n) behind.1) others)
-      (factors_shown f n (low_back (factor_nesting e n) (factors_nesting f n) behind.1) (sound_behind (factor_eats e) others)))
+      (factors_shown f n (low_back (factor_nesting e n) (factors_nesting f n) behind.1) (sound_behind version (factor_eats e) others)))
 
-  pub factors_shown : {ts rest : List Token} {xs : List ProductPart} (d : IsFactors ts xs rest) (n : ℕ) → Low (factors_nesting d n) → Sound ts → Tail (flat_map product_part_text xs) (FactorsOf xs n)
+  pub factors_shown : {version : Version} {ts rest : List Token} {xs : List ProductPart} (d : IsFactors ts xs rest) (n : ℕ) → Low (factors_nesting d n) → Sound version ts → Tail version (flat_map product_part_text xs) (FactorsOf xs n)
   factors_shown no_factors n l s = record { form = weaken empty (no_factors_made n); front = λ r h. h }
-  factors_shown (one_factor {s = sign} {x = y} {xs = ys} k e f) n l s =
+  factors_shown {version = version} (one_factor {s = sign} {x = y} {xs = ys} k e f) n l s =
       factors_tail sign y ys n (factor_shown e n (low_front (factor_nesting e n) (factors_nesting f n) l.1) s.1)
-      (factors_shown f n (low_back (factor_nesting e n) (factors_nesting f n) l.1) (sound_behind (factor_eats e) s.1))
+      (factors_shown f n (low_back (factor_nesting e n) (factors_nesting f n) l.1) (sound_behind version (factor_eats e) s.1))
 
-  pub sum_is_shown : {ts rest : List Token} {x : Expr} (d : IsSum ts x rest) (n : ℕ) → Low (sum_nesting d n) → Sound ts → Room 2 x n
+  pub sum_is_shown : {version : Version} {ts rest : List Token} {x : Expr} (d : IsSum ts x rest) (n : ℕ) → Low (sum_nesting d n) → Sound version ts → Room version 2 x n
   sum_is_shown (terms {x = x} d no_terms) n l s = looser 2 x n (term_shown d n (low_front (term_nesting d n) [] l) s)
-  sum_is_shown (terms {x = x} d (one_term {s = sign} {x = y} {xs = ys} k e f)) n l s =
+  sum_is_shown {version = version} (terms {x = x} d (one_term {s = sign} {x = y} {xs = ys} k e f)) n l s =
       let behind = low_back (term_nesting d n) (n ∷ (term_nesting e n ++ terms_nesting f n)) l in
-      let others = (sound_behind (term_eats d) s).1 in
+      let others = (sound_behind version (term_eats d) s).1 in
       sum_shown x (record { minus = sign; operand = y }) ys n
       (term_shown d n (low_front (term_nesting d n) (n ∷ (term_nesting e n ++ terms_nesting f n)) l) s)
       (terms_tail sign y ys n (term_shown e n (low_front (term_nesting e n) (terms_nesting f n) behind.1) others)
-      (terms_shown f n (low_back (term_nesting e n) (terms_nesting f n) behind.1) (sound_behind (term_eats e) others)))
+      (terms_shown f n (low_back (term_nesting e n) (terms_nesting f n) behind.1) (sound_behind version (term_eats e) others)))
 
-  pub terms_shown : {ts rest : List Token} {xs : List SumPart} (d : IsTerms ts xs rest) (n : ℕ) → Low (terms_nesting d n) → Sound ts → Tail (flat_map sum_part_text xs) (TermsOf xs n)
+  pub terms_shown : {version : Version} {ts rest : List Token} {xs : List SumPart} (d : IsTerms ts xs rest) (n : ℕ) → Low (terms_nesting d n) → Sound version ts → Tail version (flat_map sum_part_text xs) (TermsOf xs n)
   terms_shown no_terms n l s = record { form = weaken empty (no_terms_made n); front = λ r h. h }
-  terms_shown (one_term {s = sign} {x = y} {xs = ys} k e f) n l s =
+  terms_shown {version = version} (one_term {s = sign} {x = y} {xs = ys} k e f) n l s =
       terms_tail sign y ys n (term_shown e n (low_front (term_nesting e n) (terms_nesting f n) l.1) s.1)
-      (terms_shown f n (low_back (term_nesting e n) (terms_nesting f n) l.1) (sound_behind (term_eats e) s.1))
+      (terms_shown f n (low_back (term_nesting e n) (terms_nesting f n) l.1) (sound_behind version (term_eats e) s.1))
 
-  pub expr_shown : {ts rest : List Token} {x : Expr} (d : IsExpr ts x rest) (n : ℕ) → Low (expr_nesting d n) → Sound ts → Shown (printed x) x n
+  pub expr_shown : {version : Version} {ts rest : List Token} {x : Expr} (d : IsExpr ts x rest) (n : ℕ) → Low (expr_nesting d n) → Sound version ts → Shown version (printed x) x n
   expr_shown (alone d) n l s = (sum_is_shown d n l s).here
-  expr_shown (compared {s = how} {x = x} {y = y} d k e) n l s =
+  expr_shown {version = version} (compared {s = how} {x = x} {y = y} d k e) n l s =
       comparison_shown x how y n
       (sum_is_shown d n (low_front (sum_nesting d n) (n ∷ sum_nesting e n) l) s)
-      (sum_is_shown e n (low_back (sum_nesting d n) (n ∷ sum_nesting e n) l).1 (sound_behind (sum_eats d) s).1)
+      (sum_is_shown e n (low_back (sum_nesting d n) (n ∷ sum_nesting e n) l).1 (sound_behind version (sum_eats d) s).1)

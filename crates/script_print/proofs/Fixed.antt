@@ -24,10 +24,10 @@ use Rattle.script_grammar.specs.declared.tree.Act.TheVariants as act
 use Rattle.script_grammar.specs.declared.tree.Param.{Param}
 use Rattle.script_grammar.specs.declared.tree.Function.{Function}
 use Rattle.script_grammar.specs.declared.tree.Script.{Script}
-use Rattle.script_print.specs.Canonical.{Printed, at_level, operand, spaced, comparison_text, sum_sign_text, product_sign_text, printed, product_part_text, sum_part_text, expr_text, behind_commas, listed, call_text, right_text, range_text, loop_call_text, into_text, block_text, else_text, act_text, stmt_text, stmts_text, param_text, answer_text, head_text, function_text, canonical}
+use Rattle.script_print.specs.Canonical.{Printed, at_level, operand, spaced, comparison_text, sum_sign_text, product_sign_text, printed, product_part_text, sum_part_text, expr_text, behind_commas, listed, call_text, right_text, range_text, loop_call_text, into_text, block_text, else_text, act_text, stmt_text, stmts_text, param_text, answer_text, head_text, function_text, version_text, canonical}
 use Rattle.script_print.specs.Unplaced.{unplaced_name, unplaced_number, unplaced_expr, unplaced_product_part, unplaced_sum_part, unplaced_call, unplaced_right, unplaced_target, unplaced_act, unplaced_stmt, unplaced_param, unplaced_function, unplaced}
-use Rattle.script_print.proofs.Computing.{printed-number, printed-variable, printed-item, printed-negation, printed-same, printed-older, printed-comparison, printed-sum, printed-product, sum_part_text-part, product_part_text-part, act_text-let, act_text-array, act_text-set, act_text-store, act_text-spawn, act_text-call, act_text-sync, act_text-print, act_text-if, act_text-while, act_text-pfor, stmt_text-line, block_text-stmts}
-use Rattle.script_print.proofs.Placing.{unplaced-number, unplaced-variable, unplaced-item, unplaced-negation, unplaced-same, unplaced-older, unplaced-comparison, unplaced-sum, unplaced-product, unplaced-sum_part, unplaced-product_part, unplaced-stmt, sync_is, let_is, set_is, array_is, store_is, spawn_is, call_is, print_is, if_is, while_is, pfor_is}
+use Rattle.script_print.proofs.Computing.{printed-number, printed-variable, printed-item, printed-negation, printed-same, printed-older, printed-comparison, printed-sum, printed-product, sum_part_text-part, product_part_text-part, act_text-let, act_text-array, act_text-set, act_text-store, act_text-spawn, act_text-call, act_text-sync, act_text-print, act_text-if, act_text-while, act_text-pfor, act_text-scope, stmt_text-line, block_text-stmts}
+use Rattle.script_print.proofs.Placing.{unplaced-number, unplaced-variable, unplaced-item, unplaced-negation, unplaced-same, unplaced-older, unplaced-comparison, unplaced-sum, unplaced-product, unplaced-sum_part, unplaced-product_part, unplaced-stmt, sync_is, let_is, set_is, array_is, store_is, spawn_is, call_is, print_is, if_is, while_is, pfor_is, scope_is}
 
 -- Expressions.
 
@@ -238,6 +238,11 @@ pfor_fixed i lo hi o c margin =
     ∙ ap (λ z. range_text i lo hi ++ into_text o ++ z) (loop_call_fixed i c))
     (act_text-pfor i lo hi o c margin)
 
+scope_fixed : (p : List FixedStmt) → ActFixed (act.Scope (map (λ s. s.0) p))
+scope_fixed p margin =
+    moved _ margin (scope_is (map (λ s. s.0) p)) (act_text-scope (map unplaced_stmt (map (λ (s : FixedStmt). s.0) p)) margin)
+    (ap (λ z. codes "scope " ++ z) (block_fixed p margin)) (act_text-scope (map (λ s. s.0) p) margin)
+
 act_step : (y : Act-F FixedAct FixedStmt) → ActFixed (roll-Act (map-Act FixedAct FixedStmt Act Stmt (λ a. a.0) (λ s. s.0) y))
 act_step (part.Let x r) = subst ActFixed (sym (act.rolls-Let x r)) (let_fixed x r)
 act_step (part.Array a n) = subst ActFixed (sym (act.rolls-Array a n)) (array_fixed a n)
@@ -250,6 +255,7 @@ act_step (part.Print e) = subst ActFixed (sym (act.rolls-Print e)) (print_fixed 
 act_step (part.If e p q) = subst ActFixed (sym (act.rolls-If e (map (λ s. s.0) p) (map (λ s. s.0) q))) (if_fixed e p q)
 act_step (part.While e p) = subst ActFixed (sym (act.rolls-While e (map (λ s. s.0) p))) (while_fixed e p)
 act_step (part.Pfor i lo hi o c) = subst ActFixed (sym (act.rolls-Pfor i lo hi o c)) (pfor_fixed i lo hi o c)
+act_step (part.Scope p) = subst ActFixed (sym (act.rolls-Scope (map (λ s. s.0) p))) (scope_fixed p)
 
 stmt_step : (place : ℕ) (a : Act) → ActFixed a → StmtFixed (record { at = place; act = a })
 stmt_step place a h margin =
@@ -280,4 +286,5 @@ functions_fixed (f ∷ fs) = ap (λ z. z ++ flat_map function_text (map unplaced
 
 -- scripts that are equal apart from offsets have one canonical text
 pub canonical_fixed : (s t : Script) → unplaced s ≡ unplaced t → canonical s ≡ canonical t
-canonical_fixed s t e = sym (functions_fixed s.functions) ∙ ap canonical e ∙ functions_fixed t.functions
+canonical_fixed s t e =
+    ap (λ z. version_text s.version ++ z) (sym (functions_fixed s.functions)) ∙ ap canonical e ∙ ap (λ z. version_text t.version ++ z) (functions_fixed t.functions)

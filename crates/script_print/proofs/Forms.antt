@@ -7,21 +7,22 @@ use Rattle.script_tokens.specs.Word.{word_of, is_name_byte}
 use Rattle.script_tokens.specs.Lexing.{is_blank}
 use Rattle.script_grammar.specs.Grammar.{Token, tok}
 use Rattle.script_print.proofs.Cutting.{IsModest, Spells, spells_token, spells_blank, starts, longest_by}
+use Rattle.script_tokens.specs.declared.version.Version.{Version}
 
 -- between the tokens from the first on and those after the last
 abbrev pub Relation : Type 1
 Relation = List Token → List Token → Type 0
 
 -- The bytes are cut into tokens whose last are those of what stands after, and the others are of the form.
-pub record Cut (D : List Token → List Token → Type 0) (at : ℕ) (bytes : List ℕ) (behind : ℕ → List Token) : Type 0 where
+pub record Cut (version : Version) (D : List Token → List Token → Type 0) (at : ℕ) (bytes : List ℕ) (behind : ℕ → List Token) : Type 0 where
   pub tokens : List Token
-  pub spells : Spells at bytes tokens
+  pub spells : Spells version at bytes tokens
   pub end : ℕ
   pub form : D tokens (behind end)
 
 -- Wherever the text stands, and whatever stands after it that begins with a byte that passes, it is of the form.
-pub record Forms (text : List ℕ) (passes : ℕ → Bool) (D : List Token → List Token → Type 0) : Type 0 where
-  pub cut : (rest : List ℕ) (behind : ℕ → List Token) → starts passes rest ≡ true → ((at : ℕ) → Spells at rest (behind at)) → (at : ℕ) → Cut D at (text ++ rest) behind
+pub record Forms (version : Version) (text : List ℕ) (passes : ℕ → Bool) (D : List Token → List Token → Type 0) : Type 0 where
+  pub cut : (rest : List ℕ) (behind : ℕ → List Token) → starts passes rest ≡ true → ((at : ℕ) → Spells version at rest (behind at)) → (at : ℕ) → Cut version D at (text ++ rest) behind
 
 -- one form and then another
 pub data Then (D E : List Token → List Token → Type 0) : List Token → List Token → Type 0 where
@@ -35,21 +36,21 @@ pub data IsToken (w : Word) (text : List ℕ) : List Token → List Token → Ty
 pub data IsNothing : List Token → List Token → Type 0 where
   nothing : {ts : List Token} → IsNothing ts ts
 
-pub then_ : {t u : List ℕ} {f g : ℕ → Bool} {D E : List Token → List Token → Type 0} → Forms t f D → Forms u g E →
-    ((rest : List ℕ) → starts g rest ≡ true → starts f (u ++ rest) ≡ true) → Forms (t ++ u) g (Then D E)
-then_ {t = t} {u = u} a b ok = record {
+pub then_ : {version : Version} {t u : List ℕ} {f g : ℕ → Bool} {D E : List Token → List Token → Type 0} → Forms version t f D → Forms version u g E →
+    ((rest : List ℕ) → starts g rest ≡ true → starts f (u ++ rest) ≡ true) → Forms version (t ++ u) g (Then D E)
+then_ {version = version} {t = t} {u = u} a b ok = record {
   cut = λ rest behind s spells at.
       let first = a.cut (u ++ rest) (λ n. (b.cut rest behind s spells n).tokens) (ok rest s) (λ n. (b.cut rest behind s spells n).spells) at in
       let second = b.cut rest behind s spells first.end in
       record {
         tokens = first.tokens;
-        spells = subst (λ z. Spells at z first.tokens) (sym (append_assoc t u rest)) first.spells;
+        spells = subst (λ z. Spells version at z first.tokens) (sym (append_assoc t u rest)) first.spells;
         end = second.end;
         form = and_then first.form second.form;
       };
 }
 
-pub weaken : {t : List ℕ} {f : ℕ → Bool} {D E : List Token → List Token → Type 0} → Forms t f D → ((us ts : List Token) → D us ts → E us ts) → Forms t f E
+pub weaken : {version : Version} {t : List ℕ} {f : ℕ → Bool} {D E : List Token → List Token → Type 0} → Forms version t f D → ((us ts : List Token) → D us ts → E us ts) → Forms version t f E
 weaken a h = record {
   cut = λ rest behind s spells at.
       let c = a.cut rest behind s spells at in
@@ -57,10 +58,10 @@ weaken a h = record {
 }
 
 -- fewer bytes may stand after
-pub before : {t : List ℕ} {f : ℕ → Bool} {D : List Token → List Token → Type 0} (g : ℕ → Bool) → Forms t f D → ((rest : List ℕ) → starts g rest ≡ true → starts f rest ≡ true) → Forms t g D
+pub before : {version : Version} {t : List ℕ} {f : ℕ → Bool} {D : List Token → List Token → Type 0} (g : ℕ → Bool) → Forms version t f D → ((rest : List ℕ) → starts g rest ≡ true → starts f rest ≡ true) → Forms version t g D
 before g a h = record { cut = λ rest behind s spells at. a.cut rest behind (h rest s) spells at }
 
-pub empty : {f : ℕ → Bool} → Forms [] f IsNothing
+pub empty : {version : Version} {f : ℕ → Bool} → Forms version [] f IsNothing
 empty = record { cut = λ rest behind s spells at. record { tokens = behind at; spells = spells at; end = at; form = nothing } }
 
 -- any byte may stand after
@@ -79,16 +80,16 @@ calm b = not (is_name_byte b)
 abbrev pub no_arrow : ℕ → Bool
 no_arrow b = not (nat_eq 62 b)
 
-pub calmly : {t : List ℕ} {D : List Token → List Token → Type 0} → Forms t any D → Forms t calm D
+pub calmly : {version : Version} {t : List ℕ} {D : List Token → List Token → Type 0} → Forms version t any D → Forms version t calm D
 calmly a = before calm a (λ rest s. anything rest)
 
-pub a_blank : (b : ℕ) → is_blank b ≡ true → Forms (b ∷ []) any IsNothing
+pub a_blank : {version : Version} (b : ℕ) → is_blank b ≡ true → Forms version (b ∷ []) any IsNothing
 a_blank b h = record {
   cut = λ rest behind s spells at. record { tokens = behind (suc at); spells = spells_blank at b rest (behind (suc at)) h (spells (suc at)); end = suc at; form = nothing };
 }
 
-pub token_before : (w : Word) (text : List ℕ) (f : ℕ → Bool) → word_of text ≡ Some w → ((b : ℕ) → f b ≡ true → word_of (text ++ b ∷ []) ≡ None) →
-    ((at : ℕ) → IsModest (tok at w text)) → Forms text f (IsToken w text)
+pub token_before : {version : Version} (w : Word) (text : List ℕ) (f : ℕ → Bool) → word_of version text ≡ Some w → ((b : ℕ) → f b ≡ true → word_of version (text ++ b ∷ []) ≡ None) →
+    ((at : ℕ) → IsModest (tok at w text)) → Forms version text f (IsToken w text)
 token_before w text f e none modest = record {
   cut = λ rest behind s spells at. record {
     tokens = tok at w text ∷ behind (at + length text);
@@ -108,9 +109,9 @@ pub fixed_is_modest : (at : ℕ) (w : Word) (text : List ℕ) → is_fixed w ≡
 fixed_is_modest at w text h = record { number = λ e. let f = ap is_fixed e in absurd cc; name = λ e. let f = ap is_fixed e in absurd cc }
 
 -- a keyword or symbol before any byte, or of one byte
-pub symbol : (w : Word) (text : List ℕ) → is_fixed w ≡ true → word_of text ≡ Some w → ((b : ℕ) → word_of (text ++ b ∷ []) ≡ None) → Forms text any (IsToken w text)
+pub symbol : {version : Version} (w : Word) (text : List ℕ) → is_fixed w ≡ true → word_of version text ≡ Some w → ((b : ℕ) → word_of version (text ++ b ∷ []) ≡ None) → Forms version text any (IsToken w text)
 symbol w text h e none = token_before w text any e (λ b s. none b) (λ at. fixed_is_modest at w text h)
 
-pub word_before : (c : ℕ) (w : Word) (text : List ℕ) → is_fixed w ≡ true → word_of text ≡ Some w → word_of (text ++ c ∷ []) ≡ None → Forms text (nat_eq c) (IsToken w text)
-word_before c w text h e none =
-    token_before w text (nat_eq c) e (λ b s. subst (λ z. word_of (text ++ z ∷ []) ≡ None) (eqb-true c b s) none) (λ at. fixed_is_modest at w text h)
+pub word_before : {version : Version} (c : ℕ) (w : Word) (text : List ℕ) → is_fixed w ≡ true → word_of version text ≡ Some w → word_of version (text ++ c ∷ []) ≡ None → Forms version text (nat_eq c) (IsToken w text)
+word_before {version = version} c w text h e none =
+    token_before w text (nat_eq c) e (λ b s. subst (λ z. word_of version (text ++ z ∷ []) ≡ None) (eqb-true c b s) none) (λ at. fixed_is_modest at w text h)

@@ -16,10 +16,11 @@ use Rattle.script_print.specs.Unplaced.{unplaced_name, unplaced_expr, unplaced_s
 use Rattle.script_print.proofs.Placing.{cons_same}
 use Rattle.script_print.proofs.Cutting.{starts}
 use Rattle.script_print.proofs.Forms.{Forms, Then, and_then, IsToken, a_token, IsNothing, nothing, then_, weaken, empty, any, anything, calm, calmly, symbol, a_blank}
-use Rattle.script_print.proofs.Pieces.{spaced_word, word_space, keyword, name_form, nothing_behind, nothing_in_front}
+use Rattle.script_print.proofs.Pieces.{in_each, spaced_word, word_space, keyword, name_form, nothing_behind, nothing_in_front}
 use Rattle.script_print.proofs.Eats.{Eats, also, one, expr_eats, stmts_eats, param_eats, more_params_eats, params_eats, answer_eats, function_eats}
 use Rattle.script_print.proofs.Expressions.{Low, low_append, low_front, low_back, IsSound, Sound, sound_behind, ExprOf, Tail, opened, closed, comma, expr_shown}
 use Rattle.script_print.proofs.Statements.{StmtsOf, semicolon, open_block, close_block, two_spaces, stmts_shown}
+use Rattle.script_tokens.specs.declared.version.Version.{Version}
 
 -- Parameters.
 
@@ -51,11 +52,11 @@ int_param_made a t n h us ts (a_token {a = b}) = record { tree = record { kind =
 id_param_made : (a : ℕ) (t : List ℕ) (n : ℕ) → n ≤ 64 → (us ts : List Token) → Then (IsToken word.Id (codes "id")) (IsToken word.Name t) us ts → ParamOf (record { kind = Id; name = name_at a t }) n us ts
 id_param_made a t n h us ts (and_then a_token (a_token {a = b})) = record { tree = record { kind = Id; name = name_at b t }; derived = id_param; same = refl; low = (h, (h, tt)) }
 
-param_shown : {ts rest : List Token} {p : Param} (d : IsParam ts p rest) (n : ℕ) → Low (param_nesting d n) → Sound ts → Forms (param_text p) calm (ParamOf p n)
+param_shown : {version : Version} {ts rest : List Token} {p : Param} (d : IsParam ts p rest) (n : ℕ) → Low (param_nesting d n) → Sound version ts → Forms version (param_text p) calm (ParamOf p n)
 param_shown (int_param {a = a} {t = t}) n l s = weaken (name_form t s.0.word_is (s.0.modest.name refl)) (int_param_made a t n l.0)
-param_shown (id_param {b = b} {u = u}) n l s =
+param_shown {version = version} (id_param {b = b} {u = u}) n l s =
     let name = s.1.0 in
-    weaken (then_ (word_space word.Id (codes "id") refl refl refl) (name_form u name.word_is (name.modest.name refl)) (λ r h. anything (u ++ r))) (id_param_made b u n l.0)
+    weaken (then_ (word_space word.Id (codes "id") refl (in_each version word.Id (codes "id") refl refl) refl) (name_form u name.word_is (name.modest.name refl)) (λ r h. anything (u ++ r))) (id_param_made b u n l.0)
 
 no_more_params_made : (n : ℕ) (us ts : List Token) → IsNothing us ts → MoreParamsOf [] n us ts
 no_more_params_made n us ts nothing = record { tree = []; derived = no_more_params; same = refl; low = tt }
@@ -69,11 +70,11 @@ more_params_made x xs n h us ts (and_then (and_then a_token d) e) =
       low = (h, low_append (param_nesting d.derived n) (more_params_nesting e.derived n) d.low e.low);
     }
 
-more_params_shown : {ts rest : List Token} {xs : List Param} (d : IsMoreParams ts xs rest) (n : ℕ) → Low (more_params_nesting d n) → Sound ts → Tail (behind_commas param_text xs) (MoreParamsOf xs n)
+more_params_shown : {version : Version} {ts rest : List Token} {xs : List Param} (d : IsMoreParams ts xs rest) (n : ℕ) → Low (more_params_nesting d n) → Sound version ts → Tail version (behind_commas param_text xs) (MoreParamsOf xs n)
 more_params_shown no_more_params n l s = record { form = weaken empty (no_more_params_made n); front = λ r h. h }
-more_params_shown (one_more_param {x = x} {xs = xs} d e) n l s =
+more_params_shown {version = version} (one_more_param {x = x} {xs = xs} d e) n l s =
     let first = param_shown d n (low_front (param_nesting d n) (more_params_nesting e n) l.1) s.1 in
-    let others = more_params_shown e n (low_back (param_nesting d n) (more_params_nesting e n) l.1) (sound_behind (param_eats d) s.1) in
+    let others = more_params_shown e n (low_back (param_nesting d n) (more_params_nesting e n) l.1) (sound_behind version (param_eats d) s.1) in
     record {
       form = weaken (then_ (then_ comma first (λ r h. anything (param_text x ++ r))) others.form others.front) (more_params_made x xs n l.0);
       front = λ r h. refl;
@@ -91,11 +92,11 @@ params_made x xs n us ts (and_then d e) =
       low = low_append (param_nesting d.derived n) (more_params_nesting e.derived n) d.low e.low;
     }
 
-params_shown : {ts rest : List Token} {xs : List Param} (d : IsParams ts xs rest) (n : ℕ) → Low (params_nesting d n) → Sound ts → Forms (listed param_text xs) calm (ParamsOf xs n)
+params_shown : {version : Version} {ts rest : List Token} {xs : List Param} (d : IsParams ts xs rest) (n : ℕ) → Low (params_nesting d n) → Sound version ts → Forms version (listed param_text xs) calm (ParamsOf xs n)
 params_shown no_params n l s = weaken empty (no_params_made n)
-params_shown (some_params {x = x} {xs = xs} d e) n l s =
+params_shown {version = version} (some_params {x = x} {xs = xs} d e) n l s =
     let first = param_shown d n (low_front (param_nesting d n) (more_params_nesting e n) l) s in
-    let others = more_params_shown e n (low_back (param_nesting d n) (more_params_nesting e n) l) (sound_behind (param_eats d) s) in
+    let others = more_params_shown e n (low_back (param_nesting d n) (more_params_nesting e n) l) (sound_behind version (param_eats d) s) in
     weaken (then_ first others.form others.front) (params_made x xs n)
 
 int_answer_made : (n : ℕ) (us ts : List Token) → IsNothing us ts → AnswerOf Int n us ts
@@ -104,10 +105,10 @@ int_answer_made n us ts nothing = record { derived = int_answer; low = tt }
 id_answer_made : (n : ℕ) → n ≤ 64 → (us ts : List Token) → Then (IsToken word.Arrow (codes "->")) (IsToken word.Id (codes "id")) us ts → AnswerOf Id n us ts
 id_answer_made n h us ts (and_then a_token a_token) = record { derived = id_answer; low = (h, (h, tt)) }
 
-answer_shown : {ts rest : List Token} {k : Kind} (d : IsAnswer ts k rest) (n : ℕ) → Low (answer_nesting d n) → Tail (answer_text k) (AnswerOf k n)
+answer_shown : {version : Version} {ts rest : List Token} {k : Kind} (d : IsAnswer ts k rest) (n : ℕ) → Low (answer_nesting d n) → Tail version (answer_text k) (AnswerOf k n)
 answer_shown int_answer n l = record { form = weaken empty (int_answer_made n); front = λ r h. h }
-answer_shown id_answer n l = record {
-  form = weaken (then_ (spaced_word word.Arrow (codes "->") refl refl refl) (keyword word.Id (codes "id") refl refl refl) (λ r h. refl)) (id_answer_made n l.0);
+answer_shown {version = version} id_answer n l = record {
+  form = weaken (then_ (spaced_word word.Arrow (codes "->") refl refl refl) (keyword word.Id (codes "id") refl (in_each version word.Id (codes "id") refl refl) refl) (λ r h. refl)) (id_answer_made n l.0);
   front = λ r h. refl;
 }
 
@@ -168,29 +169,29 @@ function_made a b t ps k body x n h j us ts
       );
     }
 
-head_form : (t : List ℕ) (ps : List Param) (k : Kind) (n : ℕ) → Forms t calm (IsToken word.Name t) → Forms (listed param_text ps) calm (ParamsOf ps (suc n)) → Tail (answer_text k) (AnswerOf k n) →
-    Forms (codes "fn " ++ t ++ codes "(" ++ listed param_text ps ++ codes ")" ++ answer_text k ++ codes " {\n") any (HeadOf t ps k n)
-head_form t ps k n name params answer =
-    then_ (then_ (then_ (then_ (then_ (then_ (word_space word.Fn (codes "fn") refl refl refl) name (λ r h. anything (t ++ r))) opened (λ r h. refl)) params (λ r h. anything (listed param_text ps ++ r)))
+head_form : {version : Version} (t : List ℕ) (ps : List Param) (k : Kind) (n : ℕ) → Forms version t calm (IsToken word.Name t) → Forms version (listed param_text ps) calm (ParamsOf ps (suc n)) → Tail version (answer_text k) (AnswerOf k n) →
+    Forms version (codes "fn " ++ t ++ codes "(" ++ listed param_text ps ++ codes ")" ++ answer_text k ++ codes " {\n") any (HeadOf t ps k n)
+head_form {version = version} t ps k n name params answer =
+    then_ (then_ (then_ (then_ (then_ (then_ (word_space word.Fn (codes "fn") refl (in_each version word.Fn (codes "fn") refl refl) refl) name (λ r h. anything (t ++ r))) opened (λ r h. refl)) params (λ r h. anything (listed param_text ps ++ r)))
     closed (λ r h. refl)) answer.form (λ r h. anything (answer_text k ++ r)))
     (weaken (then_ (a_blank 32 refl) open_block (λ r h. refl)) nothing_in_front) (λ r h. refl)
 
-return_word : Forms (codes "  return ") any (IsToken word.Return (codes "return"))
-return_word = weaken (then_ two_spaces (word_space word.Return (codes "return") refl refl refl) (λ r h. refl)) nothing_in_front
+return_word : {version : Version} → Forms version (codes "  return ") any (IsToken word.Return (codes "return"))
+return_word {version = version} = weaken (then_ two_spaces (word_space word.Return (codes "return") refl (in_each version word.Return (codes "return") refl refl) refl) (λ r h. refl)) nothing_in_front
 
-end_form : Forms (codes ";\n}\n") any EndOf
+end_form : {version : Version} → Forms version (codes ";\n}\n") any EndOf
 end_form =
     then_ (weaken (then_ semicolon (a_blank 10 refl) (λ r h. refl)) nothing_behind) (weaken (then_ close_block (a_blank 10 refl) (λ r h. refl)) nothing_behind) (λ r h. refl)
 
-pub function_shown : {ts rest : List Token} {f : Function} (d : IsFunction ts f rest) (n : ℕ) → Low (function_nesting d n) → Sound ts → Forms (function_text f) any (FunctionOf f n)
-function_shown (a_function {b = b} {f = at} {n = t} {ps = ps} {k = k} {body = body} {r = x} p q d e) n l s =
+pub function_shown : {version : Version} {ts rest : List Token} {f : Function} (d : IsFunction ts f rest) (n : ℕ) → Low (function_nesting d n) → Sound version ts → Forms version (function_text f) any (FunctionOf f n)
+function_shown {version = version} (a_function {b = b} {f = at} {n = t} {ps = ps} {k = k} {body = body} {r = x} p q d e) n l s =
     let behind_params = low_back (params_nesting p (suc n)) _ l.1.1.1 in
     let behind_answer = low_back (answer_nesting q n) _ behind_params.1 in
     let behind_body = low_back (stmts_nesting d (suc n)) _ behind_answer.1 in
     let at_params = s.1.1.1 in
-    let at_answer = (sound_behind (params_eats p) at_params).1 in
-    let at_body = (sound_behind (answer_eats q) at_answer).1 in
-    let at_result = (sound_behind (stmts_eats d) at_body).1 in
+    let at_answer = (sound_behind version (params_eats p) at_params).1 in
+    let at_body = (sound_behind version (answer_eats q) at_answer).1 in
+    let at_result = (sound_behind version (stmts_eats d) at_body).1 in
     let name = name_form t s.1.0.word_is (s.1.0.modest.name refl) in
     let params = params_shown p (suc n) (low_front (params_nesting p (suc n)) _ l.1.1.1) at_params in
     let answer = answer_shown q n (low_front (answer_nesting q n) _ behind_params.1) in
@@ -212,12 +213,12 @@ functions_made x xs n us ts (and_then d e) =
       low = low_append (function_nesting d.derived n) (functions_nesting e.derived n) d.low e.low;
     }
 
-function_sound : {ts rest : List Token} {f : Function} → IsFunction ts f rest → Sound ts → Sound rest
-function_sound (a_function p q d e) s = (sound_behind (expr_eats e) (sound_behind (stmts_eats d) (sound_behind (answer_eats q) (sound_behind (params_eats p) s.1.1.1).1).1).1).1.1
+function_sound : (version : Version) {ts rest : List Token} {f : Function} → IsFunction ts f rest → Sound version ts → Sound version rest
+function_sound version (a_function p q d e) s = (sound_behind version (expr_eats e) (sound_behind version (stmts_eats d) (sound_behind version (answer_eats q) (sound_behind version (params_eats p) s.1.1.1).1).1).1).1.1
 
-pub functions_shown : {ts rest : List Token} {fs : List Function} (d : IsFunctions ts fs rest) (n : ℕ) → Low (functions_nesting d n) → Sound ts → Forms (flat_map function_text fs) any (FunctionsOf fs n)
+pub functions_shown : {version : Version} {ts rest : List Token} {fs : List Function} (d : IsFunctions ts fs rest) (n : ℕ) → Low (functions_nesting d n) → Sound version ts → Forms version (flat_map function_text fs) any (FunctionsOf fs n)
 functions_shown no_functions n l s = weaken empty (no_functions_made n)
-functions_shown (one_function {f = f} {fs = fs} d e) n l s =
+functions_shown {version = version} (one_function {f = f} {fs = fs} d e) n l s =
     let first = function_shown d n (low_front (function_nesting d n) (functions_nesting e n) l) s in
-    let others = functions_shown e n (low_back (function_nesting d n) (functions_nesting e n) l) (function_sound d s) in
+    let others = functions_shown e n (low_back (function_nesting d n) (functions_nesting e n) l) (function_sound version d s) in
     weaken (then_ first others (λ r h. anything (flat_map function_text fs ++ r))) (functions_made f fs n)

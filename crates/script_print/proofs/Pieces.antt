@@ -16,6 +16,8 @@ use Rattle.script_tokens.proofs.Longest.{word_of-letter, word_of-digit}
 use Rattle.script_grammar.specs.Grammar.{Token, tok, decimal}
 use Rattle.script_print.proofs.Cutting.{IsModest, starts}
 use Rattle.script_print.proofs.Forms.{Forms, Then, and_then, IsToken, IsNothing, nothing, then_, weaken, calm, no_arrow, any, anything, a_blank, token_before, is_fixed, fixed_is_modest, symbol, word_before}
+use Rattle.script_tokens.specs.declared.version.Version.{Version}
+use Rattle.script_tokens.specs.declared.version.Version.TheVariants.{One, Two}
 
 pub nothing_behind : {D : List Token → List Token → Type 0} (us ts : List Token) → Then D IsNothing us ts → D us ts
 nothing_behind us ts (and_then d nothing) = d
@@ -23,25 +25,30 @@ nothing_behind us ts (and_then d nothing) = d
 pub nothing_in_front : {D : List Token → List Token → Type 0} (us ts : List Token) → Then IsNothing D us ts → D us ts
 nothing_in_front us ts (and_then nothing d) = d
 
+-- A fixed word of both versions is one of each. (The keywords of a version are known once the version is.)
+pub in_each : (version : Version) (w : Word) (text : List ℕ) → word_of One text ≡ Some w → word_of Two text ≡ Some w → word_of version text ≡ Some w
+in_each One w text e f = e
+in_each Two w text e f = f
+
 -- a word and a space
-pub word_space : (w : Word) (text : List ℕ) → is_fixed w ≡ true → word_of text ≡ Some w → word_of (text ++ 32 ∷ []) ≡ None → Forms (text ++ 32 ∷ []) any (IsToken w text)
+pub word_space : {version : Version} (w : Word) (text : List ℕ) → is_fixed w ≡ true → word_of version text ≡ Some w → word_of version (text ++ 32 ∷ []) ≡ None → Forms version (text ++ 32 ∷ []) any (IsToken w text)
 word_space w text h e none = weaken (then_ (word_before 32 w text h e none) (a_blank 32 refl) (λ r s. refl)) nothing_behind
 
 -- a space, a word, and a space
-pub spaced_word : (w : Word) (text : List ℕ) → is_fixed w ≡ true → word_of text ≡ Some w → word_of (text ++ 32 ∷ []) ≡ None → Forms ((32 ∷ []) ++ text ++ (32 ∷ [])) any (IsToken w text)
+pub spaced_word : {version : Version} (w : Word) (text : List ℕ) → is_fixed w ≡ true → word_of version text ≡ Some w → word_of version (text ++ 32 ∷ []) ≡ None → Forms version ((32 ∷ []) ++ text ++ (32 ∷ [])) any (IsToken w text)
 spaced_word w text h e none = weaken (then_ (weaken (then_ (a_blank 32 refl) (word_before 32 w text h e none) (λ r s. anything (text ++ r))) nothing_in_front) (a_blank 32 refl) (λ r s. refl)) nothing_behind
 
 -- Minuses.
 
-minus_goes_on : (b : ℕ) → no_arrow b ≡ true → word_of (codes "-" ++ b ∷ []) ≡ None
-minus_goes_on b h = go (nat_eq 62 b) refl h
+minus_goes_on : (version : Version) (b : ℕ) → no_arrow b ≡ true → word_of version (codes "-" ++ b ∷ []) ≡ None
+minus_goes_on version b h = go (nat_eq 62 b) refl h
   where
-    go : (c : Bool) → nat_eq 62 b ≡ c → not (nat_eq 62 b) ≡ true → word_of (codes "-" ++ b ∷ []) ≡ None
+    go : (c : Bool) → nat_eq 62 b ≡ c → not (nat_eq 62 b) ≡ true → word_of version (codes "-" ++ b ∷ []) ≡ None
     go true e h = let f = ap not e in absurd cc
     go false e h = ap (λ z. if z && true then Some word.Arrow else None) e
 
-pub minus : Forms (codes "-") no_arrow (IsToken word.Minus (codes "-"))
-minus = token_before word.Minus (codes "-") no_arrow refl minus_goes_on (λ at. record { number = λ e. absurd cc; name = λ e. absurd cc })
+pub minus : {version : Version} → Forms version (codes "-") no_arrow (IsToken word.Minus (codes "-"))
+minus {version = version} = token_before word.Minus (codes "-") no_arrow refl (minus_goes_on version) (λ at. record { number = λ e. absurd cc; name = λ e. absurd cc })
 
 -- Names.
 
@@ -55,10 +62,10 @@ spelled_fixed (s ∷ ss) text w h e = go (bytes_eq s.0 text) (is_fixed s.1) refl
     go false true f h e behind = behind h e
     go same false f h e behind = absurd cc
 
-pub name_is : (text : List ℕ) → word_of text ≡ Some word.Name → is_name text ≡ true
-name_is text e = go (is_name text) (is_number text) e
+pub name_is : (version : Version) (text : List ℕ) → word_of version text ≡ Some word.Name → is_name text ≡ true
+name_is version text e = go (is_name text) (is_number text) e
   where
-    go : (x y : Bool) → (if x then Some (unwrap_or (word_spelled keywords text) word.Name) else if y then Some word.Number else word_spelled symbols text) ≡ Some word.Name → x ≡ true
+    go : (x y : Bool) → (if x then Some (unwrap_or (word_spelled (keywords version) text) word.Name) else if y then Some word.Number else word_spelled symbols text) ≡ Some word.Name → x ≡ true
     go true y e = refl
     go false true e = absurd cc
     go false false e = let fixed : is_fixed word.Name ≡ true = spelled_fixed symbols text word.Name refl e in absurd cc
@@ -79,17 +86,17 @@ not_true : (x : Bool) → not x ≡ true → x ≡ false
 not_true true e = absurd cc
 not_true false e = refl
 
-name_goes_on : (text : List ℕ) → is_name text ≡ true → (b : ℕ) → calm b ≡ true → word_of (text ++ b ∷ []) ≡ None
-name_goes_on [] h b s = absurd cc
-name_goes_on (c ∷ cs) h b s =
-    word_of-letter c (cs ++ b ∷ []) false (both (is_letter c) (list_all is_name_byte cs) h).0 (all_but_last is_name_byte cs b (not_true (is_name_byte b) s))
+name_goes_on : (version : Version) (text : List ℕ) → is_name text ≡ true → (b : ℕ) → calm b ≡ true → word_of version (text ++ b ∷ []) ≡ None
+name_goes_on version [] h b s = absurd cc
+name_goes_on version (c ∷ cs) h b s =
+    word_of-letter version c (cs ++ b ∷ []) false (both (is_letter c) (list_all is_name_byte cs) h).0 (all_but_last is_name_byte cs b (not_true (is_name_byte b) s))
 
-pub name_form : (text : List ℕ) → word_of text ≡ Some word.Name → length text ≤ 32 → Forms text calm (IsToken word.Name text)
-name_form text e short = token_before word.Name text calm e (name_goes_on text (name_is text e)) (λ at. record { number = λ e. absurd cc; name = λ e. short })
+pub name_form : {version : Version} (text : List ℕ) → word_of version text ≡ Some word.Name → length text ≤ 32 → Forms version text calm (IsToken word.Name text)
+name_form {version = version} text e short = token_before word.Name text calm e (name_goes_on version text (name_is version text e)) (λ at. record { number = λ e. absurd cc; name = λ e. short })
 
 -- a keyword before what begins no name
-pub keyword : (w : Word) (text : List ℕ) → is_fixed w ≡ true → word_of text ≡ Some w → is_name text ≡ true → Forms text calm (IsToken w text)
-keyword w text h e named = token_before w text calm e (name_goes_on text named) (λ at. fixed_is_modest at w text h)
+pub keyword : {version : Version} (w : Word) (text : List ℕ) → is_fixed w ≡ true → word_of version text ≡ Some w → is_name text ≡ true → Forms version text calm (IsToken w text)
+keyword {version = version} w text h e named = token_before w text calm e (name_goes_on version text named) (λ at. fixed_is_modest at w text h)
 
 -- Numbers.
 
@@ -110,27 +117,27 @@ no_digit b h = go (is_letter b) (is_ascii_digit b) h
     go true y e = absurd cc
     go false y e = e
 
-number_is : (ds : List ℕ) → 0 < length ds → list_all is_ascii_digit ds ≡ true → word_of ds ≡ Some word.Number
-number_is [] some h = absurd (omega arith)
-number_is (c ∷ cs) some h =
+number_is : (version : Version) (ds : List ℕ) → 0 < length ds → list_all is_ascii_digit ds ≡ true → word_of version ds ≡ Some word.Number
+number_is version [] some h = absurd (omega arith)
+number_is version (c ∷ cs) some h =
     let k = both (is_ascii_digit c) (list_all is_ascii_digit cs) h in
-    word_of-digit c cs true (no_letter c k.0) k.0 k.1
+    word_of-digit version c cs true (no_letter c k.0) k.0 k.1
 
-number_goes_on : (ds : List ℕ) → 0 < length ds → list_all is_ascii_digit ds ≡ true → (b : ℕ) → calm b ≡ true → word_of (ds ++ b ∷ []) ≡ None
-number_goes_on [] some h b s = absurd (omega arith)
-number_goes_on (c ∷ cs) some h b s =
+number_goes_on : (version : Version) (ds : List ℕ) → 0 < length ds → list_all is_ascii_digit ds ≡ true → (b : ℕ) → calm b ≡ true → word_of version (ds ++ b ∷ []) ≡ None
+number_goes_on version [] some h b s = absurd (omega arith)
+number_goes_on version (c ∷ cs) some h b s =
     let k = both (is_ascii_digit c) (list_all is_ascii_digit cs) h in
-    word_of-digit c (cs ++ b ∷ []) false (no_letter c k.0) k.0 (all_but_last is_ascii_digit cs b (no_digit b (not_true (is_name_byte b) s)))
+    word_of-digit version c (cs ++ b ∷ []) false (no_letter c k.0) k.0 (all_but_last is_ascii_digit cs b (no_digit b (not_true (is_name_byte b) s)))
 
 -- what is written is read
 pub number_read : (n : ℕ) → n ≤ 9223372036854775807 → decimal 0 (fmt.decimal n) ≡ n
 number_read n h = let k = decimal_is_IsNumeral n (omega arith) in grammar_folds.same (fmt.decimal n) k.0.1 ∙ k.1
 
-pub number_form : (n : ℕ) → n ≤ 9223372036854775807 → Forms (fmt.decimal n) calm (IsToken word.Number (fmt.decimal n))
-number_form n h =
+pub number_form : {version : Version} (n : ℕ) → n ≤ 9223372036854775807 → Forms version (fmt.decimal n) calm (IsToken word.Number (fmt.decimal n))
+number_form {version = version} n h =
     let k = decimal_is_IsNumeral n (omega arith) in
     let digits : list_all is_ascii_digit (fmt.decimal n) ≡ true = all_digits (fmt.decimal n) k.0.1 in
-    token_before word.Number (fmt.decimal n) calm (number_is (fmt.decimal n) k.0.0 digits) (number_goes_on (fmt.decimal n) k.0.0 digits)
+    token_before word.Number (fmt.decimal n) calm (number_is version (fmt.decimal n) k.0.0 digits) (number_goes_on version (fmt.decimal n) k.0.0 digits)
     (λ at. record { number = λ e. omega (arith, number_read n h); name = λ e. absurd cc })
 
 -- a number begins with a digit
@@ -142,8 +149,8 @@ number_starts n rest h = let k = decimal_is_IsNumeral n (omega arith) in go (fmt
     go (c ∷ cs) some d = let k = digit_from_value c d.0 in grind (arith, nat_tests)
 
 -- and a name with a letter
-pub name_starts : (text rest : List ℕ) → word_of text ≡ Some word.Name → starts no_arrow (text ++ rest) ≡ true
-name_starts text rest e = go text (name_is text e)
+pub name_starts : (version : Version) (text rest : List ℕ) → word_of version text ≡ Some word.Name → starts no_arrow (text ++ rest) ≡ true
+name_starts version text rest e = go text (name_is version text e)
   where
     go : (bs : List ℕ) → is_name bs ≡ true → starts no_arrow (bs ++ rest) ≡ true
     go [] h = absurd cc

@@ -167,6 +167,12 @@ same_if x y p q r s e f g =
 pub while_is : (x : Expr) (p : List Stmt) → unplaced_act (act.While x p) ≡ act.While (unplaced_expr x) (map unplaced_stmt p)
 while_is x p = ap unplaced_act (sym (act.rolls-While x p)) ∙ act-roll (part.While x p)
 
+pub scope_is : (p : List Stmt) → unplaced_act (act.Scope p) ≡ act.Scope (map unplaced_stmt p)
+scope_is p = ap unplaced_act (sym (act.rolls-Scope p)) ∙ act-roll (part.Scope p)
+
+pub same_scope : (p q : List Stmt) → map unplaced_stmt p ≡ map unplaced_stmt q → unplaced_act (act.Scope p) ≡ unplaced_act (act.Scope q)
+same_scope p q f = scope_is p ∙ ap act.Scope f ∙ sym (scope_is q)
+
 pub same_while : (x y : Expr) (p q : List Stmt) → unplaced_expr x ≡ unplaced_expr y → map unplaced_stmt p ≡ map unplaced_stmt q → unplaced_act (act.While x p) ≡ unplaced_act (act.While y q)
 same_while x y p q e f = while_is x p ∙ ap (λ z. act.While z (map unplaced_stmt p)) e ∙ ap (act.While (unplaced_expr y)) f ∙ sym (while_is y q)
 

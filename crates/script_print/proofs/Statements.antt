@@ -1,10 +1,10 @@
 -- The canonical text of a statement is of the same tree.
-use Rattle.std.proofs.Common.{◌≡◌, ℕ, zero, suc, ◌+◌, ◌<◌, ◌≤◌, List, [], ◌∷◌, ◌++◌, length, codes, map, flat_map, Option, Some, None, Bool, true, false, refl, sym, ap, ◌∙◌, subst, arith}
+use Rattle.std.proofs.Common.{◌≡◌, ℕ, zero, suc, ◌+◌, ◌<◌, ◌≤◌, List, [], ◌∷◌, ◌++◌, length, codes, map, flat_map, Option, Some, None, Bool, true, false, not, refl, sym, ap, ◌∙◌, subst, arith}
 use Rattle.std.specs.Prelude.{ℤ, pos}
 use Rattle.std.specs.Fmt as fmt
 use Rattle.script_tokens.specs.declared.token.Word.{Word}
 use Rattle.script_tokens.specs.declared.token.Word.TheVariants as word
-use Rattle.script_tokens.specs.Word.{word_of}
+use Rattle.script_tokens.specs.Word.{word_of, is_scope}
 use Rattle.script_grammar.specs.declared.tree.Name.{Name}
 use Rattle.script_grammar.specs.declared.tree.Number.{Number}
 use Rattle.script_grammar.specs.declared.tree.Expr.{Expr}
@@ -14,17 +14,20 @@ use Rattle.script_grammar.specs.declared.tree.Right.TheVariants as right
 use Rattle.script_grammar.specs.declared.tree.Stmt.{Stmt}
 use Rattle.script_grammar.specs.declared.tree.Act.{Act}
 use Rattle.script_grammar.specs.declared.tree.Act.TheVariants as act
-use Rattle.script_grammar.specs.Grammar.{Token, tok, name_at, number_at, decimal, stmt_at, IsExpr, IsMoreArgs, no_more_args, one_more_arg, IsArgs, no_args, some_args, IsCall, a_call, IsRight, right_value, right_draw, right_new, right_call, right_spawn, IsInto, no_into, an_into, IsStmt, a_let, an_array, a_set, a_store, a_spawn, a_call_stmt, a_sync, a_print, an_if, a_while, a_pfor, IsStmts, no_stmts, one_stmt, IsBlock, a_block, IsElse, no_else, an_else}
+use Rattle.script_grammar.specs.Grammar.{Token, tok, name_at, number_at, decimal, stmt_at, IsExpr, IsMoreArgs, no_more_args, one_more_arg, IsArgs, no_args, some_args, IsCall, a_call, IsRight, right_value, right_draw, right_new, right_call, right_spawn, IsInto, no_into, an_into, IsStmt, a_let, an_array, a_set, a_store, a_spawn, a_call_stmt, a_sync, a_print, an_if, a_while, a_pfor, a_scope, IsStmts, no_stmts, one_stmt, IsBlock, a_block, IsElse, no_else, an_else}
 use Rattle.script_grammar.specs.Nesting.{expr_nesting, more_args_nesting, args_nesting, call_nesting, right_nesting, into_nesting, stmt_nesting, stmts_nesting, block_nesting, else_nesting}
 use Rattle.script_print.specs.Canonical.{Printed, printed, expr_text, behind_commas, listed, call_text, right_text, range_text, loop_call_text, into_text, block_text, else_text, act_text, stmt_text, stmts_text}
 use Rattle.script_print.specs.Unplaced.{unplaced_name, unplaced_number, unplaced_expr, unplaced_call, unplaced_right, unplaced_target, unplaced_act, unplaced_stmt}
-use Rattle.script_print.proofs.Computing.{act_text-let, act_text-array, act_text-set, act_text-store, act_text-spawn, act_text-call, act_text-sync, act_text-print, act_text-if, act_text-while, act_text-pfor, stmt_text-line, block_text-stmts}
-use Rattle.script_print.proofs.Placing.{cons_same, same_stmt, same_let, same_set, same_array, same_store, same_spawn, same_call, same_print, same_if, same_while, same_pfor}
+use Rattle.script_print.proofs.Computing.{act_text-let, act_text-array, act_text-set, act_text-store, act_text-spawn, act_text-call, act_text-sync, act_text-print, act_text-if, act_text-while, act_text-pfor, act_text-scope, stmt_text-line, block_text-stmts}
+use Rattle.script_print.proofs.Placing.{cons_same, same_stmt, same_let, same_set, same_array, same_store, same_spawn, same_call, same_print, same_if, same_while, same_pfor, same_scope}
 use Rattle.script_print.proofs.Cutting.{IsModest, starts}
 use Rattle.script_print.proofs.Forms.{Forms, Then, and_then, IsToken, a_token, IsNothing, nothing, then_, weaken, before, empty, any, anything, calm, calmly, symbol, word_before, a_blank}
-use Rattle.script_print.proofs.Pieces.{spaced_word, word_space, keyword, name_form, number_read, number_form, nothing_behind, nothing_in_front}
+use Rattle.script_print.proofs.Pieces.{in_each, spaced_word, word_space, keyword, name_form, number_read, number_form, nothing_behind, nothing_in_front}
 use Rattle.script_print.proofs.Eats.{expr_eats, more_args_eats, args_eats, call_eats, right_eats, into_eats, stmt_eats, stmts_eats, block_eats}
 use Rattle.script_print.proofs.Expressions.{Low, low_append, low_front, low_back, IsSound, Sound, sound_behind, ExprOf, Shown, Tail, opened, closed, comma, open_item, close_item, expr_shown}
+use Rattle.script_tokens.specs.declared.version.Version.{Version}
+use Rattle.script_tokens.specs.declared.version.Version.TheVariants.{One, Two}
+use Rattle.script_tokens.proofs.Versions.{token_other}
 
 -- Arguments and calls.
 
@@ -58,11 +61,11 @@ more_args_made x xs n h us ts (and_then (and_then a_token d) e) =
       low = (h, low_append (expr_nesting d.derived n) (more_args_nesting e.derived n) (d.low n (omega arith)) e.low);
     }
 
-pub more_args_shown : {ts rest : List Token} {xs : List Expr} (d : IsMoreArgs ts xs rest) (n : ℕ) → Low (more_args_nesting d n) → Sound ts → Tail (behind_commas expr_text xs) (MoreArgsOf xs n)
+pub more_args_shown : {version : Version} {ts rest : List Token} {xs : List Expr} (d : IsMoreArgs ts xs rest) (n : ℕ) → Low (more_args_nesting d n) → Sound version ts → Tail version (behind_commas expr_text xs) (MoreArgsOf xs n)
 more_args_shown no_more_args n l s = record { form = weaken empty (no_more_args_made n); front = λ r h. h }
-more_args_shown (one_more_arg {x = x} {xs = xs} d e) n l s =
+more_args_shown {version = version} (one_more_arg {x = x} {xs = xs} d e) n l s =
     let first = expr_shown d n (low_front (expr_nesting d n) (more_args_nesting e n) l.1) s.1 in
-    let others = more_args_shown e n (low_back (expr_nesting d n) (more_args_nesting e n) l.1) (sound_behind (expr_eats d) s.1) in
+    let others = more_args_shown e n (low_back (expr_nesting d n) (more_args_nesting e n) l.1) (sound_behind version (expr_eats d) s.1) in
     record {
       form = weaken (then_ (then_ comma first.expr (λ r h. anything (expr_text x ++ r))) others.form others.front) (more_args_made x xs n l.0);
       front = λ r h. refl;
@@ -80,11 +83,11 @@ args_made x xs n us ts (and_then d e) =
       low = low_append (expr_nesting d.derived n) (more_args_nesting e.derived n) (d.low n (omega arith)) e.low;
     }
 
-args_shown : {ts rest : List Token} {xs : List Expr} (d : IsArgs ts xs rest) (n : ℕ) → Low (args_nesting d n) → Sound ts → Forms (listed expr_text xs) calm (ArgsOf xs n)
+args_shown : {version : Version} {ts rest : List Token} {xs : List Expr} (d : IsArgs ts xs rest) (n : ℕ) → Low (args_nesting d n) → Sound version ts → Forms version (listed expr_text xs) calm (ArgsOf xs n)
 args_shown no_args n l s = weaken empty (no_args_made n)
-args_shown (some_args {x = x} {xs = xs} d e) n l s =
+args_shown {version = version} (some_args {x = x} {xs = xs} d e) n l s =
     let first = expr_shown d n (low_front (expr_nesting d n) (more_args_nesting e n) l) s in
-    let others = more_args_shown e n (low_back (expr_nesting d n) (more_args_nesting e n) l) (sound_behind (expr_eats d) s) in
+    let others = more_args_shown e n (low_back (expr_nesting d n) (more_args_nesting e n) l) (sound_behind version (expr_eats d) s) in
     weaken (then_ first.expr others.form others.front) (args_made x xs n)
 
 call_made : (a : ℕ) (t : List ℕ) (xs : List Expr) (n : ℕ) → n ≤ 64 → suc n ≤ 64 → (us ts : List Token) →
@@ -98,7 +101,7 @@ call_made a t xs n h k us ts (and_then (and_then (and_then (a_token {a = b}) a_t
       low = (h, (k, low_append (args_nesting d.derived (suc n)) (n ∷ []) d.low (h, tt)));
     }
 
-pub call_shown : {ts rest : List Token} {c : CallText} (d : IsCall ts c rest) (n : ℕ) → Low (call_nesting d n) → Sound ts → Forms (call_text c) any (CallOf c n)
+pub call_shown : {version : Version} {ts rest : List Token} {c : CallText} (d : IsCall ts c rest) (n : ℕ) → Low (call_nesting d n) → Sound version ts → Forms version (call_text c) any (CallOf c n)
 call_shown (a_call {a = a} {t = t} {xs = xs} d) n l s =
     let args = args_shown d (suc n) (low_front (args_nesting d (suc n)) (n ∷ []) l.1.1) s.1.1 in
     weaken (then_ (then_ (then_ (name_form t s.0.word_is (s.0.modest.name refl)) opened (λ r h. refl)) args (λ r h. anything (listed expr_text xs ++ r))) closed (λ r h. refl))
@@ -127,16 +130,16 @@ right_call_made a c n h us ts (and_then (a_token {a = b}) d) = record { tree = r
 right_spawn_made : (a : ℕ) (c : CallText) (n : ℕ) → n ≤ 64 → (us ts : List Token) → Then (IsToken word.Spawn (codes "spawn")) (CallOf c n) us ts → RightOf (right.Spawn a c) n us ts
 right_spawn_made a c n h us ts (and_then (a_token {a = b}) d) = record { tree = right.Spawn b d.tree; derived = right_spawn d.derived; same = ap (right.Spawn 0) d.same; low = (h, d.low) }
 
-call_word : Forms (codes "call ") any (IsToken word.Call (codes "call"))
-call_word = word_space word.Call (codes "call") refl refl refl
+call_word : {version : Version} → Forms version (codes "call ") any (IsToken word.Call (codes "call"))
+call_word {version = version} = word_space word.Call (codes "call") refl (in_each version word.Call (codes "call") refl refl) refl
 
-spawn_word : Forms (codes "spawn ") any (IsToken word.Spawn (codes "spawn"))
-spawn_word = word_space word.Spawn (codes "spawn") refl refl refl
+spawn_word : {version : Version} → Forms version (codes "spawn ") any (IsToken word.Spawn (codes "spawn"))
+spawn_word {version = version} = word_space word.Spawn (codes "spawn") refl (in_each version word.Spawn (codes "spawn") refl refl) refl
 
-right_shown : {ts rest : List Token} {r : Right} (d : IsRight ts r rest) (n : ℕ) → Low (right_nesting d n) → Sound ts → Forms (right_text r) calm (RightOf r n)
+right_shown : {version : Version} {ts rest : List Token} {r : Right} (d : IsRight ts r rest) (n : ℕ) → Low (right_nesting d n) → Sound version ts → Forms version (right_text r) calm (RightOf r n)
 right_shown (right_value {x = x} d) n l s = weaken (expr_shown d n l s).expr (value_made x n)
-right_shown (right_draw {a = a}) n l s = weaken (keyword word.Draw (codes "draw") refl refl refl) (draw_made a n l.0)
-right_shown (right_new {a = a}) n l s = weaken (keyword word.New (codes "new") refl refl refl) (new_made a n l.0)
+right_shown {version = version} (right_draw {a = a}) n l s = weaken (keyword word.Draw (codes "draw") refl (in_each version word.Draw (codes "draw") refl refl) refl) (draw_made a n l.0)
+right_shown {version = version} (right_new {a = a}) n l s = weaken (keyword word.New (codes "new") refl (in_each version word.New (codes "new") refl refl) refl) (new_made a n l.0)
 right_shown (right_call {a = a} {c = c} d) n l s = calmly (weaken (then_ call_word (call_shown d n l.1 s.1) (λ r h. anything (call_text c ++ r))) (right_call_made a c n l.0))
 right_shown (right_spawn {a = a} {c = c} d) n l s = calmly (weaken (then_ spawn_word (call_shown d n l.1 s.1) (λ r h. anything (call_text c ++ r))) (right_spawn_made a c n l.0))
 
@@ -154,12 +157,12 @@ no_into_made n us ts nothing = record { tree = None; derived = no_into; same = r
 into_made : (a : ℕ) (t : List ℕ) (n : ℕ) → n ≤ 64 → (us ts : List Token) → Then (IsToken word.Into (codes "into")) (IsToken word.Name t) us ts → IntoOf (Some (name_at a t)) n us ts
 into_made a t n h us ts (and_then a_token (a_token {a = b})) = record { tree = Some (name_at b t); derived = an_into; same = refl; low = (h, (h, tt)) }
 
-into_shown : {ts rest : List Token} {o : Option Name} (d : IsInto ts o rest) (n : ℕ) → Low (into_nesting d n) → Sound ts → Tail (into_text o) (IntoOf o n)
+into_shown : {version : Version} {ts rest : List Token} {o : Option Name} (d : IsInto ts o rest) (n : ℕ) → Low (into_nesting d n) → Sound version ts → Tail version (into_text o) (IntoOf o n)
 into_shown no_into n l s = record { form = weaken empty (no_into_made n); front = λ r h. h }
-into_shown (an_into {b = b} {u = u}) n l s =
+into_shown {version = version} (an_into {b = b} {u = u}) n l s =
     let name = s.1.0 in
     record {
-      form = weaken (then_ (spaced_word word.Into (codes "into") refl refl refl) (name_form u name.word_is (name.modest.name refl)) (λ r h. anything (u ++ r))) (into_made b u n l.0);
+      form = weaken (then_ (spaced_word word.Into (codes "into") refl (in_each version word.Into (codes "into") refl refl) refl) (name_form u name.word_is (name.modest.name refl)) (λ r h. anything (u ++ r))) (into_made b u n l.0);
       front = λ r h. refl;
     }
 
@@ -189,14 +192,14 @@ pub record ElseOf (xs : List Stmt) (n : ℕ) (us ts : List Token) : Type 0 where
   pub same : map unplaced_stmt tree ≡ map unplaced_stmt xs
   pub low : Low (else_nesting derived n)
 
-pub semicolon : Forms (codes ";") any (IsToken word.Semicolon (codes ";"))
+pub semicolon : {version : Version} → Forms version (codes ";") any (IsToken word.Semicolon (codes ";"))
 semicolon = symbol word.Semicolon (codes ";") refl refl (λ b. refl)
 
-assign : Forms (codes " = ") any (IsToken word.Assign (codes "="))
+assign : {version : Version} → Forms version (codes " = ") any (IsToken word.Assign (codes "="))
 assign = spaced_word word.Assign (codes "=") refl refl refl
 
-let_word : Forms (codes "let ") any (IsToken word.Let (codes "let"))
-let_word = word_space word.Let (codes "let") refl refl refl
+let_word : {version : Version} → Forms version (codes "let ") any (IsToken word.Let (codes "let"))
+let_word {version = version} = word_space word.Let (codes "let") refl (in_each version word.Let (codes "let") refl refl) refl
 
 let_made : (a b : ℕ) (t : List ℕ) (r : Right) (n : ℕ) → n ≤ 64 → (us ts : List Token) →
     Then (Then (Then (Then (IsToken word.Let (codes "let")) (IsToken word.Name t)) (IsToken word.Assign (codes "="))) (RightOf r n)) (IsToken word.Semicolon (codes ";")) us ts →
@@ -299,6 +302,20 @@ while_made a x p n h us ts (and_then (and_then (and_then (a_token {a = b}) d) no
       low = (h, low_append (expr_nesting d.derived n) (block_nesting e.derived n) (d.low n (omega arith)) e.low);
     }
 
+-- where a text is cut into the word `scope`, the version has it
+scope_is : (version : Version) (text : List ℕ) → word_of version text ≡ Some word.Scope → word_of version (codes "scope") ≡ Some word.Scope
+scope_is One text e = let other : not (is_scope word.Scope) ≡ true = token_other text word.Scope e in absurd cc
+scope_is Two text e = refl
+
+scope_made : (a : ℕ) (p : List Stmt) (n : ℕ) → n ≤ 64 → (us ts : List Token) → Then (IsToken word.Scope (codes "scope")) (BlockOf p n) us ts → StmtOf (stmt_at a (act.Scope p)) n us ts
+scope_made a p n h us ts (and_then (a_token {a = b}) d) =
+    record {
+      tree = stmt_at b (act.Scope d.tree);
+      derived = a_scope d.derived;
+      same = same_stmt b a _ _ (same_scope d.tree p d.same);
+      low = (h, d.low);
+    }
+
 -- `pfor i in E..E`, and ` call f(i, ..);`
 abbrev RangeOf : (t : List ℕ) (x y : Expr) (n : ℕ) → List Token → List Token → Type 0
 RangeOf t x y n = Then (Then (Then (Then (Then (IsToken word.Pfor (codes "pfor")) (IsToken word.Name t)) (IsToken word.In (codes "in"))) (ExprOf x n)) (IsToken word.Range (codes ".."))) (ExprOf y n)
@@ -333,30 +350,30 @@ pfor_made a b c t f x y o xs n h k us ts
       );
     }
 
-pub open_block : Forms (codes "{\n") any (IsToken word.OpenBlock (codes "{"))
+pub open_block : {version : Version} → Forms version (codes "{\n") any (IsToken word.OpenBlock (codes "{"))
 open_block = weaken (then_ (symbol word.OpenBlock (codes "{") refl refl (λ b. refl)) (a_blank 10 refl) (λ r h. refl)) nothing_behind
 
-pub close_block : Forms (codes "}") any (IsToken word.CloseBlock (codes "}"))
+pub close_block : {version : Version} → Forms version (codes "}") any (IsToken word.CloseBlock (codes "}"))
 close_block = symbol word.CloseBlock (codes "}") refl refl (λ b. refl)
 
 pub blanks_behind : (us ts : List Token) → Then IsNothing IsNothing us ts → IsNothing us ts
 blanks_behind us ts (and_then nothing nothing) = nothing
 
-pub two_spaces : Forms (codes "  ") any IsNothing
+pub two_spaces : {version : Version} → Forms version (codes "  ") any IsNothing
 two_spaces = weaken (then_ (a_blank 32 refl) (a_blank 32 refl) (λ r h. refl)) blanks_behind
 
 line_made : (x : Stmt) (n : ℕ) (us ts : List Token) → Then (Then IsNothing (StmtOf x n)) IsNothing us ts → StmtOf x n us ts
 line_made x n us ts (and_then (and_then nothing d) nothing) = d
 
 -- a line of a statement
-line : (place : ℕ) (x : Act) (n : ℕ) (margin : List ℕ) → Forms margin any IsNothing → Forms (act_text x margin) any (StmtOf (stmt_at place x) n) → Forms (stmt_text (stmt_at place x) margin) any (StmtOf (stmt_at place x) n)
-line place x n margin m d =
-    subst (λ z. Forms z any (StmtOf (stmt_at place x) n)) (sym (stmt_text-line place x margin))
+line : {version : Version} (place : ℕ) (x : Act) (n : ℕ) (margin : List ℕ) → Forms version margin any IsNothing → Forms version (act_text x margin) any (StmtOf (stmt_at place x) n) → Forms version (stmt_text (stmt_at place x) margin) any (StmtOf (stmt_at place x) n)
+line {version = version} place x n margin m d =
+    subst (λ z. Forms version z any (StmtOf (stmt_at place x) n)) (sym (stmt_text-line place x margin))
     (weaken (then_ (then_ m d (λ r h. anything (act_text x margin ++ r))) (a_blank 10 refl) (λ r h. refl)) (line_made (stmt_at place x) n))
 
 -- a form of the text that a statement's is
-lined : (place : ℕ) (x : Act) (n : ℕ) (margin text : List ℕ) → Forms margin any IsNothing → act_text x margin ≡ text → Forms text any (StmtOf (stmt_at place x) n) → Forms (stmt_text (stmt_at place x) margin) any (StmtOf (stmt_at place x) n)
-lined place x n margin text m e d = line place x n margin m (subst (λ z. Forms z any (StmtOf (stmt_at place x) n)) (sym e) d)
+lined : {version : Version} (place : ℕ) (x : Act) (n : ℕ) (margin text : List ℕ) → Forms version margin any IsNothing → act_text x margin ≡ text → Forms version text any (StmtOf (stmt_at place x) n) → Forms version (stmt_text (stmt_at place x) margin) any (StmtOf (stmt_at place x) n)
+lined {version = version} place x n margin text m e d = line place x n margin m (subst (λ z. Forms version z any (StmtOf (stmt_at place x) n)) (sym e) d)
 
 no_stmts_made : (n : ℕ) (us ts : List Token) → IsNothing us ts → StmtsOf [] n us ts
 no_stmts_made n us ts nothing = record { tree = []; derived = no_stmts; same = refl; low = tt }
@@ -386,24 +403,24 @@ else_made : (xs : List Stmt) (n : ℕ) → n ≤ 64 → (us ts : List Token) →
 else_made xs n h us ts (and_then a_token d) = record { tree = d.tree; derived = an_else d.derived; same = d.same; low = (h, d.low) }
 
 -- an empty second block isn't written
-else_of_block : (xs : List Stmt) (n : ℕ) (margin : List ℕ) → n ≤ 64 → Forms (block_text (map stmt_text xs) margin) any (BlockOf xs n) → Forms (else_text (map stmt_text xs) margin) any (ElseOf xs n)
+else_of_block : {version : Version} (xs : List Stmt) (n : ℕ) (margin : List ℕ) → n ≤ 64 → Forms version (block_text (map stmt_text xs) margin) any (BlockOf xs n) → Forms version (else_text (map stmt_text xs) margin) any (ElseOf xs n)
 else_of_block [] n margin h d = weaken empty (no_else_made n)
-else_of_block (x ∷ xs) n margin h d =
-    weaken (then_ (spaced_word word.Else (codes "else") refl refl refl) d (λ r h. anything (block_text (map stmt_text (x ∷ xs)) margin ++ r))) (else_made (x ∷ xs) n h)
+else_of_block {version = version} (x ∷ xs) n margin h d =
+    weaken (then_ (spaced_word word.Else (codes "else") refl (in_each version word.Else (codes "else") refl refl) refl) d (λ r h. anything (block_text (map stmt_text (x ∷ xs)) margin ++ r))) (else_made (x ∷ xs) n h)
 
-range_form : (t : List ℕ) (x y : Expr) (n : ℕ) → Forms t calm (IsToken word.Name t) → Shown (printed x) x n → Shown (printed y) y n → Forms (codes "pfor " ++ t ++ codes " in " ++ expr_text x ++ codes ".." ++ expr_text y) calm (RangeOf t x y n)
-range_form t x y n name d e =
-    then_ (then_ (then_ (then_ (then_ (word_space word.Pfor (codes "pfor") refl refl refl) name (λ r h. anything (t ++ r))) (spaced_word word.In (codes "in") refl refl refl) (λ r h. refl))
+range_form : {version : Version} (t : List ℕ) (x y : Expr) (n : ℕ) → Forms version t calm (IsToken word.Name t) → Shown version (printed x) x n → Shown version (printed y) y n → Forms version (codes "pfor " ++ t ++ codes " in " ++ expr_text x ++ codes ".." ++ expr_text y) calm (RangeOf t x y n)
+range_form {version = version} t x y n name d e =
+    then_ (then_ (then_ (then_ (then_ (word_space word.Pfor (codes "pfor") refl (in_each version word.Pfor (codes "pfor") refl refl) refl) name (λ r h. anything (t ++ r))) (spaced_word word.In (codes "in") refl (in_each version word.In (codes "in") refl refl) refl) (λ r h. refl))
     d.expr (λ r h. anything (expr_text x ++ r))) (symbol word.Range (codes "..") refl refl (λ b. refl)) (λ r h. refl)) e.expr (λ r h. anything (expr_text y ++ r))
 
-loop_call_form : (t f : List ℕ) (xs : List Expr) (n : ℕ) → Forms t calm (IsToken word.Name t) → Forms f calm (IsToken word.Name f) → Tail (behind_commas expr_text xs) (MoreArgsOf xs (suc n)) →
-    Forms (codes " call " ++ f ++ codes "(" ++ t ++ behind_commas expr_text xs ++ codes ");") any (LoopCallOf t f xs n)
-loop_call_form t f xs n name called args =
-    then_ (then_ (then_ (then_ (then_ (spaced_word word.Call (codes "call") refl refl refl) called (λ r h. anything (f ++ r))) opened (λ r h. refl)) name (λ r h. anything (t ++ r)))
+loop_call_form : {version : Version} (t f : List ℕ) (xs : List Expr) (n : ℕ) → Forms version t calm (IsToken word.Name t) → Forms version f calm (IsToken word.Name f) → Tail version (behind_commas expr_text xs) (MoreArgsOf xs (suc n)) →
+    Forms version (codes " call " ++ f ++ codes "(" ++ t ++ behind_commas expr_text xs ++ codes ");") any (LoopCallOf t f xs n)
+loop_call_form {version = version} t f xs n name called args =
+    then_ (then_ (then_ (then_ (then_ (spaced_word word.Call (codes "call") refl (in_each version word.Call (codes "call") refl refl) refl) called (λ r h. anything (f ++ r))) opened (λ r h. refl)) name (λ r h. anything (t ++ r)))
     args.form args.front) (then_ closed semicolon (λ r h. refl)) (λ r h. refl)
 
 mutual
-  pub stmt_shown : {ts rest : List Token} {x : Stmt} (d : IsStmt ts x rest) (n : ℕ) → Low (stmt_nesting d n) → Sound ts → (margin : List ℕ) → Forms margin any IsNothing → Forms (stmt_text x margin) any (StmtOf x n)
+  pub stmt_shown : {version : Version} {ts rest : List Token} {x : Stmt} (d : IsStmt ts x rest) (n : ℕ) → Low (stmt_nesting d n) → Sound version ts → (margin : List ℕ) → Forms version margin any IsNothing → Forms version (stmt_text x margin) any (StmtOf x n)
   stmt_shown (a_let {a = a} {b = b} {u = u} {r = r} d) n l s margin m =
       let name = s.1.0 in
       let value = right_shown d n (low_front (right_nesting d n) (n ∷ []) l.1.1.1) s.1.1.1 in
@@ -422,10 +439,10 @@ mutual
       lined a (act.Set (name_at a t) r) n margin _ m (act_text-set (name_at a t) r margin)
       (weaken (then_ (then_ (then_ (name_form t s.0.word_is (s.0.modest.name refl)) assign (λ q h. refl)) value (λ q h. anything (right_text r ++ q))) semicolon (λ q h. refl))
       (set_made a t r n l.0))
-  stmt_shown (a_store {a = a} {t = t} {x = x} {y = y} d e) n l s margin m =
+  stmt_shown {version = version} (a_store {a = a} {t = t} {x = x} {y = y} d e) n l s margin m =
       let behind = low_back (expr_nesting d (suc n)) (n ∷ n ∷ (expr_nesting e n ++ n ∷ [])) l.1.1 in
       let index = expr_shown d (suc n) (low_front (expr_nesting d (suc n)) (n ∷ n ∷ (expr_nesting e n ++ n ∷ [])) l.1.1) s.1.1 in
-      let value = expr_shown e n (low_front (expr_nesting e n) (n ∷ []) behind.1.1) (sound_behind (expr_eats d) s.1.1).1.1 in
+      let value = expr_shown e n (low_front (expr_nesting e n) (n ∷ []) behind.1.1) (sound_behind version (expr_eats d) s.1.1).1.1 in
       lined a (act.Store (name_at a t) x y) n margin _ m (act_text-store (name_at a t) x y margin)
       (weaken (then_ (then_ (then_ (then_ (then_ (name_form t s.0.word_is (s.0.modest.name refl)) open_item (λ q h. refl)) index.expr (λ q h. anything (expr_text x ++ q)))
       (then_ close_item assign (λ q h. refl)) (λ q h. refl)) value.expr (λ q h. anything (expr_text y ++ q))) semicolon (λ q h. refl))
@@ -438,38 +455,42 @@ mutual
       let call = call_shown d n (low_front (call_nesting d n) (n ∷ []) l.1) s.1 in
       lined a (act.Call c) n margin _ m (act_text-call c margin)
       (weaken (then_ (then_ call_word call (λ q h. anything (call_text c ++ q))) semicolon (λ q h. refl)) (call_stmt_made a c n l.0))
-  stmt_shown (a_sync {a = a}) n l s margin m =
+  stmt_shown {version = version} (a_sync {a = a}) n l s margin m =
       lined a act.Sync n margin _ m (act_text-sync margin)
-      (weaken (then_ (keyword word.Sync (codes "sync") refl refl refl) semicolon (λ q h. refl)) (sync_made a n l.0))
-  stmt_shown (a_print {a = a} {x = x} d) n l s margin m =
+      (weaken (then_ (keyword word.Sync (codes "sync") refl (in_each version word.Sync (codes "sync") refl refl) refl) semicolon (λ q h. refl)) (sync_made a n l.0))
+  stmt_shown {version = version} (a_print {a = a} {x = x} d) n l s margin m =
       let value = expr_shown d n (low_front (expr_nesting d n) (n ∷ []) l.1) s.1 in
       lined a (act.Print x) n margin _ m (act_text-print x margin)
-      (weaken (then_ (then_ (word_space word.Print (codes "print") refl refl refl) value.expr (λ q h. anything (expr_text x ++ q))) semicolon (λ q h. refl)) (print_made a x n l.0))
-  stmt_shown (an_if {a = a} {x = x} {p = p} {q = q} d e f) n l s margin m =
+      (weaken (then_ (then_ (word_space word.Print (codes "print") refl (in_each version word.Print (codes "print") refl refl) refl) value.expr (λ q h. anything (expr_text x ++ q))) semicolon (λ q h. refl)) (print_made a x n l.0))
+  stmt_shown {version = version} (an_if {a = a} {x = x} {p = p} {q = q} d e f) n l s margin m =
       let behind = low_back (expr_nesting d n) (block_nesting e n ++ else_nesting f n) l.1 in
       let guard = expr_shown d n (low_front (expr_nesting d n) (block_nesting e n ++ else_nesting f n) l.1) s.1 in
-      let in_block = sound_behind (expr_eats d) s.1 in
+      let in_block = sound_behind version (expr_eats d) s.1 in
       let block = block_shown e n (low_front (block_nesting e n) (else_nesting f n) behind) in_block margin m in
-      let otherwise = else_shown f n (low_back (block_nesting e n) (else_nesting f n) behind) (sound_behind (block_eats e) in_block) margin m in
+      let otherwise = else_shown f n (low_back (block_nesting e n) (else_nesting f n) behind) (sound_behind version (block_eats e) in_block) margin m in
       lined a (act.If x p q) n margin _ m (act_text-if x p q margin)
-      (weaken (then_ (then_ (then_ (then_ (word_space word.If (codes "if") refl refl refl) guard.expr (λ r h. anything (expr_text x ++ r))) (a_blank 32 refl) (λ r h. refl))
+      (weaken (then_ (then_ (then_ (then_ (word_space word.If (codes "if") refl (in_each version word.If (codes "if") refl refl) refl) guard.expr (λ r h. anything (expr_text x ++ r))) (a_blank 32 refl) (λ r h. refl))
       block (λ r h. anything (block_text (map stmt_text p) margin ++ r))) otherwise (λ r h. anything (else_text (map stmt_text q) margin ++ r)))
       (if_made a x p q n l.0))
-  stmt_shown (a_while {a = a} {x = x} {p = p} d e) n l s margin m =
+  stmt_shown {version = version} (a_while {a = a} {x = x} {p = p} d e) n l s margin m =
       let guard = expr_shown d n (low_front (expr_nesting d n) (block_nesting e n) l.1) s.1 in
-      let block = block_shown e n (low_back (expr_nesting d n) (block_nesting e n) l.1) (sound_behind (expr_eats d) s.1) margin m in
+      let block = block_shown e n (low_back (expr_nesting d n) (block_nesting e n) l.1) (sound_behind version (expr_eats d) s.1) margin m in
       lined a (act.While x p) n margin _ m (act_text-while x p margin)
-      (weaken (then_ (then_ (then_ (word_space word.While (codes "while") refl refl refl) guard.expr (λ r h. anything (expr_text x ++ r))) (a_blank 32 refl) (λ r h. refl))
+      (weaken (then_ (then_ (then_ (word_space word.While (codes "while") refl (in_each version word.While (codes "while") refl refl) refl) guard.expr (λ r h. anything (expr_text x ++ r))) (a_blank 32 refl) (λ r h. refl))
       block (λ r h. anything (block_text (map stmt_text p) margin ++ r)))
       (while_made a x p n l.0))
-  stmt_shown (a_pfor {a = a} {b = b} {f = f} {n = t} {f' = f'} {lo = lo} {hi = hi} {into = o} {xs = xs} d e i g) n l s margin m =
+  stmt_shown {version = version} (a_scope {a = a} {t = t} {p = p} d) n l s margin m =
+      let block = block_shown d n l.1 s.1 margin m in
+      lined a (act.Scope p) n margin _ m (act_text-scope p margin)
+      (weaken (then_ (word_space word.Scope (codes "scope") refl (scope_is version t s.0.word_is) refl) block (λ r h. anything (block_text (map stmt_text p) margin ++ r))) (scope_made a p n l.0))
+  stmt_shown {version = version} (a_pfor {a = a} {b = b} {f = f} {n = t} {f' = f'} {lo = lo} {hi = hi} {into = o} {xs = xs} d e i g) n l s margin m =
       let behind_lo = low_back (expr_nesting d n) _ l.1.1.1 in
       let behind_hi = low_back (expr_nesting e n) _ behind_lo.1 in
       let behind_into = low_back (into_nesting i n) _ behind_hi in
       let at_lo = s.1.1.1 in
-      let at_hi = (sound_behind (expr_eats d) at_lo).1 in
-      let at_into = sound_behind (expr_eats e) at_hi in
-      let at_call = sound_behind (into_eats i) at_into in
+      let at_hi = (sound_behind version (expr_eats d) at_lo).1 in
+      let at_into = sound_behind version (expr_eats e) at_hi in
+      let at_call = sound_behind version (into_eats i) at_into in
       let name = name_form t s.1.0.word_is (s.1.0.modest.name refl) in
       let called = name_form f' at_call.1.0.word_is (at_call.1.0.modest.name refl) in
       let first = expr_shown d n (low_front (expr_nesting d n) _ l.1.1.1) at_lo in
@@ -480,21 +501,21 @@ mutual
       (weaken (then_ (then_ (range_form t lo hi n name first end) target.form target.front) (loop_call_form t f' xs n name called args) (λ r h. refl))
       (pfor_made a b f t f' lo hi o xs n l.0 behind_into.1.1.0))
 
-  pub stmts_shown : {ts rest : List Token} {xs : List Stmt} (d : IsStmts ts xs rest) (n : ℕ) → Low (stmts_nesting d n) → Sound ts → (margin : List ℕ) → Forms margin any IsNothing → Forms (stmts_text xs margin) any (StmtsOf xs n)
+  pub stmts_shown : {version : Version} {ts rest : List Token} {xs : List Stmt} (d : IsStmts ts xs rest) (n : ℕ) → Low (stmts_nesting d n) → Sound version ts → (margin : List ℕ) → Forms version margin any IsNothing → Forms version (stmts_text xs margin) any (StmtsOf xs n)
   stmts_shown no_stmts n l s margin m = weaken empty (no_stmts_made n)
-  stmts_shown (one_stmt {x = x} {xs = xs} d e) n l s margin m =
+  stmts_shown {version = version} (one_stmt {x = x} {xs = xs} d e) n l s margin m =
       let first = stmt_shown d n (low_front (stmt_nesting d n) (stmts_nesting e n) l) s margin m in
-      let others = stmts_shown e n (low_back (stmt_nesting d n) (stmts_nesting e n) l) (sound_behind (stmt_eats d) s) margin m in
+      let others = stmts_shown e n (low_back (stmt_nesting d n) (stmts_nesting e n) l) (sound_behind version (stmt_eats d) s) margin m in
       weaken (then_ first others (λ r h. anything (stmts_text xs margin ++ r))) (stmts_made x xs n)
 
-  pub block_shown : {ts rest : List Token} {xs : List Stmt} (d : IsBlock ts xs rest) (n : ℕ) → Low (block_nesting d n) → Sound ts → (margin : List ℕ) → Forms margin any IsNothing → Forms (block_text (map stmt_text xs) margin) any (BlockOf xs n)
-  block_shown (a_block {xs = xs} d) n l s margin m =
-      let deeper : Forms (margin ++ codes "  ") any IsNothing = weaken (then_ m two_spaces (λ r h. anything (codes "  " ++ r))) blanks_behind in
+  pub block_shown : {version : Version} {ts rest : List Token} {xs : List Stmt} (d : IsBlock ts xs rest) (n : ℕ) → Low (block_nesting d n) → Sound version ts → (margin : List ℕ) → Forms version margin any IsNothing → Forms version (block_text (map stmt_text xs) margin) any (BlockOf xs n)
+  block_shown {version = version} (a_block {xs = xs} d) n l s margin m =
+      let deeper : Forms version (margin ++ codes "  ") any IsNothing = weaken (then_ m two_spaces (λ r h. anything (codes "  " ++ r))) blanks_behind in
       let stmts = stmts_shown d (suc n) (low_front (stmts_nesting d (suc n)) (n ∷ []) l.1) s.1 (margin ++ codes "  ") deeper in
       let end = low_back (stmts_nesting d (suc n)) (n ∷ []) l.1 in
-      subst (λ z. Forms z any (BlockOf xs n)) (sym (block_text-stmts xs margin))
+      subst (λ z. Forms version z any (BlockOf xs n)) (sym (block_text-stmts xs margin))
       (weaken (then_ (then_ (then_ open_block stmts (λ r h. anything (stmts_text xs (margin ++ codes "  ") ++ r))) m (λ r h. anything (margin ++ r))) close_block (λ r h. refl)) (block_made xs n end.0 l.0))
 
-  pub else_shown : {ts rest : List Token} {xs : List Stmt} (d : IsElse ts xs rest) (n : ℕ) → Low (else_nesting d n) → Sound ts → (margin : List ℕ) → Forms margin any IsNothing → Forms (else_text (map stmt_text xs) margin) any (ElseOf xs n)
+  pub else_shown : {version : Version} {ts rest : List Token} {xs : List Stmt} (d : IsElse ts xs rest) (n : ℕ) → Low (else_nesting d n) → Sound version ts → (margin : List ℕ) → Forms version margin any IsNothing → Forms version (else_text (map stmt_text xs) margin) any (ElseOf xs n)
   else_shown no_else n l s margin m = weaken empty (no_else_made n)
   else_shown (an_else {xs = xs} d) n l s margin m = else_of_block xs n margin l.0 (block_shown d n l.1 s.1 margin m)

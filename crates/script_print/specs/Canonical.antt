@@ -1,9 +1,12 @@
--- The canonical text of a script.
+-- The canonical text of a script. That of version 2 begins with the version's line.
 --
 -- Offsets play no part in it. A statement stands on a line of its own, and what stands inside braces is indented by two spaces more
 -- than what stands around them.
 use Rattle.std.specs.Prelude.{ℕ, Bool, true, false, List, [], ◌∷◌, ◌++◌, Option, Some, None, codes, flat_map, nat_lt, if◌then◌else◌}
 use Rattle.std.specs.Fmt.{signed_decimal}
+use Rattle.script_tokens.specs.declared.version.Version.{Version}
+use Rattle.script_tokens.specs.declared.version.Version.TheVariants.{One, Two}
+use Rattle.script_tokens.specs.Version.{version_line}
 use Rattle.script_grammar.specs.declared.tree.Name.{Name}
 use Rattle.script_grammar.specs.declared.tree.Number.{Number}
 use Rattle.script_grammar.specs.declared.tree.Expr.{Expr}
@@ -153,6 +156,7 @@ act_at (act.Print e) margin = codes "print " ++ expr_text e ++ codes ";"
 act_at (act.If e block otherwise) margin = codes "if " ++ expr_text e ++ codes " " ++ block_text block margin ++ else_text otherwise margin
 act_at (act.While e block) margin = codes "while " ++ expr_text e ++ codes " " ++ block_text block margin
 act_at (act.Pfor i lo hi target c) margin = range_text i lo hi ++ into_text target ++ loop_call_text i c
+act_at (act.Scope block) margin = codes "scope " ++ block_text block margin
 
 abbrev pub line_at : Stmt-F Indented Indented → Indented
 line_at stmt margin = margin ++ stmt.act margin ++ codes "\n"
@@ -186,5 +190,12 @@ head_text f = codes "fn " ++ f.name.bytes ++ codes "(" ++ listed param_text f.pa
 abbrev pub function_text : Function → List ℕ
 function_text f = head_text f ++ stmts_text f.body (codes "  ") ++ codes "  return " ++ expr_text f.result ++ codes ";\n}\n"
 
+-- Scripts.
+
+-- what the text of a version begins with
+abbrev pub version_text : Version → List ℕ
+version_text One = []
+version_text Two = version_line
+
 abbrev pub canonical : Script → List ℕ
-canonical script = flat_map function_text script.functions
+canonical script = version_text script.version ++ flat_map function_text script.functions

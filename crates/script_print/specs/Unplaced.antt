@@ -1,4 +1,4 @@
--- A script apart from its offsets: with each of them 0.
+-- A script apart from its offsets: with each of them 0. Its version stays.
 use Rattle.std.specs.Prelude.{◌≡◌, ℕ, List, map, Option, Some, None}
 use Rattle.script_grammar.specs.declared.tree.Name.{Name}
 use Rattle.script_grammar.specs.declared.tree.Number.{Number}
@@ -83,6 +83,7 @@ act_unplaced_at (part.Print e) = act.Print (unplaced_expr e)
 act_unplaced_at (part.If e block otherwise) = act.If (unplaced_expr e) block otherwise
 act_unplaced_at (part.While e block) = act.While (unplaced_expr e) block
 act_unplaced_at (part.Pfor i lo hi target c) = act.Pfor (unplaced_name i) (unplaced_expr lo) (unplaced_expr hi) (unplaced_target target) (unplaced_call c)
+act_unplaced_at (part.Scope block) = act.Scope block
 
 abbrev pub stmt_unplaced_at : Stmt-F Act Stmt → Stmt
 stmt_unplaced_at stmt = record { at = 0; act = stmt.act }
@@ -108,7 +109,7 @@ unplaced_function f =
     }
 
 abbrev pub unplaced : Script → Script
-unplaced script = record { functions = map unplaced_function script.functions }
+unplaced script = record { version = script.version; functions = map unplaced_function script.functions }
 
 -- the bytes are the text of a script that is this one apart from offsets
 abbrev pub IsTextOf : List ℕ → Script → Type 0

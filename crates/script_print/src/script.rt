@@ -2,13 +2,13 @@ ghost use Rattle.std.specs.Prelude.{◌≡◌, ◌++◌, IfOk, OnOk, flat_map};
 ghost use Rattle.script_grammar.specs.declared.tree.Script.{Script};
 ghost use Rattle.script_grammar.specs.Text.{IsOfText};
 ghost use Rattle.script_print.specs.Unplaced.{unplaced, IsTextOf};
-ghost use Rattle.script_print.specs.Canonical.{behind_commas, canonical, function_text, head_text, listed, param_text};
+ghost use Rattle.script_print.specs.Canonical.{behind_commas, canonical, function_text, head_text, listed, param_text, version_text};
 
 use crate::expression::write_expr;
 use crate::memory::Memory;
 use crate::statement::write_stmts;
 use crate::words::write_name;
-use script_grammar::{Function, Kind, Param, Script};
+use script_grammar::{Function, Kind, Param, Script, Version};
 use std::alloc::Global;
 
 /// The canonical text of a script.
@@ -22,8 +22,20 @@ pub fn print_script(alloc: Global, script: &Script) -> Result<Vec<u8>, Memory>
     ensures one_text { IfOk result (λ text. (other : Script) → unplaced other ≡ unplaced script.now → canonical other ≡ text.items) }
 {
     let mut text = Vec::new(alloc);
+    write_version(script.version, &mut text)?;
     write_functions(alloc, script.functions.as_slice(), &mut text)?;
     Ok(text)
+}
+
+// The line of version 2; a text of version 1 begins with its functions.
+fn write_version(version: Version, text: &mut Vec<u8>) -> Result<(), Memory>
+    ensures { OnOk result (text.new.items ≡ text.old.items ++ version_text version) }
+{
+    match version {
+        Version::One => {}
+        Version::Two => text.extend_from_slice(b"version 2\n")?,
+    }
+    Ok(())
 }
 
 fn write_functions(alloc: Global, functions: &[Function], text: &mut Vec<u8>) -> Result<(), Memory>

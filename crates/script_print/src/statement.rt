@@ -264,5 +264,9 @@ fn write_act(alloc: Global, act: &Act, margin: &[u8], text: &mut Vec<u8>) -> Res
             write_into(target, text)?;
             write_loop_call(var, call, text)
         }
+        Act::Scope(block) => {
+            text.extend_from_slice(b"scope ")?;
+            write_block(alloc, block.as_slice(), margin, text)
+        }
     }
 }

@@ -15,7 +15,7 @@ use Rattle.script_grammar.specs.declared.tree.Right.{Right}
 use Rattle.script_grammar.specs.declared.tree.Stmt.{Stmt}
 use Rattle.script_grammar.specs.declared.tree.Param.{Param}
 use Rattle.script_grammar.specs.declared.tree.Function.{Function}
-use Rattle.script_grammar.specs.Grammar.{Token, tok, IsSumSign, a_plus, a_minus, IsProductSign, a_times, an_over, a_modulo, IsComparison, an_eq, a_ne, a_lt, a_le, a_gt, a_ge, IsFactor, a_neg, a_number, a_name, an_item, a_group, a_same, an_older, IsTerm, factors, IsFactors, no_factors, one_factor, IsSum, terms, IsTerms, no_terms, one_term, IsExpr, alone, compared, IsMoreArgs, no_more_args, one_more_arg, IsArgs, no_args, some_args, IsCall, a_call, IsRight, right_value, right_draw, right_new, right_call, right_spawn, IsInto, no_into, an_into, IsStmt, a_let, an_array, a_set, a_store, a_spawn, a_call_stmt, a_sync, a_print, an_if, a_while, a_pfor, IsStmts, no_stmts, one_stmt, IsBlock, a_block, IsElse, no_else, an_else, IsParam, int_param, id_param, IsMoreParams, no_more_params, one_more_param, IsParams, no_params, some_params, IsAnswer, int_answer, id_answer, IsFunction, a_function, IsFunctions, no_functions, one_function, IsScript}
+use Rattle.script_grammar.specs.Grammar.{Token, tok, IsSumSign, a_plus, a_minus, IsProductSign, a_times, an_over, a_modulo, IsComparison, an_eq, a_ne, a_lt, a_le, a_gt, a_ge, IsFactor, a_neg, a_number, a_name, an_item, a_group, a_same, an_older, IsTerm, factors, IsFactors, no_factors, one_factor, IsSum, terms, IsTerms, no_terms, one_term, IsExpr, alone, compared, IsMoreArgs, no_more_args, one_more_arg, IsArgs, no_args, some_args, IsCall, a_call, IsRight, right_value, right_draw, right_new, right_call, right_spawn, IsInto, no_into, an_into, IsStmt, a_let, an_array, a_set, a_store, a_spawn, a_call_stmt, a_sync, a_print, an_if, a_while, a_pfor, a_scope, IsStmts, no_stmts, one_stmt, IsBlock, a_block, IsElse, no_else, an_else, IsParam, int_param, id_param, IsMoreParams, no_more_params, one_more_param, IsParams, no_params, some_params, IsAnswer, int_answer, id_answer, IsFunction, a_function, IsFunctions, no_functions, one_function, IsScript}
 use Rattle.script_grammar.specs.Nesting.{factor_nesting, term_nesting, factors_nesting, sum_nesting, terms_nesting, expr_nesting, more_args_nesting, args_nesting, call_nesting, right_nesting, into_nesting, stmt_nesting, stmts_nesting, block_nesting, else_nesting, param_nesting, more_params_nesting, params_nesting, answer_nesting, function_nesting, functions_nesting}
 use Rattle.script_text.specs.Machine.{Sym, only, exactly, factor, index, more_factors, more_terms, comparison, minus_end, args, more_args, call_args, right, into, stmts, block, otherwise, functions, params, more_params, param, answer, body, same_bytes, sum_then, expr_then, rules, is_empty, find_rule, choose, step, run, depth, Trace, onward, trace}
 
@@ -290,6 +290,7 @@ stmt_starts (a_print d) = refl
 stmt_starts (an_if d e f) = refl
 stmt_starts (a_while d e) = refl
 stmt_starts (a_pfor d e f g) = refl
+stmt_starts (a_scope d) = refl
 
 -- statements end at a token that begins none, and isn't else
 abbrev pub EndsStmts : List Token → Type 0
@@ -327,6 +328,7 @@ mutual
       take refl (take refl (take refl (next (expr_goes d (refl, refl, refl, refl) _)
       (take refl (next (expr_goes f (into_ends i (refl, (refl, refl, refl, refl))) _) (next (into_goes i (refl, (refl, refl, refl, refl)) _)
       (take refl (take refl (take refl (take (exact_step n _) (next (more_args_go m ((refl, refl), (refl, refl, refl, refl)) (only word.Close ∷ only word.Semicolon ∷ stmts ∷ s)) (take refl (take refl (stay refl))))))))))))))
+  stmt_goes (a_scope d) e s = take refl (block_goes d (stmts ∷ s))
 
   pub stmts_go : {ts rest : List Token} {xs : List Stmt} (d : IsStmts ts xs rest) → EndsStmts rest → (s : List Sym) → Goes ts (stmts ∷ s) (stmts_nesting d (depth s)) rest s
   stmts_go {rest = rest} no_stmts e s = stay (skip_stmts rest s e)

@@ -1,8 +1,11 @@
+mod Gaps
 mod Words
 mod Follows
+mod Nested
 mod Sound
 mod Same
 mod Judged
+mod Unique
 mod Decimals
 mod Steps
 mod Expressions

@@ -17,7 +17,7 @@ use Rattle.script_grammar.specs.declared.tree.Right.{Right}
 use Rattle.script_grammar.specs.declared.tree.Stmt.{Stmt}
 use Rattle.script_grammar.specs.declared.tree.Param.{Param}
 use Rattle.script_grammar.specs.declared.tree.Function.{Function}
-use Rattle.script_grammar.specs.Grammar.{Token, tok, name_at, sum_of, product_of, IsSumSign, a_plus, a_minus, IsProductSign, a_times, an_over, a_modulo, IsComparison, an_eq, a_ne, a_lt, a_le, a_gt, a_ge, IsFactor, a_neg, a_number, a_name, an_item, a_group, a_same, an_older, IsTerm, factors, IsFactors, no_factors, one_factor, IsSum, terms, IsTerms, no_terms, one_term, IsExpr, alone, compared, IsMoreArgs, no_more_args, one_more_arg, IsArgs, no_args, some_args, IsCall, a_call, IsRight, right_value, right_draw, right_new, right_call, right_spawn, IsInto, no_into, an_into, stmt_at, IsStmt, a_let, an_array, a_set, a_store, a_spawn, a_call_stmt, a_sync, a_print, an_if, a_while, a_pfor, IsStmts, no_stmts, one_stmt, IsBlock, a_block, IsElse, no_else, an_else, IsParam, int_param, id_param, IsMoreParams, no_more_params, one_more_param, IsParams, no_params, some_params, IsAnswer, int_answer, id_answer, IsFunction, a_function, IsFunctions, no_functions, one_function}
+use Rattle.script_grammar.specs.Grammar.{Token, tok, name_at, sum_of, product_of, IsSumSign, a_plus, a_minus, IsProductSign, a_times, an_over, a_modulo, IsComparison, an_eq, a_ne, a_lt, a_le, a_gt, a_ge, IsFactor, a_neg, a_number, a_name, an_item, a_group, a_same, an_older, IsTerm, factors, IsFactors, no_factors, one_factor, IsSum, terms, IsTerms, no_terms, one_term, IsExpr, alone, compared, IsMoreArgs, no_more_args, one_more_arg, IsArgs, no_args, some_args, IsCall, a_call, IsRight, right_value, right_draw, right_new, right_call, right_spawn, IsInto, no_into, an_into, stmt_at, IsStmt, a_let, an_array, a_set, a_store, a_spawn, a_call_stmt, a_sync, a_print, an_if, a_while, a_pfor, a_scope, IsStmts, no_stmts, one_stmt, IsBlock, a_block, IsElse, no_else, an_else, IsParam, int_param, id_param, IsMoreParams, no_more_params, one_more_param, IsParams, no_params, some_params, IsAnswer, int_answer, id_answer, IsFunction, a_function, IsFunctions, no_functions, one_function}
 use Rattle.script_text.specs.Machine.{same_word}
 use Rattle.script_text.specs.Machine as machine
 use Rattle.script_text.proofs.Words.{same_words}
@@ -273,6 +273,7 @@ stmt_word (a_print d) e = cc
 stmt_word (an_if d f g) e = cc
 stmt_word (a_while d f) e = cc
 stmt_word (a_pfor d f g h) e = cc
+stmt_word (a_scope d) e = cc
 
 stmt_taken : {A : Type 0} {ts rest : List Token} {x : Stmt} → IsStmt ts x rest → EndsStmts ts → A
 stmt_taken {ts = []} d e = absurd e
@@ -324,6 +325,7 @@ mutual
             ∙ ap (λ z. mk lo' hi' o' (name_of z) xs) (second i.rest) ∙ ap (λ z. mk lo' hi' o' (name_at c' t') z) k.tree;
         rest = cut2 k.rest;
       }
+  same_stmt (a_scope {a = a} d) (a_scope d') e f = let b = same_block d d' in record { tree = ap (λ z. stmt_at a (act.Scope z)) b.tree; rest = b.rest }
 
   same_stmts : {ts rest : List Token} {xs : List Stmt} → IsStmts ts xs rest → {rest' : List Token} {ys : List Stmt} → IsStmts ts ys rest' → EndsStmts rest → EndsStmts rest' → Both xs ys rest rest'
   same_stmts no_stmts no_stmts e f = record { tree = refl; rest = refl }

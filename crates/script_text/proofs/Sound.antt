@@ -1,7 +1,11 @@
 -- What the machine takes can be derived, and each list of symbols has some tokens: so it takes exactly what is viable.
-use Rattle.std.proofs.Common.{◌≡◌, ℕ, List, [], ◌∷◌, ◌++◌, Option, Some, None, Bool, true, false, ◌&&◌, nat_eq, cond, option_and_then, refl, sym, ap, ◌∙◌, subst}
+use Rattle.std.proofs.Common.{◌≡◌, ℕ, List, [], ◌∷◌, ◌++◌, Option, Some, None, Bool, true, false, not, ◌&&◌, nat_eq, cond, if◌then◌else◌, option_and_then, refl, sym, ap, ◌∙◌, subst}
 use Rattle.std.proofs.lemmas.Bool.{eqb-true}
 use Rattle.std.proofs.lemmas.Option.{none-some, same_Some, option_and_then_some}
+use Rattle.script_tokens.specs.declared.version.Version.{Version}
+use Rattle.script_tokens.specs.declared.version.Version.TheVariants.{One, Two}
+use Rattle.std.specs.List.{list_all}
+use Rattle.script_tokens.specs.Word.{is_scope}
 use Rattle.script_tokens.specs.declared.token.Word.{Word}
 use Rattle.script_tokens.specs.declared.token.Word.TheVariants as word
 use Rattle.script_grammar.specs.declared.tree.Name.{Name}
@@ -17,7 +21,7 @@ use Rattle.script_grammar.specs.declared.tree.Right.{Right}
 use Rattle.script_grammar.specs.declared.tree.Stmt.{Stmt}
 use Rattle.script_grammar.specs.declared.tree.Param.{Param}
 use Rattle.script_grammar.specs.declared.tree.Function.{Function}
-use Rattle.script_grammar.specs.Grammar.{Token, tok, number_at, IsSumSign, a_plus, a_minus, IsProductSign, a_times, an_over, a_modulo, IsComparison, an_eq, a_ne, a_lt, a_le, a_gt, a_ge, IsFactor, a_neg, a_number, a_name, an_item, a_group, a_same, an_older, factors, IsFactors, no_factors, one_factor, IsSum, terms, IsTerms, no_terms, one_term, IsExpr, alone, compared, IsMoreArgs, no_more_args, one_more_arg, IsArgs, no_args, some_args, IsCall, a_call, IsRight, right_value, right_draw, right_new, right_call, right_spawn, IsInto, no_into, an_into, IsStmt, a_let, an_array, a_set, a_store, a_spawn, a_call_stmt, a_sync, a_print, an_if, a_while, a_pfor, IsStmts, no_stmts, one_stmt, IsBlock, a_block, IsElse, no_else, an_else, IsParam, int_param, id_param, IsMoreParams, no_more_params, one_more_param, IsParams, no_params, some_params, IsAnswer, int_answer, id_answer, a_function, IsFunctions, no_functions, one_function, IsScript, IsViable}
+use Rattle.script_grammar.specs.Grammar.{Token, tok, number_at, IsSumSign, a_plus, a_minus, IsProductSign, a_times, an_over, a_modulo, IsComparison, an_eq, a_ne, a_lt, a_le, a_gt, a_ge, IsFactor, a_neg, a_number, a_name, an_item, a_group, a_same, an_older, factors, IsFactors, no_factors, one_factor, IsSum, terms, IsTerms, no_terms, one_term, IsExpr, alone, compared, IsMoreArgs, no_more_args, one_more_arg, IsArgs, no_args, some_args, IsCall, a_call, IsRight, right_value, right_draw, right_new, right_call, right_spawn, IsInto, no_into, an_into, IsStmt, a_let, an_array, a_set, a_store, a_spawn, a_call_stmt, a_sync, a_print, an_if, a_while, a_pfor, a_scope, IsStmts, no_stmts, one_stmt, IsBlock, a_block, IsElse, no_else, an_else, IsParam, int_param, id_param, IsMoreParams, no_more_params, one_more_param, IsParams, no_params, some_params, IsAnswer, int_answer, id_answer, a_function, IsFunctions, no_functions, one_function, IsScript, has_scope, AreOf, IsViable}
 use Rattle.script_text.specs.Machine.{Sym, only, exactly, factor, index, pair, more_factors, more_terms, comparison, minus_end, args, more_args, call_args, right, into, loop_name, loop_args, stmts, after_let, after_name, block, otherwise, functions, param_list, params, more_params, param, answer, body, same_word, same_bytes, Rule, factor_rules, expr_then, rules, is_empty, find_rule, choose, step, run}
 use Rattle.script_text.proofs.Words.{same_words}
 use Rattle.script_text.proofs.Follows.{script_runs}
@@ -318,7 +322,10 @@ rules_hold stmts = (
               (λ a t s ts f d. let q = cut (block ∷ otherwise ∷ stmts ∷ s) ts d in (_, then_more (_, an_if q.1.1 q.2.1.1 q.2.2.1.1) q.2.2.2.1, q.2.2.2.2)),
               (
                 (λ a t s ts f d. let q = cut (block ∷ stmts ∷ s) ts d in (_, then_more (_, a_while q.1.1 q.2.1.1) q.2.2.1, q.2.2.2)),
-                ((λ a t s ts f d. (_, then_more (d.1 a t) d.2.1, d.2.2)), tt),
+                (
+                  (λ a t s ts f d. (_, then_more (d.1 a t) d.2.1, d.2.2)),
+                  ((λ a t s ts f d. (_, then_more (_, a_scope d.1.1) d.2.1, d.2.2)), tt),
+                ),
               ),
             ),
           ),
@@ -398,7 +405,7 @@ word_of : (k : Word) (rest : List Token) → IsKind k (tok 0 k [] ∷ rest) rest
 word_of k rest = is_kind
 
 -- some tokens of a symbol
-sample : (a : Sym) (ts : List Token) → (us : List Token) × From a us ts
+abbrev sample : (a : Sym) (ts : List Token) → (us : List Token) × From a us ts
 sample (only k) ts = (_, word_of k ts)
 sample (exactly n) ts = (_, is_named {a = 0})
 sample factor ts = (_, (_, a_number {a = 0} {t = []}))
@@ -428,16 +435,160 @@ sample param ts = (_, (_, int_param {a = 0} {t = []}))
 sample answer ts = (_, (_, int_answer))
 sample body ts = (_, body_of {e = 0} {f = 0} {g = 0} {h = 0} {w = []} {x = []} {y = []} {z = []} no_stmts (one _))
 
-goes_on : (s : List Sym) → (ts : List Token) × Derives s ts
+abbrev goes_on : (s : List Sym) → (ts : List Token) × Derives s ts
 goes_on [] = ([], refl)
 goes_on (a ∷ s) = let r = goes_on s in let q = sample a r.0 in (q.0, (r.0, q.1, r.1))
 
 pub whole : (ts : List Token) → Derives (functions ∷ []) ts → (fs : List Function) × IsScript ts fs
 whole ts d = (d.1.0, subst (λ q. IsFunctions ts d.1.0 q) d.2 d.1.1)
 
--- what the machine takes is viable
-pub viable : (ts : List Token) (s : List Sym) → run ts (functions ∷ []) ≡ Some s → IsViable ts
-viable ts s e = let more' = goes_on s in let r = whole _ (run_sound ts (functions ∷ []) s more'.0 e more'.1) in (more'.0, r.0, r.1)
+-- No symbol that the machine comes to has to be the word `scope`, so what it goes on with is of both versions.
+
+abbrev sym_plain : Sym → Bool
+sym_plain (only k) = not (is_scope k)
+sym_plain _ = true
+
+abbrev all_plain : List Sym → Bool
+all_plain [] = true
+all_plain (a ∷ s) = sym_plain a && all_plain s
+
+abbrev rules_plain_at : List ℕ → List Rule → Bool
+rules_plain_at text rs = list_all (λ r. all_plain (r.rest text)) rs
+
+rules_plain : (a : Sym) (text : List ℕ) → rules_plain_at text (rules a) ≡ true
+rules_plain (only k) text = refl
+rules_plain (exactly n) text = refl
+rules_plain factor text = refl
+rules_plain index text = refl
+rules_plain pair text = refl
+rules_plain more_factors text = refl
+rules_plain more_terms text = refl
+rules_plain comparison text = refl
+rules_plain minus_end text = refl
+rules_plain args text = refl
+rules_plain more_args text = refl
+rules_plain call_args text = refl
+rules_plain right text = refl
+rules_plain into text = refl
+rules_plain loop_name text = refl
+rules_plain (loop_args n) text = refl
+rules_plain stmts text = refl
+rules_plain after_let text = refl
+rules_plain after_name text = refl
+rules_plain block text = refl
+rules_plain otherwise text = refl
+rules_plain functions text = refl
+rules_plain param_list text = refl
+rules_plain params text = refl
+rules_plain more_params text = refl
+rules_plain param text = refl
+rules_plain answer text = refl
+rules_plain body text = refl
+
+two_true : (a b : Bool) → (a && b) ≡ true → (a ≡ true) × (b ≡ true)
+two_true true b e = (refl, e)
+two_true false b e = cc
+
+plain-append : (r s : List Sym) → all_plain r ≡ true → all_plain s ≡ true → all_plain (r ++ s) ≡ true
+plain-append [] s e f = f
+plain-append (a ∷ r) s e f = let p = two_true (sym_plain a) (all_plain r) e in ap (λ b. b && all_plain (r ++ s)) p.0 ∙ plain-append r s p.1 f
+
+found_plain : (k : Word) (text : List ℕ) (rs : List Rule) (r : List Sym) → rules_plain_at text rs ≡ true → find_rule k text rs ≡ Some r → all_plain r ≡ true
+found_plain k text [] r h e = absurd (none-some _ e)
+found_plain k text (q ∷ qs) r h e = go (same_word k q.first && q.fits text) e (λ f. found_plain k text qs r p.1 f)
+  where
+    p : (all_plain (q.rest text) ≡ true) × (rules_plain_at text qs ≡ true)
+    p = two_true _ _ h
+
+    go : (b : Bool) → cond b (Some (q.rest text)) (find_rule k text qs) ≡ Some r → (find_rule k text qs ≡ Some r → all_plain r ≡ true) → all_plain r ≡ true
+    go true f behind = subst (λ z. all_plain z ≡ true) (same_Some _ _ f) p.0
+    go false f behind = behind f
+
+step_plain : (k : Word) (text : List ℕ) (s s' : List Sym) → all_plain s ≡ true → step k text s ≡ Some s' → all_plain s' ≡ true
+step_plain k text [] s' h e = absurd (none-some _ e)
+step_plain k text (a ∷ s) s' h e = go (find_rule k text (rules a)) (is_empty a) refl e (λ f. step_plain k text s s' p.1 f)
+  where
+    p : (sym_plain a ≡ true) × (all_plain s ≡ true)
+    p = two_true _ _ h
+
+    go : (o : Option (List Sym)) (b : Bool) → find_rule k text (rules a) ≡ o → choose o b s (step k text s) ≡ Some s' → (step k text s ≡ Some s' → all_plain s' ≡ true) → all_plain s' ≡ true
+    go (Some r) b f g behind = subst (λ z. all_plain z ≡ true) (same_Some _ _ g) (plain-append r s (found_plain k text (rules a) r (rules_plain a text) f) p.1)
+    go None true f g behind = behind g
+    go None false f g behind = absurd (none-some _ g)
+
+run_plain : (ts : List Token) (s s' : List Sym) → all_plain s ≡ true → run ts s ≡ Some s' → all_plain s' ≡ true
+run_plain [] s s' h e = subst (λ z. all_plain z ≡ true) (same_Some _ _ e) h
+run_plain (t ∷ ts) s s' h e = option_and_then_some (run ts) (step t.word t.text s) s' e (λ x f g. run_plain ts x s' (step_plain t.word t.text s x h f) g)
+
+sample_plain : (a : Sym) (ts : List Token) → sym_plain a ≡ true → has_scope ts ≡ false → has_scope (sample a ts).0 ≡ false
+sample_plain (only k) ts h e = go (is_scope k) h
+  where
+    go : (b : Bool) → not b ≡ true → (if b then true else has_scope ts) ≡ false
+    go true f = cc
+    go false f = e
+sample_plain (exactly n) ts h e = e
+sample_plain factor ts h e = e
+sample_plain index ts h e = e
+sample_plain pair ts h e = e
+sample_plain more_factors ts h e = e
+sample_plain more_terms ts h e = e
+sample_plain comparison ts h e = e
+sample_plain minus_end ts h e = e
+sample_plain args ts h e = e
+sample_plain more_args ts h e = e
+sample_plain call_args ts h e = e
+sample_plain right ts h e = e
+sample_plain into ts h e = e
+sample_plain loop_name ts h e = e
+sample_plain (loop_args n) ts h e = e
+sample_plain stmts ts h e = e
+sample_plain after_let ts h e = e
+sample_plain after_name ts h e = e
+sample_plain block ts h e = e
+sample_plain otherwise ts h e = e
+sample_plain functions ts h e = e
+sample_plain param_list ts h e = e
+sample_plain params ts h e = e
+sample_plain more_params ts h e = e
+sample_plain param ts h e = e
+sample_plain answer ts h e = e
+sample_plain body ts h e = e
+
+goes_on_plain : (s : List Sym) → all_plain s ≡ true → has_scope (goes_on s).0 ≡ false
+goes_on_plain [] h = refl
+goes_on_plain (a ∷ s) h = let p = two_true (sym_plain a) (all_plain s) h in sample_plain a (goes_on s).0 p.0 (goes_on_plain s p.1)
+
+of_any : (version : Version) (ts : List Token) → has_scope ts ≡ false → AreOf version ts
+of_any One ts e = e
+of_any Two ts e = tt
+
+has_scope-append : (ts us : List Token) → has_scope ts ≡ false → has_scope us ≡ false → has_scope (ts ++ us) ≡ false
+has_scope-append [] us e f = f
+has_scope-append (t ∷ ts) us e f = go (is_scope t.word) e (λ g. has_scope-append ts us g f)
+  where
+    go : (b : Bool) → (if b then true else has_scope ts) ≡ false → (has_scope ts ≡ false → has_scope (ts ++ us) ≡ false) → (if b then true else has_scope (ts ++ us)) ≡ false
+    go true g behind = cc
+    go false g behind = behind g
+
+pub are-append : (version : Version) (ts us : List Token) → AreOf version ts → AreOf version us → AreOf version (ts ++ us)
+are-append One ts us e f = has_scope-append ts us e f
+are-append Two ts us e f = tt
+
+pub are-first : (version : Version) (t : Token) (ts : List Token) → AreOf version (t ∷ ts) → AreOf version (t ∷ []) × AreOf version ts
+are-first One t ts e = go (is_scope t.word) refl e
+  where
+    go : (b : Bool) → is_scope t.word ≡ b → (if b then true else has_scope ts) ≡ false → (has_scope (t ∷ []) ≡ false) × (has_scope ts ≡ false)
+    go true f g = cc
+    go false f g = (ap (λ b. if b then true else false) f, g)
+are-first Two t ts e = (tt, tt)
+
+-- what the machine takes is viable, in the version of the tokens
+pub viable : (version : Version) (ts : List Token) (s : List Sym) → AreOf version ts → run ts (functions ∷ []) ≡ Some s → IsViable version ts
+viable version ts s of e =
+    let more' = goes_on s in
+    let r = whole _ (run_sound ts (functions ∷ []) s more'.0 e more'.1) in
+    let plain = goes_on_plain s (run_plain ts (functions ∷ []) s refl e) in
+    (more'.0, r.0, (are-append version ts more'.0 of (of_any version more'.0 plain), r.1))
 
 pub run-append : (ts us : List Token) (s : List Sym) → run (ts ++ us) s ≡ option_and_then (run us) (run ts s)
 run-append [] us s = refl
@@ -448,9 +599,9 @@ run-append (t ∷ ts) us s = go (step t.word t.text s) (run-append ts us)
     go (Some x) ih = ih x
 
 -- and what is viable is taken
-pub taken : (ts : List Token) → IsViable ts → (s : List Sym) × (run ts (functions ∷ []) ≡ Some s)
-taken ts v = go (run ts (functions ∷ [])) refl
+pub taken : (version : Version) (ts : List Token) → IsViable version ts → (s : List Sym) × (run ts (functions ∷ []) ≡ Some s)
+taken version ts v = go (run ts (functions ∷ [])) refl
   where
     go : (o : Option (List Sym)) → run ts (functions ∷ []) ≡ o → (s : List Sym) × (run ts (functions ∷ []) ≡ Some s)
     go (Some s) e = (s, e)
-    go None e = absurd (none-some _ (sym (run-append ts v.0 (functions ∷ []) ∙ ap (option_and_then (run v.0)) e) ∙ script_runs v.2))
+    go None e = absurd (none-some _ (sym (run-append ts v.0 (functions ∷ []) ∙ ap (option_and_then (run v.0)) e) ∙ script_runs v.2.1))

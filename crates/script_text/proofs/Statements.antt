@@ -16,7 +16,7 @@ use Rattle.script_grammar.specs.declared.tree.Right.TheVariants as right
 use Rattle.script_grammar.specs.declared.tree.Act.{Act}
 use Rattle.script_grammar.specs.declared.tree.Act.TheVariants as act
 use Rattle.script_grammar.specs.declared.tree.Stmt.{Stmt}
-use Rattle.script_grammar.specs.Grammar.{Token, tok, name_at, number_at, IsExpr, IsMoreArgs, no_more_args, one_more_arg, IsArgs, no_args, some_args, IsCall, a_call, IsRight, right_value, right_draw, right_new, right_call, right_spawn, IsInto, no_into, an_into, stmt_at, IsStmt, a_let, an_array, a_set, a_store, a_spawn, a_call_stmt, a_sync, a_print, an_if, a_while, a_pfor, IsStmts, no_stmts, one_stmt, IsBlock, a_block, IsElse, no_else, an_else}
+use Rattle.script_grammar.specs.Grammar.{Token, tok, name_at, number_at, IsExpr, IsMoreArgs, no_more_args, one_more_arg, IsArgs, no_args, some_args, IsCall, a_call, IsRight, right_value, right_draw, right_new, right_call, right_spawn, IsInto, no_into, an_into, stmt_at, IsStmt, a_let, an_array, a_set, a_store, a_spawn, a_call_stmt, a_sync, a_print, an_if, a_while, a_pfor, a_scope, IsStmts, no_stmts, one_stmt, IsBlock, a_block, IsElse, no_else, an_else}
 use Rattle.script_text.specs.Machine as machine
 use Rattle.script_text.specs.Machine.{Sym, only, exactly, loop_args, call_args, more_args, into, loop_name, stmts, after_let, after_name, block, otherwise, expr_then, rules, rule, is_empty, find_rule, step, depth, at_stop, verdict, begun, judge}
 use Rattle.script_grammar.specs.Text.{token_of}
@@ -246,19 +246,8 @@ no_stmt (l ∷ ls) bytes h = go l.word h
     go word.If h = cc
     go word.While h = cc
     go word.Pfor h = cc
+    go word.Scope h = cc
     go _ h = refl
-
-pub last_stmt_word : (w : Word) → begins_stmt w ≡ true → (w ≡ word.Let → ⊥) → (w ≡ word.Name → ⊥) → (w ≡ word.Spawn → ⊥) → (w ≡ word.Call → ⊥) → (w ≡ word.Sync → ⊥) → (w ≡ word.Print → ⊥) → (w ≡ word.If → ⊥) → (w ≡ word.While → ⊥) → w ≡ word.Pfor
-last_stmt_word word.Let h a b c d e f g i = absurd (a refl)
-last_stmt_word word.Name h a b c d e f g i = absurd (b refl)
-last_stmt_word word.Spawn h a b c d e f g i = absurd (c refl)
-last_stmt_word word.Call h a b c d e f g i = absurd (d refl)
-last_stmt_word word.Sync h a b c d e f g i = absurd (e refl)
-last_stmt_word word.Print h a b c d e f g i = absurd (f refl)
-last_stmt_word word.If h a b c d e f g i = absurd (g refl)
-last_stmt_word word.While h a b c d e f g i = absurd (i refl)
-last_stmt_word word.Pfor h a b c d e f g i = refl
-last_stmt_word _ h a b c d e f g i = cc
 
 abbrev pub ComesAct : Source → ℕ → Lexeme → List Lexeme → Act → List Lexeme → Type 0
 ComesAct source d l rest x last = IsStmt (seen source (l ∷ rest)) (stmt_at l.start x) (seen source last) × Leads (stmts ∷ []) (stmts ∷ []) source d (l ∷ rest) last
@@ -436,6 +425,20 @@ module _ (source : Source) (d : ℕ) (l : Lexeme) (rest : List Lexeme) where
   pub while_err_block : (t1 : List Lexeme) (x : Expr) (e : SyntaxError) → l.word ≡ word.While → d ≤ 64 → Comes IsExpr (expr_then []) source d rest x t1 → Errs (block ∷ []) source d t1 e → Errs (stmts ∷ []) source d (l ∷ rest) e
   while_err_block t1 x e w h a f = err_behind (stmts ∷ []) (block ∷ []) (stmts ∷ []) source d d (l ∷ rest) t1 e (λ n s r. while_enters w h n s r ∙ a.1 n (block ∷ stmts ∷ s) r) (λ s r. r) f
 
+  -- scope
+
+  scope_enters : l.word ≡ word.Scope → d ≤ 64 → Leads (stmts ∷ []) (block ∷ stmts ∷ []) source d (l ∷ rest) rest
+  scope_enters p h = stmt_enters word.Scope (block ∷ []) p refl (λ t s. refl) (λ s. refl) h
+
+  pub scope_read : (last : List Lexeme) (p : List Stmt) → l.word ≡ word.Scope → d ≤ 64 → Comes IsBlock (block ∷ []) source d rest p last → ComesAct source d l rest (act.Scope p) last
+  scope_read last p w h b = (
+    subst (λ z. IsStmt z (stmt_at l.start (act.Scope p)) (seen source last)) (sym (stmt_token word.Scope w)) (a_scope b.0),
+    λ n s f. scope_enters w h n s f ∙ b.1 n (stmts ∷ s) f,
+  )
+
+  pub scope_err : (e : SyntaxError) → l.word ≡ word.Scope → d ≤ 64 → Errs (block ∷ []) source d rest e → Errs (stmts ∷ []) source d (l ∷ rest) e
+  scope_err e w h f = err_behind (stmts ∷ []) (block ∷ []) (stmts ∷ []) source d d (l ∷ rest) rest e (scope_enters w h) (λ s r. r) f
+
 -- Blocks
 
 pub block_bracket : IsBracket block word.OpenBlock (stmts ∷ only word.CloseBlock ∷ [])
@@ -532,6 +535,7 @@ mutual
   stmt_shorter (an_if d e f) = omega (arith, expr_shorter d, block_shorter e, else_shorter f)
   stmt_shorter (a_while d e) = omega (arith, expr_shorter d, block_shorter e)
   stmt_shorter (a_pfor d e f g) = omega (arith, expr_shorter d, expr_shorter e, into_shorter f, more_args_shorter g)
+  stmt_shorter (a_scope d) = omega (arith, block_shorter d)
 
   pub stmts_shorter : {ts rest : List Token} {xs : List Stmt} → IsStmts ts xs rest → length rest ≤ length ts
   stmts_shorter no_stmts = omega arith

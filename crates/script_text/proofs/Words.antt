@@ -49,7 +49,8 @@ word_of k =
     else if nat_eq k 38 then word.Gt
     else if nat_eq k 39 then word.Ge
     else if nat_eq k 40 then word.Arrow
-    else word.Range
+    else if nat_eq k 41 then word.Range
+    else word.Scope
 
 word_of-code : (w : Word) → word_of (code w) ≡ w
 word_of-code word.Name = refl
@@ -94,6 +95,7 @@ word_of-code word.Gt = refl
 word_of-code word.Ge = refl
 word_of-code word.Arrow = refl
 word_of-code word.Range = refl
+word_of-code word.Scope = refl
 
 pub same_words : (v w : Word) → same_word v w ≡ true → v ≡ w
 same_words v w e = sym (word_of-code v) ∙ ap word_of (eqb-true (code v) (code w) e) ∙ word_of-code w

@@ -1,5 +1,6 @@
 -- A machine that reads tokens from left to right and knows what may come next. It serves the clauses of private functions and the proofs;
--- what a script is, and what its fault is, is said without it.
+-- what a script is, and what its fault is, is said without it. There is one machine for both versions: a text of version 1 has no token
+-- `scope`, and no symbol of the machine has to be that token.
 --
 -- Its state is a stack: the symbols that are still expected, the nearest first. Each rule of a symbol takes one token and puts
 -- symbols in the place of its own. A closing bracket is expected only once its opening one was taken.
@@ -74,6 +75,7 @@ code word.Gt = 38
 code word.Ge = 39
 code word.Arrow = 40
 code word.Range = 41
+code word.Scope = 42
 
 abbrev pub same_word : Word → Word → Bool
 same_word v w = nat_eq (code v) (code w)
@@ -147,6 +149,7 @@ rules stmts =
     ∷ rule word.If (expr_then (block ∷ otherwise ∷ stmts ∷ []))
     ∷ rule word.While (expr_then (block ∷ stmts ∷ []))
     ∷ rule word.Pfor (loop_name ∷ stmts ∷ [])
+    ∷ rule word.Scope (block ∷ stmts ∷ [])
     ∷ []
 rules after_let =
     rule word.Assign (right ∷ only word.Semicolon ∷ [])

@@ -1,5 +1,6 @@
 -- The answer of the call that gives the token which comes next.
 use Rattle.std.specs.Prelude.{◌≡◌, ℕ, List, Result, Ok, Err}
+use Rattle.script_tokens.specs.declared.version.Version.{Version}
 use Rattle.script_tokens.specs.declared.token.Token as token
 use Rattle.script_tokens.specs.declared.lexing.Misfit.{Misfit}
 use Rattle.script_tokens.specs.declared.lexing.Misfit.TheVariants.{NotAscii, NoToken}
@@ -16,6 +17,6 @@ abbrev pub answer_of : Result token.Token Misfit → Result token.Token SyntaxEr
 answer_of (Ok t) = Ok t
 answer_of (Err misfit) = Err (error_of misfit)
 
--- the token that comes next from an offset on, or the error
-abbrev pub NextAnswer : List ℕ → ℕ → Result token.Token SyntaxError → Type 0
-NextAnswer bytes from result = (next : Result token.Token Misfit) × NextToken bytes from next × (result ≡ answer_of next)
+-- the token of a version that comes next from an offset on, or the error
+abbrev pub NextAnswer : Version → List ℕ → ℕ → Result token.Token SyntaxError → Type 0
+NextAnswer version bytes from result = (next : Result token.Token Misfit) × NextToken version bytes from next × (result ≡ answer_of next)

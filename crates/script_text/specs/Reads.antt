@@ -184,6 +184,7 @@ begins_stmt word.Print = true
 begins_stmt word.If = true
 begins_stmt word.While = true
 begins_stmt word.Pfor = true
+begins_stmt word.Scope = true
 begins_stmt _ = false
 
 -- no statement begins
@@ -251,6 +252,6 @@ ReadsFunctions source old (Err Memory) = Unit {0}
 ReadsFunctions source old (Err (Bad number at)) = judge (ending source) 0 (functions ∷ []) (seen source old) ≡ Some (number, at)
 
 abbrev pub Judges : Source → List Lexeme → Result Script SyntaxError → Type 0
-Judges source old (Ok script) = IsScript (seen source old) script.functions × (judge (ending source) 0 (functions ∷ []) (seen source old) ≡ None)
+Judges source old (Ok script) = (script.version ≡ source.version) × IsScript (seen source old) script.functions × (judge (ending source) 0 (functions ∷ []) (seen source old) ≡ None)
 Judges source old (Err Memory) = Unit {0}
 Judges source old (Err (Bad number at)) = judge (ending source) 0 (functions ∷ []) (seen source old) ≡ Some (number, at)

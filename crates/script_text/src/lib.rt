@@ -4,6 +4,7 @@
 #![tactic(auto)]
 
 mod error;
+pub mod laws;
 mod parser;
 
 pub use error::SyntaxError;
@@ -12,4 +13,4 @@ pub use script_grammar::{
     Act, Boxed, CallText, Comparison, Expr, Function, Items, Kind, Name, Number, Param,
     ProductPart, ProductSign, Right, Script, Stmt, SumPart,
 };
-pub use script_tokens::{MAX_BYTES, Token, TokenKind};
+pub use script_tokens::{MAX_BYTES, Token, TokenKind, Version};

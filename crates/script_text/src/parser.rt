@@ -17,17 +17,18 @@ use crate::error::SyntaxError;
 use crate::parser::function::script;
 use crate::parser::source::Source;
 use script_grammar::Script;
-use script_tokens::{MAX_BYTES, Misfit, Token, lexemes};
+use script_tokens::{MAX_BYTES, Misfit, Token, Version, lexemes};
 use std::alloc::Global;
 
 /// The tree of a script.
 ///
-/// The text is at most [`MAX_BYTES`] long. The answer is the tree exactly for the texts of the grammar within the limits: names of at most 32
+/// The text is at most [`MAX_BYTES`] long. It is of version 2 where it begins with the line `version 2`, and else of version 1
+/// ([`Version`]); offsets count from its first byte in both. The answer is the tree exactly for the texts of the grammar within the limits: names of at most 32
 /// bytes, numbers up to 9223372036854775807, at most 1024 functions, and at most 64 open brackets and unary minuses at a place. There is
 /// never more than one tree.
 ///
-/// [`SyntaxError::Bad`] names the first fault, and nothing after it is judged. A token is unexpected where no further tokens make a script of
-/// it and those in front; limits are judged only of a token that may stand where it does. [`SyntaxError::Memory`] is want of memory.
+/// [`SyntaxError::Bad`] names the first fault, and nothing after it is judged. A token is unexpected where no further tokens of the version
+/// make a script of it and those in front; limits are judged only of a token that may stand where it does. [`SyntaxError::Memory`] is want of memory.
 ///
 /// The time is linear in the length of the text; the call stack is bounded by the limit of the nesting.
 pub fn parse(alloc: Global, bytes: &[u8]) -> Result<Script, SyntaxError>
@@ -46,25 +47,26 @@ pub fn parse(alloc: Global, bytes: &[u8]) -> Result<Script, SyntaxError>
     let source = Source {
         alloc,
         bytes,
+        version: lexed.version,
         end: bytes.len() as u32,
         stop: lexed.stop,
     };
     script(&source, lexed.lexemes.as_slice())
 }
 
-/// The token that comes next from the offset `from` on, after blanks and comments. Where none comes it is `End`, which begins and ends at the
+/// The token of a version that comes next from the offset `from` on, after blanks and comments. Where none comes it is `End`, which begins and ends at the
 /// length of the text. An offset inside of a token is taken as the beginning of the text: what comes next is judged from there on. The call
 /// takes no memory, and its error is never [`SyntaxError::Memory`].
 ///
 /// The error is `Bad` 1 exactly where a byte from 128 on stands among these blanks and comments or directly after them, at the first such
 /// byte, and else `Bad` 2 exactly where a byte stands directly after them at which no token begins, at that byte. The length of names and
 /// the size of numbers isn't judged here.
-pub fn next_token(bytes: &[u8], from: u32) -> Result<Token, SyntaxError>
+pub fn next_token(bytes: &[u8], from: u32, version: Version) -> Result<Token, SyntaxError>
     requires size { length bytes.now ≤ MAX_BYTES }
     requires within { from ≤ length bytes.now }
-    ensures { NextAnswer bytes.now from result }
+    ensures { NextAnswer version bytes.now from result }
 {
-    match script_tokens::next_token(bytes, from) {
+    match script_tokens::next_token(bytes, from, version) {
         Ok(token) => Ok(token),
         Err(Misfit::NotAscii(at)) => Err(SyntaxError::Bad { number: 1, at }),
         Err(Misfit::NoToken(at)) => Err(SyntaxError::Bad { number: 2, at }),

@@ -2,3 +2,4 @@ pub mod Longest
 pub mod LexingLemmas
 pub mod Building
 pub mod Cuts
+pub mod Versions

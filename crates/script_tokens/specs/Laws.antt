@@ -1,33 +1,37 @@
--- What holds of the lexemes of every text.
-use Rattle.std.specs.Prelude.{◌≡◌, ℕ, suc, ◌<◌, ◌≤◌, List, [], ◌∷◌, length, take, All, Some, None, Result}
+-- What holds of the lexemes of every text, in each version.
+use Rattle.std.specs.Prelude.{◌≡◌, ◌↔◌, ℕ, true, not, suc, ◌+◌, ◌<◌, ◌≤◌, List, [], ◌∷◌, ◌++◌, length, take, drop, All, Some, None, Result}
+use Rattle.std.specs.List.{list_all}
+use Rattle.script_tokens.specs.declared.version.Version.{Version}
+use Rattle.script_tokens.specs.declared.version.Version.TheVariants.{One, Two}
 use Rattle.script_tokens.specs.declared.token.Word.{Word}
 use Rattle.script_tokens.specs.declared.token.Lexeme.{Lexeme}
 use Rattle.script_tokens.specs.declared.token.Token.{Token}
 use Rattle.script_tokens.specs.declared.lexing.Stop.{Stop}
 use Rattle.script_tokens.specs.declared.lexing.Misfit.{Misfit}
-use Rattle.script_tokens.specs.Word.{word_of}
+use Rattle.script_tokens.specs.Version.{version_line, version_of}
+use Rattle.script_tokens.specs.Word.{word_of, is_scope}
 use Rattle.script_tokens.specs.Lexing.{IsLongest, Lexes, NextToken, text_of}
 
 -- a token at the front is the longest, where one more byte makes no token of it
 abbrev pub OneMoreByteDecides : Type 0
 OneMoreByteDecides =
-    (bytes : List ℕ) (n : ℕ) (w : Word) → n ≤ length bytes → word_of (take n bytes) ≡ Some w →
-    (n < length bytes → word_of (take (suc n) bytes) ≡ None) → IsLongest bytes n w
+    (version : Version) (bytes : List ℕ) (n : ℕ) (w : Word) → n ≤ length bytes → word_of version (take n bytes) ≡ Some w →
+    (n < length bytes → word_of version (take (suc n) bytes) ≡ None) → IsLongest version bytes n w
 
 -- every text is cut
 abbrev pub EveryTextIsCut : Type 0
-EveryTextIsCut = (text : List ℕ) → (ls : List Lexeme) × (stop : Stop) × Lexes 0 text ls stop
+EveryTextIsCut = (version : Version) (from : ℕ) (left : List ℕ) → (ls : List Lexeme) × (stop : Stop) × Lexes version from left ls stop
 
 -- a text is cut in one way
 abbrev pub LexingIsUnique : Type 0
 LexingIsUnique =
-    (from : ℕ) (left : List ℕ) (ls ms : List Lexeme) (stop end : Stop) →
-    Lexes from left ls stop → Lexes from left ms end → (ls ≡ ms) × (stop ≡ end)
+    (version : Version) (from : ℕ) (left : List ℕ) (ls ms : List Lexeme) (stop end : Stop) →
+    Lexes version from left ls stop → Lexes version from left ms end → (ls ≡ ms) × (stop ≡ end)
 
 -- `next_token` has one answer
 abbrev pub NextTokenIsUnique : Type 0
 NextTokenIsUnique =
-    (bytes : List ℕ) (from : ℕ) (r s : Result Token Misfit) → NextToken bytes from r → NextToken bytes from s → r ≡ s
+    (version : Version) (bytes : List ℕ) (from : ℕ) (r s : Result Token Misfit) → NextToken version bytes from r → NextToken version bytes from s → r ≡ s
 
 -- no lexeme is empty, each begins where the one before it ended or later, and all stand from `from` up to `end`
 abbrev pub InOrder : (from end : ℕ) → List Lexeme → Type 0
@@ -35,9 +39,20 @@ InOrder from end [] = from ≤ end
 InOrder from end (l ∷ ls) = (from ≤ l.start) × (l.start < l.end) × InOrder l.end end ls
 
 abbrev pub LexemesStandInOrder : Type 0
-LexemesStandInOrder = (text : List ℕ) (ls : List Lexeme) (stop : Stop) → Lexes 0 text ls stop → InOrder 0 (length text) ls
+LexemesStandInOrder =
+    (version : Version) (from : ℕ) (left : List ℕ) (ls : List Lexeme) (stop : Stop) → Lexes version from left ls stop → InOrder from (from + length left) ls
 
 -- the text of each lexeme is the token that its word says
 abbrev pub LexemesAreTokens : Type 0
 LexemesAreTokens =
-    (text : List ℕ) (ls : List Lexeme) (stop : Stop) → Lexes 0 text ls stop → All (λ l. word_of (text_of text l) ≡ Some l.word) ls
+    (version : Version) (text : List ℕ) (from : ℕ) (ls : List Lexeme) (stop : Stop) → from ≤ length text → Lexes version from (drop from text) ls stop →
+    All (λ l. word_of version (text_of text l) ≡ Some l.word) ls
+
+-- no lexeme of version 1 is the keyword `scope`
+abbrev pub VersionOneHasNoScope : Type 0
+VersionOneHasNoScope =
+    (from : ℕ) (left : List ℕ) (ls : List Lexeme) (stop : Stop) → Lexes One from left ls stop → list_all (λ l. not (is_scope l.word)) ls ≡ true
+
+-- a text is of version 2 exactly where it begins with the version's line
+abbrev pub VersionsBegin : Type 0
+VersionsBegin = (text : List ℕ) → (version_of text ≡ Two) ↔ ((rest : List ℕ) × (text ≡ version_line ++ rest))

@@ -1,5 +1,6 @@
--- How a text is cut into tokens: each is the longest that fits, and only blanks and comments stand between.
+-- How a text is cut into tokens of a version: each is the longest that fits, and only blanks and comments stand between.
 use Rattle.std.specs.Prelude.{◌≡◌, ℕ, suc, ◌+◌, ◌-◌, ◌<◌, ◌≤◌, Bool, List, [], ◌∷◌, length, take, drop, slice_range, Option, Some, None, Result, Ok, Err, ◌||◌, ◌==◌, nat_lt, if◌then◌else◌}
+use Rattle.script_tokens.specs.declared.version.Version.{Version}
 use Rattle.script_tokens.specs.declared.token.Word.{Word}
 use Rattle.script_tokens.specs.declared.token.Lexeme.{Lexeme}
 use Rattle.script_tokens.specs.declared.lexing.Stop.{Stop}
@@ -8,6 +9,7 @@ use Rattle.script_tokens.specs.declared.lexing.Misfit.{Misfit}
 use Rattle.script_tokens.specs.declared.lexing.Misfit.TheVariants as misfit
 use Rattle.script_tokens.specs.declared.token.Token.{Token}
 use Rattle.script_tokens.specs.declared.token.TokenKind.TheVariants as kinds
+use Rattle.script_tokens.specs.Version.{version_of, begins_at}
 use Rattle.script_tokens.specs.Word.{word_of, kind_of}
 
 -- space, tab, carriage return, line feed
@@ -27,39 +29,44 @@ abbrev mutual
   comment_length (b ∷ bs) = if b == 10 then suc (gap_length bs) else if nat_lt b 128 then suc (comment_length bs) else 0
 
 -- the first n bytes are that token, and no longer front of the bytes is a token
-pub record IsLongest (bytes : List ℕ) (n : ℕ) (word : Word) : Type 0 where
+pub record IsLongest (version : Version) (bytes : List ℕ) (n : ℕ) (word : Word) : Type 0 where
   pub within : n ≤ length bytes
-  pub token : word_of (take n bytes) ≡ Some word
-  pub longest : (m : ℕ) → n < m → m ≤ length bytes → word_of (take m bytes) ≡ None
+  pub token : word_of version (take n bytes) ≡ Some word
+  pub longest : (m : ℕ) → n < m → m ≤ length bytes → word_of version (take m bytes) ≡ None
 
 -- no front of the bytes is a token
-abbrev pub BeginsNoToken : List ℕ → Type 0
-BeginsNoToken bytes = (m : ℕ) → m ≤ length bytes → word_of (take m bytes) ≡ None
+abbrev pub BeginsNoToken : Version → List ℕ → Type 0
+BeginsNoToken version bytes = (m : ℕ) → m ≤ length bytes → word_of version (take m bytes) ≡ None
 
 -- the longest token at the front and its length, or none
-abbrev pub Fronts : List ℕ → Option (Word × ℕ) → Type 0
-Fronts bytes None = BeginsNoToken bytes
-Fronts bytes (Some front) = IsLongest bytes front.1 front.0
+abbrev pub Fronts : Version → List ℕ → Option (Word × ℕ) → Type 0
+Fronts version bytes None = BeginsNoToken version bytes
+Fronts version bytes (Some front) = IsLongest version bytes front.1 front.0
 
 abbrev pub lexeme : Word → ℕ → ℕ → Lexeme
 lexeme word start end = record { word = word; start = start; end = end }
 
 -- What stands at the offset `at` of a text, of which `bytes` is the rest from there on: a lexeme, or else the reason why there is none.
-pub data Stands : (at : ℕ) → (bytes : List ℕ) → Result Lexeme Stop → Type 0 where
-  token : {at n : ℕ} {bytes : List ℕ} {word : Word} → IsLongest bytes n word → Stands at bytes (Ok (lexeme word at (at + n)))
-  the_end : {at : ℕ} → Stands at [] (Err End)
-  not_ascii : {at b : ℕ} {bs : List ℕ} → 128 ≤ b → Stands at (b ∷ bs) (Err (NotAscii at))
-  no_token : {at b : ℕ} {bs : List ℕ} → b < 128 → BeginsNoToken (b ∷ bs) → Stands at (b ∷ bs) (Err (NoToken at))
+pub data Stands (version : Version) : (at : ℕ) → (bytes : List ℕ) → Result Lexeme Stop → Type 0 where
+  token : {at n : ℕ} {bytes : List ℕ} {word : Word} → IsLongest version bytes n word → Stands version at bytes (Ok (lexeme word at (at + n)))
+  the_end : {at : ℕ} → Stands version at [] (Err End)
+  not_ascii : {at b : ℕ} {bs : List ℕ} → 128 ≤ b → Stands version at (b ∷ bs) (Err (NotAscii at))
+  no_token : {at b : ℕ} {bs : List ℕ} → b < 128 → BeginsNoToken version (b ∷ bs) → Stands version at (b ∷ bs) (Err (NoToken at))
 
 -- What comes next after the offset `from`, of which `left` is the rest of the text: what stands there after the gap.
-abbrev pub Comes : (from : ℕ) → (left : List ℕ) → Result Lexeme Stop → Type 0
-Comes from left next = Stands (from + gap_length left) (drop (gap_length left) left) next
+abbrev pub Comes : (version : Version) → (from : ℕ) → (left : List ℕ) → Result Lexeme Stop → Type 0
+Comes version from left next = Stands version (from + gap_length left) (drop (gap_length left) left) next
 
 -- The rest of a text from the offset `from` on is `left`; it is cut into these lexemes, and they end for this reason.
-pub data Lexes : (from : ℕ) → (left : List ℕ) → List Lexeme → Stop → Type 0 where
-  stops : {from : ℕ} {left : List ℕ} {stop : Stop} → Comes from left (Err stop) → Lexes from left [] stop
+pub data Lexes (version : Version) : (from : ℕ) → (left : List ℕ) → List Lexeme → Stop → Type 0 where
+  stops : {from : ℕ} {left : List ℕ} {stop : Stop} → Comes version from left (Err stop) → Lexes version from left [] stop
   goes_on : {from : ℕ} {left : List ℕ} {l : Lexeme} {ls : List Lexeme} {stop : Stop} →
-      Comes from left (Ok l) → Lexes l.end (drop (l.end - from) left) ls stop → Lexes from left (l ∷ ls) stop
+      Comes version from left (Ok l) → Lexes version l.end (drop (l.end - from) left) ls stop → Lexes version from left (l ∷ ls) stop
+
+-- The text is of this version. From the end of the version's line on it is cut into these lexemes, and they end for this reason.
+pub record IsCut (text : List ℕ) (version : Version) (ls : List Lexeme) (stop : Stop) : Type 0 where
+  pub told : version ≡ version_of text
+  pub cut : Lexes version (begins_at version) (drop (begins_at version) text) ls stop
 
 -- the text of a lexeme
 abbrev pub text_of : List ℕ → Lexeme → List ℕ
@@ -72,6 +79,6 @@ token_of length (Err End) = Ok (record { kind = kinds.End; start = length; end =
 token_of length (Err (NotAscii at)) = Err (misfit.NotAscii at)
 token_of length (Err (NoToken at)) = Err (misfit.NoToken at)
 
-abbrev pub NextToken : (bytes : List ℕ) → (from : ℕ) → Result Token Misfit → Type 0
-NextToken bytes from result =
-    (next : Result Lexeme Stop) × Comes from (drop from bytes) next × (result ≡ token_of (length bytes) next)
+abbrev pub NextToken : (version : Version) → (bytes : List ℕ) → (from : ℕ) → Result Token Misfit → Type 0
+NextToken version bytes from result =
+    (next : Result Lexeme Stop) × Comes version from (drop from bytes) next × (result ≡ token_of (length bytes) next)

@@ -1,3 +1,4 @@
+pub mod Version
 pub mod Word
 pub mod Lexing
 pub mod Laws

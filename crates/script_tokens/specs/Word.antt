@@ -1,21 +1,29 @@
--- Which texts are tokens, and which token each is. A token is a name, a keyword, a number or a symbol, and `Word` says which.
-use Rattle.std.specs.Prelude.{ℕ, Bool, false, List, [], ◌∷◌, Option, Some, None, ◌||◌, ◌&&◌, ◌==◌, if◌then◌else◌, unwrap_or, codes, bytes_eq}
+-- Which texts are tokens of a version, and which token each is. A token is a name, a keyword, a number or a symbol, and `Word` says which.
+use Rattle.std.specs.Prelude.{ℕ, Bool, true, false, List, [], ◌∷◌, Option, Some, None, ◌||◌, ◌&&◌, ◌==◌, if◌then◌else◌, unwrap_or, codes, bytes_eq}
 use Rattle.std.specs.List.{list_all}
 use Rattle.std.specs.Char.{is_ascii_alphabetic, is_ascii_digit}
 use Rattle.script_tokens.specs.declared.token.Word.{Word}
+use Rattle.script_tokens.specs.declared.version.Version.{Version}
+use Rattle.script_tokens.specs.declared.version.Version.TheVariants.{One, Two}
 use Rattle.script_tokens.specs.declared.token.TokenKind.{TokenKind}
 use Rattle.script_tokens.specs.declared.token.TokenKind.TheVariants as kinds
-use Rattle.script_tokens.specs.declared.token.Word.TheVariants.{Name, Number, Fn, Id, Let, Spawn, Call, Sync, Print, If, Else, While, Pfor, In, Into, Draw, New, Return, Same, Older, Open, Close, OpenBlock, CloseBlock, OpenItem, CloseItem, Comma, Semicolon, Assign, Plus, Minus, Times, Over, Modulo, Eq, Ne, Lt, Le, Gt, Ge, Arrow, Range}
+use Rattle.script_tokens.specs.declared.token.Word.TheVariants.{Name, Number, Fn, Id, Let, Spawn, Call, Sync, Print, If, Else, While, Pfor, In, Into, Draw, New, Return, Same, Older, Open, Close, OpenBlock, CloseBlock, OpenItem, CloseItem, Comma, Semicolon, Assign, Plus, Minus, Times, Over, Modulo, Eq, Ne, Lt, Le, Gt, Ge, Arrow, Range, Scope}
 
 abbrev pub Spelling : Type 0
 Spelling = List ℕ × Word
 
-abbrev pub keywords : List Spelling
-keywords =
+-- the keywords of every version
+abbrev pub common_keywords : List Spelling
+common_keywords =
     (codes "fn", Fn) ∷ (codes "id", Id) ∷ (codes "let", Let) ∷ (codes "spawn", Spawn) ∷ (codes "call", Call) ∷ (codes "sync", Sync)
     ∷ (codes "print", Print) ∷ (codes "if", If) ∷ (codes "else", Else) ∷ (codes "while", While) ∷ (codes "pfor", Pfor) ∷ (codes "in", In)
     ∷ (codes "into", Into) ∷ (codes "draw", Draw) ∷ (codes "new", New) ∷ (codes "return", Return) ∷ (codes "same", Same) ∷ (codes "older", Older)
     ∷ []
+
+-- the keywords of a version
+abbrev pub keywords : Version → List Spelling
+keywords One = common_keywords
+keywords Two = (codes "scope", Scope) ∷ common_keywords
 
 abbrev pub symbols : List Spelling
 symbols =
@@ -47,12 +55,17 @@ abbrev pub is_number : List ℕ → Bool
 is_number [] = false
 is_number (b ∷ bs) = is_ascii_digit b && list_all is_ascii_digit bs
 
--- the token that a whole text is
-abbrev pub word_of : List ℕ → Option Word
-word_of text =
-    if is_name text then Some (unwrap_or (word_spelled keywords text) Name)
+-- the token of a version that a whole text is
+abbrev pub word_of : Version → List ℕ → Option Word
+word_of version text =
+    if is_name text then Some (unwrap_or (word_spelled (keywords version) text) Name)
     else if is_number text then Some Number
     else word_spelled symbols text
+
+-- the word that version 2 alone has
+abbrev pub is_scope : Word → Bool
+is_scope Scope = true
+is_scope _ = false
 
 -- the sort of the token
 abbrev pub kind_of : Word → TokenKind
@@ -76,4 +89,5 @@ kind_of New = kinds.Keyword
 kind_of Return = kinds.Keyword
 kind_of Same = kinds.Keyword
 kind_of Older = kinds.Keyword
+kind_of Scope = kinds.Keyword
 kind_of _ = kinds.Symbol

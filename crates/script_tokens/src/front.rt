@@ -8,6 +8,7 @@ ghost use Rattle.script_tokens.specs.Lexing.{Fronts, gap_length as length_of_gap
 
 use crate::spelling::{keyword, long_symbol, short_symbol};
 use crate::token::Word;
+use crate::version::Version;
 
 fn is_blank(byte: u8) -> bool
     ensures { result ≡ blank byte }
@@ -70,14 +71,14 @@ fn long_symbol_at(first: u8, rest: &[u8]) -> Option<Word>
     long_symbol(first, *rest.first()?)
 }
 
-// The longest token at the front, and its length.
-pub(crate) fn front(bytes: &[u8]) -> Option<(Word, usize)>
-    ensures { Fronts bytes.now result }
+// The longest token of a version at the front, and its length.
+pub(crate) fn front(version: Version, bytes: &[u8]) -> Option<(Word, usize)>
+    ensures { Fronts version bytes.now result }
 {
     let (first, rest) = bytes.split_first()?;
     if is_letter(*first) {
         let end = 1 + name_length(rest);
-        return Some((keyword(&bytes[..end]).unwrap_or(Word::Name), end));
+        return Some((keyword(version, &bytes[..end]).unwrap_or(Word::Name), end));
     }
     if first.is_ascii_digit() {
         return Some((Word::Number, 1 + digits_length(rest)));

@@ -1,6 +1,6 @@
 //! What holds of the lexemes of every text, as functions that do nothing: each is proved to ensure its law.
 
-ghost use Rattle.script_tokens.specs.Laws.{EveryTextIsCut, LexemesAreTokens, LexemesStandInOrder, LexingIsUnique, NextTokenIsUnique, OneMoreByteDecides};
+ghost use Rattle.script_tokens.specs.Laws.{EveryTextIsCut, LexemesAreTokens, LexemesStandInOrder, LexingIsUnique, NextTokenIsUnique, OneMoreByteDecides, VersionOneHasNoScope, VersionsBegin};
 
 /// A token at the front of some bytes is the longest there, where one more byte makes no token of it.
 pub fn one_more_byte_decides()
@@ -30,4 +30,14 @@ pub fn lexemes_stand_in_order()
 /// The text of each lexeme is the token that its word says.
 pub fn lexemes_are_tokens()
     ensures { LexemesAreTokens }
+{}
+
+/// No lexeme of version 1 is the keyword `scope`.
+pub fn version_one_has_no_scope()
+    ensures { VersionOneHasNoScope }
+{}
+
+/// A text is of version 2 exactly where it begins with the version's line.
+pub fn versions_begin()
+    ensures { VersionsBegin }
 {}

@@ -1,11 +1,12 @@
 // How a text is cut into tokens.
 
 ghost use Rattle.std.specs.Prelude.{◌≡◌, ◌≤◌, ◌+◌, length, drop, IfOk};
-ghost use Rattle.script_tokens.specs.Lexing.{Comes, Lexes, NextToken, Stands};
+ghost use Rattle.script_tokens.specs.Lexing.{Comes, IsCut, NextToken, Stands};
 
 use crate::front::{front, gap_length};
 use crate::memory::Memory;
 use crate::token::{Lexeme, Token, TokenKind};
+use crate::version::Version;
 use std::alloc::Global;
 
 /// The most bytes that a text may have, one mebibyte. So every offset is a `u32`.
@@ -31,17 +32,19 @@ pub enum Misfit {
     NoToken(u32),
 }
 
-/// The lexemes of a text in order, and why they end. Their texts, and the gaps between, make up the text up to the stop.
+/// The version of a text, its lexemes in order, and why they end. The line of the version, the texts of the lexemes, and the gaps between
+/// them make up the text up to the stop.
 #[derive(Debug, Drop)]
 pub struct Lexed {
+    pub version: Version,
     pub lexemes: Vec<Lexeme>,
     pub stop: Stop,
 }
 
 // The lexeme at the offset `at`, of which `rest` is the text from there on, or why there is none.
-fn lexeme_at(at: u32, rest: &[u8]) -> Result<Lexeme, Stop>
+fn lexeme_at(version: Version, at: u32, rest: &[u8]) -> Result<Lexeme, Stop>
     requires { at + length rest.now ≤ MAX_BYTES }
-    ensures { Stands at rest.now result }
+    ensures { Stands version at rest.now result }
 {
     let Some((first, _)) = rest.split_first() else {
         return Err(Stop::End);
@@ -49,7 +52,7 @@ fn lexeme_at(at: u32, rest: &[u8]) -> Result<Lexeme, Stop>
     if !first.is_ascii() {
         return Err(Stop::NotAscii(at));
     }
-    match front(rest) {
+    match front(version, rest) {
         Some((word, length)) => Ok(Lexeme {
             word,
             start: at,
@@ -60,49 +63,58 @@ fn lexeme_at(at: u32, rest: &[u8]) -> Result<Lexeme, Stop>
 }
 
 // The lexeme that comes next after the offset `from`, or why there is none.
-fn next_lexeme(bytes: &[u8], from: u32) -> Result<Lexeme, Stop>
+fn next_lexeme(version: Version, bytes: &[u8], from: u32) -> Result<Lexeme, Stop>
     requires size { length bytes.now ≤ MAX_BYTES }
     requires within { from ≤ length bytes.now }
-    ensures { Comes from (drop from bytes.now) result }
+    ensures { Comes version from (drop from bytes.now) result }
 {
     let left = &bytes[from as usize..];
     let gap = gap_length(left);
-    lexeme_at(from + gap as u32, &left[gap..])
+    lexeme_at(version, from + gap as u32, &left[gap..])
 }
 
-/// Cuts a text into its lexemes, up to its end or to the first byte that fits nowhere.
+/// Cuts a text into the lexemes of its version, from the end of the version's line up to the text's end or to the first byte that fits
+/// nowhere. Offsets are those in the whole text.
 ///
 /// The time is linear in the length of the text, and the memory in the number of its lexemes. `Err` is want of memory alone: a text that
 /// can't be read to its end gives the lexemes before the byte that stopped it, and that byte's offset in `stop`.
 pub fn lexemes(alloc: Global, bytes: &[u8]) -> Result<Lexed, Memory>
     requires { length bytes.now ≤ MAX_BYTES }
-    ensures { IfOk result (λ lexed. Lexes 0 bytes.now lexed.lexemes.items lexed.stop) }
+    ensures { IfOk result (λ lexed. IsCut bytes.now lexed.version lexed.lexemes.items lexed.stop) }
 {
+    let version = Version::of(bytes);
     let mut lexemes = Vec::new(alloc);
-    let mut from = 0;
+    let mut from = version.begins_at();
     loop {
-        match next_lexeme(bytes, from) {
+        match next_lexeme(version, bytes, from) {
             Ok(lexeme) => {
                 lexemes.push(lexeme)?;
                 from = lexeme.end;
             }
-            Err(stop) => return Ok(Lexed { lexemes, stop }),
+            Err(stop) => {
+                return Ok(Lexed {
+                    version,
+                    lexemes,
+                    stop,
+                });
+            }
         }
     }
 }
 
-/// The token that comes next from the offset `from` on, after the blanks and comments that stand there. It takes no memory.
+/// The token of a version that comes next from the offset `from` on, after the blanks and comments that stand there. It takes no memory,
+/// and doesn't ask of which version the text is.
 ///
 /// At the end of the text this is the token [`TokenKind::End`], whose `start` and `end` are the text's length. There is none exactly where a
 /// byte from 128 on stands among these blanks and comments or directly after them (`NotAscii`, with the offset of the first such byte), or
 /// else where the byte directly after them begins no token (`NoToken`, with its offset). An offset inside a token or a comment is taken
 /// as the start of a text.
-pub fn next_token(bytes: &[u8], from: u32) -> Result<Token, Misfit>
+pub fn next_token(bytes: &[u8], from: u32, version: Version) -> Result<Token, Misfit>
     requires size { length bytes.now ≤ MAX_BYTES }
     requires within { from ≤ length bytes.now }
-    ensures { NextToken bytes.now from result }
+    ensures { NextToken version bytes.now from result }
 {
-    match next_lexeme(bytes, from) {
+    match next_lexeme(version, bytes, from) {
         Ok(lexeme) => Ok(Token {
             kind: lexeme.word.kind(),
             start: lexeme.start,

@@ -1,13 +1,36 @@
 // Which word a text spells.
 
 ghost use Rattle.std.specs.Prelude.{◌≡◌, ◌∷◌, []};
-ghost use Rattle.script_tokens.specs.Word.{keywords, symbols, word_spelled};
+ghost use Rattle.script_tokens.specs.declared.version.Version.TheVariants as versions;
+ghost use Rattle.script_tokens.specs.Word.{common_keywords, keywords, symbols, word_spelled};
 
 use crate::token::Word;
+use crate::version::Version;
 
-// The keyword with that text.
-pub(crate) fn keyword(text: &[u8]) -> Option<Word>
-    ensures { result ≡ word_spelled keywords text.now }
+// The keyword of a version with that text.
+pub(crate) fn keyword(version: Version, text: &[u8]) -> Option<Word>
+    ensures { result ≡ word_spelled (keywords version) text.now }
+{
+    match version {
+        Version::One => common_keyword(text),
+        Version::Two => keyword_of_two(text),
+    }
+}
+
+// The keyword of version 2 with that text.
+fn keyword_of_two(text: &[u8]) -> Option<Word>
+    ensures { result ≡ word_spelled (keywords versions.Two) text.now }
+{
+    let scope: &[u8] = b"scope";
+    if scope == text {
+        return Some(Word::Scope);
+    }
+    common_keyword(text)
+}
+
+// The keyword with that text in every version.
+fn common_keyword(text: &[u8]) -> Option<Word>
+    ensures { result ≡ word_spelled common_keywords text.now }
 {
     match text {
         b"fn" => Some(Word::Fn),

@@ -87,6 +87,8 @@ pub enum Word {
     Arrow,
     /// `..`
     Range,
+    /// `scope`, which is a keyword of version 2 alone.
+    Scope,
 }
 
 impl Word {
@@ -116,7 +118,8 @@ impl Word {
             | Word::New
             | Word::Return
             | Word::Same
-            | Word::Older => TokenKind::Keyword,
+            | Word::Older
+            | Word::Scope => TokenKind::Keyword,
             _ => TokenKind::Symbol,
         }
     }

@@ -1,5 +1,5 @@
 -- The equations by which the meaning of a script that is written out is computed.
-use Rattle.std.proofs.Common.{◌≡◌, ℕ, Bool, List, Ok, map, sym, ap, ◌∙◌}
+use Rattle.std.proofs.Common.{◌≡◌, ℕ, Bool, List, Ok, map, sym, ap, ◌∙◌, rules}
 use Rattle.std.specs.Int.{w64, int_wrapping_neg}
 use Rattle.std.specs.Str.{bytes_eq}
 use Rattle.std.specs.Ordering.{nat_cmp, is_lt}
@@ -15,9 +15,13 @@ use Rattle.script_grammar.specs.declared.tree.SumPart.{SumPart}
 use Rattle.script_grammar.specs.declared.tree.ProductPart.{ProductPart}
 use Rattle.script_grammar.specs.declared.tree.ProductSign.{ProductSign}
 use Rattle.script_grammar.specs.declared.tree.Stmt.{Stmt, out-Stmt, fold_out-Stmt}
-use Rattle.script_grammar.specs.declared.tree.Act.{Act, out-Act, map-Act, fold_out-Act}
+use Rattle.script_grammar.specs.declared.tree.Act.{Act, out-Act, map-Act, fold_out-Act, the_lemmas}
+use Rattle.script_grammar.specs.declared.tree.Act.TheVariants as act
+use Rattle.script_grammar.specs.declared.tree.Act.TheOpen as opened
+use Rattle.script_grammar.specs.declared.tree.Right.{Right}
 use Rattle.script_grammar.specs.declared.tree.Act.TheFolds.{fold-Act}
 use Rattle.serial_meaning.specs.Runs.{◌>>=◌}
+use Rattle.serial_meaning.specs.Trees.{stated}
 use Rattle.serial_meaning.specs.Functions.{act_spawns, spawns}
 use Rattle.serial_meaning.specs.Values.{Meaning, Env, slot_of, scalar, items_of, number, object, truth, item, compared, sums, products, value_at, product_at, sum_at, value_of, sum_part, product_part}
 use Rattle.serial_meaning.specs.declared.value.Value.TheVariants.{Int}
@@ -53,6 +57,20 @@ value_of-sum first rest env = ap (λ e. value_of e env) (sym (expr.rolls-Sum fir
 
 pub value_of-product : (first : Expr) (rest : List ProductPart) (env : Env) → value_of (expr.Product first rest) env ≡ (value_of first env >>= λ v. products env v (map product_part rest))
 value_of-product first rest env = ap (λ e. value_of e env) (sym (expr.rolls-Product first rest)) ∙ value_of-roll (node.Product first rest) env
+
+-- What a statement that is written out is.
+
+pub opened-let : (x : Name) (r : Right) → out-Act (out-Stmt (stated (act.Let x r))).act ≡ opened.Let x r
+opened-let x r = search (rules, the_lemmas)
+
+pub opened-set : (x : Name) (r : Right) → out-Act (out-Stmt (stated (act.Set x r))).act ≡ opened.Set x r
+opened-set x r = search (rules, the_lemmas)
+
+pub opened-print : (e : Expr) → out-Act (out-Stmt (stated (act.Print e))).act ≡ opened.Print e
+opened-print e = search (rules, the_lemmas)
+
+pub opened-scope : (sts : List Stmt) → out-Act (out-Stmt (stated (act.Scope sts))).act ≡ opened.Scope sts
+opened-scope sts = search (rules, the_lemmas)
 
 abbrev pub act_has_spawn : Act → Bool
 act_has_spawn = fold-Act Bool Bool act_spawns (λ s. s.act)

@@ -2,7 +2,7 @@
 use Rattle.std.proofs.Common.{◌≡◌, List, [], ◌∷◌, ◌++◌, Option, Some, None, Result, Ok, Err, refl, sym, ap, ◌∙◌, append_assoc, subst}
 use Rattle.serial_meaning.specs.Runs.{Run, behind, goes_on, ◌then◌}
 use Rattle.serial_meaning.specs.Eval.{Evaluation}
-use Rattle.serial_meaning.specs.Open.{Item, Happened, Child, Ending, Own, Joined}
+use Rattle.serial_meaning.specs.Open.{Item, Happened, Child, Opened, Closed, Ending, Own, Joined}
 use Rattle.serial_meaning.specs.declared.value.Value.{Value}
 use Rattle.serial_meaning.specs.declared.event.Fault.{Fault}
 use Rattle.serial_meaning.specs.declared.event.Event.{Event}
@@ -25,6 +25,8 @@ module _ (child : Origin → Evaluation) where
   cut [] = record { events = []; cut_by = None }
   cut (Happened e ∷ is) = in_front (e ∷ []) (cut is)
   cut (Child o ∷ is) = child_first (child o).items (child o).ending (cut is)
+  cut (Opened j ∷ is) = cut is
+  cut (Closed j ∷ is) = cut is
 
   -- what follows a piece
   abbrev pub followed : Piece → Option Fault → Piece → Piece
@@ -47,6 +49,8 @@ module _ (child : Origin → Evaluation) where
       from : (q : Result (List Value) Fault) → child_first (child o).items q (followed (cut is) (cut is).cut_by (cut js)) ≡ followed (child_first (child o).items q (cut is)) (child_first (child o).items q (cut is)).cut_by (cut js)
       from (Ok vs) = inner (cut is) (cut is).cut_by
       from (Err f) = refl
+  cut-append (Opened j ∷ is) js = cut-append is js
+  cut-append (Closed j ∷ is) js = cut-append is js
 
   abbrev pub Matches : {A B : Type 0} → (A → B) → List Event → Option Fault → Run Event Fault A → Result B Ending → Type 0
   Matches lift es (Some f) r e = r ≡ record { items = es; ending = Err f }

@@ -14,8 +14,8 @@ use Rattle.serial_meaning.specs.Runs.{Run, done, stopped, behind, ◌then◌}
 use Rattle.serial_meaning.specs.Values.{value_of}
 use Rattle.serial_meaning.specs.Plan.{PlanView}
 use Rattle.serial_meaning.specs.Exec.{State, Manner, fault, statement, exec, returned, instance}
-use Rattle.serial_meaning.specs.Eval.{Evaluation, serial, eval_at}
-use Rattle.serial_meaning.specs.Open.{Item, Happened, Child, Ending, Own, put_off_all, node_at}
+use Rattle.serial_meaning.specs.Eval.{Evaluation, serial, eval_below}
+use Rattle.serial_meaning.specs.Open.{Item, Happened, Child, Ending, Own, put_off_all, opened}
 use Rattle.serial_meaning.specs.Trees.{named, number, variable, product, spawn, stated}
 use Rattle.serial_meaning.specs.Examples.{bad, endless_main, endless_body, never_reached, endless_plan, ElisionEndsAtTheChildsFault, OpenTreeHasBothFaults}
 use Rattle.serial_meaning.proofs.ExecLaws.{exec-cons, exec-nil}
@@ -48,8 +48,8 @@ set = stated (act.Set (named (codes "i")) (right.Value (number 0)))
 abbrev spinning : Stmt
 spinning = stated (act.While cond (set ∷ []))
 
-opened : out-Act (out-Stmt spinning).act ≡ node.While cond (set ∷ [])
-opened = search (rules, the_lemmas)
+opened_loop : out-Act (out-Stmt spinning).act ≡ node.While cond (set ∷ [])
+opened_loop = search (rules, the_lemmas)
 
 opened_set : out-Act (out-Stmt set).act ≡ node.Set (named (codes "i")) (right.Value (number 0))
 opened_set = search (rules, the_lemmas)
@@ -71,10 +71,10 @@ module _ {I E K : Type 0} (how : Manner I E K) (plan : PlanView) (path : List �
   holds : value_of cond (turning 0).env ≡ Ok (Int (pos 1))
   holds = simp (value_of-comparison, value_of-number, value_of-variable)
 
-  after_test : (n : ℕ) → statement how plan path (exec how plan path) calls spinning (turning (suc n)) ≡ (exec how plan path calls (set ∷ []) (turning n) then exec how plan path calls (spinning ∷ []))
-  after_test n = rw (opened, holds)
+  after_test : (n : ℕ) → statement how plan path (exec how plan) calls spinning (turning (suc n)) ≡ (exec how plan path calls (set ∷ []) (turning n) then exec how plan path calls (spinning ∷ []))
+  after_test n = rw (opened_loop, holds)
 
-  set-step : (n : ℕ) → statement how plan path (exec how plan path) calls set (turning (suc n)) ≡ done (turning n)
+  set-step : (n : ℕ) → statement how plan path (exec how plan) calls set (turning (suc n)) ≡ done (turning n)
   set-step n = rw (opened_set, value_of-number)
 
   set-none : exec how plan path calls (set ∷ []) (turning zero) ≡ fault how plan path Budget (turning zero)
@@ -84,7 +84,7 @@ module _ {I E K : Type 0} (how : Manner I E K) (plan : PlanView) (path : List �
   set-some n = exec-cons how plan path calls set [] (turning (suc n)) ∙ ap (λ r. r then exec how plan path calls []) (set-step n) ∙ exec-nil how plan path calls (turning n)
 
   -- A loop that never ends goes on until no step is left.
-  spins : (n : ℕ) → statement how plan path (exec how plan path) calls spinning (turning n) ≡ fault how plan path Budget (turning n)
+  spins : (n : ℕ) → statement how plan path (exec how plan) calls spinning (turning n) ≡ fault how plan path Budget (turning n)
   spins zero = refl
   spins (suc zero) = after_test zero ∙ ap (λ r. r then exec how plan path calls (spinning ∷ [])) set-none
   spins (suc (suc n)) =
@@ -115,7 +115,7 @@ module _ {I E K : Type 0} (how : Manner I E K) (n : ℕ) where
   abbrev bad_goes_on : State K
   bad_goes_on = record { env = variable_is (codes "z") 0 ∷ []; rank = 0; steps = suc (suc n); spawned = how.none }
 
-  bad-step : statement how (endless_plan n) (0 ∷ []) (exec how (endless_plan n) (0 ∷ [])) 0 (stated (act.Let (named (codes "z")) (right.Value (number 0)))) bad_begins ≡ done bad_goes_on
+  bad-step : statement how (endless_plan n) (0 ∷ []) (exec how (endless_plan n)) 0 (stated (act.Let (named (codes "z")) (right.Value (number 0)))) bad_begins ≡ done bad_goes_on
   bad-step = rw (opened_let, value_of-number)
 
   bad-body : exec how (endless_plan n) (0 ∷ []) 0 bad.body bad_begins ≡ done bad_goes_on
@@ -151,13 +151,13 @@ module _ (n : ℕ) (child : Origin → Evaluation) (faulting : child child_origi
   abbrev third : State (Option Fault)
   third = record { env = variable_is (codes "a") 0 ∷ []; rank = 1; steps = suc n; spawned = Some divided }
 
-  prints : statement how plan [] (exec how plan []) 0 (stated (act.Print (number 7))) (first n None) ≡ record { items = Happened (event.Print (0 ∷ []) (Int (pos 7))) ∷ []; ending = Ok (second n None) }
+  prints : statement how plan [] (exec how plan) 0 (stated (act.Print (number 7))) (first n None) ≡ record { items = Happened (event.Print (0 ∷ []) (Int (pos 7))) ∷ []; ending = Ok (second n None) }
   prints = rw (opened_print, value_of-number)
 
-  spawns : statement how plan [] (exec how plan []) 0 (stated (act.Let (named (codes "a")) (spawn (codes "bad") []))) (second n None) ≡ record { items = Happened (event.Spawn (0 ∷ [])) ∷ Child child_origin ∷ []; ending = Ok third }
+  spawns : statement how plan [] (exec how plan) 0 (stated (act.Let (named (codes "a")) (spawn (codes "bad") []))) (second n None) ≡ record { items = Happened (event.Spawn (0 ∷ [])) ∷ Child child_origin ∷ []; ending = Ok third }
   spawns = rw (opened_spawn, faulting)
 
-  lets : statement how plan [] (exec how plan []) 0 (stated (act.Let (named (codes "i")) (right.Value (number 0)))) third ≡ done (turning how plan [] 0 (Some divided) n)
+  lets : statement how plan [] (exec how plan) 0 (stated (act.Let (named (codes "i")) (right.Value (number 0)))) third ≡ done (turning how plan [] 0 (Some divided) n)
   lets = rw (opened_let, value_of-number)
 
   from-third : exec how plan [] 0 (stated (act.Let (named (codes "i")) (right.Value (number 0))) ∷ endless_body) third ≡ stopped (Own spent)
@@ -178,17 +178,17 @@ module _ (n : ℕ) (child : Origin → Evaluation) (faulting : child child_origi
   open-run = ap (λ r. (r then returned how plan [] endless_main) then λ p. done p.0) from-first
 
 -- what the child gives, and its node
-child-evaluation : (n : ℕ) → eval_at (endless_plan n) 2 child_origin ≡ record { items = []; ending = Err divided }
-child-evaluation n = ap (λ (r : Run Event Fault Value). r then λ v. done (v ∷ [])) (bad-faults (serial (eval_at (endless_plan n) 1)) n)
+child-evaluation : (n : ℕ) → eval_below (endless_plan n) 3 child_origin ≡ record { items = []; ending = Err divided }
+child-evaluation n = ap (λ (r : Run Event Fault Value). r then λ v. done (v ∷ [])) (bad-faults (serial (eval_below (endless_plan n) 2)) n)
 
-child-node : (n : ℕ) → node_at (endless_plan n) 2 child_origin ≡ record { items = []; ending = Err (Own divided) }
-child-node n = ap (λ (r : Run Item Ending Value). r then λ v. done (v ∷ [])) (bad-faults (put_off_all (endless_plan n) (eval_at (endless_plan n) 1)) n)
+child-node : (n : ℕ) → opened (endless_plan n) child_origin ≡ record { items = []; ending = Err (Own divided) }
+child-node n = ap (λ (r : Run Item Ending Value). r then λ v. done (v ∷ [])) (bad-faults (put_off_all (endless_plan n) (eval_below (endless_plan n) 2)) n)
 
 pub elision_ends_at_the_childs_fault : ElisionEndsAtTheChildsFault
-elision_ends_at_the_childs_fault n = ap (λ (r : Run Event Fault Value). r then λ v. done (v ∷ [])) (serial-run n (eval_at (endless_plan n) 2) (child-evaluation n))
+elision_ends_at_the_childs_fault n = ap (λ (r : Run Event Fault Value). r then λ v. done (v ∷ [])) (serial-run n (eval_below (endless_plan n) 3) (child-evaluation n))
 
-main-node : (n : ℕ) → node_at (endless_plan n) 3 (origin.Instance 1 [] []) ≡ record { items = Happened (event.Print (0 ∷ []) (Int (pos 7))) ∷ Happened (event.Spawn (0 ∷ [])) ∷ Child child_origin ∷ []; ending = Err (Own spent) }
-main-node n = ap (λ (r : Run Item Ending Value). r then λ v. done (v ∷ [])) (open-run n (eval_at (endless_plan n) 2) (child-evaluation n))
+main-node : (n : ℕ) → opened (endless_plan n) (origin.Instance 1 [] []) ≡ record { items = Happened (event.Print (0 ∷ []) (Int (pos 7))) ∷ Happened (event.Spawn (0 ∷ [])) ∷ Child child_origin ∷ []; ending = Err (Own spent) }
+main-node n = ap (λ (r : Run Item Ending Value). r then λ v. done (v ∷ [])) (open-run n (eval_below (endless_plan n) 3) (child-evaluation n))
 
 pub open_tree_has_both_faults : OpenTreeHasBothFaults
 open_tree_has_both_faults n = rw (main-node n, child-node n)

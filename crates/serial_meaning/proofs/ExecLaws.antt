@@ -2,10 +2,10 @@
 use Rattle.std.proofs.Common.{◌≡◌, ℕ, zero, suc, ◌+◌, ◌-◌, ◌≤◌, Bool, true, false, List, [], ◌∷◌, ◌++◌, Option, Some, None, Result, Ok, Err, refl, ap, sym, ◌∙◌, arith, length, nat_lt, if◌then◌else◌}
 use Rattle.std.proofs.Common.{ℤ, ◌-ℤ◌}
 use Rattle.serial_meaning.proofs.RunLaws.{then-then, then-same, Gives, then-gives, anything, gives-at}
-use Rattle.serial_meaning.specs.Runs.{Run, done, ◌then◌}
+use Rattle.serial_meaning.specs.Runs.{Run, done, behind, ◌then◌}
 use Rattle.serial_meaning.specs.Values.{value_of, values_of, slot_of, items_of, number, is_true, at_index}
 use Rattle.serial_meaning.specs.Functions.{number_of, function_at, any_spawns}
-use Rattle.serial_meaning.specs.Exec.{State, Manner, Block, strand, fault, given, paid, paid_from, tested, has_room, fits_depth, spawn, join, implied, returned, activation, called, right_side, found, store, looped, does, statement, each, statements, exec, count_of, set_scalar, bound}
+use Rattle.serial_meaning.specs.Exec.{State, Manner, Block, strand, fault, given, paid, paid_from, tested, has_room, fits_depth, spawn, join, join_at, leaves, shown, implied, returned, activation, called, right_side, found, store, looped, does, statement, each, statements, exec, count_of, set_scalar, bound}
 use Rattle.script_grammar.specs.declared.tree.Function.{Function}
 use Rattle.script_grammar.specs.declared.tree.CallText.{CallText}
 use Rattle.script_grammar.specs.declared.tree.Expr.{Expr}
@@ -28,7 +28,7 @@ use Rattle.serial_meaning.specs.declared.origin.Origin.{Origin}
 
 module _ {I E K : Type 0} (how : Manner I E K) (plan : PlanView) (path : List ℕ) where
   abbrev Blocks : Type 0
-  Blocks = Block how plan path
+  Blocks = Block I E K
 
   pub each-append : (one : Stmt → State K → Run I E (State K)) (xs ys : List Stmt) (s : State K) →
       each how plan path one (xs ++ ys) s ≡ (each how plan path one xs s then each how plan path one ys)
@@ -44,11 +44,11 @@ module _ {I E K : Type 0} (how : Manner I E K) (plan : PlanView) (path : List �
   PairWithin n p = p.1.steps ≤ n
 
   abbrev pub Spends : ℕ → Blocks → Type 0
-  Spends n b = (calls : ℕ) (sts : List Stmt) (s : State K) → s.steps ≤ n → Gives (Within s.steps) (b calls sts s).ending
+  Spends n b = (here : List ℕ) (calls : ℕ) (sts : List Stmt) (s : State K) → s.steps ≤ n → Gives (Within s.steps) (b here calls sts s).ending
 
   -- two blocks are alike up to n steps, and leave no more
   abbrev pub Alike : ℕ → Blocks → Blocks → Type 0
-  Alike n b c = (calls : ℕ) (sts : List Stmt) (s : State K) → s.steps ≤ n → b calls sts s ≡ c calls sts s
+  Alike n b c = (here : List ℕ) (calls : ℕ) (sts : List Stmt) (s : State K) → s.steps ≤ n → b here calls sts s ≡ c here calls sts s
 
   given-same : {A B : Type 0} (o : Result A FaultKind) (s : State K) (f g : A → Run I E B) → ((a : A) → f a ≡ g a) →
       given how plan path o s f ≡ given how plan path o s g
@@ -64,7 +64,7 @@ module _ {I E K : Type 0} (how : Manner I E K) (plan : PlanView) (path : List �
       activation how plan path b calls o vs s ≡ activation how plan path c calls o vs s
   activation-same n b c alike calls None vs s h = refl
   activation-same n b c alike calls (Some f) vs s h =
-      ap (λ r. r then returned how plan path f) (alike calls f.body (record s { env = bound f.params vs; spawned = how.none }) h)
+      ap (λ r. r then returned how plan path f) (alike path calls f.body (record s { env = bound f.params vs; spawned = how.none }) h)
 
   called-same : (n : ℕ) (b c : Blocks) → Alike n b c → (calls : ℕ) (t : CallText) (s : State K) → s.steps ≤ n →
       called how plan path b calls t s ≡ called how plan path c calls t s
@@ -99,8 +99,14 @@ module _ {I E K : Type 0} (how : Manner I E K) (plan : PlanView) (path : List �
   if-gives Q true f g h k = h
   if-gives Q false f g h k = k
 
+  join_at-within : (here : List ℕ) (s : State K) → Gives (Within s.steps) (join_at how plan path here s).ending
+  join_at-within here s = then-gives (λ (k : K). Unit {0}) (Within s.steps) (how.sync s.spawned) _ (anything _) (λ k u. omega arith)
+
   join-within : (s : State K) → Gives (Within s.steps) (join how plan path s).ending
-  join-within s = then-gives (λ (k : K). Unit {0}) (Within s.steps) (how.sync s.spawned) _ (anything _) (λ k u. omega arith)
+  join-within s = join_at-within path s
+
+  leaves-within : (rank : ℕ) (s : State K) → Gives (Within s.steps) (leaves how plan path rank s).ending
+  leaves-within rank s = then-gives (Within s.steps) (Within s.steps) (join_at how plan path (path ++ rank ∷ []) s) _ (join_at-within (path ++ rank ∷ []) s) (λ a g. g)
 
   weaker : (m n : ℕ) (r : Result (State K) E) → m ≤ n → Gives (Within m) r → Gives (Within n) r
   weaker m n (Ok s) h k = omega arith
@@ -139,7 +145,7 @@ module _ {I E K : Type 0} (how : Manner I E K) (plan : PlanView) (path : List �
       Gives (PairWithin s.steps) (activation how plan path b calls o vs s).ending
   activation-within n b spends calls None vs s h = omega arith
   activation-within n b spends calls (Some f) vs s h =
-      then-gives (Within s.steps) (PairWithin s.steps) (b calls f.body (record s { env = bound f.params vs; spawned = how.none })) _ (spends calls f.body _ h)
+      then-gives (Within s.steps) (PairWithin s.steps) (b path calls f.body (record s { env = bound f.params vs; spawned = how.none })) _ (spends path calls f.body _ h)
       (λ a g. pair-weaker a.steps s.steps (returned how plan path f a).ending g (returned-within f a))
 
   called-within : (n : ℕ) (b : Blocks) → Spends n b → (calls : ℕ) (t : CallText) (s : State K) → s.steps ≤ n →
@@ -180,13 +186,18 @@ module _ {I E K : Type 0} (how : Manner I E K) (plan : PlanView) (path : List �
   does-within n b spends calls st (act.Call t) s h = then-gives (PairWithin s.steps) (Within s.steps) (called how plan path b calls t s) _ (called-within n b spends calls t s h) (λ p g. g)
   does-within n b spends calls st act.Sync s h = join-within s
   does-within n b spends calls st (act.Print e) s h = given-gives (Within s.steps) (value_of e s.env) s _ (λ v. omega arith)
-  does-within n b spends calls st (act.If e xs ys) s h = given-gives (Within s.steps) (value_of e s.env) s _ (λ v. spends calls (if is_true v then xs else ys) s h)
+  does-within n b spends calls st (act.If e xs ys) s h = given-gives (Within s.steps) (value_of e s.env) s _ (λ v. spends path calls (if is_true v then xs else ys) s h)
   does-within n b spends calls st (act.While e xs) s h =
       given-gives (Within s.steps) (value_of e s.env) s _ (λ v. if-gives (Within s.steps) (is_true v) _ _
-      (then-gives (Within s.steps) (Within s.steps) (b calls xs s) _ (spends calls xs s h) (λ a g. weaker a.steps s.steps (b calls (st ∷ []) a).ending g (spends calls (st ∷ []) a (omega arith))))
+      (then-gives (Within s.steps) (Within s.steps) (b path calls xs s) _ (spends path calls xs s h) (λ a g. weaker a.steps s.steps (b path calls (st ∷ []) a).ending g (spends path calls (st ∷ []) a (omega arith))))
       (omega arith))
   does-within n b spends calls st (act.Pfor x lo hi target t) s h =
       given-gives (Within s.steps) (value_of lo s.env) s _ (λ l. given-gives (Within s.steps) (value_of hi s.env) s _ (λ k. given-gives (Within s.steps) (values_of t.args s.env) s _ (λ vs. looped-within (number l) (count_of (number k -ℤ number l)) vs target t s)))
+  does-within n b spends calls st (act.Scope xs) s h =
+      let inner : State K = record s { rank = 0 } in
+      tested-gives (Within s.steps) (nat_lt (length path + 1) plan.limits.depth) Depth s _
+      (then-gives (Within s.steps) (Within s.steps) (shown (how.opens (strand path s)) inner then b (strand path s) calls xs) _
+      (spends (strand path s) calls xs inner h) (λ a g. weaker a.steps s.steps (leaves how plan path s.rank a).ending g (leaves-within s.rank a)))
 
   statement-within : (n : ℕ) (b : Blocks) → Spends n b → (calls : ℕ) (st : Stmt) (s : State K) → s.steps ≤ suc n →
       Gives (Within s.steps) (statement how plan path b calls st s).ending
@@ -199,15 +210,6 @@ module _ {I E K : Type 0} (how : Manner I E K) (plan : PlanView) (path : List �
   each-within n one fine (st ∷ sts) s h =
       then-gives (Within s.steps) (Within s.steps) (one st s) _ (fine st s h) (λ a g. weaker a.steps s.steps (each how plan path one sts a).ending g (each-within n one fine sts a (omega arith)))
 
-  abbrev no_step : Stmt → State K → Run I E (State K)
-  no_step st s = fault how plan path Budget s
-
-  -- No run ends with more steps than it began with.
-  pub statements-within : (n : ℕ) → Spends n (statements how plan path n)
-  statements-within zero calls sts s h = each-within 0 no_step (λ st s h. tt) sts s h
-  statements-within (suc n) calls sts s h =
-      each-within (suc n) (statement how plan path (statements how plan path n) calls) (λ st s h. statement-within n (statements how plan path n) (statements-within n) calls st s h) sts s h
-
   does-same : (n : ℕ) (b c : Blocks) → Spends n b → Alike n b c → (calls : ℕ) (st : Stmt) (a : Act-F Act Stmt) (s : State K) → s.steps ≤ n →
       does how plan path b calls st a s ≡ does how plan path c calls st a s
   does-same n b c spends alike calls st (act.Let x r) s h = ap (λ q. q then λ p. done (set_scalar p.1 x p.0)) (right_side-same n b c alike calls r s h)
@@ -218,14 +220,17 @@ module _ {I E K : Type 0} (how : Manner I E K) (plan : PlanView) (path : List �
   does-same n b c spends alike calls st (act.Call t) s h = ap (λ q. q then λ p. done p.1) (called-same n b c alike calls t s h)
   does-same n b c spends alike calls st act.Sync s h = refl
   does-same n b c spends alike calls st (act.Print e) s h = refl
-  does-same n b c spends alike calls st (act.If e xs ys) s h = given-same (value_of e s.env) s _ _ (λ v. alike calls (if is_true v then xs else ys) s h)
+  does-same n b c spends alike calls st (act.If e xs ys) s h = given-same (value_of e s.env) s _ _ (λ v. alike path calls (if is_true v then xs else ys) s h)
   does-same n b c spends alike calls st (act.While e xs) s h =
       given-same (value_of e s.env) s _ _ (λ v. if-same (is_true v) _ _ (done s)
-      (then-same (b calls xs s) _ _ (λ a q. alike calls (st ∷ []) a (le (gives-at (Within s.steps) (b calls xs s).ending a (spends calls xs s h) q) h)) ∙ ap (λ r. r then c calls (st ∷ [])) (alike calls xs s h)))
+      (then-same (b path calls xs s) _ _ (λ a q. alike path calls (st ∷ []) a (le (gives-at (Within s.steps) (b path calls xs s).ending a (spends path calls xs s h) q) h)) ∙ ap (λ r. r then c path calls (st ∷ [])) (alike path calls xs s h)))
     where
       le : {a m k : ℕ} → a ≤ m → m ≤ k → a ≤ k
       le p q = omega arith
   does-same n b c spends alike calls st (act.Pfor x lo hi target t) s h = refl
+  does-same n b c spends alike calls st (act.Scope xs) s h =
+      tested-same (nat_lt (length path + 1) plan.limits.depth) Depth s _ _
+      (ap (λ r. behind (how.opens (strand path s)) r then leaves how plan path s.rank) (alike (strand path s) calls xs (record s { rank = 0 }) h))
 
   paid-same : {A : Type 0} (s : State K) (f g : State K → Run I E A) → ((k : ℕ) → suc k ≤ s.steps → f (record s { steps = k }) ≡ g (record s { steps = k })) →
       paid how plan path s f ≡ paid how plan path s g
@@ -245,69 +250,83 @@ module _ {I E K : Type 0} (how : Manner I E K) (plan : PlanView) (path : List �
       le : {a m k : ℕ} → a ≤ m → m ≤ k → a ≤ k
       le p q = omega arith
 
+module _ {I E K : Type 0} (how : Manner I E K) (plan : PlanView) where
+  abbrev no_step : List ℕ → Stmt → State K → Run I E (State K)
+  no_step here st s = fault how plan here Budget s
+
+  -- No run ends with more steps than it began with.
+  pub statements-within : (n : ℕ) → Spends how plan [] n (statements how plan n)
+  statements-within zero here calls sts s h = each-within how plan here 0 (no_step here) (λ st s h. tt) sts s h
+  statements-within (suc n) here calls sts s h =
+      each-within how plan here (suc n) (statement how plan here (statements how plan n) calls)
+      (λ st s h. statement-within how plan here n (statements how plan n) (statements-within n) calls st s h) sts s h
+
   -- As many levels as there are steps are enough: more change nothing.
-  pub statements-enough : (n m : ℕ) → n ≤ m → Alike n (statements how plan path n) (statements how plan path m)
-  statements-enough zero zero h calls sts s g = refl
-  statements-enough zero (suc m) h calls sts s g = each-same 0 no_step (statement how plan path (statements how plan path m) calls) (λ st s h. tt) (λ st s h. none st s.steps s h) sts s g
+  pub statements-enough : (n m : ℕ) → n ≤ m → Alike how plan [] n (statements how plan n) (statements how plan m)
+  statements-enough zero zero h here calls sts s g = refl
+  statements-enough zero (suc m) h here calls sts s g =
+      each-same how plan here 0 (no_step here) (statement how plan here (statements how plan m) calls) (λ st s h. tt) (λ st s h. none st s.steps s h) sts s g
     where
-      none : (st : Stmt) (k : ℕ) (s : State K) → k ≤ 0 → fault how plan path Budget s ≡ paid_from how plan path k s (λ s. does how plan path (statements how plan path m) calls st (out-Act (out-Stmt st).act) s)
+      none : (st : Stmt) (k : ℕ) (s : State K) → k ≤ 0 →
+          fault how plan here Budget s ≡ paid_from how plan here k s (λ s. does how plan here (statements how plan m) calls st (out-Act (out-Stmt st).act) s)
       none st zero s h = refl
       none st (suc k) s h = absurd (omega arith)
-  statements-enough (suc n) zero h calls sts s g = absurd (omega arith)
-  statements-enough (suc n) (suc m) h calls sts s g =
-      each-same (suc n) (statement how plan path (statements how plan path n) calls) (statement how plan path (statements how plan path m) calls)
-      (λ st s h. statement-within n (statements how plan path n) (statements-within n) calls st s h)
+  statements-enough (suc n) zero h here calls sts s g = absurd (omega arith)
+  statements-enough (suc n) (suc m) h here calls sts s g =
+      each-same how plan here (suc n) (statement how plan here (statements how plan n) calls) (statement how plan here (statements how plan m) calls)
+      (λ st s h. statement-within how plan here n (statements how plan n) (statements-within n) calls st s h)
       (alike (statements-enough n m (omega arith)))
       sts s g
     where
-      alike : Alike n (statements how plan path n) (statements how plan path m) → (st : Stmt) (s : State K) → s.steps ≤ suc n → statement how plan path (statements how plan path n) calls st s ≡ statement how plan path (statements how plan path m) calls st s
+      alike : Alike how plan [] n (statements how plan n) (statements how plan m) → (st : Stmt) (s : State K) → s.steps ≤ suc n →
+          statement how plan here (statements how plan n) calls st s ≡ statement how plan here (statements how plan m) calls st s
       alike fewer st s k =
-          paid-same s (does how plan path (statements how plan path n) calls st (out-Act (out-Stmt st).act)) (does how plan path (statements how plan path m) calls st (out-Act (out-Stmt st).act))
-          (λ j q. does-same n (statements how plan path n) (statements how plan path m) (statements-within n) fewer calls st (out-Act (out-Stmt st).act) (record s { steps = j }) (omega arith))
+          paid-same how plan here s (does how plan here (statements how plan n) calls st (out-Act (out-Stmt st).act)) (does how plan here (statements how plan m) calls st (out-Act (out-Stmt st).act))
+          (λ j q. does-same how plan here n (statements how plan n) (statements how plan m) (statements-within n) fewer calls st (out-Act (out-Stmt st).act) (record s { steps = j }) (omega arith))
 
   -- from any number of levels that is no less than the steps, the same
-  pub exec-levels : (n calls : ℕ) (sts : List Stmt) (s : State K) → s.steps ≤ n → exec how plan path calls sts s ≡ statements how plan path n calls sts s
-  exec-levels n calls sts s h = statements-enough s.steps n h calls sts s (omega arith)
+  pub exec-levels : (path : List ℕ) (n calls : ℕ) (sts : List Stmt) (s : State K) → s.steps ≤ n → exec how plan path calls sts s ≡ statements how plan n path calls sts s
+  exec-levels path n calls sts s h = statements-enough s.steps n h path calls sts s (omega arith)
 
-  exec-spends : (n : ℕ) → Spends n (exec how plan path)
-  exec-spends n calls sts s h = statements-within s.steps calls sts s (omega arith)
+  exec-spends : (n : ℕ) → Spends how plan [] n (exec how plan)
+  exec-spends n here calls sts s h = statements-within s.steps here calls sts s (omega arith)
 
   -- The equation of the meaning, in which no level stands: a statement, whose blocks and calls are meant by the same meaning, and then the others.
-  pub exec-cons : (calls : ℕ) (st : Stmt) (sts : List Stmt) (s : State K) →
-      exec how plan path calls (st ∷ sts) s ≡ (statement how plan path (exec how plan path) calls st s then exec how plan path calls sts)
-  exec-cons calls st sts s = from s.steps s (omega arith)
+  pub exec-cons : (path : List ℕ) (calls : ℕ) (st : Stmt) (sts : List Stmt) (s : State K) →
+      exec how plan path calls (st ∷ sts) s ≡ (statement how plan path (exec how plan) calls st s then exec how plan path calls sts)
+  exec-cons path calls st sts s = from s.steps s (omega arith)
     where
-      from : (n : ℕ) (s : State K) → s.steps ≤ n → exec how plan path calls (st ∷ sts) s ≡ (statement how plan path (exec how plan path) calls st s then exec how plan path calls sts)
+      from : (n : ℕ) (s : State K) → s.steps ≤ n → exec how plan path calls (st ∷ sts) s ≡ (statement how plan path (exec how plan) calls st s then exec how plan path calls sts)
       from n s h =
-          exec-levels (suc n) calls (st ∷ sts) s (omega arith)
-          ∙ then-same (statement how plan path (statements how plan path n) calls st s) _ _ (λ a q. sym (exec-levels (suc n) calls sts a (le (gives-at (Within s.steps) (statement how plan path (statements how plan path n) calls st s).ending a (statement-within n (statements how plan path n) (statements-within n) calls st s (omega arith)) q) h)))
-          ∙ ap (λ r. r then exec how plan path calls sts) (paid-same s _ _ (λ j q. does-same n (statements how plan path n) (exec how plan path) (statements-within n) (λ calls sts s g. sym (exec-levels n calls sts s g)) calls st (out-Act (out-Stmt st).act) (record s { steps = j }) (omega arith)))
+          exec-levels path (suc n) calls (st ∷ sts) s (omega arith)
+          ∙ then-same (statement how plan path (statements how plan n) calls st s) _ _ (λ a q. sym (exec-levels path (suc n) calls sts a (le (gives-at (Within how plan path s.steps) (statement how plan path (statements how plan n) calls st s).ending a (statement-within how plan path n (statements how plan n) (statements-within n) calls st s (omega arith)) q) h)))
+          ∙ ap (λ r. r then exec how plan path calls sts) (paid-same how plan path s _ _ (λ j q. does-same how plan path n (statements how plan n) (exec how plan) (statements-within n) (λ here calls sts s g. sym (exec-levels here n calls sts s g)) calls st (out-Act (out-Stmt st).act) (record s { steps = j }) (omega arith)))
         where
           le : {a m k : ℕ} → a ≤ m → m ≤ k → a ≤ suc k
           le p q = omega arith
 
-  pub exec-nil : (calls : ℕ) (s : State K) → exec how plan path calls [] s ≡ done s
-  exec-nil calls s = from s.steps
+  pub exec-nil : (path : List ℕ) (calls : ℕ) (s : State K) → exec how plan path calls [] s ≡ done s
+  exec-nil path calls s = from s.steps
     where
-      from : (n : ℕ) → statements how plan path n calls [] s ≡ done s
+      from : (n : ℕ) → statements how plan n path calls [] s ≡ done s
       from zero = refl
       from (suc n) = refl
 
   -- Statements in a row are the first and then the others.
-  pub exec-append : (calls : ℕ) (xs ys : List Stmt) (s : State K) → exec how plan path calls (xs ++ ys) s ≡ (exec how plan path calls xs s then exec how plan path calls ys)
-  exec-append calls [] ys s = ap (λ r. r then exec how plan path calls ys) (sym (exec-nil calls s))
-  exec-append calls (x ∷ xs) ys s =
-      exec-cons calls x (xs ++ ys) s ∙ then-same (statement how plan path (exec how plan path) calls x s) _ _ (λ a q. exec-append calls xs ys a)
-      ∙ sym (then-then (statement how plan path (exec how plan path) calls x s) (exec how plan path calls xs) (exec how plan path calls ys))
-      ∙ ap (λ r. r then exec how plan path calls ys) (sym (exec-cons calls x xs s))
+  pub exec-append : (path : List ℕ) (calls : ℕ) (xs ys : List Stmt) (s : State K) → exec how plan path calls (xs ++ ys) s ≡ (exec how plan path calls xs s then exec how plan path calls ys)
+  exec-append path calls [] ys s = ap (λ r. r then exec how plan path calls ys) (sym (exec-nil path calls s))
+  exec-append path calls (x ∷ xs) ys s =
+      exec-cons path calls x (xs ++ ys) s ∙ then-same (statement how plan path (exec how plan) calls x s) _ _ (λ a q. exec-append path calls xs ys a)
+      ∙ sym (then-then (statement how plan path (exec how plan) calls x s) (exec how plan path calls xs) (exec how plan path calls ys))
+      ∙ ap (λ r. r then exec how plan path calls ys) (sym (exec-cons path calls x xs s))
 
   -- A turn of a loop puts the body and the loop again before the other statements.
-  pub exec-turn : (calls : ℕ) (st : Stmt) (body sts : List Stmt) (s : State K) →
+  pub exec-turn : (path : List ℕ) (calls : ℕ) (st : Stmt) (body sts : List Stmt) (s : State K) →
       ((exec how plan path calls body s then exec how plan path calls (st ∷ [])) then exec how plan path calls sts) ≡ exec how plan path calls (body ++ (st ∷ sts)) s
-  exec-turn calls st body sts s =
+  exec-turn path calls st body sts s =
       then-then (exec how plan path calls body s) (exec how plan path calls (st ∷ [])) (exec how plan path calls sts)
-      ∙ then-same (exec how plan path calls body s) _ _ (λ a q. sym (exec-append calls (st ∷ []) sts a))
-      ∙ sym (exec-append calls body (st ∷ sts) s)
+      ∙ then-same (exec how plan path calls body s) _ _ (λ a q. sym (exec-append path calls (st ∷ []) sts a))
+      ∙ sym (exec-append path calls body (st ∷ sts) s)
 
 -- all of these equations for the elision and for the open tree
 pub equations : {I E K : Type 0} (how : Manner I E K) (plan : PlanView) (path : List ℕ) → Equations how plan path

@@ -9,6 +9,9 @@ pub mod Earlier
 pub mod Endless
 pub mod ExecLaws
 pub mod Least
+pub mod Left
+pub mod Levels
+pub mod LoopEnds
 pub mod Loops
 pub mod Named
 pub mod Order

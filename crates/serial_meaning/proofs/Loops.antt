@@ -6,16 +6,18 @@ use Rattle.std.proofs.lemmas.List.{take-append-drop, take-append-le, take_all}
 use Rattle.ped_path.specs.Path.{IsBefore}
 use Rattle.serial_meaning.specs.Answer.{IsLoopPath, IsCut}
 use Rattle.serial_meaning.specs.Eval.{path_of}
-use Rattle.serial_meaning.specs.Laws.{IsOriginOf, Main}
+use Rattle.serial_meaning.specs.Laws.{IsOriginOf, Main, ChildOf}
 use Rattle.serial_meaning.specs.Loops.{IsUnlooped, IsOutermost, Outermost, outermost_of, outer_path}
-use Rattle.serial_meaning.specs.Open.{faults}
+use Rattle.serial_meaning.specs.Open.{Child, opened, faults}
 use Rattle.serial_meaning.specs.Plan.{PlanView}
 use Rattle.serial_meaning.proofs.Before.{BeforeOrBegins, before-longer, before-begins}
 use Rattle.serial_meaning.proofs.Order.{before-prefix, not_before-back}
-use Rattle.serial_meaning.proofs.Scopes.{paths_are_of_one_kind}
+use Rattle.serial_meaning.proofs.Origins.{IsBelow, child-below}
+use Rattle.serial_meaning.proofs.Scopes.{paths_are_of_one_kind, no-loop-between}
 use Rattle.serial_meaning.specs.declared.event.Fault.{Fault}
 use Rattle.serial_meaning.specs.declared.origin.Origin.{Origin}
 use Rattle.serial_meaning.specs.declared.origin.Origin.TheVariants.{Instance, Loop}
+use Rattle.serial_meaning.specs.declared.value.Value.{Value}
 
 -- a path's beginning
 front-taken : (front more path : List ℕ) → front ++ more ≡ path → take (length front) path ≡ front
@@ -48,33 +50,66 @@ loops_last plan path more n h = record {
     first : (k : ℕ) → k ≤ length (path ++ more) → IsLoopPath plan (take k (path ++ more)) → n ≤ k
     first k short loop = by_length k loop (nat_lt k n) refl
 
--- a loop path that a child's path begins with is its own or begins the parent's
-last-loop : (plan : PlanView) (path : List ℕ) (rank k : ℕ) → IsUnlooped plan path → k ≤ length (path ++ rank ∷ []) → IsLoopPath plan (take k (path ++ rank ∷ [])) → k ≡ length (path ++ rank ∷ [])
-last-loop plan path rank k none h loop = by_length (nat_lt (length path) k) refl
+-- more than a path's ranks go on from it
+front-of : (path ranks : List ℕ) (n : ℕ) → length path < n → n ≤ length (path ++ ranks) → (k : ℕ) × (more : List ℕ) × (take n (path ++ ranks) ≡ path ++ k ∷ more)
+front-of path ranks zero h g = absurd (omega arith)
+front-of [] [] (suc n) h g = absurd (omega arith)
+front-of [] (r ∷ ranks) (suc n) h g = (r, take n ranks, refl)
+front-of (x ∷ path) ranks (suc n) h g = let f = front-of path ranks n (omega arith) (omega arith) in (f.0, f.1, ap (λ l. x ∷ l) f.2)
+
+rest-of : (ranks : List ℕ) (n : ℕ) → n < length ranks → (k : ℕ) × (more : List ℕ) × (drop n ranks ≡ k ∷ more)
+rest-of [] n h = absurd (omega arith)
+rest-of (r ∷ ranks) zero h = (r, ranks, refl)
+rest-of (r ∷ ranks) (suc n) h = rest-of ranks n (omega arith)
+
+-- A loop's path with which the path of an instance's child begins is the child's own, where the instance is below no loop.
+own-loop : (plan : PlanView) (function : ℕ) (args : List Value) (path : List ℕ) (child : Origin) → IsOriginOf plan (Instance function args path) →
+    Contains (opened plan (Instance function args path)).items (Child child) → IsUnlooped plan path → (n : ℕ) → n ≤ length (path_of child) → IsLoopPath plan (take n (path_of child)) → n ≡ length (path_of child)
+own-loop plan function args path child known among none n short loop = by_length (nat_lt (length path) n) (nat_lt n (length (path_of child))) refl refl
   where
-    long : length (path ++ rank ∷ []) ≡ length path + 1
-    long = length-append path (rank ∷ [])
+    below : IsBelow (Instance function args path) child
+    below = child-below plan (Instance function args path) child among
 
-    by_length : (b : Bool) → nat_lt (length path) k ≡ b → k ≡ length (path ++ rank ∷ [])
-    by_length true e = let high : length path < k = grind (arith, nat_tests) in omega (arith, long, high, h)
-    by_length false e =
-        let short : k ≤ length path = grind (arith, nat_tests) in absurd (none k short (subst (IsLoopPath plan) (take-append-le k path (rank ∷ []) short) loop))
+    -- that path would be the parent's
+    low : n ≤ length path → ⊥
+    low h = none n h (subst (IsLoopPath plan) (ap (take n) below.2 ∙ take-append-le n path (below.0 ∷ below.1) h) loop)
 
-pub children_know_loops : (plan : PlanView) (path : List ℕ) (rank : ℕ) (known : Option ℕ) (child : Origin) → IsOriginOf plan child → path_of child ≡ path ++ rank ∷ [] → Outermost plan path known →
+    -- or stand between both
+    between : length path < n → n < length (path_of child) → ⊥
+    between h g =
+        let front = front-of path (below.0 ∷ below.1) n h (subst (λ (l : List ℕ). n ≤ length l) below.2 short) in
+        let rest = rest-of (path_of child) n g in
+        no-loop-between plan function args path child (take n (path_of child)) front.0 front.1 rest.0 rest.1 known among loop (ap (take n) below.2 ∙ front.2)
+        (sym (take-append-drop n (path_of child)) ∙ ap (λ l. take n (path_of child) ++ l) rest.2)
+
+    by_length : (a b : Bool) → nat_lt (length path) n ≡ a → nat_lt n (length (path_of child)) ≡ b → n ≡ length (path_of child)
+    by_length false b e f = absurd (low (grind (arith, nat_tests)))
+    by_length true false e f = let high : length (path_of child) ≤ n = grind (arith, nat_tests) in omega (arith, high, short)
+    by_length true true e f = absurd (between (grind (arith, nat_tests)) (grind (arith, nat_tests)))
+
+pub children_know_loops : (plan : PlanView) (parent child : Origin) (known : Option ℕ) → IsOriginOf plan parent → Contains (opened plan parent).items (Child child) → Outermost plan (path_of parent) known →
     Outermost plan (path_of child) (outermost_of known child)
-children_know_loops plan path rank (Some n) child of_plan e h = subst (λ (l : List ℕ). IsOutermost plan l n) (sym e) (loops_last plan path (rank ∷ []) n h)
-children_know_loops plan path rank None (Instance function args at) of_plan e h = none
+children_know_loops plan parent child (Some n) of_plan among h =
+    let below = child-below plan parent child among in subst (λ (l : List ℕ). IsOutermost plan l n) (sym below.2) (loops_last plan (path_of parent) (below.0 ∷ below.1) n h)
+children_know_loops plan (Loop function rest first path range) child None of_plan among h =
+    absurd (h (length path) (omega arith) (subst (IsLoopPath plan) (sym (take_all (length path) path (omega arith))) (function, rest, first, range, of_plan)))
+children_know_loops plan (Instance function args path) (Instance other_function other_args at) None of_plan among h = none
   where
+    child : Origin
+    child = Instance other_function other_args at
+
     none : IsUnlooped plan at
     none k short loop =
-        let whole : k ≡ length (path ++ rank ∷ []) = last-loop plan path rank k h (subst (λ (l : List ℕ). k ≤ length l) e short) (subst (λ (l : List ℕ). IsLoopPath plan (take k l)) e loop) in
-        let own : take k at ≡ at = take_all k at (omega (arith, whole, ap length e)) in
-        paths_are_of_one_kind plan function args at of_plan (subst (IsLoopPath plan) own loop)
-children_know_loops plan path rank None (Loop function rest first at range) of_plan e h = record {
-  within = omega arith;
-  loop = subst (IsLoopPath plan) (sym (take_all (length at) at (omega arith))) (function, rest, first, range, of_plan);
-  first = λ k short loop. let whole : k ≡ length (path ++ rank ∷ []) = last-loop plan path rank k h (subst (λ (l : List ℕ). k ≤ length l) e short) (subst (λ (l : List ℕ). IsLoopPath plan (take k l)) e loop) in omega (arith, whole, ap length e);
-}
+        let whole : k ≡ length at = own-loop plan function args path child of_plan among h k short loop in
+        let own : take k at ≡ at = take_all k at (omega (arith, whole)) in
+        paths_are_of_one_kind plan other_function other_args at (ChildOf (Instance function args path) child of_plan among) (subst (IsLoopPath plan) own loop)
+children_know_loops plan (Instance function args path) (Loop other_function rest first at range) None of_plan among h =
+    let child : Origin = Loop other_function rest first at range in
+    record {
+      within = omega arith;
+      loop = subst (IsLoopPath plan) (sym (take_all (length at) at (omega arith))) (other_function, rest, first, range, ChildOf (Instance function args path) child of_plan among);
+      first = λ k short loop. let whole : k ≡ length at = own-loop plan function args path child of_plan among h k short loop in omega (arith, whole);
+    }
 
 pub cuts_are_told : (plan : PlanView) (o : Origin) (by : Fault) (known : Option ℕ) → Outermost plan (path_of o) known → Contains (faults plan) by → IsCut plan o by ↔ IsBefore by.at (outer_path known (path_of o))
 cuts_are_told plan o by None h of_plan = (

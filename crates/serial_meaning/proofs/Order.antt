@@ -49,3 +49,7 @@ reversed o Greater e h g = absurd (cc)
 -- Of two pedigrees at most one is before the other.
 pub not_before-back : (j k : List ℕ) → IsBefore j k → IsBefore k j → ⊥
 not_before-back j k h g = reversed (cmp k j) (cmp j k) (nat_list_cmp_total.antisymm k j) h g
+
+-- What is before a pedigree is before all that the pedigree is before.
+pub before-before : (i j k : List ℕ) → IsBefore i j → IsBefore j k → IsBefore i k
+before-before i j k h g = nat_list_cmp_total.trans i j k h g

@@ -10,11 +10,12 @@ use Rattle.serial_meaning.specs.Runs.{done}
 use Rattle.serial_meaning.specs.Functions.{function_at}
 use Rattle.serial_meaning.specs.Plan.{PlanView, functions_of}
 use Rattle.serial_meaning.specs.Exec.{State, strand, fits_depth}
-use Rattle.serial_meaning.specs.Eval.{Evaluation, iteration, path_of, eval_at, eval, depth_left}
-use Rattle.serial_meaning.specs.Open.{Item, Happened, Child, Ending, put_off_all, joined, loop_end, is_zero, iterations, gathered, node_with, node_at, opened, own_fault, faults_of, faults_at, faults}
+use Rattle.serial_meaning.specs.Eval.{Evaluation, iteration, path_of, eval_with, eval_below, eval, depth_left}
+use Rattle.serial_meaning.specs.Open.{Item, Happened, Child, Opened, Closed, Ending, put_off_all, joined, loop_end, is_zero, iterations, gathered, node_with, opened, own_fault, faults_of, faults_with, faults_below, faults_in, faults}
 use Rattle.serial_meaning.proofs.Each.{Each, each-contained, Parts, instance-each}
-use Rattle.serial_meaning.proofs.Children.{ChildrenRise, node-spread}
-use Rattle.serial_meaning.proofs.Least.{LeastOf, least-at}
+use Rattle.serial_meaning.proofs.Children.{IsAt, children, node-spread}
+use Rattle.serial_meaning.proofs.Levels.{enough}
+use Rattle.serial_meaning.proofs.Least.{LeastOf, least-in}
 use Rattle.serial_meaning.specs.declared.value.Value.{Value}
 use Rattle.serial_meaning.specs.declared.event.Fault.{Fault}
 use Rattle.serial_meaning.specs.declared.origin.Origin.{Origin}
@@ -32,6 +33,23 @@ cons-contained x y xs c = from c.0 c.1 c.2
 contained-cons : {X : Type 0} (x y : X) (xs : List X) → Contains xs y → Contains (x ∷ xs) y
 contained-cons x y xs c = (suc c.0, omega (arith, c.1), c.2)
 
+pub child-contained : (is : List Item) (c : Origin) → Contains is (Child c) → Contains (children is) c
+child-contained [] c k = absurd (omega (arith, k.1))
+child-contained (Happened e ∷ is) c k = elim (cons-contained (Happened e) (Child c) is k) [ inl h ↦ absurd (cc) | inr h ↦ child-contained is c h ]
+child-contained (Child o ∷ is) c k = from (cons-contained (Child o) (Child c) is k) (child-contained is c)
+  where
+    origin_in : Item → Origin
+    origin_in (Happened e) = o
+    origin_in (Child d) = d
+    origin_in (Opened j) = o
+    origin_in (Closed j) = o
+
+    from : (Child o ≡ Child c) ⊎ Contains is (Child c) → (Contains is (Child c) → Contains (children is) c) → Contains (o ∷ children is) c
+    from (inl h) later = (0, omega arith, ap origin_in h)
+    from (inr h) later = contained-cons o c (children is) (later h)
+child-contained (Opened j ∷ is) c k = elim (cons-contained (Opened j) (Child c) is k) [ inl h ↦ absurd (cc) | inr h ↦ child-contained is c h ]
+child-contained (Closed j ∷ is) c k = elim (cons-contained (Closed j) (Child c) is k) [ inl h ↦ absurd (cc) | inr h ↦ child-contained is c h ]
+
 -- Depth
 
 -- a child of an instance leaves room for a rank of its own, and a loop for its iterations' too
@@ -42,6 +60,8 @@ Fits plan (Loop function rest first path range) = length path + 2 ≤ plan.limit
 abbrev ItemFits : PlanView → Item → Type 0
 ItemFits plan (Happened e) = Unit {0}
 ItemFits plan (Child o) = Fits plan o
+ItemFits plan (Opened j) = Unit {0}
+ItemFits plan (Closed j) = Unit {0}
 
 -- what is known of an origin of the plan before
 abbrev pub LoopFits : PlanView → Origin → Type 0
@@ -58,13 +78,13 @@ below-depth m n d h e = grind (arith, nat_tests)
 longer : (path : List ℕ) (r : ℕ) → length (path ++ r ∷ []) ≡ length path + 1
 longer path r = simp length-append
 
-module _ (plan : PlanView) (child : Origin → Evaluation) (path : List ℕ) where
+module _ (plan : PlanView) (child : Origin → Evaluation) where
   abbrev S : Type 0
   S = State (Option Fault)
 
-  loop-item-fits : (function : ℕ) (vs : List Value) (lo : ℤ) (hi : ℕ) (s : S) → fits_depth (put_off_all plan child) plan path hi ≡ true →
+  loop-item-fits : (path : List ℕ) (function : ℕ) (vs : List Value) (lo : ℤ) (hi : ℕ) (s : S) → fits_depth (put_off_all plan child) plan path hi ≡ true →
       Each (ItemFits plan) ((put_off_all plan child).loop (Loop function vs lo (strand path s) (record { lo = 0; hi = hi }))).items
-  loop-item-fits function vs lo hi s h = by_size hi h (is_zero (hi - 0)) refl
+  loop-item-fits path function vs lo hi s h = by_size hi h (is_zero (hi - 0)) refl
     where
       by_size : (n : ℕ) → fits_depth (put_off_all plan child) plan path n ≡ true → (b : Bool) → is_zero (n - 0) ≡ b →
           Each (ItemFits plan) (if b then done {I = Item} {E = Ending} [] else record { items = Child (Loop function vs lo (strand path s) (record { lo = 0; hi = hi })) ∷ []; ending = loop_end (child (Loop function vs lo (strand path s) (record { lo = 0; hi = hi }))).ending }).items
@@ -72,16 +92,18 @@ module _ (plan : PlanView) (child : Origin → Evaluation) (path : List ℕ) whe
       by_size zero g false e = absurd (cc)
       by_size (suc n) g false e = (rw (longer path s.rank) (below-depth (length path + 2) (length path + 1 + 2) plan.limits.depth g (omega arith)), tt)
 
-  parts : Parts (put_off_all plan child) plan path (ItemFits plan)
+  parts : Parts (put_off_all plan child) plan (ItemFits plan)
   parts = record {
-    print = λ s v. tt;
-    draw = λ s. tt;
-    new = λ s. tt;
-    sync = λ s. tt;
-    spawn = λ s. tt;
-    loop = λ s. tt;
+    print = λ path s v. tt;
+    draw = λ path s. tt;
+    new = λ path s. tt;
+    sync = λ path s. tt;
+    spawn = λ path s. tt;
+    loop = λ path s. tt;
+    opens = λ here. (tt, tt);
+    closes = λ here. (tt, tt);
     at_sync = at_sync;
-    child = λ n vs s h. (rw (longer path s.rank) (below-depth (length path + 1) (length path + 1 + 1) plan.limits.depth h refl), tt);
+    child = λ path n vs s h. (rw (longer path s.rank) (below-depth (length path + 1) (length path + 1 + 1) plan.limits.depth h refl), tt);
     iterations = loop-item-fits;
   }
     where
@@ -97,38 +119,30 @@ iterations-fit plan function rest first path k (suc n) h =
 
 children-fit : (plan : PlanView) (child : Origin → Evaluation) (o : Origin) → LoopFits plan o → Each (ItemFits plan) (node_with plan child o).items
 children-fit plan child (Instance function args path) h =
-    instance-each (put_off_all plan child) plan path (ItemFits plan) (parts plan child path) (function_at (functions_of plan) function) args
+    instance-each (put_off_all plan child) plan (ItemFits plan) (parts plan child) path (function_at (functions_of plan) function) args
 children-fit plan child (Loop function rest first path range) h = iterations-fit plan function rest first path range.lo (range.hi - range.lo) h
 
-node-children-fit : (plan : PlanView) (left : ℕ) (o : Origin) → LoopFits plan o → Each (ItemFits plan) (node_at plan left o).items
-node-children-fit plan zero o h = children-fit plan (λ o. done []) o h
-node-children-fit plan (suc left) o h = children-fit plan (eval_at plan left) o h
+-- its path goes on from the other's
+abbrev pub IsBelow : Origin → Origin → Type 0
+IsBelow o c = (k : ℕ) × (more : List ℕ) × (path_of c ≡ path_of o ++ k ∷ more)
 
--- the path of a child is its parent's with one more rank
-child-path : (path : List ℕ) (lo hi : ℕ) (is : List Item) (c : Origin) → ChildrenRise path lo hi is → Contains is (Child c) → length (path_of c) ≡ length path + 1
-child-path path lo hi [] c r k = absurd (omega (arith, k.1))
-child-path path lo hi (Happened e ∷ is) c r k = from (cons-contained (Happened e) (Child c) is k) (child-path path lo hi is c r)
-  where
-    from : (Happened e ≡ Child c) ⊎ Contains is (Child c) → (Contains is (Child c) → length (path_of c) ≡ length path + 1) → length (path_of c) ≡ length path + 1
-    from (inl h) later = absurd (cc)
-    from (inr h) later = later h
-child-path path lo hi (Child o ∷ is) c r k = from (cons-contained (Child o) (Child c) is k) (child-path path (r.0 + 1) hi is c r.4)
-  where
-    origin_in : Item → Origin
-    origin_in (Happened e) = o
-    origin_in (Child d) = d
+pub child-below : (plan : PlanView) (o c : Origin) → Contains (opened plan o).items (Child c) → IsBelow o c
+child-below plan o c k =
+    let s = node-spread plan (eval_below plan (depth_left plan o)) o in
+    let at = each-contained (IsAt (path_of o) 0 s.hi) (children (opened plan o).items) c s.spread.within (child-contained (opened plan o).items c k) in (at.0, at.1, at.2)
 
-    from : (Child o ≡ Child c) ⊎ Contains is (Child c) → (Contains is (Child c) → length (path_of c) ≡ length path + 1) → length (path_of c) ≡ length path + 1
-    from (inl h) later = let e : o ≡ c = ap origin_in h in ap (λ d. length (path_of d)) (sym e) ∙ ap length r.1 ∙ longer path r.0
-    from (inr h) later = later h
+fewer-left : (plan : PlanView) (c : Origin) (n more : ℕ) → Fits plan c → length (path_of c) ≡ n + suc more → depth_left plan c < plan.limits.depth - n
+fewer-left plan (Instance function args path) n more h e = omega arith
+fewer-left plan (Loop function rest first path range) n more h e = omega arith
 
-node-child-path : (plan : PlanView) (left : ℕ) (o c : Origin) → Contains (node_at plan left o).items (Child c) → length (path_of c) ≡ length (path_of o) + 1
-node-child-path plan zero o c k = let s = node-spread plan (λ o. done []) o in child-path (path_of o) 0 s.hi (node_at plan zero o).items c s.children k
-node-child-path plan (suc left) o c k = let s = node-spread plan (eval_at plan left) o in child-path (path_of o) 0 s.hi (node_at plan (suc left) o).items c s.children k
+pub child-fits : (plan : PlanView) (o c : Origin) → LoopFits plan o → Contains (opened plan o).items (Child c) → Fits plan c
+child-fits plan o c h k = each-contained (ItemFits plan) (opened plan o).items (Child c) (children-fit plan (eval_below plan (depth_left plan o)) o h) k
 
-fits-longer : (plan : PlanView) (c : Origin) (n : ℕ) → Fits plan c → length (path_of c) ≡ n + 1 → plan.limits.depth - n ≡ suc (depth_left plan c)
-fits-longer plan (Instance function args path) n h e = omega arith
-fits-longer plan (Loop function rest first path range) n h e = omega arith
+-- a child has fewer ranks left than its parent
+pub deeper : (plan : PlanView) (o c : Origin) → LoopFits plan o → Contains (opened plan o).items (Child c) → depth_left plan c < depth_left plan o
+deeper plan o c h k =
+    let below = child-below plan o c k in
+    fewer-left plan c (length (path_of o)) (length below.1) (child-fits plan o c h k) (ap length below.2 ∙ length-append (path_of o) (below.0 ∷ below.1))
 
 -- Faults of a child are its parent's
 
@@ -144,10 +158,14 @@ child-faults below (Child o ∷ is) c f k h = from (cons-contained (Child o) (Ch
     origin_in : Item → Origin
     origin_in (Happened e) = o
     origin_in (Child d) = d
+    origin_in (Opened j) = o
+    origin_in (Closed j) = o
 
     from : (Child o ≡ Child c) ⊎ Contains is (Child c) → (Contains is (Child c) → Contains (faults_of below is) f) → Contains (below o ++ faults_of below is) f
     from (inl g) later = let e : c ≡ o = sym (ap origin_in g) in Contains-append_left (below o) (faults_of below is) f (rw e at h)
     from (inr g) later = Contains-append_right (below o) (faults_of below is) f (later g)
+child-faults below (Opened j ∷ is) c f k h = elim (cons-contained (Opened j) (Child c) is k) [ inl g ↦ absurd (cc) | inr g ↦ child-faults below is c f g h ]
+child-faults below (Closed j ∷ is) c f k h = elim (cons-contained (Closed j) (Child c) is k) [ inl g ↦ absurd (cc) | inr g ↦ child-faults below is c f g h ]
 
 -- Faults of a part of a loop are the loop's
 
@@ -178,52 +196,56 @@ no_own : (q : Result (List Value) Fault) → own_fault (loop_end q) ≡ []
 no_own (Ok vs) = refl
 no_own (Err f) = refl
 
-part-faults : (plan : PlanView) (left : ℕ) (function : ℕ) (rest : List Value) (first : ℤ) (path : List ℕ) (whole part : Range) → whole.lo ≤ part.lo → part.lo ≤ part.hi → part.hi ≤ whole.hi →
-    (f : Fault) → Contains (faults_at plan left (Loop function rest first path part)) f → Contains (faults_at plan left (Loop function rest first path whole)) f
-part-faults plan zero function rest first path whole part a b c f h =
-    let none : own_fault (node_at plan zero (Loop function rest first path part)).ending ≡ [] = no_own (gathered (λ o. done []) (iterations function rest first path part.lo (part.hi - part.lo))) in
-    let g : Contains [] f = rw none at h in absurd (omega (arith, g.1))
-part-faults plan (suc left) function rest first path whole part a b c f h =
-    by_place (Contains-append_cases (loop_faults (faults_at plan left) function rest first path part.lo (part.hi - part.lo)) (own_fault (node_at plan (suc left) (Loop function rest first path part)).ending) f h)
-  where
-    by_place : Contains (loop_faults (faults_at plan left) function rest first path part.lo (part.hi - part.lo)) f ⊎ Contains (own_fault (node_at plan (suc left) (Loop function rest first path part)).ending) f →
-        Contains (faults_at plan (suc left) (Loop function rest first path whole)) f
-    by_place (inl g) =
-        let p = from-iteration (faults_at plan left) function rest first path part.lo (part.hi - part.lo) f g in
-        Contains-append_left (loop_faults (faults_at plan left) function rest first path whole.lo (whole.hi - whole.lo)) (own_fault (node_at plan (suc left) (Loop function rest first path whole)).ending) f
-        (of-iteration (faults_at plan left) function rest first path whole.lo (whole.hi - whole.lo) p.0 f (omega (arith, p.1)) (omega (arith, p.1, p.2)) p.3)
-    by_place (inr g) =
-        let none : own_fault (node_at plan (suc left) (Loop function rest first path part)).ending ≡ [] = no_own (gathered (eval_at plan left) (iterations function rest first path part.lo (part.hi - part.lo))) in
-        let k : Contains [] f = rw none at g in absurd (omega (arith, k.1))
-
 -- a loop has no fault of its own
-pub loop-own : (plan : PlanView) (left function : ℕ) (rest : List Value) (first : ℤ) (path : List ℕ) (range : Range) → own_fault (node_at plan left (Loop function rest first path range)).ending ≡ []
-loop-own plan zero function rest first path range = no_own (gathered (λ o. done []) (iterations function rest first path range.lo (range.hi - range.lo)))
-loop-own plan (suc left) function rest first path range = no_own (gathered (eval_at plan left) (iterations function rest first path range.lo (range.hi - range.lo)))
+pub loop-own : (plan : PlanView) (function : ℕ) (rest : List Value) (first : ℤ) (path : List ℕ) (range : Range) → own_fault (opened plan (Loop function rest first path range)).ending ≡ []
+loop-own plan function rest first path range = no_own (gathered (eval_below plan (depth_left plan (Loop function rest first path range))) (iterations function rest first path range.lo (range.hi - range.lo)))
+
+-- where a fault of a loop is
+pub in-iteration : (plan : PlanView) (function : ℕ) (rest : List Value) (first : ℤ) (path : List ℕ) (range : Range) (f : Fault) → Contains (faults_in plan (Loop function rest first path range)) f →
+    (i : ℕ) × (range.lo ≤ i) × (i < range.lo + (range.hi - range.lo)) × Contains (faults_below plan (plan.limits.depth - length path) (iteration function rest first path i)) f
+in-iteration plan function rest first path range f h =
+    from (Contains-append_cases (loop_faults below function rest first path range.lo (range.hi - range.lo)) (own_fault (opened plan (Loop function rest first path range)).ending) f h)
+  where
+    below : Origin → List Fault
+    below = faults_below plan (plan.limits.depth - length path)
+
+    from : Contains (loop_faults below function rest first path range.lo (range.hi - range.lo)) f ⊎ Contains (own_fault (opened plan (Loop function rest first path range)).ending) f →
+        (i : ℕ) × (range.lo ≤ i) × (i < range.lo + (range.hi - range.lo)) × Contains (below (iteration function rest first path i)) f
+    from (inl g) = from-iteration below function rest first path range.lo (range.hi - range.lo) f g
+    from (inr g) = let k : Contains [] f = subst (λ (l : List Fault). Contains l f) (loop-own plan function rest first path range) g in absurd (omega (arith, k.1))
+
+pub of-iteration-in : (plan : PlanView) (function : ℕ) (rest : List Value) (first : ℤ) (path : List ℕ) (range : Range) (i : ℕ) (f : Fault) → range.lo ≤ i → i < range.hi →
+    Contains (faults_below plan (plan.limits.depth - length path) (iteration function rest first path i)) f → Contains (faults_in plan (Loop function rest first path range)) f
+of-iteration-in plan function rest first path range i f a b h =
+    let below : Origin → List Fault = faults_below plan (plan.limits.depth - length path) in
+    Contains-append_left (loop_faults below function rest first path range.lo (range.hi - range.lo)) (own_fault (opened plan (Loop function rest first path range)).ending) f
+    (of-iteration below function rest first path range.lo (range.hi - range.lo) i f a (omega (arith, a, b)) h)
+
+part-faults : (plan : PlanView) (function : ℕ) (rest : List Value) (first : ℤ) (path : List ℕ) (whole part : Range) → whole.lo ≤ part.lo → part.lo ≤ part.hi → part.hi ≤ whole.hi →
+    (f : Fault) → Contains (faults_in plan (Loop function rest first path part)) f → Contains (faults_in plan (Loop function rest first path whole)) f
+part-faults plan function rest first path whole part a b c f h =
+    let i = in-iteration plan function rest first path part f h in
+    of-iteration-in plan function rest first path whole i.0 f (omega (arith, i.1)) (omega (arith, i.1, i.2)) i.3
 
 -- Origins of the plan
 
 abbrev pub IsPartOfPlan : PlanView → Origin → Type 0
-IsPartOfPlan plan o = LoopFits plan o × ((f : Fault) → Contains (faults_at plan (depth_left plan o) o) f → Contains (faults plan) f)
+IsPartOfPlan plan o = LoopFits plan o × ((f : Fault) → Contains (faults_in plan o) f → Contains (faults plan) f)
 
 pub child-of : (plan : PlanView) (parent child : Origin) → IsPartOfPlan plan parent → Contains (opened plan parent).items (Child child) →
-    Fits plan child × ((f : Fault) → Contains (faults_at plan (depth_left plan child) child) f → Contains (faults plan) f)
+    Fits plan child × ((f : Fault) → Contains (faults_in plan child) f → Contains (faults plan) f)
 child-of plan parent child h k = (fits, inside)
   where
     fits : Fits plan child
-    fits = each-contained (ItemFits plan) (opened plan parent).items (Child child) (node-children-fit plan (depth_left plan parent) parent h.0) k
+    fits = child-fits plan parent child h.0 k
 
-    one_less : depth_left plan parent ≡ suc (depth_left plan child)
-    one_less = fits-longer plan child (length (path_of parent)) fits (node-child-path plan (depth_left plan parent) parent child k)
+    same : faults_below plan (depth_left plan parent) child ≡ faults_in plan child
+    same = enough plan [] (faults_with plan) (depth_left plan parent) child (deeper plan parent child h.0 k)
 
-    among : Contains (node_at plan (suc (depth_left plan child)) parent).items (Child child)
-    among = subst (λ n. Contains (node_at plan n parent).items (Child child)) one_less k
-
-    inside : (f : Fault) → Contains (faults_at plan (depth_left plan child) child) f → Contains (faults plan) f
+    inside : (f : Fault) → Contains (faults_in plan child) f → Contains (faults plan) f
     inside f g =
-        let node = node_at plan (suc (depth_left plan child)) parent in
-        let all : Contains (faults_at plan (suc (depth_left plan child)) parent) f = Contains-append_left (faults_of (faults_at plan (depth_left plan child)) node.items) (own_fault node.ending) f (child-faults (faults_at plan (depth_left plan child)) node.items child f among g) in
-        h.1 f (subst (λ n. Contains (faults_at plan n parent) f) (sym one_less) all)
+        h.1 f (Contains-append_left (faults_of (faults_below plan (depth_left plan parent)) (opened plan parent).items) (own_fault (opened plan parent).ending) f
+        (child-faults (faults_below plan (depth_left plan parent)) (opened plan parent).items child f k (subst (λ (fs : List Fault). Contains fs f) (sym same) g)))
 
 pub part-of-plan : (plan : PlanView) (o : Origin) → IsOriginOf plan o → IsPartOfPlan plan o
 part-of-plan plan o Main = (tt, λ f g. g)
@@ -231,12 +253,19 @@ part-of-plan plan o (ChildOf parent child h k) =
     let c = child-of plan parent child (part-of-plan plan parent h) k in (loop-fits plan child c.0, c.1)
 part-of-plan plan o (PartOf parent function rest first path whole part h k a b d) =
     let c = child-of plan parent (Loop function rest first path whole) (part-of-plan plan parent h) k in
-    (c.0, λ f g. c.1 f (part-faults plan (plan.limits.depth - length path) function rest first path whole part a b d f g))
+    (c.0, λ f g. c.1 f (part-faults plan function rest first path whole part a b d f g))
 
--- a child has one rank less left below the depth
-pub one-less : (plan : PlanView) (parent child : Origin) → IsOriginOf plan parent → Contains (opened plan parent).items (Child child) → depth_left plan parent ≡ suc (depth_left plan child)
-one-less plan parent child h k =
-    fits-longer plan child (length (path_of parent)) (child-of plan parent child (part-of-plan plan parent h) k).0 (node-child-path plan (depth_left plan parent) parent child k)
+-- a child has fewer ranks left below the depth
+pub fewer-left-below : (plan : PlanView) (parent child : Origin) → IsOriginOf plan parent → Contains (opened plan parent).items (Child child) → depth_left plan child < depth_left plan parent
+fewer-left-below plan parent child h k = deeper plan parent child (part-of-plan plan parent h).0 k
+
+-- What a child gives its parent is what it gives by itself.
+pub child-evaluated : (plan : PlanView) (parent child : Origin) → IsOriginOf plan parent → Contains (opened plan parent).items (Child child) → eval_below plan (depth_left plan parent) child ≡ eval plan child
+child-evaluated plan parent child h k = enough plan (done []) (eval_with plan) (depth_left plan parent) child (fewer-left-below plan parent child h k)
+
+-- and so are its faults
+pub child-faulting : (plan : PlanView) (parent child : Origin) → IsOriginOf plan parent → Contains (opened plan parent).items (Child child) → faults_below plan (depth_left plan parent) child ≡ faults_in plan child
+child-faulting plan parent child h k = enough plan [] (faults_with plan) (depth_left plan parent) child (fewer-left-below plan parent child h k)
 
 ends_within : (fs gs : List Fault) (q : Result (List Value) Fault) → LeastOf fs q → ((f : Fault) → Contains fs f → Contains gs f) → EndsWithin gs q
 ends_within fs gs (Ok vs) l h = tt
@@ -244,4 +273,4 @@ ends_within fs gs (Err f) l h = h f l.0
 
 pub origins_end_within_faults : (plan : PlanView) (o : Origin) → IsOriginOf plan o → EndsWithin (faults plan) (eval plan o).ending
 origins_end_within_faults plan o h =
-    ends_within (faults_at plan (depth_left plan o) o) (faults plan) (eval plan o).ending (least-at plan (depth_left plan o) o) (part-of-plan plan o h).1
+    ends_within (faults_in plan o) (faults plan) (eval plan o).ending (least-in plan o) (part-of-plan plan o h).1

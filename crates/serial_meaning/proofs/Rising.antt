@@ -1,9 +1,10 @@
 -- Runs whose pedigrees rise.
-use Rattle.std.proofs.Common.{◌≡◌, ℕ, zero, suc, ◌+◌, ◌<◌, ◌≤◌, List, [], ◌∷◌, ◌++◌, Result, Ok, Err, length, get_or, max, refl, ap, arith}
+use Rattle.std.proofs.Common.{◌≡◌, ℕ, zero, suc, ◌<◌, ◌≤◌, List, [], ◌∷◌, ◌++◌, Result, Ok, Err, ◌⊎◌, inl, length, get_or, max, refl, sym, ap, subst, arith}
 use Rattle.std.specs.Prelude.{AllPairs}
 use Rattle.ped_path.specs.Path.{IsBefore}
 use Rattle.serial_meaning.specs.Laws.{places}
 use Rattle.serial_meaning.specs.Runs.{Run, goes_on, ◌then◌}
+use Rattle.serial_meaning.proofs.Each.{Each, each-append}
 use Rattle.serial_meaning.proofs.Order.{before-by_rank}
 use Rattle.serial_meaning.specs.declared.event.Fault.{Fault}
 use Rattle.serial_meaning.specs.declared.event.Event.{Event}
@@ -67,15 +68,25 @@ within-append : (path : List ℕ) (lo hi : ℕ) (xs ys : List (List ℕ)) → Wi
 within-append path lo hi [] ys a b = b
 within-append path lo hi (x ∷ xs) ys a b = (a.0, within-append path lo hi xs ys a.1 b)
 
--- the rank with which a run ends, or one that no event reached; a fault's rank is above it, or the last below it
-abbrev pub Below : {A : Type 0} → List ℕ → (A → ℕ) → ℕ → ℕ → Result A Fault → Type 0
-Below path rank lo hi (Ok a) = (hi ≡ rank a) × (lo ≤ hi)
-Below path rank lo hi (Err f) = (k : ℕ) × (more : List ℕ) × (f.at ≡ path ++ k ∷ more) × (lo ≤ k) × (hi ≤ k + 1)
+-- it is before the place or is the place
+abbrev pub AtMost : List ℕ → List ℕ → Type 0
+AtMost at j = IsBefore j at ⊎ (j ≡ at)
+
+-- what stands below the rank of a place is before it
+at_most-below : (path : List ℕ) (lo hi k : ℕ) (more at : List ℕ) → at ≡ path ++ k ∷ more → hi ≤ k → (js : List (List ℕ)) → Within path lo hi js → Each (AtMost at) js
+at_most-below path lo hi k more at e h [] w = tt
+at_most-below path lo hi k more at e h (j ∷ js) w =
+    (inl (let x = w.0 in subst (λ z. IsBefore z at) (sym x.2) (subst (IsBefore (path ++ x.0 ∷ x.1)) (sym e) (before-by_rank path x.0 k x.1 more (omega (arith, x.4))))), at_most-below path lo hi k more at e h js w.1)
+
+-- the rank with which a run ends; a fault stands below the path at a rank from the first one on, and after it stands no event
+abbrev pub Below : {A : Type 0} → List ℕ → (A → ℕ) → ℕ → ℕ → List (List ℕ) → Result A Fault → Type 0
+Below path rank lo hi js (Ok a) = (hi ≡ rank a) × (lo ≤ hi)
+Below path rank lo hi js (Err f) = (k : ℕ) × (more : List ℕ) × (f.at ≡ path ++ k ∷ more) × (lo ≤ k) × Each (AtMost f.at) js
 
 -- The events of a run rise, and stand between the rank with which it began and the one with which it ended.
 pub record Rising {A : Type 0} (path : List ℕ) (rank : A → ℕ) (lo : ℕ) (r : Run Event Fault A) : Type 0 where
   pub hi : ℕ
-  pub below : Below path rank lo hi r.ending
+  pub below : Below path rank lo hi (places r.items) r.ending
   pub within : Within path lo hi (places r.items)
   pub rise : Rise (places r.items)
 
@@ -83,15 +94,21 @@ pub rising-then : {A B : Type 0} (path : List ℕ) (f-rank : A → ℕ) (g-rank 
     Rising path f-rank lo r → ((a : A) → Rising path g-rank (f-rank a) (f a)) → Rising path g-rank lo (r then f)
 rising-then {A = A} {B = B} path f-rank g-rank lo r f h k = from r.items r.ending h.hi h.below h.within h.rise
   where
-    from : (items : List Event) (e : Result A Fault) (hi : ℕ) → Below path f-rank lo hi e → Within path lo hi (places items) → Rise (places items) → Rising path g-rank lo (goes_on items e f)
+    from : (items : List Event) (e : Result A Fault) (hi : ℕ) → Below path f-rank lo hi (places items) e → Within path lo hi (places items) → Rise (places items) → Rising path g-rank lo (goes_on items e f)
     from items (Err e) hi b w s = record { hi = hi; below = b; within = w; rise = s }
     from items (Ok a) hi b w s = record {
       hi = max hi (k a).hi;
-      below = below (f a).ending (k a).below;
+      below = rw (places-append items (f a).items) (below (f a).ending (k a).below);
       within = rw (places-append items (f a).items) (within-append path lo (max hi (k a).hi) (places items) (places (f a).items) (within-wider path lo lo hi (max hi (k a).hi) (places items) (omega arith) (omega arith) w) (within-wider path (f-rank a) lo (k a).hi (max hi (k a).hi) (places (f a).items) (omega arith) (omega arith) (k a).within));
       rise = rw (places-append items (f a).items) (rise-append path lo hi (k a).hi (places items) (places (f a).items) w (rw b.0 (k a).within) s (k a).rise);
     }
       where
-        below : (e : Result B Fault) → Below path g-rank (f-rank a) (k a).hi e → Below path g-rank lo (max hi (k a).hi) e
+        below : (e : Result B Fault) → Below path g-rank (f-rank a) (k a).hi (places (f a).items) e → Below path g-rank lo (max hi (k a).hi) (places items ++ places (f a).items) e
         below (Ok x) c = (omega arith, omega arith)
-        below (Err e) c = (c.0, c.1, c.2, omega (arith, c.3), omega (arith, c.3, c.4))
+        below (Err e) c = (
+          c.0,
+          c.1,
+          c.2,
+          omega (arith, c.3),
+          each-append (AtMost e.at) (places items) (places (f a).items) (at_most-below path lo hi c.0 c.1 e.at c.2 (omega (arith, c.3, b.0)) (places items) w) c.4,
+        )

@@ -2,8 +2,8 @@
 use Rattle.std.proofs.Common.{◌≡◌, ◌+◌, ◌-◌, ℕ, suc, true, nat_lt, refl, arith}
 use Rattle.std.proofs.lemmas.Bool.Decides.{nat_tests}
 use Rattle.script_grammar.specs.declared.tree.Act.{out-Act}
-use Rattle.serial_meaning.specs.Examples.{ThreeStepsAreTooFew, FourStepsAreEnough, SpawnNeedsDepthTwo, DepthTwoIsEnoughForASpawn, EmptyLoopRaisesTheRank, TargetMustHaveRoom, CallsShareTheRank, ImpliedSyncRaisesTheRank, CallsEndAt256}
-use Rattle.serial_meaning.proofs.Computing.{value_of-number, value_of-variable, spawns-out}
+use Rattle.serial_meaning.specs.Examples.{ThreeStepsAreTooFew, FourStepsAreEnough, ScopeHasStrands, ScopeIsALevel, ScopeNeedsDepthTwo, ScopeRaisesTheRank, ChildStandsInItsScope, SpawnNeedsDepthTwo, DepthTwoIsEnoughForASpawn, EmptyLoopRaisesTheRank, TargetMustHaveRoom, CallsShareTheRank, ImpliedSyncRaisesTheRank, CallsEndAt256}
+use Rattle.serial_meaning.proofs.Computing.{opened-let, opened-set, opened-print, opened-scope, value_of-number, value_of-variable, spawns-out}
 
 no_iteration_fits : (m : ℕ) → nat_lt 0 (m + 1) ≡ true
 no_iteration_fits m = grind (arith, nat_tests)
@@ -49,3 +49,19 @@ implied_sync_raises_the_rank n = simp (value_of-number, value_of-variable, spawn
 pub calls_end_at_256 : CallsEndAt256
 unfolding out-Act denote.Hole.Carrier.out
 calls_end_at_256 = refl
+
+pub scope_is_a_level : ScopeIsALevel
+scope_is_a_level n = simp (opened-scope, opened-print, value_of-number, spawns-out)
+
+pub scope_needs_depth_two : ScopeNeedsDepthTwo
+unfolding out-Act denote.Hole.Carrier.out
+scope_needs_depth_two n = refl
+
+pub scope_has_strands : ScopeHasStrands
+scope_has_strands n = simp (opened-scope, opened-print, value_of-number, spawns-out)
+
+pub scope_raises_the_rank : ScopeRaisesTheRank
+scope_raises_the_rank n = simp (opened-scope, opened-print, opened-let, value_of-number, value_of-variable, spawns-out)
+
+pub child_stands_in_its_scope : ChildStandsInItsScope
+child_stands_in_its_scope n = simp (opened-scope, opened-print, opened-let, opened-set, value_of-number, value_of-variable, spawns-out)

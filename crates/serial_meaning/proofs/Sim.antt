@@ -5,7 +5,7 @@ use Rattle.std.specs.Int.{w64, cast_signed}
 use Rattle.serial_meaning.specs.Runs.{Run, done, behind, goes_on, ◌then◌}
 use Rattle.serial_meaning.specs.Values.{Env, value_of, values_of, slot_of, items_of, number, is_true, at_index}
 use Rattle.serial_meaning.specs.Functions.{number_of, function_at, any_spawns}
-use Rattle.serial_meaning.specs.Exec.{State, Block, fault, given, paid_from, tested, has_room, fits_depth, filled, spawn, implied, returned, activation, called, right_side, found, looped, does, statement, each, statements, exec, instance, count_of, set_scalar, set_array, bound}
+use Rattle.serial_meaning.specs.Exec.{State, Block, fault, given, paid_from, tested, has_room, fits_depth, filled, spawn, leaves, scoped, implied, returned, activation, called, right_side, found, looped, does, statement, each, statements, exec, instance, count_of, set_scalar, set_array, bound}
 use Rattle.script_grammar.specs.declared.tree.Name.{Name}
 use Rattle.script_grammar.specs.declared.tree.Function.{Function}
 use Rattle.script_grammar.specs.declared.tree.CallText.{CallText}
@@ -21,8 +21,9 @@ use Rattle.serial_meaning.specs.declared.event.FaultKind.{FaultKind}
 use Rattle.serial_meaning.specs.declared.event.FaultKind.TheVariants.{Index, Depth, Calls, Budget}
 use Rattle.serial_meaning.specs.declared.event.Event.TheVariants as event
 use Rattle.serial_meaning.specs.declared.origin.Origin.TheVariants as origin
-use Rattle.serial_meaning.specs.Eval.{Evaluation, serial, first_of, iteration, turns, eval_with, eval_at}
-use Rattle.serial_meaning.specs.Open.{Item, Happened, Child, Ending, put_off, put_off_all, loop_end, is_zero, is_empty_loop, filler, iterations, both, gathered, node_with, node_at}
+use Rattle.serial_meaning.specs.Eval.{Evaluation, serial, first_of, iteration, turns, eval_with, eval_below, eval, depth_left}
+use Rattle.serial_meaning.specs.Open.{Item, Happened, Child, Opened, Ending, put_off, put_off_all, loop_end, is_zero, is_empty_loop, filler, iterations, both, gathered, node_with, opened}
+use Rattle.serial_meaning.proofs.Levels.{every}
 use Rattle.serial_meaning.proofs.Cut.{Cuts, Matches, cut, in_front, child_first, cuts-then}
 use Rattle.serial_meaning.specs.declared.event.Fault.{Fault}
 use Rattle.serial_meaning.specs.declared.event.Event.{Event}
@@ -100,11 +101,27 @@ module _ (plan : PlanView) (path : List ℕ) (child : Origin → Evaluation) (em
       let s' : State (Unit {0}) = record s { steps = s.steps - n } in tested-c lift (nat_lt n (s.steps + 1)) Budget s _ _ (tested-c lift (has_room target n s.env) Index s' _ _ (tested-c lift (fits_depth (serial child) plan path n) Depth s' _ _
       (loop-c (origin.Loop (number_of (functions_of plan) t.name.bytes) vs lo (path ++ s.rank ∷ []) (record { lo = 0; hi = n })) (event.Loop (path ++ s.rank ∷ [])) s' (λ ws. filled target ws s.env))))
 
-  module _ (b : Block (serial child) plan path) (c : Block (put_off_all plan child) plan path) (fine : (calls : ℕ) (sts : List Stmt) (s : State (Unit {0})) → Cuts child lift (b calls sts s) (c calls sts (lift s))) where
+  -- one block is what the other is, cut
+  abbrev Alike : Block Event Fault (Unit {0}) → Block Item Ending (Option Fault) → Type 0
+  Alike b c = (here : List ℕ) (calls : ℕ) (sts : List Stmt) (s : State (Unit {0})) → Cuts child lift (b here calls sts s) (c here calls sts (lift s))
+
+  -- the sync at a scope's end, and out of the scope
+  leaves-c : (rank : ℕ) (s : State (Unit {0})) → Cuts child lift (leaves (serial child) plan path rank s) (leaves (put_off_all plan child) plan path rank (lift s))
+  leaves-c rank s = (record s { rank = rank + 1 }, refl, refl)
+
+  module _ (b : Block Event Fault (Unit {0})) (c : Block Item Ending (Option Fault)) (fine : Alike b c) where
+    scoped-c : (calls : ℕ) (xs : List Stmt) (s : State (Unit {0})) → Cuts child lift (scoped (serial child) plan path b calls xs s) (scoped (put_off_all plan child) plan path c calls xs (lift s))
+    scoped-c calls xs s =
+        let inner : State (Unit {0}) = record s { rank = 0 } in
+        let here : List ℕ = path ++ s.rank ∷ [] in
+        tested-c lift (nat_lt (length path + 1) plan.limits.depth) Depth s _ _
+        (cuts-then child lift lift (leaves (serial child) plan path s.rank) (leaves (put_off_all plan child) plan path s.rank) (leaves-c s.rank)
+        (behind [] (b here calls xs inner)) (behind (Opened here ∷ []) (c here calls xs (lift inner))) (fine here calls xs inner))
+
     activation-c : (calls : ℕ) (o : Option Function) (vs : List Value) (s : State (Unit {0})) → Cuts child lift_pair (activation (serial child) plan path b calls o vs s) (activation (put_off_all plan child) plan path c calls o vs (lift s))
     activation-c calls None vs s = ((Int (pos 0), s), refl, refl)
     activation-c calls (Some f) vs s =
-        let s' : State (Unit {0}) = record s { env = bound f.params vs } in cuts-then child lift lift_pair (returned (serial child) plan path f) (returned (put_off_all plan child) plan path f) (returned-c f) (b calls f.body s') (c calls f.body (lift s')) (fine calls f.body s')
+        let s' : State (Unit {0}) = record s { env = bound f.params vs } in cuts-then child lift lift_pair (returned (serial child) plan path f) (returned (put_off_all plan child) plan path f) (returned-c f) (b path calls f.body s') (c path calls f.body (lift s')) (fine path calls f.body s')
 
     called-c : (calls : ℕ) (t : CallText) (s : State (Unit {0})) → Cuts child lift_pair (called (serial child) plan path b calls t s) (called (put_off_all plan child) plan path c calls t (lift s))
     called-c calls t s =
@@ -135,33 +152,37 @@ module _ (plan : PlanView) (path : List ℕ) (child : Origin → Evaluation) (em
     does-c calls st (act.Call t) s = cuts-then child lift_pair lift (λ p. done p.1) (λ p. done p.1) (λ p. (p.1, refl, refl)) (called (serial child) plan path b calls t s) (called (put_off_all plan child) plan path c calls t (lift s)) (called-c calls t s)
     does-c calls st act.Sync s = implied-c true s
     does-c calls st (act.Print e) s = given-c lift (value_of e s.env) s _ _ (λ v. (s, refl, refl))
-    does-c calls st (act.If e xs ys) s = given-c lift (value_of e s.env) s _ _ (λ v. fine calls (if is_true v then xs else ys) s)
+    does-c calls st (act.If e xs ys) s = given-c lift (value_of e s.env) s _ _ (λ v. fine path calls (if is_true v then xs else ys) s)
     does-c calls st (act.While e xs) s =
-        given-c lift (value_of e s.env) s _ _ (λ v. if-c lift (is_true v) _ _ _ _ (cuts-then child lift lift (b calls (st ∷ [])) (c calls (st ∷ [])) (fine calls (st ∷ [])) (b calls xs s) (c calls xs (lift s)) (fine calls xs s)) (s, refl, refl))
+        given-c lift (value_of e s.env) s _ _ (λ v. if-c lift (is_true v) _ _ _ _ (cuts-then child lift lift (b path calls (st ∷ [])) (c path calls (st ∷ [])) (fine path calls (st ∷ [])) (b path calls xs s) (c path calls xs (lift s)) (fine path calls xs s)) (s, refl, refl))
     does-c calls st (act.Pfor x lo hi target t) s =
         given-c lift (value_of lo s.env) s _ _ (λ l. given-c lift (value_of hi s.env) s _ _ (λ h. given-c lift (values_of t.args s.env) s _ _ (λ vs. looped-c (number l) (count_of (number h -ℤ number l)) vs target t s)))
+    does-c calls st (act.Scope xs) s = scoped-c calls xs s
 
   each-c : (one : Stmt → State (Unit {0}) → Run Event Fault (State (Unit {0}))) (two : Stmt → State (Option Fault) → Run Item Ending (State (Option Fault))) → ((st : Stmt) (s : State (Unit {0})) → Cuts child lift (one st s) (two st (lift s))) →
       (sts : List Stmt) (s : State (Unit {0})) → Cuts child lift (each (serial child) plan path one sts s) (each (put_off_all plan child) plan path two sts (lift s))
   each-c one two h [] s = (s, refl, refl)
   each-c one two h (st ∷ sts) s = cuts-then child lift lift (each (serial child) plan path one sts) (each (put_off_all plan child) plan path two sts) (each-c one two h sts) (one st s) (two st (lift s)) (h st s)
 
-  pub statements-c : (n calls : ℕ) (sts : List Stmt) (s : State (Unit {0})) → Cuts child lift (statements (serial child) plan path n calls sts s) (statements (put_off_all plan child) plan path n calls sts (lift s))
-  statements-c zero calls sts s = each-c (λ st s. fault (serial child) plan path Budget s) (λ st s. fault (put_off_all plan child) plan path Budget s) (λ st s. refl) sts s
-  statements-c (suc n) calls sts s =
-      each-c (statement (serial child) plan path (statements (serial child) plan path n) calls) (statement (put_off_all plan child) plan path (statements (put_off_all plan child) plan path n) calls) (λ st s. paid-c lift s.steps s _ _ (λ m. does-c (statements (serial child) plan path n) (statements (put_off_all plan child) plan path n) (statements-c n) calls st (out-Act (out-Stmt st).act) (record s { steps = m }))) sts s
+module _ (plan : PlanView) (child : Origin → Evaluation) (empty : (o : Origin) → is_empty_loop o ≡ true → child o ≡ done []) where
+  pub statements-c : (n : ℕ) → Alike plan [] child empty (statements (serial child) plan n) (statements (put_off_all plan child) plan n)
+  statements-c zero here calls sts s =
+      each-c plan here child empty (λ st s. fault (serial child) plan here Budget s) (λ st s. fault (put_off_all plan child) plan here Budget s) (λ st s. refl) sts s
+  statements-c (suc n) here calls sts s =
+      each-c plan here child empty (statement (serial child) plan here (statements (serial child) plan n) calls) (statement (put_off_all plan child) plan here (statements (put_off_all plan child) plan n) calls)
+      (λ st s. paid-c plan here child empty lift s.steps s _ _ (λ m. does-c plan here child empty (statements (serial child) plan n) (statements (put_off_all plan child) plan n) (statements-c n) calls st (out-Act (out-Stmt st).act) (record s { steps = m }))) sts s
 
   -- What statements do at once is what they do with their children put off, cut at the first child that faults.
-  pub exec-c : (calls : ℕ) (sts : List Stmt) (s : State (Unit {0})) → Cuts child lift (exec (serial child) plan path calls sts s) (exec (put_off_all plan child) plan path calls sts (lift s))
-  exec-c calls sts s = statements-c s.steps calls sts s
+  pub exec-c : Alike plan [] child empty (exec (serial child) plan) (exec (put_off_all plan child) plan)
+  exec-c here calls sts s = statements-c s.steps here calls sts s
 
   -- an instance
-  pub instance-c : (o : Option Function) (args : List Value) → Cuts child (λ (vs : List Value). vs) (instance (serial child) plan path o args then λ v. done (v ∷ [])) (instance (put_off_all plan child) plan path o args then λ v. done (v ∷ []))
-  instance-c o args =
+  pub instance-c : (path : List ℕ) (o : Option Function) (args : List Value) → Cuts child (λ (vs : List Value). vs) (instance (serial child) plan path o args then λ v. done (v ∷ [])) (instance (put_off_all plan child) plan path o args then λ v. done (v ∷ []))
+  instance-c path o args =
       let s : State (Unit {0}) = record { env = []; rank = 0; steps = plan.limits.budget; spawned = tt } in
       cuts-then child (λ (v : Value). v) (λ (vs : List Value). vs) (λ v. done (v ∷ [])) (λ v. done (v ∷ [])) (λ v. (v ∷ [], refl, refl)) (instance (serial child) plan path o args) (instance (put_off_all plan child) plan path o args)
-      (cuts-then child lift_pair (λ (v : Value). v) (λ r. done r.0) (λ r. done r.0) (λ p. (p.0, refl, refl)) (activation (serial child) plan path (exec (serial child) plan path) 0 o args s) (activation (put_off_all plan child) plan path (exec (put_off_all plan child) plan path) 0 o args (lift s))
-      (activation-c (exec (serial child) plan path) (exec (put_off_all plan child) plan path) exec-c 0 o args s))
+      (cuts-then child lift_pair (λ (v : Value). v) (λ r. done r.0) (λ r. done r.0) (λ p. (p.0, refl, refl)) (activation (serial child) plan path (exec (serial child) plan) 0 o args s) (activation (put_off_all plan child) plan path (exec (put_off_all plan child) plan) 0 o args (lift s))
+      (activation-c plan path child empty (exec (serial child) plan) (exec (put_off_all plan child) plan) exec-c 0 o args s))
 
 module _ (child : Origin → Evaluation) (function : ℕ) (rest : List Value) (first : ℤ) (path : List ℕ) where
   abbrev loop_run : ℕ → ℕ → Evaluation
@@ -205,13 +226,12 @@ empty_at plan child (origin.Loop function rest first path range) h = from (range
     from (suc n) h = let g : false ≡ true = h in absurd (cc)
 
 pub node-cuts : (plan : PlanView) (child : Origin → Evaluation) → ((o : Origin) → is_empty_loop o ≡ true → child o ≡ done []) → (o : Origin) → Cuts child (λ (vs : List Value). vs) (eval_with plan child o) (node_with plan child o)
-node-cuts plan child empty (origin.Instance function args path) = instance-c plan path child empty (function_at (functions_of plan) function) args
+node-cuts plan child empty (origin.Instance function args path) = instance-c plan child empty path (function_at (functions_of plan) function) args
 node-cuts plan child empty (origin.Loop function rest first path range) = loop-cuts child function rest first path range.lo (range.hi - range.lo)
 
-pub empty_left : (plan : PlanView) (left : ℕ) (o : Origin) → is_empty_loop o ≡ true → eval_at plan left o ≡ done []
-empty_left plan zero o h = empty_at plan (λ o. done []) o h
-empty_left plan (suc left) o h = empty_at plan (eval_at plan left) o h
+pub empty_below : (plan : PlanView) (left : ℕ) (o : Origin) → is_empty_loop o ≡ true → eval_below plan left o ≡ done []
+empty_below plan left o = every plan (done []) (eval_with plan) (λ o r. is_empty_loop o ≡ true → r ≡ done []) (λ o h. refl) (λ child all. empty_at plan child) left o
 
 -- The evaluation of an origin is its node in the open tree with each child's evaluation in its place, cut at the first child that faults.
-pub eval-cuts : (plan : PlanView) (left : ℕ) (o : Origin) → Cuts (eval_at plan left) (λ (vs : List Value). vs) (eval_at plan (suc left) o) (node_at plan (suc left) o)
-eval-cuts plan left o = node-cuts plan (eval_at plan left) (empty_left plan left) o
+pub eval-cuts : (plan : PlanView) (o : Origin) → Cuts (eval_below plan (depth_left plan o)) (λ (vs : List Value). vs) (eval plan o) (opened plan o)
+eval-cuts plan o = let left = depth_left plan o in node-cuts plan (eval_below plan left) (empty_below plan left) o

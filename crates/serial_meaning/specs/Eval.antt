@@ -1,5 +1,5 @@
 -- What an origin gives where its children run at once, and the serial elision (docs/LANGUAGE.md, "The serial elision").
-use Rattle.std.specs.Prelude.{ℕ, zero, suc, ◌+◌, ◌-◌, List, [], ◌∷◌, ◌++◌, length}
+use Rattle.std.specs.Prelude.{ℕ, zero, suc, ◌+◌, ◌-◌, ◌==◌, if◌then◌else◌, List, [], ◌∷◌, ◌++◌, length}
 use Rattle.std.specs.Prelude.{pos, ℤ}
 use Rattle.std.specs.Int.{w64, int_wrapping_add}
 use Rattle.serial_meaning.specs.Runs.{Run, done, ◌then◌}
@@ -26,6 +26,8 @@ first_of (v ∷ vs) = v
 abbrev pub serial : (Origin → Evaluation) → Manner Event Fault (Unit {0})
 serial child = record {
   event = λ e. e;
+  opens = λ j. [];
+  closes = λ j. [];
   own = λ f. f;
   none = tt;
   spawn = λ o k. child o then λ vs. done (first_of vs, k);
@@ -49,21 +51,25 @@ eval_with plan child (Instance function args path) =
     instance (serial child) plan path (function_at (functions_of plan) function) args then λ v. done (v ∷ [])
 eval_with plan child (Loop function rest first path range) = turns child function rest first path range.lo (range.hi - range.lo)
 
--- With so many ranks left below the depth. A child's path is one rank longer. Where no rank is left nothing is spawned, by the test of
--- the depth.
-abbrev pub eval_at : PlanView → ℕ → Origin → Evaluation
-eval_at plan zero = eval_with plan (λ o. done [])
-eval_at plan (suc left) = eval_with plan (eval_at plan left)
-
 abbrev pub path_of : Origin → List ℕ
 path_of (Instance function args path) = path
 path_of (Loop function rest first path range) = path
 
+-- how many ranks are left below the depth
 abbrev pub depth_left : PlanView → Origin → ℕ
 depth_left plan o = plan.limits.depth - length (path_of o)
 
+-- What origins give that have fewer than so many ranks left, by what an origin gives where its children give what they do. A child has fewer
+-- ranks left than its parent: nothing is spawned and no scope or loop begun where that would leave none, by the test of the depth.
+abbrev pub by_depth : {A : Type 0} → PlanView → A → ((Origin → A) → Origin → A) → ℕ → Origin → A
+by_depth plan none gives zero o = none
+by_depth plan none gives (suc left) o = (if depth_left plan o == left then gives (by_depth plan none gives left) else by_depth plan none gives left) o
+
+abbrev pub eval_below : PlanView → ℕ → Origin → Evaluation
+eval_below plan = by_depth plan (done []) (eval_with plan)
+
 abbrev pub eval : PlanView → Origin → Evaluation
-eval plan o = eval_at plan (depth_left plan o) o
+eval plan o = eval_with plan (eval_below plan (depth_left plan o)) o
 
 abbrev pub main_origin : PlanView → Origin
 main_origin plan = Instance (number_of (functions_of plan) main_name) [] []

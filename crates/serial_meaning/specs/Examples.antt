@@ -1,6 +1,7 @@
 -- What the definitions say of small scripts (docs/LANGUAGE.md, "What a script means"). Each is the contract of a function of the module `examples`, which shows the script.
 use Rattle.std.specs.Prelude.{◌≡◌, ℕ, suc, List, [], ◌∷◌, Some, None, Ok, Err, codes}
 use Rattle.std.specs.Prelude.{pos}
+use Rattle.script_tokens.specs.declared.version.Version.TheVariants.{One, Two}
 use Rattle.script_grammar.specs.declared.tree.Function.{Function}
 use Rattle.script_grammar.specs.declared.tree.Comparison.TheVariants as compares
 use Rattle.script_grammar.specs.declared.tree.Expr.TheVariants as expr
@@ -9,9 +10,9 @@ use Rattle.script_grammar.specs.declared.tree.ProductSign.TheVariants as sign
 use Rattle.script_grammar.specs.declared.tree.Right.TheVariants as right
 use Rattle.script_grammar.specs.declared.tree.Act.TheVariants as act
 use Rattle.serial_meaning.specs.Trees.{named, number, variable, product, sum, applied, call, spawn, stated, int_param, function}
-use Rattle.serial_meaning.specs.Plan.{PlanView}
-use Rattle.serial_meaning.specs.Eval.{elision}
-use Rattle.serial_meaning.specs.Open.{faults}
+use Rattle.serial_meaning.specs.Plan.{PlanView, functions_of}
+use Rattle.serial_meaning.specs.Eval.{main_origin, elision}
+use Rattle.serial_meaning.specs.Open.{opened, places_of, faults}
 use Rattle.serial_meaning.specs.declared.plan.Show.TheVariants.{Plain}
 use Rattle.serial_meaning.specs.declared.value.Value.TheVariants.{Int}
 use Rattle.serial_meaning.specs.declared.event.FaultKind.TheVariants as fault
@@ -23,7 +24,7 @@ twenty_or_more n = suc (suc (suc (suc (suc (suc (suc (suc (suc (suc (suc (suc (s
 
 -- a plan with the coefficients 1, 0, 0
 abbrev pub plan_of : List Function → ℕ → PlanView
-plan_of functions budget = record { script = record { functions = functions }; gamma = 1 ∷ 0 ∷ 0 ∷ []; limits = record { depth = 3; budget = budget }; show = Plain; rounds = 4 }
+plan_of functions budget = record { script = record { version = One; functions = functions }; gamma = 1 ∷ 0 ∷ 0 ∷ []; limits = record { depth = 3; budget = budget }; show = Plain; rounds = 4 }
 
 abbrev pub three_prints : List Function
 three_prints =
@@ -170,3 +171,62 @@ ElisionEndsAtTheChildsFault =
 abbrev pub OpenTreeHasBothFaults : Type 0
 OpenTreeHasBothFaults =
     (n : ℕ) → faults (endless_plan n) ≡ record { kind = fault.Divide; at = 0 ∷ 0 ∷ [] } ∷ record { kind = fault.Budget; at = 1 ∷ [] } ∷ []
+
+-- Version 2
+
+abbrev pub in_version_two : PlanView → PlanView
+in_version_two plan = record plan { script = record { version = Two; functions = functions_of plan } }
+
+abbrev pub one_scope : List Function
+one_scope = function (codes "main") [] (stated (act.Scope (stated (act.Print (number 1)) ∷ [])) ∷ []) (number 0) ∷ []
+
+-- A scope's block stands one level further, and a sync at its end. The scope itself is no event.
+abbrev pub ScopeIsALevel : Type 0
+ScopeIsALevel =
+    (n : ℕ) → elision (in_version_two (with_depth 2 (1 ∷ 0 ∷ []) (plan_of one_scope (twenty_or_more n)))) ≡ record { items = event.Print (0 ∷ 0 ∷ []) (Int (pos 1)) ∷ event.Sync (0 ∷ 0 ∷ []) ∷ []; ending = Ok (Int (pos 0) ∷ []) }
+
+-- Pedigrees inside a scope of main have two ranks.
+abbrev pub ScopeNeedsDepthTwo : Type 0
+ScopeNeedsDepthTwo = (n : ℕ) → elision (in_version_two (with_depth 1 (1 ∷ []) (plan_of one_scope (twenty_or_more n)))) ≡ record { items = []; ending = Err (record { kind = fault.Depth; at = 0 ∷ [] }) }
+
+-- The strands of main: the one that comes to the scope, the two in it, before and after the sync, and the one after it.
+abbrev pub ScopeHasStrands : Type 0
+ScopeHasStrands =
+    (n : ℕ) →
+    let plan : PlanView = in_version_two (with_depth 2 (1 ∷ 0 ∷ []) (plan_of one_scope (twenty_or_more n))) in
+    places_of (main_origin plan) (opened plan (main_origin plan)) ≡ (0 ∷ []) ∷ (0 ∷ 0 ∷ []) ∷ (0 ∷ 1 ∷ []) ∷ (1 ∷ []) ∷ []
+
+abbrev pub print_and_draw : List Function
+print_and_draw =
+    function (codes "main") []
+    (stated (act.Scope (stated (act.Print (number 1)) ∷ []))
+    ∷ stated (act.Let (named (codes "x")) (right.Draw 0))
+    ∷ stated (act.Print (variable (codes "x")))
+    ∷ [])
+    (number 0)
+    ∷ []
+
+-- After a scope the rank is the one after that of the strand that came to it, so that the draw is the one of rank 1.
+abbrev pub ScopeRaisesTheRank : Type 0
+ScopeRaisesTheRank =
+    (n : ℕ) → elision (in_version_two (plan_of print_and_draw (twenty_or_more n))) ≡ record { items = event.Print (0 ∷ 0 ∷ []) (Int (pos 1)) ∷ event.Sync (0 ∷ 0 ∷ []) ∷ event.Draw (1 ∷ []) 210 ∷ event.Print (2 ∷ []) (Int (pos 210)) ∷ []; ending = Ok (Int (pos 0) ∷ []) }
+
+abbrev pub child_of_a_scope : List Function
+child_of_a_scope =
+    function (codes "f") [] (stated (act.Let (named (codes "x")) (right.Draw 0)) ∷ []) (variable (codes "x"))
+    ∷ function (codes "main") []
+    (stated (act.Let (named (codes "a")) (right.Value (number 0)))
+    ∷ stated (act.Scope (stated (act.Set (named (codes "a")) (spawn (codes "f") [])) ∷ []))
+    ∷ stated (act.Print (variable (codes "a")))
+    ∷ [])
+    (number 0)
+    ∷ []
+
+-- a plan with the coefficients 0, 0, 1
+abbrev pub plan_of_child : ℕ → PlanView
+plan_of_child budget = in_version_two (with_depth 3 (0 ∷ 0 ∷ 1 ∷ []) (plan_of child_of_a_scope budget))
+
+-- A child that is spawned in a scope stands below the scope's strand, and is waited for at the scope's end.
+abbrev pub ChildStandsInItsScope : Type 0
+ChildStandsInItsScope =
+    (n : ℕ) → elision (plan_of_child (twenty_or_more n)) ≡ record { items = event.Spawn (0 ∷ 0 ∷ []) ∷ event.Draw (0 ∷ 0 ∷ 0 ∷ []) 21 ∷ event.Sync (0 ∷ 1 ∷ []) ∷ event.Print (1 ∷ []) (Int (pos 21)) ∷ event.Sync (1 ∷ []) ∷ []; ending = Ok (Int (pos 0) ∷ []) }

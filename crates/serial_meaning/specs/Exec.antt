@@ -41,10 +41,12 @@ pub record State (K : Type 0) : Type 0 where
   pub steps : ℕ
   pub spawned : K
 
--- how events, faults, children, loops and syncs are taken: I are a run's items, E its bad ends, and K what is known of spawned
--- children
+-- how events, faults, children, loops, syncs and the ends of scopes are taken: I are a run's items, E its bad ends, and K what is known of
+-- spawned children; a scope is given by the pedigree of the strand that came to it
 pub record Manner (I E K : Type 0) : Type 0 where
   pub event : Event → I
+  pub opens : List ℕ → List I
+  pub closes : List ℕ → List I
   pub own : Fault → E
   pub none : K
   pub spawn : Origin → K → Run I E (Value × K)
@@ -113,6 +115,15 @@ module _ {K : Type 0} where
 abbrev pub most_calls : ℕ
 most_calls = 256
 
+-- what statements do at a present path, with so many open calls; the present path is the instance's path and then the ranks of the open scopes
+abbrev pub Block : Type 0 → Type 0 → Type 0 → Type 0
+Block I E K = List ℕ → ℕ → List Stmt → State K → Run I E (State K)
+
+-- what is shown at a place, and nothing else happens
+abbrev pub shown : {I E A : Type 0} → List I → A → Run I E A
+shown items a = record { items = items; ending = Ok a }
+
+-- at the present path `path`
 module _ {I E K : Type 0} (how : Manner I E K) (plan : PlanView) (path : List ℕ) where
   -- the instance ends by a fault of its own
   abbrev pub fault : {A : Type 0} → FaultKind → State K → Run I E A
@@ -149,12 +160,24 @@ module _ {I E K : Type 0} (how : Manner I E K) (plan : PlanView) (path : List �
       how.spawn (origin.Instance (number_of (functions_of plan) c.name.bytes) vs (strand path s)) s.spawned then λ r.
       done (r.0, record s { rank = s.rank + 1; spawned = r.1 }))
 
-  -- a sync, written or implied
-  abbrev pub join : State K → Run I E (State K)
-  join s =
-      happens (how.event (event.Sync (strand path s))) s then λ s.
+  -- a sync at that path
+  abbrev pub join_at : List ℕ → State K → Run I E (State K)
+  join_at here s =
+      happens (how.event (event.Sync (strand here s))) s then λ s.
       how.sync s.spawned then λ k.
       done (record s { rank = s.rank + 1; spawned = k })
+
+  -- a sync, written or implied
+  abbrev pub join : State K → Run I E (State K)
+  join s = join_at path s
+
+  -- out of the scope that stands at this rank, to the rank after it
+  abbrev pub goes_out : ℕ → State K → Run I E (State K)
+  goes_out rank s = shown (how.closes (path ++ rank ∷ [])) (record s { rank = rank + 1 })
+
+  -- the end of that scope: a sync of the activation in it, and then out
+  abbrev pub leaves : ℕ → State K → Run I E (State K)
+  leaves rank s = join_at (path ++ rank ∷ []) s then goes_out rank
 
   abbrev pub implied : Bool → State K → Run I E (State K)
   implied true s = join s
@@ -168,19 +191,15 @@ module _ {I E K : Type 0} (how : Manner I E K) (plan : PlanView) (path : List �
       given (value_of f.result s.env) s λ v.
       done (v, s)
 
-  -- what statements do, with so many open calls
-  abbrev pub Block : Type 0
-  Block = ℕ → List Stmt → State K → Run I E (State K)
-
   -- an activation of a function in this instance: variables and syncs of its own, and the instance's rank and steps; a valid script
   -- calls only functions that there are
-  abbrev pub activation : Block → ℕ → Option Function → List Value → State K → Run I E (Value × State K)
+  abbrev pub activation : Block I E K → ℕ → Option Function → List Value → State K → Run I E (Value × State K)
   activation block calls (Some f) vs s =
-      block calls f.body (record s { env = bound f.params vs; spawned = how.none }) then returned f
+      block path calls f.body (record s { env = bound f.params vs; spawned = how.none }) then returned f
   activation block calls None vs s = done (Int (pos 0), s)
 
   -- a call goes on from the caller's rank and steps, and the caller from the callee's last ones
-  abbrev pub called : Block → ℕ → CallText → State K → Run I E (Value × State K)
+  abbrev pub called : Block I E K → ℕ → CallText → State K → Run I E (Value × State K)
   called block calls c s =
       given (values_of c.args s.env) s λ vs.
       tested (nat_lt calls most_calls) Calls s
@@ -188,7 +207,7 @@ module _ {I E K : Type 0} (how : Manner I E K) (plan : PlanView) (path : List �
       done (r.0, record s { rank = r.1.rank; steps = r.1.steps }))
 
   -- the right side of a let or an assignment
-  abbrev pub right_side : Block → ℕ → Right → State K → Run I E (Value × State K)
+  abbrev pub right_side : Block I E K → ℕ → Right → State K → Run I E (Value × State K)
   right_side block calls (right.Value e) s = given (value_of e s.env) s λ v. done (v, s)
   right_side block calls (right.Draw at) s =
       let n = drawn plan (strand path s) in
@@ -226,8 +245,14 @@ module _ {I E K : Type 0} (how : Manner I E K) (plan : PlanView) (path : List �
       how.loop (origin.Loop (number_of (functions_of plan) c.name.bytes) vs lo (strand path s) (record { lo = 0; hi = n })) then λ ws.
       done (record s { rank = s.rank + 1; env = filled target ws s.env }))))
 
+  -- a scope: the depth, its block one level further at rank 0, and its end
+  abbrev pub scoped : Block I E K → ℕ → List Stmt → State K → Run I E (State K)
+  scoped block calls sts s =
+      tested (nat_lt (length path + 1) plan.limits.depth) Depth s
+      (shown (how.opens (strand path s)) (record s { rank = 0 }) then block (strand path s) calls sts then leaves s.rank)
+
   -- one statement whose step is paid; block runs what stands inside it
-  abbrev pub does : Block → ℕ → Stmt → Act-F Act Stmt → State K → Run I E (State K)
+  abbrev pub does : Block I E K → ℕ → Stmt → Act-F Act Stmt → State K → Run I E (State K)
   does block calls st (act.Let x r) s = right_side block calls r s then λ p. done (set_scalar p.1 x p.0)
   does block calls st (act.Array x n) s = done (set_array s x (zeros (count_of n.value)))
   does block calls st (act.Set x r) s = right_side block calls r s then λ p. done (set_scalar p.1 x p.0)
@@ -236,34 +261,36 @@ module _ {I E K : Type 0} (how : Manner I E K) (plan : PlanView) (path : List �
   does block calls st (act.Call c) s = called block calls c s then λ p. done p.1
   does block calls st act.Sync s = join s
   does block calls st (act.Print e) s = given (value_of e s.env) s λ v. happens (how.event (event.Print (strand path s) v)) s
-  does block calls st (act.If e a b) s = given (value_of e s.env) s λ v. block calls (if is_true v then a else b) s
+  does block calls st (act.If e a b) s = given (value_of e s.env) s λ v. block path calls (if is_true v then a else b) s
   does block calls st (act.While e a) s =
-      given (value_of e s.env) s λ v. (if is_true v then (block calls a s then block calls (st ∷ [])) else done s)
+      given (value_of e s.env) s λ v. (if is_true v then (block path calls a s then block path calls (st ∷ [])) else done s)
   does block calls st (act.Pfor x lo hi target c) s =
       given (value_of lo s.env) s λ l.
       given (value_of hi s.env) s λ h.
       given (values_of c.args s.env) s λ vs.
       looped (number l) (count_of (number h -ℤ number l)) vs target c s
+  does block calls st (act.Scope a) s = scoped block calls a s
 
-  abbrev pub statement : Block → ℕ → Stmt → State K → Run I E (State K)
+  abbrev pub statement : Block I E K → ℕ → Stmt → State K → Run I E (State K)
   statement block calls st s = paid s λ s. does block calls st (out-Act (out-Stmt st).act) s
 
   abbrev pub each : (Stmt → State K → Run I E (State K)) → List Stmt → State K → Run I E (State K)
   each one [] s = done s
   each one (st ∷ sts) s = one st s then each one sts
 
-  -- A statement pays a step before it enters a block, a turn or a call. So n levels of these are enough for n steps, and one more
+module _ {I E K : Type 0} (how : Manner I E K) (plan : PlanView) where
+  -- A statement pays a step before it enters a block, a turn, a call or a scope. So n levels of these are enough for n steps, and one more
   -- statement finds no step. That makes the meaning total, whatever the script. Nothing above depends on the levels: the laws of
   -- `exec` give its equations without them.
-  abbrev pub statements : ℕ → Block
-  statements zero calls = each (λ st s. fault Budget s)
-  statements (suc n) calls = each (statement (statements n) calls)
+  abbrev pub statements : ℕ → Block I E K
+  statements zero path calls = each how plan path (λ st s. fault how plan path Budget s)
+  statements (suc n) path calls = each how plan path (statement how plan path (statements n) calls)
 
   -- the statements, from a state
-  abbrev pub exec : Block
-  exec calls sts s = statements s.steps calls sts s
+  abbrev pub exec : Block I E K
+  exec path calls sts s = statements s.steps path calls sts s
 
   -- a whole instance: rank 0, the whole budget, no open call
-  abbrev pub instance : Option Function → List Value → Run I E Value
-  instance f vs =
-      activation exec 0 f vs (record { env = []; rank = 0; steps = plan.limits.budget; spawned = how.none }) then λ r. done r.0
+  abbrev pub instance : (path : List ℕ) → Option Function → List Value → Run I E Value
+  instance path f vs =
+      activation how plan path exec 0 f vs (record { env = []; rank = 0; steps = plan.limits.budget; spawned = how.none }) then λ r. done r.0

@@ -12,7 +12,7 @@ use Rattle.serial_meaning.specs.Names.{names_in}
 use Rattle.serial_meaning.specs.Plan.{PlanView, drawn}
 use Rattle.serial_meaning.specs.Exec.{State, Manner, statement, exec}
 use Rattle.serial_meaning.specs.Eval.{Evaluation, serial, eval, main_origin, elision}
-use Rattle.serial_meaning.specs.Open.{Child, put_off_all, opened, faults}
+use Rattle.serial_meaning.specs.Open.{Child, put_off_all, loop_end, opened, faults}
 use Rattle.serial_meaning.specs.declared.value.Value.{Value}
 use Rattle.serial_meaning.specs.declared.event.Fault.{Fault}
 use Rattle.serial_meaning.specs.declared.event.Event.{Event}
@@ -27,7 +27,7 @@ use Rattle.serial_meaning.specs.declared.origin.Origin.TheVariants.{Loop}
 pub record Equations {I E K : Type 0} (how : Manner I E K) (plan : PlanView) (path : List ℕ) : Type 0 where
   pub nothing : (calls : ℕ) (s : State K) → exec how plan path calls [] s ≡ done s
   pub first : (calls : ℕ) (st : Stmt) (sts : List Stmt) (s : State K) →
-      exec how plan path calls (st ∷ sts) s ≡ (statement how plan path (exec how plan path) calls st s then exec how plan path calls sts)
+      exec how plan path calls (st ∷ sts) s ≡ (statement how plan path (exec how plan) calls st s then exec how plan path calls sts)
   pub in_a_row : (calls : ℕ) (xs ys : List Stmt) (s : State K) →
       exec how plan path calls (xs ++ ys) s ≡ (exec how plan path calls xs s then exec how plan path calls ys)
   pub turn : (calls : ℕ) (loop : Stmt) (body sts : List Stmt) (s : State K) →
@@ -76,6 +76,12 @@ EndsByLeast fs (Err f) = Contains fs f × All (λ g. IsBefore g.at f.at → ⊥)
 -- The elision ends by the least of all faults of the open tree, and without a fault exactly where there is none.
 abbrev pub FaultIsLeast : Type 0
 FaultIsLeast = (plan : PlanView) → EndsByLeast (faults plan) (elision plan).ending
+
+-- A loop that a node goes by ends by the first fault of its iterations, and the loop's own node by the least: these are one.
+abbrev pub LoopsEndAlike : Type 0
+LoopsEndAlike =
+    (plan : PlanView) (function : ℕ) (rest : List Value) (first : ℤ) (path : List ℕ) (range : Range) →
+    let o = Loop function rest first path range in (opened plan o).ending ≡ loop_end (eval plan o).ending
 
 -- main's origin; a child of an origin of the plan; or a loop's origin with only a part of such a child's iterations
 pub data IsOriginOf (plan : PlanView) : Origin → Type 0 where

@@ -1,10 +1,10 @@
 -- Of which loops an origin is a part, or below which it stands, as far as a cut depends on it. Each law is the contract of a function of
 -- the module `laws`.
-use Rattle.std.specs.Prelude.{◌≡◌, ◌≤◌, ◌++◌, ◌↔◌, ℕ, List, [], ◌∷◌, Option, Some, None, Contains, length, take}
+use Rattle.std.specs.Prelude.{◌≡◌, ◌≤◌, ◌++◌, ◌↔◌, ℕ, List, [], Option, Some, None, Contains, length, take}
 use Rattle.ped_path.specs.Path.{IsBefore}
 use Rattle.serial_meaning.specs.Plan.{PlanView}
 use Rattle.serial_meaning.specs.Eval.{path_of}
-use Rattle.serial_meaning.specs.Open.{faults}
+use Rattle.serial_meaning.specs.Open.{Child, opened, faults}
 use Rattle.serial_meaning.specs.Laws.{IsOriginOf}
 use Rattle.serial_meaning.specs.Answer.{IsLoopPath, IsCut}
 use Rattle.serial_meaning.specs.declared.event.Fault.{Fault}
@@ -37,6 +37,11 @@ abbrev pub outer_path : Option ℕ → List ℕ → List ℕ
 outer_path None path = path
 outer_path (Some n) path = take n path
 
+-- a child that is handed out: for an instance one of its node, and for a loop one that stands at or below the loop's path
+abbrev pub IsHandedFor : PlanView → Origin → Origin → Type 0
+IsHandedFor plan (Instance function args path) child = Contains (opened plan (Instance function args path)).items (Child child)
+IsHandedFor plan (Loop function rest first path range) child = (more : List ℕ) × (path_of child ≡ path ++ more)
+
 -- main's path is empty, and no loop's.
 abbrev pub MainIsUnlooped : Type 0
 MainIsUnlooped = (plan : PlanView) → IsUnlooped plan []
@@ -44,7 +49,7 @@ MainIsUnlooped = (plan : PlanView) → IsUnlooped plan []
 -- What is known of a parent's path tells it of a child's.
 abbrev pub ChildrenKnowLoops : Type 0
 ChildrenKnowLoops =
-    (plan : PlanView) (path : List ℕ) (rank : ℕ) (known : Option ℕ) (child : Origin) → IsOriginOf plan child → path_of child ≡ path ++ rank ∷ [] → Outermost plan path known →
+    (plan : PlanView) (parent child : Origin) (known : Option ℕ) → IsOriginOf plan parent → Contains (opened plan parent).items (Child child) → Outermost plan (path_of parent) known →
     Outermost plan (path_of child) (outermost_of known child)
 
 -- Below a loop its path stays the outermost one.

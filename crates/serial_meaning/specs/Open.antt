@@ -10,17 +10,21 @@ use Rattle.serial_meaning.specs.Runs.{Run, done, stopped, happens, ◌then◌}
 use Rattle.serial_meaning.specs.Functions.{function_at}
 use Rattle.serial_meaning.specs.Plan.{PlanView, functions_of}
 use Rattle.serial_meaning.specs.Exec.{Manner, instance}
-use Rattle.serial_meaning.specs.Eval.{Evaluation, first_of, iteration, eval_at, depth_left, main_origin}
+use Rattle.serial_meaning.specs.Eval.{Evaluation, first_of, iteration, by_depth, eval_below, depth_left, main_origin}
 use Rattle.serial_meaning.specs.declared.value.Value.{Value}
 use Rattle.serial_meaning.specs.declared.value.Value.TheVariants.{Int, Id}
 use Rattle.serial_meaning.specs.declared.event.Fault.{Fault}
 use Rattle.serial_meaning.specs.declared.event.Event.{Event}
+use Rattle.serial_meaning.specs.declared.event.Event.TheVariants as event
 use Rattle.serial_meaning.specs.declared.origin.Origin.{Origin}
 use Rattle.serial_meaning.specs.declared.origin.Origin.TheVariants.{Instance, Loop}
 
+-- what the node of an instance shows: an event, a child, and where a scope begins and where it has ended, by the strand that came to it
 pub data Item : Type 0 where
   Happened : Event → Item
   Child : Origin → Item
+  Opened : List ℕ → Item
+  Closed : List ℕ → Item
 
 -- A node ends by a fault of its own, or at a sync or a loop's end by the least fault of the children that it waited for.
 pub data Ending : Type 0 where
@@ -76,6 +80,8 @@ is_empty_loop (Loop function rest first path range) = is_zero (range.hi - range.
 abbrev pub put_off_all : PlanView → (Origin → Evaluation) → Manner Item Ending (Option Fault)
 put_off_all plan child = record {
   event = Happened;
+  opens = λ j. Opened j ∷ [];
+  closes = λ j. Closed j ∷ [];
   own = Own;
   none = None;
   spawn = λ o faulted. happens (Child o) (put_off (filler plan o) faulted (child o).ending);
@@ -106,14 +112,9 @@ node_with plan child (Instance function args path) =
 node_with plan child (Loop function rest first path range) =
     let os = iterations function rest first path range.lo (range.hi - range.lo) in record { items = map Child os; ending = loop_end (gathered child os) }
 
--- with so many ranks left below the depth
-abbrev pub node_at : PlanView → ℕ → Origin → Node
-node_at plan zero = node_with plan (λ o. done [])
-node_at plan (suc left) = node_with plan (eval_at plan left)
-
 -- an origin's node
 abbrev pub opened : PlanView → Origin → Node
-opened plan o = node_at plan (depth_left plan o) o
+opened plan o = node_with plan (eval_below plan (depth_left plan o)) o
 
 abbrev pub own_fault : Result (List Value) Ending → List Fault
 own_fault (Ok vs) = []
@@ -124,11 +125,66 @@ abbrev pub faults_of : (Origin → List Fault) → List Item → List Fault
 faults_of below [] = []
 faults_of below (Happened e ∷ items) = faults_of below items
 faults_of below (Child o ∷ items) = below o ++ faults_of below items
+faults_of below (Opened j ∷ items) = faults_of below items
+faults_of below (Closed j ∷ items) = faults_of below items
 
--- the instances' own faults in a node, its children's nodes and so on, all the way down
-abbrev pub faults_at : PlanView → ℕ → Origin → List Fault
-faults_at plan zero o = own_fault (node_at plan zero o).ending
-faults_at plan (suc left) o = faults_of (faults_at plan left) (node_at plan (suc left) o).items ++ own_fault (node_at plan (suc left) o).ending
+-- the faults below a node, where those of a child's part are what below says, and the instance's own
+abbrev pub faults_with : PlanView → (Origin → List Fault) → Origin → List Fault
+faults_with plan below o = faults_of below (opened plan o).items ++ own_fault (opened plan o).ending
+
+abbrev pub faults_below : PlanView → ℕ → Origin → List Fault
+faults_below plan = by_depth plan [] (faults_with plan)
+
+-- the instances' own faults in an origin's node, its children's nodes and so on, all the way down
+abbrev pub faults_in : PlanView → Origin → List Fault
+faults_in plan o = faults_with plan (faults_below plan (depth_left plan o)) o
 
 abbrev pub faults : PlanView → List Fault
-faults plan = faults_at plan (depth_left plan (main_origin plan)) (main_origin plan)
+faults plan = faults_in plan (main_origin plan)
+
+-- Places
+
+-- the pedigree after a rise of the rank
+abbrev pub risen : List ℕ → List ℕ
+risen [] = []
+risen (rank ∷ []) = (rank + 1) ∷ []
+risen (rank ∷ k ∷ ranks) = rank ∷ risen (k ∷ ranks)
+
+-- the strand after an event of the strand `here`: a print raises no rank
+abbrev pub strand_after : List ℕ → Event → List (List ℕ)
+strand_after here (event.Print j v) = []
+strand_after here (event.Draw j n) = risen here ∷ []
+strand_after here (event.New j) = risen here ∷ []
+strand_after here (event.Spawn j) = risen here ∷ []
+strand_after here (event.Sync j) = risen here ∷ []
+strand_after here (event.Loop j) = risen here ∷ []
+
+abbrev pub last_of : List ℕ → List (List ℕ) → List ℕ
+last_of here [] = here
+last_of here (j ∷ js) = last_of j js
+
+-- The strands that these items lead to from the strand `here`, in order: the one after an event that raises the rank; the first of a scope;
+-- and after a scope's last strand, which is the one after the sync at its end, the one after the scope.
+abbrev pub led_to : List ℕ → List Item → List (List ℕ)
+led_to here [] = []
+led_to here (Happened e ∷ items) = strand_after here e ++ led_to (last_of here (strand_after here e)) items
+led_to here (Child o ∷ items) = led_to here items
+led_to here (Opened j ∷ items) = (j ++ 0 ∷ []) ∷ led_to (j ++ 0 ∷ []) items
+led_to here (Closed j ∷ items) = risen j ∷ led_to (risen j) items
+
+abbrev pub without_last : List (List ℕ) → List (List ℕ)
+without_last [] = []
+without_last (j ∷ []) = []
+without_last (j ∷ k ∷ js) = j ∷ without_last (k ∷ js)
+
+-- Where an instance ended by the fault of a child, it ended at the sync or the loop that is its last event, and the strand after that
+-- wasn't reached.
+abbrev pub reached_by : List (List ℕ) → Result (List Value) Ending → List (List ℕ)
+reached_by js (Ok vs) = js
+reached_by js (Err (Own f)) = js
+reached_by js (Err (Joined f)) = without_last js
+
+-- the pedigrees of an instance's own strands, in order; a loop has none
+abbrev pub places_of : Origin → Node → List (List ℕ)
+places_of (Instance function args path) n = reached_by ((path ++ 0 ∷ []) ∷ led_to (path ++ 0 ∷ []) n.items) n.ending
+places_of (Loop function rest first path range) n = []

@@ -1,7 +1,7 @@
 //! What the definitions say of small scripts. Each function does nothing; its contract is the example. The coefficients are 1, 0
 //! and 0, so that a draw at rank r of main is `mix` of r + 1. Where no budget is named the example holds with any from 20 on.
 
-ghost use Rattle.serial_meaning.specs.Examples.{CallsEndAt256, CallsShareTheRank, DepthTwoIsEnoughForASpawn, ElisionEndsAtTheChildsFault, EmptyLoopRaisesTheRank, FourStepsAreEnough, ImpliedSyncRaisesTheRank, OpenTreeHasBothFaults, SpawnNeedsDepthTwo, TargetMustHaveRoom, ThreeStepsAreTooFew};
+ghost use Rattle.serial_meaning.specs.Examples.{CallsEndAt256, CallsShareTheRank, DepthTwoIsEnoughForASpawn, ElisionEndsAtTheChildsFault, EmptyLoopRaisesTheRank, FourStepsAreEnough, ImpliedSyncRaisesTheRank, OpenTreeHasBothFaults, ScopeHasStrands, ScopeIsALevel, ScopeNeedsDepthTwo, SpawnNeedsDepthTwo, TargetMustHaveRoom, ThreeStepsAreTooFew, ScopeRaisesTheRank, ChildStandsInItsScope};
 
 /// `fn main() { print 1; print 2; print 3; return 0; }` with a budget of 3 prints 1, 2 and 3 and ends by the fault Budget at 0.
 #[tactic(auto, using(crate::proofs::ScriptRuns::three_steps_are_too_few))]
@@ -62,4 +62,30 @@ pub fn elision_ends_at_the_childs_fault()
 /// The faults of that plan are Divide at 0.0 and Budget at 1.
 pub fn open_tree_has_both_faults()
     ensures { OpenTreeHasBothFaults }
+{}
+
+/// `fn main() { scope { print 1; } return 0; }` of version 2 prints 1 in the strand 0.0, and has a sync there.
+pub fn scope_is_a_level()
+    ensures { ScopeIsALevel }
+{}
+
+/// The same ends by the fault Depth at 0 where pedigrees have one rank.
+pub fn scope_needs_depth_two()
+    ensures { ScopeNeedsDepthTwo }
+{}
+
+/// The strands of its main are 0, 0.0, 0.1 and 1.
+pub fn scope_has_strands()
+    ensures { ScopeHasStrands }
+{}
+
+/// `fn main() { scope { print 1; } let x = draw; print x; return 0; }` of version 2 prints 1 and 210.
+pub fn scope_raises_the_rank()
+    ensures { ScopeRaisesTheRank }
+{}
+
+/// `fn f() { let x = draw; return x; } fn main() { let a = 0; scope { a = spawn f(); } print a; return 0; }` of version 2, with the
+/// coefficients 0, 0 and 1: the child draws 21 in the strand 0.0.0, which is printed after the scope.
+pub fn child_stands_in_its_scope()
+    ensures { ChildStandsInItsScope }
 {}

@@ -2,7 +2,7 @@
 
 ghost use Rattle.serial_meaning.specs.Cuts.{BeforeLasts, CutsStandBefore, MainIsNotCut, PathsAreOfOneKind, WholeAnswersAreEvals};
 ghost use Rattle.serial_meaning.specs.Loops.{BeforeFront, ChildrenKnowLoops, CutsAreTold, LoopsLast, MainIsUnlooped};
-ghost use Rattle.serial_meaning.specs.Laws.{DrawsAreDotMix, ElisionHasEquations, FaultIsLeast, OpenTreeHasEquations, OriginsEndWithinFaults, PedigreesRise, ValuesDependOnNames};
+ghost use Rattle.serial_meaning.specs.Laws.{DrawsAreDotMix, ElisionHasEquations, FaultIsLeast, LoopsEndAlike, OpenTreeHasEquations, OriginsEndWithinFaults, PedigreesRise, ValuesDependOnNames};
 
 /// What statements do, in the serial elision, is the first and then the others, blocks and calls by the same meaning: the equations
 /// hold with no bound on levels. That the meaning is total is its form: it is a function, by recursion on the steps and the depth.
@@ -18,13 +18,11 @@ pub fn open_tree_has_equations()
 {}
 
 /// Of two events of the serial elision that are no printing, the earlier one's pedigree is before the later one's.
-#[tactic(auto, using(crate::proofs::RisingExec::elision_rises))]
 pub fn pedigrees_rise()
     ensures { PedigreesRise }
 {}
 
 /// Each draw of the serial elision is DotMix of its pedigree.
-
 pub fn draws_are_dotmix()
     ensures { DrawsAreDotMix }
 {}
@@ -32,6 +30,12 @@ pub fn draws_are_dotmix()
 /// The serial elision ends by the least of all faults of the open tree, and without a fault exactly where there is none.
 pub fn fault_is_least()
     ensures { FaultIsLeast }
+{}
+
+/// A loop ends by the first fault of its iterations, both in the elision and where a node of the open tree goes by it; its own node ends
+/// by the least. That is the same fault, or none.
+pub fn loops_end_alike()
+    ensures { LoopsEndAlike }
 {}
 
 /// A fault by which an origin of the plan ends is one of the open tree's.

@@ -49,7 +49,8 @@ fn same_functions(functions: &[Function], others: &[Function]) -> bool
 fn same_script(script: &Script, other: &Script) -> bool
     ensures { IsTrue result ↔ (script.now ≡ other.now) }
 {
-    same_functions(script.functions.as_slice(), other.functions.as_slice())
+    script.version == other.version
+        && same_functions(script.functions.as_slice(), other.functions.as_slice())
 }
 
 fn same_gamma(gamma: &Gamma, other: &Gamma) -> bool

@@ -99,6 +99,7 @@ fn same_act(act: &Act, other: &Act) -> bool
                 && same_target(target, other_target)
                 && same_call(call, other_call)
         }
+        (Act::Scope(block), Act::Scope(other)) => same_stmts(block.as_slice(), other.as_slice()),
         _ => false,
     }
 }

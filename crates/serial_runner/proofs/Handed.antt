@@ -11,7 +11,7 @@ use Rattle.serial_meaning.specs.declared.event.Event.{Event}
 use Rattle.serial_meaning.specs.declared.origin.Origin.{Origin}
 use Rattle.serial_meaning.specs.declared.origin.Origin.TheVariants.{Instance, Loop}
 use Rattle.serial_meaning.specs.declared.answer.Outcome.{Outcome}
-use Rattle.strand_meaning.specs.Machine.{Token, Told, Handed, Syncs, Loops, Reached, Stands, Gives, move}
+use Rattle.strand_meaning.specs.Machine.{Token, Opens, Closes, Told, Handed, Syncs, Loops, Reached, Stands, Gives, move}
 use Rattle.strand_meaning.specs.Pieces.{Part, Pieces, behind_last, tell, tell_at, hand, with_tokens}
 use Rattle.strand_meaning.specs.Task.{Stage, Goes, AtSync, AtLoop, Ended, Work, Splits, Runs, Over, Task, own_instance, Step, Passes, Stops, Stop, Spawn, Wait, End, IsNext, Now, Later, stage_after, child_in, stops_at, passing, moved, ends_unless, faults_behind, gave, stage_step, first_half, split_step, over_step, work_step, step}
 use Rattle.strand_meaning.specs.Sound.{IsEndOf, IsSoundWork, IsTask}
@@ -39,6 +39,8 @@ awaited-tell (p ∷ ps) e pieces h = awaited-behind p ps e ∙ ap awaited (sym h
 
 awaited-tokens : (ts : List Token) (pieces : Pieces) → awaited (with_tokens ts pieces).handed ≡ awaited pieces.handed ++ children ts
 awaited-tokens [] pieces = sym (append-nil (awaited pieces.handed))
+awaited-tokens (Opens j ∷ ts) pieces = awaited-tokens ts pieces
+awaited-tokens (Closes j ∷ ts) pieces = awaited-tokens ts pieces
 awaited-tokens (Told e ∷ ts) pieces = awaited-tokens ts (tell e pieces) ∙ ap (λ l. l ++ children ts) (awaited-tell pieces.handed e pieces refl)
 awaited-tokens (Handed o place ∷ ts) pieces =
     awaited-tokens ts (hand o place pieces) ∙ ap (λ l. l ++ children ts) (awaited-append pieces.handed _) ∙ append_assoc (awaited pieces.handed) (o ∷ []) (children ts)
@@ -51,6 +53,8 @@ first (o ∷ os) = Some o
 
 pub child-first : (ts : List Token) → child_in ts ≡ first (children ts)
 child-first [] = refl
+child-first (Opens j ∷ ts) = child-first ts
+child-first (Closes j ∷ ts) = child-first ts
 child-first (Told e ∷ ts) = child-first ts
 child-first (Handed o place ∷ ts) = refl
 child-first (Syncs ∷ ts) = child-first ts

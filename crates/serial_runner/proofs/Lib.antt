@@ -1,9 +1,10 @@
 pub mod Advancing
 pub mod Answered
+pub mod Below
 pub mod Handed
 pub mod Measure
 pub mod Over
-pub mod Ranked
+pub mod Places
 pub mod Showing
 pub mod Shows
 pub mod Sighted

@@ -1,222 +1,170 @@
--- Once an instance stands after a strand, all that its node shows of the strand is seen: what comes later is of higher ranks.
-use Rattle.std.proofs.Common.{◌≡◌, ◌<◌, ◌≤◌, ℕ, suc, zero, ◌+◌, ◌-◌, Bool, true, false, ◌||◌, bytes_eq, ◌⊎◌, inl, inr, List, [], ◌∷◌, ◌++◌, Option, Some, None, Ok, Err, refl, sym, ap, ◌∙◌, subst, append-nil, arith, length, if◌then◌else◌}
-use Rattle.std.specs.Prelude.{Contains, slice_get}
-use Rattle.std.proofs.lemmas.Bool.{true≢false}
-use Rattle.std.proofs.lemmas.Option.{slice_get_within, get_or_from_slice_get}
-use Rattle.std.proofs.lemmas.Slice.Eq.{bytes_eq-Decides}
-use Rattle.serial_meaning.specs.Eval.{path_of, eval}
-use Rattle.serial_meaning.specs.Open.{Own, Joined}
-use Rattle.serial_meaning.specs.Plan.{PlanView}
-use Rattle.serial_meaning.specs.declared.event.Fault.{Fault}
+-- Once a strand of an instance's own is over, what comes later stands after it: no event of that strand, no child on the way to it, and no
+-- fault there or before.
+use Rattle.std.proofs.Common.{◌≡◌, ℕ, ◌+◌, ◌<◌, Bool, true, false, ◌||◌, ◌&&◌, not, bytes_eq, ◌⊎◌, inl, inr, List, [], ◌∷◌, ◌++◌, Some, None, length, length-append, take, refl, sym, ap, ◌∙◌, subst, append_assoc, if◌then◌else◌, arith}
+use Rattle.std.specs.Ordering.{is_lt, nat_cmp}
+use Rattle.std.specs.Cmp.Lexicographic.{slice_cmp}
+use Rattle.std.specs.declared.cmp.Ordering.{Ordering}
+use Rattle.std.specs.declared.cmp.Ordering.TheVariants.{Less, Equal, Greater}
+use Rattle.ped_path.specs.Path.{IsBefore}
+use Rattle.serial_meaning.specs.Eval.{path_of}
+use Rattle.serial_meaning.specs.Open.{Item, Happened, Child, Opened, Closed, risen, led_to, without_last}
+use Rattle.serial_meaning.proofs.Order.{before-by_rank, before-prefix, not_before_itself, not_before-back, before-before}
 use Rattle.serial_meaning.specs.declared.event.Event.{Event}
 use Rattle.serial_meaning.specs.declared.event.Event.TheVariants as event
 use Rattle.serial_meaning.specs.declared.origin.Origin.{Origin}
-use Rattle.serial_meaning.specs.declared.origin.Origin.TheVariants.{Instance, Loop}
-use Rattle.strand_meaning.specs.Laws.{IsOf, IsSoundStop, KeepsOrigin, LeavesFewer}
-use Rattle.strand_meaning.specs.Left.{stops_left}
-use Rattle.strand_meaning.specs.Notes.{IsInstance, Notes, also, had, work_fault, Shows, WorkRanksAre, IsOnWay, IsWhole, OnWay}
-use Rattle.strand_meaning.specs.Rest.{evaluations}
-use Rattle.strand_meaning.specs.Sound.{IsTask}
-use Rattle.strand_meaning.specs.Strands.{Strand, pedigree_of, raise, raises, own_events, events_at, child_at}
-use Rattle.strand_meaning.specs.Task.{Goes, AtSync, AtLoop, Ended, Work, Splits, Runs, Over, Task, own_instance, Stop, Spawn, Wait, End, IsNext, on}
-use Rattle.strand_meaning.proofs.Comes.{stops_come}
-use Rattle.strand_meaning.proofs.Depth.{cons-contained}
-use Rattle.strand_meaning.proofs.Fewer.{stops_fall, answers_leave_no_more}
-use Rattle.strand_meaning.proofs.Keeps.{first-contained, later-contained}
-use Rattle.strand_meaning.proofs.NodeAnswers.{answers_show_nothing}
-use Rattle.strand_meaning.proofs.Noted.{own-append, also-assoc, notes_go_on, stops_are_shown}
-use Rattle.strand_meaning.proofs.NoteWords.{had-append, events_at-append}
-use Rattle.strand_meaning.proofs.Onward.{answers_keep_tasks}
-use Rattle.strand_meaning.proofs.Stops.{stops_are_sound, stops_keep_origins}
-use Rattle.serial_runner.specs.Nodes.{fault_at, last_node, inner_node}
-use Rattle.serial_runner.specs.Sights.{raises_rank, ended_by, ends_strand, first_of, seen, IsSeen}
-use Rattle.serial_runner.specs.declared.node.Node.{Node}
-use Rattle.serial_runner.specs.declared.sight.Sight.{Sight}
-use Rattle.serial_runner.proofs.Ranked.{lower_apart, fault_apart, NoneAt, none_append, newest_none, more_raised, WorkAt, FromRank, shows_from}
-use Rattle.serial_runner.proofs.Sighted.{child-append, first-only}
+use Rattle.strand_meaning.specs.Strands.{pedigree_of, events_at, own_events, last_place, is_below, child_on_way, ended_before, is_one_of}
+use Rattle.strand_meaning.proofs.Variables.{same-name, is-other}
+use Rattle.strand_machine.specs.Eyes.{looks, goes_to, less, ahead_of, is_none_ahead}
+use Rattle.strand_machine.specs.declared.eye.Eye.{Eye}
+use Rattle.strand_machine.proofs.Eyes.{risen-last}
+use Rattle.serial_runner.proofs.Below.{below-of}
+use Rattle.serial_runner.proofs.Places.{IsStrand, stands, came_by, Follow}
 
-pub path_own : (o : Origin) → IsInstance o → path_of (own_instance o) ≡ path_of o
-path_own (Instance function args path) i = refl
-path_own (Loop function rest first path range) i = absurd i
+no-strand : IsStrand [] → ⊥
+no-strand s = let l : length {A = ℕ} [] ≡ length (s.0 ++ s.1 ∷ []) = ap length s.2 in absurd (omega (arith, l, length-append s.0 (s.1 ∷ [])))
 
--- The event that ends a strand
+-- Strands stand one after another
 
-raises-one : (e : Event) → raises_rank e ≡ true → raise e ≡ 1
-raises-one (event.Print j v) h = absurd (true≢false (sym h))
-raises-one (event.Draw j n) h = refl
-raises-one (event.New j) h = refl
-raises-one (event.Spawn j) h = refl
-raises-one (event.Sync j) h = refl
-raises-one (event.Loop j) h = refl
+risen-after : (here : List ℕ) → IsStrand here → IsBefore here (risen here)
+risen-after here s =
+    subst (λ (l : List ℕ). IsBefore l (risen l)) (sym s.2) (subst (IsBefore (s.0 ++ s.1 ∷ [])) (sym (risen-last s.0 s.1)) (before-by_rank s.0 s.1 (s.1 + 1) [] [] (omega arith)))
 
-pub ends_by : (es : List Event) → ends_strand es ≡ true → (e : Event) × Contains es e × (raise e ≡ 1)
-ends_by es h = from (slice_get es (length es - 1)) refl h
-  where
-    from : (o : Option Event) → slice_get es (length es - 1) ≡ o → ended_by o ≡ true → (e : Event) × Contains es e × (raise e ≡ 1)
-    from None g k = absurd (true≢false (sym k))
-    from (Some e) g k = (e, (length es - 1, slice_get_within es (length es - 1) e g, get_or_from_slice_get es (length es - 1) e e g), raises-one e k)
+scope-after : (here : List ℕ) → IsBefore here (here ++ 0 ∷ [])
+scope-after here = before-prefix here 0 []
 
-pub among : (j : List ℕ) (es : List Event) (e : Event) → Contains (events_at j es) e → Contains es e × (pedigree_of e ≡ j)
-among j [] e c = absurd (omega (arith, c.1))
-among j (x ∷ es) e c = by_place (bytes_eq (pedigree_of x) j) refl c (among j es e)
-  where
-    by_place : (b : Bool) → bytes_eq (pedigree_of x) j ≡ b → Contains (if b then x ∷ events_at j es else events_at j es) e → (Contains (events_at j es) e → Contains es e × (pedigree_of e ≡ j)) → Contains (x ∷ es) e × (pedigree_of e ≡ j)
-    by_place true h c later = from (cons-contained x e (events_at j es) c)
-      where
-        from : (x ≡ e) ⊎ Contains (events_at j es) e → Contains (x ∷ es) e × (pedigree_of e ≡ j)
-        from (inl g) = (subst (λ (y : Event). Contains (x ∷ es) y) g (first-contained x es), ap pedigree_of (sym g) ∙ (bytes_eq-Decides (pedigree_of x) j).0 h)
-        from (inr d) = let k = later d in (later-contained x e es k.0, k.1)
-    by_place false h c later = let k = later c in (later-contained x e es k.0, k.1)
+closed-after : (j : List ℕ) (rank : ℕ) → IsStrand j → IsBefore (j ++ rank ∷ []) (risen j)
+closed-after j rank s =
+    subst (λ (l : List ℕ). IsBefore (l ++ rank ∷ []) (risen l)) (sym s.2)
+    (subst (λ (l : List ℕ). IsBefore l (risen (s.0 ++ s.1 ∷ []))) (sym (append_assoc s.0 (s.1 ∷ []) (rank ∷ [])))
+    (subst (IsBefore (s.0 ++ s.1 ∷ rank ∷ [])) (sym (risen-last s.0 s.1)) (before-by_rank s.0 s.1 (s.1 + 1) (rank ∷ []) [] (omega arith))))
 
-pub had_there : (path : List ℕ) (rank : ℕ) (xs : List ℕ) → Contains xs rank → had path (path ++ rank ∷ []) xs ≡ true
-had_there path rank [] c = absurd (omega (arith, c.1))
-had_there path rank (x ∷ xs) c = from (cons-contained x rank xs c) (had_there path rank xs)
-  where
-    or-true : (a : Bool) → (a || true) ≡ true
-    or-true true = refl
-    or-true false = refl
+module _ (j : List ℕ) where
+  abbrev pub AtMost : List ℕ → Type 0
+  AtMost x = (j ≡ x) ⊎ IsBefore j x
 
-    from : (x ≡ rank) ⊎ Contains xs rank → (Contains xs rank → had path (path ++ rank ∷ []) xs ≡ true) → had path (path ++ rank ∷ []) (x ∷ xs) ≡ true
-    from (inl e) later =
-        ap (λ (b : Bool). b || had path (path ++ rank ∷ []) xs) ((bytes_eq-Decides (path ++ x ∷ []) (path ++ rank ∷ [])).1 (ap (λ (n : ℕ). path ++ n ∷ []) e))
-    from (inr d) later = ap (λ (b : Bool). bytes_eq (path ++ x ∷ []) (path ++ rank ∷ []) || b) (later d) ∙ or-true (bytes_eq (path ++ x ∷ []) (path ++ rank ∷ []))
+  most-before : (x y : List ℕ) → AtMost x → IsBefore x y → IsBefore j y
+  most-before x y (inl e) b = subst (λ (l : List ℕ). IsBefore l y) (sym e) b
+  most-before x y (inr a) b = before-before j x y a b
 
--- Where an instance goes on, its rank is what its events raised.
-pub work_at : (t : Task) (notes : Notes) → IsOnWay notes t → WorkAt (raises (own_events notes.items)) t.work
-work_at t notes h = by_work t.work h.ranks
-  where
-    by_work : (work : Work) → WorkRanksAre (path_of t.origin) t.advanced (raises (own_events notes.items)) notes.ranks work → WorkAt (raises (own_events notes.items)) work
-    by_work (Splits left) k = tt
-    by_work (Runs (Goes m)) k = k.0
-    by_work (Runs (AtSync m)) k = tt
-    by_work (Runs (AtLoop m)) k = tt
-    by_work (Runs (Ended e)) k = tt
-    by_work (Over v gone_on) k = tt
+  -- The strand with the pedigree stands before where the instance is, and not after the event that led there.
+  pub record IsOver (here by : List ℕ) : Type 0 where
+    pub before : IsBefore j here
+    pub after : IsStrand by → AtMost by
 
--- its own fault, where that came, is at the rank that its events raised
-no-fault : (t : Task) (notes : Notes) (r : ℕ) → IsOnWay notes t → r < raises (own_events notes.items) → fault_at (path_of t.origin ++ r ∷ []) notes.fault ≡ None
-no-fault t notes r h lower = ap (fault_at (path_of t.origin ++ r ∷ [])) h.fault ∙ by_work t.work h.ranks
-  where
-    n : ℕ
-    n = raises (own_events notes.items)
+  -- after an event that raises the rank, at the beginning of a scope, and after its end
+  raise : (here k : List ℕ) → IsStrand here → k ≡ here → AtMost here → IsOver (risen here) k
+  raise here k s e a = record { before = most-before here (risen here) a (risen-after here s); after = λ q. subst AtMost (sym e) a }
 
-    by_work : (work : Work) → WorkRanksAre (path_of t.origin) t.advanced n notes.ranks work → fault_at (path_of t.origin ++ r ∷ []) (work_fault work) ≡ None
-    by_work (Splits left) k = refl
-    by_work (Runs (Goes m)) k = refl
-    by_work (Runs (AtSync m)) k = refl
-    by_work (Runs (AtLoop m)) k = refl
-    by_work (Runs (Ended (Ok v))) k = refl
-    by_work (Runs (Ended (Err (Own f)))) k = fault_apart (path_of t.origin ++ n ∷ []) (path_of t.origin ++ r ∷ []) f (lower_apart (path_of t.origin) n r lower) k.0
-    by_work (Runs (Ended (Err (Joined f)))) k = refl
-    by_work (Over v gone_on) k = refl
+  enter : (here k : List ℕ) → k ≡ here → AtMost here → IsOver (k ++ 0 ∷ []) []
+  enter here k e a = record { before = most-before here (k ++ 0 ∷ []) a (subst (λ (l : List ℕ). IsBefore l (k ++ 0 ∷ [])) e (scope-after k)); after = λ q. absurd (no-strand q) }
 
--- To the end
+  leave : (here k : List ℕ) (rank : ℕ) → IsStrand k → here ≡ k ++ rank ∷ [] → AtMost here → IsOver (risen k) []
+  leave here k rank s e a = record { before = most-before here (risen k) a (subst (λ (l : List ℕ). IsBefore l (risen k)) (sym e) (closed-after k rank s)); after = λ q. absurd (no-strand q) }
 
--- what is noted of the rest of an instance: its node, and nothing of the strands that are over
-record RunsOn (u : Task) (notes : Notes) : Type 0 where
-  later : Notes
-  whole : IsWhole u.plan u.origin (also notes later)
-  none : (r : ℕ) → r < raises (own_events notes.items) → NoneAt (path_of (own_instance u.origin) ++ r ∷ []) later.items
-  fault : (r : ℕ) → r < raises (own_events notes.items) → fault_at (path_of (own_instance u.origin) ++ r ∷ []) later.fault ≡ None
+  -- once it is over, it stays so
+  pub stays : (here by : List ℕ) (items : List Item) → Follow here by items → IsOver here by → IsOver (stands here items) (came_by by items)
+  stays here by [] f o = o
+  stays here by (Happened (event.Print k v) ∷ items) f o = stays here [] items f.2 (record { before = o.before; after = λ q. absurd (no-strand q) })
+  stays here by (Happened (event.Draw k n) ∷ items) f o = stays (risen here) k items f.2 (raise here k f.1 f.0 (inr o.before))
+  stays here by (Happened (event.New k) ∷ items) f o = stays (risen here) k items f.2 (raise here k f.1 f.0 (inr o.before))
+  stays here by (Happened (event.Spawn k) ∷ items) f o = stays (risen here) k items f.2 (raise here k f.1 f.0 (inr o.before))
+  stays here by (Happened (event.Sync k) ∷ items) f o = stays (risen here) k items f.2 (raise here k f.1 f.0 (inr o.before))
+  stays here by (Happened (event.Loop k) ∷ items) f o = stays (risen here) k items f.2 (raise here k f.1 f.0 (inr o.before))
+  stays here by (Child c ∷ items) f o = stays here by items f.2 o
+  stays here by (Opened k ∷ items) f o = stays (k ++ 0 ∷ []) [] items f.2 (enter here k f.0 (inr o.before))
+  stays here by (Closed k ∷ items) f o = stays (risen k) [] items f.2 (leave here k f.1.0 f.0 f.1.1 (inr o.before))
 
-runs-on : (n : ℕ) (u : Task) (notes : Notes) → stops_left u < n → IsTask u → u.waiting ≡ false → IsInstance u.origin → IsOnWay notes u → RunsOn u notes
-runs-on zero u notes small is idle i way = absurd (omega (arith, small))
-runs-on (suc n) u notes small is idle i way =
-    by_stop stop (stops_are_sound u stop is next) (stops_keep_origins u stop next) (stops_fall u stop is idle next) (notes_go_on u notes more stop is i way shown) (runs-on n)
-  where
-    stop : Stop
-    stop = (stops_come u).0
+  -- one of the strands so far, and not the last
+  either : {R : Type 0} (here : List ℕ) (rest : Bool) → (bytes_eq here j || rest) ≡ true → (AtMost here → R) → (rest ≡ true → R) → R
+  either {R = R} here rest c first later = by (bytes_eq here j) refl c
+    where
+      by : (b : Bool) → bytes_eq here j ≡ b → (b || rest) ≡ true → R
+      by true e h = first (inl (sym (same-name here j e)))
+      by false e h = later h
 
-    next : IsNext u stop
-    next = (stops_come u).1
+  pub comes : (here by : List ℕ) (items : List Item) → Follow here by items → is_one_of j (without_last (here ∷ led_to here items)) ≡ true → IsOver (stands here items) (came_by by items)
+  comes here by [] f c = absurd (cc)
+  comes here by (Happened (event.Print k v) ∷ items) f c = comes here [] items f.2 c
+  comes here by (Happened (event.Draw k n) ∷ items) f c =
+      either here (is_one_of j (without_last (risen here ∷ led_to (risen here) items))) c (λ a. stays (risen here) k items f.2 (raise here k f.1 f.0 a)) (λ d. comes (risen here) k items f.2 d)
+  comes here by (Happened (event.New k) ∷ items) f c =
+      either here (is_one_of j (without_last (risen here ∷ led_to (risen here) items))) c (λ a. stays (risen here) k items f.2 (raise here k f.1 f.0 a)) (λ d. comes (risen here) k items f.2 d)
+  comes here by (Happened (event.Spawn k) ∷ items) f c =
+      either here (is_one_of j (without_last (risen here ∷ led_to (risen here) items))) c (λ a. stays (risen here) k items f.2 (raise here k f.1 f.0 a)) (λ d. comes (risen here) k items f.2 d)
+  comes here by (Happened (event.Sync k) ∷ items) f c =
+      either here (is_one_of j (without_last (risen here ∷ led_to (risen here) items))) c (λ a. stays (risen here) k items f.2 (raise here k f.1 f.0 a)) (λ d. comes (risen here) k items f.2 d)
+  comes here by (Happened (event.Loop k) ∷ items) f c =
+      either here (is_one_of j (without_last (risen here ∷ led_to (risen here) items))) c (λ a. stays (risen here) k items f.2 (raise here k f.1 f.0 a)) (λ d. comes (risen here) k items f.2 d)
+  comes here by (Child o ∷ items) f c = comes here by items f.2 c
+  comes here by (Opened k ∷ items) f c =
+      either here (is_one_of j (without_last ((k ++ 0 ∷ []) ∷ led_to (k ++ 0 ∷ []) items))) c (λ a. stays (k ++ 0 ∷ []) [] items f.2 (enter here k f.0 a)) (λ d. comes (k ++ 0 ∷ []) [] items f.2 d)
+  comes here by (Closed k ∷ items) f c =
+      either here (is_one_of j (without_last (risen k ∷ led_to (risen k) items))) c (λ a. stays (risen k) [] items f.2 (leave here k f.1.0 f.0 f.1.1 a)) (λ d. comes (risen k) [] items f.2 d)
 
-    more : Notes
-    more = (stops_are_shown u stop next).0
+  -- What comes later
 
-    shown : Shows u more stop
-    shown = (stops_are_shown u stop next).1
+  not-below : (path : List ℕ) → AtMost path → is_below path j ≡ false
+  not-below path h = by (is_below path j) refl h
+    where
+      begins : is_below path j ≡ true → IsBefore path j
+      begins e = let b = below-of path j e in subst (IsBefore path) (sym b.2) (before-prefix path b.0 b.1)
 
-    from : FromRank (path_of (own_instance u.origin)) (raises (own_events notes.items)) more
-    from = shows_from u (raises (own_events notes.items)) more stop is i (work_at u notes way) shown
+      by : (b : Bool) → is_below path j ≡ b → AtMost path → is_below path j ≡ false
+      by false e k = e
+      by true e (inl k) = absurd (not_before_itself j (subst (λ (l : List ℕ). IsBefore l j) (sym k) (begins e)))
+      by true e (inr k) = absurd (not_before-back j path k (begins e))
 
-    further : (v : Task) → IsOf u v → RunsOn v (also notes more) → RunsOn u notes
-    further v of rest = record {
-      later = also more rest.later;
-      whole =
-          subst (IsWhole u.plan u.origin) (also-assoc notes more rest.later)
-          (subst (λ (p : PlanView). IsWhole p u.origin (also (also notes more) rest.later)) of.0 (subst (λ (o : Origin). IsWhole v.plan o (also (also notes more) rest.later)) of.1 rest.whole));
-      none = λ r h. none_append (path_of (own_instance u.origin) ++ r ∷ []) more.items rest.later.items (from.none r h)
-          (subst (λ (o : Origin). NoneAt (path_of (own_instance o) ++ r ∷ []) rest.later.items) of.1 (rest.none r (higher r h)));
-      fault = λ r h. newest_none (path_of (own_instance u.origin) ++ r ∷ []) more.fault rest.later.fault (from.fault r h)
-          (subst (λ (o : Origin). fault_at (path_of (own_instance o) ++ r ∷ []) rest.later.fault ≡ None) of.1 (rest.fault r (higher r h)));
-    }
-      where
-        higher : (r : ℕ) → r < raises (own_events notes.items) → r < raises (own_events (notes.items ++ more.items))
-        higher r h = let sum : raises (own_events (notes.items ++ more.items)) ≡ raises (own_events notes.items) + raises (own_events more.items) = more_raised notes.items more.items in omega (arith, h, sum)
+  other-event : (here : List ℕ) (e : Event) → pedigree_of e ≡ here → IsBefore j here → bytes_eq (pedigree_of e) j ≡ false
+  other-event here e p b = is-other (pedigree_of e) j (λ q. not_before_itself j (subst (IsBefore j) (sym p ∙ q) b))
 
-    by_stop : (stop : Stop) → IsSoundStop u stop → KeepsOrigin u stop → LeavesFewer u stop → OnWay (also notes more) u stop →
-        ((v : Task) (ns : Notes) → stops_left v < n → IsTask v → v.waiting ≡ false → IsInstance v.origin → IsOnWay ns v → RunsOn v ns) → RunsOn u notes
-    by_stop (Spawn child rest) sound same fewer go later =
-        further rest same (later rest (also notes more) (omega (arith, small, fewer.0)) sound.1 fewer.1 (subst IsInstance (sym same.1) i) go)
-    by_stop (Wait rest) sound same fewer go later =
-        let inst : IsInstance rest.origin = subst IsInstance (sym same.1) i in
-        let few : stops_left (on (evaluations (eval rest.plan) rest.pieces.handed) rest) < n = less (answers_leave_no_more rest sound fewer.1) fewer.0 in
-        further (on (evaluations (eval rest.plan) rest.pieces.handed) rest) same
-        (later (on (evaluations (eval rest.plan) rest.pieces.handed) rest) (also notes more) few (answers_keep_tasks rest sound) refl inst (answers_show_nothing rest (also notes more) sound inst go))
-      where
-        less : {a b : ℕ} → a ≤ b → b < stops_left u → a < n
-        less h k = omega (arith, h, k, small)
-    by_stop (End out ended) sound same fewer go later = record { later = more; whole = go; none = from.none; fault = from.fault }
+  -- no event of the strand, and no child on the way
+  pub none-later : (here by : List ℕ) (items : List Item) → Follow here by items → IsOver here by → (events_at j (own_events items) ≡ []) × (child_on_way j items ≡ None)
+  none-later here by [] f o = (refl, refl)
+  none-later here by (Happened e ∷ items) f o = next (none-later (stands here (Happened e ∷ [])) (came_by by (Happened e ∷ [])) items f.2 (stays here by (Happened e ∷ []) (f.0, f.1, tt) o))
+    where
+      next : (events_at j (own_events items) ≡ []) × (child_on_way j items ≡ None) → (events_at j (e ∷ own_events items) ≡ []) × (child_on_way j items ≡ None)
+      next h = (ap (λ (b : Bool). if b then e ∷ events_at j (own_events items) else events_at j (own_events items)) (other-event here e f.0 o.before) ∙ h.0, h.1)
+  none-later here by (Child c ∷ items) f o =
+      let h = none-later here by items f.2 o in
+      (h.0, ap (λ (b : Bool). if b then Some c else child_on_way j items) (not-below (path_of c) (subst AtMost (sym f.0) (o.after f.1))) ∙ h.1)
+  none-later here by (Opened k ∷ items) f o = none-later (k ++ 0 ∷ []) [] items f.2 (enter here k f.0 (inr o.before))
+  none-later here by (Closed k ∷ items) f o = none-later (risen k) [] items f.2 (leave here k f.1.0 f.0 f.1.1 (inr o.before))
 
--- The node
+  -- an own fault isn't there, and a child's fault ends the instance after it
+  pub fault-later : (here : List ℕ) (at : List ℕ) → at ≡ here → IsBefore j here → bytes_eq at j ≡ false
+  fault-later here at e b = is-other at j (λ q. not_before_itself j (subst (IsBefore j) (sym e ∙ q) b))
 
-abbrev node : Option Strand → Option Origin → Option Fault → Node
-node strand child joined = record { strand = strand; child = child; joined = joined }
+  pub not-ended : (place : List ℕ) → AtMost place → ended_before place j ≡ false
+  not-ended place a = by (slice_cmp nat_cmp place j) refl a
+    where
+      by : (o : Ordering) → slice_cmp nat_cmp place j ≡ o → AtMost place → (is_lt o && not (bytes_eq (take (length place) j) place)) ≡ false
+      by Less e (inl k) = absurd (not_before_itself j (subst (λ (l : List ℕ). IsBefore l j) (sym k) e))
+      by Less e (inr k) = absurd (not_before-back j place k e)
+      by Equal e k = refl
+      by Greater e k = refl
 
-as-last : (j : List ℕ) (s : Sight) (es : List Event) → s.reached ≡ true → s.events ≡ es → fault_at j s.fault ≡ None → last_node j s ≡ node (Some (record { events = es; fault = None })) None None
-as-last j s es reached events fault =
-    ap (λ (b : Bool). node (if b then Some (record { events = s.events; fault = fault_at j s.fault }) else None) None (if b then None else s.joined)) reached
-    ∙ ap (λ (l : List Event). node (Some (record { events = l; fault = fault_at j s.fault })) None None) events
-    ∙ ap (λ (f : Option Fault). node (Some (record { events = es; fault = f })) None None) fault
+-- The event that led to where the instance stands is its last one.
+pub last-led : (last by : List ℕ) (items : List Item) → (IsStrand by → last ≡ by) → IsStrand (came_by by items) → last_place last (own_events items) ≡ came_by by items
+last-led last by [] h s = h s
+last-led last by (Happened (event.Print k v) ∷ items) h s = last-led k [] items (λ q. absurd (no-strand q)) s
+last-led last by (Happened (event.Draw k n) ∷ items) h s = last-led k k items (λ q. refl) s
+last-led last by (Happened (event.New k) ∷ items) h s = last-led k k items (λ q. refl) s
+last-led last by (Happened (event.Spawn k) ∷ items) h s = last-led k k items (λ q. refl) s
+last-led last by (Happened (event.Sync k) ∷ items) h s = last-led k k items (λ q. refl) s
+last-led last by (Happened (event.Loop k) ∷ items) h s = last-led k k items (λ q. refl) s
+last-led last by (Child o ∷ items) h s = last-led last by items h s
+last-led last by (Opened k ∷ items) h s = last-led last [] items (λ q. absurd (no-strand q)) s
+last-led last by (Closed k ∷ items) h s = last-led last [] items (λ q. absurd (no-strand q)) s
 
-as-inner : (s : Sight) (c : Option Origin) → s.reached ≡ true → s.child ≡ c → inner_node s ≡ node None c None
-as-inner s c reached child = ap (λ (b : Bool). node None s.child (if b then None else s.joined)) reached ∙ ap (λ (d : Option Origin). node None d None) child
-
--- The strand of this rank is over, and what is seen of it is what the whole instance shows.
-pub over_seen : (plan : PlanView) (o : Origin) (j : List ℕ) (notes : Notes) (u : Task) (r : ℕ) → IsTask u → u.waiting ≡ false → IsInstance o → u.plan ≡ plan → u.origin ≡ o → IsOnWay notes u →
-    path_of o ++ r ∷ [] ≡ j → r < raises (own_events notes.items) → had (path_of o) j notes.ranks ≡ true → (s : Sight) → s ≡ seen (path_of o) j notes → IsSeen plan o j s
-over_seen plan o j notes u r is idle i plan_is origin_is way at lower reached s says = record {
-  notes = also notes later;
-  whole = subst (λ (p : PlanView). IsWhole p o (also notes later)) plan_is (subst (λ (d : Origin). IsWhole u.plan d (also notes later)) origin_is rest.whole);
-  last = ap (last_node j) says ∙ as-last j (seen path j notes) (events_at j (own_events notes.items)) reached refl fault ∙ sym (as-last j (seen path j (also notes later)) (events_at j (own_events notes.items)) still same-events (newest_none j notes.fault later.fault fault none.1));
-  inner = ap inner_node says ∙ as-inner (seen path j notes) (child_at j notes.items) reached refl ∙ sym (as-inner (seen path j (also notes later)) (child_at j notes.items) still same-child);
-}
-  where
-    path : List ℕ
-    path = path_of o
-
-    rest : RunsOn u notes
-    rest = runs-on (suc (stops_left u)) u notes (omega arith) is idle (subst IsInstance (sym origin_is) i) way
-
-    later : Notes
-    later = rest.later
-
-    own : path_of (own_instance u.origin) ++ r ∷ [] ≡ j
-    own = ap (λ (p : List ℕ). p ++ r ∷ []) (path_own u.origin (subst IsInstance (sym origin_is) i) ∙ ap path_of origin_is) ∙ at
-
-    none : NoneAt j later.items × (fault_at j later.fault ≡ None)
-    none = (subst (λ (l : List ℕ). NoneAt l later.items) own (rest.none r lower), subst (λ (l : List ℕ). fault_at l later.fault ≡ None) own (rest.fault r lower))
-
-    fault : fault_at j notes.fault ≡ None
-    fault = subst (λ (l : List ℕ). fault_at l notes.fault ≡ None) (ap (λ (d : Origin). path_of d ++ r ∷ []) origin_is ∙ at) (no-fault u notes r way lower)
-
-    still : had path j (notes.ranks ++ later.ranks) ≡ true
-    still = had-append path j notes.ranks later.ranks ∙ ap (λ (b : Bool). b || had path j later.ranks) reached
-
-    same-events : events_at j (own_events (notes.items ++ later.items)) ≡ events_at j (own_events notes.items)
-    same-events =
-        ap (events_at j) (own-append notes.items later.items) ∙ events_at-append j (own_events notes.items) (own_events later.items)
-        ∙ ap (λ (l : List Event). events_at j (own_events notes.items) ++ l) none.0.0 ∙ append-nil (events_at j (own_events notes.items))
-
-    same-child : child_at j (notes.items ++ later.items) ≡ child_at j notes.items
-    same-child = child-append j notes.items later.items ∙ ap (first_of (child_at j notes.items)) none.0.1 ∙ first-only (child_at j notes.items)
+-- A strand that was over is over.
+pub came-stays : (j : List ℕ) (eye : Eye) (items : List Item) → eye.came ≡ true → (looks j eye items).came ≡ true
+came-stays j eye [] h = h
+came-stays j eye (Happened (event.Print k v) ∷ items) h = came-stays j (record eye { past = ended_before k j }) items h
+came-stays j eye (Happened (event.Draw k n) ∷ items) h = came-stays j (goes_to (less eye.ahead) (record eye { past = ended_before k j })) items (ap (λ (b : Bool). b || is_none_ahead eye.ahead) h)
+came-stays j eye (Happened (event.New k) ∷ items) h = came-stays j (goes_to (less eye.ahead) (record eye { past = ended_before k j })) items (ap (λ (b : Bool). b || is_none_ahead eye.ahead) h)
+came-stays j eye (Happened (event.Spawn k) ∷ items) h = came-stays j (goes_to (less eye.ahead) (record eye { past = ended_before k j })) items (ap (λ (b : Bool). b || is_none_ahead eye.ahead) h)
+came-stays j eye (Happened (event.Sync k) ∷ items) h = came-stays j (goes_to (less eye.ahead) (record eye { past = ended_before k j })) items (ap (λ (b : Bool). b || is_none_ahead eye.ahead) h)
+came-stays j eye (Happened (event.Loop k) ∷ items) h = came-stays j (goes_to (less eye.ahead) (record eye { past = ended_before k j })) items (ap (λ (b : Bool). b || is_none_ahead eye.ahead) h)
+came-stays j eye (Child o ∷ items) h = came-stays j eye items h
+came-stays j eye (Opened k ∷ items) h = came-stays j (goes_to (ahead_of (k ++ 0 ∷ []) j) eye) items (ap (λ (b : Bool). b || is_none_ahead eye.ahead) h)
+came-stays j eye (Closed k ∷ items) h = came-stays j (goes_to (ahead_of (risen k) j) eye) items (ap (λ (b : Bool). b || is_none_ahead eye.ahead) h)

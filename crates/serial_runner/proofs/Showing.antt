@@ -1,5 +1,5 @@
 -- The children among what a task of an instance shows up to its next stop: the one that it hands out there, and no other.
-use Rattle.std.proofs.Common.{◌≡◌, true, false, List, [], ◌∷◌, ◌++◌, Option, Some, None, Result, Ok, Err, append-nil, refl, sym, ap, ◌∙◌, subst}
+use Rattle.std.proofs.Common.{◌≡◌, true, false, List, [], ◌∷◌, ◌++◌, Option, Some, None, Result, Ok, Err, refl, sym, ap, ◌∙◌, subst}
 use Rattle.loop_range.specs.Range.{Range}
 use Rattle.serial_meaning.specs.Eval.{path_of}
 use Rattle.serial_meaning.specs.Open.{Item, Own, Joined}
@@ -8,8 +8,8 @@ use Rattle.serial_meaning.specs.declared.event.Fault.{Fault}
 use Rattle.serial_meaning.specs.declared.origin.Origin.{Origin}
 use Rattle.serial_meaning.specs.declared.origin.Origin.TheVariants.{Instance, Loop}
 use Rattle.serial_meaning.specs.declared.answer.Outcome.{Outcome}
-use Rattle.strand_meaning.specs.Machine.{Token, Told, Handed, Syncs, Loops, Reached, Stands, Gives, move}
-use Rattle.strand_meaning.specs.Notes.{IsInstance, Notes, token_items, work_notes, step_notes, task_ranks, Shows, Now, Later}
+use Rattle.strand_meaning.specs.Machine.{Token, Opens, Closes, Told, Handed, Syncs, Loops, Reached, Stands, Gives, move}
+use Rattle.strand_meaning.specs.Notes.{IsInstance, Notes, token_items, work_notes, step_notes, Shows, Now, Later}
 use Rattle.strand_meaning.specs.Pieces.{Part}
 use Rattle.strand_meaning.specs.Task.{Goes, AtSync, AtLoop, Ended, Work, Splits, Runs, Over, Task, own_instance, Step, Passes, Stops, Stop, Spawn, Wait, End, stage_after, child_in, stops_at, passing, moved, ends_unless, faults_behind, gave, work_step}
 use Rattle.strand_meaning.specs.Sound.{IsEndOf, IsLoop, IsSoundWork, IsTask}
@@ -22,6 +22,8 @@ use Rattle.serial_runner.proofs.Sighted.{item_children, children-append}
 
 token-children : (ts : List Token) → item_children (token_items ts) ≡ children ts
 token-children [] = refl
+token-children (Opens j ∷ ts) = token-children ts
+token-children (Closes j ∷ ts) = token-children ts
 token-children (Told e ∷ ts) = token-children ts
 token-children (Handed o place ∷ ts) = ap (λ l. o ∷ l) (token-children ts)
 token-children (Syncs ∷ ts) = token-children ts
@@ -66,7 +68,7 @@ module _ (t : Task) where
   at-value (Instance function args path) v = at-end t.pieces.fault _
   at-value (Loop function rest first path range) v = refl
 
-  at-work : (work : Work) → IsInstance t.origin → IsSoundWork t.plan t.origin t.pieces.handed work → ShowsStep (work_notes t (task_ranks t) work).items (work_step t work)
+  at-work : (work : Work) → IsInstance t.origin → IsSoundWork t.plan t.origin t.pieces.handed work → ShowsStep (work_notes t.plan (path_of (own_instance t.origin)) work).items (work_step t work)
   at-work (Splits left) i is = absurd (no_end t.origin left i is.0)
   at-work (Runs (Goes m)) i is =
       let path = path_of (own_instance t.origin) in let r = move t.plan path m in at-move r.items r.ending (move_hands t.plan path m)
@@ -89,7 +91,7 @@ shows-more is more (End out ended) h k = children-append is more ∙ ap (λ l. l
 pub stops_show : (t : Task) (notes : Notes) (stop : Stop) → IsTask t → IsInstance t.origin → Shows t notes stop → ShowsStop notes.items stop
 stops_show t notes stop is i (Now h e) =
     let k : ShowsStop (step_notes t).items stop = subst (ShowsStep (step_notes t).items) h (at-work t t.work i is.work) in
-    subst (λ (l : List Item). ShowsStop l stop) (sym (ap (λ (m : Notes). m.items) e ∙ append-nil (step_notes t).items)) k
+    subst (λ (l : List Item). ShowsStop l stop) (sym (ap (λ (m : Notes). m.items) e)) k
 stops_show t notes stop is i (Later next later h n e) =
     let same : KeepsStep t (Passes next) = subst (KeepsStep t) h (step-keeps t) in
     let shown : ShowsStep (step_notes t).items (Passes next) = subst (ShowsStep (step_notes t).items) h (at-work t t.work i is.work) in

@@ -25,19 +25,22 @@ use Rattle.serial_meaning.specs.declared.event.Fault.{Fault}
 use Rattle.serial_meaning.specs.declared.event.Event.TheVariants as event
 use Rattle.serial_meaning.specs.declared.origin.Origin.{Origin}
 use Rattle.serial_meaning.specs.declared.origin.Origin.TheVariants as origin
-use Rattle.strand_meaning.specs.Machine.{Place, Spawned, Looped, Token, Told, Handed, Syncs, Loops, Halt, Faulted, Inside, loop_tokens, sync_tokens, handing, inside, place_of, Activation, Machine, Reached, Stands, Gives, state_of, with_left, with_returning, back, entered, reached, gives, spawns_in, return_run, value_run, return_move, move_at, move}
+use Rattle.strand_meaning.specs.Machine.{Place, Spawned, Looped, Token, Opens, Closes, Told, Handed, Syncs, Loops, Halt, Faulted, Inside, loop_tokens, sync_tokens, handing, inside, place_of, Level, Activation, Machine, Reached, Stands, Gives, present, here_of, state_of, with_left, with_leaving, with_returning, back, entered, reached, gives, spawns_in, return_run, value_run, return_move, level_move, end_move, move_at, move}
+use Rattle.strand_meaning.proofs.Own.{here-below}
 
 -- the children among these
 abbrev pub children : List Token → List Origin
 children [] = []
+children (Opens j ∷ ts) = children ts
+children (Closes j ∷ ts) = children ts
 children (Told e ∷ ts) = children ts
 children (Handed o place ∷ ts) = o ∷ children ts
 children (Syncs ∷ ts) = children ts
 children (Loops ∷ ts) = children ts
 
--- a child of an instance with this path, for which there is room below the depth
+-- a child of an instance with this path, or of one that is at this present path, for which there is room below the depth
 pub record IsDeeper (plan : PlanView) (path : List ℕ) (o : Origin) : Type 0 where
-  pub longer : length (path_of o) ≡ length path + 1
+  pub longer : length path + 1 ≤ length (path_of o)
   pub fits : length (path_of o) ≤ plan.limits.depth
 
 -- none, or one that is deeper
@@ -60,7 +63,7 @@ module _ (plan : PlanView) (path : List ℕ) where
   abbrev HandsAt : {A : Type 0} → List Origin → Result A Halt → Type 0
   HandsAt os (Ok a) = AtMostOne plan path os
   HandsAt os (Err (Faulted f)) = os ≡ []
-  HandsAt os (Err (Inside calls inner s)) = AtMostOne plan path os
+  HandsAt os (Err (Inside here calls inner s)) = AtMostOne plan path os
 
   abbrev HandsOut : {A : Type 0} → Run Token Halt A → Type 0
   HandsOut r = HandsAt (children r.items) r.ending
@@ -71,7 +74,7 @@ module _ (plan : PlanView) (path : List ℕ) where
       from : (items : List Token) (e : Result A Halt) → HandsAt (children items) e → HandsOut (goes_on items e (λ a. done (f a)))
       from items (Ok a) k = subst (λ ts. AtMostOne plan path (children ts)) (sym (append-nil items)) k
       from items (Err (Faulted x)) k = k
-      from items (Err (Inside calls inner s)) k = k
+      from items (Err (Inside here calls inner s)) k = k
 
   hands-given : {A B : Type 0} (place : Place) (o : Result A FaultKind) (s : State Bool) (f : A → Run Token Halt B) → ((a : A) → HandsOut (f a)) → HandsOut (given (what place) plan path o s f)
   hands-given place (Ok a) s f h = h a
@@ -101,7 +104,7 @@ module _ (plan : PlanView) (path : List ℕ) where
   deeper : (o : Origin) (r m : ℕ) → path_of o ≡ path ++ r ∷ [] → length path + 1 ≤ m → nat_lt m plan.limits.depth ≡ true → IsDeeper plan path o
   deeper o r m e h k =
       let n : length (path_of o) ≡ length path + 1 = ap length e ∙ one-longer r in
-      record { longer = n; fits = below-depth m (length (path_of o)) plan.limits.depth k (omega arith) }
+      record { longer = omega (arith, n); fits = below-depth m (length (path_of o)) plan.limits.depth k (omega arith) }
 
   hands-spawn : (height : ℕ) (target : Option Name) (c : CallText) (s : State Bool) → HandsOut (spawn (what (Spawned height target)) plan path c s)
   hands-spawn height target c s =
@@ -159,9 +162,10 @@ module _ (plan : PlanView) (path : List ℕ) where
   hands-does height st (act.If e a b) s = hands-given (Spawned height None) (value_of e s.env) s _ (λ v. tt)
   hands-does height st (act.While e a) s = hands-given (Spawned height None) (value_of e s.env) s _ (λ v. by_test (is_true v))
     where
-      by_test : (t : Bool) → HandsOut (if t then (inside height a s then inside height (st ∷ [])) else done s)
+      by_test : (t : Bool) → HandsOut (if t then (inside path height a s then inside path height (st ∷ [])) else done s)
       by_test true = tt
       by_test false = tt
+  hands-does height st (act.Scope a) s = hands-tested (Spawned height None) (nat_lt (length path + 1) plan.limits.depth) Depth s _ (λ h. tt)
   hands-does height st (act.Pfor x lo hi target c) s =
       hands-given (Looped target) (value_of lo s.env) s _ (λ l. hands-given (Looped target) (value_of hi s.env) s _ (λ h. hands-given (Looped target) (values_of c.args s.env) s _
       (λ vs. hands-loop target c (number l) (count_of (number h -ℤ number l)) vs s)))
@@ -170,36 +174,72 @@ module _ (plan : PlanView) (path : List ℕ) where
   hands-reached : (os : List Origin) (into : State Bool → Machine) (inner : List Stmt → State Bool → Machine) (e : Result (State Bool) Halt) → HandsAt os e → MoveHands plan path os (reached plan into inner e)
   hands-reached os into inner (Ok s) h = h
   hands-reached os into inner (Err (Faulted f)) h = h
-  hands-reached os into inner (Err (Inside calls sts s)) h = h
+  hands-reached os into inner (Err (Inside here calls sts s)) h = h
 
   hands-back : (below : List Activation) (target : Option Name) (v : Value) (rank steps : ℕ) → MoveHands plan path [] (Ok (back below target v rank steps))
   hands-back [] target v rank steps = refl
   hands-back (caller ∷ below) target v rank steps = tt
 
-  pub move_hands : (m : Machine) → MoveHands plan path (children (move plan path m).items) (move plan path m).ending
-  move_hands m = by_left m.top.left
+-- Of an instance with a shorter path it is a child as well.
+
+less-deep : (plan : PlanView) (here path : List ℕ) → length path ≤ length here → (o : Origin) → IsDeeper plan here o → IsDeeper plan path o
+less-deep plan here path l o d = record { longer = (let k = d.longer in omega (arith, k, l)); fits = d.fits }
+
+one-less-deep : (plan : PlanView) (here path : List ℕ) → length path ≤ length here → (os : List Origin) → AtMostOne plan here os → AtMostOne plan path os
+one-less-deep plan here path l [] h = tt
+one-less-deep plan here path l (o ∷ []) h = less-deep plan here path l o h
+one-less-deep plan here path l (o ∷ p ∷ os) h = h
+
+hands-less-deep : (plan : PlanView) (here path : List ℕ) → length path ≤ length here → (os : List Origin) (e : Result Reached Fault) → MoveHands plan here os e → MoveHands plan path os e
+hands-less-deep plan here path l os (Ok (Stands m)) h = one-less-deep plan here path l os h
+hands-less-deep plan here path l os (Ok (Gives v)) h = h
+hands-less-deep plan here path l os (Err f) h = h
+
+module _ (plan : PlanView) (path : List ℕ) (m : Machine) where
+  abbrev here : List ℕ
+  here = here_of path m
+
+  no-shorter : length path ≤ length here
+  no-shorter = let b = here-below path m in let l : length here ≡ length path + length b.0 = ap length b.1 ∙ length-append path b.0 in omega (arith, l)
+
+  abbrev Hands : Run Token Fault Reached → Type 0
+  Hands r = MoveHands plan here (children r.items) r.ending
+
+  by_returning : (b : Bool) → Hands (return_move plan path m b)
+  by_returning false =
+      hands-reached plan here (children (return_run plan path m).items) (with_returning m) (λ inner s. m) (return_run plan path m).ending
+      (hands-paid plan here (Spawned (length m.below) None) m.steps (state_of m) _ (λ s. by_text (spawns_in (function_at (functions_of plan) m.top.function)) s))
     where
-      by_returning : (b : Bool) → MoveHands plan path (children (return_move plan path m b).items) (return_move plan path m b).ending
-      by_returning false =
-          hands-reached (children (return_run plan path m).items) (with_returning m) (λ inner s. m) (return_run plan path m).ending
-          (hands-paid (Spawned (length m.below) None) m.steps (state_of m) _ (λ s. by_text (spawns_in (function_at (functions_of plan) m.top.function)) s))
-        where
-          by_text : (b : Bool) (s : State Bool) → HandsOut (implied (what (Spawned (length m.below) None)) plan path b s)
-          by_text true s = hands-sync (Spawned (length m.below) None) s
-          by_text false s = tt
-      by_returning true = by_function (function_at (functions_of plan) m.top.function)
-        where
-          by_value : (f : Function) (o : Result Value FaultKind) →
-              let r : Run Token Halt (Value × State Bool) = given (what (Spawned (length m.below) None)) plan path o (state_of m) (λ v. done (v, state_of m)) in MoveHands plan path (children r.items) (gives plan m r.ending)
-          by_value f (Ok v) = hands-back m.below m.top.target v m.rank m.steps
-          by_value f (Err k) = refl
+      by_text : (b : Bool) (s : State Bool) → HandsOut plan here (implied (handing plan (Spawned (length m.below) None)) plan here b s)
+      by_text true s = hands-sync plan here (Spawned (length m.below) None) s
+      by_text false s = tt
+  by_returning true = by_function (function_at (functions_of plan) m.top.function)
+    where
+      by_value : (f : Function) (o : Result Value FaultKind) →
+          let r : Run Token Halt (Value × State Bool) = given (handing plan (Spawned (length m.below) None)) plan here o (state_of m) (λ v. done (v, state_of m)) in MoveHands plan here (children r.items) (gives plan m r.ending)
+      by_value f (Ok v) = hands-back plan here m.below m.top.target v m.rank m.steps
+      by_value f (Err k) = refl
 
-          by_function : (o : Option Function) → MoveHands plan path (children (value_run plan path o m).items) (gives plan m (value_run plan path o m).ending)
-          by_function None = hands-back m.below m.top.target _ m.rank m.steps
-          by_function (Some f) = by_value f (value_of f.result m.top.env)
+      by_function : (o : Option Function) → MoveHands plan here (children (value_run plan path o m).items) (gives plan m (value_run plan path o m).ending)
+      by_function None = hands-back plan here m.below m.top.target _ m.rank m.steps
+      by_function (Some f) = by_value f (value_of f.result m.top.env)
 
-      by_left : (left : List Stmt) → MoveHands plan path (children (move_at plan path m left).items) (move_at plan path m left).ending
-      by_left [] = by_returning m.top.returning
-      by_left (st ∷ left) =
-          let a = out-Act (out-Stmt st).act in
-          let r = hands-paid (place_of (length m.below) a) m.steps (state_of m) _ (λ s. hands-does (length m.below) st a s) in hands-reached _ (with_left m left) (entered plan st a left m) _ r
+  -- the end of a scope hands out nothing
+  by_leaving : (l : Level) (ls : List Level) (b : Bool) → Hands (level_move plan path m l ls b)
+  by_leaving l ls false =
+      let r = join (handing plan (Spawned (length m.below) None)) plan here (state_of m) in
+      hands-reached plan here (children r.items) (with_leaving m) (λ inner s. m) r.ending (hands-sync plan here (Spawned (length m.below) None) (state_of m))
+  by_leaving l ls true = tt
+
+  by_levels : (ls : List Level) → Hands (end_move plan path m ls)
+  by_levels [] = by_returning m.top.returning
+  by_levels (l ∷ ls) = by_leaving l ls m.top.leaving
+
+  by_left : (left : List Stmt) → Hands (move_at plan path m left)
+  by_left [] = by_levels m.top.levels
+  by_left (st ∷ left) =
+      let a = out-Act (out-Stmt st).act in
+      let r = hands-paid plan here (place_of (length m.below) a) m.steps (state_of m) _ (λ s. hands-does plan here (length m.below) st a s) in hands-reached plan here _ (with_left m left) (entered plan st a left m) _ r
+
+  pub move_hands : MoveHands plan path (children (move plan path m).items) (move plan path m).ending
+  move_hands = hands-less-deep plan here path no-shorter (children (move plan path m).items) (move plan path m).ending (by_left m.top.left)

@@ -1,34 +1,42 @@
 -- What is seen of an instance, by what is noted of it.
-use Rattle.std.proofs.Common.{◌≡◌, ℕ, suc, ◌+◌, Bool, true, false, ◌||◌, not, nat_lt, List, [], ◌∷◌, ◌++◌, Option, Some, None, Result, Ok, Err, length, length-append, take, drop, bytes_eq, if◌then◌else◌, refl, sym, ap, ◌∙◌, arith}
-use Rattle.std.proofs.Math.Seq.{take-append-add}
-use Rattle.std.proofs.lemmas.List.{take-append-drop}
+use Rattle.std.proofs.Common.{◌≡◌, ℕ, ◌+◌, ◌<◌, Bool, true, false, ◌||◌, ◌&&◌, List, [], ◌∷◌, ◌++◌, Option, Some, None, Result, Ok, Err, append-nil, if◌then◌else◌, refl, sym, ap, ◌∙◌, subst, arith}
 use Rattle.serial_meaning.specs.Eval.{path_of}
-use Rattle.serial_meaning.specs.Open.{Item, Happened, Child, Ending, Own, Joined, opened}
 use Rattle.serial_meaning.specs.Open as open_tree
+use Rattle.serial_meaning.specs.Open.{Item, Happened, Child, Opened, Closed, Ending, Own, Joined, opened, places_of}
+use Rattle.serial_meaning.specs.Runs.{behind}
 use Rattle.serial_meaning.specs.Plan.{PlanView}
 use Rattle.serial_meaning.specs.declared.value.Value.{Value}
 use Rattle.serial_meaning.specs.declared.event.Fault.{Fault}
 use Rattle.serial_meaning.specs.declared.event.Event.{Event}
 use Rattle.serial_meaning.specs.declared.origin.Origin.{Origin}
-use Rattle.strand_meaning.specs.Notes.{Notes, also, newest, had, own_fault_of, IsWhole}
-use Rattle.strand_meaning.specs.Strands.{Strand, events_at, own_events, own_fault_at, joined_fault, child_at, last_rank, strand_of, blocks}
-use Rattle.strand_meaning.proofs.Noted.{own-append}
-use Rattle.strand_meaning.proofs.NoteWords.{had-append, events_at-append}
-use Rattle.serial_runner.specs.Nodes.{IsBelow, shown_at, node_toward, fault_at, strand_seen, joined_before, last_node, inner_node}
-use Rattle.serial_runner.specs.Sights.{with_notes, first_of, with_child, seen, IsSeen}
+use Rattle.serial_meaning.specs.declared.origin.Origin.TheVariants.{Instance, Loop}
+use Rattle.strand_meaning.specs.Notes.{IsInstance, Notes, also, newest, own_fault_of, node_left, IsOnWay, IsWhole}
+use Rattle.strand_meaning.specs.Task.{Task}
+use Rattle.strand_meaning.specs.Strands.{Strand, is_below, events_at, own_events, own_fault_at, joined_fault, last_place, ended_before, child_on_way, is_one_of, strand_of, blocks}
+use Rattle.strand_meaning.proofs.NoteWords.{events_at-append}
+use Rattle.strand_machine.specs.Eyes.{first_look, looks, is_none_ahead}
+use Rattle.strand_machine.specs.declared.eye.Eye.{Eye}
+use Rattle.strand_machine.proofs.Eyes.{looks-append, own-append, places-seen, places-without, past-seen}
+use Rattle.serial_runner.specs.Nodes.{IsBelow, shown_by, shown_at, fault_at, is_none, came_to, strand_seen, joined_before, node_seen}
+use Rattle.serial_runner.specs.Sights.{with_notes, first_of, with_child, seen, IsSeen, is_some, is_over}
+use Rattle.serial_runner.specs.declared.node.Node.{Node}
 use Rattle.serial_runner.specs.declared.sight.Sight.{Sight}
+use Rattle.serial_runner.proofs.Over.{IsOver, stays, comes, none-later, fault-later, not-ended, last-led, came-stays}
+use Rattle.serial_runner.proofs.Places.{stands, came_by, stands-append, by-append, follow-front, follow-rest, NodeFollows, NodeEnds, node-follows}
 
 -- Words of notes, over lists put together
 
-pub child-append : (j : List ℕ) (xs ys : List Item) → child_at j (xs ++ ys) ≡ first_of (child_at j xs) (child_at j ys)
+pub child-append : (j : List ℕ) (xs ys : List Item) → child_on_way j (xs ++ ys) ≡ first_of (child_on_way j xs) (child_on_way j ys)
 child-append j [] ys = refl
 child-append j (Happened e ∷ xs) ys = child-append j xs ys
-child-append j (Child o ∷ xs) ys = by_path (bytes_eq (path_of o) j) (child-append j xs ys)
+child-append j (Child o ∷ xs) ys = by_path (is_below (path_of o) j) (child-append j xs ys)
   where
-    by_path : (b : Bool) → child_at j (xs ++ ys) ≡ first_of (child_at j xs) (child_at j ys) →
-        (if b then Some o else child_at j (xs ++ ys)) ≡ first_of (if b then Some o else child_at j xs) (child_at j ys)
+    by_path : (b : Bool) → child_on_way j (xs ++ ys) ≡ first_of (child_on_way j xs) (child_on_way j ys) →
+        (if b then Some o else child_on_way j (xs ++ ys)) ≡ first_of (if b then Some o else child_on_way j xs) (child_on_way j ys)
     by_path true h = refl
     by_path false h = h
+child-append j (Opened k ∷ xs) ys = child-append j xs ys
+child-append j (Closed k ∷ xs) ys = child-append j xs ys
 
 -- Children among items
 
@@ -36,20 +44,26 @@ abbrev pub item_children : List Item → List Origin
 item_children [] = []
 item_children (Happened e ∷ is) = item_children is
 item_children (Child o ∷ is) = o ∷ item_children is
+item_children (Opened k ∷ is) = item_children is
+item_children (Closed k ∷ is) = item_children is
 
 pub children-append : (xs ys : List Item) → item_children (xs ++ ys) ≡ item_children xs ++ item_children ys
 children-append [] ys = refl
 children-append (Happened e ∷ xs) ys = children-append xs ys
 children-append (Child o ∷ xs) ys = ap (λ l. o ∷ l) (children-append xs ys)
+children-append (Opened k ∷ xs) ys = children-append xs ys
+children-append (Closed k ∷ xs) ys = children-append xs ys
 
-abbrev origin_at : List ℕ → List Origin → Option Origin
-origin_at j [] = None
-origin_at j (o ∷ os) = if bytes_eq (path_of o) j then Some o else origin_at j os
+abbrev origin_on_way : List ℕ → List Origin → Option Origin
+origin_on_way j [] = None
+origin_on_way j (o ∷ os) = if is_below (path_of o) j then Some o else origin_on_way j os
 
-child-among : (j : List ℕ) (is : List Item) → child_at j is ≡ origin_at j (item_children is)
+child-among : (j : List ℕ) (is : List Item) → child_on_way j is ≡ origin_on_way j (item_children is)
 child-among j [] = refl
 child-among j (Happened e ∷ is) = child-among j is
-child-among j (Child o ∷ is) = ap (λ (d : Option Origin). if bytes_eq (path_of o) j then Some o else d) (child-among j is)
+child-among j (Child o ∷ is) = ap (λ (d : Option Origin). if is_below (path_of o) j then Some o else d) (child-among j is)
+child-among j (Opened k ∷ is) = child-among j is
+child-among j (Closed k ∷ is) = child-among j is
 
 pub first-only : (o : Option Origin) → first_of o None ≡ o
 first-only None = refl
@@ -60,133 +74,235 @@ first-only (Some o) = refl
 module _ (path j : List ℕ) (notes later : Notes) where
   abbrev noted : Option Origin → Sight
   noted child = record {
-    reached = had path j (notes.ranks ++ later.ranks);
+    eye = looks j (first_look path j) (notes.items ++ later.items);
     events = events_at j (own_events (notes.items ++ later.items));
     fault = newest notes.fault later.fault;
     child = child;
     joined = newest notes.joined later.joined;
   }
 
-  with-ranks : (notes_reached : Bool) (reached : Bool) → notes_reached ≡ had path j notes.ranks → reached ≡ had path j later.ranks → (notes_reached || reached) ≡ had path j (notes.ranks ++ later.ranks)
-  with-ranks a b e h = ap (λ (c : Bool). c || b) e ∙ ap (λ (c : Bool). had path j notes.ranks || c) h ∙ sym (had-append path j notes.ranks later.ranks)
-
   with-events : (told events : List Event) → told ≡ events_at j (own_events notes.items) → events ≡ events_at j (own_events later.items) → told ++ events ≡ events_at j (own_events (notes.items ++ later.items))
   with-events told events e h =
       ap (λ (l : List Event). l ++ events) e ∙ ap (λ (l : List Event). events_at j (own_events notes.items) ++ l) h ∙ sym (events_at-append j (own_events notes.items) (own_events later.items))
       ∙ ap (events_at j) (sym (own-append notes.items later.items))
 
-  pub seen-with : (s : Sight) (reached : Bool) (events : List Event) (fault joined : Option Fault) → s ≡ seen path j notes → reached ≡ had path j later.ranks → events ≡ events_at j (own_events later.items) →
-      fault ≡ later.fault → joined ≡ later.joined → with_notes reached events fault joined s ≡ noted (child_at j notes.items)
-  seen-with s reached events fault joined e r v f g =
-      ap (with_notes reached events fault joined) e
-      ∙ ap (λ (b : Bool). record (with_notes reached events fault joined (seen path j notes)) { reached = b }) (with-ranks (had path j notes.ranks) reached refl r)
-      ∙ ap (λ (l : List Event). record (noted (child_at j notes.items)) { events = l; fault = newest notes.fault fault; joined = newest notes.joined joined }) (with-events (events_at j (own_events notes.items)) events refl v)
-      ∙ ap (λ (x : Option Fault). record (noted (child_at j notes.items)) { fault = newest notes.fault x; joined = newest notes.joined joined }) f
-      ∙ ap (λ (x : Option Fault). record (noted (child_at j notes.items)) { joined = newest notes.joined x }) g
+  pub seen-with : (s : Sight) (eye : Eye) (events : List Event) (fault joined : Option Fault) → s ≡ seen path j notes → eye ≡ looks j s.eye later.items → events ≡ events_at j (own_events later.items) →
+      fault ≡ later.fault → joined ≡ later.joined → with_notes eye events fault joined s ≡ noted (child_on_way j notes.items)
+  seen-with s eye events fault joined e r v f g =
+      ap (with_notes eye events fault joined) e
+      ∙ ap (λ (b : Eye). record (with_notes eye events fault joined (seen path j notes)) { eye = b }) (r ∙ ap (λ (t : Sight). looks j t.eye later.items) e ∙ sym (looks-append j (first_look path j) notes.items later.items))
+      ∙ ap (λ (l : List Event). record (noted (child_on_way j notes.items)) { events = l; fault = newest notes.fault fault; joined = newest notes.joined joined }) (with-events (events_at j (own_events notes.items)) events refl v)
+      ∙ ap (λ (x : Option Fault). record (noted (child_on_way j notes.items)) { fault = newest notes.fault x; joined = newest notes.joined joined }) f
+      ∙ ap (λ (x : Option Fault). record (noted (child_on_way j notes.items)) { joined = newest notes.joined x }) g
 
   -- where a child was handed out, and where none was
-  pub seen_child : (c : Origin) (s : Sight) → item_children later.items ≡ c ∷ [] → s ≡ noted (child_at j notes.items) → with_child j c s ≡ seen path j (also notes later)
+  pub seen_child : (c : Origin) (s : Sight) → item_children later.items ≡ c ∷ [] → s ≡ noted (child_on_way j notes.items) → with_child j c s ≡ seen path j (also notes later)
   seen_child c s h e =
       ap (with_child j c) e
-      ∙ ap (λ (x : Option Origin). noted (first_of (child_at j notes.items) x)) (sym (child-among j later.items ∙ ap (origin_at j) h))
+      ∙ ap (λ (x : Option Origin). noted (first_of (child_on_way j notes.items) x)) (sym (child-among j later.items ∙ ap (origin_on_way j) h))
       ∙ ap noted (sym (child-append j notes.items later.items))
 
-  pub seen_none : (s : Sight) → item_children later.items ≡ [] → s ≡ noted (child_at j notes.items) → s ≡ seen path j (also notes later)
+  pub seen_none : (s : Sight) → item_children later.items ≡ [] → s ≡ noted (child_on_way j notes.items) → s ≡ seen path j (also notes later)
   seen_none s h e =
-      e ∙ ap noted (sym (child-append j notes.items later.items ∙ ap (first_of (child_at j notes.items)) (child-among j later.items ∙ ap (origin_at j) h) ∙ first-only (child_at j notes.items)))
+      e ∙ ap noted (sym (child-append j notes.items later.items ∙ ap (first_of (child_on_way j notes.items)) (child-among j later.items ∙ ap (origin_on_way j) h) ∙ first-only (child_on_way j notes.items)))
 
 -- What is seen of a whole instance
+
+abbrev a_strand : List Event → Option Fault → Strand
+a_strand events fault = record { events = events; fault = fault }
+
+abbrev a_sight : Eye → List Event → Option Fault → Option Origin → Option Fault → Sight
+a_sight eye events fault child joined = record { eye = eye; events = events; fault = fault; child = child; joined = joined }
 
 own-at : (j : List ℕ) (e : Result (List Value) Ending) → fault_at j (own_fault_of e) ≡ own_fault_at j e
 own-at j (Ok vs) = refl
 own-at j (Err (Own f)) = refl
 own-at j (Err (Joined f)) = refl
 
-module _ (plan : PlanView) (o : Origin) (rank : ℕ) (notes : Notes) (whole : IsWhole plan o notes) where
-  abbrev path : List ℕ
-  path = path_of o
+and-true : (a b : Bool) → (a || (b && true)) ≡ (a || b)
+and-true true b = refl
+and-true false true = refl
+and-true false false = refl
 
-  abbrev here : List ℕ
-  here = path ++ rank ∷ []
+and-false : (a b : Bool) → (a || (b && false)) ≡ a
+and-false true b = refl
+and-false false true = refl
+and-false false false = refl
 
-  abbrev n : open_tree.Node
-  n = opened plan o
+if-none : (b : Bool) → ◌≡◌ {A = Option Fault} (if b then None else None) None
+if-none true = refl
+if-none false = refl
 
-  abbrev s : Sight
-  s = seen path here notes
+some-rank : (path j : List ℕ) → IsBelow path j → (r : ℕ) × (more : List ℕ) × (j ≡ r ∷ more)
+some-rank path [] h = absurd (let l = h.longer in omega (arith, l))
+some-rank path (r ∷ more) h = (r, more, refl)
 
-  strand-is : strand_seen here s ≡ strand_of path n rank
-  strand-is = by_rank (had path here notes.ranks) (nat_lt (last_rank n) rank) (whole.ranks rank)
+module _ (function : ℕ) (args : List Value) (path : List ℕ) (r : ℕ) (more : List ℕ) (n : open_tree.Node) where
+  abbrev o : Origin
+  o = Instance function args path
+
+  abbrev j : List ℕ
+  j = r ∷ more
+
+  abbrev start : List ℕ
+  start = path ++ 0 ∷ []
+
+  abbrev sight_of : List Item → Result (List Value) Ending → Sight
+  sight_of items e = a_sight (looks j (first_look path j) items) (events_at j (own_events items)) (own_fault_of e) (child_on_way j items) (joined_fault e)
+
+  -- whether the instance came to the strand
+  came-is : (e : Result (List Value) Ending) → came_to (sight_of n.items e) ≡ is_one_of j (places_of o (record n { ending = e }))
+  came-is (Ok vs) = let eye = looks j (first_look path j) n.items in and-true eye.came (is_none_ahead eye.ahead) ∙ sym (places-seen r more start (first_look path j) n.items refl)
+  came-is (Err (Own f)) = let eye = looks j (first_look path j) n.items in and-true eye.came (is_none_ahead eye.ahead) ∙ sym (places-seen r more start (first_look path j) n.items refl)
+  came-is (Err (Joined f)) = let eye = looks j (first_look path j) n.items in and-false eye.came (is_none_ahead eye.ahead) ∙ sym (places-without r more start (first_look path j) n.items refl)
+
+  joined-is : (e : Result (List Value) Ending) → joined_before (sight_of n.items e) ≡ blocks (record n { ending = e }) j
+  joined-is (Ok vs) = if-none (looks j (first_look path j) n.items).past
+  joined-is (Err (Own f)) = if-none (looks j (first_look path j) n.items).past
+  joined-is (Err (Joined f)) = ap (λ (b : Bool). if b then Some f else None) (past-seen j [] (first_look path j) n.items refl)
+
+  strand-is : strand_seen j (sight_of n.items n.ending) ≡ strand_of o n j
+  strand-is =
+      ap (λ (b : Bool). if b then Some (a_strand (events_at j (own_events n.items)) (fault_at j (own_fault_of n.ending))) else None) (came-is n.ending)
+      ∙ ap (λ (f : Option Fault). if is_one_of j (places_of o n) then Some (a_strand (events_at j (own_events n.items)) f) else None) (own-at j n.ending)
+
+  pub node-is : node_seen j (sight_of n.items n.ending) ≡ shown_at o n j
+  node-is = ap (λ (t : Option Strand). shown_by (child_on_way j n.items) t (joined_before (sight_of n.items n.ending))) strand-is ∙ ap (λ (f : Option Fault). shown_by (child_on_way j n.items) (strand_of o n j) f) (joined-is n.ending)
+
+  -- Where a strand of its own was over before some of its items, the others tell no more.
+  module _ (follows : NodeFollows path n) (xs ys : List Item) (parts : n.items ≡ xs ++ ys) (came : (looks j (first_look path j) xs).came ≡ true) where
+    whole : NodeFollows path (record n { items = xs ++ ys })
+    whole = subst (λ (l : List Item). NodeFollows path (record n { items = l })) parts follows
+
+    abbrev here : List ℕ
+    here = stands start (xs ++ ys)
+
+    abbrev by : List ℕ
+    by = came_by [] (xs ++ ys)
+
+    over : IsOver j (stands start xs) (came_by [] xs)
+    over = comes j start [] xs (follow-front start [] xs ys (whole.follow [])) (places-without r more start (first_look path j) xs refl ∙ came)
+
+    at-end : IsOver j here by
+    at-end =
+        subst (λ (l : List ℕ). IsOver j l by) (sym (stands-append start xs ys)) (subst (IsOver j (stands (stands start xs) ys)) (sym (by-append [] xs ys))
+        (stays j (stands start xs) (came_by [] xs) ys (follow-rest start [] xs ys (whole.follow [])) over))
+
+    later : (events_at j (own_events ys) ≡ []) × (child_on_way j ys ≡ None)
+    later = none-later j (stands start xs) (came_by [] xs) ys (follow-rest start [] xs ys (whole.follow [])) over
+
+    same-child : child_on_way j n.items ≡ child_on_way j xs
+    same-child = ap (child_on_way j) parts ∙ child-append j xs ys ∙ ap (first_of (child_on_way j xs)) later.1 ∙ first-only (child_on_way j xs)
+
+    same-events : events_at j (own_events n.items) ≡ events_at j (own_events xs)
+    same-events =
+        ap (λ (l : List Item). events_at j (own_events l)) parts ∙ ap (events_at j) (own-append xs ys) ∙ events_at-append j (own_events xs) (own_events ys)
+        ∙ ap (λ (l : List Event). events_at j (own_events xs) ++ l) later.0 ∙ append-nil (events_at j (own_events xs))
+
+    still : (looks j (first_look path j) n.items).came ≡ true
+    still = ap (λ (l : List Item). (looks j (first_look path j) l).came) parts ∙ ap (λ (e : Eye). e.came) (looks-append j (first_look path j) xs ys) ∙ came-stays j (looks j (first_look path j) xs) ys came
+
+    no-fault : (e : Result (List Value) Ending) → NodeEnds here by e → fault_at j (own_fault_of e) ≡ None
+    no-fault (Ok vs) h = refl
+    no-fault (Err (Own f)) h = ap (λ (b : Bool). if b then Some f else None) (fault-later j here f.at h.0 at-end.before)
+    no-fault (Err (Joined f)) h = refl
+
+    no-block : (e : Result (List Value) Ending) → NodeEnds here by e → joined_before (sight_of n.items e) ≡ None
+    no-block (Ok vs) h = if-none (looks j (first_look path j) n.items).past
+    no-block (Err (Own f)) h = if-none (looks j (first_look path j) n.items).past
+    no-block (Err (Joined f)) h =
+        ap (λ (b : Bool). if b then Some f else None)
+        (past-seen j [] (first_look path j) n.items refl
+        ∙ ap (λ (l : List ℕ). ended_before l j) (ap (λ (l : List Item). last_place [] (own_events l)) parts ∙ last-led [] [] (xs ++ ys) (λ q. refl) h.1)
+        ∙ not-ended j by (at-end.after h.1))
+
+    abbrev strand : Option Fault → Option Strand
+    strand fault = Some (a_strand (events_at j (own_events xs)) fault)
+
+    strand-there : strand_of o n j ≡ strand None
+    strand-there =
+        sym strand-is
+        ∙ ap (λ (b : Bool). if b || (is_none_ahead (looks j (first_look path j) n.items).ahead && is_none (joined_fault n.ending)) then Some (a_strand (events_at j (own_events n.items)) (fault_at j (own_fault_of n.ending))) else None) still
+        ∙ ap (λ (l : List Event). Some (a_strand l (fault_at j (own_fault_of n.ending)))) same-events
+        ∙ ap strand (no-fault n.ending (whole.ends []))
+
+    pub over-is : (s : Sight) → s.eye ≡ looks j (first_look path j) xs → s.events ≡ events_at j (own_events xs) → s.fault ≡ None → s.child ≡ child_on_way j xs → s.joined ≡ None → node_seen j s ≡ shown_at o n j
+    over-is s eye events fault child joined =
+        ap (λ (c : Option Origin). shown_by c (strand_seen j s) (joined_before s)) (child ∙ sym same-child)
+        ∙ ap (λ (t : Option Strand). shown_by (child_on_way j n.items) t (joined_before s)) (here-strand ∙ sym strand-there)
+        ∙ ap (λ (f : Option Fault). shown_by (child_on_way j n.items) (strand_of o n j) f) (here-joined ∙ sym (sym (joined-is n.ending) ∙ no-block n.ending (whole.ends [])))
+      where
+        here-strand : strand_seen j s ≡ strand None
+        here-strand =
+            ap (λ (b : Bool). if b || (is_none_ahead s.eye.ahead && is_none s.joined) then Some (a_strand s.events (fault_at j s.fault)) else None) (ap (λ (e : Eye). e.came) eye ∙ came)
+            ∙ ap (λ (l : List Event). Some (a_strand l (fault_at j s.fault))) events
+            ∙ ap (λ (f : Option Fault). strand (fault_at j f)) fault
+
+        here-joined : joined_before s ≡ None
+        here-joined = ap (λ (f : Option Fault). if s.eye.past then f else None) joined ∙ if-none s.eye.past
+
+-- The node
+
+-- a child on the way is told alone
+pub by-child : (j : List ℕ) (s : Sight) (c : Origin) → s.child ≡ Some c → node_seen j s ≡ record { strand = None; child = Some c; joined = None }
+by-child j s c e = ap (λ (d : Option Origin). shown_by d (strand_seen j s) (joined_before s)) e
+
+module _ (plan : PlanView) (o : Origin) (j : List ℕ) (i : IsInstance o) (below : IsBelow (path_of o) j) where
+  -- what is seen of the whole instance
+  pub whole_seen : (notes : Notes) → IsWhole plan o notes → (s : Sight) → s ≡ seen (path_of o) j notes → IsSeen plan o j s
+  whole_seen notes w s e = ap (node_seen j) (e ∙ same) ∙ from o i j below (opened plan o)
     where
-      fault-is : fault_at here notes.fault ≡ own_fault_at here n.ending
-      fault-is = ap (fault_at here) (sym whole.fault) ∙ own-at here n.ending
+      n : open_tree.Node
+      n = opened plan o
 
-      strand : List Item → Option Fault → Strand
-      strand items fault = record { events = events_at here (own_events items); fault = fault }
+      same : seen (path_of o) j notes ≡ a_sight (looks j (first_look (path_of o) j) n.items) (events_at j (own_events n.items)) (own_fault_of n.ending) (child_on_way j n.items) (joined_fault n.ending)
+      same =
+          ap (λ (l : List Item). a_sight (looks j (first_look (path_of o) j) l) (events_at j (own_events l)) notes.fault (child_on_way j l) notes.joined) (sym w.items)
+          ∙ ap (λ (f : Option Fault). a_sight (looks j (first_look (path_of o) j) n.items) (events_at j (own_events n.items)) f (child_on_way j n.items) notes.joined) (sym w.fault)
+          ∙ ap (λ (f : Option Fault). a_sight (looks j (first_look (path_of o) j) n.items) (events_at j (own_events n.items)) (own_fault_of n.ending) (child_on_way j n.items) f) (sym w.joined)
 
-      same : Some (strand notes.items (fault_at here notes.fault)) ≡ Some (strand n.items (own_fault_at here n.ending))
-      same = ap (λ (is : List Item). Some (strand is (fault_at here notes.fault))) (sym whole.items) ∙ ap (λ (f : Option Fault). Some (strand n.items f)) fault-is
+      from : (o : Origin) → IsInstance o → (j : List ℕ) → IsBelow (path_of o) j → (n : open_tree.Node) →
+          node_seen j (a_sight (looks j (first_look (path_of o) j) n.items) (events_at j (own_events n.items)) (own_fault_of n.ending) (child_on_way j n.items) (joined_fault n.ending)) ≡ shown_at o n j
+      from (Instance function args path) i [] b n = absurd (let l = b.longer in omega (arith, l))
+      from (Instance function args path) i (r ∷ more) b n = node-is function args path r more n
+      from (Loop function rest first path range) i j b n = absurd i
 
-      by_rank : (reached before : Bool) → reached ≡ not before →
-          (if reached then Some (strand notes.items (fault_at here notes.fault)) else None) ≡ (if before then None else Some (strand n.items (own_fault_at here n.ending)))
-      by_rank true true h = absurd (cc)
-      by_rank true false h = same
-      by_rank false true h = refl
-      by_rank false false h = absurd (cc)
-
-  joined-is : joined_before s ≡ blocks n rank
-  joined-is = by_rank (had path here notes.ranks) (nat_lt (last_rank n) rank) (whole.ranks rank)
+  -- what is seen once nothing more counts
+  pub over_seen : (notes : Notes) (u : Task) → u.plan ≡ plan → u.origin ≡ o → IsOnWay notes u → (s : Sight) → s ≡ seen (path_of o) j notes → is_over s ≡ true → IsSeen plan o j s
+  over_seen notes u plan_is origin_is way s e h = by_child s.child refl
     where
-      by_rank : (reached before : Bool) → reached ≡ not before → (if reached then None else notes.joined) ≡ (if before then joined_fault n.ending else None)
-      by_rank true true h = absurd (cc)
-      by_rank true false h = refl
-      by_rank false true h = sym whole.joined
-      by_rank false false h = absurd (cc)
+      node : opened plan o ≡ behind notes.items (node_left u)
+      node = subst (λ (p : PlanView). opened p o ≡ behind notes.items (node_left u)) plan_is (subst (λ (d : Origin). opened u.plan d ≡ behind notes.items (node_left u)) origin_is way.node)
 
-  last-is : last_node here s ≡ shown_at path n (rank ∷ [])
-  last-is = ap (λ (t : Option Strand). record { strand = t; child = None; joined = joined_before s }) strand-is ∙ ap (λ (f : Option Fault). record { strand = strand_of path n rank; child = None; joined = f }) joined-is
+      parts : (opened plan o).items ≡ notes.items ++ (node_left u).items
+      parts = ap (λ (n : open_tree.Node). n.items) node
 
-  inner-is : (k : ℕ) (ranks : List ℕ) → inner_node s ≡ shown_at path n (rank ∷ k ∷ ranks)
-  inner-is k ranks =
-      ap (λ (is : List Item). record { strand = None; child = child_at here is; joined = joined_before s }) (sym whole.items)
-      ∙ ap (λ (f : Option Fault). record { strand = None; child = child_at here n.items; joined = f }) joined-is
+      child : s.child ≡ child_on_way j notes.items
+      child = ap (λ (t : Sight). t.child) e
 
--- The strand of an instance on the way down to a pedigree, and the node
+      found : (c : Origin) → s.child ≡ Some c → IsSeen plan o j s
+      found c g = by-child j s c g ∙ sym (ap (λ (d : Option Origin). shown_by d (strand_of o (opened plan o) j) (blocks (opened plan o) j)) there)
+        where
+          there : child_on_way j (opened plan o).items ≡ Some c
+          there = ap (child_on_way j) parts ∙ child-append j notes.items (node_left u).items ∙ ap (λ (d : Option Origin). first_of d (child_on_way j (node_left u).items)) (sym child ∙ g)
 
-module _ (plan : PlanView) (o : Origin) (j here : List ℕ) (below : IsBelow (path_of o) j) (is : here ≡ take (length (path_of o) + 1) j) (s : Sight) (seen-of : IsSeen plan o here s) where
-  abbrev p : List ℕ
-  p = path_of o
+      came : s.child ≡ None → (s.eye.came ≡ true) × (s.fault ≡ None)
+      came g = split s.eye.came s.fault (sym (ap (λ (d : Option Origin). is_some d || (s.eye.came && is_none s.fault)) g) ∙ h)
+        where
+          split : (b : Bool) (f : Option Fault) → (b && is_none f) ≡ true → (b ≡ true) × (f ≡ None)
+          split true None k = (refl, refl)
+          split true (Some f) k = absurd (cc)
+          split false f k = absurd (cc)
 
-  behind : p ++ drop (length p) j ≡ j
-  behind = ap (λ (l : List ℕ). l ++ drop (length p) j) (sym below.begins) ∙ take-append-drop (length p) j
+      from : (o : Origin) → IsInstance o → (j : List ℕ) → IsBelow (path_of o) j → (n : open_tree.Node) → NodeFollows (path_of o) n → n.items ≡ notes.items ++ (node_left u).items → (looks j (first_look (path_of o) j) notes.items).came ≡ true →
+          s.eye ≡ looks j (first_look (path_of o) j) notes.items → s.events ≡ events_at j (own_events notes.items) → s.fault ≡ None → s.child ≡ child_on_way j notes.items → s.joined ≡ None → node_seen j s ≡ shown_at o n j
+      from (Instance function args path) i [] b n follows p c eye events fault one joined = absurd (let l = b.longer in omega (arith, l))
+      from (Instance function args path) i (r ∷ more) b n follows p c eye events fault one joined = over-is function args path r more n follows notes.items (node_left u).items p c s eye events fault one joined
+      from (Loop function rest first path range) i j b n follows p c eye events fault one joined = absurd i
 
-  here-is : (rank : ℕ) (more : List ℕ) → drop (length p) j ≡ rank ∷ more → here ≡ p ++ rank ∷ []
-  here-is rank more e = is ∙ ap (take (length p + 1)) (sym behind ∙ ap (λ (l : List ℕ). p ++ l) e) ∙ take-append-add p (rank ∷ more) 1
-
-  sized : (ranks : List ℕ) → drop (length p) j ≡ ranks → length j ≡ length p + length ranks
-  sized ranks e = ap length (sym behind ∙ ap (λ (l : List ℕ). p ++ l) e) ∙ length-append p ranks
-
-  here-sized : (rank : ℕ) (more : List ℕ) → drop (length p) j ≡ rank ∷ more → length here ≡ length p + 1
-  here-sized rank more e = ap length (here-is rank more e) ∙ length-append p (rank ∷ [])
-
-  toward : (ranks : List ℕ) → drop (length p) j ≡ ranks → node_toward plan o j ≡ shown_at p (opened plan o) ranks
-  toward ranks e = ap (shown_at p (opened plan o)) e
-
-  pub shows_last : length here ≡ length j → last_node here s ≡ node_toward plan o j
-  shows_last h = by_ranks (drop (length p) j) refl
-    where
-      by_ranks : (ranks : List ℕ) → drop (length p) j ≡ ranks → last_node here s ≡ node_toward plan o j
-      by_ranks [] e = let l : length j ≡ length p + 0 = sized [] e in absurd (omega (arith, below.longer))
-      by_ranks (rank ∷ []) e =
-          seen-of.last ∙ ap (λ (l : List ℕ). last_node l (seen p l seen-of.notes)) (here-is rank [] e) ∙ last-is plan o rank seen-of.notes seen-of.whole
-          ∙ sym (toward (rank ∷ []) e)
-      by_ranks (rank ∷ k ∷ ranks) e =
-          let l : length j ≡ length p + suc (suc (length ranks)) = sized (rank ∷ k ∷ ranks) e in let m : length here ≡ length p + 1 = here-sized rank (k ∷ ranks) e in absurd (omega arith)
-
-  pub shows_inner : (length here ≡ length j → ⊥) → inner_node s ≡ node_toward plan o j
-  shows_inner h = by_ranks (drop (length p) j) refl
-    where
-      by_ranks : (ranks : List ℕ) → drop (length p) j ≡ ranks → inner_node s ≡ node_toward plan o j
-      by_ranks [] e = let l : length j ≡ length p + 0 = sized [] e in absurd (omega (arith, below.longer))
-      by_ranks (rank ∷ []) e = let l : length j ≡ length p + 1 = sized (rank ∷ []) e in let m : length here ≡ length p + 1 = here-sized rank [] e in absurd (h (omega arith))
-      by_ranks (rank ∷ k ∷ ranks) e = seen-of.inner ∙ ap (λ (l : List ℕ). inner_node (seen p l seen-of.notes)) (here-is rank (k ∷ ranks) e) ∙ inner-is plan o rank seen-of.notes seen-of.whole k ranks ∙ sym (toward (rank ∷ k ∷ ranks) e)
+      by_child : (c : Option Origin) → s.child ≡ c → IsSeen plan o j s
+      by_child (Some c) g = found c g
+      by_child None g =
+          let k = came g in
+          let eye : s.eye ≡ looks j (first_look (path_of o) j) notes.items = ap (λ (t : Sight). t.eye) e in
+          from o i j below (opened plan o) (node-follows plan o i) parts (sym (ap (λ (y : Eye). y.came) eye) ∙ k.0) eye (ap (λ (t : Sight). t.events) e) k.1 child (ap (λ (t : Sight). t.joined) e ∙ way.joined)

@@ -1,12 +1,12 @@
 -- What an instance shows on the way down to a pedigree.
-use Rattle.std.specs.Prelude.{◌≡◌, ◌<◌, ℕ, List, [], ◌∷◌, ◌++◌, Option, Some, None, length, take, drop, bytes_eq, if◌then◌else◌}
-use Rattle.serial_meaning.specs.Eval.{path_of}
+use Rattle.std.specs.Prelude.{◌≡◌, ◌<◌, ℕ, Bool, true, false, ◌||◌, ◌&&◌, List, Option, Some, None, length, take, bytes_eq, if◌then◌else◌}
 use Rattle.serial_meaning.specs.Open as open_tree
 use Rattle.serial_meaning.specs.Open.{opened}
 use Rattle.serial_meaning.specs.Plan.{PlanView}
 use Rattle.serial_meaning.specs.declared.event.Fault.{Fault}
 use Rattle.serial_meaning.specs.declared.origin.Origin.{Origin}
-use Rattle.strand_meaning.specs.Strands.{Strand, child_at, strand_of, blocks}
+use Rattle.strand_meaning.specs.Strands.{Strand, child_on_way, strand_of, blocks}
+use Rattle.strand_machine.specs.Eyes.{is_none_ahead}
 use Rattle.serial_runner.specs.declared.node.Node.{Node}
 use Rattle.serial_runner.specs.declared.sight.Sight.{Sight}
 
@@ -15,30 +15,37 @@ pub record IsBelow (path j : List ℕ) : Type 0 where
   pub begins : take (length path) j ≡ path
   pub longer : length path < length j
 
--- By the ranks of the pedigree after the path: at the last one the instance shows a strand, and at another one a child. It shows neither
--- where a child's fault blocks that rank.
-abbrev pub shown_at : List ℕ → open_tree.Node → List ℕ → Node
-shown_at path n [] = record { strand = None; child = None; joined = None }
-shown_at path n (rank ∷ []) = record { strand = strand_of path n rank; child = None; joined = blocks n rank }
-shown_at path n (rank ∷ k ∷ ranks) = record { strand = None; child = child_at (path ++ rank ∷ []) n.items; joined = blocks n rank }
+-- A child on the way to the pedigree; where there is none, the instance's strand with that pedigree, and the fault of a child by which it
+-- ended before that.
+abbrev pub shown_by : Option Origin → Option Strand → Option Fault → Node
+shown_by (Some c) strand joined = record { strand = None; child = Some c; joined = None }
+shown_by None strand joined = record { strand = strand; child = None; joined = joined }
+
+abbrev pub shown_at : Origin → open_tree.Node → List ℕ → Node
+shown_at o n j = shown_by (child_on_way j n.items) (strand_of o n j) (blocks n j)
 
 abbrev pub node_toward : PlanView → Origin → List ℕ → Node
-node_toward plan o j = shown_at (path_of o) (opened plan o) (drop (length (path_of o)) j)
+node_toward plan o j = shown_at o (opened plan o) j
 
--- What is seen of an instance with an eye on one of its strands: of the strand itself, and of the child that it began.
+-- What is seen of an instance with an eye on one pedigree
 
 abbrev pub fault_at : List ℕ → Option Fault → Option Fault
 fault_at j None = None
 fault_at j (Some f) = if bytes_eq f.at j then Some f else None
 
+abbrev pub is_none : Option Fault → Bool
+is_none None = true
+is_none (Some f) = false
+
+-- whether a strand of the instance's own had the pedigree; one that ended by a child's fault hasn't come to the strand after its last event
+abbrev pub came_to : Sight → Bool
+came_to s = s.eye.came || (is_none_ahead s.eye.ahead && is_none s.joined)
+
 abbrev pub strand_seen : List ℕ → Sight → Option Strand
-strand_seen j s = if s.reached then Some (record { events = s.events; fault = fault_at j s.fault }) else None
+strand_seen j s = if came_to s then Some (record { events = s.events; fault = fault_at j s.fault }) else None
 
 abbrev pub joined_before : Sight → Option Fault
-joined_before s = if s.reached then None else s.joined
+joined_before s = if s.eye.past then s.joined else None
 
-abbrev pub last_node : List ℕ → Sight → Node
-last_node j s = record { strand = strand_seen j s; child = None; joined = joined_before s }
-
-abbrev pub inner_node : Sight → Node
-inner_node s = record { strand = None; child = s.child; joined = joined_before s }
+abbrev pub node_seen : List ℕ → Sight → Node
+node_seen j s = shown_by s.child (strand_seen j s) (joined_before s)

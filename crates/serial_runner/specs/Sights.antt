@@ -1,30 +1,31 @@
--- What is seen of an instance that runs, with an eye on the strand of one pedigree.
-use Rattle.std.specs.Prelude.{◌≡◌, ◌<◌, ℕ, ◌-◌, Bool, ◌||◌, true, false, List, [], ◌∷◌, ◌++◌, Option, Some, None, Contains, length, slice_get}
+-- What is seen of an instance that runs, with an eye on one pedigree.
+use Rattle.std.specs.Prelude.{◌≡◌, ◌<◌, ℕ, Bool, ◌||◌, ◌&&◌, true, false, List, [], ◌∷◌, ◌++◌, Option, Some, None, Contains}
 use Rattle.serial_meaning.specs.Eval.{path_of}
 use Rattle.serial_meaning.specs.Laws.{IsOriginOf}
 use Rattle.serial_meaning.specs.Open.{Child}
 use Rattle.serial_meaning.specs.Plan.{PlanView}
 use Rattle.serial_meaning.specs.declared.event.Event.{Event}
-use Rattle.serial_meaning.specs.declared.event.Event.TheVariants as event
 use Rattle.serial_meaning.specs.declared.event.Fault.{Fault}
 use Rattle.serial_meaning.specs.declared.origin.Origin.{Origin}
 use Rattle.strand_meaning.specs.Left.{stops_left}
-use Rattle.strand_meaning.specs.Notes.{Notes, had, newest, IsInstance, IsOnWay, IsWhole}
+use Rattle.strand_meaning.specs.Notes.{Notes, newest, IsInstance, IsOnWay}
 use Rattle.strand_meaning.specs.Sound.{IsTask}
-use Rattle.strand_meaning.specs.Strands.{own_events, events_at, child_at}
+use Rattle.strand_meaning.specs.Strands.{own_events, events_at, child_on_way}
+use Rattle.strand_machine.specs.Eyes.{first_look, looks}
 use Rattle.strand_machine.specs.Tasks.{fresh}
-use Rattle.serial_runner.specs.Nodes.{last_node, inner_node}
+use Rattle.strand_machine.specs.declared.eye.Eye.{Eye}
+use Rattle.serial_runner.specs.Nodes.{is_none, node_seen, node_toward}
 use Rattle.serial_runner.specs.declared.sight.Sight.{Sight}
 use Rattle.serial_runner.specs.declared.walk.Walk.{Walk}
 use Rattle.serial_runner.specs.declared.walk.Walked.{Walked}
 use Rattle.serial_runner.specs.declared.walk.Walked.TheVariants.{Goes, Ends}
 
-abbrev pub nothing_seen : Sight
-nothing_seen = record { reached = false; events = []; fault = None; child = None; joined = None }
+abbrev pub nothing_seen : Eye → Sight
+nothing_seen eye = record { eye = eye; events = []; fault = None; child = None; joined = None }
 
-abbrev pub with_notes : Bool → List Event → Option Fault → Option Fault → Sight → Sight
-with_notes reached events fault joined s = record s {
-  reached = s.reached || reached;
+abbrev pub with_notes : Eye → List Event → Option Fault → Option Fault → Sight → Sight
+with_notes eye events fault joined s = record s {
+  eye = eye;
   events = s.events ++ events;
   fault = newest s.fault fault;
   joined = newest s.joined joined;
@@ -35,21 +36,21 @@ first_of (Some o) later = Some o
 first_of None later = later
 
 abbrev pub with_child : List ℕ → Origin → Sight → Sight
-with_child j o s = record s { child = first_of s.child (child_at j (Child o ∷ [])) }
+with_child j o s = record s { child = first_of s.child (child_on_way j (Child o ∷ [])) }
 
 -- what notes say of a pedigree, of an instance with this path
 abbrev pub seen : List ℕ → List ℕ → Notes → Sight
 seen path j notes = record {
-  reached = had path j notes.ranks;
+  eye = looks j (first_look path j) notes.items;
   events = events_at j (own_events notes.items);
   fault = notes.fault;
-  child = child_at j notes.items;
+  child = child_on_way j notes.items;
   joined = notes.joined;
 }
 
 -- a walk of which nothing is done
-abbrev pub begun_walk : PlanView → Origin → Walk
-begun_walk plan o = record { task = fresh plan o; sight = nothing_seen }
+abbrev pub begun_walk : PlanView → Origin → List ℕ → Walk
+begun_walk plan o j = record { task = fresh plan o; sight = nothing_seen (first_look (path_of o) j) }
 
 abbrev pub origin_of : Walk → Origin
 origin_of w = w.task.task.origin
@@ -69,32 +70,20 @@ pub record IsWalk (plan : PlanView) (o : Origin) (j : List ℕ) (w : Walk) : Typ
   pub on : IsOnWay notes w.task.task
   pub says : w.sight ≡ seen (path_of o) j notes
 
--- What is seen of an instance, for a node, is what is to be seen of the whole instance.
-pub record IsSeen (plan : PlanView) (o : Origin) (j : List ℕ) (s : Sight) : Type 0 where
-  pub notes : Notes
-  pub whole : IsWhole plan o notes
-  pub last : last_node j s ≡ last_node j (seen (path_of o) j notes)
-  pub inner : inner_node s ≡ inner_node (seen (path_of o) j notes)
+-- What is seen of an instance, for a node, is what its node shows.
+abbrev pub IsSeen : PlanView → Origin → List ℕ → Sight → Type 0
+IsSeen plan o j s = node_seen j s ≡ node_toward plan o j
 
--- A strand is over with its first event that is no print, since the rank rises after that.
+-- A child on the way is known; or a strand of the instance's own had the pedigree and is over, and no fault came. What the instance shows later
+-- tells no more.
+abbrev pub is_some : Option Origin → Bool
+is_some None = false
+is_some (Some o) = true
 
-abbrev pub raises_rank : Event → Bool
-raises_rank (event.Print j v) = false
-raises_rank (event.Draw j n) = true
-raises_rank (event.New j) = true
-raises_rank (event.Spawn j) = true
-raises_rank (event.Sync j) = true
-raises_rank (event.Loop j) = true
+abbrev pub is_over : Sight → Bool
+is_over s = is_some s.child || (s.eye.came && is_none s.fault)
 
-abbrev pub ended_by : Option Event → Bool
-ended_by None = false
-ended_by (Some e) = raises_rank e
-
--- whether the last of these events of one strand ends it
-abbrev pub ends_strand : List Event → Bool
-ends_strand events = ended_by (slice_get events (length events - 1))
-
--- One stop further: a walk with fewer stops left, or all that is to be seen, since the instance has ended or the strand is over.
+-- One stop further: a walk with fewer stops left, or all that is to be seen, since the instance has ended or nothing that it does later counts.
 abbrev pub WalksOn : PlanView → Origin → List ℕ → Walk → Walked → Type 0
 WalksOn plan o j w (Goes next) = IsWalk plan o j next × (stops_left next.task.task < stops_left w.task.task)
 WalksOn plan o j w (Ends sight) = IsSeen plan o j sight

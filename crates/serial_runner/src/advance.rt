@@ -18,6 +18,10 @@ fn answered(answer: Answer, mut below: Frames) -> Result<Advanced, Memory>
 {
     match below.pop() {
         Some(mut top) => {
+            if top.answers.as_slice().is_empty() {
+                // most tasks await one answer, and a list would begin with room for four
+                top.answers.0.try_reserve_exact(1)?;
+            }
             top.answers.0.push(answer)?;
             Ok(Advanced::Goes(Stack { top, below }))
         }

@@ -1,93 +1,73 @@
 // A node of the open tree on the way down to a strand.
-ghost use Rattle.std.specs.Prelude.{◌≡◌, ◌+◌, IfOk, length, take};
+ghost use Rattle.std.specs.Prelude.{◌≡◌, IfOk};
 ghost use Rattle.std.specs.Arc.{arc_value};
 ghost use Rattle.serial_meaning.specs.Eval.{path_of};
 ghost use Rattle.serial_meaning.specs.Laws.{IsOriginOf};
 ghost use Rattle.strand_meaning.specs.Notes.{IsInstance};
-ghost use Rattle.serial_runner.specs.Nodes.{IsBelow, node_toward, last_node, inner_node};
+ghost use Rattle.serial_runner.specs.Nodes.{IsBelow, fault_at, node_seen, node_toward};
 
-use crate::sight::{Sight, path};
+use crate::sight::Sight;
 use crate::walk::see_instance;
-use ped_path::{Ped, Pedigree};
+use ped_path::Pedigree;
 use serial_meaning::{Fault, Origin, Plan, Strand};
 use std::alloc::Global;
 use std::sync::Arc;
 use strand_machine::Memory;
 
-/// What an instance shows on the way down to a pedigree: of its rank that the pedigree names next.
+/// What an instance shows on the way down to a pedigree.
 #[derive(Drop)]
 pub struct Node {
-    /// The strand of the pedigree, exactly where the instance has it: no rank of the pedigree follows, and the instance reached this
-    /// one.
+    /// The strand of the pedigree, where no child is on the way there: exactly where the instance had it.
     pub strand: Option<Strand>,
-    /// The child that was begun at this rank, an instance or a whole loop, where another rank of the pedigree follows.
+    /// The child on the way: an instance or a whole loop whose path the pedigree begins with and goes on from.
     pub child: Option<Origin>,
-    /// The fault of a child by which the instance ended before this rank.
+    /// The fault of a child by which the instance ended before the pedigree, where no child is on the way there.
     pub joined: Option<Fault>,
 }
 
-/// The pedigree up to the rank after this path.
-fn next_strand(path: &Ped, at: &Pedigree) -> Result<Pedigree, Memory>
-    requires { IsBelow path.now at.now }
-    ensures { IfOk result (λ here. here ≡ take (length path.now + 1) at.now) }
+/// The fault, where it came in the strand with this pedigree.
+fn fault_at(fault: Option<Fault>, at: &Pedigree) -> Option<Fault>
+    ensures { result ≡ fault_at at.now fault }
 {
-    let Some(rank) = at.rank_at(path.len()) else {
-        unreachable!()
-    };
-    let path = path.share()?;
-    Ok(Pedigree { path, rank })
+    let fault = fault?;
+    if fault.at.same(at) { Some(fault) } else { None }
 }
 
-/// What is seen of an instance's strand, and of the faults that stand before it.
-fn last_node(sight: Sight, here: &Pedigree) -> Node
-    ensures { result ≡ last_node here.now sight }
+/// What is seen of an instance, as a node.
+fn node_seen(sight: Sight, at: &Pedigree) -> Node
+    ensures { result ≡ node_seen at.now sight }
 {
     let Sight {
-        reached,
+        eye,
         events,
         fault,
+        child,
         joined,
-        ..
     } = sight;
-    if !reached {
+    if child.is_some() {
         return Node {
             strand: None,
-            child: None,
-            joined,
+            child,
+            joined: None,
         };
     }
-    let fault = match fault {
-        Some(fault) if fault.at.same(here) => Some(fault),
-        _ => None,
-    };
+    let came = eye.came || (eye.is_here() && joined.is_none());
+    let fault = fault_at(fault, at);
     Node {
-        strand: Some(Strand { events, fault }),
+        strand: if came {
+            Some(Strand { events, fault })
+        } else {
+            None
+        },
         child: None,
-        joined: None,
-    }
-}
-
-/// What is seen of the child that was begun by an instance's strand, and of the faults that stand before it.
-fn inner_node(sight: Sight) -> Node
-    ensures { result ≡ inner_node sight }
-{
-    let Sight {
-        reached,
-        child,
-        joined,
-        ..
-    } = sight;
-    Node {
-        strand: None,
-        child,
-        joined: if reached { None } else { joined },
+        joined: if eye.past { joined } else { None },
     }
 }
 
 /// Says what an instance of the plan shows on the way down to a pedigree that begins with its path and is longer.
 ///
-/// It runs the instance up to the first stop at which the strand of the pedigree's next rank is over, since nothing that stands after that
-/// strand counts. Where the instance waits before that, the children for which it waits are run.
+/// It runs the instance up to the first stop at which a child on the way is known or the strand is over, since nothing that the instance
+/// does later counts. Where it waits before that, the children for which it waits are run.
 pub fn walk_node(
     alloc: Global,
     plan: &Arc<Plan>,
@@ -99,12 +79,6 @@ pub fn walk_node(
     requires below { IsBelow (path_of origin) at.now }
     ensures { IfOk result (λ node. node ≡ node_toward (arc_value plan.now) origin at.now) }
 {
-    let here = next_strand(path(&origin), at)?;
-    let begun = here.path.child(alloc, here.rank)?;
-    let sight = see_instance(alloc, plan, origin, &here, &begun)?;
-    if here.len() == at.len() {
-        Ok(last_node(sight, &here))
-    } else {
-        Ok(inner_node(sight))
-    }
+    let sight = see_instance(alloc, plan, origin, at)?;
+    Ok(node_seen(sight, at))
 }

@@ -1,24 +1,25 @@
 // What is seen of an instance that runs.
-ghost use Rattle.std.specs.Prelude.{◌≡◌, IfOk, OnOk};
+ghost use Rattle.std.specs.Prelude.{◌≡◌, IfOk, OnOk, length, take};
+ghost use Rattle.std.specs.Str.{bytes_eq};
 ghost use Rattle.serial_meaning.specs.Eval.{path_of};
 ghost use Rattle.strand_meaning.specs.Notes.{newest};
-ghost use Rattle.serial_runner.specs.Sights.{ends_strand, nothing_seen, raises_rank, with_notes, with_child};
+ghost use Rattle.strand_meaning.specs.Strands.{is_below};
+ghost use Rattle.serial_runner.specs.Sights.{is_over, nothing_seen, with_notes, with_child};
 
-use ped_path::Ped;
-use serial_meaning::{Event, Fault, Origin, Out};
+use ped_path::{Ped, Pedigree};
+use serial_meaning::{Fault, Origin, Out};
 use std::alloc::Global;
-use strand_machine::{Memory, Task};
+use strand_machine::{Eye, Memory, Task};
 
-/// What is seen of an instance up to some moment, with an eye on the strand of one pedigree.
+/// What is seen of an instance up to some moment, with an eye on one pedigree.
 #[derive(Drop)]
 pub(crate) struct Sight {
-    /// Whether the instance reached the strand.
-    pub reached: bool,
-    /// What the strand did.
+    pub eye: Eye,
+    /// What the strand with the pedigree did.
     pub events: Out,
     /// The instance's own fault, wherever it came.
     pub fault: Option<Fault>,
-    /// The child whose path is the pedigree.
+    /// The child on the way to the pedigree.
     pub child: Option<Origin>,
     /// The fault of a child by which the instance ended, wherever it did.
     pub joined: Option<Fault>,
@@ -34,21 +35,29 @@ pub(crate) fn path(origin: &Origin) -> &Ped
     }
 }
 
-/// Whether the rank rises after this event, as it does after each but a print.
-fn raises_rank(event: &Event) -> bool
-    ensures { result ≡ raises_rank event.now }
+/// Whether a pedigree begins with all ranks of a path.
+fn begins_with(at: &Pedigree, path: &Ped) -> bool
+    ensures { result ≡ bytes_eq (take (length path.now) at.now) path.now }
 {
-    !matches!(event, Event::Print(_, _))
+    for i in 0..path.len() {
+        let Some(wanted) = path.rank_at(i) else {
+            return false;
+        };
+        let Some(rank) = at.rank_at(i) else {
+            return false;
+        };
+        if rank != wanted {
+            return false;
+        }
+    }
+    true
 }
 
-/// Whether the last of these events of one strand ends it.
-pub(crate) fn ends_strand(events: &Out) -> bool
-    ensures { result ≡ ends_strand events.now }
+/// Whether a pedigree begins with this path, and goes on.
+fn is_below(path: &Ped, at: &Pedigree) -> bool
+    ensures { result ≡ is_below path.now at.now }
 {
-    match events.get(events.len().saturating_sub(1)) {
-        Some(event) => raises_rank(event),
-        None => false,
-    }
+    path.len() < at.len() && begins_with(at, path)
 }
 
 /// The later fault, if there is one.
@@ -63,11 +72,11 @@ fn newest(old: Option<Fault>, new: Option<Fault>) -> Option<Fault>
 
 impl Sight {
     /// Nothing yet.
-    pub fn new() -> Sight
-        ensures { result ≡ nothing_seen }
+    pub fn new(eye: Eye) -> Sight
+        ensures { result ≡ nothing_seen eye }
     {
         Sight {
-            reached: false,
+            eye,
             events: Out::new(),
             fault: None,
             child: None,
@@ -75,20 +84,20 @@ impl Sight {
         }
     }
 
-    /// What is noted of the instance up to its next stop.
+    /// What is noted of the instance up to its next stop, where the eye has what it had seen before that too.
     pub fn note(
         self,
-        reached: bool,
+        eye: Eye,
         events: Out,
         fault: Option<Fault>,
         joined: Option<Fault>,
     ) -> Result<Sight, Memory>
-        ensures { IfOk result (λ sight. sight ≡ with_notes reached events fault joined self) }
+        ensures { IfOk result (λ sight. sight ≡ with_notes eye events fault joined self) }
     {
         let mut told = self.events;
         told.append(events)?;
         Ok(Sight {
-            reached: self.reached || reached,
+            eye,
             events: told,
             fault: newest(self.fault, fault),
             child: self.child,
@@ -97,12 +106,19 @@ impl Sight {
     }
 
     /// A child that is handed out.
-    pub fn see(&mut self, alloc: Global, child: &Task, begun: &Ped) -> Result<(), Memory>
-        ensures { OnOk result (self.new ≡ with_child begun.now child.now.task.origin self.old) }
+    pub fn see(&mut self, alloc: Global, child: &Task, at: &Pedigree) -> Result<(), Memory>
+        ensures { OnOk result (self.new ≡ with_child at.now child.now.task.origin self.old) }
     {
-        if self.child.is_none() && path(child.origin()).same(begun) {
+        if self.child.is_none() && is_below(path(child.origin()), at) {
             self.child = Some(child.share_origin(alloc)?);
         }
         Ok(())
+    }
+
+    /// Whether what the instance does later tells no more of the pedigree: the child on the way there is known, or the strand is over.
+    pub fn is_over(&self) -> bool
+        ensures { result ≡ is_over self.now }
+    {
+        self.child.is_some() || (self.eye.came && self.fault.is_none())
     }
 }

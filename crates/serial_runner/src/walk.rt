@@ -1,22 +1,24 @@
 // An instance that is run with an eye on the strand of one pedigree.
 ghost use Rattle.std.specs.Prelude.{◌≡◌, IfOk, false};
 ghost use Rattle.std.specs.Arc.{arc_value};
+ghost use Rattle.serial_meaning.specs.Eval.{path_of};
 ghost use Rattle.serial_meaning.specs.Laws.{IsOriginOf};
 ghost use Rattle.strand_meaning.specs.Notes.{IsInstance};
 ghost use Rattle.strand_meaning.specs.Sound.{IsTask};
 ghost use Rattle.strand_meaning.specs.Task.{start};
 ghost use Rattle.strand_machine.specs.Family.{tags};
 ghost use Rattle.strand_machine.specs.Stops.{answer_tags, any_cut};
+ghost use Rattle.serial_runner.specs.Nodes.{IsBelow};
 ghost use Rattle.serial_runner.specs.Sights.{AreOriginsOf, IsSeen, IsWalk, WalksOn, begun_walk, origin_of};
 
 use crate::serial::{begin_task, run_serial};
-use crate::sight::{Sight, ends_strand};
-use ped_path::{Ped, Pedigree};
+use crate::sight::{Sight, path};
+use ped_path::Pedigree;
 use script_grammar::Items;
 use serial_meaning::{Answer, Origin, Plan};
 use std::alloc::Global;
 use std::sync::Arc;
-use strand_machine::{Memory, Noted, Stop, Task, share_origin};
+use strand_machine::{Eye, Memory, Noted, Stop, Task, share_origin};
 use strand_meaning::laws;
 
 /// An instance's task, and what is seen of it so far.
@@ -30,7 +32,7 @@ pub(crate) struct Walk {
 #[derive(Drop)]
 pub(crate) enum Walked {
     Goes(Walk),
-    /// The instance has ended, or the strand is over.
+    /// The instance has ended, or nothing that it does later counts.
     Ends(Sight),
 }
 
@@ -47,16 +49,9 @@ fn answers_of(alloc: Global, plan: &Arc<Plan>, origins: &[Origin]) -> Result<Ite
     Ok(Items(answers))
 }
 
-/// Runs the task to its next stop. Where it waits there, the children that it awaits are run, unless the strand is over. The path is the
-/// pedigree.
-fn walk_on(
-    walk: Walk,
-    alloc: Global,
-    plan: &Arc<Plan>,
-    at: &Pedigree,
-    path: &Ped,
-) -> Result<Walked, Memory>
-    requires same { path.now ≡ at.now }
+/// Runs the task to its next stop. Where it waits there, the children that it awaits are run, unless nothing that it does later counts.
+fn walk_on(walk: Walk, alloc: Global, plan: &Arc<Plan>, at: &Pedigree) -> Result<Walked, Memory>
+    requires below { IsBelow (path_of (origin_of walk)) at.now }
     requires walk { IsWalk (arc_value plan.now) (origin_of walk) at.now walk }
     ensures { IfOk result (WalksOn (arc_value plan.now) (origin_of walk) at.now walk) }
 {
@@ -65,23 +60,22 @@ fn walk_on(
     let Walk { task, sight } = walk;
     let Noted {
         stop,
-        reached,
+        eye,
         events,
         fault,
         joined,
-    } = task.advance_noted(alloc, at)?;
-    let over = ends_strand(&events);
-    let mut sight = sight.note(reached, events, fault, joined)?;
+    } = task.advance_noted(alloc, at, sight.eye)?;
+    let mut sight = sight.note(eye, events, fault, joined)?;
     match stop {
         Stop::Spawn { child, rest } => {
-            sight.see(alloc, &child, path)?;
-            if over {
+            sight.see(alloc, &child, at)?;
+            if sight.is_over() {
                 return Ok(Walked::Ends(sight));
             }
             Ok(Walked::Goes(Walk { task: rest, sight }))
         }
         Stop::Wait { rest } => {
-            if over {
+            if sight.is_over() {
                 return Ok(Walked::Ends(sight));
             }
             let answers = answers_of(alloc, plan, rest.awaited().as_slice())?;
@@ -93,37 +87,41 @@ fn walk_on(
 }
 
 /// A walk through the origin of which nothing is done.
-fn begin_walk(alloc: Global, plan: &Arc<Plan>, origin: Origin) -> Result<Walk, Memory>
+fn begin_walk(
+    alloc: Global,
+    plan: &Arc<Plan>,
+    origin: Origin,
+    at: &Pedigree,
+) -> Result<Walk, Memory>
     requires { IsOriginOf (arc_value plan.now) origin }
-    ensures walk { IfOk result (λ walk. walk ≡ begun_walk (arc_value plan.now) origin) }
+    ensures walk { IfOk result (λ walk. walk ≡ begun_walk (arc_value plan.now) origin at.now) }
     ensures sound { IfOk result (λ walk. IsTask (start (arc_value plan.now) origin)) }
 {
     let _script = plan.checked.script();
     laws::valid_plans_are_clear();
     laws::tasks_begin();
+    let sight = Sight::new(Eye::start(path(&origin), at));
     let task = begin_task(alloc, plan, origin)?;
-    let sight = Sight::new();
     Ok(Walk { task, sight })
 }
 
-/// Runs an instance of the plan until the strand is over, or to its end. Its children are run where it waits for them. The path is the
-/// pedigree.
+/// Runs an instance of the plan until nothing that it does later counts for the pedigree, or to its end. Its children are run where it waits
+/// for them.
 pub(crate) fn see_instance(
     alloc: Global,
     plan: &Arc<Plan>,
     origin: Origin,
     at: &Pedigree,
-    path: &Ped,
 ) -> Result<Sight, Memory>
     requires known { IsOriginOf (arc_value plan.now) origin }
     requires instance { IsInstance origin }
-    requires same { path.now ≡ at.now }
+    requires below { IsBelow (path_of origin) at.now }
     ensures { IfOk result (IsSeen (arc_value plan.now) origin at.now) }
 {
     laws::notes_begin();
-    let mut walk = begin_walk(alloc, plan, origin)?;
+    let mut walk = begin_walk(alloc, plan, origin, at)?;
     loop {
-        match walk_on(walk, alloc, plan, at, path)? {
+        match walk_on(walk, alloc, plan, at)? {
             Walked::Goes(next) => walk = next,
             Walked::Ends(sight) => return Ok(sight),
         }

@@ -1,7 +1,9 @@
 -- Which instance an event belongs to, and where two instances part.
-use Rattle.std.proofs.Common.{◌≡◌, ◌≤◌, ◌+◌, ℕ, List, [], ◌∷◌, ◌++◌, Option, Some, None, length, length-append, append-nil, refl, sym, ◌∙◌, ap, subst, arith}
+use Rattle.std.proofs.Common.{◌≡◌, ◌≤◌, ◌<◌, ◌+◌, ℕ, zero, suc, List, [], ◌∷◌, ◌++◌, Option, Some, None, length, length-append, append-nil, append_assoc, refl, sym, ◌∙◌, ap, subst, arith}
+use Rattle.std.specs.Prelude.{Contains, slice_get}
 use Rattle.serial_meaning.specs.declared.event.Event.{Event}
 use Rattle.span_report.specs.Series.{pedigree_of, Begins, BeginsProperly, IsEvent, IsInstance, IsHome, IsOf, IsMeet, IsReady, InSeries}
+use Rattle.span_report.proofs.Clear.{Raises}
 
 first-same : (x y : ℕ) (xs ys : List ℕ) → x ∷ xs ≡ y ∷ ys → x ≡ y
 first-same x y xs ys e = ap first e
@@ -40,10 +42,45 @@ apart-length (o ∷ os) [] r s xs ys d b c = absurd (d (first-same r o xs (os ++
 apart-length (o ∷ os) (p ∷ ps) r s xs ys d b c =
     let l = apart-length os ps r s xs ys d (b.0, rest-same p o (ps ++ r ∷ xs) (os ++ b.0) b.1) (c.0, rest-same p o (ps ++ s ∷ ys) (os ++ c.0) c.1) in omega (arith, l)
 
+-- Begins with what begins with another.
+pub begins-begins : (a b c : List ℕ) → Begins a b → Begins b c → Begins a c
+begins-begins a b c h k = (h.0 ++ k.0, k.1 ∙ ap (λ (l : List ℕ). l ++ k.0) h.1 ∙ append_assoc a h.0 k.0)
+
+-- Of two fronts of one list the shorter begins the longer.
+pub fronts : (a b xs ys : List ℕ) → a ++ xs ≡ b ++ ys → length a ≤ length b → Begins a b
+fronts [] b xs ys e l = (b, refl)
+fronts (x ∷ a) [] xs ys e l = absurd (omega (arith, l))
+fronts (x ∷ a) (y ∷ b) xs ys e l =
+    let f = fronts a b xs ys (rest-same x y (a ++ xs) (b ++ ys) e) (omega (arith, l)) in
+    (f.0, ap (λ (k : List ℕ). y ∷ k) f.1 ∙ ap (λ (n : ℕ). n ∷ (a ++ f.0)) (sym (first-same x y (a ++ xs) (b ++ ys) e)))
+
+-- what begins before the last rank
+pub begins-short : (front path : List ℕ) (rank : ℕ) → BeginsProperly front (path ++ rank ∷ []) → Begins front path
+begins-short front path rank b = fronts front path (b.0 ∷ b.1) (rank ∷ []) (sym b.2) (begins-before-rank front path rank b)
+
+-- with one rank more
+pub begins-rank : (front path : List ℕ) (rank : ℕ) → Begins front path → BeginsProperly front (path ++ rank ∷ [])
+begins-rank front path rank b = from b.0 b.1
+  where
+    from : (more : List ℕ) → path ≡ front ++ more → BeginsProperly front (path ++ rank ∷ [])
+    from [] e = (rank, [], ap (λ (l : List ℕ). l ++ rank ∷ []) (e ∙ append-nil front))
+    from (m ∷ ms) e = (m, ms ++ rank ∷ [], ap (λ (l : List ℕ). l ++ rank ∷ []) e ∙ append_assoc front (m ∷ ms) (rank ∷ []))
+
+pub get-contained : (es : List Event) (n : ℕ) (e : Event) → slice_get es n ≡ Some e → Contains es e
+get-contained [] n e h = absurd (cc)
+get-contained (x ∷ es) zero e h = (zero, omega arith, ap held h)
+  where
+    held : Option Event → Event
+    held None = x
+    held (Some c) = c
+get-contained (x ∷ es) (suc n) e h = let c = get-contained es n e h in (suc c.0, (let l = c.1 in omega (arith, l)), c.2)
+
 module _ (events : List Event) where
-  -- An instance's own strands belong to it.
-  pub home-is : (path : List ℕ) (rank : ℕ) → IsInstance events path → IsHome events (path ++ rank ∷ []) path
-  home-is path rank h = record { instance = h; begins = (rank, [], refl); longest = λ other i b. begins-before-rank other path rank b }
+  -- A present path of an instance: its own path and the ranks of its open scopes, at whose paths no event raises the rank.
+  pub record IsPresent (home path : List ℕ) : Type 0 where
+    pub instance : IsInstance events home
+    pub begins : Begins home path
+    pub clear : (e : Event) (j : List ℕ) → Contains events e → Raises e j → Begins j path → length j ≤ length home
 
   -- An event belongs to one instance.
   pub home-unique : (j a b : List ℕ) → IsHome events j a → IsHome events j b → a ≡ b

@@ -2,6 +2,8 @@ pub mod Above
 pub mod Apart
 pub mod Chains
 pub mod Claims
+pub mod Clear
+pub mod Coming
 pub mod Homes
 pub mod Most
 pub mod Nesting

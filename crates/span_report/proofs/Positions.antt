@@ -2,14 +2,14 @@
 use Rattle.std.proofs.Common.{◌≡◌, ◌≤◌, ◌<◌, ◌+◌, ◌⊎◌, inl, inr, ℕ, zero, suc, Bool, true, false, nat_lt, List, [], ◌∷◌, ◌++◌, Some, length, length-append, refl, sym, ◌∙◌, ap, subst, arith, append_assoc}
 use Rattle.std.proofs.lemmas.Bool.Decides.{nat_tests}
 use Rattle.std.specs.Prelude.{slice_get}
-use Rattle.serial_meaning.proofs.Each.{Each, each-append}
-use Rattle.serial_meaning.proofs.Scopes.{rank-same}
+use Rattle.serial_meaning.proofs.Each.{Each, each-append, each-map}
+use Rattle.serial_meaning.proofs.Left.{rank-same}
 use Rattle.serial_meaning.specs.declared.event.Event.{Event}
 use Rattle.serial_meaning.specs.declared.event.Event.TheVariants as event
 use Rattle.span_report.specs.Series.{pedigree_of, Begins, BeginsProperly, IsEvent, IsInstance, IsOf}
-use Rattle.span_report.specs.Nested.{IsStep, Draw, New, Sync, Whose, Instance, Iterations, IsNested, Ends, Prints, Steps, Spawns, Loops, Iterates}
-use Rattle.span_report.proofs.Homes.{event-unique, of-unique}
-use Rattle.span_report.proofs.Ready.{fronts}
+use Rattle.span_report.specs.Nested.{Whose, Instance, Iterations}
+use Rattle.span_report.proofs.Clear.{too-long, step-at, IsClear, Ends, Prints, Steps, Spawns, Loops, Iterates, Scopes}
+use Rattle.span_report.proofs.Homes.{event-unique, of-unique, begins-length, fronts}
 
 pub split-at : (i n : ℕ) → (i < n) ⊎ (n ≤ i)
 split-at i n = by (nat_lt i n) refl
@@ -34,39 +34,35 @@ get-event [] n l = absurd (omega (arith, l))
 get-event (x ∷ es) zero l = (x, refl)
 get-event (x ∷ es) (suc n) l = get-event es n (omega (arith, l))
 
--- A path with a rank and more is longer than it.
-pub too-long : (path : List ℕ) (r : ℕ) (more : List ℕ) → path ≡ path ++ r ∷ more → ⊥
-too-long path r more e = let l : length path ≡ length (path ++ r ∷ more) = ap (λ (p : List ℕ). length p) e in absurd (omega (arith, l, length-append path (r ∷ more)))
-
 -- with the rank that the path is followed by
 pub goes-below : (path : List ℕ) (rank : ℕ) (j : List ℕ) → BeginsProperly (path ++ rank ∷ []) j → BeginsProperly path j
 goes-below path rank j b = (rank, b.0 ∷ b.1, b.2 ∙ append_assoc path (rank ∷ []) (b.0 ∷ b.1))
 
-each-map : (T U : Event → Type 0) (es : List Event) → ((e : Event) → T e → U e) → Each T es → Each U es
-each-map T U [] f h = tt
-each-map T U (e ∷ es) f h = (f e h.0, each-map T U es f h.1)
-
-pub step-at : (j : List ℕ) (e : Event) → IsStep j e → pedigree_of e ≡ j
-step-at j e (Draw i n) = refl
-step-at j e (New i) = refl
-step-at j e (Sync i) = refl
-
 abbrev Below : List ℕ → Event → Type 0
 Below path e = BeginsProperly path (pedigree_of e)
 
--- The events of an instance, and of all below it, have pedigrees that begin with its path; those of a loop's iterations begin with the loop's.
-pub nested-begins : (whose : Whose) (path : List ℕ) (rank : ℕ) (es : List Event) → IsNested whose path rank es → Each (λ e. BeginsProperly path (pedigree_of e)) es
-nested-begins w p r es (Ends whose path rank) = tt
-nested-begins w p r es (Prints path rank v rest n) = ((rank, [], refl), nested-begins Instance path rank rest n)
-nested-begins w p r es (Steps path rank e rest s n) = ((rank, [], step-at (path ++ rank ∷ []) e s), nested-begins Instance path (rank + 1) rest n)
-nested-begins w p r es (Spawns path rank child rest c n) =
-    ((rank, [], refl), each-append (Below path) child rest (each-map (Below (path ++ rank ∷ [])) (Below path) child (λ e b. goes-below path rank (pedigree_of e) b) (nested-begins Instance (path ++ rank ∷ []) 0 child c)) (nested-begins Instance path (rank + 1) rest n))
-nested-begins w p r es (Loops path rank inner rest i n) =
-    ((rank, [], refl), each-append (Below path) inner rest (each-map (Below (path ++ rank ∷ [])) (Below path) inner (λ e b. goes-below path rank (pedigree_of e) b) (nested-begins Iterations (path ++ rank ∷ []) 0 inner i)) (nested-begins Instance path (rank + 1) rest n))
-nested-begins w p r es (Iterates path k turn rest t n) =
-    each-append (Below path) turn rest (each-map (Below (path ++ k ∷ [])) (Below path) turn (λ e b. goes-below path k (pedigree_of e) b) (nested-begins Instance (path ++ k ∷ []) 0 turn t)) (nested-begins Iterations path (k + 1) rest n)
+-- What begins with a path doesn't begin an instance's path that the path begins with, and go on.
+pub home-short : (home path : List ℕ) (r : ℕ) (more : List ℕ) → Begins home path → home ≡ path ++ r ∷ more → ⊥
+home-short home path r more b e =
+    let l : length home ≡ length (path ++ r ∷ more) = ap (λ (p : List ℕ). length p) e in
+    let m = begins-length home path b in absurd (omega (arith, l, m, length-append path (r ∷ more)))
 
 module _ (all : List Event) where
+  -- what stands below a rank of a path, and what stands after that
+  both : (path : List ℕ) (rank : ℕ) (xs ys : List Event) → Each (Below (path ++ rank ∷ [])) xs → Each (Below path) ys → Each (Below path) (xs ++ ys)
+  both path rank xs ys a b = each-append (Below path) xs ys (each-map xs (λ e c. goes-below path rank (pedigree_of e) c) a) b
+
+  -- The events of an instance at a present path, and of all below it, have pedigrees that begin with that path; those of a loop's iterations
+  -- begin with the loop's.
+  pub nested-begins : (whose : Whose) (path : List ℕ) (rank : ℕ) (es : List Event) → IsClear all whose path rank es → Each (λ e. BeginsProperly path (pedigree_of e)) es
+  nested-begins w p r es (Ends whose path rank) = tt
+  nested-begins w p r es (Prints home path rank v rest n) = ((rank, [], refl), nested-begins (Instance home) path rank rest n)
+  nested-begins w p r es (Steps home path rank e rest s n) = ((rank, [], step-at (path ++ rank ∷ []) e s), nested-begins (Instance home) path (rank + 1) rest n)
+  nested-begins w p r es (Spawns home path rank child rest c n) = ((rank, [], refl), both path rank child rest (nested-begins (Instance (path ++ rank ∷ [])) (path ++ rank ∷ []) 0 child c) (nested-begins (Instance home) path (rank + 1) rest n))
+  nested-begins w p r es (Loops home path rank inner rest i n) = ((rank, [], refl), both path rank inner rest (nested-begins Iterations (path ++ rank ∷ []) 0 inner i) (nested-begins (Instance home) path (rank + 1) rest n))
+  nested-begins w p r es (Iterates path k turn rest t n) = both path k turn rest (nested-begins (Instance (path ++ k ∷ [])) (path ++ k ∷ []) 0 turn t) (nested-begins Iterations path (k + 1) rest n)
+  nested-begins w p r es (Scopes home path rank inner rest free i n) = both path rank inner rest (nested-begins (Instance home) (path ++ rank ∷ []) 0 inner i) (nested-begins (Instance home) path (rank + 1) rest n)
+
   -- These events stand in the run from number n on.
   abbrev pub At : ℕ → List Event → Type 0
   At n [] = Unit {0}
@@ -96,7 +92,8 @@ module _ (all : List Event) where
   pub home-begins : (path own : List ℕ) (i : ℕ) (e : Event) → IsInstance all path → BeginsProperly path (pedigree_of e) → IsOf all own i e → Begins path own
   home-begins path own i e h b k = let l = k.belongs.longest path h b in let c = k.belongs.begins in fronts path own (b.0 ∷ b.1) (c.0 ∷ c.1) (sym b.2 ∙ c.2) l
 
-  -- No event before number n is of an instance at or below a rank of the path from this one on, nor spawns one.
+  -- No event before number n is of an instance at or below a rank of the path from this one on, nor spawns one. The path is a present one, or a
+  -- loop's pedigree.
   pub record Fresh (n : ℕ) (path : List ℕ) (rank : ℕ) : Type 0 where
     pub homes : (i : ℕ) (own : List ℕ) (e : Event) → i < n → IsOf all own i e → (r : ℕ) (more : List ℕ) → own ≡ path ++ r ∷ more → r < rank
     pub spawns : (i : ℕ) (j : List ℕ) → i < n → IsEvent all i (event.Spawn j) → (r : ℕ) (more : List ℕ) → j ≡ path ++ r ∷ more → r < rank
@@ -127,15 +124,15 @@ module _ (all : List Event) where
           from (inr s) = let t = g i (event.Spawn j) s l h in let k = rank-same path r rank more t.0 (sym q ∙ t.1) in omega (arith, k)
 
   -- After an event of the instance itself that spawns nothing.
-  pub fresh-same : (n : ℕ) (path : List ℕ) (rank : ℕ) (e : Event) → Fresh n path rank → IsOf all path n e → ((j : List ℕ) → e ≡ event.Spawn j → ⊥) → Fresh (n + 1) path rank
-  fresh-same n path rank e f h never = record { homes = homes; spawns = spawns }
+  pub fresh-same : (n : ℕ) (home path : List ℕ) (rank : ℕ) (e : Event) → Begins home path → Fresh n path rank → IsOf all home n e → ((j : List ℕ) → e ≡ event.Spawn j → ⊥) → Fresh (n + 1) path rank
+  fresh-same n home path rank e b f h never = record { homes = homes; spawns = spawns }
     where
       homes : (i : ℕ) (own : List ℕ) (x : Event) → i < n + 1 → IsOf all own i x → (r : ℕ) (more : List ℕ) → own ≡ path ++ r ∷ more → r < rank
       homes i own x l k r more q = from (split-at i n)
         where
           from : (i < n) ⊎ (n ≤ i) → r < rank
           from (inl s) = f.homes i own x s k r more q
-          from (inr s) = absurd (too-long path r more (of-unique all n path own e x h (subst (λ (m : ℕ). IsOf all own m x) (omega (arith, s, l)) k) ∙ q))
+          from (inr s) = absurd (home-short home path r more b (of-unique all n home own e x h (subst (λ (m : ℕ). IsOf all own m x) (omega (arith, s, l)) k) ∙ q))
 
       spawns : (i : ℕ) (j : List ℕ) → i < n + 1 → IsEvent all i (event.Spawn j) → (r : ℕ) (more : List ℕ) → j ≡ path ++ r ∷ more → r < rank
       spawns i j l k r more q = from (split-at i n)
@@ -152,8 +149,8 @@ module _ (all : List Event) where
   }
 
   -- the same after the event with which it begins
-  pub fresh-child : (n : ℕ) (path : List ℕ) (rank : ℕ) (e : Event) → Fresh n path rank → IsOf all path n e → pedigree_of e ≡ path ++ rank ∷ [] → Fresh (n + 1) (path ++ rank ∷ []) 0
-  fresh-child n path rank e f h p = record { homes = homes; spawns = spawns }
+  pub fresh-child : (n : ℕ) (home path : List ℕ) (rank : ℕ) (e : Event) → Begins home path → Fresh n path rank → IsOf all home n e → pedigree_of e ≡ path ++ rank ∷ [] → Fresh (n + 1) (path ++ rank ∷ []) 0
+  fresh-child n home path rank e b f h p = record { homes = homes; spawns = spawns }
     where
       g : Fresh n (path ++ rank ∷ []) 0
       g = fresh-below n path rank f
@@ -163,7 +160,7 @@ module _ (all : List Event) where
         where
           from : (i < n) ⊎ (n ≤ i) → r < 0
           from (inl s) = g.homes i own x s k r more q
-          from (inr s) = absurd (too-long path rank (r ∷ more) (of-unique all n path own e x h (subst (λ (m : ℕ). IsOf all own m x) (omega (arith, s, l)) k) ∙ q ∙ append_assoc path (rank ∷ []) (r ∷ more)))
+          from (inr s) = absurd (home-short home path rank (r ∷ more) b (of-unique all n home own e x h (subst (λ (m : ℕ). IsOf all own m x) (omega (arith, s, l)) k) ∙ q ∙ append_assoc path (rank ∷ []) (r ∷ more)))
 
       spawns : (i : ℕ) (j : List ℕ) → i < n + 1 → IsEvent all i (event.Spawn j) → (r : ℕ) (more : List ℕ) → j ≡ (path ++ rank ∷ []) ++ r ∷ more → r < 0
       spawns i j l k r more q = from (split-at i n)
@@ -173,9 +170,9 @@ module _ (all : List Event) where
           from (inr s) = absurd (too-long (path ++ rank ∷ []) r more (sym p ∙ ap (λ (x : Event). pedigree_of x) (event-unique all n e (event.Spawn j) h.numbered (subst (λ (m : ℕ). IsEvent all m (event.Spawn j)) (omega (arith, s, l)) k)) ∙ q))
 
   -- so nothing lies there
-  pub none-below : (n : ℕ) (path : List ℕ) (rank : ℕ) (e : Event) → Fresh n path rank → IsOf all path n e → (i : ℕ) → i < n + 1 → (own : List ℕ) (x : Event) → IsOf all own i x → Begins (path ++ rank ∷ []) own → ⊥
-  none-below n path rank e f h i l own x k b = from (split-at i n)
+  pub none-below : (n : ℕ) (home path : List ℕ) (rank : ℕ) (e : Event) → Begins home path → Fresh n path rank → IsOf all home n e → (i : ℕ) → i < n + 1 → (own : List ℕ) (x : Event) → IsOf all own i x → Begins (path ++ rank ∷ []) own → ⊥
+  none-below n home path rank e a f h i l own x k b = from (split-at i n)
     where
       from : (i < n) ⊎ (n ≤ i) → ⊥
       from (inl s) = absurd (let q : rank < rank = f.homes i own x s k rank b.0 (b.1 ∙ append_assoc path (rank ∷ []) b.0) in omega (arith, q))
-      from (inr s) = too-long path rank b.0 (of-unique all n path own e x h (subst (λ (m : ℕ). IsOf all own m x) (omega (arith, s, l)) k) ∙ b.1 ∙ append_assoc path (rank ∷ []) b.0)
+      from (inr s) = home-short home path rank b.0 a (of-unique all n home own e x h (subst (λ (m : ℕ). IsOf all own m x) (omega (arith, s, l)) k) ∙ b.1 ∙ append_assoc path (rank ∷ []) b.0)

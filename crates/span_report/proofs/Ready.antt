@@ -1,11 +1,11 @@
 -- What is in series before all that an instance does next, and how that changes with an event.
-use Rattle.std.proofs.Common.{◌≡◌, ◌≤◌, ◌<◌, ◌+◌, ◌⊎◌, inl, inr, ℕ, Bool, true, false, nat_lt, List, [], ◌∷◌, ◌++◌, length, length-append, append-nil, append_assoc, refl, sym, ◌∙◌, ap, subst, arith}
+use Rattle.std.proofs.Common.{◌≡◌, ◌≤◌, ◌<◌, ◌+◌, ◌⊎◌, inl, inr, ℕ, Bool, true, false, nat_lt, List, [], ◌∷◌, ◌++◌, length, length-append, append-nil, append_assoc, refl, sym, ◌∙◌, subst, arith}
 use Rattle.std.proofs.lemmas.Bool.Decides.{nat_tests}
 use Rattle.serial_meaning.specs.declared.event.Event.{Event}
 use Rattle.serial_meaning.specs.declared.event.Event.TheVariants as event
-use Rattle.span_report.specs.Series.{Begins, BeginsProperly, IsOf, IsMeet, IsAwaited, Own, Looped, Synced, IsReady}
+use Rattle.span_report.specs.Series.{Begins, BeginsProperly, IsInstance, IsOf, IsMeet, IsAwaited, Own, Looped, Synced, IsReady}
 use Rattle.span_report.proofs.Chains.{IsPending, HasSynced}
-use Rattle.span_report.proofs.Homes.{event-unique, of-unique, meet-below}
+use Rattle.span_report.proofs.Homes.{begins-begins, fronts, get-contained, event-unique, of-unique, meet-below, IsPresent}
 
 -- a number below the next one
 pub below-or : (i n : ℕ) → i < n + 1 → (i < n) ⊎ (i ≡ n)
@@ -15,34 +15,8 @@ below-or i n h = by (nat_lt i n) refl
     by true g = inl (grind (arith, nat_tests))
     by false g = let l : n ≤ i = grind (arith, nat_tests) in inr (omega (arith, l, h))
 
--- Begins with what begins with another.
-pub begins-begins : (a b c : List ℕ) → Begins a b → Begins b c → Begins a c
-begins-begins a b c h k = (h.0 ++ k.0, k.1 ∙ ap (λ (l : List ℕ). l ++ k.0) h.1 ∙ append_assoc a h.0 k.0)
-
 pub properly-begins : (a b c : List ℕ) → BeginsProperly a b → Begins b c → Begins a c
 properly-begins a b c h k = begins-begins a b c (h.0 ∷ h.1, h.2) k
-
--- Of two fronts of one list the shorter begins the longer.
-pub fronts : (a b xs ys : List ℕ) → a ++ xs ≡ b ++ ys → length a ≤ length b → Begins a b
-fronts [] b xs ys e l = (b, refl)
-fronts (x ∷ a) [] xs ys e l = absurd (omega (arith, l))
-fronts (x ∷ a) (y ∷ b) xs ys e l =
-    let f = fronts a b xs ys (rest x y (a ++ xs) (b ++ ys) e) (omega (arith, l)) in
-    (f.0, ap (λ (k : List ℕ). y ∷ k) f.1 ∙ ap (λ (n : ℕ). n ∷ (a ++ f.0)) (sym (first x y (a ++ xs) (b ++ ys) e)))
-  where
-    first : (x y : ℕ) (xs ys : List ℕ) → x ∷ xs ≡ y ∷ ys → x ≡ y
-    first x y xs ys e = ap head e
-      where
-        head : List ℕ → ℕ
-        head [] = x
-        head (z ∷ zs) = z
-
-    rest : (x y : ℕ) (xs ys : List ℕ) → x ∷ xs ≡ y ∷ ys → xs ≡ ys
-    rest x y xs ys e = ap tail e
-      where
-        tail : List ℕ → List ℕ
-        tail [] = xs
-        tail (z ∷ zs) = zs
 
 -- What begins both with and without this rank after a path is no longer than the path.
 pub short-front : (front home : List ℕ) (r : ℕ) (more own : List ℕ) → Begins front own → Begins front (home ++ r ∷ more) → (Begins (home ++ r ∷ []) own → ⊥) → length front ≤ length home
@@ -158,38 +132,46 @@ module _ (all : List Event) where
 
   -- What lies neither at nor below a rank of an instance is ready for what lies there exactly where it is for the instance. So a child, and
   -- an iteration of a loop, begins after what its parent's next event is after.
-  module _ (i n : ℕ) (home : List ℕ) (r : ℕ) (more : List ℕ) (none : (own : List ℕ) (e : Event) → IsOf all own i e → Begins (home ++ r ∷ []) own → ⊥) where
-    front-short : (own : List ℕ) (e : Event) → IsOf all own i e → (front : List ℕ) → Begins front own → Begins front (home ++ r ∷ more) → Begins front home
-    front-short own e h front b c = fronts front home c.0 (r ∷ more) (sym c.1) (short-front front home r more own b c (none own e h))
+  module _ (i n : ℕ) (home path : List ℕ) (r : ℕ) (more : List ℕ) (here : IsPresent all home path) (longest : (other : List ℕ) → IsInstance all other → Begins other path → length other ≤ length home)
+      (none : (own : List ℕ) (e : Event) → IsOf all own i e → Begins (path ++ r ∷ []) own → ⊥) where
+    front-path : (own : List ℕ) (e : Event) → IsOf all own i e → (front : List ℕ) → Begins front own → Begins front (path ++ r ∷ more) → Begins front path
+    front-path own e h front b c = fronts front path c.0 (r ∷ more) (sym c.1) (short-front front path r more own b c (none own e h))
 
-    pub ready-outside : IsReady all i n (home ++ r ∷ more) → IsReady all i n home
+    front-home : (front : List ℕ) → Begins front path → length front ≤ length home → Begins front home
+    front-home front b l = fronts front home b.0 here.begins.0 (sym b.1 ∙ here.begins.1) l
+
+    home-below : Begins home (path ++ r ∷ more)
+    home-below = begins-begins home path (path ++ r ∷ more) here.begins (r ∷ more, refl)
+
+    pub ready-outside : IsReady all i n (path ++ r ∷ more) → IsReady all i n home
     ready-outside x = record { earlier = x.earlier; e = x.e; own = x.own; meet = x.meet; placed = x.placed; parting = parts; awaited = waits x.awaited }
       where
         parts : IsMeet all x.own home x.meet
         parts = record {
           instance = x.parting.instance;
           first = x.parting.first;
-          second = front-short x.own x.e x.placed x.meet x.parting.first x.parting.second;
-          longest = λ other k b c. x.parting.longest other k b (begins-begins other home (home ++ r ∷ more) c (r ∷ more, refl));
+          second = let b = front-path x.own x.e x.placed x.meet x.parting.first x.parting.second in front-home x.meet b (longest x.meet x.parting.instance b);
+          longest = λ other k b c. x.parting.longest other k b (begins-begins other home (path ++ r ∷ more) c home-below);
         }
 
-        waits : IsAwaited all n x.own (home ++ r ∷ more) x.meet → IsAwaited all n x.own home x.meet
+        waits : IsAwaited all n x.own (path ++ r ∷ more) x.meet → IsAwaited all n x.own home x.meet
         waits (Own e) = Own e
-        waits (Looped c j h p out) = Looped c j h p (λ b. out (begins-begins j home (home ++ r ∷ more) b (r ∷ more, refl)))
+        waits (Looped c j h p out) = Looped c j h p (λ b. out (begins-begins j home (path ++ r ∷ more) b home-below))
         waits (Synced c s j at h p k l m) = Synced c s j at h p k l m
 
-    pub ready-inside : IsReady all i n home → IsReady all i n (home ++ r ∷ more)
+    pub ready-inside : IsReady all i n home → IsReady all i n (path ++ r ∷ more)
     ready-inside x = record { earlier = x.earlier; e = x.e; own = x.own; meet = x.meet; placed = x.placed; parting = parts; awaited = waits x.awaited }
       where
-        parts : IsMeet all x.own (home ++ r ∷ more) x.meet
+        parts : IsMeet all x.own (path ++ r ∷ more) x.meet
         parts = record {
           instance = x.parting.instance;
           first = x.parting.first;
-          second = begins-begins x.meet home (home ++ r ∷ more) x.parting.second (r ∷ more, refl);
-          longest = λ other k b c. x.parting.longest other k b (front-short x.own x.e x.placed other b c);
+          second = begins-begins x.meet home (path ++ r ∷ more) x.parting.second home-below;
+          longest = λ other k b c. (let d = front-path x.own x.e x.placed other b c in x.parting.longest other k b (front-home other d (longest other k d)));
         }
 
-        waits : IsAwaited all n x.own home x.meet → IsAwaited all n x.own (home ++ r ∷ more) x.meet
+        waits : IsAwaited all n x.own home x.meet → IsAwaited all n x.own (path ++ r ∷ more) x.meet
         waits (Own e) = Own e
-        waits (Looped c j h p out) = Looped c j h p (λ b. out (front-short x.own x.e x.placed j (properly-begins j x.own x.own p ([], sym (append-nil x.own))) b))
+        waits (Looped c j h p out) =
+            Looped c j h p (λ b. (let d = front-path x.own x.e x.placed j (properly-begins j x.own x.own p ([], sym (append-nil x.own))) b in out (front-home j d (here.clear (event.Loop j) j (get-contained all c (event.Loop j) h.numbered) refl d))))
         waits (Synced c s j at h p k l m) = Synced c s j at h p k l m

@@ -1,41 +1,17 @@
 -- The open instances: which of them a path leads to, and what the end of the others leaves.
-use Rattle.std.proofs.Common.{◌≡◌, ◌≤◌, ◌<◌, ◌+◌, ◌-◌, ℕ, zero, suc, Bool, true, false, cond, nat_lt, List, [], ◌∷◌, ◌++◌, Option, Some, None, length, take, length-append, append-nil, refl, sym, ◌∙◌, ap, subst, arith}
+use Rattle.std.proofs.Common.{◌≡◌, ◌≤◌, ◌<◌, ◌+◌, ◌-◌, ℕ, zero, suc, Bool, true, false, cond, List, [], ◌∷◌, ◌++◌, Option, Some, None, length, take, drop, length-append, append_assoc, refl, sym, ◌∙◌, ap, subst, arith}
 use Rattle.std.proofs.lemmas.Bool.Decides.{nat_tests}
-use Rattle.std.specs.Prelude.{slice_get, ◌==◌, ◌||◌}
+use Rattle.std.specs.Prelude.{slice_get, ◌==◌}
 use Rattle.serial_meaning.specs.declared.event.Event.{Event}
 use Rattle.serial_meaning.specs.declared.event.Event.TheVariants as event
 use Rattle.span_report.specs.declared.instance.Open.{Open}
-use Rattle.span_report.specs.Series.{pedigree_of}
+use Rattle.span_report.specs.Series.{pedigree_of, Begins, BeginsProperly}
 use Rattle.span_report.specs.declared.instance.Begun.TheVariants.{Spawned, Iterated}
-use Rattle.span_report.specs.Opens.{begun, is_rank, joined, leads, noted}
-use Rattle.span_report.specs.Walks.{Opened, left, ended, rank_or_zero, last_rank, pushed, entered, went, path_of, walked, walked_all}
+use Rattle.span_report.specs.Opens.{begun, joined, starts, leads, noted, turn_at, turn_on}
+use Rattle.span_report.specs.Walks.{Opened, left, ended, pushed, pushed_turn, entered, went, path_of, walked, walked_all}
 
 abbrev pub stack : Open → List Open → Opened
 stack o under = record { top = o; under = under }
-
-get-last : (n : ℕ) (xs : List ℕ) → n < length xs → (x : ℕ) × (slice_get xs n ≡ Some x)
-get-last n [] l = absurd (omega (arith, l))
-get-last zero (x ∷ xs) l = (x, refl)
-get-last (suc n) (x ∷ xs) l = get-last n xs (omega (arith, l))
-
-get-front : (n : ℕ) (xs ys : List ℕ) → n < length xs → slice_get (xs ++ ys) n ≡ slice_get xs n
-get-front n [] ys l = absurd (omega (arith, l))
-get-front zero (x ∷ xs) ys l = refl
-get-front (suc n) (x ∷ xs) ys l = get-front n xs ys (omega (arith, l))
-
-get-none : (n : ℕ) (xs : List ℕ) → length xs ≤ n → slice_get xs n ≡ None
-get-none n [] l = refl
-get-none zero (x ∷ xs) l = absurd (omega (arith, l))
-get-none (suc n) (x ∷ xs) l = get-none n xs (omega (arith, l))
-
-get-after : (n : ℕ) (xs : List ℕ) (y : ℕ) (ys : List ℕ) → n ≡ length xs → slice_get (xs ++ y ∷ ys) n ≡ Some y
-get-after zero [] y ys l = refl
-get-after (suc n) [] y ys l = absurd (omega (arith, l))
-get-after zero (x ∷ xs) y ys l = absurd (omega (arith, l))
-get-after (suc n) (x ∷ xs) y ys l = get-after n xs y ys (omega (arith, l))
-
-pub last-rank : (path : List ℕ) (k : ℕ) → last_rank (path ++ k ∷ []) ≡ k
-last-rank path k = ap rank_or_zero (get-after (length (path ++ k ∷ []) - 1) path k [] (let l = length-append path (k ∷ []) in omega (arith, l)))
 
 same-rank : (n : ℕ) → (n == n) ≡ true
 same-rank n = grind (arith, nat_tests)
@@ -43,46 +19,90 @@ same-rank n = grind (arith, nat_tests)
 other-rank : (a b : ℕ) → (a ≡ b → ⊥) → (a == b) ≡ false
 other-rank a b d = grind (arith, nat_tests)
 
-abbrev tests : ℕ → ℕ → List ℕ → Bool
-tests r last p = (r == 0) || is_rank (slice_get p (r - 1)) last
+rank-is : (a b : ℕ) → (a == b) ≡ true → a ≡ b
+rank-is a b h = grind (arith, nat_tests)
 
-tests-as : (r k last : ℕ) (p : List ℕ) (o : Option ℕ) → r ≡ k + 1 → slice_get p k ≡ o → tests r last p ≡ is_rank o last
-tests-as r k last p o e g =
-    ap (λ (b : Bool). b || is_rank (slice_get p (r - 1)) last) (other-rank r 0 (λ z. absurd (omega (arith, z, e))))
-    ∙ (let l : r - 1 ≡ k = omega (arith, e) in ap (λ (n : ℕ). is_rank (slice_get p n) last) l)
-    ∙ ap (λ (x : Option ℕ). is_rank x last) g
+-- A path begins with each of its fronts, and with nothing else.
+pub starts-front : (front more : List ℕ) → starts front (front ++ more) ≡ true
+starts-front [] more = refl
+starts-front (x ∷ front) more = ap (λ (b : Bool). cond b (starts front (front ++ more)) false) (same-rank x) ∙ starts-front front more
 
-tests-main : (r last : ℕ) (p : List ℕ) → r ≡ 0 → tests r last p ≡ true
-tests-main r last p e = ap (λ (n : ℕ). (n == 0) || is_rank (slice_get p (r - 1)) last) e ∙ ap (λ (b : Bool). b || is_rank (slice_get p (r - 1)) last) (same-rank 0)
+pub starts-begins : (front path : List ℕ) → starts front path ≡ true → Begins front path
+starts-begins [] path h = (path, refl)
+starts-begins (x ∷ xs) [] h = absurd (cc)
+starts-begins (x ∷ xs) (y ∷ ys) h = by (x == y) refl h (starts-begins xs ys)
+  where
+    by : (b : Bool) → (x == y) ≡ b → cond b (starts xs ys) false ≡ true → (starts xs ys ≡ true → Begins xs ys) → Begins (x ∷ xs) (y ∷ ys)
+    by true e g later = let r = later g in (r.0, ap (λ (l : List ℕ). y ∷ l) r.1 ∙ ap (λ (n : ℕ). n ∷ (xs ++ r.0)) (sym (rank-is x y e)))
+    by false e g later = absurd (cc)
 
-tests-below : (r last : ℕ) (path more : List ℕ) → r ≡ length path → last ≡ last_rank path → tests r last (path ++ more) ≡ true
-tests-below zero last path more l e = tests-main zero last (path ++ more) refl
-tests-below (suc r) last path more l e =
-    let g = get-last r path (omega (arith, l)) in
-    let n : length path - 1 ≡ r = omega (arith, l) in
-    let k : last ≡ g.0 = e ∙ ap (λ (n : ℕ). rank_or_zero (slice_get path n)) n ∙ ap rank_or_zero g.1 in
-    tests-as (suc r) r last (path ++ more) (Some g.0) (omega arith) (get-front r path more (omega (arith, l)) ∙ g.1) ∙ ap (λ (n : ℕ). g.0 == n) k ∙ same-rank g.0
+pub starts-not : (front path : List ℕ) → (Begins front path → ⊥) → starts front path ≡ false
+starts-not front path never = by (starts front path) refl
+  where
+    by : (b : Bool) → starts front path ≡ b → starts front path ≡ false
+    by true e = absurd (never (starts-begins front path e))
+    by false e = e
 
-tests-short : (r last : ℕ) (p : List ℕ) → length p < r → tests r last p ≡ false
-tests-short zero last p l = absurd (omega (arith, l))
-tests-short (suc r) last p l = tests-as (suc r) r last p None (omega arith) (get-none r p (omega (arith, l)))
+none-some : (n : ℕ) → None ≡ Some n → ⊥
+none-some n h = absurd (cc)
 
-tests-other : (r last : ℕ) (path : List ℕ) (l : ℕ) → r ≡ length path + 1 → (l ≡ last → ⊥) → tests r last (path ++ l ∷ []) ≡ false
-tests-other zero last path l e d = absurd (omega (arith, e))
-tests-other (suc r) last path l e d = tests-as (suc r) r last (path ++ l ∷ []) (Some l) (omega arith) (get-after r path l [] (omega (arith, e))) ∙ other-rank l last d
+some-same : (m n : ℕ) → Some m ≡ Some n → m ≡ n
+some-same m n h = ap held h
+  where
+    held : Option ℕ → ℕ
+    held None = m
+    held (Some k) = k
+
+get-in : (i : ℕ) (xs : List ℕ) → i < length xs → (n : ℕ) × (slice_get xs i ≡ Some n)
+get-in i [] l = absurd (omega (arith, l))
+get-in zero (x ∷ xs) l = (x, refl)
+get-in (suc i) (x ∷ xs) l = get-in i xs (omega (arith, l))
+
+-- the test, a rank at a time
+pub starts-next : (i : ℕ) (front path : List ℕ) → i < length front → slice_get path i ≡ slice_get front i → starts (drop i front) (drop i path) ≡ starts (drop (i + 1) front) (drop (i + 1) path)
+starts-next i [] path l e = absurd (omega (arith, l))
+starts-next zero (x ∷ xs) [] l e = absurd (none-some x e)
+starts-next zero (x ∷ xs) (y ∷ ys) l e = ap (λ (b : Bool). cond b (starts xs ys) false) (subst (λ (n : ℕ). (x == n) ≡ true) (sym (some-same y x e)) (same-rank x))
+starts-next (suc i) (x ∷ xs) [] l e = let n = get-in i xs (omega (arith, l)) in absurd (none-some n.0 (e ∙ n.1))
+starts-next (suc i) (x ∷ xs) (y ∷ ys) l e =
+    let n : suc (i + 1) ≡ suc i + 1 = omega arith in
+    subst (λ (k : ℕ). starts (drop i xs) (drop i ys) ≡ starts (drop k (x ∷ xs)) (drop k (y ∷ ys))) n (starts-next i xs ys (omega (arith, l)) e)
+
+pub starts-other : (i : ℕ) (front path : List ℕ) → i < length front → (slice_get path i ≡ slice_get front i → ⊥) → starts (drop i front) (drop i path) ≡ false
+starts-other i [] path l d = absurd (omega (arith, l))
+starts-other zero (x ∷ xs) [] l d = refl
+starts-other zero (x ∷ xs) (y ∷ ys) l d = ap (λ (b : Bool). cond b (starts xs ys) false) (other-rank x y (λ e. d (ap (λ (n : ℕ). Some n) (sym e))))
+starts-other (suc i) (x ∷ xs) [] l d = from (drop i xs) (drop-some i xs (omega (arith, l)))
+  where
+    drop-some : (i : ℕ) (xs : List ℕ) → i < length xs → (n : ℕ) × (ns : List ℕ) × (drop i xs ≡ n ∷ ns)
+    drop-some i [] l = absurd (omega (arith, l))
+    drop-some zero (x ∷ xs) l = (x, xs, refl)
+    drop-some (suc i) (x ∷ xs) l = drop-some i xs (omega (arith, l))
+
+    from : (ds : List ℕ) → (n : ℕ) × (ns : List ℕ) × (ds ≡ n ∷ ns) → starts ds [] ≡ false
+    from [] s = absurd (let e = s.2 in cc)
+    from (m ∷ ms) s = refl
+starts-other (suc i) (x ∷ xs) (y ∷ ys) l d = starts-other i xs ys (omega (arith, l)) d
+
+-- The same by the ranks there
+pub there : (i : ℕ) (front : List ℕ) → i < length front → slice_get front i ≡ None → ⊥
+there i front l e = let n = get-in i front l in none-some n.0 (sym e ∙ n.1)
+
+pub starts-short : (i : ℕ) (front path : List ℕ) → i < length front → slice_get path i ≡ None → starts (drop i front) (drop i path) ≡ false
+starts-short i front path l e = starts-other i front path l (λ q. there i front l (sym q ∙ e))
+
+pub starts-apart : (i : ℕ) (front path : List ℕ) (x y : ℕ) → i < length front → slice_get front i ≡ Some x → slice_get path i ≡ Some y → (y ≡ x → ⊥) → starts (drop i front) (drop i path) ≡ false
+starts-apart i front path x y l a b d = starts-other i front path l (λ q. d (some-same y x (sym b ∙ q ∙ a)))
+
+pub starts-on : (i : ℕ) (front path : List ℕ) (x y : ℕ) → i < length front → slice_get front i ≡ Some x → slice_get path i ≡ Some y → y ≡ x → starts (drop i front) (drop i path) ≡ starts (drop (i + 1) front) (drop (i + 1) path)
+starts-on i front path x y l a b e = starts-next i front path l (b ∙ ap (λ (n : ℕ). Some n) e ∙ sym a)
 
 -- An instance leads to what begins with its path.
-pub leads-below : (o : Open) (path more : List ℕ) → o.ranks ≡ length path → o.last ≡ last_rank path → leads o (path ++ more) ≡ true
-leads-below o path more l e = tests-below o.ranks o.last path more l e
+pub leads-below : (o : Open) (home path : List ℕ) → o.path ≡ home → Begins home path → leads o path ≡ true
+leads-below o home path e b = ap (λ (l : List ℕ). starts l path) e ∙ ap (λ (l : List ℕ). starts home l) b.1 ∙ starts-front home b.0
 
-pub leads-self : (o : Open) (path : List ℕ) → o.ranks ≡ length path → o.last ≡ last_rank path → leads o path ≡ true
-leads-self o path l e = subst (λ (p : List ℕ). leads o p ≡ true) (append-nil path) (leads-below o path [] l e)
-
-pub leads-short : (o : Open) (p : List ℕ) → length p < o.ranks → leads o p ≡ false
-leads-short o p l = tests-short o.ranks o.last p l
-
-pub leads-other : (o : Open) (path : List ℕ) (l : ℕ) → o.ranks ≡ length path + 1 → (l ≡ o.last → ⊥) → leads o (path ++ l ∷ []) ≡ false
-leads-other o path l e d = tests-other o.ranks o.last path l e d
+pub leads-not : (o : Open) (home path : List ℕ) → o.path ≡ home → (Begins home path → ⊥) → leads o path ≡ false
+leads-not o home path e d = ap (λ (l : List ℕ). starts l path) e ∙ starts-not home path d
 
 pub left-here : (p : List ℕ) (o : Open) (ps : List Open) → leads o p ≡ true → left p o ps ≡ stack o ps
 left-here p o [] e = refl
@@ -102,9 +122,9 @@ ended-left p o (x ∷ ps) = by (leads o p) (ended-left p (joined x o.begun o.wit
     by true h = refl
     by false h = h
 
--- Two stands that come to the same for paths of at most so many ranks.
-abbrev pub Same : ℕ → Opened → Opened → Type 0
-Same d w v = (p : List ℕ) → length p ≤ d → left p w.top w.under ≡ left p v.top v.under
+-- Two stands that come to the same for these paths.
+abbrev pub Same : (List ℕ → Type 0) → Opened → Opened → Type 0
+Same T w v = (p : List ℕ) → T p → left p w.top w.under ≡ left p v.top v.under
 
 take-front : (n : ℕ) (xs ys : List ℕ) → n ≡ length xs → take n (xs ++ ys) ≡ xs
 take-front zero [] ys l = refl
@@ -116,44 +136,74 @@ pub path-is : (e : Event) (path : List ℕ) (rank : ℕ) → pedigree_of e ≡ p
 path-is e path rank h =
     ap (λ (j : List ℕ). take (length j - 1) j) h ∙ take-front (length (path ++ rank ∷ []) - 1) path (rank ∷ []) (let l = length-append path (rank ∷ []) in omega (arith, l))
 
-lt-false : (a b : ℕ) → a ≡ b → nat_lt a b ≡ false
-lt-false a b e = grind (arith, nat_tests)
+-- The path of an event's strand begins with what its pedigree properly begins with.
+pub path-below : (e : Event) (path : List ℕ) → BeginsProperly path (pedigree_of e) → Begins path (path_of e)
+path-below e path b = let l = last-of b.0 b.1 in (l.0, path-is e (path ++ l.0) l.1 (b.2 ∙ ap (λ (k : List ℕ). path ++ k) l.2 ∙ sym (append_assoc path l.0 (l.1 ∷ []))))
+  where
+    last-of : (x : ℕ) (xs : List ℕ) → (front : List ℕ) × (y : ℕ) × (x ∷ xs ≡ front ++ y ∷ [])
+    last-of x [] = ([], x, refl)
+    last-of x (y ∷ ys) = let l = last-of y ys in (x ∷ l.0, l.1, ap (λ (k : List ℕ). x ∷ k) l.2)
 
-lt-true : (a b : ℕ) → a < b → nat_lt a b ≡ true
-lt-true a b e = grind (arith, nat_tests)
+-- The instance is in no loop that a path begins with.
+abbrev pub IsQuiet : Open → List ℕ → Type 0
+IsQuiet o path = (j : List ℕ) → o.looping ≡ Some j → starts j path ≡ false
 
-pub entered-open : (path : List ℕ) (o : Open) (under : List Open) → o.ranks ≡ length path → entered path (stack o under) ≡ stack o under
-entered-open path o under e = ap (λ (b : Bool). cond b (pushed (stack o under) (begun (length path) (last_rank path) Iterated o.before)) (stack o under)) (lt-false o.ranks (length path) e)
+pub quiet-none : (o : Open) → o.looping ≡ None → (path : List ℕ) → IsQuiet o path
+quiet-none o e path j h = let q : None ≡ Some j = sym e ∙ h in absurd (cc)
+
+-- in a loop that a path doesn't begin with
+pub quiet-loop : (o : Open) (loop path : List ℕ) → o.looping ≡ Some loop → (Begins loop path → ⊥) → IsQuiet o path
+quiet-loop o loop path e d j h = subst (λ (l : List ℕ). starts l path ≡ false) (held (sym e ∙ h)) (starts-not loop path d)
+  where
+    held : Some loop ≡ Some j → loop ≡ j
+    held q = ap path_in q
+      where
+        path_in : Option (List ℕ) → List ℕ
+        path_in None = loop
+        path_in (Some l) = l
+
+pub entered-open : (path : List ℕ) (o : Open) (under : List Open) → IsQuiet o path → entered path (stack o under) ≡ stack o under
+entered-open path o under q = ap (λ (t : Option (List ℕ)). pushed_turn t (stack o under)) (by o.looping q)
+  where
+    by : (l : Option (List ℕ)) → ((j : List ℕ) → l ≡ Some j → starts j path ≡ false) → turn_on l path ≡ None
+    by None h = refl
+    by (Some j) h = ap (λ (b : Bool). cond b (turn_at j (slice_get path (length j))) None) (h j refl)
 
 pub walked_append : (w : Opened) (xs ys : List Event) → walked_all w (xs ++ ys) ≡ walked_all (walked_all w xs) ys
 walked_append w [] ys = refl
 walked_append w (x ∷ xs) ys = walked_append (walked w x) xs ys
 
 -- An event of the instance on top, once those that ended are left.
-pub walked-own : (w : Opened) (o : Open) (under : List Open) (path : List ℕ) (rank : ℕ) (e : Event) → pedigree_of e ≡ path ++ rank ∷ [] → o.ranks ≡ length path → o.last ≡ last_rank path → Same (length path) w (stack o under) →
+pub walked-own : (T : List ℕ → Type 0) (w : Opened) (o : Open) (under : List Open) (home path : List ℕ) (e : Event) → path_of e ≡ path → o.path ≡ home → Begins home path → T path → IsQuiet o path → Same T w (stack o under) →
     walked w e ≡ went (stack o under) e
-walked-own w o under path rank e h r l s =
-    ap (λ (p : List ℕ). went (entered p (left p w.top w.under)) e) (path-is e path rank h)
-    ∙ ap (λ (v : Opened). went (entered path v) e) (s path (omega arith) ∙ left-here path o under (leads-self o path r l))
-    ∙ ap (λ (v : Opened). went v e) (entered-open path o under r)
+walked-own T w o under home path e h r b t q s =
+    ap (λ (p : List ℕ). went (entered p (left p w.top w.under)) e) h
+    ∙ ap (λ (v : Opened). went (entered path v) e) (s path t ∙ left-here path o under (leads-below o home path r b))
+    ∙ ap (λ (v : Opened). went v e) (entered-open path o under q)
+
+get-after : (n : ℕ) (xs : List ℕ) (y : ℕ) (ys : List ℕ) → n ≡ length xs → slice_get (xs ++ y ∷ ys) n ≡ Some y
+get-after zero [] y ys l = refl
+get-after (suc n) [] y ys l = absurd (omega (arith, l))
+get-after zero (x ∷ xs) y ys l = absurd (omega (arith, l))
+get-after (suc n) (x ∷ xs) y ys l = get-after n xs y ys (omega (arith, l))
 
 -- where an iteration begins
-pub entered-turn : (path : List ℕ) (o : Open) (under : List Open) → o.ranks < length path → entered path (stack o under) ≡ stack (begun (length path) (last_rank path) Iterated o.before) (o ∷ under)
-entered-turn path o under e = ap (λ (b : Bool). cond b (pushed (stack o under) (begun (length path) (last_rank path) Iterated o.before)) (stack o under)) (lt-true o.ranks (length path) e)
-
-went-spawn : (v : Opened) (j path : List ℕ) (r : ℕ) → j ≡ path ++ r ∷ [] →
-    pushed (stack (noted v.top (event.Spawn j)) v.under) (begun (length j) r Spawned (noted v.top (event.Spawn j)).before) ≡ went v (event.Spawn j)
-went-spawn v j path r h =
-    ap (λ (k : ℕ). pushed (stack (noted v.top (event.Spawn j)) v.under) (begun (length j) k Spawned (noted v.top (event.Spawn j)).before)) (sym (ap last_rank h ∙ last-rank path r))
+pub entered-turn : (j : List ℕ) (k : ℕ) (path : List ℕ) (o : Open) (under : List Open) → o.looping ≡ Some j → Begins (j ++ k ∷ []) path → entered path (stack o under) ≡ stack (begun (j ++ k ∷ []) Iterated o.before) (o ∷ under)
+entered-turn j k path o under e b =
+    ap (λ (l : Option (List ℕ)). pushed_turn (turn_on l path) (stack o under)) e
+    ∙ ap (λ (t : Bool). pushed_turn (cond t (turn_at j (slice_get path (length j))) None) (stack o under)) (ap (λ (p : List ℕ). starts j p) q ∙ starts-front j (k ∷ b.0))
+    ∙ ap (λ (m : Option ℕ). pushed_turn (turn_at j m) (stack o under)) (ap (λ (p : List ℕ). slice_get p (length j)) q ∙ get-after (length j) j k b.0 refl)
+  where
+    q : path ≡ j ++ k ∷ b.0
+    q = b.1 ∙ append_assoc j (k ∷ []) b.0
 
 -- the steps of the walk at a Spawn
-pub walked-spawn : (old v new : Opened) (e : Event) (j path at : List ℕ) (rank r : ℕ) (top child : Open) → e ≡ event.Spawn j → pedigree_of e ≡ path ++ rank ∷ [] → j ≡ at ++ r ∷ [] →
-    v ≡ entered path (left path old.top old.under) → top ≡ noted v.top e → child ≡ begun (length j) r Spawned top.before → new ≡ pushed (stack top v.under) child → new ≡ walked old e
-walked-spawn old v new e j path at rank r top child s p q hv ht hc hn =
+pub walked-spawn : (old v new : Opened) (e : Event) (j path : List ℕ) (rank : ℕ) (top child : Open) → e ≡ event.Spawn j → pedigree_of e ≡ path ++ rank ∷ [] →
+    v ≡ entered path (left path old.top old.under) → top ≡ noted v.top e → child ≡ begun j Spawned top.before → new ≡ pushed (stack top v.under) child → new ≡ walked old e
+walked-spawn old v new e j path rank top child s p hv ht hc hn =
     hn
     ∙ ap (λ (c : Open). pushed (stack top v.under) c) hc
-    ∙ ap (λ (t : Open). pushed (stack t v.under) (begun (length j) r Spawned t.before)) (ht ∙ ap (λ (x : Event). noted v.top x) s)
-    ∙ went-spawn v j at r q
+    ∙ ap (λ (t : Open). pushed (stack t v.under) (begun j Spawned t.before)) (ht ∙ ap (λ (x : Event). noted v.top x) s)
     ∙ ap (λ (x : Event). went v x) (sym s)
     ∙ ap (λ (u : Opened). went u e) hv
     ∙ ap (λ (l : List ℕ). went (entered l (left l old.top old.under)) e) (sym (path-is e path rank p))

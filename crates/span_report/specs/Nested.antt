@@ -1,4 +1,5 @@
 -- How the events of a run nest: what a spawned child does stands between its Spawn and its parent's next event, and so do a loop's iterations.
+-- A scope has no event of its own: the instance's own events stand one rank deeper there.
 use Rattle.std.specs.Prelude.{◌+◌, ℕ, List, [], ◌∷◌, ◌++◌}
 use Rattle.serial_meaning.specs.Plan.{PlanView}
 use Rattle.serial_meaning.specs.Eval.{elision}
@@ -12,23 +13,25 @@ pub data IsStep : List ℕ → Event → Type 0 where
   New : (j : List ℕ) → IsStep j (event.New j)
   Sync : (j : List ℕ) → IsStep j (event.Sync j)
 
--- Whose events a list has: those of the instance with this path from this rank on, or those of the iterations of the loop with this pedigree
--- from this number on.
+-- Whose events a list has: those of the instance with the path `home`, at a present path from this rank on, or those of the iterations of the
+-- loop with this pedigree from this number on. A present path is the instance's and then the ranks of its open scopes.
 pub data Whose : Type 0 where
-  Instance : Whose
+  Instance : (home : List ℕ) → Whose
   Iterations : Whose
 
 -- A run may end anywhere, by a fault.
 pub data IsNested : Whose → List ℕ → ℕ → List Event → Type 0 where
   Ends : (whose : Whose) (path : List ℕ) (rank : ℕ) → IsNested whose path rank []
-  Prints : (path : List ℕ) (rank : ℕ) (v : Value) (es : List Event) → IsNested Instance path rank es → IsNested Instance path rank (event.Print (path ++ rank ∷ []) v ∷ es)
-  Steps : (path : List ℕ) (rank : ℕ) (e : Event) (es : List Event) → IsStep (path ++ rank ∷ []) e → IsNested Instance path (rank + 1) es → IsNested Instance path rank (e ∷ es)
-  Spawns : (path : List ℕ) (rank : ℕ) (child es : List Event) → IsNested Instance (path ++ rank ∷ []) 0 child → IsNested Instance path (rank + 1) es →
-      IsNested Instance path rank (event.Spawn (path ++ rank ∷ []) ∷ (child ++ es))
-  Loops : (path : List ℕ) (rank : ℕ) (inner es : List Event) → IsNested Iterations (path ++ rank ∷ []) 0 inner → IsNested Instance path (rank + 1) es →
-      IsNested Instance path rank (event.Loop (path ++ rank ∷ []) ∷ (inner ++ es))
-  Iterates : (path : List ℕ) (k : ℕ) (turn es : List Event) → IsNested Instance (path ++ k ∷ []) 0 turn → IsNested Iterations path (k + 1) es → IsNested Iterations path k (turn ++ es)
+  Prints : (home path : List ℕ) (rank : ℕ) (v : Value) (es : List Event) → IsNested (Instance home) path rank es → IsNested (Instance home) path rank (event.Print (path ++ rank ∷ []) v ∷ es)
+  Steps : (home path : List ℕ) (rank : ℕ) (e : Event) (es : List Event) → IsStep (path ++ rank ∷ []) e → IsNested (Instance home) path (rank + 1) es → IsNested (Instance home) path rank (e ∷ es)
+  Spawns : (home path : List ℕ) (rank : ℕ) (child es : List Event) → IsNested (Instance (path ++ rank ∷ [])) (path ++ rank ∷ []) 0 child → IsNested (Instance home) path (rank + 1) es →
+      IsNested (Instance home) path rank (event.Spawn (path ++ rank ∷ []) ∷ (child ++ es))
+  Loops : (home path : List ℕ) (rank : ℕ) (inner es : List Event) → IsNested Iterations (path ++ rank ∷ []) 0 inner → IsNested (Instance home) path (rank + 1) es →
+      IsNested (Instance home) path rank (event.Loop (path ++ rank ∷ []) ∷ (inner ++ es))
+  Iterates : (path : List ℕ) (k : ℕ) (turn es : List Event) → IsNested (Instance (path ++ k ∷ [])) (path ++ k ∷ []) 0 turn → IsNested Iterations path (k + 1) es → IsNested Iterations path k (turn ++ es)
+  Scopes : (home path : List ℕ) (rank : ℕ) (inner es : List Event) → IsNested (Instance home) (path ++ rank ∷ []) 0 inner → IsNested (Instance home) path (rank + 1) es →
+      IsNested (Instance home) path rank (inner ++ es)
 
 -- The events of the serial elision nest so.
 abbrev pub ElisionIsNested : Type 0
-ElisionIsNested = (plan : PlanView) → IsNested Instance [] 0 (elision plan).items
+ElisionIsNested = (plan : PlanView) → IsNested (Instance []) [] 0 (elision plan).items

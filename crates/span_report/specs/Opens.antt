@@ -1,5 +1,5 @@
 -- An open instance: what an event of its own and the end of a child do to the lengths that it keeps.
-use Rattle.std.specs.Prelude.{◌+◌, ◌-◌, ◌==◌, ◌||◌, Bool, false, max, ℕ, List, Option, Some, None, slice_get}
+use Rattle.std.specs.Prelude.{◌+◌, ◌==◌, cond, Bool, true, false, max, ℕ, List, [], ◌∷◌, ◌++◌, Option, Some, None, length, slice_get}
 use Rattle.serial_meaning.specs.declared.event.Event.{Event}
 use Rattle.serial_meaning.specs.declared.event.Event.TheVariants as event
 use Rattle.span_report.specs.declared.instance.Open.{Open}
@@ -10,13 +10,17 @@ use Rattle.span_report.specs.declared.instance.Begun.TheVariants.{Spawned, Itera
 abbrev pub next_length : Open → ℕ
 next_length o = max o.before o.looped + 1
 
--- after an event of its own that is no sync
+-- after an event of its own that is no sync and begins no loop
 abbrev pub went_on : Open → Open
-went_on o = record o { before = next_length o; looped = 0; within = max o.within (next_length o) }
+went_on o = record o { before = next_length o; looping = None; looped = 0; within = max o.within (next_length o) }
 
 -- After a sync. What it waits for comes before what follows, and not before the sync.
 abbrev pub synced : Open → Open
-synced o = record o { before = max (next_length o) o.spawned; looped = 0; spawned = 0; within = max o.within (next_length o) }
+synced o = record o { before = max (next_length o) o.spawned; looping = None; looped = 0; spawned = 0; within = max o.within (next_length o) }
+
+-- in the loop with this pedigree
+abbrev pub turning : List ℕ → Open → Open
+turning j o = record o { looping = Some j }
 
 abbrev pub noted : Open → Event → Open
 noted o (event.Print j v) = went_on o
@@ -24,21 +28,31 @@ noted o (event.Draw j n) = went_on o
 noted o (event.New j) = went_on o
 noted o (event.Spawn j) = went_on o
 noted o (event.Sync j) = synced o
-noted o (event.Loop j) = went_on o
+noted o (event.Loop j) = turning j (went_on o)
 
 abbrev pub joined : Open → Begun → ℕ → Open
 joined o Spawned within = record o { spawned = max o.spawned within; within = max o.within within }
 joined o Iterated within = record o { looped = max o.looped within; within = max o.within within }
 
 -- an instance that has begun
-abbrev pub begun : ℕ → ℕ → Begun → ℕ → Open
-begun ranks last how before = record { ranks = ranks; last = last; begun = how; before = before; looped = 0; spawned = 0; within = 0 }
+abbrev pub begun : List ℕ → Begun → ℕ → Open
+begun path how before = record { path = path; begun = how; before = before; looping = None; looped = 0; spawned = 0; within = 0 }
 
-abbrev pub is_rank : Option ℕ → ℕ → Bool
-is_rank None r = false
-is_rank (Some s) r = s == r
+-- whether a path begins with another
+abbrev pub starts : List ℕ → List ℕ → Bool
+starts [] path = true
+starts (x ∷ xs) [] = false
+starts (x ∷ xs) (y ∷ ys) = cond (x == y) (starts xs ys) false
 
--- Whether a path has the instance's last rank at its place. Of the paths that can come next, so begin those of the instance itself and of
--- what stands below it.
+-- whether a path is the instance's or that of one below it, or goes on from the instance's by the ranks of its open scopes
 abbrev pub leads : Open → List ℕ → Bool
-leads o path = (o.ranks == 0) || is_rank (slice_get path (o.ranks - 1)) o.last
+leads o path = starts o.path path
+
+abbrev pub turn_at : List ℕ → Option ℕ → Option (List ℕ)
+turn_at by None = None
+turn_at by (Some k) = Some (by ++ k ∷ [])
+
+-- the path of an iteration with which a path begins, where the instance is in a loop and the path is of that
+abbrev pub turn_on : Option (List ℕ) → List ℕ → Option (List ℕ)
+turn_on None path = None
+turn_on (Some by) path = cond (starts by path) (turn_at by (slice_get path (length by))) None

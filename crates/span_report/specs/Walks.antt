@@ -1,5 +1,5 @@
 -- The walk along a run's events: what an event does to the open instances.
-use Rattle.std.specs.Prelude.{◌-◌, cond, nat_lt, take, reverse, ℕ, List, [], ◌∷◌, Option, Some, None, length, slice_get}
+use Rattle.std.specs.Prelude.{◌-◌, cond, take, reverse, ℕ, List, [], ◌∷◌, Option, Some, None, length}
 use Rattle.serial_meaning.specs.Plan.{PlanView}
 use Rattle.serial_meaning.specs.Eval.{elision}
 use Rattle.serial_meaning.specs.declared.event.Event.{Event}
@@ -8,7 +8,7 @@ use Rattle.span_report.specs.declared.instance.Open.{Open}
 use Rattle.span_report.specs.declared.instance.Begun.TheVariants.{Spawned, Iterated}
 use Rattle.span_report.specs.declared.walk.Walk.{Walk}
 use Rattle.span_report.specs.Series.{IsSpan, pedigree_of}
-use Rattle.span_report.specs.Opens.{begun, joined, leads, noted}
+use Rattle.span_report.specs.Opens.{begun, joined, leads, noted, turn_on}
 
 -- The current instance, and those that it stands below, from its parent on.
 pub record Opened : Type 0 where
@@ -20,7 +20,7 @@ opened w = record { top = w.top; under = reverse w.below.items }
 
 -- at the start main alone
 abbrev pub start : Opened
-start = record { top = begun 0 0 Spawned 0; under = [] }
+start = record { top = begun [] Spawned 0; under = [] }
 
 -- after the end of the instances that don't lead to a path
 abbrev pub left : List ℕ → Open → List Open → Opened
@@ -32,25 +32,22 @@ abbrev pub ended : Open → List Open → Open
 ended o [] = o
 ended o (p ∷ ps) = ended (joined p o.begun o.within) ps
 
-abbrev pub rank_or_zero : Option ℕ → ℕ
-rank_or_zero None = 0
-rank_or_zero (Some r) = r
-
-abbrev pub last_rank : List ℕ → ℕ
-last_rank path = rank_or_zero (slice_get path (length path - 1))
-
 abbrev pub pushed : Opened → Open → Opened
 pushed w o = record { top = o; under = w.top ∷ w.under }
 
+abbrev pub pushed_turn : Option (List ℕ) → Opened → Opened
+pushed_turn None w = w
+pushed_turn (Some turn) w = pushed w (begun turn Iterated w.top.before)
+
 -- where the instance of a path goes on, of which at most an iteration isn't open yet
 abbrev pub entered : List ℕ → Opened → Opened
-entered path w = cond (nat_lt w.top.ranks (length path)) (pushed w (begun (length path) (last_rank path) Iterated w.top.before)) w
+entered path w = pushed_turn (turn_on w.top.looping path) w
 
 abbrev pub went : Opened → Event → Opened
 went w (event.Print j v) = record w { top = noted w.top (event.Print j v) }
 went w (event.Draw j n) = record w { top = noted w.top (event.Draw j n) }
 went w (event.New j) = record w { top = noted w.top (event.New j) }
-went w (event.Spawn j) = pushed (record w { top = noted w.top (event.Spawn j) }) (begun (length j) (last_rank j) Spawned (noted w.top (event.Spawn j)).before)
+went w (event.Spawn j) = pushed (record w { top = noted w.top (event.Spawn j) }) (begun j Spawned (noted w.top (event.Spawn j)).before)
 went w (event.Sync j) = record w { top = noted w.top (event.Sync j) }
 went w (event.Loop j) = record w { top = noted w.top (event.Loop j) }
 

@@ -32,28 +32,28 @@ pub fn span(alloc: Global, answer: &Answer) -> Result<Span, Memory>
 fn longest_chain(alloc: Global, events: &Out) -> Result<u64, Memory>
     ensures { IfOk result (λ n. n ≡ walked_span events.now) }
 {
-    let mut walk = Walk::new(alloc);
+    let mut walk = Walk::new(alloc)?;
     if let Some((full, last)) = events.segments() {
-        note_segments(&mut walk, full)?;
-        note_segment(&mut walk, last)?;
+        note_segments(alloc, &mut walk, full)?;
+        note_segment(alloc, &mut walk, last)?;
     }
     Ok(walk.longest())
 }
 
-fn note_segments(walk: &mut Walk, segments: &[Vec<Event>]) -> Result<(), Memory>
+fn note_segments(alloc: Global, walk: &mut Walk, segments: &[Vec<Event>]) -> Result<(), Memory>
     ensures { OnOk result (opened walk.new ≡ walked_all (opened walk.old) (joined segments.now)) }
 {
     for segment in segments {
-        note_segment(walk, segment)?;
+        note_segment(alloc, walk, segment)?;
     }
     Ok(())
 }
 
-fn note_segment(walk: &mut Walk, events: &[Event]) -> Result<(), Memory>
+fn note_segment(alloc: Global, walk: &mut Walk, events: &[Event]) -> Result<(), Memory>
     ensures { OnOk result (opened walk.new ≡ walked_all (opened walk.old) events.now) }
 {
     for event in events {
-        walk.note(event)?;
+        walk.note(alloc, event)?;
     }
     Ok(())
 }

@@ -1,8 +1,9 @@
-ghost use Rattle.std.specs.Prelude.{◌≡◌, OnOk};
-ghost use Rattle.span_report.specs.Opens.{begun, joined, leads, noted};
+ghost use Rattle.std.specs.Prelude.{◌≡◌, IfOk, OnOk};
+ghost use Rattle.span_report.specs.Opens.{begun, joined, leads, noted, starts, turn_on};
 
 use ped_path::Ped;
 use serial_meaning::{Event, Memory};
+use std::alloc::Global;
 
 /// How an instance began.
 #[derive(Clone, Copy, Debug, PartialEq, Eq)]
@@ -15,15 +16,14 @@ pub(crate) enum Begun {
 
 /// An instance that has begun and may go on. All but its place are lengths of chains: each is that of the longest chain that ends
 /// in such an event, and 0 where there is none. What belongs to a child that is open too is left out.
-#[derive(Clone, Copy, Debug, PartialEq, Eq)]
+#[derive(Drop)]
 pub(crate) struct Open {
-    /// How many ranks its path has.
-    pub ranks: u64,
-    /// The last of them; main's path has none, and this is 0.
-    pub last: u64,
+    pub path: Ped,
     pub begun: Begun,
     /// Before what the instance does next. Where it is in a loop, before each iteration.
     pub before: u64,
+    /// The pedigree of the loop that it is in, from the loop's event to the instance's next one.
+    pub looping: Option<Ped>,
     /// In the loop that it is in.
     pub looped: u64,
     /// In the children that it spawned since its last sync.
@@ -34,46 +34,62 @@ pub(crate) struct Open {
 
 impl Open {
     /// An instance that has just begun, of which a chain of this length ends before the first event.
-    pub(crate) fn begin(ranks: u64, last: u64, how: Begun, before: u64) -> Open
-        ensures { result ≡ begun ranks last how before }
+    pub(crate) fn begin(path: Ped, how: Begun, before: u64) -> Open
+        ensures { result ≡ begun path how before }
     {
         Open {
-            ranks,
-            last,
+            path,
             begun: how,
             before,
+            looping: None,
             looped: 0,
             spawned: 0,
             within: 0,
         }
     }
 
-    /// Whether the instance of this path is this one or stands below it.
+    /// Whether a path is that of this instance, in an open scope or in none, or of one that stands below it.
     pub(crate) fn leads_to(&self, path: &Ped) -> bool
         ensures { result ≡ leads self.now path.now }
     {
-        if self.ranks == 0 {
-            return true;
+        begins_with(path, &self.path)
+    }
+
+    /// The path of the iteration with which this path begins, where the instance is in a loop and the path is of that. A path in an
+    /// open scope isn't.
+    pub(crate) fn turn(&self, alloc: Global, path: &Ped) -> Result<Option<Ped>, Memory>
+        ensures { IfOk result (λ turn. turn ≡ turn_on self.now.looping path.now) }
+    {
+        let Some(by) = &self.looping else {
+            return Ok(None);
+        };
+        if !begins_with(path, by) {
+            return Ok(None);
         }
-        match path.rank_at(self.ranks - 1) {
-            Some(rank) => rank == self.last,
-            None => false,
+        match path.rank_at(by.len()) {
+            Some(number) => Ok(Some(by.child(alloc, number)?)),
+            None => Ok(None),
         }
     }
 
     /// Takes in an event of this instance. Where 2^64 - 1 events stand in a chain before it, it answers `Memory`.
-    pub(crate) fn note(&mut self, event: &Event) -> Result<(), Memory>
+    pub(crate) fn note(&mut self, alloc: Global, event: &Event) -> Result<(), Memory>
         ensures { OnOk result (self.new ≡ noted self.old event.now) }
     {
         let before = self.before.max(self.looped);
         let length = before.checked_add(1).ok_or(Memory)?;
         self.before = length;
+        self.looping = None;
         self.looped = 0;
         self.within = self.within.max(length);
-        // What the sync waits for is before what follows, and not before the sync.
-        if let Event::Sync(_) = event {
-            self.before = length.max(self.spawned);
-            self.spawned = 0;
+        match event {
+            Event::Print(_, _) | Event::Draw(_, _) | Event::New(_) | Event::Spawn(_) => {}
+            // What the sync waits for is before what follows, and not before the sync.
+            Event::Sync(_) => {
+                self.before = length.max(self.spawned);
+                self.spawned = 0;
+            }
+            Event::Loop(at) => self.looping = Some(at.path.child(alloc, at.rank)?),
         }
         Ok(())
     }
@@ -88,4 +104,22 @@ impl Open {
         }
         self.within = self.within.max(child.within);
     }
+}
+
+/// Whether a path begins with all ranks of another.
+fn begins_with(path: &Ped, front: &Ped) -> bool
+    ensures { result ≡ starts front.now path.now }
+{
+    for i in 0..front.len() {
+        let Some(wanted) = front.rank_at(i) else {
+            return false;
+        };
+        let Some(rank) = path.rank_at(i) else {
+            return false;
+        };
+        if rank != wanted {
+            return false;
+        }
+    }
+    true
 }

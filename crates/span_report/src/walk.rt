@@ -1,4 +1,4 @@
-ghost use Rattle.std.specs.Prelude.{◌≡◌, OnOk, reverse};
+ghost use Rattle.std.specs.Prelude.{◌≡◌, IfOk, OnOk, reverse};
 ghost use Rattle.span_report.specs.Series.{pedigree_of};
 ghost use Rattle.span_report.specs.Opens.{joined};
 ghost use Rattle.span_report.specs.Walks.{ended, entered, left, opened, path_of, pushed, start, walked};
@@ -19,25 +19,26 @@ pub(crate) struct Walk {
 }
 
 impl Walk {
-    pub(crate) fn new(alloc: Global) -> Walk
-        ensures { opened result ≡ start }
+    pub(crate) fn new(alloc: Global) -> Result<Walk, Memory>
+        ensures { IfOk result (λ walk. opened walk ≡ start) }
     {
-        Walk {
-            top: Open::begin(0, 0, Begun::Spawned, 0),
+        Ok(Walk {
+            top: Open::begin(Ped::root(alloc)?, Begun::Spawned, 0),
             below: Vec::new(alloc),
-        }
+        })
     }
 
     /// Goes on by the run's next event.
-    pub(crate) fn note(&mut self, event: &Event) -> Result<(), Memory>
+    pub(crate) fn note(&mut self, alloc: Global, event: &Event) -> Result<(), Memory>
         ensures { OnOk result (opened self.new ≡ walked (opened self.old) event.now) }
     {
         let path = &pedigree_of(event).path;
         self.leave(path);
-        self.enter(path)?;
-        self.top.note(event)?;
+        self.enter(alloc, path)?;
+        self.top.note(alloc, event)?;
         if let Event::Spawn(at) = event {
-            let child = Open::begin(at.len(), at.rank, Begun::Spawned, self.top.before);
+            let path = at.path.child(alloc, at.rank)?;
+            let child = Open::begin(path, Begun::Spawned, self.top.before);
             self.begin(child)?;
         }
         Ok(())
@@ -56,14 +57,12 @@ impl Walk {
     }
 
     /// Goes to the instance of this path: the current one, or the next iteration of the loop that this one is in.
-    fn enter(&mut self, path: &Ped) -> Result<(), Memory>
+    fn enter(&mut self, alloc: Global, path: &Ped) -> Result<(), Memory>
         ensures { OnOk result (opened self.new ≡ entered path.now (opened self.old)) }
     {
-        let ranks = path.len();
-        if self.top.ranks < ranks {
-            let last = path.rank_at(ranks - 1).unwrap_or(0);
-            let turn = Open::begin(ranks, last, Begun::Iterated, self.top.before);
-            self.begin(turn)?;
+        if let Some(turn) = self.top.turn(alloc, path)? {
+            let child = Open::begin(turn, Begun::Iterated, self.top.before);
+            self.begin(child)?;
         }
         Ok(())
     }
@@ -80,8 +79,8 @@ impl Walk {
     fn begin(&mut self, child: Open) -> Result<(), Memory>
         ensures { OnOk result (opened self.new ≡ pushed (opened self.old) child) }
     {
-        self.below.push(self.top)?;
-        self.top = child;
+        let parent = mem::replace(&mut self.top, child);
+        self.below.push(parent)?;
         Ok(())
     }
 

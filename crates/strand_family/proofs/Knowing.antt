@@ -1,5 +1,5 @@
 -- What a task knows of the loops on its path, and what its child knows.
-use Rattle.std.proofs.Common.{◌≡◌, ◌↔◌, ◌≤◌, ◌<◌, ℕ, zero, suc, Bool, true, false, List, [], ◌∷◌, ◌++◌, None, length, length-append, take, drop, refl, sym, ap, ◌∙◌, subst, arith}
+use Rattle.std.proofs.Common.{◌≡◌, ◌↔◌, ◌≤◌, ◌<◌, ℕ, zero, suc, Bool, true, false, List, [], ◌∷◌, ◌++◌, Some, None, length, length-append, take, drop, refl, sym, ap, ◌∙◌, subst, arith}
 use Rattle.std.proofs.Common.{ℤ}
 use Rattle.std.specs.Bool.{IsTrue}
 use Rattle.std.proofs.lemmas.Bool.{true≢false}
@@ -9,13 +9,13 @@ use Rattle.serial_meaning.specs.Answer.{IsLoopPath}
 use Rattle.serial_meaning.specs.Cuts.{BeforeLasts}
 use Rattle.serial_meaning.specs.Eval.{path_of}
 use Rattle.serial_meaning.specs.Laws.{IsOriginOf}
-use Rattle.serial_meaning.specs.Loops.{IsOutermost, IsUnlooped, Outermost, ChildrenKnowLoops, LoopsLast, MainIsUnlooped, outermost_of}
+use Rattle.serial_meaning.specs.Loops.{IsHandedFor, IsOutermost, IsUnlooped, Outermost, ChildrenKnowLoops, LoopsLast, MainIsUnlooped, outermost_of}
 use Rattle.serial_meaning.specs.Plan.{PlanView}
 use Rattle.serial_meaning.specs.declared.value.Value.{Value}
 use Rattle.serial_meaning.specs.declared.event.Fault.{Fault}
 use Rattle.serial_meaning.specs.declared.origin.Origin.{Origin}
 use Rattle.serial_meaning.specs.declared.origin.Origin.TheVariants.{Instance, Loop}
-use Rattle.strand_family.specs.Loops.{IsBelow, IsLoops, StandsBefore, is_empty, is_root, knows_of}
+use Rattle.strand_family.specs.Loops.{IsLoops, StandsBefore, is_empty, is_root, knows_of}
 use Rattle.strand_family.specs.declared.loops.Loops.{Loops}
 use Rattle.strand_family.specs.declared.loops.Loops.TheVariants.{First, Nowhere, Unknown}
 
@@ -41,38 +41,35 @@ take-whole (x ∷ path) = ap (λ (l : List ℕ). x ∷ l) (take-whole path)
 
 -- A child
 
-longer : (parent child : Origin) → IsBelow parent child → (ext : List ℕ) × (path_of child ≡ path_of parent ++ ext)
-longer (Instance function args path) child below = (below.0 ∷ [], below.1)
-longer (Loop function rest first path range) child below = (below.0, below.1)
-
 -- a loop is on its own path
 looped : (plan : PlanView) (function : ℕ) (rest : List Value) (first : ℤ) (path : List ℕ) (range : Range) → IsOriginOf plan (Loop function rest first path range) → IsUnlooped plan path → ⊥
 looped plan function rest first path range known h = h (length path) (omega arith) (subst (IsLoopPath plan) (sym (take-whole path)) (function, rest, first, range, known))
 
-below-nowhere : ChildrenKnowLoops → (plan : PlanView) (parent child : Origin) → IsOriginOf plan parent → IsOriginOf plan child → IsBelow parent child → IsUnlooped plan (path_of parent) →
+below-nowhere : ChildrenKnowLoops → (plan : PlanView) (parent child : Origin) → IsOriginOf plan parent → IsHandedFor plan parent child → IsUnlooped plan (path_of parent) →
     Outermost plan (path_of child) (outermost_of None child)
-below-nowhere law plan (Instance function args path) child is known below h = law plan path below.0 None child known below.1 h
-below-nowhere law plan (Loop function rest first path range) child is known below h = absurd (looped plan function rest first path range is h)
+below-nowhere law plan (Instance function args path) child is below h = law plan (Instance function args path) child None is below h
+below-nowhere law plan (Loop function rest first path range) child is below h = absurd (looped plan function rest first path range is h)
 
 abbrev pub ChildKnows : Loops → Origin → Loops → Type 0
-ChildKnows known child result = (plan : PlanView) (parent : Origin) → IsOriginOf plan parent → IsOriginOf plan child → IsBelow parent child → IsLoops plan parent known → IsLoops plan child result
+ChildKnows known child result = (plan : PlanView) (parent : Origin) → IsOriginOf plan parent → IsOriginOf plan child → IsHandedFor plan parent child → IsLoops plan parent known → IsLoops plan child result
 
 pub below-instance : ChildrenKnowLoops → (known : Loops) (child : Origin) (function : ℕ) (args : List Value) (path : List ℕ) → known ≡ Nowhere → child ≡ Instance function args path → ChildKnows known child Nowhere
 below-instance law known child function args path e g plan parent is of below h =
     subst (λ (c : Origin). IsLoops plan c Nowhere) (sym g)
-    (below-nowhere law plan parent (Instance function args path) is (subst (IsOriginOf plan) g of) (subst (IsBelow parent) g below) (subst (IsLoops plan parent) e h))
+    (below-nowhere law plan parent (Instance function args path) is (subst (IsHandedFor plan parent) g below) (subst (IsLoops plan parent) e h))
 
 pub below-loop : ChildrenKnowLoops → (known : Loops) (child : Origin) (function : ℕ) (rest : List Value) (first : ℤ) (path : List ℕ) (range : Range) (count : ℕ) → known ≡ Nowhere →
     child ≡ Loop function rest first path range → count ≡ length path → ChildKnows known child (First count)
 below-loop law known child function rest first path range count e g n plan parent is of below h =
     subst (λ (c : Origin). IsLoops plan c (First count)) (sym g) (subst (IsOutermost plan path) (sym n)
-    (below-nowhere law plan parent (Loop function rest first path range) is (subst (IsOriginOf plan) g of) (subst (IsBelow parent) g below) (subst (IsLoops plan parent) e h)))
+    (below-nowhere law plan parent (Loop function rest first path range) is (subst (IsHandedFor plan parent) g below) (subst (IsLoops plan parent) e h)))
 
 -- what is known of a loop is the same of the child
-pub below-first : LoopsLast → (known : Loops) (child : Origin) (count : ℕ) → known ≡ First count → ChildKnows known child (First count)
-below-first law known child count e plan parent is of below h =
-    let more = longer parent child below in
-    subst (λ (p : List ℕ). IsOutermost plan p count) (sym more.1) (law plan (path_of parent) more.0 count (subst (IsLoops plan parent) e h))
+pub below-first : ChildrenKnowLoops → LoopsLast → (known : Loops) (child : Origin) (count : ℕ) → known ≡ First count → ChildKnows known child (First count)
+below-first law last known child count e plan (Instance function args path) is of below h =
+    law plan (Instance function args path) child (Some count) is below (subst (IsLoops plan (Instance function args path)) e h)
+below-first law last known child count e plan (Loop function rest first path range) is of below h =
+    subst (λ (p : List ℕ). IsOutermost plan p count) (sym below.1) (last plan path below.0 count (subst (IsLoops plan (Loop function rest first path range)) e h))
 
 -- A task that nobody handed out
 

@@ -7,14 +7,8 @@ use Rattle.serial_meaning.specs.Loops.{IsOutermost, IsUnlooped}
 use Rattle.serial_meaning.specs.Plan.{PlanView}
 use Rattle.serial_meaning.specs.declared.event.Fault.{Fault}
 use Rattle.serial_meaning.specs.declared.origin.Origin.{Origin}
-use Rattle.serial_meaning.specs.declared.origin.Origin.TheVariants.{Instance, Loop}
 use Rattle.strand_family.specs.declared.loops.Loops.{Loops}
 use Rattle.strand_family.specs.declared.loops.Loops.TheVariants.{First, Nowhere, Unknown}
-
--- A child's path has one rank more than that of its parent's instance; that of a loop's part is the loop's.
-abbrev pub IsBelow : Origin → Origin → Type 0
-IsBelow (Instance function args path) child = (rank : ℕ) × (path_of child ≡ path ++ rank ∷ [])
-IsBelow (Loop function rest first path range) child = (more : List ℕ) × (path_of child ≡ path ++ more)
 
 abbrev pub IsLoops : PlanView → Origin → Loops → Type 0
 IsLoops plan o (First count) = IsOutermost plan (path_of o) count

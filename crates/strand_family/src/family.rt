@@ -53,7 +53,8 @@ impl Family {
     ghost use Rattle.std.specs.Prelude.{◌↔◌, IsTrue};
     ghost use Rattle.serial_meaning.specs.Laws.{IsOriginOf};
     ghost use Rattle.strand_family.specs.Family.{FamilyView, alone};
-    ghost use Rattle.strand_family.specs.Loops.{IsBelow, IsLoops, StandsBefore, knows_of};
+    ghost use Rattle.serial_meaning.specs.Loops.{IsHandedFor};
+    ghost use Rattle.strand_family.specs.Loops.{IsLoops, StandsBefore, knows_of};
 
     /// A task's family before it has children. It takes no memory yet.
     pub fn new(
@@ -101,7 +102,7 @@ impl Family {
     pub fn loops_below(&self, child: &Origin) -> Loops
         requires own { IsOriginOf self.now.plan self.now.origin }
         requires known { IsOriginOf self.now.plan child.now }
-        requires below { IsBelow self.now.origin child.now }
+        requires below { IsHandedFor self.now.plan self.now.origin child.now }
         ensures are { IsLoops self.now.plan child.now result }
         ensures knows { knows_of result ≡ self.now.knows }
     {

@@ -6,7 +6,8 @@ ghost use Rattle.ped_path.specs.Path.{IsBefore};
 ghost use Rattle.serial_meaning.specs.Eval.{path_of};
 ghost use Rattle.serial_meaning.specs.Laws.{IsOriginOf};
 ghost use Rattle.serial_meaning.specs.Plan.{PlanView};
-ghost use Rattle.strand_family.specs.Loops.{IsBelow, IsLoops, StandsBefore, is_root, knows_of};
+ghost use Rattle.serial_meaning.specs.Loops.{IsHandedFor};
+ghost use Rattle.strand_family.specs.Loops.{IsLoops, StandsBefore, is_root, knows_of};
 
 use crate::origin::path;
 use ped_path::{Ped, Pedigree};
@@ -82,7 +83,7 @@ impl Loops {
 
     /// What a child knows.
     pub fn below(self, child: &Origin) -> Loops
-        ensures are { (plan : PlanView) (parent : _) → IsOriginOf plan parent → IsOriginOf plan child.now → IsBelow parent child.now → IsLoops plan parent self → IsLoops plan child.now result }
+        ensures are { (plan : PlanView) (parent : _) → IsOriginOf plan parent → IsOriginOf plan child.now → IsHandedFor plan parent child.now → IsLoops plan parent self → IsLoops plan child.now result }
         ensures knows { knows_of result ≡ knows_of self }
     {
         laws::children_know_loops();

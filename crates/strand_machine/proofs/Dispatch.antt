@@ -1,5 +1,5 @@
 -- What is left of a task after a move is sound, and each kind of move is the defined one.
-use Rattle.std.proofs.Common.{add-one, ◌≡◌, ℕ, zero, suc, ◌+◌, ◌-◌, ◌≤◌, Bool, true, false, List, [], ◌∷◌, ◌++◌, Option, Some, None, length, length-append, replicate, nat_lt, refl, sym, ap, ◌∙◌, subst, inl, inr, arith, append_assoc, append-nil}
+use Rattle.std.proofs.Common.{add-one, ◌≡◌, ℕ, zero, suc, ◌+◌, ◌-◌, ◌≤◌, Bool, true, false, List, [], ◌∷◌, ◌++◌, Option, Some, None, length, length-append, replicate, nat_lt, refl, sym, ap, ◌∙◌, subst, arith, append_assoc, append-nil}
 use Rattle.std.proofs.Common.{ℤ}
 use Rattle.std.proofs.lemmas.Bool.{true≢false}
 use Rattle.std.proofs.lemmas.Bool.Decides.{nat_tests}
@@ -20,10 +20,8 @@ use Rattle.serial_meaning.specs.declared.answer.Outcome.TheVariants as outcome
 use Rattle.strand_meaning.specs.Laws.{IsSoundStep, IsFaultOf, StepsAreSound}
 use Rattle.serial_meaning.specs.Runs.{Run}
 use Rattle.strand_meaning.specs.Machine.{Token, Reached, move}
-use Rattle.strand_meaning.specs.Machine as meaning-in
-use Rattle.strand_meaning.specs.Pieces.{Part, no_pieces}
-use Rattle.strand_meaning.specs.Sound.{IsEndOf, IsHalf, IsShownBy, IsTask}
-use Rattle.strand_meaning.proofs.Begun.{Shows, move-shows}
+use Rattle.strand_meaning.specs.Pieces.{Part}
+use Rattle.strand_meaning.specs.Sound.{IsEndOf, IsTask}
 use Rattle.strand_meaning.specs.Task as meaning
 use Rattle.strand_meaning.specs.Task.{Task, ends, ends_unless, own_instance, first_half, split_step, over_step, waits, begins_last, gave, faults_behind, moved, stops_at, child_in}
 use Rattle.strand_moves.specs.Machines as moves
@@ -31,13 +29,12 @@ use Rattle.strand_moves.specs.Moves.{IsTrailOf, ShowsTrail, tokens_of, run_of}
 use Rattle.strand_moves.specs.declared.instance.Instance.{Instance as RawInstance}
 use Rattle.strand_moves.specs.declared.shown.Shown.{Shown}
 use Rattle.strand_moves.specs.declared.shown.Moved.TheVariants as moved-in
-use Rattle.strand_moves.specs.declared.shown.Shown.TheVariants as shown-in
 use Rattle.strand_family.specs.Origins.{only}
 use Rattle.strand_machine.specs.Bodies.{is_long}
 use Rattle.strand_machine.specs.Family.{FamilyView, handed}
 use Rattle.strand_machine.specs.Parts.{awaited, place_of}
-use Rattle.strand_machine.specs.Loops.{IsBelow}
-use Rattle.strand_machine.specs.Shown.{shown_task, IsSoundShown, IsKnownChild, IsChildBelow}
+use Rattle.strand_machine.specs.Loops.{IsHandedFor}
+use Rattle.strand_machine.specs.Shown.{shown_task, IsSoundShown, IsKnownChild, IsHandedChild}
 use Rattle.strand_machine.specs.Stops.{IsStep, ended}
 use Rattle.strand_machine.specs.declared.stop.Step.{Step as MadeStep}
 use Rattle.strand_machine.specs.declared.stop.Step.TheVariants as step-in
@@ -226,26 +223,11 @@ fault-behind b f h = from b.pieces.handed h
     from [] g = absurd (g refl)
     from (p ∷ ps) g = refl
 
--- A child's path
+-- A child that is handed out
 
-pub below-own : (o child : Origin) (rank : ℕ) → path_of child ≡ path_of (own_instance o) ++ rank ∷ [] → IsBelow o child
-below-own (Instance function args path) child rank e = (rank, e)
-below-own (Loop function rest first path range) child rank e = ((range.hi - 1) ∷ rank ∷ [], e ∙ append_assoc path ((range.hi - 1) ∷ []) (rank ∷ []))
-
-pub below-half : (o child : Origin) (left part : Range) → IsEndOf o left → child ≡ only o part → IsBelow o child
-below-half (Instance function args path) child left part h e = absurd h
-below-half (Loop function rest first path range) child left part h e = ([], ap path_of e ∙ sym (append-nil path))
-
-below-shown : (o child : Origin) (place : meaning-in.Place) → (IsHalf place → ⊥) → (behind events : List Event) → IsShownBy o events (record { child = child; place = place; behind = behind }) → IsBelow o child
-below-shown o child place other behind events (inl h) = absurd (other h.0)
-below-shown o child place other behind events (inr h) = below-own o child h.0 h.1
-
-child-below : (o : Origin) (s : Shown) → Shows o (tokens_of s) → IsChildBelow o (child_in (tokens_of s))
-child-below o shown-in.Nothing h = tt
-child-below o (shown-in.Told e) h = tt
-child-below o (shown-in.Spawned e c height target) h = below-shown o c.origin (meaning-in.Spawned height target) (λ x. x) [] (e ∷ []) (h no_pieces refl tt).0
-child-below o (shown-in.Synced e) h = tt
-child-below o (shown-in.Looped e c target) h = below-shown o c.origin (meaning-in.Looped target) (λ x. x) [] (e ∷ []) (h no_pieces refl tt).0
+pub handed-half : (plan : PlanView) (o child : Origin) (left part : Range) → IsEndOf o left → child ≡ only o part → IsHandedFor plan o child
+handed-half plan (Instance function args path) child left part h e = absurd h
+handed-half plan (Loop function rest first path range) child left part h e = ([], ap path_of e ∙ sym (append-nil path))
 
 -- Moves
 
@@ -271,20 +253,14 @@ module _ (b : Body) (i : RawInstance) where
       meaning.step here ≡ meaning.Passes (task_of (gone b) (work.Runs (stage.Faulted f)))
   go-faulted next f at e = ap (λ (p : List ℕ). made (move b.family.plan p (moves.machine_of b.family.plan i))) (sym at.at) ∙ ap made e
 
-  shows-so : (next : RawInstance) (s : Shown) → RunsAt b.family.plan (path_of (own_instance b.family.origin)) i →
-      move b.family.plan (moves.path_of i) (moves.machine_of b.family.plan i) ≡ run_of (moved-in.Went s) (moves.machine_of b.family.plan next) → Shows b.family.origin (tokens_of s)
-  shows-so next s at e =
-      subst (Shows b.family.origin) (ap (λ (p : List ℕ). (move b.family.plan p (moves.machine_of b.family.plan i)).items) (sym at.at) ∙ ap (λ (r : Run Token Fault Reached). r.items) e)
-      (move-shows b.family.origin b.family.plan (moves.machine_of b.family.plan i))
-
   pub shown-sound : StepsAreSound → (next : RawInstance) (s : Shown) → IsSound b (work.Runs (stage.Goes i)) →
       move b.family.plan (moves.path_of i) (moves.machine_of b.family.plan i) ≡ run_of (moved-in.Went s) (moves.machine_of b.family.plan next) →
       RunsAt b.family.plan (path_of (own_instance b.family.origin)) next → ShowsTrail b.family.plan s → IsSoundShown b next s
   shown-sound law next s h moved-so runs trail =
       let e = go-went next s h.works moved-so in
       let known = from (child_in (tokens_of s)) (sound-step law b (work.Runs (stage.Goes i)) (stops_at (child_in (tokens_of s)) (shown_task b next s)) h e) in
-      record { task = known.0; child = known.1; below = child-below b.family.origin s (shows-so next s h.works moved-so); family = h.family; runs = runs; trail = trail }
+      record { task = known.0; child = known.1; handed = known.2; family = h.family; runs = runs; trail = trail }
     where
-      from : (o : Option Origin) → IsSoundStep here (stops_at o (shown_task b next s)) → IsTask (shown_task b next s) × IsKnownChild b.family.plan o
-      from None g = (g, tt)
-      from (Some o) g = (g.1, g.0)
+      from : (o : Option Origin) → IsSoundStep here (stops_at o (shown_task b next s)) → IsTask (shown_task b next s) × IsKnownChild b.family.plan o × IsHandedChild b.family.plan b.family.origin o
+      from None g = (g, tt, tt)
+      from (Some o) g = (g.1, g.0, g.2)

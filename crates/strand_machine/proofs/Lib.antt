@@ -3,7 +3,9 @@ pub mod Answering
 pub mod Arms
 pub mod Cutting
 pub mod Dispatch
+pub mod Eyes
 pub mod Faulting
+pub mod Fronts
 pub mod Halves
 pub mod Handed
 pub mod Making

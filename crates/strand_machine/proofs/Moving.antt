@@ -26,7 +26,7 @@ use Rattle.strand_moves.specs.declared.shown.Moved.TheVariants as moved-in
 use Rattle.strand_moves.specs.declared.shown.Shown.{Shown}
 use Rattle.strand_moves.specs.declared.shown.Shown.TheVariants as shown-in
 use Rattle.strand_machine.specs.Family.{FamilyView}
-use Rattle.strand_machine.specs.Loops.{IsBelow}
+use Rattle.strand_machine.specs.Loops.{IsHandedFor}
 use Rattle.strand_machine.specs.Parts.{awaited, place_of}
 use Rattle.strand_machine.specs.Shown.{shown_task, IsSoundShown}
 use Rattle.strand_machine.specs.Stops.{IsStep, IsRun, LeadsTo, KeepsStep, step_of}
@@ -87,6 +87,20 @@ module _ (b : Body) (i : RawInstance) where
       step_of r ≡ stops_at (child_in (tokens_of s)) (shown_task b i s)
   nothing-step s r is h = rw (h, is) refl
 
+  -- where a scope begins or has ended
+
+  pub opened-sound : (s : Shown) (j : List ℕ) → s ≡ shown-in.Opened j → IsSoundShown b i s → IsSound (gone b) goes
+  opened-sound s j is h = let k : IsSoundShown b i (shown-in.Opened j) = subst (IsSoundShown b i) is h in record { task = k.task; family = k.family; works = k.runs }
+
+  pub opened-step : (s : Shown) (j : List ℕ) (r : MadeStep) → s ≡ shown-in.Opened j → r ≡ step-in.Passes (view_of (gone b) goes) → step_of r ≡ stops_at (child_in (tokens_of s)) (shown_task b i s)
+  opened-step s j r is h = rw (h, is) refl
+
+  pub closed-sound : (s : Shown) (j : List ℕ) → s ≡ shown-in.Closed j → IsSoundShown b i s → IsSound (gone b) goes
+  closed-sound s j is h = let k : IsSoundShown b i (shown-in.Closed j) = subst (IsSoundShown b i) is h in record { task = k.task; family = k.family; works = k.runs }
+
+  pub closed-step : (s : Shown) (j : List ℕ) (r : MadeStep) → s ≡ shown-in.Closed j → r ≡ step-in.Passes (view_of (gone b) goes) → step_of r ≡ stops_at (child_in (tokens_of s)) (shown_task b i s)
+  closed-step s j r is h = rw (h, is) refl
+
   -- an event
 
   told-at : (e : Event) → IsSoundShown b i (shown-in.Told e) → IsSound (gone (with_pieces b (tell e b.pieces))) goes
@@ -122,8 +136,8 @@ module _ (b : Body) (i : RawInstance) where
   pub spawned-trail : (s : Shown) (e : Event) (o : Child) (height : ℕ) (target : Option Name) → s ≡ shown-in.Spawned e o height target → IsSoundShown b i s → IsTrailOf b.family.plan o.origin o.trail
   spawned-trail s e o height target is h = let k : IsSoundShown b i (shown-in.Spawned e o height target) = subst (IsSoundShown b i) is h in k.trail
 
-  pub spawned-below : (s : Shown) (e : Event) (o : Child) (height : ℕ) (target : Option Name) → s ≡ shown-in.Spawned e o height target → IsSoundShown b i s → IsBelow b.family.origin o.origin
-  spawned-below s e o height target is h = let k : IsSoundShown b i (shown-in.Spawned e o height target) = subst (IsSoundShown b i) is h in k.below
+  pub spawned-handed : (s : Shown) (e : Event) (o : Child) (height : ℕ) (target : Option Name) → s ≡ shown-in.Spawned e o height target → IsSoundShown b i s → IsHandedFor b.family.plan b.family.origin o.origin
+  spawned-handed s e o height target is h = let k : IsSoundShown b i (shown-in.Spawned e o height target) = subst (IsSoundShown b i) is h in k.handed
 
   spawned-at : (e : Event) (o : Child) (height : ℕ) (target : Option Name) → IsSoundShown b i (shown-in.Spawned e o height target) →
       IsSound (with_child (with_pieces b (tell e b.pieces)) o.origin (place.Spawned height target)) goes
@@ -154,8 +168,8 @@ module _ (b : Body) (i : RawInstance) where
   pub looped-trail : (s : Shown) (e : Event) (o : Child) (target : Option Name) → s ≡ shown-in.Looped e o target → IsSoundShown b i s → IsTrailOf b.family.plan o.origin o.trail
   looped-trail s e o target is h = let k : IsSoundShown b i (shown-in.Looped e o target) = subst (IsSoundShown b i) is h in k.trail
 
-  pub looped-below : (s : Shown) (e : Event) (o : Child) (target : Option Name) → s ≡ shown-in.Looped e o target → IsSoundShown b i s → IsBelow b.family.origin o.origin
-  looped-below s e o target is h = let k : IsSoundShown b i (shown-in.Looped e o target) = subst (IsSoundShown b i) is h in k.below
+  pub looped-handed : (s : Shown) (e : Event) (o : Child) (target : Option Name) → s ≡ shown-in.Looped e o target → IsSoundShown b i s → IsHandedFor b.family.plan b.family.origin o.origin
+  looped-handed s e o target is h = let k : IsSoundShown b i (shown-in.Looped e o target) = subst (IsSoundShown b i) is h in k.handed
 
   looped-at : (e : Event) (o : Child) (target : Option Name) → IsSoundShown b i (shown-in.Looped e o target) →
       IsSound (with_child (with_pieces b (tell e b.pieces)) o.origin (place.Looped target)) at-loop

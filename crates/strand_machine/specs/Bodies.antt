@@ -1,5 +1,4 @@
 -- Loops.
-use Rattle.loop_range.specs.Range.{Range}
 use Rattle.std.specs.Prelude.{◌-◌, Bool, false, nat_lt}
 use Rattle.serial_meaning.specs.declared.origin.Origin.{Origin}
 use Rattle.serial_meaning.specs.declared.origin.Origin.TheVariants.{Instance, Loop}

@@ -1,4 +1,5 @@
 pub mod Bodies
+pub mod Eyes
 pub mod Family
 pub mod Faults
 pub mod Going

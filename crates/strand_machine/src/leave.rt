@@ -3,7 +3,7 @@ ghost use Rattle.std.specs.Prelude.{◌≡◌, IfOk, OnOk};
 ghost use Rattle.serial_meaning.specs.Laws.{IsOriginOf};
 ghost use Rattle.strand_moves.specs.Moves.{IsTrailOf};
 ghost use Rattle.strand_machine.specs.Family.{handed};
-ghost use Rattle.strand_machine.specs.Loops.{IsBelow};
+ghost use Rattle.strand_machine.specs.Loops.{IsHandedFor};
 ghost use Rattle.strand_machine.specs.Made.{IsSoundMade, made};
 ghost use Rattle.strand_machine.specs.Stops.{IsStep};
 ghost use Rattle.strand_machine.specs.Tasks.{IsSound, view_of, fresh_with, gone, waiting, with_child};
@@ -55,7 +55,7 @@ fn begin_child(family: &mut Family, alloc: Global, child: Child) -> Result<Task,
     requires own { IsOriginOf family.old.plan family.old.origin }
     requires known { IsOriginOf family.old.plan child.origin }
     requires trail { IsTrailOf family.old.plan child.origin child.trail }
-    requires below { IsBelow family.old.origin child.origin }
+    requires handed { IsHandedFor family.old.plan family.old.origin child.origin }
     ensures child { IfOk result (λ task. task ≡ fresh_with family.old.knows family.old.plan child.origin) }
     ensures family { OnOk result (family.new ≡ handed family.old child.origin) }
 {
@@ -73,7 +73,7 @@ fn hand_out(body: &mut Body, alloc: Global, child: Child, place: Place) -> Resul
     requires own { IsOriginOf body.old.family.plan body.old.family.origin }
     requires known { IsOriginOf body.old.family.plan child.origin }
     requires trail { IsTrailOf body.old.family.plan child.origin child.trail }
-    requires below { IsBelow body.old.family.origin child.origin }
+    requires handed { IsHandedFor body.old.family.plan body.old.family.origin child.origin }
     ensures child { IfOk result (λ task. task ≡ fresh_with body.old.family.knows body.old.family.plan child.origin) }
     ensures body { OnOk result (body.new ≡ with_child body.old child.origin place) }
 {
@@ -93,7 +93,7 @@ pub(crate) fn spawn_part(
 ) -> Result<Passed, Memory>
     requires known { IsOriginOf parts.old.body.family.plan child.origin }
     requires trail { IsTrailOf parts.old.body.family.plan child.origin child.trail }
-    requires below { IsBelow parts.old.body.family.origin child.origin }
+    requires handed { IsHandedFor parts.old.body.family.plan parts.old.body.family.origin child.origin }
     requires sound { IsSound (with_child parts.old.body child.origin place) work }
     ensures made { let b = parts.old.body in IfOk result (λ passed. made parts.new passed
         ≡ step.Stops (stop.Spawn (fresh_with b.family.knows b.family.plan child.origin) (view_of (with_child b child.origin place) work))) }
@@ -114,7 +114,7 @@ pub(crate) fn spawn(
 ) -> Result<Passed, Memory>
     requires known { IsOriginOf parts.old.body.family.plan child.origin }
     requires trail { IsTrailOf parts.old.body.family.plan child.origin child.trail }
-    requires below { IsBelow parts.old.body.family.origin child.origin }
+    requires handed { IsHandedFor parts.old.body.family.plan parts.old.body.family.origin child.origin }
     requires sound { IsSound (with_child parts.old.body child.origin place) work }
     ensures made { let b = parts.old.body in IfOk result (λ passed. made parts.new passed
         ≡ step.Stops (stop.Spawn (fresh_with b.family.knows b.family.plan child.origin) (view_of (with_child b child.origin place) work))) }

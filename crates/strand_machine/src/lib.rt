@@ -5,6 +5,7 @@
 
 mod advance;
 mod body;
+mod eye;
 mod fault;
 mod going;
 mod leave;
@@ -21,6 +22,7 @@ mod stop;
 mod task;
 mod work;
 
+pub use eye::Eye;
 pub use fault::is_fault;
 pub use memory::Memory;
 pub use note::Noted;

@@ -1,15 +1,17 @@
 // What a task shows on its way to its next stop, noted for one pedigree.
 ghost use Rattle.std.specs.Prelude.{◌≡◌, ◌++◌, ◌∷◌, [], None, IfOk, OnOk};
-ghost use Rattle.serial_meaning.specs.Eval.{path_of};
-ghost use Rattle.strand_meaning.specs.Notes.{had, task_ranks, step_notes};
-ghost use Rattle.strand_meaning.specs.Strands.{pedigree_of, events_at};
+ghost use Rattle.serial_meaning.specs.Open.{Happened};
+ghost use Rattle.strand_meaning.specs.Notes.{step_notes};
+ghost use Rattle.strand_meaning.specs.Strands.{events_at};
+ghost use Rattle.strand_machine.specs.Eyes.{looks};
 ghost use Rattle.strand_machine.specs.Made.{IsSoundMade, made};
-ghost use Rattle.strand_machine.specs.Noted.{ranks_in, stop_had, with_moved, with_step};
+ghost use Rattle.strand_machine.specs.Noted.{with_moved, with_step};
 ghost use Rattle.strand_machine.specs.Stops.{IsStep};
 ghost use Rattle.strand_machine.specs.Tasks.{IsSound, view_of, task_of};
 ghost use Rattle.strand_machine.specs.declared.work.Stage.TheVariants as stage;
 ghost use Rattle.strand_machine.specs.declared.work.Work.TheVariants as work;
 
+use crate::eye::{Eye, pedigree};
 use crate::leave::pass;
 use crate::memory::Memory;
 use crate::parts::Parts;
@@ -22,7 +24,6 @@ use ped_path::Pedigree;
 use serial_meaning::{Event, Fault, Out};
 use std::alloc::Global;
 use std::mem;
-use strand_family::path;
 use strand_meaning::laws;
 use strand_moves::{Instance, Moved, Shown};
 
@@ -31,9 +32,8 @@ use strand_moves::{Instance, Moved, Shown};
 pub struct Noted {
     /// Where the task stopped.
     pub stop: Stop,
-    /// Whether the task's own strand had the pedigree when the call began, or later in it. A strand whose instance waits at a sync or
-    /// a loop hasn't the rank after it yet.
-    pub reached: bool,
+    /// What was seen of the pedigree up to there.
+    pub eye: Eye,
     /// The task's own events with the pedigree that came in this call, in order.
     pub events: Out,
     /// The task's own fault, if it came in this call.
@@ -45,23 +45,10 @@ pub struct Noted {
 /// What is noted on the way.
 #[derive(Drop)]
 pub(crate) struct Notes {
+    pub eye: Eye,
     pub events: Out,
     pub fault: Option<Fault>,
     pub joined: Option<Fault>,
-}
-
-/// The pedigree of the strand that did it.
-fn pedigree(event: &Event) -> &Pedigree
-    ensures { result.now ≡ pedigree_of event.now }
-{
-    match event {
-        Event::Print(at, _) => at,
-        Event::Draw(at, _) => at,
-        Event::New(at) => at,
-        Event::Spawn(at) => at,
-        Event::Sync(at) => at,
-        Event::Loop(at) => at,
-    }
 }
 
 /// The same event. Its pedigree shares its memory.
@@ -78,46 +65,13 @@ fn share_event(event: &Event) -> Result<Event, Memory>
     })
 }
 
-/// The rank of the task's own strand, if it has one.
-fn rank(task: &Task) -> Option<u64>
-    ensures { ranks_in result ≡ task_ranks task.now.task }
-{
-    match &task.parts.work {
-        Work::Runs(Stage::Goes(instance)) => Some(instance.rank()),
-        Work::Runs(Stage::AtSync(instance)) => Some(instance.rank().saturating_sub(1)),
-        Work::Runs(Stage::AtLoop(instance)) => Some(instance.rank().saturating_sub(1)),
-        Work::Runs(_) if task.is_fresh() => Some(0),
-        _ => None,
-    }
-}
-
-/// Whether the task's own strand has the pedigree.
-fn is_at(task: &Task, at: &Pedigree) -> bool
-    ensures { result ≡ had (path_of task.now.task.origin) at.now (task_ranks task.now.task) }
-{
-    match rank(task) {
-        Some(rank) => at.rank == rank && at.path.same(path(task.origin())),
-        None => false,
-    }
-}
-
-/// Whether the strand of what is left at the stop has the pedigree.
-fn stops_at(stop: &Stop, at: &Pedigree) -> bool
-    ensures { result ≡ stop_had at.now stop.now }
-{
-    match stop {
-        Stop::Spawn { rest, .. } => is_at(rest, at),
-        Stop::Wait { rest } => is_at(rest, at),
-        Stop::Done { .. } => false,
-    }
-}
-
 impl Notes {
     /// Nothing yet.
-    fn new() -> Notes
-        ensures { result ≡ record { events = []; fault = None; joined = None } }
+    fn new(eye: Eye) -> Notes
+        ensures { result ≡ record { eye = eye; events = []; fault = None; joined = None } }
     {
         Notes {
+            eye,
             events: Out::new(),
             fault: None,
             joined: None,
@@ -126,8 +80,9 @@ impl Notes {
 
     /// One more event of the task's own, which is kept where it is of this pedigree.
     fn tell(&mut self, alloc: Global, at: &Pedigree, event: &Event) -> Result<(), Memory>
-        ensures { OnOk result (self.new ≡ record self.old { events = self.old.events ++ events_at at.now (event.now ∷ []) }) }
+        ensures { OnOk result (self.new ≡ record self.old { eye = looks at.now self.old.eye (Happened event.now ∷ []); events = self.old.events ++ events_at at.now (event.now ∷ []) }) }
     {
+        self.eye.tell(at, event);
         if pedigree(event).same(at) {
             self.events.push(alloc, share_event(event)?)?;
         }
@@ -140,6 +95,8 @@ impl Notes {
     {
         match moved {
             Moved::Went(Shown::Nothing) => {}
+            Moved::Went(Shown::Opened(path)) => self.eye.open(at, path),
+            Moved::Went(Shown::Closed(scope)) => self.eye.close(at, scope),
             Moved::Went(Shown::Told(event)) => self.tell(alloc, at, event)?,
             Moved::Went(Shown::Synced(event)) => self.tell(alloc, at, event)?,
             Moved::Went(Shown::Spawned { event, .. }) => self.tell(alloc, at, event)?,
@@ -247,36 +204,31 @@ impl Task {
     ghost use Rattle.strand_meaning.specs.Notes.{IsInstance};
     ghost use Rattle.strand_machine.specs.Noted.{IsNoted};
 
-    /// Runs to the next stop as `advance` does, and notes what the task itself does on its way in the strand of this pedigree. On
-    /// `Memory` it is dropped.
-    pub fn advance_noted(self, alloc: Global, at: &Pedigree) -> Result<Noted, Memory>
+    /// Runs to the next stop as `advance` does, and notes what the task itself does on its way in the strand of this pedigree. The eye
+    /// has what was seen of it before. On `Memory` the task is dropped.
+    pub fn advance_noted(self, alloc: Global, at: &Pedigree, eye: Eye) -> Result<Noted, Memory>
         requires instance { IsInstance self.task.origin }
         requires goes_on { self.cut ≡ None }
-        ensures { IfOk result (IsNoted self at.now) }
+        ensures { IfOk result (IsNoted self at.now eye) }
     {
         laws::moves_fall();
-        laws::stops_keep_origins();
         laws::stops_are_sound();
         let _work = &self.parts.work;
-        let mut notes = Notes::new();
-        let mut reached = is_at(&self, at);
+        let mut notes = Notes::new(eye);
         let mut task = self;
         loop {
             match step_noted(task, alloc, at, &mut notes)? {
-                Step::Passes(next) => {
-                    reached |= is_at(&next, at);
-                    task = next;
-                }
+                Step::Passes(next) => task = next,
                 Step::Stops(stop) => {
-                    reached |= stops_at(&stop, at);
                     let Notes {
+                        eye,
                         events,
                         fault,
                         joined,
                     } = notes;
                     return Ok(Noted {
                         stop,
-                        reached,
+                        eye,
                         events,
                         fault,
                         joined,

@@ -92,7 +92,13 @@ impl Pieces {
     pub fn hand(&mut self, child: Origin, place: Place) -> Result<(), Memory>
         ensures { OnOk result (self.new ≡ hand child (place_of place) self.old) }
     {
-        self.behind.try_reserve(1)?;
+        if self.behind.is_empty() {
+            // most tasks hand out one child before they wait, and a list would begin with room for four
+            self.awaited.0.try_reserve_exact(1)?;
+            self.behind.try_reserve_exact(1)?;
+        } else {
+            self.behind.try_reserve(1)?;
+        }
         self.awaited.0.push(child)?;
         self.behind
             .push(Behind {

@@ -34,6 +34,8 @@ pub(crate) fn show(
 {
     match shown {
         Shown::Nothing => Ok(pass(parts, Work::Runs(Stage::Goes(instance)))),
+        Shown::Opened(_) => Ok(pass(parts, Work::Runs(Stage::Goes(instance)))),
+        Shown::Closed(_) => Ok(pass(parts, Work::Runs(Stage::Goes(instance)))),
         Shown::Told(event) => {
             parts.body.pieces.tell(alloc, event)?;
             Ok(pass(parts, Work::Runs(Stage::Goes(instance))))

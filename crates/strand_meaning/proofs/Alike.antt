@@ -8,7 +8,7 @@ use Rattle.serial_meaning.specs.declared.event.Event.{Event}
 use Rattle.serial_meaning.specs.declared.origin.Origin.{Origin}
 use Rattle.script_grammar.specs.declared.tree.Name.{Name}
 use Rattle.strand_meaning.specs.Clear.{IsApart, target_names}
-use Rattle.strand_meaning.specs.Machine.{Place, Token, Told, Handed, Syncs, Loops, Activation}
+use Rattle.strand_meaning.specs.Machine.{Place, Token, Opens, Closes, Told, Handed, Syncs, Loops, Activation}
 use Rattle.strand_meaning.specs.Pieces.{Part, Pieces, behind_last, tell, tell_at, hand, with_tokens}
 use Rattle.strand_meaning.specs.Task.{Stage, Goes, AtSync, AtLoop, Ended, takes, takes_all}
 use Rattle.strand_meaning.specs.Rest.{evaluations}
@@ -47,6 +47,8 @@ alike-tell e pieces = from pieces.handed
 -- what a move shows stands after the parts
 pub alike-tokens : (ts : List Token) (pieces : Pieces) → Alike (pieces.handed ++ token_parts ts) (with_tokens ts pieces).handed
 alike-tokens [] pieces = subst (λ (l : List Part). Alike l pieces.handed) (sym (append-nil pieces.handed)) (alike-itself pieces.handed)
+alike-tokens (Opens j ∷ ts) pieces = alike-tokens ts pieces
+alike-tokens (Closes j ∷ ts) pieces = alike-tokens ts pieces
 alike-tokens (Told e ∷ ts) pieces = alike-then (alike-append (token_parts ts) (alike-tell e pieces)) (alike-tokens ts (tell e pieces))
 alike-tokens (Handed o place ∷ ts) pieces =
     subst (λ (l : List Part). Alike l (with_tokens ts (hand o place pieces)).handed) (append_assoc pieces.handed (record { child = o; place = place; behind = [] } ∷ []) (token_parts ts)) (alike-tokens ts (hand o place pieces))

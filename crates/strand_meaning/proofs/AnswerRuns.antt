@@ -1,10 +1,10 @@
 -- The answer of an origin is its evaluation.
-use Rattle.std.proofs.Common.{◌≡◌, ℕ, zero, suc, List, [], ◌∷◌, Result, Ok, Err, refl, sym, ap, ◌∙◌}
+use Rattle.std.proofs.Common.{◌≡◌, ℕ, List, [], ◌∷◌, Result, Ok, Err, refl, sym, ap, ◌∙◌}
 use Rattle.serial_meaning.specs.Runs.{done}
 use Rattle.serial_meaning.specs.Functions.{function_at}
 use Rattle.serial_meaning.specs.Plan.{PlanView, functions_of}
 use Rattle.serial_meaning.specs.Exec.{instance}
-use Rattle.serial_meaning.specs.Eval.{first_of, serial, eval_at, eval, depth_left}
+use Rattle.serial_meaning.specs.Eval.{Evaluation, first_of, serial, eval_below, eval, depth_left}
 use Rattle.serial_meaning.specs.Answer.{IsEval, outcome_of}
 use Rattle.serial_meaning.proofs.RunLaws.{Gives, anything, then-gives}
 use Rattle.serial_meaning.specs.declared.value.Value.{Value}
@@ -19,15 +19,14 @@ abbrev IsOne : List Value → Type 0
 IsOne vs = vs ≡ first_of vs ∷ []
 
 -- an instance gives one value
-one-value : (plan : PlanView) (left : ℕ) (function : ℕ) (args : List Value) (path : List ℕ) → Gives IsOne (eval_at plan left (Instance function args path)).ending
-one-value plan zero function args path =
-    let r = instance (serial (λ o. done [])) plan path (function_at (functions_of plan) function) args in then-gives (λ (v : Value). Unit {0}) IsOne r (λ v. done (v ∷ [])) (anything r.ending) (λ v u. refl)
-one-value plan (suc left) function args path =
-    let r = instance (serial (eval_at plan left)) plan path (function_at (functions_of plan) function) args in then-gives (λ (v : Value). Unit {0}) IsOne r (λ v. done (v ∷ [])) (anything r.ending) (λ v u. refl)
+one-value : (plan : PlanView) (function : ℕ) (args : List Value) (path : List ℕ) → Gives IsOne (eval plan (Instance function args path)).ending
+one-value plan function args path =
+    let child : Origin → Evaluation = eval_below plan (depth_left plan (Instance function args path)) in
+    let r = instance (serial child) plan path (function_at (functions_of plan) function) args in then-gives (λ (v : Value). Unit {0}) IsOne r (λ v. done (v ∷ [])) (anything r.ending) (λ v u. refl)
 
 own-outcome : (plan : PlanView) (o : Origin) → evaluation_of (eval plan o).items (outcome_of o (eval plan o).ending) ≡ eval plan o
 own-outcome plan (Instance function args path) =
-    let o = Instance function args path in from (eval plan o).items (eval plan o).ending (one-value plan (depth_left plan o) function args path)
+    let o = Instance function args path in from (eval plan o).items (eval plan o).ending (one-value plan function args path)
   where
     from : (items : List Event) (q : Result (List Value) Fault) → Gives IsOne q → evaluation_of items (outcome_of (Instance function args path) q) ≡ record { items = items; ending = q }
     from items (Ok vs) h = ap (λ (l : List Value). record { items = items; ending = Ok l }) (sym h)

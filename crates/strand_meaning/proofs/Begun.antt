@@ -13,7 +13,7 @@ use Rattle.serial_meaning.specs.declared.event.Event.TheVariants as event
 use Rattle.serial_meaning.specs.declared.origin.Origin.{Origin}
 use Rattle.serial_meaning.specs.declared.origin.Origin.TheVariants.{Instance, Loop}
 use Rattle.loop_range.specs.Range.{Range}
-use Rattle.strand_meaning.specs.Machine.{Place, Spawned, Looped, Token, Told, Handed, Syncs, Loops, Machine, sync_tokens, loop_tokens, move}
+use Rattle.strand_meaning.specs.Machine.{Place, Spawned, Looped, Token, Opens, Closes, Told, Handed, Syncs, Loops, Machine, sync_tokens, loop_tokens, move}
 use Rattle.strand_meaning.specs.Pieces.{Part, Pieces, told_unless, behind_last, tell, tell_at, hand, with_tokens}
 use Rattle.strand_meaning.specs.Task.{own_instance, first_half}
 use Rattle.strand_meaning.specs.Sound.{IsShownBy, AreShownBy}
@@ -40,6 +40,8 @@ tell-fault e pieces = by_parts pieces.handed
 
 pub tokens-fault : (ts : List Token) (pieces : Pieces) → (with_tokens ts pieces).fault ≡ pieces.fault
 tokens-fault [] pieces = refl
+tokens-fault (Opens j ∷ ts) pieces = tokens-fault ts pieces
+tokens-fault (Closes j ∷ ts) pieces = tokens-fault ts pieces
 tokens-fault (Told e ∷ ts) pieces = tokens-fault ts (tell e pieces) ∙ tell-fault e pieces
 tokens-fault (Handed o place ∷ ts) pieces = tokens-fault ts (hand o place pieces)
 tokens-fault (Syncs ∷ ts) pieces = tokens-fault ts pieces
@@ -47,6 +49,8 @@ tokens-fault (Loops ∷ ts) pieces = tokens-fault ts pieces
 
 tokens-one-by-one : (xs ys : List Token) (pieces : Pieces) → with_tokens (xs ++ ys) pieces ≡ with_tokens ys (with_tokens xs pieces)
 tokens-one-by-one [] ys pieces = refl
+tokens-one-by-one (Opens j ∷ xs) ys pieces = tokens-one-by-one xs ys pieces
+tokens-one-by-one (Closes j ∷ xs) ys pieces = tokens-one-by-one xs ys pieces
 tokens-one-by-one (Told e ∷ xs) ys pieces = tokens-one-by-one xs ys (tell e pieces)
 tokens-one-by-one (Handed o place ∷ xs) ys pieces = tokens-one-by-one xs ys (hand o place pieces)
 tokens-one-by-one (Syncs ∷ xs) ys pieces = tokens-one-by-one xs ys pieces
@@ -84,7 +88,7 @@ module _ (o : Origin) where
   -- a child after the event by which it begins
   begun-shown : (e : Event) (c : Origin) (place : Place) → Begins own_path e c → (pieces : Pieces) → pieces.fault ≡ None → Shown pieces → Shown (hand c place (tell e pieces))
   begun-shown e c place b pieces none h =
-      shown-more o (tell e pieces).told (tell e pieces).handed (record { child = c; place = place; behind = [] }) (tell-shown e pieces h) (inr (b.rank, b.at, there))
+      shown-more o (tell e pieces).told (tell e pieces).handed (record { child = c; place = place; behind = [] }) (tell-shown e pieces h) (inr (b.rank, b.more, b.at, there))
     where
       old : List Event
       old = front_of pieces.told pieces.handed
@@ -111,6 +115,8 @@ module _ (o : Origin) where
     spawned = λ e c height target begins pieces none s. begun-shown e c (Spawned height target) begins pieces none s;
     synced = at_sync;
     looped = at_loop;
+    opened = λ j pieces none s. s;
+    closed = λ j pieces none s. s;
   }
     where
       at_sync : (j : List ℕ) (b : Bool) → Shows (Told (event.Sync j) ∷ sync_tokens b)

@@ -29,7 +29,7 @@ use Rattle.script_check.proofs.Linear.{loop_closed}
 use Rattle.script_check.proofs.Induction.{Each, Inside, statement, induct, induct_each, judge_open}
 use Rattle.serial_meaning.specs.Names.{Names, names_in}
 use Rattle.serial_meaning.specs.Plan.{PlanView, functions_of}
-use Rattle.strand_meaning.specs.Clear.{IsWithin, IsApart, IsClear, Nothing, Simple, Branches, Turns, IsSimple, touched, pending_right, pending_after, names_in_all, names_in_right, target_names, IsClearFunction, IsClearPlan}
+use Rattle.strand_meaning.specs.Clear.{IsWithin, IsApart, IsClear, Nothing, Simple, Branches, Turns, Levels, IsSimple, touched, pending_right, pending_after, names_in_all, names_in_right, target_names, IsClearFunction, IsClearPlan}
 use Rattle.strand_meaning.proofs.Clears.{within-itself, clear-within, nothing-within}
 use Rattle.strand_meaning.proofs.Variables.{is-itself, same-name}
 use Rattle.strand_meaning.proofs.FreeNames.{Free, free-none, free-append, free-cons, single-name, not-broken, scalar-free, array-free, wanted-left, two-free, read-free, call-free, loop-call-free, target-free, right-free, wanted-as-left}
@@ -88,6 +88,7 @@ clear-ends more w (Nothing h) = Nothing (λ name c. w name (h name c))
 clear-ends more w (Simple a e s apart rest) = Simple a e s apart (clear-ends more w rest)
 clear-ends more w (Branches e a b all h apart c d rest) = Branches e a b all h apart c d (clear-ends more w rest)
 clear-ends more w (Turns e body all h g apart c rest) = Turns e body all h g apart c (clear-ends more w rest)
+clear-ends more w (Levels block left h c rest) = Levels block left h c (clear-ends more w rest)
 
 -- Known variables
 
@@ -376,6 +377,16 @@ good-while at e a g = record {
         from once (inr u) =
             subst (IsKnown (after a p)) (stays-all a g (record place { in_block = true }) known p refl once) (knows-all a g (record place { in_block = true }) known p k once) y u
 
+good-scope : (at : ℕ) (a : List Stmt) → Each Good a → IsGood (told (act.Scope a) at) (statement at (act.Scope a))
+good-scope at a g = record {
+  own = own-all a g;
+  stays = λ place known p o f. stays-all a g (record place { in_block = true }) known p refl f;
+  knows = λ place known p k f y e. absurd (true≢false (sym e));
+  clears = λ all w place known p k f sts ends rest.
+      Levels a (kept (after a p) all) (opens at (act.Scope a)) (clears-all a g all w (record place { in_block = true }) known p k f)
+      (clear-within [] (kept nobody all) (nothing-within (kept nobody all)) rest);
+}
+
 good : (at : ℕ) (d : Act-F Act Stmt) → Inside Good d → IsGood (told d at) (statement at d)
 good at (act.Let x r) h = good-let at x r
 good at (act.Array x n) h = good-array at x n
@@ -393,6 +404,7 @@ good at act.Sync h = good-sync at
 good at (act.Print e) h = good-plain at (act.Print e) tt (λ p. refl) (λ functions known. refl) (λ p. refl) (λ place known p f. read-free e known p f)
 good at (act.If e a b) h = good-if at e a b h.0 h.1
 good at (act.While e a) h = good-while at e a h
+good at (act.Scope a) h = good-scope at a h
 good at (act.Pfor x lo hi target c) h =
     good-plain at (act.Pfor x lo hi target c) tt (λ p. refl) (λ functions known. refl) (λ p. refl)
     (λ place known p f.

@@ -10,7 +10,7 @@ use Rattle.script_grammar.specs.declared.tree.Act.{Act, out-Act}
 use Rattle.script_grammar.specs.declared.tree.Act.TheOpen as act
 use Rattle.script_grammar.specs.declared.tree.Act.TheOpen.{Act-F}
 use Rattle.serial_meaning.specs.Names.{Names}
-use Rattle.strand_meaning.specs.Clear.{IsWithin, IsApart, IsClear, Nothing, Simple, Branches, Turns, touched, pending_right, pending_after, target_names}
+use Rattle.strand_meaning.specs.Clear.{IsWithin, IsApart, IsClear, Nothing, Simple, Branches, Turns, Levels, touched, pending_right, pending_after, target_names}
 use Rattle.strand_meaning.specs.Machine.{Place, Spawned, Looped, Half}
 use Rattle.strand_meaning.specs.Pieces.{Part}
 use Rattle.strand_meaning.specs.Sound.{unfilled_by, unfilled, is_by, any_by, IsPlace, ArePlaces}
@@ -56,6 +56,7 @@ after-within (act.Print e) some all w = w
 after-within (act.If e a b) some all w = w
 after-within (act.While e a) some all w = w
 after-within (act.Pfor x lo hi target c) some all w = w
+after-within (act.Scope a) some all w = within-itself []
 
 -- Fewer pending variables are clear too.
 pub clear-within : (some all : Names) {sts : List Stmt} {ends : Names} → IsWithin some all → IsClear all sts ends → IsClear some sts ends
@@ -65,6 +66,7 @@ clear-within some all w (Simple a e s apart rest) =
 clear-within some all w (Branches e first second both h apart c d rest) =
     Branches e first second both h (apart-within _ some all w apart) (clear-within some all w c) (clear-within some all w d) rest
 clear-within some all w (Turns e body more h g apart c rest) = Turns e body more h (λ name k. g name (w name k)) apart c rest
+clear-within some all w (Levels block left h c rest) = Levels block left h (clear-within some all w c) rest
 
 -- Statements in a row
 pub clear-append : {pending both ends : Names} {xs ys : List Stmt} → IsClear pending xs both → IsClear both ys ends → IsClear pending (xs ++ ys) ends
@@ -72,12 +74,14 @@ clear-append {pending} {both} (Nothing h) d = clear-within pending both h d
 clear-append (Simple a e s apart rest) d = Simple a e s apart (clear-append rest d)
 clear-append (Branches e first second more h apart b c rest) d = Branches e first second more h apart b c (clear-append rest d)
 clear-append (Turns e body more h g apart c rest) d = Turns e body more h g apart c (clear-append rest d)
+clear-append (Levels block left h c rest) d = Levels block left h c (clear-append rest d)
 
 -- The next statement touches nothing that is pending.
 pub next-apart : {pending ends : Names} {st : Stmt} {sts : List Stmt} → IsClear pending (st ∷ sts) ends → IsApart (touched (out-Act (out-Stmt st).act)) pending
 next-apart {pending} (Simple a e s apart rest) = rw e apart
 next-apart {pending} (Branches e first second both h apart c d rest) = rw h apart
 next-apart {pending} (Turns e body all h w apart c rest) = rw h (apart-within _ pending all w apart)
+next-apart {pending} (Levels block left h c rest) = rw h (λ name g k. none-contained name g)
 
 -- Unfilled variables of one activation
 

@@ -1,17 +1,17 @@
 -- An open run with its children's evaluations in their places.
-use Rattle.std.proofs.Common.{◌≡◌, ℕ, zero, suc, List, [], ◌∷◌, ◌++◌, Option, Some, None, Result, Ok, Err, refl, sym, ap, ◌∙◌}
+use Rattle.std.proofs.Common.{◌≡◌, List, [], ◌∷◌, ◌++◌, Option, Some, None, Result, Ok, Err, refl, sym, ap, ◌∙◌}
 use Rattle.serial_meaning.specs.Runs.{Run, done, behind, goes_on, ◌then◌}
 use Rattle.serial_meaning.specs.Plan.{PlanView}
-use Rattle.serial_meaning.specs.Eval.{Evaluation, eval_with, eval_at, eval, depth_left}
-use Rattle.serial_meaning.specs.Open.{Item, Happened, Child, Ending, Own, Joined, node_with, node_at, opened}
+use Rattle.serial_meaning.specs.Eval.{Evaluation, eval}
+use Rattle.serial_meaning.specs.Open.{Item, Happened, Child, Opened, Closed, Ending, Own, Joined, opened}
 use Rattle.serial_meaning.proofs.RunLaws.{goes_on-behind, then-then}
 use Rattle.serial_meaning.proofs.Cut.{Matches, cut, child_first}
-use Rattle.serial_meaning.proofs.Sim.{node-cuts, empty_left}
+use Rattle.serial_meaning.proofs.Sim.{eval-cuts}
 use Rattle.serial_meaning.specs.declared.value.Value.{Value}
 use Rattle.serial_meaning.specs.declared.event.Fault.{Fault}
 use Rattle.serial_meaning.specs.declared.event.Event.{Event}
 use Rattle.serial_meaning.specs.declared.origin.Origin.{Origin}
-use Rattle.strand_meaning.specs.Rest.{child_at, children_of, closed_end, closed_at, closed}
+use Rattle.strand_meaning.specs.Rest.{children_of, closed_end, closed_at, closed}
 
 pub behind-then : {I E A B : Type 0} (xs : List I) (r : Run I E A) (f : A → Run I E B) → (behind xs r then f) ≡ behind xs (r then f)
 behind-then xs r f = goes_on-behind xs r.items r.ending f
@@ -38,6 +38,8 @@ module _ (child : Origin → Evaluation) where
       by_end : closed_at child items e ≡ ends_by (cut child items).events (cut child items).cut_by e → (q : Result (List Value) Fault) → goes_on (child o).items q (λ vs. closed_at child items e) ≡ ends_by (child_first (child o).items q (cut child items)).events (child_first (child o).items q (cut child items)).cut_by e
       by_end ih (Ok vs) = ap (behind (child o).items) ih ∙ from (cut child items).events (cut child items).cut_by
       by_end ih (Err f) = refl
+  closed-cut {A} (Opened j ∷ items) e = closed-cut items e
+  closed-cut {A} (Closed j ∷ items) e = closed-cut items e
 
   matches-ends : {A : Type 0} (es : List Event) (c : Option Fault) (r : Run Event Fault A) (e : Result A Ending) → Matches child (λ (a : A). a) es c r e → r ≡ ends_by es c e
   matches-ends es (Some f) r e h = h
@@ -53,6 +55,8 @@ module _ (child : Origin → Evaluation) where
       by_items (Happened e ∷ items) a = ap (behind (e ∷ [])) (by_items items a) ∙ sym (behind-then (e ∷ []) (closed_at child items (Ok a)) (λ a. done (f a)))
       by_items (Child o ∷ items) a =
           ap (λ (r : Run Event Fault B). child o then λ vs. r) (by_items items a) ∙ sym (then-then (child o) (λ vs. closed_at child items (Ok a)) (λ a. done (f a)))
+      by_items (Opened j ∷ items) a = by_items items a
+      by_items (Closed j ∷ items) a = by_items items a
 
       by_fault : (items : List Item) (e : Ending) → closed_at child items (Err e) ≡ (closed_at child items (Err e) then λ a. done (f a))
       by_fault [] (Own g) = refl
@@ -60,6 +64,8 @@ module _ (child : Origin → Evaluation) where
       by_fault (Happened x ∷ items) e = ap (behind (x ∷ [])) (by_fault items e) ∙ sym (behind-then (x ∷ []) (closed_at child items (Err e)) (λ (a : A). done (f a)))
       by_fault (Child o ∷ items) e =
           ap (λ (r : Run Event Fault B). child o then λ vs. r) (by_fault items e) ∙ sym (then-then (child o) (λ vs. closed_at child items (Err e)) (λ (a : A). done (f a)))
+      by_fault (Opened j ∷ items) e = by_fault items e
+      by_fault (Closed j ∷ items) e = by_fault items e
 
       by_end : (items : List Item) (e : Result A Ending) → closed child (goes_on items e (λ a. done (f a))) ≡ (closed_at child items e then λ a. done (f a))
       by_end items (Ok a) = by_items items a
@@ -67,14 +73,7 @@ module _ (child : Origin → Evaluation) where
 
 -- The evaluation of an origin is its node with its children's evaluations in their places.
 pub eval-closed : (plan : PlanView) (o : Origin) → eval plan o ≡ closed (children_of plan o) (opened plan o)
-eval-closed plan o = by_left (depth_left plan o)
-  where
-    by_left : (left : ℕ) → eval_at plan left o ≡ closed (child_at plan left) (node_at plan left o)
-    by_left zero =
-        let child : Origin → Evaluation = λ o. done [] in
-        let n = node_with plan child o in
-        matches-ends child (cut child n.items).events (cut child n.items).cut_by (eval_with plan child o) n.ending (node-cuts plan child (λ o e. refl) o) ∙ sym (closed-cut child n.items n.ending)
-    by_left (suc left) =
-        let child = eval_at plan left in
-        let n = node_with plan child o in
-        matches-ends child (cut child n.items).events (cut child n.items).cut_by (eval_with plan child o) n.ending (node-cuts plan child (empty_left plan left) o) ∙ sym (closed-cut child n.items n.ending)
+eval-closed plan o =
+    let child : Origin → Evaluation = children_of plan o in
+    let n = opened plan o in
+    matches-ends child (cut child n.items).events (cut child n.items).cut_by (eval plan o) n.ending (eval-cuts plan o) ∙ sym (closed-cut child n.items n.ending)

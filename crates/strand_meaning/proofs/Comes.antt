@@ -11,7 +11,7 @@ use Rattle.serial_meaning.specs.declared.event.Fault.{Fault}
 use Rattle.serial_meaning.specs.declared.origin.Origin.{Origin}
 use Rattle.serial_meaning.specs.declared.origin.Origin.TheVariants.{Instance, Loop}
 use Rattle.serial_meaning.specs.declared.answer.Outcome.{Outcome}
-use Rattle.strand_meaning.specs.Machine.{Token, Told, Handed, Syncs, Loops, Machine, Reached, Stands, Gives, begun, move}
+use Rattle.strand_meaning.specs.Machine.{Token, Opens, Closes, Told, Handed, Syncs, Loops, Machine, Reached, Stands, Gives, begun, move}
 use Rattle.strand_meaning.specs.Pieces.{Part}
 use Rattle.strand_meaning.specs.Task.{Stage, Goes, AtSync, AtLoop, Ended, Work, Splits, Runs, Over, Task, begun_stage, own_instance, begins_last, Step, Passes, Stops, Stop, IsNext, Now, Later, stage_after, child_in, stops_at, passing, moved, ends_unless, faults_behind, gave, stage_step, split_step, over_step, work_step, step}
 use Rattle.strand_meaning.specs.Left.{moves_of, stage_moves, work_moves, moves_left}
@@ -24,6 +24,8 @@ StepFalls n (Stops stop) = Unit {0}
 
 stage-after-falls : (ts : List Token) (k : Machine) (n : ℕ) → 2 + moves_of k < n → stage_moves (stage_after ts k) < n
 stage-after-falls [] k n h = h
+stage-after-falls (Opens j ∷ ts) k n h = stage-after-falls ts k n h
+stage-after-falls (Closes j ∷ ts) k n h = stage-after-falls ts k n h
 stage-after-falls (Told e ∷ ts) k n h = stage-after-falls ts k n h
 stage-after-falls (Handed o place ∷ ts) k n h = stage-after-falls ts k n h
 stage-after-falls (Syncs ∷ ts) k n h = omega arith
@@ -60,19 +62,19 @@ module _ (t : Task) where
   stage-falls (Ended (Err (Own f))) = faults-fall t.pieces.handed f
   stage-falls (Ended (Err (Joined f))) = ends-fall 1 t.pieces.fault _
 
-  begun-falls : (o : Origin) → work_moves t.plan (begins_last t.plan o) < 3 + 2 * t.plan.limits.budget
+  begun-falls : (o : Origin) → work_moves t.plan (begins_last t.plan o) < 3 + 3 * t.plan.limits.budget
   begun-falls o = by_origin o
     where
-      by_function : (function : ℕ) (args : List Value) (f : Option Function) → function_at (functions_of t.plan) function ≡ f → stage_moves (begun_stage (begun t.plan function args)) < 3 + 2 * t.plan.limits.budget
+      by_function : (function : ℕ) (args : List Value) (f : Option Function) → function_at (functions_of t.plan) function ≡ f → stage_moves (begun_stage (begun t.plan function args)) < 3 + 3 * t.plan.limits.budget
       by_function function args None h = rw h (omega arith)
       by_function function args (Some f) h = rw h (omega arith)
 
-      by_origin : (o : Origin) → work_moves t.plan (begins_last t.plan o) < 3 + 2 * t.plan.limits.budget
+      by_origin : (o : Origin) → work_moves t.plan (begins_last t.plan o) < 3 + 3 * t.plan.limits.budget
       by_origin (Instance function args path) = by_function function args (function_at (functions_of t.plan) function) refl
       by_origin (Loop function rest first path range) = by_function function _ (function_at (functions_of t.plan) function) refl
 
-  split-falls : (left : Range) (n : ℕ) → StepFalls (3 + 2 * t.plan.limits.budget) (split_step t left n)
-  split-falls left zero = ends-fall (3 + 2 * t.plan.limits.budget) t.pieces.fault _
+  split-falls : (left : Range) (n : ℕ) → StepFalls (3 + 3 * t.plan.limits.budget) (split_step t left n)
+  split-falls left zero = ends-fall (3 + 3 * t.plan.limits.budget) t.pieces.fault _
   split-falls left (suc zero) = begun-falls t.origin
   split-falls left (suc (suc n)) = tt
 

@@ -128,7 +128,7 @@ own-begins (Loop function rest first path range) = ((range.hi - 1) ∷ [], refl)
 child-begins : (o : Origin) (events : List Event) (p : Part) → IsShownBy o events p → (more : List ℕ) × (path_of p.child ≡ path_of o ++ more)
 child-begins o events p (inl h) = ([], h.1 ∙ sym (append-nil (path_of o)))
 child-begins o events p (inr h) =
-    let b = own-begins o in (b.0 ++ h.0 ∷ [], h.1 ∙ ap (λ (l : List ℕ). l ++ h.0 ∷ []) b.1 ∙ append_assoc (path_of o) b.0 (h.0 ∷ []))
+    let b = own-begins o in (b.0 ++ h.0 ∷ h.1, h.2 ∙ ap (λ (l : List ℕ). l ++ h.0 ∷ h.1) b.1 ∙ append_assoc (path_of o) b.0 (h.0 ∷ h.1))
 
 -- A child's cut is its parent's.
 pub cuts_pass : (t : Task) (front : List Part) (p : Part) (later : List Part) (by : Fault) → IsTask t → t.pieces.fault ≡ None → t.pieces.handed ≡ front ++ p ∷ later →
@@ -166,8 +166,7 @@ cuts_pass t front p later by is none e gave cut = record { known = cut.known; be
         by_place : IsShownBy o events p → IsBefore by.at path
         by_place (inl g) = subst (IsBefore by.at) g.1 cut.before
         by_place (inr g) =
-            before-own t.plan function args path (subst (IsOriginOf t.plan) h is.known) by cut.known g.0 (subst (IsBefore by.at) g.1 cut.before)
-            (subst (Contains (places (eval t.plan o).items)) g.1 (reached g.2))
+            before-own t.plan function args path (subst (IsOriginOf t.plan) h is.known) by cut.known (path_of p.child) cut.before (reached g.3)
 
 -- an evaluation that ends by a fault is an answer
 eval-fault : (plan : PlanView) (o : Origin) (out : List Event) (f : Fault) → ◌≡◌ {A = Evaluation} (record { items = out; ending = Err f }) (eval plan o) → IsEval plan o out (outcome.Fault f)

@@ -23,6 +23,7 @@ use Rattle.strand_meaning.specs.Pieces.{Part, Pieces, hand}
 use Rattle.strand_meaning.specs.Task.{Stage, Goes, AtSync, AtLoop, Ended, Work, Splits, Runs, Over, Task, begun_stage, start, own_instance, Stops, Spawn, waits, ends, ends_unless, faults_behind, gave, stage_step, first_half, begins_last, split_step, over_step, work_step, step}
 use Rattle.strand_meaning.specs.Rest.{children_of, rest_of_stage, rest_open, closed, told_run, parts_run, turns_left, all_with, work_run, finish}
 use Rattle.strand_meaning.specs.Sound.{IsHalf, AreHalves, IsSoundStage, IsSoFar, IsEndOf, IsLoop, IsLongLoop, FitsOrigin, AreParts, IsInstanceOrLoop, IsSoundWork, IsTask}
+use Rattle.serial_meaning.specs.Loops.{IsHandedFor}
 use Rattle.strand_meaning.specs.Laws.{IsFaultOf, IsSoundStep}
 use Rattle.strand_meaning.proofs.Steps.{so_far-same, parts-append, ended-rest, halves-places, sound-going}
 use Rattle.strand_meaning.proofs.Starts.{begun-whole, begun-sound, halves-rest}
@@ -274,6 +275,7 @@ module _ (t : Task) (is : IsTask t) where
         shown = λ none. shown-more t.origin t.pieces.told ps (record { child = first_half t.origin left; place = Half; behind = [] }) (is.shown none) (inl (tt, half-path t.origin left));
         work = (subst (λ (o : Origin). IsEndOf o (upper_half left)) (sym loop) upper, more ps halves);
       },
+      subst (λ (o : Origin). IsHandedFor t.plan o (first_half o left)) (sym loop) ([], sym (append-nil path)),
     )
       where
         half : Origin

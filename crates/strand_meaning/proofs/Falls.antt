@@ -1,5 +1,5 @@
 -- A move uses up a step, or ends an activation.
-use Rattle.std.proofs.Common.{◌≡◌, ℕ, zero, suc, ◌+◌, ◌-◌, ◌<◌, ◌≤◌, Bool, true, false, nat_lt, List, [], ◌∷◌, Option, Some, None, Result, Ok, Err, refl, arith, if◌then◌else◌, length}
+use Rattle.std.proofs.Common.{◌≡◌, ℕ, zero, suc, ◌+◌, ◌-◌, ◌*◌, ◌<◌, ◌≤◌, Bool, true, false, nat_lt, List, [], ◌∷◌, Option, Some, None, Result, Ok, Err, refl, ap, arith, if◌then◌else◌, length}
 use Rattle.std.proofs.Common.{ℤ, pos, ◌-ℤ◌}
 use Rattle.script_grammar.specs.declared.tree.Name.{Name}
 use Rattle.script_grammar.specs.declared.tree.CallText.{CallText}
@@ -20,14 +20,14 @@ use Rattle.serial_meaning.specs.declared.value.Value.TheVariants.{Int}
 use Rattle.serial_meaning.specs.declared.event.FaultKind.{FaultKind}
 use Rattle.serial_meaning.specs.declared.event.FaultKind.TheVariants.{Index, Depth, Calls, Budget}
 use Rattle.serial_meaning.specs.declared.event.Fault.{Fault}
-use Rattle.strand_meaning.specs.Machine.{Place, Spawned, Looped, Token, Halt, Faulted, Inside, handing, inside, place_of, Activation, Machine, Reached, Stands, Gives, state_of, with_left, with_returning, back, spawns_in, entered, reached, gives, value_run, statement_move, return_move, move_at, move}
-use Rattle.strand_meaning.specs.Left.{moves_of}
+use Rattle.strand_meaning.specs.Machine.{Place, Spawned, Looped, Token, Halt, Faulted, Inside, handing, inside, place_of, Level, Activation, Machine, Reached, Stands, Gives, state_of, here_of, with_left, with_returning, back, spawns_in, entered, reached, gives, value_run, statement_move, return_move, level_move, end_move, move_at, move}
+use Rattle.strand_meaning.specs.Left.{ways_out, all_ways_out, moves_of}
 
 -- no more than these steps are left, where it goes on or inside
 abbrev Within : {A : Type 0} → (A → ℕ) → ℕ → Result A Halt → Type 0
 Within steps n (Ok a) = steps a ≤ n
 Within steps n (Err (Faulted f)) = Unit {0}
-Within steps n (Err (Inside calls inner s)) = s.steps ≤ n
+Within steps n (Err (Inside here calls inner s)) = s.steps ≤ n
 
 abbrev steps_of : State Bool → ℕ
 steps_of s = s.steps
@@ -41,7 +41,7 @@ within-then {A = A} {B = B} f-steps g-steps n r f h k = from r.items r.ending h
     from : (items : List Token) (e : Result A Halt) → Within f-steps n e → Within g-steps n (goes_on items e f).ending
     from items (Ok a) g = k a g
     from items (Err (Faulted x)) g = tt
-    from items (Err (Inside calls inner s)) g = g
+    from items (Err (Inside here calls inner s)) g = g
 
 abbrev pub Falls : Machine → Result Reached Fault → Type 0
 Falls m (Ok (Stands k)) = moves_of k < moves_of m
@@ -107,16 +107,22 @@ module _ (plan : PlanView) (path : List ℕ) where
     does-within height st (act.If e a b) s h = within-given steps_of n (Spawned height None) (value_of e s.env) s _ (λ v. h)
     does-within height st (act.While e a) s h = within-given steps_of n (Spawned height None) (value_of e s.env) s _ (λ v. by_test (is_true v))
       where
-        by_test : (t : Bool) → Within steps_of n (if t then (inside height a s then inside height (st ∷ [])) else done s).ending
+        by_test : (t : Bool) → Within steps_of n (if t then (inside path height a s then inside path height (st ∷ [])) else done s).ending
         by_test true = h
         by_test false = h
     does-within height st (act.Pfor x lo hi target c) s h =
         within-given steps_of n (Looped target) (value_of lo s.env) s _ (λ l. within-given steps_of n (Looped target) (value_of hi s.env) s _ (λ k. within-given steps_of n (Looped target) (values_of c.args s.env) s _
         (λ vs. looped-within (Looped target) (number l) (count_of (number k -ℤ number l)) vs target c s h)))
+    does-within height st (act.Scope a) s h = within-tested steps_of n (Spawned height None) (nat_lt (length path + 1) plan.limits.depth) Depth s _ h
+
+module _ (plan : PlanView) (path : List ℕ) where
+  -- the ways out of all that is open
+  abbrev open_in : Machine → ℕ
+  open_in m = ways_out m.top + all_ways_out m.below
 
   record Enters (m k : Machine) (s : State Bool) : Type 0 where
     steps : k.steps ≡ s.steps
-    deeper : length k.below ≤ length m.below + 1
+    deeper : open_in k ≤ open_in m + 2
 
   entered-falls : (m : Machine) (st : Stmt) (a : Act-F Act Stmt) (left inner : List Stmt) (s : State Bool) → Enters m (entered plan st a left m inner s) s
   entered-falls m st (act.Let x (right.Value e)) left inner s = record { steps = refl; deeper = omega arith }
@@ -138,6 +144,15 @@ module _ (plan : PlanView) (path : List ℕ) where
   entered-falls m st (act.If e a b) left inner s = record { steps = refl; deeper = omega arith }
   entered-falls m st (act.While e a) left inner s = record { steps = refl; deeper = omega arith }
   entered-falls m st (act.Pfor x lo hi target c) left inner s = record { steps = refl; deeper = omega arith }
+  entered-falls m st (act.Scope a) left inner s = record { steps = refl; deeper = by_leaving m.top.leaving }
+    where
+      by_leaving : (b : Bool) → 2 * length (record { rank = m.rank; left = left } ∷ m.top.levels) - (if b then 1 else 0) + all_ways_out m.below ≤ 2 * length m.top.levels - (if b then 1 else 0) + all_ways_out m.below + 2
+      by_leaving true = by_size (length m.top.levels)
+        where
+          by_size : (n : ℕ) → 2 * suc n - 1 + all_ways_out m.below ≤ 2 * n - 1 + all_ways_out m.below + 2
+          by_size zero = omega arith
+          by_size (suc n) = omega arith
+      by_leaving false = omega arith
 
   statement-falls : (m : Machine) (st : Stmt) (left : List Stmt) → Falls m (statement_move plan path m st left).ending
   statement-falls m st left = by_steps m.steps refl
@@ -148,28 +163,28 @@ module _ (plan : PlanView) (path : List ℕ) where
       by_end : (n : ℕ) → m.steps ≡ suc n → (e : Result (State Bool) Halt) → Within steps_of n e → Falls m (reached plan (with_left m left) (entered plan st a left m) e)
       by_end n h (Ok s) g = omega arith
       by_end n h (Err (Faulted f)) g = tt
-      by_end n h (Err (Inside calls inner s)) g = let e = entered-falls m st a left inner s in fewer (entered plan st a left m inner s) e.steps e.deeper
+      by_end n h (Err (Inside here calls inner s)) g = let e = entered-falls m st a left inner s in fewer (entered plan st a left m inner s) e.steps e.deeper
         where
-          fewer : (k : Machine) → k.steps ≡ s.steps → length k.below ≤ length m.below + 1 → moves_of k < moves_of m
+          fewer : (k : Machine) → k.steps ≡ s.steps → open_in k ≤ open_in m + 2 → moves_of k < moves_of m
           fewer k x y = omega arith
 
-      by_steps : (n : ℕ) → m.steps ≡ n → Falls m (reached plan (with_left m left) (entered plan st a left m) (paid_from (what (place_of (length m.below) a)) plan path n (state_of m) (λ s. does (what (place_of (length m.below) a)) plan path inside (length m.below) st a s)).ending)
+      by_steps : (n : ℕ) → m.steps ≡ n → Falls m (reached plan (with_left m left) (entered plan st a left m) (paid_from (handing plan (place_of (length m.below) a)) plan (here_of path m) n (state_of m) (λ s. does (handing plan (place_of (length m.below) a)) plan (here_of path m) inside (length m.below) st a s)).ending)
       by_steps zero h = tt
       by_steps (suc n) h =
           let s : State Bool = record (state_of m) { steps = n } in
-          by_end n h (does (what (place_of (length m.below) a)) plan path inside (length m.below) st a s).ending (does-within n (length m.below) st a s (omega arith))
+          by_end n h (does (handing plan (place_of (length m.below) a)) plan (here_of path m) inside (length m.below) st a s).ending (does-within plan (here_of path m) n (length m.below) st a s (omega arith))
 
   return-falls : (m : Machine) (returning : Bool) → Falls m (return_move plan path m returning).ending
   return-falls m false = by_steps m.steps refl
     where
       how : Manner Token Halt Bool
-      how = what (Spawned (length m.below) None)
+      how = handing plan (Spawned (length m.below) None)
 
-      by_text : (n : ℕ) → m.steps ≡ suc n → (b : Bool) → Falls m (reached plan (with_returning m) (λ inner s. m) (implied how plan path b (record (state_of m) { steps = n })).ending)
+      by_text : (n : ℕ) → m.steps ≡ suc n → (b : Bool) → Falls m (reached plan (with_returning m) (λ inner s. m) (implied how plan (here_of path m) b (record (state_of m) { steps = n })).ending)
       by_text n h true = omega arith
       by_text n h false = omega arith
 
-      by_steps : (n : ℕ) → m.steps ≡ n → Falls m (reached plan (with_returning m) (λ inner s. m) (paid_from how plan path n (state_of m) (λ s. implied how plan path (spawns_in (function_at (functions_of plan) m.top.function)) s)).ending)
+      by_steps : (n : ℕ) → m.steps ≡ n → Falls m (reached plan (with_returning m) (λ inner s. m) (paid_from how plan (here_of path m) n (state_of m) (λ s. implied how plan (here_of path m) (spawns_in (function_at (functions_of plan) m.top.function)) s)).ending)
       by_steps zero h = tt
       by_steps (suc n) h = by_text n h (spawns_in (function_at (functions_of plan) m.top.function))
   return-falls m true = by_function (function_at (functions_of plan) m.top.function)
@@ -178,7 +193,7 @@ module _ (plan : PlanView) (path : List ℕ) where
       to_caller v [] h = tt
       to_caller v (caller ∷ below) h = rw h (omega arith)
 
-      by_value : (f : Function) (o : Result Value FaultKind) → Falls m (gives plan m (given (what (Spawned (length m.below) None)) plan path o (state_of m) (λ v. done (v, state_of m))).ending)
+      by_value : (f : Function) (o : Result Value FaultKind) → Falls m (gives plan m (given (handing plan (Spawned (length m.below) None)) plan (here_of path m) o (state_of m) (λ v. done (v, state_of m))).ending)
       by_value f (Ok v) = to_caller v m.below refl
       by_value f (Err k) = tt
 
@@ -186,9 +201,21 @@ module _ (plan : PlanView) (path : List ℕ) where
       by_function None = to_caller (Int (pos 0)) m.below refl
       by_function (Some f) = by_value f (value_of f.result m.top.env)
 
+  level-falls : (m : Machine) (l : Level) (ls : List Level) → m.top.levels ≡ l ∷ ls → (leaving : Bool) → m.top.leaving ≡ leaving → Falls m (level_move plan path m l ls leaving).ending
+  level-falls m l ls e false h =
+      let n : length m.top.levels ≡ suc (length ls) = ap length e in
+      let now : ◌≡◌ {A = ℕ} (if m.top.leaving then 1 else 0) 0 = ap (λ (b : Bool). if b then 1 else 0) h in omega (arith, n, now)
+  level-falls m l ls e true h =
+      let n : length m.top.levels ≡ suc (length ls) = ap length e in
+      let now : ◌≡◌ {A = ℕ} (if m.top.leaving then 1 else 0) 1 = ap (λ (b : Bool). if b then 1 else 0) h in omega (arith, n, now)
+
   pub move-falls : (m : Machine) → Falls m (move plan path m).ending
   move-falls m = by_left m.top.left
     where
+      by_levels : (ls : List Level) → m.top.levels ≡ ls → Falls m (end_move plan path m ls).ending
+      by_levels [] e = return-falls m m.top.returning
+      by_levels (l ∷ ls) e = level-falls m l ls e m.top.leaving refl
+
       by_left : (left : List Stmt) → Falls m (move_at plan path m left).ending
-      by_left [] = return-falls m m.top.returning
+      by_left [] = by_levels m.top.levels refl
       by_left (st ∷ left) = statement-falls m st left

@@ -4,7 +4,7 @@ use Rattle.loop_range.specs.Range.{Range}
 use Rattle.serial_meaning.specs.Runs.{Run, behind}
 use Rattle.serial_meaning.specs.Plan.{PlanView}
 use Rattle.serial_meaning.specs.Eval.{Evaluation, path_of, eval}
-use Rattle.serial_meaning.specs.Open.{Item, Happened, Child, Ending, Own, Joined}
+use Rattle.serial_meaning.specs.Open.{Item, Happened, Child, Opened, Closed, Ending, Own, Joined}
 use Rattle.serial_meaning.specs.declared.value.Value.{Value}
 use Rattle.serial_meaning.specs.declared.event.Fault.{Fault}
 use Rattle.serial_meaning.specs.declared.event.Event.{Event}
@@ -13,7 +13,7 @@ use Rattle.serial_meaning.specs.declared.origin.Origin.{Origin}
 use Rattle.serial_meaning.specs.declared.origin.Origin.TheVariants.{Instance, Loop}
 use Rattle.serial_meaning.specs.declared.answer.Outcome.{Outcome}
 use Rattle.script_grammar.specs.declared.tree.Name.{Name}
-use Rattle.strand_meaning.specs.Machine.{Place, Spawned, Looped, Half, Token, Told, Handed, Syncs, Loops, loop_tokens, sync_tokens, Machine, Reached, Stands, Gives, begun, move}
+use Rattle.strand_meaning.specs.Machine.{Place, Spawned, Looped, Half, Token, Opens, Closes, Told, Handed, Syncs, Loops, loop_tokens, sync_tokens, Machine, Reached, Stands, Gives, begun, move}
 use Rattle.strand_meaning.specs.Pieces.{Part, with_tokens}
 use Rattle.strand_meaning.specs.Task.{Stage, Goes, AtSync, AtLoop, Ended, Work, Splits, Runs, Over, Task, begun_stage, begins_last, own_instance, Step, Passes, Stops, Stop, Spawn, Wait, End, IsNext, Now, Later, stage_after, child_in, stops_at, passing, moved, waits, ends_unless, faults_behind, gave, stage_step, split_step, over_step, work_step, step, takes, takes_all, joins, resumed, resumed_work, on}
 use Rattle.strand_meaning.specs.Rest.{children_of, evaluations, rest_of_stage, rest_open}
@@ -34,6 +34,8 @@ use Rattle.strand_meaning.proofs.Ends.{steps_are_sound}
 
 abbrev waits_in : List Token → ℕ
 waits_in [] = 0
+waits_in (Opens j ∷ ts) = waits_in ts
+waits_in (Closes j ∷ ts) = waits_in ts
 waits_in (Told e ∷ ts) = waits_in ts
 waits_in (Handed o place ∷ ts) = waits_in ts
 waits_in (Syncs ∷ ts) = 1
@@ -44,11 +46,15 @@ Paid ts = waits_in ts ≤ item_stops (token_items ts)
 
 items-append : (xs ys : List Item) → item_stops (xs ++ ys) ≡ item_stops xs + item_stops ys
 items-append [] ys = omega arith
+items-append (Opened j ∷ xs) ys = items-append xs ys
+items-append (Closed j ∷ xs) ys = items-append xs ys
 items-append (Happened e ∷ xs) ys = let h : item_stops (xs ++ ys) ≡ item_stops xs + item_stops ys = items-append xs ys in omega arith
 items-append (Child o ∷ xs) ys = let h : item_stops (xs ++ ys) ≡ item_stops xs + item_stops ys = items-append xs ys in omega arith
 
 tokens-append : (xs ys : List Token) → item_stops (token_items (xs ++ ys)) ≡ item_stops (token_items xs) + item_stops (token_items ys)
 tokens-append [] ys = omega arith
+tokens-append (Opens j ∷ xs) ys = tokens-append xs ys
+tokens-append (Closes j ∷ xs) ys = tokens-append xs ys
 tokens-append (Told e ∷ xs) ys = let h : item_stops (token_items (xs ++ ys)) ≡ item_stops (token_items xs) + item_stops (token_items ys) = tokens-append xs ys in omega arith
 tokens-append (Handed o place ∷ xs) ys = let h : item_stops (token_items (xs ++ ys)) ≡ item_stops (token_items xs) + item_stops (token_items ys) = tokens-append xs ys in omega arith
 tokens-append (Syncs ∷ xs) ys = tokens-append xs ys
@@ -56,6 +62,8 @@ tokens-append (Loops ∷ xs) ys = tokens-append xs ys
 
 waits-append : (xs ys : List Token) → waits_in (xs ++ ys) ≤ waits_in xs + waits_in ys
 waits-append [] ys = omega arith
+waits-append (Opens j ∷ xs) ys = waits-append xs ys
+waits-append (Closes j ∷ xs) ys = waits-append xs ys
 waits-append (Told e ∷ xs) ys = waits-append xs ys
 waits-append (Handed o place ∷ xs) ys = waits-append xs ys
 waits-append (Syncs ∷ xs) ys = omega arith
@@ -74,6 +82,8 @@ paid path = record {
   spawned = λ e o height target begins. omega arith;
   synced = at_sync;
   looped = λ e o target b begins. at_loop e o target b;
+  opened = λ j. omega arith;
+  closed = λ j. omega arith;
 }
   where
     at_sync : (j : List ℕ) (b : Bool) → Paid (Told (event.Sync j) ∷ sync_tokens b)
@@ -86,6 +96,8 @@ paid path = record {
 
 child-paid : (ts : List Token) (o : Origin) → child_in ts ≡ Some o → 2 ≤ item_stops (token_items ts)
 child-paid [] o h = absurd (cc)
+child-paid (Opens j ∷ ts) o h = child-paid ts o h
+child-paid (Closes j ∷ ts) o h = child-paid ts o h
 child-paid (Told e ∷ ts) o h = let k : 2 ≤ item_stops (token_items ts) = child-paid ts o h in omega arith
 child-paid (Handed c place ∷ ts) o h = omega arith
 child-paid (Syncs ∷ ts) o h = child-paid ts o h
@@ -93,6 +105,8 @@ child-paid (Loops ∷ ts) o h = child-paid ts o h
 
 few-waits : (ts : List Token) → waits_in ts ≤ 1
 few-waits [] = omega arith
+few-waits (Opens j ∷ ts) = few-waits ts
+few-waits (Closes j ∷ ts) = few-waits ts
 few-waits (Told e ∷ ts) = few-waits ts
 few-waits (Handed o place ∷ ts) = few-waits ts
 few-waits (Syncs ∷ ts) = omega arith
@@ -106,6 +120,8 @@ end-few (p ∷ ps) = omega arith
 stage-stops : (plan : PlanView) (child : Origin → Evaluation) (path : List ℕ) (parts : List Part) (ts : List Token) (k : Machine) →
     stage_stops plan child path false parts (stage_after ts k) ≤ waits_in ts + (3 + item_stops (rest_open plan child path parts (stage_after ts k)).items)
 stage-stops plan child path parts [] k = omega arith
+stage-stops plan child path parts (Opens j ∷ ts) k = stage-stops plan child path parts ts k
+stage-stops plan child path parts (Closes j ∷ ts) k = stage-stops plan child path parts ts k
 stage-stops plan child path parts (Told e ∷ ts) k = stage-stops plan child path parts ts k
 stage-stops plan child path parts (Handed o place ∷ ts) k = stage-stops plan child path parts ts k
 stage-stops plan child path parts (Syncs ∷ ts) k = omega arith
@@ -198,7 +214,7 @@ module _ (t : Task) (is : IsTask t) (idle : t.waiting ≡ false) where
     fewer-going sound =
         let r = move t.plan path m in
         fewer-moved r.items r.ending (tokens-move Paid t.plan path (paid path) m)
-        (open-move t.plan kids path (length m.below) ps sound.0 m (sound-free t.plan ps m sound) (none-known kids ps m sound.1.spawned sound.1.faulted))
+        (open-move t.plan kids path (length m.below) ps sound.0 m (sound-free t.plan ps m sound) (none-known kids ps m sound.1.spawned sound.1.faulted) (λ h. (sound.1.leaving h).1))
 
   -- a wait that the task comes to
   fewer-wait : (work : Work) → t.work ≡ work → stops_of t.plan t.origin true ps work < of_work ps work → FewerStep t (waits t)

@@ -9,7 +9,7 @@ use Rattle.serial_meaning.specs.declared.value.Value.{Value}
 use Rattle.serial_meaning.specs.declared.event.Fault.{Fault}
 use Rattle.serial_meaning.specs.declared.event.Event.{Event}
 use Rattle.serial_meaning.specs.declared.origin.Origin.{Origin}
-use Rattle.strand_meaning.specs.Machine.{Place, Spawned, Looped, Half, Token, Told, Handed, Syncs, Loops}
+use Rattle.strand_meaning.specs.Machine.{Place, Spawned, Looped, Half, Token, Opens, Closes, Told, Handed, Syncs, Loops}
 use Rattle.strand_meaning.specs.Pieces.{Part, Pieces, behind_last, tell, tell_at, hand, with_tokens}
 use Rattle.strand_meaning.specs.Task.{more_values}
 use Rattle.strand_meaning.specs.Rest.{closed, told_run, parts_run}
@@ -18,6 +18,8 @@ use Rattle.strand_meaning.proofs.Closing.{behind-then}
 
 -- a child of an instance
 abbrev pub NotHalf : Token → Type 0
+NotHalf (Opens j) = Unit {0}
+NotHalf (Closes j) = Unit {0}
 NotHalf (Told e) = Unit {0}
 NotHalf (Handed o (Spawned height target)) = Unit {0}
 NotHalf (Handed o (Looped target)) = Unit {0}
@@ -33,6 +35,8 @@ module _ (child : Origin → Evaluation) where
   -- what tokens show, and then the rest
   abbrev pub played : List Token → Evaluation → Evaluation
   played [] r = r
+  played (Opens j ∷ ts) r = played ts r
+  played (Closes j ∷ ts) r = played ts r
   played (Told e ∷ ts) r = behind (e ∷ []) (played ts r)
   played (Handed o place ∷ ts) r = child o then λ vs. played ts r
   played (Syncs ∷ ts) r = played ts r
@@ -91,6 +95,8 @@ module _ (child : Origin → Evaluation) where
   pub tokens-so_far : (ts : List Token) → Each NotHalf ts → (pieces : Pieces) (values : List Value) (tail : List Value → Evaluation) →
       so_far (with_tokens ts pieces) values tail ≡ so_far pieces values (λ vs. played ts (tail vs))
   tokens-so_far [] own pieces values tail = refl
+  tokens-so_far (Opens j ∷ ts) own pieces values tail = tokens-so_far ts own.1 pieces values tail
+  tokens-so_far (Closes j ∷ ts) own pieces values tail = tokens-so_far ts own.1 pieces values tail
   tokens-so_far (Told e ∷ ts) own pieces values tail = tokens-so_far ts own.1 (tell e pieces) values tail ∙ tell-so_far e pieces values (λ vs. played ts (tail vs))
   tokens-so_far (Handed o (Spawned height target) ∷ ts) own pieces values tail =
       tokens-so_far ts own.1 (hand o (Spawned height target) pieces) values tail ∙ hand-so_far o (Spawned height target) pieces values (λ vs. played ts (tail vs))
@@ -102,6 +108,8 @@ module _ (child : Origin → Evaluation) where
 
 -- each child that tokens hand out gives the same by both
 abbrev pub SameChild : (Origin → Evaluation) → (Origin → Evaluation) → Token → Type 0
+SameChild some other (Opens j) = Unit {0}
+SameChild some other (Closes j) = Unit {0}
 SameChild some other (Told e) = Unit {0}
 SameChild some other (Handed o place) = some o ≡ other o
 SameChild some other Syncs = Unit {0}
@@ -110,6 +118,8 @@ SameChild some other Loops = Unit {0}
 pub played-closed : (some other : Origin → Evaluation) (ts : List Token) → Each (SameChild some other) ts → {A : Type 0} (r : Run Item Ending A) (go : A → Evaluation) →
     (closed some (behind (token_items ts) r) then go) ≡ played other ts (closed some r then go)
 played-closed some other [] same r go = refl
+played-closed some other (Opens j ∷ ts) same r go = played-closed some other ts same.1 r go
+played-closed some other (Closes j ∷ ts) same r go = played-closed some other ts same.1 r go
 played-closed some other (Told e ∷ ts) same r go = behind-then (e ∷ []) (closed some (behind (token_items ts) r)) go ∙ ap (behind (e ∷ [])) (played-closed some other ts same.1 r go)
 played-closed some other (Handed o place ∷ ts) same r go =
     then-then (some o) (λ vs. closed some (behind (token_items ts) r)) go

@@ -19,7 +19,6 @@ pub mod Noted
 pub mod NoteWords
 pub mod Onward
 pub mod Own
-pub mod Ranks
 pub mod Shown
 pub mod SoundMoves
 pub mod Starts

@@ -1,13 +1,14 @@
 -- Parts of loops.
-use Rattle.std.proofs.Common.{◌≡◌, ℕ, zero, suc, ◌+◌, ◌-◌, ◌<◌, ◌≤◌, List, ◌++◌, Result, Ok, Err, length, map, refl, sym, ap, ◌∙◌, append_assoc, append-nil, subst, arith}
+use Rattle.std.proofs.Common.{◌≡◌, ℕ, zero, suc, ◌+◌, ◌-◌, ◌<◌, ◌≤◌, List, [], ◌++◌, Result, Ok, Err, length, map, refl, sym, ap, ◌∙◌, append_assoc, append-nil, subst, arith}
 use Rattle.std.proofs.Common.{ℤ}
 use Rattle.std.specs.Prelude.{Contains}
 use Rattle.loop_range.specs.Range.{Range, middle, lower_half, upper_half}
 use Rattle.serial_meaning.specs.Runs.{Run, done, goes_on, ◌then◌}
 use Rattle.serial_meaning.specs.Plan.{PlanView}
-use Rattle.serial_meaning.specs.Eval.{Evaluation, iteration, path_of, turns, eval_at, eval, depth_left}
-use Rattle.serial_meaning.specs.Open.{Item, Child, iterations, opened, node_at}
+use Rattle.serial_meaning.specs.Eval.{Evaluation, iteration, path_of, turns, eval_with, eval_below, eval}
+use Rattle.serial_meaning.specs.Open.{Child, iterations, opened}
 use Rattle.serial_meaning.specs.Laws.{IsOriginOf, Main, ChildOf, PartOf}
+use Rattle.serial_meaning.proofs.Levels.{enough}
 use Rattle.serial_meaning.proofs.RunLaws.{then-then, then-same}
 use Rattle.serial_meaning.specs.declared.value.Value.{Value}
 use Rattle.serial_meaning.specs.declared.origin.Origin.{Origin}
@@ -63,17 +64,10 @@ module _ (function : ℕ) (rest : List Value) (first : ℤ) (path : List ℕ) wh
 
   -- The evaluation of a loop is that of its iterations in order.
   pub eval-loop : (plan : PlanView) (range : Range) → length path + 2 ≤ plan.limits.depth → eval plan (Loop function rest first path range) ≡ turns (eval plan) function rest first path range.lo (range.hi - range.lo)
-  eval-loop plan range deep =
-      ap (λ left. eval_at plan left (Loop function rest first path range)) one_more ∙ turns-same (eval_at plan below) (eval plan) below-is range.lo (range.hi - range.lo)
+  eval-loop plan range deep = turns-same (eval_below plan (plan.limits.depth - length path)) (eval plan) below-is range.lo (range.hi - range.lo)
     where
-      below : ℕ
-      below = plan.limits.depth - (length path + 1)
-
-      one_more : plan.limits.depth - length path ≡ suc below
-      one_more = omega arith
-
-      below-is : (k : ℕ) → eval_at plan below (turn k) ≡ eval plan (turn k)
-      below-is k = ap (λ n. eval_at plan (plan.limits.depth - n) (turn k)) (sym (longer path k))
+      below-is : (k : ℕ) → eval_below plan (plan.limits.depth - length path) (turn k) ≡ eval plan (turn k)
+      below-is k = enough plan (done []) (eval_with plan) (plan.limits.depth - length path) (turn k) (let n = longer path k in omega (arith, n))
 
   -- Two halves are the whole.
   pub halves-turns : (plan : PlanView) (left : Range) → left.lo + 2 ≤ left.hi → length path + 2 ≤ plan.limits.depth →
@@ -91,7 +85,7 @@ module _ (function : ℕ) (rest : List Value) (first : ℤ) (path : List ℕ) wh
       second : left.lo + (middle left - left.lo) ≡ middle left
       second = omega arith
 
-  contains-turn : (k n i : ℕ) → k ≤ i → i < k + n → Contains (map Child (iterations function rest first path k n)) (Child (turn i))
+  pub contains-turn : (k n i : ℕ) → k ≤ i → i < k + n → Contains (map Child (iterations function rest first path k n)) (Child (turn i))
   contains-turn k zero i a b = absurd (omega arith)
   contains-turn k (suc n) i a b = by_place (i - k) refl (λ h. contains-turn (k + 1) n i h (omega arith))
     where
@@ -99,18 +93,13 @@ module _ (function : ℕ) (rest : List Value) (first : ℤ) (path : List ℕ) wh
       by_place zero e later = let same : k ≡ i = omega arith in subst (λ j. Contains (map Child (iterations function rest first path k (suc n))) (Child (turn j))) same (first-contained (Child (turn k)) (map Child (iterations function rest first path (k + 1) n)))
       by_place (suc d) e later = later-contained (Child (turn k)) (Child (turn i)) (map Child (iterations function rest first path (k + 1) n)) (later (omega arith))
 
-  node-turns : (plan : PlanView) (left : ℕ) (range : Range) → (node_at plan left (Loop function rest first path range)).items ≡ map Child (iterations function rest first path range.lo (range.hi - range.lo))
-  node-turns plan zero range = refl
-  node-turns plan (suc left) range = refl
-
 -- the instance that a task runs itself is an origin of the plan
 pub own-of-plan : (plan : PlanView) (o : Origin) → IsOriginOf plan o → IsInstanceOrLoop o → IsOriginOf plan (own_instance o)
 own-of-plan plan (Instance function args path) h k = h
 own-of-plan plan (Loop function rest first path range) h k =
     let o = Loop function rest first path range in
     ChildOf o (iteration function rest first path (range.hi - 1)) h
-    (subst (λ (l : List Item). Contains l (Child (iteration function rest first path (range.hi - 1)))) (sym (node-turns function rest first path plan (depth_left plan o) range))
-    (contains-turn function rest first path range.lo (range.hi - range.lo) (range.hi - 1) (omega arith) (omega arith)))
+    (contains-turn function rest first path range.lo (range.hi - range.lo) (range.hi - 1) (omega arith) (omega arith))
 
 -- What of an origin is a loop
 

@@ -1,14 +1,7 @@
--- What notes say of a pedigree, one after another.
-use Rattle.std.proofs.Common.{◌≡◌, ℕ, Bool, true, false, ◌||◌, bytes_eq, List, [], ◌∷◌, ◌++◌, refl, ap, ◌∙◌, if◌then◌else◌}
+-- The events of a pedigree, one after another.
+use Rattle.std.proofs.Common.{◌≡◌, ℕ, Bool, true, false, bytes_eq, List, [], ◌∷◌, ◌++◌, refl, ap, if◌then◌else◌}
 use Rattle.serial_meaning.specs.declared.event.Event.{Event}
-use Rattle.strand_meaning.specs.Notes.{had}
 use Rattle.strand_meaning.specs.Strands.{pedigree_of, events_at}
-use Rattle.strand_meaning.proofs.Clears.{or-assoc}
-
-pub had-append : (path j xs ys : List ℕ) → had path j (xs ++ ys) ≡ (had path j xs || had path j ys)
-had-append path j [] ys = refl
-had-append path j (rank ∷ xs) ys =
-    ap (λ (b : Bool). bytes_eq (path ++ rank ∷ []) j || b) (had-append path j xs ys) ∙ or-assoc (bytes_eq (path ++ rank ∷ []) j) (had path j xs) (had path j ys)
 
 pub events_at-append : (j : List ℕ) (xs ys : List Event) → events_at j (xs ++ ys) ≡ events_at j xs ++ events_at j ys
 events_at-append j [] ys = refl

@@ -104,12 +104,14 @@ module _ (plan : PlanView) (p : Part) (ps : List Part) where
     faulted = s.faulted;
     in_text = s.in_text;
     left_in_text = s.left_in_text;
+    levels = s.levels;
+    leaving = s.leaving;
     returning = s.returning;
   }
 
   answered-sound : (height : ℕ) (a : Activation) (target : Option Name) (q : Result (List Value) Fault) → is_by height p.place ≡ true → IsSound plan (p ∷ ps) height a → IsSound plan ps height (answered target q a)
   answered-sound height a target (Ok vs) h s =
-      let l = less-sound height a s in record { clear = l.clear; spawned = l.spawned; faulted = l.faulted; in_text = l.in_text; left_in_text = l.left_in_text; returning = l.returning }
+      let l = less-sound height a s in record { clear = l.clear; spawned = l.spawned; faulted = l.faulted; in_text = l.in_text; left_in_text = l.left_in_text; levels = l.levels; leaving = l.leaving; returning = l.returning }
   answered-sound height a target (Err f) h s =
       let l = less-sound height a s in record {
         clear = l.clear;
@@ -117,6 +119,8 @@ module _ (plan : PlanView) (p : Part) (ps : List Part) where
         faulted = λ e. absurd (clash (sym (s.spawned (ap (λ b. b || any_by height ps) h)) ∙ e));
         in_text = l.in_text;
         left_in_text = l.left_in_text;
+        levels = l.levels;
+        leaving = l.leaving;
         returning = l.returning;
       }
 
@@ -195,8 +199,8 @@ module _ (plan : PlanView) (p : Part) (ps : List Part) (q : Result (List Value) 
   sync-kept height a to s = from q
     where
       from : (q : Result (List Value) Fault) → IsSound plan [] height (behind_sync (answered to q a))
-      from (Ok vs) = record { clear = s.clear; spawned = s.spawned; faulted = s.faulted; in_text = s.in_text; left_in_text = s.left_in_text; returning = s.returning }
-      from (Err f) = record { clear = s.clear; spawned = s.spawned; faulted = s.faulted; in_text = s.in_text; left_in_text = s.left_in_text; returning = s.returning }
+      from (Ok vs) = record { clear = s.clear; spawned = s.spawned; faulted = s.faulted; in_text = s.in_text; left_in_text = s.left_in_text; levels = s.levels; leaving = s.leaving; returning = s.returning }
+      from (Err f) = record { clear = s.clear; spawned = s.spawned; faulted = s.faulted; in_text = s.in_text; left_in_text = s.left_in_text; levels = s.levels; leaving = s.leaving; returning = s.returning }
 
   top-changed : (owner : ℕ) (to : Option Name) → p.place ≡ Spawned owner to → (m : Machine) → IsSound plan (p ∷ ps) (length m.below) m.top → AreSound plan (p ∷ ps) m.top.target m.below →
       let k = changed owner (answered to q) m in IsSound plan ps (length k.below) k.top × AreSound plan ps k.top.target k.below
@@ -232,7 +236,7 @@ module _ (plan : PlanView) (p : Part) (ps : List Part) (q : Result (List Value) 
   takes-looped to e (Ok vs) (AtSync m) s = let no : IsPlace (length m.below) (Looped to) = subst (IsPlace (length m.below)) e s.0.0 in absurd no
   takes-looped to e (Ok vs) (AtLoop m) s =
       let l = less-sound plan p ps (length m.below) m.top s.0 in
-      inl (record { clear = l.clear; spawned = l.spawned; faulted = l.faulted; in_text = l.in_text; left_in_text = l.left_in_text; returning = l.returning }, less-below plan p ps m.top.target m.below s.1)
+      inl (record { clear = l.clear; spawned = l.spawned; faulted = l.faulted; in_text = l.in_text; left_in_text = l.left_in_text; levels = l.levels; leaving = l.leaving; returning = l.returning }, less-below plan p ps m.top.target m.below s.1)
   takes-looped to e (Ok vs) (Ended (Ok v)) s = let no : IsHalf (Looped to) = subst IsHalf e s.0 in absurd no
   takes-looped to e (Ok vs) (Ended (Err x)) s = inr (x, refl)
 
@@ -255,7 +259,7 @@ resumed-sound plan (AtSync m) (inl s) = by_fault m.top.faulted refl
   where
     by_fault : (f : Option Fault) → m.top.faulted ≡ f → IsSoundStage plan [] (joins f m)
     by_fault None h =
-        (tt, record { clear = s.1.clear; spawned = s.1.spawned; faulted = λ e. h; in_text = s.1.in_text; left_in_text = s.1.left_in_text; returning = s.1.returning }, s.2)
+        (tt, record { clear = s.1.clear; spawned = s.1.spawned; faulted = λ e. h; in_text = s.1.in_text; left_in_text = s.1.left_in_text; levels = s.1.levels; leaving = s.1.leaving; returning = s.1.returning }, s.2)
     by_fault (Some f) h = refl
 resumed-sound plan (AtLoop m) (inl s) = (tt, s.0, s.1)
 resumed-sound plan (Ended (Ok v)) (inl s) = tt

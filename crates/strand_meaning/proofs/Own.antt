@@ -1,5 +1,5 @@
 -- What a move shows.
-use Rattle.std.proofs.Common.{ℕ, zero, suc, ◌+◌, Bool, true, false, nat_lt, ◌≡◌, List, [], ◌∷◌, ◌++◌, Option, Some, None, Result, Ok, Err, refl, sym, subst, append-nil, if◌then◌else◌, length}
+use Rattle.std.proofs.Common.{ℕ, zero, suc, ◌+◌, Bool, true, false, nat_lt, ◌≡◌, List, [], ◌∷◌, ◌++◌, Option, Some, None, Result, Ok, Err, refl, sym, ap, ◌∙◌, subst, append-nil, append_assoc, if◌then◌else◌, length}
 use Rattle.std.proofs.Common.{ℤ, ◌-ℤ◌}
 use Rattle.script_grammar.specs.declared.tree.Name.{Name}
 use Rattle.script_grammar.specs.declared.tree.CallText.{CallText}
@@ -26,13 +26,14 @@ use Rattle.serial_meaning.specs.declared.event.Event.{Event}
 use Rattle.serial_meaning.specs.declared.event.Event.TheVariants as event
 use Rattle.serial_meaning.specs.declared.origin.Origin.{Origin}
 use Rattle.serial_meaning.specs.declared.origin.Origin.TheVariants as origin
-use Rattle.strand_meaning.specs.Machine.{Place, Spawned, Looped, Token, Told, Handed, Halt, loop_tokens, sync_tokens, handing, inside, place_of, Machine, state_of, spawns_in, value_run, return_move, move_at, move}
+use Rattle.strand_meaning.specs.Machine.{Place, Spawned, Looped, Token, Opens, Closes, Told, Handed, Halt, loop_tokens, sync_tokens, handing, inside, place_of, Level, Activation, Machine, inside_of, present, here_of, state_of, spawns_in, value_run, return_move, level_move, end_move, move_at, move}
 use Rattle.strand_meaning.proofs.Finishing.{NotHalf}
 
 -- an event by which a child of an instance is spawned or begun
 pub record Begins (path : List ℕ) (e : Event) (o : Origin) : Type 0 where
   pub rank : ℕ
-  pub at : path_of o ≡ path ++ rank ∷ []
+  pub more : List ℕ
+  pub at : path_of o ≡ path ++ rank ∷ more
   pub place : places (e ∷ []) ≡ path_of o ∷ []
 
 -- what holds of all lists of tokens that a move shows
@@ -43,8 +44,35 @@ pub record TokenRules (path : List ℕ) (P : List Token → Type 0) : Type 0 whe
   pub spawned : (e : Event) (o : Origin) (height : ℕ) (target : Option Name) → Begins path e o → P (Told e ∷ Handed o (Spawned height target) ∷ [])
   pub synced : (j : List ℕ) (b : Bool) → P (Told (event.Sync j) ∷ sync_tokens b)
   pub looped : (e : Event) (o : Origin) (target : Option Name) (b : Bool) → Begins path e o → P (Told e ∷ loop_tokens b o (Looped target))
+  pub opened : (j : List ℕ) → P (Opens j ∷ [])
+  pub closed : (j : List ℕ) → P (Closes j ∷ [])
 
-module _ (P : List Token → Type 0) (plan : PlanView) (path : List ℕ) (rules : TokenRules path P) where
+-- a strand of a path that goes on from this one
+rank-below : (path ranks : List ℕ) (k : ℕ) → (r : ℕ) × (more : List ℕ) × ((path ++ ranks) ++ k ∷ [] ≡ path ++ r ∷ more)
+rank-below path [] k = (k, [], ap (λ z. z ++ k ∷ []) (append-nil path))
+rank-below path (r ∷ ranks) k = (r, ranks ++ k ∷ [], append_assoc path (r ∷ ranks) (k ∷ []))
+
+-- A present path goes on from the instance's.
+pub inside-below : (path ranks : List ℕ) (ls : List Level) → (more : List ℕ) × (inside_of (path ++ ranks) ls ≡ path ++ more)
+inside-below path ranks [] = (ranks, refl)
+inside-below path ranks (l ∷ ls) =
+    let b = inside-below path ranks ls in (b.0 ++ l.rank ∷ [], ap (λ z. z ++ l.rank ∷ []) b.1 ∙ append_assoc path b.0 (l.rank ∷ []))
+
+pub present-below : (path : List ℕ) (below : List Activation) → (more : List ℕ) × (present path below ≡ path ++ more)
+present-below path [] = ([], sym (append-nil path))
+present-below path (a ∷ below) =
+    let b = present-below path below in
+    let c = inside-below path b.0 a.levels in (c.0, ap (λ z. inside_of z a.levels) b.1 ∙ c.1)
+
+pub here-below : (path : List ℕ) (m : Machine) → (more : List ℕ) × (here_of path m ≡ path ++ more)
+here-below path m = present-below path (m.top ∷ m.below)
+
+-- at a present path
+module _ (P : List Token → Type 0) (plan : PlanView) (whole : List ℕ) (rules : TokenRules whole P) (ranks path : List ℕ) (goes_on_so : path ≡ whole ++ ranks) where
+  begins : (e : Event) (o : Origin) (k : ℕ) → path_of o ≡ path ++ k ∷ [] → places (e ∷ []) ≡ path_of o ∷ [] → Begins whole e o
+  begins e o k at place =
+      let b = rank-below whole ranks k in record { rank = b.0; more = b.1; at = at ∙ ap (λ z. z ++ k ∷ []) goes_on_so ∙ b.2; place = place }
+
   abbrev Owns : {A : Type 0} → Run Token Halt A → Type 0
   Owns r = P r.items
 
@@ -75,7 +103,7 @@ module _ (P : List Token → Type 0) (plan : PlanView) (path : List ℕ) (rules 
 
   owns-spawn : (height : ℕ) (target : Option Name) (c : CallText) (s : State Bool) → Owns (spawn (what (Spawned height target)) plan path c s)
   owns-spawn height target c s =
-      owns-given (Spawned height target) (values_of c.args s.env) s _ (λ vs. owns-tested (Spawned height target) (nat_lt (length path + 1) plan.limits.depth) Depth s _ (rules.spawned _ _ height target (record { rank = s.rank; at = refl; place = refl })))
+      owns-given (Spawned height target) (values_of c.args s.env) s _ (λ vs. owns-tested (Spawned height target) (nat_lt (length path + 1) plan.limits.depth) Depth s _ (rules.spawned _ _ height target (begins _ _ s.rank refl refl)))
 
   owns-called : (place : Place) (calls : ℕ) (c : CallText) (s : State Bool) → Owns (called (what place) plan path inside calls c s)
   owns-called place calls c s =
@@ -96,7 +124,7 @@ module _ (P : List Token → Type 0) (plan : PlanView) (path : List ℕ) (rules 
   owns-loop : (target : Option Name) (c : CallText) (lo : ℤ) (hi : ℕ) (vs : List Value) (s : State Bool) → Owns (looped (what (Looped target)) plan path lo hi vs target c s)
   owns-loop target c lo hi vs s =
       owns-tested place (nat_lt hi (s.steps + 1)) Budget s _ (owns-tested place (has_room target hi s.env) Index _ _ (owns-tested place (fits_depth (what place) plan path hi) Depth _ _
-      (subst P (sym (append-nil (Told e ∷ loop_tokens (is_empty_loop o) o place))) (rules.looped e o target (is_empty_loop o) (record { rank = s.rank; at = refl; place = refl })))))
+      (subst P (sym (append-nil (Told e ∷ loop_tokens (is_empty_loop o) o place))) (rules.looped e o target (is_empty_loop o) (begins e o s.rank refl refl)))))
     where
       place : Place
       place = Looped target
@@ -124,31 +152,47 @@ module _ (P : List Token → Type 0) (plan : PlanView) (path : List ℕ) (rules 
   owns-does height st (act.If e a b) s = owns-given (Spawned height None) (value_of e s.env) s _ (λ v. rules.none)
   owns-does height st (act.While e a) s = owns-given (Spawned height None) (value_of e s.env) s _ (λ v. by_test (is_true v))
     where
-      by_test : (t : Bool) → Owns (if t then (inside height a s then inside height (st ∷ [])) else done s)
+      by_test : (t : Bool) → Owns (if t then (inside path height a s then inside path height (st ∷ [])) else done s)
       by_test true = rules.none
       by_test false = rules.none
   owns-does height st (act.Pfor x lo hi target c) s =
       owns-given (Looped target) (value_of lo s.env) s _ (λ l. owns-given (Looped target) (value_of hi s.env) s _ (λ h. owns-given (Looped target) (values_of c.args s.env) s _
       (λ vs. owns-loop target c (number l) (count_of (number h -ℤ number l)) vs s)))
+  owns-does height st (act.Scope a) s =
+      owns-tested (Spawned height None) (nat_lt (length path + 1) plan.limits.depth) Depth s _ (rules.opened (strand path s))
 
+module _ (P : List Token → Type 0) (plan : PlanView) (path : List ℕ) (rules : TokenRules path P) where
   pub tokens-move : (m : Machine) → P (move plan path m).items
   tokens-move m = by_left m.top.left
     where
+      below : (more : List ℕ) × (here_of path m ≡ path ++ more)
+      below = here-below path m
+
       by_returning : (b : Bool) → P (return_move plan path m b).items
-      by_returning false = owns-paid (Spawned (length m.below) None) m.steps (state_of m) _ (λ s. by_text (spawns_in (function_at (functions_of plan) m.top.function)) s)
+      by_returning false = owns-paid P plan path rules below.0 (here_of path m) below.1 (Spawned (length m.below) None) m.steps (state_of m) _ (λ s. by_text (spawns_in (function_at (functions_of plan) m.top.function)) s)
         where
-          by_text : (b : Bool) (s : State Bool) → Owns (implied (what (Spawned (length m.below) None)) plan path b s)
-          by_text true s = owns-sync (Spawned (length m.below) None) s
+          by_text : (b : Bool) (s : State Bool) → P (implied (handing plan (Spawned (length m.below) None)) plan (here_of path m) b s).items
+          by_text true s = owns-sync P plan path rules below.0 (here_of path m) below.1 (Spawned (length m.below) None) s
           by_text false s = rules.none
       by_returning true = by_function (function_at (functions_of plan) m.top.function)
         where
-          by_function : (o : Option Function) → Owns (value_run plan path o m)
+          by_function : (o : Option Function) → P (value_run plan path o m).items
           by_function None = rules.none
-          by_function (Some f) = owns-given (Spawned (length m.below) None) (value_of f.result m.top.env) (state_of m) _ (λ v. rules.none)
+          by_function (Some f) = owns-given P plan path rules below.0 (here_of path m) below.1 (Spawned (length m.below) None) (value_of f.result m.top.env) (state_of m) _ (λ v. rules.none)
+
+      by_leaving : (l : Level) (ls : List Level) (b : Bool) → P (level_move plan path m l ls b).items
+      by_leaving l ls false = owns-sync P plan path rules below.0 (here_of path m) below.1 (Spawned (length m.below) None) (state_of m)
+      by_leaving l ls true = rules.closed (inside_of (present path m.below) ls ++ l.rank ∷ [])
+
+      by_levels : (ls : List Level) → P (end_move plan path m ls).items
+      by_levels [] = by_returning m.top.returning
+      by_levels (l ∷ ls) = by_leaving l ls m.top.leaving
 
       by_left : (left : List Stmt) → P (move_at plan path m left).items
-      by_left [] = by_returning m.top.returning
-      by_left (st ∷ left) = owns-paid (place_of (length m.below) (out-Act (out-Stmt st).act)) m.steps (state_of m) _ (λ s. owns-does (length m.below) st (out-Act (out-Stmt st).act) s)
+      by_left [] = by_levels m.top.levels
+      by_left (st ∷ left) =
+          owns-paid P plan path rules below.0 (here_of path m) below.1 (place_of (length m.below) (out-Act (out-Stmt st).act)) m.steps (state_of m) _
+          (λ s. owns-does P plan path rules below.0 (here_of path m) below.1 (length m.below) st (out-Act (out-Stmt st).act) s)
 
 -- The children that a move hands out are an instance's.
 not-half : (path : List ℕ) → TokenRules path (Each NotHalf)
@@ -159,6 +203,8 @@ not-half path = record {
   spawned = λ e o height target begins. (tt, (tt, tt));
   synced = λ j b. (tt, at_sync b);
   looped = λ e o target b begins. (tt, at_loop o target b);
+  opened = λ j. (tt, tt);
+  closed = λ j. (tt, tt);
 }
   where
     at_sync : (b : Bool) → Each NotHalf (sync_tokens b)

@@ -8,13 +8,15 @@ use Rattle.serial_meaning.specs.Open.{Item, Ending, Own}
 use Rattle.serial_meaning.specs.declared.value.Value.{Value}
 use Rattle.serial_meaning.specs.declared.event.Fault.{Fault}
 use Rattle.serial_meaning.specs.declared.origin.Origin.{Origin}
-use Rattle.strand_meaning.specs.Machine.{Token, Told, Handed, Syncs, Loops, Activation, Machine, Reached, Stands, Gives}
+use Rattle.strand_meaning.specs.Machine.{Token, Opens, Closes, Told, Handed, Syncs, Loops, Activation, Machine, Reached, Stands, Gives}
 use Rattle.strand_meaning.specs.Pieces.{Part}
 use Rattle.strand_meaning.specs.Task.{stage_after, changed}
 use Rattle.strand_meaning.specs.Rest.{rest_open}
 
 abbrev pub token_parts : List Token → List Part
 token_parts [] = []
+token_parts (Opens j ∷ ts) = token_parts ts
+token_parts (Closes j ∷ ts) = token_parts ts
 token_parts (Told e ∷ ts) = token_parts ts
 token_parts (Handed o place ∷ ts) = record { child = o; place = place; behind = [] } ∷ token_parts ts
 token_parts (Syncs ∷ ts) = token_parts ts

@@ -31,11 +31,11 @@ use Rattle.serial_meaning.specs.declared.event.Fault.{Fault}
 use Rattle.serial_meaning.specs.declared.event.Event.TheVariants as event
 use Rattle.serial_meaning.specs.declared.origin.Origin.{Origin}
 use Rattle.serial_meaning.specs.declared.origin.Origin.TheVariants as origin
-use Rattle.strand_meaning.specs.Clear.{IsWithin, IsApart, IsClear, Simple, Branches, Turns, IsSimple, touched, pending_right, pending_after, target_names, IsClearPlan}
-use Rattle.strand_meaning.specs.Machine.{Place, Spawned, Looped, Half, Token, Told, Halt, loop_tokens, sync_tokens, handing, inside, place_of, Activation, Machine, Reached, Stands, Gives, state_of, with_left, with_returning, with_scalar, back, spawns_in, calling, entered, reached, gives, value_run, statement_move, return_move, move_at, move}
+use Rattle.strand_meaning.specs.Clear.{IsWithin, IsApart, IsClear, Simple, Branches, Turns, Levels, IsSimple, touched, pending_right, pending_after, target_names, IsClearPlan}
+use Rattle.strand_meaning.specs.Machine.{Place, Spawned, Looped, Half, Token, Told, Halt, loop_tokens, sync_tokens, handing, inside, place_of, Level, Activation, Machine, Reached, Stands, Gives, state_of, here_of, with_left, into_level, with_leaving, out_of_level, with_returning, with_scalar, back, spawns_in, calling, entered, reached, gives, value_run, statement_move, return_move, level_move, end_move, move_at, move}
 use Rattle.strand_meaning.specs.Pieces.{Part}
 use Rattle.strand_meaning.specs.Task.{changed, answered, Goes, AtSync, stage_after}
-use Rattle.strand_meaning.specs.Sound.{unfilled, is_by, any_by, IsSound, AreSound, IsPlace, ArePlaces, IsHalf, AreHalves, behind_sync, IsSoundStage}
+use Rattle.strand_meaning.specs.Sound.{unfilled, is_by, any_by, AreSoundLevels, IsSound, AreSound, IsPlace, ArePlaces, IsHalf, AreHalves, behind_sync, IsSoundStage}
 use Rattle.strand_meaning.proofs.Shown.{token_parts, same-number}
 use Rattle.strand_meaning.proofs.Keeps.{first-contained, later-contained}
 use Rattle.strand_meaning.specs.Laws.{changed_run}
@@ -102,6 +102,8 @@ sound-as plan ps qs height a names any s = record {
   faulted = s.faulted;
   in_text = s.in_text;
   left_in_text = s.left_in_text;
+  levels = s.levels;
+  leaving = s.leaving;
   returning = s.returning;
 }
 
@@ -179,6 +181,10 @@ module _ (plan : PlanView) (path : List ℕ) (clear-plan : IsClearPlan plan) (pa
   abbrev height : ℕ
   height = length m.below
 
+  -- the present path
+  abbrev now : List ℕ
+  now = here_of path m
+
   abbrev pending : Names
   pending = unfilled height parts
 
@@ -194,6 +200,9 @@ module _ (plan : PlanView) (path : List ℕ) (clear-plan : IsClearPlan plan) (pa
   not-returning : m.top.returning ≡ true → ⊥
   not-returning h = let e : [] ≡ st ∷ left = sym (sound.1.returning h).1 ∙ top-left in absurd (cc)
 
+  not-leaving : m.top.leaving ≡ true → ⊥
+  not-leaving h = let e : [] ≡ st ∷ left = sym (sound.1.leaving h).1 ∙ top-left in absurd (cc)
+
   text-left : any_spawns (st ∷ left) ≡ true → InText
   text-left h = sound.1.left_in_text (ap any_spawns top-left ∙ h)
 
@@ -208,6 +217,8 @@ module _ (plan : PlanView) (path : List ℕ) (clear-plan : IsClearPlan plan) (pa
     faulted = λ e. sound.1.faulted (sym same ∙ e);
     in_text = λ e. sound.1.in_text (sym same ∙ e);
     left_in_text = text;
+    levels = sound.1.levels;
+    leaving = λ e. absurd (not-leaving e);
     returning = λ e. absurd (not-returning e);
   }
 
@@ -222,18 +233,18 @@ module _ (plan : PlanView) (path : List ℕ) (clear-plan : IsClearPlan plan) (pa
     abbrev Fine : Run Token Halt (State Bool) → Type 0
     Fine r = SoundEnd plan parts r.items (reached plan (with_left m left) into r.ending)
 
-    fine-fault : (place : Place) (kind : FaultKind) (s : State Bool) → Fine (fault (what place) plan path kind s)
+    fine-fault : (place : Place) (kind : FaultKind) (s : State Bool) → Fine (fault (what place) plan now kind s)
     fine-fault place kind s = (refl, height, sound.0)
 
-    fine-given : (place : Place) {A : Type 0} (o : Result A FaultKind) (s : State Bool) (f : A → Run Token Halt (State Bool)) → ((a : A) → Fine (f a)) → Fine (given (what place) plan path o s f)
+    fine-given : (place : Place) {A : Type 0} (o : Result A FaultKind) (s : State Bool) (f : A → Run Token Halt (State Bool)) → ((a : A) → Fine (f a)) → Fine (given (what place) plan now o s f)
     fine-given place (Ok a) s f h = h a
     fine-given place (Err k) s f h = fine-fault place k s
 
-    fine-tested : (place : Place) (b : Bool) (k : FaultKind) (s : State Bool) (f : Run Token Halt (State Bool)) → Fine f → Fine (tested (what place) plan path b k s f)
+    fine-tested : (place : Place) (b : Bool) (k : FaultKind) (s : State Bool) (f : Run Token Halt (State Bool)) → Fine f → Fine (tested (what place) plan now b k s f)
     fine-tested place true k s f h = h
     fine-tested place false k s f h = fine-fault place k s
 
-    fine-paid : (place : Place) (n : ℕ) (s : State Bool) (f : State Bool → Run Token Halt (State Bool)) → ((k : ℕ) → Fine (f (record s { steps = k }))) → Fine (paid_from (what place) plan path n s f)
+    fine-paid : (place : Place) (n : ℕ) (s : State Bool) (f : State Bool → Run Token Halt (State Bool)) → ((k : ℕ) → Fine (f (record s { steps = k }))) → Fine (paid_from (what place) plan now n s f)
     fine-paid place zero s f h = fine-fault place Budget s
     fine-paid place (suc n) s f h = h n
 
@@ -244,7 +255,7 @@ module _ (plan : PlanView) (path : List ℕ) (clear-plan : IsClearPlan plan) (pa
     sets target p = record p.1 { env = with_scalar target p.0 p.1.env }
 
     -- a child of the innermost activation
-    fine-spawn : (target : Option Name) (c : CallText) (n : ℕ) → IsClear (target_names target ++ pending) left ends → InText → Fine (spawn (what (Spawned height target)) plan path c (here n) then λ p. done (sets target p))
+    fine-spawn : (target : Option Name) (c : CallText) (n : ℕ) → IsClear (target_names target ++ pending) left ends → InText → Fine (spawn (what (Spawned height target)) plan now c (here n) then λ p. done (sets target p))
     fine-spawn target c n clear text = by_args (values_of c.args m.top.env)
       where
         place : Place
@@ -252,12 +263,12 @@ module _ (plan : PlanView) (path : List ℕ) (clear-plan : IsClearPlan plan) (pa
 
         child_run : List Value → Run Token Halt (Value × State Bool)
         child_run vs =
-            happens (Told (event.Spawn (path ++ m.rank ∷ []))) (here n) then λ s.
-            (what place).spawn (origin.Instance (number_of (functions_of plan) c.name.bytes) vs (path ++ m.rank ∷ [])) s.spawned then λ r.
+            happens (Told (event.Spawn (now ++ m.rank ∷ []))) (here n) then λ s.
+            (what place).spawn (origin.Instance (number_of (functions_of plan) c.name.bytes) vs (now ++ m.rank ∷ [])) s.spawned then λ r.
             done (r.0, record s { rank = s.rank + 1; spawned = r.1 })
 
         more : List Value → List Part
-        more vs = record { child = origin.Instance (number_of (functions_of plan) c.name.bytes) vs (path ++ m.rank ∷ []); place = place; behind = [] } ∷ []
+        more vs = record { child = origin.Instance (number_of (functions_of plan) c.name.bytes) vs (now ++ m.rank ∷ []); place = place; behind = [] } ∷ []
 
         none-lower : (vs : List Value) (j : ℕ) → j < height → any_by j (more vs) ≡ false
         none-lower vs j h = ap (λ b. b || false) (not-same j h)
@@ -288,22 +299,24 @@ module _ (plan : PlanView) (path : List ℕ) (clear-plan : IsClearPlan plan) (pa
             faulted = λ e. absurd (clash e);
             in_text = λ e. text;
             left_in_text = text-more;
+            levels = sound.1.levels;
+            leaving = λ e. absurd (not-leaving e);
             returning = λ e. absurd (not-returning e);
           },
           sound-more plan parts (more vs) height (none-lower vs) m.top.target m.below (omega arith) sound.2,
         )
 
-        by_test : (vs : List Value) (b : Bool) → Fine (tested (what place) plan path b Depth (here n) (child_run vs) then λ p. done (sets target p))
+        by_test : (vs : List Value) (b : Bool) → Fine (tested (what place) plan now b Depth (here n) (child_run vs) then λ p. done (sets target p))
         by_test vs true = next vs _
         by_test vs false = (refl, height, sound.0)
 
-        by_args : (o : Result (List Value) FaultKind) → Fine (given (what place) plan path o (here n) (λ vs. tested (what place) plan path (nat_lt (length path + 1) plan.limits.depth) Depth (here n) (child_run vs)) then λ p. done (sets target p))
-        by_args (Ok vs) = by_test vs (nat_lt (length path + 1) plan.limits.depth)
+        by_args : (o : Result (List Value) FaultKind) → Fine (given (what place) plan now o (here n) (λ vs. tested (what place) plan now (nat_lt (length now + 1) plan.limits.depth) Depth (here n) (child_run vs)) then λ p. done (sets target p))
+        by_args (Ok vs) = by_test vs (nat_lt (length now + 1) plan.limits.depth)
         by_args (Err k) = (refl, height, sound.0)
 
     -- a callee, over the activation that calls
     fine-call : (target : Option Name) (c : CallText) (n : ℕ) → ((inner : List Stmt) (s : State Bool) → into inner s ≡ calling plan target c left m inner s) → IsClear pending left ends → IsApart (target_names target) pending →
-        Fine (called (what (Spawned height target)) plan path inside height c (here n) then λ p. done (sets target p))
+        Fine (called (what (Spawned height target)) plan now inside height c (here n) then λ p. done (sets target p))
     fine-call target c n enters clear apart = by_args (values_of c.args m.top.env)
       where
         place : Place
@@ -328,24 +341,26 @@ module _ (plan : PlanView) (path : List ℕ) (clear-plan : IsClearPlan plan) (pa
                 faulted = λ h. refl;
                 in_text = λ h. absurd (clash (sym h));
                 left_in_text = λ h. ap spawns_in e ∙ h;
+                levels = tt;
+                leaving = λ h. absurd (clash (sym h));
                 returning = λ h. absurd (clash (sym h));
               },
               (apart, top-sound left (state_of m) ends refl clear text-more, sound.2),
             )
 
         by_function : (vs : List Value) (o : Option Function) → function_at (functions_of plan) number ≡ o →
-            Fine ((activation (what place) plan path inside (height + 1) o vs (here n) then λ r. done (r.0, record (here n) { rank = r.1.rank; steps = r.1.steps })) then λ p. done (sets target p))
+            Fine ((activation (what place) plan now inside (height + 1) o vs (here n) then λ r. done (r.0, record (here n) { rank = r.1.rank; steps = r.1.steps })) then λ p. done (sets target p))
         by_function vs None e = calm left _ ends clear text-more
         by_function vs (Some f) e = no-parts (λ ps. IsSoundStage plan ps (Goes (into f.body (begins f vs)))) (subst (λ (k : Machine). IsSoundStage plan parts (Goes k)) (sym (enters f.body (begins f vs))) (callee f vs e))
 
         run : List Value → Run Token Halt (Value × State Bool)
-        run vs = activation (what place) plan path inside (height + 1) (function_at (functions_of plan) number) vs (here n) then λ r. done (r.0, record (here n) { rank = r.1.rank; steps = r.1.steps })
+        run vs = activation (what place) plan now inside (height + 1) (function_at (functions_of plan) number) vs (here n) then λ r. done (r.0, record (here n) { rank = r.1.rank; steps = r.1.steps })
 
-        by_test : (vs : List Value) (b : Bool) → Fine (tested (what place) plan path b Calls (here n) (run vs) then λ p. done (sets target p))
+        by_test : (vs : List Value) (b : Bool) → Fine (tested (what place) plan now b Calls (here n) (run vs) then λ p. done (sets target p))
         by_test vs true = by_function vs (function_at (functions_of plan) number) refl
         by_test vs false = (refl, height, sound.0)
 
-        by_args : (o : Result (List Value) FaultKind) → Fine (given (what place) plan path o (here n) (λ vs. tested (what place) plan path (nat_lt height 256) Calls (here n) (run vs)) then λ p. done (sets target p))
+        by_args : (o : Result (List Value) FaultKind) → Fine (given (what place) plan now o (here n) (λ vs. tested (what place) plan now (nat_lt height 256) Calls (here n) (run vs)) then λ p. done (sets target p))
         by_args (Ok vs) = by_test vs (nat_lt height 256)
         by_args (Err k) = (refl, height, sound.0)
 
@@ -364,10 +379,10 @@ module _ (plan : PlanView) (path : List ℕ) (clear-plan : IsClearPlan plan) (pa
     SpawnsIn (right.Spawn at c) = InText
 
     fine-right : (x : Name) (r : Right) (n : ℕ) → EntersBy x r → SpawnsIn r → IsApart (x.bytes ∷ []) pending → IsClear (pending_right x r pending) left ends →
-        Fine (right_side (what (Spawned height (Some x))) plan path inside height r (here n) then λ p. done (sets (Some x) p))
+        Fine (right_side (what (Spawned height (Some x))) plan now inside height r (here n) then λ p. done (sets (Some x) p))
     fine-right x (right.Value e) n enters text apart clear = by_value (value_of e m.top.env)
       where
-        by_value : (o : Result Value FaultKind) → Fine (given (what (Spawned height (Some x))) plan path o (here n) (λ v. done (v, here n)) then λ p. done (sets (Some x) p))
+        by_value : (o : Result Value FaultKind) → Fine (given (what (Spawned height (Some x))) plan now o (here n) (λ v. done (v, here n)) then λ p. done (sets (Some x) p))
         by_value (Ok v) = calm left _ ends clear text-more
         by_value (Err k) = (refl, height, sound.0)
     fine-right x (right.Draw at) n enters text apart clear = calm left _ ends clear text-more
@@ -375,16 +390,16 @@ module _ (plan : PlanView) (path : List ℕ) (clear-plan : IsClearPlan plan) (pa
     fine-right x (right.Call at c) n enters text apart clear = fine-call (Some x) c n enters clear apart
     fine-right x (right.Spawn at c) n enters text apart clear = fine-spawn (Some x) c n clear text
 
-    fine-store : (place : Place) (x : Name) (i e : Expr) (n : ℕ) → IsClear pending left ends → Fine (store (what place) plan path x i e (here n))
+    fine-store : (place : Place) (x : Name) (i e : Expr) (n : ℕ) → IsClear pending left ends → Fine (store (what place) plan now x i e (here n))
     fine-store place x i e n clear =
         fine-given place (value_of i m.top.env) (here n) _ (λ k. by_item (at_index (items_of (slot_of m.top.env x.bytes)) (number k)) _ (fine-given place (value_of e m.top.env) (here n) _ (λ v. calm left _ ends clear text-more)))
       where
-        by_item : (o : Option ℤ) (r : Run Token Halt (State Bool)) → Fine r → Fine (found (what place) plan path o (here n) r)
+        by_item : (o : Option ℤ) (r : Run Token Halt (State Bool)) → Fine r → Fine (found (what place) plan now o (here n) r)
         by_item None r h = (refl, height, sound.0)
         by_item (Some old) r h = h
 
     -- after a sync nothing is pending
-    fine-sync : (n : ℕ) → IsClear [] left ends → Fine (join (what (Spawned height None)) plan path (here n))
+    fine-sync : (n : ℕ) → IsClear [] left ends → Fine (join (what (Spawned height None)) plan now (here n))
     fine-sync n clear = by_spawned m.top.spawned refl
       where
         next : State Bool
@@ -397,6 +412,8 @@ module _ (plan : PlanView) (path : List ℕ) (clear-plan : IsClearPlan plan) (pa
           faulted = λ e. refl;
           in_text = λ e. absurd (clash (sym e));
           left_in_text = text-more;
+          levels = sound.1.levels;
+          leaving = λ e. absurd (not-leaving e);
           returning = λ e. absurd (not-returning e);
         }
 
@@ -404,19 +421,19 @@ module _ (plan : PlanView) (path : List ℕ) (clear-plan : IsClearPlan plan) (pa
         nothing-by true e h = absurd (clash (sym (sound.1.spawned e) ∙ h))
         nothing-by false e h = e
 
-        by_spawned : (b : Bool) → m.top.spawned ≡ b → SoundEnd plan parts (Told (event.Sync (path ++ m.rank ∷ [])) ∷ (sync_tokens b ++ [])) (Ok (Stands (with_left m left next)))
+        by_spawned : (b : Bool) → m.top.spawned ≡ b → SoundEnd plan parts (Told (event.Sync (now ++ m.rank ∷ [])) ∷ (sync_tokens b ++ [])) (Ok (Stands (with_left m left next)))
         by_spawned true h = no-parts (λ ps. IsSoundStage plan ps (AtSync (with_left m left next))) (sound.0, behind-it, sound.2)
         by_spawned false h = going left next ends (sym h) (subst (λ (l : Names). IsClear l left ends) (sym (none-unfilled height parts (nothing-by (any_by height parts) refl h))) clear) text-more
 
-    fine-loop : (target : Option Name) (c : CallText) (lo : ℤ) (hi : ℕ) (vs : List Value) (n : ℕ) → IsClear pending left ends → Fine (looped (what (Looped target)) plan path lo hi vs target c (here n))
+    fine-loop : (target : Option Name) (c : CallText) (lo : ℤ) (hi : ℕ) (vs : List Value) (n : ℕ) → IsClear pending left ends → Fine (looped (what (Looped target)) plan now lo hi vs target c (here n))
     fine-loop target c lo hi vs n clear =
-        fine-tested place (nat_lt hi (n + 1)) Budget (here n) _ (fine-tested place (has_room target hi m.top.env) Index (here (n - hi)) _ (fine-tested place (fits_depth (what place) plan path hi) Depth (here (n - hi)) _ (by_size (is_empty_loop o))))
+        fine-tested place (nat_lt hi (n + 1)) Budget (here n) _ (fine-tested place (has_room target hi m.top.env) Index (here (n - hi)) _ (fine-tested place (fits_depth (what place) plan now hi) Depth (here (n - hi)) _ (by_size (is_empty_loop o))))
       where
         place : Place
         place = Looped target
 
         o : Origin
-        o = origin.Loop (number_of (functions_of plan) c.name.bytes) vs lo (path ++ m.rank ∷ []) (record { lo = 0; hi = hi })
+        o = origin.Loop (number_of (functions_of plan) c.name.bytes) vs lo (now ++ m.rank ∷ []) (record { lo = 0; hi = hi })
 
         next : State Bool
         next = record { env = filled target [] m.top.env; rank = m.rank + 1; steps = n - hi; spawned = m.top.spawned }
@@ -424,7 +441,7 @@ module _ (plan : PlanView) (path : List ℕ) (clear-plan : IsClearPlan plan) (pa
         more : List Part
         more = record { child = o; place = place; behind = [] } ∷ []
 
-        by_size : (b : Bool) → SoundEnd plan parts (Told (event.Loop (path ++ m.rank ∷ [])) ∷ (loop_tokens b o place ++ [])) (Ok (Stands (with_left m left next)))
+        by_size : (b : Bool) → SoundEnd plan parts (Told (event.Loop (now ++ m.rank ∷ [])) ∷ (loop_tokens b o place ++ [])) (Ok (Stands (with_left m left next)))
         by_size true = going left next ends refl clear text-more
         by_size false = (
           sound-as plan parts (parts ++ more) height (with_left m left next).top (same-unfilled height parts more refl) (same-any height parts more refl) (top-sound left next ends refl clear text-more),
@@ -435,7 +452,7 @@ module _ (plan : PlanView) (path : List ℕ) (clear-plan : IsClearPlan plan) (pa
   first-within x names apart name h g = apart name (Contains-append_left (x ∷ []) names name h) g
 
   abbrev run_of : (a : Act-F Act Stmt) → ℕ → Run Token Halt (State Bool)
-  run_of a n = does (what (place_of height a)) plan path inside height st a (record (state_of m) { steps = n })
+  run_of a n = does (what (place_of height a)) plan now inside height st a (record (state_of m) { steps = n })
 
   abbrev FineAct : Act-F Act Stmt → ℕ → Type 0
   FineAct a n = SoundEnd plan parts (run_of a n).items (reached plan (with_left m left) (entered plan st a left m) (run_of a n).ending)
@@ -478,6 +495,7 @@ module _ (plan : PlanView) (path : List ℕ) (clear-plan : IsClearPlan plan) (pa
       fine-given (entered plan st (act.Print e) left m) ends (Spawned height None) (value_of e m.top.env) _ _ (λ v. calm left _ ends clear text-more)
   simple-fine (act.If e a b) i text apart ends clear n = absurd i
   simple-fine (act.While e a) i text apart ends clear n = absurd i
+  simple-fine (act.Scope a) i text apart ends clear n = absurd i
   simple-fine (act.Pfor x lo hi target c) i text apart ends clear n =
       let into = entered plan st (act.Pfor x lo hi target c) left m in
       fine-given into ends (Looped target) (value_of lo m.top.env) _ _ (λ l. fine-given into ends (Looped target) (value_of hi m.top.env) _ _ (λ h. fine-given into ends (Looped target) (values_of c.args m.top.env) _ _
@@ -502,10 +520,31 @@ module _ (plan : PlanView) (path : List ℕ) (clear-plan : IsClearPlan plan) (pa
   while-fine e a all ends text within body again rest n =
       fine-given (entered plan st (act.While e a) left m) ends (Spawned height None) (value_of e m.top.env) _ _ (λ v. by_test (is_true v))
     where
-      by_test : (t : Bool) → Fine (entered plan st (act.While e a) left m) ends (if t then (inside height a (record (state_of m) { steps = n }) then inside height (st ∷ [])) else done (record (state_of m) { steps = n }))
+      by_test : (t : Bool) → Fine (entered plan st (act.While e a) left m) ends (if t then (inside now height a (record (state_of m) { steps = n }) then inside now height (st ∷ [])) else done (record (state_of m) { steps = n }))
       by_test true =
           calm (a ++ st ∷ left) _ ends (clear-within pending all within (clear-append body again)) (λ h. either (any_spawns a) (any_spawns (st ∷ left)) text text-left (sym (any-spawns-append a (st ∷ left)) ∙ h))
       by_test false = calm left _ ends (clear-within pending all within rest) text-more
+
+  -- a scope: its block, and after its end the statements that are left
+  scope-fine : (a : List Stmt) (inner ends : Names) → Text (act.Scope a) → IsClear pending a inner → IsClear [] left ends → (n : ℕ) → FineAct (act.Scope a) n
+  scope-fine a inner ends text block rest n =
+      fine-tested (entered plan st (act.Scope a) left m) ends (Spawned height None) (nat_lt (length now + 1) plan.limits.depth) Depth (record (state_of m) { steps = n }) _
+      (no-parts (λ ps. IsSoundStage plan ps (Goes (into_level m left a s))) (sound.0, begun, sound.2))
+    where
+      s : State Bool
+      s = record (state_of m) { rank = 0; steps = n }
+
+      begun : IsSound plan parts height (into_level m left a s).top
+      begun = record {
+        clear = (inner, block);
+        spawned = sound.1.spawned;
+        faulted = sound.1.faulted;
+        in_text = sound.1.in_text;
+        left_in_text = text;
+        levels = ((ends, rest), text-more, sound.1.levels);
+        leaving = λ e. absurd (not-leaving e);
+        returning = λ e. absurd (not-returning e);
+      }
 
   act-fine : (a : Act-F Act Stmt) → out-Act (out-Stmt st).act ≡ a → (ends : Names) → IsClear pending (st ∷ left) ends → (n : ℕ) → FineAct (out-Act (out-Stmt st).act) n
   act-fine a same ends (Simple b e i apart rest) n = subst (λ (c : Act-F Act Stmt). FineAct c n) (sym e) (simple-fine b i (text-of b e) apart ends rest n)
@@ -518,6 +557,10 @@ module _ (plan : PlanView) (path : List ℕ) (clear-plan : IsClearPlan plan) (pa
       text-of b e h = text-left (ap (λ s. s || any_spawns left) (spawns-out st ∙ ap (λ (c : Act-F Act Stmt). act_spawns (map-Act Act Stmt Bool Bool act_has_spawn spawns c)) e ∙ h))
   act-fine a same ends (Turns e body all h w apart c rest) n =
       subst (λ (c : Act-F Act Stmt). FineAct c n) (sym h) (while-fine e body all ends (text-of (act.While e body) h) w c (Turns e body all h (within-itself all) apart c rest) rest n)
+    where
+      text-of : (b : Act-F Act Stmt) → out-Act (out-Stmt st).act ≡ b → Text b
+      text-of b e h = text-left (ap (λ s. s || any_spawns left) (spawns-out st ∙ ap (λ (c : Act-F Act Stmt). act_spawns (map-Act Act Stmt Bool Bool act_has_spawn spawns c)) e ∙ h))
+  act-fine a same ends (Levels block inner h c rest) n = subst (λ (c : Act-F Act Stmt). FineAct c n) (sym h) (scope-fine block inner ends (text-of (act.Scope block) h) c rest n)
     where
       text-of : (b : Act-F Act Stmt) → out-Act (out-Stmt st).act ≡ b → Text b
       text-of b e h = text-left (ap (λ s. s || any_spawns left) (spawns-out st ∙ ap (λ (c : Act-F Act Stmt). act_spawns (map-Act Act Stmt Bool Bool act_has_spawn spawns c)) e ∙ h))
@@ -540,8 +583,8 @@ module _ (plan : PlanView) (path : List ℕ) (clear-plan : IsClearPlan plan) (pa
       from false e = refl
 
   -- the step of a return and its sync
-  return-sound : (m : Machine) → m.top.left ≡ [] → IsSoundStage plan parts (Goes m) → SoundEnd plan parts (return_move plan path m false).items (return_move plan path m false).ending
-  return-sound m ended sound = by_steps m.steps
+  return-sound : (m : Machine) → m.top.left ≡ [] → m.top.levels ≡ [] → IsSoundStage plan parts (Goes m) → SoundEnd plan parts (return_move plan path m false).items (return_move plan path m false).ending
+  return-sound m ended outside sound = by_steps m.steps
     where
       how : Manner Token Halt Bool
       how = handing plan (Spawned (length m.below) None)
@@ -561,7 +604,9 @@ module _ (plan : PlanView) (path : List ℕ) (clear-plan : IsClearPlan plan) (pa
           faulted = λ e. sound.1.faulted g;
           in_text = λ e. absurd (clash (sym e ∙ h));
           left_in_text = sound.1.left_in_text;
-          returning = λ e. (h, ended);
+          levels = sound.1.levels;
+          leaving = λ e. (h, ended);
+          returning = λ e. (h, ended, outside);
         },
         sound.2,
       )
@@ -575,12 +620,14 @@ module _ (plan : PlanView) (path : List ℕ) (clear-plan : IsClearPlan plan) (pa
           faulted = λ e. refl;
           in_text = λ e. absurd (clash (sym e ∙ h));
           left_in_text = sound.1.left_in_text;
-          returning = λ e. (h, ended);
+          levels = sound.1.levels;
+          leaving = λ e. (h, ended);
+          returning = λ e. (h, ended, outside);
         },
         sound.2,
       )
 
-      by_spawned : (n : ℕ) (b : Bool) → m.top.spawned ≡ b → SoundEnd plan parts (Told (event.Sync (path ++ m.rank ∷ [])) ∷ (sync_tokens b ++ [])) (Ok (Stands (with_returning m (record { env = m.top.env; rank = m.rank + 1; steps = n; spawned = false }))))
+      by_spawned : (n : ℕ) (b : Bool) → m.top.spawned ≡ b → SoundEnd plan parts (Told (event.Sync (here_of path m ++ m.rank ∷ [])) ∷ (sync_tokens b ++ [])) (Ok (Stands (with_returning m (record { env = m.top.env; rank = m.rank + 1; steps = n; spawned = false }))))
       by_spawned n true h = waiting (record { env = m.top.env; rank = m.rank + 1; steps = n; spawned = false }) refl
       by_spawned n false h = going (record { env = m.top.env; rank = m.rank + 1; steps = n; spawned = false }) refl h
 
@@ -588,11 +635,11 @@ module _ (plan : PlanView) (path : List ℕ) (clear-plan : IsClearPlan plan) (pa
       unspawned h true e = absurd (clash (sym (sound.1.in_text e) ∙ h))
       unspawned h false e = e
 
-      by_text : (n : ℕ) (b : Bool) → spawns_in (function_at (functions_of plan) m.top.function) ≡ b → finished (implied how plan path b (record (state_of m) { steps = n }))
+      by_text : (n : ℕ) (b : Bool) → spawns_in (function_at (functions_of plan) m.top.function) ≡ b → finished (implied how plan (here_of path m) b (record (state_of m) { steps = n }))
       by_text n true h = by_spawned n m.top.spawned refl
       by_text n false h = let g = unspawned h m.top.spawned refl in going (record (state_of m) { steps = n }) g g
 
-      by_steps : (n : ℕ) → finished (paid_from how plan path n (state_of m) (λ s. implied how plan path (spawns_in (function_at (functions_of plan) m.top.function)) s))
+      by_steps : (n : ℕ) → finished (paid_from how plan (here_of path m) n (state_of m) (λ s. implied how plan (here_of path m) (spawns_in (function_at (functions_of plan) m.top.function)) s))
       by_steps zero = (refl, length m.below, sound.0)
       by_steps (suc n) = by_text n (spawns_in (function_at (functions_of plan) m.top.function)) refl
 
@@ -611,10 +658,10 @@ module _ (plan : PlanView) (path : List ℕ) (clear-plan : IsClearPlan plan) (pa
           subst (λ (ps : List Part). IsSoundStage plan ps (Goes k)) (sym (append-nil parts)) (places-lower (length below) parts n places, same-variables s.1, s.2)
         where
           same-variables : IsSound plan parts (length below) caller → IsSound plan parts (length below) (record caller { env = with_scalar m.top.target v caller.env })
-          same-variables c = record { clear = c.clear; spawned = c.spawned; faulted = c.faulted; in_text = c.in_text; left_in_text = c.left_in_text; returning = c.returning }
+          same-variables c = record { clear = c.clear; spawned = c.spawned; faulted = c.faulted; in_text = c.in_text; left_in_text = c.left_in_text; levels = c.levels; leaving = c.leaving; returning = c.returning }
 
       by_value : (f : Function) (o : Result Value FaultKind) →
-          let r : Run Token Halt (Value × State Bool) = given (handing plan (Spawned (length m.below) None)) plan path o (state_of m) (λ v. done (v, state_of m)) in SoundEnd plan parts r.items (gives plan m r.ending)
+          let r : Run Token Halt (Value × State Bool) = given (handing plan (Spawned (length m.below) None)) plan (here_of path m) o (state_of m) (λ v. done (v, state_of m)) in SoundEnd plan parts r.items (gives plan m r.ending)
       by_value f (Ok v) = to_caller v m.below none sound.0 sound.2
       by_value f (Err k) = (refl, length m.below, sound.0)
 
@@ -622,18 +669,92 @@ module _ (plan : PlanView) (path : List ℕ) (clear-plan : IsClearPlan plan) (pa
       by_function None = to_caller (Int (pos 0)) m.below none sound.0 sound.2
       by_function (Some f) = by_value f (value_of f.result m.top.env)
 
+  -- the end of a scope
+  level-sound : (m : Machine) (l : Level) (ls : List Level) → m.top.left ≡ [] → m.top.levels ≡ l ∷ ls → IsSoundStage plan parts (Goes m) → (leaving : Bool) → m.top.leaving ≡ leaving →
+      SoundEnd plan parts (level_move plan path m l ls leaving).items (level_move plan path m l ls leaving).ending
+  level-sound m l ls ended open_so sound leaving f = by_leaving leaving f
+    where
+      no-more : (T : List Part → Type 0) → T parts → T (parts ++ [])
+      no-more T t = subst T (sym (append-nil parts)) t
+
+      not-returning : m.top.returning ≡ true → ⊥
+      not-returning h = let e : [] ≡ l ∷ ls = sym (sound.1.returning h).2 ∙ open_so in absurd (cc)
+
+      next : State Bool
+      next = record { env = m.top.env; rank = m.rank + 1; steps = m.steps; spawned = false }
+
+      going : m.top.spawned ≡ false → IsSoundStage plan (parts ++ []) (Goes (with_leaving m next))
+      going g = no-more (λ ps. IsSoundStage plan ps (Goes (with_leaving m next))) (
+        sound.0,
+        record {
+          clear = sound.1.clear;
+          levels = sound.1.levels;
+          spawned = λ e. absurd (clash (sym (sound.1.spawned e) ∙ g));
+          faulted = λ e. sound.1.faulted g;
+          in_text = λ e. absurd (clash (sym e));
+          left_in_text = sound.1.left_in_text;
+          leaving = λ e. (refl, ended);
+          returning = λ e. absurd (not-returning e);
+        },
+        sound.2,
+      )
+
+      waiting : IsSoundStage plan (parts ++ []) (AtSync (with_leaving m next))
+      waiting = no-more (λ ps. IsSoundStage plan ps (AtSync (with_leaving m next))) (
+        sound.0,
+        record {
+          clear = (sound.1.clear.0, clear-within [] (unfilled (length m.below) parts) (nothing-within (unfilled (length m.below) parts)) sound.1.clear.1);
+          levels = sound.1.levels;
+          spawned = λ e. absurd (clash (sym e));
+          faulted = λ e. refl;
+          in_text = λ e. absurd (clash (sym e));
+          left_in_text = sound.1.left_in_text;
+          leaving = λ e. (refl, ended);
+          returning = λ e. absurd (not-returning e);
+        },
+        sound.2,
+      )
+
+      by_spawned : (b : Bool) → m.top.spawned ≡ b → SoundEnd plan parts (Told (event.Sync (here_of path m ++ m.rank ∷ [])) ∷ (sync_tokens b ++ [])) (Ok (Stands (with_leaving m next)))
+      by_spawned true h = waiting
+      by_spawned false h = going h
+
+      -- after it nothing is pending
+      out : m.top.spawned ≡ false → AreSoundLevels (spawns_in (function_at (functions_of plan) m.top.function) ≡ true) (l ∷ ls) → IsSoundStage plan (parts ++ []) (Goes (out_of_level m l ls (record (state_of m) { rank = l.rank + 1 })))
+      out g levels = no-more (λ ps. IsSoundStage plan ps (Goes (out_of_level m l ls (record (state_of m) { rank = l.rank + 1 })))) (
+        sound.0,
+        record {
+          clear = (levels.0.0, subst (λ (names : Names). IsClear names l.left levels.0.0) (sym (none-unfilled (length m.below) parts (nothing-of m sound.1 g))) levels.0.1);
+          levels = levels.2;
+          spawned = sound.1.spawned;
+          faulted = sound.1.faulted;
+          in_text = sound.1.in_text;
+          left_in_text = levels.1;
+          leaving = λ e. absurd (clash (sym e));
+          returning = λ e. absurd (not-returning e);
+        },
+        sound.2,
+      )
+
+      by_leaving : (b : Bool) → m.top.leaving ≡ b → SoundEnd plan parts (level_move plan path m l ls b).items (level_move plan path m l ls b).ending
+      by_leaving false h = by_spawned m.top.spawned refl
+      by_leaving true h = out (sound.1.leaving h).0 (subst (AreSoundLevels (spawns_in (function_at (functions_of plan) m.top.function) ≡ true)) open_so sound.1.levels)
+
   -- A move keeps what holds of a stage.
   pub sound-move : (m : Machine) → IsSoundStage plan parts (Goes m) → SoundMove m
-  sound-move m sound = by_left m.top.left m.top.returning refl refl
+  sound-move m sound = by_left m.top.left refl
     where
-      by_left : (left : List Stmt) (returning : Bool) → m.top.left ≡ left → m.top.returning ≡ returning → SoundEnd plan parts (move_at plan path m left).items (move_at plan path m left).ending
-      by_left (st ∷ left) returning h g = statement-sound plan path clear-plan parts m st left h sound
-      by_left [] returning h g =
-          subst (λ (b : Bool). SoundEnd plan parts (return_move plan path m b).items (return_move plan path m b).ending) (sym g) (by_returning returning g)
-        where
-          by_returning : (b : Bool) → m.top.returning ≡ b → SoundEnd plan parts (return_move plan path m b).items (return_move plan path m b).ending
-          by_returning false e = return-sound m h sound
-          by_returning true e = value-sound m e sound
+      by_returning : m.top.left ≡ [] → m.top.levels ≡ [] → (b : Bool) → m.top.returning ≡ b → SoundEnd plan parts (return_move plan path m b).items (return_move plan path m b).ending
+      by_returning h g false e = return-sound m h g sound
+      by_returning h g true e = value-sound m e sound
+
+      by_levels : m.top.left ≡ [] → (ls : List Level) → m.top.levels ≡ ls → SoundEnd plan parts (end_move plan path m ls).items (end_move plan path m ls).ending
+      by_levels h [] g = by_returning h g m.top.returning refl
+      by_levels h (l ∷ ls) g = level-sound m l ls h g sound m.top.leaving refl
+
+      by_left : (left : List Stmt) → m.top.left ≡ left → SoundEnd plan parts (move_at plan path m left).items (move_at plan path m left).ending
+      by_left (st ∷ left) h = statement-sound plan path clear-plan parts m st left h sound
+      by_left [] h = by_levels h m.top.levels refl
 
 free-of : (ps : List Part) (m : Machine) (p : Part) → AreFree ps (shape_of m) → Contains ps p → IsFreePlace (shape_of m) p.place
 free-of [] m p free c = absurd (omega (arith, c.1))

@@ -1,5 +1,5 @@
 -- An instance before its first move.
-use Rattle.std.proofs.Common.{◌≡◌, ℕ, zero, suc, true, false, List, [], ◌∷◌, Option, Some, None, Ok, ◌||◌, refl, sym, ap, ◌∙◌, subst}
+use Rattle.std.proofs.Common.{◌≡◌, ℕ, true, false, List, [], ◌∷◌, Option, Some, None, Ok, ◌||◌, refl, sym, ap, ◌∙◌, subst}
 use Rattle.std.proofs.Common.{pos}
 use Rattle.std.specs.Prelude.{Contains}
 use Rattle.std.proofs.lemmas.Option.{slice_get_within, get_or_from_slice_get}
@@ -9,8 +9,8 @@ use Rattle.serial_meaning.specs.Names.{Names}
 use Rattle.serial_meaning.specs.Functions.{function_at}
 use Rattle.serial_meaning.specs.Plan.{PlanView, functions_of}
 use Rattle.serial_meaning.specs.Exec.{State, instance, exec, bound}
-use Rattle.serial_meaning.specs.Eval.{Evaluation, depth_left}
-use Rattle.serial_meaning.specs.Open.{Item, Ending, put_off_all, node_with, node_at, opened}
+use Rattle.serial_meaning.specs.Eval.{Evaluation}
+use Rattle.serial_meaning.specs.Open.{Item, Ending, put_off_all, opened}
 use Rattle.serial_meaning.specs.declared.value.Value.{Value}
 use Rattle.serial_meaning.specs.declared.value.Value.TheVariants.{Int}
 use Rattle.serial_meaning.specs.declared.event.Fault.{Fault}
@@ -20,7 +20,7 @@ use Rattle.strand_meaning.specs.Clear.{IsClear, IsClearPlan}
 use Rattle.strand_meaning.specs.Machine.{Place, Spawned, Looped, Half, Machine, Reached, Stands, Gives, spawns_in, begun}
 use Rattle.strand_meaning.specs.Pieces.{Part}
 use Rattle.strand_meaning.specs.Task.{Stage, Goes, Ended, begun_stage}
-use Rattle.strand_meaning.specs.Rest.{child_at, children_of, closes, rest_of_stage, rest_open}
+use Rattle.strand_meaning.specs.Rest.{children_of, closes, rest_of_stage, rest_open}
 use Rattle.strand_meaning.specs.Sound.{is_by, any_by, IsHalf, AreHalves, IsSoundStage}
 use Rattle.strand_meaning.proofs.Clears.{none-unfilled}
 use Rattle.strand_meaning.proofs.Steps.{halves-places}
@@ -28,15 +28,11 @@ use Rattle.strand_meaning.proofs.Steps.{halves-places}
 clash : true ≡ false → ⊥
 clash h = absurd (cc)
 
-node-is : (plan : PlanView) (left : ℕ) (o : Origin) → node_at plan left o ≡ node_with plan (child_at plan left) o
-node-is plan zero o = refl
-node-is plan (suc left) o = refl
-
 -- The node of an instance is what remains before its first move.
 pub begun-whole : (plan : PlanView) (function : ℕ) (args : List Value) (path : List ℕ) →
     opened plan (Instance function args path) ≡ (rest_of_stage plan (children_of plan (Instance function args path)) path (begun_stage (begun plan function args)) then λ v. done (v ∷ []))
 begun-whole plan function args path =
-    node-is plan (depth_left plan (Instance function args path)) (Instance function args path) ∙ ap (λ (r : Run Item Ending Value). r then λ v. done (v ∷ [])) (by_function (function_at (functions_of plan) function) refl)
+    ap (λ (r : Run Item Ending Value). r then λ v. done (v ∷ [])) (by_function (function_at (functions_of plan) function) refl)
   where
     child : Origin → Evaluation
     child = children_of plan (Instance function args path)
@@ -45,7 +41,7 @@ begun-whole plan function args path =
     stage_of (Some f) = Goes (record {
       rank = 0;
       steps = plan.limits.budget;
-      top = record { function = function; left = f.body; returning = false; env = bound f.params args; spawned = false; faulted = None; target = None };
+      top = record { function = function; left = f.body; levels = []; leaving = false; returning = false; env = bound f.params args; spawned = false; faulted = None; target = None };
       below = [];
     })
     stage_of None = Ended (Ok (Int (pos 0)))
@@ -58,7 +54,7 @@ begun-whole plan function args path =
     start = record { env = []; rank = 0; steps = plan.limits.budget; spawned = None }
 
     callee_run : Function → Option Function → Run Item Ending (Value × State (Option Fault))
-    callee_run f o = exec (put_off_all plan child) plan path 0 f.body (record start { env = bound f.params args }) then closes plan child path false o
+    callee_run f o = exec (put_off_all plan child) plan path 0 f.body (record start { env = bound f.params args }) then closes plan child path path false o
 
     by_function : (o : Option Function) → function_at (functions_of plan) function ≡ o → instance (put_off_all plan child) plan path (function_at (functions_of plan) function) args ≡ rest_of_stage plan child path (begun_stage (begun plan function args))
     by_function None h =
@@ -88,7 +84,7 @@ begun-sound plan function args ps clear halves = by_function (function_at (funct
     machine f = record {
       rank = 0;
       steps = plan.limits.budget;
-      top = record { function = function; left = f.body; returning = false; env = bound f.params args; spawned = false; faulted = None; target = None };
+      top = record { function = function; left = f.body; levels = []; leaving = false; returning = false; env = bound f.params args; spawned = false; faulted = None; target = None };
       below = [];
     }
 
@@ -103,6 +99,8 @@ begun-sound plan function args ps clear halves = by_function (function_at (funct
             faulted = λ e. refl;
             in_text = λ e. absurd (clash (sym e));
             left_in_text = λ e. ap spawns_in h ∙ e;
+            levels = tt;
+            leaving = λ e. absurd (clash (sym e));
             returning = λ e. absurd (clash (sym e));
           },
           tt,

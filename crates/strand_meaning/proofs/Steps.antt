@@ -1,22 +1,25 @@
 -- A move of a task keeps its invariant.
-use Rattle.std.proofs.Common.{◌≡◌, ℕ, List, [], ◌∷◌, ◌++◌, Option, Some, None, Result, Ok, Err, inr, length, refl, sym, ap, ◌∙◌, append_assoc, append-nil, subst}
+use Rattle.std.proofs.Common.{◌≡◌, ℕ, ◌-◌, List, [], ◌∷◌, ◌++◌, Option, Some, None, Result, Ok, Err, inr, length, refl, sym, ap, ◌∙◌, append_assoc, append-nil, subst}
 use Rattle.std.specs.Prelude.{Contains}
 use Rattle.std.proofs.lemmas.List.Elements.{Contains-append_left, Contains-append_right}
 use Rattle.serial_meaning.specs.Runs.{Run, done, stopped, behind, ◌then◌}
 use Rattle.serial_meaning.specs.Plan.{PlanView}
 use Rattle.serial_meaning.specs.Eval.{Evaluation, path_of, eval}
-use Rattle.serial_meaning.specs.Open.{Item, Happened, Child, Ending, Own, opened}
+use Rattle.serial_meaning.specs.Open.{Item, Happened, Child, Opened, Closed, Ending, Own, opened}
 use Rattle.serial_meaning.specs.Laws.{IsOriginOf, ChildOf}
 use Rattle.serial_meaning.proofs.RunLaws.{then-same}
 use Rattle.serial_meaning.proofs.Each.{Each}
 use Rattle.serial_meaning.specs.declared.value.Value.{Value}
 use Rattle.serial_meaning.specs.declared.event.Fault.{Fault}
 use Rattle.serial_meaning.specs.declared.origin.Origin.{Origin}
-use Rattle.strand_meaning.specs.Machine.{Place, Spawned, Looped, Half, Token, Told, Handed, Syncs, Loops, Machine, Reached, Stands, Gives, move}
+use Rattle.serial_meaning.specs.declared.origin.Origin.TheVariants.{Instance, Loop}
+use Rattle.serial_meaning.proofs.Origins.{child-below}
+use Rattle.strand_meaning.specs.Machine.{Place, Spawned, Looped, Half, Token, Opens, Closes, Told, Handed, Syncs, Loops, Machine, Reached, Stands, Gives, move}
 use Rattle.strand_meaning.specs.Pieces.{Part, Pieces, with_tokens}
 use Rattle.strand_meaning.specs.Task.{Stage, Goes, Ended, Work, Runs, Task, own_instance, stage_after, child_in, stops_at, passing, moved, resumed}
 use Rattle.strand_meaning.specs.Rest.{children_of, rest_of_stage, rest_open, closed, parts_run, told_run, work_run, all_with, finish}
 use Rattle.strand_meaning.specs.Sound.{IsPlace, ArePlaces, IsHalf, AreHalves, IsSoundStage, IsSoFar, AreParts, IsInstanceOrLoop, IsTask}
+use Rattle.serial_meaning.specs.Loops.{IsHandedFor}
 use Rattle.strand_meaning.specs.Laws.{IsSoundStep}
 use Rattle.strand_meaning.specs.Notes.{token_items}
 use Rattle.strand_meaning.proofs.Shown.{token_parts}
@@ -38,6 +41,13 @@ pub parts-append : (plan : PlanView) (o : Origin) (ps qs : List Part) → ArePar
 parts-append plan o [] qs h k = k
 parts-append plan o (p ∷ ps) qs h k = (h.0, parts-append plan o ps qs h.1 k)
 
+-- What the instance's node has as a child is handed out for the task's origin.
+handed-for : (plan : PlanView) (o c : Origin) → Contains (opened plan (own_instance o)).items (Child c) → IsHandedFor plan o c
+handed-for plan (Instance function args path) c k = k
+handed-for plan (Loop function rest first path range) c k =
+    let below = child-below plan (own_instance (Loop function rest first path range)) c k in
+    ((range.hi - 1) ∷ below.0 ∷ below.1, below.2 ∙ append_assoc path ((range.hi - 1) ∷ []) (below.0 ∷ below.1))
+
 -- The children of a move
 
 module _ (plan : PlanView) (o : Origin) where
@@ -45,10 +55,12 @@ module _ (plan : PlanView) (o : Origin) where
   child = children_of plan (own_instance o)
 
   abbrev Known : Origin → Type 0
-  Known c = IsOriginOf plan c × (child c ≡ eval plan c)
+  Known c = IsOriginOf plan c × (child c ≡ eval plan c) × Contains (opened plan (own_instance o)).items (Child c)
 
   new-parts : (ts : List Token) → Each NotHalf ts → ((c : Origin) → Contains (token_items ts) (Child c) → Known c) → AreParts plan o (token_parts ts)
   new-parts [] own h = tt
+  new-parts (Opens j ∷ ts) own h = new-parts ts own.1 (λ c k. h c (later-contained (Opened j) (Child c) (token_items ts) k))
+  new-parts (Closes j ∷ ts) own h = new-parts ts own.1 (λ c k. h c (later-contained (Closed j) (Child c) (token_items ts) k))
   new-parts (Told e ∷ ts) own h = new-parts ts own.1 (λ c k. h c (later-contained (Happened e) (Child c) (token_items ts) k))
   new-parts (Handed c (Spawned height target) ∷ ts) own h =
       let k = h c (first-contained (Child c) (token_items ts)) in (record { known = k.0; fits = tt; same = inr k.1 }, new-parts ts own.1 (λ d g. h d (later-contained (Child c) (Child d) (token_items ts) g)))
@@ -60,16 +72,20 @@ module _ (plan : PlanView) (o : Origin) where
 
   same-children : (ts : List Token) → ((c : Origin) → Contains (token_items ts) (Child c) → Known c) → Each (SameChild child (eval plan)) ts
   same-children [] h = tt
+  same-children (Opens j ∷ ts) h = (tt, same-children ts (λ c k. h c (later-contained (Opened j) (Child c) (token_items ts) k)))
+  same-children (Closes j ∷ ts) h = (tt, same-children ts (λ c k. h c (later-contained (Closed j) (Child c) (token_items ts) k)))
   same-children (Told e ∷ ts) h = (tt, same-children ts (λ c k. h c (later-contained (Happened e) (Child c) (token_items ts) k)))
   same-children (Handed c place ∷ ts) h =
       ((h c (first-contained (Child c) (token_items ts))).1, same-children ts (λ d g. h d (later-contained (Child c) (Child d) (token_items ts) g)))
   same-children (Syncs ∷ ts) h = (tt, same-children ts h)
   same-children (Loops ∷ ts) h = (tt, same-children ts h)
 
-  child-known : (ts : List Token) (c : Origin) → ((d : Origin) → Contains (token_items ts) (Child d) → Known d) → child_in ts ≡ Some c → IsOriginOf plan c
+  child-known : (ts : List Token) (c : Origin) → ((d : Origin) → Contains (token_items ts) (Child d) → Known d) → child_in ts ≡ Some c → Known c
   child-known [] c h e = absurd (cc)
+  child-known (Opens j ∷ ts) c h e = child-known ts c (λ d k. h d (later-contained (Opened j) (Child d) (token_items ts) k)) e
+  child-known (Closes j ∷ ts) c h e = child-known ts c (λ d k. h d (later-contained (Closed j) (Child d) (token_items ts) k)) e
   child-known (Told x ∷ ts) c h e = child-known ts c (λ d k. h d (later-contained (Happened x) (Child d) (token_items ts) k)) e
-  child-known (Handed d place ∷ ts) c h e = subst (IsOriginOf plan) (by_some e) (h d (first-contained (Child d) (token_items ts))).0
+  child-known (Handed d place ∷ ts) c h e = subst Known (by_some e) (h d (first-contained (Child d) (token_items ts)))
     where
       or_first : Option Origin → Origin
       or_first None = d
@@ -123,8 +139,8 @@ module _ (t : Task) (is : IsTask t) (m : Machine) (own-known : IsOriginOf t.plan
       ∙ ap (behind far.front) (behind-then (token_items ts) rest all_of)
       ∙ ap (λ (l : List Item). record { items = l; ending = (rest then all_of).ending }) (sym (append_assoc far.front (token_items ts) (rest then all_of).items))
 
-  known : (ts : List Token) (rest : Run Item Ending Value) → Leaves ts rest → (c : Origin) → Contains (token_items ts) (Child c) → IsOriginOf t.plan c × (kids c ≡ eval t.plan c)
-  known ts rest h c k = (ChildOf own c own-known there, same-answer t.plan own c (loop-of-plan t.plan own own-known) there)
+  known : (ts : List Token) (rest : Run Item Ending Value) → Leaves ts rest → (c : Origin) → Contains (token_items ts) (Child c) → Known t.plan t.origin c
+  known ts rest h c k = (ChildOf own c own-known there, same-answer t.plan own c (loop-of-plan t.plan own own-known) there, there)
     where
       there : Contains (opened t.plan own).items (Child c)
       there =
@@ -176,7 +192,9 @@ module _ (t : Task) (is : IsTask t) (m : Machine) (own-known : IsOriginOf t.plan
 
       by_child : (o : Option Origin) → child_in ts ≡ o → IsSoundStep t (stops_at o next)
       by_child None h = is-next
-      by_child (Some c) h = (child-known t.plan t.origin ts c (known ts (rest_open t.plan kids path (ps ++ token_parts ts) (stage_after ts k)) leaves) h, is-next)
+      by_child (Some c) h =
+          let k = child-known t.plan t.origin ts c (known ts (rest_open t.plan kids path (ps ++ token_parts ts) (stage_after ts k)) leaves) h in
+          (k.0, is-next, handed-for t.plan t.origin c k.2)
   sound-moved ts (Ok (Gives v)) own-tokens shows leaves fits =
       next-task ts own-tokens shows (done v) leaves (Ended (Ok v)) (sym (ended-rest t.plan kids path 0 (ps ++ token_parts ts) (halves-places (ps ++ token_parts ts) halves) (Ok v))) halves
     where
@@ -192,5 +210,5 @@ module _ (t : Task) (is : IsTask t) (m : Machine) (own-known : IsOriginOf t.plan
   sound-going =
       let r = move t.plan path m in
       sound-moved r.items r.ending (own-move t.plan path m) (move-shows t.origin t.plan m)
-      (open-move t.plan kids path (length m.below) ps sound.0 m (sound-free t.plan ps m sound) (none-known kids ps m sound.1.spawned sound.1.faulted))
+      (open-move t.plan kids path (length m.below) ps sound.0 m (sound-free t.plan ps m sound) (none-known kids ps m sound.1.spawned sound.1.faulted) (λ h. (sound.1.leaving h).1))
       (sound-move t.plan path is.clear ps m sound)

@@ -1,8 +1,8 @@
 -- Proofs of the examples of strands: what stands at each pedigree is computed.
 use Rattle.script_grammar.specs.declared.tree.Act.{out-Act}
-use Rattle.serial_meaning.proofs.Computing.{value_of-number, value_of-variable, value_of-product, spawns-out}
+use Rattle.serial_meaning.proofs.Computing.{opened-let, opened-set, opened-print, opened-scope, value_of-number, value_of-variable, value_of-product, spawns-out}
 use Rattle.serial_meaning.proofs.Named.{product_part-is}
-use Rattle.strand_meaning.specs.StrandExamples.{FirstStrandPrintsAndSpawns, ChildsStrandHasItsFault, ParentGoesOnToItsFault, NoStrandBehindAFault, SyncStandsWhereAChildFaulted, ChildsFaultBlocks, IterationsHaveStrands, LoopIsAStrandsEvent, IterationsPathIsNoStrand, NoStrandBelowAMissingIteration}
+use Rattle.strand_meaning.specs.StrandExamples.{FirstStrandPrintsAndSpawns, ChildsStrandHasItsFault, ParentGoesOnToItsFault, NoStrandBehindAFault, SyncStandsWhereAChildFaulted, ChildsFaultBlocks, IterationsHaveStrands, LoopIsAStrandsEvent, IterationsPathIsNoStrand, NoStrandBelowAMissingIteration, ScopesFirstStrandSpawns, ScopesSecondStrandSyncs, ScopesLastStrandIsThere, NoStrandBehindAScopesLast, StrandAfterAScopePrints}
 
 pub first_strand_prints_and_spawns : FirstStrandPrintsAndSpawns
 unfolding out-Act denote.Hole.Carrier.out
@@ -43,3 +43,18 @@ iterations_path_is_no_strand = simp (value_of-number, value_of-variable, spawns-
 pub no_strand_below_a_missing_iteration : NoStrandBelowAMissingIteration
 unfolding out-Act denote.Hole.Carrier.out
 no_strand_below_a_missing_iteration = simp (value_of-number, value_of-variable, spawns-out)
+
+pub scopes_first_strand_spawns : ScopesFirstStrandSpawns
+scopes_first_strand_spawns = simp (opened-scope, opened-print, opened-let, opened-set, value_of-number, value_of-variable, spawns-out)
+
+pub scopes_second_strand_syncs : ScopesSecondStrandSyncs
+scopes_second_strand_syncs = simp (opened-scope, opened-print, opened-let, opened-set, value_of-number, value_of-variable, spawns-out)
+
+pub scopes_last_strand_is_there : ScopesLastStrandIsThere
+scopes_last_strand_is_there = simp (opened-scope, opened-print, opened-let, opened-set, value_of-number, value_of-variable, spawns-out)
+
+pub no_strand_behind_a_scopes_last : NoStrandBehindAScopesLast
+no_strand_behind_a_scopes_last = simp (opened-scope, opened-print, opened-let, opened-set, value_of-number, value_of-variable, spawns-out)
+
+pub strand_after_a_scope_prints : StrandAfterAScopePrints
+strand_after_a_scope_prints = simp (opened-scope, opened-print, opened-let, opened-set, value_of-number, value_of-variable, spawns-out)

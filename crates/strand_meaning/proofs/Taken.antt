@@ -12,7 +12,7 @@ use Rattle.serial_meaning.specs.declared.value.Value.{Value}
 use Rattle.serial_meaning.specs.declared.event.Fault.{Fault}
 use Rattle.serial_meaning.specs.declared.origin.Origin.{Origin}
 use Rattle.strand_meaning.specs.Clear.{IsApart, target_names, touched}
-use Rattle.strand_meaning.specs.Machine.{Place, Spawned, Looped, Half, Token, Told, Handed, Syncs, Loops, Activation, Machine, Reached, Stands, Gives, move}
+use Rattle.strand_meaning.specs.Machine.{Place, Spawned, Looped, Half, Token, Opens, Closes, Told, Handed, Syncs, Loops, Activation, Machine, Reached, Stands, Gives, move}
 use Rattle.strand_meaning.specs.Pieces.{Part}
 use Rattle.strand_meaning.specs.Task.{Stage, Goes, AtSync, AtLoop, Ended, stage_after, changed, changed_at, answered, in_machine, takes, takes_all, resumed, with_answer}
 use Rattle.strand_meaning.specs.Rest.{evaluations, rest_of_stage, rest_open}
@@ -38,12 +38,13 @@ taken child (p ∷ ps) m = taken child ps (take p.place (child p.child).ending m
 pub record Shape : Type 0 where
   pub height : ℕ
   pub left : List Stmt
+  pub leaving : Bool
   pub returning : Bool
   pub target : Option Name
   pub spawned : Bool
 
 abbrev pub shape_of : Machine → Shape
-shape_of m = record { height = length m.below; left = m.top.left; returning = m.top.returning; target = m.top.target; spawned = m.top.spawned }
+shape_of m = record { height = length m.below; left = m.top.left; leaving = m.top.leaving; returning = m.top.returning; target = m.top.target; spawned = m.top.spawned }
 
 shape-answered : (height : ℕ) (target : Option Name) (ended : Result (List Value) Fault) (m : Machine) → shape_of (changed height (answered target ended) m) ≡ shape_of m
 shape-answered height target ended m = by_place (nat_eq height (length m.below)) ended
@@ -51,7 +52,7 @@ shape-answered height target ended m = by_place (nat_eq height (length m.below))
     by_place : (b : Bool) (ended : Result (List Value) Fault) → shape_of (if b then record m { top = answered target ended m.top } else record m { below = changed_at height (answered target ended) m.below }) ≡ shape_of m
     by_place true (Ok vs) = refl
     by_place true (Err f) = refl
-    by_place false ended = ap (λ (n : ℕ). record { height = n; left = m.top.left; returning = m.top.returning; target = m.top.target; spawned = m.top.spawned }) (length-changed height (answered target ended) m.below)
+    by_place false ended = ap (λ (n : ℕ). record { height = n; left = m.top.left; leaving = m.top.leaving; returning = m.top.returning; target = m.top.target; spawned = m.top.spawned }) (length-changed height (answered target ended) m.below)
 
 shape-take : (place : Place) (ended : Result (List Value) Fault) (m : Machine) → shape_of (take place ended m) ≡ shape_of m
 shape-take (Spawned height target) ended m = shape-answered height target ended m
@@ -155,6 +156,8 @@ takes-append child (p ∷ ps) qs stage = takes-append child ps qs (takes p.place
 
 stage-in : (change : Machine → Machine) (ts : List Token) (m : Machine) → stage_after ts (change m) ≡ in_machine change (stage_after ts m)
 stage-in change [] m = refl
+stage-in change (Opens j ∷ ts) m = stage-in change ts m
+stage-in change (Closes j ∷ ts) m = stage-in change ts m
 stage-in change (Told e ∷ ts) m = stage-in change ts m
 stage-in change (Handed o place ∷ ts) m = stage-in change ts m
 stage-in change (Syncs ∷ ts) m = refl
@@ -174,13 +177,16 @@ module _ (plan : PlanView) (child : Origin → Evaluation) (path : List ℕ) (he
   shown-taken ts (Ok (Gives v)) = refl
   shown-taken ts (Err f) = refl
 
+  ended-so : (m : Machine) → (m.top.leaving ≡ true → m.top.left ≡ []) → (taken child ps m).top.leaving ≡ true → (taken child ps m).top.left ≡ []
+  ended-so m ended h = let e = shape-taken child ps m in ap (λ (s : Shape). s.left) e ∙ ended (sym (ap (λ (s : Shape). s.leaving) e) ∙ h)
+
   -- What remains of an instance is what a move shows, and then what it leaves, with the parts so far and those of the move.
-  pub open-move : (m : Machine) → AreFree ps (shape_of m) → ((taken child ps m).top.spawned ≡ false → (taken child ps m).top.faulted ≡ None) →
+  pub open-move : (m : Machine) → AreFree ps (shape_of m) → ((taken child ps m).top.spawned ≡ false → (taken child ps m).top.faulted ≡ None) → (m.top.leaving ≡ true → m.top.left ≡ []) →
       rest_open plan child path ps (Goes m) ≡ behind (token_items (move plan path m).items) (shown_with plan child path ps (move plan path m).items (move plan path m).ending)
-  open-move m free none =
+  open-move m free none ended =
       let r = move plan path m in
       ap (λ stage. rest_of_stage plan child path (resumed stage)) (takes-taken child height ps places (Goes m))
-      ∙ complete-move plan child path (taken child ps m) none
+      ∙ complete-move plan child path (taken child ps m) none (ended-so m ended)
       ∙ ap (λ (r : Run Token Fault Reached). behind (token_items r.items) (shown plan child path r.items r.ending)) (taken-move plan path child ps m free)
       ∙ ap (behind (token_items r.items)) (shown-taken r.items r.ending)
 

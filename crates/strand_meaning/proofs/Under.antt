@@ -5,10 +5,11 @@ use Rattle.script_grammar.specs.declared.tree.Function.{Function}
 use Rattle.serial_meaning.specs.Runs.{Run, done, behind, goes_on, ◌then◌}
 use Rattle.serial_meaning.specs.Functions.{function_at}
 use Rattle.serial_meaning.specs.Plan.{PlanView, functions_of}
-use Rattle.serial_meaning.specs.Exec.{State, strand, activation, exec, instance, filled, bound}
-use Rattle.serial_meaning.specs.Eval.{Evaluation, first_of, serial, iteration, turns, eval_with, eval_at, path_of}
+use Rattle.serial_meaning.specs.Exec.{State, strand, goes_out, activation, exec, instance, filled, bound}
+use Rattle.serial_meaning.specs.Eval.{Evaluation, first_of, serial, iteration, turns, eval_with, eval_below, path_of}
 use Rattle.serial_meaning.proofs.Each.{Each, each-append}
 use Rattle.serial_meaning.proofs.Closed.{Closed, closed-exec, returned-q}
+use Rattle.serial_meaning.proofs.Levels.{every}
 use Rattle.serial_meaning.specs.declared.value.Value.{Value}
 use Rattle.serial_meaning.specs.declared.event.Fault.{Fault}
 use Rattle.serial_meaning.specs.declared.event.Event.{Event}
@@ -16,7 +17,6 @@ use Rattle.serial_meaning.specs.declared.event.Event.TheVariants as event
 use Rattle.serial_meaning.specs.declared.origin.Origin.{Origin}
 use Rattle.serial_meaning.specs.declared.origin.Origin.TheVariants as origin
 use Rattle.strand_meaning.specs.Strands.{pedigree_of}
-use Rattle.strand_meaning.specs.Rest.{child_at}
 
 -- a pedigree has ranks after the path
 abbrev pub IsUnder : List ℕ → List ℕ → Type 0
@@ -54,78 +54,71 @@ up-each : (path : List ℕ) (k : ℕ) (es : List Event) → Each (EventUnder (pa
 up-each path k [] h = tt
 up-each path k (e ∷ es) h = (up path k (pedigree_of e) h.0, up-each path k es h.1)
 
-child-under : (path : List ℕ) (k : ℕ) (r : Evaluation) → StaysUnder (path ++ k ∷ []) r → StaysUnder path r
-child-under path k r h = record { events = up-each path k r.items h.events; ends = by_end r.ending h.ends }
+child-under : {A : Type 0} (path : List ℕ) (k : ℕ) (r : Run Event Fault A) → StaysUnder (path ++ k ∷ []) r → StaysUnder path r
+child-under {A} path k r h = record { events = up-each path k r.items h.events; ends = by_end r.ending h.ends }
   where
-    by_end : (q : Result (List Value) Fault) → EndUnder (path ++ k ∷ []) q → EndUnder path q
-    by_end (Ok vs) n = tt
+    by_end : (q : Result A Fault) → EndUnder (path ++ k ∷ []) q → EndUnder path q
+    by_end (Ok a) n = tt
     by_end (Err f) n = up path k f.at n
 
-module _ (plan : PlanView) (path : List ℕ) (child : Origin → Evaluation) (fine : (o : Origin) → StaysUnder (path_of o) (child o)) where
+module _ (plan : PlanView) (child : Origin → Evaluation) (fine : (o : Origin) → StaysUnder (path_of o) (child o)) where
   abbrev S : Type 0
   S = State (Unit {0})
 
-  abbrev P : ℕ → Run Event Fault S → Type 0
-  P n r = StaysUnder path r
+  abbrev P : List ℕ → ℕ → Run Event Fault S → Type 0
+  P path n r = StaysUnder path r
 
-  abbrev Q : ℕ → Run Event Fault (Value × S) → Type 0
-  Q n r = StaysUnder path r
+  abbrev Q : List ℕ → ℕ → Run Event Fault (Value × S) → Type 0
+  Q path n r = StaysUnder path r
 
-  here : (s : S) → IsUnder path (strand path s)
-  here s = (s.rank, [], refl)
+  here : (path : List ℕ) (s : S) → IsUnder path (strand path s)
+  here path s = (s.rank, [], refl)
 
-  single : {A : Type 0} (e : Event) (a : A) → EventUnder path e → StaysUnder path (record { items = e ∷ []; ending = Ok a })
-  single e a h = record { events = (h, tt); ends = tt }
-
-  rules : Closed (serial child) plan path P Q
+  rules : Closed (serial child) plan P Q
   rules = record {
-    p-done = λ s. nothing path s;
-    q-done = λ v s. nothing path (v, s);
-    p-stop = λ k s. record { events = tt; ends = here s };
-    q-stop = λ k s. record { events = tt; ends = here s };
-    p-print = λ v s. record { events = (here s, tt); ends = tt };
-    q-draw = λ s. record { events = (here s, tt); ends = tt };
-    q-new = λ s. record { events = (here s, tt); ends = tt };
-    p-join = λ s. record { events = (here s, tt); ends = tt };
-    q-child = λ n vs s _. let o = origin.Instance n vs (strand path s) in event-first path (event.Spawn (strand path s)) _ (here s) (under-then path (child o then λ vs. done (first_of vs, s.spawned)) (λ r. done (r.0, record s { rank = s.rank + 1; spawned = r.1 })) (under-then path (child o) (λ vs. done (first_of vs, s.spawned)) (child-under path s.rank (child o) (fine o)) (λ vs. nothing path (first_of vs, s.spawned))) (λ r. nothing path (r.0, record s { rank = s.rank + 1; spawned = r.1 })));
-    p-loop = λ n vs lo hi target s _. let o = origin.Loop n vs lo (strand path s) (record { lo = 0; hi = hi }) in event-first path (event.Loop (strand path s)) _ (here s) (under-then path (child o) (λ ws. done (record s { rank = s.rank + 1; env = filled target ws s.env })) (child-under path s.rank (child o) (fine o)) (λ ws. nothing path (record s { rank = s.rank + 1; env = filled target ws s.env })));
-    pp = λ n r f h k. under-then path r f h k;
-    pq = λ n r f h k. under-then path r f h k;
-    qp = λ n r f h k. under-then path r f h k;
-    qq = λ n r f h k. under-then path r f h k;
+    p-done = λ path s. nothing path s;
+    q-done = λ path v s. nothing path (v, s);
+    p-stop = λ path k s. record { events = tt; ends = here path s };
+    q-stop = λ path k s. record { events = tt; ends = here path s };
+    p-print = λ path v s. record { events = (here path s, tt); ends = tt };
+    q-draw = λ path s. record { events = (here path s, tt); ends = tt };
+    q-new = λ path s. record { events = (here path s, tt); ends = tt };
+    p-join = λ path s. record { events = (here path s, tt); ends = tt };
+    q-child = λ path n vs s _. let o = origin.Instance n vs (strand path s) in event-first path (event.Spawn (strand path s)) _ (here path s) (under-then path (child o then λ vs. done (first_of vs, s.spawned)) (λ r. done (r.0, record s { rank = s.rank + 1; spawned = r.1 })) (under-then path (child o) (λ vs. done (first_of vs, s.spawned)) (child-under path s.rank (child o) (fine o)) (λ vs. nothing path (first_of vs, s.spawned))) (λ r. nothing path (r.0, record s { rank = s.rank + 1; spawned = r.1 })));
+    p-loop = λ path n vs lo hi target s _. let o = origin.Loop n vs lo (strand path s) (record { lo = 0; hi = hi }) in event-first path (event.Loop (strand path s)) _ (here path s) (under-then path (child o) (λ ws. done (record s { rank = s.rank + 1; env = filled target ws s.env })) (child-under path s.rank (child o) (fine o)) (λ ws. nothing path (record s { rank = s.rank + 1; env = filled target ws s.env })));
+    p-scope = λ path s r _ h. under-then path r (goes_out (serial child) plan path s.rank) (child-under path s.rank r h) (λ a. nothing path (record a { rank = s.rank + 1 }));
+    pp = λ path n r f h k. under-then path r f h k;
+    pq = λ path n r f h k. under-then path r f h k;
+    qp = λ path n r f h k. under-then path r f h k;
+    qq = λ path n r f h k. under-then path r f h k;
   }
 
-  activation-under : (o : Option Function) (vs : List Value) (s : S) → StaysUnder path (activation (serial child) plan path (exec (serial child) plan path) 0 o vs s)
-  activation-under None vs s = record { events = tt; ends = tt }
-  activation-under (Some f) vs s =
-      under-then path (exec (serial child) plan path 0 f.body (start f)) _ (closed-exec (serial child) plan path P Q rules 0 f.body (start f)) (λ a. returned-q (serial child) plan path P Q rules f a)
+  activation-under : (path : List ℕ) (o : Option Function) (vs : List Value) (s : S) → StaysUnder path (activation (serial child) plan path (exec (serial child) plan) 0 o vs s)
+  activation-under path None vs s = record { events = tt; ends = tt }
+  activation-under path (Some f) vs s =
+      under-then path (exec (serial child) plan path 0 f.body (start f)) _ (closed-exec (serial child) plan P Q rules path 0 f.body (start f)) (λ a. returned-q (serial child) plan P Q rules path f a)
     where
       start : Function → S
       start f = record s { env = bound f.params vs; spawned = tt }
 
-  instance-under : (o : Option Function) (vs : List Value) → StaysUnder path (instance (serial child) plan path o vs then λ v. done (v ∷ []))
-  instance-under o vs =
-      under-then path (instance (serial child) plan path o vs) (λ v. done (v ∷ [])) (under-then path (activation (serial child) plan path (exec (serial child) plan path) 0 o vs begins) (λ r. done r.0) (activation-under o vs begins) (λ r. nothing path r.0)) (λ v. nothing path (v ∷ []))
+  instance-under : (path : List ℕ) (o : Option Function) (vs : List Value) → StaysUnder path (instance (serial child) plan path o vs then λ v. done (v ∷ []))
+  instance-under path o vs =
+      under-then path (instance (serial child) plan path o vs) (λ v. done (v ∷ [])) (under-then path (activation (serial child) plan path (exec (serial child) plan) 0 o vs begins) (λ r. done r.0) (activation-under path o vs begins) (λ r. nothing path r.0)) (λ v. nothing path (v ∷ []))
     where
       begins : S
       begins = record { env = []; rank = 0; steps = plan.limits.budget; spawned = tt }
 
-  turns-under : (function : ℕ) (rest : List Value) (first : ℤ) (k n : ℕ) → StaysUnder path (turns child function rest first path k n)
-  turns-under function rest first k zero = nothing path []
-  turns-under function rest first k (suc n) =
+  turns-under : (path : List ℕ) (function : ℕ) (rest : List Value) (first : ℤ) (k n : ℕ) → StaysUnder path (turns child function rest first path k n)
+  turns-under path function rest first k zero = nothing path []
+  turns-under path function rest first k (suc n) =
       let o = iteration function rest first path k in
       under-then path (child o) (λ vs. turns child function rest first path (k + 1) n then λ ws. done (vs ++ ws)) (child-under path k (child o) (fine o))
-      (λ vs. under-then path (turns child function rest first path (k + 1) n) (λ ws. done (vs ++ ws)) (turns-under function rest first (k + 1) n) (λ ws. nothing path (vs ++ ws)))
+      (λ vs. under-then path (turns child function rest first path (k + 1) n) (λ ws. done (vs ++ ws)) (turns-under path function rest first (k + 1) n) (λ ws. nothing path (vs ++ ws)))
 
 with-under : (plan : PlanView) (child : Origin → Evaluation) → ((o : Origin) → StaysUnder (path_of o) (child o)) → (o : Origin) → StaysUnder (path_of o) (eval_with plan child o)
-with-under plan child fine (origin.Instance function args path) = instance-under plan path child fine (function_at (functions_of plan) function) args
-with-under plan child fine (origin.Loop function rest first path range) = turns-under plan path child fine function rest first range.lo (range.hi - range.lo)
-
-at-under : (plan : PlanView) (left : ℕ) (o : Origin) → StaysUnder (path_of o) (eval_at plan left o)
-at-under plan zero o = with-under plan (λ o. done []) (λ o. nothing (path_of o) []) o
-at-under plan (suc left) o = with-under plan (eval_at plan left) (at-under plan left) o
+with-under plan child fine (origin.Instance function args path) = instance-under plan child fine path (function_at (functions_of plan) function) args
+with-under plan child fine (origin.Loop function rest first path range) = turns-under plan child fine path function rest first range.lo (range.hi - range.lo)
 
 -- what an origin's children give stands below their paths
-pub children-under : (plan : PlanView) (left : ℕ) (o : Origin) → StaysUnder (path_of o) (child_at plan left o)
-children-under plan zero o = nothing (path_of o) []
-children-under plan (suc left) o = at-under plan left o
+pub children-under : (plan : PlanView) (left : ℕ) (o : Origin) → StaysUnder (path_of o) (eval_below plan left o)
+children-under plan = every plan (done []) (eval_with plan) (λ o r. StaysUnder (path_of o) r) (λ o. nothing (path_of o) []) (with-under plan)

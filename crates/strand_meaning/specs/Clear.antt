@@ -48,6 +48,7 @@ touched (act.Print e) = names_in e
 touched (act.If e a b) = names_in e
 touched (act.While e a) = names_in e
 touched (act.Pfor x lo hi target c) = names_in lo ++ (names_in hi ++ (names_in_all c.args ++ target_names target))
+touched (act.Scope a) = []
 
 -- a spawn's target is pending from then on, and nothing is after a sync
 abbrev pub pending_right : Name → Right → Names → Names
@@ -69,6 +70,7 @@ pending_after (act.Print e) pending = pending
 pending_after (act.If e a b) pending = pending
 pending_after (act.While e a) pending = pending
 pending_after (act.Pfor x lo hi target c) pending = pending
+pending_after (act.Scope a) pending = []
 
 -- nothing stands inside it
 abbrev pub IsSimple : Act-F Act Stmt → Type 0
@@ -83,9 +85,10 @@ IsSimple (act.Print e) = Unit {0}
 IsSimple (act.If e a b) = ⊥
 IsSimple (act.While e a) = ⊥
 IsSimple (act.Pfor x lo hi target c) = Unit {0}
+IsSimple (act.Scope a) = ⊥
 
 -- Where these variables are pending the statements touch none that is pending before it, and at their end no others are pending than
--- those of the last list. A loop's condition and body are judged with all that is pending before one of its turns.
+-- those of the last list. A loop's condition and body are judged with all that is pending before one of its turns. A scope ends with a sync.
 pub data IsClear : Names → List Stmt → Names → Type 0 where
   Nothing : {pending ends : Names} → IsWithin pending ends → IsClear pending [] ends
   Simple : {pending ends : Names} {st : Stmt} {sts : List Stmt} (a : Act-F Act Stmt) → out-Act (out-Stmt st).act ≡ a → IsSimple a →
@@ -94,6 +97,8 @@ pub data IsClear : Names → List Stmt → Names → Type 0 where
       IsApart (names_in e) pending → IsClear pending yes both → IsClear pending no both → IsClear both sts ends → IsClear pending (st ∷ sts) ends
   Turns : {pending ends : Names} {st : Stmt} {sts : List Stmt} (e : Expr) (body : List Stmt) (all : Names) → out-Act (out-Stmt st).act ≡ act.While e body →
       IsWithin pending all → IsApart (names_in e) all → IsClear all body all → IsClear all sts ends → IsClear pending (st ∷ sts) ends
+  Levels : {pending ends : Names} {st : Stmt} {sts : List Stmt} (block : List Stmt) (left : Names) → out-Act (out-Stmt st).act ≡ act.Scope block →
+      IsClear pending block left → IsClear [] sts ends → IsClear pending (st ∷ sts) ends
 
 -- each function's statements, where nothing is pending before them
 abbrev pub IsClearFunction : Function → Type 0

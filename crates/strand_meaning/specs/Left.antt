@@ -1,13 +1,13 @@
 -- How many stops are left to a task, at most, and how many moves before the next one. The stops are a number of the open run of what
 -- remains: a sync is a wait, and a child is a spawn and, where it is a loop, a wait.
-use Rattle.std.specs.Prelude.{ℕ, ◌+◌, ◌-◌, ◌*◌, Bool, true, false, List, [], ◌∷◌, length}
+use Rattle.std.specs.Prelude.{ℕ, ◌+◌, ◌-◌, ◌*◌, Bool, true, false, List, [], ◌∷◌, length, if◌then◌else◌}
 use Rattle.serial_meaning.specs.Plan.{PlanView}
 use Rattle.serial_meaning.specs.Eval.{Evaluation, path_of}
-use Rattle.serial_meaning.specs.Open.{Item, Happened, Child}
+use Rattle.serial_meaning.specs.Open.{Item, Happened, Child, Opened, Closed}
 use Rattle.serial_meaning.specs.declared.event.Event.{Event}
 use Rattle.serial_meaning.specs.declared.event.Event.TheVariants as event
 use Rattle.serial_meaning.specs.declared.origin.Origin.{Origin}
-use Rattle.strand_meaning.specs.Machine.{Machine}
+use Rattle.strand_meaning.specs.Machine.{Activation, Machine}
 use Rattle.strand_meaning.specs.Pieces.{Part}
 use Rattle.strand_meaning.specs.Task.{Stage, Goes, AtSync, AtLoop, Ended, Work, Splits, Runs, Over, Task, begins_last, own_instance}
 use Rattle.strand_meaning.specs.Rest.{children_of, rest_open}
@@ -24,6 +24,8 @@ abbrev pub item_stops : List Item → ℕ
 item_stops [] = 0
 item_stops (Happened e ∷ items) = event_stops e + item_stops items
 item_stops (Child o ∷ items) = 2 + item_stops items
+item_stops (Opened j ∷ items) = item_stops items
+item_stops (Closed j ∷ items) = item_stops items
 
 -- a wait that it comes to, or stands in
 abbrev pub at_wait : Bool → ℕ
@@ -60,9 +62,18 @@ stops_left t = stops_of t.plan t.origin t.waiting t.pieces.handed t.work
 
 -- Moves
 
--- what an instance may still do: twice its steps, and its activations
+-- the moves by which an activation leaves its open scopes: of each the sync at its end and the way out
+abbrev pub ways_out : Activation → ℕ
+ways_out a = 2 * length a.levels - (if a.leaving then 1 else 0)
+
+-- those, and one by which each ends
+abbrev pub all_ways_out : List Activation → ℕ
+all_ways_out [] = 0
+all_ways_out (a ∷ below) = ways_out a + 1 + all_ways_out below
+
+-- what an instance may still do: a move for each step and two for the scope or one for the call that it may begin, and the ways out of all that is open
 abbrev pub moves_of : Machine → ℕ
-moves_of m = 2 * m.steps + length m.below
+moves_of m = 3 * m.steps + ways_out m.top + all_ways_out m.below
 
 abbrev pub stage_moves : Stage → ℕ
 stage_moves (Goes m) = 2 + moves_of m
@@ -71,7 +82,7 @@ stage_moves (AtLoop m) = 0
 stage_moves (Ended e) = 1
 
 abbrev pub work_moves : PlanView → Work → ℕ
-work_moves plan (Splits left) = 3 + 2 * plan.limits.budget
+work_moves plan (Splits left) = 3 + 3 * plan.limits.budget
 work_moves plan (Runs stage) = stage_moves stage
 work_moves plan (Over v gone_on) = 0
 

@@ -15,7 +15,7 @@ use Rattle.serial_meaning.specs.Runs.{Run, done, stopped, happens}
 use Rattle.serial_meaning.specs.Values.{Env, value_of}
 use Rattle.serial_meaning.specs.Functions.{number_of, function_at, any_spawns}
 use Rattle.serial_meaning.specs.Plan.{PlanView, functions_of}
-use Rattle.serial_meaning.specs.Exec.{State, Manner, with_slot, bound, given, paid, implied, statement}
+use Rattle.serial_meaning.specs.Exec.{State, Manner, Block, with_slot, bound, given, paid, implied, join_at, goes_out, statement}
 use Rattle.serial_meaning.specs.Open.{filler, is_empty_loop}
 use Rattle.serial_meaning.specs.declared.value.Value.{Value}
 use Rattle.serial_meaning.specs.declared.value.Value.TheVariants.{Int}
@@ -33,17 +33,21 @@ pub data Place : Type 0 where
   Looped : Option Name → Place
   Half : Place
 
--- what a move shows: an event, a child, that it stands at a sync and waits, that it stands at a loop's end and waits
+-- what a move shows: an event, a child, that it stands at a sync and waits, that it stands at a loop's end and waits, and where a scope begins
+-- and has ended
 pub data Token : Type 0 where
+  Opens : List ℕ → Token
+  Closes : List ℕ → Token
   Told : Event → Token
   Handed : Origin → Place → Token
   Syncs : Token
   Loops : Token
 
--- A statement is left by a fault, or because it goes inside: to these statements, with so many open calls, from this state.
+-- A statement is left by a fault, or because it goes inside: to these statements, at a present path and with so many open calls, from this
+-- state.
 pub data Halt : Type 0 where
   Faulted : Fault → Halt
-  Inside : ℕ → List Stmt → State Bool → Halt
+  Inside : List ℕ → ℕ → List Stmt → State Bool → Halt
 
 abbrev pub loop_tokens : Bool → Origin → Place → List Token
 loop_tokens true o place = []
@@ -58,6 +62,8 @@ sync_tokens false = []
 abbrev pub handing : PlanView → Place → Manner Token Halt Bool
 handing plan place = record {
   event = Told;
+  opens = λ j. Opens j ∷ [];
+  closes = λ j. Closes j ∷ [];
   own = Faulted;
   none = false;
   spawn = λ o k. happens (Handed o place) (filler plan o, true);
@@ -66,8 +72,8 @@ handing plan place = record {
 }
 
 -- what stands inside isn't done, but left for the next moves
-abbrev pub inside : ℕ → List Stmt → State Bool → Run Token Halt (State Bool)
-inside calls sts s = stopped (Inside calls sts s)
+abbrev pub inside : Block Token Halt Bool
+inside here calls sts s = stopped (Inside here calls sts s)
 
 abbrev pub place_of : ℕ → Act-F Act Stmt → Place
 place_of height (act.Let x r) = Spawned height (Some x)
@@ -81,15 +87,24 @@ place_of height (act.Print e) = Spawned height None
 place_of height (act.If e a b) = Spawned height None
 place_of height (act.While e a) = Spawned height None
 place_of height (act.Pfor x lo hi target c) = Looped target
+place_of height (act.Scope a) = Spawned height None
 
 -- The stack
 
--- A function that was begun: its place in the script, the statements left, and whether these and the sync that its return implies are
--- after it; its variables; whether it spawned since its own last sync, and the least fault among the answers of these children that
+-- A scope that an activation has open: the rank of the strand that came to it, and the statements left after it.
+pub record Level : Type 0 where
+  pub rank : ℕ
+  pub left : List Stmt
+
+-- A function that was begun: its place in the script, the statements left in its innermost open scope, its open scopes, of which the innermost
+-- stands first, and whether the sync at the end of that one is after it;
+-- whether all these and the sync that its return implies are after it; its variables; whether it spawned since its own last sync, and the least fault among the answers of these children that
 -- were taken; and the variable of the activation below it that its value goes to.
 pub record Activation : Type 0 where
   pub function : ℕ
   pub left : List Stmt
+  pub levels : List Level
+  pub leaving : Bool
   pub returning : Bool
   pub env : Env
   pub spawned : Bool
@@ -111,9 +126,41 @@ pub data Reached : Type 0 where
 abbrev pub state_of : Machine → State Bool
 state_of m = record { env = m.top.env; rank = m.rank; steps = m.steps; spawned = m.top.spawned }
 
+-- Paths
+
+-- the path inside open scopes
+abbrev pub inside_of : List ℕ → List Level → List ℕ
+inside_of path [] = path
+inside_of path (l ∷ ls) = inside_of path ls ++ l.rank ∷ []
+
+-- the present path of the innermost of these activations, in an instance of that path
+abbrev pub present : List ℕ → List Activation → List ℕ
+present path [] = path
+present path (a ∷ below) = inside_of (present path below) a.levels
+
+-- the present path
+abbrev pub here_of : List ℕ → Machine → List ℕ
+here_of path m = inside_of (present path m.below) m.top.levels
+
 -- the innermost activation goes on with these statements, from this state
 abbrev pub with_left : Machine → List Stmt → State Bool → Machine
 with_left m left s = record m { rank = s.rank; steps = s.steps; top = record m.top { left = left; env = s.env; spawned = s.spawned } }
+
+-- it goes on in a scope, after which these statements are left
+abbrev pub into_level : Machine → List Stmt → List Stmt → State Bool → Machine
+into_level m after inner s = record m {
+  rank = s.rank;
+  steps = s.steps;
+  top = record m.top { left = inner; levels = record { rank = m.rank; left = after } ∷ m.top.levels; env = s.env; spawned = s.spawned };
+}
+
+-- the sync at the end of its innermost scope is after it
+abbrev pub with_leaving : Machine → State Bool → Machine
+with_leaving m s = record m { rank = s.rank; steps = s.steps; top = record m.top { leaving = true; env = s.env; spawned = s.spawned } }
+
+-- it goes on after its innermost scope
+abbrev pub out_of_level : Machine → Level → List Level → State Bool → Machine
+out_of_level m l ls s = record m { rank = s.rank; steps = s.steps; top = record m.top { left = l.left; levels = ls; leaving = false; env = s.env; spawned = s.spawned } }
 
 -- its return is paid, and its last sync is after it
 abbrev pub with_returning : Machine → State Bool → Machine
@@ -138,41 +185,42 @@ module _ (plan : PlanView) where
   calling target c left m body s = record {
     rank = s.rank;
     steps = s.steps;
-    top = record { function = number_of (functions_of plan) c.name.bytes; left = body; returning = false; env = s.env; spawned = s.spawned; faulted = None; target = target };
+    top = record { function = number_of (functions_of plan) c.name.bytes; left = body; levels = []; leaving = false; returning = false; env = s.env; spawned = s.spawned; faulted = None; target = target };
     below = record m.top { left = left } ∷ m.below;
   }
 
-  -- what a statement goes inside to: a callee's body, the turn of a loop, which then stands again, or a block
+  -- what a statement goes inside to: a callee's body, the turn of a loop, which then stands again, a scope, or a block
   abbrev pub entered : Stmt → Act-F Act Stmt → List Stmt → Machine → List Stmt → State Bool → Machine
   entered st (act.Let x (right.Call at c)) left m inner s = calling (Some x) c left m inner s
   entered st (act.Set x (right.Call at c)) left m inner s = calling (Some x) c left m inner s
   entered st (act.Call c) left m inner s = calling None c left m inner s
   entered st (act.While e a) left m inner s = with_left m (inner ++ st ∷ left) s
+  entered st (act.Scope a) left m inner s = into_level m left inner s
   entered st a left m inner s = with_left m (inner ++ left) s
 
   abbrev pub reached : (State Bool → Machine) → (List Stmt → State Bool → Machine) → Result (State Bool) Halt → Result Reached Fault
   reached on into (Ok s) = Ok (Stands (on s))
   reached on into (Err (Faulted f)) = Err f
-  reached on into (Err (Inside calls inner s)) = Ok (Stands (into inner s))
+  reached on into (Err (Inside here calls inner s)) = Ok (Stands (into inner s))
 
   abbrev pub gives : Machine → Result (Value × State Bool) Halt → Result Reached Fault
   gives m (Ok r) = Ok (back m.below m.top.target r.0 r.1.rank r.1.steps)
   gives m (Err (Faulted f)) = Err f
-  gives m (Err (Inside calls inner s)) = Ok (Stands m)
+  gives m (Err (Inside here calls inner s)) = Ok (Stands m)
 
   module _ (path : List ℕ) where
     abbrev pub act_run : Machine → Stmt → Act-F Act Stmt → Run Token Halt (State Bool)
-    act_run m st a = statement (handing plan (place_of (length m.below) a)) plan path inside (length m.below) st (state_of m)
+    act_run m st a = statement (handing plan (place_of (length m.below) a)) plan (here_of path m) inside (length m.below) st (state_of m)
 
     -- the step of a return and the sync that it implies
     abbrev pub return_run : Machine → Run Token Halt (State Bool)
     return_run m =
         let how = handing plan (Spawned (length m.below) None) in
-        paid how plan path (state_of m) λ s. implied how plan path (spawns_in (function_at (functions_of plan) m.top.function)) s
+        paid how plan (here_of path m) (state_of m) λ s. implied how plan (here_of path m) (spawns_in (function_at (functions_of plan) m.top.function)) s
 
     -- the value of a return
     abbrev pub value_run : Option Function → Machine → Run Token Halt (Value × State Bool)
-    value_run (Some f) m = given (handing plan (Spawned (length m.below) None)) plan path (value_of f.result m.top.env) (state_of m) λ v. done (v, state_of m)
+    value_run (Some f) m = given (handing plan (Spawned (length m.below) None)) plan (here_of path m) (value_of f.result m.top.env) (state_of m) λ v. done (v, state_of m)
     value_run None m = done (Int (pos 0), state_of m)
 
     abbrev pub statement_move : Machine → Stmt → List Stmt → Run Token Fault Reached
@@ -184,11 +232,27 @@ module _ (plan : PlanView) where
     return_move m false = let r = return_run m in record { items = r.items; ending = reached (with_returning m) (λ inner s. m) r.ending }
     return_move m true = let r = value_run (function_at (functions_of plan) m.top.function) m in record { items = r.items; ending = gives m r.ending }
 
+    -- the end of the innermost scope: the sync there; and then what is left after it
+    abbrev pub level_move : Machine → Level → List Level → Bool → Run Token Fault Reached
+    level_move m l ls false =
+        let how = handing plan (Spawned (length m.below) None) in
+        let r = join_at how plan (present path m.below) (here_of path m) (state_of m) in
+        record { items = r.items; ending = reached (with_leaving m) (λ inner s. m) r.ending }
+    level_move m l ls true =
+        let how = handing plan (Spawned (length m.below) None) in
+        let r = goes_out how plan (inside_of (present path m.below) ls) l.rank (state_of m) in
+        record { items = r.items; ending = reached (out_of_level m l ls) (λ inner s. m) r.ending }
+
+    -- where no statement is left
+    abbrev pub end_move : Machine → List Level → Run Token Fault Reached
+    end_move m [] = return_move m m.top.returning
+    end_move m (l ∷ ls) = level_move m l ls m.top.leaving
+
     abbrev pub move_at : Machine → List Stmt → Run Token Fault Reached
-    move_at m [] = return_move m m.top.returning
+    move_at m [] = end_move m m.top.levels
     move_at m (st ∷ left) = statement_move m st left
 
-    -- One move: a statement; the step and sync of a return; or its value.
+    -- One move: a statement; the sync at the end of a scope; the way out of it; the step and sync of a return; or its value.
     abbrev pub move : Machine → Run Token Fault Reached
     move m = move_at m m.top.left
 
@@ -200,7 +264,7 @@ begun plan function args = from (function_at (functions_of plan) function)
     from (Some f) = Stands (record {
       rank = 0;
       steps = plan.limits.budget;
-      top = record { function = function; left = f.body; returning = false; env = bound f.params args; spawned = false; faulted = None; target = None };
+      top = record { function = function; left = f.body; levels = []; leaving = false; returning = false; env = bound f.params args; spawned = false; faulted = None; target = None };
       below = [];
     })
     from None = Gives (Int (pos 0))

@@ -5,7 +5,7 @@ use Rattle.serial_meaning.specs.declared.value.Value.{Value}
 use Rattle.serial_meaning.specs.declared.event.Fault.{Fault}
 use Rattle.serial_meaning.specs.declared.event.Event.{Event}
 use Rattle.serial_meaning.specs.declared.origin.Origin.{Origin}
-use Rattle.strand_meaning.specs.Machine.{Place, Token, Told, Handed, Syncs, Loops}
+use Rattle.strand_meaning.specs.Machine.{Place, Token, Opens, Closes, Told, Handed, Syncs, Loops}
 
 -- a child that was handed out and whose answer isn't taken, where its value goes, and the task's own events after it, up to the next
 -- child
@@ -48,6 +48,8 @@ hand o place pieces = record pieces { handed = pieces.handed ++ record { child =
 -- what a move shows
 abbrev pub with_tokens : List Token → Pieces → Pieces
 with_tokens [] pieces = pieces
+with_tokens (Opens j ∷ ts) pieces = with_tokens ts pieces
+with_tokens (Closes j ∷ ts) pieces = with_tokens ts pieces
 with_tokens (Told e ∷ ts) pieces = with_tokens ts (tell e pieces)
 with_tokens (Handed o place ∷ ts) pieces = with_tokens ts (hand o place pieces)
 with_tokens (Syncs ∷ ts) pieces = with_tokens ts pieces

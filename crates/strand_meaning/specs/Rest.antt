@@ -1,5 +1,5 @@
 -- What remains of a task, as a run of the open tree, and what a task gives in the end.
-use Rattle.std.specs.Prelude.{ℕ, zero, suc, ◌-◌, Bool, true, false, List, [], ◌∷◌, ◌++◌, Option, Some, None, Result, Ok, Err, length}
+use Rattle.std.specs.Prelude.{ℕ, ◌-◌, Bool, true, false, List, [], ◌∷◌, ◌++◌, Option, Some, None, Result, Ok, Err, length}
 use Rattle.std.specs.Prelude.{pos}
 use Rattle.script_grammar.specs.declared.tree.Name.{Name}
 use Rattle.script_grammar.specs.declared.tree.Function.{Function}
@@ -7,9 +7,9 @@ use Rattle.serial_meaning.specs.Runs.{Run, done, behind, ◌then◌}
 use Rattle.serial_meaning.specs.Values.{value_of}
 use Rattle.serial_meaning.specs.Functions.{function_at}
 use Rattle.serial_meaning.specs.Plan.{PlanView, functions_of}
-use Rattle.serial_meaning.specs.Exec.{State, given, paid, implied, exec}
-use Rattle.serial_meaning.specs.Eval.{Evaluation, path_of, turns, eval_at, eval, depth_left}
-use Rattle.serial_meaning.specs.Open.{Item, Happened, Child, Ending, Own, Joined, put_off_all}
+use Rattle.serial_meaning.specs.Exec.{State, given, paid, implied, goes_out, leaves, exec}
+use Rattle.serial_meaning.specs.Eval.{Evaluation, path_of, turns, eval_below, eval, depth_left}
+use Rattle.serial_meaning.specs.Open.{Item, Happened, Child, Opened, Closed, Ending, Own, Joined, put_off_all}
 use Rattle.serial_meaning.specs.declared.value.Value.{Value}
 use Rattle.serial_meaning.specs.declared.value.Value.TheVariants.{Int}
 use Rattle.serial_meaning.specs.declared.event.Fault.{Fault}
@@ -17,17 +17,13 @@ use Rattle.serial_meaning.specs.declared.event.Event.{Event}
 use Rattle.serial_meaning.specs.declared.origin.Origin.{Origin}
 use Rattle.serial_meaning.specs.declared.origin.Origin.TheVariants.{Instance, Loop}
 use Rattle.loop_range.specs.Range.{Range}
-use Rattle.strand_meaning.specs.Machine.{Activation, Machine, with_scalar, spawns_in}
+use Rattle.strand_meaning.specs.Machine.{Level, Activation, Machine, inside_of, present, with_scalar, spawns_in}
 use Rattle.strand_meaning.specs.Pieces.{Part, Pieces}
 use Rattle.strand_meaning.specs.Task.{Stage, Goes, AtSync, AtLoop, Ended, Work, Splits, Runs, Over, Task, own_instance, takes_all, resumed, more_values}
 
--- What an origin's children give: their evaluations, by the ranks left.
-abbrev pub child_at : PlanView → ℕ → Origin → Evaluation
-child_at plan zero = λ o. done []
-child_at plan (suc left) = eval_at plan left
-
+-- what an origin's children give: their evaluations
 abbrev pub children_of : PlanView → Origin → Origin → Evaluation
-children_of plan o = child_at plan (depth_left plan o)
+children_of plan o = eval_below plan (depth_left plan o)
 
 abbrev pub evaluations : (Origin → Evaluation) → List Part → List Evaluation
 evaluations child [] = []
@@ -36,18 +32,38 @@ evaluations child (p ∷ ps) = child p.child ∷ evaluations child ps
 -- What remains of an instance, with its children's evaluations in place of their answers
 
 module _ (plan : PlanView) (child : Origin → Evaluation) (path : List ℕ) where
-  abbrev pub valued : Option Function → State (Option Fault) → Run Item Ending (Value × State (Option Fault))
-  valued (Some f) s = given (put_off_all plan child) plan path (value_of f.result s.env) s λ v. done (v, s)
-  valued None s = done (Int (pos 0), s)
+  -- at the present path of an activation, outside of its scopes
+  abbrev pub valued : List ℕ → Option Function → State (Option Fault) → Run Item Ending (Value × State (Option Fault))
+  valued here (Some f) s = given (put_off_all plan child) plan here (value_of f.result s.env) s λ v. done (v, s)
+  valued here None s = done (Int (pos 0), s)
 
   -- a return, or what is left of it after its sync
-  abbrev pub closes : Bool → Option Function → State (Option Fault) → Run Item Ending (Value × State (Option Fault))
-  closes false f s = paid (put_off_all plan child) plan path s λ s. implied (put_off_all plan child) plan path (spawns_in f) s then valued f
-  closes true f s = valued f s
+  abbrev pub closes : List ℕ → Bool → Option Function → State (Option Fault) → Run Item Ending (Value × State (Option Fault))
+  closes here false f s =
+      paid (put_off_all plan child) plan here s λ s. implied (put_off_all plan child) plan here (spawns_in f) s then valued here f
+  closes here true f s = valued here f s
 
-  -- an activation to its end: its statements left and its return
-  abbrev pub remains : Activation → ℕ → State (Option Fault) → Run Item Ending (Value × State (Option Fault))
-  remains a calls s = exec (put_off_all plan child) plan path calls a.left s then closes a.returning (function_at (functions_of plan) a.function)
+  -- the end of a scope that stands at this rank: the sync in it, unless that is done, and out of it
+  abbrev pub level_end : Bool → List ℕ → ℕ → State (Option Fault) → Run Item Ending (State (Option Fault))
+  level_end false here rank s = leaves (put_off_all plan child) plan here rank s
+  level_end true here rank s = goes_out (put_off_all plan child) plan here rank s
+
+  -- what is after the statements of the innermost of these open scopes: its end and the statements after it, and so on outwards
+  abbrev pub outwards : List ℕ → ℕ → Bool → List Level → State (Option Fault) → Run Item Ending (State (Option Fault))
+  outwards here calls leaving [] s = done s
+  outwards here calls leaving (l ∷ ls) s =
+      level_end leaving (inside_of here ls) l.rank s then λ s.
+      exec (put_off_all plan child) plan (inside_of here ls) calls l.left s then
+      outwards here calls false ls
+
+  -- after the statements of an activation over these: the ends of its scopes and its return
+  abbrev pub afterwards : Activation → List Activation → State (Option Fault) → Run Item Ending (Value × State (Option Fault))
+  afterwards a below s =
+      outwards (present path below) (length below) a.leaving a.levels s then closes (present path below) a.returning (function_at (functions_of plan) a.function)
+
+  -- an activation to its end: its statements left, and what is after them
+  abbrev pub remains : Activation → List Activation → State (Option Fault) → Run Item Ending (Value × State (Option Fault))
+  remains a below s = exec (put_off_all plan child) plan (inside_of (present path below) a.levels) (length below) a.left s then afterwards a below
 
   abbrev pub caller_state : Activation → Option Name → Value × State (Option Fault) → State (Option Fault)
   caller_state caller target r = record { env = with_scalar target r.0 caller.env; rank = r.1.rank; steps = r.1.steps; spawned = caller.faulted }
@@ -55,7 +71,7 @@ module _ (plan : PlanView) (child : Origin → Evaluation) (path : List ℕ) whe
   -- the activations below it, from the value on that goes to the first of them
   abbrev pub remains_below : List Activation → Option Name → Value × State (Option Fault) → Run Item Ending Value
   remains_below [] target r = done r.0
-  remains_below (caller ∷ below) target r = remains caller (length below) (caller_state caller target r) then remains_below below caller.target
+  remains_below (caller ∷ below) target r = remains caller below (caller_state caller target r) then remains_below below caller.target
 
   -- what is known of an activation's children is the least fault among their answers
   abbrev pub open_state : Machine → State (Option Fault)
@@ -63,7 +79,7 @@ module _ (plan : PlanView) (child : Origin → Evaluation) (path : List ℕ) whe
 
   -- a machine whose children have all answered
   abbrev pub rest_of_machine : Machine → Run Item Ending Value
-  rest_of_machine m = remains m.top (length m.below) (open_state m) then remains_below m.below m.top.target
+  rest_of_machine m = remains m.top m.below (open_state m) then remains_below m.below m.top.target
 
   abbrev pub rest_of_stage : Stage → Run Item Ending Value
   rest_of_stage (Goes m) = rest_of_machine m
@@ -86,6 +102,8 @@ module _ (child : Origin → Evaluation) where
   closed_at [] ending = record { items = []; ending = closed_end ending }
   closed_at (Happened e ∷ items) ending = behind (e ∷ []) (closed_at items ending)
   closed_at (Child o ∷ items) ending = child o then λ vs. closed_at items ending
+  closed_at (Opened j ∷ items) ending = closed_at items ending
+  closed_at (Closed j ∷ items) ending = closed_at items ending
 
   abbrev pub closed : {A : Type 0} → Run Item Ending A → Run Event Fault A
   closed r = closed_at r.items r.ending

@@ -13,7 +13,7 @@ use Rattle.serial_meaning.specs.declared.event.Event.{Event}
 use Rattle.serial_meaning.specs.declared.origin.Origin.{Origin}
 use Rattle.serial_meaning.specs.declared.origin.Origin.TheVariants.{Instance, Loop}
 use Rattle.strand_meaning.specs.Clear.{IsApart, IsClear, IsClearPlan, target_names}
-use Rattle.strand_meaning.specs.Machine.{Place, Spawned, Looped, Half, Activation, spawns_in}
+use Rattle.strand_meaning.specs.Machine.{Place, Spawned, Looped, Half, Level, Activation, spawns_in}
 use Rattle.strand_meaning.specs.Pieces.{Part}
 use Rattle.strand_meaning.specs.Task.{Stage, Goes, AtSync, AtLoop, Ended, Work, Splits, Runs, Over, Task, own_instance}
 use Rattle.strand_meaning.specs.Rest.{children_of, rest_open, finish}
@@ -42,15 +42,23 @@ any_by height (p ∷ ps) = is_by height p.place || any_by height ps
 
 -- Activations
 
+-- After the end of a scope nothing is unfilled, and the statements left after it touch no variable that is pending before them. Where they spawn,
+-- so does the function's text.
+abbrev pub AreSoundLevels : Type 0 → List Level → Type 0
+AreSoundLevels in_text [] = Unit {0}
+AreSoundLevels in_text (l ∷ ls) = ((ends : Names) × IsClear [] l.left ends) × (any_spawns l.left ≡ true → in_text) × AreSoundLevels in_text ls
+
 -- The statements left touch no unfilled variable. A spawn since its own last sync, and a fault among the answers of these children, are
 -- known of an activation. A sync comes before its value where it spawned.
 pub record IsSound (plan : PlanView) (parts : List Part) (height : ℕ) (a : Activation) : Type 0 where
   pub clear : (ends : Names) × IsClear (unfilled height parts) a.left ends
+  pub levels : AreSoundLevels (spawns_in (function_at (functions_of plan) a.function) ≡ true) a.levels
   pub spawned : any_by height parts ≡ true → a.spawned ≡ true
   pub faulted : a.spawned ≡ false → a.faulted ≡ None
   pub in_text : a.spawned ≡ true → spawns_in (function_at (functions_of plan) a.function) ≡ true
   pub left_in_text : any_spawns a.left ≡ true → spawns_in (function_at (functions_of plan) a.function) ≡ true
-  pub returning : a.returning ≡ true → (a.spawned ≡ false) × (a.left ≡ [])
+  pub leaving : a.leaving ≡ true → (a.spawned ≡ false) × (a.left ≡ [])
+  pub returning : a.returning ≡ true → (a.spawned ≡ false) × (a.left ≡ []) × (a.levels ≡ [])
 
 -- the activations below the one whose value goes there
 abbrev pub AreSound : PlanView → List Part → Option Name → List Activation → Type 0
@@ -140,11 +148,11 @@ IsSoundWork plan o parts (Over v false) = IsLoop o × AreHalves parts
 
 -- Children as they were handed out
 
--- A half of the task's loop has its path. Any other child's path is that of a strand of the task's own instance, and stands among these
--- events as the one by which the child was spawned or begun.
+-- A half of the task's loop has its path. Any other child's path is that of a strand of the task's own instance, in a scope or outside of all,
+-- and stands among these events as the one by which the child was spawned or begun.
 abbrev pub IsShownBy : Origin → List Event → Part → Type 0
 IsShownBy o events p =
-    (IsHalf p.place × (path_of p.child ≡ path_of o)) ⊎ ((rank : ℕ) × (path_of p.child ≡ path_of (own_instance o) ++ rank ∷ []) × Contains (places events) (path_of p.child))
+    (IsHalf p.place × (path_of p.child ≡ path_of o)) ⊎ ((rank : ℕ) × (more : List ℕ) × (path_of p.child ≡ path_of (own_instance o) ++ rank ∷ more) × Contains (places events) (path_of p.child))
 
 -- the first is shown by these events, and each other by those between it and the child before it
 abbrev pub AreShownBy : Origin → List Event → List Part → Type 0

@@ -5,7 +5,7 @@ use Rattle.script_grammar.specs.declared.tree.Right.TheVariants as right
 use Rattle.script_grammar.specs.declared.tree.Act.TheVariants as act
 use Rattle.serial_meaning.specs.Trees.{named, number, variable, applied, stated, int_param, function}
 use Rattle.serial_meaning.specs.Plan.{PlanView}
-use Rattle.serial_meaning.specs.Examples.{plan_of, with_depth, bad}
+use Rattle.serial_meaning.specs.Examples.{plan_of, with_depth, bad, plan_of_child}
 use Rattle.serial_meaning.specs.declared.value.Value.TheVariants.{Int}
 use Rattle.serial_meaning.specs.declared.event.FaultKind.TheVariants as fault
 use Rattle.serial_meaning.specs.declared.event.Event.TheVariants as event
@@ -64,3 +64,21 @@ IterationsPathIsNoStrand = strand_at rolling (0 ∷ 3 ∷ []) ≡ Missing
 
 abbrev pub NoStrandBelowAMissingIteration : Type 0
 NoStrandBelowAMissingIteration = strand_at rolling (0 ∷ 5 ∷ 0 ∷ []) ≡ Missing
+
+-- A child is spawned in the scope's first strand, and the sync at the scope's end stands in its second.
+abbrev pub ScopesFirstStrandSpawns : Type 0
+ScopesFirstStrandSpawns = strand_at (plan_of_child 20) (0 ∷ 0 ∷ []) ≡ Reached (record { events = event.Spawn (0 ∷ 0 ∷ []) ∷ []; fault = None })
+
+abbrev pub ScopesSecondStrandSyncs : Type 0
+ScopesSecondStrandSyncs = strand_at (plan_of_child 20) (0 ∷ 1 ∷ []) ≡ Reached (record { events = event.Sync (0 ∷ 1 ∷ []) ∷ []; fault = None })
+
+-- The strand after that sync has no event, and it is there.
+abbrev pub ScopesLastStrandIsThere : Type 0
+ScopesLastStrandIsThere = strand_at (plan_of_child 20) (0 ∷ 2 ∷ []) ≡ Reached (record { events = []; fault = None })
+
+abbrev pub NoStrandBehindAScopesLast : Type 0
+NoStrandBehindAScopesLast = strand_at (plan_of_child 20) (0 ∷ 3 ∷ []) ≡ Missing
+
+-- The strand after the scope.
+abbrev pub StrandAfterAScopePrints : Type 0
+StrandAfterAScopePrints = strand_at (plan_of_child 20) (1 ∷ []) ≡ Reached (record { events = event.Print (1 ∷ []) (Int (pos 21)) ∷ event.Sync (1 ∷ []) ∷ []; fault = None })

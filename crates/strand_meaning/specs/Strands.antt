@@ -1,8 +1,11 @@
 -- The strands of the open tree, and the walk down to one of them (docs/LANGUAGE.md, "Strands").
-use Rattle.std.specs.Prelude.{ℕ, ◌+◌, ◌-◌, nat_lt, List, [], ◌∷◌, ◌++◌, Option, Some, None, Result, Ok, Err, if◌then◌else◌}
+use Rattle.std.specs.Prelude.{ℕ, zero, suc, ◌+◌, ◌-◌, nat_lt, Bool, false, not, ◌&&◌, ◌||◌, List, [], ◌∷◌, length, take, slice_get, Option, Some, None, Result, Ok, Err, if◌then◌else◌}
+use Rattle.std.specs.Prelude.{ℤ}
+use Rattle.std.specs.Ordering.{nat_cmp, is_lt}
+use Rattle.std.specs.Cmp.Lexicographic.{slice_cmp}
 use Rattle.std.specs.Str.{bytes_eq}
 use Rattle.serial_meaning.specs.Eval.{path_of, iteration, main_origin}
-use Rattle.serial_meaning.specs.Open.{Item, Happened, Child, Ending, Own, Joined, Node, opened}
+use Rattle.serial_meaning.specs.Open.{Item, Happened, Child, Opened, Closed, Ending, Own, Joined, Node, opened, places_of}
 use Rattle.serial_meaning.specs.Plan.{PlanView}
 use Rattle.serial_meaning.specs.declared.value.Value.{Value}
 use Rattle.serial_meaning.specs.declared.event.Fault.{Fault}
@@ -28,19 +31,6 @@ abbrev pub events_at : List ℕ → List Event → List Event
 events_at j [] = []
 events_at j (e ∷ es) = if bytes_eq (pedigree_of e) j then e ∷ events_at j es else events_at j es
 
--- the rank rises by one after each event but a print
-abbrev pub raise : Event → ℕ
-raise (event.Print j v) = 0
-raise (event.Draw j n) = 1
-raise (event.New j) = 1
-raise (event.Spawn j) = 1
-raise (event.Sync j) = 1
-raise (event.Loop j) = 1
-
-abbrev pub raises : List Event → ℕ
-raises [] = 0
-raises (e ∷ es) = raise e + raises es
-
 -- A node
 
 -- the events of the instance itself, without its children's
@@ -48,22 +38,13 @@ abbrev pub own_events : List Item → List Event
 own_events [] = []
 own_events (Happened e ∷ items) = e ∷ own_events items
 own_events (Child o ∷ items) = own_events items
+own_events (Opened j ∷ items) = own_events items
+own_events (Closed j ∷ items) = own_events items
 
--- The last rank that the instance reached. It begins at rank 0. Where it ended by the fault of a child, it ended at the sync or the
--- loop that is its last event, and no rank after that was reached.
-abbrev pub last_rank_by : ℕ → Result (List Value) Ending → ℕ
-last_rank_by raised (Ok vs) = raised
-last_rank_by raised (Err (Own f)) = raised
-last_rank_by raised (Err (Joined f)) = raised - 1
-
-abbrev pub last_rank : Node → ℕ
-last_rank n = last_rank_by (raises (own_events n.items)) n.ending
-
--- its own fault, where that is at this pedigree
-abbrev pub own_fault_at : List ℕ → Result (List Value) Ending → Option Fault
-own_fault_at j (Ok vs) = None
-own_fault_at j (Err (Own f)) = if bytes_eq f.at j then Some f else None
-own_fault_at j (Err (Joined f)) = None
+-- the pedigree of the last event, where an instance ended that ended by the fault of a child
+abbrev pub last_place : List ℕ → List Event → List ℕ
+last_place j [] = j
+last_place j (e ∷ es) = last_place (pedigree_of e) es
 
 -- the fault of a child by which it ended
 abbrev pub joined_fault : Result (List Value) Ending → Option Fault
@@ -71,11 +52,23 @@ joined_fault (Ok vs) = None
 joined_fault (Err (Own f)) = None
 joined_fault (Err (Joined f)) = Some f
 
--- the child whose path this is: an instance, or a whole loop
-abbrev pub child_at : List ℕ → List Item → Option Origin
-child_at path [] = None
-child_at path (Happened e ∷ items) = child_at path items
-child_at path (Child o ∷ items) = if bytes_eq (path_of o) path then Some o else child_at path items
+-- its own fault, where that is at this pedigree
+abbrev pub own_fault_at : List ℕ → Result (List Value) Ending → Option Fault
+own_fault_at j (Ok vs) = None
+own_fault_at j (Err (Own f)) = if bytes_eq f.at j then Some f else None
+own_fault_at j (Err (Joined f)) = None
+
+-- whether a pedigree begins with this path, and goes on
+abbrev pub is_below : List ℕ → List ℕ → Bool
+is_below path j = nat_lt (length path) (length j) && bytes_eq (take (length path) j) path
+
+-- the first child on the way to a pedigree: an instance, or a whole loop
+abbrev pub child_on_way : List ℕ → List Item → Option Origin
+child_on_way j [] = None
+child_on_way j (Happened e ∷ items) = child_on_way j items
+child_on_way j (Child o ∷ items) = if is_below (path_of o) j then Some o else child_on_way j items
+child_on_way j (Opened k ∷ items) = child_on_way j items
+child_on_way j (Closed k ∷ items) = child_on_way j items
 
 -- A strand
 
@@ -89,39 +82,62 @@ pub data Found : Type 0 where
   Missing : Found
   Blocked : Fault → Found
 
--- an instance that ended before a rank
-abbrev pub ended_before : Option Fault → Found
-ended_before None = Missing
-ended_before (Some f) = Blocked f
+abbrev pub is_one_of : List ℕ → List (List ℕ) → Bool
+is_one_of j [] = false
+is_one_of j (k ∷ ks) = bytes_eq k j || is_one_of j ks
 
--- the strand of a rank of an instance with this path and node
-abbrev pub strand_of : List ℕ → Node → ℕ → Option Strand
-strand_of path n rank =
-    if nat_lt (last_rank n) rank then None
-    else (let j = path ++ rank ∷ [] in Some (record { events = events_at j (own_events n.items); fault = own_fault_at j n.ending }))
+-- the strand of a pedigree, where the instance reached it
+abbrev pub strand_of : Origin → Node → List ℕ → Option Strand
+strand_of o n j =
+    if is_one_of j (places_of o n) then Some (record { events = events_at j (own_events n.items); fault = own_fault_at j n.ending }) else None
 
--- the fault of a child by which it ended before a rank
-abbrev pub blocks : Node → ℕ → Option Fault
-blocks n rank = if nat_lt (last_rank n) rank then joined_fault n.ending else None
+-- whether the instance ended at this place before it could come to a pedigree, which doesn't begin with that place
+abbrev pub ended_before : List ℕ → List ℕ → Bool
+ended_before place j = is_lt (slice_cmp nat_cmp place j) && not (bytes_eq (take (length place) j) place)
 
-abbrev pub last_step : Option Strand → Option Fault → Found
-last_step (Some strand) blocked = Reached strand
-last_step None blocked = ended_before blocked
+-- the fault of a child by which an instance ended before a pedigree
+abbrev pub blocks_by : List ℕ → List ℕ → Result (List Value) Ending → Option Fault
+blocks_by place j (Ok vs) = None
+blocks_by place j (Err (Own f)) = None
+blocks_by place j (Err (Joined f)) = if ended_before place j then Some f else None
 
--- Down from an instance at one of its ranks, where another rank follows: into a spawned child; or into the iteration of that number of a
--- loop, which has ranks of its own.
-abbrev pub next_step : Option Origin → Option Fault → ℕ → (Origin → Found) → (Origin → Found) → Found
-next_step None blocked k into_child into_iteration = ended_before blocked
-next_step (Some (Instance function args path)) blocked k into_child into_iteration = into_child (Instance function args path)
-next_step (Some (Loop function rest first path range)) blocked k into_child into_iteration =
-    if nat_lt k (range.hi - range.lo) then into_iteration (iteration function rest first path k) else Missing
+abbrev pub blocks : Node → List ℕ → Option Fault
+blocks n j = blocks_by (last_place [] (own_events n.items)) j n.ending
 
--- the walk down from an instance along these ranks, the last of which is the strand's
+-- what stands at a pedigree in the last instance on the way to it
+abbrev pub last_step : Option Fault → Option Strand → Found
+last_step (Some f) strand = Blocked f
+last_step None (Some strand) = Reached strand
+last_step None None = Missing
+
+-- the iteration of a loop that a pedigree names after the loop's path, where ranks follow
+abbrev pub iteration_on_way : List ℕ → ℕ → List Value → ℤ → List ℕ → ℕ → Option ℕ → Option Origin
+iteration_on_way j function rest first path count None = None
+iteration_on_way j function rest first path count (Some k) =
+    if nat_lt k count && nat_lt (length path + 1) (length j) then Some (iteration function rest first path k) else None
+
+-- the instance that is entered of a child on the way, if there is one
+abbrev pub entered : List ℕ → Origin → Option Origin
+entered j (Instance function args path) = Some (Instance function args path)
+entered j (Loop function rest first path range) = iteration_on_way j function rest first path (range.hi - range.lo) (slice_get j (length path))
+
+abbrev pub next_step : Option Origin → (Origin → Found) → Found
+next_step None go = Missing
+next_step (Some o) go = go o
+
+abbrev pub by_child : Option Origin → List ℕ → Found → (Origin → Found) → Found
+by_child None j here go = here
+by_child (Some o) j here go = next_step (entered j o) go
+
+-- The walk down from an instance to a pedigree. Each child's path is longer than its parent's, so as many steps as the pedigree has ranks
+-- are enough.
+abbrev pub walk_in : PlanView → ℕ → List ℕ → Origin → Found
+walk_in plan zero j o = Missing
+walk_in plan (suc steps) j o =
+    let n = opened plan o in by_child (child_on_way j n.items) j (last_step (blocks n j) (strand_of o n j)) (walk_in plan steps j)
+
 abbrev pub walk : PlanView → List ℕ → Origin → Found
-walk plan [] o = Missing
-walk plan (rank ∷ []) o = let n = opened plan o in last_step (strand_of (path_of o) n rank) (blocks n rank)
-walk plan (rank ∷ k ∷ ranks) o =
-    let n = opened plan o in next_step (child_at (path_of o ++ rank ∷ []) n.items) (blocks n rank) k (walk plan (k ∷ ranks)) (walk plan ranks)
+walk plan j o = walk_in plan (length j) j o
 
 -- what stands at a pedigree of the plan
 abbrev pub strand_at : PlanView → List ℕ → Found

@@ -17,7 +17,7 @@ use Rattle.serial_meaning.specs.declared.origin.Origin.{Origin}
 use Rattle.serial_meaning.specs.declared.origin.Origin.TheVariants.{Instance, Loop}
 use Rattle.serial_meaning.specs.declared.answer.Outcome.{Outcome}
 use Rattle.serial_meaning.specs.declared.answer.Outcome.TheVariants as outcome
-use Rattle.strand_meaning.specs.Machine.{Place, Spawned, Looped, Half, Token, Told, Handed, Syncs, Loops, Activation, Machine, Reached, Stands, Gives, begun, move}
+use Rattle.strand_meaning.specs.Machine.{Place, Spawned, Looped, Half, Token, Opens, Closes, Told, Handed, Syncs, Loops, Activation, Machine, Reached, Stands, Gives, begun, move}
 use Rattle.strand_meaning.specs.Pieces.{Part, Pieces, no_pieces, with_tokens, hand, heard_all}
 
 -- where an instance stands: it goes on; it waits after a sync, or after a loop; it has ended, by a value or as a node of the open
@@ -79,6 +79,8 @@ pub data Step : Type 0 where
 -- a stage after a move that showed these
 abbrev pub stage_after : List Token → Machine → Stage
 stage_after [] m = Goes m
+stage_after (Opens j ∷ ts) m = stage_after ts m
+stage_after (Closes j ∷ ts) m = stage_after ts m
 stage_after (Told e ∷ ts) m = stage_after ts m
 stage_after (Handed o place ∷ ts) m = stage_after ts m
 stage_after (Syncs ∷ ts) m = AtSync m
@@ -86,6 +88,8 @@ stage_after (Loops ∷ ts) m = AtLoop m
 
 abbrev pub child_in : List Token → Option Origin
 child_in [] = None
+child_in (Opens j ∷ ts) = child_in ts
+child_in (Closes j ∷ ts) = child_in ts
 child_in (Told e ∷ ts) = child_in ts
 child_in (Handed o place ∷ ts) = Some o
 child_in (Syncs ∷ ts) = child_in ts

@@ -1,6 +1,6 @@
 //! The strands of small scripts. Each function does nothing; its contract is the example.
 
-ghost use Rattle.strand_meaning.specs.StrandExamples.{ChildsFaultBlocks, ChildsStrandHasItsFault, FirstStrandPrintsAndSpawns, IterationsHaveStrands, IterationsPathIsNoStrand, LoopIsAStrandsEvent, NoStrandBehindAFault, NoStrandBelowAMissingIteration, ParentGoesOnToItsFault, SyncStandsWhereAChildFaulted};
+ghost use Rattle.strand_meaning.specs.StrandExamples.{ChildsFaultBlocks, ChildsStrandHasItsFault, FirstStrandPrintsAndSpawns, IterationsHaveStrands, IterationsPathIsNoStrand, LoopIsAStrandsEvent, NoStrandBehindAFault, NoStrandBelowAMissingIteration, ParentGoesOnToItsFault, SyncStandsWhereAChildFaulted, ScopesFirstStrandSpawns, ScopesSecondStrandSyncs, ScopesLastStrandIsThere, NoStrandBehindAScopesLast, StrandAfterAScopePrints};
 
 /// `fn bad() { let z = 0; return 1 / z; } fn main() { print 7; spawn bad(); return 0; }` with a budget of 2: the strand 0 prints 7 and
 /// spawns.
@@ -62,4 +62,35 @@ pub fn iterations_path_is_no_strand()
 #[tactic(auto, using(crate::proofs::StrandRuns::no_strand_below_a_missing_iteration))]
 pub fn no_strand_below_a_missing_iteration()
     ensures { NoStrandBelowAMissingIteration }
+{}
+
+/// `fn f() { let x = draw; return x; } fn main() { let a = 0; scope { a = spawn f(); } print a; return 0; }` of version 2, with the
+/// coefficients 0, 0 and 1: the strand 0.0 spawns.
+#[tactic(auto, using(crate::proofs::StrandRuns::scopes_first_strand_spawns))]
+pub fn scopes_first_strand_spawns()
+    ensures { ScopesFirstStrandSpawns }
+{}
+
+/// The strand 0.1 of the same has the sync at the scope's end.
+#[tactic(auto, using(crate::proofs::StrandRuns::scopes_second_strand_syncs))]
+pub fn scopes_second_strand_syncs()
+    ensures { ScopesSecondStrandSyncs }
+{}
+
+/// The strand 0.2 of the same is there, and has no event.
+#[tactic(auto, using(crate::proofs::StrandRuns::scopes_last_strand_is_there))]
+pub fn scopes_last_strand_is_there()
+    ensures { ScopesLastStrandIsThere }
+{}
+
+/// There is no strand 0.3.
+#[tactic(auto, using(crate::proofs::StrandRuns::no_strand_behind_a_scopes_last))]
+pub fn no_strand_behind_a_scopes_last()
+    ensures { NoStrandBehindAScopesLast }
+{}
+
+/// The strand 1 of the same prints 21, and has the sync that the return implies.
+#[tactic(auto, using(crate::proofs::StrandRuns::strand_after_a_scope_prints))]
+pub fn strand_after_a_scope_prints()
+    ensures { StrandAfterAScopePrints }
 {}

@@ -17,7 +17,7 @@ use Rattle.strand_values.specs.declared.halt.Halt as values
 use Rattle.strand_values.specs.declared.halt.Halt.TheVariants as halt
 use Rattle.strand_moves.specs.declared.running.Running.{Running}
 use Rattle.strand_moves.specs.Acts.{Acts}
-use Rattle.strand_moves.specs.Running.{machine_of, path_of}
+use Rattle.strand_moves.specs.Running.{machine_of, present_of}
 use Rattle.strand_moves.specs.Quick.{quiet}
 use Rattle.strand_moves.proofs.Equations.{set-value, set-value-fault}
 
@@ -38,7 +38,7 @@ pub assigned-acts : (plan : PlanView) (i : Running) (env : Env) (st : Stmt) (x :
     Acts plan st (act.Set x (right.Value e)) i (record i { top = record i.top { env = env } }) (quiet r)
 assigned-acts plan i env st x e (Ok u) ok fault =
     let known = given-known (value_of e i.top.env) (λ (v : Value). with_slot i.top.env x.bytes (Scalar v)) env ok in
-    set-value plan (path_of i) (machine_of plan i) st x e known.0 env known.1.0 known.1.1
+    set-value plan (present_of i) (machine_of plan i) st x e known.0 env known.1.0 known.1.1
 assigned-acts plan i env st x e (Err (halt.Fault kind)) ok fault =
-    set-value-fault plan (path_of i) (machine_of plan i) st x e kind (given-fault (value_of e i.top.env) (λ (v : Value). with_slot i.top.env x.bytes (Scalar v)) kind (fault kind refl))
+    set-value-fault plan (present_of i) (machine_of plan i) st x e kind (given-fault (value_of e i.top.env) (λ (v : Value). with_slot i.top.env x.bytes (Scalar v)) kind (fault kind refl))
 assigned-acts plan i env st x e (Err halt.Memory) ok fault = tt

@@ -79,23 +79,23 @@ module _ (plan : PlanView) (change : Activation → Activation) (h : ℕ) (i : R
   other n l = grind (arith, eq-eqb)
 
   -- one of the activations below is changed
-  pub changed-inside : (below : List own.Activation) (old a : own.Activation) → h < length i.below.items → old ≡ get_or i.below.items h old → below ≡ set i.below.items h a → activation_of plan a ≡ change (activation_of plan old) →
-      record (machine_of plan i) { below = map (activation_of plan) (reverse below) } ≡ changed h change (machine_of plan i)
+  pub changed-inside : (below : List own.Activation) (old a : own.Activation) → h < length i.below.items → old ≡ get_or i.below.items h old → below ≡ set i.below.items h a → activation_of plan false a ≡ change (activation_of plan false old) →
+      record (machine_of plan i) { below = map (activation_of plan false) (reverse below) } ≡ changed h change (machine_of plan i)
   changed-inside below old a l there s e =
       let xs = i.below.items in
-      let n = length-map (reverse xs) (activation_of plan) ∙ length-reverse xs in
+      let n = length-map (reverse xs) (activation_of plan false) ∙ length-reverse xs in
       let twice = reverse-reverse xs in
       let within : h < length (reverse xs) = omega (arith, length-reverse xs) in
-      let here : activation_of plan a ≡ change (activation_of plan (get_or (reverse (reverse xs)) h a)) = rw (twice, get_or_default xs h a old l) (e ∙ ap (λ (b : own.Activation). change (activation_of plan b)) there) in
-      let f : nat_eq h (length (map (activation_of plan) (reverse xs))) ≡ false = ap (λ (k : ℕ). nat_eq h k) n ∙ other (length xs) (inl l) in
+      let here : activation_of plan false a ≡ change (activation_of plan false (get_or (reverse (reverse xs)) h a)) = rw (twice, get_or_default xs h a old l) (e ∙ ap (λ (b : own.Activation). change (activation_of plan false b)) there) in
+      let f : nat_eq h (length (map (activation_of plan false) (reverse xs))) ≡ false = ap (λ (k : ℕ). nat_eq h k) n ∙ other (length xs) (inl l) in
       below-changed change false h (machine_of plan i) _ f refl
-      (changed-within (activation_of plan) change h (reverse xs) a within here ∙ ap (λ (ys : List own.Activation). map (activation_of plan) (reverse (set ys h a))) twice
-      ∙ ap (λ (ys : List own.Activation). map (activation_of plan) (reverse ys)) (sym s))
+      (changed-within (activation_of plan false) change h (reverse xs) a within here ∙ ap (λ (ys : List own.Activation). map (activation_of plan false) (reverse (set ys h a))) twice
+      ∙ ap (λ (ys : List own.Activation). map (activation_of plan false) (reverse ys)) (sym s))
 
   -- none has so many below it
   pub changed-beyond : length i.below.items < h → machine_of plan i ≡ changed h change (machine_of plan i)
   changed-beyond l =
       let xs = i.below.items in
-      let n : length (map (activation_of plan) (reverse xs)) ≡ length xs = length-map (reverse xs) (activation_of plan) ∙ length-reverse xs in
-      let f : nat_eq h (length (map (activation_of plan) (reverse xs))) ≡ false = ap (λ (k : ℕ). nat_eq h k) n ∙ other (length xs) (inr l) in
-      below-changed change false h (machine_of plan i) _ f refl (past-all change h (map (activation_of plan) (reverse xs)) (omega arith))
+      let n : length (map (activation_of plan false) (reverse xs)) ≡ length xs = length-map (reverse xs) (activation_of plan false) ∙ length-reverse xs in
+      let f : nat_eq h (length (map (activation_of plan false) (reverse xs))) ≡ false = ap (λ (k : ℕ). nat_eq h k) n ∙ other (length xs) (inr l) in
+      below-changed change false h (machine_of plan i) _ f refl (past-all change h (map (activation_of plan false) (reverse xs)) (omega arith))

@@ -20,7 +20,7 @@ use Rattle.strand_moves.specs.declared.running.Running.{Running}
 use Rattle.strand_moves.specs.declared.shown.Shown.{Shown}
 use Rattle.strand_moves.specs.declared.shown.Shown.TheVariants as shown
 use Rattle.strand_moves.specs.Acts.{loop_begins}
-use Rattle.strand_moves.specs.Running.{machine_of, path_of}
+use Rattle.strand_moves.specs.Running.{machine_of, present_of}
 use Rattle.strand_moves.specs.Moves.{acted, spawn_to, tokens_of}
 use Rattle.strand_moves.proofs.CallLemmas.{is_below, calls-open}
 use Rattle.strand_moves.proofs.Equations.{went, spawn}
@@ -28,23 +28,23 @@ use Rattle.strand_moves.proofs.LoopEquations.{pfor-none, pfor-some}
 
 -- the pedigree of an instance's strand
 abbrev pub strand_at : Running → List ℕ
-strand_at i = path_of i ++ i.rank ∷ []
+strand_at i = present_of i ++ i.rank ∷ []
 
 module _ (plan : PlanView) (i : Running) (st : Stmt) where
   pub spawned-child : (target : Option Name) (c : CallText) (vs : List Value) (instead : Value) (function height : ℕ) (at path : List ℕ) (to : Option Name) (env : Env) (received : Running) →
-      values_of c.args i.top.env ≡ Ok vs → length (path_of i) + 1 < plan.limits.depth → function ≡ number_of (functions_of plan) c.name.bytes → at ≡ strand_at i → path ≡ strand_at i →
+      values_of c.args i.top.env ≡ Ok vs → length (present_of i) + 1 < plan.limits.depth → function ≡ number_of (functions_of plan) c.name.bytes → at ≡ strand_at i → path ≡ strand_at i →
       instead ≡ answer_filler (function_at (functions_of plan) function) → env ≡ with_scalar target instead i.top.env → received ≡ record i { top = record i.top { env = env } } →
       height ≡ length i.below.items → to ≡ target →
-      acted plan (path_of i) (machine_of plan i) st (spawn_to target c)
+      acted plan (present_of i) (machine_of plan i) st (spawn_to target c)
       ≡ went (Told (event.Spawn at) ∷ Handed (origin.Instance function vs path) (Spawned height to) ∷ []) (machine_of plan (record received { rank = received.rank + 1; top = record received.top { spawned = true } }))
   spawned-child target c vs instead function height at path to env received known room number a p filler e r h t =
-      let deep = is_below (length (path_of i) + 1) plan.limits.depth room in
+      let deep = is_below (length (present_of i) + 1) plan.limits.depth room in
       let put = rw (filler, number) at e in
-      rw (number, a, p, r, h ∙ sym (calls-open plan i), t) (spawn plan (path_of i) (machine_of plan i) st target c vs env known deep put)
+      rw (number, a, p, r, h ∙ sym (calls-open plan i), t) (spawn plan (present_of i) (machine_of plan i) st target c vs env known deep put)
 
   module _ (var : Name) (lo hi : Expr) (target : Option Name) (c : CallText) (l h : Value) (vs : List Value) (n steps : ℕ) (begun : Running)
       (known-lo : value_of lo i.top.env ≡ Ok l) (known-hi : value_of hi i.top.env ≡ Ok h) (known-args : values_of c.args i.top.env ≡ Ok vs)
-      (counted : n ≡ count_of (number h -ℤ number l)) (begins : loop_begins plan (path_of i) n target i.top.env i.steps ≡ Ok tt)
+      (counted : n ≡ count_of (number h -ℤ number l)) (begins : loop_begins plan (present_of i) n target i.top.env i.steps ≡ Ok tt)
       (paid : steps + n ≡ i.steps) (is-begun : begun ≡ record i { steps = steps }) where
     abbrev pub passed_on : Running
     passed_on = record begun { rank = begun.rank + 1; top = record begun.top { env = filled target [] begun.top.env } }
@@ -53,12 +53,12 @@ module _ (plan : PlanView) (i : Running) (st : Stmt) where
     left = omega arith
 
     pub looped-none : n ≡ 0 → (s : Shown) (passed : Running) → s ≡ shown.Told (event.Loop (strand_at begun)) → passed ≡ passed_on →
-        acted plan (path_of i) (machine_of plan i) st (act.Pfor var lo hi target c) ≡ went (tokens_of s) (machine_of plan passed)
+        acted plan (present_of i) (machine_of plan i) st (act.Pfor var lo hi target c) ≡ went (tokens_of s) (machine_of plan passed)
     looped-none none s passed e p =
-        rw (e, p, is-begun, ← left) (pfor-none plan (path_of i) (machine_of plan i) st var lo hi target c l h vs n known-lo known-hi known-args counted none begins)
+        rw (e, p, is-begun, ← left) (pfor-none plan (present_of i) (machine_of plan i) st var lo hi target c l h vs n known-lo known-hi known-args counted none begins)
 
     pub looped-some : 0 < n → (s : Shown) (passed : Running) (function : ℕ) (first : ℤ) (path : List ℕ) (trail : Trail) → function ≡ number_of (functions_of plan) c.name.bytes → first ≡ number l → path ≡ strand_at begun →
         s ≡ shown.Looped (event.Loop (strand_at begun)) (record { origin = origin.Loop function vs first path (record { lo = 0; hi = n }); trail = trail }) target → passed ≡ passed_on →
-        acted plan (path_of i) (machine_of plan i) st (act.Pfor var lo hi target c) ≡ went (tokens_of s) (machine_of plan passed)
+        acted plan (present_of i) (machine_of plan i) st (act.Pfor var lo hi target c) ≡ went (tokens_of s) (machine_of plan passed)
     looped-some some s passed function first path trail f g a e p =
-        rw (e, p, f, g, a, is-begun, ← left) (pfor-some plan (path_of i) (machine_of plan i) st var lo hi target c l h vs n known-lo known-hi known-args counted some begins)
+        rw (e, p, f, g, a, is-begun, ← left) (pfor-some plan (present_of i) (machine_of plan i) st var lo hi target c l h vs n known-lo known-hi known-args counted some begins)

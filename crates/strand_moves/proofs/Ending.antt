@@ -1,15 +1,22 @@
 -- Activations that end, as changes of an instance.
-use Rattle.std.proofs.Common.{◌≡◌, ℕ, true, List, [], ◌∷◌, ◌++◌, Option, Some, None, Ok, map, reverse, refl, ap, ◌∙◌}
+use Rattle.std.proofs.Common.{◌≡◌, ℕ, suc, ◌+◌, true, false, List, [], ◌∷◌, ◌++◌, Option, Some, None, Ok, Err, map, reverse, refl, sym, ap, ◌∙◌, arith}
+use Rattle.std.proofs.lemmas.List.{append-nil}
 use Rattle.serial_meaning.specs.Values.{Env}
 use Rattle.serial_meaning.specs.Functions.{function_at}
 use Rattle.serial_meaning.specs.Plan.{PlanView, functions_of}
 use Rattle.serial_meaning.specs.declared.value.Value.{Value}
-use Rattle.strand_meaning.specs.Machine.{Stands, back, with_scalar, return_move, Token, Machine, Reached}
+use Rattle.serial_meaning.specs.declared.event.Event.TheVariants as event
+use Rattle.serial_meaning.specs.declared.event.FaultKind.{FaultKind}
+use Rattle.strand_meaning.specs.Machine.{Stands, Told, back, here_of, spawns_in, sync_tokens, with_scalar, return_move, Token, Machine, Reached}
 use Rattle.strand_moves.specs.declared.activation.Activation.{Activation}
 use Rattle.strand_moves.specs.declared.running.Running.{Running}
-use Rattle.strand_moves.specs.Acts.{result_of}
-use Rattle.strand_moves.specs.Running.{activation_of, machine_of, path_of}
-use Rattle.strand_moves.proofs.CallLemmas.{below-more}
+use Rattle.strand_moves.specs.declared.activation.Level.{Level}
+use Rattle.strand_moves.specs.Acts.{Stays, result_of}
+use Rattle.strand_moves.specs.Running.{activation_of, machine_of, path_of, present_of, scopes_of}
+use Rattle.strand_moves.specs.Moves.{tokens_of}
+use Rattle.strand_moves.specs.declared.shown.Shown.{Shown}
+use Rattle.strand_moves.proofs.Equations.{faults, went}
+use Rattle.strand_moves.proofs.CallLemmas.{below-more, scopes-more}
 use Rattle.script_grammar.specs.declared.tree.Function.{Function}
 use Rattle.serial_meaning.specs.Runs.{Run}
 use Rattle.serial_meaning.specs.declared.event.Fault.{Fault}
@@ -27,12 +34,55 @@ module _ (plan : PlanView) (path : List ℕ) (m : Machine) where
   pub value-known : (v : Value) → result_of (function_at (functions_of plan) m.top.function) m.top.env ≡ Ok v → return_move plan path m true ≡ reaches (back m.below m.top.target v m.rank m.steps)
   value-known = by_function (function_at (functions_of plan) m.top.function) refl
 
+  by_fault : (found : Option Function) → function_at (functions_of plan) m.top.function ≡ found → (kind : FaultKind) → result_of found m.top.env ≡ Err kind → return_move plan path m true ≡ faults kind (here_of path m ++ m.rank ∷ [])
+  by_fault (Some f) h kind k = rw (h, k) refl
+  by_fault None h kind k = absurd (cc)
+
+  -- the step of a return, and the sync that it implies
+  joined-return : (n : ℕ) → m.steps ≡ suc n → spawns_in (function_at (functions_of plan) m.top.function) ≡ true →
+      return_move plan path m false
+      ≡ went (Told (event.Sync (here_of path m ++ m.rank ∷ [])) ∷ sync_tokens m.top.spawned) (record m { rank = m.rank + 1; steps = n; top = record m.top { returning = true; spawned = false } })
+  joined-return n h s =
+      rw (h, s)
+      (ap (λ (tokens : List Token). went (Told (event.Sync (here_of path m ++ m.rank ∷ [])) ∷ tokens) (record m { rank = m.rank + 1; steps = n; top = record m.top { returning = true; spawned = false } })) (append-nil (sync_tokens m.top.spawned)))
+
+module _ (plan : PlanView) (i : Running) (here : here_of (path_of i) (machine_of plan i) ≡ present_of i) where
+  pub value-fault : (kind : FaultKind) → result_of (function_at (functions_of plan) i.top.function) i.top.env ≡ Err kind → return_move plan (path_of i) (machine_of plan i) true ≡ faults kind (present_of i ++ i.rank ∷ [])
+  value-fault kind k =
+      by_fault plan (path_of i) (machine_of plan i) (function_at (functions_of plan) i.top.function) refl kind k ∙ ap (λ (p : List ℕ). faults kind (p ++ i.rank ∷ [])) here
+
+  module _ (paid : Running) (n : ℕ) (is-paid : paid ≡ record i { steps = n }) (less : n + 1 ≡ i.steps) where
+    one-more : i.steps ≡ suc n
+    one-more = omega arith
+
+    pub return-joined : (s : Shown) (new : Running) → spawns_in (function_at (functions_of plan) i.top.function) ≡ true → tokens_of s ≡ Told (event.Sync (present_of paid ++ paid.rank ∷ [])) ∷ sync_tokens paid.top.spawned →
+        new ≡ record paid { rank = paid.rank + 1; top = record paid.top { returning = true; spawned = false } } → return_move plan (path_of i) (machine_of plan i) false ≡ went (tokens_of s) (machine_of plan new)
+    return-joined s new spawns t p =
+        let tokens = rw is-paid at t in
+        let after = rw is-paid at p in
+        let m = machine_of plan i in
+        let next = record m { rank = m.rank + 1; steps = n; top = record m.top { returning = true; spawned = false } } in
+        joined-return plan (path_of i) m n one-more spawns ∙ ap (λ (q : List ℕ). went (Told (event.Sync (q ++ i.rank ∷ [])) ∷ sync_tokens i.top.spawned) next) here
+        ∙ ap (λ (ts : List Token). went ts next) (sym tokens) ∙ ap (λ (x : Running). went (tokens_of s) (machine_of plan x)) (sym after)
+
 module _ (plan : PlanView) (i : Running) (v : Value) (known : result_of (function_at (functions_of plan) i.top.function) i.top.env ≡ Ok v) where
   pub value-received : (rest : List Activation) (caller : Activation) (env : Env) (new : Running) → i.below.items ≡ rest ++ caller ∷ [] → env ≡ with_scalar i.top.target v caller.env →
-      new.rank ≡ i.rank → new.steps ≡ i.steps → new.top ≡ record caller { env = env } → new.below.items ≡ rest →
+      new.rank ≡ i.rank → new.steps ≡ i.steps → new.leaving ≡ false → new.top ≡ record caller { env = env } → new.below.items ≡ rest →
       return_move plan (path_of i) (machine_of plan i) true ≡ reaches (Stands (machine_of plan new))
-  value-received rest caller env new b e r s t l =
-      rw (r, s, t, l, e)
+  value-received rest caller env new b e r s g t l =
+      rw (r, s, g, t, l, e)
       (value-known plan (path_of i) (machine_of plan i) v known
-      ∙ ap (λ (items : List Activation). reaches (back (map (activation_of plan) (reverse items)) i.top.target v i.rank i.steps)) b
+      ∙ ap (λ (items : List Activation). reaches (back (map (activation_of plan false) (reverse items)) i.top.target v i.rank i.steps)) b
       ∙ ap (λ below. reaches (back below i.top.target v i.rank i.steps)) (below-more plan rest caller))
+
+-- the activation below it has the open scopes where it had none
+pub ended-stays : (i new : Running) (rest : List Activation) (caller : Activation) (env : Env) → i.top.levels.items ≡ [] → i.below.items ≡ rest ++ caller ∷ [] → new.top ≡ record caller { env = env } → new.below.items ≡ rest →
+    new.trail ≡ i.trail → new.leaving ≡ i.leaving → Stays i new
+ended-stays i new rest caller env none b t l trail leaving =
+    record {
+      trail = trail;
+      scopes =
+          ap (λ (a : Activation). reverse a.levels.items ++ scopes_of (reverse new.below.items)) t ∙ ap (λ (stack : List Activation). reverse caller.levels.items ++ scopes_of (reverse stack)) l
+          ∙ sym (scopes-more rest caller) ∙ ap (λ (stack : List Activation). scopes_of (reverse stack)) (sym b) ∙ ap (λ (ls : List Level). reverse ls ++ scopes_of (reverse i.below.items)) (sym none);
+      leaving = leaving;
+    }

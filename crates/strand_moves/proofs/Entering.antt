@@ -12,7 +12,7 @@ use Rattle.strand_moves.specs.declared.cursor.Part.TheVariants as part
 use Rattle.strand_moves.specs.declared.cursor.Cursor.{Cursor}
 use Rattle.strand_moves.specs.declared.running.Running.{Running}
 use Rattle.strand_moves.specs.Cursors.{part_of, left_of}
-use Rattle.strand_moves.specs.Running.{machine_of, path_of, body_of}
+use Rattle.strand_moves.specs.Running.{machine_of, present_of, text_of}
 use Rattle.strand_moves.specs.Moves.{acted}
 use Rattle.strand_moves.proofs.Equations.{went, branch, turn}
 
@@ -22,26 +22,26 @@ part-if e first second false = refl
 
 module _ (plan : PlanView) (i : Running) (st : Stmt) (e : Expr) (v : Value) (cursor : Cursor) (known : value_of e i.top.env ≡ Ok v) where
   abbrev within : List Stmt
-  within = body_of plan i.top.function
+  within = text_of plan i.top
 
   abbrev pub with_cursor : Running
   with_cursor = record i { top = record i.top { cursor = cursor } }
 
   pub branch-into : (first second : List Stmt) (b : Bool) → b ≡ is_true v → out-Act (out-Stmt st).act ≡ act.If e first second →
       left_of within cursor ≡ part_of (out-Act (out-Stmt st).act) (if b then part.Yes else part.No) ++ left_of within i.top.cursor →
-      acted plan (path_of i) (machine_of plan i) st (act.If e first second) ≡ went [] (machine_of plan with_cursor)
+      acted plan (present_of i) (machine_of plan i) st (act.If e first second) ≡ went [] (machine_of plan with_cursor)
   branch-into first second b h a l =
       let m = machine_of plan i in
-      branch plan (path_of i) m st e first second v b known (sym h)
+      branch plan (present_of i) m st e first second v b known (sym h)
       ∙ ap (λ (left : List Stmt). went [] (record m { top = record m.top { left = left } }))
       (sym (l ∙ ap (λ (x : Act-F Act Stmt). part_of x (if b then part.Yes else part.No) ++ left_of within i.top.cursor) a
       ∙ ap (λ (x : List Stmt). x ++ left_of within i.top.cursor) (part-if e first second b)))
 
   pub turn-into : (body : List Stmt) → is_true v ≡ true → out-Act (out-Stmt st).act ≡ act.While e body →
       left_of within cursor ≡ part_of (out-Act (out-Stmt st).act) part.Turn ++ (st ∷ left_of within i.top.cursor) →
-      acted plan (path_of i) (machine_of plan i) st (act.While e body) ≡ went [] (machine_of plan with_cursor)
+      acted plan (present_of i) (machine_of plan i) st (act.While e body) ≡ went [] (machine_of plan with_cursor)
   turn-into body h a l =
       let m = machine_of plan i in
-      turn plan (path_of i) m st e body v known h
+      turn plan (present_of i) m st e body v known h
       ∙ ap (λ (left : List Stmt). went [] (record m { top = record m.top { left = left } }))
       (sym (l ∙ ap (λ (x : Act-F Act Stmt). part_of x part.Turn ++ (st ∷ left_of within i.top.cursor)) a))

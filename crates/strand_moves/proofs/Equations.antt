@@ -29,7 +29,7 @@ use Rattle.serial_meaning.specs.declared.event.Fault.{Fault}
 use Rattle.serial_meaning.specs.declared.event.Event.TheVariants as event
 use Rattle.serial_meaning.specs.declared.origin.Origin.{Origin}
 use Rattle.serial_meaning.specs.declared.origin.Origin.TheVariants as origin
-use Rattle.strand_meaning.specs.Machine.{Spawned, Token, Told, Handed, handing, inside, place_of, Activation, Machine, Reached, Stands, state_of, with_left, with_scalar, entered, reached, statement_move, sync_tokens}
+use Rattle.strand_meaning.specs.Machine.{Spawned, Token, Told, Handed, Opens, handing, here_of, inside, place_of, Activation, Machine, Reached, Stands, state_of, with_left, with_scalar, entered, reached, statement_move, sync_tokens}
 use Rattle.strand_moves.specs.Moves.{acted, call_to, spawn_to}
 
 abbrev pub with_env : Machine → Env → Machine
@@ -48,11 +48,11 @@ faults kind strand = record { items = []; ending = Err (record { kind = kind; at
 abbrev pub behind_statement : Machine → ℕ → List Stmt → Machine
 behind_statement m n left = record m { steps = n; top = record m.top { left = left } }
 
-module _ (plan : PlanView) (path : List ℕ) (m : Machine) (st : Stmt) (left : List Stmt) where
+module _ (plan : PlanView) (here : List ℕ) (m : Machine) (st : Stmt) (left : List Stmt) where
   by_act : (n : ℕ) (a : Act-F Act Stmt) →
-      (let r = does (handing plan (place_of (length m.below) a)) plan path inside (length m.below) st a (record (state_of m) { steps = n }) in
+      (let r = does (handing plan (place_of (length m.below) a)) plan here inside (length m.below) st a (record (state_of m) { steps = n }) in
       let run : Run Token Fault Reached = record { items = r.items; ending = reached plan (with_left m left) (entered plan st a left m) r.ending } in run)
-      ≡ acted plan path (behind_statement m n left) st a
+      ≡ acted plan here (behind_statement m n left) st a
   unfolding acted
   by_act n (act.Let x (right.Value e)) = refl
   by_act n (act.Let x (right.Draw at)) = refl
@@ -73,23 +73,25 @@ module _ (plan : PlanView) (path : List ℕ) (m : Machine) (st : Stmt) (left : L
   by_act n (act.If e a b) = refl
   by_act n (act.While e a) = refl
   by_act n (act.Pfor x lo hi target c) = refl
+  by_act n (act.Scope a) = refl
 
-  pub paid-move : (n : ℕ) → m.steps ≡ suc n → statement_move plan path m st left ≡ acted plan path (behind_statement m n left) st (out-Act (out-Stmt st).act)
+module _ (plan : PlanView) (path : List ℕ) (m : Machine) (st : Stmt) (left : List Stmt) where
+  pub paid-move : (n : ℕ) → m.steps ≡ suc n → statement_move plan path m st left ≡ acted plan (here_of path m) (behind_statement m n left) st (out-Act (out-Stmt st).act)
   paid-move n h =
       let a = out-Act (out-Stmt st).act in
       ap (λ (k : ℕ).
-      let r = paid_from (handing plan (place_of (length m.below) a)) plan path k (state_of m) (λ s. does (handing plan (place_of (length m.below) a)) plan path inside (length m.below) st a s) in
+      let r = paid_from (handing plan (place_of (length m.below) a)) plan (here_of path m) k (state_of m) (λ s. does (handing plan (place_of (length m.below) a)) plan (here_of path m) inside (length m.below) st a s) in
       let run : Run Token Fault Reached = record { items = r.items; ending = reached plan (with_left m left) (entered plan st a left m) r.ending } in run) h
-      ∙ by_act n a
+      ∙ by_act plan (here_of path m) m st left n a
 
-  pub unpaid-move : m.steps ≡ 0 → statement_move plan path m st left ≡ faults Budget (path ++ m.rank ∷ [])
+  pub unpaid-move : m.steps ≡ 0 → statement_move plan path m st left ≡ faults Budget (here_of path m ++ m.rank ∷ [])
   unpaid-move h = rw h refl
 
 -- The statements
 
 -- the activation that a call begins
 abbrev pub callee : Option Name → ℕ → Function → List Value → Activation
-callee target number f vs = record { function = number; left = f.body; returning = false; env = bound f.params vs; spawned = false; faulted = None; target = target }
+callee target number f vs = record { function = number; left = f.body; levels = []; leaving = false; returning = false; env = bound f.params vs; spawned = false; faulted = None; target = target }
 
 module _ (plan : PlanView) (path : List ℕ) (m : Machine) (st : Stmt) where
   pub let-is-set : (x : Name) (r : Right) → acted plan path m st (act.Let x r) ≡ acted plan path m st (act.Set x r)
@@ -178,6 +180,17 @@ module _ (plan : PlanView) (path : List ℕ) (m : Machine) (st : Stmt) where
   pub turn-fault : (e : Expr) (body : List Stmt) (kind : FaultKind) → value_of e m.top.env ≡ Err kind → acted plan path m st (act.While e body) ≡ faults kind (path ++ m.rank ∷ [])
   unfolding acted
   turn-fault e body kind h = rw h refl
+
+  -- into a scope
+  pub scope : (block : List Stmt) → nat_lt (length path + 1) plan.limits.depth ≡ true →
+      acted plan path m st (act.Scope block)
+      ≡ went (Opens (path ++ m.rank ∷ []) ∷ []) (record m { rank = 0; top = record m.top { left = block; levels = record { rank = m.rank; left = m.top.left } ∷ m.top.levels } })
+  unfolding acted
+  scope block h = rw h refl
+
+  pub scope-depth-fault : (block : List Stmt) → nat_lt (length path + 1) plan.limits.depth ≡ false → acted plan path m st (act.Scope block) ≡ faults Depth (path ++ m.rank ∷ [])
+  unfolding acted
+  scope-depth-fault block h = rw h refl
 
   -- children and calls
 

@@ -1,5 +1,6 @@
 pub mod Assigning
 pub mod BelowLemmas
+pub mod Blocks
 pub mod CallLemmas
 pub mod ChildLemmas
 pub mod Conditions
@@ -10,6 +11,8 @@ pub mod Equations
 pub mod Exits
 pub mod Going
 pub mod Items
+pub mod Keeping
+pub mod Levels
 pub mod LoopEquations
 pub mod Paying
 pub mod QuickLemmas

@@ -1,22 +1,18 @@
 -- Moves that show nothing, and moves that are taken back.
 use Rattle.std.proofs.Common.{◌≡◌, ℕ, suc, ◌+◌, Bool, true, false, List, [], ◌∷◌, Result, Ok, Err, IfOk, refl, sym, ap, subst, ◌∙◌, arith}
-use Rattle.script_grammar.specs.declared.tree.Name.{Name}
-use Rattle.script_grammar.specs.declared.tree.Right.{Right}
-use Rattle.script_grammar.specs.declared.tree.Right.TheVariants as right
 use Rattle.script_grammar.specs.declared.tree.Stmt.{Stmt, out-Stmt}
 use Rattle.script_grammar.specs.declared.tree.Act.{Act, out-Act}
-use Rattle.script_grammar.specs.declared.tree.Act.TheOpen as act
 use Rattle.script_grammar.specs.declared.tree.Act.TheOpen.{Act-F}
 use Rattle.serial_meaning.specs.Plan.{PlanView}
 use Rattle.serial_meaning.specs.declared.event.FaultKind.{FaultKind}
-use Rattle.strand_meaning.specs.Machine.{Machine, move, move_at}
+use Rattle.strand_meaning.specs.Machine.{Machine, end_move, here_of, move, move_at}
 use Rattle.strand_values.specs.declared.halt.Halt as values
 use Rattle.strand_values.specs.declared.halt.Halt.TheVariants as halt
 use Rattle.strand_moves.specs.declared.cursor.Cursor.{Cursor}
 use Rattle.strand_moves.specs.declared.running.Running.{Running}
 use Rattle.strand_moves.specs.Acts.{Acts}
 use Rattle.strand_moves.specs.Cursors.{IsBehind, left_of, Passes}
-use Rattle.strand_moves.specs.Running.{IsInstance, body_of, machine_of, path_of}
+use Rattle.strand_moves.specs.Running.{IsInstance, machine_of, path_of, present_of, text_of}
 use Rattle.strand_moves.specs.Moves.{acted, MovesTrail, strand_of}
 use Rattle.strand_moves.specs.Quick.{ByFault, IsDone, IsQuick, IsQuiet, IsWent, is_plain, plain_next, quiet}
 use Rattle.strand_moves.proofs.Equations.{paid-move, unpaid-move}
@@ -30,16 +26,16 @@ quiet-child plan (Err h) = tt
 
 -- what a call did for a statement, by what it answered
 module _ (st : Stmt) (a : Act-F Act Stmt) (old new : Running) (is : out-Act (out-Stmt st).act ≡ a) where
-  quiet-at : (done : Result (Unit {0}) values.Halt) (went : Bool) → ((plan : PlanView) → IsBehind (body_of plan old.top.function) old.top.cursor st → Acts plan st a old new (quiet done)) →
+  quiet-at : (done : Result (Unit {0}) values.Halt) (went : Bool) → ((plan : PlanView) → IsBehind (text_of plan old.top) old.top.cursor st → Acts plan st a old new (quiet done)) →
       ((kind : FaultKind) → done ≡ Err (halt.Fault kind) → new ≡ old) → IsWent done went → IsQuiet st old new went
   quiet-at (Ok u) went acts same w =
-      subst (IsQuiet st old new) (sym w) (λ plan behind. ap (λ (b : Act-F Act Stmt). acted plan (path_of old) (machine_of plan old) st b) is ∙ acts plan behind)
+      subst (IsQuiet st old new) (sym w) (λ plan behind. ap (λ (b : Act-F Act Stmt). acted plan (present_of old) (machine_of plan old) st b) is ∙ acts plan behind)
   quiet-at (Err (halt.Fault kind)) went acts same w =
       subst (IsQuiet st old new) (sym w)
-      (same kind refl, λ plan behind plain. (record { kind = kind; at = strand_of (path_of old) (machine_of plan old) }, ap (λ (b : Act-F Act Stmt). acted plan (path_of old) (machine_of plan old) st b) is ∙ acts plan behind))
+      (same kind refl, λ plan behind plain. (record { kind = kind; at = strand_of (present_of old) (machine_of plan old) }, ap (λ (b : Act-F Act Stmt). acted plan (present_of old) (machine_of plan old) st b) is ∙ acts plan behind))
   quiet-at (Err halt.Memory) went acts same w = absurd w
 
-  pub quiet-is : {E : Type 0} (done : Result (Unit {0}) values.Halt) (r : Result Bool E) → ((plan : PlanView) → IsBehind (body_of plan old.top.function) old.top.cursor st → Acts plan st a old new (quiet done)) →
+  pub quiet-is : {E : Type 0} (done : Result (Unit {0}) values.Halt) (r : Result Bool E) → ((plan : PlanView) → IsBehind (text_of plan old.top) old.top.cursor st → Acts plan st a old new (quiet done)) →
       ((kind : FaultKind) → done ≡ Err (halt.Fault kind) → new ≡ old) → IfOk r (IsWent done) → IfOk r (IsQuiet st old new)
   quiet-is done (Ok went) acts same w = quiet-at done went acts same w
   quiet-is done (Err e) acts same w = tt
@@ -49,7 +45,7 @@ module _ (st : Stmt) (a : Act-F Act Stmt) (old new : Running) where
   done-at : (done : Result (Unit {0}) values.Halt) (went : Bool) → ((plan : PlanView) → Acts plan st a old new (quiet done)) → ((kind : FaultKind) → done ≡ Err (halt.Fault kind) → new ≡ old) → IsWent done went → IsDone st a old new went
   done-at (Ok u) went acts same w = subst (IsDone st a old new) (sym w) (λ plan. acts plan)
   done-at (Err (halt.Fault kind)) went acts same w =
-      subst (IsDone st a old new) (sym w) (same kind refl, λ plan plain. (record { kind = kind; at = strand_of (path_of old) (machine_of plan old) }, acts plan))
+      subst (IsDone st a old new) (sym w) (same kind refl, λ plan plain. (record { kind = kind; at = strand_of (present_of old) (machine_of plan old) }, acts plan))
   done-at (Err halt.Memory) went acts same w = absurd w
 
   pub done-is : {E : Type 0} (done : Result (Unit {0}) values.Halt) (r : Result Bool E) → ((plan : PlanView) → Acts plan st a old new (quiet done)) → ((kind : FaultKind) → done ≡ Err (halt.Fault kind) → new ≡ old) →
@@ -58,7 +54,7 @@ module _ (st : Stmt) (a : Act-F Act Stmt) (old new : Running) where
   done-is done (Err e) acts same w = tt
 
   -- the act of the statement does the same
-  module _ (same : (plan : PlanView) → acted plan (path_of old) (machine_of plan old) st (out-Act (out-Stmt st).act) ≡ acted plan (path_of old) (machine_of plan old) st a) (kind : is_plain (out-Act (out-Stmt st).act) ≡ is_plain a) where
+  module _ (same : (plan : PlanView) → acted plan (present_of old) (machine_of plan old) st (out-Act (out-Stmt st).act) ≡ acted plan (present_of old) (machine_of plan old) st a) (kind : is_plain (out-Act (out-Stmt st).act) ≡ is_plain a) where
     quiet-by : (went : Bool) → IsDone st a old new went → IsQuiet st old new went
     quiet-by true d = λ plan behind. same plan ∙ d plan
     quiet-by false d = (d.0, λ plan behind plain. let f = d.1 plan (sym kind ∙ plain) in (f.0, same plan ∙ f.1))
@@ -83,7 +79,7 @@ unpaid plan path m h = (refl, λ plain. unpaid-at plan path m m.top.left h plain
 
 module _ (plan : PlanView) (i : Running) where
   abbrev text : List Stmt
-  text = body_of plan i.top.function
+  text = text_of plan i.top
 
   abbrev with_left : ℕ → List Stmt → Machine
   with_left n left = let m = machine_of plan i in record m { steps = n; top = record m.top { left = left } }
@@ -92,21 +88,17 @@ module _ (plan : PlanView) (i : Running) where
   with_cursor n cursor = record i { steps = n; top = record i.top { cursor = cursor } }
 
   -- where no statement is left, none is left after that was seen
-  pub none-left : (cursor : Cursor) → left_of text i.top.cursor ≡ [] → left_of text cursor ≡ [] → machine_of plan (with_cursor i.steps cursor) ≡ machine_of plan i
+  none-left : (cursor : Cursor) → left_of text i.top.cursor ≡ [] → left_of text cursor ≡ [] → machine_of plan (with_cursor i.steps cursor) ≡ machine_of plan i
   none-left cursor h k = ap (λ (left : List Stmt). with_left i.steps left) (k ∙ sym h)
 
-  pub none-quick : (cursor : Cursor) → left_of text i.top.cursor ≡ [] → left_of text cursor ≡ [] → IsQuick plan (path_of i) (machine_of plan i) (machine_of plan (with_cursor i.steps cursor)) false
-  none-quick cursor h k =
-      let none : plain_next (left_of text i.top.cursor) ≡ false = ap (λ (left : List Stmt). plain_next left) h in
-      (none-left cursor h k, λ plain. absurd (cc))
-
-  module _ (st : Stmt) (cursor : Cursor) (n : ℕ) (passes : Passes text i.top.cursor cursor st) (steps : n + 1 ≡ i.steps) where
-    passed : move plan (path_of i) (machine_of plan i) ≡ acted plan (path_of i) (machine_of plan (with_cursor n cursor)) st (out-Act (out-Stmt st).act)
+  module _ (st : Stmt) (cursor : Cursor) (n : ℕ) (here : here_of (path_of i) (machine_of plan i) ≡ present_of i) (passes : Passes text i.top.cursor cursor st) (steps : n + 1 ≡ i.steps) where
+    passed : move plan (path_of i) (machine_of plan i) ≡ acted plan (present_of i) (machine_of plan (with_cursor n cursor)) st (out-Act (out-Stmt st).act)
     passed =
         let m = machine_of plan i in
         let left = left_of text cursor in
         let one : m.steps ≡ suc n = omega arith in
         moves-on plan (path_of i) m st left passes.first ∙ paid-move plan (path_of i) (record m { top = record m.top { left = left } }) st left n one
+        ∙ ap (λ (p : List ℕ). acted plan p (machine_of plan (with_cursor n cursor)) st (out-Act (out-Stmt st).act)) here
 
     -- a statement that was paid and done
     pub quick-went : (new : Running) → IsQuiet st (with_cursor n cursor) new true → move plan (path_of i) (machine_of plan i) ≡ equations.went [] (machine_of plan new)
@@ -131,6 +123,41 @@ module _ (plan : PlanView) (i : Running) where
           ∙ ap (λ (l : List Stmt). with_left (n + 1) l) (left ∙ sym passes.first)
           ∙ ap (λ (k : ℕ). with_left k (left_of text i.top.cursor)) steps
 
+      pub undone-path : path_of new ≡ path_of i
+      undone-path = ap (λ (x : Running). path_of x) as_it_was
+
       pub undone-sound : IsInstance plan i → IsInstance plan new
       undone-sound h =
-          subst (λ (x : Running). IsInstance plan x) (sym as_it_was) (record { fits = h.fits; within = h.within; few = omega (arith, h.few) })
+          let few = h.few in
+          let some = passes.first in
+          subst (λ (x : Running). IsInstance plan x) (sym as_it_was)
+          (record {
+            strand = record { fits = h.strand.fits; within = h.strand.within; few = h.strand.few };
+            few = omega (arith, few, steps);
+            around = h.around;
+            leaving = λ e. let none = (h.leaving e).0 in absurd (cc);
+          })
+
+  -- a statement is left, so the sync at a scope's end isn't after it
+  pub passed-on : (st : Stmt) (left : List Stmt) → IsInstance plan i → left_of text i.top.cursor ≡ st ∷ left → i.leaving ≡ false
+  passed-on st left h some = by_flag i.leaving refl
+    where
+      by_flag : (b : Bool) → i.leaving ≡ b → i.leaving ≡ false
+      by_flag true e = let none = (h.leaving e).0 in absurd (cc)
+      by_flag false e = e
+
+  -- an instance whose cursor passed
+  pub cursor-sound : (cursor : Cursor) → IsInstance plan i → (i.leaving ≡ true → left_of text cursor ≡ []) → IsInstance plan (with_cursor i.steps cursor)
+  cursor-sound cursor h none =
+      record {
+        strand = record { fits = h.strand.fits; within = h.strand.within; few = h.strand.few };
+        few = h.few;
+        around = h.around;
+        leaving = λ e. (none e, (h.leaving e).1);
+      }
+
+  -- where no statement is left, the block ends
+  pub ends-on : (cursor : Cursor) → left_of text i.top.cursor ≡ [] → left_of text cursor ≡ [] →
+      move plan (path_of i) (machine_of plan i) ≡ end_move plan (path_of i) (machine_of plan (with_cursor i.steps cursor)) (machine_of plan (with_cursor i.steps cursor)).top.levels
+  ends-on cursor h k =
+      ap (λ (left : List Stmt). move_at plan (path_of i) (machine_of plan i) left) h ∙ ap (λ (m : Machine). end_move plan (path_of i) m m.top.levels) (sym (none-left cursor h k))

@@ -1,6 +1,7 @@
 -- What the call for a statement answers and leaves, where the statement is paid and the cursor stands after it.
-use Rattle.std.specs.Prelude.{◌≡◌, ℕ, zero, suc, ◌+◌, ◌<◌, Bool, true, false, nat_lt, List, Option, Some, None, Result, Ok, Err, length}
+use Rattle.std.specs.Prelude.{◌≡◌, ℕ, zero, suc, ◌+◌, ◌<◌, Bool, true, false, nat_lt, List, [], ◌∷◌, ◌++◌, Option, Some, None, Result, Ok, Err, length}
 use Rattle.std.specs.Prelude.{pos}
+use Rattle.dotmix.specs.Trails.{FitsGamma}
 use Rattle.script_grammar.specs.declared.tree.Name.{Name}
 use Rattle.script_grammar.specs.declared.tree.Function.{Function}
 use Rattle.script_grammar.specs.declared.tree.Stmt.{Stmt}
@@ -14,21 +15,54 @@ use Rattle.serial_meaning.specs.declared.value.Value.TheVariants.{Int}
 use Rattle.serial_meaning.specs.declared.event.FaultKind.{FaultKind}
 use Rattle.serial_meaning.specs.declared.event.FaultKind.TheVariants.{Index, Depth, Budget}
 use Rattle.strand_values.specs.declared.halt.Halt as values
+use Rattle.strand_values.specs.declared.halt.Halt.TheVariants as halt
 use Rattle.strand_moves.specs.declared.activation.Activation.{Activation}
 use Rattle.strand_moves.specs.declared.running.Running.{Running}
 use Rattle.strand_moves.specs.declared.shown.Moved.{Moved}
 use Rattle.strand_moves.specs.Cursors.{left_of}
-use Rattle.strand_moves.specs.Running.{machine_of, path_of}
+use Rattle.strand_moves.specs.Running.{IsInstance, machine_of, open_scopes, path_of, present_of}
 use Rattle.strand_moves.specs.Moves.{acted, Makes, strand_of}
 
 -- the call shows and leaves what this act does, and a fault is one of this strand
 abbrev pub Acts : PlanView → Stmt → Act-F Act Stmt → Running → Running → Result Moved values.Halt → Type 0
 Acts plan st a old new result =
-    Makes (acted plan (path_of old) (machine_of plan old) st a) (strand_of (path_of old) (machine_of plan old)) (machine_of plan new) result
+    Makes (acted plan (present_of old) (machine_of plan old) st a) (strand_of (present_of old) (machine_of plan old)) (machine_of plan new) result
 
 -- the step, the rank, and whether it may still be a rank
 abbrev pub Costs : Running → Running → Type 0
 Costs old new = new.rank + new.steps < old.rank + old.steps + 2
+
+-- the present path and the open scopes stay
+pub record Stays (old new : Running) : Type 0 where
+  pub trail : new.trail ≡ old.trail
+  pub scopes : open_scopes new ≡ open_scopes old
+  pub leaving : new.leaving ≡ old.leaving
+
+-- Where there was memory for it, they stay.
+abbrev pub Stands : Running → Running → Result Moved values.Halt → Type 0
+Stands old new (Ok moved) = Stays old new
+Stands old new (Err (halt.Fault kind)) = Stays old new
+Stands old new (Err halt.Memory) = Unit {0}
+
+-- one scope more is open, in which it goes on
+pub record GoesIn (plan : PlanView) (old new : Running) : Type 0 where
+  pub fits : FitsGamma plan.gamma new.trail
+  pub path : new.trail.path ≡ old.trail.path ++ old.rank ∷ []
+  pub within : length new.trail.path < length plan.gamma
+  pub scopes : open_scopes new ≡ record { trail = old.trail; rank = old.rank; cursor = old.top.cursor } ∷ open_scopes old
+  pub rank : new.rank ≡ 0
+  pub steps : new.steps ≡ old.steps
+  pub leaving : new.leaving ≡ old.leaving
+
+pub record IsKept (plan : PlanView) (old new : Running) : Type 0 where
+  pub instance : IsInstance plan new
+  pub path : path_of new ≡ path_of old
+
+-- A move keeps an instance and its path, and one that is a fault keeps the present path too. Want of memory keeps nothing.
+abbrev pub Keeps : PlanView → Running → Running → Result Moved values.Halt → Type 0
+Keeps plan old new (Ok moved) = IsKept plan old new
+Keeps plan old new (Err (halt.Fault kind)) = IsKept plan old new × (new.trail ≡ old.trail)
+Keeps plan old new (Err halt.Memory) = Unit {0}
 
 -- the pedigrees in the iterations of a loop, if there are any, are within the depth
 abbrev pub loop_fits : PlanView → List ℕ → ℕ → Bool
@@ -55,6 +89,7 @@ loop_begins plan path n target env steps = by_steps (nat_lt n (steps + 1))
 pub record IsCallee (number : ℕ) (f : Function) (args : List Value) (to : Option Name) (a : Activation) : Type 0 where
   pub function : a.function ≡ number
   pub left : left_of f.body a.cursor ≡ f.body
+  pub levels : a.levels.items ≡ []
   pub returning : a.returning ≡ false
   pub env : a.env ≡ bound f.params args
   pub spawned : a.spawned ≡ false

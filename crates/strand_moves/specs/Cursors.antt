@@ -1,4 +1,4 @@
--- Which statements of a function are left, by the blocks that were entered and the place in the innermost one.
+-- Which statements of a function's body, or of a scope's block, are left, by the blocks that were entered and the place in the innermost one.
 use Rattle.std.specs.Prelude.{◌≡◌, ℕ, ◌-◌, ◌<◌, List, [], ◌∷◌, ◌++◌, Option, Some, None, slice_get, drop}
 use Rattle.script_grammar.specs.declared.tree.Stmt.{Stmt, out-Stmt}
 use Rattle.script_grammar.specs.declared.tree.Act.{Act, out-Act}
@@ -26,6 +26,7 @@ part_of (act.While e a) part.Yes = []
 part_of (act.While e a) part.No = []
 part_of (act.While e a) part.Turn = a
 part_of (act.Pfor x lo hi target c) p = []
+part_of (act.Scope a) p = []
 
 abbrev pub part_at : Option Stmt → Part → List Stmt
 part_at None p = []
@@ -53,6 +54,29 @@ behind_of block (e ∷ es) = behind_of (block_in block e) es ++ drop e.back bloc
 -- the statements left of a function's body
 unfoldable pub left_of : List Stmt → Cursor → List Stmt
 left_of body c = drop c.next (block_of body c.entered.items) ++ behind_of body c.entered.items
+
+-- a scope's block, and no statements where this is no scope
+abbrev pub scope_of : Act-F Act Stmt → List Stmt
+scope_of (act.Let x r) = []
+scope_of (act.Array x n) = []
+scope_of (act.Set x r) = []
+scope_of (act.Store x i e) = []
+scope_of (act.Spawn c) = []
+scope_of (act.Call c) = []
+scope_of act.Sync = []
+scope_of (act.Print e) = []
+scope_of (act.If e a b) = []
+scope_of (act.While e a) = []
+scope_of (act.Pfor x lo hi target c) = []
+scope_of (act.Scope a) = a
+
+abbrev pub scope_at : Option Stmt → List Stmt
+scope_at None = []
+scope_at (Some st) = scope_of (out-Act (out-Stmt st).act)
+
+-- the block of the scope after which the cursor stands
+abbrev pub scope_after : List Stmt → Cursor → List Stmt
+scope_after body c = scope_at (slice_get (block_of body c.entered.items) (c.next - 1))
 
 -- The cursor stands after this statement.
 pub record IsBehind (body : List Stmt) (c : Cursor) (st : Stmt) : Type 0 where

@@ -15,7 +15,7 @@ use Rattle.serial_meaning.specs.Exec.{does}
 use Rattle.serial_meaning.specs.Plan.{PlanView}
 use Rattle.serial_meaning.specs.declared.event.Fault.{Fault}
 use Rattle.serial_meaning.specs.declared.origin.Origin.{Origin}
-use Rattle.strand_meaning.specs.Machine.{Spawned, Looped, Token, Told, Handed, Syncs, Loops, Machine, Reached, Stands, Gives, handing, inside, place_of, state_of, with_left, entered, reached}
+use Rattle.strand_meaning.specs.Machine.{Spawned, Looped, Token, Opens, Closes, Told, Handed, Syncs, Loops, Machine, Reached, Stands, Gives, handing, inside, place_of, state_of, with_left, entered, reached}
 use Rattle.strand_values.specs.declared.halt.Halt as values
 use Rattle.strand_values.specs.declared.halt.Halt.TheVariants as halt
 use Rattle.strand_moves.specs.declared.shown.Shown.{Shown}
@@ -27,6 +27,8 @@ use Rattle.strand_moves.specs.declared.shown.Moved.TheVariants as moved
 abbrev pub tokens_of : Shown → List Token
 tokens_of shown.Nothing = []
 tokens_of (shown.Told e) = Told e ∷ []
+tokens_of (shown.Opened path) = Opens path ∷ []
+tokens_of (shown.Closed j) = Closes j ∷ []
 tokens_of (shown.Spawned e child height target) = Told e ∷ Handed child.origin (Spawned height target) ∷ []
 tokens_of (shown.Synced e) = Told e ∷ Syncs ∷ []
 tokens_of (shown.Looped e child target) = Told e ∷ Handed child.origin (Looped target) ∷ Loops ∷ []
@@ -40,6 +42,8 @@ pub record IsTrailOf (plan : PlanView) (o : Origin) (trail : Trail) : Type 0 whe
 abbrev pub ShowsTrail : PlanView → Shown → Type 0
 ShowsTrail plan shown.Nothing = Unit {0}
 ShowsTrail plan (shown.Told e) = Unit {0}
+ShowsTrail plan (shown.Opened path) = Unit {0}
+ShowsTrail plan (shown.Closed j) = Unit {0}
 ShowsTrail plan (shown.Spawned e child height target) = IsTrailOf plan child.origin child.trail
 ShowsTrail plan (shown.Synced e) = Unit {0}
 ShowsTrail plan (shown.Looped e child target) = IsTrailOf plan child.origin child.trail
@@ -62,12 +66,12 @@ Makes run strand m (Err (halt.Fault kind)) = run ≡ record { items = []; ending
 Makes run strand m (Err halt.Memory) = Unit {0}
 
 abbrev pub strand_of : List ℕ → Machine → List ℕ
-strand_of path m = path ++ m.rank ∷ []
+strand_of here m = here ++ m.rank ∷ []
 
--- what a statement does that is paid and stands no longer among those left
+-- what a statement does at a present path that is paid and stands no longer among those left
 unfoldable pub acted : PlanView → List ℕ → Machine → Stmt → Act-F Act Stmt → Run Token Fault Reached
-acted plan path m st a =
-    let r = does (handing plan (place_of (length m.below) a)) plan path inside (length m.below) st a (state_of m) in record { items = r.items; ending = reached plan (with_left m m.top.left) (entered plan st a m.top.left m) r.ending }
+acted plan here m st a =
+    let r = does (handing plan (place_of (length m.below) a)) plan here inside (length m.below) st a (state_of m) in record { items = r.items; ending = reached plan (with_left m m.top.left) (entered plan st a m.top.left m) r.ending }
 
 -- a call, or a spawn, whose value goes to a variable, if any
 abbrev pub call_to : Option Name → CallText → Act-F Act Stmt

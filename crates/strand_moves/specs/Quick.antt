@@ -17,7 +17,7 @@ use Rattle.strand_moves.specs.declared.shown.Moved.{Moved}
 use Rattle.strand_moves.specs.declared.shown.Moved.TheVariants as moved
 use Rattle.strand_moves.specs.declared.shown.Shown.TheVariants as shown
 use Rattle.strand_moves.specs.Cursors.{IsBehind}
-use Rattle.strand_moves.specs.Running.{body_of, machine_of, path_of}
+use Rattle.strand_moves.specs.Running.{machine_of, present_of, text_of}
 use Rattle.strand_moves.specs.Moves.{acted, run_of}
 
 -- what was done without showing anything, as a move
@@ -52,6 +52,7 @@ is_plain (act.Print e) = false
 is_plain (act.If e a b) = true
 is_plain (act.While e a) = true
 is_plain (act.Pfor x lo hi target c) = false
+is_plain (act.Scope a) = false
 
 -- whether the next of these statements is plain
 abbrev pub plain_next : List Stmt → Bool
@@ -70,15 +71,15 @@ IsQuick plan path old new false = (new ≡ old) × (plain_next old.top.left ≡ 
 
 -- What a statement does was done and showed nothing. Or nothing changed, and a plain one meets a fault.
 abbrev pub IsDone : Stmt → Act-F Act Stmt → Running → Running → Bool → Type 0
-IsDone st a old new true = (plan : PlanView) → acted plan (path_of old) (machine_of plan old) st a ≡ run_of (moved.Went shown.Nothing) (machine_of plan new)
-IsDone st a old new false = (new ≡ old) × ((plan : PlanView) → is_plain a ≡ true → ByFault (acted plan (path_of old) (machine_of plan old) st a))
+IsDone st a old new true = (plan : PlanView) → acted plan (present_of old) (machine_of plan old) st a ≡ run_of (moved.Went shown.Nothing) (machine_of plan new)
+IsDone st a old new false = (new ≡ old) × ((plan : PlanView) → is_plain a ≡ true → ByFault (acted plan (present_of old) (machine_of plan old) st a))
 
 -- The same of the statement after which the cursor stands, and whose step is paid.
 abbrev pub IsQuiet : Stmt → Running → Running → Bool → Type 0
 IsQuiet st old new true =
-    (plan : PlanView) → IsBehind (body_of plan old.top.function) old.top.cursor st →
-    acted plan (path_of old) (machine_of plan old) st (out-Act (out-Stmt st).act) ≡ run_of (moved.Went shown.Nothing) (machine_of plan new)
+    (plan : PlanView) → IsBehind (text_of plan old.top) old.top.cursor st →
+    acted plan (present_of old) (machine_of plan old) st (out-Act (out-Stmt st).act) ≡ run_of (moved.Went shown.Nothing) (machine_of plan new)
 IsQuiet st old new false =
     (new ≡ old)
-    × ((plan : PlanView) → IsBehind (body_of plan old.top.function) old.top.cursor st → is_plain (out-Act (out-Stmt st).act) ≡ true →
-    ByFault (acted plan (path_of old) (machine_of plan old) st (out-Act (out-Stmt st).act)))
+    × ((plan : PlanView) → IsBehind (text_of plan old.top) old.top.cursor st → is_plain (out-Act (out-Stmt st).act) ≡ true →
+    ByFault (acted plan (present_of old) (machine_of plan old) st (out-Act (out-Stmt st).act)))

@@ -1,5 +1,5 @@
 -- What an instance is in the words of the strand's meaning.
-use Rattle.std.specs.Prelude.{ℕ, ◌+◌, ◌<◌, ◌^◌, List, [], Option, Some, None, map, reverse, length}
+use Rattle.std.specs.Prelude.{◌≡◌, ℕ, ◌+◌, ◌<◌, ◌^◌, Bool, true, false, List, [], ◌∷◌, ◌++◌, Option, Some, None, map, reverse, length, if◌then◌else◌}
 use Rattle.dotmix.specs.Trails.{FitsGamma}
 use Rattle.script_grammar.specs.declared.tree.Function.{Function}
 use Rattle.script_grammar.specs.declared.tree.Stmt.{Stmt}
@@ -7,8 +7,9 @@ use Rattle.serial_meaning.specs.Functions.{function_at}
 use Rattle.serial_meaning.specs.Plan.{PlanView, functions_of}
 use Rattle.strand_meaning.specs.Machine as meaning
 use Rattle.strand_moves.specs.declared.activation.Activation.{Activation}
+use Rattle.strand_moves.specs.declared.activation.Level.{Level}
 use Rattle.strand_moves.specs.declared.running.Running.{Running}
-use Rattle.strand_moves.specs.Cursors.{left_of}
+use Rattle.strand_moves.specs.Cursors.{left_of, scope_after}
 
 abbrev pub body_in : Option Function → List Stmt
 body_in None = []
@@ -18,10 +19,28 @@ body_in (Some f) = f.body
 abbrev pub body_of : PlanView → ℕ → List Stmt
 body_of plan function = body_in (function_at (functions_of plan) function)
 
-abbrev pub activation_of : PlanView → Activation → meaning.Activation
-activation_of plan a = record {
+-- Open scopes stand here the innermost first.
+
+-- the block of the innermost one of a function's open scopes, and the function's body where none is open
+abbrev pub block_inside : List Stmt → List Level → List Stmt
+block_inside body [] = body
+block_inside body (l ∷ ls) = scope_after (block_inside body ls) l.cursor
+
+abbrev pub levels_of : List Stmt → List Level → List meaning.Level
+levels_of body [] = []
+levels_of body (l ∷ ls) = record { rank = l.rank; left = left_of (block_inside body ls) l.cursor } ∷ levels_of body ls
+
+-- the statements among which an activation's cursor stands
+abbrev pub text_of : PlanView → Activation → List Stmt
+text_of plan a = block_inside (body_of plan a.function) (reverse a.levels.items)
+
+-- an activation that is, or isn't, after the sync at the end of its innermost scope
+abbrev pub activation_of : PlanView → Bool → Activation → meaning.Activation
+activation_of plan leaving a = record {
   function = a.function;
-  left = left_of (body_of plan a.function) a.cursor;
+  left = left_of (text_of plan a) a.cursor;
+  levels = levels_of (body_of plan a.function) (reverse a.levels.items);
+  leaving = leaving;
   returning = a.returning;
   env = a.env;
   spawned = a.spawned;
@@ -33,16 +52,55 @@ abbrev pub machine_of : PlanView → Running → meaning.Machine
 machine_of plan i = record {
   rank = i.rank;
   steps = i.steps;
-  top = activation_of plan i.top;
-  below = map (activation_of plan) (reverse i.below.items);
+  top = activation_of plan i.leaving i.top;
+  below = map (activation_of plan false) (reverse i.below.items);
 }
 
-abbrev pub path_of : Running → List ℕ
-path_of i = i.trail.path
+-- the open scopes of all these activations
+abbrev pub scopes_of : List Activation → List Level
+scopes_of [] = []
+scopes_of (a ∷ below) = reverse a.levels.items ++ scopes_of below
 
--- An instance of this plan: its trail is one of the plan's coefficients, its strands are in the depth, and its ranks and steps
--- together are in 32 bits, since a rank costs a step.
-pub record IsInstance (plan : PlanView) (i : Running) : Type 0 where
+abbrev pub open_scopes : Running → List Level
+open_scopes i = scopes_of (i.top ∷ reverse i.below.items)
+
+-- the present path
+abbrev pub present_of : Running → List ℕ
+present_of i = i.trail.path
+
+-- the path around these scopes, inside which a path stands
+abbrev pub path_around : List Level → List ℕ → List ℕ
+path_around [] here = here
+path_around (l ∷ ls) here = path_around ls l.trail.path
+
+-- the instance's path
+abbrev pub path_of : Running → List ℕ
+path_of i = path_around (open_scopes i) i.trail.path
+
+-- a path stands inside these scopes, whose trails are of the plan's coefficients
+abbrev pub AreAround : PlanView → List Level → List ℕ → Type 0
+AreAround plan [] here = Unit {0}
+AreAround plan (l ∷ ls) here = (here ≡ l.trail.path ++ l.rank ∷ []) × FitsGamma plan.gamma l.trail × AreAround plan ls l.trail.path
+
+-- the ranks from which an instance goes on after these scopes, all together
+abbrev pub ranks_after : List Level → ℕ
+ranks_after [] = 0
+ranks_after (l ∷ ls) = l.rank + 1 + ranks_after ls
+
+-- What an instance's rank may come to, at most, with those from which it goes on after its scopes: a rank costs a step, and the step of a scope
+-- pays for the sync at its end. After that sync the rank in it doesn't count any more.
+abbrev pub most_ranks : Running → ℕ
+most_ranks i = (if i.leaving then 0 else i.rank) + i.steps + ranks_after (open_scopes i)
+
+-- The strand of an instance: its trail is one of the plan's coefficients, it is in the depth, and its rank in 32 bits.
+pub record IsStrand (plan : PlanView) (i : Running) : Type 0 where
   pub fits : FitsGamma plan.gamma i.trail
   pub within : length i.trail.path < length plan.gamma
-  pub few : i.rank + i.steps < 2 ^ 32
+  pub few : i.rank < 2 ^ 32
+
+-- An instance of this plan: its strand, and its open scopes. Where the sync at the end of a scope is after it, no statement is left in that scope.
+pub record IsInstance (plan : PlanView) (i : Running) : Type 0 where
+  pub strand : IsStrand plan i
+  pub few : most_ranks i < 2 ^ 32
+  pub around : AreAround plan (open_scopes i) i.trail.path
+  pub leaving : i.leaving ≡ true → (left_of (text_of plan i.top) i.top.cursor ≡ []) × (i.top.levels.items ≡ [] → ⊥)

@@ -1,22 +1,37 @@
 // Activations.
 
-ghost use Rattle.std.specs.Prelude.{◌≡◌, false, None, IfOk};
+ghost use Rattle.std.specs.Prelude.{◌≡◌, [], false, None, IfOk, reverse};
 ghost use Rattle.std.specs.Option.{option_copied};
 ghost use Rattle.serial_meaning.specs.Exec.{bound};
-ghost use Rattle.strand_moves.specs.Running.{body_of};
+ghost use Rattle.strand_moves.specs.Running.{block_inside, body_of, text_of};
 
 use crate::cursor::Cursor;
 use crate::memory::Memory;
+use dotmix::Trail;
 use script_grammar::{Act, Function, Items, Name, Stmt};
 use serial_meaning::{Fault, Plan, Value};
 use std::alloc::Global;
 use strand_values::Environment;
+
+/// A scope that is open.
+#[derive(Drop)]
+pub(crate) struct Level {
+    /// The trail of the path around it.
+    pub(crate) trail: Trail,
+    /// The rank of the strand that came to it.
+    pub(crate) rank: u64,
+    /// The place after it in the block around it.
+    pub(crate) cursor: Cursor,
+}
 
 /// A function that was begun.
 #[derive(Drop)]
 pub(crate) struct Activation {
     /// Its place in the script.
     pub(crate) function: u32,
+    /// Its open scopes, the outermost first.
+    pub(crate) levels: Vec<Level>,
+    /// The place in the innermost one, or in the function's body.
     pub(crate) cursor: Cursor,
     /// Whether its return is paid, and the sync that this implies is after it.
     pub(crate) returning: bool,
@@ -42,6 +57,7 @@ impl Activation {
     ) -> Result<Activation, Memory>
         ensures function { IfOk result (λ a. a.function ≡ number) }
         ensures left { IfOk result (λ a. left_of function.now.body a.cursor ≡ function.now.body) }
+        ensures levels { IfOk result (λ a. a.levels.items ≡ []) }
         ensures returning { IfOk result (λ a. a.returning ≡ false) }
         ensures env { IfOk result (λ a. a.env ≡ bound function.now.params args.now) }
         ensures spawned { IfOk result (λ a. a.spawned ≡ false) }
@@ -52,6 +68,7 @@ impl Activation {
         let env = Environment::bound(alloc, function.params.as_slice(), args, more)?;
         Ok(Activation {
             function: number,
+            levels: Vec::new(alloc),
             cursor: Cursor::start(alloc),
             returning: false,
             env,
@@ -60,6 +77,24 @@ impl Activation {
             target,
         })
     }
+
+    /// The statements among which its cursor stands: its function's body, or the block of its innermost open scope.
+    pub(crate) fn text<'a>(&self, plan: &'a Plan) -> &'a [Stmt]
+        ensures { result.now ≡ text_of plan.now self.now }
+    {
+        inside(body(plan, self.function), self.levels.as_slice())
+    }
+}
+
+/// The block of the innermost of these scopes, which are open in a function of this body.
+fn inside<'a>(body: &'a [Stmt], levels: &[Level]) -> &'a [Stmt]
+    ensures { result.now ≡ block_inside body.now (reverse levels.now) }
+{
+    let mut block = body;
+    for level in levels {
+        block = level.cursor.scope(block);
+    }
+    block
 }
 
 /// How many variables the statements make, but for those of the blocks inside them.

@@ -5,10 +5,10 @@ ghost use Rattle.std.specs.Option.{option_copied};
 ghost use Rattle.script_grammar.specs.declared.tree.Stmt.{Stmt};
 ghost use Rattle.serial_meaning.specs.Functions.{function_at};
 ghost use Rattle.serial_meaning.specs.Plan.{functions_of};
-ghost use Rattle.strand_meaning.specs.Machine.{return_move, spawns_in, with_scalar};
+ghost use Rattle.strand_meaning.specs.Machine.{here_of, return_move, spawns_in, with_scalar};
 ghost use Rattle.strand_values.specs.Gives.{Gives};
-ghost use Rattle.strand_moves.specs.Acts.{Acts, Costs, IsCallee, result_of};
-ghost use Rattle.strand_moves.specs.Running.{IsInstance, machine_of, path_of};
+ghost use Rattle.strand_moves.specs.Acts.{Acts, Costs, IsCallee, Stands, result_of};
+ghost use Rattle.strand_moves.specs.Running.{IsStrand, machine_of, path_of, present_of};
 ghost use Rattle.strand_moves.specs.Moves.{Makes, MovesTrail, call_to, strand_of};
 
 use crate::activation::{Activation, copy_of};
@@ -34,9 +34,10 @@ impl Running {
         target: Option<&Name>,
         call: &CallText,
     ) -> Result<Moved, Halt>
+        requires { self.old.leaving ≡ false }
         ensures shows { (st : Stmt) → Acts plan.now st (call_to (option_copied target.entry) call.now) self.old self.new result }
         ensures child { IfOk result (MovesTrail plan.now) }
-        ensures trail { self.new.trail ≡ self.old.trail }
+        ensures stays { Stands self.old self.new result }
         ensures few { Costs self.old self.new }
     {
         let args = self.top.env.values(alloc, call.args.as_slice())?;
@@ -63,11 +64,16 @@ impl Running {
         ensures top { OnOk result (IsCallee number function.now args (option_copied target.entry) self.new.top) }
         ensures below { OnOk result (self.new.below.items ≡ self.old.below.items ++ self.old.top ∷ []) }
         ensures trail { self.new.trail ≡ self.old.trail }
+        ensures leaving { self.new.leaving ≡ self.old.leaving }
         ensures rank { self.new.rank ≡ self.old.rank }
         ensures steps { self.new.steps ≡ self.old.steps }
     {
         let target = copy_of(alloc, target)?;
         let callee = Activation::new(alloc, number, function, args.as_slice(), target)?;
+        // most instances have one open call at a time, and a list would begin with room for four
+        if self.below.is_empty() {
+            self.below.try_reserve_exact(1)?;
+        }
         let caller = mem::replace(&mut self.top, callee);
         self.below.push(caller)?;
         Ok(())
@@ -91,11 +97,12 @@ impl Running {
 
     /// The step of a return and the sync that it implies.
     pub(crate) fn return_step(&mut self, plan: &Plan) -> Result<Moved, Halt>
-        requires { IsInstance plan.now self.old }
+        requires strand { IsStrand plan.now self.old }
+        requires here { here_of (path_of self.old) (machine_of plan.now self.old) ≡ present_of self.old }
         ensures shows { let m = machine_of plan.now self.old in
-            Makes (return_move plan.now (path_of self.old) m false) (strand_of (path_of self.old) m) (machine_of plan.now self.new) result }
+            Makes (return_move plan.now (path_of self.old) m false) (strand_of (present_of self.old) m) (machine_of plan.now self.new) result }
         ensures child { IfOk result (MovesTrail plan.now) }
-        ensures trail { self.new.trail ≡ self.old.trail }
+        ensures stays { Stands self.old self.new result }
         ensures few { self.new.rank + self.new.steps ≤ self.old.rank + self.old.steps }
     {
         self.pay()?;
@@ -125,10 +132,13 @@ impl Running {
 
     /// The value of an activation that ends goes to the one below it, or is that of the instance.
     pub(crate) fn end(&mut self, alloc: Global, plan: &Plan) -> Result<Moved, Halt>
+        requires outside { self.old.top.levels.items ≡ [] }
+        requires goes_on { self.old.leaving ≡ false }
+        requires here { here_of (path_of self.old) (machine_of plan.now self.old) ≡ present_of self.old }
         ensures shows { let m = machine_of plan.now self.old in
-            Makes (return_move plan.now (path_of self.old) m true) (strand_of (path_of self.old) m) (machine_of plan.now self.new) result }
+            Makes (return_move plan.now (path_of self.old) m true) (strand_of (present_of self.old) m) (machine_of plan.now self.new) result }
         ensures child { IfOk result (MovesTrail plan.now) }
-        ensures trail { self.new.trail ≡ self.old.trail }
+        ensures stays { Stands self.old self.new result }
         ensures few { self.new.rank + self.new.steps ≤ self.old.rank + self.old.steps }
     {
         let value = self.result(plan)?;

@@ -11,8 +11,8 @@ ghost use Rattle.serial_meaning.specs.Open.{answer_filler};
 ghost use Rattle.serial_meaning.specs.Plan.{PlanView, functions_of};
 ghost use Rattle.serial_meaning.specs.declared.event.Event.TheVariants as event;
 ghost use Rattle.strand_meaning.specs.Machine.{Told, sync_tokens};
-ghost use Rattle.strand_moves.specs.Acts.{Acts, Costs, loop_begins};
-ghost use Rattle.strand_moves.specs.Running.{IsInstance, path_of};
+ghost use Rattle.strand_moves.specs.Acts.{Acts, Costs, Stays, loop_begins};
+ghost use Rattle.strand_moves.specs.Running.{IsStrand, present_of};
 ghost use Rattle.strand_moves.specs.Moves.{spawn_to, tokens_of, MovesTrail, ShowsTrail};
 ghost use Rattle.strand_moves.specs.declared.shown.Shown.TheVariants as shown;
 
@@ -39,10 +39,10 @@ impl Running {
         target: Option<&Name>,
         call: &CallText,
     ) -> Result<Moved, Halt>
-        requires { IsInstance plan.now self.old }
+        requires { IsStrand plan.now self.old }
         ensures shows { (st : Stmt) → Acts plan.now st (spawn_to (option_copied target.entry) call.now) self.old self.new result }
         ensures child { IfOk result (MovesTrail plan.now) }
-        ensures trail { self.new.trail ≡ self.old.trail }
+        ensures stays { Stays self.old self.new }
         ensures few { Costs self.old self.new }
     {
         let args = self.top.env.values(alloc, call.args.as_slice())?;
@@ -76,10 +76,10 @@ impl Running {
     /// A sync, written or implied.
     pub(crate) fn sync(&mut self) -> Result<Shown, Memory>
         requires { self.old.rank < 2 ^ 32 }
-        ensures shown { IfOk result (λ s. tokens_of s ≡ Told (event.Sync (path_of self.old ++ self.old.rank ∷ [])) ∷ sync_tokens self.old.top.spawned) }
+        ensures shown { IfOk result (λ s. tokens_of s ≡ Told (event.Sync (present_of self.old ++ self.old.rank ∷ [])) ∷ sync_tokens self.old.top.spawned) }
         ensures passed { OnOk result (self.new ≡ record self.old { rank = self.old.rank + 1; top = record self.old.top { spawned = false } }) }
         ensures child { (plan : PlanView) → IfOk result (ShowsTrail plan) }
-        ensures trail { self.new.trail ≡ self.old.trail }
+        ensures stays { Stays self.old self.new }
         ensures few { Costs self.old self.new }
     {
         let event = Event::Sync(self.pedigree()?);
@@ -103,10 +103,11 @@ impl Running {
         target: &Option<Name>,
         call: &CallText,
     ) -> Result<Moved, Halt>
-        requires { IsInstance plan.now self.old }
+        requires strand { IsStrand plan.now self.old }
+        requires steps { self.old.steps < 2 ^ 32 }
         ensures shows { (st : Stmt) (var : _) → Acts plan.now st (act.Pfor var lo.now hi.now target.now call.now) self.old self.new result }
         ensures child { IfOk result (MovesTrail plan.now) }
-        ensures trail { self.new.trail ≡ self.old.trail }
+        ensures stays { Stays self.old self.new }
         ensures few { Costs self.old self.new }
     {
         let first = number(&self.top.env.value(lo)?);
@@ -139,7 +140,7 @@ impl Running {
         target: &Option<Name>,
         count: u64,
     ) -> Result<(), FaultKind>
-        ensures result { result ≡ loop_begins plan.now (path_of self.old) count target.now self.old.top.env self.old.steps }
+        ensures result { result ≡ loop_begins plan.now (present_of self.old) count target.now self.old.top.env self.old.steps }
         ensures ok { OnOk result (self.new.steps + count ≡ self.old.steps) }
         ensures less { self.new.steps ≤ self.old.steps }
         ensures others { self.new ≡ record self.old { steps = self.new.steps } }
@@ -160,9 +161,9 @@ impl Running {
     /// A loop without an iteration.
     fn pass_loop(&mut self, alloc: Global, target: &Option<Name>) -> Result<Shown, Memory>
         requires { self.old.rank < 2 ^ 32 }
-        ensures shown { IfOk result (λ s. s ≡ shown.Told (event.Loop (path_of self.old ++ self.old.rank ∷ []))) }
+        ensures shown { IfOk result (λ s. s ≡ shown.Told (event.Loop (present_of self.old ++ self.old.rank ∷ []))) }
         ensures passed { OnOk result (self.new ≡ record self.old { rank = self.old.rank + 1; top = record self.old.top { env = filled target.now [] self.old.top.env } }) }
-        ensures trail { self.new.trail ≡ self.old.trail }
+        ensures stays { Stays self.old self.new }
         ensures few { Costs self.old self.new }
     {
         let event = Event::Loop(self.pedigree()?);
@@ -179,9 +180,9 @@ impl Running {
         child: Boxed<Child>,
     ) -> Result<Shown, Memory>
         requires { self.old.rank < 2 ^ 32 }
-        ensures shown { IfOk result (λ s. s ≡ shown.Looped (event.Loop (path_of self.old ++ self.old.rank ∷ [])) child target.now) }
+        ensures shown { IfOk result (λ s. s ≡ shown.Looped (event.Loop (present_of self.old ++ self.old.rank ∷ [])) child target.now) }
         ensures passed { OnOk result (self.new ≡ record self.old { rank = self.old.rank + 1; top = record self.old.top { env = filled target.now [] self.old.top.env } }) }
-        ensures trail { self.new.trail ≡ self.old.trail }
+        ensures stays { Stays self.old self.new }
         ensures few { Costs self.old self.new }
     {
         let event = Event::Loop(self.pedigree()?);
@@ -196,11 +197,11 @@ impl Running {
     }
 
     /// The trail of a child of this strand.
-    fn child_trail(&self, alloc: Global, plan: &Plan) -> Result<Trail, Memory>
+    pub(crate) fn child_trail(&self, alloc: Global, plan: &Plan) -> Result<Trail, Memory>
         requires fits { FitsGamma plan.now.gamma self.now.trail }
-        requires within { length (path_of self.now) < length plan.now.gamma }
+        requires within { length (present_of self.now) < length plan.now.gamma }
         requires rank { self.now.rank < 2 ^ 32 }
-        ensures path { IfOk result (λ trail. trail.path ≡ path_of self.now ++ self.now.rank ∷ []) }
+        ensures path { IfOk result (λ trail. trail.path ≡ present_of self.now ++ self.now.rank ∷ []) }
         ensures fits { IfOk result (FitsGamma plan.now.gamma) }
     {
         Ok(self.trail.child(alloc, &plan.gamma, self.rank)?)
@@ -215,7 +216,7 @@ fn boxed(alloc: Global, origin: Origin, trail: Trail) -> Result<Boxed<Child>, Me
 }
 
 /// The same path, over the same memory.
-fn share_path(path: &Ped) -> Result<Ped, Memory>
+pub(crate) fn share_path(path: &Ped) -> Result<Ped, Memory>
     ensures { IfOk result (λ shared. shared ≡ path.now) }
 {
     Ok(path.share()?)

@@ -1,10 +1,10 @@
-// Places in a function's body.
+// Places in a block: a function's body, or that of a scope.
 
 ghost use Rattle.std.specs.Prelude.{◌≡◌, List, [], ◌∷◌, ◌++◌, IfOk, MatchOption, if◌then◌else◌};
 ghost use Rattle.script_grammar.specs.declared.tree.Stmt.{Stmt, out-Stmt};
 ghost use Rattle.script_grammar.specs.declared.tree.Act.{out-Act};
 ghost use Rattle.strand_moves.specs.declared.cursor.Part.TheVariants as part;
-ghost use Rattle.strand_moves.specs.Cursors.{part_of, block_in, block_of, left_of, IsBehind, Passes};
+ghost use Rattle.strand_moves.specs.Cursors.{part_of, block_in, block_of, left_of, scope_after, scope_of, IsBehind, Passes};
 
 use crate::memory::Memory;
 use script_grammar::{Act, Stmt};
@@ -27,7 +27,7 @@ pub(crate) struct Entered {
     pub(crate) back: usize,
 }
 
-/// A place in a function's body: the blocks that were entered, the outermost first, of which two take no memory, and the index in the innermost block.
+/// A place in a function's body, or in a scope's block: the blocks that were entered, the outermost first, of which two take no memory, and the index in the innermost block.
 #[derive(Drop)]
 pub(crate) struct Cursor {
     pub(crate) entered: SmallVec<Entered, 2>,
@@ -48,6 +48,16 @@ fn part_in<'a>(statement: &'a Stmt, part: Part) -> &'a [Stmt]
             Part::Turn => body.as_slice(),
             Part::Yes | Part::No => &[],
         },
+        _ => &[],
+    }
+}
+
+/// A scope's block, and no statements where the statement is no scope.
+fn scope_in<'a>(statement: &'a Stmt) -> &'a [Stmt]
+    ensures { result.now ≡ scope_of (out-Act (out-Stmt statement.now).act) }
+{
+    match &statement.act {
+        Act::Scope(block) => block.as_slice(),
         _ => &[],
     }
 }
@@ -102,6 +112,17 @@ impl Cursor {
                 Some(last) => self.next = last.back,
                 None => return None,
             }
+        }
+    }
+
+    /// The block of the scope after which the cursor stands, and no statements where it stands after none.
+    pub(crate) fn scope<'a>(&self, body: &'a [Stmt]) -> &'a [Stmt]
+        ensures { result.now ≡ scope_after body.now self.now }
+    {
+        let block = innermost(body, self.entered.as_slice());
+        match block.get(self.next.saturating_sub(1)) {
+            Some(statement) => scope_in(statement),
+            None => &[],
         }
     }
 

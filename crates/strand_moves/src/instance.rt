@@ -52,7 +52,7 @@ impl Instance {
         requires { IsInstance plan.now self.old }
         ensures moves { IfOk result (λ moved. move plan.now (path_of self.old) (machine_of plan.now self.old) ≡ run_of moved (machine_of plan.now self.new)) }
         ensures child { IfOk result (MovesTrail plan.now) }
-        ensures path { path_of self.new ≡ path_of self.old }
+        ensures path { IfOk result (λ _. path_of self.new ≡ path_of self.old) }
         ensures sound { IfOk result (λ _. IsInstance plan.now self.new) }
     {
         self.running.step(alloc, plan)
@@ -68,13 +68,6 @@ impl Instance {
         ensures sound { IfOk result (λ _. IsInstance plan.now self.new) }
     {
         self.running.quick(alloc, plan)
-    }
-
-    /// The rank that it has, or will have once it goes on from the sync or the loop after which it waits.
-    pub fn rank(&self) -> u64
-        ensures { result ≡ self.now.running.value.rank }
-    {
-        self.running.rank()
     }
 
     /// Takes the fault of a child of the activation with `height` others below it.

@@ -14,6 +14,7 @@ mod memory;
 mod quick;
 mod right;
 mod running;
+mod scopes;
 mod shown;
 mod statement;
 

@@ -3,12 +3,11 @@
 ghost use Rattle.std.specs.Prelude.{◌≡◌, ◌∷◌, ◌<◌, ◌+◌, ◌^◌, List, IfOk};
 ghost use Rattle.script_grammar.specs.declared.tree.Act.TheOpen as act;
 ghost use Rattle.script_grammar.specs.declared.tree.Stmt.{Stmt};
-ghost use Rattle.strand_moves.specs.Acts.{Costs};
+ghost use Rattle.strand_moves.specs.Acts.{Costs, Stays};
 ghost use Rattle.strand_moves.specs.Cursors.{IsBehind, left_of};
 ghost use Rattle.strand_moves.specs.Running.{IsInstance, machine_of, path_of};
 ghost use Rattle.strand_moves.specs.Quick.{IsDone, IsQuick, IsQuiet, IsWent, quiet};
 
-use crate::activation::body;
 use crate::memory::Memory;
 use crate::running::Running;
 use crate::shown::{Moved, Shown};
@@ -50,7 +49,8 @@ impl Running {
         if self.steps == 0 {
             return Ok(false);
         }
-        let Some(statement) = self.top.cursor.pass(body(plan, self.top.function)) else {
+        let text = self.top.text(plan);
+        let Some(statement) = self.top.cursor.pass(text) else {
             return Ok(false);
         };
         self.steps -= 1;
@@ -65,7 +65,7 @@ impl Running {
     /// What a statement does that shows nothing, after its step. Otherwise nothing changes, and the answer is no.
     fn quiet_statement(&mut self, alloc: Global, statement: &Stmt) -> Result<bool, Memory>
         ensures did { IfOk result (IsQuiet statement.now self.old self.new) }
-        ensures trail { self.new.trail ≡ self.old.trail }
+        ensures stays { Stays self.old self.new }
         ensures few { Costs self.old self.new }
     {
         match &statement.act {
@@ -82,7 +82,7 @@ impl Running {
     /// The same of `let x = R` or `x = R`.
     fn quiet_right(&mut self, alloc: Global, x: &Name, r: &Right) -> Result<bool, Memory>
         ensures did { (st : Stmt) → IfOk result (IsDone st (act.Set x.now r.now) self.old self.new) }
-        ensures trail { self.new.trail ≡ self.old.trail }
+        ensures stays { Stays self.old self.new }
         ensures few { Costs self.old self.new }
     {
         match r {

@@ -1,14 +1,14 @@
 // The right sides of `let` and of assignments.
 
-ghost use Rattle.std.specs.Prelude.{◌≡◌, ◌<◌, ◌^◌, ℕ, Err, IfOk};
+ghost use Rattle.std.specs.Prelude.{◌≡◌, ◌<◌, ◌^◌, ℕ, false, Err, IfOk};
 ghost use Rattle.script_grammar.specs.declared.tree.Act.TheOpen as act;
 ghost use Rattle.script_grammar.specs.declared.tree.Right.TheVariants as right;
 ghost use Rattle.script_grammar.specs.declared.tree.Stmt.{Stmt};
 ghost use Rattle.serial_meaning.specs.Plan.{PlanView};
 ghost use Rattle.serial_meaning.specs.declared.event.FaultKind.{FaultKind};
 ghost use Rattle.strand_values.specs.declared.halt.Halt.TheVariants.{Fault};
-ghost use Rattle.strand_moves.specs.Acts.{Acts, Costs};
-ghost use Rattle.strand_moves.specs.Running.{IsInstance};
+ghost use Rattle.strand_moves.specs.Acts.{Acts, Costs, Stands, Stays};
+ghost use Rattle.strand_moves.specs.Running.{IsStrand};
 ghost use Rattle.strand_moves.specs.Moves.{MovesTrail};
 ghost use Rattle.strand_moves.specs.Quick.{quiet};
 
@@ -29,10 +29,11 @@ impl Running {
         x: &Name,
         r: &Right,
     ) -> Result<Moved, Halt>
-        requires { IsInstance plan.now self.old }
+        requires strand { IsStrand plan.now self.old }
+        requires goes_on { self.old.leaving ≡ false }
         ensures shows { (st : Stmt) → Acts plan.now st (act.Set x.now r.now) self.old self.new result }
         ensures child { IfOk result (MovesTrail plan.now) }
-        ensures trail { self.new.trail ≡ self.old.trail }
+        ensures stays { Stands self.old self.new result }
         ensures few { Costs self.old self.new }
     {
         match r {
@@ -47,17 +48,17 @@ impl Running {
     pub(crate) fn set_value(&mut self, alloc: Global, x: &Name, e: &Expr) -> Result<(), Halt>
         ensures shows { (plan : PlanView) (st : Stmt) → Acts plan st (act.Set x.now (right.Value e.now)) self.old self.new (quiet result) }
         ensures same { (kind : FaultKind) → result ≡ Err (Fault kind) → self.new ≡ self.old }
-        ensures trail { self.new.trail ≡ self.old.trail }
+        ensures stays { Stays self.old self.new }
         ensures few { Costs self.old self.new }
     {
         self.top.env.assign(alloc, x, e)
     }
 
     fn set_draw(&mut self, alloc: Global, plan: &Plan, x: &Name) -> Result<Moved, Halt>
-        requires { IsInstance plan.now self.old }
+        requires { IsStrand plan.now self.old }
         ensures shows { (st : Stmt) (at : ℕ) → Acts plan.now st (act.Set x.now (right.Draw at)) self.old self.new result }
         ensures child { (plan : PlanView) → IfOk result (MovesTrail plan) }
-        ensures trail { self.new.trail ≡ self.old.trail }
+        ensures stays { Stays self.old self.new }
         ensures few { Costs self.old self.new }
     {
         let word = self.trail.draw(&plan.gamma, self.rank, plan.rounds);
@@ -73,7 +74,7 @@ impl Running {
         requires { self.old.rank < 2 ^ 32 }
         ensures shows { (plan : PlanView) (st : Stmt) (at : ℕ) → Acts plan st (act.Set x.now (right.New at)) self.old self.new result }
         ensures child { (plan : PlanView) → IfOk result (MovesTrail plan) }
-        ensures trail { self.new.trail ≡ self.old.trail }
+        ensures stays { Stays self.old self.new }
         ensures few { Costs self.old self.new }
     {
         let event = Event::New(self.pedigree()?);

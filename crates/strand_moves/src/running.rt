@@ -1,11 +1,11 @@
 // What an instance is, and its moves.
 
-ghost use Rattle.std.specs.Prelude.{◌≡◌, ◌<◌, ◌≤◌, ◌+◌, ◌^◌, ◌++◌, ◌∷◌, [], Err, IfOk, OnOk, length};
+ghost use Rattle.std.specs.Prelude.{◌≡◌, ◌<◌, ◌+◌, ◌^◌, ◌++◌, ◌∷◌, [], Err, IfOk, OnOk, length};
 ghost use Rattle.dotmix.specs.Trails.{FitsGamma};
 ghost use Rattle.serial_meaning.specs.Plan.{functions_of};
 ghost use Rattle.strand_meaning.specs.Machine.{Stands, begun, move};
 
-use crate::activation::{Activation, body};
+use crate::activation::Activation;
 use crate::memory::Memory;
 use crate::shown::Moved;
 use dotmix::Trail;
@@ -14,12 +14,15 @@ use serial_meaning::{Fault, FaultKind, Plan, Value};
 use std::alloc::Global;
 use strand_values::Halt;
 
-/// What stands in an instance's box: its path, its rank and the steps that it has left, and its activations.
+/// What stands in an instance's box: its present path, its rank and the steps that it has left, and its activations.
 #[derive(Drop)]
 pub(crate) struct Running {
+    /// The trail of the present path: the instance's own, and then the ranks of the open scopes.
     pub(crate) trail: Trail,
     pub(crate) rank: u64,
     pub(crate) steps: u64,
+    /// Whether the sync at the end of the innermost open scope is after it.
+    pub(crate) leaving: bool,
     /// The innermost activation.
     pub(crate) top: Activation,
     /// The others, which are its open calls, the outermost first.
@@ -27,7 +30,8 @@ pub(crate) struct Running {
 }
 
 impl Running {
-    ghost use Rattle.strand_moves.specs.Running.{IsInstance, machine_of, path_of};
+    ghost use Rattle.strand_moves.specs.Acts.{Keeps};
+    ghost use Rattle.strand_moves.specs.Running.{IsInstance, machine_of, path_of, present_of};
     ghost use Rattle.strand_moves.specs.Moves.{run_of, Makes, MovesTrail, strand_of};
 
     /// An instance of the function at this place in the script, before its first move.
@@ -50,6 +54,7 @@ impl Running {
             trail,
             rank: 0,
             steps: plan.limits.budget as u64,
+            leaving: false,
             top: Activation::new(alloc, function, f, args, None)?,
             below: Vec::new(alloc),
         })
@@ -60,7 +65,7 @@ impl Running {
         requires { IsInstance plan.now self.old }
         ensures moves { IfOk result (λ moved. move plan.now (path_of self.old) (machine_of plan.now self.old) ≡ run_of moved (machine_of plan.now self.new)) }
         ensures child { IfOk result (MovesTrail plan.now) }
-        ensures path { path_of self.new ≡ path_of self.old }
+        ensures path { IfOk result (λ _. path_of self.new ≡ path_of self.old) }
         ensures sound { IfOk result (λ _. IsInstance plan.now self.new) }
     {
         let rank = self.rank;
@@ -78,23 +83,15 @@ impl Running {
     fn go_on(&mut self, alloc: Global, plan: &Plan) -> Result<Moved, Halt>
         requires { IsInstance plan.now self.old }
         ensures moves { let m = machine_of plan.now self.old in
-            Makes (move plan.now (path_of self.old) m) (strand_of (path_of self.old) m) (machine_of plan.now self.new) result }
+            Makes (move plan.now (path_of self.old) m) (strand_of (present_of self.old) m) (machine_of plan.now self.new) result }
         ensures child { IfOk result (MovesTrail plan.now) }
-        ensures trail { self.new.trail ≡ self.old.trail }
-        ensures few { self.new.rank + self.new.steps ≤ self.old.rank + self.old.steps }
+        ensures keeps { Keeps plan.now self.old self.new result }
     {
-        match self.top.cursor.pass(body(plan, self.top.function)) {
+        let text = self.top.text(plan);
+        match self.top.cursor.pass(text) {
             Some(statement) => self.statement(alloc, plan, statement),
-            None if self.top.returning => self.end(alloc, plan),
-            None => self.return_step(plan),
+            None => self.close(alloc, plan),
         }
-    }
-
-    /// The rank that it has, or will have once it goes on from the sync or the loop after which it waits.
-    pub fn rank(&self) -> u64
-        ensures { result ≡ self.now.rank }
-    {
-        self.rank
     }
 
     /// Pays a step.
@@ -113,7 +110,7 @@ impl Running {
     /// The pedigree of the strand.
     pub(crate) fn pedigree(&self) -> Result<Pedigree, Memory>
         requires { self.now.rank < 2 ^ 32 }
-        ensures { IfOk result (λ j. j ≡ path_of self.now ++ self.now.rank ∷ []) }
+        ensures { IfOk result (λ j. j ≡ present_of self.now ++ self.now.rank ∷ []) }
     {
         Ok(Pedigree {
             path: self.trail.path.share()?,

@@ -1,4 +1,5 @@
 use dotmix::Trail;
+use ped_path::{Ped, Pedigree};
 use script_grammar::{Boxed, Name};
 use serial_meaning::{Event, Fault, Origin, Value};
 
@@ -11,12 +12,16 @@ pub struct Child {
     pub trail: Trail,
 }
 
-/// What a move shows, in order: an event, if any, and then a child or a wait.
+/// What a move shows, in order: an event, if any, and then a child or a wait; or where a scope begins or has ended.
 #[derive(Drop)]
 pub enum Shown {
     Nothing,
     /// An event, and nothing after it.
     Told(Event),
+    /// A scope was begun, whose path this is: the strand that began it has the same ranks.
+    Opened(Ped),
+    /// The scope that this strand began has ended.
+    Closed(Pedigree),
     /// A child was spawned. Its value goes to the variable `target`, if any, of the activation with `height` others below it.
     Spawned {
         event: Event,

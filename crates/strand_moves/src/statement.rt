@@ -1,6 +1,6 @@
 // Statements.
 
-ghost use Rattle.std.specs.Prelude.{◌≡◌, ◌<◌, ◌≤◌, ◌+◌, ◌^◌, List, Err, IfOk};
+ghost use Rattle.std.specs.Prelude.{◌≡◌, ◌<◌, ◌+◌, ◌^◌, false, List, Err, IfOk};
 ghost use Rattle.script_grammar.specs.declared.tree.Stmt.{Stmt, out-Stmt};
 ghost use Rattle.script_grammar.specs.declared.tree.Act.{out-Act};
 ghost use Rattle.script_grammar.specs.declared.tree.Act.TheOpen as act;
@@ -8,9 +8,9 @@ ghost use Rattle.serial_meaning.specs.Plan.{PlanView};
 ghost use Rattle.serial_meaning.specs.declared.event.FaultKind.{FaultKind};
 ghost use Rattle.strand_meaning.specs.Machine.{statement_move};
 ghost use Rattle.strand_values.specs.declared.halt.Halt.TheVariants.{Fault};
-ghost use Rattle.strand_moves.specs.Acts.{Acts, Costs};
+ghost use Rattle.strand_moves.specs.Acts.{Acts, Costs, Keeps, Stays};
 ghost use Rattle.strand_moves.specs.Cursors.{IsBehind};
-ghost use Rattle.strand_moves.specs.Running.{IsInstance, machine_of, path_of, body_of};
+ghost use Rattle.strand_moves.specs.Running.{IsInstance, machine_of, path_of, present_of, text_of};
 ghost use Rattle.strand_moves.specs.Moves.{Makes, MovesTrail, strand_of};
 ghost use Rattle.strand_moves.specs.Quick.{quiet};
 
@@ -31,12 +31,12 @@ impl Running {
         statement: &Stmt,
     ) -> Result<Moved, Halt>
         requires instance { IsInstance plan.now self.old }
-        requires behind { IsBehind (body_of plan.now self.old.top.function) self.old.top.cursor statement.now }
+        requires goes_on { self.old.leaving ≡ false }
+        requires behind { IsBehind (text_of plan.now self.old.top) self.old.top.cursor statement.now }
         ensures shows { let m = machine_of plan.now self.old in
-            Makes (statement_move plan.now (path_of self.old) m statement.now m.top.left) (strand_of (path_of self.old) m) (machine_of plan.now self.new) result }
+            Makes (statement_move plan.now (path_of self.old) m statement.now m.top.left) (strand_of (present_of self.old) m) (machine_of plan.now self.new) result }
         ensures child { IfOk result (MovesTrail plan.now) }
-        ensures trail { self.new.trail ≡ self.old.trail }
-        ensures few { self.new.rank + self.new.steps ≤ self.old.rank + self.old.steps }
+        ensures keeps { Keeps plan.now self.old self.new result }
     {
         self.pay()?;
         match &statement.act {
@@ -57,13 +57,14 @@ impl Running {
                 target,
                 call,
             } => self.pfor(alloc, plan, lo, hi, target, call),
+            Act::Scope(_) => self.scope(alloc, plan),
         }
     }
 
     pub(crate) fn array(&mut self, alloc: Global, x: &Name, n: Number) -> Result<(), Halt>
         ensures shows { (plan : PlanView) (st : Stmt) → Acts plan st (act.Array x.now n) self.old self.new (quiet result) }
         ensures same { (kind : FaultKind) → result ≡ Err (Fault kind) → self.new ≡ self.old }
-        ensures trail { self.new.trail ≡ self.old.trail }
+        ensures stays { Stays self.old self.new }
         ensures few { Costs self.old self.new }
     {
         self.top.env.set_array(alloc, x, count(n.value))?;
@@ -73,7 +74,7 @@ impl Running {
     pub(crate) fn store(&mut self, x: &Name, i: &Expr, e: &Expr) -> Result<(), Halt>
         ensures shows { (plan : PlanView) (st : Stmt) → Acts plan st (act.Store x.now i.now e.now) self.old self.new (quiet result) }
         ensures same { (kind : FaultKind) → result ≡ Err (Fault kind) → self.new ≡ self.old }
-        ensures trail { self.new.trail ≡ self.old.trail }
+        ensures stays { Stays self.old self.new }
         ensures few { Costs self.old self.new }
     {
         let index = self.top.env.integer(i)?;
@@ -89,7 +90,7 @@ impl Running {
         requires { self.old.rank < 2 ^ 32 }
         ensures shows { (plan : PlanView) (st : Stmt) → Acts plan st act.Sync self.old self.new result }
         ensures child { (plan : PlanView) → IfOk result (MovesTrail plan) }
-        ensures trail { self.new.trail ≡ self.old.trail }
+        ensures stays { Stays self.old self.new }
         ensures few { Costs self.old self.new }
     {
         Ok(Moved::Went(self.sync()?))
@@ -99,7 +100,7 @@ impl Running {
         requires { self.old.rank < 2 ^ 32 }
         ensures shows { (plan : PlanView) (st : Stmt) → Acts plan st (act.Print e.now) self.old self.new result }
         ensures child { (plan : PlanView) → IfOk result (MovesTrail plan) }
-        ensures trail { self.new.trail ≡ self.old.trail }
+        ensures stays { Stays self.old self.new }
         ensures few { Costs self.old self.new }
     {
         let value = self.top.env.value(e)?;
@@ -107,10 +108,10 @@ impl Running {
     }
 
     pub(crate) fn branch(&mut self, e: &Expr) -> Result<(), Halt>
-        ensures shows { (plan : PlanView) (st : Stmt) (yes no : List Stmt) → IsBehind (body_of plan self.old.top.function) self.old.top.cursor st →
+        ensures shows { (plan : PlanView) (st : Stmt) (yes no : List Stmt) → IsBehind (text_of plan self.old.top) self.old.top.cursor st →
             out-Act (out-Stmt st).act ≡ act.If e.now yes no → Acts plan st (act.If e.now yes no) self.old self.new (quiet result) }
         ensures same { (kind : FaultKind) → result ≡ Err (Fault kind) → self.new ≡ self.old }
-        ensures trail { self.new.trail ≡ self.old.trail }
+        ensures stays { Stays self.old self.new }
         ensures few { Costs self.old self.new }
     {
         let holds = self.top.env.holds(e)?;
@@ -119,10 +120,10 @@ impl Running {
     }
 
     pub(crate) fn turn(&mut self, e: &Expr) -> Result<(), Halt>
-        ensures shows { (plan : PlanView) (st : Stmt) (body : List Stmt) → IsBehind (body_of plan self.old.top.function) self.old.top.cursor st →
+        ensures shows { (plan : PlanView) (st : Stmt) (body : List Stmt) → IsBehind (text_of plan self.old.top) self.old.top.cursor st →
             out-Act (out-Stmt st).act ≡ act.While e.now body → Acts plan st (act.While e.now body) self.old self.new (quiet result) }
         ensures same { (kind : FaultKind) → result ≡ Err (Fault kind) → self.new ≡ self.old }
-        ensures trail { self.new.trail ≡ self.old.trail }
+        ensures stays { Stays self.old self.new }
         ensures few { Costs self.old self.new }
     {
         let holds = self.top.env.holds(e)?;

@@ -4,6 +4,7 @@ mod batches;
 mod commands;
 mod measures;
 mod runs;
+mod scopes;
 mod scripts;
 mod strands;
 mod workers;

@@ -169,7 +169,10 @@ pub(crate) fn script(source: &Source<'_>, tokens: &[Lexeme]) -> Result<Script, S
         return Err(unexpected(source, rest));
     }
     match source.stop {
-        Stop::End => Ok(Script { functions }),
+        Stop::End => Ok(Script {
+            version: source.version,
+            functions,
+        }),
         _ => Err(unexpected(source, rest)),
     }
 }

@@ -8,7 +8,7 @@ ghost use Rattle.script_text.specs.Reads.{IsPlain, IsValue, IsName, IsNumber, Na
 
 use crate::error::SyntaxError;
 use script_grammar::{Items, Name, Number};
-use script_tokens::{Lexeme, Stop, Word};
+use script_tokens::{Lexeme, Stop, Version, Word};
 use std::alloc::Global;
 
 /// A text that was cut into lexemes.
@@ -16,6 +16,7 @@ use std::alloc::Global;
 pub(crate) struct Source<'a> {
     pub(crate) alloc: Global,
     pub(crate) bytes: &'a [u8],
+    pub(crate) version: Version,
     /// The length of the text.
     pub(crate) end: u32,
     /// Why there is no further lexeme.

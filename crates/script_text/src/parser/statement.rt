@@ -184,6 +184,7 @@ fn begins(word: Word) -> bool
             | Word::If
             | Word::While
             | Word::Pfor
+            | Word::Scope
     )
 }
 
@@ -255,6 +256,7 @@ fn act<'t>(
         }
         Word::If => choice(source, first, rest, depth),
         Word::While => repetition(source, first, rest, depth),
+        Word::Scope => level(source, first, rest, depth),
         _ => pfor(source, first, rest, depth),
     }
 }
@@ -292,6 +294,22 @@ fn repetition<'t>(
     let (condition, rest) = expr(source, rest, depth)?;
     let (body, rest) = block(source, rest, depth)?;
     Ok((Act::While(condition, body), rest))
+}
+
+// A statement that begins with `scope`.
+#[cycle(statements)]
+fn level<'t>(
+    source: &Source<'_>,
+    first: Lexeme,
+    rest: &'t [Lexeme],
+    depth: u8,
+) -> Result<(Act, &'t [Lexeme]), SyntaxError>
+    requires keyword { first.word ≡ word.Scope }
+    requires depth { depth ≤ 64 }
+    ensures { ReadsAct source.now depth first rest.now result }
+{
+    let (body, rest) = block(source, rest, depth)?;
+    Ok((Act::Scope(body), rest))
 }
 
 #[cycle(statements)]

@@ -7,7 +7,7 @@ ghost use Rattle.strand_machine.specs.Family.{tag};
 ghost use Rattle.strand_machine.specs.Tasks.{fresh};
 ghost use Rattle.worked_tasks.specs.Stopping.{IsIdle, StopsAt};
 
-use super::plan;
+use super::{plan, plan_within};
 use meet_block::{Give, Join};
 use script_grammar::Items;
 use serial_meaning::{Answer, AnswerKey, Outcome, Plan, Value};
@@ -202,5 +202,22 @@ fn a_task_goes_on_once_its_child_has_answered(rt: HostRuntime) -> Result<(), Fai
     let rest = gone_on(&rt, alloc, rest)?;
     assert!(rt; rest.awaited().as_slice().is_empty());
     assert_eq!(rt; number(&rt, alloc, rest)?, 0);
+    Ok(())
+}
+
+// The end of a scope waits for the child that was spawned in it, and main's return for none, since it spawned nothing after that.
+#[test]
+fn a_task_waits_at_the_end_of_a_scope(rt: HostRuntime) -> Result<(), Fail> {
+    let alloc = rt.alloc();
+    let text =
+        "version 2\nfn f() { return 7; } fn main() { let a = 0; scope { a = spawn f(); } return a; }";
+    let main = main_task(alloc, &plan_within(&rt, text, 3)?)?;
+    let (child, rest) = handed_out(&rt, alloc, main)?;
+    assert!(rt; awaits_only(&rest, &child));
+    let rest = at_wait(&rt, alloc, rest)?;
+    let (answer, give) = ended(&rt, alloc, child)?;
+    give.put(answer);
+    let rest = gone_on(&rt, alloc, rest)?;
+    assert_eq!(rt; number(&rt, alloc, rest)?, 7);
     Ok(())
 }

@@ -238,6 +238,36 @@ fn each_rule_has_its_place(rt: HostRuntime) {
             9,
             74,
         ),
+        (
+            "version 2\nfn main() { scope { let x = 1; } return 0; }",
+            10,
+            30,
+        ),
+        (
+            "version 2\nfn f() { return 1; } fn main() { let x = 0; scope { x = spawn f(); } return x; }",
+            0,
+            0,
+        ),
+        (
+            "version 2\nfn f() { return 1; } fn main() { let x = 0; scope { x = spawn f(); print x; } return x; }",
+            9,
+            83,
+        ),
+        (
+            "version 2\nfn f() { return 1; } fn main() { let x = spawn f(); scope { print x; } return x; }",
+            9,
+            76,
+        ),
+        (
+            "version 2\nfn f() { return 1; } fn main() { let x = spawn f(); scope { } print x; return x; }",
+            0,
+            0,
+        ),
+        (
+            "version 2\nfn f() { return 1; } fn main() { let x = 0; while 1 { print x; scope { x = spawn f(); } } return x; }",
+            0,
+            0,
+        ),
     ] {
         assert_eq!(rt; fault(&rt, alloc, text.as_bytes()), (number, at), "{text}");
     }

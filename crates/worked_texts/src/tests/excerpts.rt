@@ -2,7 +2,7 @@
 use script_excerpt::excerpt;
 use std::test::Fail;
 
-const EXCERPTS: [(&str, usize, &str); 5] = [
+const EXCERPTS: [(&str, usize, &str); 7] = [
     (
         "fn main() { print 1 return 0; }",
         20,
@@ -23,6 +23,16 @@ const EXCERPTS: [(&str, usize, &str); 5] = [
         "fn main() { if 1 == 1 print 1; } return 0; }",
         22,
         "line 1, column 23\nfn main() { if 1 == 1 print 1; } return 0; }\n                      ^ fault, here a { would do\n",
+    ),
+    (
+        "version 2\nfn main() { { sync; } return 0; }",
+        22,
+        "line 2, column 13\nfn main() { { sync; } return 0; }\n            ^ fault, here a scope would do\n",
+    ),
+    (
+        "fn () { return 0; }",
+        3,
+        "line 1, column 4\nfn () { return 0; }\n   ^ fault\n",
     ),
 ];
 

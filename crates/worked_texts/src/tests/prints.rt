@@ -46,7 +46,7 @@ fn canonical_lines_print_as_they_stand(rt: HostRuntime) -> Result<(), Fail> {
 
 #[test]
 fn scripts_have_a_canonical_text(rt: HostRuntime) -> Result<(), Fail> {
-    let rows: [(&[u8], &[u8]); 3] = [
+    let rows: [(&[u8], &[u8]); 6] = [
         (b"", b""),
         (
             b"fn main(){while 1{if x<1{if x{}else{sync;}}else{}}return 0;}",
@@ -55,6 +55,15 @@ fn scripts_have_a_canonical_text(rt: HostRuntime) -> Result<(), Fail> {
         (
             b"fn mk(n,id x)->id{return 0;} fn f(){return 0;} # end",
             b"fn mk(n, id x) -> id {\n  return 0;\n}\nfn f() {\n  return 0;\n}\n",
+        ),
+        (
+            b"version 2\nfn main(){scope{sync;}return 0;}",
+            b"version 2\nfn main() {\n  scope {\n    sync;\n  }\n  return 0;\n}\n",
+        ),
+        (b"version 2\n # nothing", b"version 2\n"),
+        (
+            b"fn scope(version){return version;}",
+            b"fn scope(version) {\n  return version;\n}\n",
         ),
     ];
     for (script, text) in rows {

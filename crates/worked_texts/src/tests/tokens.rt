@@ -1,6 +1,8 @@
 // Worked texts, and the largest ones.
 
-use script_tokens::{MAX_BYTES, Memory, Misfit, Stop, Token, TokenKind, Word, lexemes, next_token};
+use script_tokens::{
+    MAX_BYTES, Memory, Misfit, Stop, Token, TokenKind, Version, Word, lexemes, next_token,
+};
 use std::alloc::Global;
 use std::process::Abort;
 use std::test::Fail;
@@ -8,7 +10,7 @@ use std::test::Fail;
 // A text, the texts of its lexemes joined by `|`, and why they end.
 type Cut = (&'static [u8], &'static [u8], Stop);
 
-static CUTS: [Cut; 29] = [
+static CUTS: [Cut; 34] = [
     (b"", b"", Stop::End),
     (b"12abc", b"12|abc", Stop::End),
     (b"007", b"007", Stop::End),
@@ -38,6 +40,11 @@ static CUTS: [Cut; 29] = [
     (b"\x01", b"", Stop::NoToken(0)),
     (b"a\x7f", b"a", Stop::NoToken(1)),
     (b"\x0b", b"", Stop::NoToken(0)),
+    (b"version 2\nscope x", b"scope|x", Stop::End),
+    (b"version 2\n", b"", Stop::End),
+    (b"version 2", b"version|2", Stop::End),
+    (b"version 2\n!", b"", Stop::NoToken(10)),
+    (b"version 2\n# \xff", b"", Stop::NotAscii(12)),
 ];
 
 fn assert_cut(
@@ -155,7 +162,11 @@ static MISFITS: [(&[u8], u32, Misfit); 3] = [
 fn assert_next(rt: &impl Abort, text: &[u8], from: u32, wanted: Result<Token, Misfit>) {
     assert!(rt; text.len() <= MAX_BYTES);
     assert!(rt; from as usize <= text.len());
-    assert_eq!(rt; next_token(text, from), wanted, "at {from} in {text:?}");
+    assert_eq!(rt;
+        next_token(text, from, Version::One),
+        wanted,
+        "at {from} in {text:?}"
+    );
 }
 
 #[test]
@@ -184,4 +195,42 @@ fn the_largest_texts_are_read(rt: HostRuntime) -> Result<(), Fail> {
         assert_eq!(rt; lexed.lexemes.first().map(|l| l.word), first);
     }
     Ok(())
+}
+
+// A text, its version, and the word and the offset of its first lexeme.
+static VERSIONS: [(&[u8], Version, Word, u32); 6] = [
+    (b"scope", Version::One, Word::Name, 0),
+    (b"version 2\nscope", Version::Two, Word::Scope, 10),
+    (b"version 2\r\nscope", Version::One, Word::Name, 0),
+    (b" version 2\nscope", Version::One, Word::Name, 1),
+    (b"version 3\nscope", Version::One, Word::Name, 0),
+    (b"version 2\n\nscopes", Version::Two, Word::Name, 11),
+];
+
+#[test]
+fn a_text_of_version_2_begins_with_its_line(rt: HostRuntime) -> Result<(), Fail> {
+    for &(text, version, word, start) in &VERSIONS {
+        assert!(rt; text.len() <= MAX_BYTES);
+        let lexed = lexemes(rt.alloc(), text)?;
+        assert_eq!(rt; lexed.version, version, "{text:?}");
+        let first = lexed.lexemes.first().map(|l| (l.word, l.start));
+        assert_eq!(rt; first, Some((word, start)), "{text:?}");
+    }
+    Ok(())
+}
+
+#[test]
+fn scope_is_a_keyword_of_version_2_alone(rt: HostRuntime) {
+    for (version, kind) in [
+        (Version::One, TokenKind::Name),
+        (Version::Two, TokenKind::Keyword),
+    ] {
+        let wanted = Ok(Token {
+            kind,
+            start: 1,
+            end: 6,
+        });
+        assert_eq!(rt; next_token(b" scope ", 0, version), wanted);
+    }
+    assert_eq!(rt; Word::Scope.kind(), TokenKind::Keyword);
 }

@@ -1,7 +1,7 @@
 // Texts, with their trees or their first faults.
 
 use super::tree;
-use script_text::{Kind, SyntaxError, TokenKind, next_token};
+use script_text::{Act, Kind, SyntaxError, TokenKind, Version, next_token};
 use std::alloc::{AllocError, Global};
 use std::process::Abort;
 use std::test::Fail;
@@ -58,6 +58,21 @@ fn texts_have_a_tree_or_a_fault_at_its_place(rt: HostRuntime) {
         ),
         ("fn f(id y)->id{return y;}# end", None),
         ("fn main(){if 1<2{sync;}else{}return -(1+2);}", None),
+        ("fn main() { scope { } return 0; }", Some((2, 18))),
+        ("fn main() { let scope = 1; return scope; }", None),
+        ("version 2\nfn main() { scope { } return 0; }", None),
+        (
+            "version 2\nfn main() { let scope = 1; return 0; }",
+            Some((2, 26)),
+        ),
+        (
+            "version 2\nfn main() { scope sync; return 0; }",
+            Some((2, 28)),
+        ),
+        ("version 2\nfn main() { scope {", Some((6, 29))),
+        ("version 2\n", None),
+        ("version 2", Some((2, 0))),
+        ("version 2\nfn \u{e9}", Some((1, 13))),
         (
             "fn main() { print -9223372036854775807 - 1; return 0012; }",
             None,
@@ -177,6 +192,10 @@ fn limits_hold_up_to_their_ends(rt: HostRuntime) -> Result<(), Fail> {
             Repeats::of(b"fn main() ", b"{ if 1 ", 64, b"{"),
             Some((5, 458)),
         ),
+        (
+            Repeats::of(b"version 2\nfn main() ", b"{ scope ", 64, b"{"),
+            Some((5, 532)),
+        ),
         (Repeats::of(b"", FUNCTION, 1024, b""), None),
         (Repeats::of(b"", FUNCTION, 1025, b""), Some((7, 25600))),
         (Repeats::of(b"", b"(", 1_048_576, b""), Some((2, 0))),
@@ -217,6 +236,28 @@ fn a_function_has_the_offsets_of_its_text(rt: HostRuntime) {
 }
 
 #[test]
+fn a_scope_has_the_offsets_of_its_text(rt: HostRuntime) {
+    let text = b"version 2\nfn main() { scope { sync; } return 0; }";
+    let script = tree(&rt, rt.alloc(), text).expect(&rt, "a script");
+    assert_eq!(rt; script.version, Version::Two);
+    let [main] = script.functions.as_slice() else {
+        panic!(rt; "one function");
+    };
+    assert_eq!(rt; (main.name.at, main.return_at), (13, 38));
+    let [statement] = main.body.as_slice() else {
+        panic!(rt; "one statement");
+    };
+    assert_eq!(rt; statement.at, 22);
+    let Act::Scope(block) = &statement.act else {
+        panic!(rt; "a scope");
+    };
+    let [inner] = block.as_slice() else {
+        panic!(rt; "one statement inside");
+    };
+    assert_eq!(rt; inner.at, 30);
+}
+
+#[test]
 fn tokens_come_one_by_one(rt: HostRuntime) {
     for (text, from, kind, start, end) in [
         ("a<=1", 1, TokenKind::Symbol, 1, 3),
@@ -224,7 +265,7 @@ fn tokens_come_one_by_one(rt: HostRuntime) {
         ("12abc", 0, TokenKind::Number, 0, 2),
         ("a ", 1, TokenKind::End, 2, 2),
     ] {
-        let token = next_token(text.as_bytes(), from).expect(&rt, "a token");
+        let token = next_token(text.as_bytes(), from, Version::One).expect(&rt, "a token");
         assert_eq!(rt;
             (token.kind, token.start, token.end),
             (kind, start, end),
@@ -232,7 +273,7 @@ fn tokens_come_one_by_one(rt: HostRuntime) {
         );
     }
     assert_eq!(rt;
-        next_token(b"a !", 1),
+        next_token(b"a !", 1, Version::One),
         Err(SyntaxError::Bad { number: 2, at: 2 })
     );
 }

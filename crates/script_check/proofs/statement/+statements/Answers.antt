@@ -1,14 +1,14 @@
-use Rattle.std.proofs.Common.{◌≡◌, Bool, ◌||◌, ◌&&◌, true, ap, sym, ◌∙◌, rules}
+use Rattle.std.proofs.Common.{◌≡◌, Bool, ◌||◌, ◌&&◌, true, false, ap, sym, ◌∙◌, rules}
 use Rattle.script_grammar.specs.declared.tree.Kind.TheVariants.{Int}
 use Rattle.script_grammar.specs.declared.tree.Act.{Act}
 use Rattle.script_grammar.specs.declared.tree.Act.TheVariants as variant
 use Rattle.script_check.specs.Violations.{noted}
-use Rattle.script_check.specs.Names.{both}
+use Rattle.script_check.specs.Names.{nobody, both}
 use Rattle.script_check.specs.Expressions.{read, wanted}
 use Rattle.script_check.specs.Statements.{place, Judged, judge_what, judge_all, faults_each, after}
 use Rattle.script_check.specs.Walk.{State, keeps_what, keeps_all, state_of}
-use Rattle.script_check.proofs.Behind.{one_behind, one_judged, if_state, if_faults, while_state, while_faults, with_known, with_loop_set, behind_by}
-use Rattle.script_check.proofs.Induction.{judge_is, keeps_is, judge_if, keeps_if, judge_while, keeps_while}
+use Rattle.script_check.proofs.Behind.{one_behind, one_judged, if_state, if_faults, while_state, while_faults, scope_state, with_known, with_loop_set, behind_by}
+use Rattle.script_check.proofs.Induction.{judge_is, keeps_is, judge_if, keeps_if, judge_while, keeps_while, judge_scope, keeps_scope}
 use Rattle.script_check.proofs.statement.+statements.Goals as goal
 
 pub judge-returns-in_ok-end_if-in-If-clause-state : goal.judge-returns-in_ok-end_if-in-If-clause-state
@@ -68,6 +68,28 @@ judge-returns-in_ok-judge_block-in-While-clause-found t c =
     while_faults fs a (read c.in-While.e) s.known m.known s.names m.names c.args.found.now c.want-in-While.new.found c.judge_block-in-While.new.found
     known set c.want-in-While.ensures.found body
     ∙ ap (λ (j : Judged). noted c.args.found.now (j.faults (place fs c.args.in_block) s.known s.names)) (sym (judge_is st ∙ ap (λ (w : Act). judge_what w st.at) what ∙ judge_while st.at c.in-While.e a))
+
+pub judge-returns-in_ok-sync-in-Scope-clause-state : goal.judge-returns-in_ok-sync-in-Scope-clause-state
+judge-returns-in_ok-sync-in-Scope-clause-state t c =
+    let fs = c.args.functions.now in
+    let st = c.args.statement.now in
+    let a = c.as_slice-in-Scope.result.now in
+    let s = state_of c.args.scope.now in
+    let what : st.act ≡ variant.Scope a = search rules in
+    let first : state_of c.judge_block-in-Scope.new.scope ≡ with_known fs a s = search rules in
+    let last : state_of c.sync-in-Scope.new.self ≡ record (state_of c.judge_block-in-Scope.new.scope) { names = nobody; keeps = false } = search rules in
+    scope_state fs a s (state_of c.judge_block-in-Scope.new.scope) (state_of c.sync-in-Scope.new.self) first last
+    ∙ sym (behind_by fs st _ _ s (judge_is st ∙ ap (λ (w : Act). judge_what w st.at) what ∙ judge_scope st.at a) (keeps_is st ∙ ap keeps_what what ∙ keeps_scope a))
+
+pub judge-returns-in_ok-sync-in-Scope-clause-found : goal.judge-returns-in_ok-sync-in-Scope-clause-found
+judge-returns-in_ok-sync-in-Scope-clause-found t c =
+    let fs = c.args.functions.now in
+    let st = c.args.statement.now in
+    let a = c.as_slice-in-Scope.result.now in
+    let s = state_of c.args.scope.now in
+    let what : st.act ≡ variant.Scope a = search rules in
+    let block : c.judge_block-in-Scope.new.found ≡ noted c.args.found.now (faults_each (judge_all a) (place fs true) s.known s.names) = search rules in
+    block ∙ ap (λ (j : Judged). noted c.args.found.now (j.faults (place fs c.args.in_block) s.known s.names)) (sym (judge_is st ∙ ap (λ (w : Act). judge_what w st.at) what ∙ judge_scope st.at a))
 
 pub judge_each-loop-statement-preserved : goal.judge_each-loop-statement-preserved
 judge_each-loop-statement-preserved t c =

@@ -4,7 +4,7 @@ use Rattle.strand_machine.proofs.note.go_noted.Goals as goal
 pub show-requires : goal.show-requires
 show-requires c =
     let m = c.in_ok-moved.ensures in
-    went-sound c.args.parts.now.body c.args.instance c.step.new.self _ _ c.plan.ensures m.moves c.requires c.steps_are_sound.ensures c.in-Went.shown c.in-Went.is c.step.ensures.path m.sound m.child
+    went-sound c.args.parts.now.body c.args.instance c.step.new.self _ _ c.plan.ensures m.moves c.requires c.steps_are_sound.ensures c.in-Went.shown c.in-Went.is m.path m.sound m.child
 
 pub pass-requires : goal.pass-requires
 pass-requires c =

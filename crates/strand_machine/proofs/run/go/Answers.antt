@@ -23,7 +23,7 @@ show-requires c =
     let q = c.in_ok-go_quickly.ensures in
     let k = on-run-over _ l.parts.body b l.instance i l.invariant q.sound q.leads in
     let m = c.in_ok-step.ensures in
-    went-sound b i c.step.new.self _ _ c.plan.ensures m.moves k.sound c.steps_are_sound.ensures c.in-Went.shown c.in-Went.is c.step.ensures.path m.sound m.child
+    went-sound b i c.step.new.self _ _ c.plan.ensures m.moves k.sound c.steps_are_sound.ensures c.in-Went.shown c.in-Went.is c.in_ok-step.ensures.path m.sound m.child
 
 pub wait-requires : goal.wait-requires
 wait-requires c =
@@ -34,7 +34,7 @@ wait-requires c =
     let k = on-run-over _ l.parts.body b l.instance i l.invariant q.sound q.leads in
     let s = c.in-Went-Synced in
     let m = c.in_ok-step.ensures in
-    syncs-sound b i c.step.new.self _ _ c.plan.ensures m.moves k.sound c.steps_are_sound.ensures s.field-0 s.event c.tell-in-Went-Synced.new.self s.is s.field-0-is c.in_ok-tell-in-Went-Synced.ensures c.step.ensures.path m.sound m.child
+    syncs-sound b i c.step.new.self _ _ c.plan.ensures m.moves k.sound c.steps_are_sound.ensures s.field-0 s.event c.tell-in-Went-Synced.new.self s.is s.field-0-is c.in_ok-tell-in-Went-Synced.ensures c.in_ok-step.ensures.path m.sound m.child
 
 pub give-requires : goal.give-requires
 give-requires c =
@@ -73,7 +73,7 @@ returns-in-Went-Synced-clause-step c =
     let k = on-run-over _ l.parts.body b l.instance i l.invariant q.sound q.leads in
     let s = c.in-Went-Synced in
     syncs-run b i c.step.new.self _ _ c.plan.ensures c.in_ok-step.ensures.moves k.sound c.moves_fall.ensures _ k.leads s.field-0 s.event c.tell-in-Went-Synced.new.self s.is s.field-0-is
-    c.in_ok-tell-in-Went-Synced.ensures (runs-on b i c.step.new.self _ _ c.plan.ensures c.in_ok-step.ensures.moves k.sound c.step.ensures.path c.in_ok-step.ensures.sound) _ c.wait.ensures.made
+    c.in_ok-tell-in-Went-Synced.ensures (runs-on b i c.step.new.self _ _ c.plan.ensures c.in_ok-step.ensures.moves k.sound c.in_ok-step.ensures.path c.in_ok-step.ensures.sound) _ c.wait.ensures.made
 
 pub returns-in-Gave-clause-step : goal.returns-in-Gave-clause-step
 returns-in-Gave-clause-step c =
@@ -115,7 +115,7 @@ loop-instance-preserved-in-Went-Nothing c =
     let k = on-run-over _ l.parts.body b l.instance i l.invariant q.sound q.leads in
     let s = c.in-Went-Nothing in
     let m = c.in_ok-step.ensures in
-    still-on b i c.step.new.self _ _ c.plan.ensures m.moves k.sound c.steps_are_sound.ensures c.moves_fall.ensures _ k.leads s.field-0 s.is s.field-0-is c.step.ensures.path m.sound m.child
+    still-on b i c.step.new.self _ _ c.plan.ensures m.moves k.sound c.steps_are_sound.ensures c.moves_fall.ensures _ k.leads s.field-0 s.is s.field-0-is c.in_ok-step.ensures.path m.sound m.child
 
 -- an event
 
@@ -140,4 +140,4 @@ loop-instance-preserved c =
     let s = c.in-Went-Told in
     let m = c.in_ok-step.ensures in
     tells-on b i c.step.new.self _ _ c.plan.ensures m.moves k.sound c.steps_are_sound.ensures c.moves_fall.ensures _ k.leads s.field-0 s.event c.tell.new.self s.is s.field-0-is
-    c.in_ok-tell-in-Went-Told.ensures c.step.ensures.path m.sound m.child
+    c.in_ok-tell-in-Went-Told.ensures c.in_ok-step.ensures.path m.sound m.child

@@ -11,7 +11,7 @@ use Rattle.strand_machine.specs.declared.stop.Stop.TheVariants as stop
 use Rattle.strand_machine.specs.declared.work.Stage.TheVariants as stage
 use Rattle.strand_machine.specs.declared.work.Work.TheVariants as work
 use Rattle.strand_machine.proofs.Making.{made-ok}
-use Rattle.strand_machine.proofs.Moving.{nothing-sound, nothing-step, told-sound, told-step, synced-sound, synced-step, spawned-known, spawned-trail, spawned-below, spawned-sound, spawned-step, looped-known, looped-trail, looped-below, looped-sound, looped-step, passes-keep, spawns-keep, with_pieces}
+use Rattle.strand_machine.proofs.Moving.{nothing-sound, nothing-step, opened-sound, opened-step, closed-sound, closed-step, told-sound, told-step, synced-sound, synced-step, spawned-known, spawned-trail, spawned-handed, spawned-sound, spawned-step, looped-known, looped-trail, looped-handed, looped-sound, looped-step, passes-keep, spawns-keep, with_pieces}
 use Rattle.strand_machine.proofs.run.show.Goals as goal
 
 -- nothing
@@ -27,17 +27,41 @@ returns-in-Nothing-clause-keeps c =
     let w = work.Runs (stage.Goes c.args.instance) in
     passes-keep c.args.parts.now.body c.args.parts.now.body.pieces w w _ refl c.pass.ensures.made
 
+-- where a scope begins or has ended
+
+pub pass-requires-in-Opened : goal.pass-requires-in-Opened
+pass-requires-in-Opened c = opened-sound c.args.parts.now.body c.args.instance c.args.shown c.in-Opened.field-0 c.in-Opened.is c.requires
+
+pub returns-in-Opened-clause-step : goal.returns-in-Opened-clause-step
+returns-in-Opened-clause-step c = opened-step c.args.parts.now.body c.args.instance c.args.shown c.in-Opened.field-0 _ c.in-Opened.is c.pass-in-Opened.ensures.made
+
+pub returns-in-Opened-clause-keeps : goal.returns-in-Opened-clause-keeps
+returns-in-Opened-clause-keeps c =
+    let w = work.Runs (stage.Goes c.args.instance) in
+    passes-keep c.args.parts.now.body c.args.parts.now.body.pieces w w _ refl c.pass-in-Opened.ensures.made
+
+pub pass-requires-in-Closed : goal.pass-requires-in-Closed
+pass-requires-in-Closed c = closed-sound c.args.parts.now.body c.args.instance c.args.shown c.in-Closed.field-0 c.in-Closed.is c.requires
+
+pub returns-in-Closed-clause-step : goal.returns-in-Closed-clause-step
+returns-in-Closed-clause-step c = closed-step c.args.parts.now.body c.args.instance c.args.shown c.in-Closed.field-0 _ c.in-Closed.is c.pass-in-Closed.ensures.made
+
+pub returns-in-Closed-clause-keeps : goal.returns-in-Closed-clause-keeps
+returns-in-Closed-clause-keeps c =
+    let w = work.Runs (stage.Goes c.args.instance) in
+    passes-keep c.args.parts.now.body c.args.parts.now.body.pieces w w _ refl c.pass-in-Closed.ensures.made
+
 -- an event
 
 pub pass-requires-in-Told : goal.pass-requires-in-Told
 pass-requires-in-Told c = told-sound c.args.parts.now.body c.args.instance c.args.shown c.in-Told.event c.tell.new.self c.in-Told.is c.in_ok-tell-in-Told.ensures c.requires
 
-pub returns-in_ok-tell-in-Told-clause-step : goal.returns-in_ok-tell-in-Told-clause-step
-returns-in_ok-tell-in-Told-clause-step c =
+pub returns-in-Told-clause-step : goal.returns-in-Told-clause-step
+returns-in-Told-clause-step c =
     told-step c.args.parts.now.body c.args.instance c.args.shown c.in-Told.event c.tell.new.self _ c.in-Told.is c.in_ok-tell-in-Told.ensures c.pass-in-Told.ensures.made
 
-pub returns-in_ok-tell-in-Told-clause-keeps : goal.returns-in_ok-tell-in-Told-clause-keeps
-returns-in_ok-tell-in-Told-clause-keeps c =
+pub returns-in-Told-clause-keeps : goal.returns-in-Told-clause-keeps
+returns-in-Told-clause-keeps c =
     let w = work.Runs (stage.Goes c.args.instance) in
     passes-keep c.args.parts.now.body c.tell.new.self w w _ refl c.pass-in-Told.ensures.made
 
@@ -46,12 +70,12 @@ returns-in_ok-tell-in-Told-clause-keeps c =
 pub pass-requires-in-Synced : goal.pass-requires-in-Synced
 pass-requires-in-Synced c = synced-sound c.args.parts.now.body c.args.instance c.args.shown c.in-Synced.event c.tell-in-Synced.new.self c.in-Synced.is c.in_ok-tell-in-Synced.ensures c.requires
 
-pub returns-in_ok-tell-in-Synced-clause-step : goal.returns-in_ok-tell-in-Synced-clause-step
-returns-in_ok-tell-in-Synced-clause-step c =
+pub returns-in-Synced-clause-step : goal.returns-in-Synced-clause-step
+returns-in-Synced-clause-step c =
     synced-step c.args.parts.now.body c.args.instance c.args.shown c.in-Synced.event c.tell-in-Synced.new.self _ c.in-Synced.is c.in_ok-tell-in-Synced.ensures c.pass-in-Synced.ensures.made
 
-pub returns-in_ok-tell-in-Synced-clause-keeps : goal.returns-in_ok-tell-in-Synced-clause-keeps
-returns-in_ok-tell-in-Synced-clause-keeps c =
+pub returns-in-Synced-clause-keeps : goal.returns-in-Synced-clause-keeps
+returns-in-Synced-clause-keeps c =
     let i = c.args.instance in
     passes-keep c.args.parts.now.body c.tell-in-Synced.new.self (work.Runs (stage.Goes i)) (work.Runs (stage.AtSync i)) _ refl c.pass-in-Synced.ensures.made
 
@@ -65,16 +89,16 @@ pub spawn-requires-clause-trail : goal.spawn-requires-clause-trail
 spawn-requires-clause-trail c =
     spawned-trail c.args.parts.now.body c.args.instance c.args.shown c.in-Spawned.event c.in-Spawned.child c.in-Spawned.height c.in-Spawned.target c.in-Spawned.is c.requires
 
-pub spawn-requires-clause-below : goal.spawn-requires-clause-below
-spawn-requires-clause-below c =
-    spawned-below c.args.parts.now.body c.args.instance c.args.shown c.in-Spawned.event c.in-Spawned.child c.in-Spawned.height c.in-Spawned.target c.in-Spawned.is c.requires
+pub spawn-requires-clause-handed : goal.spawn-requires-clause-handed
+spawn-requires-clause-handed c =
+    spawned-handed c.args.parts.now.body c.args.instance c.args.shown c.in-Spawned.event c.in-Spawned.child c.in-Spawned.height c.in-Spawned.target c.in-Spawned.is c.requires
 
 pub spawn-requires-clause-sound : goal.spawn-requires-clause-sound
 spawn-requires-clause-sound c =
     spawned-sound c.args.parts.now.body c.args.instance c.args.shown c.in-Spawned.event c.in-Spawned.child c.in-Spawned.height c.in-Spawned.target c.tell-in-Spawned.new.self c.in-Spawned.is c.in_ok-tell-in-Spawned.ensures c.requires
 
-pub returns-in_ok-tell-in-Spawned-clause-step : goal.returns-in_ok-tell-in-Spawned-clause-step
-returns-in_ok-tell-in-Spawned-clause-step c =
+pub returns-in-Spawned-clause-step : goal.returns-in-Spawned-clause-step
+returns-in-Spawned-clause-step c =
     let b = c.args.parts.now.body in
     let i = c.args.instance in
     let s = c.in-Spawned in
@@ -84,8 +108,8 @@ returns-in_ok-tell-in-Spawned-clause-step c =
     (λ (r : Step). step_of r ≡ stops_at (child_in (tokens_of c.args.shown)) (shown_task b i c.args.shown))
     (λ r h. spawned-step b i c.args.shown s.event s.child s.height s.target p r s.is c.in_ok-tell-in-Spawned.ensures h) c.spawn.ensures.made
 
-pub returns-in_ok-tell-in-Spawned-clause-keeps : goal.returns-in_ok-tell-in-Spawned-clause-keeps
-returns-in_ok-tell-in-Spawned-clause-keeps c =
+pub returns-in-Spawned-clause-keeps : goal.returns-in-Spawned-clause-keeps
+returns-in-Spawned-clause-keeps c =
     let b = c.args.parts.now.body in
     let w = work.Runs (stage.Goes c.args.instance) in
     let s = c.in-Spawned in
@@ -105,16 +129,16 @@ pub spawn-requires-in-Looped-clause-trail : goal.spawn-requires-in-Looped-clause
 spawn-requires-in-Looped-clause-trail c =
     looped-trail c.args.parts.now.body c.args.instance c.args.shown c.in-Looped.event c.in-Looped.child c.in-Looped.target c.in-Looped.is c.requires
 
-pub spawn-requires-in-Looped-clause-below : goal.spawn-requires-in-Looped-clause-below
-spawn-requires-in-Looped-clause-below c =
-    looped-below c.args.parts.now.body c.args.instance c.args.shown c.in-Looped.event c.in-Looped.child c.in-Looped.target c.in-Looped.is c.requires
+pub spawn-requires-in-Looped-clause-handed : goal.spawn-requires-in-Looped-clause-handed
+spawn-requires-in-Looped-clause-handed c =
+    looped-handed c.args.parts.now.body c.args.instance c.args.shown c.in-Looped.event c.in-Looped.child c.in-Looped.target c.in-Looped.is c.requires
 
 pub spawn-requires-in-Looped-clause-sound : goal.spawn-requires-in-Looped-clause-sound
 spawn-requires-in-Looped-clause-sound c =
     looped-sound c.args.parts.now.body c.args.instance c.args.shown c.in-Looped.event c.in-Looped.child c.in-Looped.target c.tell-in-Looped.new.self c.in-Looped.is c.in_ok-tell-in-Looped.ensures c.requires
 
-pub returns-in_ok-tell-in-Looped-clause-step : goal.returns-in_ok-tell-in-Looped-clause-step
-returns-in_ok-tell-in-Looped-clause-step c =
+pub returns-clause-step : goal.returns-clause-step
+returns-clause-step c =
     let b = c.args.parts.now.body in
     let i = c.args.instance in
     let s = c.in-Looped in
@@ -124,8 +148,8 @@ returns-in_ok-tell-in-Looped-clause-step c =
     (λ (r : Step). step_of r ≡ stops_at (child_in (tokens_of c.args.shown)) (shown_task b i c.args.shown))
     (λ r h. looped-step b i c.args.shown s.event s.child s.target p r s.is c.in_ok-tell-in-Looped.ensures h) c.spawn-in-Looped.ensures.made
 
-pub returns-in_ok-tell-in-Looped-clause-keeps : goal.returns-in_ok-tell-in-Looped-clause-keeps
-returns-in_ok-tell-in-Looped-clause-keeps c =
+pub returns-clause-keeps : goal.returns-clause-keeps
+returns-clause-keeps c =
     let b = c.args.parts.now.body in
     let i = c.args.instance in
     let s = c.in-Looped in

@@ -9,7 +9,7 @@ use Rattle.strand_machine.specs.declared.stop.Stop.TheVariants as stop
 use Rattle.strand_machine.specs.declared.place.Place.TheVariants as place
 use Rattle.strand_machine.specs.declared.work.Left.{Left}
 use Rattle.strand_machine.specs.declared.work.Work.TheVariants as work
-use Rattle.strand_machine.proofs.Dispatch.{below-half, end-answers, end-is, part-trail, pass-sound, pass-is, spawn-sound, spawn-is, split-many, split-none, split-one}
+use Rattle.strand_machine.proofs.Dispatch.{end-answers, end-is, handed-half, part-trail, pass-sound, pass-is, spawn-sound, spawn-is, split-many, split-none, split-one}
 use Rattle.strand_machine.proofs.Making.{made-ok}
 use Rattle.strand_machine.proofs.Halves.{many, halves, only-one}
 use Rattle.strand_machine.proofs.step.split.Goals as goal
@@ -33,12 +33,12 @@ spawn_part-requires-clause-trail c =
     let child : c.in_ok-origin.origin ≡ only b.family.origin p.0 = c.in_ok-origin.ensures ∙ ap (λ (o : Origin). only o p.0) c.origin.ensures in
     part-trail b.family.plan b.family.origin c.in_ok-origin.origin p.0 c.args.left.trail c.in_ok-shared.shared child c.in_ok-shared.ensures c.requires.works
 
-pub spawn_part-requires-clause-below : goal.spawn_part-requires-clause-below
-spawn_part-requires-clause-below c =
+pub spawn_part-requires-clause-handed : goal.spawn_part-requires-clause-handed
+spawn_part-requires-clause-handed c =
     let b = c.args.parts.now.body in
     let p = c.in-Some.halves in
     let child : c.in_ok-origin.origin ≡ only b.family.origin p.0 = c.in_ok-origin.ensures ∙ ap (λ (o : Origin). only o p.0) c.origin.ensures in
-    below-half b.family.origin c.in_ok-origin.origin c.args.left.range p.0 c.requires.task.work.0 child
+    handed-half b.family.plan b.family.origin c.in_ok-origin.origin c.args.left.range p.0 c.requires.task.work.0 child
 
 pub spawn_part-requires-clause-sound : goal.spawn_part-requires-clause-sound
 spawn_part-requires-clause-sound c =

@@ -3,7 +3,7 @@ use Rattle.std.proofs.lemmas.Result.{err_from_is_err_and}
 use Rattle.script_tokens.specs.declared.token.Word.TheVariants as word
 use Rattle.std.specs.Prelude.{◌∷◌, []}
 use Rattle.script_text.specs.Machine.{only, call_args, expr_then, block}
-use Rattle.script_text.proofs.Statements.{spawn_read, call_stmt_read, sync_read, print_read, stmt_err, if_read, while_read, if_err, if_err_block, if_err_else, while_err, while_err_block, block_bracket, block_read, block_err_stmts, block_err_close, else_missing, else_read, else_err, stmts_end, one_more_stmt, stmts_err, stmt_turn}
+use Rattle.script_text.proofs.Statements.{spawn_read, call_stmt_read, sync_read, print_read, stmt_err, if_read, while_read, if_err, if_err_block, if_err_else, while_err, while_err_block, scope_read, scope_err, block_bracket, block_read, block_err_stmts, block_err_close, else_missing, else_read, else_err, stmts_end, one_more_stmt, stmts_err, stmt_turn}
 use Rattle.script_text.proofs.parser.statement.+statements.Goals as goal
 
 pub act-returns-in_err-called-in-Spawn : goal.act-returns-in_err-called-in-Spawn
@@ -68,6 +68,14 @@ repetition-returns-in_err-body t c =
 
 pub repetition-returns : goal.repetition-returns
 repetition-returns t c = while_read c.args.source.now c.args.depth c.args.first c.args.rest.now _ _ _ _ c.requires.keyword c.requires.depth c.in_ok-condition.ensures c.in_ok-body.ensures
+
+pub level-returns-in_err-body : goal.level-returns-in_err-body
+level-returns-in_err-body t c =
+    let p = err_from_is_err_and c.from_residual.result c.from_residual.ensures.1 in
+    rw (p.1, p.2) (scope_err c.args.source.now c.args.depth c.args.first c.args.rest.now _ c.requires.keyword c.requires.depth c.in_err-body.ensures)
+
+pub level-returns : goal.level-returns
+level-returns t c = scope_read c.args.source.now c.args.depth c.args.first c.args.rest.now _ _ c.requires.keyword c.requires.depth c.in_ok-body.ensures
 
 pub block-returns-in_err-rest : goal.block-returns-in_err-rest
 block-returns-in_err-rest t c =

@@ -14,6 +14,9 @@ decreases-choice l = 5 * (65 - l.depth) + 2
 abbrev pub decreases-repetition : goal.decreases-repetition
 decreases-repetition l = 5 * (65 - l.depth) + 2
 
+abbrev pub decreases-level : goal.decreases-level
+decreases-level l = 5 * (65 - l.depth) + 2
+
 abbrev pub decreases-act : goal.decreases-act
 decreases-act l = 5 * (65 - l.depth) + 3
 

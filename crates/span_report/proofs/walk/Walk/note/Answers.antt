@@ -1,4 +1,4 @@
-use Rattle.std.proofs.Common.{ℕ, ap, ◌∙◌}
+use Rattle.std.proofs.Common.{ℕ, List, ap, ◌∙◌}
 use Rattle.span_report.specs.declared.instance.Begun.TheVariants.{Spawned}
 use Rattle.span_report.specs.Opens.{begun}
 use Rattle.span_report.specs.Walks.{Opened, entered, opened}
@@ -7,7 +7,7 @@ use Rattle.span_report.proofs.walk.Walk.note.Goals as goal
 
 pub returns-in_ok-begin : goal.returns-in_ok-begin
 returns-in_ok-begin c =
-    walked-spawn (opened c.args.self.now) (opened c.enter.new.self) (opened c.begin.new.self) c.args.event.now c.in-Spawn.at c.behind-event.inside.path c.at.inside.path c.behind-event.inside.rank c.at.inside.rank c.note.new.self c.begin-child.result
-    c.in-Spawn.is (let a = c.pedigree_of.ensures in let b = c.behind-event.view_is in cc) (let b = c.at.view_is in cc)
+    walked-spawn (opened c.args.self.now) (opened c.enter.new.self) (opened c.begin.new.self) c.args.event.now c.in-Spawn.at c.behind-event.inside.path c.behind-event.inside.rank c.note.new.self c.begin-child.result
+    c.in-Spawn.is (let a = c.pedigree_of.ensures in let b = c.behind-event.view_is in cc)
     (c.in_ok-enter.ensures ∙ ap (λ (v : Opened). entered c.behind-event.inside.path v) c.leave.ensures) c.in_ok-note.ensures
-    (c.begin-child.ensures ∙ ap (λ (n : ℕ). begun n c.at.inside.rank Spawned c.note.new.self.before) c.len.ensures.length) c.in_ok-begin.ensures
+    (c.begin-child.ensures ∙ ap (λ (p : List ℕ). begun p Spawned c.note.new.self.before) (c.in_ok-path.ensures ∙ (let b = c.at.view_is in cc))) c.in_ok-begin.ensures

@@ -1,4 +1,4 @@
-use Rattle.std.proofs.Common.{◌+◌, ◌∙◌, arith, refl, sym}
+use Rattle.std.proofs.Common.{◌+◌, ◌∙◌, refl, sym}
 use Rattle.std.proofs.lemmas.List.{append-nil}
 use Rattle.std.proofs.lemmas.Option.{slice_get_read}
 use Rattle.strand_moves.proofs.CursorLemmas.{nothing-there, passes, left-out, left-ended, left-same}

@@ -1,4 +1,4 @@
-use Rattle.strand_moves.specs.Running.{machine_of, path_of}
+use Rattle.strand_moves.specs.Running.{machine_of, present_of}
 use Rattle.strand_moves.proofs.Paying.{call-at, spawn-at}
 use Rattle.strand_moves.proofs.QuickLemmas.{quiet-child}
 use Rattle.strand_moves.proofs.running.Running.assign.Goals as goal
@@ -16,13 +16,13 @@ pub returns-in-Call-clause-shows : goal.returns-in-Call-clause-shows
 returns-in-Call-clause-shows c = λ st.
     let i = c.args.self.now in
     let m = machine_of c.args.plan.now i in
-    rw (c.in-Call.is, call-at c.args.plan.now (path_of i) m st c.args.x.now c.in-Call.field-0 c.in-Call.c) (c.call.ensures.shows st)
+    rw (c.in-Call.is, call-at c.args.plan.now (present_of i) m st c.args.x.now c.in-Call.field-0 c.in-Call.c) (c.call.ensures.shows st)
 
 pub returns-in-Spawn-clause-shows : goal.returns-in-Spawn-clause-shows
 returns-in-Spawn-clause-shows c = λ st.
     let i = c.args.self.now in
     let m = machine_of c.args.plan.now i in
-    rw (c.in-Spawn.is, spawn-at c.args.plan.now (path_of i) m st c.args.x.now c.in-Spawn.field-0 c.in-Spawn.c) (c.spawn.ensures.shows st)
+    rw (c.in-Spawn.is, spawn-at c.args.plan.now (present_of i) m st c.args.x.now c.in-Spawn.field-0 c.in-Spawn.c) (c.spawn.ensures.shows st)
 
 pub returns-in-Value-clause-child : goal.returns-in-Value-clause-child
 returns-in-Value-clause-child c = rw c.quiet.ensures (quiet-child c.args.plan.now c.set_value.result)

@@ -4,7 +4,7 @@ use Rattle.script_grammar.specs.declared.tree.Act.TheOpen as act
 use Rattle.script_grammar.specs.declared.tree.Act.TheOpen.{Act-F}
 use Rattle.script_grammar.specs.declared.tree.Act.TheVariants as variant
 use Rattle.script_grammar.specs.declared.tree.Stmt.{Stmt}
-use Rattle.strand_moves.specs.Running.{machine_of, path_of}
+use Rattle.strand_moves.specs.Running.{machine_of, present_of}
 use Rattle.strand_moves.specs.Moves.{acted}
 use Rattle.strand_moves.specs.Quick.{is_plain}
 use Rattle.strand_moves.proofs.Equations.{let-is-set}
@@ -18,7 +18,7 @@ returns-in-Let-clause-did c =
     let st = c.args.statement.now in
     let is = act-is (act.Let c.in-Let.x c.in-Let.r) st.act (variant.Let c.in-Let.x c.in-Let.r) c.in-Let.is (variant.rolls-Let c.in-Let.x c.in-Let.r) in
     done-quiet st (act.Set c.in-Let.x c.in-Let.r) i c.quiet_right.new.self
-    (λ plan. ap (λ (b : Act-F Act Stmt). acted plan (path_of i) (machine_of plan i) st b) is ∙ let-is-set plan (path_of i) (machine_of plan i) st c.in-Let.x c.in-Let.r)
+    (λ plan. ap (λ (b : Act-F Act Stmt). acted plan (present_of i) (machine_of plan i) st b) is ∙ let-is-set plan (present_of i) (machine_of plan i) st c.in-Let.x c.in-Let.r)
     (ap (λ (b : Act-F Act Stmt). is_plain b) is) c.quiet_right.result (c.quiet_right.ensures.did st)
 
 pub returns-in-Set-clause-did : goal.returns-in-Set-clause-did
@@ -27,7 +27,7 @@ returns-in-Set-clause-did c =
     let st = c.args.statement.now in
     let is = act-is (act.Set c.in-Set.x c.in-Set.r) st.act (variant.Set c.in-Set.x c.in-Set.r) c.in-Set.is (variant.rolls-Set c.in-Set.x c.in-Set.r) in
     done-quiet st (act.Set c.in-Set.x c.in-Set.r) i c.quiet_right-in-Set.new.self
-    (λ plan. ap (λ (b : Act-F Act Stmt). acted plan (path_of i) (machine_of plan i) st b) is)
+    (λ plan. ap (λ (b : Act-F Act Stmt). acted plan (present_of i) (machine_of plan i) st b) is)
     (ap (λ (b : Act-F Act Stmt). is_plain b) is) c.quiet_right-in-Set.result (c.quiet_right-in-Set.ensures.did st)
 
 pub returns-in-Array-clause-did : goal.returns-in-Array-clause-did

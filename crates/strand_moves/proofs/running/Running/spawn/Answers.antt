@@ -3,7 +3,7 @@ use Rattle.std.specs.Option.{option_copied}
 use Rattle.serial_meaning.specs.Plan.{PlanView}
 use Rattle.serial_meaning.specs.Values.{values_of}
 use Rattle.strand_moves.specs.declared.running.Running.{Running}
-use Rattle.strand_moves.specs.Running.{machine_of, path_of}
+use Rattle.strand_moves.specs.Running.{machine_of, present_of}
 use Rattle.strand_moves.specs.Moves.{acted, spawn_to, strand_of}
 use Rattle.strand_moves.proofs.CallLemmas.{is_not_below}
 use Rattle.strand_moves.proofs.ChildLemmas.{spawned-child}
@@ -17,8 +17,8 @@ returns-in_err-args-clause-shows c = λ st.
     let plan = c.args.plan.now in
     let to = option_copied c.args.target in
     let known = rw c.as_slice.ensures at c.in_err-args.ensures in
-    shows-exit (acted plan (path_of i) (machine_of plan i) st (spawn_to to c.args.call.now)) (strand_of (path_of i) (machine_of plan i)) _ c.from_residual.result c.in_err-args.field-0.0
-    (values_of c.args.call.now.args i.top.env) c.from_residual.ensures.1 known (spawn-args-fault plan (path_of i) (machine_of plan i) st to c.args.call.now)
+    shows-exit (acted plan (present_of i) (machine_of plan i) st (spawn_to to c.args.call.now)) (strand_of (present_of i) (machine_of plan i)) _ c.from_residual.result c.in_err-args.field-0.0
+    (values_of c.args.call.now.args i.top.env) c.from_residual.ensures.1 known (spawn-args-fault plan (present_of i) (machine_of plan i) st to c.args.call.now)
 
 pub returns-then-len-plan-clause-shows : goal.returns-then-len-plan-clause-shows
 returns-then-len-plan-clause-shows c = λ st.
@@ -26,8 +26,8 @@ returns-then-len-plan-clause-shows c = λ st.
     let plan = c.args.plan.now in
     let known = rw c.as_slice.ensures at c.in_ok-args.ensures in
     let depth = ap (λ (p : PlanView). p.limits.depth) c.plan.view_is in
-    spawn-depth-fault plan (path_of i) (machine_of plan i) st (option_copied c.args.target) c.args.call.now c.in_ok-args.args known
-    (is_not_below (length (path_of i) + 1) plan.limits.depth (omega arith))
+    spawn-depth-fault plan (present_of i) (machine_of plan i) st (option_copied c.args.target) c.args.call.now c.in_ok-args.args known
+    (is_not_below (length (present_of i) + 1) plan.limits.depth (omega arith))
 
 pub returns-clause-shows : goal.returns-clause-shows
 returns-clause-shows c = λ st.

@@ -1,10 +1,15 @@
+use Rattle.std.proofs.Common.{◌∙◌, [], ◌∷◌, ◌++◌, ap, arith, sym}
 use Rattle.script_grammar.specs.declared.tree.Act.TheOpen as act
+use Rattle.serial_meaning.specs.declared.event.FaultKind.{FaultKind}
 use Rattle.script_grammar.specs.declared.tree.Act.TheVariants as variant
-use Rattle.strand_moves.specs.Running.{machine_of, path_of}
+use Rattle.strand_moves.specs.Running.{machine_of, path_of, present_of}
 use Rattle.strand_moves.specs.Moves.{acted, strand_of}
-use Rattle.strand_moves.proofs.Equations.{let-is-set}
-use Rattle.strand_moves.proofs.Paying.{act-is, shows-same, statement-paid, paid-behind}
+use Rattle.strand_meaning.specs.Machine.{statement_move}
+use Rattle.strand_moves.proofs.Equations.{faults, let-is-set}
+use Rattle.strand_moves.proofs.Exits.{shows-fault}
+use Rattle.strand_moves.proofs.Paying.{act-is, shows-same, statement-paid, statement-unpaid, paid-behind}
 use Rattle.strand_moves.proofs.QuickLemmas.{quiet-child}
+use Rattle.strand_moves.proofs.Keeping.{here-is, keeps-into, keeps-paid, keeps-unless}
 use Rattle.strand_moves.proofs.running.Running.statement.Goals as goal
 
 pub returns-in-Let-clause-shows : goal.returns-in-Let-clause-shows
@@ -14,9 +19,9 @@ returns-in-Let-clause-shows c =
     let st = c.args.statement.now in
     let is = act-is (act.Let c.in-Let.x c.in-Let.r) st.act (variant.Let c.in-Let.x c.in-Let.r) c.in-Let.is (variant.rolls-Let c.in-Let.x c.in-Let.r) in
     let m = machine_of plan p in
-    let acts = shows-same (acted plan (path_of p) m st (act.Let c.in-Let.x c.in-Let.r)) (acted plan (path_of p) m st (act.Set c.in-Let.x c.in-Let.r)) (strand_of (path_of p) m) (machine_of plan c.assign.new.self) c.assign.result
-    (let-is-set plan (path_of p) m st c.in-Let.x c.in-Let.r) (c.assign.ensures.shows st) in
-    statement-paid plan c.args.self.now p p.steps c.in_ok-pay.ensures.ok c.in_ok-pay.ensures.paid st (act.Let c.in-Let.x c.in-Let.r) c.assign.new.self c.assign.result is acts
+    let acts = shows-same (acted plan (present_of p) m st (act.Let c.in-Let.x c.in-Let.r)) (acted plan (present_of p) m st (act.Set c.in-Let.x c.in-Let.r)) (strand_of (present_of p) m) (machine_of plan c.assign.new.self) c.assign.result
+    (let-is-set plan (present_of p) m st c.in-Let.x c.in-Let.r) (c.assign.ensures.shows st) in
+    statement-paid plan c.args.self.now p p.steps c.in_ok-pay.ensures.ok c.in_ok-pay.ensures.paid (here-is plan c.args.self.now c.requires.instance) st (act.Let c.in-Let.x c.in-Let.r) c.assign.new.self c.assign.result is acts
 
 pub returns-in-Array-clause-shows : goal.returns-in-Array-clause-shows
 returns-in-Array-clause-shows c =
@@ -24,7 +29,7 @@ returns-in-Array-clause-shows c =
     let p = c.pay.new.self in
     let st = c.args.statement.now in
     let is = act-is (act.Array c.in-Array.x c.in-Array.n) st.act (variant.Array c.in-Array.x c.in-Array.n) c.in-Array.is (variant.rolls-Array c.in-Array.x c.in-Array.n) in
-    statement-paid plan c.args.self.now p p.steps c.in_ok-pay.ensures.ok c.in_ok-pay.ensures.paid st (act.Array c.in-Array.x c.in-Array.n) c.array.new.self c.quiet.result is (rw c.quiet.ensures (c.array.ensures.shows plan st))
+    statement-paid plan c.args.self.now p p.steps c.in_ok-pay.ensures.ok c.in_ok-pay.ensures.paid (here-is plan c.args.self.now c.requires.instance) st (act.Array c.in-Array.x c.in-Array.n) c.array.new.self c.quiet.result is (rw c.quiet.ensures (c.array.ensures.shows plan st))
 
 pub returns-in-Set-clause-shows : goal.returns-in-Set-clause-shows
 returns-in-Set-clause-shows c =
@@ -32,7 +37,7 @@ returns-in-Set-clause-shows c =
     let p = c.pay.new.self in
     let st = c.args.statement.now in
     let is = act-is (act.Set c.in-Set.x c.in-Set.r) st.act (variant.Set c.in-Set.x c.in-Set.r) c.in-Set.is (variant.rolls-Set c.in-Set.x c.in-Set.r) in
-    statement-paid plan c.args.self.now p p.steps c.in_ok-pay.ensures.ok c.in_ok-pay.ensures.paid st (act.Set c.in-Set.x c.in-Set.r) c.assign-in-Set.new.self c.assign-in-Set.result is (c.assign-in-Set.ensures.shows st)
+    statement-paid plan c.args.self.now p p.steps c.in_ok-pay.ensures.ok c.in_ok-pay.ensures.paid (here-is plan c.args.self.now c.requires.instance) st (act.Set c.in-Set.x c.in-Set.r) c.assign-in-Set.new.self c.assign-in-Set.result is (c.assign-in-Set.ensures.shows st)
 
 pub returns-in-Store-clause-shows : goal.returns-in-Store-clause-shows
 returns-in-Store-clause-shows c =
@@ -40,7 +45,7 @@ returns-in-Store-clause-shows c =
     let p = c.pay.new.self in
     let st = c.args.statement.now in
     let is = act-is (act.Store c.in-Store.x c.in-Store.i c.in-Store.e) st.act (variant.Store c.in-Store.x c.in-Store.i c.in-Store.e) c.in-Store.is (variant.rolls-Store c.in-Store.x c.in-Store.i c.in-Store.e) in
-    statement-paid plan c.args.self.now p p.steps c.in_ok-pay.ensures.ok c.in_ok-pay.ensures.paid st (act.Store c.in-Store.x c.in-Store.i c.in-Store.e) c.store.new.self c.quiet-in-Store.result is (rw c.quiet-in-Store.ensures (c.store.ensures.shows plan st))
+    statement-paid plan c.args.self.now p p.steps c.in_ok-pay.ensures.ok c.in_ok-pay.ensures.paid (here-is plan c.args.self.now c.requires.instance) st (act.Store c.in-Store.x c.in-Store.i c.in-Store.e) c.store.new.self c.quiet-in-Store.result is (rw c.quiet-in-Store.ensures (c.store.ensures.shows plan st))
 
 pub returns-in-Spawn-clause-shows : goal.returns-in-Spawn-clause-shows
 returns-in-Spawn-clause-shows c =
@@ -48,7 +53,7 @@ returns-in-Spawn-clause-shows c =
     let p = c.pay.new.self in
     let st = c.args.statement.now in
     let is = act-is (act.Spawn c.in-Spawn.c) st.act (variant.Spawn c.in-Spawn.c) c.in-Spawn.is (variant.rolls-Spawn c.in-Spawn.c) in
-    statement-paid plan c.args.self.now p p.steps c.in_ok-pay.ensures.ok c.in_ok-pay.ensures.paid st (act.Spawn c.in-Spawn.c) c.spawn.new.self c.spawn.result is (c.spawn.ensures.shows st)
+    statement-paid plan c.args.self.now p p.steps c.in_ok-pay.ensures.ok c.in_ok-pay.ensures.paid (here-is plan c.args.self.now c.requires.instance) st (act.Spawn c.in-Spawn.c) c.spawn.new.self c.spawn.result is (c.spawn.ensures.shows st)
 
 pub returns-in-Call-clause-shows : goal.returns-in-Call-clause-shows
 returns-in-Call-clause-shows c =
@@ -56,7 +61,7 @@ returns-in-Call-clause-shows c =
     let p = c.pay.new.self in
     let st = c.args.statement.now in
     let is = act-is (act.Call c.in-Call.c) st.act (variant.Call c.in-Call.c) c.in-Call.is (variant.rolls-Call c.in-Call.c) in
-    statement-paid plan c.args.self.now p p.steps c.in_ok-pay.ensures.ok c.in_ok-pay.ensures.paid st (act.Call c.in-Call.c) c.call.new.self c.call.result is (c.call.ensures.shows st)
+    statement-paid plan c.args.self.now p p.steps c.in_ok-pay.ensures.ok c.in_ok-pay.ensures.paid (here-is plan c.args.self.now c.requires.instance) st (act.Call c.in-Call.c) c.call.new.self c.call.result is (c.call.ensures.shows st)
 
 pub returns-in-Sync-clause-shows : goal.returns-in-Sync-clause-shows
 returns-in-Sync-clause-shows c =
@@ -64,7 +69,7 @@ returns-in-Sync-clause-shows c =
     let p = c.pay.new.self in
     let st = c.args.statement.now in
     let is = act-is act.Sync st.act variant.Sync c.in-Sync.is variant.rolls-Sync in
-    statement-paid plan c.args.self.now p p.steps c.in_ok-pay.ensures.ok c.in_ok-pay.ensures.paid st act.Sync c.wait.new.self c.wait.result is (c.wait.ensures.shows plan st)
+    statement-paid plan c.args.self.now p p.steps c.in_ok-pay.ensures.ok c.in_ok-pay.ensures.paid (here-is plan c.args.self.now c.requires.instance) st act.Sync c.wait.new.self c.wait.result is (c.wait.ensures.shows plan st)
 
 pub returns-in-Sync-clause-child : goal.returns-in-Sync-clause-child
 returns-in-Sync-clause-child c = c.wait.ensures.child c.args.plan.now
@@ -75,7 +80,7 @@ returns-in-Print-clause-shows c =
     let p = c.pay.new.self in
     let st = c.args.statement.now in
     let is = act-is (act.Print c.in-Print.e) st.act (variant.Print c.in-Print.e) c.in-Print.is (variant.rolls-Print c.in-Print.e) in
-    statement-paid plan c.args.self.now p p.steps c.in_ok-pay.ensures.ok c.in_ok-pay.ensures.paid st (act.Print c.in-Print.e) c.print.new.self c.print.result is (c.print.ensures.shows plan st)
+    statement-paid plan c.args.self.now p p.steps c.in_ok-pay.ensures.ok c.in_ok-pay.ensures.paid (here-is plan c.args.self.now c.requires.instance) st (act.Print c.in-Print.e) c.print.new.self c.print.result is (c.print.ensures.shows plan st)
 
 pub returns-in-If-clause-shows : goal.returns-in-If-clause-shows
 returns-in-If-clause-shows c =
@@ -84,7 +89,7 @@ returns-in-If-clause-shows c =
     let st = c.args.statement.now in
     let is = act-is (act.If c.in-If.e c.in-If.field-1 c.in-If.field-2) st.act (variant.If c.in-If.e c.in-If.field-1 c.in-If.field-2) c.in-If.is (variant.rolls-If c.in-If.e c.in-If.field-1 c.in-If.field-2) in
     let behind = paid-behind plan c.args.self.now p p.steps c.in_ok-pay.ensures.ok c.in_ok-pay.ensures.paid st c.requires.behind in
-    statement-paid plan c.args.self.now p p.steps c.in_ok-pay.ensures.ok c.in_ok-pay.ensures.paid st (act.If c.in-If.e c.in-If.field-1 c.in-If.field-2) c.branch-self.new.self c.quiet-in-If.result is
+    statement-paid plan c.args.self.now p p.steps c.in_ok-pay.ensures.ok c.in_ok-pay.ensures.paid (here-is plan c.args.self.now c.requires.instance) st (act.If c.in-If.e c.in-If.field-1 c.in-If.field-2) c.branch-self.new.self c.quiet-in-If.result is
     (rw c.quiet-in-If.ensures (c.branch-self.ensures.shows plan st c.in-If.field-1 c.in-If.field-2 behind is))
 
 pub returns-in-While-clause-shows : goal.returns-in-While-clause-shows
@@ -94,7 +99,7 @@ returns-in-While-clause-shows c =
     let st = c.args.statement.now in
     let is = act-is (act.While c.in-While.e c.in-While.field-1) st.act (variant.While c.in-While.e c.in-While.field-1) c.in-While.is (variant.rolls-While c.in-While.e c.in-While.field-1) in
     let behind = paid-behind plan c.args.self.now p p.steps c.in_ok-pay.ensures.ok c.in_ok-pay.ensures.paid st c.requires.behind in
-    statement-paid plan c.args.self.now p p.steps c.in_ok-pay.ensures.ok c.in_ok-pay.ensures.paid st (act.While c.in-While.e c.in-While.field-1) c.turn.new.self c.quiet-in-While.result is
+    statement-paid plan c.args.self.now p p.steps c.in_ok-pay.ensures.ok c.in_ok-pay.ensures.paid (here-is plan c.args.self.now c.requires.instance) st (act.While c.in-While.e c.in-While.field-1) c.turn.new.self c.quiet-in-While.result is
     (rw c.quiet-in-While.ensures (c.turn.ensures.shows plan st c.in-While.field-1 behind is))
 
 pub returns-in-Pfor-clause-shows : goal.returns-in-Pfor-clause-shows
@@ -103,7 +108,7 @@ returns-in-Pfor-clause-shows c =
     let p = c.pay.new.self in
     let st = c.args.statement.now in
     let is = act-is (act.Pfor c.in-Pfor.var c.in-Pfor.lo c.in-Pfor.hi c.in-Pfor.target c.in-Pfor.call) st.act (variant.Pfor c.in-Pfor.var c.in-Pfor.lo c.in-Pfor.hi c.in-Pfor.target c.in-Pfor.call) c.in-Pfor.is (variant.rolls-Pfor c.in-Pfor.var c.in-Pfor.lo c.in-Pfor.hi c.in-Pfor.target c.in-Pfor.call) in
-    statement-paid plan c.args.self.now p p.steps c.in_ok-pay.ensures.ok c.in_ok-pay.ensures.paid st (act.Pfor c.in-Pfor.var c.in-Pfor.lo c.in-Pfor.hi c.in-Pfor.target c.in-Pfor.call) c.pfor.new.self c.pfor.result is
+    statement-paid plan c.args.self.now p p.steps c.in_ok-pay.ensures.ok c.in_ok-pay.ensures.paid (here-is plan c.args.self.now c.requires.instance) st (act.Pfor c.in-Pfor.var c.in-Pfor.lo c.in-Pfor.hi c.in-Pfor.target c.in-Pfor.call) c.pfor.new.self c.pfor.result is
     (c.pfor.ensures.shows st c.in-Pfor.var)
 
 pub returns-in-Array-clause-child : goal.returns-in-Array-clause-child
@@ -120,3 +125,76 @@ returns-in-If-clause-child c = rw c.quiet-in-If.ensures (quiet-child c.args.plan
 
 pub returns-in-While-clause-child : goal.returns-in-While-clause-child
 returns-in-While-clause-child c = rw c.quiet-in-While.ensures (quiet-child c.args.plan.now c.turn.result)
+
+pub returns-in-Let-clause-keeps : goal.returns-in-Let-clause-keeps
+returns-in-Let-clause-keeps c =
+    keeps-unless c.args.plan.now c.args.self.now c.pay.new.self c.pay.new.self.steps c.requires.instance c.requires.goes_on c.in_ok-pay.ensures.ok c.in_ok-pay.ensures.paid c.assign.new.self c.assign.ensures.few c.assign.result c.assign.ensures.stays
+
+pub returns-in-Array-clause-keeps : goal.returns-in-Array-clause-keeps
+returns-in-Array-clause-keeps c =
+    keeps-paid c.args.plan.now c.args.self.now c.pay.new.self c.pay.new.self.steps c.requires.instance c.requires.goes_on c.in_ok-pay.ensures.ok c.in_ok-pay.ensures.paid c.array.new.self c.array.ensures.stays c.array.ensures.few c.quiet.result
+
+pub returns-in-Set-clause-keeps : goal.returns-in-Set-clause-keeps
+returns-in-Set-clause-keeps c =
+    keeps-unless c.args.plan.now c.args.self.now c.pay.new.self c.pay.new.self.steps c.requires.instance c.requires.goes_on c.in_ok-pay.ensures.ok c.in_ok-pay.ensures.paid c.assign-in-Set.new.self c.assign-in-Set.ensures.few c.assign-in-Set.result c.assign-in-Set.ensures.stays
+
+pub returns-in-Store-clause-keeps : goal.returns-in-Store-clause-keeps
+returns-in-Store-clause-keeps c =
+    keeps-paid c.args.plan.now c.args.self.now c.pay.new.self c.pay.new.self.steps c.requires.instance c.requires.goes_on c.in_ok-pay.ensures.ok c.in_ok-pay.ensures.paid c.store.new.self c.store.ensures.stays c.store.ensures.few c.quiet-in-Store.result
+
+pub returns-in-Spawn-clause-keeps : goal.returns-in-Spawn-clause-keeps
+returns-in-Spawn-clause-keeps c =
+    keeps-paid c.args.plan.now c.args.self.now c.pay.new.self c.pay.new.self.steps c.requires.instance c.requires.goes_on c.in_ok-pay.ensures.ok c.in_ok-pay.ensures.paid c.spawn.new.self c.spawn.ensures.stays c.spawn.ensures.few c.spawn.result
+
+pub returns-in-Call-clause-keeps : goal.returns-in-Call-clause-keeps
+returns-in-Call-clause-keeps c =
+    keeps-unless c.args.plan.now c.args.self.now c.pay.new.self c.pay.new.self.steps c.requires.instance c.requires.goes_on c.in_ok-pay.ensures.ok c.in_ok-pay.ensures.paid c.call.new.self c.call.ensures.few c.call.result c.call.ensures.stays
+
+pub returns-in-Sync-clause-keeps : goal.returns-in-Sync-clause-keeps
+returns-in-Sync-clause-keeps c =
+    keeps-paid c.args.plan.now c.args.self.now c.pay.new.self c.pay.new.self.steps c.requires.instance c.requires.goes_on c.in_ok-pay.ensures.ok c.in_ok-pay.ensures.paid c.wait.new.self c.wait.ensures.stays c.wait.ensures.few c.wait.result
+
+pub returns-in-Print-clause-keeps : goal.returns-in-Print-clause-keeps
+returns-in-Print-clause-keeps c =
+    keeps-paid c.args.plan.now c.args.self.now c.pay.new.self c.pay.new.self.steps c.requires.instance c.requires.goes_on c.in_ok-pay.ensures.ok c.in_ok-pay.ensures.paid c.print.new.self c.print.ensures.stays c.print.ensures.few c.print.result
+
+pub returns-in-If-clause-keeps : goal.returns-in-If-clause-keeps
+returns-in-If-clause-keeps c =
+    keeps-paid c.args.plan.now c.args.self.now c.pay.new.self c.pay.new.self.steps c.requires.instance c.requires.goes_on c.in_ok-pay.ensures.ok c.in_ok-pay.ensures.paid c.branch-self.new.self c.branch-self.ensures.stays c.branch-self.ensures.few c.quiet-in-If.result
+
+pub returns-in-While-clause-keeps : goal.returns-in-While-clause-keeps
+returns-in-While-clause-keeps c =
+    keeps-paid c.args.plan.now c.args.self.now c.pay.new.self c.pay.new.self.steps c.requires.instance c.requires.goes_on c.in_ok-pay.ensures.ok c.in_ok-pay.ensures.paid c.turn.new.self c.turn.ensures.stays c.turn.ensures.few c.quiet-in-While.result
+
+pub returns-in-Pfor-clause-keeps : goal.returns-in-Pfor-clause-keeps
+returns-in-Pfor-clause-keeps c =
+    keeps-paid c.args.plan.now c.args.self.now c.pay.new.self c.pay.new.self.steps c.requires.instance c.requires.goes_on c.in_ok-pay.ensures.ok c.in_ok-pay.ensures.paid c.pfor.new.self c.pfor.ensures.stays c.pfor.ensures.few c.pfor.result
+
+pub returns-in-Scope-clause-shows : goal.returns-in-Scope-clause-shows
+returns-in-Scope-clause-shows c =
+    let plan = c.args.plan.now in
+    let p = c.pay.new.self in
+    let st = c.args.statement.now in
+    let is = act-is (act.Scope c.in-Scope.field-0) st.act (variant.Scope c.in-Scope.field-0) c.in-Scope.is (variant.rolls-Scope c.in-Scope.field-0) in
+    let behind = paid-behind plan c.args.self.now p p.steps c.in_ok-pay.ensures.ok c.in_ok-pay.ensures.paid st c.requires.behind in
+    statement-paid plan c.args.self.now p p.steps c.in_ok-pay.ensures.ok c.in_ok-pay.ensures.paid (here-is plan c.args.self.now c.requires.instance) st (act.Scope c.in-Scope.field-0) c.scope.new.self c.scope.result is
+    (c.scope.ensures.shows st c.in-Scope.field-0 behind is)
+
+pub returns-in-Scope-clause-keeps : goal.returns-in-Scope-clause-keeps
+returns-in-Scope-clause-keeps c =
+    keeps-into c.args.plan.now c.args.self.now c.pay.new.self c.pay.new.self.steps c.requires.instance c.requires.goes_on c.in_ok-pay.ensures.ok c.in_ok-pay.ensures.paid c.scope.new.self c.scope.result c.scope.ensures.into c.scope.ensures.same
+
+pub pfor-requires-clause-steps : goal.pfor-requires-clause-steps
+pfor-requires-clause-steps c =
+    let few = c.requires.instance.few in
+    let paid = c.in_ok-pay.ensures.paid in
+    omega (arith, few, paid)
+
+pub returns-in_err-pay-clause-shows : goal.returns-in_err-pay-clause-shows
+returns-in_err-pay-clause-shows c =
+    let plan = c.args.plan.now in
+    let i = c.args.self.now in
+    let m = machine_of plan i in
+    let unpaid = c.pay.ensures.err c.in_err-pay.field-0.0 c.in_err-pay.was in
+    shows-fault (statement_move plan (path_of i) m c.args.statement.now m.top.left) (strand_of (present_of i) m) _ c.from_residual.result c.in_err-pay.field-0.0 c.from_residual.ensures.1
+    (statement-unpaid plan i c.args.statement.now m.top.left unpaid.1 (here-is plan i c.requires.instance) ∙ ap (λ (kind : FaultKind). faults kind (present_of i ++ i.rank ∷ [])) (sym unpaid.2))

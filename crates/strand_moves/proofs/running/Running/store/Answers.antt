@@ -2,7 +2,7 @@ use Rattle.std.proofs.Common.{◌∙◌, sym, w64, rules, SFits}
 use Rattle.std.proofs.lemmas.Int.{to_z-of_z}
 use Rattle.script_grammar.specs.declared.tree.Act.TheOpen as act
 use Rattle.serial_meaning.specs.Values.{value_of}
-use Rattle.strand_moves.specs.Running.{machine_of, path_of}
+use Rattle.strand_moves.specs.Running.{machine_of, present_of}
 use Rattle.strand_moves.specs.Moves.{acted, strand_of}
 use Rattle.strand_values.specs.Gives.{numbered}
 use Rattle.strand_moves.proofs.Conditions.{number-known, number-fault}
@@ -15,8 +15,8 @@ pub returns-in_err-index-clause-shows : goal.returns-in_err-index-clause-shows
 returns-in_err-index-clause-shows c = λ plan st.
     let i = c.args.self.now in
     let d = value_of c.args.i.now i.top.env in
-    quiet-exit (acted plan (path_of i) (machine_of plan i) st (act.Store c.args.x.now c.args.i.now c.args.e.now)) (strand_of (path_of i) (machine_of plan i)) _ c.from_residual.result c.in_err-index.field-0.0
-    (numbered d) c.from_residual.ensures.1 c.in_err-index.ensures (λ kind h. store-index-fault plan (path_of i) (machine_of plan i) st c.args.x.now c.args.i.now c.args.e.now kind (number-fault d kind h))
+    quiet-exit (acted plan (present_of i) (machine_of plan i) st (act.Store c.args.x.now c.args.i.now c.args.e.now)) (strand_of (present_of i) (machine_of plan i)) _ c.from_residual.result c.in_err-index.field-0.0
+    (numbered d) c.from_residual.ensures.1 c.in_err-index.ensures (λ kind h. store-index-fault plan (present_of i) (machine_of plan i) st c.args.x.now c.args.i.now c.args.e.now kind (number-fault d kind h))
 
 pub returns-then-is_none-clause-shows : goal.returns-then-is_none-clause-shows
 returns-then-is_none-clause-shows c = λ plan st.
@@ -25,7 +25,7 @@ returns-then-is_none-clause-shows c = λ plan st.
     let fits : SFits w64 n = search rules in
     let known = number-known (value_of c.args.i.now i.top.env) n c.in_ok-index.ensures in
     let at = rw (to_z-of_z w64 n fits, sym known.1.1) at c.item.ensures in
-    store-fault plan (path_of i) (machine_of plan i) st c.args.x.now c.args.i.now c.args.e.now known.0 known.1.0 (sym at ∙ missing c.item.result c.if-is_none.ensures)
+    store-fault plan (present_of i) (machine_of plan i) st c.args.x.now c.args.i.now c.args.e.now known.0 known.1.0 (sym at ∙ missing c.item.result c.if-is_none.ensures)
 
 pub returns-in_err-value-clause-shows : goal.returns-in_err-value-clause-shows
 returns-in_err-value-clause-shows c = λ plan st.
@@ -35,9 +35,9 @@ returns-in_err-value-clause-shows c = λ plan st.
     let known = number-known (value_of c.args.i.now i.top.env) n c.in_ok-index.ensures in
     let at = rw (to_z-of_z w64 n fits, sym known.1.1) at c.item.ensures in
     let old = there c.item.result c.if-is_none.ensures in
-    quiet-exit (acted plan (path_of i) (machine_of plan i) st (act.Store c.args.x.now c.args.i.now c.args.e.now)) (strand_of (path_of i) (machine_of plan i)) _ c.from_residual-in_err-value.result
+    quiet-exit (acted plan (present_of i) (machine_of plan i) st (act.Store c.args.x.now c.args.i.now c.args.e.now)) (strand_of (present_of i) (machine_of plan i)) _ c.from_residual-in_err-value.result
     c.in_err-value.field-0.0 (value_of c.args.e.now i.top.env) c.from_residual-in_err-value.ensures.1 c.in_err-value.ensures
-    (λ kind. store-value-fault plan (path_of i) (machine_of plan i) st c.args.x.now c.args.i.now c.args.e.now known.0 old.0 kind known.1.0 (sym at ∙ old.1))
+    (λ kind. store-value-fault plan (present_of i) (machine_of plan i) st c.args.x.now c.args.i.now c.args.e.now known.0 old.0 kind known.1.0 (sym at ∙ old.1))
 
 pub returns-clause-shows : goal.returns-clause-shows
 returns-clause-shows c = λ plan st.
@@ -48,4 +48,4 @@ returns-clause-shows c = λ plan st.
     let at = rw (to_z-of_z w64 n fits, sym known.1.1) at c.item.ensures in
     let set = rw (to_z-of_z w64 n fits, sym known.1.1) at c.set_item.ensures in
     let old = there c.item.result c.if-is_none.ensures in
-    store plan (path_of i) (machine_of plan i) st c.args.x.now c.args.i.now c.args.e.now known.0 c.in_ok-value.value old.0 c.set_item.new.self known.1.0 (sym at ∙ old.1) c.in_ok-value.ensures set
+    store plan (present_of i) (machine_of plan i) st c.args.x.now c.args.i.now c.args.e.now known.0 c.in_ok-value.value old.0 c.set_item.new.self known.1.0 (sym at ∙ old.1) c.in_ok-value.ensures set

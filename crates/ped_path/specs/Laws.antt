@@ -1,0 +1,43 @@
+-- Laws of the refusals of texts. Each is the contract of a function of the module `laws`.
+use Rattle.std.specs.Prelude.{◌≡◌, ◌≢◌, ℕ, ◌≤◌, ◌^◌, List, ◌++◌}
+use Rattle.std.specs.Str.Parse.{AllDigits, digits_value}
+use Rattle.ped_path.specs.Parsing.{IsRefused, StandsAt}
+use Rattle.ped_path.specs.declared.parse.PedTextError.{PedTextError}
+use Rattle.ped_path.specs.declared.parse.PedTextError.TheVariants.{Empty, BadByte, Zeros, TooBig, TooLong, Memory}
+
+-- a text has one refusal at most
+abbrev pub RefusalsAreUnique : Type 0
+RefusalsAreUnique = (text : List ℕ) (e f : PedTextError) → e ≢ Memory → f ≢ Memory → IsRefused text e → IsRefused text f → e ≡ f
+
+-- Digits stand in front, and the number that they write is no rank, whether or not needless zeros stand among them.
+pub record WritesTooBig (rest : List ℕ) : Type 0 where
+  pub digits : List ℕ
+  pub behind : List ℕ
+  pub split : rest ≡ digits ++ behind
+  pub numeral : AllDigits 10 digits
+  pub big : 2 ^ 32 ≤ digits_value 10 digits
+
+-- the text breaks this rule, whatever other rule it breaks at that place
+abbrev pub Breaks : List ℕ → PedTextError → Type 0
+Breaks text (TooBig at) = StandsAt text at WritesTooBig
+Breaks text e = IsRefused text e
+
+abbrev pub number_of : PedTextError → ℕ
+number_of Empty = 1
+number_of (BadByte at) = 2
+number_of (Zeros at) = 3
+number_of (TooBig at) = 4
+number_of TooLong = 5
+number_of Memory = 6
+
+abbrev pub place_of : PedTextError → ℕ
+place_of (BadByte at) = at
+place_of (Zeros at) = at
+place_of (TooBig at) = at
+place_of _ = 0
+
+-- the rules that a text breaks are broken at one place, and the one of the least number is told
+abbrev pub LeastRuleIsTold : Type 0
+LeastRuleIsTold =
+    (text : List ℕ) (told broken : PedTextError) → told ≢ Memory → broken ≢ Memory → IsRefused text told → Breaks text broken →
+    (place_of told ≡ place_of broken) × (number_of told ≤ number_of broken)

@@ -1,0 +1,437 @@
+-- Two neighbouring pairs of words may change places where the words give a command.
+use Rattle.std.proofs.Common.{◌≡◌, ℕ, zero, suc, ◌+◌, ◌-◌, ◌*◌, ◌/◌, ◌<◌, ◌≤◌, Bool, true, false, not, cond, ◌||◌, if◌then◌else◌, eqb, Option, Some, None, Ok, Err, List, [], ◌∷◌, ◌++◌, length, refl, sym, ap, ◌∙◌, subst, ◌⊎◌, inl, inr, arith, length-append}
+use Rattle.std.specs.Prelude.{codes, is_some, nat_eq, nat_le}
+use Rattle.std.specs.List.{starts_with}
+use Rattle.std.specs.Option.{option_map}
+use Rattle.std.proofs.lemmas.Bool.{cases_lt, eq-eqb, eqb-true, ne_eqb}
+use Rattle.std.proofs.lemmas.Bool.Decides.{nat_tests}
+use Rattle.std.proofs.lemmas.List.{get_or-append-add}
+use Rattle.std.proofs.lemmas.Option.{none-some}
+use Rattle.ped_words.specs.Judging.{broken_pair, broken_value, first_below, first_broken, judged_name, judged_option, pairs_in, value_rule}
+use Rattle.ped_words.specs.Laws.{as_it_was, exchanged, OrdersGiveOneCommand}
+use Rattle.ped_words.specs.Making.{made}
+use Rattle.ped_words.specs.Reading.{reading, reading_as}
+use Rattle.ped_words.specs.Rules.{breaks, broken_at, unless}
+use Rattle.ped_words.specs.Table.{name_of, place, takes, verb_of}
+use Rattle.ped_words.specs.Values.{Values, has, is_name, name_word, value_word, values_of, word_at}
+use Rattle.ped_words.specs.declared.command.Command.{Command}
+use Rattle.ped_words.specs.declared.rule.Rule.{Rule}
+use Rattle.ped_words.specs.declared.rule.Rule.TheVariants as rule
+use Rattle.ped_words.specs.declared.rule.WordError.{WordError}
+use Rattle.ped_words.specs.declared.table.Name.{Name}
+use Rattle.ped_words.specs.declared.table.Name.TheVariants as name
+use Rattle.ped_words.specs.declared.table.Verb.{Verb}
+use Rattle.ped_words.proofs.OrdersMade.{word_of, some-word, or_none, none_or, made-same}
+
+-- Names
+
+abbrev name_at : ℕ → Name
+name_at k =
+    if nat_eq k 0 then name.Seed
+    else if nat_eq k 1 then name.Gamma
+    else if nat_eq k 2 then name.Depth
+    else if nat_eq k 3 then name.Budget
+    else if nat_eq k 4 then name.Workers
+    else if nat_eq k 5 then name.Show
+    else if nat_eq k 6 then name.Number
+    else if nat_eq k 7 then name.At
+    else if nat_eq k 8 then name.Shape
+    else if nat_eq k 9 then name.Size
+    else if nat_eq k 10 then name.Rounds
+    else if nat_eq k 11 then name.Count
+    else if nat_eq k 12 then name.Below
+    else name.Seeds
+
+name_at-place : (n : Name) → name_at (place n) ≡ n
+name_at-place name.Seed = refl
+name_at-place name.Gamma = refl
+name_at-place name.Depth = refl
+name_at-place name.Budget = refl
+name_at-place name.Workers = refl
+name_at-place name.Show = refl
+name_at-place name.Number = refl
+name_at-place name.At = refl
+name_at-place name.Shape = refl
+name_at-place name.Size = refl
+name_at-place name.Rounds = refl
+name_at-place name.Count = refl
+name_at-place name.Below = refl
+name_at-place name.Seeds = refl
+
+-- the option that also counts as this one
+abbrev twin : Name → Name
+twin name.Seed = name.Gamma
+twin name.Gamma = name.Seed
+twin n = n
+
+twin-twin : (n : Name) → twin (twin n) ≡ n
+twin-twin name.Seed = refl
+twin-twin name.Gamma = refl
+twin-twin _ = refl
+
+no_both : (b : Bool) → b ≡ true → b ≡ false → ⊥
+no_both b e f = cc
+
+not_true : (b : Bool) → (b ≡ true → ⊥) → b ≡ false
+not_true true h = absurd (h refl)
+not_true false h = refl
+
+twin-apart : (a c : Name) → eqb (place a) (place (twin c)) ≡ false → eqb (place c) (place (twin a)) ≡ false
+twin-apart a c e = not_true (eqb (place c) (place (twin a))) (λ f.
+    let places : place c ≡ place (twin a) = eqb-true (place c) (place (twin a)) f in
+    let same : c ≡ twin a = sym (name_at-place c) ∙ ap name_at places ∙ name_at-place (twin a) in
+    let back : twin c ≡ a = ap twin same ∙ twin-twin a in
+    no_both (eqb (place a) (place (twin c))) (eq-eqb (place a) (place (twin c)) (ap place (sym back))) e)
+
+eqb-back : (a c : ℕ) → eqb a c ≡ false → eqb c a ≡ false
+eqb-back a c e = not_true (eqb c a) (λ f. no_both (eqb a c) (eq-eqb a c (sym (eqb-true c a f))) e)
+
+or-none : (a b : Bool) → (a || b) ≡ false → (a ≡ false) × (b ≡ false)
+or-none true b e = cc
+or-none false b e = (refl, e)
+
+none-or : (a b : Bool) → a ≡ false → b ≡ false → (a || b) ≡ false
+none-or a b e f = ap (λ z. z || b) e ∙ f
+
+-- neither the option nor its twin was given
+has-parts : (values : Values) (n : Name) → has values n ≡ false → (is_some (values n) ≡ false) × (is_some (values (twin n)) ≡ false)
+has-parts values name.Seed e = or-none _ _ e
+has-parts values name.Gamma e = let p = or-none _ _ e in (p.1, p.0)
+has-parts values _ e = (e, e)
+
+has-none : (values : Values) (n : Name) → is_some (values n) ≡ false → is_some (values (twin n)) ≡ false → has values n ≡ false
+has-none values name.Seed e f = none-or _ _ e f
+has-none values name.Gamma e f = none-or _ _ f e
+has-none values _ e f = e
+
+has-same : (values others : Values) → ((n : Name) → is_some (others n) ≡ is_some (values n)) → (n : Name) → has values n ≡ false → has others n ≡ false
+has-same values others same n e = let p = has-parts values n e in has-none others n (same n ∙ p.0) (same (twin n) ∙ p.1)
+
+-- A pair that breaks no rule
+
+record Right (verb : Verb) (given : Values) (word value : List ℕ) (is_last : Bool) : Type 0 where
+  n : Name
+  dashes : starts_with nat_eq word (codes "--") ≡ true
+  named : name_of word ≡ Some n
+  taken : takes verb n ≡ true
+  fresh : has given n ≡ false
+  more : is_last ≡ false
+  fits : value_rule n value ≡ None
+
+module _ (verb : Verb) (words : List (List ℕ)) (k : ℕ) where
+  abbrev given : Values
+  given = values_of words k
+
+  abbrev word : List ℕ
+  word = name_word words k
+
+  abbrev value : List ℕ
+  value = value_word words k
+
+  abbrev is_last : Bool
+  is_last = nat_le (length words) (2 * k + 2)
+
+  abbrev R : Type 0
+  R = Right verb given word value is_last
+
+  right_from : broken_pair verb words k ≡ None → R
+  right_from e = by_dashes (starts_with nat_eq word (codes "--")) refl e
+    where
+      by_fits : (n : Name) (o : Option Rule) → value_rule n value ≡ o → broken_at (2 * k + 2) o ≡ None → value_rule n value ≡ None
+      by_fits n None f g = f
+      by_fits n (Some r) f g = absurd (none-some _ (sym g))
+
+      by_tests : (n : Name) → starts_with nat_eq word (codes "--") ≡ true → name_of word ≡ Some n → (x y z : Bool) → takes verb n ≡ x → has given n ≡ y → is_last ≡ z →
+          broken_value words k (if not x then Err rule.UnknownOption else (if y then Err rule.OptionTwice else (if z then Err rule.MissingValue else Ok n))) ≡ None → R
+      by_tests n d f false y z g h i j = absurd (none-some _ (sym j))
+      by_tests n d f true true z g h i j = absurd (none-some _ (sym j))
+      by_tests n d f true false true g h i j = absurd (none-some _ (sym j))
+      by_tests n d f true false false g h i j = record { n = n; dashes = d; named = f; taken = g; fresh = h; more = i; fits = by_fits n (value_rule n value) refl j }
+
+      by_name : starts_with nat_eq word (codes "--") ≡ true → (o : Option Name) → name_of word ≡ o → broken_value words k (judged_option verb given is_last o) ≡ None → R
+      by_name d None f g = absurd (none-some _ (sym g))
+      by_name d (Some n) f g = by_tests n d f (takes verb n) (has given n) is_last refl refl refl g
+
+      by_dashes : (b : Bool) → starts_with nat_eq word (codes "--") ≡ b → broken_value words k (if b then judged_option verb given is_last (name_of word) else Err rule.StrayWord) ≡ None → R
+      by_dashes true d g = by_name d (name_of word) refl g
+      by_dashes false d g = absurd (none-some _ (sym g))
+
+  right_to : R → broken_pair verb words k ≡ None
+  right_to r =
+      let judged : judged_name verb given word is_last ≡ Ok r.n =
+      ap (λ b. if b then judged_option verb given is_last (name_of word) else Err rule.StrayWord) r.dashes
+      ∙ ap (judged_option verb given is_last) r.named
+      ∙ ap (λ b. if not b then Err rule.UnknownOption else (if has given r.n then Err rule.OptionTwice else (if is_last then Err rule.MissingValue else Ok r.n))) r.taken
+      ∙ ap (λ b. if b then Err rule.OptionTwice else (if is_last then Err rule.MissingValue else Ok r.n)) r.fresh
+      ∙ ap (λ b. if b then Err rule.MissingValue else Ok r.n) r.more in
+      ap (broken_value words k) judged ∙ ap (broken_at (2 * k + 2)) r.fits
+
+carried : (verb : Verb) (given other : Values) (word word' value value' : List ℕ) (last last' : Bool) → word' ≡ word → value' ≡ value → ((n : Name) → is_some (other n) ≡ is_some (given n)) → last' ≡ last →
+    Right verb given word value last → Right verb other word' value' last'
+carried verb given other word word' value value' last last' e f same g r = record {
+  n = r.n;
+  dashes = ap (λ z. starts_with nat_eq z (codes "--")) e ∙ r.dashes;
+  named = ap name_of e ∙ r.named;
+  taken = r.taken;
+  fresh = has-same given other same r.n r.fresh;
+  more = g ∙ r.more;
+  fits = ap (value_rule r.n) f ∙ r.fits;
+}
+
+all_none : (f : ℕ → Option WordError) (n : ℕ) → first_below f n ≡ None → (j : ℕ) → j < n → f j ≡ None
+all_none f zero e j h = absurd (omega arith)
+all_none f (suc n) e j h = go (cases_lt j n) (all_none f n (or_none (first_below f n) (f n) e).0 j)
+  where
+    go : (j < n) ⊎ (n ≤ j) → (j < n → f j ≡ None) → f j ≡ None
+    go (inl low) behind = behind low
+    go (inr high) behind = let same : n ≡ j = omega (arith, high) in subst (λ z. f z ≡ None) same (or_none (first_below f n) (f n) e).1
+
+none_all : (f : ℕ → Option WordError) (n : ℕ) → ((j : ℕ) → j < n → f j ≡ None) → first_below f n ≡ None
+none_all f zero h = refl
+none_all f (suc n) h = none_or (first_below f n) (f n) (none_all f n (λ j l. h j (omega arith))) (h n (omega arith))
+
+-- Words with two pairs exchanged
+
+above : (m i : ℕ) → i < m → nat_le m i ≡ false
+above m i h = grind (arith, nat_tests)
+
+record Swapped (words others : List (List ℕ)) (k : ℕ) : Type 0 where
+  long : length others ≡ length words
+  enough : 2 * k + 5 ≤ length words
+  front : (i : ℕ) → i < 2 * k + 1 → word_at others i ≡ word_at words i
+  first_name : name_word others k ≡ name_word words (suc k)
+  first_value : value_word others k ≡ value_word words (suc k)
+  second_name : name_word others (suc k) ≡ name_word words k
+  second_value : value_word others (suc k) ≡ value_word words k
+  behind : (i : ℕ) → 2 * k + 5 ≤ i → word_at others i ≡ word_at words i
+
+front_at : (xs ys : List (List ℕ)) (i : ℕ) → i < length xs → word_at (xs ++ ys) i ≡ word_at xs i
+front_at [] ys i h = absurd (omega arith)
+front_at (x ∷ xs) ys zero h = refl
+front_at (x ∷ xs) ys (suc i) h = front_at xs ys i (omega arith)
+
+back_at : (xs ys : List (List ℕ)) (i m : ℕ) → i ≡ length xs + m → word_at (xs ++ ys) i ≡ word_at ys m
+back_at xs ys i m e = ap (word_at (xs ++ ys)) e ∙ get_or-append-add xs ys m []
+
+swapped : (front behind : List (List ℕ)) (n v m w : List ℕ) (k : ℕ) → length front ≡ 2 * k + 1 → Swapped (front ++ n ∷ v ∷ m ∷ w ∷ behind) (front ++ m ∷ w ∷ n ∷ v ∷ behind) k
+swapped front behind n v m w k e =
+    let xs : List (List ℕ) = n ∷ v ∷ m ∷ w ∷ behind in
+    let ys : List (List ℕ) = m ∷ w ∷ n ∷ v ∷ behind in
+    record {
+      long = length-append front ys ∙ sym (length-append front xs);
+      enough = let l : length (front ++ xs) ≡ length front + length xs = length-append front xs in omega (arith, l, e);
+      front = λ i h. front_at front ys i (omega (arith, e, h)) ∙ sym (front_at front xs i (omega (arith, e, h)));
+      first_name = back_at front ys (2 * k + 1) 0 (omega (arith, e)) ∙ sym (back_at front xs (2 * suc k + 1) 2 (omega (arith, e)));
+      first_value = back_at front ys (2 * k + 2) 1 (omega (arith, e)) ∙ sym (back_at front xs (2 * suc k + 2) 3 (omega (arith, e)));
+      second_name = back_at front ys (2 * suc k + 1) 2 (omega (arith, e)) ∙ sym (back_at front xs (2 * k + 1) 0 (omega (arith, e)));
+      second_value = back_at front ys (2 * suc k + 2) 3 (omega (arith, e)) ∙ sym (back_at front xs (2 * k + 2) 1 (omega (arith, e)));
+      behind = λ i h.
+          let at : i ≡ length front + suc (suc (suc (suc (i - (length front + 4))))) = omega (arith, e, h) in
+          back_at front ys i (suc (suc (suc (suc (i - (length front + 4)))))) at ∙ sym (back_at front xs i (suc (suc (suc (suc (i - (length front + 4)))))) at);
+    }
+
+abbrev next_word : List ℕ → List ℕ → Option (List ℕ) → Name → Option (List ℕ)
+next_word word given o n = cond (is_name (name_of word) n) (Some given) o
+
+word_of-next : (words : List (List ℕ)) (j : ℕ) (n : Name) → word_of (values_of words (suc j)) n ≡ next_word (name_word words j) (value_word words j) (word_of (values_of words j) n) n
+word_of-next words j n = go (is_name (name_of (name_word words j)) n)
+  where
+    go : (b : Bool) → option_map (λ (w : List ℕ × ℕ). w.0) (cond b (Some (value_word words j, 2 * j + 2)) (values_of words j n)) ≡ cond b (Some (value_word words j)) (word_of (values_of words j) n)
+    go true = refl
+    go false = refl
+
+free : (b : Bool) (w : List ℕ × ℕ) (o : Option (List ℕ × ℕ)) → is_some (cond b (Some w) o) ≡ false → (b ≡ false) × (is_some o ≡ false)
+free true w o e = cc
+free false w o e = (refl, e)
+
+still_free : (b : Bool) (w : List ℕ × ℕ) (o : Option (List ℕ × ℕ)) → b ≡ false → is_some o ≡ false → is_some (cond b (Some w) o) ≡ false
+still_free b w o e f = ap (λ z. is_some (cond z (Some w) o)) e ∙ f
+
+crossing : (x y : Bool) (p q o : Option (List ℕ)) → (x ≡ true → y ≡ true → ⊥) → cond x p (cond y q o) ≡ cond y q (cond x p o)
+crossing true true p q o h = absurd (h refl refl)
+crossing true false p q o h = refl
+crossing false true p q o h = refl
+crossing false false p q o h = refl
+
+module _ (words others : List (List ℕ)) (k : ℕ) (s : Swapped words others k) where
+  front-word : (j : ℕ) → j < k → name_word others j ≡ name_word words j
+  front-word j h = s.front (2 * j + 1) (omega arith)
+
+  front-value : (j : ℕ) → j < k → value_word others j ≡ value_word words j
+  front-value j h = s.front (2 * j + 2) (omega arith)
+
+  behind-word : (j : ℕ) → suc k < j → name_word others j ≡ name_word words j
+  behind-word j h = s.behind (2 * j + 1) (omega arith)
+
+  behind-value : (j : ℕ) → suc k < j → value_word others j ≡ value_word words j
+  behind-value j h = s.behind (2 * j + 2) (omega arith)
+
+  next-same : (j : ℕ) → name_word others j ≡ name_word words j → value_word others j ≡ value_word words j → (n : Name) → word_of (values_of others j) n ≡ word_of (values_of words j) n →
+      word_of (values_of others (suc j)) n ≡ word_of (values_of words (suc j)) n
+  next-same j e f n g =
+      word_of-next others j n
+      ∙ ap (λ z. next_word z (value_word others j) (word_of (values_of others j) n) n) e
+      ∙ ap (λ z. next_word (name_word words j) z (word_of (values_of others j) n) n) f
+      ∙ ap (λ z. next_word (name_word words j) (value_word words j) z n) g
+      ∙ sym (word_of-next words j n)
+
+  values-front : (j : ℕ) → j ≤ k → (n : Name) → word_of (values_of others j) n ≡ word_of (values_of words j) n
+  values-front zero h n = refl
+  values-front (suc j) h n = next-same j (front-word j (omega arith)) (front-value j (omega arith)) n (values-front j (omega arith) n)
+
+  module _ (apart : (n : Name) → is_name (name_of (name_word words k)) n ≡ true → is_name (name_of (name_word words (suc k))) n ≡ true → ⊥) where
+    values-two : (n : Name) → word_of (values_of others (suc (suc k))) n ≡ word_of (values_of words (suc (suc k))) n
+    values-two n =
+        word_of-next others (suc k) n
+        ∙ ap (λ z. next_word z (value_word others (suc k)) (word_of (values_of others (suc k)) n) n) s.second_name
+        ∙ ap (λ z. next_word (name_word words k) z (word_of (values_of others (suc k)) n) n) s.second_value
+        ∙ ap (λ z. next_word (name_word words k) (value_word words k) z n) (word_of-next others k n
+        ∙ ap (λ z. next_word z (value_word others k) (word_of (values_of others k) n) n) s.first_name
+        ∙ ap (λ z. next_word (name_word words (suc k)) z (word_of (values_of others k) n) n) s.first_value
+        ∙ ap (λ z. next_word (name_word words (suc k)) (value_word words (suc k)) z n) (values-front k (omega arith) n))
+        ∙ crossing (is_name (name_of (name_word words k)) n) (is_name (name_of (name_word words (suc k))) n) (Some (value_word words k)) (Some (value_word words (suc k))) (word_of (values_of words k) n) (apart n)
+        ∙ ap (λ z. next_word (name_word words (suc k)) (value_word words (suc k)) z n) (sym (word_of-next words k n))
+        ∙ sym (word_of-next words (suc k) n)
+
+    values-behind : (j : ℕ) → suc k < j → (n : Name) → word_of (values_of others j) n ≡ word_of (values_of words j) n
+    values-behind zero h n = absurd (omega arith)
+    values-behind (suc j) h n = go (cases_lt (suc k) j) (λ l. values-behind j l n)
+      where
+        go : (suc k < j) ⊎ (j ≤ suc k) → (suc k < j → word_of (values_of others j) n ≡ word_of (values_of words j) n) → word_of (values_of others (suc j)) n ≡ word_of (values_of words (suc j)) n
+        go (inl l) before = next-same j (behind-word j l) (behind-value j l) n (before l)
+        go (inr l) before = let same : suc k ≡ j = omega (arith, l, h) in subst (λ z. word_of (values_of others (suc z)) n ≡ word_of (values_of words (suc z)) n) same (values-two n)
+
+  module _ (verb : Verb) (a : Right verb (values_of words k) (name_word words k) (value_word words k) (nat_le (length words) (2 * k + 2)))
+      (c : Right verb (values_of words (suc k)) (name_word words (suc k)) (value_word words (suc k)) (nat_le (length words) (2 * suc k + 2))) where
+    -- the second name is neither the first nor its twin
+    fresh-at : (n : Name) → is_some (values_of words (suc k) n) ≡ false → (eqb (place a.n) (place n) ≡ false) × (is_some (values_of words k n) ≡ false)
+    fresh-at n e =
+        let f = free (is_name (name_of (name_word words k)) n) (value_word words k, 2 * k + 2) (values_of words k n) e in (ap (λ o. is_name o n) (sym a.named) ∙ f.0, f.1)
+
+    here : (eqb (place a.n) (place c.n) ≡ false) × (is_some (values_of words k c.n) ≡ false)
+    here = fresh-at c.n (has-parts (values_of words (suc k)) c.n c.fresh).0
+
+    there : (eqb (place a.n) (place (twin c.n)) ≡ false) × (is_some (values_of words k (twin c.n)) ≡ false)
+    there = fresh-at (twin c.n) (has-parts (values_of words (suc k)) c.n c.fresh).1
+
+    apart : (n : Name) → is_name (name_of (name_word words k)) n ≡ true → is_name (name_of (name_word words (suc k))) n ≡ true → ⊥
+    apart n e f =
+        let e' : eqb (place a.n) (place n) ≡ true = ap (λ o. is_name o n) (sym a.named) ∙ e in
+        let f' : eqb (place c.n) (place n) ≡ true = ap (λ o. is_name o n) (sym c.named) ∙ f in
+        let same : place a.n ≡ place c.n = eqb-true (place a.n) (place n) e' ∙ sym (eqb-true (place c.n) (place n) f') in
+        no_both (eqb (place a.n) (place c.n)) (eq-eqb (place a.n) (place c.n) same) here.0
+
+    some-front : (j : ℕ) → j ≤ k → (n : Name) → is_some (values_of others j n) ≡ is_some (values_of words j n)
+    some-front j h n = sym (some-word (values_of others j) n) ∙ ap is_some (values-front j h n) ∙ some-word (values_of words j) n
+
+    some-behind : (j : ℕ) → suc k < j → (n : Name) → is_some (values_of others j n) ≡ is_some (values_of words j n)
+    some-behind j h n = sym (some-word (values_of others j) n) ∙ ap is_some (values-behind apart j h n) ∙ some-word (values_of words j) n
+
+    not_last : (i : ℕ) → i < length words → nat_le (length others) i ≡ false
+    not_last i h = let l = s.long in above (length others) i (omega (arith, l, h))
+
+    first_right : Right verb (values_of others k) (name_word others k) (value_word others k) (nat_le (length others) (2 * k + 2))
+    first_right = record {
+      n = c.n;
+      dashes = ap (λ z. starts_with nat_eq z (codes "--")) s.first_name ∙ c.dashes;
+      named = ap name_of s.first_name ∙ c.named;
+      taken = c.taken;
+      fresh = has-none (values_of others k) c.n (some-front k (omega arith) c.n ∙ here.1) (some-front k (omega arith) (twin c.n) ∙ there.1);
+      more = let l = s.enough in not_last (2 * k + 2) (omega (arith, l));
+      fits = ap (value_rule c.n) s.first_value ∙ c.fits;
+    }
+
+    -- what stands for the first name in the exchanged words
+    free-then : (n : Name) → eqb (place c.n) (place n) ≡ false → is_some (values_of words k n) ≡ false → is_some (values_of others (suc k) n) ≡ false
+    free-then n e f =
+        still_free (is_name (name_of (name_word others k)) n) (value_word others k, 2 * k + 2) (values_of others k n) (ap (λ z. is_name (name_of z) n) s.first_name ∙ ap (λ o. is_name o n) c.named ∙ e) (some-front k (omega arith) n ∙ f)
+
+    second_right : Right verb (values_of others (suc k)) (name_word others (suc k)) (value_word others (suc k)) (nat_le (length others) (2 * suc k + 2))
+    second_right =
+        let p = has-parts (values_of words k) a.n a.fresh in
+        record {
+          n = a.n;
+          dashes = ap (λ z. starts_with nat_eq z (codes "--")) s.second_name ∙ a.dashes;
+          named = ap name_of s.second_name ∙ a.named;
+          taken = a.taken;
+          fresh = has-none (values_of others (suc k)) a.n (free-then a.n (eqb-back (place a.n) (place c.n) here.0) p.0) (free-then (twin a.n) (twin-apart a.n c.n there.0) p.1);
+          more = let l = s.enough in not_last (2 * suc k + 2) (omega (arith, l));
+          fits = ap (value_rule a.n) s.second_value ∙ a.fits;
+        }
+
+  exchanged-right : (verb : Verb) → first_broken verb words ≡ None → first_broken verb others ≡ None
+  exchanged-right verb e = none_all (broken_pair verb others) (pairs_in others) each
+    where
+      pairs : pairs_in others ≡ pairs_in words
+      pairs = ap (λ l. l / 2) s.long
+
+      two : suc k < pairs_in words
+      two = let l = s.enough in omega (arith, l)
+
+      right : (j : ℕ) → j < pairs_in words → Right verb (values_of words j) (name_word words j) (value_word words j) (nat_le (length words) (2 * j + 2))
+      right j h = right_from verb words j (all_none (broken_pair verb words) (pairs_in words) e j h)
+
+      a : Right verb (values_of words k) (name_word words k) (value_word words k) (nat_le (length words) (2 * k + 2))
+      a = right k (omega (arith, two))
+
+      c : Right verb (values_of words (suc k)) (name_word words (suc k)) (value_word words (suc k)) (nat_le (length words) (2 * suc k + 2))
+      c = right (suc k) two
+
+      last : (j : ℕ) → nat_le (length others) (2 * j + 2) ≡ nat_le (length words) (2 * j + 2)
+      last j = ap (λ l. nat_le l (2 * j + 2)) s.long
+
+      at_front : (j : ℕ) → j < k → Right verb (values_of others j) (name_word others j) (value_word others j) (nat_le (length others) (2 * j + 2))
+      at_front j h =
+          carried verb (values_of words j) (values_of others j) (name_word words j) (name_word others j) (value_word words j) (value_word others j) _ _ (front-word j h) (front-value j h) (some-front verb a c j (omega arith)) (last j) (right j (omega (arith, two)))
+
+      at_back : (j : ℕ) → j < pairs_in words → suc k < j → Right verb (values_of others j) (name_word others j) (value_word others j) (nat_le (length others) (2 * j + 2))
+      at_back j l h =
+          carried verb (values_of words j) (values_of others j) (name_word words j) (name_word others j) (value_word words j) (value_word others j) _ _ (behind-word j h) (behind-value j h) (some-behind verb a c j h) (last j) (right j l)
+
+      go : (j : ℕ) → j < pairs_in words → (j < k) ⊎ (k ≤ j) → (suc k < j) ⊎ (j ≤ suc k) → (k < j) ⊎ (j ≤ k) → broken_pair verb others j ≡ None
+      go j l (inl low) y z = right_to verb others j (at_front j low)
+      go j l (inr x) (inl high) z = right_to verb others j (at_back j l high)
+      go j l (inr x) (inr y) (inl high) = let same : suc k ≡ j = omega (arith, y, high) in subst (λ i. broken_pair verb others i ≡ None) same (right_to verb others (suc k) (second_right verb a c))
+      go j l (inr x) (inr y) (inr z) = let same : k ≡ j = omega (arith, x, z) in subst (λ i. broken_pair verb others i ≡ None) same (right_to verb others k (first_right verb a c))
+
+      each : (j : ℕ) → j < pairs_in others → broken_pair verb others j ≡ None
+      each j h = go j (omega (arith, h, pairs)) (cases_lt j k) (cases_lt (suc k) j) (cases_lt k j)
+
+  exchanged-made : (verb : Verb) (command : Command) → first_broken verb words ≡ None → made verb (values_of words (pairs_in words)) (length words) ≡ Ok command →
+      made verb (values_of others (pairs_in others)) (length others) ≡ Ok command
+  exchanged-made verb command e f =
+      ap (λ l. made verb (values_of others (l / 2)) l) s.long ∙ made-same (values_of words (pairs_in words)) (values_of others (pairs_in words)) (values-behind (apart verb a c) (pairs_in words) two) verb (length words) command f
+    where
+      two : suc k < pairs_in words
+      two = let l = s.enough in omega (arith, l)
+
+      a : Right verb (values_of words k) (name_word words k) (value_word words k) (nat_le (length words) (2 * k + 2))
+      a = right_from verb words k (all_none (broken_pair verb words) (pairs_in words) e k (omega (arith, two)))
+
+      c : Right verb (values_of words (suc k)) (name_word words (suc k)) (value_word words (suc k)) (nat_le (length words) (2 * suc k + 2))
+      c = right_from verb words (suc k) (all_none (broken_pair verb words) (pairs_in words) e (suc k) two)
+
+  as-same : (o : Option Verb) (command : Command) → reading_as o words ≡ Ok command → reading_as o others ≡ Ok command
+  as-same None command e = cc
+  as-same (Some verb) command e = go (first_broken verb words) refl e
+    where
+      go : (o : Option WordError) → first_broken verb words ≡ o → unless o (made verb (values_of words (pairs_in words)) (length words)) ≡ Ok command → reading_as (Some verb) others ≡ Ok command
+      go (Some x) f g = cc
+      go None f g = ap (λ o. unless o (made verb (values_of others (pairs_in others)) (length others))) (exchanged-right verb f) ∙ exchanged-made verb command f g
+
+  exchange : (command : Command) → reading words ≡ Ok command → reading others ≡ Ok command
+  unfolding reading
+  exchange command e =
+      let l = s.enough in
+      let m = s.long in
+      let some : eqb (length words) 0 ≡ false = ne_eqb (length words) 0 (λ z. omega (arith, z, l)) in
+      let other : eqb (length others) 0 ≡ false = ne_eqb (length others) 0 (λ z. omega (arith, z, l, m)) in
+      let given : reading_as (verb_of (word_at words 0)) words ≡ Ok command = sym (ap (λ b. if b then Err (breaks rule.NoCommand 0) else reading_as (verb_of (word_at words 0)) words) some) ∙ e in
+      ap (λ b. if b then Err (breaks rule.NoCommand 0) else reading_as (verb_of (word_at others 0)) others) other
+      ∙ ap (λ w. reading_as (verb_of w) others) (s.front 0 (omega arith))
+      ∙ as-same (verb_of (word_at words 0)) command given
+
+pub orders_give_one : OrdersGiveOneCommand
+orders_give_one words others command as_it_was e = e
+orders_give_one words others command (exchanged front behind n v m w k odd r) e =
+    exchange (front ++ n ∷ v ∷ m ∷ w ∷ behind) (front ++ m ∷ w ∷ n ∷ v ∷ behind) k (swapped front behind n v m w k odd) command (orders_give_one words (front ++ n ∷ v ∷ m ∷ w ∷ behind) command r e)

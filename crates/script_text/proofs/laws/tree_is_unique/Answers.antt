@@ -1,0 +1,5 @@
+use Rattle.script_text.proofs.Whole.{one_script}
+use Rattle.script_text.proofs.laws.tree_is_unique.Goals as goal
+
+pub returns : goal.returns
+returns c = one_script

@@ -1,0 +1,150 @@
+// What is seen of one pedigree in what an instance shows.
+ghost use Rattle.std.specs.Prelude.{◌≡◌, [], ◌∷◌, ◌++◌, length, take};
+ghost use Rattle.std.specs.Str.{bytes_eq};
+ghost use Rattle.serial_meaning.specs.Open.{Happened, Opened, Closed, risen};
+ghost use Rattle.strand_meaning.specs.Strands.{ended_before, pedigree_of};
+ghost use Rattle.strand_machine.specs.Eyes.{ahead_of, first_look, goes_to, is_none_ahead, less, looks};
+
+use ped_path::{Ped, Pedigree};
+use serial_meaning::Event;
+
+/// What was seen of one pedigree in what an instance showed so far.
+#[derive(Clone, Copy, Debug, PartialEq, Eq)]
+pub struct Eye {
+    /// Whether an earlier strand of the instance's own had the pedigree.
+    pub came: bool,
+    /// By how many rises of its rank the instance's present strand comes to the pedigree, if it does. An instance that waits is already at
+    /// the strand after the wait.
+    pub ahead: Option<u64>,
+    /// Whether its last event stands before the pedigree, which doesn't go on from that event's.
+    pub past: bool,
+}
+
+/// The pedigree of the strand that did it.
+pub(crate) fn pedigree(event: &Event) -> &Pedigree
+    ensures { result.now ≡ pedigree_of event.now }
+{
+    match event {
+        Event::Print(at, _) => at,
+        Event::Draw(at, _) => at,
+        Event::New(at) => at,
+        Event::Spawn(at) => at,
+        Event::Sync(at) => at,
+        Event::Loop(at) => at,
+    }
+}
+
+/// Whether a pedigree begins with all ranks of another one.
+fn goes_on(at: &Pedigree, front: &Pedigree) -> bool
+    ensures { result ≡ bytes_eq (take (length front.now) at.now) front.now }
+{
+    for i in 0..front.len() {
+        let Some(wanted) = front.rank_at(i) else {
+            return false;
+        };
+        let Some(rank) = at.rank_at(i) else {
+            return false;
+        };
+        if rank != wanted {
+            return false;
+        }
+    }
+    true
+}
+
+/// Whether an event of this strand stands before a pedigree that doesn't go on from it.
+fn is_past(strand: &Pedigree, at: &Pedigree) -> bool
+    ensures { result ≡ ended_before strand.now at.now }
+{
+    strand.before(at) && !goes_on(at, strand)
+}
+
+impl Eye {
+    /// An instance with this path, of which nothing was shown yet.
+    pub fn start(path: &Ped, at: &Pedigree) -> Eye
+        ensures { result ≡ first_look path.now at.now }
+    {
+        Eye {
+            came: false,
+            ahead: first_of(path, at),
+            past: false,
+        }
+    }
+
+    /// Whether the instance's present strand has the pedigree.
+    pub fn is_here(&self) -> bool
+        ensures { result ≡ is_none_ahead self.now.ahead }
+    {
+        self.ahead == Some(0)
+    }
+
+    /// The instance comes to its next strand.
+    fn go_to(&mut self, ahead: Option<u64>)
+        ensures { self.new ≡ goes_to ahead self.old }
+    {
+        self.came |= self.is_here();
+        self.ahead = ahead;
+    }
+
+    /// The instance comes to the next rank.
+    fn rise(&mut self)
+        ensures { self.new ≡ goes_to (less self.old.ahead) self.old }
+    {
+        let ahead = match self.ahead {
+            Some(0) | None => None,
+            Some(n) => Some(n - 1),
+        };
+        self.go_to(ahead);
+    }
+
+    /// An event of the instance's own.
+    pub(crate) fn tell(&mut self, at: &Pedigree, event: &Event)
+        ensures { self.new ≡ looks at.now self.old (Happened event.now ∷ []) }
+    {
+        self.past = is_past(pedigree(event), at);
+        match event {
+            Event::Print(_, _) => {}
+            Event::Draw(_, _) => self.rise(),
+            Event::New(_) => self.rise(),
+            Event::Spawn(_) => self.rise(),
+            Event::Sync(_) => self.rise(),
+            Event::Loop(_) => self.rise(),
+        }
+    }
+
+    /// A scope with this path begins.
+    pub(crate) fn open(&mut self, at: &Pedigree, path: &Ped)
+        ensures { self.new ≡ looks at.now self.old (Opened path.now ∷ []) }
+    {
+        self.go_to(first_of(path, at));
+    }
+
+    /// The scope has ended that this strand began.
+    pub(crate) fn close(&mut self, at: &Pedigree, scope: &Pedigree)
+        ensures { self.new ≡ looks at.now self.old (Closed scope.now ∷ []) }
+    {
+        self.go_to(after(scope, at));
+    }
+}
+
+/// By how many rises the first strand on a path comes to a pedigree.
+fn first_of(path: &Ped, at: &Pedigree) -> Option<u64>
+    ensures { result ≡ ahead_of (path.now ++ 0 ∷ []) at.now }
+{
+    if at.path.same(path) {
+        Some(at.rank)
+    } else {
+        None
+    }
+}
+
+/// By how many rises the strand after this one comes to a pedigree.
+fn after(strand: &Pedigree, at: &Pedigree) -> Option<u64>
+    ensures { result ≡ ahead_of (risen strand.now) at.now }
+{
+    if strand.rank < at.rank && at.path.same(&strand.path) {
+        Some(at.rank - strand.rank - 1)
+    } else {
+        None
+    }
+}

@@ -1,0 +1,184 @@
+-- Open scopes, and what moves keep of an instance.
+use Rattle.std.proofs.Common.{◌≡◌, ℕ, zero, suc, ◌+◌, ◌<◌, ◌≤◌, ◌^◌, Bool, false, List, [], ◌∷◌, ◌++◌, Result, Ok, Err, IfOk, map, reverse, length, get_or, set, refl, sym, ap, subst, ◌∙◌, arith, if◌then◌else◌}
+use Rattle.std.proofs.lemmas.List.{append_assoc, get_or_default, reverse-append}
+use Rattle.dotmix.specs.Trails.{FitsGamma}
+use Rattle.dotmix.specs.declared.trail.Trail.{Trail}
+use Rattle.script_grammar.specs.declared.tree.Stmt.{Stmt}
+use Rattle.serial_meaning.specs.Plan.{PlanView}
+use Rattle.serial_meaning.specs.declared.event.FaultKind.{FaultKind}
+use Rattle.strand_meaning.specs.Machine.{here_of, inside_of, present}
+use Rattle.strand_values.specs.declared.halt.Halt as values
+use Rattle.strand_values.specs.declared.halt.Halt.TheVariants as halt
+use Rattle.strand_moves.specs.declared.activation.Activation.{Activation}
+use Rattle.strand_moves.specs.declared.activation.Level.{Level}
+use Rattle.strand_moves.specs.declared.running.Running.{Running}
+use Rattle.strand_moves.specs.declared.shown.Moved.{Moved}
+use Rattle.strand_moves.specs.Acts.{Costs, GoesIn, Keeps, Stands, Stays}
+use Rattle.strand_moves.specs.Running.{AreAround, IsInstance, IsStrand, activation_of, body_of, levels_of, machine_of, most_ranks, open_scopes, path_around, path_of, present_of, ranks_after, scopes_of}
+
+-- Paths
+
+around-append : (ls rs : List Level) (here : List ℕ) → path_around (ls ++ rs) here ≡ path_around rs (path_around ls here)
+around-append [] rs here = refl
+around-append (l ∷ ls) rs here = around-append ls rs l.trail.path
+
+module _ (plan : PlanView) where
+  around-rest : (ls rs : List Level) (here : List ℕ) → AreAround plan (ls ++ rs) here → AreAround plan rs (path_around ls here)
+  around-rest [] rs here h = h
+  around-rest (l ∷ ls) rs here h = around-rest ls rs l.trail.path h.2
+
+  inside-levels : (body : List Stmt) (ls rs : List Level) (here : List ℕ) → AreAround plan (ls ++ rs) here → inside_of (path_around ls here) (levels_of body ls) ≡ here
+  inside-levels body [] rs here h = refl
+  inside-levels body (l ∷ ls) rs here h = ap (λ (p : List ℕ). p ++ l.rank ∷ []) (inside-levels body ls rs l.trail.path h.2) ∙ sym h.0
+
+  present-below : (stack : List Activation) (here : List ℕ) → AreAround plan (scopes_of stack) here → present (path_around (scopes_of stack) here) (map (activation_of plan false) stack) ≡ here
+  present-below [] here h = refl
+  present-below (a ∷ stack) here h =
+      let ls = reverse a.levels.items in
+      let out = path_around ls here in
+      let path = around-append ls (scopes_of stack) here in
+      let rest = ap (λ (p : List ℕ). present p (map (activation_of plan false) stack)) path ∙ present-below stack out (around-rest ls (scopes_of stack) here h) in
+      ap (λ (p : List ℕ). inside_of p (levels_of (body_of plan a.function) ls)) rest ∙ inside-levels (body_of plan a.function) ls (scopes_of stack) here h
+
+  -- the present path is that of the machine
+  pub here-is : (i : Running) → IsInstance plan i → here_of (path_of i) (machine_of plan i) ≡ present_of i
+  here-is i h = present-below (i.top ∷ reverse i.below.items) i.trail.path h.around
+
+-- Activations whose scopes stay
+
+scopes-last : (xs : List Activation) (x : Activation) → scopes_of (xs ++ x ∷ []) ≡ scopes_of xs ++ (reverse x.levels.items ++ [])
+scopes-last [] x = refl
+scopes-last (y ∷ xs) x = ap (λ (ls : List Level). reverse y.levels.items ++ ls) (scopes-last xs x) ∙ sym (append_assoc (reverse y.levels.items) (scopes_of xs) (reverse x.levels.items ++ []))
+
+scopes-turned : (x : Activation) (xs : List Activation) → scopes_of (reverse (x ∷ xs)) ≡ scopes_of (reverse xs) ++ (reverse x.levels.items ++ [])
+scopes-turned x xs = ap (λ (stack : List Activation). scopes_of stack) (reverse-append (x ∷ []) xs) ∙ scopes-last (reverse xs) x
+
+-- one of them is changed
+pub scopes-set : (xs : List Activation) (h : ℕ) (a : Activation) → a.levels.items ≡ (get_or xs h a).levels.items → scopes_of (reverse (set xs h a)) ≡ scopes_of (reverse xs)
+scopes-set [] h a e = refl
+scopes-set (x ∷ xs) zero a e = scopes-turned a xs ∙ ap (λ (ls : List Level). scopes_of (reverse xs) ++ (reverse ls ++ [])) e ∙ sym (scopes-turned x xs)
+scopes-set (x ∷ xs) (suc h) a e =
+    scopes-turned x (set xs h a) ∙ ap (λ (ls : List Level). ls ++ (reverse x.levels.items ++ [])) (scopes-set xs h a e) ∙ sym (scopes-turned x xs)
+
+-- What stays
+
+pub same-path : (old new : Running) → Stays old new → path_of new ≡ path_of old
+same-path old new s = ap (λ (ls : List Level). path_around ls new.trail.path) s.scopes ∙ ap (λ (t : Trail). path_around (open_scopes old) t.path) s.trail
+
+going-on : (b : Bool) (n : ℕ) → b ≡ false → (if b then 0 else n) ≡ n
+going-on b n e = ap (λ (t : Bool). if t then 0 else n) e
+
+module _ (plan : PlanView) (old new : Running) (h : IsInstance plan old) (on : old.leaving ≡ false) (s : Stays old new) (less : new.rank + new.steps ≤ old.rank + old.steps) where
+  stays-few : most_ranks new < 2 ^ 32
+  stays-few =
+      let few = h.few in
+      let before = going-on old.leaving old.rank on in
+      let after = going-on new.leaving new.rank (s.leaving ∙ on) in
+      let ranks : ranks_after (open_scopes new) ≡ ranks_after (open_scopes old) = ap (λ (ls : List Level). ranks_after ls) s.scopes in
+      omega (arith, few, before, after, ranks, less)
+
+  stays-strand : IsStrand plan new
+  stays-strand =
+      let few = h.few in
+      let before = going-on old.leaving old.rank on in
+      record {
+        fits = subst (λ (t : Trail). FitsGamma plan.gamma t) (sym s.trail) h.strand.fits;
+        within = subst (λ (t : Trail). length t.path < length plan.gamma) (sym s.trail) h.strand.within;
+        few = omega (arith, few, before, less);
+      }
+
+  pub stays-instance : IsInstance plan new
+  stays-instance =
+      record {
+        strand = stays-strand;
+        few = stays-few;
+        around = subst (λ (ls : List Level). AreAround plan ls new.trail.path) (sym s.scopes) (subst (λ (t : Trail). AreAround plan (open_scopes old) t.path) (sym s.trail) h.around);
+        leaving = λ e. let no = s.leaving ∙ on in absurd (cc);
+      }
+
+  pub keeps-stays : (result : Result Moved values.Halt) → Keeps plan old new result
+  keeps-stays (Ok moved) = record { instance = stays-instance; path = same-path old new s }
+  keeps-stays (Err (halt.Fault kind)) = (record { instance = stays-instance; path = same-path old new s }, s.trail)
+  keeps-stays (Err halt.Memory) = tt
+
+pub stands-still : (old new : Running) → Stays old new → (result : Result Moved values.Halt) → Stands old new result
+stands-still old new s (Ok moved) = s
+stands-still old new s (Err (halt.Fault kind)) = s
+stands-still old new s (Err halt.Memory) = tt
+
+pub stands-same : (old : Running) (result : Result Moved values.Halt) → Stands old old result
+stands-same old result = stands-still old old (record { trail = refl; scopes = refl; leaving = refl }) result
+
+-- after the step of a statement
+module _ (plan : PlanView) (old paid : Running) (n : ℕ) (h : IsInstance plan old) (on : old.leaving ≡ false) (is-paid : paid ≡ record old { steps = n }) (less : n + 1 ≡ old.steps) where
+  paid-stays : (new : Running) → Stays paid new → Stays old new
+  paid-stays new s =
+      let P : Running → Type 0 = λ x. Stays x new in
+      let t = subst P is-paid s in
+      record { trail = t.trail; scopes = t.scopes; leaving = t.leaving }
+
+  paid-costs : (new : Running) → Costs paid new → new.rank + new.steps ≤ old.rank + old.steps
+  paid-costs new c = let P : Running → Type 0 = λ x. Costs x new in let d = subst P is-paid c in omega (arith, d, less)
+
+  pub keeps-paid : (new : Running) → Stays paid new → Costs paid new → (result : Result Moved values.Halt) → Keeps plan old new result
+  keeps-paid new s c result = keeps-stays plan old new h on (paid-stays new s) (paid-costs new c) result
+
+  pub keeps-unless : (new : Running) → Costs paid new → (result : Result Moved values.Halt) → Stands paid new result → Keeps plan old new result
+  keeps-unless new c (Ok moved) s = keeps-paid new s c (Ok moved)
+  keeps-unless new c (Err (halt.Fault kind)) s = keeps-paid new s c (Err (halt.Fault kind))
+  keeps-unless new c (Err halt.Memory) s = tt
+
+  into-instance : (new : Running) → GoesIn plan (record old { steps = n }) new → IsInstance plan new
+  into-instance new g =
+      let few = h.few in
+      let before = going-on old.leaving old.rank on in
+      let after = going-on new.leaving new.rank (g.leaving ∙ on) in
+      let ranks : ranks_after (open_scopes new) ≡ old.rank + 1 + ranks_after (open_scopes old) = ap (λ (ls : List Level). ranks_after ls) g.scopes in
+      let rank = g.rank in
+      let steps = g.steps in
+      record {
+        strand = record { fits = g.fits; within = g.within; few = omega (arith, rank) };
+        few = omega (arith, few, before, after, ranks, rank, steps, less);
+        around = subst (λ (ls : List Level). AreAround plan ls new.trail.path) (sym g.scopes) (g.path, h.strand.fits, h.around);
+        leaving = λ e. let no = g.leaving ∙ on in absurd (cc);
+      }
+
+  keeps-into-at : (new : Running) (result : Result Moved values.Halt) → IfOk result (λ _. GoesIn plan (record old { steps = n }) new) → ((kind : FaultKind) → result ≡ Err (halt.Fault kind) → new ≡ record old { steps = n }) → Keeps plan old new result
+  keeps-into-at new (Ok moved) g same = record { instance = into-instance new g; path = ap (λ (ls : List Level). path_around ls new.trail.path) g.scopes }
+  keeps-into-at new (Err (halt.Fault kind)) g same =
+      let s : Stays old new = subst (λ (x : Running). Stays old x) (sym (same kind refl)) (record { trail = refl; scopes = refl; leaving = refl }) in
+      let rank = ap (λ (x : Running). x.rank) (same kind refl) in
+      let steps = ap (λ (x : Running). x.steps) (same kind refl) in
+      keeps-stays plan old new h on s (omega (arith, rank, steps, less)) (Err (halt.Fault kind))
+  keeps-into-at new (Err halt.Memory) g same = tt
+
+  pub keeps-into : (new : Running) (result : Result Moved values.Halt) → IfOk result (λ _. GoesIn plan paid new) → ((kind : FaultKind) → result ≡ Err (halt.Fault kind) → new ≡ paid) → Keeps plan old new result
+  keeps-into new result g same =
+      let P : Running → Type 0 = λ x. IfOk result (λ _. GoesIn plan x new) in
+      keeps-into-at new result (subst P is-paid g) (λ kind e. same kind e ∙ is-paid)
+
+-- An instance of which activations were changed, but for their places
+
+module _ (i : Running) (below : List Activation) (same : scopes_of (reverse below) ≡ scopes_of (reverse i.below.items)) where
+  changed-scopes : scopes_of (i.top ∷ reverse below) ≡ open_scopes i
+  changed-scopes = ap (λ (ls : List Level). reverse i.top.levels.items ++ ls) same
+
+  pub changed-path : path_around (scopes_of (i.top ∷ reverse below)) i.trail.path ≡ path_of i
+  changed-path = ap (λ (ls : List Level). path_around ls i.trail.path) changed-scopes
+
+  pub changed-few : most_ranks i < 2 ^ 32 → (if i.leaving then 0 else i.rank) + i.steps + ranks_after (scopes_of (i.top ∷ reverse below)) < 2 ^ 32
+  changed-few few = let ranks = ap (λ (ls : List Level). ranks_after ls) changed-scopes in omega (arith, few, ranks)
+
+  pub changed-around : (plan : PlanView) → AreAround plan (open_scopes i) i.trail.path → AreAround plan (scopes_of (i.top ∷ reverse below)) i.trail.path
+  changed-around plan h = subst (λ (ls : List Level). AreAround plan ls i.trail.path) (sym changed-scopes) h
+
+-- the scopes of an activation that is replaced by one with the same
+pub scopes-replaced : (xs : List Activation) (h : ℕ) (old a : Activation) → h < length xs → old ≡ get_or xs h old → a.levels.items ≡ old.levels.items → scopes_of (reverse (set xs h a)) ≡ scopes_of (reverse xs)
+scopes-replaced xs h old a within there same =
+    scopes-set xs h a (same ∙ ap (λ (x : Activation). x.levels.items) (there ∙ get_or_default xs h old a within))
+
+-- an instance of which the cursor alone is another one
+pub keeps-over : (plan : PlanView) (old passed new : Running) (result : Result Moved values.Halt) → path_of passed ≡ path_of old → passed.trail ≡ old.trail → Keeps plan passed new result → Keeps plan old new result
+keeps-over plan old passed new (Ok moved) p t h = record { instance = h.instance; path = h.path ∙ p }
+keeps-over plan old passed new (Err (halt.Fault kind)) p t h = (record { instance = h.0.instance; path = h.0.path ∙ p }, h.1 ∙ t)
+keeps-over plan old passed new (Err halt.Memory) p t h = tt

@@ -1,0 +1,120 @@
+// Scopes: a block one level further, and the end of a block.
+
+ghost use Rattle.std.specs.Prelude.{◌≡◌, ◌<◌, ◌+◌, ◌^◌, ◌++◌, ◌∷◌, [], false, true, List, Err, IfOk, OnOk};
+ghost use Rattle.script_grammar.specs.declared.tree.Act.TheOpen as act;
+ghost use Rattle.script_grammar.specs.declared.tree.Act.{out-Act};
+ghost use Rattle.script_grammar.specs.declared.tree.Stmt.{Stmt, out-Stmt};
+ghost use Rattle.serial_meaning.specs.Plan.{PlanView};
+ghost use Rattle.serial_meaning.specs.declared.event.Event.TheVariants as event;
+ghost use Rattle.serial_meaning.specs.declared.event.FaultKind.{FaultKind};
+ghost use Rattle.strand_meaning.specs.Machine.{Told, end_move, sync_tokens};
+ghost use Rattle.strand_values.specs.declared.halt.Halt.TheVariants.{Fault};
+ghost use Rattle.strand_moves.specs.Acts.{Acts, GoesIn, Keeps};
+ghost use Rattle.strand_moves.specs.Cursors.{IsBehind, left_of};
+ghost use Rattle.strand_moves.specs.Running.{IsInstance, IsStrand, machine_of, path_of, present_of, text_of};
+ghost use Rattle.strand_moves.specs.Moves.{Makes, MovesTrail, ShowsTrail, strand_of, tokens_of};
+ghost use Rattle.strand_moves.specs.declared.shown.Shown.TheVariants as shown;
+
+use crate::activation::Level;
+use crate::children::share_path;
+use crate::cursor::Cursor;
+use crate::memory::Memory;
+use crate::running::Running;
+use crate::shown::{Moved, Shown};
+use dotmix::Trail;
+use ped_path::Pedigree;
+use serial_meaning::{FaultKind, Plan};
+use std::alloc::Global;
+use std::mem;
+use strand_values::Halt;
+
+impl Running {
+    /// A scope, after which the cursor stands: its block stands one level further, at rank 0.
+    pub(crate) fn scope(&mut self, alloc: Global, plan: &Plan) -> Result<Moved, Halt>
+        requires { IsStrand plan.now self.old }
+        ensures shows { (st : Stmt) (block : List Stmt) → IsBehind (text_of plan.now self.old.top) self.old.top.cursor st →
+            out-Act (out-Stmt st).act ≡ act.Scope block → Acts plan.now st (act.Scope block) self.old self.new result }
+        ensures child { IfOk result (MovesTrail plan.now) }
+        ensures same { (kind : FaultKind) → result ≡ Err (Fault kind) → self.new ≡ self.old }
+        ensures into { IfOk result (λ _. GoesIn plan.now self.old self.new) }
+    {
+        if self.trail.path.len() + 1 >= plan.limits.depth as u64 {
+            return Err(Halt::Fault(FaultKind::Depth));
+        }
+        let inner = self.child_trail(alloc, plan)?;
+        let path = share_path(&inner.path)?;
+        self.go_in(alloc, inner)?;
+        Ok(Moved::Went(Shown::Opened(path)))
+    }
+
+    /// Goes on at rank 0 in the block of the scope after which the cursor stands, on the path of this trail.
+    fn go_in(&mut self, alloc: Global, inner: Trail) -> Result<(), Memory>
+        ensures levels { OnOk result (self.new.top.levels.items ≡ self.old.top.levels.items ++ record { trail = self.old.trail; rank = self.old.rank; cursor = self.old.top.cursor } ∷ []) }
+        ensures starts { (body : List Stmt) → left_of body self.new.top.cursor ≡ body }
+        ensures others { self.new ≡ record self.old { trail = inner; rank = 0; top = record self.old.top { levels = self.new.top.levels; cursor = self.new.top.cursor } } }
+    {
+        let level = Level {
+            trail: mem::replace(&mut self.trail, inner),
+            rank: mem::replace(&mut self.rank, 0),
+            cursor: mem::replace(&mut self.top.cursor, Cursor::start(alloc)),
+        };
+        self.top.levels.push(level)?;
+        Ok(())
+    }
+
+    /// Where no statement is left in the innermost block: the end of a scope, or of the activation.
+    pub(crate) fn close(&mut self, alloc: Global, plan: &Plan) -> Result<Moved, Halt>
+        requires instance { IsInstance plan.now self.old }
+        requires none { left_of (text_of plan.now self.old.top) self.old.top.cursor ≡ [] }
+        ensures shows { let m = machine_of plan.now self.old in
+            Makes (end_move plan.now (path_of self.old) m m.top.levels) (strand_of (present_of self.old) m) (machine_of plan.now self.new) result }
+        ensures child { IfOk result (MovesTrail plan.now) }
+        ensures keeps { Keeps plan.now self.old self.new result }
+    {
+        if self.leaving {
+            return match self.top.levels.pop() {
+                Some(level) => Ok(Moved::Went(self.go_out(level)?)),
+                None => Ok(Moved::Went(Shown::Nothing)),
+            };
+        }
+        if !self.top.levels.as_slice().is_empty() {
+            return Ok(Moved::Went(self.join_scope()?));
+        }
+        if self.top.returning {
+            return self.end(alloc, plan);
+        }
+        self.return_step(plan)
+    }
+
+    /// The sync at the end of the innermost scope.
+    fn join_scope(&mut self) -> Result<Shown, Memory>
+        requires { self.old.rank < 2 ^ 32 }
+        ensures shown { IfOk result (λ s. tokens_of s ≡ Told (event.Sync (present_of self.old ++ self.old.rank ∷ [])) ∷ sync_tokens self.old.top.spawned) }
+        ensures passed { OnOk result (self.new ≡ record self.old { rank = self.old.rank + 1; leaving = true; top = record self.old.top { spawned = false } }) }
+        ensures child { (plan : PlanView) → IfOk result (ShowsTrail plan) }
+    {
+        let shown = self.sync()?;
+        self.leaving = true;
+        Ok(shown)
+    }
+
+    /// Goes on after this scope, at the next rank of the path around it.
+    fn go_out(&mut self, level: Level) -> Result<Shown, Memory>
+        requires { level.rank < 2 ^ 32 }
+        ensures shown { IfOk result (λ s. s ≡ shown.Closed (level.trail.path ++ level.rank ∷ [])) }
+        ensures passed { OnOk result (self.new ≡ record self.old { trail = level.trail; rank = level.rank + 1; leaving = false; top = record self.old.top { cursor = level.cursor } }) }
+    {
+        let Level {
+            trail,
+            rank,
+            cursor,
+        } = level;
+        let path = trail.path.share()?;
+        let at = Pedigree { path, rank };
+        self.trail = trail;
+        self.rank = rank + 1;
+        self.top.cursor = cursor;
+        self.leaving = false;
+        Ok(Shown::Closed(at))
+    }
+}
