@@ -55,8 +55,8 @@ fn go_on<R: Wait>(
 /// Makes turns until the hands have ended all roots, or one has failed for want of memory. After a turn that left a task waiting or answered one, all
 /// children of the newest waiting task may have answered: then it is the next one, and else it stays in the ring.
 ///
-/// Where all tasks that a hand begins are cut, it sleeps after each that it leaves waiting, and its steals wake nobody: the hands from
-/// which it steals come to the ends of their tasks faster by themselves.
+/// Where all tasks that a hand begins are cut, it sleeps after each that it leaves waiting, and neither its pushes nor its steals wake
+/// anyone: the hands from which it steals come to the ends of their tasks faster by themselves.
 fn work<R: Wait, G: Gate>(
     rt: &R,
     alloc: Global,

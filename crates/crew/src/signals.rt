@@ -21,7 +21,7 @@ pub(crate) struct Signals {
     stop: CachePadded<AtomicU64>,
     /// The answers of so many roots were put.
     ended: CachePadded<AtomicU64>,
-    /// So many hands look for a task and don't sleep.
+    /// So many hands look for a task, or cut all that they begin, and don't sleep.
     seeking: CachePadded<AtomicU64>,
     /// So many hands sleep.
     asleep: CachePadded<AtomicU64>,

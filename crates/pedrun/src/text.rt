@@ -6,10 +6,10 @@ pub const VERSION: &str = "pedrun 0.1.0\n";
 /// `pedrun --help`.
 pub const PROGRAM: &str = "\
 pedrun runs fork-join scripts on several workers. What a script does between two
-draws, new objects, spawns, syncs and parallel loops is a strand. Each strand
-has a name, its pedigree, that no schedule can change, and a random draw is a
-hash of its strand's name: a run prints the same bytes again, on any machine
-with any workers.
+draws, new objects, spawns, syncs, parallel loops, and beginnings and ends of
+scopes is a strand. Each strand has a name, its pedigree, that no schedule can
+change, and a random draw is a hash of its strand's name: a run prints the same
+bytes again, on any machine with any workers.
 
 Usage: pedrun COMMAND [--OPTION VALUE]...
        pedrun COMMAND --help
@@ -287,7 +287,7 @@ Usage: pedrun batch --seeds N,N,.. [--OPTION VALUE]... < SCRIPT
 Options, in any order, each at most once:
   --seeds N,N,..   the seeds, from 1 to 256 of them, each from 0 to
                    18446744073709551615 (must be given)
-  --depth N        how many ranks a pedigree may have, from 1 to 256
+  --depth N        how many ranks a pedigree may have, from 1 to 512
                    (default 256)
   --budget N       how many steps each instance may make, from 1 to 4294967295
                    (default 1000000)

@@ -16,10 +16,14 @@ const CHILD: &str =
 const NESTED: &str =
     "version 2\nfn f() { let x = draw; return x; } fn g(i) { print i; return i; } fn inner() { let x = call f(); scope { pfor i in 0..2 call g(i); } let y = call f(); return x + y; } fn main() { scope { call inner(); } return 0; }";
 
+// The sync waits for what was spawned before its scope.
+const SYNC_WITHIN: &str =
+    "version 2\nfn f() { return 7; } fn main() { let x = spawn f(); scope { sync; print x; } return 0; }";
+
 // The words, the script, the status, and what is printed and told.
 type Row = (&'static str, &'static str, u8, &'static str, &'static str);
 
-static RUNS: [Row; 8] = [
+static RUNS: [Row; 12] = [
     ("run --gamma 1", PRINT_THEN_DRAW, 0, "1\n210\n", ""),
     ("serial --gamma 1", PRINT_THEN_DRAW, 0, "1\n210\n", ""),
     (
@@ -40,6 +44,28 @@ static RUNS: [Row; 8] = [
     ),
     ("run --depth 1", PRINT_THEN_DRAW, 1, "fault 0: depth\n", ""),
     ("run --depth 2", CHILD, 1, "fault 0.0: depth\n", ""),
+    ("run", SYNC_WITHIN, 0, "7\n", ""),
+    (
+        "run",
+        "version 2\nfn main() { let z = 0; scope { print 1 / z; } return 0; }",
+        1,
+        "fault 0.0: division by zero\n",
+        "",
+    ),
+    (
+        "run",
+        "fn main() { scope { } return 0; }",
+        3,
+        "",
+        "script: unexpected token at byte 18\n",
+    ),
+    (
+        "fmt",
+        "version 2\nfn main(){scope{sync;}return 0;}",
+        0,
+        "version 2\nfn main() {\n  scope {\n    sync;\n  }\n  return 0;\n}\n",
+        "",
+    ),
 ];
 
 #[test]

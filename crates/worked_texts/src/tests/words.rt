@@ -56,6 +56,9 @@ fn words_are_judged_in_order(rt: HostRuntime) {
         ("stream --size 1", 3, 1),
         ("fmt --seed", 3, 1),
         ("span --show log", 3, 1),
+        ("batch --seed 1", 3, 1),
+        ("batch --gamma 1", 3, 1),
+        ("run --seeds 1", 3, 1),
         ("span --workers 1", 3, 1),
         ("replay --at 0 --show log", 3, 3),
         ("run --seed 1 --seed 2", 4, 3),
@@ -100,6 +103,11 @@ fn words_are_judged_in_order(rt: HostRuntime) {
         ("run --gamma 18446744073709551616,x", 6, 2),
         ("run --gamma 1,18446744073709551616 x", 7, 2),
         ("sim --number 18446744073709551616", 7, 2),
+        ("batch --seeds 1,,2", 6, 2),
+        ("batch --seeds 18446744073709551616,x", 6, 2),
+        ("batch --seeds 0,18446744073709551616", 7, 2),
+        ("batch", 8, 1),
+        ("batch --workers 2", 8, 3),
         ("replay --at 01", 6, 2),
         ("replay --at ", 6, 2),
         ("replay --at 1.", 6, 2),
@@ -313,6 +321,42 @@ fn a_stream_has_a_count_that_its_ranks_are_enough_for(rt: HostRuntime) -> Result
         }
         _other => assert!(rt; false, "not stream"),
     }
+    Ok(())
+}
+
+// A batch of so many seeds, all but the last one 7.
+fn batch_of(alloc: Global, seeds: u32) -> Result<String, Fail> {
+    let mut line = String::from_str(alloc, "batch --workers 2 --seeds ")?;
+    for _ in 1..seeds {
+        line.push_str("7,")?;
+    }
+    line.push_str("18446744073709551615")?;
+    Ok(line)
+}
+
+#[test]
+fn a_batch_has_at_most_256_seeds(rt: HostRuntime) -> Result<(), Fail> {
+    let alloc = rt.alloc();
+    let line = batch_of(alloc, 256)?;
+    match command_of(alloc, line.as_str())? {
+        Command::Batch {
+            seeds,
+            limits,
+            show,
+            rounds,
+            workers,
+        } => {
+            assert_eq!(rt; seeds.0.len(), 256);
+            assert_eq!(rt; seeds.0.first(), Some(&7));
+            assert_eq!(rt; seeds.0.last(), Some(&18_446_744_073_709_551_615));
+            assert_eq!(rt; (limits.depth, limits.budget), (256, 1_000_000));
+            assert!(rt; show == Show::Plain);
+            assert_eq!(rt; (rounds, workers), (4, 2));
+        }
+        _other => assert!(rt; false, "not batch"),
+    }
+    let line = batch_of(alloc, 257)?;
+    assert_eq!(rt; refusal(alloc, line.as_str()), (7, 4));
     Ok(())
 }
 
