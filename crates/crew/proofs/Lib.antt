@@ -1,3 +1,4 @@
+pub mod Cutting
 pub mod Dealing
 pub mod Ending
 pub mod Looking

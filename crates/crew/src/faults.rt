@@ -1,5 +1,5 @@
 // The faults that the hands of a crew met, by which they cut tasks.
-ghost use Rattle.std.specs.Prelude.{◌≡◌, Contains, IfSome, IsTrue};
+ghost use Rattle.std.specs.Prelude.{◌≡◌, ◌<◌, Contains, IfSome, IsTrue, length};
 ghost use Rattle.std.specs.Arc.{arc_value};
 ghost use Rattle.ped_path.specs.Path.{IsBefore};
 ghost use Rattle.serial_meaning.specs.Answer.{IsCut};
@@ -12,18 +12,21 @@ use std::alloc::Global;
 use std::sync::Arc;
 use strand_machine::Task;
 
-/// How many faults the hands of a crew tell one another at most. Each stands before the one before it in the list, so that there are
-/// as many only where faults are met from the right to the left. Once they are spent, a hand cuts by the least that it knows.
-const CELLS: usize = 256;
+/// How many faults the hands of a crew tell one another at most. Of the faults of one plan each stands before the one before it in the
+/// list, so that there are many only where faults are met from the right to the left. Once they are spent, a hand cuts by those that it
+/// knows.
+const CELLS: usize = 4096;
 
 /// What a hand knows of the faults that the hands of its crew met. All share one list of cells, which are set in order, each by a fault
-/// that stands before that of the cell before it.
+/// that stands before all those of the same plan in the cells before it.
 #[derive(Drop)]
 pub(crate) struct Faults {
     cells: Arc<Vec<OnceBox<Known>>>,
     /// How many of them the hand has read.
     read: usize,
-    /// A fault of its own that stands before those of all cells, where no cell was left for it.
+    /// Of each plan of which one is known, the place of the cell with its least fault.
+    least: Vec<usize>,
+    /// A fault of its own that stands before those of its plan in all cells, where no cell was left for it.
     own: Option<Box<Known>>,
     /// Whether the last task that it might have cut was cut.
     cuts: bool,
@@ -49,11 +52,46 @@ fn is_news(front: Option<&Known>, fault: &Fault) -> bool
     }
 }
 
-/// Sets a cell by a fault that stands before that of the cell before it. It comes back where the cell was set before.
+/// Sets a cell by a fault that stands before the least one of its plan. It comes back where the cell was set before.
 fn set(cell: &OnceBox<Known>, front: Option<&Known>, known: Box<Known>) -> Option<Box<Known>>
     requires { IfSome front (λ f. IsBefore known.value.fault.at f.now.fault.at) }
 {
     cell.set(known).err()
+}
+
+/// The first coefficient of a plan.
+fn first(plan: &Plan) -> Option<u64> {
+    if plan.gamma.len() == 0 {
+        return None;
+    }
+    Some(plan.gamma.coeff(1))
+}
+
+/// Whether the fault is one of this plan. The first coefficient mostly tells it from the other plans of a crew, without a look at the
+/// script.
+fn is_of(known: &Known, plan: &Plan) -> bool
+    ensures { IsTrue result → known.now.plan ≡ plan.now }
+{
+    if let (Some(x), Some(y)) = (first(&known.plan), first(plan)) {
+        if x != y {
+            return false;
+        }
+    }
+    known.plan.same(plan)
+}
+
+/// The fault, where the task may be cut by it.
+fn cutting(known: &Known, task: &Task) -> Option<Fault>
+    ensures { IfSome result (λ by. IsCut task.now.task.plan task.now.task.origin by) }
+{
+    if !task.may_cut(&known.fault) {
+        return None;
+    }
+    if !is_of(known, task.plan()) {
+        return None;
+    }
+    let by = known.fault.share().ok()?;
+    Some(by)
 }
 
 impl Faults {
@@ -63,21 +101,22 @@ impl Faults {
         for _ in 0..CELLS {
             cells.push(OnceBox::new(alloc))?;
         }
-        Ok(Faults::of(Arc::new(alloc, cells)?))
+        Ok(Faults::of(alloc, Arc::new(alloc, cells)?))
     }
 
-    fn of(cells: Arc<Vec<OnceBox<Known>>>) -> Faults {
+    fn of(alloc: Global, cells: Arc<Vec<OnceBox<Known>>>) -> Faults {
         Faults {
             cells,
             read: 0,
+            least: Vec::new(alloc),
             own: None,
             cuts: false,
         }
     }
 
     /// The same for another hand of the crew.
-    pub fn share(&self) -> Result<Faults, Memory> {
-        Ok(Faults::of(Arc::try_clone(&self.cells)?))
+    pub fn share(&self, alloc: Global) -> Result<Faults, Memory> {
+        Ok(Faults::of(alloc, Arc::try_clone(&self.cells)?))
     }
 
     /// Whether the last task that the hand might have cut was cut.
@@ -85,53 +124,81 @@ impl Faults {
         self.cuts
     }
 
-    /// The least one that the hand knows.
-    fn least(&self) -> Option<&Known> {
-        if let Some(own) = &self.own {
-            return Some(own);
-        }
-        let last = self.read.checked_sub(1)?;
-        self.cells.get(last)?.get()
+    /// The fault of a cell, if it was set.
+    fn at(&self, place: usize) -> Option<&Known> {
+        self.cells.get(place)?.get()
     }
 
-    /// Reads on.
-    fn read_on(&mut self) {
-        for i in self.read..self.cells.len() {
-            match self.cells.get(i) {
-                Some(cell) if cell.get().is_some() => self.read = i + 1,
-                _ => return,
+    /// Where the least fault of a plan was noted, if one is known.
+    fn noted(&self, plan: &Plan) -> Option<usize>
+        ensures { IfSome result (λ i. i < length self.now.least.items) }
+    {
+        for (i, place) in self.least.iter().enumerate() {
+            if let Some(known) = self.at(*place) {
+                if is_of(known, plan) {
+                    return Some(i);
+                }
             }
         }
+        None
     }
 
-    /// Sets the next cell by this fault where it stands before all that are known.
-    fn offer(&mut self, known: Box<Known>) {
-        let mut known = known;
+    /// The least fault of a plan that the hand knows.
+    fn least(&self, plan: &Plan) -> Option<&Known> {
+        if let Some(own) = &self.own {
+            if is_of(own, plan) {
+                return Some(own);
+            }
+        }
+        let noted = self.noted(plan)?;
+        self.at(*self.least.get(noted)?)
+    }
+
+    /// Reads on. Where no memory is found for one plan more, nothing of that plan is cut.
+    fn read_on(&mut self) {
         for i in self.read..self.cells.len() {
-            let Some(cell) = self.cells.get(i) else {
+            let Some(known) = self.at(i) else {
                 return;
             };
-            let front = self.least();
+            let noted = self.noted(&known.plan);
+            match noted {
+                Some(n) => self.least[n] = i,
+                None => {
+                    let _noted = self.least.push(i);
+                }
+            }
+            self.read = i + 1;
+        }
+    }
+
+    /// Sets the next cell by this fault where it stands before all that are known of its plan.
+    fn offer(&mut self, known: Box<Known>) {
+        let mut known = known;
+        for _ in 0..CELLS {
+            self.read_on();
+            let front = self.least(&known.plan);
             if !is_news(front, &known.fault) {
                 return;
             }
+            let Some(cell) = self.cells.get(self.read) else {
+                break;
+            };
             let Some(back) = set(cell, front, known) else {
                 return;
             };
             known = back;
-            self.read = i + 1;
         }
-        if is_news(self.least(), &known.fault) {
+        if is_news(self.least(&known.plan), &known.fault) {
             self.own = Some(known);
         }
     }
 
-    /// One more fault was met. It is for all hands where it stands before each that is known.
+    /// One more fault was met. It is for all hands where it stands before each that is known of its plan.
     pub fn tell(&mut self, alloc: Global, plan: &Arc<Plan>, fault: &Fault)
         requires { Contains (faults (arc_value plan.now)) fault.now }
     {
         self.read_on();
-        if !is_news(self.least(), fault) {
+        if !is_news(self.least(plan), fault) {
             return;
         }
         if let Some(known) = known(alloc, plan, fault) {
@@ -139,18 +206,23 @@ impl Faults {
         }
     }
 
-    /// The least fault that the hand knows, where it may cut the task.
+    /// The fault that the hand knows by which it may cut the task, if there is one.
     fn cutting(&self, task: &Task) -> Option<Fault>
         ensures { IfSome result (λ by. IsCut task.now.task.plan task.now.task.origin by) }
     {
-        let known = self.least()?;
-        if !task.may_cut(&known.fault) {
-            return None;
+        if let Some(own) = &self.own {
+            if let Some(by) = cutting(own, task) {
+                return Some(by);
+            }
         }
-        if !known.plan.same(task.plan()) {
-            return None;
+        for place in &self.least {
+            if let Some(known) = self.at(*place) {
+                if let Some(by) = cutting(known, task) {
+                    return Some(by);
+                }
+            }
         }
-        known.fault.share().ok()
+        None
     }
 
     /// The fault by which the task is cut, if the hand knows one that may cut it.

@@ -57,7 +57,7 @@ fn new_hands(alloc: Global, workers: u32) -> Result<Vec<Hand>, Memory>
     let faults = Faults::new(alloc)?;
     let mut hands = Vec::new(alloc);
     for _ in 0..workers {
-        hands.push(Hand::new(alloc, faults.share()?)?)?;
+        hands.push(Hand::new(alloc, faults.share(alloc)?)?)?;
     }
     Ok(hands)
 }

@@ -11,7 +11,7 @@ use Rattle.serial_meaning.specs.declared.event.Event.{Event}
 use Rattle.serial_meaning.specs.declared.origin.Origin.{Origin}
 use Rattle.serial_meaning.specs.declared.origin.Origin.TheVariants.{Instance, Loop}
 use Rattle.serial_meaning.specs.declared.answer.Outcome.{Outcome}
-use Rattle.strand_meaning.specs.Machine.{Token, Told, Handed, Syncs, Loops, Reached, Stands, Gives, move}
+use Rattle.strand_meaning.specs.Machine.{Token, Opens, Closes, Told, Handed, Syncs, Loops, Reached, Stands, Gives, move}
 use Rattle.strand_meaning.specs.Pieces.{Part, Pieces, behind_last, tell, tell_at, hand, with_tokens}
 use Rattle.strand_meaning.specs.Task.{Stage, Goes, AtSync, AtLoop, Ended, Work, Splits, Runs, Over, Task, own_instance, Step, Passes, Stops, Stop, Spawn, Wait, End, IsNext, Now, Later, stage_after, child_in, stops_at, passing, moved, ends_unless, faults_behind, gave, stage_step, first_half, split_step, over_step, work_step, step}
 use Rattle.strand_meaning.specs.Sound.{IsEndOf, IsSoundWork, IsTask}
@@ -19,7 +19,7 @@ use Rattle.strand_meaning.specs.Laws.{IsOf, IsSoundStep}
 use Rattle.strand_meaning.proofs.Ends.{steps_are_sound}
 use Rattle.strand_meaning.proofs.Stops.{KeepsStep, step-keeps}
 use Rattle.sched_meaning.specs.Core.{awaited}
-use Rattle.sched_meaning.proofs.Shows.{children, IsDeeper, AtMostOne, MoveHands, move_hands}
+use Rattle.sched_meaning.proofs.Shows.{children, IsDeeper, AtMostOne, MoveHands, strand_at, move_hands}
 
 abbrev pub children_in : List Part → List Origin
 children_in ps = map (λ p. p.child) ps
@@ -38,6 +38,8 @@ child-tell (p ∷ ps) e pieces h = child-behind p ps e ∙ ap children_in (sym h
 
 child-tokens : (ts : List Token) (pieces : Pieces) → children_in (with_tokens ts pieces).handed ≡ children_in pieces.handed ++ children ts
 child-tokens [] pieces = sym (append-nil (children_in pieces.handed))
+child-tokens (Opens j ∷ ts) pieces = child-tokens ts pieces
+child-tokens (Closes j ∷ ts) pieces = child-tokens ts pieces
 child-tokens (Told e ∷ ts) pieces = child-tokens ts (tell e pieces) ∙ ap (λ l. l ++ children ts) (child-tell pieces.handed e pieces refl)
 child-tokens (Handed o place ∷ ts) pieces =
     child-tokens ts (hand o place pieces) ∙ ap (λ l. l ++ children ts) (child-append pieces.handed _) ∙ append_assoc (children_in pieces.handed) (o ∷ []) (children ts)
@@ -50,6 +52,8 @@ first (o ∷ os) = Some o
 
 pub child-first : (ts : List Token) → child_in ts ≡ first (children ts)
 child-first [] = refl
+child-first (Opens j ∷ ts) = child-first ts
+child-first (Closes j ∷ ts) = child-first ts
 child-first (Told e ∷ ts) = child-first ts
 child-first (Handed o place ∷ ts) = refl
 child-first (Syncs ∷ ts) = child-first ts
@@ -74,26 +78,26 @@ own-longer : (o : Origin) → length (path_of o) ≤ length (path_of (own_instan
 own-longer (Instance function args path) = omega arith
 own-longer (Loop function rest first path range) = let e : length (path ++ (range.hi - 1) ∷ []) ≡ length path + length ((range.hi - 1) ∷ []) = length-append path ((range.hi - 1) ∷ []) in omega arith
 
-deeper-smaller : (plan : PlanView) (o c : Origin) (k : ℕ) → IsDeeper plan (path_of (own_instance o)) k c → IsSmaller plan o c
-deeper-smaller plan o c k d = let h : length (path_of o) ≤ length (path_of (own_instance o)) = own-longer o in inl (omega (arith, d.longer, d.fits))
+deeper-smaller : (plan : PlanView) (o c : Origin) (at : List ℕ) → IsDeeper plan (path_of (own_instance o)) at c → IsSmaller plan o c
+deeper-smaller plan o c at d = let h : length (path_of o) ≤ length (path_of (own_instance o)) = own-longer o in inl (omega (arith, d.longer, d.fits))
 
 module _ (t : Task) where
   hands-ends : (f : Option Fault) (ended : Outcome) → HandsStep t (ends_unless f t ended)
   hands-ends None ended = tt
   hands-ends (Some f) ended = tt
 
-  hands-at : (n : ℕ) (os : List Origin) (o : Option Origin) (next : Task) → o ≡ first os → awaited next ≡ awaited t ++ os → AtMostOne t.plan (path_of (own_instance t.origin)) n os → HandsStep t (stops_at o next)
-  hands-at n [] None next e h k = h ∙ append-nil (awaited t)
-  hands-at n [] (Some o) next e h k = absurd (cc)
-  hands-at n (c ∷ []) None next e h k = absurd (cc)
-  hands-at n (c ∷ []) (Some o) next e h k =
-      let same : c ≡ o = cc in (h ∙ ap (λ d. awaited t ++ d ∷ []) same, subst (λ d. IsSmaller t.plan t.origin d) same (deeper-smaller t.plan t.origin c n k))
-  hands-at n (c ∷ d ∷ os) o next e h k = absurd k
+  hands-at : (at : List ℕ) (os : List Origin) (o : Option Origin) (next : Task) → o ≡ first os → awaited next ≡ awaited t ++ os → AtMostOne t.plan (path_of (own_instance t.origin)) at os → HandsStep t (stops_at o next)
+  hands-at at [] None next e h k = h ∙ append-nil (awaited t)
+  hands-at at [] (Some o) next e h k = absurd (cc)
+  hands-at at (c ∷ []) None next e h k = absurd (cc)
+  hands-at at (c ∷ []) (Some o) next e h k =
+      let same : c ≡ o = cc in (h ∙ ap (λ d. awaited t ++ d ∷ []) same, subst (λ d. IsSmaller t.plan t.origin d) same (deeper-smaller t.plan t.origin c at k))
+  hands-at at (c ∷ d ∷ os) o next e h k = absurd k
 
-  hands-moved : (n : ℕ) (ts : List Token) (e : Result Reached Fault) → MoveHands t.plan (path_of (own_instance t.origin)) n (children ts) e → HandsStep t (moved t ts e)
-  hands-moved n ts (Ok (Stands m)) h = hands-at n (children ts) (child_in ts) (passing t ts (Runs (stage_after ts m))) (child-first ts) (child-tokens ts t.pieces) h
-  hands-moved n ts (Ok (Gives v)) h = child-tokens ts t.pieces ∙ ap (λ os. awaited t ++ os) h ∙ append-nil (awaited t)
-  hands-moved n ts (Err f) h = child-tokens ts t.pieces ∙ ap (λ os. awaited t ++ os) h ∙ append-nil (awaited t)
+  hands-moved : (at : List ℕ) (ts : List Token) (e : Result Reached Fault) → MoveHands t.plan (path_of (own_instance t.origin)) at (children ts) e → HandsStep t (moved t ts e)
+  hands-moved at ts (Ok (Stands m)) h = hands-at at (children ts) (child_in ts) (passing t ts (Runs (stage_after ts m))) (child-first ts) (child-tokens ts t.pieces) h
+  hands-moved at ts (Ok (Gives v)) h = child-tokens ts t.pieces ∙ ap (λ os. awaited t ++ os) h ∙ append-nil (awaited t)
+  hands-moved at ts (Err f) h = child-tokens ts t.pieces ∙ ap (λ os. awaited t ++ os) h ∙ append-nil (awaited t)
 
   hands-faults : (ps : List Part) (f : Fault) → HandsStep t (faults_behind ps t f)
   hands-faults [] f = hands-ends t.pieces.fault _
@@ -105,7 +109,7 @@ module _ (t : Task) where
 
   hands-stage : (stage : Stage) → HandsStep t (stage_step t stage)
   hands-stage (Goes m) =
-      let path = path_of (own_instance t.origin) in let r = move t.plan path m in hands-moved m.rank r.items r.ending (move_hands t.plan path m.rank m refl)
+      let path = path_of (own_instance t.origin) in let r = move t.plan path m in hands-moved (strand_at path m) r.items r.ending (move_hands t.plan path m)
   hands-stage (AtSync m) = refl
   hands-stage (AtLoop m) = refl
   hands-stage (Ended (Ok v)) = hands-gave t.origin v

@@ -13,6 +13,7 @@ pub mod Lively
 pub mod Loads
 pub mod Once
 pub mod OneStep
+pub mod Presents
 pub mod Regions
 pub mod SameOrigin
 pub mod Shows

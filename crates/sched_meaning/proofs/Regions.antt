@@ -2,6 +2,7 @@
 -- the rest of its parent may.
 use Rattle.std.proofs.Common.{◌≡◌, ℕ, zero, suc, ◌+◌, ◌-◌, ◌<◌, ◌≤◌, ◌⊎◌, inl, inr, Bool, true, false, nat_eq, List, [], ◌∷◌, ◌++◌, Option, Some, None, Result, Ok, Err, length, append_assoc, refl, sym, ap, ◌∙◌, subst, arith, if◌then◌else◌}
 use Rattle.loop_range.specs.Range.{Range, lower_half, upper_half}
+use Rattle.script_grammar.specs.declared.tree.Name.{Name}
 use Rattle.serial_meaning.specs.Plan.{PlanView}
 use Rattle.serial_meaning.specs.Eval.{Evaluation, path_of, eval}
 use Rattle.serial_meaning.specs.Open.{Own, Joined}
@@ -10,27 +11,17 @@ use Rattle.serial_meaning.specs.declared.event.Fault.{Fault}
 use Rattle.serial_meaning.specs.declared.origin.Origin.{Origin}
 use Rattle.serial_meaning.specs.declared.origin.Origin.TheVariants.{Instance, Loop}
 use Rattle.serial_meaning.specs.declared.answer.Outcome.{Outcome}
-use Rattle.strand_meaning.specs.Machine.{Place, Spawned, Looped, Half, Activation, Token, Told, Handed, Syncs, Loops, Machine, Reached, Stands, Gives, begun, move}
+use Rattle.strand_meaning.specs.Machine.{Place, Spawned, Looped, Half, Level, Activation, Token, Opens, Closes, Told, Handed, Syncs, Loops, Machine, Reached, Stands, Gives, inside_of, present, here_of, begun, move}
 use Rattle.strand_meaning.specs.Pieces.{Part, hand}
 use Rattle.strand_meaning.specs.Task.{Stage, Goes, AtSync, AtLoop, Ended, Work, Splits, Runs, Over, Task, start, begun_stage, own_instance, begins_last, Step, Passes, Stops, Stop, Spawn, Wait, End, IsNext, Now, Later, stage_after, child_in, stops_at, passing, moved, waits, ends_unless, faults_behind, gave, stage_step, first_half, split_step, over_step, work_step, step, changed, changed_at, answered, takes, joins, resumed, takes_all, resumed_work}
 use Rattle.strand_meaning.specs.Rest.{evaluations}
 use Rattle.strand_meaning.specs.Sound.{IsEndOf, IsSoundWork, IsTask}
 use Rattle.strand_meaning.specs.Laws.{IsSoundStep}
 use Rattle.strand_meaning.proofs.Ends.{steps_are_sound}
-use Rattle.strand_meaning.proofs.Ranks.{Shape, ShowsNothing, Tells, Spawns, WaitsAtSync, WaitsAtLoop, tokens_raise, MoveEnd, move-ranks}
 use Rattle.sched_meaning.specs.Core.{gone_on}
-use Rattle.sched_meaning.proofs.Shows.{children, AtMostOne, MoveHands, move_hands}
+use Rattle.sched_meaning.proofs.Presents.{longer, same-rank, From, AfterLevels, AfterScopes, OnwardAt, Onward, onward-lower, onward-apart, onward-below, handed, child-handed, MovesOn, moves-on}
+use Rattle.sched_meaning.proofs.Shows.{children, AtMostOne, MoveHands, strand_at, move_hands}
 use Rattle.sched_meaning.proofs.Handed.{first, child-first}
-
--- Paths
-
-longer : (p more : List ℕ) (k : ℕ) → p ≡ p ++ k ∷ more → ⊥
-longer [] more k h = absurd (cc)
-longer (x ∷ p) more k h = longer p more k (cc)
-
-same-rank : (p xs ys : List ℕ) (j k : ℕ) → p ++ j ∷ xs ≡ p ++ k ∷ ys → j ≡ k
-same-rank [] xs ys j k h = cc
-same-rank (x ∷ p) xs ys j k h = same-rank p xs ys j k (cc)
 
 -- Regions
 
@@ -46,13 +37,6 @@ pub record IsShorter (p : List ℕ) (left : Range) (q : Origin) : Type 0 where
   high : (range_of q).hi ≤ left.hi
   shorter : (range_of q).hi - (range_of q).lo < left.hi - left.lo
 
--- below this path, by a rank from k on
-pub record From (w : List ℕ) (k : ℕ) (q : Origin) : Type 0 where
-  rank : ℕ
-  more : List ℕ
-  path_is : path_of q ≡ w ++ rank ∷ more
-  reaches : k ≤ rank
-
 -- below this path, by one of these ranks
 pub record Between (p : List ℕ) (left : Range) (q : Origin) : Type 0 where
   rank : ℕ
@@ -65,9 +49,9 @@ abbrev pub SplitRegion : List ℕ → Range → Origin → Type 0
 SplitRegion p left q = IsShorter p left q ⊎ Between p left q
 
 abbrev pub StageRegion : List ℕ → Stage → Origin → Type 0
-StageRegion w (Goes m) q = From w m.rank q
-StageRegion w (AtSync m) q = From w m.rank q
-StageRegion w (AtLoop m) q = From w m.rank q
+StageRegion w (Goes m) q = Onward w m m.rank q
+StageRegion w (AtSync m) q = Onward w m m.rank q
+StageRegion w (AtLoop m) q = Onward w m m.rank q
 StageRegion w (Ended e) q = ⊥
 
 abbrev pub WorkRegion : Origin → Work → Origin → Type 0
@@ -78,15 +62,9 @@ WorkRegion o (Over v gone_on) q = ⊥
 abbrev pub Region : Task → Origin → Type 0
 Region t q = WorkRegion t.origin t.work q
 
-from-lower : (w : List ℕ) (j k : ℕ) (q : Origin) → j ≤ k → From w k q → From w j q
-from-lower w j k q h f = record { rank = f.rank; more = f.more; path_is = f.path_is; reaches = lower f.reaches }
-  where
-    lower : k ≤ f.rank → j ≤ f.rank
-    lower g = omega arith
-
 -- what a begun instance may begin is below its path
 begun-below : (w : List ℕ) (q : Origin) (r : Reached) → StageRegion w (begun_stage r) q → From w 0 q
-begun-below w q (Stands m) f = from-lower w 0 m.rank q (omega arith) f
+begun-below w q (Stands m) x = onward-below w m m.rank q x
 begun-below w q (Gives v) f = absurd f
 
 -- what a begun origin may begin: a shorter part of the same loop, or what is below its path
@@ -119,44 +97,36 @@ StepRegion o work (Stops (End out ended)) = Unit {0}
 
 -- Moves
 
-shape-raises : (j : List ℕ) (ts : List Token) (o : Origin) → Shape j ts → child_in ts ≡ Some o → 1 ≤ tokens_raise ts
-shape-raises j _ o ShowsNothing h = absurd (cc)
-shape-raises j _ o (Tells e p) h = absurd (cc)
-shape-raises j _ o (Spawns e c place p r) h = omega arith
-shape-raises j _ o (WaitsAtSync e p r) h = absurd (cc)
-shape-raises j _ o (WaitsAtLoop e c place p r) h = omega arith
-
-after-region : (w : List ℕ) (ts : List Token) (m : Machine) (q : Origin) → StageRegion w (stage_after ts m) q → From w m.rank q
+after-region : (w : List ℕ) (ts : List Token) (m : Machine) (q : Origin) → StageRegion w (stage_after ts m) q → Onward w m m.rank q
 after-region w [] m q h = h
+after-region w (Opens j ∷ ts) m q h = after-region w ts m q h
+after-region w (Closes j ∷ ts) m q h = after-region w ts m q h
 after-region w (Told e ∷ ts) m q h = after-region w ts m q h
 after-region w (Handed o place ∷ ts) m q h = after-region w ts m q h
 after-region w (Syncs ∷ ts) m q h = h
 after-region w (Loops ∷ ts) m q h = h
 
-child-named : (plan : PlanView) (w : List ℕ) (k : ℕ) (os : List Origin) (o : Origin) → Some o ≡ first os → AtMostOne plan w k os → path_of o ≡ w ++ k ∷ []
-child-named plan w k [] o e h = absurd (cc)
-child-named plan w k (c ∷ []) o e h = let same : c ≡ o = cc in subst (λ d. path_of d ≡ w ++ k ∷ []) same h.named
-child-named plan w k (c ∷ d ∷ os) o e h = absurd h
+child-named : (plan : PlanView) (w at : List ℕ) (os : List Origin) (o : Origin) → Some o ≡ first os → AtMostOne plan w at os → path_of o ≡ at
+child-named plan w at [] o e h = absurd (cc)
+child-named plan w at (c ∷ []) o e h = let same : c ≡ o = cc in subst (λ d. path_of d ≡ at) same h.named
+child-named plan w at (c ∷ d ∷ os) o e h = absurd h
 
--- a child named by this rank, and a rest that is behind it
-module _ (w : List ℕ) (k : ℕ) (plan : PlanView) (c : Origin) (named : path_of c ≡ w ++ k ∷ []) where
+-- a child of the strand at this rank of a present path
+module _ (here : List ℕ) (k : ℕ) (plan : PlanView) (c : Origin) (named : path_of c ≡ here ++ k ∷ []) where
   -- the paths of what is below the child go on from its rank
   record Through (q : Origin) : Type 0 where
     more : List ℕ
-    path_is : path_of q ≡ w ++ k ∷ more
+    path_is : path_of q ≡ here ++ k ∷ more
 
   through : (q : Origin) → Region (start plan c) q → Through q
   through q h = from (start-below plan c q h)
     where
       from : IsShorter (path_of c) (range_of c) q ⊎ From (path_of c) 0 q → Through q
       from (inl s) = record { more = []; path_is = s.path_is ∙ named }
-      from (inr f) = record { more = f.rank ∷ f.more; path_is = f.path_is ∙ ap (λ p. p ++ f.rank ∷ f.more) named ∙ append_assoc w (k ∷ []) (f.rank ∷ f.more) }
+      from (inr f) = record { more = f.rank ∷ f.more; path_is = f.path_is ∙ ap (λ p. p ++ f.rank ∷ f.more) named ∙ append_assoc here (k ∷ []) (f.rank ∷ f.more) }
 
-  through-from : (q : Origin) → Through q → From w k q
+  through-from : (q : Origin) → Through q → From here k q
   through-from q t = record { rank = k; more = t.more; path_is = t.path_is; reaches = omega arith }
-
-  never-later : (q : Origin) → Through q → From w (suc k) q → ⊥
-  never-later q t f = let e : k ≡ f.rank = same-rank w t.more f.more k f.rank (sym t.path_is ∙ f.path_is) in absurd (omega (arith, f.reaches))
 
   own-through : Through c
   own-through = record { more = []; path_is = named }
@@ -184,33 +154,36 @@ module _ (t : Task) (is : IsTask t) where
     abbrev w : List ℕ
     w = path_of (own_instance t.origin)
 
-    region-at : (ts : List Token) (k : Machine) (c : Option Origin) → child_in ts ≡ c → k.rank ≡ m.rank + tokens_raise ts → Shape (w ++ m.rank ∷ []) ts → AtMostOne t.plan w m.rank (children ts) →
+    region-at : (ts : List Token) (k : Machine) (c : Option Origin) → child_in ts ≡ c → ((q : Origin) → Onward w k k.rank q → Onward w m (m.rank + handed ts) q) → AtMostOne t.plan w (strand_at w m) (children ts) →
         StepRegion t.origin (Runs (Goes m)) (stops_at c (passing t ts (Runs (stage_after ts k))))
-    region-at ts k None e up shape hands = λ q h. from-lower w m.rank k.rank q (omega arith) (after-region w ts k q h)
-    region-at ts k (Some c) e up shape hands = record {
-      own = through-from w m.rank t.plan c named c (own-through w m.rank t.plan c named);
-      below = λ q h. through-from w m.rank t.plan c named q (through w m.rank t.plan c named q h);
-      later = λ q h. from-lower w m.rank k.rank q (omega arith) (after-region w ts k q h);
-      not_later = λ h. never-later w m.rank t.plan c named c (own-through w m.rank t.plan c named) (behind c h);
-      apart = λ q h g. never-later w m.rank t.plan c named q (through w m.rank t.plan c named q h) (behind q g);
+    region-at ts k None e up hands = λ q h. onward-lower w m.top.levels m.below m.rank (m.rank + handed ts) q (omega arith) (up q (after-region w ts k q h))
+    region-at ts k (Some c) e up hands = record {
+      own = inl (through-from here m.rank t.plan c named c (own-through here m.rank t.plan c named));
+      below = λ q h. inl (through-from here m.rank t.plan c named q (through here m.rank t.plan c named q h));
+      later = λ q h. onward-lower w m.top.levels m.below m.rank (m.rank + handed ts) q (omega arith) (up q (after-region w ts k q h));
+      not_later = λ h. onward-apart w m m.rank [] c named (after c h);
+      apart = λ q h g. (let x = through here m.rank t.plan c named q h in onward-apart w m m.rank x.more q x.path_is (after q g));
     }
       where
-        named : path_of c ≡ w ++ m.rank ∷ []
-        named = child-named t.plan w m.rank (children ts) c (sym e ∙ child-first ts) hands
+        here : List ℕ
+        here = here_of w m
 
-        behind : (q : Origin) → StageRegion w (stage_after ts k) q → From w (suc m.rank) q
-        behind q h = let r : 1 ≤ tokens_raise ts = shape-raises (w ++ m.rank ∷ []) ts c shape e in from-lower w (suc m.rank) k.rank q (omega arith) (after-region w ts k q h)
+        named : path_of c ≡ here_of w m ++ m.rank ∷ []
+        named = child-named t.plan w (strand_at w m) (children ts) c (sym e ∙ child-first ts) hands
+
+        after : (q : Origin) → StageRegion w (stage_after ts k) q → Onward w m (suc m.rank) q
+        after q h = let r : 1 ≤ handed ts = child-handed ts c e in onward-lower w m.top.levels m.below (suc m.rank) (m.rank + handed ts) q (omega arith) (up q (after-region w ts k q h))
 
   region-stage : (stage : Stage) → t.work ≡ Runs stage → StepRegion t.origin (Runs stage) (stage_step t stage)
-  region-stage (Goes m) at = by_end (move t.plan path m).items (move t.plan path m).ending (move-ranks t.plan path m.rank m refl) (move_hands t.plan path m.rank m refl)
+  region-stage (Goes m) at = by_end (move t.plan path m).items (move t.plan path m).ending (moves-on t.plan path m) (move_hands t.plan path m)
     where
       path : List ℕ
       path = path_of (own_instance t.origin)
 
-      by_end : (ts : List Token) (e : Result Reached Fault) → Shape (path ++ m.rank ∷ []) ts × MoveEnd t.plan path m.rank ts e → MoveHands t.plan path m.rank (children ts) e → StepRegion t.origin (Runs (Goes m)) (moved t ts e)
-      by_end ts (Ok (Stands k)) r h = region-at m ts k (child_in ts) refl r.1 r.0 h
-      by_end ts (Ok (Gives v)) r h = λ q g. absurd g
-      by_end ts (Err f) r h = λ q g. absurd g
+      by_end : (ts : List Token) (e : Result Reached Fault) → MovesOn path m ts e → MoveHands t.plan path (strand_at path m) (children ts) e → StepRegion t.origin (Runs (Goes m)) (moved t ts e)
+      by_end ts (Ok (Stands k)) up h = region-at m ts k (child_in ts) refl up h
+      by_end ts (Ok (Gives v)) up h = λ q g. absurd g
+      by_end ts (Err f) up h = λ q g. absurd g
   region-stage (AtSync m) at = region-waits (Runs (AtSync m)) at
   region-stage (AtLoop m) at = region-waits (Runs (AtLoop m)) at
   region-stage (Ended (Ok v)) at = region-gave (Runs (Ended (Ok v))) t.origin v
@@ -312,18 +285,46 @@ stop-region t stop is (Later next h n) =
 
 -- Answers
 
-changed-rank : (height : ℕ) (change : Activation → Activation) (m : Machine) → (changed height change m).rank ≡ m.rank
-changed-rank height change m = by_test (nat_eq height (length m.below))
-  where
-    by_test : (b : Bool) → (if b then record m { top = change m.top } else record m { below = changed_at height change m.below }).rank ≡ m.rank
-    by_test true = refl
-    by_test false = refl
+-- An activation that takes an answer has the same scopes open.
+module _ (change : Activation → Activation) (keeps : (a : Activation) → (change a).levels ≡ a.levels) (w : List ℕ) where
+  changed-present : (height : ℕ) (below : List Activation) → present w (changed_at height change below) ≡ present w below
+  changed-present height [] = refl
+  changed-present height (a ∷ below) = by_test (nat_eq height (length below)) (changed-present height below)
+    where
+      by_test : (b : Bool) → present w (changed_at height change below) ≡ present w below → present w (if b then change a ∷ below else a ∷ changed_at height change below) ≡ inside_of (present w below) a.levels
+      by_test true same = ap (inside_of (present w below)) (keeps a)
+      by_test false same = ap (λ p. inside_of p a.levels) same
+
+  module _ (q : Origin) where
+    changed-scopes : (height : ℕ) (below : List Activation) → AfterScopes w (changed_at height change below) q → AfterScopes w below q
+    changed-scopes height [] x = x
+    changed-scopes height (a ∷ below) x = by_test (nat_eq height (length below)) (changed-scopes height below) x
+      where
+        by_test : (b : Bool) → (AfterScopes w (changed_at height change below) q → AfterScopes w below q) →
+            AfterScopes w (if b then change a ∷ below else a ∷ changed_at height change below) q → AfterScopes w (a ∷ below) q
+        by_test true later (inl y) = inl (subst (λ (ls : List Level). AfterLevels (present w below) ls q) (keeps a) y)
+        by_test true later (inr y) = inr y
+        by_test false later (inl y) = inl (subst (λ p. AfterLevels p a.levels q) (changed-present height below) y)
+        by_test false later (inr y) = inr (later y)
+
+    changed-onward : (height : ℕ) (m : Machine) → Onward w (changed height change m) (changed height change m).rank q → Onward w m m.rank q
+    changed-onward height m x = by_test (nat_eq height (length m.below)) x
+      where
+        by_test : (b : Bool) → (let n : Machine = if b then record m { top = change m.top } else record m { below = changed_at height change m.below } in Onward w n n.rank q) → Onward w m m.rank q
+        by_test true y = subst (λ (ls : List Level). OnwardAt w ls m.below m.rank q) (keeps m.top) y
+        by_test false (inl f) = inl (subst (λ p. From (inside_of p m.top.levels) m.rank q) (changed-present height m.below) f)
+        by_test false (inr (inl y)) = inr (inl (subst (λ p. AfterLevels p m.top.levels q) (changed-present height m.below) y))
+        by_test false (inr (inr y)) = inr (inr (changed-scopes height m.below y))
+
+same-levels : (target : Option Name) (ended : Result (List Value) Fault) (a : Activation) → (answered target ended a).levels ≡ a.levels
+same-levels target (Ok vs) a = refl
+same-levels target (Err f) a = refl
 
 module _ (w : List ℕ) (q : Origin) where
   takes-region : (place : Place) (ended : Result (List Value) Fault) (stage : Stage) → StageRegion w (takes place ended stage) q → StageRegion w stage q
-  takes-region (Spawned height target) ended (Goes m) h = subst (λ k. From w k q) (changed-rank height (answered target ended) m) h
-  takes-region (Spawned height target) ended (AtSync m) h = subst (λ k. From w k q) (changed-rank height (answered target ended) m) h
-  takes-region (Spawned height target) ended (AtLoop m) h = subst (λ k. From w k q) (changed-rank height (answered target ended) m) h
+  takes-region (Spawned height target) ended (Goes m) h = changed-onward (answered target ended) (same-levels target ended) w q height m h
+  takes-region (Spawned height target) ended (AtSync m) h = changed-onward (answered target ended) (same-levels target ended) w q height m h
+  takes-region (Spawned height target) ended (AtLoop m) h = changed-onward (answered target ended) (same-levels target ended) w q height m h
   takes-region (Spawned height target) ended (Ended e) h = absurd h
   takes-region (Looped target) (Ok vs) (Goes m) h = h
   takes-region (Looped target) (Ok vs) (AtSync m) h = h
@@ -337,7 +338,7 @@ module _ (w : List ℕ) (q : Origin) where
   all-region (p ∷ ps) [] stage h = h
   all-region (p ∷ ps) (answer ∷ answers) stage h = takes-region p.place answer.ending stage (all-region ps answers (takes p.place answer.ending stage) h)
 
-  joins-region : (f : Option Fault) (m : Machine) → StageRegion w (joins f m) q → From w m.rank q
+  joins-region : (f : Option Fault) (m : Machine) → StageRegion w (joins f m) q → Onward w m m.rank q
   joins-region None m h = h
   joins-region (Some f) m h = absurd h
 

@@ -1,4 +1,4 @@
--- The children that a move of an instance hands out: one at most, deeper than the instance, and named by the rank before the move.
+-- The children that a move of an instance hands out: one at most, deeper than the instance, and named by the strand before the move.
 use Rattle.std.proofs.Common.{◌≡◌, ℕ, zero, suc, ◌+◌, ◌-◌, ◌≤◌, Bool, true, false, nat_lt, List, [], ◌∷◌, ◌++◌, Option, Some, None, Result, Ok, Err, length, length-append, append-nil, refl, sym, ap, ◌∙◌, subst, arith, if◌then◌else◌}
 use Rattle.std.proofs.Common.{ℤ, ◌-ℤ◌}
 use Rattle.std.proofs.lemmas.Bool.Decides.{nat_tests}
@@ -25,43 +25,50 @@ use Rattle.serial_meaning.specs.declared.event.Fault.{Fault}
 use Rattle.serial_meaning.specs.declared.event.Event.TheVariants as event
 use Rattle.serial_meaning.specs.declared.origin.Origin.{Origin}
 use Rattle.serial_meaning.specs.declared.origin.Origin.TheVariants as origin
-use Rattle.strand_meaning.specs.Machine.{Place, Spawned, Looped, Token, Told, Handed, Syncs, Loops, Halt, Faulted, Inside, loop_tokens, sync_tokens, handing, inside, place_of, Activation, Machine, Reached, Stands, Gives, state_of, with_left, with_returning, back, entered, reached, gives, spawns_in, return_run, value_run, return_move, move_at, move}
+use Rattle.strand_meaning.specs.Machine.{Place, Spawned, Looped, Token, Opens, Closes, Told, Handed, Syncs, Loops, Halt, Faulted, Inside, loop_tokens, sync_tokens, handing, inside, place_of, Level, Activation, Machine, Reached, Stands, Gives, here_of, state_of, with_left, with_leaving, with_returning, back, entered, reached, gives, spawns_in, return_run, value_run, return_move, level_move, end_move, move_at, move}
+use Rattle.strand_meaning.proofs.Own.{here-below}
 
 -- the children among these
 abbrev pub children : List Token → List Origin
 children [] = []
+children (Opens j ∷ ts) = children ts
+children (Closes j ∷ ts) = children ts
 children (Told e ∷ ts) = children ts
 children (Handed o place ∷ ts) = o ∷ children ts
 children (Syncs ∷ ts) = children ts
 children (Loops ∷ ts) = children ts
 
--- a child of the strand at this rank of an instance with this path, for which there is room below the depth
-pub record IsDeeper (plan : PlanView) (path : List ℕ) (k : ℕ) (o : Origin) : Type 0 where
-  pub named : path_of o ≡ path ++ k ∷ []
-  pub longer : length (path_of o) ≡ length path + 1
+-- a child of the strand with this pedigree, in an instance with this path or at this present path, for which there is room below the depth
+pub record IsDeeper (plan : PlanView) (path at : List ℕ) (o : Origin) : Type 0 where
+  pub named : path_of o ≡ at
+  pub longer : length path + 1 ≤ length (path_of o)
   pub fits : length (path_of o) ≤ plan.limits.depth
 
 -- none, or one that is deeper
-abbrev pub AtMostOne : PlanView → List ℕ → ℕ → List Origin → Type 0
-AtMostOne plan path k [] = Unit {0}
-AtMostOne plan path k (o ∷ []) = IsDeeper plan path k o
-AtMostOne plan path k (o ∷ p ∷ os) = ⊥
+abbrev pub AtMostOne : PlanView → List ℕ → List ℕ → List Origin → Type 0
+AtMostOne plan path at [] = Unit {0}
+AtMostOne plan path at (o ∷ []) = IsDeeper plan path at o
+AtMostOne plan path at (o ∷ p ∷ os) = ⊥
 
 -- what a move hands out: nothing where it leaves no machine
-abbrev pub MoveHands : PlanView → List ℕ → ℕ → List Origin → Result Reached Fault → Type 0
-MoveHands plan path k os (Ok (Stands m)) = AtMostOne plan path k os
-MoveHands plan path k os (Ok (Gives v)) = os ≡ []
-MoveHands plan path k os (Err f) = os ≡ []
+abbrev pub MoveHands : PlanView → List ℕ → List ℕ → List Origin → Result Reached Fault → Type 0
+MoveHands plan path at os (Ok (Stands m)) = AtMostOne plan path at os
+MoveHands plan path at os (Ok (Gives v)) = os ≡ []
+MoveHands plan path at os (Err f) = os ≡ []
 
+-- at a present path and a rank
 module _ (plan : PlanView) (path : List ℕ) (k : ℕ) where
+  abbrev pedigree : List ℕ
+  pedigree = path ++ k ∷ []
+
   abbrev what : Place → Manner Token Halt Bool
   what place = handing plan place
 
   -- a run that hands out one child at most, and none where it ends by a fault
   abbrev HandsAt : {A : Type 0} → List Origin → Result A Halt → Type 0
-  HandsAt os (Ok a) = AtMostOne plan path k os
+  HandsAt os (Ok a) = AtMostOne plan path pedigree os
   HandsAt os (Err (Faulted f)) = os ≡ []
-  HandsAt os (Err (Inside calls inner s)) = AtMostOne plan path k os
+  HandsAt os (Err (Inside here calls inner s)) = AtMostOne plan path pedigree os
 
   abbrev HandsOut : {A : Type 0} → Run Token Halt A → Type 0
   HandsOut r = HandsAt (children r.items) r.ending
@@ -70,9 +77,9 @@ module _ (plan : PlanView) (path : List ℕ) (k : ℕ) where
   hands-then {A = A} {B = B} r f h = from r.items r.ending h
     where
       from : (items : List Token) (e : Result A Halt) → HandsAt (children items) e → HandsOut (goes_on items e (λ a. done (f a)))
-      from items (Ok a) q = subst (λ ts. AtMostOne plan path k (children ts)) (sym (append-nil items)) q
+      from items (Ok a) q = subst (λ ts. AtMostOne plan path pedigree (children ts)) (sym (append-nil items)) q
       from items (Err (Faulted x)) q = q
-      from items (Err (Inside calls inner s)) q = q
+      from items (Err (Inside here calls inner s)) q = q
 
   hands-given : {A B : Type 0} (place : Place) (o : Result A FaultKind) (s : State Bool) (f : A → Run Token Halt B) → ((a : A) → HandsOut (f a)) → HandsOut (given (what place) plan path o s f)
   hands-given place (Ok a) s f h = h a
@@ -89,7 +96,7 @@ module _ (plan : PlanView) (path : List ℕ) (k : ℕ) where
   hands-sync : (place : Place) (s : State Bool) → HandsOut (join (what place) plan path s)
   hands-sync place s = by_known s.spawned
     where
-      by_known : (b : Bool) → AtMostOne plan path k (children (Told (event.Sync (strand path s)) ∷ (sync_tokens b ++ [])))
+      by_known : (b : Bool) → AtMostOne plan path pedigree (children (Told (event.Sync (strand path s)) ∷ (sync_tokens b ++ [])))
       by_known true = tt
       by_known false = tt
 
@@ -99,10 +106,10 @@ module _ (plan : PlanView) (path : List ℕ) (k : ℕ) where
   below-depth : (m n d : ℕ) → nat_lt m d ≡ true → n ≤ m → n ≤ d
   below-depth m n d h e = grind (arith, nat_tests)
 
-  deeper : (o : Origin) (m : ℕ) → path_of o ≡ path ++ k ∷ [] → length path + 1 ≤ m → nat_lt m plan.limits.depth ≡ true → IsDeeper plan path k o
+  deeper : (o : Origin) (m : ℕ) → path_of o ≡ pedigree → length path + 1 ≤ m → nat_lt m plan.limits.depth ≡ true → IsDeeper plan path pedigree o
   deeper o m e h t =
       let n : length (path_of o) ≡ length path + 1 = ap length e ∙ one-longer k in
-      record { named = e; longer = n; fits = below-depth m (length (path_of o)) plan.limits.depth t (omega arith) }
+      record { named = e; longer = omega (arith, n); fits = below-depth m (length (path_of o)) plan.limits.depth t (omega arith) }
 
   hands-spawn : (height : ℕ) (target : Option Name) (c : CallText) (s : State Bool) → s.rank ≡ k → HandsOut (spawn (what (Spawned height target)) plan path c s)
   hands-spawn height target c s e =
@@ -135,12 +142,12 @@ module _ (plan : PlanView) (path : List ℕ) (k : ℕ) where
       loop_of : ℕ → Origin
       loop_of n = origin.Loop (number_of (functions_of plan) c.name.bytes) vs lo (path ++ s.rank ∷ []) (record { lo = 0; hi = n })
 
-      by_empty : (n : ℕ) (b : Bool) → is_zero (n - 0) ≡ b → fits_depth (what place) plan path n ≡ true → AtMostOne plan path k (children (loop_tokens b (loop_of n) place ++ []))
+      by_empty : (n : ℕ) (b : Bool) → is_zero (n - 0) ≡ b → fits_depth (what place) plan path n ≡ true → AtMostOne plan path pedigree (children (loop_tokens b (loop_of n) place ++ []))
       by_empty n true e h = tt
       by_empty zero false e h = absurd (cc)
       by_empty (suc n) false e h = deeper (loop_of (suc n)) (length path + 2) (ap (λ (r : ℕ). path ++ r ∷ []) at_rank) (omega arith) h
 
-      by_size : (n : ℕ) → fits_depth (what place) plan path n ≡ true → AtMostOne plan path k (children (loop_tokens (is_zero (n - 0)) (loop_of n) place ++ []))
+      by_size : (n : ℕ) → fits_depth (what place) plan path n ≡ true → AtMostOne plan path pedigree (children (loop_tokens (is_zero (n - 0)) (loop_of n) place ++ []))
       by_size n h = by_empty n (is_zero (n - 0)) refl h
 
   hands-does : (height : ℕ) (st : Stmt) (a : Act-F Act Stmt) (s : State Bool) → s.rank ≡ k → HandsOut (does (what (place_of height a)) plan path inside height st a s)
@@ -160,47 +167,90 @@ module _ (plan : PlanView) (path : List ℕ) (k : ℕ) where
   hands-does height st (act.If e a b) s at_rank = hands-given (Spawned height None) (value_of e s.env) s _ (λ v. tt)
   hands-does height st (act.While e a) s at_rank = hands-given (Spawned height None) (value_of e s.env) s _ (λ v. by_test (is_true v))
     where
-      by_test : (t : Bool) → HandsOut (if t then (inside height a s then inside height (st ∷ [])) else done s)
+      by_test : (t : Bool) → HandsOut (if t then (inside path height a s then inside path height (st ∷ [])) else done s)
       by_test true = tt
       by_test false = tt
+  hands-does height st (act.Scope a) s at_rank = hands-tested (Spawned height None) (nat_lt (length path + 1) plan.limits.depth) Depth s _ (λ h. tt)
   hands-does height st (act.Pfor x lo hi target c) s at_rank =
       hands-given (Looped target) (value_of lo s.env) s _ (λ l. hands-given (Looped target) (value_of hi s.env) s _ (λ h. hands-given (Looped target) (values_of c.args s.env) s _
       (λ vs. hands-loop target c (number l) (count_of (number h -ℤ number l)) vs s at_rank)))
 
   -- a move, by what its run came to
-  hands-reached : (os : List Origin) (into : State Bool → Machine) (inner : List Stmt → State Bool → Machine) (e : Result (State Bool) Halt) → HandsAt os e → MoveHands plan path k os (reached plan into inner e)
+  hands-reached : (os : List Origin) (into : State Bool → Machine) (inner : List Stmt → State Bool → Machine) (e : Result (State Bool) Halt) → HandsAt os e → MoveHands plan path pedigree os (reached plan into inner e)
   hands-reached os into inner (Ok s) h = h
   hands-reached os into inner (Err (Faulted f)) h = h
-  hands-reached os into inner (Err (Inside calls sts s)) h = h
+  hands-reached os into inner (Err (Inside here calls sts s)) h = h
 
-  hands-back : (below : List Activation) (target : Option Name) (v : Value) (rank steps : ℕ) → MoveHands plan path k [] (Ok (back below target v rank steps))
+  hands-back : (below : List Activation) (target : Option Name) (v : Value) (rank steps : ℕ) → MoveHands plan path pedigree [] (Ok (back below target v rank steps))
   hands-back [] target v rank steps = refl
   hands-back (caller ∷ below) target v rank steps = tt
 
-  pub move_hands : (m : Machine) → m.rank ≡ k → MoveHands plan path k (children (move plan path m).items) (move plan path m).ending
-  move_hands m at_rank = by_left m.top.left
+-- Of an instance with a shorter path it is a child as well.
+
+module _ (plan : PlanView) (here path at : List ℕ) (l : length path ≤ length here) where
+  less-deep : (o : Origin) → IsDeeper plan here at o → IsDeeper plan path at o
+  less-deep o d = record { named = d.named; longer = (let k = d.longer in omega (arith, k, l)); fits = d.fits }
+
+  one-less-deep : (os : List Origin) → AtMostOne plan here at os → AtMostOne plan path at os
+  one-less-deep [] h = tt
+  one-less-deep (o ∷ []) h = less-deep o h
+  one-less-deep (o ∷ p ∷ os) h = h
+
+  hands-less-deep : (os : List Origin) (e : Result Reached Fault) → MoveHands plan here at os e → MoveHands plan path at os e
+  hands-less-deep os (Ok (Stands m)) h = one-less-deep os h
+  hands-less-deep os (Ok (Gives v)) h = h
+  hands-less-deep os (Err f) h = h
+
+-- the pedigree of a machine's present strand
+abbrev pub strand_at : List ℕ → Machine → List ℕ
+strand_at path m = here_of path m ++ m.rank ∷ []
+
+module _ (plan : PlanView) (path : List ℕ) (m : Machine) where
+  abbrev here : List ℕ
+  here = here_of path m
+
+  no-shorter : length path ≤ length here
+  no-shorter = let b = here-below path m in let l : length here ≡ length path + length b.0 = ap length b.1 ∙ length-append path b.0 in omega (arith, l)
+
+  abbrev Hands : Run Token Fault Reached → Type 0
+  Hands r = MoveHands plan here (strand_at path m) (children r.items) r.ending
+
+  by_returning : (b : Bool) → Hands (return_move plan path m b)
+  by_returning false =
+      hands-reached plan here m.rank (children (return_run plan path m).items) (with_returning m) (λ inner s. m) (return_run plan path m).ending
+      (hands-paid plan here m.rank (Spawned (length m.below) None) m.steps (state_of m) _ (λ s same. by_text (spawns_in (function_at (functions_of plan) m.top.function)) s))
     where
-      by_returning : (b : Bool) → MoveHands plan path k (children (return_move plan path m b).items) (return_move plan path m b).ending
-      by_returning false =
-          hands-reached (children (return_run plan path m).items) (with_returning m) (λ inner s. m) (return_run plan path m).ending
-          (hands-paid (Spawned (length m.below) None) m.steps (state_of m) _ (λ s same. by_text (spawns_in (function_at (functions_of plan) m.top.function)) s))
-        where
-          by_text : (b : Bool) (s : State Bool) → HandsOut (implied (what (Spawned (length m.below) None)) plan path b s)
-          by_text true s = hands-sync (Spawned (length m.below) None) s
-          by_text false s = tt
-      by_returning true = by_function (function_at (functions_of plan) m.top.function)
-        where
-          by_value : (f : Function) (o : Result Value FaultKind) →
-              let r : Run Token Halt (Value × State Bool) = given (what (Spawned (length m.below) None)) plan path o (state_of m) (λ v. done (v, state_of m)) in MoveHands plan path k (children r.items) (gives plan m r.ending)
-          by_value f (Ok v) = hands-back m.below m.top.target v m.rank m.steps
-          by_value f (Err x) = refl
+      by_text : (b : Bool) (s : State Bool) → HandsOut plan here m.rank (implied (handing plan (Spawned (length m.below) None)) plan here b s)
+      by_text true s = hands-sync plan here m.rank (Spawned (length m.below) None) s
+      by_text false s = tt
+  by_returning true = by_function (function_at (functions_of plan) m.top.function)
+    where
+      by_value : (f : Function) (o : Result Value FaultKind) →
+          let r : Run Token Halt (Value × State Bool) = given (handing plan (Spawned (length m.below) None)) plan here o (state_of m) (λ v. done (v, state_of m)) in MoveHands plan here (strand_at path m) (children r.items) (gives plan m r.ending)
+      by_value f (Ok v) = hands-back plan here m.rank m.below m.top.target v m.rank m.steps
+      by_value f (Err x) = refl
 
-          by_function : (o : Option Function) → MoveHands plan path k (children (value_run plan path o m).items) (gives plan m (value_run plan path o m).ending)
-          by_function None = hands-back m.below m.top.target _ m.rank m.steps
-          by_function (Some f) = by_value f (value_of f.result m.top.env)
+      by_function : (o : Option Function) → MoveHands plan here (strand_at path m) (children (value_run plan path o m).items) (gives plan m (value_run plan path o m).ending)
+      by_function None = hands-back plan here m.rank m.below m.top.target _ m.rank m.steps
+      by_function (Some f) = by_value f (value_of f.result m.top.env)
 
-      by_left : (left : List Stmt) → MoveHands plan path k (children (move_at plan path m left).items) (move_at plan path m left).ending
-      by_left [] = by_returning m.top.returning
-      by_left (st ∷ left) =
-          let a = out-Act (out-Stmt st).act in
-          let r = hands-paid (place_of (length m.below) a) m.steps (state_of m) _ (λ s same. hands-does (length m.below) st a s (same ∙ at_rank)) in hands-reached _ (with_left m left) (entered plan st a left m) _ r
+  -- the end of a scope hands out nothing
+  by_leaving : (l : Level) (ls : List Level) (b : Bool) → Hands (level_move plan path m l ls b)
+  by_leaving l ls false =
+      let r = join (handing plan (Spawned (length m.below) None)) plan here (state_of m) in
+      hands-reached plan here m.rank (children r.items) (with_leaving m) (λ inner s. m) r.ending (hands-sync plan here m.rank (Spawned (length m.below) None) (state_of m))
+  by_leaving l ls true = tt
+
+  by_levels : (ls : List Level) → Hands (end_move plan path m ls)
+  by_levels [] = by_returning m.top.returning
+  by_levels (l ∷ ls) = by_leaving l ls m.top.leaving
+
+  by_left : (left : List Stmt) → Hands (move_at plan path m left)
+  by_left [] = by_levels m.top.levels
+  by_left (st ∷ left) =
+      let a = out-Act (out-Stmt st).act in
+      let r = hands-paid plan here m.rank (place_of (length m.below) a) m.steps (state_of m) _ (λ s same. hands-does plan here m.rank (length m.below) st a s same) in
+      hands-reached plan here m.rank _ (with_left m left) (entered plan st a left m) _ r
+
+  pub move_hands : MoveHands plan path (strand_at path m) (children (move plan path m).items) (move plan path m).ending
+  move_hands = hands-less-deep plan here path (strand_at path m) no-shorter (children (move plan path m).items) (move plan path m).ending (by_left m.top.left)
