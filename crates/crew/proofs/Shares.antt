@@ -35,7 +35,7 @@ cell_syncs = cell_shared.the_sync known.the_row known_sends known_syncs
 faults_sends : IsSend faults.the_row
 faults_sends = declared_send faults.the_type (
   Arc-send _ (Vec-send _ cell_sends) (Vec-sync _ cell_syncs),
-  (search sendable, (option_shared.the_send _ (Box-send known.the_row known_sends), (search sendable, tt))),
+  (search sendable, (Vec-send _ (search sendable), (option_shared.the_send _ (Box-send known.the_row known_sends), (search sendable, tt)))),
 )
 
 held_sends : IsSend held.the_row
