@@ -14,7 +14,7 @@ use Rattle.ped_words.specs.declared.command.Settings.{Settings}
 use Rattle.strand_meaning.specs.Strands.{strand_at}
 use Rattle.engine.specs.declared.refusal.Refusal.{Refusal}
 use Rattle.engine.specs.declared.report.Report as report
-use Rattle.engine.specs.Report.{IsPlanOf, IsReplayOf, IsSpanReport, Report, ending_of, found_report, outcome_ending, run_report, shown, span_lines}
+use Rattle.engine.specs.Report.{IsPlanOf, IsReplayOf, IsRunOf, IsSpanReport, Report, ending_of, found_report, outcome_ending, run_report, shown, span_lines}
 use Rattle.serial_meaning.specs.declared.origin.Origin.{Origin}
 
 ends_so : (plan : PlanView) (e : Result (List Value) Fault) → outcome_ending (outcome_of (main_origin plan) e) ≡ ending_of e
@@ -54,6 +54,10 @@ span_reported a told work span evals is uncut main counted longest output ending
       output = output ∙ ap (λ n. span_lines n span ++ end_line a.outcome) (counted ∙ ap length events) ∙ ap (λ o. span_lines (length (elision a.plan).items) span ++ end_line o) ended;
       ending = ending ∙ main_ending a a.plan evals is uncut refl main;
     }
+
+-- What is written of main's answer under a script's plan is a run of the script.
+pub played_of : (settings : Settings) (bytes : List ℕ) (plan seen : PlanView) (told : Report) → IsPlanOf settings bytes plan → seen ≡ plan → told ≡ run_report seen → IsRunOf settings bytes told
+played_of settings bytes plan seen told planned same e = (planned.0, planned.1, planned.2, e ∙ ap run_report (same ∙ planned.3))
 
 -- What is written of the strand of a script's plan is a replay of the script.
 pub replayed_of : (settings : Settings) (j bytes : List ℕ) (plan seen : PlanView) → IsPlanOf settings bytes plan → seen ≡ plan → (result : Result report.Report Refusal) → IfOk result (λ r. shown r ≡ found_report j (strand_at seen j)) → IfOk result (λ r. IsReplayOf settings j bytes (shown r))
