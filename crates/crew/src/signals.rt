@@ -11,7 +11,8 @@ const SHORTEST_NAP: u64 = 50;
 /// How long a hand without a task sleeps at most, for each worker of the crew: all of them together look for work about this often.
 const LONGEST_IDLE: u64 = 100;
 
-/// How long a hand sleeps at most whose tasks wait for children. Nobody else can take them up once the children have answered.
+/// How long a hand sleeps at most whose tasks wait for children, and never more than half as long as one without a task. Nobody else can
+/// take them up once the children have answered.
 const LONGEST_WAIT: u64 = 500;
 
 /// What the hands tell one another.
@@ -146,7 +147,7 @@ impl Naps {
     /// The hand found nothing to do, and so many of its tasks wait. A turn looks at one of them alone, so that it sleeps only once it
     /// has looked at each.
     pub fn wait<R: Wait>(&mut self, rt: &R, signals: &Signals, parked: usize) {
-        self.nap(rt, signals, parked, self.longest_idle.min(LONGEST_WAIT));
+        self.nap(rt, signals, parked, (self.longest_idle / 2).min(LONGEST_WAIT));
     }
 
     fn nap<R: Wait>(&mut self, rt: &R, signals: &Signals, parked: usize, longest: u64) {

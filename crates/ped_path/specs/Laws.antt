@@ -9,7 +9,7 @@ use Rattle.ped_path.specs.declared.parse.PedTextError.TheVariants.{Empty, BadByt
 abbrev pub RefusalsAreUnique : Type 0
 RefusalsAreUnique = (text : List ℕ) (e f : PedTextError) → e ≢ Memory → f ≢ Memory → IsRefused text e → IsRefused text f → e ≡ f
 
--- Digits stand in front, and the number that they write is no rank, whether or not needless zeros stand among them.
+-- Digits stand first, and the number that they write is no rank, whether or not needless zeros stand among them.
 pub record WritesTooBig (rest : List ℕ) : Type 0 where
   pub digits : List ℕ
   pub behind : List ℕ

@@ -92,7 +92,7 @@ fn descend(
 /// The strand of a pedigree in the open tree of the plan: what it did, and the fault of its own by which its instance ended there, if it
 /// did. The serial elision need not reach it.
 ///
-/// Each instance on the way down is run once, with all of its children.
+/// Each instance on the way down is run once, with the children that the strand comes after.
 pub fn replay(alloc: Global, plan: &Arc<Plan>, at: &Pedigree) -> Result<Strand, ReplayError>
     ensures strand { IsReplayOf (strand_at (arc_value plan.now) at.now) result }
 

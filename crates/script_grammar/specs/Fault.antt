@@ -1,6 +1,6 @@
 -- The first fault of a list of tokens, and where there is none.
 --
--- A token is unexpected where no further tokens of the version make a script of it and those in front. Limits are judged only of a token that may
+-- A token is unexpected where no further tokens of the version make a script of it and those before it. Limits are judged only of a token that may
 -- stand where it does.
 use Rattle.std.specs.Prelude.{◌≡◌, ℕ, suc, ◌<◌, ◌≤◌, ◌⊎◌, Bool, true, false, List, [], ◌∷◌, ◌++◌, length, slice_get, Some, if◌then◌else◌}
 use Rattle.script_tokens.specs.declared.version.Version.{Version}

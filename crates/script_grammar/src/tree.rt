@@ -16,7 +16,9 @@ pub struct Name {
 /// A script: its version, and its functions in the order of the text. The run begins at the one named `main`.
 #[derive(Drop)]
 pub struct Script {
+    /// The version that the text is of. Scopes stand in version 2 alone.
     pub version: Version,
+    /// The functions, in the order of the text.
     pub functions: Items<Function>,
 }
 

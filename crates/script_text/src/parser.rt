@@ -28,7 +28,7 @@ use std::alloc::Global;
 /// never more than one tree.
 ///
 /// [`SyntaxError::Bad`] names the first fault, and nothing after it is judged. A token is unexpected where no further tokens of the version
-/// make a script of it and those in front; limits are judged only of a token that may stand where it does. [`SyntaxError::Memory`] is want of memory.
+/// make a script of it and those before it; limits are judged only of a token that may stand where it does. [`SyntaxError::Memory`] is want of memory.
 ///
 /// The time is linear in the length of the text; the call stack is bounded by the limit of the nesting.
 pub fn parse(alloc: Global, bytes: &[u8]) -> Result<Script, SyntaxError>

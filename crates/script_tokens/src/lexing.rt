@@ -36,8 +36,11 @@ pub enum Misfit {
 /// them make up the text up to the stop.
 #[derive(Debug, Drop)]
 pub struct Lexed {
+    /// The version of the text.
     pub version: Version,
+    /// The lexemes before the stop, in order.
     pub lexemes: Vec<Lexeme>,
+    /// Why no lexeme comes after them.
     pub stop: Stop,
 }
 

@@ -9,7 +9,9 @@ ghost use Rattle.script_tokens.specs.Version.{begins_at, version_of};
 /// it is the script.
 #[derive(Clone, Copy, Debug, PartialEq, Eq)]
 pub enum Version {
+    /// The first version, which has no scopes. Its texts have no line of their own for it.
     One,
+    /// The version with scopes.
     Two,
 }
 

@@ -14,7 +14,7 @@ pub enum Event {
     New(Pedigree),
     /// A child was spawned. Its instance has this pedigree as its path.
     Spawn(Pedigree),
-    /// A sync, written or implied by a `return`.
+    /// A sync, written or implied by a `return` or a scope's end.
     Sync(Pedigree),
     /// A parallel loop began. Its iterations have this pedigree and their number as their paths.
     Loop(Pedigree),
@@ -27,7 +27,7 @@ pub enum FaultKind {
     Divide,
     /// An array has no item at this index, or too few for the loop that fills it.
     Index,
-    /// A spawn or loop whose pedigrees would be longer than the plan allows.
+    /// A spawn, a scope or a loop whose pedigrees would be longer than the plan allows.
     Depth,
     /// One call more than 256 open ones in an instance.
     Calls,

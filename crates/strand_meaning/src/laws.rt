@@ -81,13 +81,12 @@ pub fn strands_are_the_elisions()
     ensures { StrandsAreTheElisions }
 {}
 
-/// Of a task that wasn't advanced nothing is to be noted: its node is what is left, and its strand hasn't gone beyond rank 0.
+/// Of a task that wasn't advanced nothing is to be noted: its node is what is left.
 pub fn notes_begin()
     ensures { NotesBegin }
 {}
 
-/// What a task shows up to its next stop joins what is noted of it, and at its end that is its whole node: the items, the ending, the
-/// ranks from 0 up to the last one.
+/// What a task shows up to its next stop joins what is noted of it, and at its end that is its whole node: the items and the ending.
 pub fn notes_go_on()
     ensures { NotesGoOn }
 {}
