@@ -20,9 +20,17 @@ fn each_seed_has_its_part(rt: HostRuntime) -> Result<(), Fail> {
     )
 }
 
-// The status is that of a fault, and the runs after it go on.
+// The status is that of a fault, and the runs after it go on. One fault is enough.
 #[test]
 fn a_fault_in_a_batch_gives_status_1(rt: HostRuntime) -> Result<(), Fail> {
+    ends(
+        &rt,
+        "batch --seeds 3,0",
+        "fn main() { let x = draw; print 1 / (x % 2); return 0; }",
+        1,
+        "seed 3\n1\nseed 0\nfault 1: division by zero\n",
+        "",
+    )?;
     ends(
         &rt,
         "batch --seeds 5,6 --budget 3",

@@ -6,7 +6,7 @@ use std::test::Fail;
 // A child and a loop's iterations are side by side with their parent, until its sync or the loop's end. A fault comes after the two lines.
 #[test]
 fn scripts_have_work_and_span(rt: HostRuntime) -> Result<(), Fail> {
-    let rows: [(&str, u8, &str); 5] = [
+    let rows: [(&str, u8, &str); 6] = [
         (TWO_DRAWS, 0, "work 7\nspan 6\n"),
         (ROLLS, 0, "work 11\nspan 7\n"),
         (
@@ -15,6 +15,11 @@ fn scripts_have_work_and_span(rt: HostRuntime) -> Result<(), Fail> {
             "work 2\nspan 2\nfault 0.0: division by zero\n",
         ),
         ("fn main() { return 0; }", 0, "work 0\nspan 0\n"),
+        (
+            "fn f(i) { print i; print i; return 0; } fn main() { pfor i in 0..2 call f(i); return 0; }",
+            0,
+            "work 5\nspan 3\n",
+        ),
         ("fn main() { print 1 return 0; }", 3, ""),
     ];
     for (script, code, output) in rows {

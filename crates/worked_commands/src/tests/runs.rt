@@ -27,7 +27,7 @@ const AWAITED: &str =
 // The words, the script, and what is printed.
 type Run = (&'static str, &'static str, &'static str);
 
-static RUNS: [Run; 14] = [
+static RUNS: [Run; 15] = [
     ("run --seed 0", ONE, "1\n"),
     ("run", ONE, "1\n"),
     ("run --seed 0", SPAWNED, "1\n"),
@@ -50,6 +50,12 @@ static RUNS: [Run; 14] = [
     ("run --budget 4", THREE_PRINTS, "1\n2\n3\n"),
     ("run --depth 2", ONE_SPAWN, ""),
     ("run --depth 3", ONE_ITERATION, ""),
+    // A loop without an iteration needs no depth.
+    (
+        "run --depth 1",
+        "fn f(i) { return i; } fn main() { pfor i in 0..0 call f(i); print 1; return 0; }",
+        "1\n",
+    ),
 ];
 
 #[test]
@@ -153,7 +159,7 @@ fn one_worker_prints_its_lines(rt: HostRuntime) -> Result<(), Fail> {
     Ok(())
 }
 
-static FAULTED_RUNS: [Run; 18] = [
+static FAULTED_RUNS: [Run; 22] = [
     (
         "run --workers 1 --budget 10000",
         FAULTY_CHILD,
@@ -201,6 +207,29 @@ static FAULTED_RUNS: [Run; 18] = [
         "run --budget 3",
         "fn f(i) { return i; } fn main() { let a[1]; pfor i in 0..2 into a call f(i); return 0; }",
         "fault 0: budget spent\n",
+    ),
+    // A loop pays a step for each iteration.
+    (
+        "run --budget 4",
+        "fn f(i) { return i; } fn main() { pfor i in 0..3 call f(i); print 1; return 0; }",
+        "fault 1: budget spent\n",
+    ),
+    // The ends of a loop are evaluated from left to right.
+    (
+        "run",
+        "fn f(i) { return i; } fn main() { let z = 0; let a[1]; pfor i in (1 / z)..a[3] call f(i); return 0; }",
+        "fault 0: division by zero\n",
+    ),
+    // A store looks at its index before its value.
+    (
+        "run",
+        "fn main() { let a[2]; a[1] = 5; print a[0]; print a[1]; a[2] = 6; return 0; }",
+        "0\n5\nfault 0: index out of range\n",
+    ),
+    (
+        "run",
+        "fn main() { let z = 0; let a[1]; a[9] = 1 / z; return 0; }",
+        "fault 0: index out of range\n",
     ),
     // Arguments are evaluated before the depth is looked at.
     (

@@ -130,7 +130,7 @@ fn a_scope_waits_for_its_children(rt: HostRuntime) -> Result<(), Fail> {
 
 // Events in a scope are its instance's own: in series with one another, and no iterations. A scope's end waits for what was spawned before it,
 // too. In the last script a path begins anew with ranks that an iteration of the child also has.
-static SPANS: [(&str, &str); 4] = [
+static SPANS: [(&str, &str); 5] = [
     (
         "version 2\nfn main() { scope { print 1; } scope { print 2; } return 0; }",
         "work 4\nspan 4\n",
@@ -146,6 +146,10 @@ static SPANS: [(&str, &str); 4] = [
     (
         "version 2\nfn h(i) { let x = draw; return x; } fn f() { pfor i in 0..1 call h(i); return 0; } fn main() { spawn f(); scope { scope { scope { print 1; } } } return 0; }",
         "work 8\nspan 6\n",
+    ),
+    (
+        "version 2\nfn g(i) { print i; return i; } fn main() { pfor i in 0..1 call g(i); scope { scope { print 1; } } return 0; }",
+        "work 5\nspan 5\n",
     ),
 ];
 

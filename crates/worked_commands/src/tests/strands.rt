@@ -11,7 +11,7 @@ const EVENTS: &str =
     "fn f() { let x = new; print x; return 0; } fn g(i) { print i; let z = new; print z; return 0; } fn main() { spawn f(); let y = new; print y; sync; pfor i in 0..2 call g(i); return 0; }";
 
 // The words, the script, the status, and what is printed and told.
-static STRANDS: [(&str, &str, u8, &str, &str); 21] = [
+static STRANDS: [(&str, &str, u8, &str, &str); 25] = [
     ("replay --at 0", FAULTY_CHILD, 0, "7\nspawn 0\n", ""),
     ("replay --at 1", FAULTY_CHILD_AWAITED, 0, "sync 1\n", ""),
     (
@@ -74,6 +74,37 @@ static STRANDS: [(&str, &str, u8, &str, &str); 21] = [
         7,
         "",
         "no strand 0.5.0\n",
+    ),
+    // Of two children that fault the first one blocks what comes after the sync; a loop blocks by its iterations.
+    (
+        "replay --at 3",
+        "fn bad() { let z = 0; return 1 / z; } fn main() { spawn bad(); spawn bad(); sync; print 1; return 0; }",
+        7,
+        "",
+        "blocked by fault 0.0\n",
+    ),
+    (
+        "replay --at 1",
+        "fn f(i) { return 6 / (2 - i); } fn main() { pfor i in 0..4 call f(i); print 9; return 0; }",
+        7,
+        "",
+        "blocked by fault 0.2.0\n",
+    ),
+    // An iteration's first argument is its number in the range, and the others are the loop's.
+    (
+        "replay --at 0.1.0",
+        "fn f(i, k) { print i; print k; return 0; } fn main() { pfor i in 7..9 call f(i, 5); return 0; }",
+        0,
+        "8\n5\n",
+        "",
+    ),
+    // The fault stands in the next strand.
+    (
+        "replay --at 0",
+        "fn main() { let x = new; let z = 0; print 1 / z; return 0; }",
+        0,
+        "new 0\n",
+        "",
     ),
 ];
 
