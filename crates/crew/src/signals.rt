@@ -147,7 +147,8 @@ impl Naps {
     /// The hand found nothing to do, and so many of its tasks wait. A turn looks at one of them alone, so that it sleeps only once it
     /// has looked at each.
     pub fn wait<R: Wait>(&mut self, rt: &R, signals: &Signals, parked: usize) {
-        self.nap(rt, signals, parked, (self.longest_idle / 2).min(LONGEST_WAIT));
+        let longest = (self.longest_idle / 2).min(LONGEST_WAIT);
+        self.nap(rt, signals, parked, longest);
     }
 
     fn nap<R: Wait>(&mut self, rt: &R, signals: &Signals, parked: usize, longest: u64) {
