@@ -1,6 +1,7 @@
 #!/bin/sh
 # Draws how often pi.ped estimates what, over many seeds: histogram.sh PICTURE [SEEDS]
-# PICTURE ends in .svg or .png. SEEDS is how many seeds from 1 on, by default 1000. PEDRUN names the program, by default pedrun on the PATH.
+# PICTURE ends in .svg or .png. SEEDS is how many seeds from 1 on, by default 1000. PEDRUN names the program, by default pedrun on the PATH;
+# WORKERS are those of a batch, by default one for each processor.
 set -u
 
 fail() {
@@ -16,6 +17,10 @@ esac
 command -v gnuplot > /dev/null || fail 127 'there is no command gnuplot'
 here=$(cd "$(dirname "$0")" && pwd) || exit
 seeds=${2:-1000}
+# A batch has 64 workers at most.
+workers=$(nproc 2> /dev/null || echo 1)
+[ "$workers" -le 64 ] || workers=64
+export WORKERS="${WORKERS:-$workers}"
 trap 'rm -rf "${room-}"' EXIT
 room=$(mktemp -d) || exit
 

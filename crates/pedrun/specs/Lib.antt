@@ -1,2 +1,3 @@
 pub mod Edge
 pub mod Help
+pub mod Hints

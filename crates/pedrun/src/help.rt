@@ -36,8 +36,8 @@ fn asks_help(words: &[String]) -> bool
 }
 
 impl Topic {
-    // The topic of a command's word.
-    fn of_command(word: &str) -> Option<Topic>
+    /// The topic of a command's word. `None` where the word is no command that has a text.
+    pub fn of_command(word: &str) -> Option<Topic>
         ensures { result ≡ topic_of_command word.now }
     {
         match word {

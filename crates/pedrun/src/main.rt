@@ -3,6 +3,7 @@
 
 mod edge;
 mod help;
+mod hints;
 mod progress;
 mod recorded;
 mod terminal;
@@ -12,6 +13,7 @@ use edge::{refuse, show};
 use engine::{OpenGate, pedrun};
 use help::Topic;
 use ped_io::{StdSink, StdSource};
+use recorded::RecordedSource;
 use std::io::IsTerminal;
 use std::process::ExitCode;
 use std::rt::Env;
@@ -39,6 +41,8 @@ fn main(rt: HostRuntime) -> ExitCode {
     }
     let mut script = StdSource::new(rt.stdin());
     if rt.stderr().is_terminal() {
+        let is_typed = rt.stdin().is_terminal();
+        let script = RecordedSource::new(&rt, rt.alloc(), script, is_typed);
         let status = pedrun_on_terminal(&rt, rt.alloc(), &words, script, out, err);
         return ExitCode::from(status.code());
     }

@@ -13,7 +13,7 @@ const FIRST: u64 = 2000;
 /// How long it stands until it is shown anew, in milliseconds.
 const STEP: u64 = 200;
 
-/// From so many strands on, only each 256th that begins looks at the clock.
+/// From so many tasks on, only each 256th that begins looks at the clock.
 const OFTEN: u64 = 4096;
 
 /// A gate that counts the tasks of a run, and shows the counts on the error output in a line that is written over again and again, from
@@ -67,7 +67,7 @@ impl<'a, R: Clock + Eprint> Progress<'a, R> {
         let begun = self.begun.load(Ordering::SeqCst);
         let ended = self.ended.load(Ordering::SeqCst);
         self.is_shown.store(true, Ordering::SeqCst);
-        let _ = eprint!(self.rt; "\r{begun} strands begun, {ended} ended\x1b[K");
+        let _ = eprint!(self.rt; "\r{begun} tasks begun, {ended} ended\x1b[K");
     }
 
     /// Removes the line, if it is shown.

@@ -3,21 +3,28 @@
 use crate::progress::Progress;
 use ped_io::{Failed, Sink, Source};
 use std::alloc::Global;
+use std::eprintln;
 use std::io::Eprint;
 use std::time::Clock;
 
-/// A source that keeps the bytes that it gave, up to where there was no memory for more.
+/// A source that keeps the bytes that it gave, up to where there was no memory for more. Where a person is to type them, its first read
+/// says so on the error output.
 #[derive(Drop)]
-pub struct RecordedSource<S> {
+pub struct RecordedSource<'a, R, S> {
+    rt: &'a R,
     inner: S,
     bytes: Vec<u8>,
+    /// Whether a person is to type the bytes, and wasn't told yet.
+    is_untold: bool,
 }
 
-impl<S: Source> RecordedSource<S> {
-    pub fn new(alloc: Global, inner: S) -> RecordedSource<S> {
+impl<'a, R: Eprint, S: Source> RecordedSource<'a, R, S> {
+    pub fn new(rt: &'a R, alloc: Global, inner: S, is_typed: bool) -> RecordedSource<'a, R, S> {
         RecordedSource {
+            rt,
             inner,
             bytes: Vec::new(alloc),
+            is_untold: is_typed,
         }
     }
 
@@ -27,12 +34,16 @@ impl<S: Source> RecordedSource<S> {
     }
 }
 
-impl<S: Source> Source for RecordedSource<S> {
+impl<'a, R: Eprint, S: Source> Source for RecordedSource<'a, R, S> {
     ghost left = { λ s. S.left s.inner };
 
     ghost faults = { λ s. S.faults s.inner };
 
     fn read(&mut self, buf: &mut [u8]) -> Result<usize, Failed> {
+        if self.is_untold {
+            self.is_untold = false;
+            let _ = eprintln!(self.rt; "reading a script from the terminal; Ctrl-D ends it");
+        }
         let read = self.inner.read(buf);
         if let Ok(count) = read {
             let _ = self.bytes.extend_from_slice(&buf[..count]);

@@ -1,5 +1,6 @@
 // The call on a terminal. A person who sits at the error output gets more than a program does, which gets the line alone.
 
+use crate::hints::hints;
 use crate::progress::Progress;
 use crate::recorded::{RecordedSink, RecordedSource};
 use crate::text;
@@ -22,6 +23,13 @@ fn fault_of(line: &[u8]) -> Option<(&str, usize)> {
     Some((message, at.parse().ok()?))
 }
 
+// At which word the line on words says that the fault is, if at one.
+fn word_of(line: &[u8]) -> Option<usize> {
+    let line = str::from_utf8(line).ok()?;
+    let (_, at) = line.strip_suffix("\n")?.rsplit_once(" at word ")?;
+    at.parse().ok()
+}
+
 // The lines on the place of the fault that the line tells. None where there is no memory for them, or was none for the line or the text.
 fn place_lines(alloc: Global, line: &[u8], text: &[u8]) -> Option<Vec<u8>> {
     let (message, at) = fault_of(line)?;
@@ -31,21 +39,33 @@ fn place_lines(alloc: Global, line: &[u8], text: &[u8]) -> Option<Vec<u8>> {
     excerpt(alloc, text, at, message).ok()
 }
 
-/// Does what `engine::pedrun` does, and shows on `err` what helps a person: how many strands have begun and ended while a run takes more
-/// than two seconds, the place of a script's fault after its line, and the help where no word was given.
+/// Does what `engine::pedrun` does, and shows on `err` what helps a person: how many tasks have begun and ended while a run takes more
+/// than two seconds, the place of a script's fault after its line, the word after a line on words with how to ask for help, and the help
+/// where no word was given.
 pub fn pedrun_on_terminal<
     R: Threads + Wait + Sync + Clock + Eprint,
     S: Source + Drop,
     K: Sink + Drop,
     E: Sink + Drop,
->(rt: &R, alloc: Global, words: &[String], script: S, out: K, err: E) -> Status {
+>(
+    rt: &R,
+    alloc: Global,
+    words: &[String],
+    mut script: RecordedSource<R, S>,
+    out: K,
+    err: E,
+) -> Status {
     let progress = Progress::new(rt);
-    let mut script = RecordedSource::new(alloc, script);
     let mut out = RecordedSink::new(alloc, out, &progress);
     let mut err = RecordedSink::new(alloc, err, &progress);
     let status = pedrun(rt, alloc, words, &mut script, &mut out, &mut err, &progress);
     if status == Status::Script {
         if let Some(lines) = place_lines(alloc, err.bytes(), script.bytes()) {
+            let _ = write_all(&mut err, &lines);
+        }
+    }
+    if status == Status::Words && !words.is_empty() {
+        if let Ok(lines) = hints(alloc, words, word_of(err.bytes())) {
             let _ = write_all(&mut err, &lines);
         }
     }

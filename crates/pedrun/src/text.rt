@@ -42,7 +42,8 @@ Options, in any order, each at most once:
   --workers N      from 1 to 64 (default 4)
   --show WHAT      plain, or log to see draws and objects too (default plain)
   --at PEDIGREE    the name of a strand, such as 0.3.1: from 1 to 512 ranks,
-                   each from 0 to 4294967295
+                   each from 0 to 4294967295; a rank counts the draws, new
+                   objects, spawns, syncs, loops and scopes of an instance
   --shape SHAPE    fib, tree or loop
   --size N         at most 30 for fib, at most 20 for tree, from 1 to 4096 for
                    loop
@@ -60,12 +61,15 @@ Exit status:
   3  the script is too long, is no script of the grammar, or isn't valid
   4  a read of the script failed
   5  a write of the output failed
-  6  there was no memory
+  6  out of memory; nothing was written
   7  no strand has the pedigree, or a fault stands on the way to it (replay)
 
 Example:
   $ echo 'fn main() { let x = draw; print x; return 0; }' > draw.ped
   $ pedrun run --seed 7 < draw.ped
+
+docs/TUTORIAL.md begins from nothing, and docs/ERRORS.md says what to do about
+each line.
 ";
 
 /// `pedrun run --help`.
@@ -89,7 +93,7 @@ Options, in any order, each at most once; a gamma excludes a seed:
   --show WHAT      plain, or log to see draws and objects too (default plain)
 
 Exit status: 0; 1 where the last line is a fault's; 2 faulty words; 3 no valid
-script; 4 a failed read; 5 a failed write; 6 no memory.
+script; 4 a failed read; 5 a failed write; 6 out of memory.
 
 Example:
   $ pedrun run --seed 7 --workers 8 < examples/pi.ped
@@ -115,7 +119,7 @@ Options, in any order, each at most once; a gamma excludes a seed:
   --show WHAT      plain, or log to see draws and objects too (default plain)
 
 Exit status: 0; 1 where the last line is a fault's; 2 faulty words; 3 no valid
-script; 4 a failed read; 5 a failed write; 6 no memory.
+script; 4 a failed read; 5 a failed write; 6 out of memory.
 
 Example:
   $ pedrun serial --seed 7 < examples/pi.ped
@@ -130,7 +134,7 @@ from 0.
 Usage: pedrun check < SCRIPT
 
 Exit status: 0; 2 faulty words; 3 no valid script; 4 a failed read; 5 a failed
-write; 6 no memory.
+write; 6 out of memory.
 
 Example:
   $ pedrun check < examples/pi.ped
@@ -144,7 +148,7 @@ two spaces deeper in each block, no comments. The script needn't be valid.
 Usage: pedrun fmt < SCRIPT
 
 Exit status: 0; 2 faulty words; 3 no script of the grammar; 4 a failed read; 5 a
-failed write; 6 no memory.
+failed write; 6 out of memory.
 
 Example:
   $ pedrun fmt < examples/pi.ped
@@ -160,7 +164,9 @@ Usage: pedrun replay --at PEDIGREE [--OPTION VALUE]... < SCRIPT
 
 Options, in any order, each at most once; a gamma excludes a seed:
   --at PEDIGREE    the strand's name, such as 0.3.1: from 1 to 512 ranks, each
-                   from 0 to 4294967295 (must be given)
+                   from 0 to 4294967295; a rank counts the draws, new
+                   objects, spawns, syncs, loops and scopes of an instance
+                   (must be given)
   --seed N         the seed of the draws, from 0 to 18446744073709551615
                    (default 0)
   --gamma N,N,..   the coefficients of the draws in place of a seed, each below
@@ -172,8 +178,8 @@ Options, in any order, each at most once; a gamma excludes a seed:
   --rounds N       how often a draw is mixed, from 0 to 8 (default 4)
 
 Exit status: 0; 1 where the last line is the strand's own fault; 2 faulty words;
-3 no valid script; 4 a failed read; 5 a failed write; 6 no memory; 7 where no
-strand has this pedigree, or a fault stands on the way to it.
+3 no valid script; 4 a failed read; 5 a failed write; 6 out of memory; 7 where
+no strand has this pedigree, or a fault stands on the way to it.
 
 Example:
   $ pedrun replay --seed 1 --at 0.163.2 < examples/midpoint.ped
@@ -188,14 +194,16 @@ Usage: pedrun hash --at PEDIGREE [--OPTION VALUE]...
 
 Options, in any order, each at most once; a gamma excludes a seed:
   --at PEDIGREE    the strand's name, such as 0.3.1: from 1 to 512 ranks, each
-                   from 0 to 4294967295 (must be given)
+                   from 0 to 4294967295; a rank counts the draws, new
+                   objects, spawns, syncs, loops and scopes of an instance
+                   (must be given)
   --seed N         the seed of the draws, from 0 to 18446744073709551615
                    (default 0)
   --gamma N,N,..   the coefficients of the draws in place of a seed, each below
                    18446744073709551557, at most 512
   --rounds N       how often a draw is mixed, from 0 to 8 (default 4)
 
-Exit status: 0; 2 faulty words; 5 a failed write; 6 no memory.
+Exit status: 0; 2 faulty words; 5 a failed write; 6 out of memory.
 
 Example:
   $ pedrun hash --seed 7 --at 0.3.1
@@ -214,7 +222,7 @@ Options, in any order, each once:
   --size N         at most 30 for fib, at most 20 for tree, from 1 to 4096 for
                    loop (must be given)
 
-Exit status: 0; 2 faulty words; 5 a failed write; 6 no memory.
+Exit status: 0; 2 faulty words; 5 a failed write; 6 out of memory.
 
 Example:
   $ pedrun gen --shape fib --size 20 | pedrun run
@@ -230,7 +238,9 @@ Usage: pedrun stream --at PEDIGREE --count N [--OPTION VALUE]...
 
 Options, in any order, each at most once; a gamma excludes a seed:
   --at PEDIGREE    the first strand's name, such as 0.3.1: from 1 to 512 ranks,
-                   each from 0 to 4294967295 (must be given)
+                   each from 0 to 4294967295; a rank counts the draws, new
+                   objects, spawns, syncs, loops and scopes of an instance
+                   (must be given)
   --count N        how many draws, from 1 to 1048576; the last one's rank is at
                    most 4294967295 (must be given)
   --seed N         the seed of the draws, from 0 to 18446744073709551615
@@ -241,7 +251,7 @@ Options, in any order, each at most once; a gamma excludes a seed:
   --below N        what each draw is reduced by, from 1 to 18446744073709551615
                    (default: it is printed whole)
 
-Exit status: 0; 2 faulty words; 5 a failed write; 6 no memory.
+Exit status: 0; 2 faulty words; 5 a failed write; 6 out of memory.
 
 Example:
   $ pedrun stream --seed 7 --at 0.0 --count 10 --below 6
@@ -269,7 +279,7 @@ Options, in any order, each at most once; a gamma excludes a seed:
   --rounds N       how often a draw is mixed, from 0 to 8 (default 4)
 
 Exit status: 0; 1 where the last line is a fault's; 2 faulty words; 3 no valid
-script; 4 a failed read; 5 a failed write; 6 no memory.
+script; 4 a failed read; 5 a failed write; 6 out of memory.
 
 Example:
   $ pedrun span --seed 7 < examples/pi.ped
@@ -296,7 +306,7 @@ Options, in any order, each at most once:
   --show WHAT      plain, or log to see draws and objects too (default plain)
 
 Exit status: 0; 1 where at least one run ended by a fault; 2 faulty words; 3 no
-valid script; 4 a failed read; 5 a failed write; 6 no memory.
+valid script; 4 a failed read; 5 a failed write; 6 out of memory.
 
 Example:
   $ pedrun batch --seeds 1,2,3,4,5,6 < examples/midpoint.ped

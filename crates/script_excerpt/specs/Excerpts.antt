@@ -1,6 +1,6 @@
 -- The lines that show a fault of a text.
-use Rattle.std.specs.Prelude.{◌≡◌, ◌+◌, ◌-◌, ◌<◌, ◌≤◌, ◌⊎◌, ◌++◌, ◌==◌, [], ℕ, List, false, if◌then◌else◌, codes, decimal, drop, length, map, max, nat_le, take, true}
-use Rattle.std.specs.List.{AllWithin, HoldsAt}
+use Rattle.std.specs.Prelude.{◌≡◌, ◌+◌, ◌-◌, ◌<◌, ◌≤◌, ◌⊎◌, ◌++◌, ◌==◌, ◌&&◌, [], ℕ, List, Bool, bytes_eq, false, if◌then◌else◌, codes, decimal, drop, length, map, max, nat_eq, nat_le, not, take, true}
+use Rattle.std.specs.List.{AllWithin, HoldsAt, starts_with}
 use Rattle.script_excerpt.specs.Followers.{GoesOn}
 use Rattle.script_excerpt.specs.Places.{IsColumn, IsLineStart, is_feed, line_of}
 
@@ -19,9 +19,24 @@ pub record IsWindow (text : List ℕ) (at from to : ℕ) : Type 0 where
   pub one_line : AllWithin (λ byte. is_feed byte ≡ false) text at to
   pub ends : (to < length text) → (to < at + 72) → HoldsAt (λ byte. is_feed byte ≡ true) text to
 
--- with the word that would do at `at`, or without one
-abbrev pub IsAdvice : List ℕ → ℕ → List ℕ → Type 0
-IsAdvice text at advice = (advice ≡ []) ⊎ ((word : List ℕ) × GoesOn text at word × (advice ≡ codes ", here a " ++ word ++ codes " would do"))
+-- `at` begins the words of version 2's line, which goes on after them
+abbrev pub is_at_version : List ℕ → ℕ → Bool
+is_at_version text at = at == 0 && starts_with nat_eq text (codes "version 2") && not (starts_with nat_eq text (codes "version 2\n"))
+
+-- a `return` stands at `at`, and the word closes the block around it
+abbrev pub is_misplaced_return : List ℕ → ℕ → List ℕ → Bool
+is_misplaced_return text at word = bytes_eq word (codes "}") && starts_with nat_eq (drop at text) (codes "return")
+
+-- what is said of the word that would do
+abbrev pub word_advice : List ℕ → ℕ → List ℕ → List ℕ
+word_advice text at word =
+    if is_misplaced_return text at word then codes ", return stands at the end of its function"
+    else codes ", here a " ++ word ++ codes " would do"
+
+-- What is said beside the message: of the version's line, or else of a word that would do at `at`, or nothing.
+pub record IsAdvice (text : List ℕ) (at : ℕ) (advice : List ℕ) : Type 0 where
+  pub version : (is_at_version text at ≡ true) → advice ≡ codes ", the line version 2 must end right after the 2"
+  pub word : (is_at_version text at ≡ false) → (advice ≡ []) ⊎ ((word : List ℕ) × GoesOn text at word × (advice ≡ word_advice text at word))
 
 -- the line that names a place
 abbrev pub place_line : ℕ → ℕ → List ℕ

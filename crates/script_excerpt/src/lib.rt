@@ -7,5 +7,5 @@ mod lines;
 mod place;
 
 pub use advice::follower;
-pub use lines::excerpt;
+pub use lines::{add_shown, excerpt};
 pub use place::{Place, place_of};

@@ -1,7 +1,7 @@
 // The lines that show a fault of a text.
 
-ghost use Rattle.std.specs.Prelude.{◌≡◌, ◌≤◌, ◌++◌, IfOk, OnOk, length, map};
-ghost use Rattle.script_excerpt.specs.Excerpts.{IsAdvice, IsExcerpt, IsWindow, caret_line, place_line, room, shown, text_lines};
+ghost use Rattle.std.specs.Prelude.{◌≡◌, ◌≤◌, ◌++◌, IfOk, OnOk, codes, length, map};
+ghost use Rattle.script_excerpt.specs.Excerpts.{IsAdvice, IsExcerpt, IsWindow, caret_line, is_at_version, is_misplaced_return, place_line, room, shown, text_lines, word_advice};
 
 use crate::advice::follower;
 use crate::place::{Place, line_start, place_of};
@@ -42,8 +42,8 @@ fn room(byte: u8) -> u8
     }
 }
 
-// Adds the bytes as a terminal may get them.
-fn add_shown(lines: &mut Vec<u8>, bytes: &[u8]) -> Result<(), AllocError>
+/// Adds the bytes as a terminal may get them: one that isn't printable as `?`.
+pub fn add_shown(lines: &mut Vec<u8>, bytes: &[u8]) -> Result<(), AllocError>
     ensures { OnOk result (lines.new.items ≡ lines.old.items ++ map shown bytes.now) }
 {
     for &byte in bytes {
@@ -89,18 +89,48 @@ fn text_lines(
     Ok(lines)
 }
 
-// The word that would do, where one alone would.
+// Whether byte `at` begins the words `version 2`, with which a text of version 2 begins, and the line goes on after them, so that the text
+// is of version 1.
+fn is_at_version(text: &[u8], at: usize) -> bool
+    ensures { result ≡ is_at_version text.now at }
+{
+    at == 0 && text.starts_with(b"version 2") && !text.starts_with(b"version 2\n")
+}
+
+// Whether a `return` stands at `at`, and the word that would do before it closes its block.
+fn is_misplaced_return(text: &[u8], at: usize, word: &str) -> bool
+    requires { at ≤ length text.now }
+    ensures { result ≡ is_misplaced_return text.now at word.now }
+{
+    word == "}" && text[at..].starts_with(b"return")
+}
+
+// What is said of the word that would do.
+fn word_advice(alloc: Global, text: &[u8], at: usize, word: &str) -> Result<Vec<u8>, AllocError>
+    requires { at ≤ length text.now }
+    ensures { IfOk result (λ advice. advice.items ≡ word_advice text.now at word.now) }
+{
+    if is_misplaced_return(text, at, word) {
+        return b", return stands at the end of its function".to_vec(alloc);
+    }
+    let mut advice = b", here a ".to_vec(alloc)?;
+    advice.extend_from_slice(word.as_bytes())?;
+    advice.extend_from_slice(b" would do")?;
+    Ok(advice)
+}
+
+// What is said beside the message: what is wrong with the version's line, or else of the word that would do, where one alone would.
 fn advice(alloc: Global, text: &[u8], at: usize) -> Result<Vec<u8>, AllocError>
     requires { at ≤ length text.now }
     ensures { IfOk result (λ advice. IsAdvice text.now at advice.items) }
 {
-    let mut advice = Vec::new(alloc);
-    if let Some(word) = follower(alloc, text, at)? {
-        advice.extend_from_slice(b", here a ")?;
-        advice.extend_from_slice(word.as_bytes())?;
-        advice.extend_from_slice(b" would do")?;
+    if is_at_version(text, at) {
+        return b", the line version 2 must end right after the 2".to_vec(alloc);
     }
-    Ok(advice)
+    match follower(alloc, text, at)? {
+        Some(word) => word_advice(alloc, text, at, word),
+        None => Ok(Vec::new(alloc)),
+    }
 }
 
 // The caret with a message and an advice.
@@ -115,7 +145,8 @@ fn caret_line(alloc: Global, message: &str, advice: &[u8]) -> Result<Vec<u8>, Al
 }
 
 /// Three lines on a fault at byte `at` of a text: its line and column, that line, and a caret under the byte with the message and with the
-/// word that would do there, where one alone would (`follower`).
+/// word that would do there, where one alone would (`follower`). Where that word would close the block of a `return`, it says in place of it
+/// where a `return` stands, and at a line `version 2` that goes on after the 2 it says that alone.
 ///
 /// Of a long line the 72 bytes before the byte are shown and 72 from it on. A byte that isn't printable is shown as `?`.
 pub fn excerpt(alloc: Global, text: &[u8], at: usize, message: &str) -> Result<Vec<u8>, AllocError>

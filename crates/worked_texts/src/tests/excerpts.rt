@@ -2,7 +2,7 @@
 use script_excerpt::excerpt;
 use std::test::Fail;
 
-const EXCERPTS: [(&str, usize, &str); 7] = [
+const EXCERPTS: [(&str, usize, &str); 9] = [
     (
         "fn main() { print 1 return 0; }",
         20,
@@ -28,6 +28,16 @@ const EXCERPTS: [(&str, usize, &str); 7] = [
         "version 2\nfn main() { { sync; } return 0; }",
         22,
         "line 2, column 13\nfn main() { { sync; } return 0; }\n            ^ fault, here a scope would do\n",
+    ),
+    (
+        "fn main() { if 1 == 1 { return 1; } return 0; }",
+        24,
+        "line 1, column 25\nfn main() { if 1 == 1 { return 1; } return 0; }\n                        ^ fault, return stands at the end of its function\n",
+    ),
+    (
+        "version 2\r\nfn main() { return 0; }\r\n",
+        0,
+        "line 1, column 1\nversion 2?\n^ fault, the line version 2 must end right after the 2\n",
     ),
     (
         "fn () { return 0; }",
