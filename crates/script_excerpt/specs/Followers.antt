@@ -1,5 +1,5 @@
 -- What a word does that is put before a token at which a text stops.
-use Rattle.std.specs.Prelude.{◌≡◌, ◌+◌, ◌<◌, ◌≤◌, ◌⊎◌, ◌++◌, ◌∷◌, [], ℕ, List, codes, drop, length, take}
+use Rattle.std.specs.Prelude.{◌+◌, ◌<◌, ◌⊎◌, ◌++◌, ℕ, List, codes, drop, length, take}
 use Rattle.script_grammar.specs.Text.{SyntaxFault, Text}
 use Rattle.script_grammar.specs.declared.tree.Script.{Script}
 

@@ -3,6 +3,7 @@
 ghost use Rattle.std.specs.Prelude.{◌≡◌, ◌≤◌, ◌+◌, IfOk, IfSome, IsFalse, IsTrue, length, string_bytes, true, false};
 ghost use Rattle.script_excerpt.specs.Followers.{GoesOn, with_word};
 
+use crate::bytes::extended;
 use script_text::{MAX_BYTES, SyntaxError, Version, parse};
 use std::alloc::{AllocError, Global};
 
@@ -10,7 +11,7 @@ use std::alloc::{AllocError, Global};
 const MOST_BYTES: usize = 65536;
 
 /// The words that stand for themselves, `scope` in version 2 alone.
-const WORDS: [&str; 41] = [
+static WORDS: [&str; 41] = [
     "fn", "id", "let", "spawn", "call", "sync", "print", "if", "else", "while", "pfor", "in",
     "into", "draw", "new", "return", "same", "older", "(", ")", "{", "}", "[", "]", ",", ";", "=",
     "+", "-", "*", "/", "%", "==", "!=", "<", "<=", ">", ">=", "->", "..", "scope",
@@ -27,12 +28,11 @@ fn with_word(alloc: Global, text: &[u8], at: usize, word: &str) -> Result<Vec<u8
     ensures mended { IfOk result (λ mended. mended.items ≡ with_word text.now at word.now) }
     ensures longer { IfOk result (λ mended. length mended.items ≡ length text.now + length word.now + 2) }
 {
-    let mut mended = text[..at].to_vec(alloc)?;
-    mended.extend_from_slice(b" ")?;
-    mended.extend_from_slice(word.as_bytes())?;
-    mended.extend_from_slice(b" ")?;
-    mended.extend_from_slice(&text[at..])?;
-    Ok(mended)
+    let mended = text[..at].to_vec(alloc)?;
+    let mended = extended(mended, b" ")?;
+    let mended = extended(mended, word.as_bytes())?;
+    let mended = extended(mended, b" ")?;
+    extended(mended, &text[at..])
 }
 
 // Whether the text goes on past its token at `at`, or is a script, where this word stands before that token.
@@ -66,7 +66,7 @@ pub fn follower(alloc: Global, text: &[u8], at: usize) -> Result<Option<&'static
     }
     let version = Version::of(text);
     let mut found = None;
-    for word in WORDS {
+    for &word in &WORDS {
         if !is_word(version, word) {
             continue;
         }

@@ -3,6 +3,7 @@
 #![tactic(auto)]
 
 mod advice;
+mod bytes;
 mod lines;
 mod place;
 

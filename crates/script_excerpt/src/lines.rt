@@ -4,6 +4,7 @@ ghost use Rattle.std.specs.Prelude.{◌≡◌, ◌≤◌, ◌++◌, IfOk, OnOk, 
 ghost use Rattle.script_excerpt.specs.Excerpts.{IsAdvice, IsExcerpt, IsWindow, caret_line, is_at_version, is_misplaced_return, place_line, room, shown, text_lines, word_advice};
 
 use crate::advice::follower;
+use crate::bytes::extended;
 use crate::place::{Place, line_start, place_of};
 use std::alloc::{AllocError, Global};
 
@@ -70,21 +71,21 @@ fn place_line(alloc: Global, place: Place) -> Result<Vec<u8>, AllocError>
     Ok(line.into_bytes())
 }
 
-// The text from one byte to another, and below it room up to byte `at`.
-fn text_lines(
-    alloc: Global,
+// Some lines, then the text from one byte to another, and below it room up to byte `at`.
+fn with_text_lines(
+    lines: Vec<u8>,
     text: &[u8],
     from: usize,
     at: usize,
     to: usize,
 ) -> Result<Vec<u8>, AllocError>
     requires { (from ≤ at) × (at ≤ to) × (to ≤ length text.now) }
-    ensures { IfOk result (λ lines. lines.items ≡ text_lines text.now from at to) }
+    ensures { IfOk result (λ longer. longer.items ≡ lines.items ++ text_lines text.now from at to) }
 {
-    let mut lines = Vec::new(alloc);
+    let mut lines = lines;
     let (line, before) = (&text[..to], &text[..at]);
     add_shown(&mut lines, &line[from..])?;
-    lines.extend_from_slice(b"\n")?;
+    let mut lines = extended(lines, b"\n")?;
     add_room(&mut lines, &before[from..])?;
     Ok(lines)
 }
@@ -113,10 +114,9 @@ fn word_advice(alloc: Global, text: &[u8], at: usize, word: &str) -> Result<Vec<
     if is_misplaced_return(text, at, word) {
         return b", return stands at the end of its function".to_vec(alloc);
     }
-    let mut advice = b", here a ".to_vec(alloc)?;
-    advice.extend_from_slice(word.as_bytes())?;
-    advice.extend_from_slice(b" would do")?;
-    Ok(advice)
+    let advice = b", here a ".to_vec(alloc)?;
+    let advice = extended(advice, word.as_bytes())?;
+    extended(advice, b" would do")
 }
 
 // What is said beside the message: what is wrong with the version's line, or else of the word that would do, where one alone would.
@@ -133,15 +133,14 @@ fn advice(alloc: Global, text: &[u8], at: usize) -> Result<Vec<u8>, AllocError>
     }
 }
 
-// The caret with a message and an advice.
-fn caret_line(alloc: Global, message: &str, advice: &[u8]) -> Result<Vec<u8>, AllocError>
-    ensures { IfOk result (λ line. line.items ≡ caret_line message.now advice.now) }
+// Some lines, then the caret with a message and an advice.
+fn with_caret_line(lines: Vec<u8>, message: &str, advice: &[u8]) -> Result<Vec<u8>, AllocError>
+    ensures { IfOk result (λ longer. longer.items ≡ lines.items ++ caret_line message.now advice.now) }
 {
-    let mut line = b"^ ".to_vec(alloc)?;
-    line.extend_from_slice(message.as_bytes())?;
-    line.extend_from_slice(advice)?;
-    line.extend_from_slice(b"\n")?;
-    Ok(line)
+    let lines = extended(lines, b"^ ")?;
+    let lines = extended(lines, message.as_bytes())?;
+    let lines = extended(lines, advice)?;
+    extended(lines, b"\n")
 }
 
 /// Three lines on a fault at byte `at` of a text: its line and column, that line, and a caret under the byte with the message and with the
@@ -155,9 +154,8 @@ pub fn excerpt(alloc: Global, text: &[u8], at: usize, message: &str) -> Result<V
 {
     let place = place_of(text, at);
     let (from, to) = window(text, at);
+    let lines = place_line(alloc, place)?;
+    let lines = with_text_lines(lines, text, from, at, to)?;
     let advice = advice(alloc, text, at)?;
-    let mut lines = place_line(alloc, place)?;
-    lines.extend_from_slice(&text_lines(alloc, text, from, at, to)?)?;
-    lines.extend_from_slice(&caret_line(alloc, message, &advice)?)?;
-    Ok(lines)
+    with_caret_line(lines, message, &advice)
 }

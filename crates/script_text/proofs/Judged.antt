@@ -11,7 +11,7 @@ use Rattle.script_tokens.specs.declared.token.Word.TheVariants as word
 use Rattle.script_tokens.specs.declared.lexing.Stop.{Stop}
 use Rattle.script_tokens.specs.declared.lexing.Stop.TheVariants.{End, NotAscii, NoToken}
 use Rattle.script_grammar.specs.declared.tree.Function.{Function}
-use Rattle.script_grammar.specs.Grammar.{Token, tok, decimal, IsScript, AreOf, IsScriptOf, IsViable}
+use Rattle.script_grammar.specs.Grammar.{Token, tok, decimal, IsScript, AreOf, IsViable}
 use Rattle.script_grammar.specs.Nesting.{functions_nesting}
 use Rattle.script_grammar.specs.Fault.{is_fn, functions_begun, IsNested, BreaksLimit, number_out_of_range, name_too_long, nested_too_deep, too_many_functions, IsFault, unexpected, breaks_limit, Ending, FaultAtStop, FaultBehind, WithinBehind, IsProgram}
 use Rattle.script_text.specs.Machine.{Sym, functions, same_word, is_empty, step, run, depth, Trace, onward, trace, all_empty, Fault, broken, unless_broken, verdict, at_stop, begun, judge}
@@ -183,7 +183,7 @@ module _ (version : Version) where
       last false false false false e = refl
 
   -- what an answer says of the tokens after these
-  abbrev Says : Ending → List Token → List Token → Option Fault → Type 0
+  abbrev pub Says : Ending → List Token → List Token → Option Fault → Type 0
   Says ending before ts (Some f) = FaultBehind version ending before ts f.0 f.1
   Says ending before ts None = (ending.stop ≡ End) × WithinBehind version before ts × ((fs : List Function) × IsScript (before ++ ts) fs)
 

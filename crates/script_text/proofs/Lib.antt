@@ -6,11 +6,15 @@ mod Sound
 mod Same
 mod Judged
 mod Unique
+mod Ascii
+mod First
 mod Decimals
 mod Steps
+mod Kept
 mod Expressions
 mod Calls
 mod Statements
 mod Loops
+mod Moved
 mod Functions
 mod Whole

@@ -162,7 +162,7 @@ module _ (version : Version) where
     no_more : step t.word t.text s ≡ None → IsViable version (before ++ t ∷ []) → ⊥
     no_more e v = let q = taken version (before ++ t ∷ []) v in none-some _ (sym (one_more before t s st ∙ e) ∙ q.1)
 
-    one_number : depth s ≤ 64 → (m n : ℕ) → IsFault version before t m → IsFault version before t n → m ≡ n
+    pub one_number : depth s ≤ 64 → (m n : ℕ) → IsFault version before t m → IsFault version before t n → m ≡ n
     one_number low m n f g = go (step t.word t.text s) refl
       where
         go : (o : Option (List Sym)) → step t.word t.text s ≡ o → m ≡ n
@@ -173,7 +173,7 @@ module _ (version : Version) where
             one_broken before t v (one_limit before t (depth s') (nested_so version before t s s' st e) flat) m n f g
 
     -- where the token is at no fault, the machine takes it, and is nested within the limit
-    taken_low : ((n : ℕ) → IsFault version before t n → ⊥) → (s' : List Sym) × Stands (before ++ t ∷ []) s' × (depth s' ≤ 64)
+    pub taken_low : ((n : ℕ) → IsFault version before t n → ⊥) → (s' : List Sym) × Stands (before ++ t ∷ []) s' × (depth s' ≤ 64)
     taken_low fine = go (step t.word t.text s) refl
       where
         low : (s' : List Sym) → step t.word t.text s ≡ Some s' → Stands (before ++ t ∷ []) s' → (64 < depth s') ⊎ (depth s' ≤ 64) → depth s' ≤ 64

@@ -53,7 +53,7 @@ module _ (source : Source) (bytes : List ℕ) (ls : List Lexeme) (stop : Stop) (
       }
 
 -- two ways to cut a text are one
-cut_once : (bytes : List ℕ) (v w : Version) (ls ms : List Lexeme) (stop end : Stop) → IsCut bytes v ls stop → IsCut bytes w ms end → (v ≡ w) × (ls ≡ ms) × (stop ≡ end)
+pub cut_once : (bytes : List ℕ) (v w : Version) (ls ms : List Lexeme) (stop end : Stop) → IsCut bytes v ls stop → IsCut bytes w ms end → (v ≡ w) × (ls ≡ ms) × (stop ≡ end)
 cut_once bytes v w ls ms stop end x y =
     let same : w ≡ v = y.told ∙ sym x.told in
     let y' : Lexes v (begins_at v) (drop (begins_at v) bytes) ms end = subst (λ z. Lexes z (begins_at z) (drop (begins_at z) bytes) ms end) same y.cut in

@@ -1,5 +1,5 @@
 -- Laws of texts, each the contract of a function of the module `laws`.
-use Rattle.std.specs.Prelude.{◌≡◌, ◌≢◌, ℕ, ◌≤◌, Bool, true, false, not, ◌&&◌, ◌==◌, nat_lt, List, [], ◌∷◌, ◌++◌, length, take, drop, Some}
+use Rattle.std.specs.Prelude.{◌≡◌, ◌≢◌, ◌↔◌, ℕ, ◌≤◌, Bool, true, false, not, ◌&&◌, ◌==◌, nat_lt, List, [], ◌∷◌, ◌++◌, length, take, drop, Some}
 use Rattle.std.specs.List.{list_all}
 use Rattle.script_tokens.specs.Lexing.{is_blank, gap_length}
 use Rattle.script_grammar.specs.declared.tree.Function.{Function}
@@ -7,6 +7,7 @@ use Rattle.script_grammar.specs.declared.tree.Script.{Script}
 use Rattle.script_grammar.specs.Grammar.{Token, IsScript}
 use Rattle.script_grammar.specs.Nesting.{functions_nesting}
 use Rattle.script_grammar.specs.Text.{Text, SyntaxFault}
+use Rattle.script_text.specs.Faults.{IsFirstFault}
 use Rattle.script_text.specs.Machine.{functions, trace}
 
 -- a text has one tree at most
@@ -17,7 +18,11 @@ TreeIsUnique = (bytes : List ℕ) (first second : Script) → Text bytes first �
 abbrev pub FaultIsUnique : Type 0
 FaultIsUnique = (bytes : List ℕ) (number at other place : ℕ) → SyntaxFault bytes number at → SyntaxFault bytes other place → (number ≡ other) × (at ≡ place)
 
--- and not both
+-- The fault of a text is the first of all that it has, and at one offset the one of the least number.
+abbrev pub FaultIsFirst : Type 0
+FaultIsFirst = (bytes : List ℕ) (number at : ℕ) → SyntaxFault bytes number at ↔ IsFirstFault bytes number at
+
+-- A text of a script has none.
 abbrev pub TreeExcludesFault : Type 0
 TreeExcludesFault = (bytes : List ℕ) (script : Script) (number at : ℕ) → Text bytes script → SyntaxFault bytes number at → ⊥
 

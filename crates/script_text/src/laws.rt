@@ -1,6 +1,6 @@
 //! What holds of every text, as functions that do nothing: each is proved to ensure its law.
 
-ghost use Rattle.script_text.specs.Laws.{FaultIsUnique, GapsAreBlanksAndComments, NestingCountsOpen, TreeExcludesFault, TreeIsUnique};
+ghost use Rattle.script_text.specs.Laws.{FaultIsFirst, FaultIsUnique, GapsAreBlanksAndComments, NestingCountsOpen, TreeExcludesFault, TreeIsUnique};
 
 /// A text is of one script at most.
 pub fn tree_is_unique()
@@ -11,6 +11,12 @@ pub fn tree_is_unique()
 /// than what stands before them, so the first token at fault breaks one limit only.
 pub fn fault_is_unique()
     ensures { FaultIsUnique }
+{}
+
+/// Of all faults that a text has, each by itself, its fault stands at the first offset, and of those there it is the one of the least number.
+/// No other one does.
+pub fn fault_is_first()
+    ensures { FaultIsFirst }
 {}
 
 /// A text of a script has no fault.

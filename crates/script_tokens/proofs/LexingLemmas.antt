@@ -1,5 +1,5 @@
 -- What follows of the lexemes of a text: there is one list of them, they stand in order, and each has the text of its word.
-use Rattle.std.proofs.Common.{◌≡◌, ℕ, zero, suc, ◌+◌, ◌-◌, ◌<◌, ◌≤◌, List, [], ◌∷◌, ◌++◌, length, take, drop, All, Some, None, Bool, true, false, nat_eq, nat_lt, Result, Ok, Err, ◌⊎◌, refl, sym, ap, ◌∙◌, subst, arith, inl, inr, if◌then◌else◌, zero-add}
+use Rattle.std.proofs.Common.{◌≡◌, ℕ, zero, suc, ◌+◌, ◌-◌, ◌<◌, ◌≤◌, List, [], ◌∷◌, ◌++◌, length, take, drop, All, Some, None, Bool, true, false, nat_eq, nat_lt, Result, Ok, Err, ◌⊎◌, refl, sym, ap, ◌∙◌, subst, arith, inl, inr, if◌then◌else◌}
 use Rattle.std.specs.Char.{is_ascii}
 use Rattle.std.proofs.lemmas.Bool.{cases_lt}
 use Rattle.std.proofs.lemmas.List.Elements.{All-cons}

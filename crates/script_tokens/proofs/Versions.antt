@@ -1,6 +1,6 @@
 -- What the versions differ in: no token of version 1 is the word `scope`, and a text of version 2 is one that begins with the version's line.
-use Rattle.std.proofs.Common.{◌≡◌, ◌↔◌, ℕ, ◌+◌, ◌-◌, ◌≤◌, arith, List, [], ◌∷◌, ◌++◌, length, take, drop, Option, Some, None, Bool, true, false, not, ◌&&◌, if◌then◌else◌, refl, sym, ap, ◌∙◌, subst, bytes_eq}
-use Rattle.std.specs.Prelude.{unwrap_or, Ok}
+use Rattle.std.proofs.Common.{◌≡◌, ℕ, ◌-◌, ◌≤◌, arith, List, [], ◌∷◌, ◌++◌, length, take, drop, Some, Bool, true, false, not, ◌&&◌, if◌then◌else◌, refl, sym, ap, ◌∙◌, subst, bytes_eq}
+use Rattle.std.specs.Prelude.{unwrap_or}
 use Rattle.std.specs.List.{list_all}
 use Rattle.std.proofs.lemmas.Slice.Eq.{bytes_eq-Decides}
 use Rattle.std.proofs.lemmas.List.{take-append-drop, length-append}
@@ -8,11 +8,9 @@ use Rattle.script_tokens.specs.declared.version.Version.{Version}
 use Rattle.script_tokens.specs.declared.version.Version.TheVariants.{One, Two}
 use Rattle.script_tokens.specs.declared.token.Word.{Word}
 use Rattle.script_tokens.specs.declared.token.Word.TheVariants.{Name, Number}
-use Rattle.script_tokens.specs.declared.token.Lexeme.{Lexeme}
-use Rattle.script_tokens.specs.declared.lexing.Stop.{Stop}
 use Rattle.script_tokens.specs.Version.{version_line, version_of, begins_at}
 use Rattle.script_tokens.specs.Word.{Spelling, common_keywords, symbols, word_spelled, is_name, is_number, word_of, is_scope}
-use Rattle.script_tokens.specs.Lexing.{Lexes, stops, goes_on}
+use Rattle.script_tokens.specs.Lexing.{stops, goes_on}
 use Rattle.script_tokens.specs.Laws.{VersionOneHasNoScope, VersionsBegin}
 use Rattle.script_tokens.proofs.LexingLemmas.{IsNext, lexeme_is_next}
 

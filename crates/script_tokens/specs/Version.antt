@@ -1,5 +1,5 @@
 -- The versions of the language: a text of version 2 begins with a line that says so, and any other text is of version 1.
-use Rattle.std.specs.Prelude.{ℕ, List, length, take, codes, bytes_eq, if◌then◌else◌}
+use Rattle.std.specs.Prelude.{ℕ, List, take, codes, bytes_eq, if◌then◌else◌}
 use Rattle.script_tokens.specs.declared.version.Version.{Version}
 use Rattle.script_tokens.specs.declared.version.Version.TheVariants.{One, Two}
 

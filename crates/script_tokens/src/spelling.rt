@@ -1,6 +1,6 @@
 // Which word a text spells.
 
-ghost use Rattle.std.specs.Prelude.{◌≡◌, ◌∷◌, []};
+ghost use Rattle.std.specs.Prelude.{◌≡◌, ◌∷◌, [], map};
 ghost use Rattle.script_tokens.specs.declared.version.Version.TheVariants as versions;
 ghost use Rattle.script_tokens.specs.Word.{common_keywords, keywords, symbols, word_spelled};
 
@@ -28,31 +28,45 @@ fn keyword_of_two(text: &[u8]) -> Option<Word>
     common_keyword(text)
 }
 
+// The keywords of every version.
+static COMMON_KEYWORDS: [(&[u8], Word); 18] = [
+    (b"fn", Word::Fn),
+    (b"id", Word::Id),
+    (b"let", Word::Let),
+    (b"spawn", Word::Spawn),
+    (b"call", Word::Call),
+    (b"sync", Word::Sync),
+    (b"print", Word::Print),
+    (b"if", Word::If),
+    (b"else", Word::Else),
+    (b"while", Word::While),
+    (b"pfor", Word::Pfor),
+    (b"in", Word::In),
+    (b"into", Word::Into),
+    (b"draw", Word::Draw),
+    (b"new", Word::New),
+    (b"return", Word::Return),
+    (b"same", Word::Same),
+    (b"older", Word::Older),
+];
+
 // The keyword with that text in every version.
 fn common_keyword(text: &[u8]) -> Option<Word>
     ensures { result ≡ word_spelled common_keywords text.now }
 {
-    match text {
-        b"fn" => Some(Word::Fn),
-        b"id" => Some(Word::Id),
-        b"let" => Some(Word::Let),
-        b"spawn" => Some(Word::Spawn),
-        b"call" => Some(Word::Call),
-        b"sync" => Some(Word::Sync),
-        b"print" => Some(Word::Print),
-        b"if" => Some(Word::If),
-        b"else" => Some(Word::Else),
-        b"while" => Some(Word::While),
-        b"pfor" => Some(Word::Pfor),
-        b"in" => Some(Word::In),
-        b"into" => Some(Word::Into),
-        b"draw" => Some(Word::Draw),
-        b"new" => Some(Word::New),
-        b"return" => Some(Word::Return),
-        b"same" => Some(Word::Same),
-        b"older" => Some(Word::Older),
-        _ => None,
+    spelled(&COMMON_KEYWORDS, text)
+}
+
+// The word with that text in a table.
+fn spelled(table: &[(&[u8], Word)], text: &[u8]) -> Option<Word>
+    ensures { result ≡ word_spelled (map (λ s. (s.0.now, s.1)) table.now) text.now }
+{
+    for &(spelling, word) in table {
+        if spelling == text {
+            return Some(word);
+        }
     }
+    None
 }
 
 // The symbol of one byte.

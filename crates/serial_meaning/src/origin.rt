@@ -65,7 +65,7 @@ impl Origin {
             ) => {
                 function == other_function
                     && first == other_first
-                    && range == other_range
+                    && *range == *other_range
                     && same_values(rest.as_slice(), other_rest.as_slice())
                     && path.same(other_path)
             }

@@ -15,7 +15,7 @@ pub(crate) fn same_expr(e: &Expr, other: &Expr) -> bool
     ensures { IsTrue result ↔ (e.now ≡ other.now) }
 {
     match (e, other) {
-        (Expr::Number(number), Expr::Number(other)) => number == other,
+        (Expr::Number(number), Expr::Number(other)) => *number == *other,
         (Expr::Var(name), Expr::Var(other)) => same_name(name, other),
         (Expr::Item(name, index), Expr::Item(other, other_index)) => {
             same_name(name, other) && same_expr(index.get(), other_index.get())
@@ -28,7 +28,7 @@ pub(crate) fn same_expr(e: &Expr, other: &Expr) -> bool
             at == other && same_expr(x.get(), other_x.get()) && same_expr(y.get(), other_y.get())
         }
         (Expr::Compare(x, how, y), Expr::Compare(other_x, other, other_y)) => {
-            how == other && same_expr(x.get(), other_x.get()) && same_expr(y.get(), other_y.get())
+            *how == *other && same_expr(x.get(), other_x.get()) && same_expr(y.get(), other_y.get())
         }
         (Expr::Sum(x, parts), Expr::Sum(other, other_parts)) => {
             same_expr(x.get(), other.get())

@@ -57,7 +57,7 @@ fn same_act(act: &Act, other: &Act) -> bool
             same_name(name, other) && same_right(right, other_right)
         }
         (Act::Array(name, length), Act::Array(other, other_length)) => {
-            same_name(name, other) && length == other_length
+            same_name(name, other) && *length == *other_length
         }
         (Act::Set(name, right), Act::Set(other, other_right)) => {
             same_name(name, other) && same_right(right, other_right)

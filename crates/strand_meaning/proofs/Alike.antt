@@ -59,7 +59,7 @@ pub alike-takes : (child : Origin → Evaluation) {ps qs : List Part} → Alike 
 alike-takes child End stage = refl
 alike-takes child (Next o place before after a) stage = alike-takes child a (takes place (child o).ending stage)
 
-alike-unfilled : (height : ℕ) {ps qs : List Part} → Alike ps qs → unfilled height ps ≡ unfilled height qs
+pub alike-unfilled : (height : ℕ) {ps qs : List Part} → Alike ps qs → unfilled height ps ≡ unfilled height qs
 alike-unfilled height End = refl
 alike-unfilled height (Next o place before after a) = ap (λ l. unfilled_by height place ++ l) (alike-unfilled height a)
 

@@ -22,11 +22,11 @@ use Rattle.strand_meaning.specs.Machine.{Place, Spawned, Looped, Half, begun}
 use Rattle.strand_meaning.specs.Pieces.{Part, Pieces, hand}
 use Rattle.strand_meaning.specs.Task.{Stage, Goes, AtSync, AtLoop, Ended, Work, Splits, Runs, Over, Task, begun_stage, start, own_instance, Stops, Spawn, waits, ends, ends_unless, faults_behind, gave, stage_step, first_half, begins_last, split_step, over_step, work_step, step}
 use Rattle.strand_meaning.specs.Rest.{children_of, rest_of_stage, rest_open, closed, told_run, parts_run, turns_left, all_with, work_run, finish}
-use Rattle.strand_meaning.specs.Sound.{IsHalf, AreHalves, IsSoundStage, IsSoFar, IsEndOf, IsLoop, IsLongLoop, FitsOrigin, AreParts, IsInstanceOrLoop, IsSoundWork, IsTask}
+use Rattle.strand_meaning.specs.Sound.{IsHalf, AreHalves, IsSoundStage, IsSoFar, IsEndOf, IsLoop, IsLongLoop, FitsOrigin, AreParts, IsInstanceOrLoop, IsSoundWork, UnfilledArePendingIn, IsTask}
 use Rattle.serial_meaning.specs.Loops.{IsHandedFor}
 use Rattle.strand_meaning.specs.Laws.{IsFaultOf, IsSoundStep}
 use Rattle.strand_meaning.proofs.Steps.{so_far-same, parts-append, ended-rest, halves-places, sound-going}
-use Rattle.strand_meaning.proofs.Starts.{begun-whole, begun-sound, halves-rest}
+use Rattle.strand_meaning.proofs.Starts.{begun-whole, begun-sound, begun-pending, halves-rest}
 use Rattle.strand_meaning.proofs.Closing.{closed-then, eval-closed}
 use Rattle.strand_meaning.proofs.Finishing.{hand-so_far}
 use Rattle.strand_meaning.proofs.Begun.{shown-more, half-path}
@@ -90,18 +90,19 @@ halves-long plan o (p ∷ ps) h k = inr (from p.place h.0 k.0.fits)
 
 -- A task that stands in a wait, or that was advanced, gives the same.
 waits-sound : (t : Task) → IsTask t → IsSoundStep t (waits t)
-waits-sound t is = record { finishes = is.finishes; known = is.known; clear = is.clear; parts = is.parts; shown = is.shown; work = is.work }
+waits-sound t is = record { finishes = is.finishes; known = is.known; clear = is.clear; parts = is.parts; shown = is.shown; work = is.work; pending = is.pending }
 
 -- other work that gives the same
 with-work : (t : Task) → IsTask t → (work : Work) → ((vs : List Value) → work_run t.plan t.origin t.pieces.handed t.work vs ≡ work_run t.plan t.origin t.pieces.handed work vs) →
-    IsSoundWork t.plan t.origin t.pieces.handed work → IsTask (record t { work = work; advanced = true })
-with-work t is work same sound = record {
+    IsSoundWork t.plan t.origin t.pieces.handed work → UnfilledArePendingIn t.plan t.pieces.handed work → IsTask (record t { work = work; advanced = true })
+with-work t is work same sound pends = record {
   finishes = sym (so_far-same (eval t.plan) t.pieces t.values (work_run t.plan t.origin t.pieces.handed t.work) (work_run t.plan t.origin t.pieces.handed work) same) ∙ is.finishes;
   known = is.known;
   clear = is.clear;
   parts = is.parts;
   shown = is.shown;
   work = sound;
+  pending = pends;
 }
 
 module _ (t : Task) (is : IsTask t) where
@@ -124,7 +125,7 @@ module _ (t : Task) (is : IsTask t) where
           none (inl e) = e
           none (inr l) = let no : IsLongLoop (Instance function args path) = subst IsLongLoop h l in absurd no
       by_origin (Loop function rest first path range) h =
-          with-work t is (Over v false) same (subst IsLoop (sym h) (subst IsInstanceOrLoop h is-loop), halves)
+          with-work t is (Over v false) same (subst IsLoop (sym h) (subst IsInstanceOrLoop h is-loop), halves) tt
         where
           own : Origin
           own = own_instance t.origin
@@ -140,7 +141,7 @@ module _ (t : Task) (is : IsTask t) where
   fault-sound f at (q ∷ qs) h = waits-sound t is
 
   stage-sound : (stage : Stage) → t.work ≡ Runs stage → IsInstanceOrLoop t.origin → IsSoFar t.plan (own_instance t.origin) ps stage → IsSoundStage t.plan ps stage → IsSoundStep t (stage_step t stage)
-  stage-sound (Goes m) at is-loop far sound = sound-going t is m (own-of-plan t.plan t.origin is.known is-loop) is-loop far sound at
+  stage-sound (Goes m) at is-loop far sound = sound-going t is m (own-of-plan t.plan t.origin is.known is-loop) is-loop far sound (subst (UnfilledArePendingIn t.plan ps) at is.pending) at
   stage-sound (AtSync m) at is-loop far sound = waits-sound t is
   stage-sound (AtLoop m) at is-loop far sound = waits-sound t is
   stage-sound (Ended (Ok v)) at is-loop far sound = gave-sound v at sound is-loop
@@ -208,7 +209,7 @@ module _ (t : Task) (is : IsTask t) where
 
     -- the last one is begun
     last-left : left.hi - left.lo ≡ 1 → IsTask (record t { work = begins_last t.plan t.origin; advanced = true })
-    last-left h = with-work t is (begins_last t.plan t.origin) same sound
+    last-left h = with-work t is (begins_last t.plan t.origin) same sound (subst (UnfilledArePendingIn t.plan ps) (sym begins) (begun-pending t.plan function _ ps halves))
       where
         own : Origin
         own = own_instance whole
@@ -274,6 +275,7 @@ module _ (t : Task) (is : IsTask t) where
         parts = parts-append t.plan t.origin ps _ is.parts (record { known = subst (IsOriginOf t.plan) (sym half-is) known-half; fits = subst IsLongLoop (sym loop) long; same = inl tt }, tt);
         shown = λ none. shown-more t.origin t.pieces.told ps (record { child = first_half t.origin left; place = Half; behind = [] }) (is.shown none) (inl (tt, half-path t.origin left));
         work = (subst (λ (o : Origin). IsEndOf o (upper_half left)) (sym loop) upper, more ps halves);
+        pending = tt;
       },
       subst (λ (o : Origin). IsHandedFor t.plan o (first_half o left)) (sym loop) ([], sym (append-nil path)),
     )
@@ -362,6 +364,7 @@ tasks_begin plan (Instance function args path) known clear =
       parts = tt;
       shown = λ none. tt;
       work = (tt, record { front = []; whole = whole }, begun-sound plan function args [] clear tt);
+      pending = begun-pending plan function args [] tt;
     }
 tasks_begin plan (Loop function rest first path range) known clear = record {
   finishes = then-done (turns (eval plan) function rest first path range.lo (range.hi - range.lo)) ∙ sym (eval-loop function rest first path plan range (loop-of-plan plan (Loop function rest first path range) known));
@@ -370,4 +373,5 @@ tasks_begin plan (Loop function rest first path range) known clear = record {
   parts = tt;
   shown = λ none. tt;
   work = ((omega arith, refl, λ h. h), tt);
+  pending = tt;
 }

@@ -21,6 +21,7 @@ pub mod Onward
 pub mod Own
 pub mod Shown
 pub mod SoundMoves
+pub mod Standing
 pub mod Starts
 pub mod StrandRuns
 pub mod Steps
@@ -33,4 +34,6 @@ pub mod FreeNames
 pub mod ItemsRise
 pub mod Under
 pub mod Passing
+pub mod PendingAnswers
+pub mod PendingMoves
 pub mod ElisionStrands

@@ -15,10 +15,11 @@ use Rattle.strand_meaning.specs.Machine.{Place, Spawned, Looped, Half, Activatio
 use Rattle.strand_meaning.specs.Pieces.{Part, Pieces, heard_unless, heard, heard_all}
 use Rattle.strand_meaning.specs.Task.{Stage, Goes, AtSync, AtLoop, Ended, Work, Splits, Runs, Over, Task, own_instance, changed, changed_at, answered, takes, takes_all, joins, resumed, resumed_work, more_values, all_values, on}
 use Rattle.strand_meaning.specs.Rest.{children_of, evaluations, rest_of_stage, rest_open, closed, told_end, told_run, parts_run, all_with, work_run, finish}
-use Rattle.strand_meaning.specs.Sound.{unfilled_by, unfilled, is_by, any_by, IsSound, AreSound, IsPlace, ArePlaces, IsHalf, behind_sync, IsSoundStage, AreParts, IsSoundWork, AreShownBy, IsTask}
+use Rattle.strand_meaning.specs.Sound.{unfilled_by, unfilled, is_by, any_by, IsSound, AreSound, IsPlace, ArePlaces, IsHalf, behind_sync, IsSoundStage, AreParts, IsSoundWork, AreShownBy, UnfilledArePendingIn, IsTask}
 use Rattle.strand_meaning.proofs.Closing.{behind-then}
 use Rattle.strand_meaning.proofs.Changed.{length-changed}
 use Rattle.strand_meaning.proofs.Clears.{clear-within}
+use Rattle.strand_meaning.proofs.PendingAnswers.{answers-pending}
 use Rattle.strand_meaning.proofs.Steps.{so_far-same}
 
 clash : true ≡ false → ⊥
@@ -309,6 +310,11 @@ module _ (t : Task) (is : IsTask t) where
   work-sound (Over v true) s = (s.0, refl)
   work-sound (Over v false) s = (s.0, refl)
 
+  work-pending : (work : Work) → UnfilledArePendingIn t.plan ps work → UnfilledArePendingIn t.plan [] (resumed_work ps answers work)
+  work-pending (Splits left) p = tt
+  work-pending (Runs stage) p = answers-pending t.plan (eval t.plan) ps stage p
+  work-pending (Over v gone_on) p = tt
+
   pub none-handed : pieces-on.handed ≡ []
   none-handed = heard-none (eval t.plan) ps (record t.pieces { handed = [] }) refl
 
@@ -328,6 +334,7 @@ module _ (t : Task) (is : IsTask t) where
     parts = subst (AreParts t.plan t.origin) (sym none-handed) tt;
     shown = λ none. subst (AreShownBy t.origin pieces-on.told) (sym none-handed) tt;
     work = subst (λ (qs : List Part). IsSoundWork t.plan t.origin qs (resumed_work ps answers t.work)) (sym none-handed) (work-sound t.work is.work);
+    pending = subst (λ (qs : List Part). UnfilledArePendingIn t.plan qs (resumed_work ps answers t.work)) (sym none-handed) (work-pending t.work is.pending);
   }
 
 -- A task that takes its children's evaluations stays sound.

@@ -107,7 +107,7 @@ sound-as plan ps qs height a names any s = record {
   returning = s.returning;
 }
 
-same-unfilled : (height : ℕ) (ps qs : List Part) → any_by height qs ≡ false → unfilled height ps ≡ unfilled height (ps ++ qs)
+pub same-unfilled : (height : ℕ) (ps qs : List Part) → any_by height qs ≡ false → unfilled height ps ≡ unfilled height (ps ++ qs)
 same-unfilled height ps qs h = sym (unfilled-append height ps qs ∙ ap (λ l. unfilled height ps ++ l) (none-unfilled height qs h) ∙ append-nil (unfilled height ps))
 
 same-any : (height : ℕ) (ps qs : List Part) → any_by height qs ≡ false → any_by height (ps ++ qs) ≡ any_by height ps

@@ -4,6 +4,7 @@ use Rattle.std.proofs.Common.{pos}
 use Rattle.std.specs.Prelude.{Contains}
 use Rattle.std.proofs.lemmas.Option.{slice_get_within, get_or_from_slice_get}
 use Rattle.script_grammar.specs.declared.tree.Function.{Function}
+use Rattle.script_check.specs.Names.{nobody}
 use Rattle.serial_meaning.specs.Runs.{Run, done, ◌then◌}
 use Rattle.serial_meaning.specs.Names.{Names}
 use Rattle.serial_meaning.specs.Functions.{function_at}
@@ -21,8 +22,9 @@ use Rattle.strand_meaning.specs.Machine.{Place, Spawned, Looped, Half, Machine, 
 use Rattle.strand_meaning.specs.Pieces.{Part}
 use Rattle.strand_meaning.specs.Task.{Stage, Goes, Ended, begun_stage}
 use Rattle.strand_meaning.specs.Rest.{children_of, closes, rest_of_stage, rest_open}
-use Rattle.strand_meaning.specs.Sound.{is_by, any_by, IsHalf, AreHalves, IsSoundStage}
-use Rattle.strand_meaning.proofs.Clears.{none-unfilled}
+use Rattle.strand_meaning.specs.Pending.{Here, Outside}
+use Rattle.strand_meaning.specs.Sound.{unfilled, is_by, any_by, IsHalf, AreHalves, IsSoundStage, UnfilledArePending}
+use Rattle.strand_meaning.proofs.Clears.{none-contained, none-unfilled}
 use Rattle.strand_meaning.proofs.Steps.{halves-places}
 
 clash : true ≡ false → ⊥
@@ -64,7 +66,7 @@ begun-whole plan function args path =
         ∙ ap (λ (o : Option Function). callee_run f o then λ r. done r.0) (sym h)
         ∙ ap (rest_of_stage plan child path) (sym (stage-is (Some f) h))
 
-halves-none : (height : ℕ) (ps : List Part) → AreHalves ps → any_by height ps ≡ false
+pub halves-none : (height : ℕ) (ps : List Part) → AreHalves ps → any_by height ps ≡ false
 halves-none height [] h = refl
 halves-none height (p ∷ ps) h = ap (λ b. b || any_by height ps) (from p.place h.0) ∙ halves-none height ps h.1
   where
@@ -117,6 +119,36 @@ begun-sound plan function args ps clear halves = by_function (function_at (funct
     by_function : (o : Option Function) → function_at (functions_of plan) function ≡ o → IsSoundStage plan ps (begun_stage (begun plan function args))
     by_function None h = subst (IsSoundStage plan ps) (sym (stage-is None h)) halves
     by_function (Some f) h = subst (IsSoundStage plan ps) (sym (stage-is (Some f) h)) (sound f h)
+
+-- and nothing of it is unfilled
+pub begun-pending : (plan : PlanView) (function : ℕ) (args : List Value) (ps : List Part) → AreHalves ps → UnfilledArePending plan ps (begun_stage (begun plan function args))
+begun-pending plan function args ps halves = by_function (function_at (functions_of plan) function) refl
+  where
+    machine : Function → Machine
+    machine f = record {
+      rank = 0;
+      steps = plan.limits.budget;
+      top = record { function = function; left = f.body; levels = []; leaving = false; returning = false; env = bound f.params args; spawned = false; faulted = None; target = None };
+      below = [];
+    }
+
+    stage_of : Option Function → Stage
+    stage_of (Some f) = Goes (machine f)
+    stage_of None = Ended (Ok (Int (pos 0)))
+
+    stage-is : (o : Option Function) → function_at (functions_of plan) function ≡ o → begun_stage (begun plan function args) ≡ stage_of o
+    stage-is None h = rw h refl
+    stage-is (Some f) h = rw h refl
+
+    none : (name : List ℕ) → Contains (unfilled 0 ps) name → ⊥
+    none name h = none-contained name (subst (λ (l : Names). Contains l name) (none-unfilled 0 ps (halves-none 0 ps halves)) h)
+
+    going : (f : Function) → function_at (functions_of plan) function ≡ Some f → UnfilledArePending plan ps (Goes (machine f))
+    going f h = (record { function = f; of_plan = h; now = nobody; stands = Outside Here; pending = λ name c. absurd (none name c) }, tt)
+
+    by_function : (o : Option Function) → function_at (functions_of plan) function ≡ o → UnfilledArePending plan ps (begun_stage (begun plan function args))
+    by_function None h = subst (UnfilledArePending plan ps) (sym (stage-is None h)) tt
+    by_function (Some f) h = subst (UnfilledArePending plan ps) (sym (stage-is (Some f) h)) (going f h)
 
 -- parts of a loop change nothing in a stage that none of them is of
 pub halves-rest : (plan : PlanView) (child : Origin → Evaluation) (path : List ℕ) (ps : List Part) → AreHalves ps → (r : Reached) →

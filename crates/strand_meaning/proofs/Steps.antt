@@ -18,13 +18,15 @@ use Rattle.strand_meaning.specs.Machine.{Place, Spawned, Looped, Half, Token, Op
 use Rattle.strand_meaning.specs.Pieces.{Part, Pieces, with_tokens}
 use Rattle.strand_meaning.specs.Task.{Stage, Goes, Ended, Work, Runs, Task, own_instance, stage_after, child_in, stops_at, passing, moved, resumed}
 use Rattle.strand_meaning.specs.Rest.{children_of, rest_of_stage, rest_open, closed, parts_run, told_run, work_run, all_with, finish}
-use Rattle.strand_meaning.specs.Sound.{IsPlace, ArePlaces, IsHalf, AreHalves, IsSoundStage, IsSoFar, AreParts, IsInstanceOrLoop, IsTask}
+use Rattle.strand_meaning.specs.Sound.{IsPlace, ArePlaces, IsHalf, AreHalves, IsSoundStage, IsSoFar, AreParts, IsInstanceOrLoop, UnfilledArePending, IsTask}
 use Rattle.serial_meaning.specs.Loops.{IsHandedFor}
 use Rattle.strand_meaning.specs.Laws.{IsSoundStep}
 use Rattle.strand_meaning.specs.Notes.{token_items}
 use Rattle.strand_meaning.proofs.Shown.{token_parts}
 use Rattle.strand_meaning.proofs.Taken.{takes-taken, shown_with, open-move, none-known}
 use Rattle.strand_meaning.proofs.SoundMoves.{sound-free, SoundEnd, sound-move}
+use Rattle.strand_meaning.proofs.PendingMoves.{PendingEnd, pending-move}
+use Rattle.strand_meaning.proofs.PendingAnswers.{alike-pending}
 use Rattle.strand_meaning.proofs.Alike.{Alike, alike-tokens, alike-takes, alike-parts, alike-stage}
 use Rattle.strand_meaning.proofs.Depth.{loop-of-plan, same-answer}
 use Rattle.strand_meaning.proofs.Own.{own-move}
@@ -112,7 +114,7 @@ halves-places (p ∷ ps) h = (from p.place h.0, halves-places ps h.1)
 
 -- A task whose instance moves
 module _ (t : Task) (is : IsTask t) (m : Machine) (own-known : IsOriginOf t.plan (own_instance t.origin)) (is-loop : IsInstanceOrLoop t.origin)
-    (far : IsSoFar t.plan (own_instance t.origin) t.pieces.handed (Goes m)) (sound : IsSoundStage t.plan t.pieces.handed (Goes m)) (at : t.work ≡ Runs (Goes m)) where
+    (far : IsSoFar t.plan (own_instance t.origin) t.pieces.handed (Goes m)) (sound : IsSoundStage t.plan t.pieces.handed (Goes m)) (pends : UnfilledArePending t.plan t.pieces.handed (Goes m)) (at : t.work ≡ Runs (Goes m)) where
   abbrev own : Origin
   own = own_instance t.origin
 
@@ -149,14 +151,15 @@ module _ (t : Task) (is : IsTask t) (m : Machine) (own-known : IsOriginOf t.plan
 
   -- the task after the move
   next-task : (ts : List Token) → Each NotHalf ts → Shows t.origin ts → (rest : Run Item Ending Value) → Leaves ts rest → (stage : Stage) →
-      rest ≡ rest_open t.plan kids path (ps ++ token_parts ts) stage → IsSoundStage t.plan (ps ++ token_parts ts) stage → IsTask (passing t ts (Runs stage))
-  next-task ts own-tokens shows rest leaves stage lands fits = record {
+      rest ≡ rest_open t.plan kids path (ps ++ token_parts ts) stage → IsSoundStage t.plan (ps ++ token_parts ts) stage → UnfilledArePending t.plan (ps ++ token_parts ts) stage → IsTask (passing t ts (Runs stage))
+  next-task ts own-tokens shows rest leaves stage lands fits stands = record {
     finishes = finishes;
     known = is.known;
     clear = is.clear;
     parts = alike-parts t.plan t.origin alike (parts-append t.plan t.origin ps (token_parts ts) is.parts (new-parts t.plan t.origin ts own-tokens (known ts rest leaves)));
     shown = λ none. let before : t.pieces.fault ≡ None = sym (tokens-fault ts t.pieces) ∙ none in shows t.pieces before (is.shown before);
     work = (is-loop, record { front = far.front ++ token_items ts; whole = further ts rest leaves ∙ ap (λ (r : Run Item Ending Value). behind (far.front ++ token_items ts) (r then all_of)) lands-here }, alike-stage t.plan alike stage fits);
+    pending = alike-pending t.plan alike stage stands;
   }
     where
       after : List Part
@@ -181,27 +184,27 @@ module _ (t : Task) (is : IsTask t) (m : Machine) (own-known : IsOriginOf t.plan
           ∙ ap (λ (w : Work). so_far (eval t.plan) t.pieces t.values (work_run t.plan t.origin ps w)) (sym at)
           ∙ is.finishes
 
-  sound-moved : (ts : List Token) (e : Result Reached Fault) → Each NotHalf ts → Shows t.origin ts → Leaves ts (shown_with t.plan kids path ps ts e) → SoundEnd t.plan ps ts e → IsSoundStep t (moved t ts e)
-  sound-moved ts (Ok (Stands k)) own-tokens shows leaves fits = by_child (child_in ts) refl
+  sound-moved : (ts : List Token) (e : Result Reached Fault) → Each NotHalf ts → Shows t.origin ts → Leaves ts (shown_with t.plan kids path ps ts e) → SoundEnd t.plan ps ts e → PendingEnd t.plan ps ts e → IsSoundStep t (moved t ts e)
+  sound-moved ts (Ok (Stands k)) own-tokens shows leaves fits stands = by_child (child_in ts) refl
     where
       next : Task
       next = passing t ts (Runs (stage_after ts k))
 
       is-next : IsTask next
-      is-next = next-task ts own-tokens shows (rest_open t.plan kids path (ps ++ token_parts ts) (stage_after ts k)) leaves (stage_after ts k) refl fits
+      is-next = next-task ts own-tokens shows (rest_open t.plan kids path (ps ++ token_parts ts) (stage_after ts k)) leaves (stage_after ts k) refl fits stands
 
       by_child : (o : Option Origin) → child_in ts ≡ o → IsSoundStep t (stops_at o next)
       by_child None h = is-next
       by_child (Some c) h =
           let k = child-known t.plan t.origin ts c (known ts (rest_open t.plan kids path (ps ++ token_parts ts) (stage_after ts k)) leaves) h in
           (k.0, is-next, handed-for t.plan t.origin c k.2)
-  sound-moved ts (Ok (Gives v)) own-tokens shows leaves fits =
-      next-task ts own-tokens shows (done v) leaves (Ended (Ok v)) (sym (ended-rest t.plan kids path 0 (ps ++ token_parts ts) (halves-places (ps ++ token_parts ts) halves) (Ok v))) halves
+  sound-moved ts (Ok (Gives v)) own-tokens shows leaves fits stands =
+      next-task ts own-tokens shows (done v) leaves (Ended (Ok v)) (sym (ended-rest t.plan kids path 0 (ps ++ token_parts ts) (halves-places (ps ++ token_parts ts) halves) (Ok v))) halves tt
     where
       halves : AreHalves (ps ++ token_parts ts)
       halves = subst AreHalves (sym (ap (λ (l : List Part). ps ++ l) fits.0 ∙ append-nil ps)) fits.1
-  sound-moved ts (Err f) own-tokens shows leaves fits =
-      next-task ts own-tokens shows (stopped (Own f)) leaves (Ended (Err (Own f))) (sym (ended-rest t.plan kids path fits.1 (ps ++ token_parts ts) places (Err (Own f)))) (fits.1, places)
+  sound-moved ts (Err f) own-tokens shows leaves fits stands =
+      next-task ts own-tokens shows (stopped (Own f)) leaves (Ended (Err (Own f))) (sym (ended-rest t.plan kids path fits.1 (ps ++ token_parts ts) places (Err (Own f)))) (fits.1, places) tt
     where
       places : ArePlaces fits.1 (ps ++ token_parts ts)
       places = subst (ArePlaces fits.1) (sym (ap (λ (l : List Part). ps ++ l) fits.0 ∙ append-nil ps)) fits.2
@@ -211,4 +214,4 @@ module _ (t : Task) (is : IsTask t) (m : Machine) (own-known : IsOriginOf t.plan
       let r = move t.plan path m in
       sound-moved r.items r.ending (own-move t.plan path m) (move-shows t.origin t.plan m)
       (open-move t.plan kids path (length m.below) ps sound.0 m (sound-free t.plan ps m sound) (none-known kids ps m sound.1.spawned sound.1.faulted) (λ h. (sound.1.leaving h).1))
-      (sound-move t.plan path is.clear ps m sound)
+      (sound-move t.plan path is.clear ps m sound) (pending-move t.plan path ps m sound pends)

@@ -24,7 +24,7 @@ use Rattle.strand_meaning.specs.Task.{Goes, changed, answered, Task, Stop, Spawn
 use Rattle.strand_meaning.specs.Rest.{evaluations}
 use Rattle.strand_meaning.specs.Left.{stops_left, moves_left}
 use Rattle.strand_meaning.specs.Notes.{IsInstance, Notes, no_notes, also, Shows, IsOnWay, OnWay}
-use Rattle.strand_meaning.specs.Sound.{IsSoundStage, IsTask}
+use Rattle.strand_meaning.specs.Sound.{IsSoundStage, UnfilledArePendingIn, IsTask}
 
 -- No function of a valid script touches a pending variable.
 abbrev pub ValidPlansAreClear : Type 0
@@ -77,6 +77,11 @@ MovesLeaveUnfilledAlone =
     (plan : PlanView) (path : List ℕ) (parts : List Part) (m : Machine) (p : Part) (owner : ℕ) (target : Option Name) (ended : Result (List Value) Fault) →
     IsSoundStage plan parts (Goes m) → Contains parts p → p.place ≡ Spawned owner target →
     move plan path (changed owner (answered target ended) m) ≡ changed_run (changed owner (answered target ended)) (move plan path m)
+
+-- The unfilled variables of each activation of a task are in the set by which validity judges the statement at which it stands; at an implied sync,
+-- and at the `return` that brings one, in the set that validity has at the end of the statements before it.
+abbrev pub UnfilledIsPending : Type 0
+UnfilledIsPending = (t : Task) → IsTask t → UnfilledArePendingIn t.plan t.pieces.handed t.work
 
 -- a task of the same plan and origin
 abbrev pub IsOf : Task → Task → Type 0

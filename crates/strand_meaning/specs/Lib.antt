@@ -6,6 +6,7 @@ pub mod Laws
 pub mod Left
 pub mod Machine
 pub mod Notes
+pub mod Pending
 pub mod Pieces
 pub mod Rest
 pub mod Sound

@@ -15,6 +15,7 @@ use Rattle.serial_meaning.specs.declared.origin.Origin.TheVariants.{Instance, Lo
 use Rattle.strand_meaning.specs.Clear.{IsApart, IsClear, IsClearPlan, target_names}
 use Rattle.strand_meaning.specs.Machine.{Place, Spawned, Looped, Half, Level, Activation, spawns_in}
 use Rattle.strand_meaning.specs.Pieces.{Part}
+use Rattle.strand_meaning.specs.Pending.{ArePending, ArePendingStill, IsCall, IsSync, IsPfor}
 use Rattle.strand_meaning.specs.Task.{Stage, Goes, AtSync, AtLoop, Ended, Work, Splits, Runs, Over, Task, own_instance}
 use Rattle.strand_meaning.specs.Rest.{children_of, rest_open, finish}
 
@@ -104,6 +105,31 @@ pub record IsSoFar (plan : PlanView) (o : Origin) (parts : List Part) (stage : S
   pub front : List Item
   pub whole : opened plan o ≡ behind front (rest_open plan (children_of plan o) (path_of o) parts stage then λ v. done (v ∷ []))
 
+-- Pending variables
+
+-- An activation that called stands at the call.
+abbrev pub ArePendingBelow : PlanView → List Part → List Activation → Type 0
+ArePendingBelow plan parts [] = Unit {0}
+ArePendingBelow plan parts (caller ∷ below) = ArePendingStill plan (unfilled (length below) parts) caller IsCall × ArePendingBelow plan parts below
+
+-- One that waits at a sync stands at that statement; at the sync that the end of a scope or a return implies, at the end of the statements before it.
+abbrev pub ArePendingAtSync : PlanView → Names → Activation → Bool → Type 0
+ArePendingAtSync plan names a true = (a.left ≡ []) × ArePending plan names a []
+ArePendingAtSync plan names a false = ArePendingStill plan names a IsSync
+
+-- The unfilled variables of each activation are in the set that validity has where it stands.
+abbrev pub UnfilledArePending : PlanView → List Part → Stage → Type 0
+UnfilledArePending plan parts (Goes m) = ArePending plan (unfilled (length m.below) parts) m.top m.top.left × ArePendingBelow plan parts m.below
+UnfilledArePending plan parts (AtSync m) =
+    ArePendingAtSync plan (unfilled (length m.below) parts) m.top (m.top.leaving || m.top.returning) × ArePendingBelow plan parts m.below
+UnfilledArePending plan parts (AtLoop m) = ArePendingStill plan (unfilled (length m.below) parts) m.top IsPfor × ArePendingBelow plan parts m.below
+UnfilledArePending plan parts (Ended ended) = Unit {0}
+
+abbrev pub UnfilledArePendingIn : PlanView → List Part → Work → Type 0
+UnfilledArePendingIn plan parts (Splits left) = Unit {0}
+UnfilledArePendingIn plan parts (Runs stage) = UnfilledArePending plan parts stage
+UnfilledArePendingIn plan parts (Over v gone_on) = Unit {0}
+
 -- Work
 
 -- iterations of this loop, up to its last one, and some unless it has none
@@ -159,7 +185,7 @@ abbrev pub AreShownBy : Origin → List Event → List Part → Type 0
 AreShownBy o events [] = Unit {0}
 AreShownBy o events (p ∷ ps) = IsShownBy o events p × AreShownBy o p.behind ps
 
--- The invariant: to finish a task gives the evaluation of its origin.
+-- The invariant: to finish a task gives the evaluation of its origin; and what is unfilled of it is pending, where it stands.
 pub record IsTask (t : Task) : Type 0 where
   pub finishes : finish t ≡ eval t.plan t.origin
   pub known : IsOriginOf t.plan t.origin
@@ -167,3 +193,4 @@ pub record IsTask (t : Task) : Type 0 where
   pub parts : AreParts t.plan t.origin t.pieces.handed
   pub shown : t.pieces.fault ≡ None → AreShownBy t.origin t.pieces.told t.pieces.handed
   pub work : IsSoundWork t.plan t.origin t.pieces.handed t.work
+  pub pending : UnfilledArePendingIn t.plan t.pieces.handed t.work

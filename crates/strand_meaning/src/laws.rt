@@ -2,7 +2,7 @@
 
 ghost use Rattle.strand_meaning.specs.Cuts.{AnswersEnd, CutsPass, FaultsPass};
 ghost use Rattle.strand_meaning.specs.StrandLaws.{StrandsAreTheElisions};
-ghost use Rattle.strand_meaning.specs.Laws.{AnswersAreEvaluations, AnswersKeepTasks, AnswersLeaveNoMore, AnswersShowNothing, MovesFall, MovesLeaveUnfilledAlone, NotesBegin, NotesGoOn, OriginsFit, StepsAreSound, StopsAreOne, StopsAreShown, StopsAreSound, StopsCome, StopsFall, StopsKeepOrigins, TasksBegin, ValidPlansAreClear};
+ghost use Rattle.strand_meaning.specs.Laws.{AnswersAreEvaluations, AnswersKeepTasks, AnswersLeaveNoMore, AnswersShowNothing, MovesFall, MovesLeaveUnfilledAlone, NotesBegin, NotesGoOn, OriginsFit, StepsAreSound, StopsAreOne, StopsAreShown, StopsAreSound, StopsCome, StopsFall, StopsKeepOrigins, TasksBegin, UnfilledIsPending, ValidPlansAreClear};
 
 /// A task of an origin of the plan begins sound where no function of the script touches a pending variable.
 pub fn tasks_begin()
@@ -63,6 +63,11 @@ pub fn answers_leave_no_more()
 /// No move reads or writes an unfilled variable: it shows and leaves the same where the child's answer is taken first.
 pub fn moves_leave_unfilled_alone()
     ensures { MovesLeaveUnfilledAlone }
+{}
+
+/// In each task the unfilled variables of each activation are among the pending ones by which validity judges the statement at which it stands.
+pub fn unfilled_is_pending()
+    ensures { UnfilledIsPending }
 {}
 
 /// With each move fewer are left before the next stop.

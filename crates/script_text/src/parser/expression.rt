@@ -7,7 +7,9 @@ ghost use Rattle.script_text.specs.Reads.{Reads, ReadsPair, Signs, SignNext};
 ghost use Rattle.script_tokens.specs.declared.token.Word.TheVariants as word;
 
 use crate::error::SyntaxError;
-use crate::parser::source::{Source, after, deeper, expect, name_of, number_of, open, unexpected};
+use crate::parser::source::{
+    Source, after, beside, deeper, expect, name_of, number_of, open, unexpected,
+};
 use script_grammar::{Boxed, Comparison, Expr, Items, ProductPart, ProductSign, SumPart};
 use script_tokens::{Lexeme, Word};
 use std::alloc::{AllocError, Global};
@@ -105,8 +107,8 @@ pub(crate) fn expr<'t>(
     let Some((sign, behind)) = next_comparison(rest) else {
         return Ok((left, rest));
     };
-    let (right, rest) = sum(source, behind, depth)?;
     let left = Boxed(Box::new(source.alloc, left)?);
+    let (right, rest) = sum(source, behind, depth)?;
     let right = Boxed(Box::new(source.alloc, right)?);
     Ok((Expr::Compare(left, sign, right), rest))
 }
@@ -121,7 +123,7 @@ fn sum<'t>(
     ensures { Reads IsSum (sum_then []) source.now depth tokens.now result }
 {
     let (first, rest) = term(source, tokens, depth)?;
-    let (others, rest) = more_terms(source, rest, depth)?;
+    let (first, (others, rest)) = beside(first, more_terms(source, rest, depth))?;
     Ok((joined_sum(source.alloc, first, others)?, rest))
 }
 
@@ -154,7 +156,7 @@ fn term<'t>(
     ensures { Reads IsTerm (factor ∷ more_factors ∷ []) source.now depth tokens.now result }
 {
     let (first, rest) = factor(source, tokens, depth)?;
-    let (others, rest) = more_factors(source, rest, depth)?;
+    let (first, (others, rest)) = beside(first, more_factors(source, rest, depth))?;
     Ok((joined_product(source.alloc, first, others)?, rest))
 }
 
@@ -224,7 +226,7 @@ fn name_or_item<'t>(
     };
     let inside = deeper(depth, at)?;
     let (place, rest) = expr(source, behind, inside)?;
-    let rest = expect(source, rest, Word::CloseItem, depth)?;
+    let (place, rest) = beside(place, expect(source, rest, Word::CloseItem, depth))?;
     let place = Boxed(Box::new(source.alloc, place)?);
     Ok((Expr::Item(name, place), rest))
 }
@@ -261,8 +263,7 @@ fn group<'t>(
 {
     let inside = deeper(depth, first.start)?;
     let (x, rest) = expr(source, rest, inside)?;
-    let rest = expect(source, rest, Word::Close, depth)?;
-    Ok((x, rest))
+    beside(x, expect(source, rest, Word::Close, depth))
 }
 
 // The operands of `same` and `older`.
@@ -277,10 +278,10 @@ fn operands<'t>(
 {
     let rest = open(source, tokens, Word::Open, depth)?;
     let (x, rest) = expr(source, rest, depth + 1)?;
-    let rest = expect(source, rest, Word::Comma, depth + 1)?;
-    let (y, rest) = expr(source, rest, depth + 1)?;
-    let rest = expect(source, rest, Word::Close, depth)?;
+    let (x, rest) = beside(x, expect(source, rest, Word::Comma, depth + 1))?;
     let x = Boxed(Box::new(source.alloc, x)?);
+    let (y, rest) = expr(source, rest, depth + 1)?;
+    let (y, rest) = beside(y, expect(source, rest, Word::Close, depth))?;
     let y = Boxed(Box::new(source.alloc, y)?);
     Ok((x, y, rest))
 }

@@ -7,7 +7,7 @@ ghost use Rattle.script_text.specs.Machine.{only, param, params, more_params, pa
 ghost use Rattle.script_text.specs.Reads.{Reads, ReadsBody, ReadsFunctions, AddsParams, IsParamList, IsRestOfFunction, Judges};
 
 use crate::error::SyntaxError;
-use crate::parser::source::{Source, after, expect, expect_name, open, unexpected};
+use crate::parser::source::{Source, after, beside, expect, expect_name, open, unexpected};
 use crate::parser::statement::{ended_expr, stmts};
 use script_grammar::{Expr, Function, Items, Kind, Param, Script, Stmt};
 use script_tokens::{Lexeme, Stop, Word};
@@ -112,7 +112,7 @@ fn body<'t>(
         return Err(unexpected(source, rest));
     };
     let (x, rest) = ended_expr(source, behind, depth + 1)?;
-    let rest = expect(source, rest, Word::CloseBlock, depth)?;
+    let (x, rest) = beside(x, expect(source, rest, Word::CloseBlock, depth))?;
     Ok((acts, return_at, x, rest))
 }
 

@@ -10,7 +10,7 @@ use crate::error::SyntaxError;
 use crate::parser::call::more_args;
 use crate::parser::expression::expr;
 use crate::parser::source::{
-    Source, after, expect, expect_name, name_of, next, open, text, unexpected,
+    Source, after, beside, expect, expect_name, name_of, next, open, text, unexpected,
 };
 use script_grammar::{Act, CallText, Expr, Name};
 use script_tokens::{Lexeme, Word};
@@ -31,8 +31,11 @@ pub(crate) fn pfor<'t>(
     };
     let var = name_of(source, lexeme)?;
     let (lo, hi, rest) = bounds(source, behind, depth)?;
-    let (target, rest) = target(source, rest, depth)?;
-    let (call, rest) = loop_call(source, &var, rest, depth)?;
+    let ((lo, hi), (target, rest)) = beside((lo, hi), target(source, rest, depth))?;
+    let ((lo, hi, target), (call, rest)) = beside(
+        (lo, hi, target),
+        loop_call(source, &var, rest, depth),
+    )?;
     Ok((
         Act::Pfor {
             var,
@@ -56,8 +59,8 @@ fn bounds<'t>(
 {
     let rest = expect(source, tokens, Word::In, depth)?;
     let (lo, rest) = expr(source, rest, depth)?;
-    let rest = expect(source, rest, Word::Range, depth)?;
-    let (hi, rest) = expr(source, rest, depth)?;
+    let (lo, rest) = beside(lo, expect(source, rest, Word::Range, depth))?;
+    let (lo, (hi, rest)) = beside(lo, expr(source, rest, depth))?;
     Ok((lo, hi, rest))
 }
 

@@ -3,6 +3,7 @@
 ghost use Rattle.std.specs.Prelude.{◌≡◌, ℕ, ◌≤◌, ◌<◌, [], ◌∷◌, true, MatchOption};
 ghost use Rattle.script_tokens.specs.Lexing.{text_of};
 ghost use Rattle.script_tokens.specs.declared.token.Word.TheVariants as word;
+ghost use Rattle.script_text.specs.Kept.{Beside};
 ghost use Rattle.script_text.specs.Machine.{only};
 ghost use Rattle.script_text.specs.Reads.{IsPlain, IsValue, IsName, IsNumber, Names, Numbers, NextIs, NextIsNot, NextLexeme, Passes, Opens, Deepens, Reads, unexpected_in};
 
@@ -164,6 +165,19 @@ pub(crate) fn open<'t>(
             Ok(rest)
         }
         None => Err(unexpected(source, tokens)),
+    }
+}
+
+// What was read before, beside what was read now. It is dropped where there is a fault.
+pub(crate) fn beside<A: Drop, B>(
+    before: A,
+    now: Result<B, SyntaxError>,
+) -> Result<(A, B), SyntaxError>
+    ensures { Beside before now result }
+{
+    match now {
+        Ok(now) => Ok((before, now)),
+        Err(fault) => Err(fault),
     }
 }
 

@@ -11,7 +11,7 @@ use crate::parser::call::call;
 use crate::parser::expression::expr;
 use crate::parser::parallel_loop::pfor;
 use crate::parser::source::{
-    Source, after, deeper, expect, expect_name, expect_number, name_of, open, unexpected,
+    Source, after, beside, deeper, expect, expect_name, expect_number, name_of, open, unexpected,
 };
 use script_grammar::{Act, CallText, Expr, Items, Number, Right, Stmt};
 use script_tokens::{Lexeme, Word};
@@ -56,8 +56,7 @@ fn value<'t>(
     ensures { Reads IsValueOf (right ∷ only word.Semicolon ∷ []) source.now depth tokens.now result }
 {
     let (side, rest) = right_side(source, tokens, depth)?;
-    let rest = expect(source, rest, Word::Semicolon, depth)?;
-    Ok((side, rest))
+    beside(side, expect(source, rest, Word::Semicolon, depth))
 }
 
 // An expression and the semicolon after it.
@@ -70,8 +69,7 @@ pub(crate) fn ended_expr<'t>(
     ensures { Reads IsEnded (expr_then (only word.Semicolon ∷ [])) source.now depth tokens.now result }
 {
     let (x, rest) = expr(source, tokens, depth)?;
-    let rest = expect(source, rest, Word::Semicolon, depth)?;
-    Ok((x, rest))
+    beside(x, expect(source, rest, Word::Semicolon, depth))
 }
 
 // A call and the semicolon after it.
@@ -85,8 +83,7 @@ fn ended_call<'t>(
         source.now depth tokens.now result }
 {
     let (called, rest) = call(source, tokens, depth)?;
-    let rest = expect(source, rest, Word::Semicolon, depth)?;
-    Ok((called, rest))
+    beside(called, expect(source, rest, Word::Semicolon, depth))
 }
 
 // `[n];`, where no `=` comes.
@@ -124,9 +121,9 @@ fn element<'t>(
     };
     let inside = deeper(depth, at)?;
     let (place, rest) = expr(source, rest, inside)?;
-    let rest = expect(source, rest, Word::CloseItem, depth)?;
-    let rest = expect(source, rest, Word::Assign, depth)?;
-    let (x, rest) = ended_expr(source, rest, depth)?;
+    let (place, rest) = beside(place, expect(source, rest, Word::CloseItem, depth))?;
+    let (place, rest) = beside(place, expect(source, rest, Word::Assign, depth))?;
+    let (place, (x, rest)) = beside(place, ended_expr(source, rest, depth))?;
     Ok((place, x, rest))
 }
 
@@ -274,8 +271,11 @@ fn choice<'t>(
     ensures { ReadsAct source.now depth first rest.now result }
 {
     let (condition, rest) = expr(source, rest, depth)?;
-    let (then, rest) = block(source, rest, depth)?;
-    let (other, rest) = otherwise(source, rest, depth)?;
+    let (condition, (then, rest)) = beside(condition, block(source, rest, depth))?;
+    let ((condition, then), (other, rest)) = beside(
+        (condition, then),
+        otherwise(source, rest, depth),
+    )?;
     Ok((Act::If(condition, then, other), rest))
 }
 
@@ -292,7 +292,7 @@ fn repetition<'t>(
     ensures { ReadsAct source.now depth first rest.now result }
 {
     let (condition, rest) = expr(source, rest, depth)?;
-    let (body, rest) = block(source, rest, depth)?;
+    let (condition, (body, rest)) = beside(condition, block(source, rest, depth))?;
     Ok((Act::While(condition, body), rest))
 }
 

@@ -1,4 +1,4 @@
-use Rattle.std.proofs.Common.{rules, ◌≡◌, ◌≤◌, ◌<◌, ◌+◌, ◌-◌, ℕ, List, length, Err, inr, subst, IsTrue}
+use Rattle.std.proofs.Common.{rules, ◌≡◌, Err, inr}
 use Rattle.script_grammar.specs.Text.{SyntaxFault}
 use Rattle.script_text.specs.declared.error.SyntaxError.TheVariants.{Bad}
 use Rattle.script_excerpt.specs.Followers.{with_word}

@@ -1,4 +1,4 @@
-use Rattle.std.proofs.Common.{◌≡◌, ◌≤◌, length, ℕ, ◌+◌, ◌-◌, false}
+use Rattle.std.proofs.Common.{◌≡◌, ◌≤◌, length, ◌-◌, false}
 use Rattle.std.specs.List.{AllWithin}
 use Rattle.script_excerpt.specs.Places.{is_feed}
 use Rattle.script_excerpt.proofs.lines.window.Given as goal

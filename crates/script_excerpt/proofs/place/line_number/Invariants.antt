@@ -1,4 +1,4 @@
-use Rattle.std.proofs.Common.{◌≡◌, ◌≤◌, length, ℕ, ◌+◌, take}
+use Rattle.std.proofs.Common.{◌≡◌, ◌≤◌, length, ◌+◌, take}
 use Rattle.std.specs.List.{filter}
 use Rattle.script_excerpt.specs.Places.{is_feed}
 use Rattle.script_excerpt.proofs.place.line_number.Given as goal

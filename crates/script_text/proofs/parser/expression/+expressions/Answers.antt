@@ -1,7 +1,9 @@
-use Rattle.std.proofs.Common.{refl, rules}
+use Rattle.std.proofs.Common.{[], ◌∷◌, ◌+◌, refl, ap, ◌∙◌, rules}
 use Rattle.std.proofs.lemmas.Result.{err_from_is_err_and}
 use Rattle.script_tokens.specs.declared.token.Word.TheVariants as word
-use Rattle.script_text.specs.Machine.{pair}
+use Rattle.script_grammar.specs.Grammar.{IsFactor, IsFactors, IsTerms, sum_of, product_of}
+use Rattle.script_text.specs.Machine.{factor, pair, more_factors, more_terms}
+use Rattle.script_text.proofs.Kept.{passed, passed_not, came, came_not, kept}
 use Rattle.script_text.proofs.Expressions.{expr_alone, expr_compared, expr_err_left, expr_err_right, factor_err_pair, factor_group, factor_item, factor_minus, factor_name, factor_name_err, factor_number, factor_number_err, factor_older, factor_same, factor_turn, factors_end, group_deep, group_err_rest, group_err_x, item_deep, item_err_place, item_err_rest, minus_deep, minus_err, more_factors_err, more_terms_err, one_more_factor, one_more_term, operands_err_close, operands_err_comma, operands_err_x, operands_err_y, operands_read, pair_bracket, sum_err_first, sum_err_others, sum_reads, term_err_first, term_err_others, term_reads, term_turn, terms_end}
 use Rattle.script_text.proofs.parser.expression.+expressions.Goals as goal
 
@@ -26,26 +28,26 @@ sum-returns-in_err-first t c =
     let p = err_from_is_err_and c.from_residual.result c.from_residual.ensures.1 in
     rw (p.1, p.2) (sum_err_first c.args.source.now c.args.depth c.args.tokens.now _ c.in_err-first.ensures)
 
-pub sum-returns-in_err-others : goal.sum-returns-in_err-others
-sum-returns-in_err-others t c =
-    let p = err_from_is_err_and c.from_residual-in_err-others.result c.from_residual-in_err-others.ensures.1 in
-    rw (p.1, p.2) (sum_err_others c.args.source.now c.args.depth _ _ _ _ c.in_ok-first.ensures c.in_err-others.ensures)
+pub sum-returns-in_err-first-2 : goal.sum-returns-in_err-first-2
+sum-returns-in_err-first-2 t c =
+    let p = err_from_is_err_and c.from_residual-in_err-first-2.result c.from_residual-in_err-first-2.ensures.1 in
+    rw (p.1, p.2) (sum_err_others c.args.source.now c.args.depth _ _ _ _ c.in_ok-first.ensures (came_not IsTerms (more_terms ∷ []) c.args.source.now c.args.depth _ _ _ c.in_err-first-2.ensures c.more_terms.ensures))
 
 pub sum-returns : goal.sum-returns
-sum-returns t c = sum_reads c.args.source.now c.args.depth _ _ _ _ _ _ c.in_ok-first.ensures c.in_ok-others.ensures c.in_ok-joined_sum.ensures
+sum-returns t c = sum_reads c.args.source.now c.args.depth _ _ _ _ _ _ c.in_ok-first.ensures (came IsTerms (more_terms ∷ []) c.args.source.now c.args.depth _ _ _ c.in_ok-first-2.ensures.1 c.more_terms.ensures) (c.in_ok-joined_sum.ensures ∙ ap (λ z. sum_of z c.in_ok-first-2.others) c.in_ok-first-2.ensures.0)
 
 pub term-returns-in_err-first : goal.term-returns-in_err-first
 term-returns-in_err-first t c =
     let p = err_from_is_err_and c.from_residual.result c.from_residual.ensures.1 in
     rw (p.1, p.2) (term_err_first c.args.source.now c.args.depth c.args.tokens.now _ c.in_err-first.ensures)
 
-pub term-returns-in_err-others : goal.term-returns-in_err-others
-term-returns-in_err-others t c =
-    let p = err_from_is_err_and c.from_residual-in_err-others.result c.from_residual-in_err-others.ensures.1 in
-    rw (p.1, p.2) (term_err_others c.args.source.now c.args.depth _ _ _ _ c.in_ok-first.ensures c.in_err-others.ensures)
+pub term-returns-in_err-first-2 : goal.term-returns-in_err-first-2
+term-returns-in_err-first-2 t c =
+    let p = err_from_is_err_and c.from_residual-in_err-first-2.result c.from_residual-in_err-first-2.ensures.1 in
+    rw (p.1, p.2) (term_err_others c.args.source.now c.args.depth _ _ _ _ c.in_ok-first.ensures (came_not IsFactors (more_factors ∷ []) c.args.source.now c.args.depth _ _ _ c.in_err-first-2.ensures c.more_factors.ensures))
 
 pub term-returns : goal.term-returns
-term-returns t c = term_reads c.args.source.now c.args.depth _ _ _ _ _ _ c.in_ok-first.ensures c.in_ok-others.ensures c.in_ok-joined_product.ensures
+term-returns t c = term_reads c.args.source.now c.args.depth _ _ _ _ _ _ c.in_ok-first.ensures (came IsFactors (more_factors ∷ []) c.args.source.now c.args.depth _ _ _ c.in_ok-first-2.ensures.1 c.more_factors.ensures) (c.in_ok-joined_product.ensures ∙ ap (λ z. product_of z c.in_ok-first-2.others) c.in_ok-first-2.ensures.0)
 
 pub more_terms-returns-in_err-operand : goal.more_terms-returns-in_err-operand
 more_terms-returns-in_err-operand t c =
@@ -117,13 +119,13 @@ name_or_item-returns-in_err-place t c =
     let p = err_from_is_err_and c.from_residual-in_err-place.result c.from_residual-in_err-place.ensures.1 in
     rw (p.1, p.2) (item_err_place c.args.source.now c.args.depth _ _ _ _ _ _ _ c.requires.name c.in_ok-inside.ensures c.in_ok-name.ensures c.in-Some.ensures c.in_err-place.ensures)
 
-pub name_or_item-returns-in_err-rest : goal.name_or_item-returns-in_err-rest
-name_or_item-returns-in_err-rest t c =
-    let p = err_from_is_err_and c.from_residual-in_err-rest.result c.from_residual-in_err-rest.ensures.1 in
-    rw (p.1, p.2) (item_err_rest c.args.source.now c.args.depth _ _ _ _ _ _ _ _ _ c.requires.name c.in_ok-inside.ensures c.in_ok-name.ensures c.in-Some.ensures c.in_ok-place.ensures c.in_err-rest.ensures)
+pub name_or_item-returns-in_err-place-2 : goal.name_or_item-returns-in_err-place-2
+name_or_item-returns-in_err-place-2 t c =
+    let p = err_from_is_err_and c.from_residual-in_err-place-2.result c.from_residual-in_err-place-2.ensures.1 in
+    rw (p.1, p.2) (item_err_rest c.args.source.now c.args.depth _ _ _ _ _ _ _ _ _ c.requires.name c.in_ok-inside.ensures c.in_ok-name.ensures c.in-Some.ensures c.in_ok-place.ensures (passed_not word.CloseItem c.args.source.now c.args.depth _ _ _ c.in_err-place-2.ensures c.expect.ensures))
 
 pub name_or_item-returns : goal.name_or_item-returns
-name_or_item-returns t c = factor_item c.args.source.now c.args.depth _ _ _ _ _ _ _ _ _ _ c.requires.name c.in_ok-inside.ensures c.in_ok-name.ensures c.in-Some.ensures c.in_ok-place.ensures c.in_ok-rest.ensures (search rules)
+name_or_item-returns t c = factor_item c.args.source.now c.args.depth _ _ _ _ _ _ _ _ _ _ c.requires.name c.in_ok-inside.ensures c.in_ok-name.ensures c.in-Some.ensures c.in_ok-place.ensures (passed word.CloseItem c.args.source.now c.args.depth _ _ _ c.in_ok-place-2.ensures.1 c.expect.ensures) (search rules)
 
 pub negation-returns-in_err-inside : goal.negation-returns-in_err-inside
 negation-returns-in_err-inside t c =
@@ -148,13 +150,11 @@ group-returns-in_err-x t c =
     let p = err_from_is_err_and c.from_residual-in_err-x.result c.from_residual-in_err-x.ensures.1 in
     rw (p.1, p.2) (group_err_x c.args.source.now c.args.depth _ _ _ _ c.requires.open c.in_ok-inside.ensures c.in_err-x.ensures)
 
-pub group-returns-in_err-rest : goal.group-returns-in_err-rest
-group-returns-in_err-rest t c =
-    let p = err_from_is_err_and c.from_residual-in_err-rest.result c.from_residual-in_err-rest.ensures.1 in
-    rw (p.1, p.2) (group_err_rest c.args.source.now c.args.depth _ _ _ _ _ _ c.requires.open c.in_ok-inside.ensures c.in_ok-x.ensures c.in_err-rest.ensures)
-
 pub group-returns : goal.group-returns
-group-returns t c = factor_group c.args.source.now c.args.depth _ _ _ _ _ _ c.requires.open c.in_ok-inside.ensures c.in_ok-x.ensures c.in_ok-rest.ensures
+group-returns t c =
+    kept IsFactor (factor ∷ []) c.args.source.now c.args.depth (c.args.first ∷ c.args.rest.now) word.Close c.args.depth _ _ _ _ c.expect.ensures c.beside.ensures
+    (λ last k. factor_group c.args.source.now c.args.depth _ c.args.rest.now _ last c.args.first _ c.requires.open c.in_ok-inside.ensures c.in_ok-x.ensures k)
+    (λ e f. group_err_rest c.args.source.now c.args.depth _ c.args.rest.now _ c.args.first _ e c.requires.open c.in_ok-inside.ensures c.in_ok-x.ensures f)
 
 pub operands-returns-in_err-rest : goal.operands-returns-in_err-rest
 operands-returns-in_err-rest t c =
@@ -166,20 +166,20 @@ operands-returns-in_err-x t c =
     let p = err_from_is_err_and c.from_residual-in_err-x.result c.from_residual-in_err-x.ensures.1 in
     rw (p.1, p.2) (operands_err_x c.args.source.now c.args.depth _ _ _ c.in_ok-rest.ensures c.in_err-x.ensures)
 
-pub operands-returns-in_err-rest-2 : goal.operands-returns-in_err-rest-2
-operands-returns-in_err-rest-2 t c =
-    let p = err_from_is_err_and c.from_residual-in_err-rest-2.result c.from_residual-in_err-rest-2.ensures.1 in
-    rw (p.1, p.2) (operands_err_comma c.args.source.now c.args.depth _ _ _ _ _ c.in_ok-rest.ensures c.in_ok-x.ensures c.in_err-rest-2.ensures)
+pub operands-returns-in_err-x-2 : goal.operands-returns-in_err-x-2
+operands-returns-in_err-x-2 t c =
+    let p = err_from_is_err_and c.from_residual-in_err-x-2.result c.from_residual-in_err-x-2.ensures.1 in
+    rw (p.1, p.2) (operands_err_comma c.args.source.now c.args.depth _ _ _ _ _ c.in_ok-rest.ensures c.in_ok-x.ensures (passed_not word.Comma c.args.source.now (c.args.depth + 1) _ _ _ c.in_err-x-2.ensures c.expect.ensures))
 
 pub operands-returns-in_err-y : goal.operands-returns-in_err-y
 operands-returns-in_err-y t c =
     let p = err_from_is_err_and c.from_residual-in_err-y.result c.from_residual-in_err-y.ensures.1 in
-    rw (p.1, p.2) (operands_err_y c.args.source.now c.args.depth _ _ _ _ _ _ c.in_ok-rest.ensures c.in_ok-x.ensures c.in_ok-rest-2.ensures c.in_err-y.ensures)
+    rw (p.1, p.2) (operands_err_y c.args.source.now c.args.depth _ _ _ _ _ _ c.in_ok-rest.ensures c.in_ok-x.ensures (passed word.Comma c.args.source.now (c.args.depth + 1) _ _ _ c.in_ok-x-2.ensures.1 c.expect.ensures) c.in_err-y.ensures)
 
-pub operands-returns-in_err-rest-3 : goal.operands-returns-in_err-rest-3
-operands-returns-in_err-rest-3 t c =
-    let p = err_from_is_err_and c.from_residual-in_err-rest-3.result c.from_residual-in_err-rest-3.ensures.1 in
-    rw (p.1, p.2) (operands_err_close c.args.source.now c.args.depth _ _ _ _ _ _ _ _ c.in_ok-rest.ensures c.in_ok-x.ensures c.in_ok-rest-2.ensures c.in_ok-y.ensures c.in_err-rest-3.ensures)
+pub operands-returns-in_err-y-2 : goal.operands-returns-in_err-y-2
+operands-returns-in_err-y-2 t c =
+    let p = err_from_is_err_and c.from_residual-in_err-y-2.result c.from_residual-in_err-y-2.ensures.1 in
+    rw (p.1, p.2) (operands_err_close c.args.source.now c.args.depth _ _ _ _ _ _ _ _ c.in_ok-rest.ensures c.in_ok-x.ensures (passed word.Comma c.args.source.now (c.args.depth + 1) _ _ _ c.in_ok-x-2.ensures.1 c.expect.ensures) c.in_ok-y.ensures (passed_not word.Close c.args.source.now c.args.depth _ _ _ c.in_err-y-2.ensures c.expect-2.ensures))
 
 pub operands-returns : goal.operands-returns
-operands-returns t c = operands_read c.args.source.now c.args.depth _ _ _ _ _ _ _ _ c.in_ok-rest.ensures c.in_ok-x.ensures c.in_ok-rest-2.ensures c.in_ok-y.ensures c.in_ok-rest-3.ensures _ _ (search rules) (search rules)
+operands-returns t c = operands_read c.args.source.now c.args.depth _ _ _ _ _ _ _ _ c.in_ok-rest.ensures c.in_ok-x.ensures (passed word.Comma c.args.source.now (c.args.depth + 1) _ _ _ c.in_ok-x-2.ensures.1 c.expect.ensures) c.in_ok-y.ensures (passed word.Close c.args.source.now c.args.depth _ _ _ c.in_ok-y-2.ensures.1 c.expect-2.ensures) _ _ (search rules) (search rules)

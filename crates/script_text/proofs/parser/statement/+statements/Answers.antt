@@ -1,8 +1,11 @@
-use Rattle.std.proofs.Common.{refl, rules}
+use Rattle.std.proofs.Common.{refl, ap, ◌∙◌, rules}
 use Rattle.std.proofs.lemmas.Result.{err_from_is_err_and}
 use Rattle.script_tokens.specs.declared.token.Word.TheVariants as word
 use Rattle.std.specs.Prelude.{◌∷◌, []}
-use Rattle.script_text.specs.Machine.{only, call_args, expr_then, block}
+use Rattle.script_grammar.specs.Grammar.{IsBlock, IsElse}
+use Rattle.script_text.specs.Machine.{only, call_args, expr_then, block, otherwise}
+use Rattle.script_text.proofs.Kept.{came, came_not}
+use Rattle.script_text.proofs.Moved.{if_moved, while_moved}
 use Rattle.script_text.proofs.Statements.{spawn_read, call_stmt_read, sync_read, print_read, stmt_err, if_read, while_read, if_err, if_err_block, if_err_else, while_err, while_err_block, scope_read, scope_err, block_bracket, block_read, block_err_stmts, block_err_close, else_missing, else_read, else_err, stmts_end, one_more_stmt, stmts_err, stmt_turn}
 use Rattle.script_text.proofs.parser.statement.+statements.Goals as goal
 
@@ -43,31 +46,37 @@ choice-returns-in_err-condition t c =
     let p = err_from_is_err_and c.from_residual.result c.from_residual.ensures.1 in
     rw (p.1, p.2) (if_err c.args.source.now c.args.depth c.args.first c.args.rest.now _ c.requires.keyword c.requires.depth c.in_err-condition.ensures)
 
-pub choice-returns-in_err-then : goal.choice-returns-in_err-then
-choice-returns-in_err-then t c =
-    let p = err_from_is_err_and c.from_residual-in_err-then.result c.from_residual-in_err-then.ensures.1 in
-    rw (p.1, p.2) (if_err_block c.args.source.now c.args.depth c.args.first c.args.rest.now _ _ _ c.requires.keyword c.requires.depth c.in_ok-condition.ensures c.in_err-then.ensures)
+pub choice-returns-in_err-condition-2 : goal.choice-returns-in_err-condition-2
+choice-returns-in_err-condition-2 t c =
+    let p = err_from_is_err_and c.from_residual-in_err-condition-2.result c.from_residual-in_err-condition-2.ensures.1 in
+    rw (p.1, p.2) (if_err_block c.args.source.now c.args.depth c.args.first c.args.rest.now _ _ _ c.requires.keyword c.requires.depth c.in_ok-condition.ensures (came_not IsBlock (block ∷ []) c.args.source.now c.args.depth _ _ _ c.in_err-condition-2.ensures c.block.ensures))
 
-pub choice-returns-in_err-other : goal.choice-returns-in_err-other
-choice-returns-in_err-other t c =
-    let p = err_from_is_err_and c.from_residual-in_err-other.result c.from_residual-in_err-other.ensures.1 in
-    rw (p.1, p.2) (if_err_else c.args.source.now c.args.depth c.args.first c.args.rest.now _ _ _ _ _ c.requires.keyword c.requires.depth c.in_ok-condition.ensures c.in_ok-then.ensures c.in_err-other.ensures)
+pub choice-returns-in_err-condition-3 : goal.choice-returns-in_err-condition-3
+choice-returns-in_err-condition-3 t c =
+    let p = err_from_is_err_and c.from_residual-in_err-condition-3.result c.from_residual-in_err-condition-3.ensures.1 in
+    rw (p.1, p.2) (if_err_else c.args.source.now c.args.depth c.args.first c.args.rest.now _ _ _ _ _ c.requires.keyword c.requires.depth c.in_ok-condition.ensures (came IsBlock (block ∷ []) c.args.source.now c.args.depth _ _ _ c.in_ok-condition-2.ensures.1 c.block.ensures)
+    (came_not IsElse (otherwise ∷ []) c.args.source.now c.args.depth _ _ _ c.in_err-condition-3.ensures c.otherwise.ensures))
 
 pub choice-returns : goal.choice-returns
-choice-returns t c = if_read c.args.source.now c.args.depth c.args.first c.args.rest.now _ _ _ _ _ _ c.requires.keyword c.requires.depth c.in_ok-condition.ensures c.in_ok-then.ensures c.in_ok-other.ensures
+choice-returns t c =
+    if_moved c.args.source.now c.args.depth c.args.first c.args.rest.now _ _ _ _ _ _ (ap (λ z. z.0) c.in_ok-condition-3.ensures.0 ∙ c.in_ok-condition-2.ensures.0) (ap (λ z. z.1) c.in_ok-condition-3.ensures.0)
+    (if_read c.args.source.now c.args.depth c.args.first c.args.rest.now _ _ _ _ _ _ c.requires.keyword c.requires.depth c.in_ok-condition.ensures (came IsBlock (block ∷ []) c.args.source.now c.args.depth _ _ _ c.in_ok-condition-2.ensures.1 c.block.ensures)
+    (came IsElse (otherwise ∷ []) c.args.source.now c.args.depth _ _ _ c.in_ok-condition-3.ensures.1 c.otherwise.ensures))
 
 pub repetition-returns-in_err-condition : goal.repetition-returns-in_err-condition
 repetition-returns-in_err-condition t c =
     let p = err_from_is_err_and c.from_residual.result c.from_residual.ensures.1 in
     rw (p.1, p.2) (while_err c.args.source.now c.args.depth c.args.first c.args.rest.now _ c.requires.keyword c.requires.depth c.in_err-condition.ensures)
 
-pub repetition-returns-in_err-body : goal.repetition-returns-in_err-body
-repetition-returns-in_err-body t c =
-    let p = err_from_is_err_and c.from_residual-in_err-body.result c.from_residual-in_err-body.ensures.1 in
-    rw (p.1, p.2) (while_err_block c.args.source.now c.args.depth c.args.first c.args.rest.now _ _ _ c.requires.keyword c.requires.depth c.in_ok-condition.ensures c.in_err-body.ensures)
+pub repetition-returns-in_err-condition-2 : goal.repetition-returns-in_err-condition-2
+repetition-returns-in_err-condition-2 t c =
+    let p = err_from_is_err_and c.from_residual-in_err-condition-2.result c.from_residual-in_err-condition-2.ensures.1 in
+    rw (p.1, p.2) (while_err_block c.args.source.now c.args.depth c.args.first c.args.rest.now _ _ _ c.requires.keyword c.requires.depth c.in_ok-condition.ensures (came_not IsBlock (block ∷ []) c.args.source.now c.args.depth _ _ _ c.in_err-condition-2.ensures c.block.ensures))
 
 pub repetition-returns : goal.repetition-returns
-repetition-returns t c = while_read c.args.source.now c.args.depth c.args.first c.args.rest.now _ _ _ _ c.requires.keyword c.requires.depth c.in_ok-condition.ensures c.in_ok-body.ensures
+repetition-returns t c =
+    while_moved c.args.source.now c.args.depth c.args.first c.args.rest.now _ _ _ _ c.in_ok-condition-2.ensures.0
+    (while_read c.args.source.now c.args.depth c.args.first c.args.rest.now _ _ _ _ c.requires.keyword c.requires.depth c.in_ok-condition.ensures (came IsBlock (block ∷ []) c.args.source.now c.args.depth _ _ _ c.in_ok-condition-2.ensures.1 c.block.ensures))
 
 pub level-returns-in_err-body : goal.level-returns-in_err-body
 level-returns-in_err-body t c =

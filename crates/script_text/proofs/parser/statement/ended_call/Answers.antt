@@ -1,4 +1,9 @@
+use Rattle.std.specs.Prelude.{[], ◌∷◌}
 use Rattle.std.proofs.lemmas.Result.{err_from_is_err_and}
+use Rattle.script_tokens.specs.declared.token.Word.TheVariants as word
+use Rattle.script_text.specs.Machine.{only, call_args}
+use Rattle.script_text.specs.Reads.{IsCallOf}
+use Rattle.script_text.proofs.Kept.{kept}
 use Rattle.script_text.proofs.Statements.{call_of_read, call_of_err, call_of_err_end}
 use Rattle.script_text.proofs.parser.statement.ended_call.Goals as goal
 
@@ -7,10 +12,8 @@ returns-in_err-called c =
     let p = err_from_is_err_and c.from_residual.result c.from_residual.ensures.1 in
     rw (p.1, p.2) (call_of_err c.args.source.now c.args.depth c.args.tokens.now _ c.in_err-called.ensures)
 
-pub returns-in_err-rest : goal.returns-in_err-rest
-returns-in_err-rest c =
-    let p = err_from_is_err_and c.from_residual-in_err-rest.result c.from_residual-in_err-rest.ensures.1 in
-    rw (p.1, p.2) (call_of_err_end c.args.source.now c.args.depth c.args.tokens.now _ _ _ c.in_ok-called.ensures c.in_err-rest.ensures)
-
 pub returns : goal.returns
-returns c = call_of_read c.args.source.now c.args.depth c.args.tokens.now _ _ _ c.in_ok-called.ensures c.in_ok-rest.ensures
+returns c =
+    kept IsCallOf (only word.Name ∷ call_args ∷ only word.Semicolon ∷ []) c.args.source.now c.args.depth c.args.tokens.now word.Semicolon c.args.depth _ _ _ _ c.expect.ensures c.beside.ensures
+    (λ last k. call_of_read c.args.source.now c.args.depth c.args.tokens.now _ last _ c.in_ok-called.ensures k)
+    (λ e f. call_of_err_end c.args.source.now c.args.depth c.args.tokens.now e _ _ c.in_ok-called.ensures f)

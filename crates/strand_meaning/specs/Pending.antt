@@ -1,0 +1,80 @@
+-- Where an activation stands in the statements of its function, and which variables validity has pending there (docs/LANGUAGE.md, "Pending
+-- variables"): `Names` of `script_check` is the set that the judge of statements carries along.
+use Rattle.std.specs.Prelude.{◌≡◌, ℕ, true, List, [], ◌∷◌, ◌++◌, Some, Contains}
+use Rattle.script_grammar.specs.declared.tree.Expr.{Expr}
+use Rattle.script_grammar.specs.declared.tree.Function.{Function}
+use Rattle.script_grammar.specs.declared.tree.Right.TheVariants as right
+use Rattle.script_grammar.specs.declared.tree.Stmt.{Stmt, out-Stmt}
+use Rattle.script_grammar.specs.declared.tree.Act.{Act, out-Act}
+use Rattle.script_grammar.specs.declared.tree.Act.TheOpen as act
+use Rattle.script_grammar.specs.declared.tree.Act.TheOpen.{Act-F}
+use Rattle.script_check.specs.Names as check
+use Rattle.script_check.specs.Names.{nobody, both}
+use Rattle.script_check.specs.Statements.{judge, after}
+use Rattle.serial_meaning.specs.Names.{Names}
+use Rattle.serial_meaning.specs.Functions.{function_at}
+use Rattle.serial_meaning.specs.Plan.{PlanView, functions_of}
+use Rattle.strand_meaning.specs.Machine.{Level, Activation}
+
+abbrev pub act_of : Stmt → Act-F Act Stmt
+act_of st = out-Act (out-Stmt st).act
+
+-- A block inside a statement before which `before` is pending; the set that validity judges the block from; and what comes after the block,
+-- before the statements after that one: a `while` comes again.
+pub data HasBlock (st : Stmt) (before : check.Names) : List Stmt → check.Names → List Stmt → Type 0 where
+  Then : (e : Expr) (yes no : List Stmt) → act_of st ≡ act.If e yes no → HasBlock st before yes before []
+  Else : (e : Expr) (yes no : List Stmt) → act_of st ≡ act.If e yes no → HasBlock st before no before []
+  Turn : (e : Expr) (body : List Stmt) → act_of st ≡ act.While e body → HasBlock st before body (both before (after body before)) (st ∷ [])
+
+-- Validity judges these statements from a set, and comes to those that are left, with what comes after the blocks that they stand in; `now` is
+-- pending before them.
+pub data ComesTo : (from : check.Names) → (statements : List Stmt) → (left : List Stmt) → (now : check.Names) → Type 0 where
+  Here : {now : check.Names} {left : List Stmt} → ComesTo now left left now
+  Past : {from now : check.Names} {st : Stmt} {sts left : List Stmt} → ComesTo ((judge st).after from) sts left now → ComesTo from (st ∷ sts) left now
+  Within : {from inner now : check.Names} {st next : Stmt} {sts block again left : List Stmt} →
+      HasBlock st from block inner again → ComesTo inner block (next ∷ left) now → ComesTo from (st ∷ sts) (next ∷ (left ++ (again ++ sts))) now
+
+-- The same of a function's statements, inside these open scopes, the innermost first. A scope's block is judged from what is pending before it.
+pub data StandsAt (body : List Stmt) : List Level → List Stmt → check.Names → Type 0 where
+  Outside : {left : List Stmt} {now : check.Names} → ComesTo nobody body left now → StandsAt body [] left now
+  InScope : {level : Level} {levels : List Level} {st : Stmt} {block left : List Stmt} {before now : check.Names} →
+      StandsAt body levels (st ∷ level.left) before → act_of st ≡ act.Scope block → ComesTo before block left now → StandsAt body (level ∷ levels) left now
+
+-- the set by which a statement is judged: a `while` by all that is pending before one of its turns
+abbrev pub judged_by : Act-F Act Stmt → check.Names → check.Names
+judged_by (act.While e body) now = both now (after body now)
+judged_by _ now = now
+
+-- the set by which the first of these statements is judged, or the one at their end
+abbrev pub set_at : List Stmt → check.Names → check.Names
+set_at [] now = now
+set_at (st ∷ sts) now = judged_by (act_of st) now
+
+-- The activation stands where these statements are left of its function, and each of the variables is in the set that validity has there.
+pub record ArePending (plan : PlanView) (names : Names) (a : Activation) (left : List Stmt) : Type 0 where
+  pub function : Function
+  pub of_plan : function_at (functions_of plan) a.function ≡ Some function
+  pub now : check.Names
+  pub stands : StandsAt function.body a.levels left now
+  pub pending : (name : List ℕ) → Contains names name → set_at left now name ≡ true
+
+-- the activation stands still at the statement before those that are left to it
+pub record ArePendingStill (plan : PlanView) (names : Names) (a : Activation) (IsSuch : Act-F Act Stmt → Type 0) : Type 0 where
+  pub st : Stmt
+  pub such : IsSuch (act_of st)
+  pub there : ArePending plan names a (st ∷ a.left)
+
+-- the statements at which an activation can stand still
+abbrev pub IsCall : Act-F Act Stmt → Type 0
+IsCall (act.Let x (right.Call at c)) = Unit {0}
+IsCall (act.Set x (right.Call at c)) = Unit {0}
+IsCall (act.Call c) = Unit {0}
+IsCall _ = ⊥
+
+abbrev pub IsSync : Act-F Act Stmt → Type 0
+IsSync act.Sync = Unit {0}
+IsSync _ = ⊥
+
+abbrev pub IsPfor : Act-F Act Stmt → Type 0
+IsPfor (act.Pfor x lo hi target c) = Unit {0}
+IsPfor _ = ⊥
