@@ -75,12 +75,15 @@ fn descend(
         joined,
     } = walk_node(alloc, plan, origin, at)?;
     if let Some(child) = child {
+        drop(strand);
+        drop(joined);
         let Some(next) = enter(alloc, child, at)? else {
             return Err(ReplayError::NoStrand);
         };
         return Ok(Way::Down(next));
     }
     if let Some(fault) = joined {
+        drop(strand);
         return Err(ReplayError::Blocked(fault));
     }
     match strand {

@@ -12,6 +12,9 @@ use Rattle.strand_meaning.specs.Notes.{Notes, newest, IsInstance, IsOnWay}
 use Rattle.strand_meaning.specs.Sound.{IsTask}
 use Rattle.strand_meaning.specs.Strands.{own_events, events_at, child_on_way}
 use Rattle.strand_machine.specs.Eyes.{first_look, looks}
+use Rattle.strand_machine.specs.Noted.{IsNoted}
+use Rattle.strand_machine.specs.declared.note.Noted.{Noted}
+use Rattle.strand_machine.specs.declared.stop.Stop.{Stop}
 use Rattle.strand_machine.specs.Tasks.{fresh}
 use Rattle.strand_machine.specs.declared.eye.Eye.{Eye}
 use Rattle.serial_runner.specs.Nodes.{is_none, node_seen, node_toward}
@@ -69,6 +72,13 @@ pub record IsWalk (plan : PlanView) (o : Origin) (j : List ℕ) (w : Walk) : Typ
   pub notes : Notes
   pub on : IsOnWay notes w.task.task
   pub says : w.sight ≡ seen (path_of o) j notes
+
+-- The task of a walk has come to this stop, and this is what is seen then.
+pub record IsStopped (j : List ℕ) (w : Walk) (stop : Stop) (sight : Sight) : Type 0 where
+  pub noted : Noted
+  pub is_noted : IsNoted w.task j w.sight.eye noted
+  pub stops : stop ≡ noted.stop
+  pub sees : sight ≡ with_notes noted.eye noted.events noted.fault noted.joined w.sight
 
 -- What is seen of an instance, for a node, is what its node shows.
 abbrev pub IsSeen : PlanView → Origin → List ℕ → Sight → Type 0

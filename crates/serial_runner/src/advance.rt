@@ -6,6 +6,7 @@ ghost use Rattle.serial_runner.specs.declared.frames.Frame.{Frame};
 ghost use Rattle.serial_runner.specs.Stacks.{AreBelow, IsAnswerOf, IsStack, AdvancesTo, root_of, task_of_answer, with_answer};
 
 use crate::frames::{Frame, Frames};
+use crate::kept::beside;
 use crate::stack::{Advanced, Stack};
 use serial_meaning::Answer;
 use std::alloc::Global;
@@ -19,8 +20,8 @@ fn answered(answer: Answer, mut below: Frames) -> Result<Advanced, Memory>
     match below.pop() {
         Some(mut top) => {
             if top.answers.as_slice().is_empty() {
-                // most tasks await one answer, and a list would begin with room for four
-                top.answers.0.try_reserve_exact(1)?;
+                // most tasks await one or two answers, and a list would begin with room for four
+                top.answers.0.try_reserve_exact(2)?;
             }
             top.answers.0.push(answer)?;
             Ok(Advanced::Goes(Stack { top, below }))
@@ -61,7 +62,7 @@ pub(crate) fn advance(stack: Stack, alloc: Global) -> Result<Advanced, Memory>
                 task: rest,
                 answers,
             };
-            below.push(parent)?;
+            let (child, ()) = beside(child, below.push(parent))?;
             let top = Frame::of(alloc, child);
             Ok(Advanced::Goes(Stack { top, below }))
         }
@@ -70,7 +71,8 @@ pub(crate) fn advance(stack: Stack, alloc: Global) -> Result<Advanced, Memory>
             let top = Frame::of(alloc, task);
             Ok(Advanced::Goes(Stack { top, below }))
         }
-        Stop::Done { answer, .. } => {
+        Stop::Done { answer, give } => {
+            drop(give);
             if is_fault(&answer) {
                 let last = end_all(alloc, answer, below)?;
                 return Ok(Advanced::Ends(last));

@@ -6,6 +6,7 @@
 
 mod advance;
 mod frames;
+mod kept;
 mod node;
 mod serial;
 mod sight;

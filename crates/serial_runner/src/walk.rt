@@ -1,5 +1,5 @@
 // An instance that is run with an eye on the strand of one pedigree.
-ghost use Rattle.std.specs.Prelude.{◌≡◌, IfOk, false};
+ghost use Rattle.std.specs.Prelude.{◌≡◌, IfOk, None, false};
 ghost use Rattle.std.specs.Arc.{arc_value};
 ghost use Rattle.serial_meaning.specs.Eval.{path_of};
 ghost use Rattle.serial_meaning.specs.Laws.{IsOriginOf};
@@ -9,8 +9,9 @@ ghost use Rattle.strand_meaning.specs.Task.{start};
 ghost use Rattle.strand_machine.specs.Family.{tags};
 ghost use Rattle.strand_machine.specs.Stops.{answer_tags, any_cut};
 ghost use Rattle.serial_runner.specs.Nodes.{IsBelow};
-ghost use Rattle.serial_runner.specs.Sights.{AreOriginsOf, IsSeen, IsWalk, WalksOn, begun_walk, origin_of};
+ghost use Rattle.serial_runner.specs.Sights.{AreOriginsOf, IsSeen, IsStopped, IsWalk, WalksOn, begun_walk, origin_of};
 
+use crate::kept::beside;
 use crate::serial::{begin_task, run_serial};
 use crate::sight::{Sight, path};
 use ped_path::Pedigree;
@@ -49,6 +50,25 @@ fn answers_of(alloc: Global, plan: &Arc<Plan>, origins: &[Origin]) -> Result<Ite
     Ok(Items(answers))
 }
 
+/// Runs the task to its next stop, and notes what is seen up to there.
+fn stopped(walk: Walk, alloc: Global, at: &Pedigree) -> Result<(Stop, Sight), Memory>
+    requires instance { IsInstance (origin_of walk) }
+    requires goes_on { walk.task.cut ≡ None }
+    ensures { IfOk result (λ p. IsStopped at.now walk p.0 p.1) }
+{
+    let Walk { task, sight } = walk;
+    let seen = sight.eye;
+    let (sight, noted) = beside(sight, task.advance_noted(alloc, at, seen))?;
+    let Noted {
+        stop,
+        eye,
+        events,
+        fault,
+        joined,
+    } = noted;
+    beside(stop, sight.note(eye, events, fault, joined))
+}
+
 /// Runs the task to its next stop. Where it waits there, the children that it awaits are run, unless nothing that it does later counts.
 fn walk_on(walk: Walk, alloc: Global, plan: &Arc<Plan>, at: &Pedigree) -> Result<Walked, Memory>
     requires below { IsBelow (path_of (origin_of walk)) at.now }
@@ -57,32 +77,33 @@ fn walk_on(walk: Walk, alloc: Global, plan: &Arc<Plan>, at: &Pedigree) -> Result
 {
     laws::notes_go_on();
     laws::answers_show_nothing();
-    let Walk { task, sight } = walk;
-    let Noted {
-        stop,
-        eye,
-        events,
-        fault,
-        joined,
-    } = task.advance_noted(alloc, at, sight.eye)?;
-    let mut sight = sight.note(eye, events, fault, joined)?;
+    let (stop, mut sight) = stopped(walk, alloc, at)?;
     match stop {
         Stop::Spawn { child, rest } => {
-            sight.see(alloc, &child, at)?;
+            let seen = sight.see(alloc, &child, at);
+            drop(child);
+            let ((rest, sight), ()) = beside((rest, sight), seen)?;
             if sight.is_over() {
+                drop(rest);
                 return Ok(Walked::Ends(sight));
             }
             Ok(Walked::Goes(Walk { task: rest, sight }))
         }
         Stop::Wait { rest } => {
             if sight.is_over() {
+                drop(rest);
                 return Ok(Walked::Ends(sight));
             }
-            let answers = answers_of(alloc, plan, rest.awaited().as_slice())?;
-            let task = rest.resume_with(alloc, answers)?;
+            let answers = answers_of(alloc, plan, rest.awaited().as_slice());
+            let ((rest, sight), answers) = beside((rest, sight), answers)?;
+            let (sight, task) = beside(sight, rest.resume_with(alloc, answers))?;
             Ok(Walked::Goes(Walk { task, sight }))
         }
-        Stop::Done { .. } => Ok(Walked::Ends(sight)),
+        Stop::Done { answer, give } => {
+            drop(answer);
+            drop(give);
+            Ok(Walked::Ends(sight))
+        }
     }
 }
 
@@ -100,9 +121,12 @@ fn begin_walk(
     let _script = plan.checked.script();
     laws::valid_plans_are_clear();
     laws::tasks_begin();
-    let sight = Sight::new(Eye::start(path(&origin), at));
+    let eye = Eye::start(path(&origin), at);
     let task = begin_task(alloc, plan, origin)?;
-    Ok(Walk { task, sight })
+    Ok(Walk {
+        task,
+        sight: Sight::new(eye),
+    })
 }
 
 /// Runs an instance of the plan until nothing that it does later counts for the pedigree, or to its end. Its children are run where it waits

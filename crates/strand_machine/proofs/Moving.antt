@@ -1,5 +1,5 @@
 -- What a task is after a move of its instance, by what the move showed.
-use Rattle.std.proofs.Common.{◌≡◌, ◌<◌, ℕ, suc, Bool, true, false, List, [], ◌∷◌, ◌++◌, Option, None, Result, Ok, Err, length, replicate, refl, sym, ap, ◌∙◌, subst}
+use Rattle.std.proofs.Common.{◌≡◌, ◌<◌, ℕ, suc, true, false, List, [], ◌∷◌, ◌++◌, Option, None, Result, Ok, Err, length, replicate, refl, sym, ap, ◌∙◌, subst}
 use Rattle.std.specs.Prelude.{IfOk}
 use Rattle.script_grammar.specs.declared.tree.Name.{Name}
 use Rattle.serial_meaning.specs.Eval.{path_of}
@@ -11,15 +11,15 @@ use Rattle.serial_meaning.specs.declared.origin.Origin.{Origin}
 use Rattle.serial_meaning.specs.declared.value.Value.{Value}
 use Rattle.strand_meaning.specs.Laws.{MovesFall, StepsAreSound}
 use Rattle.strand_meaning.specs.Left.{moves_left}
-use Rattle.strand_meaning.specs.Machine.{Machine, move}
+use Rattle.strand_meaning.specs.Machine.{Reached, Stands, Gives, Token, move}
 use Rattle.strand_meaning.specs.Pieces.{Part, Pieces, tell, tell_at, behind_last}
-use Rattle.strand_meaning.specs.Sound.{IsTask}
 use Rattle.strand_meaning.specs.Task as meaning
-use Rattle.strand_meaning.specs.Task.{own_instance, stops_at, child_in}
+use Rattle.strand_meaning.specs.Task.{IsNext, Now, Later, own_instance, stops_at, child_in}
 use Rattle.strand_moves.specs.Machines as moves
 use Rattle.strand_moves.specs.Moves.{IsTrailOf, MovesTrail, ShowsTrail, tokens_of, run_of}
-use Rattle.strand_moves.specs.Quick.{IsQuick}
+use Rattle.strand_moves.specs.Rows.{Row, Still, More}
 use Rattle.strand_moves.specs.declared.instance.Instance.{Instance as RawInstance}
+use Rattle.strand_moves.specs.declared.running.Running.{Running}
 use Rattle.strand_moves.specs.declared.shown.Child.{Child}
 use Rattle.strand_moves.specs.declared.shown.Moved.{Moved}
 use Rattle.strand_moves.specs.declared.shown.Moved.TheVariants as moved-in
@@ -30,7 +30,7 @@ use Rattle.strand_machine.specs.Loops.{IsHandedFor}
 use Rattle.strand_machine.specs.Parts.{awaited, place_of}
 use Rattle.strand_machine.specs.Shown.{shown_task, IsSoundShown}
 use Rattle.strand_machine.specs.Stops.{IsStep, IsRun, LeadsTo, KeepsStep, step_of}
-use Rattle.strand_machine.specs.Tasks.{TaskView, task_of, task_with, view_of, fresh_with, cut_of, AwaitsLast, RunsAt, IsSound, gone, waiting, with_child}
+use Rattle.strand_machine.specs.Tasks.{TaskView, task_of, view_of, fresh_with, cut_of, AwaitsLast, RunsAt, IsSound, gone, waiting, with_child}
 use Rattle.strand_machine.specs.declared.body.Body.{Body}
 use Rattle.strand_machine.specs.declared.place.Place.{Place}
 use Rattle.strand_machine.specs.declared.place.Place.TheVariants as place
@@ -40,7 +40,7 @@ use Rattle.strand_machine.specs.declared.stop.Stop.TheVariants as stop-in
 use Rattle.strand_machine.specs.declared.work.Stage.TheVariants as stage
 use Rattle.strand_machine.specs.declared.work.Work.{Work}
 use Rattle.strand_machine.specs.declared.work.Work.TheVariants as work
-use Rattle.strand_machine.proofs.Advancing.{falls, leads-on, leads-over}
+use Rattle.strand_machine.proofs.Advancing.{falls, leads-on, leads-over, leads-start}
 use Rattle.strand_machine.proofs.Dispatch.{awaits-more, pass-sound, pass-is, wait-sound, wait-is, go-went, go-gave, go-faulted, shown-sound}
 
 -- An event changes no child
@@ -320,28 +320,65 @@ module _ (first : TaskView) (b : Body) (i : RawInstance) (h : IsOnRun first b i)
   run-is-ok f (Ok x) k = run-is (f x) k
   run-is-ok f (Err x) k = tt
 
--- Quick moves
+-- Moves in a row that show nothing
 
-module _ (first : TaskView) (b : Body) (i j : RawInstance) where
-  -- the same machine in another representation
-  pub on-run-same : IsOnRun first b i → moves.machine_of b.family.plan j ≡ moves.machine_of b.family.plan i → moves.path_of j ≡ moves.path_of i → moves.IsInstance b.family.plan j → IsOnRun first b j
-  on-run-same h same path sound =
-      let w : Machine → meaning.Work = λ m. meaning.Runs (meaning.Goes m) in
-      let P : Machine → Type 0 = λ m. IsTask (task_with b (w m)) in
-      let Q : Machine → Type 0 = λ m. LeadsTo first (record { task = task_with b (w m); children = b.family.children; loads = b.family.loads; knows = b.family.knows; cut = None }) in
+-- the instance with this in its box
+abbrev pub holding : RawInstance → Running → RawInstance
+holding i r = record i { running = record i.running { value = r } }
+
+moved-gone : (t : meaning.Task) (tokens : List Token) (ending : Result Reached Fault) → meaning.moved t tokens ending ≡ meaning.moved (record t { advanced = true }) tokens ending
+moved-gone t tokens (Ok (Stands m)) = refl
+moved-gone t tokens (Ok (Gives v)) = refl
+moved-gone t tokens (Err f) = refl
+
+-- what comes next where the next step is the same
+next-alike : (t other : meaning.Task) (stop : meaning.Stop) → meaning.step t ≡ meaning.step other → IsNext other stop → IsNext t stop
+next-alike t other stop same (Now e) = Now (same ∙ e)
+next-alike t other stop same (Later next e n) = Later next (same ∙ e) n
+
+module _ (b : Body) (i : RawInstance) where
+  abbrev on_task : meaning.Task
+  on_task = task_of b (work.Runs (stage.Goes i))
+
+  step-gone : meaning.step on_task ≡ meaning.step (record on_task { advanced = true })
+  step-gone = let r = move b.family.plan (path_of (own_instance b.family.origin)) (moves.machine_of b.family.plan i) in moved-gone on_task r.items r.ending
+
+  -- an instance that goes on is advanced by its next move anyway
+  pub gone-run : (first : TaskView) → IsOnRun first b i → IsOnRun first (gone b) i
+  gone-run first h =
+      let t = h.sound.task in
+      let l = h.leads in
       record {
-        sound = record { task = subst P (sym same) h.sound.task; family = h.sound.family; works = record { sound = sound; at = path ∙ h.sound.works.at } };
-        leads = subst Q (sym same) h.leads;
+        sound = record {
+          task = record { finishes = t.finishes; known = t.known; clear = t.clear; parts = t.parts; shown = t.shown; work = t.work; pending = t.pending };
+          family = h.sound.family;
+          works = h.sound.works;
+        };
+        leads = record {
+          next = λ stop n. l.next stop (next-alike on_task (record on_task { advanced = true }) stop step-gone n);
+          fewer = l.fewer;
+          plan = l.plan;
+          origin = l.origin;
+          children = l.children;
+          loads = l.loads;
+          knows = l.knows;
+          cut = l.cut;
+        };
       }
 
-pub on-run-over : (first : TaskView) (b c : Body) (i j : RawInstance) → IsOnRun first b i → IsSound c (work.Runs (stage.Goes j)) → LeadsTo (view_of b (work.Runs (stage.Goes i))) (view_of c (work.Runs (stage.Goes j))) → IsOnRun first c j
-on-run-over first b c i j h sound leads = record { sound = sound; leads = leads-over first _ _ h.leads leads }
+module _ (law : StepsAreSound) (fall : MovesFall) (plan : PlanView) (first : TaskView) (b : Body) (i : RawInstance) (p : plan ≡ b.family.plan) (h : IsOnRun first (gone b) i) where
+  row-on : (now : Running) → Row plan i.running.value now → IsOnRun first (gone b) (holding i now)
+  row-on now (Still _ e) = subst (λ (r : Running). IsOnRun first (gone b) (holding i r)) (sym e) h
+  row-on now (More before _ row e path sound) =
+      let k = row-on before row in
+      still-on (gone b) (holding i before) (holding i now) plan (moved-in.Went shown-in.Nothing) p e k.sound law fall first k.leads shown-in.Nothing refl refl path sound tt
 
--- a quick move that was made, as one that shows nothing
-pub quick-made : (plan : PlanView) (path : List ℕ) (m n : Machine) (went : Bool) → went ≡ true → IsQuick plan path m n went → move plan path m ≡ run_of (moved-in.Went shown-in.Nothing) n
-quick-made plan path m n true e h = h
-quick-made plan path m n false e h = absurd (cc)
+-- where the moves in a row that show nothing came to, before the last one
+pub row-run : StepsAreSound → MovesFall → (plan : PlanView) (b : Body) (i : RawInstance) → plan ≡ b.family.plan → IsSound b (work.Runs (stage.Goes i)) → (now : Running) → Row plan i.running.value now →
+    IsOnRun (view_of b (work.Runs (stage.Goes i))) (gone b) (holding i now)
+row-run law fall plan b i p sound now row =
+    let first = view_of b (work.Runs (stage.Goes i)) in
+    row-on law fall plan first b i p (gone-run b i first (record { sound = sound; leads = leads-start first refl })) now row
 
-pub quick-none : (plan : PlanView) (path : List ℕ) (m n : Machine) (went : Bool) → went ≡ false → IsQuick plan path m n went → n ≡ m
-quick-none plan path m n true e h = absurd (cc)
-quick-none plan path m n false e h = h.0
+pub on-run-over : (first : TaskView) (b c : Body) (i j : RawInstance) → IsOnRun first b i → IsOnRun (view_of b (work.Runs (stage.Goes i))) c j → IsOnRun first c j
+on-run-over first b c i j h k = record { sound = k.sound; leads = leads-over first _ _ h.leads k.leads }

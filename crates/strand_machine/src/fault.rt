@@ -43,8 +43,14 @@ impl Task {
         answers.0.push(last)?;
         let Task { mut parts } = self;
         go_on(&mut parts, alloc, answers)?;
-        let Parts { body, .. } = Box::into_inner(parts);
-        let Body { family, pieces, .. } = body;
+        let Parts { body, work } = Box::into_inner(parts);
+        let Body {
+            family,
+            pieces,
+            values,
+            ..
+        } = body;
+        drop((work, values));
         let (told, fault) = pieces.told();
         let Some(fault) = fault else { unreachable!() };
         Ok(family.answer(told, Outcome::Fault(fault)))

@@ -11,6 +11,7 @@ ghost use Rattle.strand_machine.specs.Going.{BecomesStage, BecomesWork, Puts, Ta
 ghost use Rattle.strand_machine.specs.Parts.{place_of, part_of};
 ghost use Rattle.strand_machine.specs.Stops.{is_cut};
 
+use crate::kept::set;
 use crate::memory::Memory;
 use crate::pieces::Behind;
 use crate::place::Place;
@@ -19,6 +20,7 @@ use script_grammar::{Items, Name};
 use serial_meaning::{Answer, Fault, Out, Outcome, Value};
 use std::alloc::Global;
 use strand_moves::Instance;
+use strand_values::Target;
 
 /// A task that takes its children's answers.
 #[derive(Drop)]
@@ -62,9 +64,9 @@ fn first_of(values: Items<Value>) -> Value
 }
 
 /// An instance that takes the answer of a child that it spawned.
-fn take_spawned(instance: &mut Instance, height: usize, target: Option<Name>, outcome: Outcome)
+fn take_spawned(instance: &mut Instance, height: usize, target: &Option<Target>, outcome: Outcome)
     ensures machine { (plan : PlanView) → machine_of plan instance.new
-        ≡ changed height (answered target (ending_of outcome)) (machine_of plan instance.old) }
+        ≡ changed height (answered target.now (ending_of outcome)) (machine_of plan instance.old) }
     ensures path { path_of instance.new ≡ path_of instance.old }
     ensures sound { (plan : PlanView) → IsInstance plan instance.old → IsInstance plan instance.new }
 {
@@ -77,16 +79,16 @@ fn take_spawned(instance: &mut Instance, height: usize, target: Option<Name>, ou
 }
 
 /// The stage after the answer of a child that an instance spawned.
-fn spawned(stage: &mut Stage, height: usize, target: Option<Name>, outcome: Outcome)
-    ensures { BecomesStage (takes (Spawned height target) (ending_of outcome)) stage.old stage.new }
+fn spawned(stage: &mut Stage, height: usize, target: &Option<Target>, outcome: Outcome)
+    ensures { BecomesStage (takes (Spawned height target.now) (ending_of outcome)) stage.old stage.new }
 {
     match stage {
         Stage::Goes(instance) => take_spawned(instance, height, target, outcome),
         Stage::AtSync(instance) => take_spawned(instance, height, target, outcome),
         Stage::AtLoop(instance) => take_spawned(instance, height, target, outcome),
-        Stage::Gave(_) => {}
-        Stage::Faulted(_) => {}
-        Stage::Joined(_) => {}
+        Stage::Gave(_) => drop(outcome),
+        Stage::Faulted(_) => drop(outcome),
+        Stage::Joined(_) => drop(outcome),
     }
 }
 
@@ -94,10 +96,10 @@ fn spawned(stage: &mut Stage, height: usize, target: Option<Name>, outcome: Outc
 fn filled(
     stage: &mut Stage,
     alloc: Global,
-    target: Option<Name>,
-    values: Items<Value>,
+    target: &Option<Name>,
+    values: &Items<Value>,
 ) -> Result<(), Memory>
-    ensures { OnOk result (BecomesStage (takes (Looped target) (Ok values)) stage.old stage.new) }
+    ensures { OnOk result (BecomesStage (takes (Looped target.now) (Ok values.now)) stage.old stage.new) }
 {
     let into = target.as_ref();
     let given = values.as_slice();
@@ -124,18 +126,15 @@ fn filled(
 fn looped(
     stage: &mut Stage,
     alloc: Global,
-    target: Option<Name>,
+    target: &Option<Name>,
     outcome: Outcome,
 ) -> Result<(), Memory>
-    ensures { OnOk result (BecomesStage (takes (Looped target) (ending_of outcome)) stage.old stage.new) }
+    ensures { OnOk result (BecomesStage (takes (Looped target.now) (ending_of outcome)) stage.old stage.new) }
 {
     match ending(alloc, outcome)? {
-        Ok(values) => {
-            filled(stage, alloc, target, values)?;
-            Ok(())
-        }
+        Ok(values) => { filled(stage, alloc, target, &values) }
         Err(fault) => {
-            *stage = Stage::Joined(fault);
+            set(stage, Stage::Joined(fault));
             Ok(())
         }
     }
@@ -152,14 +151,14 @@ fn taken_stage(
 {
     match place {
         Place::Spawned(height, target) => {
-            spawned(stage, height, target, outcome);
+            spawned(stage, height, &target, outcome);
             Ok(())
         }
-        Place::Looped(target) => {
-            looped(stage, alloc, target, outcome)?;
+        Place::Looped(target) => { looped(stage, alloc, &target, outcome) }
+        Place::Half => {
+            drop(outcome);
             Ok(())
         }
-        Place::Half => Ok(()),
     }
 }
 
@@ -172,9 +171,18 @@ fn taken(work: &mut Work, alloc: Global, place: Place, outcome: Outcome) -> Resu
             taken_stage(stage, alloc, place, outcome)?;
             Ok(())
         }
-        Work::Splits(_) => Ok(()),
-        Work::Over(_, _) => Ok(()),
-        Work::Cut(_) => Ok(()),
+        Work::Splits(_) => {
+            drop((place, outcome));
+            Ok(())
+        }
+        Work::Over(_, _) => {
+            drop((place, outcome));
+            Ok(())
+        }
+        Work::Cut(_) => {
+            drop((place, outcome));
+            Ok(())
+        }
     }
 }
 
@@ -189,18 +197,27 @@ impl Going {
     {
         self.cut |= is_cut(outcome);
         if self.fault.is_some() {
+            drop((events, behind));
             return Ok(());
         }
-        self.told.append(events)?;
+        match self.told.append(events) {
+            Ok(()) => {}
+            Err(memory) => {
+                drop(behind);
+                return Err(memory.into());
+            }
+        }
         match outcome {
             Outcome::Value(_) => self.told.append(behind)?,
             Outcome::Values(_) => self.told.append(behind)?,
             Outcome::Fault(fault) => {
-                self.fault = Some(fault.share()?);
+                drop(behind);
+                set(&mut self.fault, Some(fault.share()?));
                 self.by_cut = false;
             }
             Outcome::Cut { by } => {
-                self.fault = Some(by.share()?);
+                drop(behind);
+                set(&mut self.fault, Some(by.share()?));
                 self.by_cut = true;
             }
         }
@@ -223,8 +240,14 @@ impl Going {
         match outcome {
             Outcome::Value(value) => Ok(self.values.0.push(value)?),
             Outcome::Values(values) => self.add_values(values),
-            Outcome::Fault(_) => Ok(()),
-            Outcome::Cut { .. } => Ok(()),
+            Outcome::Fault(_) => {
+                drop(outcome);
+                Ok(())
+            }
+            Outcome::Cut { .. } => {
+                drop(outcome);
+                Ok(())
+            }
         }
     }
 
@@ -242,9 +265,20 @@ impl Going {
     pub fn take(&mut self, alloc: Global, behind: Behind, answer: Answer) -> Result<(), Memory>
         ensures { OnOk result (TakesAnswers (part_of answer.origin behind ∷ []) (answer ∷ []) self.old self.new) }
     {
-        let Answer { out, outcome, .. } = answer;
+        let Answer {
+            out,
+            outcome,
+            plan,
+            origin,
+        } = answer;
+        drop((plan, origin));
         let Behind { place, events } = behind;
-        self.hear(out, events, &outcome)?;
-        self.put(alloc, place, outcome)
+        match self.hear(out, events, &outcome) {
+            Ok(()) => self.put(alloc, place, outcome),
+            Err(memory) => {
+                drop((place, outcome));
+                Err(memory)
+            }
+        }
     }
 }

@@ -13,6 +13,7 @@ ghost use Rattle.strand_machine.specs.declared.work.Stage.TheVariants as stage;
 ghost use Rattle.strand_machine.specs.declared.work.Work.TheVariants as work;
 
 use crate::body::Body;
+use crate::kept::set;
 use crate::memory::Memory;
 use crate::origin::share_origin;
 use crate::parts::Parts;
@@ -34,7 +35,7 @@ pub(crate) fn pass(parts: &mut Parts, work: Work) -> Passed
     ensures sound { IsSoundMade parts.new result }
 {
     parts.body.advanced = true;
-    parts.work = work;
+    set(&mut parts.work, work);
     Passed::Goes
 }
 
@@ -46,7 +47,7 @@ pub(crate) fn wait(parts: &mut Parts, work: Work) -> Passed
 {
     parts.body.waiting = true;
     parts.body.advanced = true;
-    parts.work = work;
+    set(&mut parts.work, work);
     Passed::Waits
 }
 
@@ -61,9 +62,21 @@ fn begin_child(family: &mut Family, alloc: Global, child: Child) -> Result<Task,
 {
     let Child { origin, trail } = child;
     let loops = family.loops_below(&origin);
-    let plan = family.share_plan()?;
+    let plan = match family.share_plan() {
+        Ok(plan) => plan,
+        Err(memory) => {
+            drop((origin, trail, loops));
+            return Err(memory.into());
+        }
+    };
     let key = AnswerKey { plan, origin };
-    let give = family.hand(alloc, &key)?;
+    let give = match family.hand(alloc, &key) {
+        Ok(give) => give,
+        Err(memory) => {
+            drop((key, trail, loops));
+            return Err(memory.into());
+        }
+    };
     let AnswerKey { plan, origin } = key;
     Task::begin(alloc, plan, Child { origin, trail }, loops, give)
 }
@@ -77,10 +90,23 @@ fn hand_out(body: &mut Body, alloc: Global, child: Child, place: Place) -> Resul
     ensures child { IfOk result (λ task. task ≡ fresh_with body.old.family.knows body.old.family.plan child.origin) }
     ensures body { OnOk result (body.new ≡ with_child body.old child.origin place) }
 {
-    let shared = share_origin(alloc, &child.origin)?;
-    body.pieces.hand(shared, place)?;
-    body.advanced = true;
-    begin_child(&mut body.family, alloc, child)
+    let shared = match share_origin(alloc, &child.origin) {
+        Ok(shared) => shared,
+        Err(memory) => {
+            drop((child, place));
+            return Err(memory);
+        }
+    };
+    match body.pieces.hand(shared, place) {
+        Ok(()) => {
+            body.advanced = true;
+            begin_child(&mut body.family, alloc, child)
+        }
+        Err(memory) => {
+            drop(child);
+            Err(memory)
+        }
+    }
 }
 
 /// The task hands out a child, and this remains.
@@ -99,9 +125,16 @@ pub(crate) fn spawn_part(
         ≡ step.Stops (stop.Spawn (fresh_with b.family.knows b.family.plan child.origin) (view_of (with_child b child.origin place) work))) }
     ensures sound { IfOk result (IsSoundMade parts.new) }
 {
-    let child = hand_out(&mut parts.body, alloc, child, place)?;
-    parts.work = work;
-    Ok(Passed::Spawned(child))
+    match hand_out(&mut parts.body, alloc, child, place) {
+        Ok(child) => {
+            set(&mut parts.work, work);
+            Ok(Passed::Spawned(child))
+        }
+        Err(memory) => {
+            drop(work);
+            Err(memory)
+        }
+    }
 }
 
 /// The same of a child that a move showed.

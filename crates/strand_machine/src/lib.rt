@@ -8,6 +8,7 @@ mod body;
 mod eye;
 mod fault;
 mod going;
+mod kept;
 mod leave;
 mod memory;
 mod note;

@@ -12,6 +12,7 @@ ghost use Rattle.strand_machine.specs.declared.work.Stage.TheVariants as stage;
 ghost use Rattle.strand_machine.specs.declared.work.Work.TheVariants as work;
 
 use crate::eye::{Eye, pedigree};
+use crate::kept::set;
 use crate::leave::pass;
 use crate::memory::Memory;
 use crate::parts::Parts;
@@ -102,7 +103,7 @@ impl Notes {
             Moved::Went(Shown::Spawned { event, .. }) => self.tell(alloc, at, event)?,
             Moved::Went(Shown::Looped { event, .. }) => self.tell(alloc, at, event)?,
             Moved::Gave(_) => {}
-            Moved::Faulted(fault) => self.fault = Some(fault.share()?),
+            Moved::Faulted(fault) => set(&mut self.fault, Some(fault.share()?)),
         }
         Ok(())
     }
@@ -122,12 +123,30 @@ fn go_noted(
     ensures notes { OnOk result (notes.new ≡ with_step at.now (step_notes (task_of parts.old.body (work.Runs (stage.Goes instance)))) notes.old) }
 {
     laws::steps_are_sound();
-    let moved = instance.step(alloc, parts.body.family.plan())?;
-    notes.see(alloc, at, &moved)?;
+    let moved = match instance.step(alloc, parts.body.family.plan()) {
+        Ok(moved) => moved,
+        Err(memory) => {
+            drop(instance);
+            return Err(memory.into());
+        }
+    };
+    match notes.see(alloc, at, &moved) {
+        Ok(()) => {}
+        Err(memory) => {
+            drop((moved, instance));
+            return Err(memory);
+        }
+    }
     match moved {
         Moved::Went(shown) => show(parts, alloc, instance, shown),
-        Moved::Gave(value) => Ok(pass(parts, Work::Runs(Stage::Gave(value)))),
-        Moved::Faulted(fault) => Ok(pass(parts, Work::Runs(Stage::Faulted(fault)))),
+        Moved::Gave(value) => {
+            drop(instance);
+            Ok(pass(parts, Work::Runs(Stage::Gave(value))))
+        }
+        Moved::Faulted(fault) => {
+            drop(instance);
+            Ok(pass(parts, Work::Runs(Stage::Faulted(fault))))
+        }
     }
 }
 
@@ -147,7 +166,7 @@ fn run_noted(
     match stage {
         Stage::Goes(instance) => go_noted(parts, alloc, at, instance, notes),
         Stage::Joined(fault) => {
-            notes.joined = Some(fault.share()?);
+            set(&mut notes.joined, Some(fault.share()?));
             run(parts, alloc, Stage::Joined(fault))
         }
         stage => run(parts, alloc, stage),

@@ -81,6 +81,8 @@ impl Pieces {
             None => {
                 if self.fault.is_none() {
                     self.told.push(alloc, event)?;
+                } else {
+                    drop(event);
                 }
             }
         }
@@ -92,14 +94,29 @@ impl Pieces {
     pub fn hand(&mut self, child: Origin, place: Place) -> Result<(), Memory>
         ensures { OnOk result (self.new ≡ hand child (place_of place) self.old) }
     {
-        if self.behind.is_empty() {
-            // most tasks hand out one child before they wait, and a list would begin with room for four
-            self.awaited.0.try_reserve_exact(1)?;
-            self.behind.try_reserve_exact(1)?;
+        let room = if self.behind.is_empty() {
+            // most tasks hand out one or two children before they wait, and a list would begin with room for four
+            match self.awaited.0.try_reserve_exact(2) {
+                Ok(()) => self.behind.try_reserve_exact(2),
+                Err(error) => Err(error),
+            }
         } else {
-            self.behind.try_reserve(1)?;
+            self.behind.try_reserve(1)
+        };
+        match room {
+            Ok(()) => {}
+            Err(error) => {
+                drop((child, place));
+                return Err(error.into());
+            }
         }
-        self.awaited.0.push(child)?;
+        match self.awaited.0.push(child) {
+            Ok(()) => {}
+            Err(failed) => {
+                drop(place);
+                return Err(failed.into());
+            }
+        }
         self.behind
             .push(Behind {
                 place,

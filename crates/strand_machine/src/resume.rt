@@ -12,6 +12,7 @@ ghost use Rattle.strand_machine.specs.Tasks.{Holds, IsSound, view_of};
 ghost use Rattle.strand_machine.specs.declared.work.Stage.TheVariants as stage;
 
 use crate::going::Going;
+use crate::kept::set;
 use crate::memory::Memory;
 use crate::parts::Parts;
 use crate::pieces::{Behind, Pieces};
@@ -124,14 +125,17 @@ fn cut_short(parts: &mut Parts, alloc: Global, going: Going)
         told,
         fault,
         by_cut,
+        values,
+        work,
         ..
     } = going;
+    drop((values, work));
     let Some(outcome) = end_of(fault, by_cut) else {
         unreachable!()
     };
-    parts.body.pieces = Pieces::of(alloc, told);
+    set(&mut parts.body.pieces, Pieces::of(alloc, told));
     parts.body.waiting = false;
-    parts.work = Work::Cut(outcome);
+    set(&mut parts.work, Work::Cut(outcome));
 }
 
 /// The task with its children's answers.
@@ -152,8 +156,9 @@ pub(crate) fn go_on(parts: &mut Parts, alloc: Global, answers: Items<Answer>) ->
         told,
         fault,
         behind,
-        ..
+        awaited,
     } = taken;
+    drop(awaited);
     let mut going = Going {
         told,
         fault,
@@ -162,7 +167,13 @@ pub(crate) fn go_on(parts: &mut Parts, alloc: Global, answers: Items<Answer>) ->
         cut: false,
         by_cut: false,
     };
-    take_all(&mut going, alloc, behind, answers)?;
+    match take_all(&mut going, alloc, behind, answers) {
+        Ok(()) => {}
+        Err(memory) => {
+            drop(going);
+            return Err(memory);
+        }
+    }
     if going.cut {
         cut_short(parts, alloc, going);
         return Ok(());
@@ -180,12 +191,19 @@ pub(crate) fn go_on(parts: &mut Parts, alloc: Global, answers: Items<Answer>) ->
         awaited: Items(Vec::new(alloc)),
         behind: Vec::new(alloc),
     };
-    let work = go_on_work(work)?;
-    parts.body.pieces = pieces;
-    parts.body.values = values;
-    parts.body.waiting = false;
-    parts.work = work;
-    Ok(())
+    match go_on_work(work) {
+        Ok(work) => {
+            set(&mut parts.body.pieces, pieces);
+            set(&mut parts.body.values, values);
+            parts.body.waiting = false;
+            set(&mut parts.work, work);
+            Ok(())
+        }
+        Err(memory) => {
+            drop((pieces, values));
+            Err(memory)
+        }
+    }
 }
 
 /// Looks once. Where all children have answered, the task goes on with their answers, and it is said so.

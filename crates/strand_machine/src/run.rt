@@ -4,12 +4,11 @@ ghost use Rattle.strand_meaning.specs.Task.{stops_at, child_in};
 ghost use Rattle.strand_moves.specs.Moves.{tokens_of};
 ghost use Rattle.strand_machine.specs.Made.{IsSoundMade, made};
 ghost use Rattle.strand_machine.specs.Shown.{shown_task, IsSoundShown};
-ghost use Rattle.strand_machine.specs.Stops.{IsRun, KeepsStep, LeadsTo, step_of};
+ghost use Rattle.strand_machine.specs.Stops.{IsRun, KeepsStep, step_of};
 ghost use Rattle.strand_machine.specs.Tasks.{IsSound, view_of};
 ghost use Rattle.strand_machine.specs.declared.work.Stage.TheVariants as stage;
 ghost use Rattle.strand_machine.specs.declared.work.Work.TheVariants as work;
 
-use crate::body::Body;
 use crate::leave::{fault, give, pass, spawn, wait};
 use crate::memory::Memory;
 use crate::parts::Parts;
@@ -78,22 +77,6 @@ pub(crate) fn show(
     }
 }
 
-/// Moves in a row that show nothing, as far as the instance makes them quickly.
-fn go_quickly(body: &mut Body, alloc: Global, instance: &mut Instance) -> Result<(), Memory>
-    requires { IsSound body.old (work.Runs (stage.Goes instance.old)) }
-    ensures sound { OnOk result (IsSound body.new (work.Runs (stage.Goes instance.new))) }
-    ensures leads { OnOk result (LeadsTo (view_of body.old (work.Runs (stage.Goes instance.old))) (view_of body.new (work.Runs (stage.Goes instance.new)))) }
-{
-    laws::steps_are_sound();
-    laws::moves_fall();
-    loop {
-        if !instance.quick(alloc, body.family.plan())? {
-            return Ok(());
-        }
-        body.advanced = true;
-    }
-}
-
 /// Moves of the instance in a row, up to the first that shows more than an event, with the wait or the end that comes of it.
 pub(crate) fn go(parts: &mut Parts, alloc: Global, mut instance: Instance) -> Result<Passed, Memory>
     requires { IsSound parts.old.body (work.Runs (stage.Goes instance)) }
@@ -103,30 +86,17 @@ pub(crate) fn go(parts: &mut Parts, alloc: Global, mut instance: Instance) -> Re
     laws::steps_are_sound();
     laws::moves_fall();
     loop {
-        go_quickly(&mut parts.body, alloc, &mut instance)?;
-        match instance.step(alloc, parts.body.family.plan())? {
-            Moved::Went(Shown::Nothing) => {
-                parts.body.advanced = true;
-                continue;
-            }
-            Moved::Went(Shown::Told(event)) => {
-                parts.body.pieces.tell(alloc, event)?;
-                parts.body.advanced = true;
-            }
+        parts.body.advanced = true;
+        match instance.run(alloc, parts.body.family.plan())? {
+            Moved::Went(Shown::Nothing) => {}
+            Moved::Went(Shown::Told(event)) => parts.body.pieces.tell(alloc, event)?,
             Moved::Went(Shown::Synced(event)) => {
                 parts.body.pieces.tell(alloc, event)?;
-                parts.body.advanced = true;
                 return Ok(wait(parts, Work::Runs(Stage::AtSync(instance))));
             }
             Moved::Went(shown) => return show(parts, alloc, instance, shown),
-            Moved::Gave(value) => {
-                parts.body.advanced = true;
-                return Ok(give(parts, value));
-            }
-            Moved::Faulted(own) => {
-                parts.body.advanced = true;
-                return Ok(fault(parts, own));
-            }
+            Moved::Gave(value) => return Ok(give(parts, value)),
+            Moved::Faulted(own) => return Ok(fault(parts, own)),
         }
     }
 }

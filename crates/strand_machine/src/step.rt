@@ -122,11 +122,20 @@ fn end(parts: Box<Parts>, outcome: Outcome) -> Stop
     requires { CanEnd parts.value.body outcome }
     ensures { Step.Stops result ≡ ended parts.value.body outcome }
 {
-    let Parts { body, .. } = Box::into_inner(parts);
-    let Body { family, pieces, .. } = body;
+    let Parts { body, work } = Box::into_inner(parts);
+    let Body {
+        family,
+        pieces,
+        values,
+        ..
+    } = body;
+    drop((work, values));
     let (told, fault) = pieces.told();
     let outcome = match fault {
-        Some(fault) => Outcome::Fault(fault),
+        Some(fault) => {
+            drop(outcome);
+            Outcome::Fault(fault)
+        }
         None => outcome,
     };
     let (answer, give) = family.answer(told, outcome);

@@ -83,9 +83,22 @@ impl Task {
         laws::tasks_begin();
         let _script = plan.checked.script();
         let Child { origin, trail } = child;
-        let work = begin(alloc, &plan, &origin, trail)?;
+        let work = match begin(alloc, &plan, &origin, trail) {
+            Ok(work) => work,
+            Err(memory) => {
+                drop((plan, origin, loops, give));
+                return Err(memory);
+            }
+        };
+        let family = match Family::new(alloc, plan, origin, loops, give) {
+            Ok(family) => family,
+            Err(memory) => {
+                drop(work);
+                return Err(memory.into());
+            }
+        };
         let body = Body {
-            family: Family::new(alloc, plan, origin, loops, give)?,
+            family,
             pieces: Pieces::new(alloc),
             values: Items(Vec::new(alloc)),
             waiting: false,
@@ -139,8 +152,14 @@ impl Task {
         ensures give { result.1 ≡ tag self.task.plan self.task.origin }
     {
         let Task { parts } = self;
-        let Parts { body, .. } = Box::into_inner(parts);
-        let Body { family, .. } = body;
+        let Parts { body, work } = Box::into_inner(parts);
+        let Body {
+            family,
+            pieces,
+            values,
+            ..
+        } = body;
+        drop((work, pieces, values));
         family.answer(Out::new(), Outcome::Cut { by })
     }
 

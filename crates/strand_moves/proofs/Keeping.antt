@@ -176,9 +176,3 @@ module _ (i : Running) (below : List Activation) (same : scopes_of (reverse belo
 pub scopes-replaced : (xs : List Activation) (h : ℕ) (old a : Activation) → h < length xs → old ≡ get_or xs h old → a.levels.items ≡ old.levels.items → scopes_of (reverse (set xs h a)) ≡ scopes_of (reverse xs)
 scopes-replaced xs h old a within there same =
     scopes-set xs h a (same ∙ ap (λ (x : Activation). x.levels.items) (there ∙ get_or_default xs h old a within))
-
--- an instance of which the cursor alone is another one
-pub keeps-over : (plan : PlanView) (old passed new : Running) (result : Result Moved values.Halt) → path_of passed ≡ path_of old → passed.trail ≡ old.trail → Keeps plan passed new result → Keeps plan old new result
-keeps-over plan old passed new (Ok moved) p t h = record { instance = h.instance; path = h.path ∙ p }
-keeps-over plan old passed new (Err (halt.Fault kind)) p t h = (record { instance = h.0.instance; path = h.0.path ∙ p }, h.1 ∙ t)
-keeps-over plan old passed new (Err halt.Memory) p t h = tt

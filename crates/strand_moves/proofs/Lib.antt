@@ -14,6 +14,7 @@ pub mod Items
 pub mod Keeping
 pub mod Levels
 pub mod LoopEquations
+pub mod Passing
 pub mod Paying
 pub mod QuickLemmas
 pub mod ReplacedLemmas

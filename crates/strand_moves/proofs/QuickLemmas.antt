@@ -1,11 +1,11 @@
--- Moves that show nothing, and moves that are taken back.
+-- Moves that show nothing.
 use Rattle.std.proofs.Common.{◌≡◌, ℕ, suc, ◌+◌, Bool, true, false, List, [], ◌∷◌, Result, Ok, Err, IfOk, refl, sym, ap, subst, ◌∙◌, arith}
 use Rattle.script_grammar.specs.declared.tree.Stmt.{Stmt, out-Stmt}
 use Rattle.script_grammar.specs.declared.tree.Act.{Act, out-Act}
 use Rattle.script_grammar.specs.declared.tree.Act.TheOpen.{Act-F}
 use Rattle.serial_meaning.specs.Plan.{PlanView}
 use Rattle.serial_meaning.specs.declared.event.FaultKind.{FaultKind}
-use Rattle.strand_meaning.specs.Machine.{Machine, end_move, here_of, move, move_at}
+use Rattle.strand_meaning.specs.Machine.{here_of, move}
 use Rattle.strand_values.specs.declared.halt.Halt as values
 use Rattle.strand_values.specs.declared.halt.Halt.TheVariants as halt
 use Rattle.strand_moves.specs.declared.cursor.Cursor.{Cursor}
@@ -14,8 +14,8 @@ use Rattle.strand_moves.specs.Acts.{Acts}
 use Rattle.strand_moves.specs.Cursors.{IsBehind, left_of, Passes}
 use Rattle.strand_moves.specs.Running.{IsInstance, machine_of, path_of, present_of, text_of}
 use Rattle.strand_moves.specs.Moves.{acted, MovesTrail, strand_of}
-use Rattle.strand_moves.specs.Quick.{ByFault, IsDone, IsQuick, IsQuiet, IsWent, is_plain, plain_next, quiet}
-use Rattle.strand_moves.proofs.Equations.{paid-move, unpaid-move}
+use Rattle.strand_moves.specs.Quick.{IsDone, IsQuiet, IsWent, is_plain, quiet}
+use Rattle.strand_moves.proofs.Equations.{paid-move}
 use Rattle.strand_moves.proofs.Equations as equations
 use Rattle.strand_moves.proofs.Going.{moves-on}
 
@@ -69,27 +69,12 @@ did-quiet st old new went e h = subst (IsQuiet st old new) e h
 pub did-nothing : (st : Stmt) (old new : Running) (went : Bool) → went ≡ false → IsQuiet st old new went → IsQuiet st old new false
 did-nothing st old new went e h = subst (IsQuiet st old new) e h
 
--- no move of a plain statement where no step is left
-unpaid-at : (plan : PlanView) (path : List ℕ) (m : Machine) (left : List Stmt) → m.steps ≡ 0 → plain_next left ≡ true → ByFault (move_at plan path m left)
-unpaid-at plan path m [] h plain = absurd (cc)
-unpaid-at plan path m (st ∷ left) h plain = (_, unpaid-move plan path m st left h)
-
-pub unpaid : (plan : PlanView) (path : List ℕ) (m : Machine) → m.steps ≡ 0 → IsQuick plan path m m false
-unpaid plan path m h = (refl, λ plain. unpaid-at plan path m m.top.left h plain)
-
 module _ (plan : PlanView) (i : Running) where
   abbrev text : List Stmt
   text = text_of plan i.top
 
-  abbrev with_left : ℕ → List Stmt → Machine
-  with_left n left = let m = machine_of plan i in record m { steps = n; top = record m.top { left = left } }
-
   abbrev pub with_cursor : ℕ → Cursor → Running
   with_cursor n cursor = record i { steps = n; top = record i.top { cursor = cursor } }
-
-  -- where no statement is left, none is left after that was seen
-  none-left : (cursor : Cursor) → left_of text i.top.cursor ≡ [] → left_of text cursor ≡ [] → machine_of plan (with_cursor i.steps cursor) ≡ machine_of plan i
-  none-left cursor h k = ap (λ (left : List Stmt). with_left i.steps left) (k ∙ sym h)
 
   module _ (st : Stmt) (cursor : Cursor) (n : ℕ) (here : here_of (path_of i) (machine_of plan i) ≡ present_of i) (passes : Passes text i.top.cursor cursor st) (steps : n + 1 ≡ i.steps) where
     passed : move plan (path_of i) (machine_of plan i) ≡ acted plan (present_of i) (machine_of plan (with_cursor n cursor)) st (out-Act (out-Stmt st).act)
@@ -103,40 +88,6 @@ module _ (plan : PlanView) (i : Running) where
     -- a statement that was paid and done
     pub quick-went : (new : Running) → IsQuiet st (with_cursor n cursor) new true → move plan (path_of i) (machine_of plan i) ≡ equations.went [] (machine_of plan new)
     quick-went new acts = passed ∙ acts plan passes.behind
-
-    -- one that meets a fault, or isn't plain
-    pub quick-fault : (new : Running) → IsQuiet st (with_cursor n cursor) new false → plain_next (left_of text i.top.cursor) ≡ true → ByFault (move plan (path_of i) (machine_of plan i))
-    quick-fault new acts plain =
-        let f = acts.1 plan passes.behind (sym (ap (λ (left : List Stmt). plain_next left) passes.first) ∙ plain) in
-        (f.0, passed ∙ f.1)
-
-    -- a statement that was taken back
-    module _ (last new : Running) (same : last ≡ with_cursor n cursor) (undone : new ≡ record last { steps = last.steps + 1; top = record last.top { cursor = new.top.cursor } }) where
-      as_it_was : new ≡ with_cursor (n + 1) new.top.cursor
-      as_it_was = let P : Running → Type 0 = λ x. new ≡ record x { steps = x.steps + 1; top = record x.top { cursor = new.top.cursor } } in subst P same undone
-
-      pub quick-undone : ((body : List Stmt) (s : Stmt) → IsBehind body last.top.cursor s → left_of body new.top.cursor ≡ s ∷ left_of body last.top.cursor) → machine_of plan new ≡ machine_of plan i
-      quick-undone back =
-          let P : Running → Type 0 = λ x. IsBehind text x.top.cursor st → left_of text new.top.cursor ≡ st ∷ left_of text x.top.cursor in
-          let left = subst P same (back text st) passes.behind in
-          ap (λ (x : Running). machine_of plan x) as_it_was
-          ∙ ap (λ (l : List Stmt). with_left (n + 1) l) (left ∙ sym passes.first)
-          ∙ ap (λ (k : ℕ). with_left k (left_of text i.top.cursor)) steps
-
-      pub undone-path : path_of new ≡ path_of i
-      undone-path = ap (λ (x : Running). path_of x) as_it_was
-
-      pub undone-sound : IsInstance plan i → IsInstance plan new
-      undone-sound h =
-          let few = h.few in
-          let some = passes.first in
-          subst (λ (x : Running). IsInstance plan x) (sym as_it_was)
-          (record {
-            strand = record { fits = h.strand.fits; within = h.strand.within; few = h.strand.few };
-            few = omega (arith, few, steps);
-            around = h.around;
-            leaving = λ e. let none = (h.leaving e).0 in absurd (cc);
-          })
 
   -- a statement is left, so the sync at a scope's end isn't after it
   pub passed-on : (st : Stmt) (left : List Stmt) → IsInstance plan i → left_of text i.top.cursor ≡ st ∷ left → i.leaving ≡ false
@@ -155,9 +106,3 @@ module _ (plan : PlanView) (i : Running) where
         around = h.around;
         leaving = λ e. (none e, (h.leaving e).1);
       }
-
-  -- where no statement is left, the block ends
-  pub ends-on : (cursor : Cursor) → left_of text i.top.cursor ≡ [] → left_of text cursor ≡ [] →
-      move plan (path_of i) (machine_of plan i) ≡ end_move plan (path_of i) (machine_of plan (with_cursor i.steps cursor)) (machine_of plan (with_cursor i.steps cursor)).top.levels
-  ends-on cursor h k =
-      ap (λ (left : List Stmt). move_at plan (path_of i) (machine_of plan i) left) h ∙ ap (λ (m : Machine). end_move plan (path_of i) m m.top.levels) (sym (none-left cursor h k))

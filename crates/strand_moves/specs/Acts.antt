@@ -7,7 +7,7 @@ use Rattle.script_grammar.specs.declared.tree.Function.{Function}
 use Rattle.script_grammar.specs.declared.tree.Stmt.{Stmt}
 use Rattle.script_grammar.specs.declared.tree.Act.{Act}
 use Rattle.script_grammar.specs.declared.tree.Act.TheOpen.{Act-F}
-use Rattle.serial_meaning.specs.Exec.{bound, has_room}
+use Rattle.serial_meaning.specs.Exec.{has_room}
 use Rattle.serial_meaning.specs.Plan.{PlanView}
 use Rattle.serial_meaning.specs.Values.{Env, value_of}
 use Rattle.serial_meaning.specs.declared.value.Value.{Value}
@@ -85,13 +85,13 @@ loop_begins plan path n target env steps = by_steps (nat_lt n (steps + 1))
     by_steps true = by_room (has_room target n env)
     by_steps false = Err Budget
 
--- an activation that a call of this function begins
-pub record IsCallee (number : ℕ) (f : Function) (args : List Value) (to : Option Name) (a : Activation) : Type 0 where
+-- an activation that a call of this function begins with these variables
+pub record IsCallee (number : ℕ) (variables : Env) (to : Option Name) (a : Activation) : Type 0 where
   pub function : a.function ≡ number
-  pub left : left_of f.body a.cursor ≡ f.body
+  pub left : (body : List Stmt) → left_of body a.cursor ≡ body
   pub levels : a.levels.items ≡ []
   pub returning : a.returning ≡ false
-  pub env : a.env ≡ bound f.params args
+  pub env : a.env ≡ variables
   pub spawned : a.spawned ≡ false
   pub faulted : a.faulted ≡ None
   pub target : a.target ≡ to

@@ -3,4 +3,5 @@ pub mod Cursors
 pub mod Machines
 pub mod Moves
 pub mod Quick
+pub mod Rows
 pub mod Running

@@ -1,5 +1,5 @@
 -- Moves that show nothing.
-use Rattle.std.specs.Prelude.{◌≡◌, ℕ, Bool, true, false, List, [], ◌∷◌, Result, Ok, Err}
+use Rattle.std.specs.Prelude.{◌≡◌, Bool, true, false, [], Result, Ok, Err}
 use Rattle.script_grammar.specs.declared.tree.Right.{Right}
 use Rattle.script_grammar.specs.declared.tree.Right.TheVariants as right
 use Rattle.script_grammar.specs.declared.tree.Stmt.{Stmt, out-Stmt}
@@ -9,7 +9,7 @@ use Rattle.script_grammar.specs.declared.tree.Act.TheOpen.{Act-F}
 use Rattle.serial_meaning.specs.Runs.{Run}
 use Rattle.serial_meaning.specs.Plan.{PlanView}
 use Rattle.serial_meaning.specs.declared.event.Fault.{Fault}
-use Rattle.strand_meaning.specs.Machine.{Token, Machine, Reached, move}
+use Rattle.strand_meaning.specs.Machine.{Token, Reached}
 use Rattle.strand_values.specs.declared.halt.Halt as values
 use Rattle.strand_values.specs.declared.halt.Halt.TheVariants as halt
 use Rattle.strand_moves.specs.declared.running.Running.{Running}
@@ -54,20 +54,9 @@ is_plain (act.While e a) = true
 is_plain (act.Pfor x lo hi target c) = false
 is_plain (act.Scope a) = false
 
--- whether the next of these statements is plain
-abbrev pub plain_next : List Stmt → Bool
-plain_next [] = false
-plain_next (st ∷ left) = is_plain (out-Act (out-Stmt st).act)
-
 -- The instance ends by a fault, and nothing is shown.
 abbrev pub ByFault : Run Token Fault Reached → Type 0
 ByFault run = (f : Fault) × (run ≡ record { items = []; ending = Err f })
-
--- The move was made and showed nothing. Or the machine is as it was, and then the next statement isn't plain, or the move is a fault: no
--- step is left to pay for it, or its expressions or its index meet one.
-abbrev pub IsQuick : PlanView → List ℕ → Machine → Machine → Bool → Type 0
-IsQuick plan path old new true = move plan path old ≡ run_of (moved.Went shown.Nothing) new
-IsQuick plan path old new false = (new ≡ old) × (plain_next old.top.left ≡ true → ByFault (move plan path old))
 
 -- What a statement does was done and showed nothing. Or nothing changed, and a plain one meets a fault.
 abbrev pub IsDone : Stmt → Act-F Act Stmt → Running → Running → Bool → Type 0
@@ -83,3 +72,24 @@ IsQuiet st old new false =
     (new ≡ old)
     × ((plan : PlanView) → IsBehind (text_of plan old.top) old.top.cursor st → is_plain (out-Act (out-Stmt st).act) ≡ true →
     ByFault (acted plan (present_of old) (machine_of plan old) st (out-Act (out-Stmt st).act)))
+
+-- the innermost activation is of the same function, in the same scopes, and no step is paid
+pub record StaysThere (old new : Running) : Type 0 where
+  pub function : new.top.function ≡ old.top.function
+  pub levels : new.top.levels.items ≡ old.top.levels.items
+  pub steps : new.steps ≡ old.steps
+
+-- an `if` or a `while`
+abbrev pub is_fork : Act-F Act Stmt → Bool
+is_fork (act.Let x r) = false
+is_fork (act.Array x n) = false
+is_fork (act.Set x r) = false
+is_fork (act.Store x i e) = false
+is_fork (act.Spawn c) = false
+is_fork (act.Call c) = false
+is_fork act.Sync = false
+is_fork (act.Print e) = false
+is_fork (act.If e a b) = true
+is_fork (act.While e a) = true
+is_fork (act.Pfor x lo hi target c) = false
+is_fork (act.Scope a) = false

@@ -1,17 +1,17 @@
 // Activations.
 
-ghost use Rattle.std.specs.Prelude.{◌≡◌, [], false, None, IfOk, reverse};
+ghost use Rattle.std.specs.Prelude.{◌≡◌, [], List, false, None, IfOk, reverse};
 ghost use Rattle.std.specs.Option.{option_copied};
-ghost use Rattle.serial_meaning.specs.Exec.{bound};
+ghost use Rattle.script_grammar.specs.declared.tree.Stmt.{Stmt};
 ghost use Rattle.strand_moves.specs.Running.{block_inside, body_of, text_of};
 
 use crate::cursor::Cursor;
 use crate::memory::Memory;
 use dotmix::Trail;
-use script_grammar::{Act, Function, Items, Name, Stmt};
-use serial_meaning::{Fault, Plan, Value};
+use script_grammar::{Act, Items, Name, Stmt};
+use serial_meaning::{Fault, Plan};
 use std::alloc::Global;
-use strand_values::Environment;
+use strand_values::{Environment, Target};
 
 /// A scope that is open.
 #[derive(Drop)]
@@ -29,53 +29,50 @@ pub(crate) struct Level {
 pub(crate) struct Activation {
     /// Its place in the script.
     pub(crate) function: u32,
+    /// Whether its return is paid, and the sync that this implies is after it.
+    pub(crate) returning: bool,
+    /// Whether it spawned since its last sync.
+    pub(crate) spawned: bool,
     /// Its open scopes, the outermost first.
     pub(crate) levels: Vec<Level>,
     /// The place in the innermost one, or in the function's body.
     pub(crate) cursor: Cursor,
-    /// Whether its return is paid, and the sync that this implies is after it.
-    pub(crate) returning: bool,
     pub(crate) env: Environment,
-    /// Whether it spawned since its last sync.
-    pub(crate) spawned: bool,
-    /// The least fault among the answers of its children since then that were taken.
+    /// The least fault among the answers of its children since its last sync that were taken.
     pub(crate) faulted: Option<Fault>,
     /// The variable of the activation below that its value goes to.
-    pub(crate) target: Option<Name>,
+    pub(crate) target: Option<Target>,
 }
 
 impl Activation {
     ghost use Rattle.strand_moves.specs.Cursors.{left_of};
 
-    /// A function before its first statement.
+    /// A function with these variables before its first statement.
     pub(crate) fn new(
         alloc: Global,
         number: u32,
-        function: &Function,
-        args: &[Value],
-        target: Option<Name>,
-    ) -> Result<Activation, Memory>
-        ensures function { IfOk result (λ a. a.function ≡ number) }
-        ensures left { IfOk result (λ a. left_of function.now.body a.cursor ≡ function.now.body) }
-        ensures levels { IfOk result (λ a. a.levels.items ≡ []) }
-        ensures returning { IfOk result (λ a. a.returning ≡ false) }
-        ensures env { IfOk result (λ a. a.env ≡ bound function.now.params args.now) }
-        ensures spawned { IfOk result (λ a. a.spawned ≡ false) }
-        ensures faulted { IfOk result (λ a. a.faulted ≡ None) }
-        ensures target { IfOk result (λ a. a.target ≡ target) }
+        env: Environment,
+        target: Option<Target>,
+    ) -> Activation
+        ensures function { result.function ≡ number }
+        ensures left { (body : List Stmt) → left_of body result.cursor ≡ body }
+        ensures levels { result.levels.items ≡ [] }
+        ensures returning { result.returning ≡ false }
+        ensures env { result.env ≡ env }
+        ensures spawned { result.spawned ≡ false }
+        ensures faulted { result.faulted ≡ None }
+        ensures target { result.target ≡ target }
     {
-        let more = lets(function.body.as_slice());
-        let env = Environment::bound(alloc, function.params.as_slice(), args, more)?;
-        Ok(Activation {
+        Activation {
             function: number,
+            returning: false,
+            spawned: false,
             levels: Vec::new(alloc),
             cursor: Cursor::start(alloc),
-            returning: false,
             env,
-            spawned: false,
             faulted: None,
             target,
-        })
+        }
     }
 
     /// The statements among which its cursor stands: its function's body, or the block of its innermost open scope.
@@ -98,7 +95,7 @@ fn inside<'a>(body: &'a [Stmt], levels: &[Level]) -> &'a [Stmt]
 }
 
 /// How many variables the statements make, but for those of the blocks inside them.
-fn lets(body: &[Stmt]) -> usize {
+pub(crate) fn lets(body: &[Stmt]) -> usize {
     let mut count: usize = 0;
     for statement in body {
         if let Act::Let(_, _) | Act::Array(_, _) = &statement.act {
@@ -127,6 +124,16 @@ pub(crate) fn copy_of(alloc: Global, name: Option<&Name>) -> Result<Option<Name>
             let bytes = Items(Vec::from_slice(alloc, name.bytes.as_slice())?);
             Ok(Some(Name { bytes, at: name.at }))
         }
+        None => Ok(None),
+    }
+}
+
+/// The variable of this name, if there is one.
+pub(crate) fn target_of(alloc: Global, name: Option<&Name>) -> Result<Option<Target>, Memory>
+    ensures { IfOk result (λ target. target ≡ option_copied name.entry) }
+{
+    match name {
+        Some(name) => Ok(Some(Target::of(alloc, name)?)),
         None => Ok(None),
     }
 }

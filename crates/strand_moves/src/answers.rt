@@ -12,7 +12,7 @@ use crate::running::Running;
 use script_grammar::Name;
 use serial_meaning::{Fault, Value};
 use std::alloc::Global;
-use strand_values::Environment;
+use strand_values::{Environment, Target};
 
 impl Running {
     /// Takes the fault of a child of the activation with `height` others below it.
@@ -29,7 +29,7 @@ impl Running {
     }
 
     /// Takes the value of a child of the activation with `height` others below it. A variable that isn't there doesn't come to be.
-    pub fn take_value(&mut self, height: usize, target: Option<&Name>, value: Value)
+    pub fn take_value(&mut self, height: usize, target: Option<&Target>, value: Value)
         ensures machine { (plan : PlanView) → machine_of plan self.new ≡ changed height (answered (option_copied target.entry) (Ok (value ∷ []))) (machine_of plan self.old) }
         ensures path { path_of self.new ≡ path_of self.old }
         ensures sound { (plan : PlanView) → IsInstance plan self.old → IsInstance plan self.new }
@@ -65,7 +65,7 @@ impl Running {
 }
 
 /// Gives a variable that is there a new value.
-fn replace(env: &mut Environment, target: Option<&Name>, value: Value)
+fn replace(env: &mut Environment, target: Option<&Target>, value: Value)
     ensures { env.new ≡ with_answer (option_copied target.entry) value env.old }
 {
     if let Some(name) = target {

@@ -1,26 +1,28 @@
 // Calls, and the end of an activation.
 
-ghost use Rattle.std.specs.Prelude.{◌≡◌, ◌<◌, ◌≤◌, ◌+◌, ◌++◌, ◌∷◌, [], false, true, IfOk, OnOk};
+ghost use Rattle.std.specs.Prelude.{◌≡◌, ◌<◌, ◌≤◌, ◌+◌, ◌++◌, ◌∷◌, [], false, true, Some, None, IfOk, OnOk};
 ghost use Rattle.std.specs.Option.{option_copied};
 ghost use Rattle.script_grammar.specs.declared.tree.Stmt.{Stmt};
-ghost use Rattle.serial_meaning.specs.Functions.{function_at};
-ghost use Rattle.serial_meaning.specs.Plan.{functions_of};
+ghost use Rattle.serial_meaning.specs.Functions.{function_at, number_of};
+ghost use Rattle.serial_meaning.specs.Plan.{PlanView, functions_of};
 ghost use Rattle.strand_meaning.specs.Machine.{here_of, return_move, spawns_in, with_scalar};
 ghost use Rattle.strand_values.specs.Gives.{Gives};
 ghost use Rattle.strand_moves.specs.Acts.{Acts, Costs, IsCallee, Stands, result_of};
 ghost use Rattle.strand_moves.specs.Running.{IsStrand, machine_of, path_of, present_of};
 ghost use Rattle.strand_moves.specs.Moves.{Makes, MovesTrail, call_to, strand_of};
+ghost use Rattle.strand_moves.specs.Quick.{quiet};
 
-use crate::activation::{Activation, copy_of};
+use crate::activation::{Activation, lets, target_of};
 use crate::memory::Memory;
+use crate::quick::quiet;
 use crate::running::Running;
 use crate::shown::{Moved, Shown};
-use script_grammar::{CallText, Function, Items, Name};
+use script_grammar::{CallText, Function, Name};
 use serial_meaning::plan::function_number;
 use serial_meaning::{FaultKind, Plan, Value};
 use std::alloc::Global;
 use std::mem;
-use strand_values::Halt;
+use strand_values::{Environment, Halt, Target};
 
 /// How many calls may be open in an instance.
 const MOST_CALLS: usize = 256;
@@ -40,40 +42,78 @@ impl Running {
         ensures stays { Stands self.old self.new result }
         ensures few { Costs self.old self.new }
     {
-        let args = self.top.env.values(alloc, call.args.as_slice())?;
-        if self.below.len() >= MOST_CALLS {
-            return Err(Halt::Fault(FaultKind::Calls));
-        }
         let number = function_number(plan.functions(), call.name.bytes.as_slice());
         match function_in(plan, number) {
-            Some(function) => self.open(alloc, number, function, args, target)?,
-            None => self.receive(alloc, target, Value::Int(0))?,
+            Some(function) => quiet(self.enter(alloc, number, function, target, call)),
+            None => quiet(self.skip(alloc, target, call)),
         }
-        Ok(Moved::Went(Shown::Nothing))
     }
 
-    /// Begins a function over the innermost activation.
-    fn open(
+    /// A call of this function.
+    fn enter(
         &mut self,
         alloc: Global,
         number: u32,
         function: &Function,
-        args: Items<Value>,
+        target: Option<&Name>,
+        call: &CallText,
+    ) -> Result<(), Halt>
+        requires { self.old.leaving ≡ false }
+        ensures shows { (plan : PlanView) (st : Stmt) → number ≡ number_of (functions_of plan) call.now.name.bytes → function_at (functions_of plan) number ≡ Some function.now →
+            Acts plan st (call_to (option_copied target.entry) call.now) self.old self.new (quiet result) }
+        ensures stays { Stands self.old self.new (quiet result) }
+        ensures few { Costs self.old self.new }
+    {
+        let more = lets(function.body.as_slice());
+        let params = function.params.as_slice();
+        let env = self
+            .top
+            .env
+            .called(alloc, params, call.args.as_slice(), more)?;
+        if self.below.len() >= MOST_CALLS {
+            return Err(Halt::Fault(FaultKind::Calls));
+        }
+        self.open(alloc, number, env, target)?;
+        Ok(())
+    }
+
+    /// A call of a function that there isn't, whose value is 0.
+    fn skip(&mut self, alloc: Global, target: Option<&Name>, call: &CallText) -> Result<(), Halt>
+        ensures shows { (plan : PlanView) (st : Stmt) → function_at (functions_of plan) (number_of (functions_of plan) call.now.name.bytes) ≡ None →
+            Acts plan st (call_to (option_copied target.entry) call.now) self.old self.new (quiet result) }
+        ensures stays { Stands self.old self.new (quiet result) }
+        ensures few { Costs self.old self.new }
+    {
+        drop(self.top.env.values(alloc, call.args.as_slice())?);
+        if self.below.len() >= MOST_CALLS {
+            return Err(Halt::Fault(FaultKind::Calls));
+        }
+        let target = target_of(alloc, target)?;
+        self.receive(alloc, target.as_ref(), Value::Int(0))?;
+        Ok(())
+    }
+
+    /// Begins a function with these variables over the innermost activation.
+    fn open(
+        &mut self,
+        alloc: Global,
+        number: u32,
+        env: Environment,
         target: Option<&Name>,
     ) -> Result<(), Memory>
-        ensures top { OnOk result (IsCallee number function.now args (option_copied target.entry) self.new.top) }
+        ensures top { OnOk result (IsCallee number env (option_copied target.entry) self.new.top) }
         ensures below { OnOk result (self.new.below.items ≡ self.old.below.items ++ self.old.top ∷ []) }
         ensures trail { self.new.trail ≡ self.old.trail }
         ensures leaving { self.new.leaving ≡ self.old.leaving }
         ensures rank { self.new.rank ≡ self.old.rank }
         ensures steps { self.new.steps ≡ self.old.steps }
     {
-        let target = copy_of(alloc, target)?;
-        let callee = Activation::new(alloc, number, function, args.as_slice(), target)?;
-        // most instances have one open call at a time, and a list would begin with room for four
+        // most instances have one or two open calls at a time, and a list would begin with room for four
         if self.below.is_empty() {
-            self.below.try_reserve_exact(1)?;
+            self.below.try_reserve_exact(2)?;
         }
+        let target = target_of(alloc, target)?;
+        let callee = Activation::new(alloc, number, env, target);
         let caller = mem::replace(&mut self.top, callee);
         self.below.push(caller)?;
         Ok(())
@@ -83,14 +123,14 @@ impl Running {
     pub(crate) fn receive(
         &mut self,
         alloc: Global,
-        target: Option<&Name>,
+        target: Option<&Target>,
         value: Value,
     ) -> Result<(), Memory>
         ensures env { OnOk result (self.new.top.env ≡ with_scalar (option_copied target.entry) value self.old.top.env) }
         ensures others { self.new ≡ record self.old { top = record self.old.top { env = self.new.top.env } } }
     {
         if let Some(x) = target {
-            self.top.env.set_scalar(alloc, x, value)?;
+            self.top.env.receive(alloc, x, value)?;
         }
         Ok(())
     }
@@ -145,8 +185,12 @@ impl Running {
         match self.below.pop() {
             None => Ok(Moved::Gave(value)),
             Some(caller) => {
-                let callee = mem::replace(&mut self.top, caller);
-                self.receive(alloc, callee.target.as_ref(), value)?;
+                // the callee is dropped at one place, whatever was received
+                let received = {
+                    let callee = mem::replace(&mut self.top, caller);
+                    self.receive(alloc, callee.target.as_ref(), value)
+                };
+                received?;
                 Ok(Moved::Went(Shown::Nothing))
             }
         }

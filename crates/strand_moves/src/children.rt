@@ -10,13 +10,13 @@ ghost use Rattle.serial_meaning.specs.Functions.{function_at};
 ghost use Rattle.serial_meaning.specs.Open.{answer_filler};
 ghost use Rattle.serial_meaning.specs.Plan.{PlanView, functions_of};
 ghost use Rattle.serial_meaning.specs.declared.event.Event.TheVariants as event;
-ghost use Rattle.strand_meaning.specs.Machine.{Told, sync_tokens};
+ghost use Rattle.strand_meaning.specs.Machine.{Told, sync_tokens, with_scalar};
 ghost use Rattle.strand_moves.specs.Acts.{Acts, Costs, Stays, loop_begins};
 ghost use Rattle.strand_moves.specs.Running.{IsStrand, present_of};
 ghost use Rattle.strand_moves.specs.Moves.{spawn_to, tokens_of, MovesTrail, ShowsTrail};
 ghost use Rattle.strand_moves.specs.declared.shown.Shown.TheVariants as shown;
 
-use crate::activation::copy_of;
+use crate::activation::{copy_of, target_of};
 use crate::calls::function_in;
 use crate::memory::Memory;
 use crate::running::Running;
@@ -28,7 +28,7 @@ use script_grammar::{Boxed, CallText, Expr, Items, Kind, Name};
 use serial_meaning::plan::function_number;
 use serial_meaning::{Event, FaultKind, Origin, Plan, Value};
 use std::alloc::Global;
-use strand_values::{Halt, iterations, number};
+use strand_values::{Halt, Target, iterations, number};
 
 impl Running {
     /// A spawn, whose child's value is to go to a variable, if any.
@@ -50,18 +50,15 @@ impl Running {
             return Err(Halt::Fault(FaultKind::Depth));
         }
         let function = function_number(plan.functions(), call.name.bytes.as_slice());
-        let event = Event::Spawn(self.pedigree()?);
-        let trail = self.child_trail(alloc, plan)?;
-        let path = share_path(&trail.path)?;
+        let (trail, path) = self.child_place(alloc, plan)?;
         let origin = Origin::Instance {
             function,
             args,
             path,
         };
         let child = boxed(alloc, origin, trail)?;
-        let instead = filler(alloc, plan, function)?;
-        self.receive(alloc, target, instead)?;
-        let target = copy_of(alloc, target)?;
+        let target = self.receive_filler(alloc, plan, function, target)?;
+        let event = Event::Spawn(self.pedigree()?);
         self.rank += 1;
         self.top.spawned = true;
         let height = self.below.len();
@@ -119,8 +116,7 @@ impl Running {
             return Ok(Moved::Went(self.pass_loop(alloc, target)?));
         }
         let function = function_number(plan.functions(), call.name.bytes.as_slice());
-        let trail = self.child_trail(alloc, plan)?;
-        let path = share_path(&trail.path)?;
+        let (trail, path) = self.child_place(alloc, plan)?;
         let range = IterRange { lo: 0, hi: count };
         let origin = Origin::Loop {
             function,
@@ -166,8 +162,8 @@ impl Running {
         ensures stays { Stays self.old self.new }
         ensures few { Costs self.old self.new }
     {
-        let event = Event::Loop(self.pedigree()?);
         self.top.env.fill(alloc, target.as_ref(), &[])?;
+        let event = Event::Loop(self.pedigree()?);
         self.rank += 1;
         Ok(Shown::Told(event))
     }
@@ -185,9 +181,9 @@ impl Running {
         ensures stays { Stays self.old self.new }
         ensures few { Costs self.old self.new }
     {
-        let event = Event::Loop(self.pedigree()?);
         self.top.env.fill(alloc, target.as_ref(), &[])?;
         let target = copy_of(alloc, target.as_ref())?;
+        let event = Event::Loop(self.pedigree()?);
         self.rank += 1;
         Ok(Shown::Looped {
             event,
@@ -196,15 +192,36 @@ impl Running {
         })
     }
 
-    /// The trail of a child of this strand.
-    pub(crate) fn child_trail(&self, alloc: Global, plan: &Plan) -> Result<Trail, Memory>
+    /// The trail of a child of this strand, and its path, over the same memory.
+    pub(crate) fn child_place(&self, alloc: Global, plan: &Plan) -> Result<(Trail, Ped), Memory>
         requires fits { FitsGamma plan.now.gamma self.now.trail }
         requires within { length (present_of self.now) < length plan.now.gamma }
         requires rank { self.now.rank < 2 ^ 32 }
-        ensures path { IfOk result (λ trail. trail.path ≡ present_of self.now ++ self.now.rank ∷ []) }
-        ensures fits { IfOk result (FitsGamma plan.now.gamma) }
+        ensures path { IfOk result (λ place. place.0.path ≡ present_of self.now ++ self.now.rank ∷ []) }
+        ensures fits { IfOk result (λ place. FitsGamma plan.now.gamma place.0) }
+        ensures shared { IfOk result (λ place. place.1 ≡ place.0.path) }
     {
-        Ok(self.trail.child(alloc, &plan.gamma, self.rank)?)
+        let trail = self.trail.child(alloc, &plan.gamma, self.rank)?;
+        let path = trail.path.share()?;
+        Ok((trail, path))
+    }
+
+    /// A spawn's target, which receives what stands for the value of a child of this function.
+    fn receive_filler(
+        &mut self,
+        alloc: Global,
+        plan: &Plan,
+        function: u32,
+        target: Option<&Name>,
+    ) -> Result<Option<Target>, Memory>
+        ensures to { IfOk result (λ to. to ≡ option_copied target.entry) }
+        ensures env { OnOk result (self.new.top.env ≡ with_scalar (option_copied target.entry) (answer_filler (function_at (functions_of plan.now) function)) self.old.top.env) }
+        ensures others { self.new ≡ record self.old { top = record self.old.top { env = self.new.top.env } } }
+    {
+        let instead = filler(alloc, plan, function)?;
+        let target = target_of(alloc, target)?;
+        self.receive(alloc, target.as_ref(), instead)?;
+        Ok(target)
     }
 }
 
@@ -213,13 +230,6 @@ fn boxed(alloc: Global, origin: Origin, trail: Trail) -> Result<Boxed<Child>, Me
     ensures { IfOk result (λ child. child ≡ record { origin = origin; trail = trail }) }
 {
     Ok(Boxed(Box::new(alloc, Child { origin, trail })?))
-}
-
-/// The same path, over the same memory.
-pub(crate) fn share_path(path: &Ped) -> Result<Ped, Memory>
-    ensures { IfOk result (λ shared. shared ≡ path.now) }
-{
-    Ok(path.share()?)
 }
 
 /// What stands for the value of a child of this function.

@@ -1,9 +1,10 @@
 // Places in a block: a function's body, or that of a scope.
 
-ghost use Rattle.std.specs.Prelude.{◌≡◌, List, [], ◌∷◌, ◌++◌, IfOk, MatchOption, if◌then◌else◌};
+ghost use Rattle.std.specs.Prelude.{◌≡◌, false, List, [], ◌∷◌, ◌++◌, IfOk, MatchOption, if◌then◌else◌};
 ghost use Rattle.script_grammar.specs.declared.tree.Stmt.{Stmt, out-Stmt};
 ghost use Rattle.script_grammar.specs.declared.tree.Act.{out-Act};
 ghost use Rattle.strand_moves.specs.declared.cursor.Part.TheVariants as part;
+ghost use Rattle.strand_moves.specs.Quick.{is_fork};
 ghost use Rattle.strand_moves.specs.Cursors.{part_of, block_in, block_of, left_of, scope_after, scope_of, IsBehind, Passes};
 
 use crate::memory::Memory;
@@ -49,6 +50,16 @@ fn part_in<'a>(statement: &'a Stmt, part: Part) -> &'a [Stmt]
             Part::Yes | Part::No => &[],
         },
         _ => &[],
+    }
+}
+
+/// Whether a statement may enter a block: it is an `if` or a `while`.
+fn is_fork(statement: &Stmt) -> bool
+    ensures { result ≡ is_fork (out-Act (out-Stmt statement.now).act) }
+{
+    match &statement.act {
+        Act::If(_, _, _) | Act::While(_, _) => true,
+        _ => false,
     }
 }
 
@@ -98,20 +109,61 @@ impl Cursor {
         }
     }
 
+    /// The innermost block of this body.
+    pub(crate) fn block<'a>(&self, body: &'a [Stmt]) -> &'a [Stmt]
+        ensures { result.now ≡ block_of body.now self.now.entered.items }
+    {
+        innermost(body, self.entered.as_slice())
+    }
+
+    /// The same after this statement was done, before which the innermost block was this one.
+    pub(crate) fn block_after<'a>(
+        &self,
+        body: &'a [Stmt],
+        statement: &Stmt,
+        block: &'a [Stmt],
+    ) -> &'a [Stmt]
+        requires { is_fork (out-Act (out-Stmt statement.now).act) ≡ false → block.now ≡ block_of body.now self.now.entered.items }
+        ensures { result.now ≡ block_of body.now self.now.entered.items }
+    {
+        if is_fork(statement) {
+            self.block(body)
+        } else {
+            block
+        }
+    }
+
     /// Goes after the next statement of this body, and gives it.
     pub(crate) fn pass<'a>(&mut self, body: &'a [Stmt]) -> Option<&'a Stmt>
         ensures { MatchOption result ((left_of body.now self.old ≡ []) × (left_of body.now self.new ≡ [])) (λ st. Passes body.now self.old self.new st.now) }
     {
+        let block = self.block(body);
+        match self.pass_in(body, block) {
+            Some(passed) => Some(passed.0),
+            None => None,
+        }
+    }
+
+    /// The same where the innermost block is at hand. It gives the one in which it then stands, too.
+    pub(crate) fn pass_in<'a>(
+        &mut self,
+        body: &'a [Stmt],
+        block: &'a [Stmt],
+    ) -> Option<(&'a Stmt, &'a [Stmt])>
+        requires { block.now ≡ block_of body.now self.old.entered.items }
+        ensures { MatchOption result ((left_of body.now self.old ≡ []) × (left_of body.now self.new ≡ [])) (λ r. Passes body.now self.old self.new r.0.now × (r.1.now ≡ block_of body.now self.new.entered.items)) }
+    {
+        let mut block = block;
         loop {
-            let block = innermost(body, self.entered.as_slice());
             if let Some(statement) = block.get(self.next) {
                 self.next += 1;
-                return Some(statement);
+                return Some((statement, block));
             }
             match self.entered.pop() {
                 Some(last) => self.next = last.back,
                 None => return None,
             }
+            block = innermost(body, self.entered.as_slice());
         }
     }
 

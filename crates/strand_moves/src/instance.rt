@@ -14,6 +14,7 @@ use dotmix::Trail;
 use script_grammar::Name;
 use serial_meaning::{Fault, Plan, Value};
 use std::alloc::Global;
+use strand_values::Target;
 
 /// An instance that is running. It stands in a box, since the tasks above are moved again and again.
 #[derive(Drop)]
@@ -22,9 +23,8 @@ pub struct Instance {
 }
 
 impl Instance {
-    ghost use Rattle.strand_moves.specs.Machines.{IsInstance, machine_of, path_of};
+    ghost use Rattle.strand_moves.specs.Machines.{IsInstance, RunsOn, machine_of, path_of};
     ghost use Rattle.strand_moves.specs.Moves.{run_of, MovesTrail};
-    ghost use Rattle.strand_moves.specs.Quick.{IsQuick};
 
     /// An instance of the function at this place in the script, before its first move.
     pub fn begin(
@@ -58,16 +58,15 @@ impl Instance {
         self.running.step(alloc, plan)
     }
 
-    /// The next move, where it is a statement that shows nothing: it gives a variable the value of an expression, makes an array,
-    /// stores an item, or is an `if` or a `while`, and meets no fault. Otherwise nothing changes, and the answer is no: `step` makes
-    /// each move. Where there was no memory for it the instance is of no more use.
-    pub fn quick(&mut self, alloc: Global, plan: &Plan) -> Result<bool, Memory>
+    /// Moves in a row that show nothing, and then one more. Where there was no memory for one the instance is of no more use.
+    pub fn run(&mut self, alloc: Global, plan: &Plan) -> Result<Moved, Memory>
         requires { IsInstance plan.now self.old }
-        ensures moves { IfOk result (IsQuick plan.now (path_of self.old) (machine_of plan.now self.old) (machine_of plan.now self.new)) }
-        ensures path { path_of self.new ≡ path_of self.old }
+        ensures moves { IfOk result (λ moved. RunsOn plan.now self.old moved self.new) }
+        ensures child { IfOk result (MovesTrail plan.now) }
+        ensures path { IfOk result (λ _. path_of self.new ≡ path_of self.old) }
         ensures sound { IfOk result (λ _. IsInstance plan.now self.new) }
     {
-        self.running.quick(alloc, plan)
+        self.running.run(alloc, plan)
     }
 
     /// Takes the fault of a child of the activation with `height` others below it.
@@ -80,7 +79,7 @@ impl Instance {
     }
 
     /// Takes the value of a child of the activation with `height` others below it. A variable that isn't there doesn't come to be.
-    pub fn take_value(&mut self, height: usize, target: Option<&Name>, value: Value)
+    pub fn take_value(&mut self, height: usize, target: Option<&Target>, value: Value)
         ensures machine { (plan : PlanView) → machine_of plan self.new ≡ changed height (answered (option_copied target.entry) (Ok (value ∷ []))) (machine_of plan self.old) }
         ensures path { path_of self.new ≡ path_of self.old }
         ensures sound { (plan : PlanView) → IsInstance plan self.old → IsInstance plan self.new }

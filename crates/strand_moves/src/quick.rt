@@ -1,12 +1,14 @@
-// Moves that show nothing, by a call whose answer takes little: most moves are of this kind.
+// Moves in a row that show nothing: most moves are of this kind.
 
-ghost use Rattle.std.specs.Prelude.{◌≡◌, ◌∷◌, ◌<◌, ◌+◌, ◌^◌, List, IfOk};
+ghost use Rattle.std.specs.Prelude.{◌≡◌, false, IfOk};
+ghost use Rattle.std.specs.Option.{option_copied};
+ghost use Rattle.script_grammar.specs.declared.tree.Act.{out-Act};
 ghost use Rattle.script_grammar.specs.declared.tree.Act.TheOpen as act;
-ghost use Rattle.script_grammar.specs.declared.tree.Stmt.{Stmt};
+ghost use Rattle.script_grammar.specs.declared.tree.Stmt.{Stmt, out-Stmt};
 ghost use Rattle.strand_moves.specs.Acts.{Costs, Stays};
-ghost use Rattle.strand_moves.specs.Cursors.{IsBehind, left_of};
-ghost use Rattle.strand_moves.specs.Running.{IsInstance, machine_of, path_of};
-ghost use Rattle.strand_moves.specs.Quick.{IsDone, IsQuick, IsQuiet, IsWent, quiet};
+ghost use Rattle.strand_moves.specs.Running.{IsInstance};
+ghost use Rattle.strand_moves.specs.Quick.{IsDone, IsQuiet, IsWent, StaysThere, is_fork, quiet};
+ghost use Rattle.strand_moves.specs.Rows.{Comes};
 
 use crate::memory::Memory;
 use crate::running::Running;
@@ -38,33 +40,41 @@ fn went(done: Result<(), Halt>) -> Result<bool, Memory>
 }
 
 impl Running {
-    /// The next move, where it is a statement that shows nothing: it gives a variable the value of an expression, makes an array,
-    /// stores an item, or is an `if` or a `while`, and meets no fault. Otherwise nothing changes, and the answer is no.
-    pub fn quick(&mut self, alloc: Global, plan: &Plan) -> Result<bool, Memory>
+    /// Moves in a row, as far as they are plain statements: these give a variable the value of an expression, make an array, store an item,
+    /// or are an `if` or a `while`. The text is found once, and a block again only where one is entered or left. The cursor passes the
+    /// first statement that isn't plain, or that meets a fault, if there is one.
+    pub(crate) fn row<'a>(
+        &mut self,
+        alloc: Global,
+        plan: &'a Plan,
+    ) -> Result<Option<&'a Stmt>, Memory>
         requires { IsInstance plan.now self.old }
-        ensures moves { IfOk result (IsQuick plan.now (path_of self.old) (machine_of plan.now self.old) (machine_of plan.now self.new)) }
-        ensures path { path_of self.new ≡ path_of self.old }
-        ensures sound { IfOk result (λ _. IsInstance plan.now self.new) }
+        ensures { IfOk result (λ next. Comes plan.now self.old self.new (option_copied next)) }
     {
-        if self.steps == 0 {
-            return Ok(false);
-        }
         let text = self.top.text(plan);
-        let Some(statement) = self.top.cursor.pass(text) else {
-            return Ok(false);
-        };
-        self.steps -= 1;
-        let went = self.quiet_statement(alloc, statement)?;
-        if went {
-            return Ok(true);
+        let mut block = self.top.cursor.block(text);
+        loop {
+            let Some(passed) = self.top.cursor.pass_in(text, block) else {
+                return Ok(None);
+            };
+            let statement = passed.0;
+            if self.steps == 0 {
+                return Ok(Some(statement));
+            }
+            self.steps -= 1;
+            if !self.quiet_statement(alloc, statement)? {
+                self.steps += 1;
+                return Ok(Some(statement));
+            }
+            block = self.top.cursor.block_after(text, statement, passed.1);
         }
-        self.undo();
-        Ok(false)
     }
 
     /// What a statement does that shows nothing, after its step. Otherwise nothing changes, and the answer is no.
     fn quiet_statement(&mut self, alloc: Global, statement: &Stmt) -> Result<bool, Memory>
         ensures did { IfOk result (IsQuiet statement.now self.old self.new) }
+        ensures there { StaysThere self.old self.new }
+        ensures cursor { is_fork (out-Act (out-Stmt statement.now).act) ≡ false → self.new.top.cursor ≡ self.old.top.cursor }
         ensures stays { Stays self.old self.new }
         ensures few { Costs self.old self.new }
     {
@@ -82,6 +92,8 @@ impl Running {
     /// The same of `let x = R` or `x = R`.
     fn quiet_right(&mut self, alloc: Global, x: &Name, r: &Right) -> Result<bool, Memory>
         ensures did { (st : Stmt) → IfOk result (IsDone st (act.Set x.now r.now) self.old self.new) }
+        ensures there { StaysThere self.old self.new }
+        ensures cursor { self.new.top.cursor ≡ self.old.top.cursor }
         ensures stays { Stays self.old self.new }
         ensures few { Costs self.old self.new }
     {
@@ -89,16 +101,5 @@ impl Running {
             Right::Value(e) => went(self.set_value(alloc, x, e)),
             _ => Ok(false),
         }
-    }
-
-    /// Takes back the step of the statement after which the cursor stands.
-    fn undo(&mut self)
-        requires { self.old.steps < 2 ^ 32 }
-        ensures left { (body : List Stmt) (st : Stmt) → IsBehind body self.old.top.cursor st
-            → left_of body self.new.top.cursor ≡ st ∷ left_of body self.old.top.cursor }
-        ensures others { self.new ≡ record self.old { steps = self.old.steps + 1; top = record self.old.top { cursor = self.new.top.cursor } } }
-    {
-        self.steps += 1;
-        self.top.cursor.back();
     }
 }

@@ -10,7 +10,7 @@ ghost use Rattle.strand_values.specs.declared.halt.Halt.TheVariants.{Fault};
 ghost use Rattle.strand_moves.specs.Acts.{Acts, Costs, Stands, Stays};
 ghost use Rattle.strand_moves.specs.Running.{IsStrand};
 ghost use Rattle.strand_moves.specs.Moves.{MovesTrail};
-ghost use Rattle.strand_moves.specs.Quick.{quiet};
+ghost use Rattle.strand_moves.specs.Quick.{StaysThere, quiet};
 
 use crate::quick::quiet;
 use crate::running::Running;
@@ -48,6 +48,8 @@ impl Running {
     pub(crate) fn set_value(&mut self, alloc: Global, x: &Name, e: &Expr) -> Result<(), Halt>
         ensures shows { (plan : PlanView) (st : Stmt) → Acts plan st (act.Set x.now (right.Value e.now)) self.old self.new (quiet result) }
         ensures same { (kind : FaultKind) → result ≡ Err (Fault kind) → self.new ≡ self.old }
+        ensures there { StaysThere self.old self.new }
+        ensures cursor { self.new.top.cursor ≡ self.old.top.cursor }
         ensures stays { Stays self.old self.new }
         ensures few { Costs self.old self.new }
     {
@@ -62,10 +64,10 @@ impl Running {
         ensures few { Costs self.old self.new }
     {
         let word = self.trail.draw(&plan.gamma, self.rank, plan.rounds);
-        let event = Event::Draw(self.pedigree()?, word);
         self.top
             .env
             .set_scalar(alloc, x, Value::Int(word.cast_signed()))?;
+        let event = Event::Draw(self.pedigree()?, word);
         self.rank += 1;
         Ok(Moved::Went(Shown::Told(event)))
     }
@@ -77,9 +79,9 @@ impl Running {
         ensures stays { Stays self.old self.new }
         ensures few { Costs self.old self.new }
     {
-        let event = Event::New(self.pedigree()?);
         let object = self.pedigree()?;
         self.top.env.set_scalar(alloc, x, Value::Id(object))?;
+        let event = Event::New(self.pedigree()?);
         self.rank += 1;
         Ok(Moved::Went(Shown::Told(event)))
     }

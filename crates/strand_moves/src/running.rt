@@ -1,18 +1,20 @@
 // What an instance is, and its moves.
 
 ghost use Rattle.std.specs.Prelude.{◌≡◌, ◌<◌, ◌+◌, ◌^◌, ◌++◌, ◌∷◌, [], Err, IfOk, OnOk, length};
+ghost use Rattle.std.specs.Option.{option_copied};
 ghost use Rattle.dotmix.specs.Trails.{FitsGamma};
 ghost use Rattle.serial_meaning.specs.Plan.{functions_of};
 ghost use Rattle.strand_meaning.specs.Machine.{Stands, begun, move};
 
-use crate::activation::Activation;
+use crate::activation::{Activation, lets};
 use crate::memory::Memory;
 use crate::shown::Moved;
 use dotmix::Trail;
 use ped_path::Pedigree;
+use script_grammar::Stmt;
 use serial_meaning::{Fault, FaultKind, Plan, Value};
 use std::alloc::Global;
-use strand_values::Halt;
+use strand_values::{Environment, Halt};
 
 /// What stands in an instance's box: its present path, its rank and the steps that it has left, and its activations.
 #[derive(Drop)]
@@ -33,6 +35,7 @@ impl Running {
     ghost use Rattle.strand_moves.specs.Acts.{Keeps};
     ghost use Rattle.strand_moves.specs.Running.{IsInstance, machine_of, path_of, present_of};
     ghost use Rattle.strand_moves.specs.Moves.{run_of, Makes, MovesTrail, strand_of};
+    ghost use Rattle.strand_moves.specs.Rows.{HasPassed, RunsOn, unpassed};
 
     /// An instance of the function at this place in the script, before its first move.
     pub fn begin(
@@ -50,12 +53,14 @@ impl Running {
         ensures sound { IfOk result (IsInstance plan.now) }
     {
         let f = &plan.functions()[function as usize];
+        let more = lets(f.body.as_slice());
+        let env = Environment::bound(alloc, f.params.as_slice(), args, more)?;
         Ok(Running {
             trail,
             rank: 0,
             steps: plan.limits.budget as u64,
             leaving: false,
-            top: Activation::new(alloc, function, f, args, None)?,
+            top: Activation::new(alloc, function, env, None),
             below: Vec::new(alloc),
         })
     }
@@ -68,8 +73,36 @@ impl Running {
         ensures path { IfOk result (λ _. path_of self.new ≡ path_of self.old) }
         ensures sound { IfOk result (λ _. IsInstance plan.now self.new) }
     {
+        let text = self.top.text(plan);
+        match self.top.cursor.pass(text) {
+            Some(statement) => self.make(alloc, plan, Some(statement)),
+            None => self.make(alloc, plan, None),
+        }
+    }
+
+    /// Moves in a row that show nothing, and then one more. Where there was no memory for one the instance is of no more use.
+    pub fn run(&mut self, alloc: Global, plan: &Plan) -> Result<Moved, Memory>
+        requires { IsInstance plan.now self.old }
+        ensures moves { IfOk result (λ moved. RunsOn plan.now self.old moved self.new) }
+        ensures child { IfOk result (MovesTrail plan.now) }
+        ensures path { IfOk result (λ _. path_of self.new ≡ path_of self.old) }
+        ensures sound { IfOk result (λ _. IsInstance plan.now self.new) }
+    {
+        let next = self.row(alloc, plan)?;
+        self.make(alloc, plan, next)
+    }
+
+    /// The move of a statement that the cursor has just passed, or where none was left.
+    fn make(&mut self, alloc: Global, plan: &Plan, next: Option<&Stmt>) -> Result<Moved, Memory>
+        requires sound { IsInstance plan.now self.old }
+        requires passed { HasPassed plan.now self.old (option_copied next) }
+        ensures moves { IfOk result (λ moved. move plan.now (path_of self.old) (unpassed plan.now self.old (option_copied next.entry)) ≡ run_of moved (machine_of plan.now self.new)) }
+        ensures child { IfOk result (MovesTrail plan.now) }
+        ensures path { IfOk result (λ _. path_of self.new ≡ path_of self.old) }
+        ensures sound { IfOk result (λ _. IsInstance plan.now self.new) }
+    {
         let rank = self.rank;
-        match self.go_on(alloc, plan) {
+        match self.act(alloc, plan, next) {
             Ok(moved) => Ok(moved),
             Err(Halt::Fault(kind)) => {
                 let path = self.trail.path.share()?;
@@ -80,15 +113,15 @@ impl Running {
         }
     }
 
-    fn go_on(&mut self, alloc: Global, plan: &Plan) -> Result<Moved, Halt>
-        requires { IsInstance plan.now self.old }
-        ensures moves { let m = machine_of plan.now self.old in
-            Makes (move plan.now (path_of self.old) m) (strand_of (present_of self.old) m) (machine_of plan.now self.new) result }
+    /// The same, or the kind of the fault by which it ends.
+    fn act(&mut self, alloc: Global, plan: &Plan, next: Option<&Stmt>) -> Result<Moved, Halt>
+        requires sound { IsInstance plan.now self.old }
+        requires passed { HasPassed plan.now self.old (option_copied next) }
+        ensures moves { Makes (move plan.now (path_of self.old) (unpassed plan.now self.old (option_copied next.entry))) (strand_of (present_of self.old) (machine_of plan.now self.old)) (machine_of plan.now self.new) result }
         ensures child { IfOk result (MovesTrail plan.now) }
         ensures keeps { Keeps plan.now self.old self.new result }
     {
-        let text = self.top.text(plan);
-        match self.top.cursor.pass(text) {
+        match next {
             Some(statement) => self.statement(alloc, plan, statement),
             None => self.close(alloc, plan),
         }

@@ -16,7 +16,6 @@ ghost use Rattle.strand_moves.specs.Moves.{Makes, MovesTrail, ShowsTrail, strand
 ghost use Rattle.strand_moves.specs.declared.shown.Shown.TheVariants as shown;
 
 use crate::activation::Level;
-use crate::children::share_path;
 use crate::cursor::Cursor;
 use crate::memory::Memory;
 use crate::running::Running;
@@ -41,8 +40,7 @@ impl Running {
         if self.trail.path.len() + 1 >= plan.limits.depth as u64 {
             return Err(Halt::Fault(FaultKind::Depth));
         }
-        let inner = self.child_trail(alloc, plan)?;
-        let path = share_path(&inner.path)?;
+        let (inner, path) = self.child_place(alloc, plan)?;
         self.go_in(alloc, inner)?;
         Ok(Moved::Went(Shown::Opened(path)))
     }

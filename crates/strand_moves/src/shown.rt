@@ -2,6 +2,7 @@ use dotmix::Trail;
 use ped_path::{Ped, Pedigree};
 use script_grammar::{Boxed, Name};
 use serial_meaning::{Event, Fault, Origin, Value};
+use strand_values::Target;
 
 /// A child that is handed out: what it is begun as, and the trail of its path.
 #[derive(Drop)]
@@ -27,7 +28,7 @@ pub enum Shown {
         event: Event,
         child: Boxed<Child>,
         height: usize,
-        target: Option<Name>,
+        target: Option<Target>,
     },
     /// A sync, at which the instance waits for its children.
     Synced(Event),

@@ -12,7 +12,7 @@ ghost use Rattle.strand_moves.specs.Acts.{Acts, Costs, Keeps, Stays};
 ghost use Rattle.strand_moves.specs.Cursors.{IsBehind};
 ghost use Rattle.strand_moves.specs.Running.{IsInstance, machine_of, path_of, present_of, text_of};
 ghost use Rattle.strand_moves.specs.Moves.{Makes, MovesTrail, strand_of};
-ghost use Rattle.strand_moves.specs.Quick.{quiet};
+ghost use Rattle.strand_moves.specs.Quick.{StaysThere, quiet};
 
 use crate::quick::quiet;
 use crate::running::Running;
@@ -64,6 +64,8 @@ impl Running {
     pub(crate) fn array(&mut self, alloc: Global, x: &Name, n: Number) -> Result<(), Halt>
         ensures shows { (plan : PlanView) (st : Stmt) → Acts plan st (act.Array x.now n) self.old self.new (quiet result) }
         ensures same { (kind : FaultKind) → result ≡ Err (Fault kind) → self.new ≡ self.old }
+        ensures there { StaysThere self.old self.new }
+        ensures cursor { self.new.top.cursor ≡ self.old.top.cursor }
         ensures stays { Stays self.old self.new }
         ensures few { Costs self.old self.new }
     {
@@ -74,6 +76,8 @@ impl Running {
     pub(crate) fn store(&mut self, x: &Name, i: &Expr, e: &Expr) -> Result<(), Halt>
         ensures shows { (plan : PlanView) (st : Stmt) → Acts plan st (act.Store x.now i.now e.now) self.old self.new (quiet result) }
         ensures same { (kind : FaultKind) → result ≡ Err (Fault kind) → self.new ≡ self.old }
+        ensures there { StaysThere self.old self.new }
+        ensures cursor { self.new.top.cursor ≡ self.old.top.cursor }
         ensures stays { Stays self.old self.new }
         ensures few { Costs self.old self.new }
     {
@@ -111,6 +115,7 @@ impl Running {
         ensures shows { (plan : PlanView) (st : Stmt) (yes no : List Stmt) → IsBehind (text_of plan self.old.top) self.old.top.cursor st →
             out-Act (out-Stmt st).act ≡ act.If e.now yes no → Acts plan st (act.If e.now yes no) self.old self.new (quiet result) }
         ensures same { (kind : FaultKind) → result ≡ Err (Fault kind) → self.new ≡ self.old }
+        ensures there { StaysThere self.old self.new }
         ensures stays { Stays self.old self.new }
         ensures few { Costs self.old self.new }
     {
@@ -123,6 +128,7 @@ impl Running {
         ensures shows { (plan : PlanView) (st : Stmt) (body : List Stmt) → IsBehind (text_of plan self.old.top) self.old.top.cursor st →
             out-Act (out-Stmt st).act ≡ act.While e.now body → Acts plan st (act.While e.now body) self.old self.new (quiet result) }
         ensures same { (kind : FaultKind) → result ≡ Err (Fault kind) → self.new ≡ self.old }
+        ensures there { StaysThere self.old self.new }
         ensures stays { Stays self.old self.new }
         ensures few { Costs self.old self.new }
     {

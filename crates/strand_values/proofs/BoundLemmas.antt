@@ -1,8 +1,12 @@
 -- Parameters and their arguments.
-use Rattle.std.proofs.Common.{◌≡◌, ℕ, zero, suc, ◌+◌, ◌<◌, ◌≤◌, min, List, [], ◌∷◌, length, get_or, drop, refl, sym, ap, ◌∙◌, arith}
+use Rattle.std.proofs.Common.{◌≡◌, ℕ, zero, suc, ◌+◌, ◌<◌, ◌≤◌, min, List, [], ◌∷◌, ◌++◌, Result, Ok, length, get_or, drop, refl, sym, ap, ◌∙◌, arith}
+use Rattle.std.proofs.lemmas.List.{append-nil, drop_all}
+use Rattle.script_grammar.specs.declared.tree.Expr.{Expr}
 use Rattle.script_grammar.specs.declared.tree.Param.{Param}
-use Rattle.serial_meaning.specs.Values.{Env}
+use Rattle.serial_meaning.specs.Runs.{◌>>=◌}
+use Rattle.serial_meaning.specs.Values.{Env, values_of}
 use Rattle.serial_meaning.specs.Exec.{bound}
+use Rattle.serial_meaning.specs.declared.event.FaultKind.{FaultKind}
 use Rattle.serial_meaning.specs.declared.environment.Slot.TheVariants.{Scalar}
 use Rattle.serial_meaning.specs.declared.environment.Variable.{Variable}
 use Rattle.serial_meaning.specs.declared.value.Value.{Value}
@@ -26,3 +30,15 @@ bound_done zero (p ∷ ps) [] h = refl
 bound_done (suc i) (p ∷ ps) [] h = bound_to_none (drop i ps)
 bound_done zero (p ∷ ps) (v ∷ vs) h = absurd (omega arith)
 bound_done (suc i) (p ∷ ps) (v ∷ vs) h = bound_done i ps vs (omega arith)
+
+-- The arguments of a call, as they are evaluated
+
+module _ (env : Env) (ps : List Param) (es : List Expr) (i : ℕ) (xs : Env) where
+  -- the callee's variables, where these are those of the first arguments
+  abbrev pub from_here : Result Env FaultKind
+  from_here = values_of (drop i es) env >>= λ vs. Ok (xs ++ bound (drop i ps) vs)
+
+  pub args-done : length es ≤ i → from_here ≡ Ok xs
+  args-done past =
+      ap (λ (l : List Expr). let y : Result Env FaultKind = values_of l env >>= λ vs. Ok (xs ++ bound (drop i ps) vs) in y) (drop_all i es past)
+      ∙ ap (λ (rest : Env). let y : Result Env FaultKind = Ok (xs ++ rest) in y) (bound_to_none (drop i ps)) ∙ ap Ok (append-nil xs)

@@ -6,7 +6,7 @@ ghost use Rattle.serial_meaning.specs.Exec.{bound, with_slot, zeros, set_item, h
 ghost use Rattle.serial_meaning.specs.declared.event.FaultKind.{FaultKind};
 ghost use Rattle.serial_meaning.specs.declared.value.Value.TheVariants.{Int};
 ghost use Rattle.strand_values.specs.declared.halt.Halt.TheVariants.{Fault};
-ghost use Rattle.strand_values.specs.Changes.{assigned};
+ghost use Rattle.strand_values.specs.Changes.{assigned, called_with};
 ghost use Rattle.strand_values.specs.Gives.{Gives, numbered, holding};
 ghost use Rattle.strand_values.specs.Targets.{IsUnknown};
 
@@ -14,6 +14,7 @@ use crate::entry::Entry;
 use crate::halt::Halt;
 use crate::memory::Memory;
 use crate::scalar::number;
+use crate::target::Target;
 use crate::value;
 use crate::variables::{item, items, place};
 use script_grammar::{Expr, Items, Name, Param};
@@ -54,6 +55,29 @@ impl Environment {
             let slot = Slot::Scalar(args[i].share()?);
             let name = params[i].name.bytes.as_slice();
             variables.push(Entry::new(alloc, name, slot)?)?;
+        }
+        Ok(Environment { variables })
+    }
+
+    /// The parameters with the values of a call's arguments in these variables, as far as there are both, or the fault that is met first. So
+    /// many more variables can be made without their list growing.
+    pub fn called(
+        &self,
+        alloc: Global,
+        params: &[Param],
+        args: &[Expr],
+        more: usize,
+    ) -> Result<Environment, Halt>
+        ensures { Gives result (called_with params.now args.now self.now) }
+    {
+        let count = params.len().min(args.len());
+        let mut variables = Vec::with_capacity(alloc, count.saturating_add(more))?;
+        for i in 0..args.len() {
+            let value = value::value(&self.variables, &args[i])?;
+            if i < params.len() {
+                let name = params[i].name.bytes.as_slice();
+                variables.push(Entry::new(alloc, name, Slot::Scalar(value))?)?;
+            }
         }
         Ok(Environment { variables })
     }
@@ -116,12 +140,20 @@ impl Environment {
         self.set(alloc, name.bytes.as_slice(), Slot::Scalar(value))
     }
 
+    /// The same of the variable that a call's value goes to.
+    pub fn receive(&mut self, alloc: Global, name: &Target, value: Value) -> Result<(), Memory>
+        ensures ok { OnOk result (self.new ≡ with_slot self.old name.now.bytes (Scalar value)) }
+        ensures err { OnErr result ((self.new ≡ self.old) × IsNone (slot_of self.old name.now.bytes)) }
+    {
+        self.set(alloc, name.bytes(), Slot::Scalar(value))
+    }
+
     /// Gives a scalar that is there a new value. Where the name isn't there nothing changes.
-    pub fn replace_scalar(&mut self, name: &Name, value: Value)
+    pub fn replace_scalar(&mut self, name: &Target, value: Value)
         ensures there { IsSome (slot_of self.old name.now.bytes) → self.new ≡ with_slot self.old name.now.bytes (Scalar value) }
         ensures missing { IsNone (slot_of self.old name.now.bytes) → self.new ≡ self.old }
     {
-        if let Some(i) = place(&self.variables, name.bytes.as_slice()) {
+        if let Some(i) = place(&self.variables, name.bytes()) {
             self.variables[i].set_slot(Slot::Scalar(value));
         }
     }

@@ -11,6 +11,7 @@ mod memory;
 mod names;
 mod scalar;
 mod slots;
+mod target;
 mod value;
 mod variables;
 
@@ -19,6 +20,7 @@ pub use environment::Environment;
 pub use halt::Halt;
 pub use memory::Memory;
 pub use scalar::{is_true, number};
+pub use target::Target;
 
 fn is_shared<T: Send + Sync>() {}
 

@@ -1,3 +1,5 @@
+use Rattle.std.proofs.Common.{◌≡◌, ◌∙◌, [], ◌∷◌, ap}
+use Rattle.serial_runner.proofs.Noting.{made}
 use Rattle.serial_runner.proofs.Advancing.{stopped, went_whole, spawned, waits, has_answers, went_up, known_fault, answer_below, all_ended, ended}
 use Rattle.serial_runner.proofs.advance.advance.Goals as goal
 
@@ -7,9 +9,11 @@ resume_with-requires-clause-waits c = waits c.args.stack c.requires c.in-Wait.re
 pub resume_with-requires-clause-tags : goal.resume_with-requires-clause-tags
 resume_with-requires-clause-tags c = has_answers c.args.stack c.requires c.in-Wait.rest (stopped _ _ c.requires.top.goes_on (rw c.in-Wait.is at c.in_ok-stop.ensures))
 
-pub returns-in_ok-push-in-Spawn : goal.returns-in_ok-push-in-Spawn
-returns-in_ok-push-in-Spawn c =
-    spawned c.args.stack c.requires c.in-Spawn.child c.in-Spawn.rest (stopped _ _ c.requires.top.goes_on (rw c.in-Spawn.is at c.in_ok-stop.ensures)) _ _ c.of-top.ensures c.in_ok-push-in-Spawn.ensures
+pub returns-in_ok-child-in-Spawn : goal.returns-in_ok-child-in-Spawn
+returns-in_ok-child-in-Spawn c =
+    let k = c.in_ok-child-in-Spawn.ensures in
+    spawned c.args.stack c.requires c.in-Spawn.child c.in-Spawn.rest (stopped _ _ c.requires.top.goes_on (rw c.in-Spawn.is at c.in_ok-stop.ensures)) _ _ (c.of-top.ensures ∙ ap (λ task. record { task = task; answers = [] }) k.0)
+    (made (λ _. c.push.new.self ≡ _ ∷ _) _ _ k.1 c.push.ensures)
 
 pub returns-in_ok-task-in-Wait : goal.returns-in_ok-task-in-Wait
 returns-in_ok-task-in-Wait c =

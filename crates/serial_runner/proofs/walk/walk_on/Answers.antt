@@ -1,34 +1,62 @@
-use Rattle.std.proofs.Common.{◌∙◌, sym}
+use Rattle.std.proofs.Common.{◌≡◌, ◌∙◌, sym, ap, subst, true}
+use Rattle.std.specs.Arc.{arc_value}
+use Rattle.strand_machine.specs.Family.{tags}
+use Rattle.strand_machine.specs.Parts.{awaited}
+use Rattle.strand_machine.specs.Stops.{answer_tags, any_cut, WentOn}
+use Rattle.strand_machine.specs.Tasks.{TaskView}
+use Rattle.serial_runner.specs.Sights.{origin_of, with_child, WalksOn}
+use Rattle.serial_runner.specs.declared.walk.Walked.TheVariants.{Goes}
+use Rattle.serial_runner.proofs.Noting.{made}
 use Rattle.serial_runner.proofs.Walking.{it_waits, children_known, it_has_answers, walks_by_child, over_by_child, walks_by_wait, over_by_wait, walk_ends}
 use Rattle.serial_runner.proofs.walk.walk_on.Goals as goal
 
 pub returns-then-is_over : goal.returns-then-is_over
 returns-then-is_over c =
-    over_by_child _ _ _ _ c.requires.walk c.in_ok-stop.field-0 c.in_ok-stop.ensures c.in-Spawn.child c.in-Spawn.rest c.in-Spawn.is c.requires.below c.notes_go_on.ensures _ _ (sym c.is_over.ensures ∙ c.if-is_over.true) c.in_ok-sight.ensures c.in_ok-see-in-Spawn.ensures
+    let s = c.in_ok-stop.ensures in
+    over_by_child _ _ _ _ c.requires.walk s.noted s.is_noted c.in-Spawn.child c.in-Spawn.rest (sym s.stops ∙ c.in-Spawn.is) c.requires.below c.notes_go_on.ensures _ _ (sym c.is_over.ensures ∙ c.if-is_over.true) s.sees
+    (ap (λ z. z.1) c.in_ok-rest-in-Spawn.ensures.0 ∙ made (λ _. c.see-seen.new.self ≡ with_child c.args.at.now c.in-Spawn.child.task.origin _) _ _ c.in_ok-rest-in-Spawn.ensures.1 c.see-seen.ensures)
 
-pub returns-in-Spawn : goal.returns-in-Spawn
-returns-in-Spawn c =
-    walks_by_child _ _ _ _ c.requires.walk c.in_ok-stop.field-0 c.in_ok-stop.ensures c.in-Spawn.child c.in-Spawn.rest c.in-Spawn.is c.notes_go_on.ensures _ _ c.in_ok-sight.ensures c.in_ok-see-in-Spawn.ensures
+pub returns-else-is_over : goal.returns-else-is_over
+returns-else-is_over c =
+    let s = c.in_ok-stop.ensures in
+    subst (λ (task : TaskView). WalksOn (arc_value c.args.plan.now) (origin_of c.args.walk) c.args.at.now c.args.walk (Goes (record { task = task; sight = c.in_ok-rest-in-Spawn.sight }))) (sym (ap (λ z. z.0) c.in_ok-rest-in-Spawn.ensures.0))
+    (walks_by_child _ _ _ _ c.requires.walk s.noted s.is_noted c.in-Spawn.child c.in-Spawn.rest (sym s.stops ∙ c.in-Spawn.is) c.notes_go_on.ensures _ _ s.sees
+    (ap (λ z. z.1) c.in_ok-rest-in-Spawn.ensures.0 ∙ made (λ _. c.see-seen.new.self ≡ with_child c.args.at.now c.in-Spawn.child.task.origin _) _ _ c.in_ok-rest-in-Spawn.ensures.1 c.see-seen.ensures))
 
 pub returns-then-is_over-2 : goal.returns-then-is_over-2
 returns-then-is_over-2 c =
-    over_by_wait _ _ _ _ c.requires.walk c.in_ok-stop.field-0 c.in_ok-stop.ensures c.in-Wait.rest c.in-Wait.is c.requires.below c.notes_go_on.ensures c.answers_show_nothing.ensures _ (sym c.is_over-in-Wait.ensures ∙ c.if-is_over-2.true) c.in_ok-sight.ensures
+    let s = c.in_ok-stop.ensures in
+    over_by_wait _ _ _ _ c.requires.walk s.noted s.is_noted c.in-Wait.rest (sym s.stops ∙ c.in-Wait.is) c.requires.below c.notes_go_on.ensures c.answers_show_nothing.ensures _ (sym c.is_over-in-Wait.ensures ∙ c.if-is_over-2.true) s.sees
 
-pub answers_of-requires : goal.answers_of-requires
-answers_of-requires c =
-    rw (c.as_slice.ensures ∙ c.awaited.ensures) (children_known _ _ _ _ c.requires.walk c.in_ok-stop.field-0 c.in_ok-stop.ensures c.in-Wait.rest c.in-Wait.is)
+pub answers_of-answers-requires : goal.answers_of-answers-requires
+answers_of-answers-requires c =
+    let s = c.in_ok-stop.ensures in
+    rw (c.as_slice.ensures ∙ c.awaited.ensures) (children_known _ _ _ _ c.requires.walk s.noted s.is_noted c.in-Wait.rest (sym s.stops ∙ c.in-Wait.is))
 
 pub resume_with-requires-clause-waits : goal.resume_with-requires-clause-waits
-resume_with-requires-clause-waits c = it_waits _ _ _ _ c.requires.walk c.in_ok-stop.field-0 c.in_ok-stop.ensures c.in-Wait.rest c.in-Wait.is
+resume_with-requires-clause-waits c =
+    let s = c.in_ok-stop.ensures in
+    subst (λ (v : TaskView). v.task.waiting ≡ true) (sym (ap (λ z. z.0) c.in_ok-rest-in-Wait.ensures.0)) (it_waits _ _ _ _ c.requires.walk s.noted s.is_noted c.in-Wait.rest (sym s.stops ∙ c.in-Wait.is))
 
 pub resume_with-requires-clause-tags : goal.resume_with-requires-clause-tags
 resume_with-requires-clause-tags c =
-    it_has_answers _ _ _ _ c.requires.walk c.in_ok-stop.field-0 c.in_ok-stop.ensures c.in-Wait.rest c.in-Wait.is c.in_ok-answers-in-Wait.answers _ (c.as_slice.ensures ∙ c.awaited.ensures) c.in_ok-answers-in-Wait.ensures.tags
+    let s = c.in_ok-stop.ensures in
+    let k = c.in_ok-rest-in-Wait.ensures in
+    subst (λ (v : TaskView). answer_tags c.in_ok-rest-in-Wait.answers ≡ tags v.task.plan (awaited v.task.pieces.handed)) (sym (ap (λ z. z.0) k.0))
+    (it_has_answers _ _ _ _ c.requires.walk s.noted s.is_noted c.in-Wait.rest (sym s.stops ∙ c.in-Wait.is) c.in_ok-rest-in-Wait.answers _ (c.as_slice.ensures ∙ c.awaited.ensures)
+    (made (λ answers. answer_tags answers ≡ tags (arc_value c.args.plan.now) c.as_slice.result.now) _ _ k.1 c.answers_of-answers.ensures.tags))
 
-pub returns-in-Wait : goal.returns-in-Wait
-returns-in-Wait c =
-    walks_by_wait _ _ _ _ c.requires.walk c.in_ok-stop.field-0 c.in_ok-stop.ensures c.in-Wait.rest c.in-Wait.is c.notes_go_on.ensures c.answers_show_nothing.ensures c.in_ok-answers-in-Wait.answers c.in_ok-answers-in-Wait.ensures.whole _
-    c.in_ok-task-in-Wait.ensures _ c.in_ok-sight.ensures
+pub returns-in_ok-sight-in-Wait : goal.returns-in_ok-sight-in-Wait
+returns-in_ok-sight-in-Wait c =
+    let s = c.in_ok-stop.ensures in
+    let k = c.in_ok-rest-in-Wait.ensures in
+    let m = c.in_ok-sight-in-Wait.ensures in
+    walks_by_wait _ _ _ _ c.requires.walk s.noted s.is_noted c.in-Wait.rest (sym s.stops ∙ c.in-Wait.is) c.notes_go_on.ensures c.answers_show_nothing.ensures c.in_ok-rest-in-Wait.answers
+    (made (λ answers. any_cut answers ≡ _) _ _ k.1 c.answers_of-answers.ensures.whole) _
+    (subst (λ (v : TaskView). WentOn c.in_ok-rest-in-Wait.answers v c.in_ok-sight-in-Wait.task) (ap (λ z. z.0) k.0) (made (WentOn c.in_ok-rest-in-Wait.answers _) _ _ m.1 c.resume_with.ensures)) _
+    (m.0 ∙ ap (λ z. z.1) k.0 ∙ s.sees)
 
-pub returns : goal.returns
-returns c = walk_ends _ _ _ _ c.requires.walk c.in_ok-stop.field-0 c.in_ok-stop.ensures c.in-Done.answer c.in-Done.give c.in-Done.is c.requires.below c.notes_go_on.ensures _ c.in_ok-sight.ensures
+pub returns-in-Done : goal.returns-in-Done
+returns-in-Done c =
+    let s = c.in_ok-stop.ensures in
+    walk_ends _ _ _ _ c.requires.walk s.noted s.is_noted c.in-Done.answer c.in-Done.give (sym s.stops ∙ c.in-Done.is) c.requires.below c.notes_go_on.ensures _ s.sees

@@ -9,16 +9,16 @@ pub returns-in-Goes : goal.returns-in-Goes
 returns-in-Goes c =
     let e = c.take_spawned.ensures in
     let ending = ending_of c.args.outcome in
-    at-goes (takes (Spawned c.args.height c.args.target) ending) (changed c.args.height (answered c.args.target ending)) c.args.stage.now _ _ (λ m. refl) c.in-Goes.is e.machine e.path e.sound
+    at-goes (takes (Spawned c.args.height c.args.target.now) ending) (changed c.args.height (answered c.args.target.now ending)) c.args.stage.now _ _ (λ m. refl) c.in-Goes.is e.machine e.path e.sound
 
 pub returns-in-AtSync : goal.returns-in-AtSync
 returns-in-AtSync c =
     let e = c.take_spawned-in-AtSync.ensures in
     let ending = ending_of c.args.outcome in
-    at-sync (takes (Spawned c.args.height c.args.target) ending) (changed c.args.height (answered c.args.target ending)) c.args.stage.now _ _ (λ m. refl) c.in-AtSync.is e.machine e.path e.sound
+    at-sync (takes (Spawned c.args.height c.args.target.now) ending) (changed c.args.height (answered c.args.target.now ending)) c.args.stage.now _ _ (λ m. refl) c.in-AtSync.is e.machine e.path e.sound
 
 pub returns-in-AtLoop : goal.returns-in-AtLoop
 returns-in-AtLoop c =
     let e = c.take_spawned-in-AtLoop.ensures in
     let ending = ending_of c.args.outcome in
-    at-loop (takes (Spawned c.args.height c.args.target) ending) (changed c.args.height (answered c.args.target ending)) c.args.stage.now _ _ (λ m. refl) c.in-AtLoop.is e.machine e.path e.sound
+    at-loop (takes (Spawned c.args.height c.args.target.now) ending) (changed c.args.height (answered c.args.target.now ending)) c.args.stage.now _ _ (λ m. refl) c.in-AtLoop.is e.machine e.path e.sound

@@ -1,143 +1,151 @@
-use Rattle.std.proofs.Common.{refl, arith}
+use Rattle.std.proofs.Common.{◌∙◌, sym, refl, arith}
 use Rattle.strand_machine.specs.Made.{made}
-use Rattle.strand_machine.specs.Tasks.{view_of}
+use Rattle.strand_machine.specs.Tasks.{gone, view_of}
 use Rattle.strand_machine.specs.declared.work.Stage.TheVariants as stage
 use Rattle.strand_machine.specs.declared.work.Work.TheVariants as work
 use Rattle.strand_machine.proofs.Advancing.{leads-start}
-use Rattle.strand_machine.proofs.Moving.{went-sound, went-is, gave-sound, faulted-sound, syncs-sound, syncs-run, gives-run, faults-run, still-on, still-falls, tells-on, tells-falls, run-is-ok, runs-on, on-run-over}
+use Rattle.strand_machine.proofs.Moving.{holding, row-run, went-sound, went-is, gave-sound, faulted-sound, syncs-sound, syncs-run, gives-run, faults-run, still-on, still-falls, tells-on, tells-falls, run-is-ok, runs-on, on-run-over}
 use Rattle.strand_machine.proofs.run.go.Goals as goal
 
 pub loop-instance-init : goal.loop-instance-init
 loop-instance-init c = record { sound = c.requires; leads = leads-start (view_of c.args.parts.now.body (work.Runs (stage.Goes c.args.instance))) refl }
 
-pub step-requires : goal.step-requires
-step-requires c = rw c.plan.ensures c.in_ok-go_quickly.ensures.sound.works.sound
+pub run-requires : goal.run-requires
+run-requires c = rw c.plan.ensures c.loop-instance.invariant.sound.works.sound
 
 -- the last move
 
 pub show-requires : goal.show-requires
 show-requires c =
     let l = c.loop-instance in
-    let b = c.go_quickly.new.body in
-    let i = c.go_quickly.new.instance in
-    let q = c.in_ok-go_quickly.ensures in
-    let k = on-run-over _ l.parts.body b l.instance i l.invariant q.sound q.leads in
-    let m = c.in_ok-step.ensures in
-    went-sound b i c.step.new.self _ _ c.plan.ensures m.moves k.sound c.steps_are_sound.ensures c.in-Went.shown c.in-Went.is c.in_ok-step.ensures.path m.sound m.child
+    let m = c.in_ok-run.ensures in
+    let r = m.moves in
+    let i = holding l.instance r.before in
+    let q = row-run c.steps_are_sound.ensures c.moves_fall.ensures c.plan.result.now l.parts.body l.instance c.plan.ensures l.invariant.sound r.before r.row in
+    let path = m.path ∙ l.invariant.sound.works.at ∙ sym q.sound.works.at in
+    went-sound (gone l.parts.body) i c.run.new.self _ _ c.plan.ensures r.last q.sound c.steps_are_sound.ensures c.in-Went.shown c.in-Went.is path m.sound m.child
 
 pub wait-requires : goal.wait-requires
 wait-requires c =
     let l = c.loop-instance in
-    let b = c.go_quickly.new.body in
-    let i = c.go_quickly.new.instance in
-    let q = c.in_ok-go_quickly.ensures in
-    let k = on-run-over _ l.parts.body b l.instance i l.invariant q.sound q.leads in
+    let m = c.in_ok-run.ensures in
+    let r = m.moves in
+    let i = holding l.instance r.before in
+    let q = row-run c.steps_are_sound.ensures c.moves_fall.ensures c.plan.result.now l.parts.body l.instance c.plan.ensures l.invariant.sound r.before r.row in
+    let path = m.path ∙ l.invariant.sound.works.at ∙ sym q.sound.works.at in
     let s = c.in-Went-Synced in
-    let m = c.in_ok-step.ensures in
-    syncs-sound b i c.step.new.self _ _ c.plan.ensures m.moves k.sound c.steps_are_sound.ensures s.field-0 s.event c.tell-in-Went-Synced.new.self s.is s.field-0-is c.in_ok-tell-in-Went-Synced.ensures c.in_ok-step.ensures.path m.sound m.child
+    syncs-sound (gone l.parts.body) i c.run.new.self _ _ c.plan.ensures r.last q.sound c.steps_are_sound.ensures s.field-0 s.event c.tell-in-Went-Synced.new.self s.is s.field-0-is c.in_ok-tell-in-Went-Synced.ensures path m.sound m.child
 
 pub give-requires : goal.give-requires
 give-requires c =
     let l = c.loop-instance in
-    let b = c.go_quickly.new.body in
-    let i = c.go_quickly.new.instance in
-    let q = c.in_ok-go_quickly.ensures in
-    let k = on-run-over _ l.parts.body b l.instance i l.invariant q.sound q.leads in
-    gave-sound b i c.step.new.self _ _ c.plan.ensures c.in_ok-step.ensures.moves k.sound c.steps_are_sound.ensures c.in-Gave.value c.in-Gave.is
+    let m = c.in_ok-run.ensures in
+    let r = m.moves in
+    let i = holding l.instance r.before in
+    let q = row-run c.steps_are_sound.ensures c.moves_fall.ensures c.plan.result.now l.parts.body l.instance c.plan.ensures l.invariant.sound r.before r.row in
+    gave-sound (gone l.parts.body) i c.run.new.self _ _ c.plan.ensures r.last q.sound c.steps_are_sound.ensures c.in-Gave.value c.in-Gave.is
 
 pub fault-requires : goal.fault-requires
 fault-requires c =
     let l = c.loop-instance in
-    let b = c.go_quickly.new.body in
-    let i = c.go_quickly.new.instance in
-    let q = c.in_ok-go_quickly.ensures in
-    let k = on-run-over _ l.parts.body b l.instance i l.invariant q.sound q.leads in
-    faulted-sound b i c.step.new.self _ _ c.plan.ensures c.in_ok-step.ensures.moves k.sound c.steps_are_sound.ensures c.in-Faulted.own c.in-Faulted.is
+    let m = c.in_ok-run.ensures in
+    let r = m.moves in
+    let i = holding l.instance r.before in
+    let q = row-run c.steps_are_sound.ensures c.moves_fall.ensures c.plan.result.now l.parts.body l.instance c.plan.ensures l.invariant.sound r.before r.row in
+    faulted-sound (gone l.parts.body) i c.run.new.self _ _ c.plan.ensures r.last q.sound c.steps_are_sound.ensures c.in-Faulted.own c.in-Faulted.is
 
 pub returns-in-Went-clause-step : goal.returns-in-Went-clause-step
 returns-in-Went-clause-step c =
     let l = c.loop-instance in
-    let b = c.go_quickly.new.body in
-    let i = c.go_quickly.new.instance in
-    let q = c.in_ok-go_quickly.ensures in
-    let k = on-run-over _ l.parts.body b l.instance i l.invariant q.sound q.leads in
+    let r = c.in_ok-run.ensures.moves in
+    let b = gone l.parts.body in
+    let i = holding l.instance r.before in
+    let q = row-run c.steps_are_sound.ensures c.moves_fall.ensures c.plan.result.now l.parts.body l.instance c.plan.ensures l.invariant.sound r.before r.row in
+    let k = on-run-over _ l.parts.body b l.instance i l.invariant q in
     run-is-ok _ b i k (made c.show.new.parts) c.show.result
-    (went-is b i c.step.new.self _ _ c.plan.ensures c.in_ok-step.ensures.moves k.sound (made c.show.new.parts) c.in-Went.shown c.show.result c.in-Went.is c.show.ensures.step c.show.ensures.keeps)
+    (went-is b i c.run.new.self _ _ c.plan.ensures r.last k.sound (made c.show.new.parts) c.in-Went.shown c.show.result c.in-Went.is c.show.ensures.step c.show.ensures.keeps)
 
 pub returns-in-Went-Synced-clause-step : goal.returns-in-Went-Synced-clause-step
 returns-in-Went-Synced-clause-step c =
     let l = c.loop-instance in
-    let b = c.go_quickly.new.body in
-    let i = c.go_quickly.new.instance in
-    let q = c.in_ok-go_quickly.ensures in
-    let k = on-run-over _ l.parts.body b l.instance i l.invariant q.sound q.leads in
+    let m = c.in_ok-run.ensures in
+    let r = m.moves in
+    let b = gone l.parts.body in
+    let i = holding l.instance r.before in
+    let q = row-run c.steps_are_sound.ensures c.moves_fall.ensures c.plan.result.now l.parts.body l.instance c.plan.ensures l.invariant.sound r.before r.row in
+    let k = on-run-over _ l.parts.body b l.instance i l.invariant q in
+    let path = m.path ∙ l.invariant.sound.works.at ∙ sym q.sound.works.at in
     let s = c.in-Went-Synced in
-    syncs-run b i c.step.new.self _ _ c.plan.ensures c.in_ok-step.ensures.moves k.sound c.moves_fall.ensures _ k.leads s.field-0 s.event c.tell-in-Went-Synced.new.self s.is s.field-0-is
-    c.in_ok-tell-in-Went-Synced.ensures (runs-on b i c.step.new.self _ _ c.plan.ensures c.in_ok-step.ensures.moves k.sound c.in_ok-step.ensures.path c.in_ok-step.ensures.sound) _ c.wait.ensures.made
+    syncs-run b i c.run.new.self _ _ c.plan.ensures r.last k.sound c.moves_fall.ensures _ k.leads s.field-0 s.event c.tell-in-Went-Synced.new.self s.is s.field-0-is
+    c.in_ok-tell-in-Went-Synced.ensures (runs-on b i c.run.new.self _ _ c.plan.ensures r.last k.sound path m.sound) _ c.wait.ensures.made
 
 pub returns-in-Gave-clause-step : goal.returns-in-Gave-clause-step
 returns-in-Gave-clause-step c =
     let l = c.loop-instance in
-    let b = c.go_quickly.new.body in
-    let i = c.go_quickly.new.instance in
-    let q = c.in_ok-go_quickly.ensures in
-    let k = on-run-over _ l.parts.body b l.instance i l.invariant q.sound q.leads in
-    gives-run b i c.step.new.self _ _ c.plan.ensures c.in_ok-step.ensures.moves k.sound c.moves_fall.ensures _ k.leads c.in-Gave.value c.in-Gave.is _ c.give.ensures.step
+    let r = c.in_ok-run.ensures.moves in
+    let b = gone l.parts.body in
+    let i = holding l.instance r.before in
+    let q = row-run c.steps_are_sound.ensures c.moves_fall.ensures c.plan.result.now l.parts.body l.instance c.plan.ensures l.invariant.sound r.before r.row in
+    let k = on-run-over _ l.parts.body b l.instance i l.invariant q in
+    gives-run b i c.run.new.self _ _ c.plan.ensures r.last k.sound c.moves_fall.ensures _ k.leads c.in-Gave.value c.in-Gave.is _ c.give.ensures.step
 
 pub returns-in-Faulted-clause-step : goal.returns-in-Faulted-clause-step
 returns-in-Faulted-clause-step c =
     let l = c.loop-instance in
-    let b = c.go_quickly.new.body in
-    let i = c.go_quickly.new.instance in
-    let q = c.in_ok-go_quickly.ensures in
-    let k = on-run-over _ l.parts.body b l.instance i l.invariant q.sound q.leads in
-    faults-run b i c.step.new.self _ _ c.plan.ensures c.in_ok-step.ensures.moves k.sound c.moves_fall.ensures _ k.leads c.in-Faulted.own c.in-Faulted.is _ c.fault.ensures.step
+    let r = c.in_ok-run.ensures.moves in
+    let b = gone l.parts.body in
+    let i = holding l.instance r.before in
+    let q = row-run c.steps_are_sound.ensures c.moves_fall.ensures c.plan.result.now l.parts.body l.instance c.plan.ensures l.invariant.sound r.before r.row in
+    let k = on-run-over _ l.parts.body b l.instance i l.invariant q in
+    faults-run b i c.run.new.self _ _ c.plan.ensures r.last k.sound c.moves_fall.ensures _ k.leads c.in-Faulted.own c.in-Faulted.is _ c.fault.ensures.step
 
 -- the moves before it: nothing
 
 pub loop-instance-smaller-in-Went-Nothing : goal.loop-instance-smaller-in-Went-Nothing
 loop-instance-smaller-in-Went-Nothing c =
     let l = c.loop-instance in
-    let b = c.go_quickly.new.body in
-    let i = c.go_quickly.new.instance in
-    let q = c.in_ok-go_quickly.ensures in
-    let k = on-run-over _ l.parts.body b l.instance i l.invariant q.sound q.leads in
+    let r = c.in_ok-run.ensures.moves in
+    let i = holding l.instance r.before in
+    let q = row-run c.steps_are_sound.ensures c.moves_fall.ensures c.plan.result.now l.parts.body l.instance c.plan.ensures l.invariant.sound r.before r.row in
     let s = c.in-Went-Nothing in
-    let falls = still-falls b i c.step.new.self _ _ c.plan.ensures c.in_ok-step.ensures.moves k.sound c.moves_fall.ensures s.field-0 s.is s.field-0-is in
+    let falls = still-falls (gone l.parts.body) i c.run.new.self _ _ c.plan.ensures r.last q.sound c.moves_fall.ensures s.field-0 s.is s.field-0-is in
     omega (arith, falls, q.leads.fewer)
 
 pub loop-instance-preserved-in-Went-Nothing : goal.loop-instance-preserved-in-Went-Nothing
 loop-instance-preserved-in-Went-Nothing c =
     let l = c.loop-instance in
-    let b = c.go_quickly.new.body in
-    let i = c.go_quickly.new.instance in
-    let q = c.in_ok-go_quickly.ensures in
-    let k = on-run-over _ l.parts.body b l.instance i l.invariant q.sound q.leads in
+    let m = c.in_ok-run.ensures in
+    let r = m.moves in
+    let b = gone l.parts.body in
+    let i = holding l.instance r.before in
+    let q = row-run c.steps_are_sound.ensures c.moves_fall.ensures c.plan.result.now l.parts.body l.instance c.plan.ensures l.invariant.sound r.before r.row in
+    let k = on-run-over _ l.parts.body b l.instance i l.invariant q in
+    let path = m.path ∙ l.invariant.sound.works.at ∙ sym q.sound.works.at in
     let s = c.in-Went-Nothing in
-    let m = c.in_ok-step.ensures in
-    still-on b i c.step.new.self _ _ c.plan.ensures m.moves k.sound c.steps_are_sound.ensures c.moves_fall.ensures _ k.leads s.field-0 s.is s.field-0-is c.in_ok-step.ensures.path m.sound m.child
+    still-on b i c.run.new.self _ _ c.plan.ensures r.last k.sound c.steps_are_sound.ensures c.moves_fall.ensures _ k.leads s.field-0 s.is s.field-0-is path m.sound m.child
 
 -- an event
 
 pub loop-instance-smaller : goal.loop-instance-smaller
 loop-instance-smaller c =
     let l = c.loop-instance in
-    let b = c.go_quickly.new.body in
-    let i = c.go_quickly.new.instance in
-    let q = c.in_ok-go_quickly.ensures in
-    let k = on-run-over _ l.parts.body b l.instance i l.invariant q.sound q.leads in
+    let r = c.in_ok-run.ensures.moves in
+    let i = holding l.instance r.before in
+    let q = row-run c.steps_are_sound.ensures c.moves_fall.ensures c.plan.result.now l.parts.body l.instance c.plan.ensures l.invariant.sound r.before r.row in
     let s = c.in-Went-Told in
-    let falls = tells-falls b i c.step.new.self _ _ c.plan.ensures c.in_ok-step.ensures.moves k.sound c.moves_fall.ensures s.field-0 s.event c.tell.new.self s.is s.field-0-is c.in_ok-tell-in-Went-Told.ensures in
+    let falls = tells-falls (gone l.parts.body) i c.run.new.self _ _ c.plan.ensures r.last q.sound c.moves_fall.ensures s.field-0 s.event c.tell.new.self s.is s.field-0-is c.in_ok-tell-in-Went-Told.ensures in
     omega (arith, falls, q.leads.fewer)
 
 pub loop-instance-preserved : goal.loop-instance-preserved
 loop-instance-preserved c =
     let l = c.loop-instance in
-    let b = c.go_quickly.new.body in
-    let i = c.go_quickly.new.instance in
-    let q = c.in_ok-go_quickly.ensures in
-    let k = on-run-over _ l.parts.body b l.instance i l.invariant q.sound q.leads in
+    let m = c.in_ok-run.ensures in
+    let r = m.moves in
+    let b = gone l.parts.body in
+    let i = holding l.instance r.before in
+    let q = row-run c.steps_are_sound.ensures c.moves_fall.ensures c.plan.result.now l.parts.body l.instance c.plan.ensures l.invariant.sound r.before r.row in
+    let k = on-run-over _ l.parts.body b l.instance i l.invariant q in
+    let path = m.path ∙ l.invariant.sound.works.at ∙ sym q.sound.works.at in
     let s = c.in-Went-Told in
-    let m = c.in_ok-step.ensures in
-    tells-on b i c.step.new.self _ _ c.plan.ensures m.moves k.sound c.steps_are_sound.ensures c.moves_fall.ensures _ k.leads s.field-0 s.event c.tell.new.self s.is s.field-0-is
-    c.in_ok-tell-in-Went-Told.ensures c.in_ok-step.ensures.path m.sound m.child
+    tells-on b i c.run.new.self _ _ c.plan.ensures r.last k.sound c.steps_are_sound.ensures c.moves_fall.ensures _ k.leads s.field-0 s.event c.tell.new.self s.is s.field-0-is
+    c.in_ok-tell-in-Went-Told.ensures path m.sound m.child

@@ -8,11 +8,11 @@ use Rattle.strand_machine.proofs.Cutting.{takes-answer}
 use Rattle.strand_machine.proofs.Taking.{on-ok}
 use Rattle.strand_machine.proofs.going.Going.take.Goals as goal
 
-pub returns : goal.returns
-returns c =
+pub returns-in-Ok : goal.returns-in-Ok
+returns-in-Ok c =
     let a = c.answer.inside in
     let v : AnswerView = record { plan = arc_value a.plan; origin = a.origin; out = a.out; outcome = a.outcome } in
-    let e = c.in_ok-hear.ensures in
+    let e = c.in-Ok.ensures in
     subst (λ (x : AnswerView). OnOk c.put.result (TakesAnswers (part_of x.origin c.args.behind ∷ []) (x ∷ []) c.args.self.now c.put.new.self)) c.answer.view_is
     (on-ok c.put.result _ _
     (λ h. takes-answer (part_of a.origin c.args.behind) v c.args.self.now c.hear.new.self c.put.new.self (e.pieces (part_of a.origin c.args.behind) refl) e.ended e.cut e.rest.0 e.rest.1 h c.answer.invariant) c.put.ensures)

@@ -15,19 +15,19 @@ pub invariant_of-result : goal.invariant_of-result
 invariant_of-result c =
     let plan = arc_value c.args.plan in
     let o = c.args.child.origin in
-    let w = c.in_ok-work.work in
+    let w = c.in-Ok.work in
     let valid : IsValid plan.script = subst (λ (p : PlanView). IsValid p.script) (c.behind-plan.view_is ∙ c.deref.ensures) c.script-script.ensures.valid in
-    let begun : work_of plan w ≡ begun_work plan o = subst (λ (p : PlanView). work_of p w ≡ begun_work p o) c.deref-2.ensures c.in_ok-work.ensures.begun in
-    let works : WorksAt plan o w = subst (λ (p : PlanView). WorksAt p o w) c.deref-2.ensures c.in_ok-work.ensures.works in
+    let begun : work_of plan w ≡ begun_work plan o = subst (λ (p : PlanView). work_of p w ≡ begun_work p o) c.deref-2.ensures c.in-Ok.ensures.begun in
+    let works : WorksAt plan o w = subst (λ (p : PlanView). WorksAt p o w) c.deref-2.ensures c.in-Ok.ensures.works in
     subst (λ (q : Parts). Holds q.body q.work) (sym c.in_ok-parts.ensures.ok) (rw c.new-3.ensures.items
-    (sound_holds _ w (start-sound plan o w c.in_ok-new.field-0 c.new-2.result (knows_of c.args.loops) c.in_ok-new.ensures c.new-2.ensures begun c.tasks_begin.ensures c.valid_plans_are_clear.ensures c.requires.known valid works)))
+    (sound_holds _ w (start-sound plan o w c.in-Ok-new.family c.new-2.result (knows_of c.args.loops) c.in-Ok-new.ensures c.new-2.ensures begun c.tasks_begin.ensures c.valid_plans_are_clear.ensures c.requires.known valid works)))
 
 pub returns : goal.returns
 returns c =
     let plan = arc_value c.args.plan in
     let o = c.args.child.origin in
-    let w = c.in_ok-work.work in
-    let begun : work_of plan w ≡ begun_work plan o = subst (λ (p : PlanView). work_of p w ≡ begun_work p o) c.deref-2.ensures c.in_ok-work.ensures.begun in
-    let works : WorksAt plan o w = subst (λ (p : PlanView). WorksAt p o w) c.deref-2.ensures c.in_ok-work.ensures.works in
+    let w = c.in-Ok.work in
+    let begun : work_of plan w ≡ begun_work plan o = subst (λ (p : PlanView). work_of p w ≡ begun_work p o) c.deref-2.ensures c.in-Ok.ensures.begun in
+    let works : WorksAt plan o w = subst (λ (p : PlanView). WorksAt p o w) c.deref-2.ensures c.in-Ok.ensures.works in
     ap (λ (q : Parts). view_of q.body q.work) c.in_ok-parts.ensures.ok
-    ∙ rw c.new-3.ensures.items (start-view plan o w c.in_ok-new.field-0 c.new-2.result (knows_of c.args.loops) c.in_ok-new.ensures c.new-2.ensures begun (works-on plan o w works))
+    ∙ rw c.new-3.ensures.items (start-view plan o w c.in-Ok-new.family c.new-2.result (knows_of c.args.loops) c.in-Ok-new.ensures c.new-2.ensures begun (works-on plan o w works))

@@ -13,19 +13,19 @@ use Rattle.strand_moves.proofs.Exits.{shows-exit}
 use Rattle.strand_moves.proofs.Keeping.{stands-same}
 use Rattle.strand_moves.proofs.running.Running.end.Goals as goal
 
-pub returns-in_ok-receive-in-Some-clause-shows : goal.returns-in_ok-receive-in-Some-clause-shows
-returns-in_ok-receive-in-Some-clause-shows c =
-    let received = c.in_ok-receive-in-Some.ensures in
+pub returns-in_ok-received-in-Some-clause-shows : goal.returns-in_ok-received-in-Some-clause-shows
+returns-in_ok-received-in-Some-clause-shows c =
+    let received = c.in_ok-received-in-Some.ensures in
     let env = rw (c.as_ref.ensures.value, c.replace-callee.ensures.value, c.replace-callee.ensures.after) at received.env in
     let top = rw c.replace-callee.ensures.after at (ap (λ (x : Running). x.top) received.others) in
-    value-received c.args.plan.now c.args.self.now c.in_ok-value.value c.in_ok-value.ensures c.pop.new.self.items c.in-Some.caller c.receive.new.self.top.env c.receive.new.self c.in-Some.ensures.items env
+    value-received c.args.plan.now c.args.self.now c.in_ok-value.value c.in_ok-value.ensures c.pop.new.self.items c.in-Some.caller c.receive-received.new.self.top.env c.receive-received.new.self c.in-Some.ensures.items env
     (ap (λ (x : Running). x.rank) received.others) (ap (λ (x : Running). x.steps) received.others) (ap (λ (x : Running). x.leaving) received.others ∙ c.requires.goes_on) top (ap (λ (x : Running). x.below.items) received.others)
 
-pub returns-in_ok-receive-in-Some-clause-stays : goal.returns-in_ok-receive-in-Some-clause-stays
-returns-in_ok-receive-in-Some-clause-stays c =
-    let others = c.receive.ensures.others in
+pub returns-in_ok-received-in-Some-clause-stays : goal.returns-in_ok-received-in-Some-clause-stays
+returns-in_ok-received-in-Some-clause-stays c =
+    let others = c.receive-received.ensures.others in
     let top = rw c.replace-callee.ensures.after at (ap (λ (x : Running). x.top) others) in
-    ended-stays c.args.self.now c.receive.new.self c.pop.new.self.items c.in-Some.caller c.receive.new.self.top.env c.requires.outside c.in-Some.ensures.items top (ap (λ (x : Running). x.below.items) others)
+    ended-stays c.args.self.now c.receive-received.new.self c.pop.new.self.items c.in-Some.caller c.receive-received.new.self.top.env c.requires.outside c.in-Some.ensures.items top (ap (λ (x : Running). x.below.items) others)
     (ap (λ (x : Running). x.trail) others) (ap (λ (x : Running). x.leaving) others)
 
 pub returns-in-None-clause-stays : goal.returns-in-None-clause-stays

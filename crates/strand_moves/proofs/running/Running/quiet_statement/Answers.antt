@@ -6,7 +6,7 @@ use Rattle.script_grammar.specs.declared.tree.Act.TheVariants as variant
 use Rattle.script_grammar.specs.declared.tree.Stmt.{Stmt}
 use Rattle.strand_moves.specs.Running.{machine_of, present_of}
 use Rattle.strand_moves.specs.Moves.{acted}
-use Rattle.strand_moves.specs.Quick.{is_plain}
+use Rattle.strand_moves.specs.Quick.{is_fork, is_plain}
 use Rattle.strand_moves.proofs.Equations.{let-is-set}
 use Rattle.strand_moves.proofs.Paying.{act-is}
 use Rattle.strand_moves.proofs.QuickLemmas.{quiet-is, done-quiet}
@@ -57,3 +57,19 @@ returns-in-While-clause-did c =
     let st = c.args.statement.now in
     let is = act-is a st.act (variant.While c.in-While.e c.in-While.field-1) c.in-While.is (variant.rolls-While c.in-While.e c.in-While.field-1) in
     quiet-is st a c.args.self.now c.turn.new.self is c.turn.result c.went-in-While.result (λ plan behind. c.turn.ensures.shows plan st c.in-While.field-1 behind is) c.turn.ensures.same c.went-in-While.ensures
+
+pub returns-in-If-clause-cursor : goal.returns-in-If-clause-cursor
+returns-in-If-clause-cursor c = λ no.
+    let a = act.If c.in-If.e c.in-If.field-1 c.in-If.field-2 in
+    let st = c.args.statement.now in
+    let is = act-is a st.act (variant.If c.in-If.e c.in-If.field-1 c.in-If.field-2) c.in-If.is (variant.rolls-If c.in-If.e c.in-If.field-1 c.in-If.field-2) in
+    let yes = ap (λ (b : Act-F Act Stmt). is_fork b) is in
+    absurd (cc)
+
+pub returns-in-While-clause-cursor : goal.returns-in-While-clause-cursor
+returns-in-While-clause-cursor c = λ no.
+    let a = act.While c.in-While.e c.in-While.field-1 in
+    let st = c.args.statement.now in
+    let is = act-is a st.act (variant.While c.in-While.e c.in-While.field-1) c.in-While.is (variant.rolls-While c.in-While.e c.in-While.field-1) in
+    let yes = ap (λ (b : Act-F Act Stmt). is_fork b) is in
+    absurd (cc)

@@ -19,7 +19,7 @@ returns-clause-shows c = λ st block behind is.
     let plan = c.args.plan.now in
     let depth = ap (λ (p : PlanView). p.limits.depth) c.plan.view_is in
     let begins : Begins i c.go_in.new.self c.in_ok-inner.inner = (c.in_ok-go_in.ensures.levels, c.go_in.ensures.starts, c.go_in.ensures.others) in
-    rw (c.in_ok-path.ensures, c.in_ok-inner.ensures.path) (in-moves i c.go_in.new.self c.in_ok-inner.inner plan st block begins behind is (omega arith))
+    rw (c.in_ok-inner.ensures.shared, c.in_ok-inner.ensures.path) (in-moves i c.go_in.new.self c.in_ok-inner.inner plan st block begins behind is (omega arith))
 
 pub returns-clause-into : goal.returns-clause-into
 returns-clause-into c =

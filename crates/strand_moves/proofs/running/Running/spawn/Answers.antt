@@ -1,12 +1,14 @@
-use Rattle.std.proofs.Common.{◌+◌, length, vec_len, sym, ap, ◌∙◌, arith}
+use Rattle.std.proofs.Common.{◌≡◌, ◌+◌, length, vec_len, refl, sym, ap, ◌∙◌, arith}
 use Rattle.std.specs.Option.{option_copied}
-use Rattle.serial_meaning.specs.Plan.{PlanView}
+use Rattle.serial_meaning.specs.Functions.{function_at}
+use Rattle.serial_meaning.specs.Open.{answer_filler}
+use Rattle.serial_meaning.specs.Plan.{PlanView, functions_of}
 use Rattle.serial_meaning.specs.Values.{values_of}
 use Rattle.strand_moves.specs.declared.running.Running.{Running}
 use Rattle.strand_moves.specs.Running.{machine_of, present_of}
 use Rattle.strand_moves.specs.Moves.{acted, spawn_to, strand_of}
 use Rattle.strand_moves.proofs.CallLemmas.{is_not_below}
-use Rattle.strand_moves.proofs.ChildLemmas.{spawned-child}
+use Rattle.strand_moves.proofs.ChildLemmas.{spawned-child, strand_at}
 use Rattle.strand_moves.proofs.Equations.{spawn-args-fault, spawn-depth-fault}
 use Rattle.strand_moves.proofs.Exits.{shows-exit}
 use Rattle.strand_moves.proofs.running.Running.spawn.Goals as goal
@@ -36,12 +38,16 @@ returns-clause-shows c = λ st.
     let known = rw c.as_slice.ensures at c.in_ok-args.ensures in
     let depth = ap (λ (p : PlanView). p.limits.depth) c.plan.view_is in
     let number = rw (c.functions.ensures.functions, c.as_slice-2.ensures) at c.function_number-function.ensures in
-    let received = c.in_ok-receive.ensures in
-    let height = c.len-height.ensures ∙ ap (λ (x : Running). vec_len x.below) received.others in
+    let place = c.in_ok-trail.ensures in
+    let received = c.in_ok-target.ensures in
+    let others = c.receive_filler.ensures.others in
+    let below = ap (λ (x : Running). vec_len x.below) others in
+    let height : c.len-height.result ≡ length i.below.items = omega (arith, below, i.below.ok.0) in
+    let at = c.in_ok-pedigree.ensures ∙ ap (λ (x : Running). strand_at x) others in
     rw c.in_ok-child.ensures
-    (spawned-child plan i st (option_copied c.args.target) c.args.call.now c.in_ok-args.args c.in_ok-instead.instead c.function_number-function.result c.len-height.result
-    c.in_ok-pedigree.field-0 c.in_ok-path.path c.in_ok-target.target c.receive.new.self.top.env c.receive.new.self
-    known (omega arith) number c.in_ok-pedigree.ensures (c.in_ok-path.ensures ∙ c.in_ok-trail.ensures.path) c.in_ok-instead.ensures received.env received.others (omega arith) c.in_ok-target.ensures)
+    (spawned-child plan i st (option_copied c.args.target) c.args.call.now c.in_ok-args.args (answer_filler (function_at (functions_of plan) c.function_number-function.result)) c.function_number-function.result c.len-height.result
+    c.in_ok-pedigree.field-0 c.in_ok-trail.path c.in_ok-target.target c.receive_filler.new.self.top.env c.receive_filler.new.self
+    known (omega arith) number at (place.shared ∙ place.path) refl received.env others height received.to)
 
 pub returns-clause-child : goal.returns-clause-child
-returns-clause-child c = rw c.in_ok-child.ensures (record { fits = c.in_ok-trail.ensures.fits; path = sym c.in_ok-path.ensures })
+returns-clause-child c = rw c.in_ok-child.ensures (record { fits = c.in_ok-trail.ensures.fits; path = sym c.in_ok-trail.ensures.shared })

@@ -1,0 +1,59 @@
+use Rattle.std.proofs.Common.{ℕ, [], ◌∷◌, length, refl, ap, subst, ◌∙◌, sym, arith}
+use Rattle.std.specs.Option.{option_copied}
+use Rattle.serial_meaning.specs.Exec.{bound}
+use Rattle.serial_meaning.specs.Functions.{function_at}
+use Rattle.serial_meaning.specs.Plan.{functions_of}
+use Rattle.serial_meaning.specs.Values.{Env}
+use Rattle.strand_values.specs.Changes.{called_with}
+use Rattle.strand_meaning.specs.Machine.{Machine}
+use Rattle.strand_moves.specs.Acts.{IsCallee}
+use Rattle.strand_moves.specs.Running.{machine_of, present_of}
+use Rattle.strand_moves.specs.Moves.{acted, call_to, strand_of}
+use Rattle.strand_moves.proofs.CallLemmas.{begun-stays, called-by, called-fault, is_below, is_not_below, calls-open, machine-begun, stands-quiet}
+use Rattle.strand_moves.proofs.Equations.{call, callee, call-args-fault, calls-fault, went}
+use Rattle.strand_moves.proofs.Exits.{quiet-exit}
+use Rattle.strand_moves.proofs.running.Running.enter.Goals as goal
+
+pub returns-in_err-env-clause-shows : goal.returns-in_err-env-clause-shows
+returns-in_err-env-clause-shows c = λ plan st same there.
+    let i = c.args.self.now in
+    let to = option_copied c.args.target in
+    let f = c.args.function.now in
+    let text = c.args.call.now in
+    let known = rw (c.as_slice-params.ensures, c.as_slice-2.ensures) at c.in_err-env.ensures in
+    quiet-exit (acted plan (present_of i) (machine_of plan i) st (call_to to text)) (strand_of (present_of i) (machine_of plan i)) _ c.from_residual.result c.in_err-env.field-0.0
+    (called_with f.params text.args i.top.env) c.from_residual.ensures.1 known
+    (λ kind e. call-args-fault plan (present_of i) (machine_of plan i) st to text kind (called-fault f.params text.args i.top.env kind e))
+
+pub returns-then-len-ge-MOST_CALLS-clause-shows : goal.returns-then-len-ge-MOST_CALLS-clause-shows
+returns-then-len-ge-MOST_CALLS-clause-shows c = λ plan st same there.
+    let i = c.args.self.now in
+    let text = c.args.call.now in
+    let known = called-by c.args.function.now.params text.args i.top.env c.in_ok-env.env (rw (c.as_slice-params.ensures, c.as_slice-2.ensures) at c.in_ok-env.ensures) in
+    calls-fault plan (present_of i) (machine_of plan i) st (option_copied c.args.target) text known.0 known.1.0
+    (is_not_below (length (machine_of plan i).below) 256 (omega (arith, calls-open plan i)))
+
+pub returns-clause-shows : goal.returns-clause-shows
+returns-clause-shows c = λ plan st same there.
+    let i = c.args.self.now in
+    let to = option_copied c.args.target in
+    let f = c.args.function.now in
+    let text = c.args.call.now in
+    let number = c.args.number in
+    let known = called-by f.params text.args i.top.env c.in_ok-env.env (rw (c.as_slice-params.ensures, c.as_slice-2.ensures) at c.in_ok-env.ensures) in
+    let vs = known.0 in
+    let room = is_below (length (machine_of plan i).below) 256 (omega (arith, calls-open plan i)) in
+    let opened = c.in_ok-open.ensures in
+    let new = c.open.new.self in
+    let begun = subst (λ (env : Env). IsCallee number env to new.top) {y = bound f.params vs} known.1.1 opened.top in
+    call plan (present_of i) (machine_of plan i) st to text vs f known.1.0 room (ap (λ (n : ℕ). function_at (functions_of plan) n) (sym same) ∙ there)
+    ∙ ap (λ (n : ℕ). let m = machine_of plan i in went [] (record m { top = callee to n f vs; below = m.top ∷ m.below })) (sym same)
+    ∙ ap (λ (m : Machine). went [] m) (sym (machine-begun plan number f vs to i new begun opened.below opened.rank opened.steps opened.leaving c.requires there))
+
+pub returns-clause-stays : goal.returns-clause-stays
+returns-clause-stays c =
+    let opened = c.in_ok-open.ensures in
+    begun-stays c.args.number c.in_ok-env.env (option_copied c.args.target) c.args.self.now c.open.new.self opened.top opened.below opened.trail opened.leaving
+
+pub returns-in_err-env-clause-stays : goal.returns-in_err-env-clause-stays
+returns-in_err-env-clause-stays c = let i = c.args.self.now in stands-quiet i i c.from_residual.result (record { trail = refl; scopes = refl; leaving = refl })

@@ -1,0 +1,52 @@
+-- Moves in a row that show nothing.
+use Rattle.std.specs.Prelude.{◌≡◌, false, List, [], ◌∷◌, Option, Some, None}
+use Rattle.script_grammar.specs.declared.tree.Stmt.{Stmt}
+use Rattle.serial_meaning.specs.Plan.{PlanView}
+use Rattle.strand_meaning.specs.Machine.{Machine, move}
+use Rattle.strand_moves.specs.declared.cursor.Cursor.{Cursor}
+use Rattle.strand_moves.specs.declared.running.Running.{Running}
+use Rattle.strand_moves.specs.declared.shown.Moved.{Moved}
+use Rattle.strand_moves.specs.declared.shown.Moved.TheVariants as moved
+use Rattle.strand_moves.specs.declared.shown.Shown.TheVariants as shown
+use Rattle.strand_moves.specs.Cursors.{IsBehind, left_of, Passes}
+use Rattle.strand_moves.specs.Moves.{run_of}
+use Rattle.strand_moves.specs.Running.{IsInstance, machine_of, path_of, text_of}
+
+-- They lead from the first of these instances to the other.
+pub data Row (plan : PlanView) (first : Running) : Running → Type 0 where
+  Still : (now : Running) → now ≡ first → Row plan first now
+  More : (before now : Running) → Row plan first before → move plan (path_of before) (machine_of plan before) ≡ run_of (moved.Went shown.Nothing) (machine_of plan now) → path_of now ≡ path_of before → IsInstance plan now →
+      Row plan first now
+
+-- They lead to an instance that makes one move more, and that one was made.
+pub record RunsOn (plan : PlanView) (first : Running) (m : Moved) (now : Running) : Type 0 where
+  pub before : Running
+  pub row : Row plan first before
+  pub last : move plan (path_of before) (machine_of plan before) ≡ run_of m (machine_of plan now)
+
+-- the statement after which a cursor stands that passed it, where one was left
+abbrev pub IsNext : List Stmt → Cursor → Cursor → Option Stmt → Type 0
+IsNext body old new None = (left_of body old ≡ []) × (left_of body new ≡ [])
+IsNext body old new (Some st) = Passes body old new st
+
+-- What holds where the cursor has just passed this statement, or where none was left.
+abbrev pub HasPassed : PlanView → Running → Option Stmt → Type 0
+HasPassed plan i None = left_of (text_of plan i.top) i.top.cursor ≡ []
+HasPassed plan i (Some st) = (i.leaving ≡ false) × IsBehind (text_of plan i.top) i.top.cursor st
+
+abbrev pub with_next : Option Stmt → List Stmt → List Stmt
+with_next None left = []
+with_next (Some st) left = st ∷ left
+
+-- the machine before its cursor passed
+abbrev pub unpassed : PlanView → Running → Option Stmt → Machine
+unpassed plan i next = let m = machine_of plan i in record m { top = record m.top { left = with_next next m.top.left } }
+
+-- They lead to an instance whose cursor then passed its next statement, if one was left.
+pub record Comes (plan : PlanView) (first now : Running) (next : Option Stmt) : Type 0 where
+  pub before : Running
+  pub row : Row plan first before
+  pub sound : IsInstance plan before
+  pub path : path_of before ≡ path_of first
+  pub passed : now ≡ record before { top = record before.top { cursor = now.top.cursor } }
+  pub at : IsNext (text_of plan before.top) before.top.cursor now.top.cursor next
