@@ -8,3 +8,4 @@ pub mod Rooted
 pub mod Shares
 pub mod Stealing
 pub mod Stopping
+pub mod Tying

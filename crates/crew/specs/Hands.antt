@@ -39,6 +39,13 @@ IsPut rest kept deck kept' deck' =
     ((kept ≡ []) × (kept' ≡ []) × Pushes deck rest deck')
     ⊎ ((kept ≡ [] → 64 ≤ length deck.pushed) × (kept' ≡ kept ++ rest ∷ []) × (deck' ≡ deck))
 
+-- The private list is empty unless the deck has had at least 64 pushes.
+abbrev pub IsLate : List TaskView → OwnerEnd TaskView → Type 0
+IsLate kept deck = (kept ≡ []) ⊎ (64 ≤ length deck.pushed)
+
+abbrev pub KeepsLate : HandView → HandView → Type 0
+KeepsLate old new = IsLate old.kept old.deck → IsLate new.kept new.deck
+
 -- A stop that is no end: the rest goes after the others and the child becomes current, or the task goes to the ring's end.
 abbrev pub Runs : Stop → HandView → HandView → Type 0
 Runs (stop.Spawn child rest) old new =

@@ -62,30 +62,37 @@ impl Model for Hand {
     ghost use Rattle.script_grammar.specs.contracts.tree.Stmt as statement_type;
     ghost use Rattle.serial_meaning.specs.contracts.plan.Plan as plan_type;
     ghost use Rattle.crossbeam_utils.specs.Padded.{padded_value};
-    ghost use Rattle.crew.specs.Hands.{HandView, view_of};
+    ghost use Rattle.crew.specs.Hands.{HandView, view_of, IsLate};
 
     ghost Value = { HandView };
 
     ghost coded = { Prim.hlevel (codes, statement_type.the_row.coded, plan_type.the_row.coded) };
 
     ghost view = { λ h. view_of (padded_value h.held) };
+
+    ghost invariant = { λ h. let v = view_of (padded_value h.held) in IsLate v.kept v.deck };
 }
 
 impl Hand {
     ghost use Rattle.std.specs.Prelude.{◌≡◌, [], IfOk, OnOk, OnErr, Some, None, length};
     ghost use Rattle.steal_deck.specs.Ends.{new_thief};
     ghost use Rattle.crew.specs.Crews.{new_hand, with_thief, IsDealt};
-    ghost use Rattle.crew.specs.Hands.{IsTurn, LooksNewest};
+    ghost use Rattle.crew.specs.Hands.{IsTurn, LooksNewest, IsLate};
+    ghost use Rattle.crew.specs.Ties.{IsTied, IsTiedLook};
 
     /// A hand without a task. It has no thieves yet.
     pub(crate) fn new(alloc: Global, faults: Faults) -> Result<Hand, Memory>
         ensures { IfOk result (λ hand. hand ≡ new_hand hand.deck.deck) }
     {
+        let Ok(deck) = Deck::new(alloc) else {
+            drop(faults);
+            return Err(Memory);
+        };
         Ok(Hand {
             held: CachePadded::new(Held {
                 current: None,
                 kept: Vec::new(alloc),
-                deck: Deck::new(alloc).map_err(|_| Memory)?,
+                deck,
                 ring: VecDeque::new(alloc),
                 thieves: Vec::new(alloc),
                 faults,
@@ -148,9 +155,16 @@ impl Hand {
     ///    ring's end, and the turn goes on.
     /// 4. Steals from each other hand once, from the next number upwards and round, up to the first task.
     ///
-    /// No turn waits for another thread. On `Memory` the tasks in use are dropped, and their answers never come: the run has failed.
+    /// Each turn is an event of the machine of scheduling on this hand's own tasks, but where it cuts a task, or one that took a cut goes on
+    /// (docs/SCHEDULING.md).
+    ///
+    /// No turn waits for another thread. On `Memory` the tasks in use are dropped, and their answers never come, but an answer that was there
+    /// was put: the run has failed.
+    #[tactic(auto, using(crate::proofs::Tying::tied))]
     pub fn turn<G: Gate>(&mut self, alloc: Global, gate: &G) -> Result<Turn, Memory>
         ensures ok { IfOk result (λ turn. IsTurn self.old turn self.new) }
+        ensures tied { IfOk result (λ turn. IsTied self.old turn self.new) }
+        ensures late { IsLate self.new.kept self.new.deck }
         ensures err { OnErr result (self.new.current ≡ None) }
     {
         let held: &mut Held = &mut self.held;
@@ -162,8 +176,10 @@ impl Hand {
     ///
     /// This is no turn, and none is owed. After a turn that left a task waiting or answered one, the newest waiting task so goes on before
     /// one of the deck is taken up. It doesn't wait for another thread. On `Memory` the task is dropped, and the run has failed.
+    #[tactic(auto, using(crate::proofs::Tying::tied_look))]
     pub fn look_newest(&mut self, alloc: Global) -> Result<Looked, Memory>
         ensures ok { IfOk result (λ looked. LooksNewest self.old looked self.new) }
+        ensures tied { IfOk result (λ looked. IsTiedLook self.old looked self.new) }
         ensures err { OnErr result (self.new.current ≡ None) }
     {
         let held: &mut Held = &mut self.held;

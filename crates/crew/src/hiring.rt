@@ -1,7 +1,7 @@
 // How a crew begins.
 ghost use Rattle.std.specs.Prelude.{◌≡◌, ◌≤◌, IfOk, OnOk, ◌++◌, length, map};
 ghost use Rattle.std.specs.Arc.{arc_value};
-ghost use Rattle.crew.specs.Crews.{AreIdle, AreNew, HaveMet, IsCrewOf, IsNewCrew, new_root, root_task, thief_of, with_thief};
+ghost use Rattle.crew.specs.Crews.{AreIdle, AreNew, HaveMet, IsCrewOf, IsNewCrew, new_hand, new_root, root_task, thief_of, with_thief};
 
 use crate::faults::Faults;
 use crate::hand::{Hand, Hands};
@@ -50,16 +50,32 @@ fn begin_roots(alloc: Global, plans: &[Arc<Plan>]) -> Result<(Vec<Root>, Vec<Tas
     Ok((roots, tasks))
 }
 
+/// One more hand without a task. It shares these faults.
+fn one_more(alloc: Global, faults: &Faults) -> Result<Hand, Memory>
+    ensures { IfOk result (λ hand. hand ≡ new_hand hand.deck.deck) }
+{
+    Hand::new(alloc, faults.share(alloc)?)
+}
+
+/// So many of them.
+fn hands_with(alloc: Global, faults: &Faults, workers: u32) -> Result<Vec<Hand>, Memory>
+    ensures { IfOk result (λ hands. AreNew workers hands.items) }
+{
+    let mut hands = Vec::new(alloc);
+    for _ in 0..workers {
+        hands.push(one_more(alloc, faults)?)?;
+    }
+    Ok(hands)
+}
+
 /// So many hands without a task.
 fn new_hands(alloc: Global, workers: u32) -> Result<Vec<Hand>, Memory>
     ensures { IfOk result (λ hands. AreNew workers hands.items) }
 {
     let faults = Faults::new(alloc)?;
-    let mut hands = Vec::new(alloc);
-    for _ in 0..workers {
-        hands.push(Hand::new(alloc, faults.share(alloc)?)?)?;
-    }
-    Ok(hands)
+    let hands = hands_with(alloc, &faults, workers);
+    drop(faults);
+    hands
 }
 
 /// One more thief of each of these hands' decks.

@@ -154,11 +154,9 @@ fn run_hands<R: Threads + Wait + Sync, G: Gate + Sync>(
         hands.0.0,
         &|hand| { work(rt, alloc, Naps::new(workers), shared, hand, gate) },
     );
-    if signals.is_ended() {
-        Ok(())
-    } else {
-        Err(Memory)
-    }
+    let is_ended = signals.is_ended();
+    drop(signals);
+    if is_ended { Ok(()) } else { Err(Memory) }
 }
 
 /// Runs main by so many workers, hand 0 in this thread and each other one in a thread of its own. The hands steal tasks from one another.

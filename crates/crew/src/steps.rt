@@ -6,7 +6,7 @@ ghost use Rattle.strand_meaning.specs.Cuts.{IsByFaultOf};
 ghost use Rattle.strand_machine.specs.Family.{tag};
 ghost use Rattle.strand_machine.specs.declared.stop.Stop.TheVariants as stop;
 ghost use Rattle.steal_deck.specs.Ends.{FindsNone};
-ghost use Rattle.crew.specs.Hands.{view_of, IsPut, Runs, IsAnswered, Advances, IsNewest, FindsNoTask, TakesUp, Looks, LooksNewest, AllMiss, FirstSteals, StealsOr, Seeks, IsTurn};
+ghost use Rattle.crew.specs.Hands.{view_of, IsPut, Runs, IsAnswered, Advances, IsNewest, FindsNoTask, TakesUp, Looks, LooksNewest, AllMiss, FirstSteals, StealsOr, Seeks, IsTurn, IsLate, KeepsLate};
 
 use crate::faults::Faults;
 use crate::gate::Gate;
@@ -35,7 +35,8 @@ pub(crate) enum Found {
 
 /// The rest goes to the end of the private list.
 fn keep(kept: &mut Vec<Task>, rest: Task) -> Result<(), Memory>
-    ensures { OnOk result (kept.new.items ≡ kept.old.items ++ rest ∷ []) }
+    ensures ok { OnOk result (kept.new.items ≡ kept.old.items ++ rest ∷ []) }
+    ensures err { OnErr result (kept.new.items ≡ kept.old.items) }
 {
     kept.push(rest)?;
     Ok(())
@@ -43,7 +44,8 @@ fn keep(kept: &mut Vec<Task>, rest: Task) -> Result<(), Memory>
 
 /// The rest of a task that handed out a child goes after all others.
 fn put_rest(deck: &mut Deck<Task>, kept: &mut Vec<Task>, rest: Task) -> Result<(), Memory>
-    ensures { OnOk result (IsPut rest kept.old.items deck.old kept.new.items deck.new) }
+    ensures ok { OnOk result (IsPut rest kept.old.items deck.old kept.new.items deck.new) }
+    ensures late { IsLate kept.old.items deck.old → IsLate kept.new.items deck.new }
 {
     if !kept.is_empty() {
         return keep(kept, rest);
@@ -63,7 +65,7 @@ pub(crate) fn put_all(
     requires pushed { deck.old.pushed ≡ [] }
     requires kept { kept.old.items ≡ [] }
     ensures all { OnOk result (deck.new.pushed ++ kept.new.items ≡ reverse tasks.items) }
-    ensures refused { OnOk result ((kept.new.items ≡ []) ⊎ (64 ≤ length deck.new.pushed)) }
+    ensures late { IsLate kept.new.items deck.new }
     ensures deck { OnOk result (deck.new ≡ record deck.old { pushed = deck.new.pushed }) }
 {
     let mut left = tasks;
@@ -78,6 +80,7 @@ fn hand_out(held: &mut Held, child: Task, rest: Task) -> Result<(), Memory>
     requires { held.old.current ≡ None }
     ensures ok { OnOk result (Runs (stop.Spawn child rest) (view_of held.old) (view_of held.new)) }
     ensures err { OnErr result (held.new.current ≡ None) }
+    ensures late { KeepsLate (view_of held.old) (view_of held.new) }
 {
     put_rest(&mut held.deck, &mut held.kept, rest)?;
     held.current = Some(child);
@@ -134,25 +137,26 @@ fn tell_fault(alloc: Global, faults: &mut Faults, answer: &Answer)
     }
 }
 
-/// Puts the answer of a task that has ended, and tells the gate.
+/// Puts the answer of a task that has ended, whatever memory is left, and tells the gate. Also answers whether there was memory for that.
 fn end<G: Gate>(
     held: &mut Held,
     alloc: Global,
     answer: Answer,
     give: Give<Answer>,
     gate: &G,
-) -> Result<Turn, Memory>
+) -> (Turn, Result<(), Memory>)
     requires known { IsByFaultOf answer.plan answer.outcome }
     requires give { give ≡ tag answer.plan answer.origin }
-    ensures turn { IfOk result (IsAnswered give) }
+    ensures put { IsAnswered give result.0 }
     ensures held { view_of held.new ≡ view_of held.old }
 {
     tell_fault(alloc, &mut held.faults, &answer);
-    // An answer that is there is put, also where no memory is left for what comes after.
     let origin = share_origin(alloc, &answer.origin);
     let turn = put_answer(answer, give);
-    gate.leave(&origin?);
-    Ok(turn)
+    if let Ok(origin) = &origin {
+        gate.leave(origin);
+    }
+    (turn, origin.map(drop))
 }
 
 /// Runs this task, which was the current one, to its next stop.
@@ -161,6 +165,7 @@ fn advance<G: Gate>(held: &mut Held, task: Task, alloc: Global, gate: &G) -> Res
     requires { held.old.current ≡ None }
     ensures ok { IfOk result (λ turn. Advances task (view_of held.old) turn (view_of held.new)) }
     ensures err { OnErr result (held.new.current ≡ None) }
+    ensures late { KeepsLate (view_of held.old) (view_of held.new) }
 {
     let stop = task.advance(alloc)?;
     match stop {
@@ -172,7 +177,11 @@ fn advance<G: Gate>(held: &mut Held, task: Task, alloc: Global, gate: &G) -> Res
             park(&mut held.ring, rest)?;
             Ok(Turn::Ran)
         }
-        Stop::Done { answer, give } => end(held, alloc, answer, give, gate),
+        Stop::Done { answer, give } => {
+            let (turn, told) = end(held, alloc, answer, give, gate);
+            told?;
+            Ok(turn)
+        }
     }
 }
 
@@ -192,6 +201,7 @@ fn run<G: Gate>(held: &mut Held, task: Task, alloc: Global, gate: &G) -> Result<
     requires { held.old.current ≡ None }
     ensures ok { IfOk result (λ turn. Advances task (view_of held.old) turn (view_of held.new)) }
     ensures err { OnErr result (held.new.current ≡ None) }
+    ensures late { KeepsLate (view_of held.old) (view_of held.new) }
 {
     if task.is_fresh() {
         if let Some(by) = held.faults.cut(&task) {
@@ -206,6 +216,7 @@ fn run<G: Gate>(held: &mut Held, task: Task, alloc: Global, gate: &G) -> Result<
 fn newest(deck: &mut Deck<Task>, kept: &mut Vec<Task>) -> Option<Task>
     ensures some { IfSome result (λ task. IsNewest task kept.old.items deck.old kept.new.items deck.new) }
     ensures none { IfNone result ((kept.old.items ≡ []) × (kept.new.items ≡ []) × FindsNone deck.old deck.new) }
+    ensures late { IsLate kept.old.items deck.old → IsLate kept.new.items deck.new }
 {
     if kept.is_empty() {
         deck.pop()
@@ -219,6 +230,7 @@ fn pop(held: &mut Held) -> Option<Turn>
     requires { held.old.current ≡ None }
     ensures some { IfSome result (λ turn. Seeks (view_of held.old) turn (view_of held.new)) }
     ensures none { IfNone result (FindsNoTask (view_of held.old) (view_of held.new) × (view_of held.new ≡ record (view_of held.old) { deck = held.new.deck })) }
+    ensures late { KeepsLate (view_of held.old) (view_of held.new) }
 {
     held.current = newest(&mut held.deck, &mut held.kept);
     match &held.current {
@@ -233,6 +245,7 @@ fn take_up(held: &mut Held, task: Task, alloc: Global) -> Result<Found, Memory>
     requires waits { task.task.waiting ≡ true }
     ensures ok { IfOk result (λ found. TakesUp task (view_of held.old) found (view_of held.new)) }
     ensures err { OnErr result (held.new.current ≡ None) }
+    ensures late { KeepsLate (view_of held.old) (view_of held.new) }
 {
     let resumed = task.resume(alloc)?;
     match resumed {
@@ -253,6 +266,7 @@ fn look(held: &mut Held, alloc: Global) -> Result<Found, Memory>
     requires { held.old.current ≡ None }
     ensures ok { IfOk result (λ found. Looks (view_of held.old) found (view_of held.new)) }
     ensures err { OnErr result (held.new.current ≡ None) }
+    ensures late { KeepsLate (view_of held.old) (view_of held.new) }
 {
     let Some(parked) = held.ring.pop_front() else {
         return Ok(Found::Missing);
@@ -277,7 +291,8 @@ fn steal(thieves: &mut [Thief<Task>]) -> Option<Task>
 /// Takes up a task of another hand. Where there is none the turn was this.
 fn steal_or(held: &mut Held, otherwise: Turn) -> Turn
     requires { held.old.current ≡ None }
-    ensures { StealsOr otherwise (view_of held.old) result (view_of held.new) }
+    ensures took { StealsOr otherwise (view_of held.old) result (view_of held.new) }
+    ensures late { KeepsLate (view_of held.old) (view_of held.new) }
 {
     held.current = steal(held.thieves.as_mut_slice());
     match &held.current {
@@ -291,6 +306,7 @@ fn seek(held: &mut Held, alloc: Global) -> Result<Turn, Memory>
     requires { held.old.current ≡ None }
     ensures ok { IfOk result (λ turn. Seeks (view_of held.old) turn (view_of held.new)) }
     ensures err { OnErr result (held.new.current ≡ None) }
+    ensures late { KeepsLate (view_of held.old) (view_of held.new) }
 {
     if let Some(turn) = pop(held) {
         return Ok(turn);
@@ -306,6 +322,7 @@ fn seek(held: &mut Held, alloc: Global) -> Result<Turn, Memory>
 pub(crate) fn turn<G: Gate>(held: &mut Held, alloc: Global, gate: &G) -> Result<Turn, Memory>
     ensures ok { IfOk result (λ turn. IsTurn (view_of held.old) turn (view_of held.new)) }
     ensures err { OnErr result (held.new.current ≡ None) }
+    ensures late { KeepsLate (view_of held.old) (view_of held.new) }
 {
     match held.current.take() {
         Some(task) => run(held, task, alloc, gate),
@@ -318,6 +335,7 @@ pub(crate) fn turn<G: Gate>(held: &mut Held, alloc: Global, gate: &G) -> Result<
 pub(crate) fn look_newest(held: &mut Held, alloc: Global) -> Result<Looked, Memory>
     ensures ok { IfOk result (λ looked. LooksNewest (view_of held.old) looked (view_of held.new)) }
     ensures err { OnErr result (held.new.current ≡ None) }
+    ensures late { KeepsLate (view_of held.old) (view_of held.new) }
 {
     if held.current.is_some() {
         return Ok(Looked::Nothing);

@@ -4,7 +4,7 @@ use Rattle.crew.proofs.steps.put_all.Goals as goal
 pub loop-task-preserved : goal.loop-task-preserved
 loop-task-preserved c =
     let l = c.loop-task in
-    let put = c.in_ok-put_rest.ensures in
+    let put = c.in_ok-put_rest.ensures.ok in
     record {
       all = all-but-one c.in-Some.task l.kept.items c.put_rest.new.kept.items l.deck c.put_rest.new.deck l.left.items c.pop.new.self.items _ c.in-Some.ensures.items put l.invariant.all;
       refused = refused-late c.in-Some.task l.kept.items c.put_rest.new.kept.items l.deck c.put_rest.new.deck put l.invariant.refused;

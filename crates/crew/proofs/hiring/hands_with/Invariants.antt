@@ -1,5 +1,5 @@
 use Rattle.crew.specs.Crews.{AreNew}
-use Rattle.crew.proofs.hiring.new_hands.Given as goal
+use Rattle.crew.proofs.hiring.hands_with.Given as goal
 
 abbrev pub invariant-loop : goal.invariant-loop
 invariant-loop l = AreNew l.counter l.hands.items

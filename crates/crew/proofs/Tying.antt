@@ -1,0 +1,333 @@
+-- A turn is an event of the machine of scheduling, on its own worker's part.
+use Rattle.std.proofs.Common.{◌≡◌, ◌⊎◌, inl, inr, ℕ, zero, suc, ◌+◌, true, false, Bool, List, [], ◌∷◌, ◌++◌, Option, Some, None, length, map, option_map, slice_get, remove, refl, sym, ap, ◌∙◌, subst, append-nil, append_assoc}
+use Rattle.std.proofs.lemmas.List.{map-append, length-append}
+use Rattle.serial_meaning.specs.Answer.{AnswerView, AnswerTag}
+use Rattle.serial_meaning.specs.declared.answer.Outcome.{Outcome}
+use Rattle.strand_meaning.proofs.Stops.{stops_keep_origins}
+use Rattle.strand_meaning.specs.Task.{Task, start, Stop, Spawn, Wait, End}
+use Rattle.sched_meaning.specs.Core.{Worker}
+use Rattle.sched_meaning.specs.Steps.{WorkerRuns, WorkerPops, WorkerPasses}
+use Rattle.steal_deck.specs.Ends.{OwnerEnd, Pops}
+use Rattle.strand_machine.specs.Stops.{IsStop, IsCutEnd, IsResumed, advances, any_cut, resumes, Advances as AdvancesTo}
+use Rattle.strand_machine.specs.Tasks.{TaskView}
+use Rattle.strand_machine.specs.declared.stop.Stop.{Stop as Stops}
+use Rattle.strand_machine.specs.declared.stop.Stop.TheVariants as stop
+use Rattle.strand_machine.specs.declared.stop.Resumed.TheVariants as resumed
+use Rattle.crew.specs.Hands.{HandView, IsPut, Runs, Ends, Advances, IsNewest, IsTurnedOver, GoesOn, Seeks, IsTurn, IsTurnFrom, StaysLast, LastGoesOn, LooksNewest}
+use Rattle.crew.specs.Ties.{tasks, worker_of, OwnerLeaves, IsEnd, IsNoEnd, RunsTo, EndsByCut, TakesLast, ResumesAt, PassesAt, LooksBefore, IsTied, IsTiedLook}
+use Rattle.crew.specs.declared.hand.Looked.{Looked}
+use Rattle.crew.specs.declared.hand.Looked.TheVariants as looked
+use Rattle.crew.specs.declared.hand.Turn.{Turn}
+use Rattle.crew.specs.declared.hand.Turn.TheVariants.{Ran, Answered, Ended, Popped, Resumed, Waiting, Stole, Idle}
+
+-- The worker that a hand is
+
+worker-is : (left : List TaskView) (h : HandView) (current : Option Task) (deque ring : List Task) →
+    option_map (λ t. t.task) h.current ≡ current → tasks left ++ tasks h.kept ≡ deque → tasks h.ring ≡ ring →
+    worker_of left h ≡ record { current = current; deque = deque; ring = ring }
+worker-is left h current deque ring c d r = rw c (rw d (rw r refl))
+
+abbrev task-of : Option TaskView → Option Task
+task-of o = option_map (λ t. t.task) o
+
+-- one task more at the back
+pushed : (left : List TaskView) (t : TaskView) (kept : List TaskView) → kept ≡ [] → tasks (left ++ t ∷ []) ++ tasks kept ≡ tasks left ++ t.task ∷ []
+pushed left t kept none = rw none (append-nil (tasks (left ++ t ∷ [])) ∙ map-append (λ t. t.task) left (t ∷ []))
+
+emptied : (left kept : List TaskView) → kept ≡ [] → tasks left ++ tasks kept ≡ tasks left
+emptied left kept none = rw none (append-nil (tasks left))
+
+kept-more : (left kept kept' : List TaskView) (t : TaskView) → kept' ≡ kept ++ t ∷ [] → tasks left ++ tasks kept' ≡ (tasks left ++ tasks kept) ++ t.task ∷ []
+kept-more left kept kept' t more =
+    ap (λ l. tasks left ++ tasks l) more
+    ∙ ap (λ l. tasks left ++ l) (map-append (λ t. t.task) kept (t ∷ []))
+    ∙ sym (append_assoc (tasks left) (tasks kept) (t.task ∷ []))
+
+-- Runs
+
+module _ (t : TaskView) (old new : HandView) (now : old.current ≡ Some t) where
+  current-was : task-of old.current ≡ Some t.task
+  current-was = ap task-of now
+
+  ran-to-spawn : (child rest : TaskView) → IsStop t (stop.Spawn child rest) → Runs (stop.Spawn child rest) old new → RunsTo IsNoEnd old new
+  ran-to-spawn child rest at h = (t.task, at-child, (λ (no : ⊥). no), λ left. by left h.0)
+    where
+      at-child : Stop
+      at-child = Spawn child.task.origin rest.task
+
+      child-is : Some child.task ≡ Some (start rest.task.plan child.task.origin)
+      child-is =
+          ap (λ (x : TaskView). Some x.task) at.keeps.0
+          ∙ ap (λ p. Some (start p child.task.origin)) (sym (stops_keep_origins t.task at-child at.next).0)
+
+      is : task-of new.current ≡ Some (start rest.task.plan child.task.origin)
+      is = ap (λ (x : HandView). task-of x.current) h.1 ∙ child-is
+
+      ring-is : tasks new.ring ≡ tasks old.ring
+      ring-is = ap (λ (x : HandView). tasks x.ring) h.1
+
+      by : (left : List TaskView) → IsPut rest old.kept old.deck new.kept new.deck →
+          (after : List TaskView) × OwnerLeaves old.deck left new.deck after × WorkerRuns t.task at-child (worker_of left old) (worker_of after new)
+      by left (inl (none, still, pushes)) = (
+        left ++ rest ∷ [],
+        inr (inl (rest, pushes, refl)),
+        record {
+          current = current-was;
+          comes = at.next;
+          after = worker-is (left ++ rest ∷ []) new _ _ _ is (pushed left rest new.kept still ∙ ap (λ l. l ++ rest.task ∷ []) (sym (emptied left old.kept none))) ring-is;
+        },
+      )
+      by left (inr (full, more, same)) = (
+        left,
+        inl (same, refl),
+        record {
+          current = current-was;
+          comes = at.next;
+          after = worker-is left new _ _ _ is (kept-more left old.kept new.kept rest more) ring-is;
+        },
+      )
+
+  ran-to-wait : (rest : TaskView) → IsStop t (stop.Wait rest) → Runs (stop.Wait rest) old new → RunsTo IsNoEnd old new
+  ran-to-wait rest at h = (
+    t.task,
+    Wait rest.task,
+    (λ (no : ⊥). no),
+    λ left. (
+      left,
+      inl (ap (λ (x : HandView). x.deck) h, refl),
+      record {
+        current = current-was;
+        comes = at.next;
+        after =
+            worker-is left new _ _ _ (ap (λ (x : HandView). task-of x.current) h) (ap (λ (x : HandView). tasks left ++ tasks x.kept) h)
+            (ap (λ (x : HandView). tasks x.ring) h ∙ map-append (λ t. t.task) old.ring (rest ∷ []));
+      },
+    ),
+  )
+
+  ran-to-end : (answer : AnswerView) (give : AnswerTag) → IsStop t (stop.Done answer give) → new ≡ record old { current = None } → RunsTo IsEnd old new
+  ran-to-end answer give at h = (
+    t.task,
+    End answer.out answer.outcome,
+    tt,
+    λ left. (
+      left,
+      inl (ap (λ (x : HandView). x.deck) h, refl),
+      record {
+        current = current-was;
+        comes = at.next;
+        after =
+            worker-is left new _ _ _ (ap (λ (x : HandView). task-of x.current) h) (ap (λ (x : HandView). tasks left ++ tasks x.kept) h)
+            (ap (λ (x : HandView). tasks x.ring) h);
+      },
+    ),
+  )
+
+  -- Only its end comes of a task that took a cut.
+  ran : (c : Option Outcome) (s : Stops) → advances c t s → Runs s old new → RunsTo IsNoEnd old new
+  ran None (stop.Spawn child rest) at h = ran-to-spawn child rest at h
+  ran None (stop.Wait rest) at h = ran-to-wait rest at h
+  ran None (stop.Done answer give) at h = absurd h
+  ran (Some ended) (stop.Spawn child rest) at h = absurd (let e = at.is in (cc))
+  ran (Some ended) (stop.Wait rest) at h = absurd (let e = at.is in (cc))
+  ran (Some ended) (stop.Done answer give) at h = absurd h
+
+  ended : (c : Option Outcome) → t.cut ≡ c → (answer : AnswerView) (give : AnswerTag) → advances c t (stop.Done answer give) → new ≡ record old { current = None } →
+      RunsTo IsEnd old new ⊎ EndsByCut old new
+  ended None e answer give at h = inl (ran-to-end answer give at h)
+  ended (Some o) e answer give at h = inr (t, now, inr (o, e), h)
+
+  put : (turn : Turn) → Ends t old turn new → RunsTo IsEnd old new ⊎ EndsByCut old new
+  put turn (inl (answer, give, at), arrived, h) = ended t.cut refl answer give at h
+  put turn (inr cut, arrived, h) = inr (t, now, inl cut, h)
+
+  advanced : (turn : Turn) → Advances t old turn new → IsTied old turn new
+  advanced Ran (s, at, h) = ran t.cut s at h
+  advanced (Answered a) h = put (Answered a) h
+  advanced (Ended a) h = put (Ended a) h
+  advanced Popped h = absurd h.1
+  advanced Resumed h = absurd h.1
+  advanced Waiting h = absurd h.1
+  advanced Stole h = absurd h.1
+  advanced Idle h = absurd h.1
+
+-- Turns without a current task
+
+module _ (old new : HandView) (free : old.current ≡ None) where
+  was-free : task-of old.current ≡ None
+  was-free = ap task-of free
+
+  popped : (t : TaskView) → IsNewest t old.kept old.deck new.kept new.deck → new ≡ record old { current = Some t; kept = new.kept; deck = new.deck } → TakesLast old new
+  popped t newest h = (t.task, λ after. by after newest)
+    where
+      by : (after : List TaskView) → IsNewest t old.kept old.deck new.kept new.deck →
+          (left : List TaskView) × OwnerLeaves old.deck left new.deck after × WorkerPops t.task (worker_of left old) (worker_of after new)
+      by after (inl (last, same)) = (
+        after,
+        inl (same, refl),
+        record {
+          free = was-free;
+          back = kept-more after new.kept old.kept t last;
+          current = ap (λ (x : HandView). task-of x.current) h;
+          ring = ap (λ (x : HandView). tasks x.ring) h;
+        },
+      )
+      by after (inr (none, still, pops)) = (
+        after ++ t ∷ [],
+        inr (inr (t, pops, refl)),
+        record {
+          free = was-free;
+          back = pushed after t old.kept none ∙ ap (λ l. l ++ t.task ∷ []) (sym (emptied after new.kept still));
+          current = ap (λ (x : HandView). task-of x.current) h;
+          ring = ap (λ (x : HandView). tasks x.ring) h;
+        },
+      )
+
+  -- the front of the ring
+
+  front : (place : ℕ) (t : TaskView) (ring : List TaskView) → slice_get ring place ≡ Some t → slice_get (tasks ring) place ≡ Some t.task
+  front zero t [] h = absurd (cc)
+  front zero t (x ∷ xs) h = ap task-of h
+  front (suc n) t [] h = absurd (cc)
+  front (suc n) t (x ∷ xs) h = front n t xs h
+
+  without : (place : ℕ) (ring : List TaskView) → tasks (remove ring place) ≡ remove (tasks ring) place
+  without zero [] = refl
+  without zero (x ∷ xs) = refl
+  without (suc n) [] = refl
+  without (suc n) (x ∷ xs) = ap (λ l. x.task ∷ l) (without n xs)
+
+  passes : (place : ℕ) (left : List TaskView) (t same : TaskView) (mid : HandView) → slice_get old.ring place ≡ Some t → same.task ≡ t.task →
+      mid.current ≡ old.current → mid.kept ≡ old.kept → mid.ring ≡ remove old.ring place ++ same ∷ [] →
+      WorkerPasses place t.task (worker_of left old) (worker_of left mid)
+  passes place left t same mid there is c k r = record {
+    free = was-free;
+    there = front place t old.ring there;
+    after =
+        worker-is left mid _ _ _ (ap task-of c) (ap (λ l. tasks left ++ tasks l) k)
+        (
+        ap tasks r
+        ∙ map-append (λ t. t.task) (remove old.ring place) (same ∷ [])
+        ∙ ap (λ l. l ++ same.task ∷ []) (without place old.ring)
+        ∙ ap (λ x. remove (tasks old.ring) place ++ x ∷ []) is
+        );
+  }
+
+  resumes-at : (place : ℕ) (left : List TaskView) (t next : TaskView) → slice_get old.ring place ≡ Some t → IsResumed t (resumed.On next) →
+      new ≡ record old { current = Some next; deck = new.deck; ring = remove old.ring place } → ResumesAt place left old new
+  resumes-at place left t next there (answers, are, is, passed) h = by (any_cut answers) is
+    where
+      by : (cut : Bool) → resumes cut answers t next → ResumesAt place left old new
+      by false gone = inl (
+        t.task,
+        record {
+          free = was-free;
+          there = front place t old.ring there;
+          after =
+              worker-is left new _ _ _ (ap (λ (x : HandView). task-of x.current) h ∙ ap Some gone.0) (ap (λ (x : HandView). tasks left ++ tasks x.kept) h)
+              (ap (λ (x : HandView). tasks x.ring) h ∙ without place old.ring);
+        },
+      )
+      by true cut = inr (t, next, answers, cut, free, there, h)
+
+  -- the hand after a look at its ring's front that was in vain
+  passed : (mid : HandView) → mid.current ≡ old.current → mid.kept ≡ old.kept → (ring : List TaskView) → old.ring ≡ ring → IsTurnedOver ring mid.ring → PassesAt 0 [] old mid
+  passed mid c k [] e h = absurd h
+  passed mid c k (t ∷ ts) e (same, stays, after) =
+      (t.task, passes 0 [] t same mid (ap (λ l. slice_get l 0) e) stays.0 c k (after ∙ ap (λ l. remove l 0 ++ same ∷ []) (sym e)))
+
+  goes : (t : TaskView) (ring : List TaskView) → old.ring ≡ ring → GoesOn ring t new.ring → new ≡ record old { current = Some t; deck = new.deck; ring = new.ring } →
+      ResumesAt 0 [] old new
+  goes t [] e h is = absurd h
+  goes t (first ∷ ts) e (on, after) is =
+      resumes-at 0 [] first t (ap (λ l. slice_get l 0) e) on
+      (is ∙ ap (λ l. record old { current = Some t; deck = new.deck; ring = l }) (after ∙ ap (λ l. remove l 0) (sym e)))
+
+  -- a look in vain where a task waits, before a steal
+  looks-first : ((old.ring ≡ []) × (new.ring ≡ [])) ⊎ IsTurnedOver old.ring new.ring → LooksBefore (worker_of [] old) (worker_of [] (record old { ring = new.ring }))
+  looks-first (inl (none, still)) = inl (ap tasks none, ap (λ l. worker_of [] (record old { ring = l })) (still ∙ sym none))
+  looks-first (inr over) = inr (passed (record old { ring = new.ring }) refl refl old.ring refl over)
+
+  sought : (turn : Turn) → Seeks old turn new → IsTied old turn new
+  sought Popped (t, newest, h) = popped t newest h
+  sought Resumed (t, none, on, h) = (none.1, goes t old.ring refl on h)
+  sought Stole (t, none, over, steals, h) = (
+    none.1,
+    (
+      t,
+      steals,
+      (
+        worker_of [] (record old { ring = new.ring }),
+        looks-first over,
+        record {
+          free = was-free;
+          after =
+              worker-is [] new _ _ _ (ap (λ (x : HandView). task-of x.current) h) (ap (λ (x : HandView). tasks x.kept) h)
+              (ap (λ (x : HandView). tasks x.ring) h);
+        },
+      ),
+    ),
+  )
+  sought Waiting (none, over, steals, h) =
+      (none.1, passed new (ap (λ (x : HandView). x.current) h) (ap (λ (x : HandView). x.kept) h) old.ring refl over)
+  sought Idle (none, ring, steals, h) = (
+    none.1,
+    worker-is [] old _ _ _ was-free (ap tasks none.0) (ap tasks ring),
+    worker-is [] new _ _ _ (ap (λ (x : HandView). task-of x.current) h ∙ was-free) (ap (λ (x : HandView). tasks x.kept) h ∙ ap tasks none.0)
+        (ap (λ (x : HandView). tasks x.ring) h ∙ ap tasks ring),
+  )
+  sought Ran h = absurd h
+  sought (Answered a) h = absurd h
+  sought (Ended a) h = absurd h
+
+tied-from : (current : Option TaskView) (old : HandView) (turn : Turn) (new : HandView) → old.current ≡ current → IsTurnFrom current old turn new → IsTied old turn new
+tied-from None old turn new now h = sought old new now turn h
+tied-from (Some t) old turn new now h = advanced t old new now turn h
+
+pub tied : (old : HandView) (turn : Turn) (new : HandView) → IsTurn old turn new → IsTied old turn new
+tied old turn new h = tied-from old.current old turn new refl h
+
+-- Looks between turns
+
+last-of : (ts : List TaskView) (t : TaskView) → slice_get (ts ++ t ∷ []) (length ts) ≡ Some t
+last-of [] t = refl
+last-of (x ∷ xs) t = last-of xs t
+
+without-last : (ts : List TaskView) (t : TaskView) → remove (ts ++ t ∷ []) (length ts) ≡ ts
+without-last [] t = refl
+without-last (x ∷ xs) t = ap (λ l. x ∷ l) (without-last xs t)
+
+one-more : (ts : List TaskView) (t : TaskView) → length ts + 1 ≡ length (ts ++ t ∷ [])
+one-more ts t = simp (length-append)
+
+module _ (old new : HandView) where
+  stays : (ring : List TaskView) → old.ring ≡ ring → old.current ≡ None → StaysLast ring new.ring → new ≡ record old { ring = new.ring } → IsTiedLook old looked.Waits new
+  stays ring e free (ts, t, same, last, waits, after) h = (
+    length ts,
+    one-more ts t ∙ ap length (sym (e ∙ last)),
+    λ left. (
+      t.task,
+      passes old new free (length ts) left t same new
+          (ap (λ l. slice_get l (length ts)) (e ∙ last) ∙ last-of ts t) waits.0 (ap (λ (x : HandView). x.current) h) (ap (λ (x : HandView). x.kept) h)
+          (after ∙ ap (λ l. l ++ same ∷ []) (sym (ap (λ l. remove l (length ts)) (e ∙ last) ∙ without-last ts t))),
+    ),
+  )
+
+  goes-last : (next : TaskView) → old.current ≡ None → LastGoesOn old.ring next new.ring → new ≡ record old { current = Some next; ring = new.ring } →
+      IsTiedLook old looked.Goes new
+  goes-last next free (t, last, on) h = (
+    length new.ring,
+    one-more new.ring t ∙ ap length (sym last),
+    λ left. resumes-at old new free (length new.ring) left t next
+        (ap (λ l. slice_get l (length new.ring)) last ∙ last-of new.ring t) on
+        (
+        h
+        ∙ ap (λ l. record old { current = Some next; ring = l }) (sym (ap (λ l. remove l (length new.ring)) last ∙ without-last new.ring t))
+        ∙ ap (λ d. record old { current = Some next; deck = d; ring = remove old.ring (length new.ring) }) (sym (ap (λ (x : HandView). x.deck) h))
+        ),
+  )
+
+pub tied_look : (old : HandView) (found : Looked) (new : HandView) → LooksNewest old found new → IsTiedLook old found new
+tied_look old looked.Nothing new h = h.0
+tied_look old looked.Waits new (free, stays-last, h) = stays old new old.ring refl free stays-last h
+tied_look old looked.Goes new (t, free, last, h) = goes-last old new t free last h
