@@ -5,6 +5,7 @@ _pedrun_options() {
   case $1 in
     run) echo --seed --gamma --depth --budget --rounds --workers --show ;;
     serial) echo --seed --gamma --depth --budget --rounds --show ;;
+    sim) echo --number --seed --gamma --depth --budget --rounds --workers --show ;;
     replay) echo --at --seed --gamma --depth --budget --rounds ;;
     hash) echo --at --seed --gamma --rounds ;;
     gen) echo --shape --size ;;
@@ -20,7 +21,7 @@ _pedrun_left() {
   shift
   if [ $# -eq 0 ]; then
     case $command in
-      run | serial | check | fmt | replay | hash | gen | stream | span | batch) echo --help ;;
+      run | serial | sim | check | fmt | replay | hash | gen | stream | span | batch) echo --help ;;
     esac
   fi
   for option in $(_pedrun_options "$command"); do
@@ -44,7 +45,7 @@ _pedrun() {
       ;;
   esac
   if [ "$COMP_CWORD" -eq 1 ]; then
-    choices='run serial check fmt replay hash gen stream span batch --help --version'
+    choices='run serial sim check fmt replay hash gen stream span batch --help --version'
   elif [ $((COMP_CWORD % 2)) -eq 0 ]; then
     choices=$(_pedrun_left "${COMP_WORDS[1]}" "${COMP_WORDS[@]:2:COMP_CWORD-2}")
   else

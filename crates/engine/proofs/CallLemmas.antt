@@ -4,7 +4,7 @@ use Rattle.draw_lines.specs.Lines.{CanDraw, stream_text}
 use Rattle.ped_words.specs.Commands.{IsLawful}
 use Rattle.ped_words.specs.declared.command.Command.{Command}
 use Rattle.ped_words.specs.declared.command.Command.TheVariants.{Stream}
-use Rattle.engine.specs.Commands.{Takes, runs_today, takes_script}
+use Rattle.engine.specs.Commands.{Takes, takes_script}
 use Rattle.serial_meaning.specs.declared.event.Fault.{Fault}
 use Rattle.engine.specs.Lines.{blocked_line}
 use Rattle.engine.specs.Promise.{Watched, Answers, HasOutput, HasReport, ReadWhole, TellsNone, Told}
@@ -24,16 +24,16 @@ misfit_cause command source bytes takes read {X} (Err (Untaken line)) is = (take
 misfit_cause command source bytes takes read {X} (Err Read) is = absurd is
 misfit_cause command source bytes takes read {X} (Err Memory) is = tt
 
-module _ (command : Command) (source out err : Watched) (today : IsTrue (runs_today command)) (report : Report) (has : HasReport command source report) where
+module _ (command : Command) (source out err : Watched) (report : Report) (has : HasReport command source report) where
   pub delivered_answers : (status : Status) → Delivers report.output report.ending out err status → Answers command source out err status
-  delivered_answers S.Done d = (today, (report, has, d.0, d.1))
-  delivered_answers S.Faulted d = (today, (report, has, d.0, d.1))
+  delivered_answers S.Done d = (report, has, d.0, d.1)
+  delivered_answers S.Faulted d = (report, has, d.0, d.1)
   delivered_answers S.Words d = absurd d
   delivered_answers S.Script d = absurd d
   delivered_answers S.Read d = absurd d
-  delivered_answers S.Write d = ((today, (report, has, d.0, d.1)), d.2)
+  delivered_answers S.Write d = ((report, has, d.0, d.1), d.2)
   delivered_answers S.Memory d = d
-  delivered_answers S.NoStrand d = (today, (report, has, d))
+  delivered_answers S.NoStrand d = (report, has, d)
 
 -- An output that was put, or wasn't, is a delivered report.
 module _ (output : List ℕ) (ending : Ending) (out err : Watched) where
@@ -65,4 +65,4 @@ module _ (command : Command) (gamma at : List ℕ) (count rounds : ℕ) (below :
   pub stream_answers : (source out err : Watched) (status : Status) → Delivers (stream_text gamma at count rounds below) E.Done out err status → Answers command source out err status
   stream_answers source out err status d =
       let P : Command → Type 0 = λ c. Answers c source out err status in
-      subst P (sym is) (delivered_answers (Stream gamma at count rounds below) source out err refl (said (stream_text gamma at count rounds below)) ([], (λ takes. absurd (cc)), refl) status d)
+      subst P (sym is) (delivered_answers (Stream gamma at count rounds below) source out err (said (stream_text gamma at count rounds below)) ([], (λ takes. absurd (cc)), refl) status d)

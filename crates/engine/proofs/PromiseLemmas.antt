@@ -1,5 +1,5 @@
 -- The parts of the promise follow from it.
-use Rattle.std.proofs.Common.{◌≡◌, ℕ, ◌≤◌, ◌<◌, ◌+◌, Bool, true, false, ◌&&◌, List, ◌++◌, length, length-append, append-nil, Option, Some, None, Result, Ok, Err, IsTrue, IsFalse, ◌⊎◌, inl, inr, refl, sym, ap, ◌∙◌, subst, arith}
+use Rattle.std.proofs.Common.{◌≡◌, ℕ, ◌≤◌, ◌<◌, ◌+◌, Bool, true, false, List, ◌++◌, length, length-append, append-nil, Option, Some, None, Result, Ok, Err, IsTrue, IsFalse, ◌⊎◌, inl, inr, refl, sym, ap, ◌∙◌, subst, arith}
 use Rattle.std.specs.List.{list_any}
 use Rattle.ped_io.specs.Streams.{Appends, Consumes, IsAtEnd}
 use Rattle.ped_words.specs.declared.command.Command.{Command}
@@ -11,7 +11,7 @@ use Rattle.script_grammar.specs.Text.{Text}
 use Rattle.engine.specs.declared.status.Status.{Status}
 use Rattle.engine.specs.declared.status.Status.TheVariants.{Done, Faulted, Words, Script, Read, Write, Memory, NoStrand}
 use Rattle.engine.specs.Batches.{batch_ending, is_faulted, plan_under}
-use Rattle.engine.specs.Commands.{Reports, Takes, reads_script, runs_today, takes_script}
+use Rattle.engine.specs.Commands.{Reports, Takes, takes_script}
 use Rattle.engine.specs.Report.{Report, ending_of, plan_of, run_report, status_of}
 use Rattle.engine.specs.Promise.{Watched, Failed, ReadWhole, HasNoScript, HasReport, Answers, HasOutput, Refuses, TellsNone, KeepsPromise, most_bytes}
 use Rattle.engine.specs.Clauses.{RefusesWords, IsBad, RefusesScript, WroteReport, WritesReport, IsReplay, FindsNone, TellsNoStrand, IsComplete, Completes}
@@ -29,18 +29,6 @@ told_long : (bytes front : List ℕ) (after : Option (List ℕ)) → Consumes (S
 told_long bytes front None taken long = absurd taken
 told_long bytes front (Some rest) taken long =
     let sum : length bytes ≡ length front + length rest = ap length taken ∙ length-append front rest in omega (arith, sum, long)
-
-first_true : (a b : Bool) → IsTrue (a && b) → IsTrue a
-first_true true b h = refl
-first_true false b h = absurd (cc)
-
-second_true : (a b : Bool) → IsTrue (a && b) → IsTrue b
-second_true true b h = h
-second_true false b h = absurd (cc)
-
-not_both : (a : Bool) → IsTrue a → IsFalse a → ⊥
-not_both true h k = absurd (cc)
-not_both false h k = absurd (cc)
 
 -- a command that takes a script reports of one
 taken_script : (command : Command) → IsTrue (takes_script command) → (bytes : List ℕ) (report : Report) → Reports command bytes report → (script : Tree) × Text bytes script × Takes command script
@@ -76,16 +64,6 @@ module _ (source out err : Watched) where
     answer_at : (status other : Status) → Answers command source out err status → status ≡ other → Answers command source out err other
     answer_at status other a h = let P : Status → Type 0 = λ s. Answers command source out err s in subst P h a
 
-    words_always : (status : Status) → Answers command source out err status → IsFalse (runs_today command) → (status ≡ Words) ⊎ (status ≡ Memory)
-    words_always Done a none = absurd (not_both (runs_today command) a.0 none)
-    words_always Faulted a none = absurd (not_both (runs_today command) a.0 none)
-    words_always Words a none = inl refl
-    words_always Script a none = absurd (not_both (runs_today command) (first_true (runs_today command) (takes_script command) a.0) none)
-    words_always Read a none = absurd (not_both (runs_today command) (first_true (runs_today command) (takes_script command) a.0) none)
-    words_always Write a none = absurd (not_both (runs_today command) a.0.0 none)
-    words_always Memory a none = inr refl
-    words_always NoStrand a none = absurd (not_both (runs_today command) a.0 none)
-
     module _ (bytes : List ℕ) (told : source.before ≡ Some bytes) (takes : IsTrue (takes_script command)) where
       whole_bytes : (front : List ℕ) → ReadWhole source front → front ≡ bytes
       whole_bytes front read = let P : Option (List ℕ) → Type 0 = λ before. Consumes before source.after front in told_whole bytes front source.after (subst P told read.taken) read.end
@@ -104,15 +82,15 @@ module _ (source out err : Watched) where
       no_good report has (inl long) = let few = few_bytes report has in absurd (omega (arith, few, long))
       no_good report has (inr none) = let taken = taken_script command takes bytes report (reported_bytes report has) in none taken.0 taken.1 taken.2
 
-      script_always : (status : Status) → Answers command source out err status → IsTrue (runs_today command) → IsBad command bytes → (status ≡ Script) ⊎ ((status ≡ Read) ⊎ (status ≡ Memory))
-      script_always Done a today bad = absurd (no_good a.1.0 a.1.1 bad)
-      script_always Faulted a today bad = absurd (no_good a.1.0 a.1.1 bad)
-      script_always Words a today bad = absurd (not_both (runs_today command) today a.0)
-      script_always Script a today bad = inl refl
-      script_always Read a today bad = inr (inl refl)
-      script_always Write a today bad = absurd (no_good a.0.1.0 a.0.1.1 bad)
-      script_always Memory a today bad = inr (inr refl)
-      script_always NoStrand a today bad = absurd (no_good a.1.0 a.1.1 bad)
+      script_always : (status : Status) → Answers command source out err status → IsBad command bytes → (status ≡ Script) ⊎ ((status ≡ Read) ⊎ (status ≡ Memory))
+      script_always Done a bad = absurd (no_good a.0 a.1 bad)
+      script_always Faulted a bad = absurd (no_good a.0 a.1 bad)
+      script_always Words a bad = absurd a
+      script_always Script a bad = inl refl
+      script_always Read a bad = inr (inl refl)
+      script_always Write a bad = absurd (no_good a.0.0 a.0.1 bad)
+      script_always Memory a bad = inr (inr refl)
+      script_always NoStrand a bad = absurd (no_good a.0 a.1 bad)
 
     -- whether or not the command takes a script
     same_report : (bytes : List ℕ) → source.before ≡ Some bytes → (report : Report) → HasReport command source report → (b : Bool) → takes_script command ≡ b → Reports command bytes report
@@ -127,9 +105,6 @@ module _ (source out err : Watched) where
       output = output;
       ends = ends;
     }
-
-    read_needs : Answers command source out err Script → IsTrue (reads_script command)
-    read_needs a = a.0
 
 -- where the words give none
 module _ (err : Watched) where
@@ -165,18 +140,18 @@ module _ (source out err : Watched) where
   read_cause (Err error) status r h = absurd (refused_other err error status Read r (λ e. absurd (cc)) (λ e. absurd (cc)) h)
 
   pub write_cause : (given : Result Command WordError) (status : Status) → KeepsPromise given source out err status → status ≡ Write → Failed out
-  write_cause (Ok command) status a h = (answer_at source out err command status Write a h).0.1.3.failed
+  write_cause (Ok command) status a h = (answer_at source out err command status Write a h).0.3.failed
   write_cause (Err error) status r h = absurd (refused_other err error status Write r (λ e. absurd (cc)) (λ e. absurd (cc)) h)
 
   pub words_exactly : (given : Result Command WordError) (status : Status) → KeepsPromise given source out err status → RefusesWords given status
-  words_exactly (Ok command) status a = (λ h. (answer_at source out err command status Words a h).0, words_always source out err command status a)
+  words_exactly (Ok command) status a = (answer_at source out err command status Words a, λ none. absurd none)
   words_exactly (Err error) status r = (λ h. tt, λ none. refused err error status r)
 
   pub script_refused : (given : Result Command WordError) (status : Status) → KeepsPromise given source out err status → (told : Option (List ℕ)) → source.before ≡ told → RefusesScript given told status
   script_refused (Ok command) status a (Some bytes) told =
       let at : status ≡ Script → Answers command source out err Script = answer_at source out err command status Script a in (
-        λ h. ((at h).0, bad_script source out err command bytes told (second_true (runs_today command) (takes_script command) (at h).0) (at h).1),
-        λ reads. script_always source out err command bytes told (second_true (runs_today command) (takes_script command) reads) status a (first_true (runs_today command) (takes_script command) reads),
+        λ h. ((at h).0, bad_script source out err command bytes told (at h).0 (at h).1),
+        λ takes. script_always source out err command bytes told takes status a,
       )
   script_refused (Ok command) status a None told = λ h. (answer_at source out err command status Script a h).0
   script_refused (Err error) status r told e = refused_other err error status Script r (λ e. absurd (cc)) (λ e. absurd (cc))
@@ -184,10 +159,10 @@ module _ (source out err : Watched) where
   written_of : (command : Command) (status : Status) → Answers command source out err status → (bytes : List ℕ) → source.before ≡ Some bytes → (status ≡ Done) ⊎ (status ≡ Faulted) → WroteReport command bytes source out status
   written_of command status a bytes e (inl h) =
       let b = answer_at source out err command status Done a h in
-      written_at source out err command bytes e status b.1.0 b.1.1 b.1.3 (h ∙ ap status_of (sym b.1.2))
+      written_at source out err command bytes e status b.0 b.1 b.3 (h ∙ ap status_of (sym b.2))
   written_of command status a bytes e (inr h) =
       let b = answer_at source out err command status Faulted a h in
-      written_at source out err command bytes e status b.1.0 b.1.1 b.1.3 (h ∙ ap status_of (sym b.1.2))
+      written_at source out err command bytes e status b.0 b.1 b.3 (h ∙ ap status_of (sym b.2))
 
   none_written : (error : WordError) (status : Status) → Refuses error err status → (status ≡ Done) ⊎ (status ≡ Faulted) → ⊥
   none_written error status r (inl h) = refused_other err error status Done r (λ e. absurd (cc)) (λ e. absurd (cc)) h
@@ -226,7 +201,7 @@ module _ (source out err : Watched) where
   replay_tells : (command : Command) (bytes : List ℕ) (report : Report) → Reports command bytes report → TellsNone err report.ending → IsReplay command
   replay_tells (command.Run settings workers) bytes report r tells = absurd (no_run_tells (elision (plan_of settings r.0)).ending (tells_at report _ r.3 tells))
   replay_tells (command.Serial settings) bytes report r tells = absurd (no_run_tells (elision (plan_of settings r.0)).ending (tells_at report _ r.3 tells))
-  replay_tells (command.Sim settings workers number) bytes report r tells = absurd (tells_at report _ r.3 tells)
+  replay_tells (command.Sim settings workers number) bytes report r tells = absurd (no_run_tells (elision (plan_of settings r.0)).ending (subst (TellsNone err) r.3.ending tells))
   replay_tells (command.Replay settings at) bytes report r tells = tt
   replay_tells (command.Hash gamma at rounds) bytes report r tells = absurd (tells_at report _ r tells)
   replay_tells command.Check bytes report r tells = absurd (tells_at report _ r.3 tells)
@@ -244,13 +219,13 @@ module _ (source out err : Watched) where
 
     finds_none : Answers command source out err NoStrand → FindsNone command bytes
     finds_none a = record {
-      replay = replay_tells command a.1.1.0 a.1.0 a.1.1.2 a.1.2;
-      report = a.1.0;
-      reports = reports_told a.1.0 a.1.1;
-      ends = none_ends a.1.0.ending a.1.2;
+      replay = replay_tells command a.1.0 a.0 a.1.2 a.2;
+      report = a.0;
+      reports = reports_told a.0 a.1;
+      ends = none_ends a.0.ending a.2;
     }
 
-    module _ (today : IsTrue (runs_today command)) (good : IsBad command bytes → ⊥) (none : (report : Report) → Reports command bytes report → status_of report.ending ≡ NoStrand) where
+    module _ (good : IsBad command bytes → ⊥) (none : (report : Report) → Reports command bytes report → status_of report.ending ≡ NoStrand) where
       ends_none : (report : Report) → HasReport command source report → status_of report.ending ≡ NoStrand
       ends_none report has = none report (reports_told report has)
 
@@ -258,35 +233,35 @@ module _ (source out err : Watched) where
       no_end report ending status has e s = sym s ∙ ap status_of (sym e) ∙ ends_none report has
 
       none_always : (status : Status) → Answers command source out err status → (status ≡ NoStrand) ⊎ ((status ≡ Read) ⊎ (status ≡ Memory))
-      none_always Done a = let e = no_end a.1.0 E.Done Done a.1.1 a.1.2 refl in absurd (cc)
-      none_always Faulted a = let e = no_end a.1.0 E.Faulted Faulted a.1.1 a.1.2 refl in absurd (cc)
-      none_always Words a = absurd (not_both (runs_today command) today a.0)
-      none_always Script a = absurd (good (bad_script source out err command bytes told (second_true (runs_today command) (takes_script command) a.0) a.1))
+      none_always Done a = let e = no_end a.0 E.Done Done a.1 a.2 refl in absurd (cc)
+      none_always Faulted a = let e = no_end a.0 E.Faulted Faulted a.1 a.2 refl in absurd (cc)
+      none_always Words a = absurd a
+      none_always Script a = absurd (good (bad_script source out err command bytes told a.0 a.1))
       none_always Read a = inr (inl refl)
-      none_always Write a = absurd (not_both_ends a.0.1.0.ending a.0.1.2 (ends_none a.0.1.0 a.0.1.1))
+      none_always Write a = absurd (not_both_ends a.0.0.ending a.0.2 (ends_none a.0.0 a.0.1))
       none_always Memory a = inr (inr refl)
       none_always NoStrand a = inl refl
 
   pub strand_told : (given : Result Command WordError) (status : Status) → KeepsPromise given source out err status → (told : Option (List ℕ)) → source.before ≡ told → TellsNoStrand given told status
   strand_told (Ok command) status a (Some bytes) told =
-      (λ h. finds_none command bytes told (answer_at source out err command status NoStrand a h), λ today good none. none_always command bytes told today good none status a)
+      (λ h. finds_none command bytes told (answer_at source out err command status NoStrand a h), λ good none. none_always command bytes told good none status a)
   strand_told (Ok command) status a None told =
-      λ h. (let b = answer_at source out err command status NoStrand a h in replay_tells command b.1.1.0 b.1.0 b.1.1.2 b.1.2)
+      λ h. (let b = answer_at source out err command status NoStrand a h in replay_tells command b.1.0 b.0 b.1.2 b.2)
   strand_told (Err error) status r told e = refused_other err error status NoStrand r (λ e. absurd (cc)) (λ e. absurd (cc))
 
-  module _ (command : Command) (bytes : List ℕ) (told : source.before ≡ Some bytes) (today : IsTrue (runs_today command)) (good : IsTrue (reads_script command) → IsBad command bytes → ⊥) (reads : Failed source → ⊥) (writes : Failed out → ⊥) where
+  module _ (command : Command) (bytes : List ℕ) (told : source.before ≡ Some bytes) (good : IsTrue (takes_script command) → IsBad command bytes → ⊥) (reads : Failed source → ⊥) (writes : Failed out → ⊥) where
     complete_of : (status : Status) → Answers command source out err status → IsComplete command status
     complete_of Done a = inl refl
     complete_of Faulted a = inr (inl refl)
-    complete_of Words a = absurd (not_both (runs_today command) today a.0)
-    complete_of Script a = absurd (good a.0 (bad_script source out err command bytes told (second_true (runs_today command) (takes_script command) a.0) a.1))
+    complete_of Words a = absurd a
+    complete_of Script a = absurd (good a.0 (bad_script source out err command bytes told a.0 a.1))
     complete_of Read a = absurd (reads a.1)
-    complete_of Write a = absurd (writes a.0.1.3.failed)
+    complete_of Write a = absurd (writes a.0.3.failed)
     complete_of Memory a = inr (inr (inl refl))
-    complete_of NoStrand a = inr (inr (inr (refl, replay_tells command a.1.1.0 a.1.0 a.1.1.2 a.1.2)))
+    complete_of NoStrand a = inr (inr (inr (refl, replay_tells command a.1.0 a.0 a.1.2 a.2)))
 
   pub completes : (given : Result Command WordError) (status : Status) → KeepsPromise given source out err status → (told : Option (List ℕ)) → source.before ≡ told → Completes given source told out status
-  completes (Ok command) status a (Some bytes) told = λ today good reads writes. complete_of command bytes told today good reads writes status a
+  completes (Ok command) status a (Some bytes) told = λ good reads writes. complete_of command bytes told good reads writes status a
   completes (Ok command) status a None told = tt
   completes (Err error) status a (Some bytes) told = tt
   completes (Err error) status a None told = tt

@@ -11,10 +11,11 @@ use Rattle.serial_meaning.specs.declared.event.Event.{Event}
 use Rattle.serial_meaning.specs.declared.event.Fault.{Fault}
 use Rattle.span_report.specs.Series.{IsSpan}
 use Rattle.ped_words.specs.declared.command.Settings.{Settings}
+use Rattle.sched_meaning.specs.Simulation.{IsSimWorker}
 use Rattle.strand_meaning.specs.Strands.{strand_at}
 use Rattle.engine.specs.declared.refusal.Refusal.{Refusal}
 use Rattle.engine.specs.declared.report.Report as report
-use Rattle.engine.specs.Report.{IsPlanOf, IsReplayOf, IsRunOf, IsSpanReport, Report, ending_of, found_report, outcome_ending, run_report, shown, span_lines}
+use Rattle.engine.specs.Report.{IsPlanOf, IsReplayOf, IsRunOf, IsSimOf, IsSpanReport, Report, ending_of, found_report, outcome_ending, plan_of, run_report, shown, span_lines, worker_line}
 use Rattle.serial_meaning.specs.declared.origin.Origin.{Origin}
 
 ends_so : (plan : PlanView) (e : Result (List Value) Fault) → outcome_ending (outcome_of (main_origin plan) e) ≡ ending_of e
@@ -58,6 +59,22 @@ span_reported a told work span evals is uncut main counted longest output ending
 -- What is written of main's answer under a script's plan is a run of the script.
 pub played_of : (settings : Settings) (bytes : List ℕ) (plan seen : PlanView) (told : Report) → IsPlanOf settings bytes plan → seen ≡ plan → told ≡ run_report seen → IsRunOf settings bytes told
 played_of settings bytes plan seen told planned same e = (planned.0, planned.1, planned.2, e ∙ ap run_report (same ∙ planned.3))
+
+-- The worker of a simulation under a script's plan, and what is written of main's answer, are a simulation of the script.
+pub simulated_of : (settings : Settings) (workers number worker : ℕ) (bytes : List ℕ) (plan seen : PlanView) (told : Report) → IsPlanOf settings bytes plan → seen ≡ plan → IsSimWorker plan workers number worker →
+    told.output ≡ worker_line worker ++ (run_report seen).output → told.ending ≡ (run_report seen).ending → IsSimOf settings workers number bytes told
+simulated_of settings workers number worker bytes plan seen told planned same answers output ending =
+    let is : seen ≡ plan_of settings planned.0 = same ∙ planned.3 in (
+      planned.0,
+      planned.1,
+      planned.2,
+      record {
+        worker = worker;
+        answers = subst (λ (p : PlanView). IsSimWorker p workers number worker) planned.3 answers;
+        output = output ∙ ap (λ (p : PlanView). worker_line worker ++ (run_report p).output) is;
+        ending = ending ∙ ap (λ (p : PlanView). (run_report p).ending) is;
+      },
+    )
 
 -- What is written of the strand of a script's plan is a replay of the script.
 pub replayed_of : (settings : Settings) (j bytes : List ℕ) (plan seen : PlanView) → IsPlanOf settings bytes plan → seen ≡ plan → (result : Result report.Report Refusal) → IfOk result (λ r. shown r ≡ found_report j (strand_at seen j)) → IfOk result (λ r. IsReplayOf settings j bytes (shown r))

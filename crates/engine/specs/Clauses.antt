@@ -16,16 +16,16 @@ use Rattle.serial_meaning.specs.Laws.{places, EndsByLeast}
 use Rattle.serial_meaning.specs.declared.event.Event.TheVariants.{Draw}
 use Rattle.engine.specs.declared.status.Status.{Status}
 use Rattle.engine.specs.declared.status.Status.TheVariants.{Done, Faulted, Words, Script, Read, Write, Memory, NoStrand}
-use Rattle.engine.specs.Commands.{Reports, Takes, reads_script, runs_today, takes_script}
+use Rattle.engine.specs.Commands.{Reports, Takes, takes_script}
 use Rattle.engine.specs.Report.{Report, plan_of, status_of}
 use Rattle.engine.specs.Promise.{KeepsPromise, ReadsNone, Watched, Failed, has_line, has_output, most_bytes, watched}
 
--- the words give no command that runs today
+-- the words give no command
 abbrev pub SaysNothing : Result Command WordError → Type 0
-SaysNothing (Ok command) = IsFalse (runs_today command)
+SaysNothing (Ok command) = ⊥
 SaysNothing (Err error) = ⊤
 
--- The words are refused exactly where they give no command that runs today, unless memory is wanting.
+-- The words are refused exactly where they give no command, unless memory is wanting.
 abbrev pub RefusesWords : Result Command WordError → Status → Type 0
 RefusesWords given status = (status ≡ Words → SaysNothing given) × (SaysNothing given → (status ≡ Words) ⊎ (status ≡ Memory))
 
@@ -37,9 +37,9 @@ IsBad command bytes = (most_bytes < length bytes) ⊎ ((script : Tree) → Text 
 -- are bad, unless a read failed or memory is wanting.
 abbrev pub RefusesScript : Result Command WordError → Option (List ℕ) → Status → Type 0
 RefusesScript (Ok command) (Some bytes) status =
-    (status ≡ Script → IsTrue (reads_script command) × IsBad command bytes)
-    × (IsTrue (reads_script command) → IsBad command bytes → (status ≡ Script) ⊎ ((status ≡ Read) ⊎ (status ≡ Memory)))
-RefusesScript (Ok command) None status = status ≡ Script → IsTrue (reads_script command)
+    (status ≡ Script → IsTrue (takes_script command) × IsBad command bytes)
+    × (IsTrue (takes_script command) → IsBad command bytes → (status ≡ Script) ⊎ ((status ≡ Read) ⊎ (status ≡ Memory)))
+RefusesScript (Ok command) None status = status ≡ Script → IsTrue (takes_script command)
 RefusesScript (Err error) told status = status ≡ Script → ⊥
 
 -- The command's report of these bytes was written whole, with its status. Where the command takes a script, the source was read to its end.
@@ -73,7 +73,7 @@ pub record FindsNone (command : Command) (bytes : List ℕ) : Type 0 where
 abbrev pub TellsNoStrand : Result Command WordError → Option (List ℕ) → Status → Type 0
 TellsNoStrand (Ok command) (Some bytes) status =
     (status ≡ NoStrand → FindsNone command bytes)
-    × (IsTrue (runs_today command) → (IsBad command bytes → ⊥) → ((report : Report) → Reports command bytes report → status_of report.ending ≡ NoStrand) →
+    × ((IsBad command bytes → ⊥) → ((report : Report) → Reports command bytes report → status_of report.ending ≡ NoStrand) →
     (status ≡ NoStrand) ⊎ ((status ≡ Read) ⊎ (status ≡ Memory)))
 TellsNoStrand (Ok command) None status = status ≡ NoStrand → IsReplay command
 TellsNoStrand (Err error) told status = status ≡ NoStrand → ⊥
@@ -82,11 +82,10 @@ TellsNoStrand (Err error) told status = status ≡ NoStrand → ⊥
 abbrev pub IsComplete : Command → Status → Type 0
 IsComplete command status = (status ≡ Done) ⊎ ((status ≡ Faulted) ⊎ ((status ≡ Memory) ⊎ ((status ≡ NoStrand) × IsReplay command)))
 
--- Where the words give a command that runs, the bytes that the source tells aren't bad for it, and neither a read nor a write of the output
--- failed, the answer is complete.
+-- Where the words give a command, the bytes that the source tells aren't bad for it, and neither a read nor a write of the output failed, the
+-- answer is complete.
 abbrev pub Completes : Result Command WordError → Watched → Option (List ℕ) → Watched → Status → Type 0
-Completes (Ok command) source (Some bytes) out status =
-    IsTrue (runs_today command) → (IsTrue (reads_script command) → IsBad command bytes → ⊥) → (Failed source → ⊥) → (Failed out → ⊥) → IsComplete command status
+Completes (Ok command) source (Some bytes) out status = (IsTrue (takes_script command) → IsBad command bytes → ⊥) → (Failed source → ⊥) → (Failed out → ⊥) → IsComplete command status
 Completes given source told out status = ⊤
 
 -- What holds of a plan's run: the pedigrees of its events but printing rise strictly, so that no two are the same; each draw is DotMix of

@@ -1,5 +1,5 @@
--- Which commands run today, which of them read a script, and which scripts they take.
-use Rattle.std.specs.Prelude.{◌≡◌, ◌⊎◌, ⊤, ℕ, Bool, true, false, ◌&&◌, List, [], ◌∷◌, codes}
+-- Which commands run on workers, which read a script, which scripts they take, and what they write.
+use Rattle.std.specs.Prelude.{◌≡◌, ◌⊎◌, ⊤, ℕ, Bool, true, false, List, [], ◌∷◌, codes}
 use Rattle.script_check.specs.Valid.{IsValid}
 use Rattle.script_grammar.specs.declared.tree.Script.{Script}
 use Rattle.script_grammar.specs.Text.{Text}
@@ -9,7 +9,7 @@ use Rattle.ped_gen.specs.Scripts.{generated}
 use Rattle.ped_words.specs.declared.command.Command.{Command}
 use Rattle.ped_words.specs.declared.command.Command.TheVariants.{Run, Serial, Sim, Replay, Hash, Check, Fmt, Gen, Stream, Span, Batch}
 use Rattle.engine.specs.Batches.{IsBatchOf}
-use Rattle.engine.specs.Report.{IsSpanOf, Report, said, plan_of, run_report, replay_report, hash_text}
+use Rattle.engine.specs.Report.{IsSimOf, IsSpanOf, Report, said, plan_of, run_report, replay_report, hash_text}
 
 -- The word names a command that runs on workers.
 abbrev pub IsRunWord : List ℕ → Type 0
@@ -20,19 +20,7 @@ abbrev pub IsRun : List (List ℕ) → Type 0
 IsRun [] = ⊥
 IsRun (word ∷ words) = IsRunWord word
 
-abbrev pub runs_today : Command → Bool
-runs_today (Run settings workers) = true
-runs_today (Serial settings) = true
-runs_today (Sim settings workers number) = false
-runs_today (Replay settings at) = true
-runs_today (Hash gamma at rounds) = true
-runs_today Check = true
-runs_today Fmt = true
-runs_today (Gen shape size) = true
-runs_today (Stream gamma at count rounds below) = true
-runs_today (Span settings) = true
-runs_today (Batch seeds limits show rounds workers) = true
-
+-- The command reads a script from the source.
 abbrev pub takes_script : Command → Bool
 takes_script (Run settings workers) = true
 takes_script (Serial settings) = true
@@ -60,9 +48,6 @@ is_whole (Stream gamma at count rounds below) = false
 is_whole (Span settings) = true
 is_whole (Batch seeds limits show rounds workers) = true
 
-abbrev pub reads_script : Command → Bool
-reads_script command = runs_today command && takes_script command
-
 -- A script is taken where it is valid, and by `fmt` always.
 abbrev pub Takes : Command → Script → Type 0
 Takes Fmt script = ⊤
@@ -81,6 +66,7 @@ abbrev pub Reports : Command → List ℕ → Report → Type 0
 Reports (Hash gamma at rounds) bytes report = report ≡ said (hash_text gamma at rounds)
 Reports (Gen shape size) bytes report = report ≡ said (generated shape size)
 Reports (Stream gamma at count rounds below) bytes report = report ≡ said (stream_text gamma at count rounds below)
+Reports (Sim settings workers number) bytes report = IsSimOf settings workers number bytes report
 Reports (Span settings) bytes report = IsSpanOf settings bytes report
 Reports (Batch seeds limits show rounds workers) bytes report = IsBatchOf (record { seeds = seeds; limits = limits; show = show; rounds = rounds }) bytes report
 Reports command bytes report = (script : Script) × Text bytes script × Takes command script × (report ≡ report_of command script)

@@ -13,7 +13,7 @@ use Rattle.engine.specs.declared.status.Status.{Status}
 use Rattle.engine.specs.declared.status.Status.TheVariants.{Done, Faulted, Words, Script as BadScript, Read, Write, Memory, NoStrand}
 use Rattle.engine.specs.declared.report.Ending.{Ending}
 use Rattle.engine.specs.declared.report.Ending.TheVariants as E
-use Rattle.engine.specs.Commands.{Reports, Takes, reads_script, runs_today, takes_script}
+use Rattle.engine.specs.Commands.{Reports, Takes, takes_script}
 use Rattle.engine.specs.Lines.{blocked_line, check_line, no_strand_line, syntax_line, words_line}
 use Rattle.engine.specs.Report.{Report}
 
@@ -77,8 +77,7 @@ HasReport command source report =
 
 -- The command's report ends so, and this holds of its output.
 abbrev pub IsReported : Command → Watched → Ending → (List ℕ → Type 0) → Type 0
-IsReported command source ending P =
-    IsTrue (runs_today command) × ((report : Report) × HasReport command source report × (report.ending ≡ ending) × P report.output)
+IsReported command source ending P = (report : Report) × HasReport command source report × (report.ending ≡ ending) × P report.output
 
 -- There is no strand, and this line tells why.
 abbrev pub TellsNone : Watched → Ending → Type 0
@@ -94,17 +93,16 @@ HasOutput E.Faulted = ⊤
 HasOutput (E.NoStrand j) = ⊥
 HasOutput (E.Blocked fault) = ⊥
 
--- What each answer means for a command.
+-- What each answer means for a command. Its words aren't refused.
 abbrev pub Answers : Command → Watched → Watched → Watched → Status → Type 0
 Answers command source out err Done = IsReported command source E.Done (Wrote out)
 Answers command source out err Faulted = IsReported command source E.Faulted (Wrote out)
-Answers command source out err Words = IsFalse (runs_today command) × Told err (codes "words: not built yet\n")
-Answers command source out err BadScript = IsTrue (reads_script command) × HasNoScript command source err
-Answers command source out err Read = IsTrue (reads_script command) × Failed source × Told err (codes "read fault\n")
-Answers command source out err Write =
-    (IsTrue (runs_today command) × ((report : Report) × HasReport command source report × HasOutput report.ending × WroteFront out report.output)) × Told err (codes "write fault\n")
+Answers command source out err Words = ⊥
+Answers command source out err BadScript = IsTrue (takes_script command) × HasNoScript command source err
+Answers command source out err Read = IsTrue (takes_script command) × Failed source × Told err (codes "read fault\n")
+Answers command source out err Write = ((report : Report) × HasReport command source report × HasOutput report.ending × WroteFront out report.output) × Told err (codes "write fault\n")
 Answers command source out err Memory = Told err (codes "out of memory\n")
-Answers command source out err NoStrand = IsTrue (runs_today command) × ((report : Report) × HasReport command source report × TellsNone err report.ending)
+Answers command source out err NoStrand = (report : Report) × HasReport command source report × TellsNone err report.ending
 
 -- What each answer means where the words give no command.
 abbrev pub Refuses : WordError → Watched → Status → Type 0
@@ -118,7 +116,7 @@ KeepsPromise (Err error) source out err status = Refuses error err status
 
 -- The words give no command that reads the source.
 abbrev pub ReadsNone : Result Command WordError → Type 0
-ReadsNone (Ok command) = IsFalse (reads_script command)
+ReadsNone (Ok command) = IsFalse (takes_script command)
 ReadsNone (Err error) = ⊤
 
 -- The answer comes with output.

@@ -11,6 +11,7 @@ use Rattle.serial_meaning.specs.Answer.{outcome_of}
 use Rattle.serial_meaning.specs.Render.{end_line, rendered, strand_text}
 use Rattle.serial_meaning.specs.declared.answer.Strand.{Strand}
 use Rattle.span_report.specs.Series.{IsSpan}
+use Rattle.sched_meaning.specs.Simulation.{IsSimWorker}
 use Rattle.strand_meaning.specs.Strands.{Found, Reached, Missing, Blocked as Blocks, strand_at}
 use Rattle.serial_meaning.specs.declared.value.Value.{Value}
 use Rattle.serial_meaning.specs.declared.answer.Outcome.{Outcome}
@@ -45,6 +46,17 @@ run_report plan = record {
   output = rendered plan.show (elision plan).items (outcome_of (main_origin plan) (elision plan).ending);
   ending = ending_of (elision plan).ending;
 }
+
+abbrev pub worker_line : ℕ → List ℕ
+worker_line w = codes "worker " ++ decimal w ++ codes "\n"
+
+-- The report is of a simulation on so many workers, whose events the words of this number pick: the line of the worker whose run answers main,
+-- and then what a run writes.
+pub record IsSimReport (plan : PlanView) (workers number : ℕ) (told : Report) : Type 0 where
+  pub worker : ℕ
+  pub answers : IsSimWorker plan workers number worker
+  pub output : told.output ≡ worker_line worker ++ (run_report plan).output
+  pub ending : told.ending ≡ (run_report plan).ending
 
 abbrev pub span_lines : ℕ → ℕ → List ℕ
 span_lines work span = codes "work " ++ decimal work ++ codes "\nspan " ++ decimal span ++ codes "\n"
@@ -89,6 +101,10 @@ IsReplayOf settings j bytes report = (script : Script) × Text bytes script × I
 -- These bytes are the text of a valid script, and a run of it writes this.
 abbrev pub IsRunOf : Settings → List ℕ → Report → Type 0
 IsRunOf settings bytes report = (script : Script) × Text bytes script × IsValid script × (report ≡ run_report (plan_of settings script))
+
+-- These bytes are the text of a valid script, and a simulation of it writes this.
+abbrev pub IsSimOf : Settings → ℕ → ℕ → List ℕ → Report → Type 0
+IsSimOf settings workers number bytes report = (script : Script) × Text bytes script × IsValid script × IsSimReport (plan_of settings script) workers number report
 
 -- These bytes are the text of a valid script, and this is the report of its work and span.
 abbrev pub IsSpanOf : Settings → List ℕ → Report → Type 0

@@ -125,8 +125,9 @@ pub(crate) fn played_batch<R: Threads + Wait + Sync, G: Gate + Sync>(
     ensures report { IfOk result (λ report. IsBatchOf batch.now bytes.now (shown report)) }
     ensures refused { IfErr result (IsMisfit IsValid bytes.now) }
 {
-    // Each plan has a script of its own, and a text has but one.
-    let _script = valid_script(alloc, bytes)?;
+    // Read for the proof: each plan has a script of its own, and a text has but one.
+    let script = valid_script(alloc, bytes)?;
+    drop(script);
     let plans = plans(alloc, batch, bytes)?;
     let answers = run_batch(rt, alloc, &plans, workers, gate)?;
     Ok(answers_report(alloc, &batch.seeds, &answers, &plans)?)

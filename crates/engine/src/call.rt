@@ -5,13 +5,13 @@ ghost use Rattle.draw_lines.specs.Lines.{CanDraw, lines_of};
 ghost use Rattle.ped_words.specs.Reading.{reading};
 ghost use Rattle.ped_words.specs.Commands.{AreLawful, IsLawful, IsWorkers, is_batch};
 ghost use Rattle.engine.specs.Batches.{IsReady, batch_command};
-ghost use Rattle.engine.specs.Commands.{IsRun, is_whole, reads_script, runs_today, takes_script};
+ghost use Rattle.engine.specs.Commands.{IsRun, is_whole, takes_script};
 ghost use Rattle.engine.specs.Promise.{Answers, HasReport, KeepsPromise, ReadWhole, ReadsNone, Refuses, Told, Watched, has_line, has_output, watched};
 ghost use Rattle.engine.specs.Refusal.{Delivers, IsCause, IsLate, Puts, Refused};
 ghost use Rattle.engine.specs.Report.{shown};
 
 use crate::batch::{Batch, played_batch};
-use crate::command::{is_whole, runs_today, takes_script};
+use crate::command::{is_whole, takes_script};
 use crate::line::{blocked_line, no_strand_line, words_line};
 use crate::play::played_by_crew;
 use crate::refusal::Refusal;
@@ -42,7 +42,6 @@ fn fetch<S: Source>(alloc: Global, source: &mut S) -> Result<Vec<u8>, Refusal>
 
 // What a command writes, of the script of the source where it takes one.
 fn prepare<S: Source>(alloc: Global, command: Command, source: &mut S) -> Result<Report, Refusal>
-    requires today { IsTrue (runs_today command) }
     requires lawful { IsLawful command }
     requires whole { IsTrue (is_whole command) }
     requires alone { IsFalse (is_batch command) }
@@ -201,7 +200,6 @@ fn serve_whole<S: Source, K: Sink, E: Sink>(
     out: &mut K,
     err: &mut E,
 ) -> Status
-    requires today { IsTrue (runs_today command) }
     requires lawful { IsLawful command }
     requires whole { IsTrue (is_whole command) }
     requires alone { IsFalse (is_batch command) }
@@ -285,14 +283,10 @@ fn serve<S: Source, K: Sink, E: Sink>(
     requires alone { IsFalse (is_batch command) }
     ensures answers { Answers command (watched S.left S.faults source.old source.new) (watched K.written K.faults out.old out.new)
         (watched E.written E.faults err.old err.new) result }
-    ensures untouched { IsFalse (reads_script command) → source.new ≡ source.old }
+    ensures untouched { IsFalse (takes_script command) → source.new ≡ source.old }
     ensures no_output { IsFalse (has_output result) → out.new ≡ out.old }
     ensures no_line { IsFalse (has_line result) → err.new ≡ err.old }
 {
-    if !runs_today(&command) {
-        tell(err, b"words: not built yet\n");
-        return Status::Words;
-    }
     if is_whole(&command) {
         serve_whole(alloc, command, source, out, err)
     } else {

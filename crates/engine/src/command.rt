@@ -1,17 +1,10 @@
-// Which commands run today, and which take a script.
+// Which commands take a script, and how their reports are made.
 
 ghost use Rattle.std.specs.Prelude.{◌≡◌};
 ghost use Rattle.ped_words.specs.Commands.{is_batch};
-ghost use Rattle.engine.specs.Commands.{is_whole, runs_today, takes_script};
+ghost use Rattle.engine.specs.Commands.{is_whole, takes_script};
 
 use ped_words::Command;
-
-/// Whether the command runs today.
-pub fn runs_today(command: &Command) -> bool
-    ensures { result ≡ runs_today command.now }
-{
-    !matches!(command, Command::Sim { .. })
-}
 
 /// Whether the command's report is made whole before it is written. A stream is written block by block.
 pub fn is_whole(command: &Command) -> bool

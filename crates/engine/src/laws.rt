@@ -1,10 +1,16 @@
-//! A law of what is printed, the contract of a function that does nothing.
+//! Laws of what is printed, each the contract of a function that does nothing.
 
-ghost use Rattle.engine.specs.Laws.{StreamsAreDraws};
+ghost use Rattle.engine.specs.Laws.{SimulationsAreOne, StreamsAreDraws};
 
 /// Number `i` of a stream, from 0, is what the strand `i` ranks later draws in a run with the same coefficients and rounds, whatever the
 /// script, where it has such a strand.
 #[tactic(auto, using(crate::proofs::LawLemmas::streams_are_draws))]
 pub fn streams_are_draws()
     ensures { StreamsAreDraws }
+{}
+
+/// There is one report of a simulation, so its worker is a function of the script, the coefficients and limits, the number of workers and
+/// the number that picks the steps.
+pub fn simulations_are_one()
+    ensures { SimulationsAreOne }
 {}

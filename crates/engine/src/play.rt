@@ -1,6 +1,6 @@
 // Runs of a script, and what they write.
 
-ghost use Rattle.std.specs.Prelude.{◌≡◌, ◌≤◌, [], IfErr, IfOk, length};
+ghost use Rattle.std.specs.Prelude.{◌≡◌, ◌≤◌, ◌++◌, [], IfErr, IfOk, length};
 ghost use Rattle.std.specs.Arc.{arc_value};
 ghost use Rattle.ped_words.specs.Commands.{AreLawful, IsWorkers};
 ghost use Rattle.script_check.specs.Valid.{IsValid};
@@ -10,7 +10,7 @@ ghost use Rattle.strand_meaning.specs.Laws.{IsFaultOf};
 ghost use Rattle.strand_meaning.specs.Strands.{strand_at};
 ghost use Rattle.engine.specs.Promise.{most_bytes};
 ghost use Rattle.engine.specs.Refusal.{IsMisfit};
-ghost use Rattle.engine.specs.Report.{IsPlanIn, IsPlanOf, IsReplayOf, IsRunOf, IsSpanOf, IsSpanReport, found_report, outcome_ending, plan_of, run_report, shown, span_lines, strand_report};
+ghost use Rattle.engine.specs.Report.{IsPlanIn, IsPlanOf, IsReplayOf, IsRunOf, IsSimOf, IsSpanOf, IsSpanReport, found_report, outcome_ending, plan_of, run_report, shown, span_lines, strand_report, worker_line};
 
 use crate::refusal::Refusal;
 use crate::report::{Ending, Report};
@@ -19,6 +19,7 @@ use crew::{Gate, run_crew, run_serial};
 use ped_path::Pedigree;
 use ped_words::Settings;
 use replay::{ReplayError, replay};
+use sched_core::{Simulated, simulate};
 use script_check::Checked;
 use serial_meaning::{Answer, Memory, Out, Outcome, Plan, Strand, laws, render_run, render_strand};
 use span_report::{Span, span};
@@ -73,6 +74,17 @@ fn answer_report(alloc: Global, answer: &Answer) -> Result<Report, Memory>
     Ok(Report { output, ending })
 }
 
+// The same. The answer is dropped.
+fn reported(alloc: Global, answer: Answer) -> Result<Report, Memory>
+    requires main { answer.origin ≡ main_origin answer.plan }
+    requires whole { IsWhole answer.outcome }
+    ensures { IfOk result (λ report. shown report ≡ run_report answer.plan) }
+{
+    let report = answer_report(alloc, &answer);
+    drop(answer);
+    report
+}
+
 // Runs main on the caller's thread.
 fn run_alone(alloc: Global, plan: &Arc<Plan>) -> Result<Answer, crew::Memory>
     ensures plan { IfOk result (λ answer. answer.plan ≡ arc_value plan.now) }
@@ -92,7 +104,7 @@ pub(crate) fn played(alloc: Global, settings: Settings, bytes: &[u8]) -> Result<
 {
     let plan = planned(alloc, settings, bytes)?;
     let answer = run_alone(alloc, &plan)?;
-    Ok(answer_report(alloc, &answer)?)
+    Ok(reported(alloc, answer)?)
 }
 
 /// The same of a run on so many workers. The gate is told of their tasks.
@@ -112,7 +124,52 @@ pub(crate) fn played_by_crew<R: Threads + Wait + Sync, G: Gate + Sync>(
 {
     let plan = planned(alloc, settings, bytes)?;
     let answer = run_crew(rt, alloc, &plan, workers, gate)?;
-    Ok(answer_report(alloc, &answer)?)
+    Ok(reported(alloc, answer)?)
+}
+
+fn worker_line(alloc: Global, worker: u32) -> Result<Vec<u8>, AllocError>
+    ensures { IfOk result (λ line. line.items ≡ worker_line worker) }
+{
+    let line = format!(in alloc; "worker {worker}\n")?;
+    Ok(line.into_bytes())
+}
+
+// What is written of main's answer in a simulation, and of the worker that gave it. The answer is dropped.
+fn sim_report(alloc: Global, simulated: Simulated) -> Result<Report, Memory>
+    requires main { simulated.answer.origin ≡ main_origin simulated.answer.plan }
+    requires whole { IsWhole simulated.answer.outcome }
+    ensures output { IfOk result (λ report. report.output.items ≡ worker_line simulated.worker ++ (run_report simulated.answer.plan).output) }
+    ensures ending { IfOk result (λ report. report.ending ≡ (run_report simulated.answer.plan).ending) }
+{
+    let Simulated { answer, worker } = simulated;
+    let report = reported(alloc, answer);
+    let mut output = worker_line(alloc, worker)?;
+    let Report {
+        output: lines,
+        ending,
+    } = report?;
+    output.extend_from_slice(&lines)?;
+    Ok(Report { output, ending })
+}
+
+/// What a simulation of a run on so many workers writes of the script that these bytes are the text of. The words of the number pick its
+/// events.
+pub(crate) fn simulated(
+    alloc: Global,
+    settings: Settings,
+    workers: u32,
+    number: u64,
+    bytes: &[u8],
+) -> Result<Report, Refusal>
+    requires lawful { AreLawful settings }
+    requires workers { IsWorkers workers }
+    requires within { length bytes.now ≤ most_bytes }
+    ensures report { IfOk result (λ report. IsSimOf settings workers number bytes.now (shown report)) }
+    ensures refused { IfErr result (IsMisfit IsValid bytes.now) }
+{
+    let plan = planned(alloc, settings, bytes)?;
+    let simulated = simulate(alloc, &plan, workers, number)?;
+    Ok(sim_report(alloc, simulated)?)
 }
 
 // The line of the fault by which an answer ended, if it did.
@@ -139,19 +196,25 @@ fn span_lines(alloc: Global, measured: Span) -> Result<Vec<u8>, AllocError>
     Ok(lines.into_bytes())
 }
 
+fn outcome_of(answer: Answer) -> Outcome
+    ensures { result ≡ answer.outcome }
+{
+    answer.outcome
+}
+
 // Work and span of main's answer, and the line of its fault.
-#[tactic(auto, using(crate::proofs::ReportLemmas::span_reported))]
 fn measure_report(alloc: Global, answer: Answer) -> Result<Report, Memory>
     requires main { answer.origin ≡ main_origin answer.plan }
     requires whole { IsWhole answer.outcome }
     ensures { IfOk result (λ report. IsSpanReport answer.plan (shown report)) }
 {
     laws::whole_answers_are_evals();
-    let measured = span(alloc, &answer)?;
+    let measured = span(alloc, &answer);
     let ending = ending_for(&answer.outcome);
+    let end = end_line(alloc, outcome_of(answer));
+    let measured = measured?;
     let mut output = span_lines(alloc, measured)?;
-    let Answer { outcome, .. } = answer;
-    let end = end_line(alloc, outcome)?;
+    let end = end?;
     output.extend_from_slice(&end)?;
     Ok(Report { output, ending })
 }

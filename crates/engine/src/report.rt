@@ -3,12 +3,12 @@
 ghost use Rattle.std.specs.Prelude.{◌≡◌, ℕ, ◌≤◌, List, IsTrue, IsFalse, IfErr, IfOk, length};
 ghost use Rattle.dotmix.specs.Draws.{most_rounds};
 ghost use Rattle.ped_words.specs.Commands.{IsLawful, is_batch};
-ghost use Rattle.engine.specs.Commands.{Reports, Takes, is_whole, runs_today, takes_script};
+ghost use Rattle.engine.specs.Commands.{Reports, Takes, is_whole, takes_script};
 ghost use Rattle.engine.specs.Promise.{most_bytes};
 ghost use Rattle.engine.specs.Refusal.{IsMisfit};
 ghost use Rattle.engine.specs.Report.{hash_text, said, shown};
 
-use crate::play::{measured, played, replayed};
+use crate::play::{measured, played, replayed, simulated};
 use crate::refusal::Refusal;
 use crate::script::{any_script, valid_script};
 use dotmix::{Gamma, dot, dotmix};
@@ -68,7 +68,6 @@ fn hash_report(alloc: Global, gamma: &Gamma, at: &Pedigree, rounds: u32) -> Resu
 /// What a command that is no batch writes, on the caller's thread, of the script that these bytes are the text of. It is refused as `Untaken` where they are the
 /// text of no script that the command takes, and as `Memory` where there was none.
 pub fn script_report(alloc: Global, command: Command, bytes: &[u8]) -> Result<Report, Refusal>
-    requires today { IsTrue (runs_today command) }
     requires script { IsTrue (takes_script command) }
     requires alone { IsFalse (is_batch command) }
     requires lawful { IsLawful command }
@@ -79,6 +78,11 @@ pub fn script_report(alloc: Global, command: Command, bytes: &[u8]) -> Result<Re
     match command {
         Command::Run { settings, .. } => played(alloc, settings, bytes),
         Command::Serial { settings } => played(alloc, settings, bytes),
+        Command::Sim {
+            settings,
+            workers,
+            number,
+        } => simulated(alloc, settings, workers, number, bytes),
         Command::Replay { settings, at } => replayed(alloc, settings, at, bytes),
         Command::Span { settings } => measured(alloc, settings, bytes),
         Command::Fmt => {

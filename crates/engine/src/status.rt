@@ -10,7 +10,7 @@ pub enum Status {
     Done,
     /// The whole output was written, and its last line is a fault's.
     Faulted,
-    /// The words are no command that runs. Nothing was read.
+    /// The words are no command. Nothing was read.
     Words,
     /// The script has more than 1048576 bytes, isn't in the grammar, or isn't valid. `fmt` takes one that isn't valid.
     Script,

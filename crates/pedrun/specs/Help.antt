@@ -2,12 +2,13 @@
 use Rattle.std.specs.Prelude.{ℕ, Bool, false, if◌then◌else◌, Option, Some, None, List, [], ◌∷◌, codes}
 use Rattle.std.specs.Str.{bytes_eq}
 use Rattle.pedrun.specs.declared.help.Topic.{Topic}
-use Rattle.pedrun.specs.declared.help.Topic.TheVariants.{Program, Version, Run, Serial, Check, Fmt, Replay, Hash, Gen, Stream, Span, Batch}
+use Rattle.pedrun.specs.declared.help.Topic.TheVariants.{Program, Version, Run, Serial, Sim, Check, Fmt, Replay, Hash, Gen, Stream, Span, Batch}
 
 abbrev pub topic_of_command : List ℕ → Option Topic
 topic_of_command word =
     if bytes_eq word (codes "run") then Some Run
     else if bytes_eq word (codes "serial") then Some Serial
+    else if bytes_eq word (codes "sim") then Some Sim
     else if bytes_eq word (codes "check") then Some Check
     else if bytes_eq word (codes "fmt") then Some Fmt
     else if bytes_eq word (codes "replay") then Some Replay

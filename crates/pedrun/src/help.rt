@@ -15,6 +15,7 @@ pub enum Topic {
     /// A command.
     Run,
     Serial,
+    Sim,
     Check,
     Fmt,
     Replay,
@@ -36,13 +37,14 @@ fn asks_help(words: &[String]) -> bool
 }
 
 impl Topic {
-    /// The topic of a command's word. `None` where the word is no command that has a text.
+    /// The topic of a command's word. `None` where the word is no command.
     pub fn of_command(word: &str) -> Option<Topic>
         ensures { result ≡ topic_of_command word.now }
     {
         match word {
             "run" => Some(Topic::Run),
             "serial" => Some(Topic::Serial),
+            "sim" => Some(Topic::Sim),
             "check" => Some(Topic::Check),
             "fmt" => Some(Topic::Fmt),
             "replay" => Some(Topic::Replay),
@@ -55,8 +57,8 @@ impl Topic {
         }
     }
 
-    /// What the words ask for: help where `--help` is the first, or the only one after a command that has a text, and the version where
-    /// `--version` is the first. `None` where they ask for nothing of this.
+    /// What the words ask for: help where `--help` is the first, or the only one after a command, and the version where `--version` is the
+    /// first. `None` where they ask for nothing of this.
     pub fn of_words(words: &[String]) -> Option<Topic>
         ensures { result ≡ topic_of (map string_bytes words.now) }
     {
@@ -76,6 +78,7 @@ impl Topic {
             Topic::Version => text::VERSION,
             Topic::Run => text::RUN,
             Topic::Serial => text::SERIAL,
+            Topic::Sim => text::SIM,
             Topic::Check => text::CHECK,
             Topic::Fmt => text::FMT,
             Topic::Replay => text::REPLAY,

@@ -46,7 +46,7 @@ fn usage(text: &str) -> &str {
 }
 
 /// The lines after one on words. The fault is at this word, where it is at one: the word is shown, or the command's usage where the fault
-/// stands after the last one, which is a missing option. Then comes how to ask for help: on the command, where it has a text, else on the
+/// stands after the last one, which is a missing option. Then comes how to ask for help: on the command, where there is one, else on the
 /// program.
 pub fn hints(alloc: Global, words: &[String], at: Option<usize>) -> Result<Vec<u8>, AllocError> {
     let command = words.first().map_or("", String::as_str);

@@ -19,6 +19,8 @@ Usage: pedrun COMMAND [--OPTION VALUE]...
 Commands:
   run      runs the script on standard input and prints its lines
   serial   prints what run prints, without workers
+  sim      prints which worker of a simulated run ends the script, and then what
+           run prints
   check    prints ok where the script on standard input is valid
   fmt      prints the script on standard input in canonical text
   replay   prints what one strand of the script on standard input did
@@ -41,6 +43,7 @@ Options, in any order, each at most once:
   --rounds N       how often a draw is mixed, from 0 to 8 (default 4)
   --workers N      from 1 to 64 (default 4)
   --show WHAT      plain, or log to see draws and objects too (default plain)
+  --number N       which simulation it is, from 0 to 18446744073709551615
   --at PEDIGREE    the name of a strand, such as 0.3.1: from 1 to 512 ranks,
                    each from 0 to 4294967295; a rank counts the draws, new
                    objects, spawns, syncs, loops and scopes of an instance
@@ -123,6 +126,38 @@ script; 4 a failed read; 5 a failed write; 6 out of memory.
 
 Example:
   $ pedrun serial --seed 7 < examples/pi.ped
+";
+
+/// `pedrun sim --help`.
+pub const SIM: &str = "\
+Simulates a run of the script on standard input, without threads: in each step
+one worker runs a task to its next stop, takes up one of its own, or steals one.
+The words of a number, those of SplitMix64, pick the steps. It prints the line
+worker W, with the worker that ended the script, counted from 0, and then what
+pedrun run prints.
+
+Usage: pedrun sim --number N [--OPTION VALUE]... < SCRIPT
+
+Options, in any order, each at most once; a gamma excludes a seed:
+  --number N       the number whose words pick the steps, from 0 to
+                   18446744073709551615 (must be given)
+  --seed N         the seed of the draws, from 0 to 18446744073709551615
+                   (default 0)
+  --gamma N,N,..   the coefficients of the draws in place of a seed, each below
+                   18446744073709551557, at most as many as the depth
+  --depth N        how many ranks a pedigree may have, from 1 to 512
+                   (default 256)
+  --budget N       how many steps each instance may make, from 1 to 4294967295
+                   (default 1000000)
+  --rounds N       how often a draw is mixed, from 0 to 8 (default 4)
+  --workers N      how many are simulated, from 1 to 64 (default 4)
+  --show WHAT      plain, or log to see draws and objects too (default plain)
+
+Exit status: 0; 1 where the last line is a fault's; 2 faulty words; 3 no valid
+script; 4 a failed read; 5 a failed write; 6 no memory.
+
+Example:
+  $ pedrun sim --number 1 --workers 3 < examples/pi.ped
 ";
 
 /// `pedrun check --help`.

@@ -1,5 +1,3 @@
-use Rattle.std.proofs.Common.{◌≡◌, rules}
-use Rattle.ped_words.specs.declared.command.Command.{Command}
 use Rattle.engine.specs.Promise.{watched}
 use Rattle.engine.proofs.CallLemmas.{can_draw, stream_answers}
 use Rattle.engine.proofs.call.serve_in_parts.Goals as goal

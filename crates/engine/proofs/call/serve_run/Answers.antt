@@ -1,4 +1,3 @@
-use Rattle.std.proofs.Common.{refl}
 use Rattle.ped_words.specs.declared.command.Command.TheVariants.{Run}
 use Rattle.engine.specs.Promise.{watched}
 use Rattle.engine.specs.Report.{shown}
@@ -10,4 +9,4 @@ returns-in-Ok-clause-answers g c =
     delivered_answers (Run c.args.settings c.args.workers) (watched g.S.Source.left g.S.Source.faults c.args.source.now c.prepare_run.new.source)
     (watched g.K.Sink.written g.K.Sink.faults c.args.out.now c.deliver.new.out)
     (watched g.E.Sink.written g.E.Sink.faults c.args.err.now c.deliver.new.err)
-    refl (shown c.in-Ok.report) c.in-Ok.ensures.ready c.deliver.result c.deliver.ensures.delivered
+    (shown c.in-Ok.report) c.in-Ok.ensures.ready c.deliver.result c.deliver.ensures.delivered

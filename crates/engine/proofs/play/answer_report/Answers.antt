@@ -3,7 +3,7 @@ use Rattle.std.proofs.Common.{ℕ}
 use Rattle.serial_meaning.specs.Answer.{AnswerView, IsAnswer}
 use Rattle.serial_meaning.specs.Render.{answer_text}
 use Rattle.engine.specs.declared.report.Ending.{Ending}
-use Rattle.engine.specs.Report.{Report, outcome_ending}
+use Rattle.engine.specs.Report.{outcome_ending}
 use Rattle.engine.proofs.ReportLemmas.{main_text, main_ending}
 use Rattle.engine.proofs.play.answer_report.Goals as goal
 

@@ -5,4 +5,4 @@ use Rattle.engine.proofs.play.played.Goals as goal
 
 pub returns-clause-report : goal.returns-clause-report
 returns-clause-report c =
-    played_of c.args.settings c.args.bytes.now (arc_value c.in_ok-plan.plan) c.in_ok-answer.answer.plan (shown c.in_ok-answer_report.field-0) c.in_ok-plan.ensures.plan c.in_ok-answer.ensures.plan c.in_ok-answer_report.ensures
+    played_of c.args.settings c.args.bytes.now (arc_value c.in_ok-plan.plan) c.in_ok-answer.answer.plan (shown c.in_ok-reported.field-0) c.in_ok-plan.ensures.plan c.in_ok-answer.ensures.plan c.in_ok-reported.ensures

@@ -11,6 +11,9 @@ returns-in-Run-clause-refused c = let P : Command → Type 0 = λ command. IfErr
 pub returns-in-Serial-clause-refused : goal.returns-in-Serial-clause-refused
 returns-in-Serial-clause-refused c = let P : Command → Type 0 = λ command. IfErr c.played-in-Serial.result (IsMisfit (Takes command) c.args.bytes.now) in subst P (sym c.in-Serial.is) c.played-in-Serial.ensures.refused
 
+pub returns-in-Sim-clause-refused : goal.returns-in-Sim-clause-refused
+returns-in-Sim-clause-refused c = let P : Command → Type 0 = λ command. IfErr c.simulated.result (IsMisfit (Takes command) c.args.bytes.now) in subst P (sym c.in-Sim.is) c.simulated.ensures.refused
+
 pub returns-in_err-script-in-Fmt-clause-refused : goal.returns-in_err-script-in-Fmt-clause-refused
 returns-in_err-script-in-Fmt-clause-refused c =
     let P : Command → Type 0 = λ command. IsMisfit (Takes command) c.args.bytes.now c.in_err-script-in-Fmt.field-0.0 in

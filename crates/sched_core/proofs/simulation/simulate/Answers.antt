@@ -1,0 +1,48 @@
+use Rattle.std.specs.Arc.{arc_value}
+use Rattle.std.proofs.Common.{◌<◌, ◌^◌, arith}
+use Rattle.sched_core.proofs.Playing.{less-left, mains-are, plays-on, starts, worker-is}
+use Rattle.sched_core.proofs.simulation.simulate.Goals as goal
+
+pub loop-next-init : goal.loop-next-init
+loop-next-init c =
+    let small : c.args.number < 2 ^ 64 = omega (arith, c.ranges.number) in
+    starts (arc_value c.args.plan.now) c.args.workers c.args.number c.seed_from_u64-words.result c.in_ok-state.state c.in_ok-state.ensures.begun c.in_ok-state.ensures.told c.requires.0 c.requires.1 small c.seed_from_u64-words.ensures.same
+
+pub go_on-requires-clause-told : goal.go_on-requires-clause-told
+go_on-requires-clause-told c = c.loop-next.invariant.told
+
+pub go_on-requires-clause-few : goal.go_on-requires-clause-few
+go_on-requires-clause-few c = c.loop-next.invariant.few
+
+pub go_on-requires-clause-root : goal.go_on-requires-clause-root
+go_on-requires-clause-root c = c.loop-next.invariant.root
+
+pub loop-next-preserved : goal.loop-next-preserved
+loop-next-preserved c =
+    let l = c.loop-next in
+    plays-on (arc_value c.args.plan.now) c.args.workers c.args.number l.words l.state l.invariant c.next_word-word.result c.next_word-word.new.self c.next_word-word.ensures c.in-On.next (rw c.in-On.is at c.in_ok-next.ensures)
+
+pub loop-next-smaller : goal.loop-next-smaller
+loop-next-smaller c =
+    let l = c.loop-next in
+    less-left (arc_value c.args.plan.now) c.args.workers c.args.number l.words l.state l.invariant c.next_word-word.result c.next_word-word.new.self c.next_word-word.ensures c.in-On.next (rw c.in-On.is at c.in_ok-next.ensures)
+
+pub returns-in-Over-clause-plan : goal.returns-in-Over-clause-plan
+returns-in-Over-clause-plan c =
+    let l = c.loop-next in
+    (mains-are (arc_value c.args.plan.now) c.args.workers c.args.number l.words l.state l.invariant c.next_word-word.result c.next_word-word.new.self c.next_word-word.ensures c.in-Over.simulated (rw c.in-Over.is at c.in_ok-next.ensures)).plan_is
+
+pub returns-in-Over-clause-origin : goal.returns-in-Over-clause-origin
+returns-in-Over-clause-origin c =
+    let l = c.loop-next in
+    (mains-are (arc_value c.args.plan.now) c.args.workers c.args.number l.words l.state l.invariant c.next_word-word.result c.next_word-word.new.self c.next_word-word.ensures c.in-Over.simulated (rw c.in-Over.is at c.in_ok-next.ensures)).origin
+
+pub returns-in-Over-clause-fault : goal.returns-in-Over-clause-fault
+returns-in-Over-clause-fault c =
+    let l = c.loop-next in
+    (mains-are (arc_value c.args.plan.now) c.args.workers c.args.number l.words l.state l.invariant c.next_word-word.result c.next_word-word.new.self c.next_word-word.ensures c.in-Over.simulated (rw c.in-Over.is at c.in_ok-next.ensures)).fault
+
+pub returns-in-Over-clause-worker : goal.returns-in-Over-clause-worker
+returns-in-Over-clause-worker c =
+    let l = c.loop-next in
+    worker-is (arc_value c.args.plan.now) c.args.workers c.args.number l.words l.state l.invariant c.next_word-word.result c.next_word-word.new.self c.next_word-word.ensures c.in-Over.simulated (rw c.in-Over.is at c.in_ok-next.ensures)

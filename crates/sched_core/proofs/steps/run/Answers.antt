@@ -1,0 +1,26 @@
+use Rattle.std.proofs.Common.{refl}
+use Rattle.sched_meaning.specs.Simulation.{may_run}
+use Rattle.sched_core.specs.Moves.{Lets}
+use Rattle.sched_core.proofs.Placing.{change-at, is-below}
+use Rattle.sched_core.proofs.Stopping.{can-stop, run-goes}
+use Rattle.sched_core.proofs.steps.run.Goals as goal
+
+pub stop-requires : goal.stop-requires
+stop-requires c =
+    let s = c.args.state.now in
+    let ws = s.workers.items in
+    let w = c.args.w in
+    let j = c.let_go-task.result in
+    can-stop s _ c.requires.told w j
+    (change-at w (Lets j) ws c.index_mut.result.now c.let_go-task.new.self c.index_mut.ensures.value (is-below may_run refl ws w c.requires.lawful) c.let_go-task.ensures)
+    (record { plan = refl; nodes = refl; given = refl; root = refl; runs = refl })
+
+pub returns : goal.returns
+returns c =
+    let s = c.args.state.now in
+    let ws = s.workers.items in
+    let w = c.args.w in
+    let j = c.let_go-task.result in
+    run-goes s _ c.requires.told w j
+    (change-at w (Lets j) ws c.index_mut.result.now c.let_go-task.new.self c.index_mut.ensures.value (is-below may_run refl ws w c.requires.lawful) c.let_go-task.ensures)
+    (record { plan = refl; nodes = refl; given = refl; root = refl; runs = refl }) c.requires.root c.stop.new.state _ refl refl refl refl refl refl c.in_ok-stopped.stopped c.in_ok-stopped.ensures c.in_ok-stop.ensures

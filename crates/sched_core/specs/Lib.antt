@@ -1,0 +1,10 @@
+pub mod Begun
+pub mod Chosen
+pub mod Cores
+pub mod Lawful
+pub mod Moves
+pub mod Nodes
+pub mod Played
+pub mod Sound
+pub mod Told
+pub mod Workers

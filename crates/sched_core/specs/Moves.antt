@@ -1,0 +1,141 @@
+-- What an event does with the fields of a core.
+use Rattle.std.specs.Prelude.{◌≡◌, ◌<◌, ◌≤◌, ℕ, true, List, [], ◌∷◌, ◌++◌, Option, Some, None, length, slice_get, slice_set, remove}
+use Rattle.serial_meaning.specs.Answer.{AnswerView}
+use Rattle.strand_machine.specs.Tasks.{TaskView}
+use Rattle.strand_machine.specs.Family.{tags}
+use Rattle.strand_machine.specs.Parts.{awaited}
+use Rattle.strand_machine.specs.Stops.{WentOn, answer_tags}
+use Rattle.strand_machine.specs.declared.stop.Stop.{Stop}
+use Rattle.strand_machine.specs.declared.stop.Stop.TheVariants as stop
+use Rattle.sched_core.specs.Nodes.{BeginsChild, Hears, NodeChanges, answers_in, missing, settled}
+use Rattle.sched_core.specs.Workers.{WorkerView}
+use Rattle.sched_core.specs.declared.job.Job.{Job}
+use Rattle.sched_core.specs.declared.node.Link.{Link}
+use Rattle.sched_core.specs.declared.node.Node.{Node}
+use Rattle.sched_core.specs.declared.state.State.{State}
+
+abbrev pub job : TaskView → ℕ → Job
+job t n = record { task = t; number = n }
+
+-- Workers
+
+abbrev pub HandsOut : Job → Job → WorkerView → WorkerView → Type 0
+HandsOut child rest w next = next ≡ record w { current = Some child; deque = w.deque ++ rest ∷ [] }
+
+abbrev pub Parks : Job → WorkerView → WorkerView → Type 0
+Parks rest w next = next ≡ record w { ring = w.ring ++ rest ∷ [] }
+
+-- the current task leaves
+abbrev pub Lets : Job → WorkerView → WorkerView → Type 0
+Lets j w next = (w.current ≡ Some j) × (next ≡ record w { current = None })
+
+abbrev pub BacksJob : Job → WorkerView → WorkerView → Type 0
+BacksJob j w next = (w.deque ≡ next.deque ++ j ∷ []) × (next ≡ record w { deque = next.deque })
+
+abbrev pub GivesJob : Job → WorkerView → WorkerView → Type 0
+GivesJob j w next = (w.deque ≡ j ∷ next.deque) × (next ≡ record w { deque = next.deque })
+
+abbrev pub TakesJob : Job → WorkerView → WorkerView → Type 0
+TakesJob j w next = next ≡ record w { current = Some j }
+
+-- the task at this place leaves the ring
+abbrev pub Leaves : ℕ → Job → WorkerView → WorkerView → Type 0
+Leaves place j w next = (slice_get w.ring place ≡ Some j) × (next ≡ record w { ring = remove w.ring place })
+
+-- The worker of this number changes so, and no other.
+pub record WorkerChanges (n : ℕ) (R : WorkerView → WorkerView → Type 0) (ws next : List WorkerView) : Type 0 where
+  pub worker : WorkerView
+  pub after : WorkerView
+  pub there : slice_get ws n ≡ Some worker
+  pub does : R worker after
+  pub next_is : next ≡ slice_set ws n after
+
+-- Stops
+
+abbrev pub goes_to : Option Link → AnswerView → State → State → Type 0
+goes_to None answer s next = (next.root ≡ Some answer) × (next.nodes.items ≡ s.nodes.items)
+goes_to (Some l) answer s next = (next.root ≡ s.root) × NodeChanges l.parent (Hears l.place answer) s.nodes.items next.nodes.items
+
+-- An answer goes to the node that this link names, or is main's.
+pub record Delivers (link : Option Link) (answer : AnswerView) (s next : State) : Type 0 where
+  pub goes : goes_to link answer s next
+  pub given : next.given ≡ s.given
+  pub plan : next.plan ≡ s.plan
+  pub workers : next.workers.items ≡ s.workers.items
+  pub runs : next.runs ≡ s.runs
+
+-- The answer of the origin of this number goes where it belongs.
+pub record PutsAnswer (number : ℕ) (answer : AnswerView) (s next : State) : Type 0 where
+  pub node : Node
+  pub there : slice_get s.nodes.items number ≡ Some node
+  pub goes : goes_to node.link answer s next
+  pub given : next.given ≡ s.given ++ answer.origin ∷ []
+  pub plan : next.plan ≡ s.plan
+  pub workers : next.workers.items ≡ s.workers.items
+  pub runs : next.runs ≡ s.runs
+
+-- The child of the task of this number is begun, and becomes current.
+pub record BeginsTask (w number : ℕ) (child rest : TaskView) (s next : State) : Type 0 where
+  pub begun : ℕ
+  pub nodes : BeginsChild number child.task.origin s.nodes.items next.nodes.items
+  pub workers : WorkerChanges w (HandsOut (job child begun) (job rest number)) s.workers.items next.workers.items
+  pub begun_is : begun ≡ length s.nodes.items
+  pub plan : next.plan ≡ s.plan
+  pub given : next.given ≡ s.given
+  pub root : next.root ≡ s.root
+  pub runs : next.runs ≡ s.runs
+
+pub record ParksTask (w : ℕ) (rest : Job) (s next : State) : Type 0 where
+  pub workers : WorkerChanges w (Parks rest) s.workers.items next.workers.items
+  pub nodes : next.nodes.items ≡ s.nodes.items
+  pub plan : next.plan ≡ s.plan
+  pub given : next.given ≡ s.given
+  pub root : next.root ≡ s.root
+  pub runs : next.runs ≡ s.runs
+
+-- What a stop of a task that left its worker does.
+abbrev pub StopsAt : ℕ → ℕ → Stop → State → State → Type 0
+StopsAt w number (stop.Spawn child rest) s next = BeginsTask w number child rest s next
+StopsAt w number (stop.Wait rest) s next = ParksTask w (job rest number) s next
+StopsAt w number (stop.Done answer give) s next = PutsAnswer number answer s next
+
+-- A task takes the answers of its children, all of which have answered.
+pub record Settles (j : Job) (answers : List AnswerView) (next : Job) : Type 0 where
+  pub task : WentOn answers j.task next.task
+  pub number : next.number ≡ j.number
+
+-- What a stop of a task of this number needs
+
+-- a node that hears of a child at this place
+pub record CanHearAt (nodes : List Node) (l : Link) : Type 0 where
+  pub parent : Node
+  pub there : slice_get nodes l.parent ≡ Some parent
+  pub place : l.place < length parent.children
+  pub unanswered : 0 < parent.unanswered
+
+abbrev pub CanHear : List Node → Option Link → Type 0
+CanHear nodes None = Unit {0}
+CanHear nodes (Some l) = CanHearAt nodes l
+
+pub record CanStop (w number : ℕ) (s : State) : Type 0 where
+  pub worker : w < length s.workers.items
+  pub node : Node
+  pub there : slice_get s.nodes.items number ≡ Some node
+  pub within : node.unanswered ≤ length node.children
+  pub hears : CanHear s.nodes.items node.link
+
+-- What a task needs to go on
+
+pub record CanResume (nodes : List Node) (j : Job) : Type 0 where
+  pub node : Node
+  pub there : slice_get nodes j.number ≡ Some node
+  pub answered : missing node.children ≡ 0
+  pub waits : j.task.task.waiting ≡ true
+  pub tags : answer_tags (answers_in node.children) ≡ tags j.task.task.plan (awaited j.task.task.pieces.handed)
+
+-- A task went on with the answers of its children, which its node gave away.
+pub record Resumes (j next : Job) (nodes after : List Node) : Type 0 where
+  pub node : Node
+  pub there : slice_get nodes j.number ≡ Some node
+  pub settles : Settles j (answers_in node.children) next
+  pub after_is : after ≡ slice_set nodes j.number (settled node)

@@ -1,0 +1,12 @@
+-- What contracts see of a worker.
+use Rattle.std.specs.Prelude.{List, [], Option}
+use Rattle.sched_core.specs.declared.job.Job.{Job}
+
+pub record WorkerView : Type 0 where
+  pub current : Option Job
+  pub deque : List Job
+  pub ring : List Job
+
+-- a worker with no other task than this
+abbrev pub only : Option Job → WorkerView
+only current = record { current = current; deque = []; ring = [] }

@@ -1,0 +1,96 @@
+use crate::begin::begin;
+use crate::error::CoreError;
+use crate::state::State;
+use crate::steps::go;
+use sched_meaning::CoreEvent;
+use serial_meaning::{Answer, Plan};
+use std::alloc::Global;
+use std::marker::Model;
+use std::sync::Arc;
+use strand_machine::Memory;
+
+/// Workers with their tasks, the origins that were begun and the answers that were given. Contracts see it as the scheduling machine's
+/// core.
+#[derive(Drop)]
+pub struct Core {
+    pub(crate) state: State,
+    pub(crate) spent: bool,
+}
+
+impl Model for Core {
+    ghost use Rattle.std.specs.Coded.{codes};
+    ghost use Rattle.script_grammar.specs.contracts.tree.Stmt as statement_type;
+    ghost use Rattle.serial_meaning.specs.contracts.plan.Plan as plan_type;
+    ghost use Rattle.sched_meaning.specs.Core.{Core as CoreView};
+    ghost use Rattle.sched_core.specs.Cores.{core_of};
+    ghost use Rattle.sched_core.specs.Told.{Holds};
+
+    ghost Value = { CoreView };
+
+    ghost coded = { Prim.hlevel (codes, statement_type.the_row.coded, plan_type.the_row.coded) };
+
+    ghost view = { λ c. core_of c.spent c.state };
+
+    ghost invariant = { λ c. Holds c.spent c.state };
+}
+
+impl Core {
+    ghost use Rattle.std.specs.Prelude.{◌≡◌, ◌≤◌, ◌↔◌, true, false, Err, IfOk, IfSome, IsNone, OnOk, option_copied};
+    ghost use Rattle.std.specs.Arc.{arc_value};
+    ghost use Rattle.serial_meaning.specs.Eval.{main_origin};
+    ghost use Rattle.strand_meaning.specs.Laws.{IsFaultOf};
+    ghost use Rattle.sched_meaning.specs.Core.{IsRootAnswered, new_core};
+    ghost use Rattle.sched_meaning.specs.Core.{Core as CoreView};
+    ghost use Rattle.sched_meaning.specs.Steps.{Step};
+    ghost use Rattle.sched_core.specs.Sound.{IsSound};
+
+    /// So many workers, of which worker 0 has main's task as its current one.
+    pub fn new(alloc: Global, plan: &Arc<Plan>, workers: u32) -> Result<Core, Memory>
+        requires { (1 ≤ workers) × (workers ≤ 64) }
+        ensures { IfOk result (λ core. core ≡ new_core (arc_value plan.now) workers) }
+    {
+        let state = begin(alloc, plan, workers)?;
+        Ok(Core {
+            state,
+            spent: false,
+        })
+    }
+
+    /// One step. Where an earlier one wanted memory the core is spent, and makes no more.
+    pub fn step(&mut self, alloc: Global, event: CoreEvent) -> Result<(), CoreError>
+        ensures ok { OnOk result (Step event self.old self.new) }
+        ensures not_lawful { result ≡ Err CoreError.NotLawful → (self.new ≡ self.old) × ((next : CoreView) → Step event self.old next → ⊥) }
+        ensures spent { (result ≡ Err CoreError.Spent) ↔ (self.old.spent ≡ true) }
+        ensures stays { result ≡ Err CoreError.Spent → self.new ≡ self.old }
+        ensures memory { result ≡ Err CoreError.Memory → self.new.spent ≡ true }
+    {
+        if self.spent {
+            return Err(CoreError::Spent);
+        }
+        if !self.state.allows(event) {
+            return Err(CoreError::NotLawful);
+        }
+        self.spent = true;
+        go(&mut self.state, alloc, event)?;
+        self.spent = false;
+        Ok(())
+    }
+
+    /// Main's answer, once it is there.
+    pub fn answer(&self) -> Option<&Answer>
+        ensures none { self.now.spent ≡ false → (IsNone result ↔ (IsRootAnswered self.now → ⊥)) }
+        ensures root { self.now.spent ≡ false → IfSome (option_copied result) (λ a. (a.plan ≡ self.now.plan) × (a.origin ≡ main_origin self.now.plan)) }
+        ensures fault { self.now.spent ≡ false → IfSome (option_copied result) (λ a. IsFaultOf self.now.plan a.outcome) }
+    {
+        self.state.root.as_ref()
+    }
+
+    /// What holds of every core, whatever events led to it: no origin was begun twice, one that was begun and isn't answered is that of
+    /// one task in one place, answers are evaluations, there are no more runs than segments, and until the root is answered some event
+    /// goes on with the work.
+    pub fn is_sound(&self)
+        ensures { self.now.spent ≡ false → IsSound self.now }
+    {
+        let _spent = self.spent;
+    }
+}

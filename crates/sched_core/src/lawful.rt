@@ -1,0 +1,93 @@
+// Whether an event may happen.
+ghost use Rattle.std.specs.Prelude.{◌≡◌, ◌&&◌, false, is_none, map, slice_get};
+ghost use Rattle.sched_meaning.specs.Simulation.{goes_on, is_free, may_give, may_run};
+ghost use Rattle.sched_meaning.specs.declared.event.CoreEvent.TheVariants as event;
+ghost use Rattle.sched_core.specs.Cores.{core_of, worker_of};
+ghost use Rattle.sched_core.specs.Lawful.{has_waiting, may_happen, may_idle};
+
+use crate::state::State;
+use sched_meaning::CoreEvent;
+
+impl State {
+    /// Whether the worker has a current task.
+    pub fn may_run(&self, w: u32) -> bool
+        ensures { result ≡ may_run (slice_get (map worker_of self.now.workers.items) w) }
+    {
+        match self.workers.get(w as usize) {
+            Some(worker) => worker.is_running(),
+            None => false,
+        }
+    }
+
+    /// Whether there is this worker and it has no current task.
+    pub fn is_free(&self, w: u32) -> bool
+        ensures { result ≡ is_free (slice_get (map worker_of self.now.workers.items) w) }
+    {
+        match self.workers.get(w as usize) {
+            Some(worker) => !worker.is_running(),
+            None => false,
+        }
+    }
+
+    /// Whether the worker's deque has a task.
+    pub fn may_give(&self, w: u32) -> bool
+        ensures { result ≡ may_give (slice_get (map worker_of self.now.workers.items) w) }
+    {
+        match self.workers.get(w as usize) {
+            Some(worker) => worker.may_give(),
+            None => false,
+        }
+    }
+
+    /// Whether the worker may pop.
+    pub fn may_pop(&self, w: u32) -> bool
+        ensures { result ≡ goes_on (core_of false self.now) (event.Pop w) }
+    {
+        self.is_free(w) && self.may_give(w)
+    }
+
+    /// Whether this thief may steal from this victim.
+    pub fn may_steal(&self, thief: u32, victim: u32) -> bool
+        ensures { result ≡ goes_on (core_of false self.now) (event.Steal thief victim) }
+    {
+        thief != victim && self.is_free(thief) && self.may_give(victim)
+    }
+
+    /// Whether a task of the worker waits at this place.
+    fn has_waiting(&self, w: u32, place: u32) -> bool
+        ensures { result ≡ has_waiting place (slice_get (map worker_of self.now.workers.items) w) }
+    {
+        match self.workers.get(w as usize) {
+            Some(worker) => place < worker.waiting(),
+            None => false,
+        }
+    }
+
+    /// Whether the worker has no task at all.
+    fn may_idle(&self, w: u32) -> bool
+        ensures { result ≡ may_idle (slice_get (map worker_of self.now.workers.items) w) }
+    {
+        match self.workers.get(w as usize) {
+            Some(worker) => !worker.is_running() && !worker.may_give() && worker.waiting() == 0,
+            None => false,
+        }
+    }
+
+    /// Whether the event may happen now. None may after the root's answer.
+    pub fn allows(&self, event: CoreEvent) -> bool
+        ensures { result ≡ (is_none self.now.root && may_happen (core_of false self.now) event) }
+    {
+        if self.root.is_some() {
+            return false;
+        }
+        match event {
+            CoreEvent::Run(w) => self.may_run(w),
+            CoreEvent::Pop(w) => self.may_pop(w),
+            CoreEvent::Steal { thief, victim } => self.may_steal(thief, victim),
+            CoreEvent::Look { worker, place } => {
+                self.is_free(worker) && self.has_waiting(worker, place)
+            }
+            CoreEvent::Idle(w) => self.may_idle(w),
+        }
+    }
+}

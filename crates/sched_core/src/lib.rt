@@ -1,0 +1,24 @@
+//! A core of scheduling events over running tasks: workers that a program steps by hand, event by event, or that the words of a seed
+//! drive to main's answer.
+//!
+//! What a step is, is defined in `sched_meaning`; the contracts here are its words.
+#![tactic(auto)]
+
+mod begin;
+mod choose;
+mod cores;
+mod error;
+mod job;
+mod lawful;
+mod node;
+mod simulation;
+mod state;
+mod steps;
+mod stops;
+mod worker;
+
+pub use cores::Core;
+pub use error::CoreError;
+pub use sched_meaning::CoreEvent;
+pub use simulation::{Simulated, simulate};
+pub use strand_machine::Memory;

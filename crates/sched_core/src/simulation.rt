@@ -1,0 +1,82 @@
+// A core that the words of a seed drive.
+ghost use Rattle.std.specs.Prelude.{◌≡◌, ◌≤◌, None, IfOk, length};
+ghost use Rattle.std.specs.Arc.{arc_value};
+ghost use Rattle.serial_meaning.specs.Eval.{main_origin};
+ghost use Rattle.strand_meaning.specs.Laws.{IsFaultOf};
+ghost use Rattle.sched_meaning.specs.Simulation.{IsSimWorker};
+ghost use Rattle.sched_core.specs.Played.{Plays};
+ghost use Rattle.sched_core.specs.Told.{IsTold};
+
+use crate::begin::begin;
+use crate::choose::pick;
+use crate::state::State;
+use crate::steps::go;
+use rand_core::SeedableRng;
+use rand_core::utils::NextWord;
+use rand_xoshiro::SplitMix64;
+use sched_meaning::CoreEvent;
+use serial_meaning::{Answer, Plan};
+use std::alloc::Global;
+use std::sync::Arc;
+use strand_machine::Memory;
+
+/// What a simulation came to: main's answer, and the worker whose run gave it.
+#[derive(Drop)]
+pub struct Simulated {
+    pub answer: Answer,
+    pub worker: u32,
+}
+
+/// What a step of a simulation came to.
+#[derive(Drop)]
+enum Went {
+    On(State),
+    Over(Simulated),
+}
+
+/// The step that a word picks.
+fn go_on(state: State, alloc: Global, word: u64) -> Result<Went, Memory>
+    requires told { IsTold state }
+    requires few { length state.workers.items ≤ 64 }
+    requires root { state.root ≡ None }
+    ensures { IfOk result (Plays word state) }
+{
+    let mut state = state;
+    let Some(event) = pick(&state, alloc, word)? else {
+        unreachable!()
+    };
+    go(&mut state, alloc, event)?;
+    let Some(answer) = state.root.take() else {
+        return Ok(Went::On(state));
+    };
+    let CoreEvent::Run(worker) = event else {
+        unreachable!()
+    };
+    Ok(Went::Over(Simulated { answer, worker }))
+}
+
+/// Runs main on so many workers, whose events the words of the number's SplitMix64 pick. At each step it is the event at the word modulo
+/// their number among those that may happen and go on with the work: runs, pops, steals and looks, in this order, and of one kind by
+/// worker, steals by thief and then by victim, looks by worker and then by place.
+pub fn simulate(
+    alloc: Global,
+    plan: &Arc<Plan>,
+    workers: u32,
+    number: u64,
+) -> Result<Simulated, Memory>
+    requires { (1 ≤ workers) × (workers ≤ 64) }
+    ensures plan { IfOk result (λ s. s.answer.plan ≡ arc_value plan.now) }
+    ensures origin { IfOk result (λ s. s.answer.origin ≡ main_origin (arc_value plan.now)) }
+    ensures fault { IfOk result (λ s. IsFaultOf (arc_value plan.now) s.answer.outcome) }
+    ensures worker { IfOk result (λ s. IsSimWorker (arc_value plan.now) workers number s.worker) }
+{
+    let mut state = begin(alloc, plan, workers)?;
+    let mut words = SplitMix64::seed_from_u64(number);
+    loop {
+        let word = words.next_word();
+        match go_on(state, alloc, word)? {
+            Went::On(next) => state = next,
+            Went::Over(simulated) => return Ok(simulated),
+        }
+    }
+}

@@ -1,0 +1,19 @@
+use crate::node::Node;
+use crate::worker::Worker;
+use script_grammar::Items;
+use serial_meaning::{Answer, Origin, Plan};
+use std::sync::Arc;
+
+/// What stands in a core. Each origin that was begun has a number, its place among `nodes`; main's is 0.
+#[derive(Drop)]
+pub(crate) struct State {
+    pub plan: Arc<Plan>,
+    pub workers: Vec<Worker>,
+    pub nodes: Vec<Node>,
+    /// The origins that were answered, in order.
+    pub given: Items<Origin>,
+    /// Main's answer.
+    pub root: Option<Answer>,
+    /// How many run events there were.
+    pub runs: u64,
+}

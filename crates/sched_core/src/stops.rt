@@ -1,0 +1,74 @@
+// What a stop of a task does.
+ghost use Rattle.std.specs.Prelude.{◌≡◌, ◌<◌, Some, None, OnOk, length, slice_get};
+ghost use Rattle.sched_core.specs.Moves.{BeginsTask, CanHear, CanStop, Delivers, PutsAnswer, StopsAt};
+ghost use Rattle.sched_core.specs.declared.node.Node.{Node};
+
+use crate::job::Job;
+use crate::node::{Link, begin_child};
+use crate::state::State;
+use serial_meaning::Answer;
+use std::alloc::Global;
+use strand_machine::{Memory, Stop, Task, share_origin};
+
+/// The answer goes to the node that the link names, or is main's.
+fn deliver(state: &mut State, link: Option<Link>, answer: Answer)
+    requires { CanHear state.old.nodes.items link }
+    ensures { Delivers link answer state.old state.new }
+{
+    match link {
+        Some(link) => state.nodes[link.parent].hear(link.place, answer),
+        None => state.root = Some(answer),
+    }
+}
+
+/// The answer of the origin of this number goes to its parent, or is the root's.
+fn put_answer(state: &mut State, alloc: Global, number: usize, answer: Answer) -> Result<(), Memory>
+    requires number { number < length state.old.nodes.items }
+    requires hears { (n : Node) → slice_get state.old.nodes.items number ≡ Some n → CanHear state.old.nodes.items n.link }
+    ensures { OnOk result (PutsAnswer number answer state.old state.new) }
+{
+    let origin = share_origin(alloc, &answer.origin)?;
+    state.given.0.push(origin)?;
+    let link = state.nodes[number].link;
+    deliver(state, link, answer);
+    Ok(())
+}
+
+/// The child of the task of this number is begun, and becomes current.
+fn begin_task(
+    state: &mut State,
+    alloc: Global,
+    w: usize,
+    number: usize,
+    child: Task,
+    rest: Task,
+) -> Result<(), Memory>
+    requires { CanStop w number state.old }
+    ensures { OnOk result (BeginsTask w number child rest state.old state.new) }
+{
+    let begun = begin_child(&mut state.nodes, alloc, number, &child)?;
+    let child = Job {
+        task: child,
+        number: begun,
+    };
+    let rest = Job { task: rest, number };
+    state.workers[w].hand_out(child, rest)
+}
+
+/// The task of this number, which left its worker, comes to this stop.
+pub(crate) fn stop(
+    state: &mut State,
+    alloc: Global,
+    w: usize,
+    number: usize,
+    stop: Stop,
+) -> Result<(), Memory>
+    requires { CanStop w number state.old }
+    ensures { OnOk result (StopsAt w number stop state.old state.new) }
+{
+    match stop {
+        Stop::Spawn { child, rest } => begin_task(state, alloc, w, number, child, rest),
+        Stop::Wait { rest } => state.workers[w].park(Job { task: rest, number }),
+        Stop::Done { answer, .. } => put_answer(state, alloc, number, answer),
+    }
+}

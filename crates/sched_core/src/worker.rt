@@ -1,0 +1,149 @@
+use crate::job::Job;
+use std::alloc::Global;
+use std::collections::VecDeque;
+use std::marker::Model;
+use strand_machine::Memory;
+
+/// How many tasks of a worker wait at most, so that each place among them is a `u32`.
+const MOST_WAITING: usize = u32::MAX as usize;
+
+/// A worker: the task that it runs, its deque, whose front stands first, and the tasks that wait for their children.
+#[derive(Drop)]
+pub(crate) struct Worker {
+    current: Option<Job>,
+    deque: VecDeque<Job>,
+    ring: Vec<Job>,
+}
+
+impl Model for Worker {
+    ghost use Rattle.std.specs.Prelude.{◌<◌, ◌^◌, length};
+    ghost use Rattle.std.specs.Coded.{codes};
+    ghost use Rattle.script_grammar.specs.contracts.tree.Stmt as statement_type;
+    ghost use Rattle.serial_meaning.specs.contracts.plan.Plan as plan_type;
+    ghost use Rattle.sched_core.specs.Workers.{WorkerView};
+
+    ghost Value = { WorkerView };
+
+    ghost coded = { Prim.hlevel (codes, statement_type.the_row.coded, plan_type.the_row.coded) };
+
+    ghost view = { λ w. record { current = w.current; deque = w.deque.items; ring = w.ring.items } };
+
+    ghost invariant = { λ w. length w.ring.items < 2 ^ 32 };
+}
+
+impl Worker {
+    ghost use Rattle.std.specs.Prelude.{◌≡◌, ◌≢◌, ◌<◌, [], Some, None, OnOk, is_some, length, nat_eq, not, slice_get};
+    ghost use Rattle.sched_core.specs.Moves.{HandsOut, Parks, Lets, BacksJob, GivesJob, TakesJob, Leaves};
+    ghost use Rattle.sched_core.specs.Workers.{only};
+
+    /// A worker with no other task than this.
+    pub fn new(alloc: Global, current: Option<Job>) -> Worker
+        ensures { result ≡ only current }
+    {
+        Worker {
+            current,
+            deque: VecDeque::new(alloc),
+            ring: Vec::new(alloc),
+        }
+    }
+
+    /// Whether it has a current task.
+    pub fn is_running(&self) -> bool
+        ensures { result ≡ is_some self.now.current }
+    {
+        self.current.is_some()
+    }
+
+    /// Whether its deque has a task.
+    pub fn may_give(&self) -> bool
+        ensures { result ≡ not (nat_eq (length self.now.deque) 0) }
+    {
+        !self.deque.is_empty()
+    }
+
+    /// How many of its tasks wait.
+    pub fn waiting(&self) -> u32
+        ensures { result ≡ length self.now.ring }
+    {
+        self.ring.len() as u32
+    }
+
+    /// The number of the task that waits at this place.
+    pub fn waits_at(&self, place: u32) -> Option<usize>
+        ensures some { (j : _) → slice_get self.now.ring place ≡ Some j → result ≡ Some j.number }
+        ensures none { slice_get self.now.ring place ≡ None → result ≡ None }
+    {
+        match self.ring.get(place as usize) {
+            Some(job) => Some(job.number),
+            None => None,
+        }
+    }
+
+    /// The child becomes the current task, and the rest of its parent goes to the deque's back.
+    pub fn hand_out(&mut self, child: Job, rest: Job) -> Result<(), Memory>
+        ensures { OnOk result (HandsOut child rest self.old self.new) }
+    {
+        self.deque.push_back(rest)?;
+        self.current = Some(child);
+        Ok(())
+    }
+
+    /// The task goes to the ring's end. There is no memory for it where the ring has as many as it may.
+    pub fn park(&mut self, rest: Job) -> Result<(), Memory>
+        ensures { OnOk result (Parks rest self.old self.new) }
+    {
+        if self.ring.len() >= MOST_WAITING {
+            return Err(Memory);
+        }
+        self.ring.push(rest)?;
+        Ok(())
+    }
+
+    /// The current task leaves.
+    pub fn let_go(&mut self) -> Job
+        requires { self.old.current ≢ None }
+        ensures { Lets result self.old self.new }
+    {
+        let Some(job) = self.current.take() else {
+            unreachable!()
+        };
+        job
+    }
+
+    /// The task at the deque's back leaves.
+    pub fn take_back(&mut self) -> Job
+        requires { self.old.deque ≢ [] }
+        ensures { BacksJob result self.old self.new }
+    {
+        let Some(job) = self.deque.pop_back() else {
+            unreachable!()
+        };
+        job
+    }
+
+    /// The task at the deque's front leaves.
+    pub fn take_front(&mut self) -> Job
+        requires { self.old.deque ≢ [] }
+        ensures { GivesJob result self.old self.new }
+    {
+        let Some(job) = self.deque.pop_front() else {
+            unreachable!()
+        };
+        job
+    }
+
+    /// The task becomes the current one.
+    pub fn take(&mut self, job: Job)
+        ensures { TakesJob job self.old self.new }
+    {
+        self.current = Some(job);
+    }
+
+    /// The task at this place leaves the ring.
+    pub fn leave(&mut self, place: u32) -> Job
+        requires { place < length self.old.ring }
+        ensures { Leaves place result self.old self.new }
+    {
+        self.ring.remove(place as usize)
+    }
+}
