@@ -9,7 +9,8 @@ use script_grammar::Items;
 use script_text::{MAX_BYTES, parse};
 use seed_batch::{render_batch, run_batch};
 use serial_meaning::{Limits, Origin, Plan, Show};
-use std::alloc::Global;
+use std::alloc::{AllocError, Global};
+use std::fmt::{Debug, Display};
 use std::hint;
 use std::process::Abort;
 use std::sync::atomic::{AtomicBool, AtomicU64, Ordering};
@@ -33,6 +34,16 @@ const THREE_PRINTS: &[u8] = b"fn main() { print 1; print 2; print 3; return 0; }
 trait Host: Abort + AllocGlobal + Threads + Wait + Sync {}
 
 impl<R: Abort + AllocGlobal + Threads + Wait + Sync> Host for R {}
+
+/// What was found in this row is what was wanted. It stands for `assert_eq!`, whose text the check takes up anew at each place.
+fn same<A: PartialEq + Debug + Drop>(
+    rt: &impl Abort,
+    row: impl Display + Drop,
+    found: A,
+    wanted: A,
+) {
+    assert_eq!(rt; found, wanted, "{row}");
+}
 
 /// The script's plan under a seed, where each instance has so many steps.
 fn plan_under<R: Abort + AllocGlobal>(
@@ -93,7 +104,7 @@ fn prints_parts<R: Host>(
 ) -> Result<(), Fail> {
     let plans = plans_under(rt, script, seeds, budget)?;
     let printed = batch(rt, &plans, seeds, workers, &OpenGate)?;
-    assert_eq!(rt; printed.as_slice(), output);
+    same(rt, "batch", printed.as_slice(), output);
     Ok(())
 }
 
@@ -111,34 +122,55 @@ fn a_fault_ends_its_own_part_alone(rt: HostRuntime) -> Result<(), Fail> {
     prints_parts(&rt, THREE_PRINTS, &[5, 6], 3, 4, parts)
 }
 
+/// The plans of these scripts, each under its seed.
+fn plans_of<R: Abort + AllocGlobal>(
+    rt: &R,
+    scripts: &[(&[u8], u64)],
+) -> Result<Items<Arc<Plan>>, Fail> {
+    let mut plans = Vec::new(rt.alloc());
+    for &(script, seed) in scripts {
+        plans.push(plan_under(rt, script, seed, MOST_STEPS)?)?;
+    }
+    Ok(Items(plans))
+}
+
+static SEEDED: [(&[u8], u64); 3] = [(SUM, 7), (SQUARES, 18446744073709551615), (THREE_PRINTS, 0)];
+
 #[test]
 fn each_part_is_its_plans_own(rt: HostRuntime) -> Result<(), Fail> {
+    let plans = plans_of(&rt, &SEEDED)?;
     let seeds = [7, 18446744073709551615, 0];
-    let scripts = [SUM, SQUARES, THREE_PRINTS];
-    let mut plans = Vec::new(rt.alloc());
-    for (i, script) in scripts.iter().enumerate() {
-        plans.push(plan_under(&rt, script, seeds[i], MOST_STEPS)?)?;
-    }
-    let plans = Items(plans);
     let parts = b"seed 7\n5\n3\nseed 18446744073709551615\n0\n1\n4\n9\n16\nseed 0\n1\n2\n3\n";
     for workers in [1, 2, 3, 8, 64] {
         let printed = batch(&rt, &plans, &seeds, workers, &OpenGate)?;
-        assert_eq!(rt; printed.as_slice(), parts.as_slice());
+        same(&rt, workers, printed.as_slice(), parts.as_slice());
     }
     Ok(())
 }
 
-// As many as there may be. More than 64 stand on one deck.
+/// As many seeds as there may be: from 0 to 255.
+fn most_seeds(alloc: Global) -> Result<Vec<u64>, AllocError> {
+    let mut seeds = Vec::new(alloc);
+    for seed in 0..256u64 {
+        seeds.push(seed)?;
+    }
+    Ok(seeds)
+}
+
+/// What a script that prints 1 prints under them.
+fn most_parts(alloc: Global) -> Result<String, AllocError> {
+    let mut parts = String::new(alloc);
+    for seed in 0..256u64 {
+        parts.push_str(format!(in alloc; "seed {seed}\n1\n")?.as_str())?;
+    }
+    Ok(parts)
+}
+
+// More than 64 stand on one deck.
 #[test]
 fn many_seeds_run_on_one_crew(rt: HostRuntime) -> Result<(), Fail> {
-    let alloc = rt.alloc();
-    let mut seeds = Vec::new(alloc);
-    let mut parts = String::new(alloc);
-    for seed in 0..256_u64 {
-        seeds.push(seed)?;
-        let part = format!(in alloc; "seed {seed}\n1\n")?;
-        parts.push_str(part.as_str())?;
-    }
+    let seeds = most_seeds(rt.alloc())?;
+    let parts = most_parts(rt.alloc())?;
     prints_parts(&rt, ONE, &seeds, MOST_STEPS, 3, parts.as_bytes())
 }
 
@@ -151,6 +183,14 @@ fn turn(alloc: Global, hand: &mut Hand) -> Result<&'static str, Fail> {
         Turn::Idle => "idle",
         _ => "another",
     })
+}
+
+/// The hand's next turns did this.
+fn turns(rt: &impl Abort, alloc: Global, hand: &mut Hand, words: &[&str]) -> Result<(), Fail> {
+    for &wanted in words {
+        same(rt, "turn", turn(alloc, hand)?, wanted);
+    }
+    Ok(())
 }
 
 fn is_ready(root: &mut Root) -> bool {
@@ -166,14 +206,11 @@ fn a_hand_by_itself_comes_to_each_root_in_order(rt: HostRuntime) -> Result<(), F
     let mut roots = roots.0.0;
     let mut hands = hands.0.0;
     assert!(rt; roots.len() == 2 && hands.len() == 1);
-    assert_eq!(rt; turn(alloc, &mut hands[0])?, "popped");
-    assert_eq!(rt; turn(alloc, &mut hands[0])?, "ended");
+    turns(&rt, alloc, &mut hands[0], &["popped", "ended"])?;
     assert!(rt; is_ready(&mut roots[0]) && !is_ready(&mut roots[1]));
-    assert_eq!(rt; turn(alloc, &mut hands[0])?, "popped");
-    assert_eq!(rt; turn(alloc, &mut hands[0])?, "ended");
+    turns(&rt, alloc, &mut hands[0], &["popped", "ended"])?;
     assert!(rt; is_ready(&mut roots[1]));
-    assert_eq!(rt; turn(alloc, &mut hands[0])?, "idle");
-    Ok(())
+    turns(&rt, alloc, &mut hands[0], &["idle"])
 }
 
 #[test]
@@ -185,8 +222,7 @@ fn another_hand_steals_the_last_root(rt: HostRuntime) -> Result<(), Fail> {
     let mut roots = roots.0.0;
     let mut hands = hands.0.0;
     assert!(rt; roots.len() == 3 && hands.len() == 2);
-    assert_eq!(rt; turn(alloc, &mut hands[1])?, "stole");
-    assert_eq!(rt; turn(alloc, &mut hands[1])?, "ended");
+    turns(&rt, alloc, &mut hands[1], &["stole", "ended"])?;
     assert!(rt; is_ready(&mut roots[2]) && !is_ready(&mut roots[0]));
     Ok(())
 }
@@ -247,6 +283,7 @@ fn two_workers_work_at_two_seeds_at_once(rt: HostRuntime) -> Result<(), Fail> {
     let plans = plans_under(&rt, ONE, &seeds, MOST_STEPS)?;
     let printed = batch(&rt, &plans, &seeds, 2, &gate)?;
     assert!(rt; gate.has_come() && !gate.is_late());
-    assert_eq!(rt; printed.as_slice(), b"seed 1\n1\nseed 2\n1\n".as_slice());
+    let parts = b"seed 1\n1\nseed 2\n1\n";
+    same(&rt, "parts", printed.as_slice(), parts.as_slice());
     Ok(())
 }

@@ -7,6 +7,7 @@ use dotmix::Gamma;
 use script_check::check;
 use script_text::{MAX_BYTES, parse};
 use serial_meaning::{Limits, Plan, Show};
+use std::fmt::{Debug, Display};
 use std::process::Abort;
 use std::sync::Arc;
 use std::test::Fail;
@@ -27,4 +28,14 @@ fn plan_within(rt: &(impl Abort + AllocGlobal), text: &str, depth: u32) -> Resul
     let limits = Limits { depth, budget: 100 };
     let plan = Plan::new(checked, gamma, limits, Show::Plain, 4);
     Ok(Arc::new(alloc, plan)?)
+}
+
+/// What was found in this row is what was wanted. It stands for `assert_eq!`, whose text the check takes up anew at each place.
+fn same<A: PartialEq + Debug + Drop>(
+    rt: &impl Abort,
+    row: impl Display + Drop,
+    found: A,
+    wanted: A,
+) {
+    assert_eq!(rt; found, wanted, "{row}");
 }

@@ -12,6 +12,7 @@ ghost use Rattle.script_grammar.specs.Text.{Text};
 
 use script_text::{MAX_BYTES, Script, SyntaxError, parse};
 use std::alloc::Global;
+use std::fmt::{Debug, Display};
 use std::process::Abort;
 
 /// The tree of this text, or its first fault.
@@ -21,4 +22,14 @@ fn tree(rt: &impl Abort, alloc: Global, text: &[u8]) -> Result<Script, SyntaxErr
 {
     assert!(rt; text.len() <= MAX_BYTES);
     parse(alloc, text)
+}
+
+/// What was found in this row is what was wanted. It stands for `assert_eq!`, whose text the check takes up anew at each place.
+fn same<A: PartialEq + Debug + Drop>(
+    rt: &impl Abort,
+    row: impl Display + Drop,
+    found: A,
+    wanted: A,
+) {
+    assert_eq!(rt; found, wanted, "{row}");
 }

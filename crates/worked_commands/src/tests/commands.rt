@@ -148,7 +148,7 @@ fn scripts_have_a_canonical_text(rt: HostRuntime) -> Result<(), Fail> {
 }
 
 // The words and the line that refuses them.
-static REFUSED_WORDS: [(&str, &str); 16] = [
+static REFUSED_WORDS: [(&str, &str); 20] = [
     ("", "words: no command at word 0\n"),
     ("go", "words: unknown command at word 0\n"),
     ("run --workers 0", "words: out of range at word 2\n"),
@@ -176,11 +176,21 @@ static REFUSED_WORDS: [(&str, &str); 16] = [
         "stream --at 4294967295 --count 2",
         "words: out of range at word 4\n",
     ),
-    ("sim --number 0", "words: not built yet\n"),
+    ("sim --workers 3", "words: missing option at word 3\n"),
+    ("sim --number 01", "words: bad value at word 2\n"),
+    (
+        "sim --number 18446744073709551616",
+        "words: out of range at word 2\n",
+    ),
+    (
+        "sim --number 0 --workers 65",
+        "words: out of range at word 4\n",
+    ),
+    ("sim --number 0 --at 0", "words: unknown option at word 3\n"),
 ];
 
 #[test]
-fn words_that_give_no_command_that_runs_are_refused(rt: HostRuntime) -> Result<(), Fail> {
+fn words_that_give_no_command_are_refused(rt: HostRuntime) -> Result<(), Fail> {
     for &(line, refusal) in &REFUSED_WORDS {
         refuses(&rt, line, ONE, 2, refusal)?;
     }

@@ -1,8 +1,9 @@
 ghost use Rattle.std.specs.Prelude.{◌≡◌, IfOk};
 
+use super::same;
 use std::alloc::Global;
 use std::thread;
-use steal_deck::{Deck, Memory, Steal, Thief};
+use steal_deck::{Deck, Memory, Remains, Steal, Thief};
 
 fn needs_send<T: Send>(_: &T) {}
 
@@ -20,11 +21,11 @@ fn owner_takes_the_newest_and_thief_the_oldest(rt: HostRuntime) -> Result<(), Me
     for task in ['a', 'b', 'c'] {
         assert!(rt; deck.push(task).is_ok(), "a push among the first 64");
     }
-    assert_eq!(rt; thief.steal(), Steal::Took('a'), "the oldest");
-    assert_eq!(rt; deck.pop(), Some('c'), "the newest");
-    assert_eq!(rt; deck.pop(), Some('b'), "the newest but one");
-    assert_eq!(rt; deck.pop(), None, "none is left");
-    assert_eq!(rt; thief.steal(), Steal::Nothing, "nothing is left");
+    same(&rt, "the oldest", thief.steal(), Steal::Took('a'));
+    same(&rt, "the newest", deck.pop(), Some('c'));
+    same(&rt, "the newest but one", deck.pop(), Some('b'));
+    same(&rt, "none is left", deck.pop(), None);
+    same(&rt, "nothing is left", thief.steal(), Steal::Nothing);
     Ok(())
 }
 
@@ -35,12 +36,12 @@ fn closed_deck_gives_what_is_left(rt: HostRuntime) -> Result<(), Memory> {
     assert!(rt; deck.push('a').is_ok(), "a push among the first 64");
     assert!(rt; deck.push('b').is_ok(), "a push among the first 64");
     assert!(rt; deck.push('c').is_ok(), "a push among the first 64");
-    assert_eq!(rt; thief.steal(), Steal::Took('a'), "the oldest");
+    same(&rt, "the oldest", thief.steal(), Steal::Took('a'));
     deck.rejoin(thief);
     let mut left = deck.close();
-    assert_eq!(rt; left.pop(), Some('c'), "the last");
-    assert_eq!(rt; left.pop(), Some('b'), "the first");
-    assert_eq!(rt; left.pop(), None, "none is left");
+    same(&rt, "the last", left.pop(), Some('c'));
+    same(&rt, "the first", left.pop(), Some('b'));
+    same(&rt, "none is left", left.pop(), None);
     Ok(())
 }
 
@@ -80,6 +81,14 @@ fn pushed(alloc: Global, mut deck: Deck<u32>) -> Result<(Deck<u32>, Vec<u32>), M
     Ok((deck, numbers))
 }
 
+// Adds what is left in a deck that was closed.
+fn add_left(numbers: &mut Vec<u32>, mut left: Remains<u32>) -> Result<(), Memory> {
+    while let Some(number) = left.pop() {
+        numbers.push(number).map_err(|_| Memory)?;
+    }
+    Ok(())
+}
+
 #[test]
 fn three_threads_take_each_number_once(rt: HostRuntime) -> Result<(), Memory> {
     let alloc = rt.alloc();
@@ -100,13 +109,9 @@ fn three_threads_take_each_number_once(rt: HostRuntime) -> Result<(), Memory> {
     let (second, by_second) = second?;
     deck.rejoin(first);
     deck.rejoin(second);
-    for stolen in [by_first, by_second] {
-        numbers.extend_from_slice(stolen.as_slice())?;
-    }
-    let mut left = deck.close();
-    while let Some(number) = left.pop() {
-        numbers.push(number).map_err(|_| Memory)?;
-    }
+    numbers.extend_from_slice(&by_first)?;
+    numbers.extend_from_slice(&by_second)?;
+    add_left(&mut numbers, deck.close())?;
     numbers.sort_unstable();
     assert!(rt; numbers.iter().copied().eq(0..1000), "each number once");
     Ok(())

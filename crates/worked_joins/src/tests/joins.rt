@@ -1,5 +1,6 @@
 ghost use Rattle.std.specs.Prelude.{◌≡◌, ◌<◌, [], IfOk, OnOk, IsTrue, false, true, replicate};
 
+use super::same;
 use meet_block::{Arrived, Give, Join, Look, Memory, Tagged};
 use std::alloc::Global;
 use std::process::Abort;
@@ -106,16 +107,16 @@ fn values_are_taken_by_number(rt: HostRuntime) -> Result<(), Memory> {
     let first = join.hand(alloc, &5)?;
     let second = join.hand(alloc, &6)?;
     let third = join.hand(alloc, &7)?;
-    assert_eq!(rt; join.count(), 3);
+    same(&rt, "three", join.count(), 3);
     third.put(square_of(7));
     first.put(square_of(5));
     second.put(square_of(6));
     let Look::Ready = join.look() else {
         panic!(rt; "each has put");
     };
-    assert_eq!(rt; join.take(0).value, 25);
-    assert_eq!(rt; join.take(1).value, 36);
-    assert_eq!(rt; join.take(2).value, 49);
+    same(&rt, "number 0", join.take(0).value, 25);
+    same(&rt, "number 1", join.take(1).value, 36);
+    same(&rt, "number 2", join.take(2).value, 49);
     Ok(())
 }
 
@@ -124,15 +125,15 @@ fn a_child_owes_until_it_has_put(rt: HostRuntime) -> Result<(), Memory> {
     let alloc = rt.alloc();
     let mut join: Join<Square> = Join::new(alloc)?;
     let give = join.hand(alloc, &8)?;
-    assert_eq!(rt; join.look(), Look::NotYet(1));
+    same(&rt, "one owes", join.look(), Look::NotYet(1));
     give.put(square_of(8));
     let Look::Ready = join.look() else {
         panic!(rt; "it has put");
     };
-    assert_eq!(rt; join.take(0).value, 64);
+    same(&rt, "number 0", join.take(0).value, 64);
     // A give that is dropped hasn't put.
     drop(join.hand(alloc, &9)?);
-    assert_eq!(rt; join.look(), Look::NotYet(1));
+    same(&rt, "dropped", join.look(), Look::NotYet(1));
     Ok(())
 }
 
@@ -146,11 +147,11 @@ fn a_look_reads_the_counters_in_order(rt: HostRuntime) -> Result<(), Memory> {
         jobs.push(job)?;
     }
     let last = hand(alloc, &mut join, 16)?;
-    assert_eq!(rt; join.look(), Look::NotYet(16));
+    same(&rt, "all owe", join.look(), Look::NotYet(16));
     run_all(jobs);
-    assert_eq!(rt; join.look(), Look::NotYet(1));
+    same(&rt, "one owes", join.look(), Look::NotYet(1));
     run(last);
-    assert_eq!(rt; join.look(), Look::Ready);
+    same(&rt, "none owes", join.look(), Look::Ready);
     Ok(())
 }
 
@@ -159,14 +160,14 @@ fn a_hand_after_a_look_opens_a_counter(rt: HostRuntime) -> Result<(), Memory> {
     let alloc = rt.alloc();
     let mut join: Join<Square> = Join::new(alloc)?;
     let first = join.hand(alloc, &2)?;
-    assert_eq!(rt; join.look(), Look::NotYet(1));
+    same(&rt, "one owes", join.look(), Look::NotYet(1));
     let second = join.hand(alloc, &3)?;
     first.put(square_of(2));
     second.put(square_of(3));
     let Look::Ready = join.look() else {
         panic!(rt; "each has put");
     };
-    assert_eq!(rt; join.take(1).value, 9);
+    same(&rt, "number 1", join.take(1).value, 9);
     Ok(())
 }
 
@@ -214,6 +215,6 @@ fn each_end_goes_to_another_thread(rt: HostRuntime) -> Result<(), Memory> {
     })
     .map_err(|_| Memory)?
     .join(&rt);
-    assert_eq!(rt; looked, Look::NotYet(1));
+    same(&rt, "one owes", looked, Look::NotYet(1));
     Ok(())
 }

@@ -1,7 +1,9 @@
 ghost use Rattle.std.specs.Prelude.{◌<◌};
 
+use super::same;
 use ped_path::{Memory, Ped, PedTextError, Pedigree, parse_pedigree, write_pedigree};
-use std::alloc::Global;
+use std::alloc::{AllocError, Global};
+use std::process::Abort;
 use std::test::Fail;
 
 /// The path of these ranks.
@@ -16,29 +18,42 @@ fn path(alloc: Global, ranks: &[u32]) -> Result<Ped, Memory> {
 // In serial order.
 static PATHS: [&[u32]; 4] = [&[], &[3], &[3, 0], &[3, 1]];
 
+/// The path is the list of these ranks.
+fn is_path(rt: &impl Abort, it: &Ped, ranks: &[u32]) {
+    same(rt, "length", it.len(), ranks.len() as u64);
+    for i in 0..ranks.len() {
+        same(rt, i, it.rank_at(i as u64), Some(ranks[i] as u64));
+    }
+    same(rt, "behind", it.rank_at(it.len()), None);
+}
+
+fn is_copied(it: &Ped) -> Result<bool, Memory> {
+    Ok(it.same(&it.share()?))
+}
+
 #[test]
 fn paths_are_lists_of_ranks(rt: HostRuntime) -> Result<(), Fail> {
     for &ranks in &PATHS {
         let it = path(rt.alloc(), ranks)?;
-        assert_eq!(rt; it.len(), ranks.len() as u64, "{ranks:?}");
-        for i in 0..ranks.len() {
-            let rank = ranks[i] as u64;
-            assert_eq!(rt; it.rank_at(i as u64), Some(rank), "{i} of {ranks:?}");
-        }
-        assert_eq!(rt; it.rank_at(it.len()), None, "{ranks:?}");
-        assert!(rt; it.same(&it.share()?), "{ranks:?}");
+        is_path(&rt, &it, ranks);
+        same(&rt, "copy", is_copied(&it)?, true);
     }
     Ok(())
+}
+
+/// Whether the path of the first ranks stands before that of the second, and whether they are the same.
+fn paths_compared(alloc: Global, first: &[u32], second: &[u32]) -> Result<(bool, bool), Memory> {
+    let left = path(alloc, first)?;
+    let right = path(alloc, second)?;
+    Ok((left.before(&right), left.same(&right)))
 }
 
 #[test]
 fn paths_stand_in_serial_order(rt: HostRuntime) -> Result<(), Fail> {
     for i in 0..PATHS.len() {
         for k in 0..PATHS.len() {
-            let left = path(rt.alloc(), PATHS[i])?;
-            let right = path(rt.alloc(), PATHS[k])?;
-            assert_eq!(rt; left.before(&right), i < k, "{i} and {k}");
-            assert_eq!(rt; left.same(&right), i == k, "{i} and {k}");
+            let order = paths_compared(rt.alloc(), PATHS[i], PATHS[k])?;
+            same(&rt, format_args!("{i} and {k}"), order, (i < k, i == k));
         }
     }
     Ok(())
@@ -46,42 +61,58 @@ fn paths_stand_in_serial_order(rt: HostRuntime) -> Result<(), Fail> {
 
 static ORDERED: [&str; 4] = ["0", "0.0", "0.1", "1"];
 
+/// Whether the first pedigree stands before the second, and whether they are the same.
+fn compared(alloc: Global, first: &str, second: &str) -> Result<(bool, bool), PedTextError> {
+    let left = parse_pedigree(alloc, first)?;
+    let right = parse_pedigree(alloc, second)?;
+    Ok((left.before(&right), left.same(&right)))
+}
+
 #[test]
 fn pedigrees_stand_in_serial_order(rt: HostRuntime) -> Result<(), Fail> {
     for i in 0..ORDERED.len() {
         for k in 0..ORDERED.len() {
-            let left = parse_pedigree(rt.alloc(), ORDERED[i])?;
-            let right = parse_pedigree(rt.alloc(), ORDERED[k])?;
-            assert_eq!(rt; left.before(&right), i < k, "{i} and {k}");
-            assert_eq!(rt; left.same(&right), i == k, "{i} and {k}");
+            let order = compared(rt.alloc(), ORDERED[i], ORDERED[k])?;
+            same(&rt, format_args!("{i} and {k}"), order, (i < k, i == k));
         }
     }
     Ok(())
 }
 
+/// Whether a copy of this pedigree is the same.
+fn is_copied_pedigree(alloc: Global, text: &str) -> Result<bool, PedTextError> {
+    let j = parse_pedigree(alloc, text)?;
+    Ok(j.same(&j.share()?))
+}
+
 #[test]
 fn a_copy_of_a_pedigree_is_the_same(rt: HostRuntime) -> Result<(), Fail> {
     for &text in &ORDERED {
-        let j = parse_pedigree(rt.alloc(), text)?;
-        assert!(rt; j.same(&j.share()?), "{text}");
+        same(&rt, text, is_copied_pedigree(rt.alloc(), text)?, true);
     }
     Ok(())
 }
 
 // Before the path 1.2 stand 0.5, 1 and 1.1; 1.2 itself, 1.2.0 and 1.3 don't.
+static BEFORE_A_PATH: [(&str, bool); 6] = [
+    ("0.5", true),
+    ("1", true),
+    ("1.1", true),
+    ("1.2", false),
+    ("1.2.0", false),
+    ("1.3", false),
+];
+
+fn is_before(alloc: Global, text: &str, path: &Ped) -> Result<bool, PedTextError> {
+    Ok(parse_pedigree(alloc, text)?.before_path(path))
+}
+
 #[test]
 fn pedigrees_stand_before_a_path(rt: HostRuntime) -> Result<(), Fail> {
     let path = path(rt.alloc(), &[1, 2])?;
-    for (text, stands_before) in [
-        ("0.5", true),
-        ("1", true),
-        ("1.1", true),
-        ("1.2", false),
-        ("1.2.0", false),
-        ("1.3", false),
-    ] {
-        let j = parse_pedigree(rt.alloc(), text)?;
-        assert_eq!(rt; j.before_path(&path), stands_before, "{text}");
+    for &(text, stands_before) in &BEFORE_A_PATH {
+        let before = is_before(rt.alloc(), text, &path)?;
+        same(&rt, text, before, stands_before);
     }
     Ok(())
 }
@@ -97,27 +128,43 @@ fn counted(alloc: Global, len: u64) -> Result<Ped, Memory>
     Ok(path)
 }
 
+/// The path is that of so many ranks.
+fn is_counted(rt: &impl Abort, path: &Ped, len: u64)
+    requires { len < 65536 }
+{
+    same(rt, "length", path.len(), len);
+    for i in 0..len {
+        same(rt, i, path.rank_at(i), Some(1001 + i));
+    }
+    same(rt, "behind", path.rank_at(len), None);
+}
+
 // The lengths about the end of a block of 16 ranks.
 #[test]
 fn long_paths_are_lists_of_ranks(rt: HostRuntime) -> Result<(), Fail> {
     for len in 1..=49 {
-        let path = counted(rt.alloc(), len)?;
-        assert_eq!(rt; path.len(), len);
-        for i in 0..len {
-            assert_eq!(rt; path.rank_at(i), Some(1001 + i), "rank {i} of {len}");
-        }
-        assert_eq!(rt; path.rank_at(len), None, "{len}");
+        is_counted(&rt, &counted(rt.alloc(), len)?, len);
     }
     Ok(())
 }
 
+/// Whether the path of so many ranks stands before that of so many others, and whether they are the same.
+fn counted_compared(alloc: Global, first: u64, second: u64) -> Result<(bool, bool), Memory>
+    requires first { first < 65536 }
+    requires second { second < 65536 }
+{
+    let left = counted(alloc, first)?;
+    let right = counted(alloc, second)?;
+    Ok((left.before(&right), left.same(&right)))
+}
+
 #[test]
 fn long_paths_stand_in_serial_order(rt: HostRuntime) -> Result<(), Fail> {
+    let alloc = rt.alloc();
     for len in 1..=49 {
-        let path = counted(rt.alloc(), len)?;
-        assert!(rt; counted(rt.alloc(), len - 1)?.before(&path), "{len}");
-        assert!(rt; path.before(&counted(rt.alloc(), len + 1)?), "{len}");
-        assert!(rt; path.same(&counted(rt.alloc(), len)?), "{len}");
+        same(&rt, len, counted_compared(alloc, len - 1, len)?.0, true);
+        same(&rt, len, counted_compared(alloc, len, len + 1)?.0, true);
+        same(&rt, len, counted_compared(alloc, len, len)?.1, true);
     }
     Ok(())
 }
@@ -128,37 +175,43 @@ static TEXTS: [(&str, &[u32], u32, &str); 2] = [
     ("", &[], 7, "7"),
 ];
 
+/// What stands in the output, where this stood before, once the pedigree is written.
+fn written(alloc: Global, before: &str, j: &Pedigree) -> Result<Vec<u8>, Fail> {
+    let mut out = Vec::from_slice(alloc, before.as_bytes())?;
+    write_pedigree(j, &mut out)?;
+    Ok(out)
+}
+
 #[test]
 fn texts_join_the_ranks_by_full_stops(rt: HostRuntime) -> Result<(), Fail> {
     for &(before, ranks, rank, after) in &TEXTS {
         let path = path(rt.alloc(), ranks)?;
         let rank = rank as u64;
-        let mut out = Vec::from_slice(rt.alloc(), before.as_bytes())?;
-        write_pedigree(&Pedigree { path, rank }, &mut out)?;
-        assert_eq!(rt; out.as_slice(), after.as_bytes(), "{after}");
+        let out = written(rt.alloc(), before, &Pedigree { path, rank })?;
+        same(&rt, after, out.as_slice(), after.as_bytes());
     }
     Ok(())
 }
 
+static REFUSED: [(&str, PedTextError); 10] = [
+    ("", PedTextError::Empty),
+    ("0..1", PedTextError::BadByte(2)),
+    ("0.", PedTextError::BadByte(2)),
+    (".1", PedTextError::BadByte(0)),
+    ("1 ", PedTextError::BadByte(1)),
+    ("+1", PedTextError::BadByte(0)),
+    ("01", PedTextError::Zeros(0)),
+    ("7.00", PedTextError::Zeros(2)),
+    ("4294967296", PedTextError::TooBig(0)),
+    ("1.99999999999999999999999x", PedTextError::TooBig(2)),
+];
+
 #[test]
-fn other_texts_are_refused_where_they_go_wrong(rt: HostRuntime) -> Result<(), Fail> {
-    let alloc = rt.alloc();
-    let cases = [
-        ("", PedTextError::Empty),
-        ("0..1", PedTextError::BadByte(2)),
-        ("0.", PedTextError::BadByte(2)),
-        (".1", PedTextError::BadByte(0)),
-        ("1 ", PedTextError::BadByte(1)),
-        ("+1", PedTextError::BadByte(0)),
-        ("01", PedTextError::Zeros(0)),
-        ("7.00", PedTextError::Zeros(2)),
-        ("4294967296", PedTextError::TooBig(0)),
-        ("1.99999999999999999999999x", PedTextError::TooBig(2)),
-    ];
-    for (text, error) in cases {
-        assert_eq!(rt; parse_pedigree(alloc, text).err(), Some(error), "{text}");
+fn other_texts_are_refused_where_they_go_wrong(rt: HostRuntime) {
+    for &(text, error) in &REFUSED {
+        let refusal = parse_pedigree(rt.alloc(), text).err();
+        same(&rt, text, refusal, Some(error));
     }
-    Ok(())
 }
 
 static READ_TEXTS: [(&str, &[u32]); 3] = [
@@ -167,32 +220,40 @@ static READ_TEXTS: [(&str, &[u32]); 3] = [
     ("4294967295", &[4_294_967_295]),
 ];
 
+/// The pedigree is the list of these ranks.
+fn is_pedigree(rt: &impl Abort, j: &Pedigree, ranks: &[u32]) {
+    same(rt, "length", j.len(), ranks.len() as u64);
+    for i in 0..ranks.len() {
+        same(rt, i, j.rank_at(i as u64), Some(ranks[i] as u64));
+    }
+    same(rt, "behind", j.rank_at(j.len()), None);
+}
+
 #[test]
 fn texts_of_pedigrees_are_read(rt: HostRuntime) -> Result<(), Fail> {
     for &(text, ranks) in &READ_TEXTS {
-        let j = parse_pedigree(rt.alloc(), text)?;
-        assert_eq!(rt; j.len(), ranks.len() as u64, "{text}");
-        for i in 0..ranks.len() {
-            let rank = ranks[i] as u64;
-            assert_eq!(rt; j.rank_at(i as u64), Some(rank), "{i} of {text}");
-        }
-        assert_eq!(rt; j.rank_at(j.len()), None, "{text}");
+        is_pedigree(&rt, &parse_pedigree(rt.alloc(), text)?, ranks);
     }
     Ok(())
+}
+
+/// The text of 512 ranks, with this behind it.
+fn of_512_ranks(alloc: Global, behind: &str) -> Result<String, AllocError> {
+    let mut text = String::from_str(alloc, "0")?;
+    for _ in 0..511 {
+        text.push_str(".0")?;
+    }
+    text.push_str(behind)?;
+    Ok(text)
 }
 
 #[test]
 fn texts_have_at_most_512_ranks(rt: HostRuntime) -> Result<(), Fail> {
     let alloc = rt.alloc();
-    let mut text = String::from_str(alloc, "0")?;
-    for _ in 0..511 {
-        text.push_str(".0")?;
+    for (behind, wanted) in [("", Ok(512)), (".", Err(PedTextError::TooLong))] {
+        let text = of_512_ranks(alloc, behind)?;
+        let read = parse_pedigree(alloc, text.as_str()).map(|j| j.len());
+        same(&rt, behind, read, wanted);
     }
-    assert_eq!(rt; parse_pedigree(alloc, text.as_str())?.len(), 512);
-    text.push_str(".")?;
-    assert_eq!(rt;
-        parse_pedigree(alloc, text.as_str()).err(),
-        Some(PedTextError::TooLong)
-    );
     Ok(())
 }

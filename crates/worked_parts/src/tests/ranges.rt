@@ -1,7 +1,9 @@
 ghost use Rattle.std.specs.Prelude.{◌≤◌};
 
-use loop_range::{IterRange, cover, iteration_path};
+use super::same;
+use loop_range::{IterRange, Memory, cover, iteration_path};
 use ped_path::Ped;
+use std::alloc::Global;
 use std::test::Fail;
 
 fn range(lo: u64, hi: u64) -> IterRange
@@ -13,9 +15,10 @@ fn range(lo: u64, hi: u64) -> IterRange
 
 #[test]
 fn ranges_of_two_or_more_are_split_in_the_middle(rt: HostRuntime) {
-    assert_eq!(rt; range(0, 1).split(), None);
-    assert_eq!(rt; range(3, 3).split(), None);
-    assert_eq!(rt; range(0, 5).split(), Some((range(0, 2), range(2, 5))));
+    let parts = (range(0, 2), range(2, 5));
+    same(&rt, "0..1", range(0, 1).split(), None);
+    same(&rt, "3..3", range(3, 3).split(), None);
+    same(&rt, "0..5", range(0, 5).split(), Some(parts));
 }
 
 #[test]
@@ -25,13 +28,17 @@ fn parts_cover_where_none_is_left_out(rt: HostRuntime) {
     assert!(rt; !cover(&[range(0, 2), range(3, 5)]));
 }
 
+/// The third iteration of a loop of the strand 4.
+fn third(alloc: Global) -> Result<Ped, Memory> {
+    let strand = Ped::root(alloc)?.child(alloc, 4)?;
+    iteration_path(&strand, alloc, 2)
+}
+
 #[test]
 fn iterations_stand_below_their_loop(rt: HostRuntime) -> Result<(), Fail> {
-    let alloc = rt.alloc();
-    let strand = Ped::root(alloc)?.child(alloc, 4)?;
-    let third = iteration_path(&strand, alloc, 2)?;
-    assert_eq!(rt; third.len(), 2);
-    assert_eq!(rt; third.rank_at(0), Some(4));
-    assert_eq!(rt; third.rank_at(1), Some(2));
+    let third = third(rt.alloc())?;
+    same(&rt, "length", third.len(), 2);
+    same(&rt, "rank 0", third.rank_at(0), Some(4));
+    same(&rt, "rank 1", third.rank_at(1), Some(2));
     Ok(())
 }

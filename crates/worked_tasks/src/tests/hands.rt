@@ -1,7 +1,7 @@
 // The turns of hands. That crews answer as one worker does, on any number of workers, is shown by `worked_commands`.
 
-use super::plan;
-use crew::{Crew, Gate, Hand, Looked, OpenGate, Turn};
+use super::{plan, same};
+use crew::{Crew, Gate, Hand, Looked, OpenGate, Root, Turn};
 use meet_block::Look;
 use serial_meaning::{FaultKind, Origin, Outcome};
 use std::alloc::Global;
@@ -50,24 +50,28 @@ fn turns<G: Gate>(
 ) -> Result<(), Fail> {
     for &wanted in words {
         let turn = hand.turn(alloc, gate)?;
-        assert_eq!(rt; word(&turn), wanted);
+        same(rt, "turn", word(&turn), wanted);
     }
     Ok(())
 }
 
+/// Its newest task is looked at before and after its child has answered.
+fn looks(rt: &impl Abort, alloc: Global, hand: &mut Hand) -> Result<(), Fail> {
+    turns(rt, alloc, hand, &OpenGate, &["ran"])?;
+    assert!(rt; matches!(hand.look_newest(alloc)?, Looked::Nothing));
+    turns(rt, alloc, hand, &OpenGate, &["answered", "popped", "ran"])?;
+    assert!(rt; matches!(hand.look_newest(alloc)?, Looked::Goes));
+    turns(rt, alloc, hand, &OpenGate, &["ended"])
+}
+
 #[test]
 fn a_hand_looks_at_its_newest_task_between_turns(rt: HostRuntime) -> Result<(), Fail> {
-    let alloc = rt.alloc();
     let script = "fn f() { return 1; } fn main() { let a = spawn f(); sync; print a; return 0; }";
-    let (_root, hands) = Crew::new(alloc, &plan(&rt, script)?, 1)?;
+    let plan = plan(&rt, script)?;
+    let (_root, hands) = Crew::new(rt.alloc(), &plan, 1)?;
     let mut hands = hands.0.0;
     assert!(rt; hands.len() == 1);
-    let hand = &mut hands[0];
-    turns(&rt, alloc, hand, &OpenGate, &["ran"])?;
-    assert!(rt; matches!(hand.look_newest(alloc)?, Looked::Nothing));
-    turns(&rt, alloc, hand, &OpenGate, &["answered", "popped", "ran"])?;
-    assert!(rt; matches!(hand.look_newest(alloc)?, Looked::Goes));
-    turns(&rt, alloc, hand, &OpenGate, &["ended"])
+    looks(&rt, rt.alloc(), &mut hands[0])
 }
 
 /// Of which tasks a gate was told, in order: of each a digit, 1 for main, 2 and 3 for its first two children, and 9 for any other.
@@ -115,28 +119,33 @@ impl Gate for Record {
     }
 }
 
+/// Main has ended by the fault of its first child.
+fn ends_by_child(rt: &impl Abort, mut root: Root) {
+    let Look::Ready = root.look() else {
+        panic!(rt; "main has answered");
+    };
+    let answer = root.take();
+    let Outcome::Fault(fault) = &answer.outcome else {
+        panic!(rt; "main ends by its child's fault");
+    };
+    assert!(rt; fault.kind == FaultKind::Divide);
+    assert!(rt; fault.at.path.rank_at(0) == Some(0) && fault.at.rank == 0);
+}
+
+const CUT_TURNS: [&str; 9] = [
+    "ran", "answered", "popped", "ran", "answered", "popped", "ran", "resumed", "ended",
+];
+
 #[test]
 fn a_task_behind_a_known_fault_is_cut(rt: HostRuntime) -> Result<(), Fail> {
-    let alloc = rt.alloc();
-    let (mut root, hands) = Crew::new(alloc, &plan(&rt, FAULT_BEFORE_ANOTHER)?, 1)?;
+    let plan = plan(&rt, FAULT_BEFORE_ANOTHER)?;
+    let (root, hands) = Crew::new(rt.alloc(), &plan, 1)?;
     let mut hands = hands.0.0;
     assert!(rt; hands.len() == 1);
-    let hand = &mut hands[0];
     let gate = Record::new();
-    let words = [
-        "ran", "answered", "popped", "ran", "answered", "popped", "ran", "resumed", "ended",
-    ];
-    turns(&rt, alloc, hand, &gate, &words)?;
-    assert_eq!(rt; gate.entered.load(Ordering::SeqCst), 12);
-    assert_eq!(rt; gate.left.load(Ordering::SeqCst), 21);
-    if let Look::Ready = root.look() {
-        let answer = root.take();
-        let Outcome::Fault(fault) = &answer.outcome else {
-            panic!(rt; "main ends by its child's fault");
-        };
-        assert!(rt; fault.kind == FaultKind::Divide);
-        assert!(rt; fault.at.path.rank_at(0) == Some(0) && fault.at.rank == 0);
-        return Ok(());
-    }
-    panic!(rt; "main has answered")
+    turns(&rt, rt.alloc(), &mut hands[0], &gate, &CUT_TURNS)?;
+    same(&rt, "entered", gate.entered.load(Ordering::SeqCst), 12);
+    same(&rt, "left", gate.left.load(Ordering::SeqCst), 21);
+    ends_by_child(&rt, root);
+    Ok(())
 }

@@ -7,7 +7,7 @@ ghost use Rattle.strand_machine.specs.Family.{tag};
 ghost use Rattle.strand_machine.specs.Tasks.{fresh};
 ghost use Rattle.worked_tasks.specs.Stopping.{IsIdle, StopsAt};
 
-use super::{plan, plan_within};
+use super::{plan, plan_within, same};
 use meet_block::{Give, Join};
 use script_grammar::Items;
 use serial_meaning::{Answer, AnswerKey, Outcome, Plan, Value};
@@ -175,13 +175,28 @@ fn gone_on(rt: &impl Abort, alloc: Global, task: Task) -> Result<Task, Fail>
     }
 }
 
+/// The task after its wait, once the child that it awaits has run to its end.
+fn with_child(rt: &impl Abort, alloc: Global, rest: Task, child: Task) -> Result<Task, Fail>
+    requires waits { rest.task.waiting ≡ true }
+    requires child { IsIdle child }
+{
+    let (answer, give) = ended(rt, alloc, child)?;
+    give.put(answer);
+    gone_on(rt, alloc, rest)
+}
+
+/// The number that was answered.
+fn number_of(rt: &impl Abort, answer: &Answer) -> i64 {
+    match &answer.outcome {
+        Outcome::Value(Value::Int(number)) => *number,
+        _ => panic!(rt; "it gives a number"),
+    }
+}
+
 /// The number that the task gives at its end.
 fn number(rt: &impl Abort, alloc: Global, task: Task) -> Result<i64, Fail> {
     match task.advance(alloc)? {
-        Stop::Done { answer, .. } => match answer.outcome {
-            Outcome::Value(Value::Int(number)) => Ok(number),
-            _ => panic!(rt; "it gives a number"),
-        },
+        Stop::Done { answer, .. } => Ok(number_of(rt, &answer)),
         _ => panic!(rt; "it has ended"),
     }
 }
@@ -197,11 +212,9 @@ fn a_task_goes_on_once_its_child_has_answered(rt: HostRuntime) -> Result<(), Fai
     assert!(rt; awaits_only(&rest, &child));
     let rest = at_wait(&rt, alloc, rest)?;
     let rest = still_waiting(&rt, alloc, rest)?;
-    let (answer, give) = ended(&rt, alloc, child)?;
-    give.put(answer);
-    let rest = gone_on(&rt, alloc, rest)?;
+    let rest = with_child(&rt, alloc, rest, child)?;
     assert!(rt; rest.awaited().as_slice().is_empty());
-    assert_eq!(rt; number(&rt, alloc, rest)?, 0);
+    same(&rt, "main", number(&rt, alloc, rest)?, 0);
     Ok(())
 }
 
@@ -215,9 +228,7 @@ fn a_task_waits_at_the_end_of_a_scope(rt: HostRuntime) -> Result<(), Fail> {
     let (child, rest) = handed_out(&rt, alloc, main)?;
     assert!(rt; awaits_only(&rest, &child));
     let rest = at_wait(&rt, alloc, rest)?;
-    let (answer, give) = ended(&rt, alloc, child)?;
-    give.put(answer);
-    let rest = gone_on(&rt, alloc, rest)?;
-    assert_eq!(rt; number(&rt, alloc, rest)?, 7);
+    let rest = with_child(&rt, alloc, rest, child)?;
+    same(&rt, "main", number(&rt, alloc, rest)?, 7);
     Ok(())
 }

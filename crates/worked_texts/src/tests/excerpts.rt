@@ -1,8 +1,11 @@
 // The lines that show a fault's place, with the word that would do.
+use super::same;
 use script_excerpt::excerpt;
+use std::alloc::Global;
+use std::process::Abort;
 use std::test::Fail;
 
-const EXCERPTS: [(&str, usize, &str); 9] = [
+static EXCERPTS: [(&str, usize, &str); 9] = [
     (
         "fn main() { print 1 return 0; }",
         20,
@@ -46,29 +49,40 @@ const EXCERPTS: [(&str, usize, &str); 9] = [
     ),
 ];
 
-#[test]
-fn a_fault_is_shown_with_its_line(rt: HostRuntime) -> Result<(), Fail> {
-    for (text, at, wanted) in EXCERPTS {
-        assert!(rt; at <= text.len());
-        let lines = excerpt(rt.alloc(), text.as_bytes(), at, "fault")?;
-        assert_eq!(rt; lines.as_slice(), wanted.as_bytes());
-    }
+/// These lines show the fault there.
+fn shows(
+    rt: &impl Abort,
+    alloc: Global,
+    text: &[u8],
+    at: usize,
+    wanted: &[u8],
+) -> Result<(), Fail> {
+    assert!(rt; at <= text.len());
+    let lines = excerpt(alloc, text, at, "fault")?;
+    same(rt, at, lines.as_slice(), wanted);
     Ok(())
 }
 
 #[test]
-fn of_a_long_line_72_bytes_are_shown_on_each_side(rt: HostRuntime) -> Result<(), Fail> {
-    let alloc = rt.alloc();
-    let text = vec![in alloc; b'a'; 300]?;
-    assert!(rt; text.len() == 300);
-    let lines = excerpt(alloc, &text, 150, "fault")?;
-    let mut wanted = b"line 1, column 151\n".to_vec(alloc)?;
-    wanted.extend_from_slice(&text[..144])?;
-    wanted.push(b'\n')?;
-    for _ in 0..72 {
-        wanted.push(b' ')?;
+fn a_fault_is_shown_with_its_line(rt: HostRuntime) -> Result<(), Fail> {
+    for &(text, at, wanted) in &EXCERPTS {
+        shows(&rt, rt.alloc(), text.as_bytes(), at, wanted.as_bytes())?;
     }
-    wanted.extend_from_slice(b"^ fault\n")?;
-    assert_eq!(rt; lines.as_slice(), wanted.as_slice());
     Ok(())
+}
+
+/// The lines of a fault at byte 150 of a line of 300.
+fn lines_of_300(alloc: Global) -> Result<Vec<u8>, Fail> {
+    let mut wanted = b"line 1, column 151\n".to_vec(alloc)?;
+    wanted.extend_from_slice(&[b'a'; 144])?;
+    wanted.push(b'\n')?;
+    wanted.extend_from_slice(&[b' '; 72])?;
+    wanted.extend_from_slice(b"^ fault\n")?;
+    Ok(wanted)
+}
+
+#[test]
+fn of_a_long_line_72_bytes_are_shown_on_each_side(rt: HostRuntime) -> Result<(), Fail> {
+    let wanted = lines_of_300(rt.alloc())?;
+    shows(&rt, rt.alloc(), &[b'a'; 300], 150, wanted.as_slice())
 }

@@ -1,9 +1,10 @@
 // Worked texts, and the largest ones.
 
+use super::same;
 use script_tokens::{
-    MAX_BYTES, Memory, Misfit, Stop, Token, TokenKind, Version, Word, lexemes, next_token,
+    Lexed, MAX_BYTES, Misfit, Stop, Token, TokenKind, Version, Word, lexemes, next_token,
 };
-use std::alloc::Global;
+use std::alloc::{AllocError, Global};
 use std::process::Abort;
 use std::test::Fail;
 
@@ -47,15 +48,13 @@ static CUTS: [Cut; 34] = [
     (b"version 2\n# \xff", b"", Stop::NotAscii(12)),
 ];
 
-fn assert_cut(
+/// The texts of the lexemes, joined by `|`.
+fn joined(
     rt: &impl Abort,
     alloc: Global,
     text: &[u8],
-    parts: &[u8],
-    stop: Stop,
-) -> Result<(), Memory> {
-    assert!(rt; text.len() <= MAX_BYTES);
-    let lexed = lexemes(alloc, text)?;
+    lexed: &Lexed,
+) -> Result<Vec<u8>, AllocError> {
     let mut joined = Vec::new(alloc);
     for lexeme in &lexed.lexemes {
         assert!(rt; lexeme.start <= lexeme.end);
@@ -65,8 +64,21 @@ fn assert_cut(
         }
         joined.extend_from_slice(lexeme.text(text))?;
     }
-    assert_eq!(rt; joined.as_slice(), parts, "in {text:?}");
-    assert_eq!(rt; lexed.stop, stop, "in {text:?}");
+    Ok(joined)
+}
+
+fn assert_cut(
+    rt: &impl Abort,
+    alloc: Global,
+    text: &[u8],
+    parts: &[u8],
+    stop: Stop,
+) -> Result<(), Fail> {
+    assert!(rt; text.len() <= MAX_BYTES);
+    let lexed = lexemes(alloc, text)?;
+    same(rt, format_args!("in {text:?}"), lexed.stop, stop);
+    let joined = joined(rt, alloc, text, &lexed)?;
+    same(rt, format_args!("in {text:?}"), joined.as_slice(), parts);
     Ok(())
 }
 
@@ -78,64 +90,70 @@ fn tokens_are_the_longest_that_fit(rt: HostRuntime) -> Result<(), Fail> {
     Ok(())
 }
 
+const ALL_WORDS: &[u8] =
+    b"fn id let spawn call sync print if else while pfor in into draw new return same older
+    ( ) { } [ ] , ; = + - * / % == != < <= > >= -> ..";
+
+static WORDS: [Word; 40] = [
+    Word::Fn,
+    Word::Id,
+    Word::Let,
+    Word::Spawn,
+    Word::Call,
+    Word::Sync,
+    Word::Print,
+    Word::If,
+    Word::Else,
+    Word::While,
+    Word::Pfor,
+    Word::In,
+    Word::Into,
+    Word::Draw,
+    Word::New,
+    Word::Return,
+    Word::Same,
+    Word::Older,
+    Word::Open,
+    Word::Close,
+    Word::OpenBlock,
+    Word::CloseBlock,
+    Word::OpenItem,
+    Word::CloseItem,
+    Word::Comma,
+    Word::Semicolon,
+    Word::Assign,
+    Word::Plus,
+    Word::Minus,
+    Word::Times,
+    Word::Over,
+    Word::Modulo,
+    Word::Eq,
+    Word::Ne,
+    Word::Lt,
+    Word::Le,
+    Word::Gt,
+    Word::Ge,
+    Word::Arrow,
+    Word::Range,
+];
+
+/// The kind of the word that begins at this offset.
+fn kind_at(start: u32) -> TokenKind {
+    if start < 84 {
+        TokenKind::Keyword
+    } else {
+        TokenKind::Symbol
+    }
+}
+
 #[test]
 fn keywords_and_symbols_have_their_words(rt: HostRuntime) -> Result<(), Fail> {
-    let text =
-        b"fn id let spawn call sync print if else while pfor in into draw new return same older
-        ( ) { } [ ] , ; = + - * / % == != < <= > >= -> ..";
-    let wanted = [
-        Word::Fn,
-        Word::Id,
-        Word::Let,
-        Word::Spawn,
-        Word::Call,
-        Word::Sync,
-        Word::Print,
-        Word::If,
-        Word::Else,
-        Word::While,
-        Word::Pfor,
-        Word::In,
-        Word::Into,
-        Word::Draw,
-        Word::New,
-        Word::Return,
-        Word::Same,
-        Word::Older,
-        Word::Open,
-        Word::Close,
-        Word::OpenBlock,
-        Word::CloseBlock,
-        Word::OpenItem,
-        Word::CloseItem,
-        Word::Comma,
-        Word::Semicolon,
-        Word::Assign,
-        Word::Plus,
-        Word::Minus,
-        Word::Times,
-        Word::Over,
-        Word::Modulo,
-        Word::Eq,
-        Word::Ne,
-        Word::Lt,
-        Word::Le,
-        Word::Gt,
-        Word::Ge,
-        Word::Arrow,
-        Word::Range,
-    ];
-    let lexed = lexemes(rt.alloc(), text)?;
-    assert_eq!(rt; lexed.stop, Stop::End);
-    assert_eq!(rt; lexed.lexemes.len(), wanted.len());
-    for (found, word) in lexed.lexemes.iter().zip(wanted) {
-        assert_eq!(rt; found.word, word);
-        let kind = if found.start < 84 {
-            TokenKind::Keyword
-        } else {
-            TokenKind::Symbol
-        };
-        assert_eq!(rt; found.word.kind(), kind);
+    let lexed = lexemes(rt.alloc(), ALL_WORDS)?;
+    same(&rt, "stop", lexed.stop, Stop::End);
+    same(&rt, "count", lexed.lexemes.len(), WORDS.len());
+    for (found, word) in lexed.lexemes.iter().zip(&WORDS) {
+        same(&rt, found.start, found.word, *word);
+        same(&rt, found.start, found.word.kind(), kind_at(found.start));
     }
     Ok(())
 }
@@ -162,11 +180,8 @@ static MISFITS: [(&[u8], u32, Misfit); 3] = [
 fn assert_next(rt: &impl Abort, text: &[u8], from: u32, wanted: Result<Token, Misfit>) {
     assert!(rt; text.len() <= MAX_BYTES);
     assert!(rt; from as usize <= text.len());
-    assert_eq!(rt;
-        next_token(text, from, Version::One),
-        wanted,
-        "at {from} in {text:?}"
-    );
+    let found = next_token(text, from, Version::One);
+    same(rt, format_args!("at {from} in {text:?}"), found, wanted);
 }
 
 #[test]
@@ -179,20 +194,28 @@ fn the_next_token_stands_behind_the_gap(rt: HostRuntime) {
     }
 }
 
+// A byte, how many lexemes so many of it are, and the word of the first.
+static LARGEST: [(u8, usize, Option<Word>); 5] = [
+    (b'[', MAX_BYTES, Some(Word::OpenItem)),
+    (b'n', 1, Some(Word::Name)),
+    (b'7', 1, Some(Word::Number)),
+    (b'#', 0, None),
+    (b' ', 0, None),
+];
+
+/// The lexemes of as many of this byte as there may be.
+fn largest(alloc: Global, byte: u8) -> Result<Lexed, Fail> {
+    let text = vec![in alloc; byte; MAX_BYTES]?;
+    Ok(lexemes(alloc, &text)?)
+}
+
 #[test]
 fn the_largest_texts_are_read(rt: HostRuntime) -> Result<(), Fail> {
-    for (byte, count, first) in [
-        (b'[', MAX_BYTES, Some(Word::OpenItem)),
-        (b'n', 1, Some(Word::Name)),
-        (b'7', 1, Some(Word::Number)),
-        (b'#', 0, None),
-        (b' ', 0, None),
-    ] {
-        let text = vec![in rt.alloc(); byte; MAX_BYTES]?;
-        let lexed = lexemes(rt.alloc(), &text)?;
-        assert_eq!(rt; lexed.stop, Stop::End);
-        assert_eq!(rt; lexed.lexemes.len(), count);
-        assert_eq!(rt; lexed.lexemes.first().map(|l| l.word), first);
+    for &(byte, count, first) in &LARGEST {
+        let lexed = largest(rt.alloc(), byte)?;
+        same(&rt, byte, lexed.stop, Stop::End);
+        same(&rt, byte, lexed.lexemes.len(), count);
+        same(&rt, byte, lexed.lexemes.first().map(|l| l.word), first);
     }
     Ok(())
 }
@@ -212,9 +235,9 @@ fn a_text_of_version_2_begins_with_its_line(rt: HostRuntime) -> Result<(), Fail>
     for &(text, version, word, start) in &VERSIONS {
         assert!(rt; text.len() <= MAX_BYTES);
         let lexed = lexemes(rt.alloc(), text)?;
-        assert_eq!(rt; lexed.version, version, "{text:?}");
+        same(&rt, format_args!("{text:?}"), lexed.version, version);
         let first = lexed.lexemes.first().map(|l| (l.word, l.start));
-        assert_eq!(rt; first, Some((word, start)), "{text:?}");
+        same(&rt, format_args!("{text:?}"), first, Some((word, start)));
     }
     Ok(())
 }
@@ -230,7 +253,7 @@ fn scope_is_a_keyword_of_version_2_alone(rt: HostRuntime) {
             start: 1,
             end: 6,
         });
-        assert_eq!(rt; next_token(b" scope ", 0, version), wanted);
+        same(&rt, "scope", next_token(b" scope ", 0, version), wanted);
     }
-    assert_eq!(rt; Word::Scope.kind(), TokenKind::Keyword);
+    same(&rt, "scope", Word::Scope.kind(), TokenKind::Keyword);
 }

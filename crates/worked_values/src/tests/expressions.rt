@@ -1,11 +1,13 @@
 // Expressions and writes on small environments.
 
+use super::same;
 use ped_path::{Ped, Pedigree};
 use script_grammar::{
     Boxed, Comparison, Expr, Items, Kind, Name, Number, Param, ProductPart, ProductSign, SumPart,
 };
 use serial_meaning::{FaultKind, Value};
 use std::alloc::Global;
+use std::process::Abort;
 use std::test::Fail;
 use strand_values::{Environment, Halt, count, is_true, iterations, number};
 
@@ -38,12 +40,14 @@ fn item_of_a(alloc: Global, i: i64) -> Result<Expr, Fail> {
 }
 
 fn sum(alloc: Global, first: Expr, minus: bool, operand: Expr) -> Result<Expr, Fail> {
-    let rest = vec![in alloc; SumPart { minus, operand }]?;
+    let mut rest = Vec::new(alloc);
+    rest.push(SumPart { minus, operand })?;
     Ok(Expr::Sum(boxed(alloc, first)?, Items(rest)))
 }
 
 fn product(alloc: Global, first: Expr, sign: ProductSign, operand: Expr) -> Result<Expr, Fail> {
-    let rest = vec![in alloc; ProductPart { sign, operand }]?;
+    let mut rest = Vec::new(alloc);
+    rest.push(ProductPart { sign, operand })?;
     Ok(Expr::Product(boxed(alloc, first)?, Items(rest)))
 }
 
@@ -67,17 +71,28 @@ fn object(alloc: Global, rank: u32) -> Result<Value, Fail> {
     }))
 }
 
-/// An Int `n` of 7, the objects `early` and `late`, and an array `a` of three zeros.
-fn environment(alloc: Global) -> Result<Environment, Fail> {
+static PARAMS: [(Kind, &str); 3] = [(Kind::Int, "n"), (Kind::Id, "early"), (Kind::Id, "late")];
+
+fn params(alloc: Global) -> Result<Vec<Param>, Fail> {
     let mut params = Vec::new(alloc);
-    params.push(param(alloc, Kind::Int, "n")?)?;
-    params.push(param(alloc, Kind::Id, "early")?)?;
-    params.push(param(alloc, Kind::Id, "late")?)?;
+    for &(kind, text) in &PARAMS {
+        params.push(param(alloc, kind, text)?)?;
+    }
+    Ok(params)
+}
+
+fn args(alloc: Global) -> Result<Vec<Value>, Fail> {
     let mut args = Vec::new(alloc);
     args.push(Value::Int(7))?;
-    args.push(object(alloc, 2)?)?;
-    args.push(object(alloc, 5)?)?;
-    let mut environment = Environment::bound(alloc, &params, &args, 0)?;
+    for rank in [2, 5] {
+        args.push(object(alloc, rank)?)?;
+    }
+    Ok(args)
+}
+
+/// An Int `n` of 7, the objects `early` and `late`, and an array `a` of three zeros.
+fn environment(alloc: Global) -> Result<Environment, Fail> {
+    let mut environment = Environment::bound(alloc, &params(alloc)?, &args(alloc)?, 0)?;
     environment.set_array(alloc, &name(alloc, "a")?, 3)?;
     Ok(environment)
 }
@@ -120,7 +135,12 @@ static PRODUCTS: [(i64, ProductSign, i64, Result<i64, FaultKind>); 13] = [
 fn products_wrap_and_quotients_are_cut_toward_zero(rt: HostRuntime) -> Result<(), Fail> {
     for &(x, sign, y, expected) in &PRODUCTS {
         let e = product(rt.alloc(), int(x), sign, int(y))?;
-        assert_eq!(rt; told(rt.alloc(), e)?, expected, "{x} {sign:?} {y}");
+        same(
+            &rt,
+            format_args!("{x} {sign:?} {y}"),
+            told(rt.alloc(), e)?,
+            expected,
+        );
     }
     Ok(())
 }
@@ -136,7 +156,12 @@ static SUMS: [(i64, bool, i64, i64); 4] = [
 fn sums_wrap(rt: HostRuntime) -> Result<(), Fail> {
     for &(x, minus, y, expected) in &SUMS {
         let e = sum(rt.alloc(), int(x), minus, int(y))?;
-        assert_eq!(rt; told(rt.alloc(), e)?, Ok(expected), "{x} {minus} {y}");
+        same(
+            &rt,
+            format_args!("{x} {minus} {y}"),
+            told(rt.alloc(), e)?,
+            Ok(expected),
+        );
     }
     Ok(())
 }
@@ -145,7 +170,7 @@ fn sums_wrap(rt: HostRuntime) -> Result<(), Fail> {
 fn minuses_wrap(rt: HostRuntime) -> Result<(), Fail> {
     for (x, expected) in [(7, -7), (0, 0), (LEAST, LEAST)] {
         let e = Expr::Neg(0, boxed(rt.alloc(), int(x))?);
-        assert_eq!(rt; told(rt.alloc(), e)?, Ok(expected), "{x}");
+        same(&rt, x, told(rt.alloc(), e)?, Ok(expected));
     }
     Ok(())
 }
@@ -171,51 +196,55 @@ fn comparisons_are_1_or_0(rt: HostRuntime) -> Result<(), Fail> {
     for &(how, expected) in &COMPARISONS {
         for i in 0..3usize {
             let e = with_one(rt.alloc(), i as i64, how)?;
-            assert_eq!(rt; told(rt.alloc(), e)?, Ok(expected[i]), "{i} {how:?} 1");
+            same(
+                &rt,
+                format_args!("{i} {how:?} 1"),
+                told(rt.alloc(), e)?,
+                Ok(expected[i]),
+            );
         }
     }
     Ok(())
 }
 
 #[test]
-fn all_but_0_hold(rt: HostRuntime) {
+fn all_but_0_hold(rt: HostRuntime) -> Result<(), Fail> {
+    let environment = environment(rt.alloc())?;
     for (number, holds) in [(0, false), (1, true), (-1, true)] {
-        assert_eq!(rt; is_true(&Value::Int(number)), holds, "{number}");
+        same(&rt, number, is_true(&Value::Int(number)), holds);
+        same(&rt, number, environment.holds(&int(number))?, holds);
     }
+    Ok(())
 }
 
 /// `n - 3 - 4`
 fn two_differences(alloc: Global) -> Result<Expr, Fail> {
-    let three = SumPart {
-        minus: true,
-        operand: int(3),
-    };
-    let four = SumPart {
-        minus: true,
-        operand: int(4),
-    };
-    let parts = vec![in alloc; three, four]?;
+    let mut parts = Vec::new(alloc);
+    for number in [3, 4] {
+        parts.push(SumPart {
+            minus: true,
+            operand: int(number),
+        })?;
+    }
     Ok(Expr::Sum(named(alloc, "n")?, Items(parts)))
 }
 
 #[test]
 fn differences_go_from_the_left(rt: HostRuntime) -> Result<(), Fail> {
     let e = two_differences(rt.alloc())?;
-    assert_eq!(rt; told(rt.alloc(), e)?, Ok(0));
+    same(&rt, "n - 3 - 4", told(rt.alloc(), e)?, Ok(0));
     Ok(())
+}
+
+fn part(sign: ProductSign, operand: Expr) -> ProductPart {
+    ProductPart { sign, operand }
 }
 
 /// `1 / 0 * a[9]`
 fn quotient_and_product(alloc: Global) -> Result<Expr, Fail> {
-    let quotient = ProductPart {
-        sign: ProductSign::Over,
-        operand: int(0),
-    };
-    let factor = ProductPart {
-        sign: ProductSign::Times,
-        operand: item_of_a(alloc, 9)?,
-    };
-    let parts = vec![in alloc; quotient, factor]?;
+    let mut parts = Vec::new(alloc);
+    parts.push(part(ProductSign::Over, int(0)))?;
+    parts.push(part(ProductSign::Times, item_of_a(alloc, 9)?))?;
     Ok(Expr::Product(boxed(alloc, int(1))?, Items(parts)))
 }
 
@@ -223,7 +252,12 @@ fn quotient_and_product(alloc: Global) -> Result<Expr, Fail> {
 #[test]
 fn an_operation_is_done_before_the_next_operand(rt: HostRuntime) -> Result<(), Fail> {
     let e = quotient_and_product(rt.alloc())?;
-    assert_eq!(rt; told(rt.alloc(), e)?, Err(FaultKind::Divide));
+    same(
+        &rt,
+        "1 / 0 * a[9]",
+        told(rt.alloc(), e)?,
+        Err(FaultKind::Divide),
+    );
     Ok(())
 }
 
@@ -236,23 +270,33 @@ fn two_faults(alloc: Global) -> Result<Expr, Fail> {
 #[test]
 fn the_left_operand_faults_first(rt: HostRuntime) -> Result<(), Fail> {
     let e = two_faults(rt.alloc())?;
-    assert_eq!(rt; told(rt.alloc(), e)?, Err(FaultKind::Index));
+    same(
+        &rt,
+        "a[9] * (1 / 0)",
+        told(rt.alloc(), e)?,
+        Err(FaultKind::Index),
+    );
     Ok(())
 }
 
-fn same(alloc: Global, left: &str, right: &str) -> Result<Expr, Fail> {
+fn same_ids(alloc: Global, left: &str, right: &str) -> Result<Expr, Fail> {
     Ok(Expr::Same(0, named(alloc, left)?, named(alloc, right)?))
 }
 
-fn older(alloc: Global, left: &str, right: &str) -> Result<Expr, Fail> {
+fn older_ids(alloc: Global, left: &str, right: &str) -> Result<Expr, Fail> {
     Ok(Expr::Older(0, named(alloc, left)?, named(alloc, right)?))
 }
 
 #[test]
 fn ids_are_the_same_by_their_pedigrees(rt: HostRuntime) -> Result<(), Fail> {
     for (left, right, expected) in [("early", "early", 1), ("early", "late", 0)] {
-        let e = same(rt.alloc(), left, right)?;
-        assert_eq!(rt; told(rt.alloc(), e)?, Ok(expected), "{left} {right}");
+        let e = same_ids(rt.alloc(), left, right)?;
+        same(
+            &rt,
+            format_args!("{left} {right}"),
+            told(rt.alloc(), e)?,
+            Ok(expected),
+        );
     }
     Ok(())
 }
@@ -260,8 +304,13 @@ fn ids_are_the_same_by_their_pedigrees(rt: HostRuntime) -> Result<(), Fail> {
 #[test]
 fn ids_are_older_by_their_pedigrees(rt: HostRuntime) -> Result<(), Fail> {
     for (left, right, expected) in [("early", "late", 1), ("late", "early", 0)] {
-        let e = older(rt.alloc(), left, right)?;
-        assert_eq!(rt; told(rt.alloc(), e)?, Ok(expected), "{left} {right}");
+        let e = older_ids(rt.alloc(), left, right)?;
+        same(
+            &rt,
+            format_args!("{left} {right}"),
+            told(rt.alloc(), e)?,
+            Ok(expected),
+        );
     }
     Ok(())
 }
@@ -276,20 +325,32 @@ fn with_nine(alloc: Global) -> Result<Environment, Fail> {
     Ok(environment)
 }
 
+static ITEMS: [(i64, Result<i64, FaultKind>); 4] = [
+    (-1, Err(FaultKind::Index)),
+    (0, Ok(0)),
+    (2, Ok(9)),
+    (3, Err(FaultKind::Index)),
+];
+
+/// The item of `a` is this, and so is what its expression gives.
+fn reads(
+    rt: &(impl Abort + AllocGlobal),
+    environment: &Environment,
+    i: i64,
+    expected: Result<i64, FaultKind>,
+) -> Result<(), Fail> {
+    let found = environment.item(&name(rt.alloc(), "a")?, i);
+    same(rt, format_args!("item {i}"), found, expected.ok());
+    let given = told_in(environment, &item_of_a(rt.alloc(), i)?)?;
+    same(rt, format_args!("item {i}"), given, expected);
+    Ok(())
+}
+
 #[test]
 fn items_are_read_and_written_within_the_array(rt: HostRuntime) -> Result<(), Fail> {
-    let alloc = rt.alloc();
-    let environment = with_nine(alloc)?;
-    let a = name(alloc, "a")?;
-    for (i, expected) in [
-        (-1, Err(FaultKind::Index)),
-        (0, Ok(0)),
-        (2, Ok(9)),
-        (3, Err(FaultKind::Index)),
-    ] {
-        assert_eq!(rt; environment.item(&a, i), expected.ok(), "item {i}");
-        let item = item_of_a(alloc, i)?;
-        assert_eq!(rt; told_in(&environment, &item)?, expected, "item {i}");
+    let environment = with_nine(rt.alloc())?;
+    for &(i, expected) in &ITEMS {
+        reads(&rt, &environment, i, expected)?;
     }
     Ok(())
 }
@@ -323,7 +384,7 @@ fn the_values_of_a_loop_are_the_first_items(rt: HostRuntime) -> Result<(), Fail>
     let environment = filled(rt.alloc())?;
     let a = name(rt.alloc(), "a")?;
     for (i, expected) in [(0, 4), (1, 5), (2, 9)] {
-        assert_eq!(rt; environment.item(&a, i), Some(expected), "item {i}");
+        same(&rt, i, environment.item(&a, i), Some(expected));
     }
     Ok(())
 }
@@ -331,8 +392,9 @@ fn the_values_of_a_loop_are_the_first_items(rt: HostRuntime) -> Result<(), Fail>
 /// The environment where `n` is 8, and there is an `x` of 1.
 fn with_scalars(alloc: Global) -> Result<Environment, Fail> {
     let mut environment = environment(alloc)?;
-    environment.set_scalar(alloc, &name(alloc, "n")?, Value::Int(8))?;
-    environment.set_scalar(alloc, &name(alloc, "x")?, Value::Int(1))?;
+    for (text, number) in [("n", 8), ("x", 1)] {
+        environment.set_scalar(alloc, &name(alloc, text)?, Value::Int(number))?;
+    }
     Ok(environment)
 }
 
@@ -341,21 +403,25 @@ fn scalars_are_set_by_name(rt: HostRuntime) -> Result<(), Fail> {
     let environment = with_scalars(rt.alloc())?;
     for (text, expected) in [("n", 8), ("x", 1)] {
         let e = variable(rt.alloc(), text)?;
-        assert_eq!(rt; told_in(&environment, &e)?, Ok(expected), "{text}");
+        same(&rt, text, told_in(&environment, &e)?, Ok(expected));
     }
     Ok(())
 }
 
-#[test]
-fn an_assignment_that_faults_changes_nothing(rt: HostRuntime) -> Result<(), Fail> {
-    let alloc = rt.alloc();
-    let mut environment = environment(alloc)?;
+/// The halt of `n = 1 / 0` after `n = 9`.
+fn halt_of_assignment(alloc: Global, environment: &mut Environment) -> Result<Option<Halt>, Fail> {
     let n = name(alloc, "n")?;
     environment.assign(alloc, &n, &int(9))?;
-    let halt = environment.assign(alloc, &n, &divided(alloc)?).err();
-    assert_eq!(rt; halt, Some(Halt::Fault(FaultKind::Divide)));
-    let e = variable(alloc, "n")?;
-    assert_eq!(rt; told_in(&environment, &e)?, Ok(9));
+    Ok(environment.assign(alloc, &n, &divided(alloc)?).err())
+}
+
+#[test]
+fn an_assignment_that_faults_changes_nothing(rt: HostRuntime) -> Result<(), Fail> {
+    let mut environment = environment(rt.alloc())?;
+    let halt = halt_of_assignment(rt.alloc(), &mut environment)?;
+    same(&rt, "n = 1 / 0", halt, Some(Halt::Fault(FaultKind::Divide)));
+    let e = variable(rt.alloc(), "n")?;
+    same(&rt, "n", told_in(&environment, &e)?, Ok(9));
     Ok(())
 }
 
@@ -369,18 +435,29 @@ fn numbers(alloc: Global, args: &[Expr]) -> Result<Vec<i64>, Fail> {
     Ok(numbers)
 }
 
+/// The arguments `n` and `3`.
+fn arguments(alloc: Global) -> Result<Vec<Expr>, Fail> {
+    let mut args = Vec::new(alloc);
+    args.push(variable(alloc, "n")?)?;
+    args.push(int(3))?;
+    Ok(args)
+}
+
 #[test]
 fn arguments_are_taken_from_the_left(rt: HostRuntime) -> Result<(), Fail> {
-    let args = vec![in rt.alloc(); variable(rt.alloc(), "n")?, int(3)]?;
-    assert_eq!(rt; numbers(rt.alloc(), &args)?.as_slice(), [7, 3].as_slice());
+    let args = arguments(rt.alloc())?;
+    same(
+        &rt,
+        "n, 3",
+        numbers(rt.alloc(), &args)?.as_slice(),
+        [7, 3].as_slice(),
+    );
     Ok(())
 }
 
 /// The arguments `n`, `3`, `a[9]` and `1 / 0`.
 fn faulty_arguments(alloc: Global) -> Result<Vec<Expr>, Fail> {
-    let mut args = Vec::new(alloc);
-    args.push(variable(alloc, "n")?)?;
-    args.push(int(3))?;
+    let mut args = arguments(alloc)?;
     args.push(item_of_a(alloc, 9)?)?;
     args.push(divided(alloc)?)?;
     Ok(args)
@@ -390,16 +467,16 @@ fn faulty_arguments(alloc: Global) -> Result<Vec<Expr>, Fail> {
 fn the_first_fault_of_arguments_is_told(rt: HostRuntime) -> Result<(), Fail> {
     let args = faulty_arguments(rt.alloc())?;
     let halt = environment(rt.alloc())?.values(rt.alloc(), &args).err();
-    assert_eq!(rt; halt, Some(Halt::Fault(FaultKind::Index)));
+    same(&rt, "a[9]", halt, Some(Halt::Fault(FaultKind::Index)));
     Ok(())
 }
 
 #[test]
 fn a_loop_has_the_integers_between_its_bounds(rt: HostRuntime) {
     for (lo, hi, turns) in [(3, 5, 2), (5, 3, 0), (LEAST, GREATEST, u64::MAX)] {
-        assert_eq!(rt; iterations(lo, hi), turns, "{lo}..{hi}");
+        same(&rt, format_args!("{lo}..{hi}"), iterations(lo, hi), turns);
     }
     for (number, turns) in [(12, 12), (-1, 0)] {
-        assert_eq!(rt; count(number), turns, "{number}");
+        same(&rt, number, count(number), turns);
     }
 }

@@ -1,3 +1,4 @@
+use super::same;
 use loop_range::IterRange;
 use ped_path::{Ped, Pedigree};
 use script_grammar::Items;
@@ -35,17 +36,23 @@ fn events(alloc: Global) -> Result<Out, Memory> {
     Ok(events)
 }
 
+/// The strand of these events, with a fault at the rank 6.
+fn faulty(alloc: Global) -> Result<Strand, Memory> {
+    let events = events(alloc)?;
+    let at = strand(alloc, 6)?;
+    let kind = FaultKind::Index;
+    let fault = Some(Fault { kind, at });
+    Ok(Strand { events, fault })
+}
+
 #[test]
 fn a_strand_prints_a_line_of_each_event_and_its_fault(rt: HostRuntime) -> Result<(), Fail> {
-    let at = strand(rt.alloc(), 6)?;
-    let kind = FaultKind::Index;
-    let strand = Strand {
-        events: events(rt.alloc())?,
-        fault: Some(Fault { kind, at }),
-    };
-    assert_eq!(rt;
+    let strand = faulty(rt.alloc())?;
+    same(
+        &rt,
+        "lines",
         render_strand(rt.alloc(), &strand)?.as_slice(),
-        b"-3\ndraw 1 = 21\nnew 2\nspawn 3\nsync 4\nloop 5\nfault 6: index out of range\n".as_slice()
+        b"-3\ndraw 1 = 21\nnew 2\nspawn 3\nsync 4\nloop 5\nfault 6: index out of range\n".as_slice(),
     );
     Ok(())
 }
@@ -80,9 +87,9 @@ fn rank_of(events: &Out, i: u64) -> Option<u64> {
 #[test]
 fn appended_events_stand_behind_the_others(rt: HostRuntime) -> Result<(), Fail> {
     let all = appended(rt.alloc())?;
-    assert_eq!(rt; all.len(), 6);
+    same(&rt, "length", all.len(), 6);
     for i in 0u64..6 {
-        assert_eq!(rt; rank_of(&all, i), Some(i));
+        same(&rt, i, rank_of(&all, i), Some(i));
     }
     assert!(rt; all.get(6).is_none());
     Ok(())
@@ -100,16 +107,42 @@ fn lengths(alloc: Global, events: &Out) -> Result<Vec<usize>, Memory> {
     Ok(lengths)
 }
 
+/// The objects of the ranks from 0 to 31, appended to the first 20.
+fn long(alloc: Global) -> Result<Out, Memory> {
+    let mut all = objects(alloc, 0..20)?;
+    all.append(objects(alloc, 20..30)?)?;
+    all.append(objects(alloc, 30..32)?)?;
+    Ok(all)
+}
+
 // Ten events are more than are ever copied.
 #[test]
 fn a_long_list_is_appended_without_a_copy(rt: HostRuntime) -> Result<(), Fail> {
-    let mut all = objects(rt.alloc(), 0..20)?;
-    all.append(objects(rt.alloc(), 20..30)?)?;
-    all.append(objects(rt.alloc(), 30..32)?)?;
-    assert_eq!(rt;
-        lengths(rt.alloc(), &all)?.as_slice(),
-        [20usize, 12].as_slice()
+    let lengths = lengths(rt.alloc(), &long(rt.alloc())?)?;
+    same(
+        &rt,
+        "segments",
+        lengths.as_slice(),
+        [20usize, 12].as_slice(),
     );
+    Ok(())
+}
+
+/// The objects of the ranks from 0 to 59, in three lists of 20.
+fn in_three(alloc: Global) -> Result<Out, Memory> {
+    let mut all = Out::new();
+    for part in 0u32..3 {
+        all.append(objects(alloc, part * 20..part * 20 + 20)?)?;
+    }
+    Ok(all)
+}
+
+#[test]
+fn an_event_is_found_in_its_segment(rt: HostRuntime) -> Result<(), Fail> {
+    let all = in_three(rt.alloc())?;
+    for i in [19u64, 20, 25, 59] {
+        same(&rt, i, rank_of(&all, i), Some(i));
+    }
     Ok(())
 }
 
@@ -126,7 +159,7 @@ fn a_shared_fault_is_the_same(rt: HostRuntime) -> Result<(), Fail> {
 fn a_shared_object_is_the_same(rt: HostRuntime) -> Result<(), Fail> {
     let object = Value::Id(strand(rt.alloc(), 4)?);
     match object.share()? {
-        Value::Id(at) => assert_eq!(rt; at.rank, 4),
+        Value::Id(at) => same(&rt, "rank", at.rank, 4),
         Value::Int(_) => assert!(rt; false),
     }
     Ok(())
@@ -134,9 +167,11 @@ fn a_shared_object_is_the_same(rt: HostRuntime) -> Result<(), Fail> {
 
 // Iterations of a loop of the root strand, whose function has one more argument.
 fn loop_origin(alloc: Global, number: i64, range: IterRange) -> Result<Origin, Memory> {
+    let mut rest = Vec::new(alloc);
+    rest.push(Value::Int(number))?;
     Ok(Origin::Loop {
         function: 0,
-        rest: Items(vec![in alloc; Value::Int(number)]?),
+        rest: Items(rest),
         first: 0,
         path: Ped::root(alloc)?.child(alloc, 0)?,
         range,
@@ -147,24 +182,33 @@ const WHOLE: IterRange = IterRange { lo: 0, hi: 4 };
 
 const HALF: IterRange = IterRange { lo: 0, hi: 2 };
 
+/// Whether this is the origin of that loop.
+fn is_loop(alloc: Global, origin: &Origin, number: i64, range: IterRange) -> Result<bool, Memory> {
+    Ok(origin.same(&loop_origin(alloc, number, range)?))
+}
+
 #[test]
 fn origins_are_the_same_where_all_fields_are(rt: HostRuntime) -> Result<(), Fail> {
     let origin = loop_origin(rt.alloc(), 7, WHOLE)?;
-    for (number, range, same) in [(7, WHOLE, true), (8, WHOLE, false), (7, HALF, false)] {
-        let other = loop_origin(rt.alloc(), number, range)?;
-        assert_eq!(rt; origin.same(&other), same, "{number} {range:?}");
+    for (number, range, is_same) in [(7, WHOLE, true), (8, WHOLE, false), (7, HALF, false)] {
+        let found = is_loop(rt.alloc(), &origin, number, range)?;
+        same(&rt, format_args!("{number} {range:?}"), found, is_same);
     }
     Ok(())
+}
+
+/// The origin of main's instance.
+fn main_origin(alloc: Global) -> Result<Origin, Memory> {
+    Ok(Origin::Instance {
+        function: 0,
+        args: Items(Vec::new(alloc)),
+        path: Ped::root(alloc)?,
+    })
 }
 
 #[test]
 fn a_loop_is_no_instance(rt: HostRuntime) -> Result<(), Fail> {
     let origin = loop_origin(rt.alloc(), 7, WHOLE)?;
-    let main = Origin::Instance {
-        function: 0,
-        args: Items(Vec::new(rt.alloc())),
-        path: Ped::root(rt.alloc())?,
-    };
-    assert!(rt; !origin.same(&main));
+    assert!(rt; !origin.same(&main_origin(rt.alloc())?));
     Ok(())
 }
