@@ -13,6 +13,7 @@ mod workers;
 use engine::{Gate, OpenGate, pedrun};
 use ped_io::{MemSink, MemSource};
 use std::alloc::Global;
+use std::fmt::{Debug, Display};
 use std::process::Abort;
 use std::sync::Wait;
 use std::test::Fail;
@@ -52,6 +53,16 @@ trait Host: Abort + AllocGlobal + Threads + Wait + Sync {}
 
 impl<R: Abort + AllocGlobal + Threads + Wait + Sync> Host for R {}
 
+/// What was found in this row is what was wanted. It stands for `assert_eq!`, whose text the check takes up anew at each place.
+fn same<A: PartialEq + Debug + Drop>(
+    rt: &impl Abort,
+    row: impl Display + Drop,
+    found: A,
+    wanted: A,
+) {
+    assert_eq!(rt; found, wanted, "{row}");
+}
+
 /// How a call ended: its status, and what stands in its sinks.
 #[derive(Drop)]
 struct Told {
@@ -71,6 +82,19 @@ fn words(alloc: Global, line: &str) -> Result<Vec<String>, Fail> {
     Ok(words)
 }
 
+/// What stands in a sink.
+fn text_of(alloc: Global, sink: &MemSink) -> Result<String, Fail> {
+    Ok(String::from_utf8(sink.bytes().to_vec(alloc)?)?)
+}
+
+fn ended(alloc: Global, code: u8, out: &MemSink, err: &MemSink) -> Result<Told, Fail> {
+    Ok(Told {
+        code,
+        out: text_of(alloc, out)?,
+        err: text_of(alloc, err)?,
+    })
+}
+
 // A call whose reads give and whose writes take this many bytes at most, and fail at these numbers.
 fn call<R: Host, G: Gate + Sync>(
     rt: &R,
@@ -83,16 +107,12 @@ fn call<R: Host, G: Gate + Sync>(
 ) -> Result<Told, Fail> {
     let alloc = rt.alloc();
     let step = step.max(1);
-    let words = words(alloc, line)?;
     let mut source = MemSource::new(script, step, reads);
     let mut out = MemSink::new(alloc, step, 1048576, writes)?;
     let mut err = MemSink::new(alloc, 4096, 1048576, Vec::new(alloc))?;
+    let words = words(alloc, line)?;
     let status = pedrun(rt, alloc, &words, &mut source, &mut out, &mut err, gate);
-    Ok(Told {
-        code: status.code(),
-        out: String::from_utf8(out.bytes().to_vec(alloc)?)?,
-        err: String::from_utf8(err.bytes().to_vec(alloc)?)?,
-    })
+    ended(alloc, status.code(), &out, &err)
 }
 
 // A call in which nothing fails.
@@ -122,9 +142,9 @@ fn guarded<R: Host, G: Gate + Sync>(
 
 // The call of this line ended with this status, and this stands in its sinks.
 fn compare(rt: &impl Abort, line: &str, told: &Told, code: u8, output: &str, refusal: &str) {
-    assert_eq!(rt; told.code, code, "{line}");
-    assert_eq!(rt; told.out.as_str(), output, "{line}");
-    assert_eq!(rt; told.err.as_str(), refusal, "{line}");
+    same(rt, line, told.code, code);
+    same(rt, line, told.out.as_str(), output);
+    same(rt, line, told.err.as_str(), refusal);
 }
 
 // The call ends with this status, and this stands in its sinks.
@@ -154,6 +174,6 @@ fn refuses<R: Host>(rt: &R, line: &str, script: &str, code: u8, refusal: &str) -
 // The script that the words generate.
 fn generated<R: Host>(rt: &R, line: &str) -> Result<String, Fail> {
     let told = plain(rt, line, b"")?;
-    assert_eq!(rt; told.code, 0, "{line}");
+    same(rt, line, told.code, 0);
     Ok(told.out)
 }

@@ -1,7 +1,9 @@
 // Batches of seeds, by the command.
 
 use super::workers::Meeting;
-use super::{DRAWS, ONE, TWO_DRAWS, compare, ends, generated, guarded, plain, prints, refuses};
+use super::{
+    DRAWS, Host, ONE, TWO_DRAWS, compare, ends, generated, guarded, plain, prints, refuses,
+};
 use engine::Gate;
 use serial_meaning::Origin;
 use std::test::Fail;
@@ -41,35 +43,50 @@ fn a_fault_in_a_batch_gives_status_1(rt: HostRuntime) -> Result<(), Fail> {
     )
 }
 
+static REFUSED_WORDS: [(&str, &str); 2] = [
+    ("batch --seeds 1,,2", "words: bad value at word 2\n"),
+    ("batch", "words: missing option at word 1\n"),
+];
+
 #[test]
 fn words_that_give_no_batch_are_refused(rt: HostRuntime) -> Result<(), Fail> {
-    let rows: [(&str, &str); 2] = [
-        ("batch --seeds 1,,2", "words: bad value at word 2\n"),
-        ("batch", "words: missing option at word 1\n"),
-    ];
-    for (line, refusal) in rows {
+    for &(line, refusal) in &REFUSED_WORDS {
         refuses(&rt, line, ONE, 2, refusal)?;
     }
     refuses(&rt, "batch --seeds 1", "", 3, "script: no main at byte 0\n")
 }
 
+/// What a run by this seed prints, below its line.
+fn part<R: Host>(rt: &R, script: &str, seed: u64) -> Result<String, Fail> {
+    let line = format!(in rt.alloc(); "run --seed {seed} --show log")?;
+    let run = plain(rt, line.as_str(), script.as_bytes())?;
+    Ok(format!(in rt.alloc(); "seed {seed}\n{}", run.out)?)
+}
+
+/// What the runs by each seed print.
+fn parts<R: Host>(rt: &R, script: &str) -> Result<String, Fail> {
+    let mut parts = String::new(rt.alloc());
+    for seed in [7, 0, 18446744073709551615, 7] {
+        parts.push_str(part(rt, script, seed)?.as_str())?;
+    }
+    Ok(parts)
+}
+
+/// A batch of these seeds prints this.
+fn prints_parts<R: Host>(rt: &R, script: &str, workers: u32, parts: &str) -> Result<(), Fail> {
+    let line = format!(in rt.alloc();
+        "batch --seeds 7,0,18446744073709551615,7 --show log --workers {workers}"
+    )?;
+    prints(rt, line.as_str(), script, parts)
+}
+
 // Each part is what a run by its seed alone prints, on any number of workers.
 #[test]
 fn parts_are_runs(rt: HostRuntime) -> Result<(), Fail> {
-    let alloc = rt.alloc();
     for script in [DRAWS, TWO_DRAWS] {
-        let mut wanted = String::new(alloc);
-        for seed in [7, 0, 18446744073709551615u64, 7] {
-            let line = format!(in alloc; "run --seed {seed} --show log")?;
-            let head = format!(in alloc; "seed {seed}\n")?;
-            wanted.push_str(head.as_str())?;
-            wanted.push_str(plain(&rt, line.as_str(), script.as_bytes())?.out.as_str())?;
-        }
+        let parts = parts(&rt, script)?;
         for workers in [1, 2, 3, 8, 64] {
-            let line = format!(in alloc;
-                "batch --seeds 7,0,18446744073709551615,7 --show log --workers {workers}"
-            )?;
-            prints(&rt, line.as_str(), script, wanted.as_str())?;
+            prints_parts(&rt, script, workers, parts.as_str())?;
         }
     }
     Ok(())

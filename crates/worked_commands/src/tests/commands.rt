@@ -1,8 +1,9 @@
 // The commands and their words, and what the streams do to them.
 
-use super::{DRAWS, ONE, call, compare, generated, prints, refuses, words};
+use super::{DRAWS, Host, ONE, Told, call, compare, generated, prints, refuses, same, words};
 use engine::{OpenGate, pedrun};
 use ped_io::{MemSink, MemSource};
+use std::alloc::{AllocError, Global};
 use std::test::Fail;
 
 // The words, and what is printed.
@@ -36,20 +37,27 @@ fn pedigrees_have_their_draws(rt: HostRuntime) -> Result<(), Fail> {
     Ok(())
 }
 
-// With the only coefficient 1 the dot product of the strand 0 is 1.
+// So many rounds, and what is drawn. With the only coefficient 1 the dot product of the strand 0 is 1.
+static ROUNDS: [(u32, u64); 6] = [
+    (0, 1),
+    (1, 12_884_901_888),
+    (2, 3),
+    (4, 21),
+    (6, 903),
+    (8, 1_631_721),
+];
+
+/// So many rounds draw this.
+fn draws<R: Host>(rt: &R, rounds: u32, draw: u64) -> Result<(), Fail> {
+    let line = format!(in rt.alloc(); "hash --gamma 1 --at 0 --rounds {rounds}")?;
+    let output = format!(in rt.alloc(); "dot 1\ndraw {draw}\n")?;
+    prints(rt, line.as_str(), "", output.as_str())
+}
+
 #[test]
 fn rounds_mix_the_dot_product(rt: HostRuntime) -> Result<(), Fail> {
-    for (rounds, draw) in [
-        (0, 1),
-        (1, 12_884_901_888u64),
-        (2, 3),
-        (4, 21),
-        (6, 903),
-        (8, 1_631_721),
-    ] {
-        let line = format!(in rt.alloc(); "hash --gamma 1 --at 0 --rounds {rounds}")?;
-        let output = format!(in rt.alloc(); "dot 1\ndraw {draw}\n")?;
-        prints(&rt, line.as_str(), "", output.as_str())?;
+    for &(rounds, draw) in &ROUNDS {
+        draws(&rt, rounds, draw)?;
     }
     prints(&rt, "run --gamma 5 --rounds 0", DRAWS, "5\n10\n15\n")
 }
@@ -79,40 +87,55 @@ fn streams_are_draws_of_consecutive_ranks(rt: HostRuntime) -> Result<(), Fail> {
     Ok(())
 }
 
+static BLOCKS: [&str; 3] = [
+    "stream --seed 3 --at 2.10 --count 4096",
+    "stream --seed 3 --at 2.4106 --count 4096",
+    "stream --seed 3 --at 2.8202 --count 1",
+];
+
+/// What they print one after the other.
+fn blocks<R: Host>(rt: &R) -> Result<String, Fail> {
+    let mut parts = String::new(rt.alloc());
+    for &line in &BLOCKS {
+        parts.push_str(generated(rt, line)?.as_str())?;
+    }
+    Ok(parts)
+}
+
 // A stream of several blocks has the lines of the shorter streams that it is made of.
 #[test]
 fn streams_go_on_behind_a_block(rt: HostRuntime) -> Result<(), Fail> {
-    let alloc = rt.alloc();
-    let mut parts = String::new(alloc);
-    for line in [
-        "stream --seed 3 --at 2.10 --count 4096",
-        "stream --seed 3 --at 2.4106 --count 4096",
-        "stream --seed 3 --at 2.8202 --count 1",
-    ] {
-        parts.push_str(generated(&rt, line)?.as_str())?;
-    }
+    let parts = blocks(&rt)?;
     let line = "stream --seed 3 --at 2.10 --count 8193";
     prints(&rt, line, "", parts.as_str())
 }
 
-#[test]
-fn pedigrees_have_at_most_512_ranks(rt: HostRuntime) -> Result<(), Fail> {
-    let mut line = String::from_str(rt.alloc(), "hash --gamma 1 --at 0")?;
-    for _ in 0..511 {
+/// The words of a hash of the pedigree of so many zeros.
+fn hash_of_zeros(alloc: Global, ranks: u32) -> Result<String, AllocError> {
+    let mut line = String::from_str(alloc, "hash --gamma 1 --at 0")?;
+    for _ in 1..ranks {
         line.push_str(".0")?;
     }
-    prints(&rt, line.as_str(), "", "dot 1\ndraw 21\n")?;
-    line.push_str(".0")?;
-    refuses(&rt, line.as_str(), "", 2, "words: out of range at word 4\n")
+    Ok(line)
 }
 
 #[test]
+fn pedigrees_have_at_most_512_ranks(rt: HostRuntime) -> Result<(), Fail> {
+    let most = hash_of_zeros(rt.alloc(), 512)?;
+    prints(&rt, most.as_str(), "", "dot 1\ndraw 21\n")?;
+    let more = hash_of_zeros(rt.alloc(), 513)?;
+    refuses(&rt, more.as_str(), "", 2, "words: out of range at word 4\n")
+}
+
+static GENERATED: [&str; 3] = [
+    "gen --shape fib --size 20",
+    "gen --size 10 --shape tree",
+    "gen --shape loop --size 4096",
+];
+
+#[test]
 fn generated_scripts_are_canonical(rt: HostRuntime) -> Result<(), Fail> {
-    for line in [
-        "gen --shape fib --size 20",
-        "gen --size 10 --shape tree",
-        "gen --shape loop --size 4096",
-    ] {
+    for &line in &GENERATED {
         let script = generated(&rt, line)?;
         assert!(rt; script.as_str().starts_with("fn "), "{line}");
         prints(&rt, "fmt", script.as_str(), script.as_str())?;
@@ -197,39 +220,54 @@ fn words_that_give_no_command_are_refused(rt: HostRuntime) -> Result<(), Fail> {
     Ok(())
 }
 
+/// A run whose read of this number fails, of 8 bytes at most.
+fn run_reading<R: Host>(rt: &R, planned: u64) -> Result<Told, Fail> {
+    let alloc = rt.alloc();
+    let script = ONE.as_bytes().to_vec(alloc)?;
+    let reads = Vec::from_slice(alloc, &[planned])?;
+    call(rt, "run", script, 8, reads, Vec::new(alloc), &OpenGate)
+}
+
 // The script's 32 bytes take four reads of 8, and a fifth finds the end. A failed read leaves no output.
 #[test]
 fn a_failed_read_is_told(rt: HostRuntime) -> Result<(), Fail> {
-    let alloc = rt.alloc();
-    for planned in 0..6u64 {
-        let script = ONE.as_bytes().to_vec(alloc)?;
-        let reads = vec![in alloc; planned]?;
-        let told = call(&rt, "run", script, 8, reads, Vec::new(alloc), &OpenGate)?;
-        if planned < 5 {
-            compare(&rt, "run", &told, 4, "", "read fault\n");
-        } else {
-            compare(&rt, "run", &told, 0, "1\n", "");
-        }
+    for planned in 0..5 {
+        let told = run_reading(&rt, planned)?;
+        compare(&rt, "run", &told, 4, "", "read fault\n");
     }
+    compare(&rt, "run", &run_reading(&rt, 5)?, 0, "1\n", "");
     Ok(())
 }
 
-// What stands where write 0, 1 or 2 fails: a front of the output.
-static FRONTS: [&str; 3] = ["", "21\n2", "21\n210\n9"];
+const THREE_DRAWS: &str = "run --gamma 1";
+
+/// A run whose write of this number fails, of 4 bytes at most.
+fn run_writing<R: Host>(rt: &R, planned: u64) -> Result<Told, Fail> {
+    let alloc = rt.alloc();
+    let script = DRAWS.as_bytes().to_vec(alloc)?;
+    let writes = Vec::from_slice(alloc, &[planned])?;
+    call(
+        rt,
+        THREE_DRAWS,
+        script,
+        4,
+        Vec::new(alloc),
+        writes,
+        &OpenGate,
+    )
+}
+
+// A write that fails, and what stands there then: a front of the output.
+static FRONTS: [(u64, &str); 3] = [(0, ""), (1, "21\n2"), (2, "21\n210\n9")];
 
 #[test]
 fn a_failed_write_is_told(rt: HostRuntime) -> Result<(), Fail> {
-    let alloc = rt.alloc();
-    let line = "run --gamma 1";
-    for planned in 0..4u64 {
-        let script = DRAWS.as_bytes().to_vec(alloc)?;
-        let writes = vec![in alloc; planned]?;
-        let told = call(&rt, line, script, 4, Vec::new(alloc), writes, &OpenGate)?;
-        match FRONTS.get(planned as usize) {
-            Some(front) => compare(&rt, line, &told, 5, front, "write fault\n"),
-            None => compare(&rt, line, &told, 0, "21\n210\n903\n", ""),
-        }
+    for &(planned, front) in &FRONTS {
+        let told = run_writing(&rt, planned)?;
+        compare(&rt, THREE_DRAWS, &told, 5, front, "write fault\n");
     }
+    let told = run_writing(&rt, 3)?;
+    compare(&rt, THREE_DRAWS, &told, 0, "21\n210\n903\n", "");
     Ok(())
 }
 
@@ -240,7 +278,7 @@ fn a_failing_error_output_changes_no_status(rt: HostRuntime) -> Result<(), Fail>
     let words = words(alloc, "go")?;
     let mut source = MemSource::new(Vec::new(alloc), 4096, Vec::new(alloc));
     let mut out = MemSink::new(alloc, 4096, 4096, Vec::new(alloc))?;
-    let mut err = MemSink::new(alloc, 4096, 4096, vec![in alloc; 0]?)?;
+    let mut err = MemSink::new(alloc, 4096, 4096, Vec::from_slice(alloc, &[0])?)?;
     let status = pedrun(
         &rt,
         alloc,
@@ -250,8 +288,8 @@ fn a_failing_error_output_changes_no_status(rt: HostRuntime) -> Result<(), Fail>
         &mut err,
         &OpenGate,
     );
-    assert_eq!(rt; status.code(), 2);
-    assert_eq!(rt; out.bytes(), b"".as_slice());
-    assert_eq!(rt; err.bytes(), b"".as_slice());
+    same(&rt, "status", status.code(), 2);
+    same(&rt, "out", out.bytes(), b"".as_slice());
+    same(&rt, "err", err.bytes(), b"".as_slice());
     Ok(())
 }

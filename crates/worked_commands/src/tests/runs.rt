@@ -3,6 +3,7 @@
 use super::{
     DRAWS, FAULTY_CHILD, ONE, PENDING_SYNCED, ROLLS, SQUARES, SUM, TWO_DRAWS, ends, prints,
 };
+use std::alloc::{AllocError, Global};
 use std::test::Fail;
 
 const SPAWNED: &str =
@@ -279,32 +280,53 @@ fn runs_end_by_their_least_fault(rt: HostRuntime) -> Result<(), Fail> {
     Ok(())
 }
 
+/// The numbers from 1 to 511, and the fault at 512 ranks.
+fn numbers_and_fault(alloc: Global) -> Result<String, AllocError> {
+    let mut output = String::new(alloc);
+    for n in 1..512u32 {
+        output.push_str(format!(in alloc; "{n}\n")?.as_str())?;
+    }
+    output.push_str("fault 0")?;
+    for _ in 1..512u32 {
+        output.push_str(".0")?;
+    }
+    output.push_str(": depth\n")?;
+    Ok(output)
+}
+
 // Each of 511 tasks would hand out two children more.
 #[test]
 fn a_fault_ends_all_tasks_below_at_once(rt: HostRuntime) -> Result<(), Fail> {
-    let alloc = rt.alloc();
-    let mut output = String::new(alloc);
-    let mut path = String::from_str(alloc, "0")?;
-    for n in 1..512 {
-        output.push_str(format!(in alloc; "{n}\n")?.as_str())?;
-        path.push_str(".0")?;
-    }
-    output.push_str(format!(in alloc; "fault {path}: depth\n")?.as_str())?;
+    let output = numbers_and_fault(rt.alloc())?;
     let script =
         "fn f(n) { print n; spawn f(n + 1); spawn f(n); spawn f(n); return 0; } fn main() { spawn f(1); sync; return 0; }";
     let line = "serial --depth 512 --budget 100";
     ends(&rt, line, script, 1, output.as_str(), "")
 }
 
+/// Spawns of 17 children, whose answers are the numbers from 1 to 17.
+fn spawns(alloc: Global) -> Result<String, AllocError> {
+    let mut spawns = String::new(alloc);
+    for i in 1..18u32 {
+        spawns.push_str(format!(in alloc; "let x{i} = spawn f({i}); ")?.as_str())?;
+    }
+    Ok(spawns)
+}
+
+/// The sum of their answers.
+fn sum(alloc: Global) -> Result<String, AllocError> {
+    let mut sum = String::from_str(alloc, "x1")?;
+    for i in 2..18u32 {
+        sum.push_str(format!(in alloc; " + x{i}")?.as_str())?;
+    }
+    Ok(sum)
+}
+
 #[test]
 fn a_sync_waits_for_17_children(rt: HostRuntime) -> Result<(), Fail> {
     let alloc = rt.alloc();
-    let mut spawns = String::from_str(alloc, "let x1 = spawn f(1); ")?;
-    let mut sum = String::from_str(alloc, "x1")?;
-    for i in 2..18 {
-        spawns.push_str(format!(in alloc; "let x{i} = spawn f({i}); ")?.as_str())?;
-        sum.push_str(format!(in alloc; " + x{i}")?.as_str())?;
-    }
+    let spawns = spawns(alloc)?;
+    let sum = sum(alloc)?;
     let script = format!(in alloc;
         "fn f(n) {{ return n; }} fn main() {{ {spawns}sync; print {sum}; return 0; }}"
     )?;

@@ -1,6 +1,6 @@
 // Which scripts are refused, and the longest and largest that are taken.
 
-use super::{ONE, PENDING_SYNCED, SQUARES, compare, plain, prints, refuses};
+use super::{ONE, PENDING_SYNCED, SQUARES, compare, plain, prints, refuses, same};
 use std::alloc::Global;
 use std::test::Fail;
 
@@ -137,8 +137,8 @@ fn fronts_of_a_script_are_refused(rt: HostRuntime) -> Result<(), Fail> {
     let script = SQUARES.as_bytes();
     for length in 0..script.len() {
         let told = plain(&rt, "run", &script[..length])?;
-        assert_eq!(rt; told.code, 3, "{length}");
-        assert_eq!(rt; told.out.as_str(), "", "{length}");
+        same(&rt, length, told.code, 3);
+        same(&rt, length, told.out.as_str(), "");
     }
     Ok(())
 }
