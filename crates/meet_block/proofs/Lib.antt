@@ -4,3 +4,4 @@ pub mod Kept
 pub mod Orders
 pub mod Places
 pub mod Rows
+pub mod Idles

@@ -3,3 +3,6 @@ pub mod Blocks
 pub mod Joined
 pub mod Rows
 pub mod RowLends
+pub mod Idle
+pub mod Ends
+pub mod Gives

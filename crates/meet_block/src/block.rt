@@ -6,11 +6,12 @@ ghost use Rattle.meet_block.specs.declared.view.Stage.TheVariants.{Open, Waiting
 ghost use Rattle.meet_block.specs.Counter.{parent, opened, given, closed, holds_party};
 ghost use Rattle.meet_block.specs.Blocks.{part, handed};
 
-use crate::give::{Counter, Give};
+use crate::give::Give;
 use crate::memory::Memory;
 use crate::room::Room;
 use crate::rule::{Closes, Hands, Looks, PlaceOf, TagOf, Takes};
 use crate::tagged::Tagged;
+use crate::tied::{Counter, Tied};
 use crate::view::View;
 use atomic_table::{Seat, Table};
 use std::alloc::Global;
@@ -150,7 +151,7 @@ impl<A: Tagged + Drop> Block<A> {
         let theirs = Arc::try_clone(counter)?;
         let room = Room::empty(alloc)?;
         let child = split::<A, Brand>(counter, &mut self.seat, tag);
-        let give = Give::of(theirs, child, self.given as usize, room);
+        let give = Give::tied(Tied::of(theirs, child, self.given as usize, room));
         self.given += 1;
         self.left += 1;
         if self.given == PLACES {

@@ -1,39 +1,23 @@
-ghost use Rattle.std.specs.Prelude.{◌≡◌, ◌+◌, ◌<◌, ◌≤◌, ◌++◌, ◌∷◌, [], length};
-ghost use Rattle.std.specs.Arc.{arc_value};
-ghost use Rattle.meet_block.specs.declared.view.Stage.TheVariants.{Owes, Arrived};
+ghost use Rattle.std.specs.Prelude.{◌≡◌};
 
-use crate::room::Room;
-use crate::rule::{Arrives, Claims, CounterRule};
 use crate::tagged::Tagged;
-use crate::view::View;
-use atomic_table::{Seat, Table};
-use std::alloc::Global;
+use crate::tied::{Put, Tied};
 use std::marker::Model;
-use std::sync::Arc;
-
-/// A join counter: the word, and the slots of the children's values.
-pub type Counter<A> = Table<
-    Option<Room<A>>,
-    View<<A as Tagged>::Key>,
-    <A as Tagged>::Key,
-    CounterRule<A>,
-    Global,
->;
+use std::snapshot::Snapshot;
 
 /// A child's end of a join: the right to give the parent one value. Contracts see it as its tag.
 ///
 /// A give that is dropped never arrives, so its join isn't ready before the parent drops it. A give is `Send` where the value is.
 #[derive(Drop)]
 pub struct Give<A: Tagged> {
-    counter: Arc<Counter<A>, Global>,
-    seat: Seat<Option<Room<A>>, View<A::Key>>,
-    place: usize,
-    // Made with the give, so that putting takes no memory.
-    room: Room<A>,
-    ghost here: { seat.table_id ≡ (arc_value counter).shared.table_id },
-    ghost sized: { (arc_value counter).shared.table_id.words ≡ 1 },
-    ghost owes: { (seat.me.0.stage ≡ Owes) × (seat.me.1 ≡ []) },
-    ghost placed: { place + 1 ≡ length seat.me.0.tags },
+    end: End<A>,
+}
+
+/// Whether the value goes to a counter, or nobody looks for it.
+#[derive(Drop)]
+enum End<A: Tagged> {
+    Tied(Tied<A>),
+    Alone(Snapshot<A::Key>),
 }
 
 /// What is left of a give that has put its value. Contracts see it as the give's tag.
@@ -42,41 +26,52 @@ pub struct Give<A: Tagged> {
 /// is.
 #[derive(Drop)]
 pub struct Arrived<A: Tagged> {
-    seat: Seat<Option<Room<A>>, View<A::Key>>,
-    ghost has_put: { (seat.me.0.stage ≡ Arrived) × (seat.me.1 ≡ []) },
+    left: Left<A>,
+}
+
+#[derive(Drop)]
+enum Left<A: Tagged> {
+    Tied(Put<A>),
+    Alone(Snapshot<A::Key>),
 }
 
 impl<A: Tagged> Model for Give<A> {
+    ghost use Rattle.meet_block.specs.Gives.{tag_of};
+
     ghost Value = { A.Key };
 
-    ghost view = { λ g. g.seat.me.0.own };
+    ghost view = { λ g. tag_of g.end };
 }
 
 impl<A: Tagged> Model for Arrived<A> {
+    ghost use Rattle.meet_block.specs.Gives.{tag_left};
+
     ghost Value = { A.Key };
 
-    ghost view = { λ a. a.seat.me.0.own };
+    ghost view = { λ a. tag_left a.left };
 }
 
 impl<A: Tagged + Drop> Give<A> {
-    pub(crate) fn of(
-        counter: Arc<Counter<A>, Global>,
-        seat: Seat<Option<Room<A>>, View<A::Key>>,
-        place: usize,
-        room: Room<A>,
-    ) -> Give<A>
-        requires here { seat.table_id ≡ (arc_value counter).shared.table_id }
-        requires sized { (arc_value counter).shared.table_id.words ≡ 1 }
-        requires owes { (seat.me.0.stage ≡ Owes) × (seat.me.1 ≡ []) }
-        requires placed { place + 1 ≡ length seat.me.0.tags }
-        ensures { result ≡ seat.me.0.own }
+    pub(crate) fn tied(tied: Tied<A>) -> Give<A>
+        ensures { result ≡ tied }
     {
         Give {
-            counter,
-            seat,
-            place,
-            room,
+            end: End::Tied(tied),
         }
+    }
+
+    /// A give for whose value nobody looks. It takes no memory, and a value that is put is dropped.
+    pub fn alone(tag: &A::Key) -> Give<A>
+        ensures { result ≡ tag.now }
+    {
+        Give {
+            end: End::Alone(Snapshot::of(tag)),
+        }
+    }
+
+    /// Whether nobody looks for its value.
+    pub fn is_alone(&self) -> bool {
+        matches!(self.end, End::Alone(_))
     }
 
     /// Puts the value, whose tag has to be the give's, and arrives. It takes no memory and doesn't wait.
@@ -84,20 +79,17 @@ impl<A: Tagged + Drop> Give<A> {
         requires { A.tag value ≡ self }
         ensures { result ≡ self }
     {
-        let Give {
-            counter,
-            mut seat,
-            place,
-            room,
-        } = self;
-        let shared = &counter.shared;
-        let room = room.filled(value);
-        shared.load::<Claims>(&mut seat, 0);
-        match shared.exchange(&mut seat, place, Some(room)) {
-            None => {}
-            Some(_) => unreachable!(),
+        let Give { end } = self;
+        match end {
+            End::Tied(tied) => Arrived {
+                left: Left::Tied(tied.put(value)),
+            },
+            End::Alone(tag) => {
+                drop(value);
+                Arrived {
+                    left: Left::Alone(tag),
+                }
+            }
         }
-        shared.fetch_sub::<Arrives>(&mut seat, 0, 1);
-        Arrived { seat }
     }
 }

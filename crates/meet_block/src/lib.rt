@@ -12,12 +12,16 @@
 
 mod block;
 mod blocks;
+mod counters;
 mod give;
+mod idle;
 mod join;
+mod log;
 mod memory;
 mod room;
 mod rule;
 mod tagged;
+mod tied;
 mod view;
 
 pub use give::{Arrived, Give};

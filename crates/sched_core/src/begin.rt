@@ -10,14 +10,14 @@ use crate::job::Job;
 use crate::node::Node;
 use crate::state::State;
 use crate::worker::Worker;
-use meet_block::Join;
+use meet_block::Give;
 use script_grammar::Items;
-use serial_meaning::{Answer, AnswerKey, Plan};
+use serial_meaning::{AnswerKey, Plan};
 use std::alloc::Global;
 use std::sync::Arc;
 use strand_machine::{Memory, Task};
 
-/// Main's task. Nobody waits for what it gives.
+/// Main's task. Nobody looks for what it gives, nor for what the tasks below it give: the core keeps their answers.
 #[tactic(auto, using(crate::proofs::Mains::main_known))]
 fn main_task(alloc: Global, plan: &Arc<Plan>) -> Result<Task, Memory>
     ensures { IfOk result (λ task. task ≡ fresh (arc_value plan.now) (main_origin (arc_value plan.now))) }
@@ -26,8 +26,7 @@ fn main_task(alloc: Global, plan: &Arc<Plan>) -> Result<Task, Memory>
         plan: Arc::try_clone(plan)?,
         origin: plan.main_origin(alloc)?,
     };
-    let mut join: Join<Answer> = Join::new(alloc)?;
-    let give = join.hand(alloc, &key)?;
+    let give = Give::alone(&key);
     let AnswerKey { plan, origin } = key;
     Ok(Task::start(alloc, plan, origin, give)?)
 }

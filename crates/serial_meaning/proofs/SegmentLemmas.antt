@@ -1,5 +1,5 @@
 -- Segments that follow segments.
-use Rattle.std.proofs.Common.{◌≡◌, ℕ, Option, zero, suc, ◌+◌, ◌-◌, ◌<◌, ◌≤◌, List, [], ◌∷◌, ◌++◌, Vec, length, drop, slice_get, get_or, refl, ap, sym, ◌∙◌, append_assoc, add-one, drop-cons, arith}
+use Rattle.std.proofs.Common.{◌≡◌, ℕ, Option, zero, suc, ◌+◌, ◌-◌, ◌<◌, ◌≤◌, List, [], ◌∷◌, ◌++◌, Vec, length, drop, slice_get, get_or, refl, ap, sym, ◌∙◌, append_assoc, append-nil, add-one, drop-cons, arith}
 use Rattle.std.proofs.Math.ListN.{drop_of_length-le}
 use Rattle.std.specs.declared.alloc.Global.{Global}
 use Rattle.serial_meaning.specs.declared.event.Event.{Event}
@@ -13,6 +13,10 @@ joined_append (x ∷ xs) ys = ap (λ l. x.items ++ l) (joined_append xs ys) ∙ 
 pub joined_after : (old others : List (Vec Event Global)) (front : Vec Event Global) (last : List Event)
     → joined ((old ++ front ∷ []) ++ others) ++ last ≡ (joined old ++ front.items) ++ (joined others ++ last)
 joined_after old others front last = simp (joined_append, append_assoc)
+
+-- The last segment is closed, and an empty one comes after it.
+pub joined_next : (old : List (Vec Event Global)) (front : Vec Event Global) → joined (old ++ front ∷ []) ++ [] ≡ joined old ++ front.items
+joined_next old front = simp (joined_append, append_assoc, append-nil)
 
 pub slice_get-front : {X : Type 0} (xs ys : List X) (i : ℕ) → i < length xs → slice_get (xs ++ ys) i ≡ slice_get xs i
 slice_get-front [] ys i h = absurd (omega arith)

@@ -1,7 +1,9 @@
 -- Segments of events, one after another. A list of events is kept so that none is copied; the form is this project's own.
-use Rattle.std.specs.Prelude.{List, [], ◌∷◌, ◌++◌, Vec, Option, Some, None}
+use Rattle.std.specs.Prelude.{List, [], ◌∷◌, ◌++◌, Vec}
 use Rattle.std.specs.declared.alloc.Global.{Global}
 use Rattle.serial_meaning.specs.declared.event.Event.{Event}
+use Rattle.serial_meaning.specs.declared.out.Kept.{Kept}
+use Rattle.serial_meaning.specs.declared.out.Kept.TheVariants.{Nothing, One, Listed}
 use Rattle.serial_meaning.specs.declared.out.Segments.{Segments}
 
 abbrev pub joined : List (Vec Event Global) → List Event
@@ -11,6 +13,7 @@ joined (segment ∷ segments) = segment.items ++ joined segments
 abbrev pub segments_events : Segments → List Event
 segments_events s = joined s.full.items ++ s.last.items
 
-abbrev pub all_events : Option Segments → List Event
-all_events None = []
-all_events (Some s) = segments_events s
+abbrev pub kept_events : Kept → List Event
+kept_events Nothing = []
+kept_events (One _ event) = event ∷ []
+kept_events (Listed s) = segments_events s

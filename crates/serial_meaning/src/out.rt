@@ -1,28 +1,42 @@
-ghost use Rattle.std.specs.Prelude.{◌≡◌, [], ◌∷◌, ◌++◌, length, OnOk, OnErr, slice_get, option_copied, IfSome, IfNone};
+ghost use Rattle.std.specs.Prelude.{◌≡◌, [], ◌∷◌, ◌++◌, length, OnOk, OnErr, slice_get, option_copied, IfSome, IfNone, IfErr};
 ghost use Rattle.serial_meaning.specs.Segments.{joined};
 
 use crate::event::Event;
 use crate::memory::Memory;
 use std::alloc::Global;
 use std::marker::Model;
-use std::mem;
+use std::{mem, slice};
 
 /// How many events are moved at most where a list is put after another one.
 const MOST_MOVED: usize = 8;
 
-/// For how many events a list takes memory at its first one. Most lists come to so few.
-const FIRST_ROOM: usize = 4;
+/// For how many events a list takes memory where a second one comes. Most lists come to so few.
+const FIRST_ROOM: usize = 5;
 
-/// A list of events. It is kept in segments, which are moved and not copied where a list of more than a few events is put after another one.
+/// How many events a segment has room for at most, but for those that were put before its first one.
+const MOST_ROOM: usize = 12;
+
+/// A list of events. One alone stands in place. More are kept in segments, which are moved and not copied where a list of more than a few events is put
+/// after another one.
 #[derive(Drop)]
 pub struct Out {
     count: u64,
-    segments: Option<Segments>,
+    kept: Kept,
+}
+
+/// Where the events stand.
+#[derive(Drop)]
+enum Kept {
+    Nothing,
+    /// One alone, and what takes memory when others come to it.
+    One(Global, Event),
+    Listed(Segments),
 }
 
 /// Full segments, and the last one, which grows.
 #[derive(Drop)]
 struct Segments {
+    alloc: Global,
     full: Vec<Vec<Event>>,
     last: Vec<Event>,
 }
@@ -30,13 +44,13 @@ struct Segments {
 impl Model for Out {
     ghost use Rattle.std.specs.Prelude.{◌≡◌, List, length};
     ghost use Rattle.serial_meaning.specs.declared.event.Event.{Event};
-    ghost use Rattle.serial_meaning.specs.Segments.{all_events};
+    ghost use Rattle.serial_meaning.specs.Segments.{kept_events};
 
     ghost Value = { List Event };
 
-    ghost view = { λ o. all_events o.segments };
+    ghost view = { λ o. kept_events o.kept };
 
-    ghost invariant = { λ o. o.count ≡ length (all_events o.segments) };
+    ghost invariant = { λ o. o.count ≡ length (kept_events o.kept) };
 }
 
 impl Out {
@@ -46,7 +60,7 @@ impl Out {
     {
         Out {
             count: 0,
-            segments: None,
+            kept: Kept::Nothing,
         }
     }
 
@@ -56,17 +70,7 @@ impl Out {
         ensures err { OnErr result (self.new ≡ self.old) }
     {
         let count = self.count.checked_add(1).ok_or(Memory)?;
-        match &mut self.segments {
-            Some(segments) => segments.last.push(event)?,
-            None => {
-                let mut last = Vec::with_capacity(alloc, FIRST_ROOM)?;
-                last.push(event)?;
-                self.segments = Some(Segments {
-                    full: Vec::new(alloc),
-                    last,
-                });
-            }
-        }
+        self.kept.push(alloc, event)?;
         self.count = count;
         Ok(())
     }
@@ -77,17 +81,9 @@ impl Out {
         ensures ok { OnOk result (self.new ≡ self.old ++ other) }
         ensures err { OnErr result (self.new ≡ self.old) }
     {
-        let Out {
-            count: more,
-            segments,
-        } = other;
+        let Out { count: more, kept } = other;
         let count = self.count.checked_add(more).ok_or(Memory)?;
-        if let Some(others) = segments {
-            match &mut self.segments {
-                Some(segments) => segments.append(others)?,
-                None => self.segments = Some(others),
-            }
-        }
+        self.kept.append(kept)?;
         self.count = count;
         Ok(())
     }
@@ -103,9 +99,10 @@ impl Out {
     pub fn get(&self, i: u64) -> Option<&Event>
         ensures { option_copied result ≡ slice_get self.now i }
     {
-        match &self.segments {
-            Some(segments) => segments.get(i),
-            None => None,
+        match &self.kept {
+            Kept::Nothing => None,
+            Kept::One(_, event) => event_at(slice::from_ref(event), i),
+            Kept::Listed(segments) => segments.get(i),
         }
     }
 
@@ -114,15 +111,127 @@ impl Out {
         ensures some { IfSome result (λ parts. joined parts.0.now ++ parts.1.now ≡ self.now) }
         ensures none { IfNone result (self.now ≡ []) }
     {
-        match &self.segments {
-            Some(segments) => Some((segments.full.as_slice(), segments.last.as_slice())),
-            None => None,
+        match &self.kept {
+            Kept::Nothing => None,
+            Kept::One(_, event) => Some((&[], slice::from_ref(event))),
+            Kept::Listed(segments) => Some((segments.full.as_slice(), segments.last.as_slice())),
+        }
+    }
+}
+
+impl Kept {
+    ghost use Rattle.serial_meaning.specs.Segments.{kept_events, segments_events};
+
+    fn push(&mut self, alloc: Global, event: Event) -> Result<(), Memory>
+        ensures ok { OnOk result (kept_events self.new ≡ kept_events self.old ++ event ∷ []) }
+        ensures err { OnErr result (kept_events self.new ≡ kept_events self.old) }
+    {
+        match self {
+            Kept::Nothing => {
+                *self = Kept::One(alloc, event);
+                Ok(())
+            }
+            Kept::One(_, _) => {
+                let mut both = Vec::with_capacity(alloc, FIRST_ROOM)?;
+                let Kept::One(_, first) = mem::replace(self, Kept::Nothing) else {
+                    unreachable!()
+                };
+                both.push_reserved(first);
+                both.push_reserved(event);
+                *self = Kept::Listed(Segments {
+                    alloc,
+                    full: Vec::new(alloc),
+                    last: both,
+                });
+                Ok(())
+            }
+            Kept::Listed(segments) => segments.push(event),
+        }
+    }
+
+    fn append(&mut self, others: Kept) -> Result<(), Memory>
+        ensures ok { OnOk result (kept_events self.new ≡ kept_events self.old ++ kept_events others) }
+        ensures err { OnErr result (kept_events self.new ≡ kept_events self.old) }
+    {
+        match others {
+            Kept::Nothing => Ok(()),
+            Kept::One(alloc, event) => self.push(alloc, event),
+            Kept::Listed(segments) => self.append_list(segments),
+        }
+    }
+
+    /// Puts these events at the end. One that stands alone here goes to their front, so that they stay where they are.
+    fn append_list(&mut self, mut others: Segments) -> Result<(), Memory>
+        ensures ok { OnOk result (kept_events self.new ≡ kept_events self.old ++ segments_events others) }
+        ensures err { OnErr result (kept_events self.new ≡ kept_events self.old) }
+    {
+        match self {
+            Kept::Nothing => {
+                *self = Kept::Listed(others);
+                Ok(())
+            }
+            Kept::One(_, _) => {
+                let Kept::One(alloc, event) = mem::replace(self, Kept::Nothing) else {
+                    unreachable!()
+                };
+                match others.put_first(event) {
+                    Ok(()) => {
+                        *self = Kept::Listed(others);
+                        Ok(())
+                    }
+                    Err(event) => {
+                        *self = Kept::One(alloc, event);
+                        Err(Memory)
+                    }
+                }
+            }
+            Kept::Listed(segments) => segments.append(others),
         }
     }
 }
 
 impl Segments {
     ghost use Rattle.serial_meaning.specs.Segments.{segments_events};
+
+    /// Room for so many more events at the end: in the last segment, or in a new one where that has grown enough.
+    #[tactic(auto, using(crate::proofs::SegmentLemmas::joined_next))]
+    fn make_room(&mut self, more: usize) -> Result<(), Memory>
+        ensures { segments_events self.new ≡ segments_events self.old }
+    {
+        if more <= self.last.capacity().saturating_sub(self.last.len()) {
+            return Ok(());
+        }
+        if self.last.capacity() <= MOST_ROOM / 2 {
+            self.last.try_reserve(more)?;
+            return Ok(());
+        }
+        self.full.try_reserve(1)?;
+        let next = Vec::with_capacity(self.alloc, MOST_ROOM)?;
+        let front = mem::replace(&mut self.last, next);
+        self.full.push_reserved(front);
+        Ok(())
+    }
+
+    fn push(&mut self, event: Event) -> Result<(), Memory>
+        ensures ok { OnOk result (segments_events self.new ≡ segments_events self.old ++ event ∷ []) }
+        ensures err { OnErr result (segments_events self.new ≡ segments_events self.old) }
+    {
+        self.make_room(1)?;
+        self.last.push(event)?;
+        Ok(())
+    }
+
+    /// Puts an event before all others, or gives it back where there is no memory.
+    fn put_first(&mut self, event: Event) -> Result<(), Event>
+        ensures ok { OnOk result (segments_events self.new ≡ event ∷ segments_events self.old) }
+        ensures err { IfErr result (λ back. back ≡ event) }
+    {
+        if self.full.is_empty() {
+            put_first(&mut self.last, event)
+        } else {
+            put_first(&mut self.full[0], event)
+        }
+    }
 
     /// Puts the other segments after these, whose last one grows no more. A few events are moved to the end of that one, so that
     /// there are fewer segments to go on with.
@@ -142,8 +251,8 @@ impl Segments {
         ensures ok { OnOk result (segments_events self.new ≡ segments_events self.old ++ events.items) }
         ensures err { OnErr result (segments_events self.new ≡ segments_events self.old) }
     {
-        self.last.try_reserve(events.len())?;
-        self.last.append(&mut events).unwrap();
+        self.make_room(events.len())?;
+        self.last.append(&mut events)?;
         Ok(())
     }
 
@@ -153,7 +262,7 @@ impl Segments {
         ensures ok { OnOk result (segments_events self.new ≡ segments_events self.old ++ segments_events others) }
         ensures err { OnErr result (segments_events self.new ≡ segments_events self.old) }
     {
-        let Segments { mut full, last } = others;
+        let Segments { mut full, last, .. } = others;
         self.full.try_reserve(full.len().saturating_add(1))?;
         let front = mem::replace(&mut self.last, last);
         self.full.push(front).unwrap();
@@ -173,6 +282,16 @@ impl Segments {
             left -= count;
         }
         event_at(&self.last, left)
+    }
+}
+
+fn put_first(events: &mut Vec<Event>, event: Event) -> Result<(), Event>
+    ensures ok { OnOk result (events.new.items ≡ event ∷ events.old.items) }
+    ensures err { IfErr result (λ back. (back ≡ event) × (events.new.items ≡ events.old.items)) }
+{
+    match events.insert(0, event) {
+        Ok(()) => Ok(()),
+        Err(failed) => Err(failed.value),
     }
 }
 

@@ -8,15 +8,17 @@ ghost use Rattle.serial_runner.specs.Stacks.{AreBelow, IsAnswerOf, IsStack, Adva
 use crate::frames::{Frame, Frames};
 use crate::kept::beside;
 use crate::stack::{Advanced, Stack};
+use script_grammar::Items;
 use serial_meaning::Answer;
 use std::alloc::Global;
 use strand_machine::{Memory, Stop, is_fault};
 
-/// The answer of a task that has ended goes to the one below it.
-fn answered(answer: Answer, mut below: Frames) -> Result<Advanced, Memory>
+/// The answer of a task that has ended goes to the one below it. The list of the answers that it took is of use again.
+fn answered(answer: Answer, taken: Items<Answer>, mut below: Frames) -> Result<Advanced, Memory>
     ensures parent { (f : Frame) (fs : List Frame) → below ≡ f ∷ fs → IfOk result (λ advanced. advanced ≡ Advanced.Goes (with_answer answer f fs)) }
     ensures last { below ≡ [] → IfOk result (λ advanced. advanced ≡ Advanced.Ends answer) }
 {
+    below.spare(taken);
     match below.pop() {
         Some(mut top) => {
             if top.answers.as_slice().is_empty() {
@@ -63,12 +65,12 @@ pub(crate) fn advance(stack: Stack, alloc: Global) -> Result<Advanced, Memory>
                 answers,
             };
             let (child, ()) = beside(child, below.push(parent))?;
-            let top = Frame::of(alloc, child);
+            let top = below.frame(alloc, child);
             Ok(Advanced::Goes(Stack { top, below }))
         }
         Stop::Wait { rest } => {
-            let task = rest.resume_with(alloc, answers)?;
-            let top = Frame::of(alloc, task);
+            let (task, answers) = rest.resume_by(alloc, answers)?;
+            let top = Frame { task, answers };
             Ok(Advanced::Goes(Stack { top, below }))
         }
         Stop::Done { answer, give } => {
@@ -77,7 +79,7 @@ pub(crate) fn advance(stack: Stack, alloc: Global) -> Result<Advanced, Memory>
                 let last = end_all(alloc, answer, below)?;
                 return Ok(Advanced::Ends(last));
             }
-            answered(answer, below)
+            answered(answer, answers, below)
         }
     }
 }

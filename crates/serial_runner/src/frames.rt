@@ -13,22 +13,12 @@ pub(crate) struct Frame {
     pub answers: Items<Answer>,
 }
 
-impl Frame {
-    /// A task that has no answer yet.
-    pub fn of(alloc: Global, task: Task) -> Frame
-        ensures { result ≡ record { task = task; answers = [] } }
-    {
-        Frame {
-            task,
-            answers: Items(Vec::new(alloc)),
-        }
-    }
-}
-
-/// Frames of which the last one is taken first. Contracts see them in the order in which they will be taken.
+/// Frames of which the last one is taken first. Contracts see them in the order in which they will be taken. The lists of answers that frames no longer
+/// need are kept for the next ones, since most tasks want one.
 #[derive(Drop)]
 pub(crate) struct Frames {
     frames: Vec<Frame>,
+    spare: Vec<Items<Answer>>,
 }
 
 impl Model for Frames {
@@ -52,6 +42,32 @@ impl Frames {
     {
         Frames {
             frames: Vec::new(alloc),
+            spare: Vec::new(alloc),
+        }
+    }
+
+    /// The frame of a task that has no answer yet.
+    pub fn frame(&mut self, alloc: Global, task: Task) -> Frame
+        ensures frame { result ≡ record { task = task; answers = [] } }
+        ensures same { self.new ≡ self.old }
+    {
+        let answers = match self.spare.pop() {
+            Some(mut answers) => {
+                answers.0.clear();
+                answers
+            }
+            None => Items(Vec::new(alloc)),
+        };
+        Frame { task, answers }
+    }
+
+    /// Keeps a list that is no longer needed, where there is room for it.
+    pub fn spare(&mut self, answers: Items<Answer>)
+        ensures { self.new ≡ self.old }
+    {
+        match self.spare.push(answers) {
+            Ok(()) => {}
+            Err(failed) => drop(failed),
         }
     }
 

@@ -8,16 +8,16 @@ ghost use Rattle.strand_machine.specs.Tasks.{fresh};
 ghost use Rattle.serial_runner.specs.Stacks.{IsStack, root};
 
 use crate::advance::advance;
-use crate::frames::{Frame, Frames};
+use crate::frames::Frames;
 use crate::stack::{Advanced, Stack};
-use meet_block::Join;
+use meet_block::Give;
 use serial_meaning::{Answer, AnswerKey, Origin, Plan};
 use std::alloc::Global;
 use std::sync::Arc;
 use strand_machine::{Memory, Task};
 use strand_meaning::laws;
 
-/// A task of the origin. Nobody waits for what it gives.
+/// A task of the origin. Nobody looks for what it gives, nor for what the tasks below it give: their answers are taken as they come.
 pub(crate) fn begin_task(alloc: Global, plan: &Arc<Plan>, origin: Origin) -> Result<Task, Memory>
     requires { IsOriginOf (arc_value plan.now) origin }
     ensures { IfOk result (λ task. task ≡ fresh (arc_value plan.now) origin) }
@@ -26,8 +26,7 @@ pub(crate) fn begin_task(alloc: Global, plan: &Arc<Plan>, origin: Origin) -> Res
         plan: Arc::try_clone(plan)?,
         origin,
     };
-    let mut join: Join<Answer> = Join::new(alloc)?;
-    let give = join.hand(alloc, &key)?;
+    let give = Give::alone(&key);
     let AnswerKey { plan, origin } = key;
     Ok(Task::start(alloc, plan, origin, give)?)
 }
@@ -42,10 +41,9 @@ pub(crate) fn begin(alloc: Global, plan: &Arc<Plan>, origin: Origin) -> Result<S
     laws::valid_plans_are_clear();
     laws::tasks_begin();
     let task = begin_task(alloc, plan, origin)?;
-    Ok(Stack {
-        top: Frame::of(alloc, task),
-        below: Frames::new(alloc),
-    })
+    let mut below = Frames::new(alloc);
+    let top = below.frame(alloc, task);
+    Ok(Stack { top, below })
 }
 
 /// Runs an origin of the plan on this thread. A child is run to its end before the rest of the task that handed it out, so that all

@@ -68,12 +68,18 @@ impl Family {
         requires loops { IsLoops (arc_value plan) origin loops }
         ensures { IfOk result (λ family. family ≡ alone (arc_value plan) origin (knows_of loops)) }
     {
+        // Who runs a task for whose value nobody looks takes the values of its children by himself, too.
+        let join = if give.is_alone() {
+            Join::idle()
+        } else {
+            Join::new(alloc)?
+        };
         Ok(Family {
             plan,
             origin,
             loops,
             give,
-            join: Join::new(alloc)?,
+            join,
         })
     }
 

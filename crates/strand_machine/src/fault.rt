@@ -42,7 +42,7 @@ impl Task {
         let mut answers = answers;
         answers.0.push(last)?;
         let Task { mut parts } = self;
-        go_on(&mut parts, alloc, answers)?;
+        drop(go_on(&mut parts, alloc, answers)?);
         let Parts { body, work } = Box::into_inner(parts);
         let Body {
             family,

@@ -84,24 +84,26 @@ fn go_on_work(work: Work) -> Result<Work, Memory>
     }
 }
 
-/// Takes the answers of all awaited children, in order.
+/// Takes the answers of all awaited children, in order. Their list comes back, and keeps its room.
 fn take_all(
     going: &mut Going,
     alloc: Global,
     behind: Vec<Behind>,
     answers: Items<Answer>,
-) -> Result<(), Memory>
+) -> Result<Items<Answer>, Memory>
     requires { length answers ≡ length behind.items }
-    ensures { let told = answer_tags answers in OnOk result (TakesAnswers (parts_of (origins told) behind.items) answers going.old going.new) }
+    ensures takes { let told = answer_tags answers in OnOk result (TakesAnswers (parts_of (origins told) behind.items) answers going.old going.new) }
+    ensures none { IfOk result (λ left. left ≡ []) }
 {
-    let mut answers = answers.0.into_iter();
+    let mut left = answers.0;
+    left.reverse();
     for part in behind {
-        let Some(answer) = answers.next() else {
+        let Some(answer) = left.pop() else {
             unreachable!()
         };
         going.take(alloc, part, answer)?;
     }
-    Ok(())
+    Ok(Items(left))
 }
 
 /// What a task ends by that took a cut.
@@ -138,12 +140,17 @@ fn cut_short(parts: &mut Parts, alloc: Global, going: Going)
     set(&mut parts.work, Work::Cut(outcome));
 }
 
-/// The task with its children's answers.
-pub(crate) fn go_on(parts: &mut Parts, alloc: Global, answers: Items<Answer>) -> Result<(), Memory>
+/// The task with its children's answers, whose list comes back.
+pub(crate) fn go_on(
+    parts: &mut Parts,
+    alloc: Global,
+    answers: Items<Answer>,
+) -> Result<Items<Answer>, Memory>
     requires sound { IsAnswered parts.old.body parts.old.work }
     requires tags { answer_tags answers ≡ tags parts.old.body.family.plan (awaited parts.old.body.pieces.handed) }
     ensures went { OnOk result (WentOn answers (view_of parts.old.body parts.old.work) (view_of parts.new.body parts.new.work)) }
     ensures answers { OnOk result (AreAnswersOf parts.old.body.family.plan parts.old.body.pieces.handed answers) }
+    ensures none { IfOk result (λ left. left ≡ []) }
     ensures holds { OnOk result (Holds parts.new.body parts.new.work) }
 {
     laws::answers_keep_tasks();
@@ -167,16 +174,16 @@ pub(crate) fn go_on(parts: &mut Parts, alloc: Global, answers: Items<Answer>) ->
         cut: false,
         by_cut: false,
     };
-    match take_all(&mut going, alloc, behind, answers) {
-        Ok(()) => {}
+    let left = match take_all(&mut going, alloc, behind, answers) {
+        Ok(left) => left,
         Err(memory) => {
             drop(going);
             return Err(memory);
         }
-    }
+    };
     if going.cut {
         cut_short(parts, alloc, going);
-        return Ok(());
+        return Ok(left);
     }
     let Going {
         told,
@@ -197,10 +204,10 @@ pub(crate) fn go_on(parts: &mut Parts, alloc: Global, answers: Items<Answer>) ->
             set(&mut parts.body.values, values);
             parts.body.waiting = false;
             set(&mut parts.work, work);
-            Ok(())
+            Ok(left)
         }
         Err(memory) => {
-            drop((pieces, values));
+            drop((pieces, values, left));
             Err(memory)
         }
     }
@@ -217,7 +224,7 @@ fn look_on(parts: &mut Parts, alloc: Global) -> Result<bool, Memory>
         Look::Ready => {
             let awaited = parts.body.pieces.awaited().as_slice().len() as u64;
             let answers = take_answers(&mut parts.body.family, alloc, awaited)?;
-            go_on(parts, alloc, answers)?;
+            drop(go_on(parts, alloc, answers)?);
             Ok(true)
         }
     }
@@ -244,8 +251,24 @@ impl Task {
         requires tags { answer_tags answers ≡ tags self.task.plan (awaited self.task.pieces.handed) }
         ensures { IfOk result (WentOn answers self) }
     {
+        let (task, left) = self.resume_by(alloc, answers)?;
+        drop(left);
+        Ok(task)
+    }
+
+    /// The same, by which the answers' list comes back empty, and keeps its room.
+    pub fn resume_by(
+        self,
+        alloc: Global,
+        answers: Items<Answer>,
+    ) -> Result<(Task, Items<Answer>), Memory>
+        requires waits { self.task.waiting ≡ true }
+        requires tags { answer_tags answers ≡ tags self.task.plan (awaited self.task.pieces.handed) }
+        ensures went { IfOk result (λ resumed. WentOn answers self resumed.0) }
+        ensures none { IfOk result (λ resumed. resumed.1 ≡ []) }
+    {
         let Task { mut parts } = self;
-        go_on(&mut parts, alloc, answers)?;
-        Ok(Task { parts })
+        let left = go_on(&mut parts, alloc, answers)?;
+        Ok((Task { parts }, left))
     }
 }

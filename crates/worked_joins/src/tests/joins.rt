@@ -101,6 +101,21 @@ fn take_64(rt: &impl Abort, join: &mut Join<Square>)
 }
 
 #[test]
+fn nobody_looks_for_a_give_that_is_alone(rt: HostRuntime) -> Result<(), Memory> {
+    let alloc = rt.alloc();
+    let mut join: Join<Square> = Join::idle();
+    same(&rt, "no child", join.look(), Look::Ready);
+    let give = join.hand(alloc, &5)?;
+    assert!(rt; give.is_alone());
+    same(&rt, "one", join.count(), 1);
+    give.put(square_of(5));
+    same(&rt, "it has put, and nobody knows", join.look(), Look::NotYet(1));
+    assert!(rt; !Join::<Square>::new(alloc)?.hand(alloc, &6)?.is_alone());
+    Give::<Square>::alone(&7).put(square_of(7));
+    Ok(())
+}
+
+#[test]
 fn values_are_taken_by_number(rt: HostRuntime) -> Result<(), Memory> {
     let alloc = rt.alloc();
     let mut join: Join<Square> = Join::new(alloc)?;

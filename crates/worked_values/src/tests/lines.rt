@@ -123,7 +123,24 @@ fn a_long_list_is_appended_without_a_copy(rt: HostRuntime) -> Result<(), Fail> {
         &rt,
         "segments",
         lengths.as_slice(),
-        [20usize, 12].as_slice(),
+        [10usize, 10, 10, 2].as_slice(),
+    );
+    Ok(())
+}
+
+#[test]
+fn one_event_goes_before_a_list_that_stays(rt: HostRuntime) -> Result<(), Fail> {
+    let mut all = objects(rt.alloc(), 0..1)?;
+    all.append(objects(rt.alloc(), 1..20)?)?;
+    same(&rt, "length", all.len(), 20);
+    for i in 0u64..20 {
+        same(&rt, i, rank_of(&all, i), Some(i));
+    }
+    same(
+        &rt,
+        "segments",
+        lengths(rt.alloc(), &all)?.as_slice(),
+        [11usize, 9].as_slice(),
     );
     Ok(())
 }

@@ -3,22 +3,22 @@ use Rattle.serial_runner.proofs.Noting.{made}
 use Rattle.serial_runner.proofs.Advancing.{stopped, went_whole, spawned, waits, has_answers, went_up, known_fault, answer_below, all_ended, ended}
 use Rattle.serial_runner.proofs.advance.advance.Goals as goal
 
-pub resume_with-requires-clause-waits : goal.resume_with-requires-clause-waits
-resume_with-requires-clause-waits c = waits c.args.stack c.requires c.in-Wait.rest (stopped _ _ c.requires.top.goes_on (rw c.in-Wait.is at c.in_ok-stop.ensures))
+pub resume_by-requires-clause-waits : goal.resume_by-requires-clause-waits
+resume_by-requires-clause-waits c = waits c.args.stack c.requires c.in-Wait.rest (stopped _ _ c.requires.top.goes_on (rw c.in-Wait.is at c.in_ok-stop.ensures))
 
-pub resume_with-requires-clause-tags : goal.resume_with-requires-clause-tags
-resume_with-requires-clause-tags c = has_answers c.args.stack c.requires c.in-Wait.rest (stopped _ _ c.requires.top.goes_on (rw c.in-Wait.is at c.in_ok-stop.ensures))
+pub resume_by-requires-clause-tags : goal.resume_by-requires-clause-tags
+resume_by-requires-clause-tags c = has_answers c.args.stack c.requires c.in-Wait.rest (stopped _ _ c.requires.top.goes_on (rw c.in-Wait.is at c.in_ok-stop.ensures))
 
 pub returns-in_ok-child-in-Spawn : goal.returns-in_ok-child-in-Spawn
 returns-in_ok-child-in-Spawn c =
     let k = c.in_ok-child-in-Spawn.ensures in
-    spawned c.args.stack c.requires c.in-Spawn.child c.in-Spawn.rest (stopped _ _ c.requires.top.goes_on (rw c.in-Spawn.is at c.in_ok-stop.ensures)) _ _ (c.of-top.ensures ∙ ap (λ task. record { task = task; answers = [] }) k.0)
-    (made (λ _. c.push.new.self ≡ _ ∷ _) _ _ k.1 c.push.ensures)
+    spawned c.args.stack c.requires c.in-Spawn.child c.in-Spawn.rest (stopped _ _ c.requires.top.goes_on (rw c.in-Spawn.is at c.in_ok-stop.ensures)) _ _ (c.frame-top.ensures.frame ∙ ap (λ task. record { task = task; answers = [] }) k.0)
+    (c.frame-top.ensures.same ∙ made (λ _. c.push.new.self ≡ _ ∷ _) _ _ k.1 c.push.ensures)
 
 pub returns-in_ok-task-in-Wait : goal.returns-in_ok-task-in-Wait
 returns-in_ok-task-in-Wait c =
-    went_up c.args.stack c.requires c.in-Wait.rest (stopped _ _ c.requires.top.goes_on (rw c.in-Wait.is at c.in_ok-stop.ensures)) _ c.in_ok-task-in-Wait.task c.of-top-in-Wait.ensures
-    (went_whole c.args.stack.top.answers c.in-Wait.rest c.in_ok-task-in-Wait.task c.requires.top.whole c.in_ok-task-in-Wait.ensures)
+    went_up c.args.stack c.requires c.in-Wait.rest (stopped _ _ c.requires.top.goes_on (rw c.in-Wait.is at c.in_ok-stop.ensures)) _ c.in_ok-task-in-Wait.task (ap (λ left. record { task = c.in_ok-task-in-Wait.task; answers = left }) c.in_ok-task-in-Wait.ensures.none)
+    (went_whole c.args.stack.top.answers c.in-Wait.rest c.in_ok-task-in-Wait.task c.requires.top.whole c.in_ok-task-in-Wait.ensures.went)
 
 pub end_all-requires-clause-known : goal.end_all-requires-clause-known
 end_all-requires-clause-known c = known_fault c.args.stack c.requires c.in-Done.answer c.in-Done.give (stopped _ _ c.requires.top.goes_on (rw c.in-Done.is at c.in_ok-stop.ensures))

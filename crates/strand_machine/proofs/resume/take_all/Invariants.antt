@@ -1,4 +1,4 @@
-use Rattle.std.proofs.Common.{◌≡◌, length}
+use Rattle.std.proofs.Common.{◌≡◌, length, reverse}
 use Rattle.std.specs.Vec.Iter.{into_iter_items, into_iter_len}
 use Rattle.strand_machine.specs.Family.{origins}
 use Rattle.strand_machine.specs.Going.{TakesAnswers}
@@ -7,14 +7,13 @@ use Rattle.strand_machine.specs.Stops.{answer_tags}
 use Rattle.strand_machine.specs.declared.going.Going.{Going}
 use Rattle.strand_machine.proofs.resume.take_all.Given as goal
 
--- whoever takes the answers that are left has taken all
+-- whoever takes the answers that are left, the last one first, has taken all
 abbrev pub invariant-loop-part : goal.invariant-loop-part
 invariant-loop-part l =
     let all = answer_tags l.fn.answers in
-    let left = answer_tags (into_iter_items l.answers) in
+    let rest = reverse l.left.items in
     record {
-      answers : into_iter_len l.answers ≡ length (into_iter_items l.answers);
       parts : into_iter_len l.part-iterator ≡ length (into_iter_items l.part-iterator);
-      same : length (into_iter_items l.answers) ≡ length (into_iter_items l.part-iterator);
-      takes : (after : Going) → TakesAnswers (parts_of (origins left) (into_iter_items l.part-iterator)) (into_iter_items l.answers) l.going after → TakesAnswers (parts_of (origins all) l.fn.behind.items) l.fn.answers l.initial.going after;
+      same : length l.left.items ≡ length (into_iter_items l.part-iterator);
+      takes : (after : Going) → TakesAnswers (parts_of (origins (answer_tags rest)) (into_iter_items l.part-iterator)) rest l.going after → TakesAnswers (parts_of (origins all) l.fn.behind.items) l.fn.answers l.initial.going after;
     }

@@ -1,0 +1,27 @@
+use Rattle.std.proofs.Common.{◌≡◌, sym, ap, ◌∙◌, subst}
+use Rattle.strand_machine.specs.Family.{tags}
+use Rattle.strand_machine.specs.Going.{IsAnswered}
+use Rattle.strand_machine.specs.Parts.{awaited}
+use Rattle.strand_machine.specs.Stops.{WentOn, answer_tags}
+use Rattle.strand_machine.specs.Tasks.{TaskView, view_of}
+use Rattle.strand_machine.specs.declared.parts.Parts.{Parts}
+use Rattle.strand_machine.proofs.Advancing.{waits-sound}
+use Rattle.strand_machine.proofs.Taking.{answered-sound}
+use Rattle.strand_machine.proofs.task.Task.resume_by.Goals as goal
+
+pub go_on-requires-clause-sound : goal.go_on-requires-clause-sound
+go_on-requires-clause-sound c =
+    let p = c.self.inside.parts.value in
+    subst (λ (q : Parts). IsAnswered q.body q.work) (sym c.deref_mut.ensures.value)
+    (answered-sound p.body p.work (waits-sound p.body p.work c.args.self c.self.view_is c.requires.waits c.self.invariant))
+
+pub go_on-requires-clause-tags : goal.go_on-requires-clause-tags
+go_on-requires-clause-tags c =
+    let same = ap (λ (q : Parts). view_of q.body q.work) c.deref_mut.ensures.value ∙ c.self.view_is in
+    subst (λ (t : TaskView). answer_tags c.args.answers ≡ tags t.task.plan (awaited t.task.pieces.handed)) (sym same) c.requires.tags
+
+pub returns-clause-went : goal.returns-clause-went
+returns-clause-went c =
+    let same = ap (λ (q : Parts). view_of q.body q.work) c.deref_mut.ensures.value ∙ c.self.view_is in
+    let after = c.go_on.new.parts in
+    subst (λ (t : TaskView). WentOn c.args.answers t (view_of after.body after.work)) same c.in_ok-left.ensures.went
