@@ -18,12 +18,12 @@ use Rattle.script_check.specs.Walk.{IsIndex}
 use Rattle.script_check.proofs.Noted.{noted_append}
 use Rattle.script_check.proofs.Reading.{at_index}
 
-abbrev or_else : Option ℕ → Option ℕ → Option ℕ
+abbrev pub or_else : Option ℕ → Option ℕ → Option ℕ
 or_else None o = o
 or_else (Some k) o = Some k
 
 -- the first of a name where one function stands after the others
-snoc : (fs : List Function) (f : Function) (q : List ℕ) → first_named (fs ++ f ∷ []) q ≡ or_else (first_named fs q) (if bytes_eq f.name.bytes q then Some (length fs) else None)
+pub snoc : (fs : List Function) (f : Function) (q : List ℕ) → first_named (fs ++ f ∷ []) q ≡ or_else (first_named fs q) (if bytes_eq f.name.bytes q then Some (length fs) else None)
 snoc [] f q = alone (bytes_eq f.name.bytes q)
   where
     alone : (b : Bool) → cond b (Some 0) (option_map suc (first_named [] q)) ≡ or_else None (cond b (Some 0) None)

@@ -6,6 +6,7 @@ pub mod Linear
 pub mod Collected
 pub mod Undone
 pub mod Indexed
+pub mod Distinct
 pub mod Called
 pub mod Behind
 pub mod Least

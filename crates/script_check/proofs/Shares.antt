@@ -1,7 +1,7 @@
 -- A checked script may go to another thread and be read by several at once, as the script in it may.
 use denote.Param.Send.{IsSend, IsSync, view_send, view_sync, sendable}
 use denote.Param.SendFields.{declared_send, declared_sync}
-use denote.Builtin.{u32, bool}
+use denote.Builtin.{u16, u32, bool}
 use Rattle.script_check.specs.contracts.checked.Checked as checked
 use Rattle.script_check.specs.contracts.checked.Checked.TheInside as inside
 use Rattle.script_check.proofs.names.NameTable.TheSendSync as table_shared
@@ -14,6 +14,12 @@ number_sends = search sendable
 number_syncs : IsSync u32
 number_syncs = search sendable
 
+short_sends : IsSend u16
+short_sends = search sendable
+
+short_syncs : IsSync u16
+short_syncs = search sendable
+
 bool_sends : IsSend bool
 bool_sends = search sendable
 
@@ -21,10 +27,10 @@ bool_syncs : IsSync bool
 bool_syncs = search sendable
 
 inside_sends : IsSend inside.the_row
-inside_sends = declared_send inside.the_type (script_sends, (table_shared.the_send u32 number_sends, (items_shared.the_send bool bool_sends, tt)))
+inside_sends = declared_send inside.the_type (script_sends, (table_shared.the_send u32 number_sends, (items_shared.the_send bool bool_sends, (items_shared.the_send u16 short_sends, tt))))
 
 inside_syncs : IsSync inside.the_row
-inside_syncs = declared_sync inside.the_type (script_syncs, (table_shared.the_sync u32 number_syncs, (items_shared.the_sync bool bool_syncs, tt)))
+inside_syncs = declared_sync inside.the_type (script_syncs, (table_shared.the_sync u32 number_syncs, (items_shared.the_sync bool bool_syncs, (items_shared.the_sync u16 short_syncs, tt))))
 
 pub checked_sends : IsSend checked.the_row
 checked_sends = view_send inside.the_row _ _ _ _ inside_sends

@@ -9,6 +9,7 @@ ghost use Rattle.script_check.specs.Valid.{IsValid, CheckFault, all_function_fau
 ghost use Rattle.script_check.specs.Violations.{noted};
 ghost use Rattle.script_check.specs.Walk.{IsIndex};
 
+use crate::callees::{callees, guess_at};
 use crate::error::CheckError;
 use crate::findings::{Findings, Violation};
 use crate::function::{judge_function, judge_main};
@@ -27,6 +28,8 @@ pub struct Checked {
     first: NameTable<u32>,
     /// Whether the word `spawn` stands in the text of each function.
     spawns: Items<bool>,
+    /// For each place of the text a guess at the function that is called there. It is right where the function has the name.
+    callees: Items<u16>,
 }
 
 impl Model for Checked {
@@ -58,11 +61,13 @@ pub fn check(alloc: Global, script: Script) -> Result<Checked, CheckError>
     let first = index(alloc, &mut found, script.functions.as_slice())?;
     judge_script(alloc, &mut found, &script, &first)?;
     let spawns = each_spawns(alloc, script.functions.as_slice())?;
+    let callees = callees(alloc, &first, script.functions.as_slice())?;
     match found.least() {
         None => Ok(Checked {
             script,
             first,
             spawns,
+            callees,
         }),
         Some(Violation { at, number }) => Err(CheckError::Bad { number, at }),
     }
@@ -106,12 +111,18 @@ impl Checked {
         self.first.get(b"main").unwrap_or(0)
     }
 
-    /// The index of the first function of this name. There is none exactly where no function has it.
+    /// The index of the first function of this name. There is none exactly where no function has it. Where a name of the script is
+    /// called, it is found at once.
     pub fn function_of(&self, name: &Name) -> Option<u32>
         ensures function { result ≡ first_named self.now.functions name.now.bytes }
         ensures within { IfSome result (λ i. i < length self.now.functions) }
     {
-        self.first.get(name.bytes.as_slice())
+        let guess = guess_at(self.callees.as_slice(), name.at);
+        match self.script.functions.as_slice().get(guess as usize) {
+            // no two functions have one name
+            Some(f) if f.name.bytes.same(&name.bytes) => Some(guess),
+            _ => self.first.get(name.bytes.as_slice()),
+        }
     }
 
     /// Whether the word `spawn` stands in the text of the function at this place, if there is one.

@@ -2,6 +2,7 @@
 #![tactic(auto)]
 
 mod call;
+mod callees;
 mod checked;
 mod error;
 mod expression;

@@ -3,3 +3,4 @@ pub mod Grammar
 pub mod Nesting
 pub mod Fault
 pub mod Text
+pub mod Names

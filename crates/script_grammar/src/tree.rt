@@ -2,15 +2,31 @@
 //
 // Every `at` is an offset in bytes from the script's start. Parentheses are not kept, and a sum or a product of one operand is that operand.
 
+ghost use Rattle.std.specs.Prelude.{◌≡◌};
+
 use crate::boxed::Boxed;
 use crate::items::Items;
+use crate::name_text::NameText;
 use script_tokens::Version;
 
 /// A name's bytes with the offset of its first one.
 #[derive(Drop)]
 pub struct Name {
-    pub bytes: Items<u8>,
+    pub bytes: NameText,
     pub at: u32,
+}
+
+impl Name {
+    /// The same name at the same place.
+    #[inline(always)]
+    pub fn copy(&self) -> Name
+        ensures { result ≡ self.now }
+    {
+        Name {
+            bytes: self.bytes.copy(),
+            at: self.at,
+        }
+    }
 }
 
 /// A script: its version, and its functions in the order of the text. The run begins at the one named `main`.

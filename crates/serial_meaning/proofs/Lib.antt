@@ -25,3 +25,4 @@ pub mod SegmentLemmas
 pub mod Sim
 pub mod Shares
 pub mod Whole
+pub mod Callees

@@ -10,7 +10,7 @@ use dotmix::Gamma;
 use ped_path::Ped;
 use script_check::Checked;
 use script_grammar::laws::functions_are_few;
-use script_grammar::{Function, Items};
+use script_grammar::{Function, Items, Name};
 use std::alloc::Global;
 use std::marker::Model;
 
@@ -90,6 +90,17 @@ impl Plan {
         ensures { result ≡ spawns_in (slice_get (functions_of self.now) function) }
     {
         self.checked.spawns(function)
+    }
+
+    /// The place of the first function of this name, or the number of functions where there is none. A name of the text is found
+    /// at once.
+    pub fn callee(&self, name: &Name) -> u32
+        ensures { result ≡ number_of (functions_of self.now) name.now.bytes }
+    {
+        match self.checked.function_of(name) {
+            Some(number) => number,
+            None => self.functions().len() as u32,
+        }
     }
 
     /// The origin of a whole run: `main` at the empty path.

@@ -7,7 +7,7 @@ use script_grammar::{CallText, Expr, Name, ProductPart, SumPart};
 pub(crate) fn same_name(name: &Name, other: &Name) -> bool
     ensures { IsTrue result ↔ (name.now ≡ other.now) }
 {
-    name.at == other.at && name.bytes.as_slice() == other.bytes.as_slice()
+    name.at == other.at && name.bytes.same(&other.bytes)
 }
 
 #[cycle(expressions)]

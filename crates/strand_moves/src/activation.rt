@@ -1,14 +1,13 @@
 // Activations.
 
-ghost use Rattle.std.specs.Prelude.{◌≡◌, [], List, false, None, IfOk, reverse};
+ghost use Rattle.std.specs.Prelude.{◌≡◌, [], List, false, None, reverse};
 ghost use Rattle.std.specs.Option.{option_copied};
 ghost use Rattle.script_grammar.specs.declared.tree.Stmt.{Stmt};
 ghost use Rattle.strand_moves.specs.Running.{block_inside, body_of, text_of};
 
 use crate::cursor::Cursor;
-use crate::memory::Memory;
 use dotmix::Trail;
-use script_grammar::{Act, Items, Name, Stmt};
+use script_grammar::{Act, Name, Stmt};
 use serial_meaning::{Fault, Plan};
 use std::alloc::Global;
 use strand_values::{Environment, Target};
@@ -116,24 +115,21 @@ pub(crate) fn body(plan: &Plan, function: u32) -> &[Stmt]
 }
 
 /// A copy of a name, if there is one.
-pub(crate) fn copy_of(alloc: Global, name: Option<&Name>) -> Result<Option<Name>, Memory>
-    ensures { IfOk result (λ copy. copy ≡ option_copied name.entry) }
+pub(crate) fn copy_of(name: Option<&Name>) -> Option<Name>
+    ensures { result ≡ option_copied name.entry }
 {
     match name {
-        Some(name) => {
-            let bytes = Items(Vec::from_slice(alloc, name.bytes.as_slice())?);
-            Ok(Some(Name { bytes, at: name.at }))
-        }
-        None => Ok(None),
+        Some(name) => Some(name.copy()),
+        None => None,
     }
 }
 
 /// The variable of this name, if there is one.
-pub(crate) fn target_of(alloc: Global, name: Option<&Name>) -> Result<Option<Target>, Memory>
-    ensures { IfOk result (λ target. target ≡ option_copied name.entry) }
+pub(crate) fn target_of(name: Option<&Name>) -> Option<Target>
+    ensures { result ≡ option_copied name.entry }
 {
     match name {
-        Some(name) => Ok(Some(Target::of(alloc, name)?)),
-        None => Ok(None),
+        Some(name) => Some(Target::of(name)),
+        None => None,
     }
 }

@@ -18,7 +18,6 @@ use crate::quick::quiet;
 use crate::running::Running;
 use crate::shown::{Moved, Shown};
 use script_grammar::{CallText, Function, Name};
-use serial_meaning::plan::function_number;
 use serial_meaning::{FaultKind, Plan, Value};
 use std::alloc::Global;
 use std::mem;
@@ -42,7 +41,7 @@ impl Running {
         ensures stays { Stands self.old self.new result }
         ensures few { Costs self.old self.new }
     {
-        let number = function_number(plan.functions(), call.name.bytes.as_slice());
+        let number = plan.callee(&call.name);
         match function_in(plan, number) {
             Some(function) => quiet(self.enter(alloc, number, function, target, call)),
             None => quiet(self.skip(alloc, target, call)),
@@ -88,8 +87,8 @@ impl Running {
         if self.below.len() >= MOST_CALLS {
             return Err(Halt::Fault(FaultKind::Calls));
         }
-        let target = target_of(alloc, target)?;
-        self.receive(alloc, target.as_ref(), Value::Int(0))?;
+        let target = target_of(target);
+        self.receive(target.as_ref(), Value::Int(0))?;
         Ok(())
     }
 
@@ -112,7 +111,7 @@ impl Running {
         if self.below.is_empty() {
             self.below.try_reserve_exact(2)?;
         }
-        let target = target_of(alloc, target)?;
+        let target = target_of(target);
         let callee = Activation::new(alloc, number, env, target);
         let caller = mem::replace(&mut self.top, callee);
         self.below.push(caller)?;
@@ -120,17 +119,12 @@ impl Running {
     }
 
     /// Gives a variable of the innermost activation a value, if there is one.
-    pub(crate) fn receive(
-        &mut self,
-        alloc: Global,
-        target: Option<&Target>,
-        value: Value,
-    ) -> Result<(), Memory>
+    pub(crate) fn receive(&mut self, target: Option<&Target>, value: Value) -> Result<(), Memory>
         ensures env { OnOk result (self.new.top.env ≡ with_scalar (option_copied target.entry) value self.old.top.env) }
         ensures others { self.new ≡ record self.old { top = record self.old.top { env = self.new.top.env } } }
     {
         if let Some(x) = target {
-            self.top.env.receive(alloc, x, value)?;
+            self.top.env.receive(x, value)?;
         }
         Ok(())
     }
@@ -171,7 +165,7 @@ impl Running {
     }
 
     /// The value of an activation that ends goes to the one below it, or is that of the instance.
-    pub(crate) fn end(&mut self, alloc: Global, plan: &Plan) -> Result<Moved, Halt>
+    pub(crate) fn end(&mut self, plan: &Plan) -> Result<Moved, Halt>
         requires outside { self.old.top.levels.items ≡ [] }
         requires goes_on { self.old.leaving ≡ false }
         requires here { here_of (path_of self.old) (machine_of plan.now self.old) ≡ present_of self.old }
@@ -188,7 +182,7 @@ impl Running {
                 // the callee is dropped at one place, whatever was received
                 let received = {
                     let callee = mem::replace(&mut self.top, caller);
-                    self.receive(alloc, callee.target.as_ref(), value)
+                    self.receive(callee.target.as_ref(), value)
                 };
                 received?;
                 Ok(Moved::Went(Shown::Nothing))

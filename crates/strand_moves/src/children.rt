@@ -25,7 +25,6 @@ use dotmix::Trail;
 use loop_range::IterRange;
 use ped_path::{Ped, Pedigree};
 use script_grammar::{Boxed, CallText, Expr, Items, Kind, Name};
-use serial_meaning::plan::function_number;
 use serial_meaning::{Event, FaultKind, Origin, Plan, Value};
 use std::alloc::Global;
 use strand_values::{Halt, Target, iterations, number};
@@ -49,7 +48,7 @@ impl Running {
         if self.trail.path.len() + 1 >= plan.limits.depth as u64 {
             return Err(Halt::Fault(FaultKind::Depth));
         }
-        let function = function_number(plan.functions(), call.name.bytes.as_slice());
+        let function = plan.callee(&call.name);
         let (trail, path) = self.child_place(alloc, plan)?;
         let origin = Origin::Instance {
             function,
@@ -115,7 +114,7 @@ impl Running {
         if count == 0 {
             return Ok(Moved::Went(self.pass_loop(alloc, target)?));
         }
-        let function = function_number(plan.functions(), call.name.bytes.as_slice());
+        let function = plan.callee(&call.name);
         let (trail, path) = self.child_place(alloc, plan)?;
         let range = IterRange { lo: 0, hi: count };
         let origin = Origin::Loop {
@@ -182,7 +181,7 @@ impl Running {
         ensures few { Costs self.old self.new }
     {
         self.top.env.fill(alloc, target.as_ref(), &[])?;
-        let target = copy_of(alloc, target.as_ref())?;
+        let target = copy_of(target.as_ref());
         let event = Event::Loop(self.pedigree()?);
         self.rank += 1;
         Ok(Shown::Looped {
@@ -219,8 +218,8 @@ impl Running {
         ensures others { self.new ≡ record self.old { top = record self.old.top { env = self.new.top.env } } }
     {
         let instead = filler(alloc, plan, function)?;
-        let target = target_of(alloc, target)?;
-        self.receive(alloc, target.as_ref(), instead)?;
+        let target = target_of(target);
+        self.receive(target.as_ref(), instead)?;
         Ok(target)
     }
 }

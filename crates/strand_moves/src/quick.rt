@@ -79,8 +79,8 @@ impl Running {
         ensures few { Costs self.old self.new }
     {
         match &statement.act {
-            Act::Let(x, r) => self.quiet_right(alloc, x, r),
-            Act::Set(x, r) => self.quiet_right(alloc, x, r),
+            Act::Let(x, r) => self.quiet_right(x, r),
+            Act::Set(x, r) => self.quiet_right(x, r),
             Act::Array(x, n) => went(self.array(alloc, x, *n)),
             Act::Store(x, i, e) => went(self.store(x, i, e)),
             Act::If(e, _, _) => went(self.branch(e)),
@@ -90,7 +90,7 @@ impl Running {
     }
 
     /// The same of `let x = R` or `x = R`.
-    fn quiet_right(&mut self, alloc: Global, x: &Name, r: &Right) -> Result<bool, Memory>
+    fn quiet_right(&mut self, x: &Name, r: &Right) -> Result<bool, Memory>
         ensures did { (st : Stmt) → IfOk result (IsDone st (act.Set x.now r.now) self.old self.new) }
         ensures there { StaysThere self.old self.new }
         ensures cursor { self.new.top.cursor ≡ self.old.top.cursor }
@@ -98,7 +98,7 @@ impl Running {
         ensures few { Costs self.old self.new }
     {
         match r {
-            Right::Value(e) => went(self.set_value(alloc, x, e)),
+            Right::Value(e) => went(self.set_value(x, e)),
             _ => Ok(false),
         }
     }

@@ -37,15 +37,15 @@ impl Running {
         ensures few { Costs self.old self.new }
     {
         match r {
-            Right::Value(e) => quiet(self.set_value(alloc, x, e)),
-            Right::Draw(_) => self.set_draw(alloc, plan, x),
-            Right::New(_) => self.set_new(alloc, x),
+            Right::Value(e) => quiet(self.set_value(x, e)),
+            Right::Draw(_) => self.set_draw(plan, x),
+            Right::New(_) => self.set_new(x),
             Right::Call(_, c) => self.call(alloc, plan, Some(x), c),
             Right::Spawn(_, c) => self.spawn(alloc, plan, Some(x), c),
         }
     }
 
-    pub(crate) fn set_value(&mut self, alloc: Global, x: &Name, e: &Expr) -> Result<(), Halt>
+    pub(crate) fn set_value(&mut self, x: &Name, e: &Expr) -> Result<(), Halt>
         ensures shows { (plan : PlanView) (st : Stmt) → Acts plan st (act.Set x.now (right.Value e.now)) self.old self.new (quiet result) }
         ensures same { (kind : FaultKind) → result ≡ Err (Fault kind) → self.new ≡ self.old }
         ensures there { StaysThere self.old self.new }
@@ -53,10 +53,10 @@ impl Running {
         ensures stays { Stays self.old self.new }
         ensures few { Costs self.old self.new }
     {
-        self.top.env.assign(alloc, x, e)
+        self.top.env.assign(x, e)
     }
 
-    fn set_draw(&mut self, alloc: Global, plan: &Plan, x: &Name) -> Result<Moved, Halt>
+    fn set_draw(&mut self, plan: &Plan, x: &Name) -> Result<Moved, Halt>
         requires { IsStrand plan.now self.old }
         ensures shows { (st : Stmt) (at : ℕ) → Acts plan.now st (act.Set x.now (right.Draw at)) self.old self.new result }
         ensures child { (plan : PlanView) → IfOk result (MovesTrail plan) }
@@ -64,15 +64,13 @@ impl Running {
         ensures few { Costs self.old self.new }
     {
         let word = self.trail.draw(&plan.gamma, self.rank, plan.rounds);
-        self.top
-            .env
-            .set_scalar(alloc, x, Value::Int(word.cast_signed()))?;
+        self.top.env.set_scalar(x, Value::Int(word.cast_signed()))?;
         let event = Event::Draw(self.pedigree()?, word);
         self.rank += 1;
         Ok(Moved::Went(Shown::Told(event)))
     }
 
-    fn set_new(&mut self, alloc: Global, x: &Name) -> Result<Moved, Halt>
+    fn set_new(&mut self, x: &Name) -> Result<Moved, Halt>
         requires { self.old.rank < 2 ^ 32 }
         ensures shows { (plan : PlanView) (st : Stmt) (at : ℕ) → Acts plan st (act.Set x.now (right.New at)) self.old self.new result }
         ensures child { (plan : PlanView) → IfOk result (MovesTrail plan) }
@@ -80,7 +78,7 @@ impl Running {
         ensures few { Costs self.old self.new }
     {
         let object = self.pedigree()?;
-        self.top.env.set_scalar(alloc, x, Value::Id(object))?;
+        self.top.env.set_scalar(x, Value::Id(object))?;
         let event = Event::New(self.pedigree()?);
         self.rank += 1;
         Ok(Moved::Went(Shown::Told(event)))

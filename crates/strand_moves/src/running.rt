@@ -123,7 +123,7 @@ impl Running {
     {
         match next {
             Some(statement) => self.statement(alloc, plan, statement),
-            None => self.close(alloc, plan),
+            None => self.close(plan),
         }
     }
 

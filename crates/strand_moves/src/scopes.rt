@@ -61,7 +61,7 @@ impl Running {
     }
 
     /// Where no statement is left in the innermost block: the end of a scope, or of the activation.
-    pub(crate) fn close(&mut self, alloc: Global, plan: &Plan) -> Result<Moved, Halt>
+    pub(crate) fn close(&mut self, plan: &Plan) -> Result<Moved, Halt>
         requires instance { IsInstance plan.now self.old }
         requires none { left_of (text_of plan.now self.old.top) self.old.top.cursor ≡ [] }
         ensures shows { let m = machine_of plan.now self.old in
@@ -79,7 +79,7 @@ impl Running {
             return Ok(Moved::Went(self.join_scope()?));
         }
         if self.top.returning {
-            return self.end(alloc, plan);
+            return self.end(plan);
         }
         self.return_step(plan)
     }

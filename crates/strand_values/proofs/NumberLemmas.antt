@@ -1,8 +1,11 @@
 -- Values of which only the number counts.
-use Rattle.std.proofs.Common.{◌≡◌, zero, suc, Bool, true, false, ◌==◌, List, [], ◌∷◌, map, length, Result, Ok, Err, refl, ap, sym, subst, ◌∙◌, int_rem, arith}
+use Rattle.std.proofs.Common.{◌≡◌, ℕ, zero, suc, Bool, true, false, ◌==◌, List, [], ◌∷◌, map, length, Result, Ok, Err, refl, ap, sym, subst, ◌∙◌, int_rem, arith}
 use Rattle.std.proofs.lemmas.Bool.{eqb-true}
 use Rattle.std.proofs.Common.{ℤ, pos, negsuc, w64}
 use Rattle.std.specs.Int.{int_wrapping_div}
+use Rattle.std.specs.Str.{bytes_eq}
+use Rattle.std.specs.Ordering.{nat_cmp, is_lt}
+use Rattle.std.specs.Cmp.Lexicographic.{slice_cmp}
 use Rattle.script_grammar.specs.declared.tree.Comparison.{Comparison}
 use Rattle.script_grammar.specs.declared.tree.Expr.{Expr, roll-Expr, map-Expr, fold-roll-Expr}
 use Rattle.script_grammar.specs.declared.tree.Expr.TheVariants as variant
@@ -13,7 +16,7 @@ use Rattle.script_grammar.specs.declared.tree.ProductSign.TheVariants as sign
 use Rattle.script_grammar.specs.declared.tree.ProductPart.{ProductPart}
 use Rattle.script_grammar.specs.declared.tree.SumPart.{SumPart}
 use Rattle.serial_meaning.specs.Runs.{◌>>=◌}
-use Rattle.serial_meaning.specs.Values.{Val, Env, Meaning, number, truth, compared, added, over, product, sums, products, sum_part, product_part, value_of, value_at, product_at, sum_at}
+use Rattle.serial_meaning.specs.Values.{Val, Env, Meaning, number, object, truth, compared, added, over, product, sums, products, sum_part, product_part, value_of, value_at, product_at, sum_at}
 use Rattle.serial_meaning.specs.declared.value.Value.{Value}
 use Rattle.serial_meaning.specs.declared.value.Value.TheVariants.{Int}
 use Rattle.strand_values.specs.Gives.{Gives, numbered, integral}
@@ -41,6 +44,12 @@ pub comparison_is_int : (how : Comparison) (left right : Val) →
 comparison_is_int how (Err kind) right = refl
 comparison_is_int how (Ok x) (Err kind) = refl
 comparison_is_int how (Ok x) (Ok y) = truth_is_int (compared how (number x) (number y))
+
+pub truth_of_two_is_int : (f : Value → Value → Bool) (left right : Val) →
+    (left >>= λ x. right >>= λ y. Ok (truth (f x y))) ≡ integral (numbered (left >>= λ x. right >>= λ y. Ok (truth (f x y))))
+truth_of_two_is_int f (Err kind) right = refl
+truth_of_two_is_int f (Ok x) (Err kind) = refl
+truth_of_two_is_int f (Ok x) (Ok y) = truth_is_int (f x y)
 
 -- Only the number of a chain's first value counts
 
@@ -141,3 +150,10 @@ module _ (env : Env) where
   pub value_of_comparison : (left : Expr) (how : Comparison) (right : Expr) →
       value_of (variant.Compare left how right) env ≡ (value_of left env >>= λ x. value_of right env >>= λ y. Ok (truth (compared how (number x) (number y))))
   value_of_comparison left how right = ap (λ (e : Expr). value_of e env) (sym (variant.rolls-Compare left how right)) ∙ by_layer (node.Compare left how right)
+
+  pub value_of_same : (at : ℕ) (left right : Expr) → value_of (variant.Same at left right) env ≡ (value_of left env >>= λ x. value_of right env >>= λ y. Ok (truth (bytes_eq (object x) (object y))))
+  value_of_same at left right = ap (λ (e : Expr). value_of e env) (sym (variant.rolls-Same at left right)) ∙ by_layer (node.Same at left right)
+
+  pub value_of_older : (at : ℕ) (left right : Expr) →
+      value_of (variant.Older at left right) env ≡ (value_of left env >>= λ x. value_of right env >>= λ y. Ok (truth (is_lt (slice_cmp nat_cmp (object x) (object y)))))
+  value_of_older at left right = ap (λ (e : Expr). value_of e env) (sym (variant.rolls-Older at left right)) ∙ by_layer (node.Older at left right)

@@ -1,24 +1,22 @@
 // A variable as an environment keeps it.
 
-ghost use Rattle.std.specs.Prelude.{◌≡◌, ◌<◌, Some, IfOk, length};
+ghost use Rattle.std.specs.Prelude.{◌≡◌, ◌<◌, Some, length};
 ghost use Rattle.std.specs.Str.{bytes_eq};
 ghost use Rattle.serial_meaning.specs.declared.environment.Slot.TheVariants.{Scalar, Array};
 ghost use Rattle.serial_meaning.specs.declared.value.Value.TheVariants.{Int};
 ghost use Rattle.serial_meaning.specs.Values.{items_of};
 ghost use Rattle.serial_meaning.specs.Exec.{with_item, with_front};
 
-use crate::memory::Memory;
-use crate::names::same_name;
 use crate::slots::{fill_slot, set_at};
+use script_grammar::NameText;
 use serial_meaning::{Slot, Value};
-use smallvec::SmallVec;
 use std::alloc::Global;
 use std::marker::Model;
 
-/// A variable whose name stands in place, where that has at most 15 bytes. Contracts see it as the `Variable` that it is.
+/// A variable, whose name stands in place. Contracts see it as the `Variable` that it is.
 #[derive(Drop)]
 pub(crate) struct Entry {
-    name: SmallVec<u8, 15>,
+    name: NameText,
     slot: Slot,
 }
 
@@ -27,23 +25,24 @@ impl Model for Entry {
 
     ghost Value = { Variable };
 
-    ghost view = { λ e. record { name = e.name.items; slot = e.slot } };
+    ghost view = { λ e. record { name = e.name; slot = e.slot } };
 }
 
 impl Entry {
-    pub fn new(alloc: Global, name: &[u8], slot: Slot) -> Result<Entry, Memory>
-        ensures { IfOk result (λ entry. entry ≡ record { name = name.now; slot = slot }) }
+    pub fn new(name: &NameText, slot: Slot) -> Entry
+        ensures { result ≡ record { name = name.now; slot = slot } }
     {
-        Ok(Entry {
-            name: SmallVec::from_slice(alloc, name)?,
+        Entry {
+            name: name.copy(),
             slot,
-        })
+        }
     }
 
-    pub fn has_name(&self, name: &[u8]) -> bool
+    #[inline(always)]
+    pub fn has_name(&self, name: &NameText) -> bool
         ensures { result ≡ bytes_eq self.now.name name.now }
     {
-        same_name(self.name.as_slice(), name)
+        self.name.same(name)
     }
 
     pub fn slot(&self) -> &Slot

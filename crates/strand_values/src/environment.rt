@@ -15,9 +15,9 @@ use crate::halt::Halt;
 use crate::memory::Memory;
 use crate::scalar::number;
 use crate::target::Target;
-use crate::value;
+use crate::value::{self, is_integer};
 use crate::variables::{item, items, place};
-use script_grammar::{Expr, Items, Name, Param};
+use script_grammar::{Expr, Items, Name, NameText, Param};
 use serial_meaning::{Slot, Value};
 use std::alloc::Global;
 use std::marker::Model;
@@ -53,8 +53,7 @@ impl Environment {
         let mut variables = Vec::with_capacity(alloc, count.saturating_add(more))?;
         for i in 0..count {
             let slot = Slot::Scalar(args[i].share()?);
-            let name = params[i].name.bytes.as_slice();
-            variables.push(Entry::new(alloc, name, slot)?)?;
+            variables.push(Entry::new(&params[i].name.bytes, slot))?;
         }
         Ok(Environment { variables })
     }
@@ -75,8 +74,8 @@ impl Environment {
         for i in 0..args.len() {
             let value = value::value(&self.variables, &args[i])?;
             if i < params.len() {
-                let name = params[i].name.bytes.as_slice();
-                variables.push(Entry::new(alloc, name, Slot::Scalar(value))?)?;
+                let name = &params[i].name.bytes;
+                variables.push(Entry::new(name, Slot::Scalar(value)))?;
             }
         }
         Ok(Environment { variables })
@@ -114,38 +113,43 @@ impl Environment {
     pub fn item(&self, name: &Name, index: i64) -> Option<i64>
         ensures { result ≡ at_index (items_of (slot_of self.now name.now.bytes)) index }
     {
-        item(&self.variables, name.bytes.as_slice(), index)
+        item(&self.variables, &name.bytes, index)
     }
 
     /// Gives a scalar the value of an expression, or answers with the fault that is met first. A name that wasn't there stands at the
     /// end. After a fault, and without memory, everything is as it was.
-    pub fn assign(&mut self, alloc: Global, name: &Name, e: &Expr) -> Result<(), Halt>
+    pub fn assign(&mut self, name: &Name, e: &Expr) -> Result<(), Halt>
         ensures ok { OnOk result (assigned self.old name.now e.now ≡ Ok self.new) }
         ensures fault { (kind : FaultKind) → result ≡ Err (Fault kind) → assigned self.old name.now e.now ≡ Err kind }
         ensures err { OnErr result (self.new ≡ self.old) }
     {
-        match value::value(&self.variables, e)? {
-            Value::Int(number) => self.set_number(alloc, name.bytes.as_slice(), number)?,
-            value => self.set(alloc, name.bytes.as_slice(), Slot::Scalar(value))?,
+        if is_integer(e) {
+            let number = value::integer(&self.variables, e)?;
+            self.set_number(&name.bytes, number)?;
+        } else {
+            match value::value(&self.variables, e)? {
+                Value::Int(number) => self.set_number(&name.bytes, number)?,
+                value => self.set(&name.bytes, Slot::Scalar(value))?,
+            }
         }
         Ok(())
     }
 
     /// Gives a scalar a value. A name that wasn't there stands at the end, and only then it needs memory. Without memory nothing
     /// changes.
-    pub fn set_scalar(&mut self, alloc: Global, name: &Name, value: Value) -> Result<(), Memory>
+    pub fn set_scalar(&mut self, name: &Name, value: Value) -> Result<(), Memory>
         ensures ok { OnOk result (self.new ≡ with_slot self.old name.now.bytes (Scalar value)) }
         ensures err { OnErr result ((self.new ≡ self.old) × IsNone (slot_of self.old name.now.bytes)) }
     {
-        self.set(alloc, name.bytes.as_slice(), Slot::Scalar(value))
+        self.set(&name.bytes, Slot::Scalar(value))
     }
 
     /// The same of the variable that a call's value goes to.
-    pub fn receive(&mut self, alloc: Global, name: &Target, value: Value) -> Result<(), Memory>
+    pub fn receive(&mut self, name: &Target, value: Value) -> Result<(), Memory>
         ensures ok { OnOk result (self.new ≡ with_slot self.old name.now.bytes (Scalar value)) }
         ensures err { OnErr result ((self.new ≡ self.old) × IsNone (slot_of self.old name.now.bytes)) }
     {
-        self.set(alloc, name.bytes(), Slot::Scalar(value))
+        self.set(name.text(), Slot::Scalar(value))
     }
 
     /// Gives a scalar that is there a new value. Where the name isn't there nothing changes.
@@ -153,7 +157,7 @@ impl Environment {
         ensures there { IsSome (slot_of self.old name.now.bytes) → self.new ≡ with_slot self.old name.now.bytes (Scalar value) }
         ensures missing { IsNone (slot_of self.old name.now.bytes) → self.new ≡ self.old }
     {
-        if let Some(i) = place(&self.variables, name.bytes()) {
+        if let Some(i) = place(&self.variables, name.text()) {
             self.variables[i].set_slot(Slot::Scalar(value));
         }
     }
@@ -164,7 +168,7 @@ impl Environment {
         ensures err { OnErr result (self.new ≡ self.old) }
     {
         let items = vec![in alloc; 0i64; length as usize]?;
-        self.set(alloc, name.bytes.as_slice(), Slot::Array(Items(items)))
+        self.set(&name.bytes, Slot::Array(Items(items)))
     }
 
     /// Writes the item of an array at an index where it has one.
@@ -172,7 +176,7 @@ impl Environment {
         requires { IsSome (at_index (items_of (slot_of self.old name.now.bytes)) index) }
         ensures { self.new ≡ with_slot self.old name.now.bytes (Array (set_item (items_of (slot_of self.old name.now.bytes)) index value.now)) }
     {
-        match place(&self.variables, name.bytes.as_slice()) {
+        match place(&self.variables, &name.bytes) {
             Some(i) => self.variables[i].set_at(index as usize, number(value)),
             None => unreachable!(),
         }
@@ -183,7 +187,7 @@ impl Environment {
         ensures { result ≡ has_room (option_copied target.entry) n self.now }
     {
         match target {
-            Some(name) => n <= items(&self.variables, name.bytes.as_slice()).len() as u64,
+            Some(name) => n <= items(&self.variables, &name.bytes).len() as u64,
             None => true,
         }
     }
@@ -200,19 +204,19 @@ impl Environment {
         ensures err { OnErr result ((self.new ≡ self.old) × IsUnknown (option_copied target.entry) self.old) }
     {
         let Some(name) = target else { return Ok(()) };
-        match place(&self.variables, name.bytes.as_slice()) {
+        match place(&self.variables, &name.bytes) {
             Some(i) => {
                 self.variables[i].set_front(alloc, values);
                 Ok(())
             }
             None => {
                 let nothing = Slot::Array(Items(Vec::new(alloc)));
-                self.set(alloc, name.bytes.as_slice(), nothing)
+                self.set(&name.bytes, nothing)
             }
         }
     }
 
-    fn set_number(&mut self, alloc: Global, name: &[u8], number: i64) -> Result<(), Memory>
+    fn set_number(&mut self, name: &NameText, number: i64) -> Result<(), Memory>
         ensures ok { OnOk result (self.new ≡ with_slot self.old name.now (Scalar (Int number))) }
         ensures err { OnErr result (self.new ≡ self.old) }
     {
@@ -221,11 +225,11 @@ impl Environment {
                 self.variables[i].set_number(number);
                 Ok(())
             }
-            None => self.set(alloc, name, Slot::Scalar(Value::Int(number))),
+            None => self.set(name, Slot::Scalar(Value::Int(number))),
         }
     }
 
-    fn set(&mut self, alloc: Global, name: &[u8], slot: Slot) -> Result<(), Memory>
+    fn set(&mut self, name: &NameText, slot: Slot) -> Result<(), Memory>
         ensures ok { OnOk result (self.new ≡ with_slot self.old name.now slot) }
         ensures err { OnErr result ((self.new ≡ self.old) × IsNone (slot_of self.old name.now)) }
     {
@@ -235,8 +239,7 @@ impl Environment {
                 Ok(())
             }
             None => {
-                let entry = Entry::new(alloc, name, slot)?;
-                self.variables.push(entry)?;
+                self.variables.push(Entry::new(name, slot))?;
                 Ok(())
             }
         }

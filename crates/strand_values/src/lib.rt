@@ -8,7 +8,6 @@ mod entry;
 mod environment;
 mod halt;
 mod memory;
-mod names;
 mod scalar;
 mod slots;
 mod target;

@@ -1,16 +1,12 @@
-ghost use Rattle.std.specs.Prelude.{◌≡◌, IfOk};
+ghost use Rattle.std.specs.Prelude.{◌≡◌};
 
-use crate::memory::Memory;
-use script_grammar::Name;
-use smallvec::SmallVec;
-use std::alloc::Global;
+use script_grammar::{Name, NameText};
 use std::marker::Model;
 
-/// The variable that a value goes to. Its name stands in place, where that has at most 15 bytes. Contracts see it as the `Name` that it is.
+/// The variable that a value goes to. Contracts see it as the `Name` that it is.
 #[derive(Drop)]
 pub struct Target {
-    at: u32,
-    name: SmallVec<u8, 15>,
+    name: Name,
 }
 
 impl Model for Target {
@@ -18,23 +14,20 @@ impl Model for Target {
 
     ghost Value = { Name };
 
-    ghost view = { λ t. record { bytes = t.name.items; at = t.at } };
+    ghost view = { λ t. t.name };
 }
 
 impl Target {
     /// A copy of a name.
-    pub fn of(alloc: Global, name: &Name) -> Result<Target, Memory>
-        ensures { IfOk result (λ target. target ≡ name.now) }
+    pub fn of(name: &Name) -> Target
+        ensures { result ≡ name.now }
     {
-        Ok(Target {
-            at: name.at,
-            name: SmallVec::from_slice(alloc, name.bytes.as_slice())?,
-        })
+        Target { name: name.copy() }
     }
 
-    pub(crate) fn bytes(&self) -> &[u8]
+    pub(crate) fn text(&self) -> &NameText
         ensures { result.now ≡ self.now.bytes }
     {
-        self.name.as_slice()
+        &self.name.bytes
     }
 }

@@ -1,7 +1,7 @@
 // The value of an expression. Each kind of node has a function of its own, and what only its number counts of is never made a value.
 
-ghost use Rattle.std.specs.Prelude.{◌≡◌, map};
-ghost use Rattle.serial_meaning.specs.Values.{value_of, values_of, sums, products, sum_part, product_part};
+ghost use Rattle.std.specs.Prelude.{◌≡◌, map, IsTrue};
+ghost use Rattle.serial_meaning.specs.Values.{Env, value_of, values_of, sums, products, sum_part, product_part};
 ghost use Rattle.serial_meaning.specs.declared.value.Value.TheVariants.{Int};
 ghost use Rattle.strand_values.specs.Gives.{Gives, numbered, integral};
 ghost use Rattle.strand_values.specs.Nodes as node;
@@ -20,7 +20,7 @@ pub(crate) fn value(variables: &[Entry], e: &Expr) -> Result<Value, Halt>
     ensures { Gives result (value_of e.now variables.now) }
 {
     match e {
-        Expr::Var(name) => scalar(variables, name.bytes.as_slice()),
+        Expr::Var(name) => scalar(variables, &name.bytes),
         // Without a further operand it is the first one as it is, which may be an id.
         Expr::Sum(first, rest) => {
             if rest.as_slice().is_empty() {
@@ -45,6 +45,23 @@ pub(crate) fn value(variables: &[Entry], e: &Expr) -> Result<Value, Halt>
     }
 }
 
+/// Whether the value is an integer, whatever the variables are. Only that of a variable may be an id, and what is no more than one.
+pub(crate) fn is_integer(e: &Expr) -> bool
+    ensures { (env : Env) → IsTrue result → value_of e.now env ≡ integral (numbered (value_of e.now env)) }
+{
+    match e {
+        Expr::Var(_) => false,
+        Expr::Sum(_, rest) => !rest.as_slice().is_empty(),
+        Expr::Product(_, rest) => !rest.as_slice().is_empty(),
+        Expr::Number(_) => true,
+        Expr::Item(_, _) => true,
+        Expr::Neg(_, _) => true,
+        Expr::Same(_, _, _) => true,
+        Expr::Older(_, _, _) => true,
+        Expr::Compare(_, _, _) => true,
+    }
+}
+
 /// The number that the value counts as.
 #[cycle(value)]
 pub(crate) fn integer(variables: &[Entry], e: &Expr) -> Result<i64, Halt>
@@ -52,7 +69,7 @@ pub(crate) fn integer(variables: &[Entry], e: &Expr) -> Result<i64, Halt>
 {
     match e {
         Expr::Number(number) => Ok(number.value),
-        Expr::Var(name) => Ok(number_of(variables, name.bytes.as_slice())),
+        Expr::Var(name) => Ok(number_of(variables, &name.bytes)),
         Expr::Item(name, index) => item_at(variables, name, index.get()),
         Expr::Neg(_, operand) => negated(variables, operand.get()),
         Expr::Same(_, left, right) => match value(variables, left.get()) {
@@ -86,7 +103,7 @@ fn operand(variables: &[Entry], e: &Expr) -> Result<i64, Halt>
 {
     match e {
         Expr::Number(number) => Ok(number.value),
-        Expr::Var(name) => Ok(number_of(variables, name.bytes.as_slice())),
+        Expr::Var(name) => Ok(number_of(variables, &name.bytes)),
         _ => integer(variables, e),
     }
 }
@@ -106,7 +123,7 @@ fn item_at(variables: &[Entry], name: &Name, index: &Expr) -> Result<i64, Halt>
     ensures { Gives (integral result) (node.item_at variables.now name.now.bytes (value_of index.now variables.now)) }
 {
     let index = operand(variables, index)?;
-    match item(variables, name.bytes.as_slice(), index) {
+    match item(variables, &name.bytes, index) {
         Some(item) => Ok(item),
         None => Err(Halt::Fault(FaultKind::Index)),
     }

@@ -8,16 +8,17 @@ ghost use Rattle.strand_values.specs.Gives.{Gives};
 
 use crate::entry::Entry;
 use crate::halt::Halt;
+use script_grammar::NameText;
 use serial_meaning::{Slot, Value};
 
 /// The place of the variable of this name.
-pub(crate) fn place(variables: &[Entry], name: &[u8]) -> Option<usize>
+pub(crate) fn place(variables: &[Entry], name: &NameText) -> Option<usize>
     ensures { result ≡ position (λ v. bytes_eq v.name name.now) variables.now }
 {
     variables.iter().position(|v| v.has_name(name))
 }
 
-fn slot<'a>(variables: &'a [Entry], name: &[u8]) -> Option<&'a Slot>
+fn slot<'a>(variables: &'a [Entry], name: &NameText) -> Option<&'a Slot>
     ensures { option_copied result ≡ slot_of variables.now name.now }
 {
     for variable in variables {
@@ -29,7 +30,7 @@ fn slot<'a>(variables: &'a [Entry], name: &[u8]) -> Option<&'a Slot>
 }
 
 /// A scalar's value; an id shares its memory.
-pub(crate) fn scalar(variables: &[Entry], name: &[u8]) -> Result<Value, Halt>
+pub(crate) fn scalar(variables: &[Entry], name: &NameText) -> Result<Value, Halt>
     ensures { Gives result (Ok (scalar (slot_of variables.now name.now))) }
 {
     match slot(variables, name) {
@@ -49,7 +50,7 @@ fn shared(value: &Value) -> Result<Value, Halt>
 }
 
 /// The number that a scalar counts as.
-pub(crate) fn number_of(variables: &[Entry], name: &[u8]) -> i64
+pub(crate) fn number_of(variables: &[Entry], name: &NameText) -> i64
     ensures { result ≡ number (scalar (slot_of variables.now name.now)) }
 {
     match slot(variables, name) {
@@ -59,7 +60,7 @@ pub(crate) fn number_of(variables: &[Entry], name: &[u8]) -> i64
 }
 
 /// An array's items.
-pub(crate) fn items<'a>(variables: &'a [Entry], name: &[u8]) -> &'a [i64]
+pub(crate) fn items<'a>(variables: &'a [Entry], name: &NameText) -> &'a [i64]
     ensures { result.now ≡ items_of (slot_of variables.now name.now) }
 {
     match slot(variables, name) {
@@ -69,7 +70,7 @@ pub(crate) fn items<'a>(variables: &'a [Entry], name: &[u8]) -> &'a [i64]
 }
 
 /// An array's item, where it has one at this index.
-pub(crate) fn item(variables: &[Entry], name: &[u8], index: i64) -> Option<i64>
+pub(crate) fn item(variables: &[Entry], name: &NameText, index: i64) -> Option<i64>
     ensures { result ≡ at_index (items_of (slot_of variables.now name.now)) index }
 {
     let items = items(variables, name);

@@ -8,7 +8,7 @@ ghost use Rattle.script_text.specs.Machine.{only};
 ghost use Rattle.script_text.specs.Reads.{IsPlain, IsValue, IsName, IsNumber, Names, Numbers, NextIs, NextIsNot, NextLexeme, Passes, Opens, Deepens, Reads, unexpected_in};
 
 use crate::error::SyntaxError;
-use script_grammar::{Items, Name, Number};
+use script_grammar::{Name, NameText, Number};
 use script_tokens::{Lexeme, Stop, Version, Word};
 use std::alloc::Global;
 
@@ -51,7 +51,7 @@ pub(crate) fn name_of(source: &Source<'_>, lexeme: Lexeme) -> Result<Name, Synta
         });
     }
     Ok(Name {
-        bytes: Items(text.to_vec(source.alloc)?),
+        bytes: NameText::of(text),
         at: lexeme.start,
     })
 }

@@ -109,7 +109,12 @@ fn nobody_looks_for_a_give_that_is_alone(rt: HostRuntime) -> Result<(), Memory> 
     assert!(rt; give.is_alone());
     same(&rt, "one", join.count(), 1);
     give.put(square_of(5));
-    same(&rt, "it has put, and nobody knows", join.look(), Look::NotYet(1));
+    same(
+        &rt,
+        "it has put, and nobody knows",
+        join.look(),
+        Look::NotYet(1),
+    );
     assert!(rt; !Join::<Square>::new(alloc)?.hand(alloc, &6)?.is_alone());
     Give::<Square>::alone(&7).put(square_of(7));
     Ok(())

@@ -3,7 +3,8 @@
 use super::same;
 use ped_path::{Ped, Pedigree};
 use script_grammar::{
-    Boxed, Comparison, Expr, Items, Kind, Name, Number, Param, ProductPart, ProductSign, SumPart,
+    Boxed, Comparison, Expr, Items, Kind, Name, NameText, Number, Param, ProductPart, ProductSign,
+    SumPart,
 };
 use serial_meaning::{FaultKind, Value};
 use std::alloc::Global;
@@ -11,19 +12,21 @@ use std::process::Abort;
 use std::test::Fail;
 use strand_values::{Environment, Halt, count, is_true, iterations, number};
 
-fn name(alloc: Global, text: &str) -> Result<Name, Fail> {
-    Ok(Name {
-        bytes: Items(text.as_bytes().to_vec(alloc)?),
+/// A name of the first 32 bytes of a text.
+fn name(text: &str) -> Name {
+    let bytes = text.as_bytes();
+    Name {
+        bytes: NameText::of(&bytes[..bytes.len().min(32)]),
         at: 0,
-    })
+    }
 }
 
 fn int(value: i64) -> Expr {
     Expr::Number(Number { at: 0, value })
 }
 
-fn variable(alloc: Global, text: &str) -> Result<Expr, Fail> {
-    Ok(Expr::Var(name(alloc, text)?))
+fn variable(text: &str) -> Expr {
+    Expr::Var(name(text))
 }
 
 fn boxed(alloc: Global, e: Expr) -> Result<Boxed<Expr>, Fail> {
@@ -31,12 +34,12 @@ fn boxed(alloc: Global, e: Expr) -> Result<Boxed<Expr>, Fail> {
 }
 
 fn named(alloc: Global, text: &str) -> Result<Boxed<Expr>, Fail> {
-    boxed(alloc, variable(alloc, text)?)
+    boxed(alloc, variable(text))
 }
 
 /// The item `a[i]`.
 fn item_of_a(alloc: Global, i: i64) -> Result<Expr, Fail> {
-    Ok(Expr::Item(name(alloc, "a")?, boxed(alloc, int(i))?))
+    Ok(Expr::Item(name("a"), boxed(alloc, int(i))?))
 }
 
 fn sum(alloc: Global, first: Expr, minus: bool, operand: Expr) -> Result<Expr, Fail> {
@@ -56,11 +59,11 @@ fn divided(alloc: Global) -> Result<Expr, Fail> {
     product(alloc, int(1), ProductSign::Over, int(0))
 }
 
-fn param(alloc: Global, kind: Kind, text: &str) -> Result<Param, Fail> {
-    Ok(Param {
+fn param(kind: Kind, text: &str) -> Param {
+    Param {
         kind,
-        name: name(alloc, text)?,
-    })
+        name: name(text),
+    }
 }
 
 /// The object with the pedigree of this one rank.
@@ -76,7 +79,7 @@ static PARAMS: [(Kind, &str); 3] = [(Kind::Int, "n"), (Kind::Id, "early"), (Kind
 fn params(alloc: Global) -> Result<Vec<Param>, Fail> {
     let mut params = Vec::new(alloc);
     for &(kind, text) in &PARAMS {
-        params.push(param(alloc, kind, text)?)?;
+        params.push(param(kind, text))?;
     }
     Ok(params)
 }
@@ -93,7 +96,7 @@ fn args(alloc: Global) -> Result<Vec<Value>, Fail> {
 /// An Int `n` of 7, the objects `early` and `late`, and an array `a` of three zeros.
 fn environment(alloc: Global) -> Result<Environment, Fail> {
     let mut environment = Environment::bound(alloc, &params(alloc)?, &args(alloc)?, 0)?;
-    environment.set_array(alloc, &name(alloc, "a")?, 3)?;
+    environment.set_array(alloc, &name("a"), 3)?;
     Ok(environment)
 }
 
@@ -318,7 +321,7 @@ fn ids_are_older_by_their_pedigrees(rt: HostRuntime) -> Result<(), Fail> {
 /// The array `a` with 9 as its last item.
 fn with_nine(alloc: Global) -> Result<Environment, Fail> {
     let mut environment = environment(alloc)?;
-    let a = name(alloc, "a")?;
+    let a = name("a");
     if environment.item(&a, 2).is_some() {
         environment.set_item(&a, 2, &Value::Int(9));
     }
@@ -339,7 +342,7 @@ fn reads(
     i: i64,
     expected: Result<i64, FaultKind>,
 ) -> Result<(), Fail> {
-    let found = environment.item(&name(rt.alloc(), "a")?, i);
+    let found = environment.item(&name("a"), i);
     same(rt, format_args!("item {i}"), found, expected.ok());
     let given = told_in(environment, &item_of_a(rt.alloc(), i)?)?;
     same(rt, format_args!("item {i}"), given, expected);
@@ -363,7 +366,7 @@ fn has_room(environment: &Environment, array: &Name, count: u64) -> bool {
 #[test]
 fn arrays_have_room_for_their_length(rt: HostRuntime) -> Result<(), Fail> {
     let environment = environment(rt.alloc())?;
-    let a = name(rt.alloc(), "a")?;
+    let a = name("a");
     assert!(rt; environment.has_room(None, 4));
     assert!(rt; has_room(&environment, &a, 3));
     assert!(rt; !has_room(&environment, &a, 4));
@@ -373,7 +376,7 @@ fn arrays_have_room_for_their_length(rt: HostRuntime) -> Result<(), Fail> {
 /// The same array after a loop of two iterations into it, and one into no array.
 fn filled(alloc: Global) -> Result<Environment, Fail> {
     let mut environment = with_nine(alloc)?;
-    let a = name(alloc, "a")?;
+    let a = name("a");
     environment.fill(alloc, Some(&a), &[Value::Int(4), Value::Int(5)])?;
     environment.fill(alloc, None, &[Value::Int(6)])?;
     Ok(environment)
@@ -382,7 +385,7 @@ fn filled(alloc: Global) -> Result<Environment, Fail> {
 #[test]
 fn the_values_of_a_loop_are_the_first_items(rt: HostRuntime) -> Result<(), Fail> {
     let environment = filled(rt.alloc())?;
-    let a = name(rt.alloc(), "a")?;
+    let a = name("a");
     for (i, expected) in [(0, 4), (1, 5), (2, 9)] {
         same(&rt, i, environment.item(&a, i), Some(expected));
     }
@@ -393,7 +396,7 @@ fn the_values_of_a_loop_are_the_first_items(rt: HostRuntime) -> Result<(), Fail>
 fn with_scalars(alloc: Global) -> Result<Environment, Fail> {
     let mut environment = environment(alloc)?;
     for (text, number) in [("n", 8), ("x", 1)] {
-        environment.set_scalar(alloc, &name(alloc, text)?, Value::Int(number))?;
+        environment.set_scalar(&name(text), Value::Int(number))?;
     }
     Ok(environment)
 }
@@ -402,17 +405,49 @@ fn with_scalars(alloc: Global) -> Result<Environment, Fail> {
 fn scalars_are_set_by_name(rt: HostRuntime) -> Result<(), Fail> {
     let environment = with_scalars(rt.alloc())?;
     for (text, expected) in [("n", 8), ("x", 1)] {
-        let e = variable(rt.alloc(), text)?;
+        let e = variable(text);
         same(&rt, text, told_in(&environment, &e)?, Ok(expected));
+    }
+    Ok(())
+}
+
+/// Names of 7 to 32 bytes, of which some differ in their lengths alone, and some in their last bytes.
+static NAMES: [&str; 9] = [
+    "abcdefg",
+    "abcdefgh",
+    "abcdefgi",
+    "abcdefghi",
+    "abcdefghj",
+    "abcdefghijklmnopqrstuvwxyz01234",
+    "abcdefghijklmnopqrstuvwxyz012345",
+    "abcdefghijklmnopqrstuvwxyz012346",
+    "bbcdefghijklmnopqrstuvwxyz012345",
+];
+
+/// The environment where each of these has its place.
+fn with_names(alloc: Global) -> Result<Environment, Fail> {
+    let mut environment = environment(alloc)?;
+    for (i, &text) in NAMES.iter().enumerate() {
+        environment.set_scalar(&name(text), Value::Int(i as i64))?;
+    }
+    Ok(environment)
+}
+
+#[test]
+fn names_differ_by_their_lengths_and_by_each_byte(rt: HostRuntime) -> Result<(), Fail> {
+    let environment = with_names(rt.alloc())?;
+    for (i, &text) in NAMES.iter().enumerate() {
+        let e = variable(text);
+        same(&rt, text, told_in(&environment, &e)?, Ok(i as i64));
     }
     Ok(())
 }
 
 /// The halt of `n = 1 / 0` after `n = 9`.
 fn halt_of_assignment(alloc: Global, environment: &mut Environment) -> Result<Option<Halt>, Fail> {
-    let n = name(alloc, "n")?;
-    environment.assign(alloc, &n, &int(9))?;
-    Ok(environment.assign(alloc, &n, &divided(alloc)?).err())
+    let n = name("n");
+    environment.assign(&n, &int(9))?;
+    Ok(environment.assign(&n, &divided(alloc)?).err())
 }
 
 #[test]
@@ -420,7 +455,7 @@ fn an_assignment_that_faults_changes_nothing(rt: HostRuntime) -> Result<(), Fail
     let mut environment = environment(rt.alloc())?;
     let halt = halt_of_assignment(rt.alloc(), &mut environment)?;
     same(&rt, "n = 1 / 0", halt, Some(Halt::Fault(FaultKind::Divide)));
-    let e = variable(rt.alloc(), "n")?;
+    let e = variable("n");
     same(&rt, "n", told_in(&environment, &e)?, Ok(9));
     Ok(())
 }
@@ -438,7 +473,7 @@ fn numbers(alloc: Global, args: &[Expr]) -> Result<Vec<i64>, Fail> {
 /// The arguments `n` and `3`.
 fn arguments(alloc: Global) -> Result<Vec<Expr>, Fail> {
     let mut args = Vec::new(alloc);
-    args.push(variable(alloc, "n")?)?;
+    args.push(variable("n"))?;
     args.push(int(3))?;
     Ok(args)
 }

@@ -12,7 +12,7 @@ integer-returns-in-Ok-operand-2 t c =
     let fits : SFits w64 n = search rules in
     let known = rw c.get-in-Sum.ensures at c.in-Ok-operand-2.ensures in
     rw (c.in-Sum.is, value_of_sum env c.in-Sum.first c.in-Sum.rest)
-    (sum_gives env (value_of c.in-Sum.first env) n (map sum_part c.in-Sum.rest) c.add.result known (rw (c.as_slice-in-Ok-operand-2.ensures, to_z-of_z w64 n fits) at c.add.ensures))
+    (sum_gives env (value_of c.in-Sum.first env) n (map sum_part c.in-Sum.rest) c.add.result known (rw (c.as_slice.ensures, to_z-of_z w64 n fits) at c.add.ensures))
 
 pub integer-returns-in-Ok-operand-3 : goal.integer-returns-in-Ok-operand-3
 integer-returns-in-Ok-operand-3 t c =
@@ -27,7 +27,7 @@ pub value-returns-else-is_empty : goal.value-returns-else-is_empty
 value-returns-else-is_empty t c =
     let env = c.args.variables.now in
     let d = value_of c.args.e.now env in
-    let empty = rw c.as_slice-in-Sum.ensures at c.is_empty.ensures in
+    let empty = rw c.as_slice.ensures at c.is_empty.ensures in
     let some = sym empty ∙ c.if-is_empty.false in
     let whole : d ≡ integral (numbered d) = rw (c.in-Sum.is, value_of_sum env c.in-Sum.first c.in-Sum.rest) (sum_is_int env (value_of c.in-Sum.first env) c.in-Sum.rest some) in
     rw c.whole.ensures (whole_gives c.integer.result d whole c.integer.ensures)

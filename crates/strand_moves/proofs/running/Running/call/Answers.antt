@@ -6,7 +6,7 @@ use Rattle.strand_moves.proofs.running.Running.call.Goals as goal
 pub returns-in-Some-clause-shows : goal.returns-in-Some-clause-shows
 returns-in-Some-clause-shows c = λ st.
     let plan = c.args.plan.now in
-    let number = rw (c.functions.ensures.functions, c.as_slice.ensures) at c.function_number-number.ensures in
+    let number = c.callee-number.ensures in
     let there = sym c.function_in.ensures ∙ ap (λ o. option_copied o) c.in-Some.is in
     rw c.quiet.ensures (c.enter.ensures.shows plan st number there)
 
@@ -19,7 +19,7 @@ returns-in-Some-clause-stays c = rw c.quiet.ensures c.enter.ensures.stays
 pub returns-in-None-clause-shows : goal.returns-in-None-clause-shows
 returns-in-None-clause-shows c = λ st.
     let plan = c.args.plan.now in
-    let number = rw (c.functions.ensures.functions, c.as_slice.ensures) at c.function_number-number.ensures in
+    let number = c.callee-number.ensures in
     let there = sym (rw number at c.function_in.ensures) ∙ ap (λ o. option_copied o) c.in-None.is in
     rw c.quiet-in-None.ensures (c.skip.ensures.shows plan st there)
 

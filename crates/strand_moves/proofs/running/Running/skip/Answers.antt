@@ -33,7 +33,7 @@ returns-clause-shows c = λ plan st there.
     let room = is_below (length (machine_of plan i).below) 256 (omega (arith, calls-open plan i)) in
     let received = c.in_ok-receive.ensures in
     let target = c.as_ref.ensures.value in
-    call-none plan (present_of i) (machine_of plan i) st to c.args.call.now c.in_ok-values.field-0 c.receive.new.self.top.env known room there (rw (target, c.in_ok-target.ensures) at received.env)
+    call-none plan (present_of i) (machine_of plan i) st to c.args.call.now c.in_ok-values.field-0 c.receive.new.self.top.env known room there (rw (target, c.target_of-target.ensures) at received.env)
     ∙ ap (λ (x : Running). went [] (machine_of plan x)) (sym received.others)
 
 pub returns-clause-stays : goal.returns-clause-stays

@@ -37,7 +37,7 @@ returns-clause-shows c = λ st.
     let plan = c.args.plan.now in
     let known = rw c.as_slice.ensures at c.in_ok-args.ensures in
     let depth = ap (λ (p : PlanView). p.limits.depth) c.plan.view_is in
-    let number = rw (c.functions.ensures.functions, c.as_slice-2.ensures) at c.function_number-function.ensures in
+    let number = c.callee-function.ensures in
     let place = c.in_ok-trail.ensures in
     let received = c.in_ok-target.ensures in
     let others = c.receive_filler.ensures.others in
@@ -45,7 +45,7 @@ returns-clause-shows c = λ st.
     let height : c.len-height.result ≡ length i.below.items = omega (arith, below, i.below.ok.0) in
     let at = c.in_ok-pedigree.ensures ∙ ap (λ (x : Running). strand_at x) others in
     rw c.in_ok-child.ensures
-    (spawned-child plan i st (option_copied c.args.target) c.args.call.now c.in_ok-args.args (answer_filler (function_at (functions_of plan) c.function_number-function.result)) c.function_number-function.result c.len-height.result
+    (spawned-child plan i st (option_copied c.args.target) c.args.call.now c.in_ok-args.args (answer_filler (function_at (functions_of plan) c.callee-function.result)) c.callee-function.result c.len-height.result
     c.in_ok-pedigree.field-0 c.in_ok-trail.path c.in_ok-target.target c.receive_filler.new.self.top.env c.receive_filler.new.self
     known (omega arith) number at (place.shared ∙ place.path) refl received.env others height received.to)
 

@@ -14,20 +14,20 @@ absurd-none s t e h = let some = rw e at h in cc
 
 pub returns-in-Some-clause-there : goal.returns-in-Some-clause-there
 returns-in-Some-clause-there c = λ some.
-    let there = sym (rw (c.deref.ensures.value, c.bytes.ensures) at c.place.ensures) ∙ c.in-Some.is in
+    let there = sym (rw (c.deref.ensures.value, c.text.ensures) at c.place.ensures) ∙ c.in-Some.is in
     let e = set_found c.in-Some.i c.self.inside.variables.items c.args.name.now.bytes (Scalar c.args.value) c.index_mut.result.now there c.index_mut.ensures.value
     ∙ ap (λ (vs : Env). with_slot vs c.args.name.now.bytes (Scalar c.args.value)) c.self.view_is in
     search rules
 
 pub returns-in-Some-clause-missing : goal.returns-in-Some-clause-missing
 returns-in-Some-clause-missing c = λ none.
-    let there = sym (rw (c.deref.ensures.value, c.bytes.ensures) at c.place.ensures) ∙ c.in-Some.is in
+    let there = sym (rw (c.deref.ensures.value, c.text.ensures) at c.place.ensures) ∙ c.in-Some.is in
     let found = slot_found c.in-Some.i c.self.inside.variables.items c.args.name.now.bytes c.index_mut.result.now there c.index_mut.ensures.value in
     let e = ap (λ (vs : Env). slot_of vs c.args.name.now.bytes) (sym c.self.view_is) ∙ found in
     absurd (absurd-none (slot_of c.args.self.now c.args.name.now.bytes) c.index_mut.result.now.slot e none)
 
 pub returns-in_default-clause-there : goal.returns-in_default-clause-there
 returns-in_default-clause-there c = λ some.
-    let missing = sym (rw (c.deref.ensures.value, c.bytes.ensures) at c.place.ensures) ∙ c.in_default.is in
+    let missing = sym (rw (c.deref.ensures.value, c.text.ensures) at c.place.ensures) ∙ c.in_default.is in
     let e = ap (λ (vs : Env). slot_of vs c.args.name.now.bytes) (sym c.self.view_is) ∙ slot_missing c.self.inside.variables.items c.args.name.now.bytes missing in
     absurd (absurd-some (slot_of c.args.self.now c.args.name.now.bytes) e some)

@@ -16,18 +16,12 @@ pub returns-in_ok-push-in-None-clause-ok : goal.returns-in_ok-push-in-None-claus
 returns-in_ok-push-in-None-clause-ok c =
     let missing = sym (rw c.deref.ensures.value at c.place.ensures) ∙ c.in-None.is in
     (rw c.in_ok-push-in-None.was at c.push.ensures.items)
-    ∙ ap (λ (entry : Variable). c.self.inside.variables.items ++ entry ∷ []) c.in_ok-entry-in-None.ensures
+    ∙ ap (λ (entry : Variable). c.self.inside.variables.items ++ entry ∷ []) c.new.ensures
     ∙ set_missing c.self.inside.variables.items c.args.name.now c.args.slot missing
     ∙ ap (λ (vs : Env). with_slot vs c.args.name.now c.args.slot) c.self.view_is
-
-pub returns-in_err-entry-in-None-clause-err : goal.returns-in_err-entry-in-None-clause-err
-returns-in_err-entry-in-None-clause-err c =
-    let missing = sym (rw c.deref.ensures.value at c.place.ensures) ∙ c.in-None.is in
-    let e = ap (λ (vs : Env). slot_of vs c.args.name.now) (sym c.self.view_is) ∙ slot_missing c.self.inside.variables.items c.args.name.now missing in
-    on_err c.from_residual.result _ (refl, not_there _ e)
 
 pub returns-in_err-push-in-None-clause-err : goal.returns-in_err-push-in-None-clause-err
 returns-in_err-push-in-None-clause-err c =
     let missing = sym (rw c.deref.ensures.value at c.place.ensures) ∙ c.in-None.is in
     let e = ap (λ (vs : Env). slot_of vs c.args.name.now) (sym c.self.view_is) ∙ slot_missing c.self.inside.variables.items c.args.name.now missing in
-    on_err c.from_residual-in_err-push-in-None.result _ ((rw c.in_err-push-in-None.was at c.push.ensures.items) ∙ c.self.view_is, not_there _ e)
+    on_err c.from_residual.result _ ((rw c.in_err-push-in-None.was at c.push.ensures.items) ∙ c.self.view_is, not_there _ e)

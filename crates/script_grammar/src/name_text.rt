@@ -1,0 +1,116 @@
+// The bytes of names.
+
+ghost use Rattle.std.specs.Prelude.{◌≡◌, ◌≤◌, length, take};
+ghost use Rattle.std.specs.Int.{from_le_bytes, to_le_bytes, w64};
+ghost use Rattle.std.specs.Str.{bytes_eq};
+
+use std::marker::Model;
+
+/// How many bytes a name has at most.
+const LONGEST_NAME: usize = 32;
+
+/// How many of them the number has by which names are told apart.
+const IN_FRONT: u8 = 8;
+
+/// A name's bytes, in place, so that a copy takes no memory and two names are mostly compared as two numbers. Contracts see them as
+/// their list.
+#[derive(Drop)]
+pub struct NameText {
+    /// The first bytes as a number.
+    front: u64,
+    /// The bytes, and zeros after them.
+    room: [u8; 32],
+    length: u8,
+}
+
+impl Model for NameText {
+    ghost use Rattle.std.specs.Prelude.{ℕ, List};
+    ghost use Rattle.std.specs.Coded.{coded_list, coded_ℕ};
+    ghost use Rattle.script_grammar.specs.Names.{IsNameText, name_bytes};
+
+    ghost Value = { List ℕ };
+
+    ghost coded = { coded_list coded_ℕ };
+
+    ghost view = { λ n. name_bytes n.room n.length };
+
+    ghost invariant = { λ n. IsNameText n.front n.room n.length };
+}
+
+impl NameText {
+    /// A copy of these bytes.
+    pub fn of(bytes: &[u8]) -> NameText
+        requires { length bytes.now ≤ 32 }
+        ensures { result ≡ bytes.now }
+    {
+        let mut room = [0; LONGEST_NAME];
+        for i in 0..bytes.len() {
+            room[i] = bytes[i];
+        }
+        NameText {
+            front: front(&room),
+            room,
+            length: bytes.len() as u8,
+        }
+    }
+
+    /// The same bytes.
+    #[inline(always)]
+    pub fn copy(&self) -> NameText
+        ensures { result ≡ self.now }
+    {
+        NameText {
+            front: self.front,
+            room: self.room,
+            length: self.length,
+        }
+    }
+
+    /// The bytes in order.
+    #[inline(always)]
+    pub fn as_slice(&self) -> &[u8]
+        ensures { result.now ≡ self.now }
+    {
+        &self.room[..self.length as usize]
+    }
+
+    /// Whether both have the same bytes.
+    #[inline(always)]
+    pub fn same(&self, other: &NameText) -> bool
+        ensures { result ≡ bytes_eq self.now other.now }
+    {
+        if self.front != other.front || self.length != other.length {
+            return false;
+        }
+        if self.length <= IN_FRONT {
+            return true;
+        }
+        same_bytes(self.as_slice(), other.as_slice())
+    }
+}
+
+/// Whether both are the same, byte by byte. No call stands here, so that a search has no frame.
+#[inline(always)]
+fn same_bytes(left: &[u8], right: &[u8]) -> bool
+    ensures { result ≡ bytes_eq left.now right.now }
+{
+    if left.len() != right.len() {
+        return false;
+    }
+    for i in 0..left.len() {
+        if left[i] != right[i] {
+            return false;
+        }
+    }
+    true
+}
+
+/// The first bytes as a number.
+fn front(room: &[u8; 32]) -> u64
+    ensures number { result ≡ from_le_bytes w64 (take 8 room.now) }
+    ensures bytes { take 8 room.now ≡ to_le_bytes w64 result }
+{
+    u64::from_le_bytes([
+        room[0], room[1], room[2], room[3], room[4], room[5], room[6], room[7],
+    ])
+}
