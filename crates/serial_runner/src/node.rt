@@ -1,5 +1,5 @@
 // A node of the open tree on the way down to a strand.
-ghost use Rattle.std.specs.Prelude.{◌≡◌, IfOk};
+ghost use Rattle.std.specs.Prelude.{◌≡◌, if◌then◌else◌, Some, None, IfOk};
 ghost use Rattle.std.specs.Arc.{arc_value};
 ghost use Rattle.serial_meaning.specs.Eval.{path_of};
 ghost use Rattle.serial_meaning.specs.Laws.{IsOriginOf};
@@ -9,7 +9,7 @@ ghost use Rattle.serial_runner.specs.Nodes.{IsBelow, fault_at, node_seen, node_t
 use crate::sight::Sight;
 use crate::walk::see_instance;
 use ped_path::Pedigree;
-use serial_meaning::{Fault, Origin, Plan, Strand};
+use serial_meaning::{Fault, Origin, Out, Plan, Strand};
 use std::alloc::Global;
 use std::sync::Arc;
 use strand_machine::Memory;
@@ -33,6 +33,17 @@ fn fault_at(fault: Option<Fault>, at: &Pedigree) -> Option<Fault>
     if fault.at.same(at) { Some(fault) } else { None }
 }
 
+/// The strand that did this, if it came.
+fn strand_if(came: bool, events: Out, fault: Option<Fault>) -> Option<Strand>
+    ensures { result ≡ (if came then Some (record { events = events; fault = fault }) else None) }
+{
+    if came {
+        Some(Strand { events, fault })
+    } else {
+        None
+    }
+}
+
 /// What is seen of an instance, as a node.
 fn node_seen(sight: Sight, at: &Pedigree) -> Node
     ensures { result ≡ node_seen at.now sight }
@@ -52,13 +63,8 @@ fn node_seen(sight: Sight, at: &Pedigree) -> Node
         };
     }
     let came = eye.came || (eye.is_here() && joined.is_none());
-    let fault = fault_at(fault, at);
     Node {
-        strand: if came {
-            Some(Strand { events, fault })
-        } else {
-            None
-        },
+        strand: strand_if(came, events, fault_at(fault, at)),
         child: None,
         joined: if eye.past { joined } else { None },
     }

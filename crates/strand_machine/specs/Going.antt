@@ -14,12 +14,13 @@ use Rattle.strand_meaning.specs.Machine.{Place}
 use Rattle.strand_meaning.specs.Pieces.{Part, Pieces, heard_all}
 use Rattle.strand_meaning.specs.Sound.{IsTask}
 use Rattle.strand_meaning.specs.Task as meaning
-use Rattle.strand_meaning.specs.Task.{Splits, Runs, Over, takes, takes_all, more_values, all_values}
+use Rattle.strand_meaning.specs.Task.{Splits, Runs, Over, takes, takes_all, more_values, all_values, resumed_work}
 use Rattle.strand_machine.specs.Family.{FamilyView}
 use Rattle.strand_machine.specs.Stops.{any_cut}
 use Rattle.strand_machine.specs.Tasks.{TaskView, stage_of, work_of, task_of, StandsAt, WorksAt}
 use Rattle.strand_machine.specs.declared.body.Body.{Body}
 use Rattle.strand_machine.specs.declared.going.Going.{Going}
+use Rattle.strand_machine.specs.declared.parts.Parts.{Parts}
 use Rattle.strand_machine.specs.declared.work.Stage.{Stage}
 use Rattle.strand_machine.specs.declared.work.Work.{Work}
 
@@ -103,6 +104,11 @@ pub record IsShort (family : FamilyView) (g : Going) (was_advanced : Bool) (next
   pub children : next.children ≡ family.children
   pub loads : next.loads ≡ family.loads
   pub knows : next.knows ≡ family.knows
+
+-- What is left of a task that took no cut.
+pub record IsWhole (g : Going) (before : Body) (after : Parts) : Type 0 where
+  pub body : after.body ≡ record before { pieces = pieces_of g; values = g.values; waiting = false }
+  pub work : BecomesWork (resumed_work [] []) g.work after.work
 
 -- what origins give by the serial meaning
 abbrev pub meanings : List AnswerTag → List Evaluation

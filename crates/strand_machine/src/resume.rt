@@ -3,7 +3,7 @@ ghost use Rattle.std.specs.Prelude.{◌≡◌, ◌-◌, List, [], true, length, 
 ghost use Rattle.serial_meaning.specs.Plan.{PlanView};
 ghost use Rattle.strand_meaning.specs.Task.{resumed, resumed_work};
 ghost use Rattle.strand_machine.specs.Family.{tags, origins, AwaitsCount};
-ghost use Rattle.strand_machine.specs.Going.{BecomesStage, BecomesWork, EndsShort, IsAnswered, IsShort, TakesAnswers, end_of};
+ghost use Rattle.strand_machine.specs.Going.{BecomesStage, BecomesWork, EndsShort, IsAnswered, IsShort, IsWhole, TakesAnswers, end_of};
 ghost use Rattle.strand_machine.specs.Parts.{awaited, parts_of};
 ghost use Rattle.strand_meaning.specs.Cuts.{AreAnswersOf};
 ghost use Rattle.strand_machine.specs.Made.{resumed_as};
@@ -140,6 +140,38 @@ fn cut_short(parts: &mut Parts, alloc: Global, going: Going)
     set(&mut parts.work, Work::Cut(outcome));
 }
 
+/// What is left of a task that took answers, none of them a cut: it goes on.
+fn goes_on(parts: &mut Parts, alloc: Global, going: Going) -> Result<(), Memory>
+    ensures { OnOk result (IsWhole going parts.old.body parts.new) }
+{
+    let Going {
+        told,
+        fault,
+        values,
+        work,
+        ..
+    } = going;
+    let pieces = Pieces {
+        told,
+        fault,
+        awaited: Items(Vec::new(alloc)),
+        behind: Vec::new(alloc),
+    };
+    match go_on_work(work) {
+        Ok(work) => {
+            set(&mut parts.body.pieces, pieces);
+            set(&mut parts.body.values, values);
+            parts.body.waiting = false;
+            set(&mut parts.work, work);
+            Ok(())
+        }
+        Err(memory) => {
+            drop((pieces, values));
+            Err(memory)
+        }
+    }
+}
+
 /// The task with its children's answers, whose list comes back.
 pub(crate) fn go_on(
     parts: &mut Parts,
@@ -185,29 +217,10 @@ pub(crate) fn go_on(
         cut_short(parts, alloc, going);
         return Ok(left);
     }
-    let Going {
-        told,
-        fault,
-        values,
-        work,
-        ..
-    } = going;
-    let pieces = Pieces {
-        told,
-        fault,
-        awaited: Items(Vec::new(alloc)),
-        behind: Vec::new(alloc),
-    };
-    match go_on_work(work) {
-        Ok(work) => {
-            set(&mut parts.body.pieces, pieces);
-            set(&mut parts.body.values, values);
-            parts.body.waiting = false;
-            set(&mut parts.work, work);
-            Ok(left)
-        }
+    match goes_on(parts, alloc, going) {
+        Ok(()) => Ok(left),
         Err(memory) => {
-            drop((pieces, values, left));
+            drop(left);
             Err(memory)
         }
     }

@@ -51,13 +51,8 @@ pub(crate) fn show(
         } => {
             parts.body.pieces.tell(alloc, event)?;
             let place = Place::Spawned(height, target);
-            spawn(
-                parts,
-                alloc,
-                child,
-                place,
-                Work::Runs(Stage::Goes(instance)),
-            )
+            let next = Work::Runs(Stage::Goes(instance));
+            spawn(parts, alloc, child, place, next)
         }
         Shown::Looped {
             event,
@@ -66,13 +61,8 @@ pub(crate) fn show(
         } => {
             parts.body.pieces.tell(alloc, event)?;
             let place = Place::Looped(target);
-            spawn(
-                parts,
-                alloc,
-                child,
-                place,
-                Work::Runs(Stage::AtLoop(instance)),
-            )
+            let next = Work::Runs(Stage::AtLoop(instance));
+            spawn(parts, alloc, child, place, next)
         }
     }
 }

@@ -1,8 +1,10 @@
-use Rattle.std.proofs.Common.{length, sym, ap, ◌∙◌}
+use Rattle.std.proofs.Common.{[], length, refl, sym, ap, ◌∙◌, subst}
 use Rattle.strand_meaning.specs.Pieces.{Pieces}
+use Rattle.strand_machine.specs.Going.{IsWhole}
 use Rattle.strand_machine.specs.Parts.{awaited}
 use Rattle.strand_machine.specs.Stops.{answer_tags}
-use Rattle.strand_machine.specs.Tasks.{view_of}
+use Rattle.strand_machine.specs.Tasks.{IsSound, view_of}
+use Rattle.strand_machine.specs.declared.body.Body.{Body}
 use Rattle.strand_machine.proofs.Advancing.{sound_holds}
 use Rattle.strand_machine.proofs.Answering.{length-answer-tags, length-tags}
 use Rattle.strand_machine.proofs.Cutting.{answers-of, ends-short, own-children, short-on, taken-from, takes-whole, went-short, went-whole}
@@ -44,11 +46,8 @@ returns-then-going-clause-went c =
 pub returns-then-going-clause-answers : goal.returns-then-going-clause-answers
 returns-then-going-clause-answers c = let b = c.args.parts.now.body in answers-of b.family.plan b.pieces.handed c.args.answers c.in-Ok.ensures.takes.said c.requires.tags
 
-pub invariant_of-pieces : goal.invariant_of-pieces
-invariant_of-pieces c = ap length c.new-3.ensures.items ∙ sym (ap length c.new-4.ensures.items)
-
-pub returns-in-Ok-go_on_work-clause-went : goal.returns-in-Ok-go_on_work-clause-went
-returns-in-Ok-go_on_work-clause-went c =
+pub returns-in-Ok-goes_on-clause-went : goal.returns-in-Ok-goes_on-clause-went
+returns-in-Ok-goes_on-clause-went c =
     let b = c.args.parts.now.body in
     let w = c.args.parts.now.work in
     let p = c.taken.inside in
@@ -56,21 +55,25 @@ returns-in-Ok-go_on_work-clause-went c =
     let h = taken-from b w p.told p.fault _ _ _ c.args.answers c.take_all.new.going c.replace-values.ensures.value c.replace-work.ensures.value c.in-Ok.ensures.takes in
     let whole = sym h.cut ∙ c.if-going.false in
     let takes = takes-whole b w p.told p.fault p.awaited p.behind.items c.args.answers c.take_all.new.going c.answers_are_evaluations.ensures h whole in
-    rw (c.set.ensures, c.set-in-Ok-go_on_work.ensures, c.set-in-Ok-go_on_work-2.ensures) (went-whole c.args.answers (view_of b w) _ whole
-    (goes-on-view b w p.told p.fault p.awaited p.behind.items (answer_tags c.args.answers) c.take_all.new.going c.new-3.result.items c.new-4.result.items c.in-Ok-go_on_work.work
-    view c.taken.invariant c.requires.tags c.new-3.ensures.items takes c.in-Ok-go_on_work.ensures c.requires.sound))
+    let next = c.goes_on.new.parts in
+    let after : IsWhole c.take_all.new.going (record b { pieces = c.replace-taken.new.dest; values = c.replace-values.new.dest }) next = c.in-Ok-goes_on.ensures in
+    went-whole c.args.answers (view_of b w) _ whole (ap (λ (x : Body). view_of x next.work) after.body
+    ∙ goes-on-view b w p.told p.fault p.awaited p.behind.items (answer_tags c.args.answers) c.take_all.new.going [] [] next.work
+    view c.taken.invariant c.requires.tags refl takes after.work c.requires.sound)
 
-pub returns-in-Ok-go_on_work-clause-answers : goal.returns-in-Ok-go_on_work-clause-answers
-returns-in-Ok-go_on_work-clause-answers c = let b = c.args.parts.now.body in answers-of b.family.plan b.pieces.handed c.args.answers c.in-Ok.ensures.takes.said c.requires.tags
+pub returns-in-Ok-goes_on-clause-answers : goal.returns-in-Ok-goes_on-clause-answers
+returns-in-Ok-goes_on-clause-answers c = let b = c.args.parts.now.body in answers-of b.family.plan b.pieces.handed c.args.answers c.in-Ok.ensures.takes.said c.requires.tags
 
-pub returns-in-Ok-go_on_work-clause-holds : goal.returns-in-Ok-go_on_work-clause-holds
-returns-in-Ok-go_on_work-clause-holds c =
+pub returns-in-Ok-goes_on-clause-holds : goal.returns-in-Ok-goes_on-clause-holds
+returns-in-Ok-goes_on-clause-holds c =
     let b = c.args.parts.now.body in
     let w = c.args.parts.now.work in
     let p = c.taken.inside in
     let view = c.taken.view_is ∙ c.replace-taken.ensures.value in
     let h = taken-from b w p.told p.fault _ _ _ c.args.answers c.take_all.new.going c.replace-values.ensures.value c.replace-work.ensures.value c.in-Ok.ensures.takes in
     let takes = takes-whole b w p.told p.fault p.awaited p.behind.items c.args.answers c.take_all.new.going c.answers_are_evaluations.ensures h (sym h.cut ∙ c.if-going.false) in
-    rw (c.set.ensures, c.set-in-Ok-go_on_work.ensures, c.set-in-Ok-go_on_work-2.ensures) (sound_holds _ c.in-Ok-go_on_work.work
-    (goes-on-sound b w p.told p.fault p.awaited p.behind.items (answer_tags c.args.answers) c.take_all.new.going c.new-3.result.items c.new-4.result.items c.in-Ok-go_on_work.work
-    view c.taken.invariant c.requires.tags c.new-3.ensures.items takes c.in-Ok-go_on_work.ensures c.answers_keep_tasks.ensures c.requires.sound))
+    let next = c.goes_on.new.parts in
+    let after : IsWhole c.take_all.new.going (record b { pieces = c.replace-taken.new.dest; values = c.replace-values.new.dest }) next = c.in-Ok-goes_on.ensures in
+    sound_holds _ next.work (subst (λ (x : Body). IsSound x next.work) (sym after.body)
+    (goes-on-sound b w p.told p.fault p.awaited p.behind.items (answer_tags c.args.answers) c.take_all.new.going [] [] next.work
+    view c.taken.invariant c.requires.tags refl takes after.work c.answers_keep_tasks.ensures c.requires.sound))
