@@ -24,6 +24,7 @@ use script_check::Checked;
 use serial_meaning::{Answer, Memory, Out, Outcome, Plan, Strand, laws, render_run, render_strand};
 use span_report::{Span, span};
 use std::alloc::{AllocError, Global};
+use std::mem::forget;
 use std::sync::{Arc, Wait};
 use std::thread::Threads;
 
@@ -74,14 +75,15 @@ fn answer_report(alloc: Global, answer: &Answer) -> Result<Report, Memory>
     Ok(Report { output, ending })
 }
 
-// The same. The answer is dropped.
+// The same. The answer's memory is left to the end of the process, which is next: to give back each event takes a third of the time that a run takes on four
+// workers.
 fn reported(alloc: Global, answer: Answer) -> Result<Report, Memory>
     requires main { answer.origin ≡ main_origin answer.plan }
     requires whole { IsWhole answer.outcome }
     ensures { IfOk result (λ report. shown report ≡ run_report answer.plan) }
 {
     let report = answer_report(alloc, &answer);
-    drop(answer);
+    forget(answer);
     report
 }
 
@@ -134,7 +136,7 @@ fn worker_line(alloc: Global, worker: u32) -> Result<Vec<u8>, AllocError>
     Ok(line.into_bytes())
 }
 
-// What is written of main's answer in a simulation, and of the worker that gave it. The answer is dropped.
+// What is written of main's answer in a simulation, and of the worker that gave it.
 fn sim_report(alloc: Global, simulated: Simulated) -> Result<Report, Memory>
     requires main { simulated.answer.origin ≡ main_origin simulated.answer.plan }
     requires whole { IsWhole simulated.answer.outcome }
