@@ -1,5 +1,5 @@
 -- Values of which only the number counts.
-use Rattle.std.proofs.Common.{◌≡◌, ℕ, zero, suc, Bool, true, false, ◌==◌, List, [], ◌∷◌, map, length, Result, Ok, Err, refl, ap, sym, subst, ◌∙◌, int_rem, arith}
+use Rattle.std.proofs.Common.{◌≡◌, ℕ, zero, suc, Bool, true, false, ◌==◌, List, [], ◌∷◌, map, length, Result, Ok, Err, Option, Some, None, IfSome, refl, ap, sym, subst, ◌∙◌, int_rem, arith}
 use Rattle.std.proofs.lemmas.Bool.{eqb-true}
 use Rattle.std.proofs.Common.{ℤ, pos, negsuc, w64}
 use Rattle.std.specs.Int.{int_wrapping_div}
@@ -127,6 +127,23 @@ product_is_int env (Ok v) [] h = absurd (cc)
 product_is_int env (Ok v) (p ∷ ps) h =
     let q = product_part p in
     more_multiplied env q.0 (number v) (q.1 env) (map product_part ps) (λ m. products_of_int env (map product_part ps) m)
+
+-- The same where there is a number
+
+pub product_counts : (env : Env) (d : Val) (n : ℤ) (ps : List (ProductSign × Meaning)) (r : Option ℤ) → numbered d ≡ Ok n →
+    IfSome r (λ m. products env (Int n) ps ≡ Ok (Int m)) → IfSome r (λ m. numbered (d >>= λ v. products env v ps) ≡ Ok m)
+product_counts env d n ps None h g = tt
+product_counts env d n ps (Some m) h g = product_begins env d n ps h ∙ ap numbered g
+
+pub product_is : (env : Env) (d : Val) (rest : List ProductPart) (r : Option ℤ) → (length rest == 0) ≡ false →
+    IfSome r (λ m. numbered (d >>= λ v. products env v (map product_part rest)) ≡ Ok m) → IfSome r (λ m. (d >>= λ v. products env v (map product_part rest)) ≡ Ok (Int m))
+product_is env d rest None some g = tt
+product_is env d rest (Some m) some g = product_is_int env d rest some ∙ ap integral g
+
+pub sum_is : (env : Env) (d : Val) (n : ℤ) (rest : List SumPart) (r : Option ℤ) → (length rest == 0) ≡ false → numbered d ≡ Ok n →
+    IfSome r (λ m. sums env (Int n) (map sum_part rest) ≡ Ok (Int m)) → IfSome r (λ m. (d >>= λ v. sums env v (map sum_part rest)) ≡ Ok (Int m))
+sum_is env d n rest None some h g = tt
+sum_is env d n rest (Some m) some h g = sum_is_int env d rest some ∙ ap integral (sum_begins env d n (map sum_part rest) h ∙ ap numbered g)
 
 -- and without one, it is the first
 

@@ -1,13 +1,14 @@
 -- What the nodes of an expression give by what their last operands give; each is an end of one case of the definition of a value.
-use Rattle.std.specs.Prelude.{ℕ, List, Ok}
+use Rattle.std.specs.Prelude.{ℕ, List, Ok, map}
 use Rattle.std.specs.Prelude.{ℤ}
 use Rattle.std.specs.Int.{w64, int_wrapping_neg}
 use Rattle.std.specs.Str.{bytes_eq}
 use Rattle.std.specs.Ordering.{nat_cmp, is_lt}
 use Rattle.std.specs.Cmp.Lexicographic.{slice_cmp}
 use Rattle.script_grammar.specs.declared.tree.Comparison.{Comparison}
+use Rattle.script_grammar.specs.declared.tree.ProductPart.{ProductPart}
 use Rattle.serial_meaning.specs.Runs.{◌>>=◌}
-use Rattle.serial_meaning.specs.Values.{Val, Env, slot_of, items_of, item, number, object, truth, compared}
+use Rattle.serial_meaning.specs.Values.{Val, Env, slot_of, items_of, item, number, object, truth, compared, products, product_part}
 use Rattle.serial_meaning.specs.declared.value.Value.{Value}
 use Rattle.serial_meaning.specs.declared.value.Value.TheVariants.{Int}
 
@@ -25,3 +26,6 @@ older left right = right >>= λ y. Ok (truth (is_lt (slice_cmp nat_cmp (object l
 
 abbrev pub comparison : ℤ → Comparison → Val → Val
 comparison left how right = right >>= λ y. Ok (truth (compared how left (number y)))
+
+abbrev pub product_of : Env → Val → List ProductPart → Val
+product_of env first rest = first >>= λ v. products env v (map product_part rest)

@@ -1,4 +1,4 @@
-ghost use Rattle.std.specs.Prelude.{◌≡◌, Ok, Err, IfOk, OnOk, OnErr, IsSome, IsNone};
+ghost use Rattle.std.specs.Prelude.{◌≡◌, Ok, Err, IfOk, IfSome, OnOk, OnErr, IsSome, IsNone};
 ghost use Rattle.std.specs.Option.{option_copied};
 ghost use Rattle.serial_meaning.specs.declared.environment.Slot.TheVariants.{Scalar, Array};
 ghost use Rattle.serial_meaning.specs.Values.{value_of, values_of, slot_of, items_of, at_index};
@@ -13,6 +13,7 @@ ghost use Rattle.strand_values.specs.Targets.{IsUnknown};
 use crate::entry::Entry;
 use crate::halt::Halt;
 use crate::memory::Memory;
+use crate::plain;
 use crate::scalar::number;
 use crate::target::Target;
 use crate::value::{self, is_integer};
@@ -95,11 +96,21 @@ impl Environment {
         value::integer(&self.variables, e)
     }
 
+    /// The integer that an expression is, where that takes few instructions.
+    pub fn plain(&self, e: &Expr) -> Option<i64>
+        ensures { IfSome result (λ n. value_of e.now self.now ≡ Ok (Int n)) }
+    {
+        plain::plain(&self.variables, e)
+    }
+
     /// Whether a condition holds: its value isn't 0.
     pub fn holds(&self, e: &Expr) -> Result<bool, Halt>
         ensures { Gives result (holding (value_of e.now self.now)) }
     {
-        Ok(value::integer(&self.variables, e)? != 0)
+        match plain::plain(&self.variables, e) {
+            Some(number) => Ok(number != 0),
+            None => Ok(value::integer(&self.variables, e)? != 0),
+        }
     }
 
     /// The values of arguments from left to right, or the fault that is met first.
@@ -133,6 +144,20 @@ impl Environment {
             }
         }
         Ok(())
+    }
+
+    /// Gives a scalar a number. A name that wasn't there stands at the end. Without memory nothing changes.
+    pub fn set_number(&mut self, name: &NameText, number: i64) -> Result<(), Memory>
+        ensures ok { OnOk result (self.new ≡ with_slot self.old name.now (Scalar (Int number))) }
+        ensures err { OnErr result (self.new ≡ self.old) }
+    {
+        match place(&self.variables, name) {
+            Some(i) => {
+                self.variables[i].set_number(number);
+                Ok(())
+            }
+            None => self.set(name, Slot::Scalar(Value::Int(number))),
+        }
     }
 
     /// Gives a scalar a value. A name that wasn't there stands at the end, and only then it needs memory. Without memory nothing
@@ -213,19 +238,6 @@ impl Environment {
                 let nothing = Slot::Array(Items(Vec::new(alloc)));
                 self.set(&name.bytes, nothing)
             }
-        }
-    }
-
-    fn set_number(&mut self, name: &NameText, number: i64) -> Result<(), Memory>
-        ensures ok { OnOk result (self.new ≡ with_slot self.old name.now (Scalar (Int number))) }
-        ensures err { OnErr result (self.new ≡ self.old) }
-    {
-        match place(&self.variables, name) {
-            Some(i) => {
-                self.variables[i].set_number(number);
-                Ok(())
-            }
-            None => self.set(name, Slot::Scalar(Value::Int(number))),
         }
     }
 

@@ -8,6 +8,7 @@ mod entry;
 mod environment;
 mod halt;
 mod memory;
+mod plain;
 mod scalar;
 mod slots;
 mod target;

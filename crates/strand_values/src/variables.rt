@@ -50,6 +50,7 @@ fn shared(value: &Value) -> Result<Value, Halt>
 }
 
 /// The number that a scalar counts as.
+#[inline(always)]
 pub(crate) fn number_of(variables: &[Entry], name: &NameText) -> i64
     ensures { result ≡ number (scalar (slot_of variables.now name.now)) }
 {
