@@ -167,6 +167,7 @@ impl Family {
     }
 
     /// What the task answers, and the give for it.
+    #[inline(always)]
     pub fn answer(self, out: Out, outcome: Outcome) -> (Answer, Give<Answer>)
         requires { IsAnswer self.plan self.origin out outcome }
         ensures answer { result.0 ≡ record { plan = self.plan; origin = self.origin; out = out; outcome = outcome } }

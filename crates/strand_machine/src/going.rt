@@ -64,6 +64,7 @@ fn first_of(values: Items<Value>) -> Value
 }
 
 /// An instance that takes the answer of a child that it spawned.
+#[inline(always)]
 fn take_spawned(instance: &mut Instance, height: usize, target: &Option<Target>, outcome: Outcome)
     ensures machine { (plan : PlanView) → machine_of plan instance.new
         ≡ changed height (answered target.now (ending_of outcome)) (machine_of plan instance.old) }

@@ -73,6 +73,7 @@ impl Pieces {
     }
 
     /// One more event of the task's own.
+    #[inline(always)]
     pub fn tell(&mut self, alloc: Global, event: Event) -> Result<(), Memory>
         ensures { OnOk result (self.new ≡ tell event self.old) }
     {
@@ -134,6 +135,7 @@ impl Pieces {
     }
 
     /// The events before the first child, and the fault that ends them, if there is one.
+    #[inline(always)]
     pub fn told(self) -> (Out, Option<Fault>)
         ensures told { result.0 ≡ self.told }
         ensures fault { result.1 ≡ self.fault }

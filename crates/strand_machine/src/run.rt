@@ -20,6 +20,7 @@ use strand_meaning::laws;
 use strand_moves::{Instance, Moved, Shown};
 
 /// What a move showed joins the pieces; a child is handed out.
+#[inline(always)]
 pub(crate) fn show(
     parts: &mut Parts,
     alloc: Global,

@@ -94,6 +94,7 @@ pub(crate) fn run(parts: &mut Parts, alloc: Global, stage: Stage) -> Result<Pass
 }
 
 /// A move of the task in place, or its stop, by what remains.
+#[inline(always)]
 pub(crate) fn pass_with(parts: &mut Parts, alloc: Global, work: Work) -> Result<Passed, Memory>
     requires { IsSound parts.old.body work }
     ensures step { IfOk result (λ passed. GoesOn (view_of parts.old.body work) (made parts.new passed)) }
@@ -171,6 +172,7 @@ pub(crate) fn run_on(parts: &mut Parts, alloc: Global) -> Result<Passed, Memory>
 }
 
 /// The stop of a task that came to one.
+#[inline(always)]
 pub(crate) fn stopped(parts: Box<Parts>, passed: Passed) -> Stop
     requires sound { IsSoundMade parts.value passed }
     requires stops { IsStopped passed }

@@ -64,6 +64,7 @@ impl Work {
 }
 
 /// What remains of an origin of which nothing is done.
+#[inline(always)]
 pub(crate) fn begin(
     alloc: Global,
     plan: &Plan,
@@ -122,6 +123,7 @@ pub(crate) fn begin_last(
 }
 
 /// An instance before its first move. One of no function has the value 0.
+#[inline(always)]
 fn begin_instance(
     alloc: Global,
     plan: &Plan,

@@ -75,6 +75,7 @@ impl Activation {
     }
 
     /// The statements among which its cursor stands: its function's body, or the block of its innermost open scope.
+    #[inline(always)]
     pub(crate) fn text<'a>(&self, plan: &'a Plan) -> &'a [Stmt]
         ensures { result.now ≡ text_of plan.now self.now }
     {

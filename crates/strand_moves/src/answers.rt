@@ -65,6 +65,7 @@ impl Running {
 }
 
 /// Gives a variable that is there a new value.
+#[inline(always)]
 fn replace(env: &mut Environment, target: Option<&Target>, value: Value)
     ensures { env.new ≡ with_answer (option_copied target.entry) value env.old }
 {

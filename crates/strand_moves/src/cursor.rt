@@ -145,6 +145,7 @@ impl Cursor {
     }
 
     /// The same where the innermost block is at hand. It gives the one in which it then stands, too.
+    #[inline(always)]
     pub(crate) fn pass_in<'a>(
         &mut self,
         body: &'a [Stmt],
