@@ -43,7 +43,8 @@ pub(crate) fn write_lanes(out: &mut [u64], start: usize, lanes: &[u64; LANES])
     }
 }
 
-/// Mixes each number by so many rounds, at most `dotmix::MOST_ROUNDS`.
+/// Mixes each number by so many rounds, at most `dotmix::MOST_ROUNDS`. It is for who has dot products from elsewhere: of 0, 1 and 11 four
+/// rounds make 0, 21 and 128271.
 pub fn mix_lanes(z: &mut [u64], rounds: u32)
     requires { rounds ≤ most_rounds }
     ensures { z.new ≡ map (λ n. mix n rounds) z.old }

@@ -164,6 +164,7 @@ impl Faults {
             match noted {
                 Some(n) => self.least[n] = i,
                 None => {
+                    // Without memory for it, nothing of the plan is cut.
                     let _noted = self.least.push(i);
                 }
             }

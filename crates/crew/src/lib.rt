@@ -30,6 +30,6 @@ pub use serial_runner::{Node, run_serial, walk_node};
 fn is_sent<T: Send>() {}
 
 /// A hand may go to any thread, with the tasks that it has. The body asks for it, so that a field which forbids it fails the build.
-pub fn all_are_sent() {
+fn all_are_sent() {
     is_sent::<Hand>();
 }

@@ -53,6 +53,7 @@ impl Root {
         laws::main_is_not_cut();
         let Root { mut join } = self;
         let answer = join.take(0);
+        // Read for the proof: an answer keeps by its type how an origin of the plan may end.
         let _outcome = &answer.outcome;
         answer
     }

@@ -110,6 +110,7 @@ fn is_meant(answer: &Answer)
     ensures { IsEval answer.now.plan answer.now.origin answer.now.out answer.now.outcome }
 {
     laws::whole_answers_are_evals();
+    // Read for the proof: an answer keeps by its type how an origin of the plan may end.
     let _outcome = &answer.outcome;
 }
 
@@ -133,6 +134,7 @@ fn ends_within_faults(answer: &Answer)
 {
     laws::origins_end_within_faults();
     laws::whole_answers_are_evals();
+    // Read for the proof: an answer keeps by its type how an origin of the plan may end.
     let _outcome = &answer.outcome;
 }
 

@@ -117,6 +117,7 @@ impl Gamma {
         requires { length path.now < length self.now }
         ensures { result ≡ length path.now + 1 }
     {
+        // Read for the proof: there are few coefficients, so that the place is a u32.
         let _ = &self.coefficients;
         path.len() as u32 + 1
     }

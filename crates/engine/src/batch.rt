@@ -103,6 +103,7 @@ fn answers_report(
     requires answers { answers.now ≡ map main_answer (map arc_value plans.now) }
     ensures { IfOk result (λ report. shown report ≡ written seeds.now (map arc_value plans.now)) }
 {
+    // Read for the proof: the plans are in no other line, and the contract speaks of them.
     let _plans = plans;
     let output = render_batch(alloc, seeds, answers)?;
     let ending = ending_for(answers.as_slice());

@@ -97,6 +97,7 @@ fn prepare_batch<R: Threads + Wait + Sync, S: Source, G: Gate + Sync>(
 fn tell<E: Sink>(err: &mut E, line: &[u8])
     ensures { Told (watched E.written E.faults err.old err.new) line.now }
 {
+    // What becomes of the line is told by the sink's faults.
     let _ = write_all(err, line);
 }
 
@@ -342,6 +343,46 @@ fn serve_batch<R: Threads + Wait + Sync, S: Source, K: Sink, E: Sink, G: Gate + 
     }
 }
 
+// Runs a command, `run` and `batch` by workers on threads.
+fn serve_by_crew<R: Threads + Wait + Sync, S: Source, K: Sink, E: Sink, G: Gate + Sync>(
+    rt: &R,
+    alloc: Global,
+    command: Command,
+    source: &mut S,
+    out: &mut K,
+    err: &mut E,
+    gate: &G,
+) -> Status
+    requires { IsLawful command }
+    ensures answers { Answers command (watched S.left S.faults source.old source.new) (watched K.written K.faults out.old out.new)
+        (watched E.written E.faults err.old err.new) result }
+    ensures untouched { IsFalse (takes_script command) → source.new ≡ source.old }
+    ensures no_output { IsFalse (has_output result) → out.new ≡ out.old }
+    ensures no_line { IsFalse (has_line result) → err.new ≡ err.old }
+{
+    match command {
+        Command::Run { settings, workers } => {
+            serve_run(rt, alloc, settings, workers, source, out, err, gate)
+        }
+        Command::Batch {
+            seeds,
+            limits,
+            show,
+            rounds,
+            workers,
+        } => {
+            let batch = Batch {
+                seeds,
+                limits,
+                show,
+                rounds,
+            };
+            serve_batch(rt, alloc, &batch, workers, source, out, err, gate)
+        }
+        command => serve(alloc, command, source, out, err),
+    }
+}
+
 /// Reads the words and runs their command on the caller's thread. The first word isn't that of a command that runs on workers.
 pub(crate) fn perform<S: Source, K: Sink, E: Sink>(
     alloc: Global,
@@ -386,27 +427,7 @@ pub(crate) fn perform_by_crew<
     ensures no_line { IsFalse (has_line result) → err.new ≡ err.old }
 {
     match read_words(alloc, words) {
-        Ok(Command::Run { settings, workers }) => {
-            serve_run(rt, alloc, settings, workers, script, out, err, gate)
-        }
-        Ok(
-            Command::Batch {
-                seeds,
-                limits,
-                show,
-                rounds,
-                workers,
-            },
-        ) => {
-            let batch = Batch {
-                seeds,
-                limits,
-                show,
-                rounds,
-            };
-            serve_batch(rt, alloc, &batch, workers, script, out, err, gate)
-        }
-        Ok(command) => serve(alloc, command, script, out, err),
+        Ok(command) => serve_by_crew(rt, alloc, command, script, out, err, gate),
         Err(error) => refuse_words(alloc, error, err),
     }
 }

@@ -58,7 +58,8 @@ impl IterRange {
     }
 }
 
-/// Whether each part ends where the next one begins. So it is for no part and for one.
+/// Whether each part ends where the next one begins. So it is for no part and for one. It is for who cut a range into parts, as a test of
+/// that: of 0 to 5 the parts 0 to 2 and 2 to 5 cover, and 0 to 2 and 3 to 5 don't, which leave out iteration 2.
 pub fn cover(parts: &[IterRange]) -> bool
     ensures { IsTrue result ↔ IsGapless parts.now }
 {

@@ -78,6 +78,7 @@ impl<T> Idle<T> {
         requires left { slice_get self.now.taken i ≡ Some false }
         ensures { ⊥ }
     {
+        // Read for the proof: what an idle join knows, by its type, leaves no value to take.
         let _count = self.count;
         let _ = i;
         unreachable!()

@@ -8,6 +8,24 @@
 //! The parent holds the [`Join`] and each child one [`Give`], on whatever threads they are. The parent hands out a give for each child, with a tag. Each
 //! child puts a value of its tag. The parent looks until all have arrived, and takes the values by number. No call waits, and only [`Join::hand`] takes
 //! memory.
+//!
+//! A parent with three children, which put in another order than that in which they were handed out. `Square` is a number with its square,
+//! and its tag is the number. `values_are_taken_by_number` in the tests of `worked_joins` runs it:
+//!
+//! ```
+//! let mut join: Join<Square> = Join::new(alloc)?;
+//! let first = join.hand(alloc, &5)?;
+//! let second = join.hand(alloc, &6)?;
+//! let third = join.hand(alloc, &7)?;
+//! third.put(square_of(7));     // in a thread of its own, say
+//! first.put(square_of(5));
+//! second.put(square_of(6));
+//! if let Look::Ready = join.look() {
+//!     join.take(0).value       // 25
+//!     join.take(1).value       // 36
+//!     join.take(2).value       // 49
+//! }
+//! ```
 #![tactic(auto)]
 
 mod block;

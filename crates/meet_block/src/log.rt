@@ -28,6 +28,7 @@ impl<T> Log<T> {
     pub fn with(self, x: &T) -> Log<T>
         ensures { result.items ≡ self.items ++ x.now ∷ [] }
     {
+        // A log holds nothing when it runs: the contract alone has the list.
         let _ = x;
         let Log { marker: _ } = self;
         Log {

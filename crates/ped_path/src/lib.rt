@@ -3,6 +3,17 @@
 //! A strand of a fork-join program is named by the ranks along the path of spawns that leads to it, and by its own rank after them:
 //! its pedigree, after Leiserson, Schardl and Sukha, "Deterministic Parallel Random-Number Generation for Dynamic-Multithreading
 //! Platforms" (PPoPP 2012). The names don't depend on how the program was scheduled.
+//!
+//! The first strand of the child that the root's strand 3 spawned comes before the root's strand 4, as it does in a serial run.
+//! `a_childs_strands_come_before_its_parents_next` in the tests of `worked_parts` runs it:
+//!
+//! ```
+//! let path = Ped::root(alloc)?.child(alloc, 3)?;
+//! let first = Pedigree { path, rank: 0 };
+//! let next = parse_pedigree(alloc, "4")?;
+//! first.same(&parse_pedigree(alloc, "3.0")?)  // true
+//! first.before(&next)                         // true
+//! ```
 #![tactic(auto)]
 
 mod block;
@@ -25,7 +36,7 @@ fn is_shared<T: Send + Sync>() {}
 
 /// Paths and pedigrees may be sent to other threads and read by several at once. The body asks for it, so that a field which
 /// forbids it fails the build.
-pub fn all_are_shared() {
+fn all_are_shared() {
     is_shared::<Ped>();
     is_shared::<Pedigree>();
 }

@@ -74,7 +74,8 @@ impl Pedigree {
     }
 
     /// Whether this pedigree's list stands strictly before the path's list, in the same order. A pedigree that begins with the
-    /// whole path doesn't.
+    /// whole path doesn't. It is for who asks of an instance whether a strand comes before all of it: the strand `3.0` comes before the
+    /// instance at `4`, and the strand `4.0`, its first, doesn't.
     pub fn before_path(&self, path: &Ped) -> bool
         ensures { IsTrue result ↔ IsBefore self.now path.now }
     {

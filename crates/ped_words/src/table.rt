@@ -1,4 +1,5 @@
 ghost use Rattle.std.specs.Prelude.{◌≡◌, ◌==◌};
+ghost use Rattle.ped_words.specs.declared.table.Kind.TheVariants as kind;
 ghost use Rattle.ped_words.specs.Table.{verb_of, name_of, place, takes, kind_of};
 
 use dotmix::MOST_ROUNDS;
@@ -86,51 +87,22 @@ impl Verb {
     pub(crate) fn takes(self, name: Name) -> bool
         ensures { result ≡ takes self name }
     {
-        match self {
-            Verb::Run => matches!(
-                name,
-                Name::Seed
-                    | Name::Gamma
-                    | Name::Depth
-                    | Name::Budget
-                    | Name::Workers
-                    | Name::Show
-                    | Name::Rounds
+        match name {
+            Name::Seed | Name::Gamma => {
+                !matches!(self, Verb::Check | Verb::Fmt | Verb::Gen | Verb::Batch)
+            }
+            Name::Depth | Name::Budget => matches!(
+                self,
+                Verb::Run | Verb::Serial | Verb::Sim | Verb::Replay | Verb::Span | Verb::Batch
             ),
-            Verb::Serial => matches!(
-                name,
-                Name::Seed | Name::Gamma | Name::Depth | Name::Budget | Name::Show | Name::Rounds
-            ),
-            Verb::Sim => matches!(
-                name,
-                Name::Number
-                    | Name::Seed
-                    | Name::Gamma
-                    | Name::Depth
-                    | Name::Budget
-                    | Name::Workers
-                    | Name::Show
-                    | Name::Rounds
-            ),
-            Verb::Replay => matches!(
-                name,
-                Name::At | Name::Seed | Name::Gamma | Name::Depth | Name::Budget | Name::Rounds
-            ),
-            Verb::Hash => matches!(name, Name::At | Name::Seed | Name::Gamma | Name::Rounds),
-            Verb::Check | Verb::Fmt => false,
-            Verb::Gen => matches!(name, Name::Shape | Name::Size),
-            Verb::Stream => matches!(
-                name,
-                Name::At | Name::Count | Name::Seed | Name::Gamma | Name::Rounds | Name::Below
-            ),
-            Verb::Span => matches!(
-                name,
-                Name::Seed | Name::Gamma | Name::Depth | Name::Budget | Name::Rounds
-            ),
-            Verb::Batch => matches!(
-                name,
-                Name::Seeds | Name::Depth | Name::Budget | Name::Workers | Name::Show | Name::Rounds
-            ),
+            Name::Rounds => !matches!(self, Verb::Check | Verb::Fmt | Verb::Gen),
+            Name::Workers => matches!(self, Verb::Run | Verb::Sim | Verb::Batch),
+            Name::Show => matches!(self, Verb::Run | Verb::Serial | Verb::Sim | Verb::Batch),
+            Name::Number => matches!(self, Verb::Sim),
+            Name::At => matches!(self, Verb::Replay | Verb::Hash | Verb::Stream),
+            Name::Shape | Name::Size => matches!(self, Verb::Gen),
+            Name::Count | Name::Below => matches!(self, Verb::Stream),
+            Name::Seeds => matches!(self, Verb::Batch),
         }
     }
 }
@@ -177,41 +149,27 @@ impl Name {
         ensures { result ≡ kind_of self }
     {
         match self {
-            Name::Seed | Name::Number | Name::Size => Kind::Number {
-                least: 0,
-                most: u64::MAX,
-            },
+            Name::Seed | Name::Number | Name::Size => number(0, u64::MAX),
             Name::Gamma => Kind::Numbers { most: None },
-            Name::Depth => Kind::Number {
-                least: 1,
-                most: MOST_DEPTH as u64,
-            },
-            Name::Budget => Kind::Number {
-                least: 1,
-                most: MOST_BUDGET,
-            },
-            Name::Workers => Kind::Number {
-                least: 1,
-                most: MOST_WORKERS,
-            },
+            Name::Depth => number(1, MOST_DEPTH as u64),
+            Name::Budget => number(1, MOST_BUDGET),
+            Name::Workers => number(1, MOST_WORKERS),
             Name::Show => Kind::Show,
             Name::At => Kind::Pedigree,
             Name::Shape => Kind::Shape,
-            Name::Rounds => Kind::Number {
-                least: 0,
-                most: MOST_ROUNDS as u64,
-            },
-            Name::Count => Kind::Number {
-                least: 1,
-                most: MOST_COUNT,
-            },
-            Name::Below => Kind::Number {
-                least: 1,
-                most: u64::MAX,
-            },
+            Name::Rounds => number(0, MOST_ROUNDS as u64),
+            Name::Count => number(1, MOST_COUNT),
+            Name::Below => number(1, u64::MAX),
             Name::Seeds => Kind::Numbers {
                 most: Some(MOST_SEEDS),
             },
         }
     }
+}
+
+/// Numbers in this range.
+fn number(least: u64, most: u64) -> Kind
+    ensures { result ≡ kind.Number least most }
+{
+    Kind::Number { least, most }
 }

@@ -53,6 +53,7 @@ fn rank_count(pedigree: &Pedigree) -> u64
     ensures some { 0 < length pedigree.now }
     ensures ranks { All IsRank pedigree.now }
 {
+    // Read for the proof: a pedigree has a last rank, and each is below 2^32.
     let _rank = pedigree.rank;
     pedigree.len()
 }

@@ -12,6 +12,7 @@ use std::io::ErrorKind;
 fn tell<E: Sink>(err: &mut E, line: &[u8])
     ensures { Told (watched E.written E.faults err.old err.new) line.now }
 {
+    // What becomes of the line is told by the sink's faults.
     let _ = write_all(err, line);
 }
 

@@ -67,12 +67,14 @@ impl<'a, R: Clock + Eprint> Progress<'a, R> {
         let begun = self.begun.load(Ordering::SeqCst);
         let ended = self.ended.load(Ordering::SeqCst);
         self.is_shown.store(true, Ordering::SeqCst);
+        // A failed write leaves the line as it is.
         let _ = eprint!(self.rt; "\r{begun} tasks begun, {ended} ended\x1b[K");
     }
 
     /// Removes the line, if it is shown.
     pub fn clear(&self) {
         if self.is_shown.swap(false, Ordering::SeqCst) {
+            // A failed write changes nothing here either.
             let _ = eprint!(self.rt; "\r\x1b[K");
         }
     }

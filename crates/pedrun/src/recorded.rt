@@ -42,10 +42,12 @@ impl<'a, R: Eprint, S: Source> Source for RecordedSource<'a, R, S> {
     fn read(&mut self, buf: &mut [u8]) -> Result<usize, Failed> {
         if self.is_untold {
             self.is_untold = false;
+            // A note to a person: a failed write of it changes nothing.
             let _ = eprintln!(self.rt; "reading a script from the terminal; Ctrl-D ends it");
         }
         let read = self.inner.read(buf);
         if let Ok(count) = read {
+            // Without memory for them, these bytes aren't kept.
             let _ = self.bytes.extend_from_slice(&buf[..count]);
         }
         read
@@ -84,6 +86,7 @@ impl<'a, R: Clock + Eprint, K: Sink> Sink for RecordedSink<'a, R, K> {
         self.progress.clear();
         let taken = self.inner.write(bytes);
         if let Ok(count) = taken {
+            // Without memory for them, these bytes aren't kept.
             let _ = self.bytes.extend_from_slice(&bytes[..count]);
         }
         taken

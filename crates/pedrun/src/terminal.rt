@@ -59,6 +59,7 @@ pub fn pedrun_on_terminal<
     let mut out = RecordedSink::new(alloc, out, &progress);
     let mut err = RecordedSink::new(alloc, err, &progress);
     let status = pedrun(rt, alloc, words, &mut script, &mut out, &mut err, &progress);
+    // What follows the call's own line is for a person: a failed write of it changes nothing.
     if status == Status::Script {
         if let Some(lines) = place_lines(alloc, err.bytes(), script.bytes()) {
             let _ = write_all(&mut err, &lines);

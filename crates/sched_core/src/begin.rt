@@ -73,6 +73,7 @@ pub(crate) fn begin(alloc: Global, plan: &Arc<Plan>, workers: u32) -> Result<Sta
     ensures begun { IfOk result (IsBegun (arc_value plan.now) workers) }
     ensures told { IfOk result IsTold }
 {
+    // Read for the proof: a checked script is valid.
     let _script = plan.checked.script();
     new_state(alloc, plan, workers)
 }

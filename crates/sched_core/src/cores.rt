@@ -91,6 +91,7 @@ impl Core {
     pub fn is_sound(&self)
         ensures { self.now.spent ≡ false → IsSound self.now }
     {
+        // Read for the proof: a core keeps by its type that it is sound.
         let _spent = self.spent;
     }
 }

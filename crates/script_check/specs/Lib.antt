@@ -1,3 +1,4 @@
+pub mod Conditions
 pub mod Violations
 pub mod Tables
 pub mod Functions

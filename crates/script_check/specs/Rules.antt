@@ -8,6 +8,8 @@ use Rattle.script_grammar.specs.declared.tree.Kind.TheVariants.{Int, Id}
 use Rattle.script_check.specs.declared.findings.Violation.{Violation}
 use Rattle.script_check.specs.declared.variable.Variable.{Variable}
 use Rattle.script_check.specs.declared.variable.Variable.TheVariants.{Scalar, Array}
+use Rattle.script_check.specs.Conditions.{number_of}
+use Rattle.script_check.specs.declared.condition.Condition.TheVariants.{VariableTwice, UnknownFunction, UnknownVariable, WrongNumberOfArguments, WrongKind, PendingVariable, LetInABlock, TooManyVariables, ArrayLength}
 use Rattle.script_check.specs.Violations.{broken}
 use Rattle.script_check.specs.Tables.{Table}
 use Rattle.script_check.specs.Names.{Names}
@@ -25,29 +27,29 @@ is_other_kind Id (Some Id) = false
 is_other_kind wanted None = false
 
 abbrev pub variable_twice : Known → Name → List Violation
-variable_twice known x = broken (is_some (known.what x.bytes)) 4 x.at
+variable_twice known x = broken (is_some (known.what x.bytes)) (number_of VariableTwice) x.at
 
 abbrev pub unknown_function : Name → List Violation
-unknown_function f = broken true 5 f.at
+unknown_function f = broken true (number_of UnknownFunction) f.at
 
 abbrev pub unknown_variable : Name → List Violation
-unknown_variable x = broken true 6 x.at
+unknown_variable x = broken true (number_of UnknownVariable) x.at
 
 -- where the call hasn't as many arguments as parameters
 abbrev pub wrong_number_of_arguments : Bool → Name → List Violation
-wrong_number_of_arguments has_as_many f = broken (not has_as_many) 7 f.at
+wrong_number_of_arguments has_as_many f = broken (not has_as_many) (number_of WrongNumberOfArguments) f.at
 
 abbrev pub wrong_kind : Kind → Option Kind → ℕ → List Violation
-wrong_kind wanted kind at = broken (is_other_kind wanted kind) 8 at
+wrong_kind wanted kind at = broken (is_other_kind wanted kind) (number_of WrongKind) at
 
 abbrev pub wrong_use : Name → List Violation
-wrong_use x = broken true 8 x.at
+wrong_use x = broken true (number_of WrongKind) x.at
 
 abbrev pub pending_variable : Names → Name → List Violation
-pending_variable p x = broken (p x.bytes) 9 x.at
+pending_variable p x = broken (p x.bytes) (number_of PendingVariable) x.at
 
 abbrev pub let_in_a_block : Bool → ℕ → List Violation
-let_in_a_block in_block at = broken in_block 10 at
+let_in_a_block in_block at = broken in_block (number_of LetInABlock) at
 
 -- a function has at most so many variables at a place
 abbrev pub most_variables : ℕ
@@ -55,10 +57,10 @@ most_variables = 256
 
 -- the name is new where as many are known
 abbrev pub too_many_variables : Known → Name → List Violation
-too_many_variables known x = broken (is_none (known.what x.bytes) && nat_eq known.count most_variables) 11 x.at
+too_many_variables known x = broken (is_none (known.what x.bytes) && nat_eq known.count most_variables) (number_of TooManyVariables) x.at
 
 abbrev pub array_length : Number → List Violation
-array_length n = broken (int_lt n.value (pos 1) || int_lt (pos 4096) n.value) 12 n.at
+array_length n = broken (int_lt n.value (pos 1) || int_lt (pos 4096) n.value) (number_of ArrayLength) n.at
 
 -- what a known scalar holds
 abbrev pub kind_of : Option Variable → Option Kind

@@ -5,6 +5,8 @@ use Rattle.script_grammar.specs.declared.tree.Function.{Function}
 use Rattle.script_grammar.specs.declared.tree.Script.{Script}
 use Rattle.script_check.specs.declared.findings.Violation.{Violation}
 use Rattle.script_check.specs.declared.variable.Variable.TheVariants.{Scalar}
+use Rattle.script_check.specs.Conditions.{number_of}
+use Rattle.script_check.specs.declared.condition.Condition.TheVariants.{NoMain, MainHasParameters, FunctionTwice}
 use Rattle.script_check.specs.Violations.{violation, broken, is_before}
 use Rattle.script_check.specs.Tables.{no_entries, with_first}
 use Rattle.script_check.specs.Functions.{first_named, function_named, main_name}
@@ -37,14 +39,14 @@ all_function_faults functions (f ∷ fs) = function_faults functions f ++ all_fu
 abbrev pub functions_twice : List Function → List Function → List Violation
 functions_twice before [] = []
 functions_twice before (f ∷ fs) =
-    broken (is_some (first_named before f.name.bytes)) 3 f.name.at ++ functions_twice (before ++ f ∷ []) fs
+    broken (is_some (first_named before f.name.bytes)) (number_of FunctionTwice) f.name.at ++ functions_twice (before ++ f ∷ []) fs
 
 abbrev pub main_with_parameters : List Param → List Violation
 main_with_parameters [] = []
-main_with_parameters (q ∷ params) = broken true 2 q.name.at
+main_with_parameters (q ∷ params) = broken true (number_of MainHasParameters) q.name.at
 
 abbrev pub main_faults : Option Function → List Violation
-main_faults None = broken true 1 0
+main_faults None = broken true (number_of NoMain) 0
 main_faults (Some main) = main_with_parameters main.params
 
 -- all violated conditions of a script

@@ -7,6 +7,7 @@ ghost use Rattle.script_check.specs.Rules.{array_use};
 ghost use Rattle.script_check.specs.Statements.{arguments, call, answer_of, loop_call_of, target_use};
 ghost use Rattle.script_check.specs.Walk.{known_in, pending_in};
 
+use crate::condition::Condition;
 use crate::expression::{see, use_array, want};
 use crate::findings::Findings;
 use crate::functions::Functions;
@@ -44,12 +45,16 @@ pub(crate) fn judge_call(
     match functions.named(name.bytes.as_slice()) {
         Some(f) => {
             let params = f.params.as_slice();
-            found.note_if(params.len() != args.len(), 7, name.at);
+            found.note_if(
+                params.len() != args.len(),
+                Condition::WrongNumberOfArguments,
+                name.at,
+            );
             judge_arguments(scope, found, params, args);
             Some(f.answer)
         }
         None => {
-            found.note_if(true, 5, name.at);
+            found.note_if(true, Condition::UnknownFunction, name.at);
             judge_arguments(scope, found, &[], args);
             None
         }
@@ -79,7 +84,7 @@ pub(crate) fn judge_loop_call(
     match functions.named(name.bytes.as_slice()) {
         Some(f) => judge_iterations(scope, found, f, has_target, c),
         None => {
-            found.note_if(true, 5, name.at);
+            found.note_if(true, Condition::UnknownFunction, name.at);
             judge_arguments(scope, found, &[], c.args.as_slice());
         }
     }
@@ -98,15 +103,19 @@ fn judge_iterations(
     let at = c.name.at;
     let params = f.params.as_slice();
     let args = c.args.as_slice();
-    found.note_if(has_target && f.answer == Kind::Id, 8, at);
+    found.note_if(has_target && f.answer == Kind::Id, Condition::WrongKind, at);
     match params.split_first() {
         Some((number, others)) => {
-            found.note_if(others.len() != args.len(), 7, at);
-            found.note_if(number.kind == Kind::Id, 8, at);
+            found.note_if(
+                others.len() != args.len(),
+                Condition::WrongNumberOfArguments,
+                at,
+            );
+            found.note_if(number.kind == Kind::Id, Condition::WrongKind, at);
             judge_arguments(scope, found, others, args);
         }
         None => {
-            found.note_if(true, 7, at);
+            found.note_if(true, Condition::WrongNumberOfArguments, at);
             judge_arguments(scope, found, &[], args);
         }
     }

@@ -7,6 +7,7 @@ ghost use Rattle.script_check.specs.Expressions.{read, read_sum_part, read_produ
 ghost use Rattle.script_check.specs.Walk.{known_in, pending_in};
 ghost use Rattle.script_grammar.specs.declared.tree.Kind.TheVariants as kind;
 
+use crate::condition::Condition;
 use crate::findings::Findings;
 use crate::scope::Scope;
 use crate::variable::Variable;
@@ -35,7 +36,11 @@ impl Seen {
     pub(crate) fn want(self, found: &mut Findings, kind: Kind)
         ensures { found.new ≡ noted found.old (wrong_kind kind self.kind self.at) }
     {
-        found.note_if(is_other_kind(kind, self.kind), 8, self.at);
+        found.note_if(
+            is_other_kind(kind, self.kind),
+            Condition::WrongKind,
+            self.at,
+        );
     }
 }
 
@@ -56,16 +61,16 @@ pub(crate) fn use_scalar(scope: &Scope, found: &mut Findings, x: &Name) -> Optio
 {
     match scope.variable(x) {
         Some(Variable::Scalar(kind)) => {
-            found.note_if(scope.is_pending(x), 9, x.at);
+            found.note_if(scope.is_pending(x), Condition::PendingVariable, x.at);
             Some(kind)
         }
         Some(Variable::Array) => {
-            found.note_if(true, 8, x.at);
-            found.note_if(scope.is_pending(x), 9, x.at);
+            found.note_if(true, Condition::WrongKind, x.at);
+            found.note_if(scope.is_pending(x), Condition::PendingVariable, x.at);
             None
         }
         None => {
-            found.note_if(true, 6, x.at);
+            found.note_if(true, Condition::UnknownVariable, x.at);
             None
         }
     }
@@ -77,11 +82,15 @@ pub(crate) fn use_array(scope: &Scope, found: &mut Findings, x: &Name)
 {
     match scope.variable(x) {
         Some(Variable::Scalar(_)) => {
-            found.note_if(true, 8, x.at);
-            found.note_if(scope.is_pending(x), 9, x.at);
+            found.note_if(true, Condition::WrongKind, x.at);
+            found.note_if(scope.is_pending(x), Condition::PendingVariable, x.at);
         }
-        Some(Variable::Array) => found.note_if(scope.is_pending(x), 9, x.at),
-        None => found.note_if(true, 6, x.at),
+        Some(Variable::Array) => found.note_if(
+            scope.is_pending(x),
+            Condition::PendingVariable,
+            x.at,
+        ),
+        None => found.note_if(true, Condition::UnknownVariable, x.at),
     }
 }
 

@@ -1,11 +1,13 @@
 // The violated conditions that a walk meets, of which the least is kept.
 
 ghost use Rattle.std.specs.Prelude.{◌≡◌};
+ghost use Rattle.script_check.specs.Conditions.{number_of};
 ghost use Rattle.script_check.specs.Violations.{broken, noted};
 
+use crate::condition::Condition;
 use std::marker::Model;
 
-/// A violated condition: its number among the rules, and the offset of its place.
+/// A violated condition: its number among the conditions, and the offset of its place.
 #[derive(Clone, Copy)]
 pub(crate) struct Violation {
     pub at: u32,
@@ -37,10 +39,11 @@ impl Findings {
         Findings { least: None }
     }
 
-    /// Notes a rule's violation at this place, if it is broken there.
-    pub(crate) fn note_if(&mut self, is_broken: bool, number: u8, at: u32)
-        ensures { self.new ≡ noted self.old (broken is_broken number at) }
+    /// Notes a condition's violation at this place, if it is broken there.
+    pub(crate) fn note_if(&mut self, is_broken: bool, condition: Condition, at: u32)
+        ensures { self.new ≡ noted self.old (broken is_broken (number_of condition) at) }
     {
+        let number = condition.number();
         if is_broken {
             let is_least = match self.least {
                 Some(least) => at < least.at || (at == least.at && number < least.number),

@@ -6,6 +6,7 @@ ghost use Rattle.script_check.specs.Functions.{function_named, main_name};
 ghost use Rattle.script_check.specs.Valid.{function_faults, known_params, main_faults, param_faults};
 ghost use Rattle.script_check.specs.Walk.{known_in, state_of};
 
+use crate::condition::Condition;
 use crate::expression::want;
 use crate::findings::Findings;
 use crate::functions::Functions;
@@ -23,10 +24,10 @@ pub(crate) fn judge_main(functions: &Functions, found: &mut Findings)
     match functions.named(b"main") {
         Some(f) => {
             if let Some(param) = f.params.as_slice().first() {
-                found.note_if(true, 2, param.name.at);
+                found.note_if(true, Condition::MainHasParameters, param.name.at);
             }
         }
-        None => found.note_if(true, 1, 0),
+        None => found.note_if(true, Condition::NoMain, 0),
     }
 }
 

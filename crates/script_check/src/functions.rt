@@ -7,6 +7,7 @@ ghost use Rattle.script_check.specs.Valid.{functions_twice};
 ghost use Rattle.script_check.specs.Violations.{noted};
 ghost use Rattle.script_check.specs.Walk.{IsIndex};
 
+use crate::condition::Condition;
 use crate::findings::Findings;
 use crate::memory::Memory;
 use crate::names::NameTable;
@@ -71,7 +72,11 @@ pub(crate) fn index(
     let mut first = NameTable::new(alloc);
     for (i, f) in list.iter().enumerate() {
         let name = f.name.bytes.as_slice();
-        found.note_if(first.get(name).is_some(), 3, f.name.at);
+        found.note_if(
+            first.get(name).is_some(),
+            Condition::FunctionTwice,
+            f.name.at,
+        );
         let Ok(i) = u32::try_from(i) else {
             return Err(Memory);
         };

@@ -4,6 +4,7 @@
 mod call;
 mod callees;
 mod checked;
+mod condition;
 mod error;
 mod expression;
 mod findings;
@@ -25,6 +26,6 @@ fn is_shared<T: Send + Sync>() {}
 
 /// Checked scripts may be sent to other threads and read by several at once. The body asks for it, so that a field which forbids it
 /// fails the build.
-pub fn all_are_shared() {
+fn all_are_shared() {
     is_shared::<Checked>();
 }

@@ -7,6 +7,7 @@ ghost use Rattle.script_check.specs.Rules.{declaration};
 ghost use Rattle.script_check.specs.Violations.{noted};
 ghost use Rattle.script_check.specs.Walk.{undo, undone, state_of, known_in, pending_in};
 
+use crate::condition::Condition;
 use crate::findings::Findings;
 use crate::memory::Memory;
 use crate::names::NameTable;
@@ -85,8 +86,12 @@ impl Scope {
     {
         let bytes = name.bytes.as_slice();
         let is_known = self.known.get(bytes).is_some();
-        found.note_if(is_known, 4, name.at);
-        found.note_if(!is_known && self.known.len() == MOST_VARIABLES, 11, name.at);
+        found.note_if(is_known, Condition::VariableTwice, name.at);
+        found.note_if(
+            !is_known && self.known.len() == MOST_VARIABLES,
+            Condition::TooManyVariables,
+            name.at,
+        );
         self.known.insert(alloc, bytes, variable)
     }
 

@@ -13,6 +13,7 @@ ghost use Rattle.script_check.specs.Statements.{place, judge, judge_all, read_ri
 ghost use Rattle.script_check.specs.Walk.{behind, behind_all, keeps, keeps_all, known_in, pending_in, state_of};
 
 use crate::call::{judge_call, judge_loop_call, judge_target};
+use crate::condition::Condition;
 use crate::expression::{Seen, see, use_array, use_scalar, want};
 use crate::findings::Findings;
 use crate::functions::Functions;
@@ -87,7 +88,7 @@ fn judge_array(
     ensures found { OnOk result (found.new ≡ noted found.old (declaration (known_in scope.old) x.now ++ array_length n.now)) }
 {
     scope.declare(alloc, found, x, Variable::Array)?;
-    found.note_if(n.value < 1 || 4096 < n.value, 12, n.at);
+    found.note_if(n.value < 1 || 4096 < n.value, Condition::ArrayLength, n.at);
     Ok(())
 }
 
@@ -257,11 +258,11 @@ fn judge(
 {
     match &statement.act {
         Act::Let(x, right) => {
-            found.note_if(in_block, 10, statement.at);
+            found.note_if(in_block, Condition::LetInABlock, statement.at);
             judge_let(alloc, functions, scope, found, x, right)?;
         }
         Act::Array(x, n) => {
-            found.note_if(in_block, 10, statement.at);
+            found.note_if(in_block, Condition::LetInABlock, statement.at);
             judge_array(alloc, scope, found, x, n)?;
         }
         Act::Set(x, right) => judge_set(alloc, functions, scope, found, x, right)?,

@@ -23,6 +23,6 @@ pub use tree::{
 fn is_shared<T: Send + Sync>() {}
 
 /// Scripts may be sent to other threads and read by several at once. The body asks for it, so that a field which forbids it fails the build.
-pub fn all_are_shared() {
+fn all_are_shared() {
     is_shared::<Script>();
 }

@@ -78,10 +78,11 @@ fn write_print(e: &Expr, text: &mut Vec<u8>) -> Result<(), Memory>
     Ok(())
 }
 
-// `x = R;`
-fn write_set(name: &Name, right: &Right, text: &mut Vec<u8>) -> Result<(), Memory>
-    ensures { OnOk result (text.new.items ≡ text.old.items ++ name.now.bytes ++ codes " = " ++ right_text right.now ++ codes ";") }
+// `x = R;`, with what stands before it.
+fn write_set(head: &[u8], name: &Name, right: &Right, text: &mut Vec<u8>) -> Result<(), Memory>
+    ensures { OnOk result (text.new.items ≡ text.old.items ++ head.now ++ name.now.bytes ++ codes " = " ++ right_text right.now ++ codes ";") }
 {
+    text.extend_from_slice(head)?;
     write_name(name, text)?;
     text.extend_from_slice(b" = ")?;
     write_right(right, text)?;
@@ -89,10 +90,11 @@ fn write_set(name: &Name, right: &Right, text: &mut Vec<u8>) -> Result<(), Memor
     Ok(())
 }
 
-// `a[n];`
+// `let a[n];`
 fn write_array(name: &Name, length: Number, text: &mut Vec<u8>) -> Result<(), Memory>
-    ensures { OnOk result (text.new.items ≡ text.old.items ++ name.now.bytes ++ codes "[" ++ signed_decimal length.value ++ codes "];") }
+    ensures { OnOk result (text.new.items ≡ text.old.items ++ codes "let " ++ name.now.bytes ++ codes "[" ++ signed_decimal length.value ++ codes "];") }
 {
+    text.extend_from_slice(b"let ")?;
     write_name(name, text)?;
     text.push(b'[')?;
     write_number(length, text)?;
@@ -227,22 +229,13 @@ fn write_act(alloc: Global, act: &Act, margin: &[u8], text: &mut Vec<u8>) -> Res
     ensures { OnOk result (text.new.items ≡ text.old.items ++ act_text act.now margin.now) }
 {
     match act {
-        Act::Let(name, right) => {
-            text.extend_from_slice(b"let ")?;
-            write_set(name, right, text)
-        }
-        Act::Array(name, length) => {
-            text.extend_from_slice(b"let ")?;
-            write_array(name, *length, text)
-        }
-        Act::Set(name, right) => write_set(name, right, text),
+        Act::Let(name, right) => write_set(b"let ", name, right, text),
+        Act::Array(name, length) => write_array(name, *length, text),
+        Act::Set(name, right) => write_set(b"", name, right, text),
         Act::Store(name, index, value) => write_store(name, index, value, text),
         Act::Spawn(call) => write_called(b"spawn ", call, text),
         Act::Call(call) => write_called(b"call ", call, text),
-        Act::Sync => {
-            text.extend_from_slice(b"sync;")?;
-            Ok(())
-        }
+        Act::Sync => Ok(text.extend_from_slice(b"sync;")?),
         Act::Print(e) => write_print(e, text),
         Act::If(guard, block, otherwise) => {
             write_guard(b"if ", guard, text)?;

@@ -1,9 +1,18 @@
 //! From a script's text to its tree.
 //!
 //! The tree, and the grammar that says of which tree a text is, stand in `script_grammar`; the tree's types are given here again.
+//!
+//! A script, and a text that ends before it is one. `a_text_has_a_tree_or_a_first_fault` in the tests of `worked_texts` runs it:
+//!
+//! ```
+//! let script = parse(alloc, b"fn main() { print 1; return 0; }")?;
+//! script.functions.as_slice().len()              // 1
+//! parse(alloc, b"fn main() { print 1;")          // Err(SyntaxError::Bad { number: 6, at: 20 })
+//! ```
 #![tactic(auto)]
 
 mod error;
+mod fault;
 pub mod laws;
 mod parser;
 

@@ -14,6 +14,7 @@ ghost use Rattle.script_grammar.specs.Text.{Text, SyntaxFault};
 ghost use Rattle.script_text.specs.NextAnswer.{NextAnswer};
 
 use crate::error::SyntaxError;
+use crate::fault::TextFault;
 use crate::parser::function::script;
 use crate::parser::source::Source;
 use script_grammar::Script;
@@ -61,6 +62,9 @@ pub fn parse(alloc: Global, bytes: &[u8]) -> Result<Script, SyntaxError>
 /// The error is `Bad` 1 exactly where a byte from 128 on stands among these blanks and comments or directly after them, at the first such
 /// byte, and else `Bad` 2 exactly where a byte stands directly after them at which no token begins, at that byte. The length of names and
 /// the size of numbers isn't judged here.
+///
+/// It is for who goes through a text token by token, as to colour it: of `a..b` the tokens from 0 on are `a` at 0 to 1, `..` at 1 to 3, `b` at
+/// 3 to 4, and `End` at 4 to 4, each from where the one before it ended.
 pub fn next_token(bytes: &[u8], from: u32, version: Version) -> Result<Token, SyntaxError>
     requires size { length bytes.now ≤ MAX_BYTES }
     requires within { from ≤ length bytes.now }
@@ -68,7 +72,7 @@ pub fn next_token(bytes: &[u8], from: u32, version: Version) -> Result<Token, Sy
 {
     match script_tokens::next_token(bytes, from, version) {
         Ok(token) => Ok(token),
-        Err(Misfit::NotAscii(at)) => Err(SyntaxError::Bad { number: 1, at }),
-        Err(Misfit::NoToken(at)) => Err(SyntaxError::Bad { number: 2, at }),
+        Err(Misfit::NotAscii(at)) => Err(TextFault::NotAscii.at(at)),
+        Err(Misfit::NoToken(at)) => Err(TextFault::UnexpectedToken.at(at)),
     }
 }

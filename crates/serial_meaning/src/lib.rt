@@ -36,7 +36,7 @@ fn is_shared<T: Send + Sync>() {}
 
 /// Plans, origins, events and answers may be sent to other threads and read by several at once. The body asks for it, so that a
 /// field which forbids it fails the build.
-pub fn all_are_shared() {
+fn all_are_shared() {
     is_shared::<Out>();
     is_shared::<Fault>();
     is_shared::<Origin>();

@@ -37,6 +37,7 @@ pub(crate) fn begin(alloc: Global, plan: &Arc<Plan>, origin: Origin) -> Result<S
     ensures sound { IfOk result IsStack }
     ensures root { IfOk result (λ stack. root stack ≡ start (arc_value plan.now) origin) }
 {
+    // Read for the proof: a checked script is valid.
     let _script = plan.checked.script();
     laws::valid_plans_are_clear();
     laws::tasks_begin();

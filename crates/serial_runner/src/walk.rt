@@ -118,6 +118,7 @@ fn begin_walk(
     ensures walk { IfOk result (λ walk. walk ≡ begun_walk (arc_value plan.now) origin at.now) }
     ensures sound { IfOk result (λ walk. IsTask (start (arc_value plan.now) origin)) }
 {
+    // Read for the proof: a checked script is valid.
     let _script = plan.checked.script();
     laws::valid_plans_are_clear();
     laws::tasks_begin();

@@ -62,7 +62,8 @@ impl<T> Deck<T> {
         })
     }
 
-    /// Takes a thief of this deck back: the owner then knows what the thief took.
+    /// Takes a thief of this deck back: the owner then knows what the thief took. It is for who wants to know what became of each task:
+    /// after the last thief `close` gives those that nobody took (the example at the crate's head).
     pub fn rejoin(&mut self, thief: Thief<T>)
     where
         T: Drop,

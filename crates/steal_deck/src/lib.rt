@@ -18,6 +18,22 @@
 //!
 //! No clause says why a steal answers `Lost`, nor that a push succeeds after the first 64 of a deck, nor that a steal
 //! takes an entry wherever one is left. The tests show a steal that takes one, and many pushes that succeed.
+//!
+//! The owner pushes three tasks, and a thief steals the oldest. `closed_deck_gives_what_is_left` in the tests of `worked_joins` runs it:
+//!
+//! ```
+//! let mut deck = Deck::new(alloc)?;
+//! let mut thief = deck.thief()?;
+//! for task in ['a', 'b', 'c'] {
+//!     deck.push(task)          // Ok(())
+//! }
+//! thief.steal()                // Steal::Took('a')
+//! deck.rejoin(thief);
+//! let mut left = deck.close();
+//! left.pop()                   // Some('c')
+//! left.pop()                   // Some('b')
+//! left.pop()                   // None
+//! ```
 #![tactic(auto)]
 
 mod deck;

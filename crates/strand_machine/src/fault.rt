@@ -38,6 +38,7 @@ impl Task {
         requires goes_on { self.cut ≡ None }
         ensures { IfOk result (λ ended. EndsByFault self ended.0 ended.1) }
     {
+        // Read for the proof: a fault by which an answer ends is one of its plan's.
         let _outcome = &last.outcome;
         let mut answers = answers;
         answers.0.push(last)?;

@@ -35,7 +35,7 @@ fn is_sent<T: Send>() {}
 
 /// A task may go on in any thread, and so may what it stops or resumes with. The body asks for it, so that a field which forbids it
 /// fails the build.
-pub fn all_are_sent() {
+fn all_are_sent() {
     is_sent::<Task>();
     is_sent::<Stop>();
     is_sent::<Resumed>();

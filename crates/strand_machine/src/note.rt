@@ -232,6 +232,7 @@ impl Task {
     {
         laws::moves_fall();
         laws::stops_are_sound();
+        // Read for the proof: a task keeps by its type that finishing it gives the evaluation of its origin.
         let _work = &self.parts.work;
         let mut notes = Notes::new(eye);
         let mut task = self;

@@ -22,6 +22,7 @@ pub(crate) fn trail_of(plan: &Plan, origin: &Origin) -> Result<Trail, Memory>
     ensures { IfOk result (IsTrailOf plan.now origin.now) }
 {
     laws::origins_fit();
+    // Read for the proof: a plan has as many coefficients as its depth.
     let _depth = plan.limits.depth;
     let path = match origin {
         Origin::Instance { path, .. } => path.share()?,

@@ -82,6 +82,7 @@ impl Task {
     {
         laws::valid_plans_are_clear();
         laws::tasks_begin();
+        // Read for the proof: a checked script is valid.
         let _script = plan.checked.script();
         let Child { origin, trail } = child;
         let work = match begin(alloc, &plan, &origin, trail) {

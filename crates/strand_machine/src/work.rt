@@ -77,6 +77,7 @@ pub(crate) fn begin(
     ensures works { IfOk result (WorksAt plan.now origin.now) }
 {
     laws::origins_fit();
+    // Read for the proof: a plan has as many coefficients as its depth.
     let _depth = plan.limits.depth;
     Ok(match origin {
         Origin::Instance { function, args, .. } => {
@@ -102,6 +103,7 @@ pub(crate) fn begin_last(
     ensures works { IfOk result (WorksAt plan.now origin.now) }
 {
     laws::origins_fit();
+    // Read for the proof: a plan has as many coefficients as its depth.
     let _depth = plan.limits.depth;
     match origin {
         Origin::Instance { .. } => begin(alloc, plan, origin, trail),

@@ -25,7 +25,7 @@ pub use shown::{Child, Moved, Shown};
 fn is_shared<T: Send + Sync>() {}
 
 /// An instance may be sent to other threads. The body asks for it, so that a field which forbids it fails the build.
-pub fn all_are_shared() {
+fn all_are_shared() {
     is_shared::<Instance>();
     is_shared::<Moved>();
 }

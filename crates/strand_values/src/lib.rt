@@ -25,6 +25,6 @@ pub use target::Target;
 fn is_shared<T: Send + Sync>() {}
 
 /// An environment may be sent to other threads. The body asks for it, so that a field which forbids it fails the build.
-pub fn all_are_shared() {
+fn all_are_shared() {
     is_shared::<Environment>();
 }

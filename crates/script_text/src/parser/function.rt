@@ -7,6 +7,7 @@ ghost use Rattle.script_text.specs.Machine.{only, param, params, more_params, pa
 ghost use Rattle.script_text.specs.Reads.{Reads, ReadsBody, ReadsFunctions, AddsParams, IsParamList, IsRestOfFunction, Judges};
 
 use crate::error::SyntaxError;
+use crate::fault::TextFault;
 use crate::parser::source::{Source, after, beside, expect, expect_name, open, unexpected};
 use crate::parser::statement::{ended_expr, stmts};
 use script_grammar::{Expr, Function, Items, Kind, Param, Script, Stmt};
@@ -152,7 +153,7 @@ fn functions<'t>(
     let mut left = tokens;
     while let Some((at, rest)) = after(left, Word::Fn) {
         if found.len() >= MOST_FUNCTIONS {
-            return Err(SyntaxError::Bad { number: 7, at });
+            return Err(TextFault::TooManyFunctions.at(at));
         }
         let (next, rest) = function(source, rest)?;
         found.push(next)?;

@@ -8,6 +8,7 @@ ghost use Rattle.script_text.specs.Machine.{only};
 ghost use Rattle.script_text.specs.Reads.{IsPlain, IsValue, IsName, IsNumber, Names, Numbers, NextIs, NextIsNot, NextLexeme, Passes, Opens, Deepens, Reads, unexpected_in};
 
 use crate::error::SyntaxError;
+use crate::fault::TextFault;
 use script_grammar::{Name, NameText, Number};
 use script_tokens::{Lexeme, Stop, Version, Word};
 use std::alloc::Global;
@@ -45,10 +46,7 @@ pub(crate) fn name_of(source: &Source<'_>, lexeme: Lexeme) -> Result<Name, Synta
 {
     let text = text(source, lexeme);
     if text.len() > LONGEST_NAME {
-        return Err(SyntaxError::Bad {
-            number: 4,
-            at: lexeme.start,
-        });
+        return Err(TextFault::NameTooLong.at(lexeme.start));
     }
     Ok(Name {
         bytes: NameText::of(text),
@@ -64,10 +62,7 @@ pub(crate) fn number_of(source: &Source<'_>, lexeme: Lexeme) -> Result<Number, S
             at: lexeme.start,
             value: value as i64,
         }),
-        None => Err(SyntaxError::Bad {
-            number: 3,
-            at: lexeme.start,
-        }),
+        None => Err(TextFault::NumberOutOfRange.at(lexeme.start)),
     }
 }
 
@@ -110,13 +105,12 @@ pub(crate) fn after(tokens: &[Lexeme], word: Word) -> Option<(u32, &[Lexeme])>
 pub(crate) fn unexpected(source: &Source<'_>, tokens: &[Lexeme]) -> SyntaxError
     ensures { result ≡ unexpected_in source.now tokens.now }
 {
-    let (number, at) = match (tokens, source.stop) {
-        ([first, ..], _) => (2, first.start),
-        ([], Stop::End) => (6, source.end),
-        ([], Stop::NotAscii(at)) => (1, at),
-        ([], Stop::NoToken(at)) => (2, at),
-    };
-    SyntaxError::Bad { number, at }
+    match (tokens, source.stop) {
+        ([first, ..], _) => TextFault::UnexpectedToken.at(first.start),
+        ([], Stop::End) => TextFault::UnexpectedEnd.at(source.end),
+        ([], Stop::NotAscii(at)) => TextFault::NotAscii.at(at),
+        ([], Stop::NoToken(at)) => TextFault::UnexpectedToken.at(at),
+    }
 }
 
 // One level further in, at the token that leads there.
@@ -125,7 +119,7 @@ pub(crate) fn deeper(depth: u8, at: u32) -> Result<u8, SyntaxError>
     ensures { Deepens depth at result }
 {
     if depth == DEEPEST {
-        Err(SyntaxError::Bad { number: 5, at })
+        Err(TextFault::NestedTooDeep.at(at))
     } else {
         Ok(depth + 1)
     }

@@ -133,6 +133,17 @@ fn draws_of_one_coefficient(rt: HostRuntime) -> Result<(), Fail> {
     Ok(())
 }
 
+// The example at the head of `dotmix`.
+#[test]
+fn a_strand_draws_by_its_pedigree(rt: HostRuntime) -> Result<(), Fail> {
+    let gamma = Gamma::of_list(rt.alloc(), &[1, 10], 2)?;
+    let strand = parse_pedigree(rt.alloc(), "0.0")?;
+    assert!(rt; gamma.len() == 2 && strand.len() == 2);
+    same(&rt, "the product", dot(&gamma, &strand), 11);
+    same(&rt, "the draw", dotmix(&gamma, &strand, 4), 128_271);
+    Ok(())
+}
+
 /// The coefficients 1 and 10.
 fn one_and_ten(rt: &(impl Abort + AllocGlobal)) -> Result<Gamma, Fail>
     ensures { IfOk result (λ gamma. length gamma ≡ 2) }

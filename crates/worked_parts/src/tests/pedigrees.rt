@@ -27,6 +27,18 @@ fn is_path(rt: &impl Abort, it: &Ped, ranks: &[u32]) {
     same(rt, "behind", it.rank_at(it.len()), None);
 }
 
+// The example at the head of `ped_path`.
+#[test]
+fn a_childs_strands_come_before_its_parents_next(rt: HostRuntime) -> Result<(), Fail> {
+    let path = Ped::root(rt.alloc())?.child(rt.alloc(), 3)?;
+    let first = Pedigree { path, rank: 0 };
+    let next = parse_pedigree(rt.alloc(), "4")?;
+    assert!(rt; first.same(&parse_pedigree(rt.alloc(), "3.0")?));
+    assert!(rt; first.before(&next));
+    assert!(rt; !next.before(&first));
+    Ok(())
+}
+
 fn is_copied(it: &Ped) -> Result<bool, Memory> {
     Ok(it.same(&it.share()?))
 }

@@ -39,6 +39,7 @@ fn main_task(alloc: Global, plan: &Arc<Plan>) -> Result<Task, Fail>
     ensures { IfOk result IsIdle }
 {
     laws::valid_plans_are_clear();
+    // Read for the proof: a checked script is valid.
     let _script = plan.checked.script();
     fresh_main(alloc, plan)
 }

@@ -14,6 +14,16 @@ fn fault(rt: &impl Abort, alloc: Global, text: &[u8]) -> Option<(u8, u32)> {
     }
 }
 
+// The example at the head of `script_text`.
+#[test]
+fn a_text_has_a_tree_or_a_first_fault(rt: HostRuntime) {
+    let text = b"fn main() { print 1; return 0; }";
+    let script = tree(&rt, rt.alloc(), text).expect(&rt, "a tree");
+    same(&rt, "functions", script.functions.as_slice().len(), 1);
+    let fault = fault(&rt, rt.alloc(), b"fn main() { print 1;");
+    same(&rt, "the end", fault, Some((6, 20)));
+}
+
 // A text, and the number and the place of its first fault.
 static TEXTS: [(&str, Option<(u8, u32)>); 40] = [
     ("fn main() { print 1 return 0; }", Some((2, 20))),
