@@ -1,5 +1,5 @@
 -- A variable that is given the value of an expression.
-use Rattle.std.proofs.Common.{◌≡◌, Result, Ok, Err, OnOk, OnErr, refl, ap}
+use Rattle.std.proofs.Common.{◌≡◌, Result, Ok, Err, OnOk, OnErr, refl, ap, sym, ◌∙◌, ℤ}
 use Rattle.script_grammar.specs.declared.tree.Expr.{Expr}
 use Rattle.script_grammar.specs.declared.tree.Name.{Name}
 use Rattle.script_grammar.specs.declared.tree.Right.TheVariants as right
@@ -11,6 +11,7 @@ use Rattle.serial_meaning.specs.Exec.{with_slot}
 use Rattle.serial_meaning.specs.Plan.{PlanView}
 use Rattle.serial_meaning.specs.declared.environment.Slot.TheVariants.{Scalar}
 use Rattle.serial_meaning.specs.declared.value.Value.{Value}
+use Rattle.serial_meaning.specs.declared.value.Value.TheVariants.{Int}
 use Rattle.serial_meaning.specs.declared.event.FaultKind.{FaultKind}
 use Rattle.strand_values.specs.Changes.{assigned}
 use Rattle.strand_values.specs.declared.halt.Halt as values
@@ -42,3 +43,10 @@ assigned-acts plan i env st x e (Ok u) ok fault =
 assigned-acts plan i env st x e (Err (halt.Fault kind)) ok fault =
     set-value-fault plan (present_of i) (machine_of plan i) st x e kind (given-fault (value_of e i.top.env) (λ (v : Value). with_slot i.top.env x.bytes (Scalar v)) kind (fault kind refl))
 assigned-acts plan i env st x e (Err halt.Memory) ok fault = tt
+
+pub assigned-number : (env new : Env) (x : Name) (e : Expr) (n : ℤ) → value_of e env ≡ Ok (Int n) → new ≡ with_slot env x.bytes (Scalar (Int n)) → assigned env x e ≡ Ok new
+assigned-number env new x e n is set = ap (λ (d : Val). d >>= λ v. Ok (with_slot env x.bytes (Scalar v))) is ∙ ap Ok (sym set)
+
+pub number-acts : (plan : PlanView) (i : Running) (env : Env) (st : Stmt) (x : Name) (e : Expr) (n : ℤ) → value_of e i.top.env ≡ Ok (Int n) → env ≡ with_slot i.top.env x.bytes (Scalar (Int n)) →
+    Acts plan st (act.Set x (right.Value e)) i (record i { top = record i.top { env = env } }) (quiet (Ok tt))
+number-acts plan i env st x e n is set = assigned-acts plan i env st x e (Ok tt) (assigned-number i.top.env env x e n is set) (λ kind h. absurd (cc))

@@ -138,7 +138,7 @@ impl Cursor {
         ensures { MatchOption result ((left_of body.now self.old ≡ []) × (left_of body.now self.new ≡ [])) (λ st. Passes body.now self.old self.new st.now) }
     {
         let block = self.block(body);
-        match self.pass_in(body, block) {
+        match self.pass_on(body, block) {
             Some(passed) => Some(passed.0),
             None => None,
         }
@@ -151,6 +151,18 @@ impl Cursor {
         body: &'a [Stmt],
         block: &'a [Stmt],
     ) -> Option<(&'a Stmt, &'a [Stmt])>
+        requires { block.now ≡ block_of body.now self.old.entered.items }
+        ensures { MatchOption result ((left_of body.now self.old ≡ []) × (left_of body.now self.new ≡ [])) (λ r. Passes body.now self.old self.new r.0.now × (r.1.now ≡ block_of body.now self.new.entered.items)) }
+    {
+        if let Some(statement) = block.get(self.next) {
+            self.next += 1;
+            return Some((statement, block));
+        }
+        self.pass_on(body, block)
+    }
+
+    /// The same, also where no statement of that block is left.
+    fn pass_on<'a>(&mut self, body: &'a [Stmt], block: &'a [Stmt]) -> Option<(&'a Stmt, &'a [Stmt])>
         requires { block.now ≡ block_of body.now self.old.entered.items }
         ensures { MatchOption result ((left_of body.now self.old ≡ []) × (left_of body.now self.new ≡ [])) (λ r. Passes body.now self.old self.new r.0.now × (r.1.now ≡ block_of body.now self.new.entered.items)) }
     {

@@ -98,7 +98,13 @@ impl Running {
         ensures few { Costs self.old self.new }
     {
         match r {
-            Right::Value(e) => went(self.set_value(x, e)),
+            Right::Value(e) => match self.top.env.plain(e) {
+                Some(number) => {
+                    self.top.env.set_number(&x.bytes, number)?;
+                    Ok(true)
+                }
+                None => went(self.set_value(x, e)),
+            },
             _ => Ok(false),
         }
     }

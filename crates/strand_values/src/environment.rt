@@ -96,7 +96,7 @@ impl Environment {
         value::integer(&self.variables, e)
     }
 
-    /// The integer that an expression is, where that takes few instructions.
+    /// The integer that an expression is, if it is a number or a calculation of plain operands and meets no fault.
     pub fn plain(&self, e: &Expr) -> Option<i64>
         ensures { IfSome result (λ n. value_of e.now self.now ≡ Ok (Int n)) }
     {

@@ -1,4 +1,5 @@
-// Calculations of plain operands, which most expressions are: these are numbers, variables, and products of both. No call is made for a part of one.
+// Calculations of plain operands, which most expressions are: these are numbers, variables, and products of both. Their numbers take no recursion, and no
+// room for a fault.
 
 ghost use Rattle.std.specs.Prelude.{◌≡◌, Ok, IfSome, map};
 ghost use Rattle.serial_meaning.specs.Values.{value_of, sums, products, sum_part, product_part};
@@ -12,7 +13,7 @@ use crate::scalar::truth;
 use crate::variables::number_of;
 use script_grammar::{Expr, ProductPart, SumPart};
 
-/// The integer that the expression is, where it is a number or a calculation of plain operands. Where it isn't, or a fault is met, there is none.
+/// The integer that the expression is, where it is a number or a calculation of plain operands. Otherwise, and where a fault is met, there is none.
 pub(crate) fn plain(variables: &[Entry], e: &Expr) -> Option<i64>
     ensures { IfSome result (λ n. value_of e.now variables.now ≡ Ok (Int n)) }
 {
