@@ -1,6 +1,6 @@
 ghost use Rattle.std.specs.Prelude.{◌≡◌, ◌+◌, ◌<◌, ◌≤◌, ◌↔◌, ℕ, length, All, IfOk, position};
 ghost use Rattle.dotmix.specs.Draws.{coefficient, modulus, IsResidue};
-ghost use Rattle.dotmix.specs.GammaState.{is_too_big, padded, IsFirstTooBig};
+ghost use Rattle.dotmix.specs.GammaState.{IsGamma, is_too_big, padded, IsFirstTooBig};
 ghost use Rattle.dotmix.specs.Words.{coefficients};
 
 use crate::memory::Memory;
@@ -10,6 +10,7 @@ use rand_core::utils::NextWord;
 use rand_xoshiro::SplitMix64;
 use std::alloc::{AllocError, Global};
 use std::marker::Model;
+use std::sync::Arc;
 
 /// The prime 2^64 - 59.
 pub const MODULUS: u64 = 18_446_744_073_709_551_557;
@@ -23,6 +24,16 @@ pub enum GammaError {
     TooBig(u32),
     /// There was no memory for the call.
     Memory,
+}
+
+impl From<Memory> for GammaError {
+    ghost use Rattle.dotmix.specs.declared.gamma.GammaError.TheVariants as E;
+
+    ghost from_gives = { λ _ e. e ≡ E.Memory };
+
+    fn from(_: Memory) -> Self {
+        GammaError::Memory
+    }
 }
 
 impl From<AllocError> for GammaError {
@@ -43,21 +54,32 @@ fn first_too_big(list: &[u64]) -> Option<usize>
 }
 
 /// The coefficients of a plan, one for each place of a pedigree. They are seen as a list of fewer than 2^32 numbers, each below
-/// the modulus.
+/// the modulus. They never change, so all copies are one place in memory.
 #[derive(Drop)]
 pub struct Gamma {
-    coefficients: Vec<u64>,
+    coefficients: Arc<Vec<u64>>,
 }
 
 impl Model for Gamma {
     ghost use Rattle.std.specs.Prelude.{ℕ, List};
+    ghost use Rattle.std.specs.Arc.{arc_value};
     ghost use Rattle.dotmix.specs.GammaState.{IsGamma};
 
     ghost Value = { List ℕ };
 
-    ghost view = { λ g. g.coefficients.items };
+    ghost view = { λ g. (arc_value g.coefficients).items };
 
-    ghost invariant = { λ g. IsGamma g.coefficients.items };
+    ghost invariant = { λ g. IsGamma (arc_value g.coefficients).items };
+}
+
+/// Those of a list.
+fn gamma_of(alloc: Global, coefficients: Vec<u64>) -> Result<Gamma, Memory>
+    requires { IsGamma coefficients.items }
+    ensures { IfOk result (λ gamma. gamma ≡ coefficients.items) }
+{
+    Ok(Gamma {
+        coefficients: Arc::new(alloc, coefficients)?,
+    })
 }
 
 impl Gamma {
@@ -70,7 +92,7 @@ impl Gamma {
         for _i in 0..depth {
             coefficients.push(words.next_word() % MODULUS)?;
         }
-        Ok(Gamma { coefficients })
+        gamma_of(alloc, coefficients)
     }
 
     /// The numbers of a list, and zeros after them up to the depth. `TooMany` comes exactly where the list is longer than the
@@ -89,7 +111,16 @@ impl Gamma {
         let mut coefficients = Vec::with_capacity(alloc, depth as usize)?;
         coefficients.extend_from_slice(list)?;
         coefficients.resize(depth as usize, 0)?;
-        Ok(Gamma { coefficients })
+        Ok(gamma_of(alloc, coefficients)?)
+    }
+
+    /// The same coefficients, over the same memory.
+    pub fn share(&self) -> Result<Gamma, Memory>
+        ensures { IfOk result (λ gamma. gamma ≡ self.now) }
+    {
+        Ok(Gamma {
+            coefficients: Arc::try_clone(&self.coefficients)?,
+        })
     }
 
     /// The coefficient of this place of a pedigree, from 1.

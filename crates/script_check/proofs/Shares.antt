@@ -2,8 +2,13 @@
 use denote.Param.Send.{IsSend, IsSync, view_send, view_sync, sendable}
 use denote.Param.SendFields.{declared_send, declared_sync}
 use denote.Builtin.{u16, u32, bool}
+use Rattle.std.proofs.Crossing.{Arc-send, Arc-sync}
+use Rattle.std.specs.contracts.alloc.Global as global
+use Rattle.std.specs.contracts.impls.GlobalAllocator.TheImpl.{ghosts}
+use Rattle.std.specs.contracts.sync.Arc as arc
 use Rattle.script_check.specs.contracts.checked.Checked as checked
 use Rattle.script_check.specs.contracts.checked.Checked.TheInside as inside
+use Rattle.script_check.specs.contracts.checked.Kept as kept
 use Rattle.script_check.proofs.names.NameTable.TheSendSync as table_shared
 use Rattle.script_grammar.proofs.Shares.{script_sends, script_syncs}
 use Rattle.script_grammar.proofs.items.Items.TheSendSync as items_shared
@@ -26,11 +31,23 @@ bool_sends = search sendable
 bool_syncs : IsSync bool
 bool_syncs = search sendable
 
+kept_sends : IsSend kept.the_row
+kept_sends = declared_send kept.the_type (script_sends, (table_shared.the_send u32 number_sends, (items_shared.the_send bool bool_sends, (items_shared.the_send u16 short_sends, tt))))
+
+kept_syncs : IsSync kept.the_row
+kept_syncs = declared_sync kept.the_type (script_syncs, (table_shared.the_sync u32 number_syncs, (items_shared.the_sync bool bool_syncs, (items_shared.the_sync u16 short_syncs, tt))))
+
+shared_sends : IsSend (arc.the_row kept.the_row global.the_row ghosts)
+shared_sends = Arc-send kept.the_row kept_sends kept_syncs
+
+shared_syncs : IsSync (arc.the_row kept.the_row global.the_row ghosts)
+shared_syncs = Arc-sync kept.the_row kept_sends kept_syncs
+
 inside_sends : IsSend inside.the_row
-inside_sends = declared_send inside.the_type (script_sends, (table_shared.the_send u32 number_sends, (items_shared.the_send bool bool_sends, (items_shared.the_send u16 short_sends, tt))))
+inside_sends = declared_send inside.the_type (shared_sends, tt)
 
 inside_syncs : IsSync inside.the_row
-inside_syncs = declared_sync inside.the_type (script_syncs, (table_shared.the_sync u32 number_syncs, (items_shared.the_sync bool bool_syncs, (items_shared.the_sync u16 short_syncs, tt))))
+inside_syncs = declared_sync inside.the_type (shared_syncs, tt)
 
 pub checked_sends : IsSend checked.the_row
 checked_sends = view_send inside.the_row _ _ _ _ inside_sends

@@ -7,7 +7,7 @@ ghost use Rattle.script_check.specs.Spawns.{spawns_in};
 ghost use Rattle.script_check.specs.Tables.{table_of};
 ghost use Rattle.script_check.specs.Valid.{IsValid, CheckFault, all_function_faults, main_faults};
 ghost use Rattle.script_check.specs.Violations.{noted};
-ghost use Rattle.script_check.specs.Walk.{IsIndex};
+ghost use Rattle.script_check.specs.Walk.{IsChecked, IsIndex};
 
 use crate::callees::{callees, guess_at};
 use crate::error::CheckError;
@@ -20,10 +20,17 @@ use crate::texts::each_spawns;
 use script_grammar::{Items, Name, Script};
 use std::alloc::Global;
 use std::marker::Model;
+use std::sync::Arc;
 
-/// A valid script, one that a text is of. It is seen as the script.
+/// A valid script, one that a text is of. It is seen as the script. It never changes, so all its copies are one place in memory.
 #[derive(Drop)]
 pub struct Checked {
+    kept: Arc<Kept>,
+}
+
+/// A script with what a check found out of it.
+#[derive(Drop)]
+struct Kept {
     script: Script,
     first: NameTable<u32>,
     /// Whether the word `spawn` stands in the text of each function.
@@ -33,6 +40,7 @@ pub struct Checked {
 }
 
 impl Model for Checked {
+    ghost use Rattle.std.specs.Arc.{arc_value};
     ghost use Rattle.std.specs.Coded.{codes};
     ghost use Rattle.script_grammar.specs.declared.tree.Script.{Script};
     ghost use Rattle.script_grammar.specs.contracts.tree.Script as script_type;
@@ -44,9 +52,9 @@ impl Model for Checked {
 
     ghost coded = { Prim.hlevel (codes, script_type.the_row.coded) };
 
-    ghost view = { λ c. c.script };
+    ghost view = { λ c. (arc_value c.kept).script };
 
-    ghost invariant = { λ c. IsChecked c.script (table_of c.first.map) c.spawns };
+    ghost invariant = { λ c. let k = arc_value c.kept in IsChecked k.script (table_of k.first.map) k.spawns };
 }
 
 /// Checks a script that a text is of. `Ok` comes exactly for valid scripts, apart from want of memory; else the error tells the
@@ -63,14 +71,27 @@ pub fn check(alloc: Global, script: Script) -> Result<Checked, CheckError>
     let spawns = each_spawns(alloc, script.functions.as_slice())?;
     let callees = callees(alloc, &first, script.functions.as_slice())?;
     match found.least() {
-        None => Ok(Checked {
-            script,
-            first,
-            spawns,
-            callees,
-        }),
+        None => Ok(checked_of(
+            alloc,
+            Kept {
+                script,
+                first,
+                spawns,
+                callees,
+            },
+        )?),
         Some(Violation { at, number }) => Err(CheckError::Bad { number, at }),
     }
+}
+
+/// The checked script of what a check found out.
+fn checked_of(alloc: Global, kept: Kept) -> Result<Checked, Memory>
+    requires { IsChecked kept.script (table_of kept.first.map) kept.spawns }
+    ensures { IfOk result (λ checked. checked ≡ kept.script) }
+{
+    Ok(Checked {
+        kept: Arc::new(alloc, kept)?,
+    })
 }
 
 /// All conditions of a script but that no function's name is doubled.
@@ -100,7 +121,16 @@ impl Checked {
         ensures valid { IsValid self.now }
         ensures text { IsOfText self.now }
     {
-        &self.script
+        &self.kept.script
+    }
+
+    /// The same script, over the same memory.
+    pub fn share(&self) -> Result<Checked, Memory>
+        ensures { IfOk result (λ checked. checked ≡ self.now) }
+    {
+        Ok(Checked {
+            kept: Arc::try_clone(&self.kept)?,
+        })
     }
 
     /// The index of the first function named `main`.
@@ -108,7 +138,7 @@ impl Checked {
         ensures main { Some result ≡ first_named self.now.functions main_name }
         ensures within { result < length self.now.functions }
     {
-        self.first.get(b"main").unwrap_or(0)
+        self.kept.first.get(b"main").unwrap_or(0)
     }
 
     /// The index of the first function of this name. There is none exactly where no function has it. Where a name of the script is
@@ -117,11 +147,12 @@ impl Checked {
         ensures function { result ≡ first_named self.now.functions name.now.bytes }
         ensures within { IfSome result (λ i. i < length self.now.functions) }
     {
-        let guess = guess_at(self.callees.as_slice(), name.at);
-        match self.script.functions.as_slice().get(guess as usize) {
+        let kept: &Kept = &self.kept;
+        let guess = guess_at(kept.callees.as_slice(), name.at);
+        match kept.script.functions.as_slice().get(guess as usize) {
             // no two functions have one name
             Some(f) if f.name.bytes.same(&name.bytes) => Some(guess),
-            _ => self.first.get(name.bytes.as_slice()),
+            _ => kept.first.get(name.bytes.as_slice()),
         }
     }
 
@@ -129,7 +160,7 @@ impl Checked {
     pub fn spawns(&self, function: u32) -> bool
         ensures { result ≡ spawns_in (slice_get self.now.functions function) }
     {
-        match self.spawns.as_slice().get(function as usize) {
+        match self.kept.spawns.as_slice().get(function as usize) {
             Some(spawns) => *spawns,
             None => false,
         }

@@ -21,6 +21,7 @@ mod variable;
 
 pub use checked::{Checked, check};
 pub use error::CheckError;
+pub use memory::Memory;
 
 fn is_shared<T: Send + Sync>() {}
 

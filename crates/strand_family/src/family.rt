@@ -104,6 +104,14 @@ impl Family {
         Ok(Arc::try_clone(&self.plan)?)
     }
 
+    /// The task's plan is reached by this handle from now on.
+    pub fn set_plan(&mut self, plan: Arc<Plan>)
+        requires { arc_value plan ≡ self.old.plan }
+        ensures { self.new ≡ self.old }
+    {
+        self.plan = plan;
+    }
+
     /// What a child knows of the loops on its path.
     pub fn loops_below(&self, child: &Origin) -> Loops
         requires own { IsOriginOf self.now.plan self.now.origin }

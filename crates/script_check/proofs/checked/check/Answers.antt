@@ -17,8 +17,8 @@ same_number m a n b h = cc
 same_place : (m a n b : ℕ) → (let l : Result Checked CheckError = Err (Bad m a) in l ≡ Err (Bad n b)) → a ≡ b
 same_place m a n b h = cc
 
-pub returns-in-None-clause-valid : goal.returns-in-None-clause-valid
-returns-in-None-clause-valid c =
+pub returns-in_ok-checked_of-in-None-clause-valid : goal.returns-in_ok-checked_of-in-None-clause-valid
+returns-in_ok-checked_of-in-None-clause-valid c =
     let script = c.args.script in
     let first : c.index.new.found ≡ noted None (functions_twice [] script.functions) = search rules in
     let least : c.judge_script.new.found ≡ None = sym c.least.ensures ∙ c.in-None.is in
@@ -33,8 +33,8 @@ returns-in-Some-clause-bad c = λ number at h.
     fault_is script v number at (sym (all_noted script c.index.new.found c.judge_script.new.found first c.in_ok-judge_script.ensures) ∙ least)
     (same_number v.number v.at number at h) (same_place v.number v.at number at h)
 
-pub invariant_of-result : goal.invariant_of-result
-invariant_of-result c =
+pub checked_of-requires : goal.checked_of-requires
+checked_of-requires c =
     let script = c.args.script in
     let first : c.index.new.found ≡ noted None (functions_twice [] script.functions) = search rules in
     let least : c.judge_script.new.found ≡ None = sym c.least.ensures ∙ c.in-None.is in

@@ -4,8 +4,8 @@ use Rattle.dotmix.specs.GammaState.{padded}
 use Rattle.dotmix.proofs.GammaLemmas.{padded-IsGamma}
 use Rattle.dotmix.proofs.gamma.Gamma.of_list.Goals as goal
 
-pub invariant_of-result : goal.invariant_of-result
-invariant_of-result c =
+pub gamma_of-requires : goal.gamma_of-requires
+gamma_of-requires c =
     let empty = c.in_ok-coefficients.ensures.items in
     let listed = c.in_ok-extend_from_slice.ensures in
     let zeros = c.in_ok-resize.ensures.items in

@@ -8,5 +8,5 @@ loop-i-preserved c = record {
   so_far = coefficients_after_word c.args.seed c.loop-i._i _ _ _ _ _ c.next_word.ensures c.loop-i.invariant.state c.loop-i.invariant.so_far c.in_ok-push.ensures.items;
 }
 
-pub invariant_of-result : goal.invariant_of-result
-invariant_of-result c = rw c.loop-i.invariant.so_far (coefficients-IsGamma c.args.seed c.loop-i._i (omega arith))
+pub gamma_of-requires : goal.gamma_of-requires
+gamma_of-requires c = rw c.loop-i.invariant.so_far (coefficients-IsGamma c.args.seed c.loop-i._i (omega arith))
