@@ -288,15 +288,29 @@ fn steal(thieves: &mut [Thief<Task>]) -> Option<Task>
     None
 }
 
+/// A task of another hand gets a handle of its plan for itself and its later children, so that not all hands write one count at each spawn.
+/// Where there is no memory for that, it keeps the one that it has.
+fn with_own_handle(alloc: Global, task: Task) -> Task
+    ensures { result ≡ task }
+{
+    let mut task = task;
+    if let Ok(plan) = task.plan().again(alloc) {
+        task.set_plan(plan);
+    }
+    task
+}
+
 /// Takes up a task of another hand. Where there is none the turn was this.
-fn steal_or(held: &mut Held, otherwise: Turn) -> Turn
+fn steal_or(held: &mut Held, alloc: Global, otherwise: Turn) -> Turn
     requires { held.old.current ≡ None }
     ensures took { StealsOr otherwise (view_of held.old) result (view_of held.new) }
     ensures late { KeepsLate (view_of held.old) (view_of held.new) }
 {
-    held.current = steal(held.thieves.as_mut_slice());
-    match &held.current {
-        Some(_) => Turn::Stole,
+    match steal(held.thieves.as_mut_slice()) {
+        Some(task) => {
+            held.current = Some(with_own_handle(alloc, task));
+            Turn::Stole
+        }
         None => otherwise,
     }
 }
@@ -313,8 +327,8 @@ fn seek(held: &mut Held, alloc: Global) -> Result<Turn, Memory>
     }
     match look(held, alloc)? {
         Found::Goes => Ok(Turn::Resumed),
-        Found::Waits => Ok(steal_or(held, Turn::Waiting)),
-        Found::Missing => Ok(steal_or(held, Turn::Idle)),
+        Found::Waits => Ok(steal_or(held, alloc, Turn::Waiting)),
+        Found::Missing => Ok(steal_or(held, alloc, Turn::Idle)),
     }
 }
 

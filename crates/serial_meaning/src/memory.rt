@@ -23,6 +23,18 @@ impl From<ped_path::Memory> for Memory {
     }
 }
 
+impl From<dotmix::Memory> for Memory {
+    fn from(_: dotmix::Memory) -> Self {
+        Memory
+    }
+}
+
+impl From<script_check::Memory> for Memory {
+    fn from(_: script_check::Memory) -> Self {
+        Memory
+    }
+}
+
 impl From<loop_range::Memory> for Memory {
     fn from(_: loop_range::Memory) -> Self {
         Memory

@@ -1,4 +1,5 @@
 ghost use Rattle.std.specs.Prelude.{◌≡◌, ◌≤◌, length, IfOk, slice_get};
+ghost use Rattle.std.specs.Arc.{arc_value};
 ghost use Rattle.script_check.specs.Spawns.{spawns_in};
 ghost use Rattle.serial_meaning.specs.Plan.{IsPlan, functions_of};
 ghost use Rattle.serial_meaning.specs.Functions.{number_of};
@@ -13,6 +14,7 @@ use script_grammar::laws::functions_are_few;
 use script_grammar::{Function, Items, Name};
 use std::alloc::Global;
 use std::marker::Model;
+use std::sync::Arc;
 
 /// How many ranks a pedigree has at most, whatever the limits of a run.
 pub const MOST_DEPTH: u32 = 512;
@@ -74,6 +76,22 @@ impl Plan {
             show,
             rounds,
         }
+    }
+
+    /// One more handle of the same plan, with a count of its own. All but the plan's own numbers is over the same memory.
+    pub fn again(&self, alloc: Global) -> Result<Arc<Plan>, Memory>
+        ensures { IfOk result (λ plan. arc_value plan ≡ self.now) }
+    {
+        Ok(Arc::new(
+            alloc,
+            Plan {
+                checked: self.checked.share()?,
+                gamma: self.gamma.share()?,
+                limits: self.limits,
+                show: self.show,
+                rounds: self.rounds,
+            },
+        )?)
     }
 
     /// The functions of the script, in the order of the text.

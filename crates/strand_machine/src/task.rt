@@ -124,6 +124,14 @@ impl Task {
         self.parts.body.family.shared_plan()
     }
 
+    /// The task reaches its plan by this handle from now on, and so do the children that it hands out.
+    pub fn set_plan(&mut self, plan: Arc<Plan>)
+        requires { arc_value plan ≡ self.old.task.plan }
+        ensures { self.new ≡ self.old }
+    {
+        self.parts.body.family.set_plan(plan);
+    }
+
     /// A copy of what the task was begun as. Its path shares its memory.
     pub fn share_origin(&self, alloc: Global) -> Result<Origin, Memory>
         ensures { IfOk result (λ origin. origin ≡ self.now.task.origin) }
