@@ -1,48 +1,48 @@
--- What a look made of a hand, by what became of the task that left its ring.
+-- What a look made of a hand, by what became of the task that was stalled.
 use Rattle.std.proofs.Common.{◌≡◌, List, [], ◌∷◌, ◌++◌, Some, None, sym, ap, ◌∙◌, subst}
 use Rattle.strand_machine.specs.Tasks.{TaskView}
 use Rattle.crew.specs.Hands.{HandView, IsTurnedOver, GoesOn, TakesUp, Looks, LooksNewest}
 use Rattle.crew.specs.declared.hand.Looked.TheVariants as looked
-use Rattle.crew.specs.declared.steps.Found.{Found}
-use Rattle.crew.specs.declared.steps.Found.TheVariants.{Missing, Waits, Goes}
+use Rattle.crew.specs.declared.steps.TakeUp.{TakeUp}
+use Rattle.crew.specs.declared.steps.TakeUp.TheVariants.{Missing, Waits, Goes}
 
 -- the middle hand lacks the task alone
 abbrev LacksInRing : HandView → HandView → Type 0
-LacksInRing old mid = mid ≡ record old { ring = mid.ring }
+LacksInRing old mid = mid ≡ record old { stalled = mid.stalled }
 
-with_ring : (old mid new : HandView) (ring : List TaskView) → LacksInRing old mid → new ≡ record mid { ring = ring } → new ≡ record old { ring = new.ring }
-with_ring old mid new ring lacks is =
-    is ∙ ap (λ (h : HandView). record h { ring = ring }) lacks ∙ ap (λ (l : List TaskView). record old { ring = l }) (sym (ap (λ (h : HandView). h.ring) is))
+with_stalled : (old mid new : HandView) (stalled : List TaskView) → LacksInRing old mid → new ≡ record mid { stalled = stalled } → new ≡ record old { stalled = new.stalled }
+with_stalled old mid new stalled lacks is =
+    is ∙ ap (λ (h : HandView). record h { stalled = stalled }) lacks ∙ ap (λ (l : List TaskView). record old { stalled = l }) (sym (ap (λ (h : HandView). h.stalled) is))
 
 with_current : (old mid new : HandView) (t : TaskView) → LacksInRing old mid → new ≡ record mid { current = Some t } →
-    new ≡ record old { current = Some t; ring = new.ring }
+    new ≡ record old { current = Some t; stalled = new.stalled }
 with_current old mid new t lacks is =
     is ∙ ap (λ (h : HandView). record h { current = Some t }) lacks
-    ∙ ap (λ (l : List TaskView). record old { current = Some t; ring = l }) (sym (ap (λ (h : HandView). h.ring) is))
+    ∙ ap (λ (l : List TaskView). record old { current = Some t; stalled = l }) (sym (ap (λ (h : HandView). h.stalled) is))
 
-pub looks : (old mid : HandView) (t : TaskView) (found : Found) (new : HandView) → old.ring ≡ t ∷ mid.ring → LacksInRing old mid → TakesUp t mid found new →
+pub looks : (old mid : HandView) (t : TaskView) (found : TakeUp) (new : HandView) → old.stalled ≡ t ∷ mid.stalled → LacksInRing old mid → TakesUp t mid found new →
     Looks old found new
 looks old mid t Missing new front lacks h = absurd h
 looks old mid t Waits new front lacks h = (
-  subst (λ (l : List TaskView). IsTurnedOver l new.ring) (sym front) (h.0, h.1, ap (λ (x : HandView). x.ring) h.2),
-  with_ring old mid new _ lacks h.2,
+  subst (λ (l : List TaskView). IsTurnedOver l new.stalled) (sym front) (h.0, h.1, ap (λ (x : HandView). x.stalled) h.2),
+  with_stalled old mid new _ lacks h.2,
 )
 looks old mid t Goes new front lacks h = (
   h.0,
-  subst (λ (l : List TaskView). GoesOn l h.0 new.ring) (sym front) (h.1, ap (λ (x : HandView). x.ring) h.2),
+  subst (λ (l : List TaskView). GoesOn l h.0 new.stalled) (sym front) (h.1, ap (λ (x : HandView). x.stalled) h.2),
   with_current old mid new h.0 lacks h.2,
 )
 
-pub newest_waits : (old mid : HandView) (t : TaskView) (new : HandView) → old.current ≡ None → old.ring ≡ mid.ring ++ t ∷ [] → LacksInRing old mid →
+pub newest_waits : (old mid : HandView) (t : TaskView) (new : HandView) → old.current ≡ None → old.stalled ≡ mid.stalled ++ t ∷ [] → LacksInRing old mid →
     TakesUp t mid Waits new → LooksNewest old looked.Waits new
 newest_waits old mid t new none last lacks h =
-    (none, (mid.ring, t, h.0, last, h.1, ap (λ (x : HandView). x.ring) h.2), with_ring old mid new _ lacks h.2)
+    (none, (mid.stalled, t, h.0, last, h.1, ap (λ (x : HandView). x.stalled) h.2), with_stalled old mid new _ lacks h.2)
 
-pub newest_goes : (old mid : HandView) (t : TaskView) (new : HandView) → old.current ≡ None → old.ring ≡ mid.ring ++ t ∷ [] → LacksInRing old mid →
+pub newest_goes : (old mid : HandView) (t : TaskView) (new : HandView) → old.current ≡ None → old.stalled ≡ mid.stalled ++ t ∷ [] → LacksInRing old mid →
     TakesUp t mid Goes new → LooksNewest old looked.Goes new
 newest_goes old mid t new none last lacks h = (
   h.0,
   none,
-  (t, last ∙ ap (λ (l : List TaskView). l ++ t ∷ []) (sym (ap (λ (x : HandView). x.ring) h.2)), h.1),
+  (t, last ∙ ap (λ (l : List TaskView). l ++ t ∷ []) (sym (ap (λ (x : HandView). x.stalled) h.2)), h.1),
   with_current old mid new h.0 lacks h.2,
 )

@@ -203,9 +203,9 @@ begins plan workers idle now d h are same few is = (idle, are, by_hands idle sam
 -- or is dealt the root tasks, when it has none
 
 abbrev HasNone : HandView → Type 0
-HasNone h = (h.kept ≡ []) × (h.deck.pushed ≡ [])
+HasNone h = (h.overflow ≡ []) × (h.deck.pushed ≡ [])
 
-pub first-has-none : (workers : ℕ) (hands : List HandView) (d h : HandView) → AreIdle workers hands → 1 ≤ workers → h ≡ get_or hands 0 d → (h.kept ≡ []) × (h.deck.pushed ≡ [])
+pub first-has-none : (workers : ℕ) (hands : List HandView) (d h : HandView) → AreIdle workers hands → 1 ≤ workers → h ≡ get_or hands 0 d → (h.overflow ≡ []) × (h.deck.pushed ≡ [])
 first-has-none workers hands d h (decks, n, are) few is = subst HasNone (sym (is ∙ ap (λ (l : List HandView). get_or l 0 d) are)) (by_decks decks n)
   where
     by_decks : (ds : List DeckId) → length ds ≡ workers → HasNone (get_or (idle_hands [] ds) 0 d)

@@ -17,14 +17,14 @@ use Rattle.crew.specs.contracts.faults.Faults as faults
 use Rattle.crew.specs.contracts.hand.Hand as hand
 use Rattle.crew.specs.contracts.hand.Hand.TheInside as hand_inside
 use Rattle.crew.specs.contracts.held.Held as held
-use Rattle.crew.specs.contracts.parked.Parked as parked
-use Rattle.crew.specs.contracts.parked.Parked.TheInside as parked_inside
+use Rattle.crew.specs.contracts.stalled.Stalled as stalled
+use Rattle.crew.specs.contracts.stalled.Stalled.TheInside as stalled_inside
 
-parked_inside_sends : IsSend parked_inside.the_row
-parked_inside_sends = declared_send parked_inside.the_type (task_sends, tt)
+stalled_inside_sends : IsSend stalled_inside.the_row
+stalled_inside_sends = declared_send stalled_inside.the_type (task_sends, tt)
 
-parked_sends : IsSend parked.the_row
-parked_sends = view_send parked_inside.the_row _ _ _ _ parked_inside_sends
+stalled_sends : IsSend stalled.the_row
+stalled_sends = view_send stalled_inside.the_row _ _ _ _ stalled_inside_sends
 
 cell_sends : IsSend (cell.the_row known.the_row)
 cell_sends = cell_shared.the_send known.the_row known_sends
@@ -46,7 +46,7 @@ held_sends = declared_send held.the_type (
     (
       deck_shared.the_send task.the_row task_sends,
       (
-        Deque-send parked.the_row parked_sends,
+        Deque-send stalled.the_row stalled_sends,
         (Vec-send (thief.the_row task.the_row) (thief_shared.the_send task.the_row task_sends), (faults_sends, tt)),
       ),
     ),

@@ -3,7 +3,7 @@ use Rattle.std.proofs.Common.{◌≡◌, ℕ, zero, suc, ◌-◌, true, false, L
 use Rattle.loop_range.specs.Range.{Range}
 use Rattle.serial_meaning.specs.Answer.{AnswerView, AnswerTag}
 use Rattle.serial_meaning.specs.Eval.{path_of}
-use Rattle.serial_meaning.specs.Open.{Own, Joined}
+use Rattle.serial_meaning.specs.Open.{Own, ChildFaulted}
 use Rattle.serial_meaning.specs.Plan.{PlanView}
 use Rattle.serial_meaning.specs.declared.value.Value.{Value}
 use Rattle.serial_meaning.specs.declared.event.Fault.{Fault}
@@ -11,9 +11,9 @@ use Rattle.serial_meaning.specs.declared.origin.Origin.{Origin}
 use Rattle.serial_meaning.specs.declared.origin.Origin.TheVariants.{Instance, Loop}
 use Rattle.serial_meaning.specs.declared.answer.Outcome.{Outcome}
 use Rattle.serial_meaning.specs.declared.answer.Outcome.TheVariants as outcome
-use Rattle.strand_meaning.specs.Machine.{Token, Reached, Stands, Gives, move}
-use Rattle.strand_meaning.specs.Pieces.{Part}
-use Rattle.strand_meaning.specs.Task.{Stage, Goes, AtSync, AtLoop, Ended, Work, Splits, Runs, Over, Task, own_instance, Step, Passes, Stops, Stop, Spawn, Wait, End, IsNext, Now, Later, stage_after, child_in, stops_at, passing, moved, ends_unless, faults_behind, gave, stage_step, split_step, over_step, work_step}
+use Rattle.strand_meaning.specs.Machine.{Effect, Reached, Stands, Gives, move}
+use Rattle.strand_meaning.specs.Trace.{AwaitedChild}
+use Rattle.strand_meaning.specs.Task.{InstanceState, Running, AtSync, AtLoop, Ended, Work, Splits, Runs, Over, Task, own_instance, MoveOrStop, Passes, Stops, Stop, Spawn, Wait, End, IsNext, Now, Later, stage_after, child_in, stops_at, passing, moved, ends_unless, faults_behind, gave, stage_step, split_step, over_step, work_step}
 use Rattle.strand_machine.specs.Family.{tag}
 use Rattle.strand_meaning.specs.Cuts.{IsByFaultOf}
 use Rattle.strand_meaning.specs.Laws.{IsFaultOf}
@@ -27,7 +27,7 @@ StandsIn (Spawn child rest) = Unit {0}
 StandsIn (Wait rest) = rest.waiting ≡ true
 StandsIn (End out ended) = Unit {0}
 
-abbrev StandsInStep : Step → Type 0
+abbrev StandsInStep : MoveOrStop → Type 0
 StandsInStep (Passes next) = Unit {0}
 StandsInStep (Stops stop) = StandsIn stop
 
@@ -40,45 +40,45 @@ module _ (t : Task) where
   at-child None next = tt
   at-child (Some o) next = tt
 
-  at-move : (ts : List Token) (e : Result Reached Fault) → StandsInStep (moved t ts e)
+  at-move : (ts : List Effect) (e : Result Reached Fault) → StandsInStep (moved t ts e)
   at-move ts (Ok (Stands m)) = at-child (child_in ts) (passing t ts (Runs (stage_after ts m)))
   at-move ts (Ok (Gives v)) = tt
   at-move ts (Err f) = tt
 
-  at-fault : (ps : List Part) (f : Fault) → StandsInStep (faults_behind ps t f)
-  at-fault [] f = at-end t.pieces.fault _
+  at-fault : (ps : List AwaitedChild) (f : Fault) → StandsInStep (faults_behind ps t f)
+  at-fault [] f = at-end t.trace.fault _
   at-fault (p ∷ ps) f = refl
 
   at-value : (o : Origin) (v : Value) → StandsInStep (gave t o v)
-  at-value (Instance function args path) v = at-end t.pieces.fault _
+  at-value (Instance function args path) v = at-end t.trace.fault _
   at-value (Loop function rest first path range) v = tt
 
-  at-stage : (stage : Stage) → StandsInStep (stage_step t stage)
-  at-stage (Goes m) = let r = move t.plan (path_of (own_instance t.origin)) m in at-move r.items r.ending
+  at-stage : (stage : InstanceState) → StandsInStep (stage_step t stage)
+  at-stage (Running m) = let r = move t.plan (path_of (own_instance t.origin)) m in at-move r.items r.ending
   at-stage (AtSync m) = refl
   at-stage (AtLoop m) = refl
   at-stage (Ended (Ok v)) = at-value t.origin v
-  at-stage (Ended (Err (Own f))) = at-fault t.pieces.handed f
-  at-stage (Ended (Err (Joined f))) = at-end t.pieces.fault _
+  at-stage (Ended (Err (Own f))) = at-fault t.trace.handed f
+  at-stage (Ended (Err (ChildFaulted f))) = at-end t.trace.fault _
 
   at-split : (left : Range) (n : ℕ) → StandsInStep (split_step t left n)
-  at-split left zero = at-end t.pieces.fault _
+  at-split left zero = at-end t.trace.fault _
   at-split left (suc zero) = tt
   at-split left (suc (suc n)) = tt
 
   at-over : (v : Value) (o : Origin) → StandsInStep (over_step t v o)
-  at-over v (Instance function args path) = at-end t.pieces.fault _
+  at-over v (Instance function args path) = at-end t.trace.fault _
   at-over v (Loop function rest first path range) = by_size (range.hi - range.lo) refl
     where
       by_size : (n : ℕ) → range.hi - range.lo ≡ n → StandsInStep (over_step t v (Loop function rest first path range))
-      by_size zero g = rw g (at-end t.pieces.fault _)
-      by_size (suc zero) g = rw g (at-end t.pieces.fault _)
+      by_size zero g = rw g (at-end t.trace.fault _)
+      by_size (suc zero) g = rw g (at-end t.trace.fault _)
       by_size (suc (suc n)) g = rw g refl
 
   at-work : (work : Work) → StandsInStep (work_step t work)
   at-work (Splits left) = at-split left (left.hi - left.lo)
   at-work (Runs stage) = at-stage stage
-  at-work (Over v true) = at-end t.pieces.fault _
+  at-work (Over v true) = at-end t.trace.fault _
   at-work (Over v false) = at-over v t.origin
 
 stands-in : (t : Task) (stop : Stop) → IsNext t stop → StandsIn stop

@@ -22,26 +22,26 @@ use Rattle.crew.specs.declared.hand.Turn.TheVariants.{Ran, Answered, Ended, Popp
 
 -- The worker that a hand is
 
-worker-is : (left : List TaskView) (h : HandView) (current : Option Task) (deque ring : List Task) →
-    option_map (λ t. t.task) h.current ≡ current → tasks left ++ tasks h.kept ≡ deque → tasks h.ring ≡ ring →
-    worker_of left h ≡ record { current = current; deque = deque; ring = ring }
-worker-is left h current deque ring c d r = rw c (rw d (rw r refl))
+worker-is : (left : List TaskView) (h : HandView) (current : Option Task) (deque stalled : List Task) →
+    option_map (λ t. t.task) h.current ≡ current → tasks left ++ tasks h.overflow ≡ deque → tasks h.stalled ≡ stalled →
+    worker_of left h ≡ record { current = current; deque = deque; stalled = stalled }
+worker-is left h current deque stalled c d r = rw c (rw d (rw r refl))
 
 abbrev task-of : Option TaskView → Option Task
 task-of o = option_map (λ t. t.task) o
 
 -- one task more at the back
-pushed : (left : List TaskView) (t : TaskView) (kept : List TaskView) → kept ≡ [] → tasks (left ++ t ∷ []) ++ tasks kept ≡ tasks left ++ t.task ∷ []
-pushed left t kept none = rw none (append-nil (tasks (left ++ t ∷ [])) ∙ map-append (λ t. t.task) left (t ∷ []))
+pushed : (left : List TaskView) (t : TaskView) (overflow : List TaskView) → overflow ≡ [] → tasks (left ++ t ∷ []) ++ tasks overflow ≡ tasks left ++ t.task ∷ []
+pushed left t overflow none = rw none (append-nil (tasks (left ++ t ∷ [])) ∙ map-append (λ t. t.task) left (t ∷ []))
 
-emptied : (left kept : List TaskView) → kept ≡ [] → tasks left ++ tasks kept ≡ tasks left
-emptied left kept none = rw none (append-nil (tasks left))
+emptied : (left overflow : List TaskView) → overflow ≡ [] → tasks left ++ tasks overflow ≡ tasks left
+emptied left overflow none = rw none (append-nil (tasks left))
 
-kept-more : (left kept kept' : List TaskView) (t : TaskView) → kept' ≡ kept ++ t ∷ [] → tasks left ++ tasks kept' ≡ (tasks left ++ tasks kept) ++ t.task ∷ []
-kept-more left kept kept' t more =
+overflow-more : (left overflow overflow' : List TaskView) (t : TaskView) → overflow' ≡ overflow ++ t ∷ [] → tasks left ++ tasks overflow' ≡ (tasks left ++ tasks overflow) ++ t.task ∷ []
+overflow-more left overflow overflow' t more =
     ap (λ l. tasks left ++ tasks l) more
-    ∙ ap (λ l. tasks left ++ l) (map-append (λ t. t.task) kept (t ∷ []))
-    ∙ sym (append_assoc (tasks left) (tasks kept) (t.task ∷ []))
+    ∙ ap (λ l. tasks left ++ l) (map-append (λ t. t.task) overflow (t ∷ []))
+    ∙ sym (append_assoc (tasks left) (tasks overflow) (t.task ∷ []))
 
 -- Runs
 
@@ -63,10 +63,10 @@ module _ (t : TaskView) (old new : HandView) (now : old.current ≡ Some t) wher
       is : task-of new.current ≡ Some (start rest.task.plan child.task.origin)
       is = ap (λ (x : HandView). task-of x.current) h.1 ∙ child-is
 
-      ring-is : tasks new.ring ≡ tasks old.ring
-      ring-is = ap (λ (x : HandView). tasks x.ring) h.1
+      stalled-is : tasks new.stalled ≡ tasks old.stalled
+      stalled-is = ap (λ (x : HandView). tasks x.stalled) h.1
 
-      by : (left : List TaskView) → IsPut rest old.kept old.deck new.kept new.deck →
+      by : (left : List TaskView) → IsPut rest old.overflow old.deck new.overflow new.deck →
           (after : List TaskView) × OwnerLeaves old.deck left new.deck after × WorkerRuns t.task at-child (worker_of left old) (worker_of after new)
       by left (inl (none, still, pushes)) = (
         left ++ rest ∷ [],
@@ -74,7 +74,7 @@ module _ (t : TaskView) (old new : HandView) (now : old.current ≡ Some t) wher
         record {
           current = current-was;
           comes = at.next;
-          after = worker-is (left ++ rest ∷ []) new _ _ _ is (pushed left rest new.kept still ∙ ap (λ l. l ++ rest.task ∷ []) (sym (emptied left old.kept none))) ring-is;
+          after = worker-is (left ++ rest ∷ []) new _ _ _ is (pushed left rest new.overflow still ∙ ap (λ l. l ++ rest.task ∷ []) (sym (emptied left old.overflow none))) stalled-is;
         },
       )
       by left (inr (full, more, same)) = (
@@ -83,7 +83,7 @@ module _ (t : TaskView) (old new : HandView) (now : old.current ≡ Some t) wher
         record {
           current = current-was;
           comes = at.next;
-          after = worker-is left new _ _ _ is (kept-more left old.kept new.kept rest more) ring-is;
+          after = worker-is left new _ _ _ is (overflow-more left old.overflow new.overflow rest more) stalled-is;
         },
       )
 
@@ -99,8 +99,8 @@ module _ (t : TaskView) (old new : HandView) (now : old.current ≡ Some t) wher
         current = current-was;
         comes = at.next;
         after =
-            worker-is left new _ _ _ (ap (λ (x : HandView). task-of x.current) h) (ap (λ (x : HandView). tasks left ++ tasks x.kept) h)
-            (ap (λ (x : HandView). tasks x.ring) h ∙ map-append (λ t. t.task) old.ring (rest ∷ []));
+            worker-is left new _ _ _ (ap (λ (x : HandView). task-of x.current) h) (ap (λ (x : HandView). tasks left ++ tasks x.overflow) h)
+            (ap (λ (x : HandView). tasks x.stalled) h ∙ map-append (λ t. t.task) old.stalled (rest ∷ []));
       },
     ),
   )
@@ -117,8 +117,8 @@ module _ (t : TaskView) (old new : HandView) (now : old.current ≡ Some t) wher
         current = current-was;
         comes = at.next;
         after =
-            worker-is left new _ _ _ (ap (λ (x : HandView). task-of x.current) h) (ap (λ (x : HandView). tasks left ++ tasks x.kept) h)
-            (ap (λ (x : HandView). tasks x.ring) h);
+            worker-is left new _ _ _ (ap (λ (x : HandView). task-of x.current) h) (ap (λ (x : HandView). tasks left ++ tasks x.overflow) h)
+            (ap (λ (x : HandView). tasks x.stalled) h);
       },
     ),
   )
@@ -157,19 +157,19 @@ module _ (old new : HandView) (free : old.current ≡ None) where
   was-free : task-of old.current ≡ None
   was-free = ap task-of free
 
-  popped : (t : TaskView) → IsNewest t old.kept old.deck new.kept new.deck → new ≡ record old { current = Some t; kept = new.kept; deck = new.deck } → TakesLast old new
+  popped : (t : TaskView) → IsNewest t old.overflow old.deck new.overflow new.deck → new ≡ record old { current = Some t; overflow = new.overflow; deck = new.deck } → TakesLast old new
   popped t newest h = (t.task, λ after. by after newest)
     where
-      by : (after : List TaskView) → IsNewest t old.kept old.deck new.kept new.deck →
+      by : (after : List TaskView) → IsNewest t old.overflow old.deck new.overflow new.deck →
           (left : List TaskView) × OwnerLeaves old.deck left new.deck after × WorkerPops t.task (worker_of left old) (worker_of after new)
       by after (inl (last, same)) = (
         after,
         inl (same, refl),
         record {
           free = was-free;
-          back = kept-more after new.kept old.kept t last;
+          back = overflow-more after new.overflow old.overflow t last;
           current = ap (λ (x : HandView). task-of x.current) h;
-          ring = ap (λ (x : HandView). tasks x.ring) h;
+          stalled = ap (λ (x : HandView). tasks x.stalled) h;
         },
       )
       by after (inr (none, still, pops)) = (
@@ -177,44 +177,44 @@ module _ (old new : HandView) (free : old.current ≡ None) where
         inr (inr (t, pops, refl)),
         record {
           free = was-free;
-          back = pushed after t old.kept none ∙ ap (λ l. l ++ t.task ∷ []) (sym (emptied after new.kept still));
+          back = pushed after t old.overflow none ∙ ap (λ l. l ++ t.task ∷ []) (sym (emptied after new.overflow still));
           current = ap (λ (x : HandView). task-of x.current) h;
-          ring = ap (λ (x : HandView). tasks x.ring) h;
+          stalled = ap (λ (x : HandView). tasks x.stalled) h;
         },
       )
 
-  -- the front of the ring
+  -- the front of the stalled tasks
 
-  front : (place : ℕ) (t : TaskView) (ring : List TaskView) → slice_get ring place ≡ Some t → slice_get (tasks ring) place ≡ Some t.task
+  front : (place : ℕ) (t : TaskView) (stalled : List TaskView) → slice_get stalled place ≡ Some t → slice_get (tasks stalled) place ≡ Some t.task
   front zero t [] h = absurd (cc)
   front zero t (x ∷ xs) h = ap task-of h
   front (suc n) t [] h = absurd (cc)
   front (suc n) t (x ∷ xs) h = front n t xs h
 
-  without : (place : ℕ) (ring : List TaskView) → tasks (remove ring place) ≡ remove (tasks ring) place
+  without : (place : ℕ) (stalled : List TaskView) → tasks (remove stalled place) ≡ remove (tasks stalled) place
   without zero [] = refl
   without zero (x ∷ xs) = refl
   without (suc n) [] = refl
   without (suc n) (x ∷ xs) = ap (λ l. x.task ∷ l) (without n xs)
 
-  passes : (place : ℕ) (left : List TaskView) (t same : TaskView) (mid : HandView) → slice_get old.ring place ≡ Some t → same.task ≡ t.task →
-      mid.current ≡ old.current → mid.kept ≡ old.kept → mid.ring ≡ remove old.ring place ++ same ∷ [] →
+  passes : (place : ℕ) (left : List TaskView) (t same : TaskView) (mid : HandView) → slice_get old.stalled place ≡ Some t → same.task ≡ t.task →
+      mid.current ≡ old.current → mid.overflow ≡ old.overflow → mid.stalled ≡ remove old.stalled place ++ same ∷ [] →
       WorkerPasses place t.task (worker_of left old) (worker_of left mid)
   passes place left t same mid there is c k r = record {
     free = was-free;
-    there = front place t old.ring there;
+    there = front place t old.stalled there;
     after =
         worker-is left mid _ _ _ (ap task-of c) (ap (λ l. tasks left ++ tasks l) k)
         (
         ap tasks r
-        ∙ map-append (λ t. t.task) (remove old.ring place) (same ∷ [])
-        ∙ ap (λ l. l ++ same.task ∷ []) (without place old.ring)
-        ∙ ap (λ x. remove (tasks old.ring) place ++ x ∷ []) is
+        ∙ map-append (λ t. t.task) (remove old.stalled place) (same ∷ [])
+        ∙ ap (λ l. l ++ same.task ∷ []) (without place old.stalled)
+        ∙ ap (λ x. remove (tasks old.stalled) place ++ x ∷ []) is
         );
   }
 
-  resumes-at : (place : ℕ) (left : List TaskView) (t next : TaskView) → slice_get old.ring place ≡ Some t → IsResumed t (resumed.On next) →
-      new ≡ record old { current = Some next; deck = new.deck; ring = remove old.ring place } → ResumesAt place left old new
+  resumes-at : (place : ℕ) (left : List TaskView) (t next : TaskView) → slice_get old.stalled place ≡ Some t → IsResumed t (resumed.On next) →
+      new ≡ record old { current = Some next; deck = new.deck; stalled = remove old.stalled place } → ResumesAt place left old new
   resumes-at place left t next there (answers, are, is, passed) h = by (any_cut answers) is
     where
       by : (cut : Bool) → resumes cut answers t next → ResumesAt place left old new
@@ -222,59 +222,59 @@ module _ (old new : HandView) (free : old.current ≡ None) where
         t.task,
         record {
           free = was-free;
-          there = front place t old.ring there;
+          there = front place t old.stalled there;
           after =
-              worker-is left new _ _ _ (ap (λ (x : HandView). task-of x.current) h ∙ ap Some gone.0) (ap (λ (x : HandView). tasks left ++ tasks x.kept) h)
-              (ap (λ (x : HandView). tasks x.ring) h ∙ without place old.ring);
+              worker-is left new _ _ _ (ap (λ (x : HandView). task-of x.current) h ∙ ap Some gone.0) (ap (λ (x : HandView). tasks left ++ tasks x.overflow) h)
+              (ap (λ (x : HandView). tasks x.stalled) h ∙ without place old.stalled);
         },
       )
       by true cut = inr (t, next, answers, cut, free, there, h)
 
-  -- the hand after a look at its ring's front that was in vain
-  passed : (mid : HandView) → mid.current ≡ old.current → mid.kept ≡ old.kept → (ring : List TaskView) → old.ring ≡ ring → IsTurnedOver ring mid.ring → PassesAt 0 [] old mid
+  -- the hand after a look at the front of its stalled tasks that was in vain
+  passed : (mid : HandView) → mid.current ≡ old.current → mid.overflow ≡ old.overflow → (stalled : List TaskView) → old.stalled ≡ stalled → IsTurnedOver stalled mid.stalled → PassesAt 0 [] old mid
   passed mid c k [] e h = absurd h
   passed mid c k (t ∷ ts) e (same, stays, after) =
       (t.task, passes 0 [] t same mid (ap (λ l. slice_get l 0) e) stays.0 c k (after ∙ ap (λ l. remove l 0 ++ same ∷ []) (sym e)))
 
-  goes : (t : TaskView) (ring : List TaskView) → old.ring ≡ ring → GoesOn ring t new.ring → new ≡ record old { current = Some t; deck = new.deck; ring = new.ring } →
+  goes : (t : TaskView) (stalled : List TaskView) → old.stalled ≡ stalled → GoesOn stalled t new.stalled → new ≡ record old { current = Some t; deck = new.deck; stalled = new.stalled } →
       ResumesAt 0 [] old new
   goes t [] e h is = absurd h
   goes t (first ∷ ts) e (on, after) is =
       resumes-at 0 [] first t (ap (λ l. slice_get l 0) e) on
-      (is ∙ ap (λ l. record old { current = Some t; deck = new.deck; ring = l }) (after ∙ ap (λ l. remove l 0) (sym e)))
+      (is ∙ ap (λ l. record old { current = Some t; deck = new.deck; stalled = l }) (after ∙ ap (λ l. remove l 0) (sym e)))
 
   -- a look in vain where a task waits, before a steal
-  looks-first : ((old.ring ≡ []) × (new.ring ≡ [])) ⊎ IsTurnedOver old.ring new.ring → LooksBefore (worker_of [] old) (worker_of [] (record old { ring = new.ring }))
-  looks-first (inl (none, still)) = inl (ap tasks none, ap (λ l. worker_of [] (record old { ring = l })) (still ∙ sym none))
-  looks-first (inr over) = inr (passed (record old { ring = new.ring }) refl refl old.ring refl over)
+  looks-first : ((old.stalled ≡ []) × (new.stalled ≡ [])) ⊎ IsTurnedOver old.stalled new.stalled → LooksBefore (worker_of [] old) (worker_of [] (record old { stalled = new.stalled }))
+  looks-first (inl (none, still)) = inl (ap tasks none, ap (λ l. worker_of [] (record old { stalled = l })) (still ∙ sym none))
+  looks-first (inr over) = inr (passed (record old { stalled = new.stalled }) refl refl old.stalled refl over)
 
   sought : (turn : Turn) → Seeks old turn new → IsTied old turn new
   sought Popped (t, newest, h) = popped t newest h
-  sought Resumed (t, none, on, h) = (none.1, goes t old.ring refl on h)
+  sought Resumed (t, none, on, h) = (none.1, goes t old.stalled refl on h)
   sought Stole (t, none, over, steals, h) = (
     none.1,
     (
       t,
       steals,
       (
-        worker_of [] (record old { ring = new.ring }),
+        worker_of [] (record old { stalled = new.stalled }),
         looks-first over,
         record {
           free = was-free;
           after =
-              worker-is [] new _ _ _ (ap (λ (x : HandView). task-of x.current) h) (ap (λ (x : HandView). tasks x.kept) h)
-              (ap (λ (x : HandView). tasks x.ring) h);
+              worker-is [] new _ _ _ (ap (λ (x : HandView). task-of x.current) h) (ap (λ (x : HandView). tasks x.overflow) h)
+              (ap (λ (x : HandView). tasks x.stalled) h);
         },
       ),
     ),
   )
   sought Waiting (none, over, steals, h) =
-      (none.1, passed new (ap (λ (x : HandView). x.current) h) (ap (λ (x : HandView). x.kept) h) old.ring refl over)
-  sought Idle (none, ring, steals, h) = (
+      (none.1, passed new (ap (λ (x : HandView). x.current) h) (ap (λ (x : HandView). x.overflow) h) old.stalled refl over)
+  sought Idle (none, stalled, steals, h) = (
     none.1,
-    worker-is [] old _ _ _ was-free (ap tasks none.0) (ap tasks ring),
-    worker-is [] new _ _ _ (ap (λ (x : HandView). task-of x.current) h ∙ was-free) (ap (λ (x : HandView). tasks x.kept) h ∙ ap tasks none.0)
-        (ap (λ (x : HandView). tasks x.ring) h ∙ ap tasks ring),
+    worker-is [] old _ _ _ was-free (ap tasks none.0) (ap tasks stalled),
+    worker-is [] new _ _ _ (ap (λ (x : HandView). task-of x.current) h ∙ was-free) (ap (λ (x : HandView). tasks x.overflow) h ∙ ap tasks none.0)
+        (ap (λ (x : HandView). tasks x.stalled) h ∙ ap tasks stalled),
   )
   sought Ran h = absurd h
   sought (Answered a) h = absurd h
@@ -301,33 +301,33 @@ one-more : (ts : List TaskView) (t : TaskView) → length ts + 1 ≡ length (ts 
 one-more ts t = simp (length-append)
 
 module _ (old new : HandView) where
-  stays : (ring : List TaskView) → old.ring ≡ ring → old.current ≡ None → StaysLast ring new.ring → new ≡ record old { ring = new.ring } → IsTiedLook old looked.Waits new
-  stays ring e free (ts, t, same, last, waits, after) h = (
+  stays : (stalled : List TaskView) → old.stalled ≡ stalled → old.current ≡ None → StaysLast stalled new.stalled → new ≡ record old { stalled = new.stalled } → IsTiedLook old looked.Waits new
+  stays stalled e free (ts, t, same, last, waits, after) h = (
     length ts,
     one-more ts t ∙ ap length (sym (e ∙ last)),
     λ left. (
       t.task,
       passes old new free (length ts) left t same new
-          (ap (λ l. slice_get l (length ts)) (e ∙ last) ∙ last-of ts t) waits.0 (ap (λ (x : HandView). x.current) h) (ap (λ (x : HandView). x.kept) h)
+          (ap (λ l. slice_get l (length ts)) (e ∙ last) ∙ last-of ts t) waits.0 (ap (λ (x : HandView). x.current) h) (ap (λ (x : HandView). x.overflow) h)
           (after ∙ ap (λ l. l ++ same ∷ []) (sym (ap (λ l. remove l (length ts)) (e ∙ last) ∙ without-last ts t))),
     ),
   )
 
-  goes-last : (next : TaskView) → old.current ≡ None → LastGoesOn old.ring next new.ring → new ≡ record old { current = Some next; ring = new.ring } →
+  goes-last : (next : TaskView) → old.current ≡ None → LastGoesOn old.stalled next new.stalled → new ≡ record old { current = Some next; stalled = new.stalled } →
       IsTiedLook old looked.Goes new
   goes-last next free (t, last, on) h = (
-    length new.ring,
-    one-more new.ring t ∙ ap length (sym last),
-    λ left. resumes-at old new free (length new.ring) left t next
-        (ap (λ l. slice_get l (length new.ring)) last ∙ last-of new.ring t) on
+    length new.stalled,
+    one-more new.stalled t ∙ ap length (sym last),
+    λ left. resumes-at old new free (length new.stalled) left t next
+        (ap (λ l. slice_get l (length new.stalled)) last ∙ last-of new.stalled t) on
         (
         h
-        ∙ ap (λ l. record old { current = Some next; ring = l }) (sym (ap (λ l. remove l (length new.ring)) last ∙ without-last new.ring t))
-        ∙ ap (λ d. record old { current = Some next; deck = d; ring = remove old.ring (length new.ring) }) (sym (ap (λ (x : HandView). x.deck) h))
+        ∙ ap (λ l. record old { current = Some next; stalled = l }) (sym (ap (λ l. remove l (length new.stalled)) last ∙ without-last new.stalled t))
+        ∙ ap (λ d. record old { current = Some next; deck = d; stalled = remove old.stalled (length new.stalled) }) (sym (ap (λ (x : HandView). x.deck) h))
         ),
   )
 
 pub tied_look : (old : HandView) (found : Looked) (new : HandView) → LooksNewest old found new → IsTiedLook old found new
 tied_look old looked.Nothing new h = h.0
-tied_look old looked.Waits new (free, stays-last, h) = stays old new old.ring refl free stays-last h
+tied_look old looked.Waits new (free, stays-last, h) = stays old new old.stalled refl free stays-last h
 tied_look old looked.Goes new (t, free, last, h) = goes-last old new t free last h

@@ -24,7 +24,7 @@ root_task plan = fresh plan (main_origin plan)
 
 -- a hand that has nothing, and no thieves
 abbrev pub new_hand : DeckId → HandView
-new_hand deck = record { current = None; kept = []; deck = new_owner deck; ring = []; thieves = [] }
+new_hand deck = record { current = None; overflow = []; deck = new_owner deck; stalled = []; thieves = [] }
 
 -- so many of them
 abbrev pub AreNew : ℕ → List HandView → Type 0
@@ -42,9 +42,9 @@ with_thief h = record h { deck = record h.deck { made = h.deck.made + 1 } }
 abbrev pub idle_hand : DeckId → List DeckId → HandView
 idle_hand deck others = record {
   current = None;
-  kept = [];
+  overflow = [];
   deck = record (new_owner deck) { made = length others };
-  ring = [];
+  stalled = [];
   thieves = map new_thief others;
 }
 
@@ -73,9 +73,9 @@ IsNewCrew plan workers hands = (idle : List HandView) × AreIdle workers idle ×
 -- These tasks were put after all others of a hand that had none, the last of them first: each was pushed on its deck, but from the first push
 -- on that was refused they stand in its private list. No push among the first 64 is refused.
 pub record IsDealt (tasks : List TaskView) (old new : HandView) : Type 0 where
-  pub all : new.deck.pushed ++ new.kept ≡ reverse tasks
-  pub refused : (new.kept ≡ []) ⊎ (64 ≤ length new.deck.pushed)
-  pub same : new ≡ record old { kept = new.kept; deck = record old.deck { pushed = new.deck.pushed } }
+  pub all : new.deck.pushed ++ new.overflow ≡ reverse tasks
+  pub refused : (new.overflow ≡ []) ⊎ (64 ≤ length new.deck.pushed)
+  pub same : new ≡ record old { overflow = new.overflow; deck = record old.deck { pushed = new.deck.pushed } }
 
 -- The first of these hands was dealt these tasks.
 abbrev pub FirstIsDealt : List TaskView → List HandView → List HandView → Type 0

@@ -11,46 +11,46 @@ use Rattle.strand_machine.specs.declared.stop.Stop.{Stop}
 use Rattle.strand_machine.specs.declared.stop.Stop.TheVariants as stop
 use Rattle.strand_machine.specs.declared.stop.Resumed.TheVariants as resumed
 use Rattle.crew.specs.declared.held.Held.{Held}
-use Rattle.crew.specs.declared.steps.Found.{Found}
-use Rattle.crew.specs.declared.steps.Found.TheVariants as found
+use Rattle.crew.specs.declared.steps.TakeUp.{TakeUp}
+use Rattle.crew.specs.declared.steps.TakeUp.TheVariants as found
 use Rattle.crew.specs.declared.hand.Looked.{Looked}
 use Rattle.crew.specs.declared.hand.Looked.TheVariants as looked
 use Rattle.crew.specs.declared.hand.Turn.{Turn}
 use Rattle.crew.specs.declared.hand.Turn.TheVariants.{Ran, Answered, Ended, Popped, Resumed as ResumedOne, Waiting, Stole, Idle}
 
--- A hand's tasks: the current one; its deck, by the owner's end, with the private list after it; the ring of those that wait; and its ends of
+-- A hand's tasks: the current one; its deck, by the owner's end, with the private list after it; those that are stalled, since they wait; and its ends of
 -- the other hands' decks.
 pub record HandView : Type 0 where
   pub current : Option TaskView
-  pub kept : List TaskView
+  pub overflow : List TaskView
   pub deck : OwnerEnd TaskView
-  pub ring : List TaskView
+  pub stalled : List TaskView
   pub thieves : List (ThiefEnd TaskView)
 
 abbrev pub view_of : Held → HandView
-view_of h = record { current = h.current; kept = h.kept.items; deck = h.deck; ring = h.ring.items; thieves = h.thieves.items }
+view_of h = record { current = h.current; overflow = h.overflow.items; deck = h.deck; stalled = h.stalled.items; thieves = h.thieves.items }
 
 -- The steps of a turn
 
 -- The rest of a task that handed out a child: it is pushed on the deck, or goes to the private list's end. The latter comes only where that list
 -- isn't empty, or where the deck refused the rest, which has had at least 64 pushes then.
 abbrev pub IsPut : TaskView → List TaskView → OwnerEnd TaskView → List TaskView → OwnerEnd TaskView → Type 0
-IsPut rest kept deck kept' deck' =
-    ((kept ≡ []) × (kept' ≡ []) × Pushes deck rest deck')
-    ⊎ ((kept ≡ [] → 64 ≤ length deck.pushed) × (kept' ≡ kept ++ rest ∷ []) × (deck' ≡ deck))
+IsPut rest overflow deck overflow' deck' =
+    ((overflow ≡ []) × (overflow' ≡ []) × Pushes deck rest deck')
+    ⊎ ((overflow ≡ [] → 64 ≤ length deck.pushed) × (overflow' ≡ overflow ++ rest ∷ []) × (deck' ≡ deck))
 
 -- The private list is empty unless the deck has had at least 64 pushes.
 abbrev pub IsLate : List TaskView → OwnerEnd TaskView → Type 0
-IsLate kept deck = (kept ≡ []) ⊎ (64 ≤ length deck.pushed)
+IsLate overflow deck = (overflow ≡ []) ⊎ (64 ≤ length deck.pushed)
 
 abbrev pub KeepsLate : HandView → HandView → Type 0
-KeepsLate old new = IsLate old.kept old.deck → IsLate new.kept new.deck
+KeepsLate old new = IsLate old.overflow old.deck → IsLate new.overflow new.deck
 
--- A stop that is no end: the rest goes after the others and the child becomes current, or the task goes to the ring's end.
+-- A stop that is no end: the rest goes after the others and the child becomes current, or the task goes to the end of the stalled tasks.
 abbrev pub Runs : Stop → HandView → HandView → Type 0
 Runs (stop.Spawn child rest) old new =
-    IsPut rest old.kept old.deck new.kept new.deck × (new ≡ record old { current = Some child; kept = new.kept; deck = new.deck })
-Runs (stop.Wait rest) old new = new ≡ record old { current = None; ring = old.ring ++ rest ∷ [] }
+    IsPut rest old.overflow old.deck new.overflow new.deck × (new ≡ record old { current = Some child; overflow = new.overflow; deck = new.deck })
+Runs (stop.Wait rest) old new = new ≡ record old { current = None; stalled = old.stalled ++ rest ∷ [] }
 Runs (stop.Done answer give) old new = ⊥
 
 -- It is a root's tag: main's of its plan. All other origins of a plan are children of others.
@@ -82,35 +82,35 @@ Advances t old turn new = Ends t old turn new
 
 -- The task is the last of the private list, or else the newest of the deck.
 abbrev pub IsNewest : TaskView → List TaskView → OwnerEnd TaskView → List TaskView → OwnerEnd TaskView → Type 0
-IsNewest t kept deck kept' deck' =
-    ((kept ≡ kept' ++ t ∷ []) × (deck' ≡ deck))
-    ⊎ ((kept ≡ []) × (kept' ≡ []) × Pops deck t deck')
+IsNewest t overflow deck overflow' deck' =
+    ((overflow ≡ overflow' ++ t ∷ []) × (deck' ≡ deck))
+    ⊎ ((overflow ≡ []) × (overflow' ≡ []) × Pops deck t deck')
 
 -- The private list is empty, and the deck had none at one moment.
 abbrev pub FindsNoTask : HandView → HandView → Type 0
-FindsNoTask old new = (old.kept ≡ []) × FindsNone old.deck new.deck
+FindsNoTask old new = (old.overflow ≡ []) × FindsNone old.deck new.deck
 
--- The task at the front of the ring still waits, and went to its end.
+-- The task at the front of the stalled tasks still waits, and went to their end.
 abbrev pub IsTurnedOver : List TaskView → List TaskView → Type 0
 IsTurnedOver [] after = ⊥
 IsTurnedOver (t ∷ ts) after = (same : TaskView) × IsResumed t (resumed.NotYet same) × (after ≡ ts ++ same ∷ [])
 
--- It goes on, and left the ring.
+-- It goes on, and is stalled no more.
 abbrev pub GoesOn : List TaskView → TaskView → List TaskView → Type 0
 GoesOn [] next after = ⊥
 GoesOn (t ∷ ts) next after = IsResumed t (resumed.On next) × (after ≡ ts)
 
--- What a look at a task that left the ring made of the hand.
-abbrev pub TakesUp : TaskView → HandView → Found → HandView → Type 0
+-- What a look at a task that was stalled made of the hand.
+abbrev pub TakesUp : TaskView → HandView → TakeUp → HandView → Type 0
 TakesUp t old found.Missing new = ⊥
-TakesUp t old found.Waits new = (same : TaskView) × IsResumed t (resumed.NotYet same) × (new ≡ record old { ring = old.ring ++ same ∷ [] })
+TakesUp t old found.Waits new = (same : TaskView) × IsResumed t (resumed.NotYet same) × (new ≡ record old { stalled = old.stalled ++ same ∷ [] })
 TakesUp t old found.Goes new = (next : TaskView) × IsResumed t (resumed.On next) × (new ≡ record old { current = Some next })
 
--- What a look at the ring's front found.
-abbrev pub Looks : HandView → Found → HandView → Type 0
-Looks old found.Missing new = (old.ring ≡ []) × (new ≡ old)
-Looks old found.Waits new = IsTurnedOver old.ring new.ring × (new ≡ record old { ring = new.ring })
-Looks old found.Goes new = (t : TaskView) × GoesOn old.ring t new.ring × (new ≡ record old { current = Some t; ring = new.ring })
+-- What a look at the front of the stalled tasks found.
+abbrev pub Looks : HandView → TakeUp → HandView → Type 0
+Looks old found.Missing new = (old.stalled ≡ []) × (new ≡ old)
+Looks old found.Waits new = IsTurnedOver old.stalled new.stalled × (new ≡ record old { stalled = new.stalled })
+Looks old found.Goes new = (t : TaskView) × GoesOn old.stalled t new.stalled × (new ≡ record old { current = Some t; stalled = new.stalled })
 
 -- a thief whose steal took nothing
 abbrev pub missed : ThiefEnd TaskView → ThiefEnd TaskView
@@ -139,17 +139,17 @@ StealsOr otherwise old turn new =
 -- A turn of a hand that has no current task.
 abbrev pub Seeks : HandView → Turn → HandView → Type 0
 Seeks old Popped new =
-    (t : TaskView) × IsNewest t old.kept old.deck new.kept new.deck × (new ≡ record old { current = Some t; kept = new.kept; deck = new.deck })
+    (t : TaskView) × IsNewest t old.overflow old.deck new.overflow new.deck × (new ≡ record old { current = Some t; overflow = new.overflow; deck = new.deck })
 Seeks old ResumedOne new =
-    (t : TaskView) × FindsNoTask old new × GoesOn old.ring t new.ring × (new ≡ record old { current = Some t; deck = new.deck; ring = new.ring })
+    (t : TaskView) × FindsNoTask old new × GoesOn old.stalled t new.stalled × (new ≡ record old { current = Some t; deck = new.deck; stalled = new.stalled })
 Seeks old Stole new =
-    (t : TaskView) × FindsNoTask old new × (((old.ring ≡ []) × (new.ring ≡ [])) ⊎ IsTurnedOver old.ring new.ring) × FirstSteals old.thieves t new.thieves
-    × (new ≡ record old { current = Some t; deck = new.deck; ring = new.ring; thieves = new.thieves })
+    (t : TaskView) × FindsNoTask old new × (((old.stalled ≡ []) × (new.stalled ≡ [])) ⊎ IsTurnedOver old.stalled new.stalled) × FirstSteals old.thieves t new.thieves
+    × (new ≡ record old { current = Some t; deck = new.deck; stalled = new.stalled; thieves = new.thieves })
 Seeks old Waiting new =
-    FindsNoTask old new × IsTurnedOver old.ring new.ring × AllMiss old.thieves new.thieves
-    × (new ≡ record old { deck = new.deck; ring = new.ring; thieves = new.thieves })
+    FindsNoTask old new × IsTurnedOver old.stalled new.stalled × AllMiss old.thieves new.thieves
+    × (new ≡ record old { deck = new.deck; stalled = new.stalled; thieves = new.thieves })
 Seeks old Idle new =
-    FindsNoTask old new × (old.ring ≡ []) × AllMiss old.thieves new.thieves × (new ≡ record old { deck = new.deck; thieves = new.thieves })
+    FindsNoTask old new × (old.stalled ≡ []) × AllMiss old.thieves new.thieves × (new ≡ record old { deck = new.deck; thieves = new.thieves })
 Seeks old _ new = ⊥
 
 -- A turn, by what it did: with the current task, or else to get one.
@@ -162,18 +162,18 @@ IsTurn old turn new = IsTurnFrom old.current old turn new
 
 -- A look between turns
 
--- The task at the ring's end still waits, and stays there.
+-- The task at the end of the stalled tasks still waits, and stays there.
 abbrev pub StaysLast : List TaskView → List TaskView → Type 0
 StaysLast before after =
     (ts : List TaskView) × (t same : TaskView) × (before ≡ ts ++ t ∷ []) × IsResumed t (resumed.NotYet same) × (after ≡ ts ++ same ∷ [])
 
--- It goes on, and left the ring.
+-- It goes on, and is stalled no more.
 abbrev pub LastGoesOn : List TaskView → TaskView → List TaskView → Type 0
 LastGoesOn before next after = (t : TaskView) × (before ≡ after ++ t ∷ []) × IsResumed t (resumed.On next)
 
--- What a look at the ring's end found. No hand looks that has a current task.
+-- What a look at the end of the stalled tasks found. No hand looks that has a current task.
 abbrev pub LooksNewest : HandView → Looked → HandView → Type 0
-LooksNewest old looked.Nothing new = (new ≡ old) × (old.current ≡ None → old.ring ≡ [])
-LooksNewest old looked.Waits new = (old.current ≡ None) × StaysLast old.ring new.ring × (new ≡ record old { ring = new.ring })
+LooksNewest old looked.Nothing new = (new ≡ old) × (old.current ≡ None → old.stalled ≡ [])
+LooksNewest old looked.Waits new = (old.current ≡ None) × StaysLast old.stalled new.stalled × (new ≡ record old { stalled = new.stalled })
 LooksNewest old looked.Goes new =
-    (t : TaskView) × (old.current ≡ None) × LastGoesOn old.ring t new.ring × (new ≡ record old { current = Some t; ring = new.ring })
+    (t : TaskView) × (old.current ≡ None) × LastGoesOn old.stalled t new.stalled × (new ≡ record old { current = Some t; stalled = new.stalled })

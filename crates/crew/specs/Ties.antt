@@ -21,8 +21,8 @@ tasks ts = map (λ t. t.task) ts
 abbrev pub worker_of : List TaskView → HandView → Worker
 worker_of left h = record {
   current = option_map (λ t. t.task) h.current;
-  deque = tasks left ++ tasks h.kept;
-  ring = tasks h.ring;
+  deque = tasks left ++ tasks h.overflow;
+  stalled = tasks h.stalled;
 }
 
 -- What a call of the deque's owner makes of the tasks left in it, at the one moment at which it does: nothing, a push, or a pop.
@@ -57,20 +57,20 @@ TakesLast old new =
     (t : Task)
     × ((after : List TaskView) → (left : List TaskView) × OwnerLeaves old.deck left new.deck after × WorkerPops t (worker_of left old) (worker_of after new))
 
--- The task at this place of the ring becomes the current one. It goes on by its children's evaluations, or by answers with a cut among them.
+-- The stalled task at this place becomes the current one. It goes on by its children's evaluations, or by answers with a cut among them.
 abbrev pub ResumesAt : ℕ → List TaskView → HandView → HandView → Type 0
 ResumesAt place left old new =
     ((t : Task) × WorkerResumes place t (worker_of left old) (worker_of left new))
-    ⊎ ((t next : TaskView) × (answers : List AnswerView) × IsCutOn answers t next × (old.current ≡ None) × (slice_get old.ring place ≡ Some t)
-    × (new ≡ record old { current = Some next; deck = new.deck; ring = remove old.ring place }))
+    ⊎ ((t next : TaskView) × (answers : List AnswerView) × IsCutOn answers t next × (old.current ≡ None) × (slice_get old.stalled place ≡ Some t)
+    × (new ≡ record old { current = Some next; deck = new.deck; stalled = remove old.stalled place }))
 
--- The task at this place of the ring still waits, and went to its end.
+-- The task at this place of the stalled tasks still waits, and went to their end.
 abbrev pub PassesAt : ℕ → List TaskView → HandView → HandView → Type 0
 PassesAt place left old new = (t : Task) × WorkerPasses place t (worker_of left old) (worker_of left new)
 
 -- the look before a steal, where a task waits
 abbrev pub LooksBefore : Worker → Worker → Type 0
-LooksBefore w looked = ((w.ring ≡ []) × (looked ≡ w)) ⊎ ((t : Task) × WorkerPasses 0 t w looked)
+LooksBefore w looked = ((w.stalled ≡ []) × (looked ≡ w)) ⊎ ((t : Task) × WorkerPasses 0 t w looked)
 
 -- A turn is this event. Those that come after a pop that found nothing are told of the moment at which nothing was left in the deque.
 abbrev pub IsTied : HandView → Turn → HandView → Type 0
@@ -86,8 +86,8 @@ IsTied old Stole new =
 IsTied old Waiting new = FindsNone old.deck new.deck × PassesAt 0 [] old new
 IsTied old Idle new = FindsNone old.deck new.deck × (worker_of [] old ≡ free_worker) × (worker_of [] new ≡ free_worker)
 
--- A look between turns is a look at the ring's last place, whatever is left in the deque.
+-- A look between turns is a look at the last place of the stalled tasks, whatever is left in the deque.
 abbrev pub IsTiedLook : HandView → Looked → HandView → Type 0
 IsTiedLook old looked.Nothing new = new ≡ old
-IsTiedLook old looked.Waits new = (place : ℕ) × (place + 1 ≡ length old.ring) × ((left : List TaskView) → PassesAt place left old new)
-IsTiedLook old looked.Goes new = (place : ℕ) × (place + 1 ≡ length old.ring) × ((left : List TaskView) → ResumesAt place left old new)
+IsTiedLook old looked.Waits new = (place : ℕ) × (place + 1 ≡ length old.stalled) × ((left : List TaskView) → PassesAt place left old new)
+IsTiedLook old looked.Goes new = (place : ℕ) × (place + 1 ≡ length old.stalled) × ((left : List TaskView) → ResumesAt place left old new)

@@ -195,7 +195,7 @@ impl Faults {
     }
 
     /// One more fault was met. It is for all hands where it stands before each that is known of its plan.
-    pub fn tell(&mut self, alloc: Global, plan: &Arc<Plan>, fault: &Fault)
+    pub fn publish(&mut self, alloc: Global, plan: &Arc<Plan>, fault: &Fault)
         requires { Contains (faults (arc_value plan.now)) fault.now }
     {
         self.read_on();

@@ -24,9 +24,9 @@ pub enum Turn {
     Ended(Arrived<Answer>),
     /// A task of the hand's own was taken up, the newest.
     Popped,
-    /// The task at the front of the ring goes on, since all of its children have answered.
+    /// The task at the front of the stalled tasks goes on, since all of its children have answered.
     Resumed,
-    /// The task at the front of the ring still waits, and nothing was stolen.
+    /// The task at the front of the stalled tasks still waits, and nothing was stolen.
     Waiting,
     /// A task of another hand was taken up.
     Stole,
@@ -70,7 +70,7 @@ impl Model for Hand {
 
     ghost view = { λ h. view_of (padded_value h.held) };
 
-    ghost invariant = { λ h. let v = view_of (padded_value h.held) in IsLate v.kept v.deck };
+    ghost invariant = { λ h. let v = view_of (padded_value h.held) in IsLate v.overflow v.deck };
 }
 
 impl Hand {
@@ -91,9 +91,9 @@ impl Hand {
         Ok(Hand {
             held: CachePadded::new(Held {
                 current: None,
-                kept: Vec::new(alloc),
+                overflow: Vec::new(alloc),
                 deck,
-                ring: VecDeque::new(alloc),
+                stalled: VecDeque::new(alloc),
                 thieves: Vec::new(alloc),
                 faults,
             }),
@@ -116,10 +116,10 @@ impl Hand {
     }
 
     /// How many of its tasks wait for children.
-    pub(crate) fn parked(&self) -> usize
-        ensures { result ≡ length self.now.ring }
+    pub(crate) fn stalled_count(&self) -> usize
+        ensures { result ≡ length self.now.stalled }
     {
-        self.held.ring.len()
+        self.held.stalled.len()
     }
 
     /// Whether the last task was cut that it might have cut.
@@ -128,7 +128,7 @@ impl Hand {
     }
 
     /// The task is its current one.
-    pub(crate) fn begin(&mut self, task: Task)
+    pub(crate) fn set_current(&mut self, task: Task)
         ensures { self.new ≡ record self.old { current = Some task } }
     {
         self.held.current = Some(task);
@@ -136,23 +136,23 @@ impl Hand {
 
     /// These are its tasks, to be taken up in this order. On `Memory` some of them are dropped, and their answers never come.
     pub(crate) fn take_on(&mut self, tasks: Vec<Task>) -> Result<(), Memory>
-        requires kept { self.old.kept ≡ [] }
+        requires overflow { self.old.overflow ≡ [] }
         requires pushed { self.old.deck.pushed ≡ [] }
         ensures { OnOk result (IsDealt tasks.items self.old self.new) }
     {
         let held: &mut Held = &mut self.held;
-        steps::put_all(&mut held.deck, &mut held.kept, tasks)
+        steps::put_all(&mut held.deck, &mut held.overflow, tasks)
     }
 
     /// Does the first of these that applies.
     ///
     /// 1. Cuts or advances the current task. A child that is handed out becomes current, and the rest goes to the back of the hand's deck,
-    ///    or to its private list where that isn't empty or the deck refuses it. A task that waits goes to the end of the ring. An answer is
+    ///    or to its private list where that isn't empty or the deck refuses it. A task that waits goes to the end of the stalled tasks. An answer is
     ///    put. A task may be cut that wasn't advanced yet, where a hand of the crew met a fault of the task's plan that stands before all
     ///    that the task could do.
     /// 2. Takes up the last task of the private list, or the newest of the deck.
-    /// 3. Looks at the task at the front of the ring. It becomes current where all of its children have answered, and else goes to the
-    ///    ring's end, and the turn goes on.
+    /// 3. Looks at the task at the front of the stalled tasks. It becomes current where all of its children have answered, and else goes to the
+    ///    end of the stalled tasks, and the turn goes on.
     /// 4. Steals from each other hand once, from the next number upwards and round, up to the first task.
     ///
     /// Each turn is an event of the machine of scheduling on this hand's own tasks, but where it cuts a task, or one that took a cut goes on
@@ -164,14 +164,14 @@ impl Hand {
     pub fn turn<G: Gate>(&mut self, alloc: Global, gate: &G) -> Result<Turn, Memory>
         ensures ok { IfOk result (λ turn. IsTurn self.old turn self.new) }
         ensures tied { IfOk result (λ turn. IsTied self.old turn self.new) }
-        ensures late { IsLate self.new.kept self.new.deck }
+        ensures late { IsLate self.new.overflow self.new.deck }
         ensures err { OnErr result (self.new.current ≡ None) }
     {
         let held: &mut Held = &mut self.held;
         steps::turn(held, alloc, gate)
     }
 
-    /// Looks once at the task at the ring's end, where the hand has no current one. It becomes current where all of its children have
+    /// Looks once at the task at the end of the stalled tasks, where the hand has no current one. It becomes current where all of its children have
     /// answered, and else stays there.
     ///
     /// This is no turn, and none is owed. After a turn that left a task waiting or answered one, the newest waiting task so goes on before

@@ -1,5 +1,5 @@
 use crate::faults::Faults;
-use crate::parked::Parked;
+use crate::stalled::Stalled;
 use std::collections::VecDeque;
 use steal_deck::{Deck, Thief};
 use strand_machine::Task;
@@ -9,9 +9,9 @@ use strand_machine::Task;
 pub(crate) struct Held {
     pub current: Option<Task>,
     /// What the deck refused, and what came after it. It is the back part of the deck.
-    pub kept: Vec<Task>,
+    pub overflow: Vec<Task>,
     pub deck: Deck<Task>,
-    pub ring: VecDeque<Parked>,
+    pub stalled: VecDeque<Stalled>,
     /// Those of the other hands' decks, from the next number upwards and round.
     pub thieves: Vec<Thief<Task>>,
     /// What it knows of the faults that the hands of its crew met.

@@ -140,7 +140,7 @@ impl Crew {
     {
         let (root, task) = begin_root(alloc, plan)?;
         let mut hands = hire(alloc, workers)?;
-        hands[0].begin(task);
+        hands[0].set_current(task);
         Ok((root, Hands(Items(hands))))
     }
 

@@ -12,10 +12,10 @@ mod hand;
 mod held;
 mod hiring;
 mod memory;
-mod parked;
 mod root;
 mod run;
 mod signals;
+mod stalled;
 mod steps;
 mod threads;
 

@@ -53,7 +53,7 @@ fn go_on<R: Wait>(
 }
 
 /// Makes turns until the hands have ended all roots, or one has failed for want of memory. After a turn that left a task waiting or answered one, all
-/// children of the newest waiting task may have answered: then it is the next one, and else it stays in the ring.
+/// children of the newest waiting task may have answered: then it is the next one, and else it stays stalled.
 ///
 /// Where all tasks that a hand begins are cut, it sleeps after each that it leaves waiting, and neither its pushes nor its steals wake
 /// anyone: the hands from which it steals come to the ends of their tasks faster by themselves.
@@ -79,7 +79,7 @@ fn work<R: Wait, G: Gate>(
             Ok(Turn::Answered(_)) => {
                 look_on(alloc, signals, hand);
             }
-            Ok(Turn::Waiting) => naps.wait(rt, signals, hand.parked()),
+            Ok(Turn::Waiting) => naps.wait(rt, signals, hand.stalled_count()),
             Ok(Turn::Idle) => naps.idle(rt, signals),
             Ok(Turn::Stole) if !cuts => signals.offer(),
             Ok(Turn::Ended(_)) => signals.end(),

@@ -146,14 +146,14 @@ impl Naps {
 
     /// The hand found nothing to do, and so many of its tasks wait. A turn looks at one of them alone, so that it sleeps only once it
     /// has looked at each.
-    pub fn wait<R: Wait>(&mut self, rt: &R, signals: &Signals, parked: usize) {
+    pub fn wait<R: Wait>(&mut self, rt: &R, signals: &Signals, stalled: usize) {
         let longest = (self.longest_idle / 2).min(LONGEST_WAIT);
-        self.nap(rt, signals, parked, longest);
+        self.nap(rt, signals, stalled, longest);
     }
 
-    fn nap<R: Wait>(&mut self, rt: &R, signals: &Signals, parked: usize, longest: u64) {
+    fn nap<R: Wait>(&mut self, rt: &R, signals: &Signals, stalled: usize, longest: u64) {
         self.vain = self.vain.saturating_add(1);
-        if self.vain <= parked {
+        if self.vain <= stalled {
             return;
         }
         self.vain = 0;

@@ -13,7 +13,7 @@ use crate::gate::Gate;
 use crate::hand::{Looked, Turn};
 use crate::held::Held;
 use crate::memory::Memory;
-use crate::parked::Parked;
+use crate::stalled::Stalled;
 use meet_block::Give;
 use serial_meaning::plan::function_number;
 use serial_meaning::{Answer, Fault, Origin, Outcome, Plan};
@@ -22,55 +22,55 @@ use std::collections::VecDeque;
 use steal_deck::{Deck, Steal, Thief};
 use strand_machine::{Resumed, Stop, Task, share_origin};
 
-/// What a look at a task of the ring found.
+/// What a look at a stalled task found.
 #[derive(Drop)]
-pub(crate) enum Found {
+pub(crate) enum TakeUp {
     /// There is no task.
     Missing,
-    /// It still waits, and is at the ring's end.
+    /// It still waits, and is at the end of the stalled tasks.
     Waits,
     /// It is the current one.
     Goes,
 }
 
 /// The rest goes to the end of the private list.
-fn keep(kept: &mut Vec<Task>, rest: Task) -> Result<(), Memory>
-    ensures ok { OnOk result (kept.new.items ≡ kept.old.items ++ rest ∷ []) }
-    ensures err { OnErr result (kept.new.items ≡ kept.old.items) }
+fn push_overflow(overflow: &mut Vec<Task>, rest: Task) -> Result<(), Memory>
+    ensures ok { OnOk result (overflow.new.items ≡ overflow.old.items ++ rest ∷ []) }
+    ensures err { OnErr result (overflow.new.items ≡ overflow.old.items) }
 {
-    kept.push(rest)?;
+    overflow.push(rest)?;
     Ok(())
 }
 
 /// The rest of a task that handed out a child goes after all others.
-fn put_rest(deck: &mut Deck<Task>, kept: &mut Vec<Task>, rest: Task) -> Result<(), Memory>
-    ensures ok { OnOk result (IsPut rest kept.old.items deck.old kept.new.items deck.new) }
-    ensures late { IsLate kept.old.items deck.old → IsLate kept.new.items deck.new }
+fn put_rest(deck: &mut Deck<Task>, overflow: &mut Vec<Task>, rest: Task) -> Result<(), Memory>
+    ensures ok { OnOk result (IsPut rest overflow.old.items deck.old overflow.new.items deck.new) }
+    ensures late { IsLate overflow.old.items deck.old → IsLate overflow.new.items deck.new }
 {
-    if !kept.is_empty() {
-        return keep(kept, rest);
+    if !overflow.is_empty() {
+        return push_overflow(overflow, rest);
     }
     match deck.push(rest) {
         Ok(()) => Ok(()),
-        Err(refused) => keep(kept, refused),
+        Err(refused) => push_overflow(overflow, refused),
     }
 }
 
 /// Puts all of these tasks after all others, the last of them first. So the first of them is taken up before the others.
 pub(crate) fn put_all(
     deck: &mut Deck<Task>,
-    kept: &mut Vec<Task>,
+    overflow: &mut Vec<Task>,
     tasks: Vec<Task>,
 ) -> Result<(), Memory>
     requires pushed { deck.old.pushed ≡ [] }
-    requires kept { kept.old.items ≡ [] }
-    ensures all { OnOk result (deck.new.pushed ++ kept.new.items ≡ reverse tasks.items) }
-    ensures late { IsLate kept.new.items deck.new }
+    requires overflow { overflow.old.items ≡ [] }
+    ensures all { OnOk result (deck.new.pushed ++ overflow.new.items ≡ reverse tasks.items) }
+    ensures late { IsLate overflow.new.items deck.new }
     ensures deck { OnOk result (deck.new ≡ record deck.old { pushed = deck.new.pushed }) }
 {
     let mut left = tasks;
     while let Some(task) = left.pop() {
-        put_rest(deck, kept, task)?;
+        put_rest(deck, overflow, task)?;
     }
     Ok(())
 }
@@ -82,17 +82,17 @@ fn hand_out(held: &mut Held, child: Task, rest: Task) -> Result<(), Memory>
     ensures err { OnErr result (held.new.current ≡ None) }
     ensures late { KeepsLate (view_of held.old) (view_of held.new) }
 {
-    put_rest(&mut held.deck, &mut held.kept, rest)?;
+    put_rest(&mut held.deck, &mut held.overflow, rest)?;
     held.current = Some(child);
     Ok(())
 }
 
-/// The task goes to the ring's end.
-fn park(ring: &mut VecDeque<Parked>, task: Task) -> Result<(), Memory>
+/// The task goes to the end of the stalled tasks.
+fn stall(stalled: &mut VecDeque<Stalled>, task: Task) -> Result<(), Memory>
     requires { task.task.waiting ≡ true }
-    ensures { OnOk result (ring.new.items ≡ ring.old.items ++ task ∷ []) }
+    ensures { OnOk result (stalled.new.items ≡ stalled.old.items ++ task ∷ []) }
 {
-    ring.push_back(Parked { task })?;
+    stalled.push_back(Stalled { task })?;
     Ok(())
 }
 
@@ -129,11 +129,11 @@ fn put_answer(answer: Answer, give: Give<Answer>) -> Turn
 }
 
 /// Tells the hands of the fault by which a task ended, if it did.
-fn tell_fault(alloc: Global, faults: &mut Faults, answer: &Answer)
+fn publish_fault(alloc: Global, faults: &mut Faults, answer: &Answer)
     requires { IsByFaultOf answer.now.plan answer.now.outcome }
 {
     if let Outcome::Fault(fault) = &answer.outcome {
-        faults.tell(alloc, &answer.plan, fault);
+        faults.publish(alloc, &answer.plan, fault);
     }
 }
 
@@ -150,7 +150,7 @@ fn end<G: Gate>(
     ensures put { IsAnswered give result.0 }
     ensures held { view_of held.new ≡ view_of held.old }
 {
-    tell_fault(alloc, &mut held.faults, &answer);
+    publish_fault(alloc, &mut held.faults, &answer);
     let origin = share_origin(alloc, &answer.origin);
     let turn = put_answer(answer, give);
     if let Ok(origin) = &origin {
@@ -174,7 +174,7 @@ fn advance<G: Gate>(held: &mut Held, task: Task, alloc: Global, gate: &G) -> Res
             Ok(Turn::Ran)
         }
         Stop::Wait { rest } => {
-            park(&mut held.ring, rest)?;
+            stall(&mut held.stalled, rest)?;
             Ok(Turn::Ran)
         }
         Stop::Done { answer, give } => {
@@ -213,15 +213,15 @@ fn run<G: Gate>(held: &mut Held, task: Task, alloc: Global, gate: &G) -> Result<
 }
 
 /// The newest of the hand's own tasks.
-fn newest(deck: &mut Deck<Task>, kept: &mut Vec<Task>) -> Option<Task>
-    ensures some { IfSome result (λ task. IsNewest task kept.old.items deck.old kept.new.items deck.new) }
-    ensures none { IfNone result ((kept.old.items ≡ []) × (kept.new.items ≡ []) × FindsNone deck.old deck.new) }
-    ensures late { IsLate kept.old.items deck.old → IsLate kept.new.items deck.new }
+fn newest(deck: &mut Deck<Task>, overflow: &mut Vec<Task>) -> Option<Task>
+    ensures some { IfSome result (λ task. IsNewest task overflow.old.items deck.old overflow.new.items deck.new) }
+    ensures none { IfNone result ((overflow.old.items ≡ []) × (overflow.new.items ≡ []) × FindsNone deck.old deck.new) }
+    ensures late { IsLate overflow.old.items deck.old → IsLate overflow.new.items deck.new }
 {
-    if kept.is_empty() {
+    if overflow.is_empty() {
         deck.pop()
     } else {
-        kept.pop()
+        overflow.pop()
     }
 }
 
@@ -232,15 +232,15 @@ fn pop(held: &mut Held) -> Option<Turn>
     ensures none { IfNone result (FindsNoTask (view_of held.old) (view_of held.new) × (view_of held.new ≡ record (view_of held.old) { deck = held.new.deck })) }
     ensures late { KeepsLate (view_of held.old) (view_of held.new) }
 {
-    held.current = newest(&mut held.deck, &mut held.kept);
+    held.current = newest(&mut held.deck, &mut held.overflow);
     match &held.current {
         Some(_) => Some(Turn::Popped),
         None => None,
     }
 }
 
-/// Takes up a task that left the ring, where all of its children have answered. Else it goes to the ring's end.
-fn take_up(held: &mut Held, task: Task, alloc: Global) -> Result<Found, Memory>
+/// Takes up a task that was stalled, where all of its children have answered. Else it goes to the end of the stalled tasks.
+fn take_up(held: &mut Held, task: Task, alloc: Global) -> Result<TakeUp, Memory>
     requires current { held.old.current ≡ None }
     requires waits { task.task.waiting ≡ true }
     ensures ok { IfOk result (λ found. TakesUp task (view_of held.old) found (view_of held.new)) }
@@ -251,27 +251,27 @@ fn take_up(held: &mut Held, task: Task, alloc: Global) -> Result<Found, Memory>
     match resumed {
         Resumed::On(task) => {
             held.current = Some(task);
-            Ok(Found::Goes)
+            Ok(TakeUp::Goes)
         }
         Resumed::NotYet(task) => {
-            park(&mut held.ring, task)?;
-            Ok(Found::Waits)
+            stall(&mut held.stalled, task)?;
+            Ok(TakeUp::Waits)
         }
     }
 }
 
-/// Looks at the task at the ring's front.
+/// Looks at the task at the front of the stalled tasks.
 #[tactic(auto, using(crate::proofs::Looking::looks))]
-fn look(held: &mut Held, alloc: Global) -> Result<Found, Memory>
+fn look(held: &mut Held, alloc: Global) -> Result<TakeUp, Memory>
     requires { held.old.current ≡ None }
     ensures ok { IfOk result (λ found. Looks (view_of held.old) found (view_of held.new)) }
     ensures err { OnErr result (held.new.current ≡ None) }
     ensures late { KeepsLate (view_of held.old) (view_of held.new) }
 {
-    let Some(parked) = held.ring.pop_front() else {
-        return Ok(Found::Missing);
+    let Some(stalled) = held.stalled.pop_front() else {
+        return Ok(TakeUp::Missing);
     };
-    let Parked { task } = parked;
+    let Stalled { task } = stalled;
     take_up(held, task, alloc)
 }
 
@@ -326,9 +326,9 @@ fn seek(held: &mut Held, alloc: Global) -> Result<Turn, Memory>
         return Ok(turn);
     }
     match look(held, alloc)? {
-        Found::Goes => Ok(Turn::Resumed),
-        Found::Waits => Ok(steal_or(held, alloc, Turn::Waiting)),
-        Found::Missing => Ok(steal_or(held, alloc, Turn::Idle)),
+        TakeUp::Goes => Ok(Turn::Resumed),
+        TakeUp::Waits => Ok(steal_or(held, alloc, Turn::Waiting)),
+        TakeUp::Missing => Ok(steal_or(held, alloc, Turn::Idle)),
     }
 }
 
@@ -344,7 +344,7 @@ pub(crate) fn turn<G: Gate>(held: &mut Held, alloc: Global, gate: &G) -> Result<
     }
 }
 
-/// Looks at the task at the ring's end (`Hand::look_newest`).
+/// Looks at the task at the end of the stalled tasks (`Hand::look_newest`).
 #[tactic(auto, using(crate::proofs::Looking::newest_waits, crate::proofs::Looking::newest_goes))]
 pub(crate) fn look_newest(held: &mut Held, alloc: Global) -> Result<Looked, Memory>
     ensures ok { IfOk result (λ looked. LooksNewest (view_of held.old) looked (view_of held.new)) }
@@ -354,13 +354,13 @@ pub(crate) fn look_newest(held: &mut Held, alloc: Global) -> Result<Looked, Memo
     if held.current.is_some() {
         return Ok(Looked::Nothing);
     }
-    let Some(parked) = held.ring.pop_back() else {
+    let Some(stalled) = held.stalled.pop_back() else {
         return Ok(Looked::Nothing);
     };
-    let Parked { task } = parked;
+    let Stalled { task } = stalled;
     match take_up(held, task, alloc)? {
-        Found::Goes => Ok(Looked::Goes),
-        Found::Waits => Ok(Looked::Waits),
-        Found::Missing => Ok(Looked::Nothing),
+        TakeUp::Goes => Ok(Looked::Goes),
+        TakeUp::Waits => Ok(Looked::Waits),
+        TakeUp::Missing => Ok(Looked::Nothing),
     }
 }

@@ -7,13 +7,13 @@ use Rattle.ped_words.specs.declared.command.Command.TheVariants.{Stream}
 use Rattle.engine.specs.Commands.{Takes, takes_script}
 use Rattle.serial_meaning.specs.declared.event.Fault.{Fault}
 use Rattle.engine.specs.Lines.{blocked_line}
-use Rattle.engine.specs.Promise.{Watched, Answers, HasOutput, HasReport, ReadWhole, TellsNone, Told}
+use Rattle.engine.specs.Promise.{Watched, Answers, HasOutput, HasReport, ReadWhole, TellsNone, WroteLine}
 use Rattle.engine.specs.Refusal.{Delivers, IsCause, IsMisfit, Puts}
 use Rattle.engine.specs.Report.{Report, said}
 use Rattle.engine.specs.declared.refusal.Refusal.{Refusal}
 use Rattle.engine.specs.declared.refusal.Refusal.TheVariants.{TooLong, Untaken, Read, Memory}
-use Rattle.engine.specs.declared.report.Ending.{Ending}
-use Rattle.engine.specs.declared.report.Ending.TheVariants as E
+use Rattle.engine.specs.declared.report.ReportEnd.{ReportEnd}
+use Rattle.engine.specs.declared.report.ReportEnd.TheVariants as E
 use Rattle.engine.specs.declared.status.Status.{Status}
 use Rattle.engine.specs.declared.status.Status.TheVariants as S
 
@@ -36,7 +36,7 @@ module _ (command : Command) (source out err : Watched) (report : Report) (has :
   delivered_answers S.NoStrand d = (report, has, d)
 
 -- An output that was put, or wasn't, is a delivered report.
-module _ (output : List ℕ) (ending : Ending) (out err : Watched) where
+module _ (output : List ℕ) (ending : ReportEnd) (out err : Watched) where
   delivers_at : (status other : Status) → status ≡ other → Delivers output ending out err status → Delivers output ending out err other
   delivers_at status other e d = let P : Status → Type 0 = λ s. Delivers output ending out err s in subst P e d
 
@@ -48,8 +48,8 @@ module _ (output : List ℕ) (ending : Ending) (out err : Watched) where
   faulted_delivers status faulted (inl p) = delivers_at S.Faulted status (sym p.0) (faulted, p.1)
   faulted_delivers status faulted (inr p) = delivers_at S.Write status (sym p.0) (subst HasOutput (sym faulted) tt, p.1, p.2)
 
-  pub blocked_delivers : (fault : Fault) (line : List ℕ) (status : Status) → ending ≡ E.Blocked fault → status ≡ S.NoStrand → line ≡ blocked_line fault.at → Told err line → Delivers output ending out err status
-  blocked_delivers fault line status blocked none same told = delivers_at S.NoStrand status (sym none) (subst (TellsNone err) (sym blocked) (subst (Told err) same told))
+  pub blocked_delivers : (fault : Fault) (line : List ℕ) (status : Status) → ending ≡ E.Blocked fault → status ≡ S.NoStrand → line ≡ blocked_line fault.at → WroteLine err line → Delivers output ending out err status
+  blocked_delivers fault line status blocked none same told = delivers_at S.NoStrand status (sym none) (subst (TellsNone err) (sym blocked) (subst (WroteLine err) same told))
 
 -- A stream that is lawful can be drawn, and delivered it is its command's report.
 module _ (command : Command) (gamma at : List ℕ) (count rounds : ℕ) (below : Option ℕ) (is : command ≡ Stream gamma at count rounds below) where

@@ -8,7 +8,7 @@ use Rattle.serial_meaning.proofs.Draws.{draws_are_dotmix}
 use Rattle.sched_meaning.proofs.Simulated.{sim_workers_are_one}
 use Rattle.engine.specs.Laws.{SimulationsAreOne, StreamsAreDraws}
 use Rattle.engine.specs.Report.{run_report, worker_line}
-use Rattle.engine.specs.declared.report.Ending.{Ending}
+use Rattle.engine.specs.declared.report.ReportEnd.{ReportEnd}
 
 number_at : (gamma j : List ℕ) (count rounds i : ℕ) → i < count → slice_index (stream gamma j count rounds) i ≡ dotmix gamma (later j i) rounds
 number_at gamma j count rounds i lt = get_or-map-range_with_len (λ k. dotmix gamma (later j k) rounds) 0 count i i 0 lt (omega arith)
@@ -22,4 +22,4 @@ pub simulations_are_one : SimulationsAreOne
 simulations_are_one plan workers number told other p q =
     let worker : p.worker ≡ q.worker = sim_workers_are_one plan workers number p.worker q.worker p.answers q.answers in
     let output : told.output ≡ other.output = p.output ∙ ap (λ w. worker_line w ++ (run_report plan).output) worker ∙ sym q.output in
-    ap₂ (λ (o : List ℕ) (e : Ending). record { output = o; ending = e }) output (p.ending ∙ sym q.ending)
+    ap₂ (λ (o : List ℕ) (e : ReportEnd). record { output = o; ending = e }) output (p.ending ∙ sym q.ending)

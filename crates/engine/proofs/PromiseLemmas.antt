@@ -15,8 +15,8 @@ use Rattle.engine.specs.Commands.{Reports, Takes, takes_script}
 use Rattle.engine.specs.Report.{Report, ending_of, plan_of, run_report, status_of}
 use Rattle.engine.specs.Promise.{Watched, Failed, ReadWhole, HasNoScript, HasReport, Answers, HasOutput, Refuses, TellsNone, KeepsPromise, most_bytes}
 use Rattle.engine.specs.Clauses.{RefusesWords, IsBad, RefusesScript, WroteReport, WritesReport, IsReplay, FindsNone, TellsNoStrand, IsComplete, Completes}
-use Rattle.engine.specs.declared.report.Ending.{Ending}
-use Rattle.engine.specs.declared.report.Ending.TheVariants as E
+use Rattle.engine.specs.declared.report.ReportEnd.{ReportEnd}
+use Rattle.engine.specs.declared.report.ReportEnd.TheVariants as E
 use Rattle.serial_meaning.specs.declared.value.Value.{Value}
 use Rattle.serial_meaning.specs.declared.event.Fault.{Fault}
 use Rattle.serial_meaning.specs.Eval.{elision}
@@ -183,13 +183,13 @@ module _ (source out err : Watched) where
   no_batch_tells true tells = tells
   no_batch_tells false tells = tells
 
-  none_ends : (ending : Ending) → TellsNone err ending → status_of ending ≡ NoStrand
+  none_ends : (ending : ReportEnd) → TellsNone err ending → status_of ending ≡ NoStrand
   none_ends E.Done tells = absurd tells
   none_ends E.Faulted tells = absurd tells
   none_ends (E.NoStrand j) tells = refl
   none_ends (E.Blocked fault) tells = refl
 
-  not_both_ends : (ending : Ending) → HasOutput ending → status_of ending ≡ NoStrand → ⊥
+  not_both_ends : (ending : ReportEnd) → HasOutput ending → status_of ending ≡ NoStrand → ⊥
   not_both_ends E.Done has e = absurd (cc)
   not_both_ends E.Faulted has e = absurd (cc)
   not_both_ends (E.NoStrand j) has e = has
@@ -229,7 +229,7 @@ module _ (source out err : Watched) where
       ends_none : (report : Report) → HasReport command source report → status_of report.ending ≡ NoStrand
       ends_none report has = none report (reports_told report has)
 
-      no_end : (report : Report) (ending : Ending) (status : Status) → HasReport command source report → report.ending ≡ ending → status_of ending ≡ status → status ≡ NoStrand
+      no_end : (report : Report) (ending : ReportEnd) (status : Status) → HasReport command source report → report.ending ≡ ending → status_of ending ≡ status → status ≡ NoStrand
       no_end report ending status has e s = sym s ∙ ap status_of (sym e) ∙ ends_none report has
 
       none_always : (status : Status) → Answers command source out err status → (status ≡ NoStrand) ⊎ ((status ≡ Read) ⊎ (status ≡ Memory))

@@ -14,8 +14,8 @@ use Rattle.serial_meaning.specs.declared.answer.Outcome.{Outcome}
 use Rattle.serial_meaning.specs.declared.answer.Outcome.TheVariants as outcome
 use Rattle.seed_batch.specs.Batch.{batch, batch_text, main_answer}
 use Rattle.engine.specs.declared.batch.Batch.{Batch}
-use Rattle.engine.specs.declared.report.Ending.{Ending}
-use Rattle.engine.specs.declared.report.Ending.TheVariants.{Done, Faulted, NoStrand, Blocked}
+use Rattle.engine.specs.declared.report.ReportEnd.{ReportEnd}
+use Rattle.engine.specs.declared.report.ReportEnd.TheVariants.{Done, Faulted, NoStrand, Blocked}
 use Rattle.engine.specs.Report.{Report, plan_of, run_report}
 
 -- the settings of the run under one seed
@@ -33,7 +33,7 @@ batch_command b workers = command.Batch b.seeds b.limits b.show b.rounds workers
 abbrev pub IsReady : Batch → Type 0
 IsReady b = IsBatch b.seeds b.limits b.rounds
 
-abbrev pub is_faulted : Ending → Bool
+abbrev pub is_faulted : ReportEnd → Bool
 is_faulted Done = false
 is_faulted Faulted = true
 is_faulted (NoStrand j) = false
@@ -46,7 +46,7 @@ is_fault (outcome.Fault f) = true
 is_fault (outcome.Cut f) = false
 
 -- how a batch ends, by whether one of its runs ends by a fault
-abbrev pub batch_ending : Bool → Ending
+abbrev pub batch_ending : Bool → ReportEnd
 batch_ending true = Faulted
 batch_ending false = Done
 

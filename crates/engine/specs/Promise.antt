@@ -11,8 +11,8 @@ use Rattle.script_grammar.specs.declared.tree.Script.{Script}
 use Rattle.script_grammar.specs.Text.{Text, SyntaxFault}
 use Rattle.engine.specs.declared.status.Status.{Status}
 use Rattle.engine.specs.declared.status.Status.TheVariants.{Done, Faulted, Words, Script as BadScript, Read, Write, Memory, NoStrand}
-use Rattle.engine.specs.declared.report.Ending.{Ending}
-use Rattle.engine.specs.declared.report.Ending.TheVariants as E
+use Rattle.engine.specs.declared.report.ReportEnd.{ReportEnd}
+use Rattle.engine.specs.declared.report.ReportEnd.TheVariants as E
 use Rattle.engine.specs.Commands.{Reports, Takes, takes_script}
 use Rattle.engine.specs.Lines.{blocked_line, check_line, no_strand_line, syntax_line, words_line}
 use Rattle.engine.specs.Report.{Report}
@@ -45,8 +45,8 @@ pub record WroteFront (object : Watched) (bytes : List ℕ) : Type 0 where
   pub failed : Failed object
 
 -- A line was written whole, or a front of it where the object failed.
-abbrev pub Told : Watched → List ℕ → Type 0
-Told object line = Wrote object line ⊎ WroteFront object line
+abbrev pub WroteLine : Watched → List ℕ → Type 0
+WroteLine object line = Wrote object line ⊎ WroteFront object line
 
 -- These bytes stood in the source, and were read to their end.
 pub record ReadWhole (source : Watched) (bytes : List ℕ) : Type 0 where
@@ -67,8 +67,8 @@ pub record IsUntaken (takes : Script → Type 0) (bytes line : List ℕ) : Type 
 -- The source has more bytes than a script may have, or the text of no script that the command takes.
 abbrev pub HasNoScript : Command → Watched → Watched → Type 0
 HasNoScript command source err =
-    (ConsumesJust source.before source.after (most_bytes + 1) × Told err (codes "script: too long\n"))
-    ⊎ ((bytes : List ℕ) × (line : List ℕ) × ReadWhole source bytes × IsUntaken (Takes command) bytes line × Told err line)
+    (ConsumesJust source.before source.after (most_bytes + 1) × WroteLine err (codes "script: too long\n"))
+    ⊎ ((bytes : List ℕ) × (line : List ℕ) × ReadWhole source bytes × IsUntaken (Takes command) bytes line × WroteLine err line)
 
 -- The command reports this, of the bytes of the source where it takes a script.
 abbrev pub HasReport : Command → Watched → Report → Type 0
@@ -76,18 +76,18 @@ HasReport command source report =
     (bytes : List ℕ) × (IsTrue (takes_script command) → ReadWhole source bytes) × Reports command bytes report
 
 -- The command's report ends so, and this holds of its output.
-abbrev pub IsReported : Command → Watched → Ending → (List ℕ → Type 0) → Type 0
+abbrev pub IsReported : Command → Watched → ReportEnd → (List ℕ → Type 0) → Type 0
 IsReported command source ending P = (report : Report) × HasReport command source report × (report.ending ≡ ending) × P report.output
 
 -- There is no strand, and this line tells why.
-abbrev pub TellsNone : Watched → Ending → Type 0
+abbrev pub TellsNone : Watched → ReportEnd → Type 0
 TellsNone err E.Done = ⊥
 TellsNone err E.Faulted = ⊥
-TellsNone err (E.NoStrand j) = Told err (no_strand_line j)
-TellsNone err (E.Blocked fault) = Told err (blocked_line fault.at)
+TellsNone err (E.NoStrand j) = WroteLine err (no_strand_line j)
+TellsNone err (E.Blocked fault) = WroteLine err (blocked_line fault.at)
 
 -- A report that ends so has an output.
-abbrev pub HasOutput : Ending → Type 0
+abbrev pub HasOutput : ReportEnd → Type 0
 HasOutput E.Done = ⊤
 HasOutput E.Faulted = ⊤
 HasOutput (E.NoStrand j) = ⊥
@@ -99,15 +99,15 @@ Answers command source out err Done = IsReported command source E.Done (Wrote ou
 Answers command source out err Faulted = IsReported command source E.Faulted (Wrote out)
 Answers command source out err Words = ⊥
 Answers command source out err BadScript = IsTrue (takes_script command) × HasNoScript command source err
-Answers command source out err Read = IsTrue (takes_script command) × Failed source × Told err (codes "read fault\n")
-Answers command source out err Write = ((report : Report) × HasReport command source report × HasOutput report.ending × WroteFront out report.output) × Told err (codes "write fault\n")
-Answers command source out err Memory = Told err (codes "out of memory\n")
+Answers command source out err Read = IsTrue (takes_script command) × Failed source × WroteLine err (codes "read fault\n")
+Answers command source out err Write = ((report : Report) × HasReport command source report × HasOutput report.ending × WroteFront out report.output) × WroteLine err (codes "write fault\n")
+Answers command source out err Memory = WroteLine err (codes "out of memory\n")
 Answers command source out err NoStrand = (report : Report) × HasReport command source report × TellsNone err report.ending
 
 -- What each answer means where the words give no command.
 abbrev pub Refuses : WordError → Watched → Status → Type 0
-Refuses (words.Bad number at) err Words = Told err (words_line number at)
-Refuses error err Memory = Told err (codes "out of memory\n")
+Refuses (words.Bad number at) err Words = WroteLine err (words_line number at)
+Refuses error err Memory = WroteLine err (codes "out of memory\n")
 Refuses error err status = ⊥
 
 abbrev pub KeepsPromise : Result Command WordError → Watched → Watched → Watched → Status → Type 0

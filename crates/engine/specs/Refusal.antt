@@ -6,11 +6,11 @@ use Rattle.script_grammar.specs.declared.tree.Script.{Script}
 use Rattle.engine.specs.Commands.{Takes, takes_script}
 use Rattle.engine.specs.declared.refusal.Refusal.{Refusal}
 use Rattle.engine.specs.declared.refusal.Refusal.TheVariants.{TooLong, Untaken, Read, Memory}
-use Rattle.engine.specs.declared.report.Ending.{Ending}
-use Rattle.engine.specs.declared.report.Ending.TheVariants as E
+use Rattle.engine.specs.declared.report.ReportEnd.{ReportEnd}
+use Rattle.engine.specs.declared.report.ReportEnd.TheVariants as E
 use Rattle.engine.specs.declared.status.Status.{Status}
 use Rattle.engine.specs.declared.status.Status.TheVariants as S
-use Rattle.engine.specs.Promise.{Watched, Failed, HasOutput, ReadWhole, IsUntaken, Told, TellsNone, Wrote, WroteFront, most_bytes}
+use Rattle.engine.specs.Promise.{Watched, Failed, HasOutput, ReadWhole, IsUntaken, WroteLine, TellsNone, Wrote, WroteFront, most_bytes}
 
 -- The refusal tells this line, or there was no memory for it.
 abbrev pub Tells : List ℕ → Refusal → Type 0
@@ -42,21 +42,21 @@ IsCause command source Memory = ⊤
 
 -- A report was delivered: its output was written and this is its status, or the sink failed; or a line told that there is no strand, unless
 -- memory was wanting for it.
-abbrev pub Delivers : List ℕ → Ending → Watched → Watched → Status → Type 0
+abbrev pub Delivers : List ℕ → ReportEnd → Watched → Watched → Status → Type 0
 Delivers output ending out err S.Done = (ending ≡ E.Done) × Wrote out output
 Delivers output ending out err S.Faulted = (ending ≡ E.Faulted) × Wrote out output
-Delivers output ending out err S.Write = HasOutput ending × WroteFront out output × Told err (codes "write fault\n")
-Delivers output ending out err S.Memory = Told err (codes "out of memory\n")
+Delivers output ending out err S.Write = HasOutput ending × WroteFront out output × WroteLine err (codes "write fault\n")
+Delivers output ending out err S.Memory = WroteLine err (codes "out of memory\n")
 Delivers output ending out err S.NoStrand = TellsNone err ending
 Delivers output ending out err _ = ⊥
 
 -- An output was written whole, with this status, or a front of it, since the sink failed.
 abbrev pub Puts : List ℕ → Status → Watched → Watched → Status → Type 0
-Puts output status out err result = ((result ≡ status) × Wrote out output) ⊎ ((result ≡ S.Write) × WroteFront out output × Told err (codes "write fault\n"))
+Puts output status out err result = ((result ≡ status) × Wrote out output) ⊎ ((result ≡ S.Write) × WroteFront out output × WroteLine err (codes "write fault\n"))
 
 -- The refusal was told with its status.
 abbrev pub Refused : Refusal → Watched → Status → Type 0
-Refused TooLong err status = (status ≡ S.Script) × Told err (codes "script: too long\n")
-Refused (Untaken line) err status = (status ≡ S.Script) × Told err (string_bytes line)
-Refused Read err status = (status ≡ S.Read) × Told err (codes "read fault\n")
-Refused Memory err status = (status ≡ S.Memory) × Told err (codes "out of memory\n")
+Refused TooLong err status = (status ≡ S.Script) × WroteLine err (codes "script: too long\n")
+Refused (Untaken line) err status = (status ≡ S.Script) × WroteLine err (string_bytes line)
+Refused Read err status = (status ≡ S.Read) × WroteLine err (codes "read fault\n")
+Refused Memory err status = (status ≡ S.Memory) × WroteLine err (codes "out of memory\n")

@@ -18,15 +18,15 @@ use Rattle.serial_meaning.specs.declared.answer.Outcome.{Outcome}
 use Rattle.serial_meaning.specs.declared.answer.Outcome.TheVariants as outcome
 use Rattle.serial_meaning.specs.declared.event.Fault.{Fault}
 use Rattle.engine.specs.declared.report.Report as report
-use Rattle.engine.specs.declared.report.Ending.{Ending}
-use Rattle.engine.specs.declared.report.Ending.TheVariants.{Done, Faulted, NoStrand, Blocked}
+use Rattle.engine.specs.declared.report.ReportEnd.{ReportEnd}
+use Rattle.engine.specs.declared.report.ReportEnd.TheVariants.{Done, Faulted, NoStrand, Blocked}
 use Rattle.engine.specs.declared.status.Status.{Status}
 use Rattle.engine.specs.declared.status.Status.TheVariants as status
 
 -- the output, and how it ends
 pub record Report : Type 0 where
   pub output : List ℕ
-  pub ending : Ending
+  pub ending : ReportEnd
 
 -- an output that ends well
 abbrev pub said : List ℕ → Report
@@ -36,7 +36,7 @@ said output = record { output = output; ending = Done }
 abbrev pub plan_of : Settings → Script → PlanView
 plan_of settings script = record { script = script; gamma = settings.gamma; limits = settings.limits; show = settings.show; rounds = settings.rounds }
 
-abbrev pub ending_of : Result (List Value) Fault → Ending
+abbrev pub ending_of : Result (List Value) Fault → ReportEnd
 ending_of (Ok values) = Done
 ending_of (Err fault) = Faulted
 
@@ -77,7 +77,7 @@ abbrev pub IsPlanIn : Settings → List ℕ → PlanView → Type 0
 IsPlanIn settings bytes plan = (script : Script) → Text bytes script → plan ≡ plan_of settings script
 
 -- a strand's lines, of which the last one may be a fault's
-abbrev pub strand_ending : Option Fault → Ending
+abbrev pub strand_ending : Option Fault → ReportEnd
 strand_ending None = Done
 strand_ending (Some fault) = Faulted
 
@@ -115,14 +115,14 @@ abbrev pub hash_text : List ℕ → List ℕ → ℕ → List ℕ
 hash_text gamma j rounds = codes "dot " ++ decimal (dot gamma j) ++ codes "\ndraw " ++ decimal (dotmix gamma j rounds) ++ codes "\n"
 
 -- how a report ends of an answer that ended so
-abbrev pub outcome_ending : Outcome → Ending
+abbrev pub outcome_ending : Outcome → ReportEnd
 outcome_ending (outcome.Fault fault) = Faulted
 outcome_ending (outcome.Value value) = Done
 outcome_ending (outcome.Values values) = Done
 outcome_ending (outcome.Cut fault) = Done
 
 -- with which status a report ends that was written whole, or told to be none
-abbrev pub status_of : Ending → Status
+abbrev pub status_of : ReportEnd → Status
 status_of Done = status.Done
 status_of Faulted = status.Faulted
 status_of (NoStrand j) = status.NoStrand

@@ -13,7 +13,7 @@ ghost use Rattle.engine.specs.Report.{IsPlanIn, shown};
 
 use crate::play::planned;
 use crate::refusal::Refusal;
-use crate::report::{Ending, Report};
+use crate::report::{Report, ReportEnd};
 use crate::script::valid_script;
 use crew::{Gate, Memory};
 use dotmix::Gamma;
@@ -81,13 +81,13 @@ fn any_fault(answers: &[Answer]) -> bool
 }
 
 // A batch ends by a fault where one of its runs does.
-fn ending_for(answers: &[Answer]) -> Ending
+fn ending_for(answers: &[Answer]) -> ReportEnd
     ensures { result ≡ batch_ending (list_any (λ answer. is_fault answer.outcome) answers.now) }
 {
     if any_fault(answers) {
-        Ending::Faulted
+        ReportEnd::Faulted
     } else {
-        Ending::Done
+        ReportEnd::Done
     }
 }
 

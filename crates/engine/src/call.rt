@@ -6,7 +6,7 @@ ghost use Rattle.ped_words.specs.Reading.{reading};
 ghost use Rattle.ped_words.specs.Commands.{AreLawful, IsLawful, IsWorkers, is_batch};
 ghost use Rattle.engine.specs.Batches.{IsReady, batch_command};
 ghost use Rattle.engine.specs.Commands.{IsRun, is_whole, takes_script};
-ghost use Rattle.engine.specs.Promise.{Answers, HasReport, KeepsPromise, ReadWhole, ReadsNone, Refuses, Told, Watched, has_line, has_output, watched};
+ghost use Rattle.engine.specs.Promise.{Answers, HasReport, KeepsPromise, ReadWhole, ReadsNone, Refuses, WroteLine, Watched, has_line, has_output, watched};
 ghost use Rattle.engine.specs.Refusal.{Delivers, IsCause, IsLate, Puts, Refused};
 ghost use Rattle.engine.specs.Report.{shown};
 
@@ -15,7 +15,7 @@ use crate::command::{is_whole, takes_script};
 use crate::line::{blocked_line, no_strand_line, words_line};
 use crate::play::played_by_crew;
 use crate::refusal::Refusal;
-use crate::report::{Ending, Report, alone_report, script_report};
+use crate::report::{Report, ReportEnd, alone_report, script_report};
 use crate::status::Status;
 use crew::Gate;
 use draw_lines::{Stream, StreamError, write_stream};
@@ -94,22 +94,22 @@ fn prepare_batch<R: Threads + Wait + Sync, S: Source, G: Gate + Sync>(
 }
 
 // Writes a line of the error output. A failed write changes nothing else.
-fn tell<E: Sink>(err: &mut E, line: &[u8])
-    ensures { Told (watched E.written E.faults err.old err.new) line.now }
+fn write_error_line<E: Sink>(err: &mut E, line: &[u8])
+    ensures { WroteLine (watched E.written E.faults err.old err.new) line.now }
 {
     // What becomes of the line is told by the sink's faults.
     let _ = write_all(err, line);
 }
 
 // Writes an output, and gives this status where it was written whole.
-fn put<K: Sink, E: Sink>(output: &[u8], status: Status, out: &mut K, err: &mut E) -> Status
+fn write_output<K: Sink, E: Sink>(output: &[u8], status: Status, out: &mut K, err: &mut E) -> Status
     ensures put { Puts output.now status (watched K.written K.faults out.old out.new) (watched E.written E.faults err.old err.new) result }
     ensures no_line { IsFalse (has_line result) → err.new ≡ err.old }
 {
     match write_all(out, output) {
         Ok(()) => status,
         Err(_) => {
-            tell(err, b"write fault\n");
+            write_error_line(err, b"write fault\n");
             Status::Write
         }
     }
@@ -118,18 +118,18 @@ fn put<K: Sink, E: Sink>(output: &[u8], status: Status, out: &mut K, err: &mut E
 // Tells that there was no memory.
 fn want<E: Sink>(err: &mut E) -> Status
     ensures status { result ≡ Status.Memory }
-    ensures told { Told (watched E.written E.faults err.old err.new) (codes "out of memory\n") }
+    ensures told { WroteLine (watched E.written E.faults err.old err.new) (codes "out of memory\n") }
 {
-    tell(err, b"out of memory\n");
+    write_error_line(err, b"out of memory\n");
     Status::Memory
 }
 
 // Tells by this line that there is no strand.
 fn tell_none<E: Sink>(line: &[u8], err: &mut E) -> Status
     ensures status { result ≡ Status.NoStrand }
-    ensures told { Told (watched E.written E.faults err.old err.new) line.now }
+    ensures told { WroteLine (watched E.written E.faults err.old err.new) line.now }
 {
-    tell(err, line);
+    write_error_line(err, line);
     Status::NoStrand
 }
 
@@ -140,13 +140,13 @@ fn deliver<K: Sink, E: Sink>(alloc: Global, report: &Report, out: &mut K, err: &
     ensures no_line { IsFalse (has_line result) → err.new ≡ err.old }
 {
     match &report.ending {
-        Ending::Done => put(&report.output, Status::Done, out, err),
-        Ending::Faulted => put(&report.output, Status::Faulted, out, err),
-        Ending::NoStrand(at) => match no_strand_line(alloc, at) {
+        ReportEnd::Done => write_output(&report.output, Status::Done, out, err),
+        ReportEnd::Faulted => write_output(&report.output, Status::Faulted, out, err),
+        ReportEnd::NoStrand(at) => match no_strand_line(alloc, at) {
             Ok(line) => tell_none(&line, err),
             Err(_) => want(err),
         },
-        Ending::Blocked(fault) => match blocked_line(alloc, &fault.at) {
+        ReportEnd::Blocked(fault) => match blocked_line(alloc, &fault.at) {
             Ok(line) => tell_none(&line, err),
             Err(_) => want(err),
         },
@@ -159,19 +159,19 @@ fn refuse<E: Sink>(refusal: &Refusal, err: &mut E) -> Status
 {
     match refusal {
         Refusal::TooLong => {
-            tell(err, b"script: too long\n");
+            write_error_line(err, b"script: too long\n");
             Status::Script
         }
         Refusal::Untaken(line) => {
-            tell(err, line.as_bytes());
+            write_error_line(err, line.as_bytes());
             Status::Script
         }
         Refusal::Read => {
-            tell(err, b"read fault\n");
+            write_error_line(err, b"read fault\n");
             Status::Read
         }
         Refusal::Memory => {
-            tell(err, b"out of memory\n");
+            write_error_line(err, b"out of memory\n");
             Status::Memory
         }
     }
@@ -186,7 +186,7 @@ fn refuse_words<E: Sink>(alloc: Global, error: WordError, err: &mut E) -> Status
     };
     match words_line(alloc, number, at) {
         Ok(line) => {
-            tell(err, line.as_bytes());
+            write_error_line(err, line.as_bytes());
             Status::Words
         }
         Err(_) => want(err),
@@ -225,14 +225,14 @@ fn serve_stream<K: Sink, E: Sink>(
     err: &mut E,
 ) -> Status
     requires { CanDraw stream count }
-    ensures delivered { Delivers (lines_of stream count) Ending.Done (watched K.written K.faults out.old out.new) (watched E.written E.faults err.old err.new) result }
+    ensures delivered { Delivers (lines_of stream count) ReportEnd.Done (watched K.written K.faults out.old out.new) (watched E.written E.faults err.old err.new) result }
     ensures no_output { IsFalse (has_output result) → out.new ≡ out.old }
     ensures no_line { IsFalse (has_line result) → err.new ≡ err.old }
 {
     match write_stream(alloc, stream, count, out) {
         Ok(()) => Status::Done,
         Err(StreamError::Fault) => {
-            tell(err, b"write fault\n");
+            write_error_line(err, b"write fault\n");
             Status::Write
         }
         Err(StreamError::Memory) => want(err),

@@ -13,7 +13,7 @@ ghost use Rattle.engine.specs.Refusal.{IsMisfit};
 ghost use Rattle.engine.specs.Report.{IsPlanIn, IsPlanOf, IsReplayOf, IsRunOf, IsSimOf, IsSpanOf, IsSpanReport, found_report, outcome_ending, plan_of, run_report, shown, span_lines, strand_report, worker_line};
 
 use crate::refusal::Refusal;
-use crate::report::{Ending, Report};
+use crate::report::{Report, ReportEnd};
 use crate::script::valid_script;
 use crew::{Gate, run_crew, run_serial};
 use ped_path::Pedigree;
@@ -54,12 +54,12 @@ pub(crate) fn planned(alloc: Global, settings: Settings, bytes: &[u8]) -> Result
     Ok(Arc::new(alloc, make_plan(settings, script))?)
 }
 
-fn ending_for(outcome: &Outcome) -> Ending
+fn ending_for(outcome: &Outcome) -> ReportEnd
     ensures { result ≡ outcome_ending outcome.now }
 {
     match outcome {
-        Outcome::Fault(_) => Ending::Faulted,
-        _ => Ending::Done,
+        Outcome::Fault(_) => ReportEnd::Faulted,
+        _ => ReportEnd::Done,
     }
 }
 
@@ -239,14 +239,14 @@ fn strand_report(alloc: Global, strand: &Strand) -> Result<Report, Memory>
 {
     let output = render_strand(alloc, strand)?;
     let ending = match &strand.fault {
-        Some(_) => Ending::Faulted,
-        None => Ending::Done,
+        Some(_) => ReportEnd::Faulted,
+        None => ReportEnd::Done,
     };
     Ok(Report { output, ending })
 }
 
 // No output, and why.
-fn absent(alloc: Global, ending: Ending) -> Report
+fn absent(alloc: Global, ending: ReportEnd) -> Report
     ensures { shown result ≡ record { output = []; ending = ending } }
 {
     Report {
@@ -262,8 +262,8 @@ fn replay_report(alloc: Global, plan: &Arc<Plan>, at: Pedigree) -> Result<Report
 {
     match replay(alloc, plan, &at) {
         Ok(strand) => Ok(strand_report(alloc, &strand)?),
-        Err(ReplayError::NoStrand) => Ok(absent(alloc, Ending::NoStrand(at))),
-        Err(ReplayError::Blocked(fault)) => Ok(absent(alloc, Ending::Blocked(fault))),
+        Err(ReplayError::NoStrand) => Ok(absent(alloc, ReportEnd::NoStrand(at))),
+        Err(ReplayError::Blocked(fault)) => Ok(absent(alloc, ReportEnd::Blocked(fault))),
         Err(ReplayError::Memory) => Err(Refusal::Memory),
     }
 }

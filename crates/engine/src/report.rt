@@ -21,7 +21,7 @@ use std::alloc::Global;
 
 /// How a report ends.
 #[derive(Drop)]
-pub enum Ending {
+pub enum ReportEnd {
     /// The command came to its end.
     Done,
     /// A run or a strand ended by a fault, whose line is the last one.
@@ -38,7 +38,7 @@ pub struct Report {
     /// The bytes for the output: lines, each with a line feed at its end.
     pub output: Vec<u8>,
     /// How the command ended, which gives the status.
-    pub ending: Ending,
+    pub ending: ReportEnd,
 }
 
 impl Report {
@@ -48,7 +48,7 @@ impl Report {
     {
         Report {
             output,
-            ending: Ending::Done,
+            ending: ReportEnd::Done,
         }
     }
 }

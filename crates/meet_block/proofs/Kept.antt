@@ -3,10 +3,10 @@ use Rattle.std.proofs.Common.{◌≡◌, ◌≢◌, ℕ, zero, suc, ◌+◌, ◌
 use mathlib.Core.Option.{some, some-injective, some-ne-none}
 use lib.ListN.{get_elem?}
 use Rattle.atomic_table.specs.Table.{Me}
-use Rattle.meet_block.specs.declared.view.Stage.TheVariants.{Open, Ready}
+use Rattle.meet_block.specs.declared.view.SeatState.TheVariants.{Open, Ready}
 use Rattle.meet_block.specs.declared.view.View.{View}
 use Rattle.meet_block.specs.Counter.{Slot, parent, untaken, holds_party, closed}
-use Rattle.meet_block.specs.Blocks.{Keeps}
+use Rattle.meet_block.specs.CounterViews.{Keeps}
 
 untaken_more : (bs : List Bool) → untaken (bs ++ false ∷ []) ≡ untaken bs + 1
 untaken_more [] = refl

@@ -2,16 +2,16 @@
 use Rattle.std.proofs.Common.{◌≡◌, ℕ, zero, suc, ◌+◌, ◌<◌, ◌≤◌, Bool, true, false, List, [], ◌∷◌, ◌++◌, length, set, sym, refl, ap, ◌∙◌, subst, arith, length-append, append_assoc, append-nil}
 use mathlib.Core.Option.{some, none, some-injective, some-ne-none, Option as Maybe}
 use lib.ListN.{get_elem?}
-use Rattle.meet_block.specs.declared.view.Stage.{Stage}
-use Rattle.meet_block.specs.declared.view.Stage.TheVariants.{Owes, Arrived}
+use Rattle.meet_block.specs.declared.view.SeatState.{SeatState}
+use Rattle.meet_block.specs.declared.view.SeatState.TheVariants.{Owes, Arrived}
 use Rattle.meet_block.specs.declared.view.View.{View}
-use Rattle.meet_block.specs.Counter.{Slot, child, has_arrived, arrivals, Place, Places}
+use Rattle.meet_block.specs.Counter.{Slot, child, has_arrived, arrivals, SlotHolds, Places}
 
-pub stage_arrived : (s : Stage) → has_arrived s ≡ 1 → s ≡ Arrived
+pub stage_arrived : (s : SeatState) → has_arrived s ≡ 1 → s ≡ Arrived
 stage_arrived Arrived e = refl
 stage_arrived _ e = absurd (omega arith)
 
-pub arrived_one : (s : Stage) → has_arrived s ≤ 1
+pub arrived_one : (s : SeatState) → has_arrived s ≤ 1
 arrived_one Arrived = omega arith
 arrived_one _ = omega arith
 
@@ -47,7 +47,7 @@ module _ {A T : Type 0} (tag : A → T) where
     pub tag_at : get_elem? ts j ≡ some t
     pub taken_at : get_elem? bs j ≡ some b
     pub home_at : get_elem? hs j ≡ some h
-    pub place : Place tag t b v.stage h
+    pub place : SlotHolds tag t b v.stage h
 
   pub spot : (before ts : List T) (bs : List Bool) (cs : List (View T)) (hs : List (Maybe (Slot A))) (j : ℕ) (v : View T) → Places tag before ts bs cs hs → get_elem? cs j ≡ some v → Spot before ts bs cs hs j v
   spot before [] [] [] hs j v p at = absurd (some-ne-none v (sym at))
@@ -62,7 +62,7 @@ module _ {A T : Type 0} (tag : A → T) where
     tag_at = refl;
     taken_at = refl;
     home_at = refl;
-    place = subst (λ (y : View T). Place tag t b y.stage h) e p.2;
+    place = subst (λ (y : View T). SlotHolds tag t b y.stage h) e p.2;
   }
   spot before (t ∷ ts) (b ∷ bs) (c ∷ cs) (h ∷ hs) (suc j) v p at = let s = spot (before ++ t ∷ []) ts bs cs hs j v p.3 at in record {
     pre = s.pre;
@@ -81,12 +81,12 @@ module _ {A T : Type 0} (tag : A → T) where
 
   -- a child's step
   pub places_set : (before ts : List T) (bs : List Bool) (cs : List (View T)) (hs : List (Maybe (Slot A))) (j : ℕ) (v w : View T) (g : Maybe (Slot A)) → Places tag before ts bs cs hs → get_elem? cs j ≡ some v → w.own ≡ v.own → w.tags ≡ v.tags
-      → ((t : T) (b : Bool) (h : Maybe (Slot A)) → v.own ≡ t → Place tag t b v.stage h → Place tag t b w.stage g) → Places tag before ts bs (set cs j w) (set hs j g)
+      → ((t : T) (b : Bool) (h : Maybe (Slot A)) → v.own ≡ t → SlotHolds tag t b v.stage h → SlotHolds tag t b w.stage g) → Places tag before ts bs (set cs j w) (set hs j g)
   places_set before [] [] [] hs j v w g p at o e k = absurd (some-ne-none v (sym at))
   places_set before (t ∷ ts) (b ∷ bs) (c ∷ cs) (h ∷ hs) zero v w g p at o e k =
       let same = some-injective c v at in
       let own : v.own ≡ t = ap (λ (y : View T). y.own) (sym same) ∙ p.0 in
-      (o ∙ own, e ∙ ap (λ (y : View T). y.tags) (sym same) ∙ p.1, k t b h own (subst (λ (y : View T). Place tag t b y.stage h) same p.2), p.3)
+      (o ∙ own, e ∙ ap (λ (y : View T). y.tags) (sym same) ∙ p.1, k t b h own (subst (λ (y : View T). SlotHolds tag t b y.stage h) same p.2), p.3)
   places_set before (t ∷ ts) (b ∷ bs) (c ∷ cs) (h ∷ hs) (suc j) v w g p at o e k = (p.0, p.1, p.2, places_set (before ++ t ∷ []) ts bs cs hs j v w g p.3 at o e k)
   places_set before _ _ _ _ j v w g p at o e k = absurd p
 
@@ -95,7 +95,7 @@ module _ {A T : Type 0} (tag : A → T) where
       → Places tag before ts (set bs j true) cs (set hs j none)
   places_take before [] [] [] hs j b p at all = absurd (some-ne-none b (sym at))
   places_take before (t ∷ ts) (b' ∷ bs) (c ∷ cs) (h ∷ hs) zero b p at all =
-      (p.0, p.1, subst (λ (s : Stage). Place tag t true s none) (sym (all 0 c refl)) refl, p.3)
+      (p.0, p.1, subst (λ (s : SeatState). SlotHolds tag t true s none) (sym (all 0 c refl)) refl, p.3)
   places_take before (t ∷ ts) (b' ∷ bs) (c ∷ cs) (h ∷ hs) (suc j) b p at all = (p.0, p.1, p.2, places_take (before ++ t ∷ []) ts bs cs hs j b p.3 at (λ k v q. all (suc k) v q))
   places_take before _ _ _ _ j b p at all = absurd p
 

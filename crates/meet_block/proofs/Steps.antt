@@ -5,44 +5,44 @@ use mathlib.Core.Logic.{dite}
 use native.Mathlib.Decide.{ℕ_discrete}
 use lib.ListN.{get_elem?}
 use Rattle.atomic_table.specs.Table.{Me, Act, keeps, takes, gives, Valid, Allows, Splits, homes_after, carried_after}
-use Rattle.meet_block.specs.declared.view.Stage.{Stage}
-use Rattle.meet_block.specs.declared.view.Stage.TheVariants.{Open, Waiting, Ready, Owes, Claimed, Arrived}
+use Rattle.meet_block.specs.declared.view.SeatState.{SeatState}
+use Rattle.meet_block.specs.declared.view.SeatState.TheVariants.{Open, Waiting, Ready, Owes, Claimed, Arrived}
 use Rattle.meet_block.specs.declared.view.View.{View}
-use Rattle.meet_block.specs.Counter.{Slot, parent, child, has_arrived, arrivals, Counts, IsFull, Place, Places, Fits, Obeys, opened, given, claimed, arrived, closed, Looked, Took}
+use Rattle.meet_block.specs.Counter.{Slot, parent, child, has_arrived, arrivals, Counts, IsFull, SlotHolds, Places, Fits, Obeys, opened, given, claimed, arrived, closed, Looked, Took}
 use Rattle.meet_block.proofs.Seats.{stage_arrived, arrived_one, arrivals_set, arrivals_more, arrivals_most, arrivals_less, spot, places_set, places_take, places_more, as_many, seat_at}
 
-abbrev IsChild : Stage → Type 0
+abbrev IsChild : SeatState → Type 0
 IsChild Owes = Unit {0}
 IsChild Claimed = Unit {0}
 IsChild Arrived = Unit {0}
 IsChild _ = ⊥
 
-abbrev IsParent : Stage → Type 0
+abbrev IsParent : SeatState → Type 0
 IsParent Open = Unit {0}
 IsParent Waiting = Unit {0}
 IsParent Ready = Unit {0}
 IsParent _ = ⊥
 
-counts_parent : (s : Stage) (w a b : ℕ) → Counts s w a b → IsParent s
+counts_parent : (s : SeatState) (w a b : ℕ) → Counts s w a b → IsParent s
 counts_parent Open w a b c = tt
 counts_parent Waiting w a b c = tt
 counts_parent Ready w a b c = tt
 counts_parent _ w a b c = c
 
-not_both : (s : Stage) → IsParent s → IsChild s → ⊥
+not_both : (s : SeatState) → IsParent s → IsChild s → ⊥
 not_both Open p c = c
 not_both Waiting p c = c
 not_both Ready p c = c
 not_both _ p c = p
 
 -- a child that arrives takes the word down by one
-counts_fall : (s : Stage) (w a a' n : ℕ) → Counts s w a n → a < n → n < 17 → a' ≡ a + 1 → (0 < w) × Counts s (w - 1) a' n
+counts_fall : (s : SeatState) (w a a' n : ℕ) → Counts s w a n → a < n → n < 17 → a' ≡ a + 1 → (0 < w) × Counts s (w - 1) a' n
 counts_fall Open w a a' n c lt few e = (omega arith, omega arith)
 counts_fall Waiting w a a' n c lt few e = (omega arith, omega arith)
 counts_fall Ready w a a' n c lt few e = absurd (omega arith)
 counts_fall _ w a a' n c lt few e = absurd c
 
-counts_same : (s : Stage) (w a a' n n' : ℕ) → a' ≡ a → n' ≡ n → Counts s w a n → Counts s w a' n'
+counts_same : (s : SeatState) (w a a' n n' : ℕ) → a' ≡ a → n' ≡ n → Counts s w a n → Counts s w a' n'
 counts_same s w a a' n n' e f c = subst (λ (x : ℕ). Counts s w x n') (sym e) (subst (λ (x : ℕ). Counts s w a x) (sym f) c)
 
 pub less_one : (w : ℕ) → 0 < w → w < 18446744073709551616 → (w + (2 ^ 64 - 1)) % 2 ^ 64 ≡ w - 1
@@ -55,7 +55,7 @@ arrived_at : {T : Type 0} (cs : List (View T)) (k : ℕ) (v : View T) → arriva
 arrived_at cs k v e at le = dite (ℕ_discrete (has_arrived v.stage) 0) (λ z. let less = arrivals_less cs k v at z in absurd (omega arith)) (λ ne. omega arith)
 
 module _ {A T : Type 0} (tag : A → T) where
-  place_child : (t : T) (b : Bool) (s : Stage) (h : Maybe (Slot A)) → Place tag t b s h → IsChild s
+  place_child : (t : T) (b : Bool) (s : SeatState) (h : Maybe (Slot A)) → SlotHolds tag t b s h → IsChild s
   place_child t false Owes h p = tt
   place_child t false Claimed h p = tt
   place_child t false Arrived h p = tt
@@ -63,7 +63,7 @@ module _ {A T : Type 0} (tag : A → T) where
   place_child t _ _ h p = absurd p
 
   -- no value was taken before its child arrived
-  not_taken : (t : T) (b : Bool) (s : Stage) (h : Maybe (Slot A)) → s ≢ Arrived → Place tag t b s h → b ≡ false
+  not_taken : (t : T) (b : Bool) (s : SeatState) (h : Maybe (Slot A)) → s ≢ Arrived → SlotHolds tag t b s h → b ≡ false
   not_taken t false s h ne p = refl
   not_taken t true Arrived h ne p = absurd (ne refl)
   not_taken t true _ h ne p = absurd p
@@ -98,7 +98,7 @@ module _ {A T : Type 0} (tag : A → T) where
       parent_case v (subst IsParent (sym o) tt) (λ words views k. Fits tag words homes (slice_set views k (opened (Some t) v) ++ given (Some t) v ∷ [])) homes
       (λ w cs wide c p.
       let n = as_many tag [] v.tags v.taken cs homes p in
-      let q : Counts Open w (arrivals cs) (length cs) = subst (λ (s : Stage). Counts s w (arrivals cs) (length cs)) o c in
+      let q : Counts Open w (arrivals cs) (length cs) = subst (λ (s : SeatState). Counts s w (arrivals cs) (length cs)) o c in
       (wide, omega (arith, arrivals_more cs (given (Some t) v)), places_more tag [] v.tags v.taken cs homes t p (omega arith)))
       words views id f at
 
@@ -109,7 +109,7 @@ module _ {A T : Type 0} (tag : A → T) where
   at_place : (v : View T) (j : ℕ) (pre : List T) (t : T) → v.tags ≡ pre ++ t ∷ [] → length pre ≡ 0 + j → length v.tags - 1 ≡ j
   at_place v j pre t e m = omega (arith, ap length e, length-append pre (t ∷ []))
 
-  claim_place : (t : T) (b : Bool) (s : Stage) (h : Maybe (Slot A)) → s ≡ Owes → Place tag t b s h → h ≡ some None
+  claim_place : (t : T) (b : Bool) (s : SeatState) (h : Maybe (Slot A)) → s ≡ Owes → SlotHolds tag t b s h → h ≡ some None
   claim_place t false Owes h e p = p
   claim_place t false Claimed h e p = absurd (cc)
   claim_place t false Arrived h e p = absurd (cc)
@@ -134,7 +134,7 @@ module _ {A T : Type 0} (tag : A → T) where
         subst (λ (i : ℕ). Fits tag (w ∷ []) (set homes i none) (p ∷ set cs j w')) (sym at_j) (
           omega (arith, length-set homes j none),
           counts_same p.stage w (arrivals cs) (arrivals (set cs j w')) (length cs) (length (set cs j w')) (omega (arith, arrivals_set cs j v w' here)) (length-set cs j w') c,
-          places_set tag [] p.tags p.taken cs homes j v w' none pl here refl refl (λ t b h e q. subst (λ (a : Bool). Place tag t a Claimed none) (sym (not_taken t b v.stage h (λ r. let k = sym o ∙ r in (cc)) q)) refl),
+          places_set tag [] p.tags p.taken cs homes j v w' none pl here refl refl (λ t b h e q. subst (λ (a : Bool). SlotHolds tag t a Claimed none) (sym (not_taken t b v.stage h (λ r. let k = sym o ∙ r in (cc)) q)) refl),
         ),
         refl,
       ))
@@ -165,7 +165,7 @@ module _ {A T : Type 0} (tag : A → T) where
         subst (λ (i : ℕ). Fits tag (((w + (2 ^ 64 - 1)) % 2 ^ 64) ∷ []) (set homes i (some (Some (Some value)))) (p ∷ set cs j w')) (sym at_j) (
           omega (arith, length-set homes j (some (Some (Some value)))),
           subst (λ (y : ℕ). Counts p.stage y (arrivals (set cs j w')) (length (set cs j w'))) (sym (less_one w fall.0 lt)) (counts_same p.stage (w - 1) (arrivals (set cs j w')) (arrivals (set cs j w')) (length cs) (length (set cs j w')) refl (length-set cs j w') fall.1),
-          places_set tag [] p.tags p.taken cs homes j v w' (some (Some (Some value))) pl here refl refl (λ t b h e q. subst (λ (a : Bool). Place tag t a Arrived (some (Some (Some value)))) (sym (not_taken t b v.stage h (λ r. let k = sym o ∙ r in (cc)) q)) (value, refl, mine ∙ e)),
+          places_set tag [] p.tags p.taken cs homes j v w' (some (Some (Some value))) pl here refl refl (λ t b h e q. subst (λ (a : Bool). SlotHolds tag t a Arrived (some (Some (Some value)))) (sym (not_taken t b v.stage h (λ r. let k = sym o ∙ r in (cc)) q)) (value, refl, mine ∙ e)),
         ),
         refl,
       ))
@@ -180,7 +180,7 @@ module _ {A T : Type 0} (tag : A → T) where
       × Fits tag (slice_set words 0 ((slice_index words 0 + (2 ^ 64 - (17 - length v.tags))) % 2 ^ 64)) (homes_after homes [] a) (slice_set views k w) × ((w, carried_after [] a) ≡ closed (v, [])))
       homes
       (λ w cs len c pl lt.
-      let q : Counts Open w (arrivals cs) (length cs) = subst (λ (s : Stage). Counts s w (arrivals cs) (length cs)) o c in
+      let q : Counts Open w (arrivals cs) (length cs) = subst (λ (s : SeatState). Counts s w (arrivals cs) (length cs)) o c in
       let many = as_many tag [] v.tags v.taken cs homes pl in
       let came = arrivals_most cs in
       (parent v.own Waiting v.tags v.taken v.loads, keeps, tt, (len, falls w (arrivals cs) (length cs) (length v.tags) q came many most, pl), refl))
@@ -193,14 +193,14 @@ module _ {A T : Type 0} (tag : A → T) where
       (λ words views k. (w : View T) × (a : Act (Slot A)) × Valid homes [] a × Fits tag (slice_set words 0 (slice_index words 0)) (homes_after homes [] a) (slice_set views k w) × Looked (v, []) (slice_index words 0) (w, carried_after [] a))
       homes
       (λ w cs len c pl.
-      let q : Counts Waiting w (arrivals cs) (length cs) = subst (λ (s : Stage). Counts s w (arrivals cs) (length cs)) o c in
+      let q : Counts Waiting w (arrivals cs) (length cs) = subst (λ (s : SeatState). Counts s w (arrivals cs) (length cs)) o c in
       let most : w ≤ length v.tags = omega (arith, as_many tag [] v.tags v.taken cs homes pl) in
       dite (ℕ_discrete w 0)
       (λ z. (parent v.own Ready v.tags v.taken (v.loads ++ w ∷ []), keeps, tt, (len, (z, omega arith), pl), (most, (λ _. refl), (λ ne. absurd (ne z)))))
       (λ ne. (parent v.own Waiting v.tags v.taken (v.loads ++ w ∷ []), keeps, tt, (len, q, pl), (most, (λ z. absurd (ne z)), (λ _. refl)))))
       s.words s.views id holds at
 
-  take_place : (t : T) (s : Stage) (h : Maybe (Slot A)) → s ≡ Arrived → Place tag t false s h → IsFull tag t h
+  take_place : (t : T) (s : SeatState) (h : Maybe (Slot A)) → s ≡ Arrived → SlotHolds tag t false s h → IsFull tag t h
   take_place t Owes h e p = absurd (cc)
   take_place t Claimed h e p = absurd (cc)
   take_place t Arrived h e p = p
@@ -216,10 +216,10 @@ module _ {A T : Type 0} (tag : A → T) where
       (λ words views k. (w : View T) × (a : Act (Slot A)) × Valid homes l a × Fits tag (slice_set words 0 (slice_index words 0)) (homes_after homes l a) (slice_set views k w) × Took tag place (v, l) (w, carried_after l a))
       homes
       (λ w cs len c pl.
-      let q : Counts Ready w (arrivals cs) (length cs) = subst (λ (s : Stage). Counts s w (arrivals cs) (length cs)) o c in
+      let q : Counts Ready w (arrivals cs) (length cs) = subst (λ (s : SeatState). Counts s w (arrivals cs) (length cs)) o c in
       let seat = seat_at tag [] v.tags v.taken cs homes place false pl left in
       let x = spot tag [] v.tags v.taken cs homes place seat.0 pl seat.1 in
-      let full = take_place x.t seat.0.stage x.h (all_arrived cs place seat.0 q.1 seat.1) (subst (λ (b : Bool). Place tag x.t b seat.0.stage x.h) (some-injective x.b false (sym x.taken_at ∙ left)) x.place) in (
+      let full = take_place x.t seat.0.stage x.h (all_arrived cs place seat.0 q.1 seat.1) (subst (λ (b : Bool). SlotHolds tag x.t b seat.0.stage x.h) (some-injective x.b false (sym x.taken_at ∙ left)) x.place) in (
         parent v.own Ready v.tags (slice_set v.taken place true) v.loads,
         takes place (Some (Some full.0)),
         x.home_at ∙ ap some full.1,

@@ -3,26 +3,26 @@ use Rattle.std.specs.Prelude.{◌≡◌, ◌≢◌, ℕ, ◌+◌, ◌-◌, ◌�
 use mathlib.Core.Option.{some, none, Option as Maybe}
 use lib.ListN.{get_elem?}
 use Rattle.atomic_table.specs.Table.{State, Me}
-use Rattle.meet_block.specs.declared.view.Stage.{Stage}
-use Rattle.meet_block.specs.declared.view.Stage.TheVariants.{Open, Waiting, Ready, Owes, Claimed, Arrived}
+use Rattle.meet_block.specs.declared.view.SeatState.{SeatState}
+use Rattle.meet_block.specs.declared.view.SeatState.TheVariants.{Open, Waiting, Ready, Owes, Claimed, Arrived}
 use Rattle.meet_block.specs.declared.view.View.{View}
 
 -- what stands in a slot: nothing, or a box, which is empty or has a value
 abbrev pub Slot : Type 0 → Type 0
 Slot A = Option (Option A)
 
-abbrev pub parent : {T : Type 0} → T → Stage → List T → List Bool → List ℕ → View T
+abbrev pub parent : {T : Type 0} → T → SeatState → List T → List Bool → List ℕ → View T
 parent t at ts bs ls = record { stage = at; own = t; tags = ts; taken = bs; loads = ls }
 
-abbrev pub child : {T : Type 0} → T → Stage → List T → View T
+abbrev pub child : {T : Type 0} → T → SeatState → List T → View T
 child t at ts = record { stage = at; own = t; tags = ts; taken = []; loads = [] }
 
 -- whether the parent holds its own party, and so may give more places
-abbrev pub holds_party : Stage → Bool
+abbrev pub holds_party : SeatState → Bool
 holds_party Open = true
 holds_party _ = false
 
-abbrev pub has_arrived : Stage → ℕ
+abbrev pub has_arrived : SeatState → ℕ
 has_arrived Arrived = 1
 has_arrived _ = 0
 
@@ -38,7 +38,7 @@ untaken (true ∷ bs) = untaken bs
 untaken (false ∷ bs) = untaken bs + 1
 
 -- What the word says. While the parent holds its own party it is 17 less the children that have arrived, and then the number of given places that owe
-abbrev pub Counts : Stage → ℕ → ℕ → ℕ → Type 0
+abbrev pub Counts : SeatState → ℕ → ℕ → ℕ → Type 0
 Counts Open word arrived given = word + arrived ≡ 17
 Counts Waiting word arrived given = word + arrived ≡ given
 Counts Ready word arrived given = (word ≡ 0) × (arrived ≡ given)
@@ -51,12 +51,12 @@ module _ {A T : Type 0} (tag : A → T) where
 
   -- A given place: its tag, whether its value was taken, the stage of its child, and its slot. The slot is home and empty until the child claims it, out
   -- with the child until that arrives, then home with a value of the tag, and out with the parent from the take on
-  abbrev pub Place : T → Bool → Stage → Maybe (Slot A) → Type 0
-  Place t false Owes home = home ≡ some None
-  Place t false Claimed home = home ≡ none
-  Place t false Arrived home = IsFull t home
-  Place t true Arrived home = home ≡ none
-  Place t _ _ home = ⊥
+  abbrev pub SlotHolds : T → Bool → SeatState → Maybe (Slot A) → Type 0
+  SlotHolds t false Owes home = home ≡ some None
+  SlotHolds t false Claimed home = home ≡ none
+  SlotHolds t false Arrived home = IsFull t home
+  SlotHolds t true Arrived home = home ≡ none
+  SlotHolds t _ _ home = ⊥
 
   -- the places that were not given
   abbrev pub Vacant : List (Maybe (Slot A)) → Type 0
@@ -66,7 +66,7 @@ module _ {A T : Type 0} (tag : A → T) where
   -- the places from the one after `before` on, each with one seat
   abbrev pub Places : List T → List T → List Bool → List (View T) → List (Maybe (Slot A)) → Type 0
   Places before [] [] [] homes = Vacant homes
-  Places before (t ∷ ts) (b ∷ bs) (c ∷ cs) (h ∷ hs) = (c.own ≡ t) × (c.tags ≡ before ++ t ∷ []) × Place t b c.stage h × Places (before ++ t ∷ []) ts bs cs hs
+  Places before (t ∷ ts) (b ∷ bs) (c ∷ cs) (h ∷ hs) = (c.own ≡ t) × (c.tags ≡ before ++ t ∷ []) × SlotHolds t b c.stage h × Places (before ++ t ∷ []) ts bs cs hs
   Places before _ _ _ _ = ⊥
 
   abbrev pub Fits : List ℕ → List (Maybe (Slot A)) → List (View T) → Type 0

@@ -1,5 +1,5 @@
 pub mod Counter
-pub mod Blocks
+pub mod CounterViews
 pub mod Joined
 pub mod Rows
 pub mod RowLends

@@ -1,11 +1,11 @@
 // The counters of a join.
 ghost use Rattle.std.specs.Prelude.{◌≡◌, ℕ, ◌+◌, ◌<◌, ◌≤◌, [], ◌∷◌, ◌++◌, IfOk, OnOk, OnErr, IfSome, IfNone, Some, length, slice_get, slice_set, true, false};
 ghost use Rattle.meet_block.specs.Joined.{joined, Answers};
-ghost use Rattle.meet_block.specs.Blocks.{Part, InOrder, Numbered, HandsOut, Searched, FindsAll, FindsOwing, Holds, tags_of, ends_open};
+ghost use Rattle.meet_block.specs.CounterViews.{CounterView, InOrder, Numbered, HandsOut, Searched, FindsAll, FindsOwing, Holds, tags_of, ends_open};
 ghost use Rattle.meet_block.specs.Rows.{listed};
 
-use crate::block::Block;
-use crate::blocks::Blocks;
+use crate::counter_end::CounterEnd;
+use crate::counter_ends::CounterEnds;
 use crate::give::Give;
 use crate::join::Look;
 use crate::memory::Memory;
@@ -16,7 +16,7 @@ use std::marker::Model;
 /// The counters of a join, in order. Contracts see them as the join.
 #[derive(Drop)]
 pub(crate) struct Counters<A: Tagged> {
-    blocks: Blocks<A>,
+    blocks: CounterEnds<A>,
     // The blocks before this one were found ready.
     found: usize,
     count: u64,
@@ -25,7 +25,7 @@ pub(crate) struct Counters<A: Tagged> {
 impl<A: Tagged> Model for Counters<A> {
     ghost use Rattle.std.specs.Prelude.{◌≡◌, length};
     ghost use Rattle.meet_block.specs.Joined.{Joined};
-    ghost use Rattle.meet_block.specs.Blocks.{InOrder, known, tags_of};
+    ghost use Rattle.meet_block.specs.CounterViews.{InOrder, known, tags_of};
     ghost use Rattle.meet_block.specs.Rows.{listed};
 
     ghost Value = { Joined A.Key };
@@ -37,7 +37,7 @@ impl<A: Tagged> Model for Counters<A> {
 }
 
 // Looks at the blocks from the one numbered `from` on, up to the first whose children owe: its number, and how many owe.
-fn first_owing<A: Tagged + Drop>(blocks: &mut [Block<A>], from: usize) -> Option<(usize, u64)>
+fn first_owing<A: Tagged + Drop>(blocks: &mut [CounterEnd<A>], from: usize) -> Option<(usize, u64)>
     requires { InOrder from 0 blocks.old }
     ensures ready { IfNone result (FindsAll blocks.old blocks.new) }
     ensures owing { IfSome result (λ r. FindsOwing blocks.old blocks.new r.0 r.1) }
@@ -55,17 +55,17 @@ fn first_owing<A: Tagged + Drop>(blocks: &mut [Block<A>], from: usize) -> Option
 }
 
 // The block in which the child i has its place.
-fn block_of<A: Tagged + Drop>(blocks: &[Block<A>], i: u64) -> usize
+fn block_of<A: Tagged + Drop>(blocks: &[CounterEnd<A>], i: u64) -> usize
     requires numbered { Numbered 0 blocks.now }
     requires within { i < length (tags_of blocks.now) }
-    ensures { (block : Part A.Key) × Holds blocks.now i result block }
+    ensures { (block : CounterView A.Key) × Holds blocks.now i result block }
 {
     blocks.partition_point(|block| block.first() <= i) - 1
 }
 
 // Gives the first place of a new block.
 fn hand_anew<A: Tagged + Drop>(
-    blocks: &mut Blocks<A>,
+    blocks: &mut CounterEnds<A>,
     alloc: Global,
     count: u64,
     tag: &A::Key,
@@ -76,7 +76,7 @@ fn hand_anew<A: Tagged + Drop>(
     ensures handed { OnOk result (HandsOut (listed blocks.old) (listed blocks.new) tag.now) }
     ensures err { OnErr result (listed blocks.new ≡ listed blocks.old) }
 {
-    let mut block = Block::new(alloc, count, tag)?;
+    let mut block = CounterEnd::new(alloc, count, tag)?;
     let give = block.hand(alloc, tag)?;
     blocks.push(alloc, block)?;
     Ok(give)
@@ -84,7 +84,7 @@ fn hand_anew<A: Tagged + Drop>(
 
 // Gives the next place of the last block, or the first one of a new block where the last isn't open.
 fn hand_next<A: Tagged + Drop>(
-    blocks: &mut Blocks<A>,
+    blocks: &mut CounterEnds<A>,
     alloc: Global,
     count: u64,
     tag: &A::Key,
@@ -104,7 +104,7 @@ fn hand_next<A: Tagged + Drop>(
 }
 
 // Gives up the parent's party in the last block, where the parent still holds it.
-fn close_last<A: Tagged + Drop>(blocks: &mut [Block<A>])
+fn close_last<A: Tagged + Drop>(blocks: &mut [CounterEnd<A>])
     ensures order { (found : ℕ) → InOrder found (length blocks.old) blocks.old
         → InOrder found 0 blocks.new }
     ensures same { Searched blocks.old blocks.new [] }
@@ -113,12 +113,12 @@ fn close_last<A: Tagged + Drop>(blocks: &mut [Block<A>])
         return;
     };
     if last.is_open() {
-        last.close();
+        last.give_up_party();
     }
 }
 
 // A look: gives up the parent's party where the last block is open, and goes on from the block `found`.
-fn look_from<A: Tagged + Drop>(blocks: &mut [Block<A>], found: usize) -> Option<(usize, u64)>
+fn look_from<A: Tagged + Drop>(blocks: &mut [CounterEnd<A>], found: usize) -> Option<(usize, u64)>
     requires { InOrder found (length blocks.old) blocks.old }
     ensures ready { IfNone result (FindsAll blocks.old blocks.new) }
     ensures owing { IfSome result (λ r. FindsOwing blocks.old blocks.new r.0 r.1) }
@@ -133,7 +133,7 @@ impl<A: Tagged + Drop> Counters<A> {
         ensures { result ≡ joined [] [] true [] }
     {
         Counters {
-            blocks: Blocks::Listed(Vec::new(alloc)),
+            blocks: CounterEnds::Listed(Vec::new(alloc)),
             found: 0,
             count: 0,
         }

@@ -28,8 +28,8 @@
 //! ```
 #![tactic(auto)]
 
-mod block;
-mod blocks;
+mod counter_end;
+mod counter_ends;
 mod counters;
 mod give;
 mod idle;

@@ -1,6 +1,6 @@
 // The rule of a join counter and its steps. These types are for the proofs alone.
 ghost use Rattle.std.specs.Prelude.{◌≡◌, ℕ, [], Option, None};
-ghost use Rattle.meet_block.specs.declared.view.Stage.TheVariants.{Open};
+ghost use Rattle.meet_block.specs.declared.view.SeatState.TheVariants.{Open};
 ghost use Rattle.meet_block.specs.Counter.{parent, Obeys, opened, given, claimed, arrived, closed, Looked, Took};
 
 use crate::room::Room;
@@ -37,11 +37,11 @@ impl PlaceOf for Brand {
 }
 
 // The parent's split.
-pub struct Hands<W> {
+pub struct Allots<W> {
     marker: PhantomData<W>,
 }
 
-impl<T, W: TagOf<T>> Split<View<T>> for Hands<W> {
+impl<T, W: TagOf<T>> Split<View<T>> for Allots<W> {
     ghost left = { opened W.told };
 
     ghost right = { given W.told };

@@ -1,7 +1,7 @@
 // The gives of counters.
 ghost use Rattle.std.specs.Prelude.{◌≡◌, ◌+◌, ◌<◌, ◌≤◌, ◌++◌, ◌∷◌, [], length};
 ghost use Rattle.std.specs.Arc.{arc_value};
-ghost use Rattle.meet_block.specs.declared.view.Stage.TheVariants.{Owes, Arrived};
+ghost use Rattle.meet_block.specs.declared.view.SeatState.TheVariants.{Owes, Arrived};
 
 use crate::room::Room;
 use crate::rule::{Arrives, Claims, CounterRule};

@@ -11,11 +11,11 @@ pub(crate) const BLOCK: usize = 16;
 
 /// A block of ranks, full and for good. It is seen as the list of its ranks.
 #[derive(Drop)]
-pub(crate) struct Block {
+pub(crate) struct RankBlock {
     ranks: Arc<[u32; BLOCK]>,
 }
 
-impl Model for Block {
+impl Model for RankBlock {
     ghost use Rattle.std.specs.Prelude.{ℕ, List};
     ghost use Rattle.std.specs.Arc.{arc_value};
     ghost use Rattle.ped_path.specs.Blocks.{IsBlock};
@@ -27,21 +27,21 @@ impl Model for Block {
     ghost invariant = { λ b. IsBlock (arc_value b.ranks) };
 }
 
-impl Block {
-    pub(crate) fn new(alloc: Global, ranks: [u32; BLOCK]) -> Result<Block, Memory>
+impl RankBlock {
+    pub(crate) fn new(alloc: Global, ranks: [u32; BLOCK]) -> Result<RankBlock, Memory>
         requires { IsBlock ranks }
         ensures { IfOk result (λ block. block ≡ ranks) }
     {
         let ranks = Arc::new(alloc, ranks)?;
-        Ok(Block { ranks })
+        Ok(RankBlock { ranks })
     }
 
     /// The same block, over the same memory.
-    pub(crate) fn share(&self) -> Result<Block, Memory>
+    pub(crate) fn share(&self) -> Result<RankBlock, Memory>
         ensures { IfOk result (λ block. block ≡ self.now) }
     {
         let ranks = Arc::try_clone(&self.ranks)?;
-        Ok(Block { ranks })
+        Ok(RankBlock { ranks })
     }
 
     pub(crate) fn rank(&self, place: usize) -> u64
@@ -60,12 +60,12 @@ impl Block {
 
 /// A list of blocks, over memory that all its owners share. It is seen as the list of them.
 #[derive(Drop)]
-pub(crate) struct Blocks {
+pub(crate) struct RankBlocks {
     // None where there is no block, so that short paths have no count in common.
-    list: Option<Arc<Vec<Block>>>,
+    list: Option<Arc<Vec<RankBlock>>>,
 }
 
-impl Model for Blocks {
+impl Model for RankBlocks {
     ghost use Rattle.std.specs.Prelude.{ℕ, List};
     ghost use Rattle.ped_path.specs.Blocks.{blocks_of};
 
@@ -74,14 +74,14 @@ impl Model for Blocks {
     ghost view = { λ b. blocks_of b.list };
 }
 
-impl Blocks {
-    pub(crate) fn none() -> Blocks
+impl RankBlocks {
+    pub(crate) fn none() -> RankBlocks
         ensures { result ≡ [] }
     {
-        Blocks { list: None }
+        RankBlocks { list: None }
     }
 
-    pub(crate) fn as_slice(&self) -> &[Block]
+    pub(crate) fn as_slice(&self) -> &[RankBlock]
         ensures { result.now ≡ self.now }
     {
         match &self.list {
@@ -91,24 +91,24 @@ impl Blocks {
     }
 
     /// The same list, over the same memory.
-    pub(crate) fn share(&self) -> Result<Blocks, Memory>
+    pub(crate) fn share(&self) -> Result<RankBlocks, Memory>
         ensures { IfOk result (λ list. list ≡ self.now) }
     {
         match &self.list {
-            Some(list) => Ok(Blocks {
+            Some(list) => Ok(RankBlocks {
                 list: Some(Arc::try_clone(list)?),
             }),
-            None => Ok(Blocks::none()),
+            None => Ok(RankBlocks::none()),
         }
     }
 
     /// A list of the same blocks and one more.
-    pub(crate) fn with(&self, alloc: Global, block: Block) -> Result<Blocks, Memory>
+    pub(crate) fn with(&self, alloc: Global, block: RankBlock) -> Result<RankBlocks, Memory>
         requires { length self.now < 2 ^ 58 }
         ensures { IfOk result (λ list. list ≡ self.now ++ block ∷ []) }
     {
         let list = with_block(alloc, self.as_slice(), block)?;
-        Ok(Blocks {
+        Ok(RankBlocks {
             list: Some(Arc::new(alloc, list)?),
         })
     }
@@ -124,7 +124,11 @@ impl Blocks {
 }
 
 // A list of the same blocks and one more.
-fn with_block(alloc: Global, blocks: &[Block], block: Block) -> Result<Vec<Block>, Memory>
+fn with_block(
+    alloc: Global,
+    blocks: &[RankBlock],
+    block: RankBlock,
+) -> Result<Vec<RankBlock>, Memory>
     requires { length blocks.now < 2 ^ 58 }
     ensures { IfOk result (λ list. list.items ≡ blocks.now ++ block ∷ []) }
 {

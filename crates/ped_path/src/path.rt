@@ -1,7 +1,7 @@
 ghost use Rattle.std.specs.Prelude.{◌≡◌, ◌<◌, ◌^◌, ℕ, List, [], ◌∷◌, ◌++◌, length, All, IfOk, slice_index};
 ghost use Rattle.ped_path.specs.Path.{IsRank};
 
-use crate::block::{BLOCK, Block, Blocks};
+use crate::block::{BLOCK, RankBlock, RankBlocks};
 use crate::memory::Memory;
 use std::alloc::Global;
 use std::marker::Model;
@@ -13,7 +13,7 @@ const MOST_BLOCKS: usize = 1 << 58;
 /// seen as the list of its ranks.
 #[derive(Drop)]
 pub(crate) struct Path {
-    blocks: Blocks,
+    blocks: RankBlocks,
     last: [u32; BLOCK],
     count: usize,
 }
@@ -34,7 +34,7 @@ impl Path {
         ensures { result ≡ [] }
     {
         Path {
-            blocks: Blocks::none(),
+            blocks: RankBlocks::none(),
             last: [0; BLOCK],
             count: 0,
         }
@@ -56,7 +56,7 @@ impl Path {
         if self.blocks.as_slice().len() == MOST_BLOCKS {
             return Err(Memory);
         }
-        let block = Block::new(alloc, last)?;
+        let block = RankBlock::new(alloc, last)?;
         Ok(Path {
             blocks: self.blocks.with(alloc, block)?,
             last: [0; BLOCK],
@@ -121,7 +121,7 @@ mod tests {
             .blocks
             .as_slice()
             .iter()
-            .map(Block::owners)
+            .map(RankBlock::owners)
             .collect(alloc)?;
         assert_eq!(rt; owners.as_slice(), [2, 1].as_slice());
         Ok(())

@@ -1,7 +1,7 @@
 // What the program answers before the top call: a text of the help, or a line on arguments that can't be had.
 
 ghost use Rattle.std.specs.Prelude.{◌≡◌, codes};
-ghost use Rattle.engine.specs.Promise.{Told, watched};
+ghost use Rattle.engine.specs.Promise.{WroteLine, watched};
 ghost use Rattle.pedrun.specs.Edge.{Shown, Tells};
 
 use engine::Status;
@@ -9,8 +9,8 @@ use ped_io::{Sink, write_all};
 use std::io::ErrorKind;
 
 // Writes a line of the error output. A failed write changes nothing else.
-fn tell<E: Sink>(err: &mut E, line: &[u8])
-    ensures { Told (watched E.written E.faults err.old err.new) line.now }
+fn write_error_line<E: Sink>(err: &mut E, line: &[u8])
+    ensures { WroteLine (watched E.written E.faults err.old err.new) line.now }
 {
     // What becomes of the line is told by the sink's faults.
     let _ = write_all(err, line);
@@ -24,7 +24,7 @@ pub fn show<K: Sink, E: Sink>(text: &str, out: &mut K, err: &mut E) -> Status
     match write_all(out, text.as_bytes()) {
         Ok(()) => Status::Done,
         Err(_) => {
-            tell(err, b"write fault\n");
+            write_error_line(err, b"write fault\n");
             Status::Write
         }
     }
@@ -38,11 +38,11 @@ pub fn refuse<E: Sink>(kind: ErrorKind, err: &mut E) -> Status
 {
     match kind {
         ErrorKind::InvalidData => {
-            tell(err, b"words: not UTF-8\n");
+            write_error_line(err, b"words: not UTF-8\n");
             Status::Words
         }
         _ => {
-            tell(err, b"out of memory\n");
+            write_error_line(err, b"out of memory\n");
             Status::Memory
         }
     }

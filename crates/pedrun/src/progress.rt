@@ -48,7 +48,7 @@ impl<'a, R: Clock + Eprint> Progress<'a, R> {
     }
 
     // Shows the line where it is time to. Of the workers that find so at once, one shows it.
-    fn look(&self) {
+    fn show_due(&self) {
         let now = self.millis();
         let next = self.next.load(Ordering::SeqCst);
         if now < next
@@ -84,7 +84,7 @@ impl<'a, R: Clock + Eprint> Gate for Progress<'a, R> {
     fn enter(&self, _origin: &Origin) {
         let before = self.begun.fetch_add(1, Ordering::SeqCst);
         if before < OFTEN || before % 256 == 0 {
-            self.look();
+            self.show_due();
         }
     }
 

@@ -4,7 +4,7 @@ use Rattle.serial_meaning.specs.Eval.{path_of}
 use Rattle.serial_meaning.specs.Laws.{IsOriginOf}
 use Rattle.serial_meaning.specs.Plan.{PlanView}
 use Rattle.serial_meaning.specs.declared.origin.Origin.{Origin}
-use Rattle.strand_meaning.specs.Notes.{IsInstance}
+use Rattle.strand_meaning.specs.Observation.{IsInstance}
 use Rattle.strand_meaning.specs.Strands.{Found, Reached, Missing, Blocked, walk_in}
 use Rattle.serial_runner.specs.Nodes.{IsBelow}
 use Rattle.replay.specs.declared.descent.Way.{Way}

@@ -12,9 +12,9 @@ use Rattle.sched_core.specs.Begun.{IsBegun, hired}
 use Rattle.sched_core.specs.Cores.{answer_of, core_of, origins_of, plan_of, worker_of}
 use Rattle.sched_core.specs.Moves.{job}
 use Rattle.sched_core.specs.Nodes.{new_node}
-use Rattle.sched_core.specs.Told.{AreJobs, AreNodes, AreWorkers, IsHeard, IsNode, IsTold}
+use Rattle.sched_core.specs.Consistent.{AreJobs, AreNodes, AreWorkers, IsHeard, IsNode, IsConsistent}
 use Rattle.sched_core.specs.Workers.{only}
-use Rattle.sched_core.specs.declared.node.Node.{Node}
+use Rattle.sched_core.specs.declared.node.SpawnNode.{SpawnNode}
 use Rattle.sched_core.specs.declared.state.State.{State}
 use Rattle.sched_core.proofs.Taking.{carry-nodes, carry-root, carry-workers}
 
@@ -38,10 +38,10 @@ module _ (plan : PlanView) where
       answers : map (answer_of (plan_of s)) s.given ≡ []
       answers = ap (map (answer_of (plan_of s))) b.given
 
-  free-jobs : (nodes : List Node) → AreJobs nodes (only None)
-  free-jobs nodes = record { current = tt; deque = λ k x h. absurd (cc); ring = λ k x h. absurd (cc) }
+  free-jobs : (nodes : List SpawnNode) → AreJobs nodes (only None)
+  free-jobs nodes = record { current = tt; deque = λ k x h. absurd (cc); stalled = λ k x h. absurd (cc) }
 
-  all-free : (nodes : List Node) (n : ℕ) → AreWorkers nodes (replicate n (only None))
+  all-free : (nodes : List SpawnNode) (n : ℕ) → AreWorkers nodes (replicate n (only None))
   all-free nodes zero k x h = absurd (cc)
   all-free nodes (suc n) zero x h = subst (AreJobs nodes) (some-one (only None) x h) (free-jobs nodes)
   all-free nodes (suc n) (suc k) x h = all-free nodes n k x h
@@ -50,27 +50,27 @@ module _ (plan : PlanView) where
   first-jobs = record {
     current = record { node = new_node (main_origin plan) None; there = refl; origin = refl; awaits = tt; uncut = refl };
     deque = λ k x h. absurd (cc);
-    ring = λ k x h. absurd (cc);
+    stalled = λ k x h. absurd (cc);
   }
 
-  workers-told : (n : ℕ) → AreWorkers (new_node (main_origin plan) None ∷ []) (hired (fresh plan (main_origin plan)) n)
-  workers-told n zero x h = subst (AreJobs (new_node (main_origin plan) None ∷ [])) (some-one (only (Some (job (fresh plan (main_origin plan)) 0))) x h) first-jobs
-  workers-told n (suc k) x h = all-free (new_node (main_origin plan) None ∷ []) (n - 1) k x h
+  workers-consistent : (n : ℕ) → AreWorkers (new_node (main_origin plan) None ∷ []) (hired (fresh plan (main_origin plan)) n)
+  workers-consistent n zero x h = subst (AreJobs (new_node (main_origin plan) None ∷ [])) (some-one (only (Some (job (fresh plan (main_origin plan)) 0))) x h) first-jobs
+  workers-consistent n (suc k) x h = all-free (new_node (main_origin plan) None ∷ []) (n - 1) k x h
 
-  nodes-told : AreNodes plan [] (new_node (main_origin plan) None ∷ [])
-  nodes-told zero node h = subst (IsNode plan [] (new_node (main_origin plan) None ∷ []) 0) (some-one (new_node (main_origin plan) None) node h)
+  nodes-consistent : AreNodes plan [] (new_node (main_origin plan) None ∷ [])
+  nodes-consistent zero node h = subst (IsNode plan [] (new_node (main_origin plan) None ∷ []) 0) (some-one (new_node (main_origin plan) None) node h)
       (record { unanswered = refl; children = λ k c at. absurd (cc); link = λ open_yet. refl; first = λ e. refl })
-  nodes-told (suc k) node h = absurd (cc)
+  nodes-consistent (suc k) node h = absurd (cc)
 
   none-given : IsHeard plan [] (main_origin plan) None
   none-given = λ h. absurd (omega (arith, h.1))
 
-  pub told-begun : (n : ℕ) (s : State) → IsValid plan.script → IsBegun plan n s → IsTold s
-  told-begun n s valid b = record {
+  pub consistent-begun : (n : ℕ) (s : State) → IsValid plan.script → IsBegun plan n s → IsConsistent s
+  consistent-begun n s valid b = record {
     valid = subst (λ (p : PlanView). IsValid p.script) (sym b.plan_is) valid;
     led = record { workers = n; events = []; leads = core-begun n s b ∙ ap (λ (p : PlanView). new_core p n) (sym b.plan_is) };
-    workers = carry-workers s.nodes.items (new_node (main_origin plan) None ∷ []) s.workers.items (hired (fresh plan (main_origin plan)) n) b.nodes b.hired (workers-told n);
-    nodes = carry-nodes (plan_of s) plan s.given [] s.nodes.items (new_node (main_origin plan) None ∷ []) b.plan_is b.given b.nodes nodes-told;
+    workers = carry-workers s.nodes.items (new_node (main_origin plan) None ∷ []) s.workers.items (hired (fresh plan (main_origin plan)) n) b.nodes b.hired (workers-consistent n);
+    nodes = carry-nodes (plan_of s) plan s.given [] s.nodes.items (new_node (main_origin plan) None ∷ []) b.plan_is b.given b.nodes nodes-consistent;
     root = carry-root (plan_of s) plan s.given [] s.root None b.plan_is b.given b.root none-given;
   }
 

@@ -18,12 +18,12 @@ use Rattle.sched_meaning.proofs.Good.{IsLeft, stop-leaves}
 use Rattle.sched_meaning.proofs.OneStep.{some-one}
 use Rattle.sched_core.specs.Cores.{answer_of, core_of, origins_of, plan_of, task_in, worker_of}
 use Rattle.sched_core.specs.Nodes.{hearing}
-use Rattle.sched_core.specs.Told.{AreJobs, AreWorkers, Awaits, Goes, IsGiven, IsHeard, IsJob, IsLinked, IsTold}
+use Rattle.sched_core.specs.Consistent.{AreJobs, AreWorkers, Awaits, Goes, IsGiven, IsHeard, IsJob, IsLinked, IsConsistent}
 use Rattle.sched_core.specs.Workers.{WorkerView}
 use Rattle.sched_core.specs.declared.job.Job.{Job}
 use Rattle.sched_core.specs.declared.node.Child.{Child}
 use Rattle.sched_core.specs.declared.node.Link.{Link}
-use Rattle.sched_core.specs.declared.node.Node.{Node}
+use Rattle.sched_core.specs.declared.node.SpawnNode.{SpawnNode}
 use Rattle.sched_core.specs.declared.state.State.{State}
 use Rattle.sched_core.proofs.Hearing.{heard-more, nodes-end, nodes-hear}
 use Rattle.sched_core.proofs.Lists.{everywhere-set, get-map, get-other, get-set, map-append-one, map-set-same, same-or}
@@ -31,10 +31,10 @@ use Rattle.sched_core.proofs.Running.{going, own-fresh, own-job, run-step, worke
 use Rattle.sched_core.proofs.Taking.{carry-nodes, carry-root, goes}
 
 -- two numbers of one origin are one
-once : (s : State) → IsTold s → (j k : ℕ) (x y : Node) → slice_get s.nodes.items j ≡ Some x → slice_get s.nodes.items k ≡ Some y → x.origin ≡ y.origin → j ≡ k
+once : (s : State) → IsConsistent s → (j k : ℕ) (x y : SpawnNode) → slice_get s.nodes.items j ≡ Some x → slice_get s.nodes.items k ≡ Some y → x.origin ≡ y.origin → j ≡ k
 once s t j k x y a b e =
     cores.begun-once (plan_of s) t.led.workers t.led.events (core_of false s) t.valid t.led.leads y.origin j k
-    (get-map (λ (n : Node). n.origin) s.nodes.items j x a ∙ ap (λ o. Some o) e) (get-map (λ (n : Node). n.origin) s.nodes.items k y b)
+    (get-map (λ (n : SpawnNode). n.origin) s.nodes.items j x a ∙ ap (λ o. Some o) e) (get-map (λ (n : SpawnNode). n.origin) s.nodes.items k y b)
 
 -- an answer is what its origin answers
 answer-is : (plan : PlanView) (a : AnswerView) → a.plan ≡ plan → IsEval plan a.origin a.out a.outcome → a ≡ answer_of plan a.origin
@@ -42,8 +42,8 @@ answer-is plan a p e = λ i. record { plan = p i; origin = a.origin; out = e.eve
 
 -- Jobs
 
-jobs-map : (nodes after : List Node) → ((i : Job) → IsJob nodes i → IsJob after i) → (v : WorkerView) → AreJobs nodes v → AreJobs after v
-jobs-map nodes after f v is = record { current = by_current v.current is.current; deque = λ k i h. f i (is.deque k i h); ring = λ k i h. f i (is.ring k i h) }
+jobs-map : (nodes after : List SpawnNode) → ((i : Job) → IsJob nodes i → IsJob after i) → (v : WorkerView) → AreJobs nodes v → AreJobs after v
+jobs-map nodes after f v is = record { current = by_current v.current is.current; deque = λ k i h. f i (is.deque k i h); stalled = λ k i h. f i (is.stalled k i h) }
   where
     by_current : (o : Option Job) → IfSome o (IsJob nodes) → IfSome o (IsJob after)
     by_current None h = tt
@@ -56,12 +56,12 @@ awaits-set begun (x ∷ cs) (o ∷ os) zero c a h w = (ap (λ (y : Child). slice
 awaits-set begun (x ∷ cs) (o ∷ os) (suc k) c a h w = (w.0, awaits-set begun cs os k c a h w.1)
 
 -- a parent that heard of a child awaits the same origins
-job-hears : (nodes : List Node) (l : Link) (parent : Node) (child : Child) (a : AnswerView) → slice_get nodes l.parent ≡ Some parent → slice_get parent.children l.place ≡ Some child →
+job-hears : (nodes : List SpawnNode) (l : Link) (parent : SpawnNode) (child : Child) (a : AnswerView) → slice_get nodes l.parent ≡ Some parent → slice_get parent.children l.place ≡ Some child →
     (i : Job) → IsJob nodes i → IsJob (slice_set nodes l.parent (hearing l.place child a parent)) i
 job-hears nodes l parent child a at_parent at i is = by_number (same-or i.number l.parent)
   where
     origins : origins_of (slice_set nodes l.parent (hearing l.place child a parent)) ≡ origins_of nodes
-    origins = map-set-same (λ (x : Node). x.origin) nodes l.parent parent (hearing l.place child a parent) at_parent refl
+    origins = map-set-same (λ (x : SpawnNode). x.origin) nodes l.parent parent (hearing l.place child a parent) at_parent refl
 
     by_number : (i.number ≡ l.parent) ⊎ (i.number ≡ l.parent → ⊥) → IsJob (slice_set nodes l.parent (hearing l.place child a parent)) i
     by_number (inl e) =
@@ -69,17 +69,17 @@ job-hears nodes l parent child a at_parent at i is = by_number (same-or i.number
         record {
           node = hearing l.place child a parent;
           there = ap (λ m. slice_get (slice_set nodes l.parent (hearing l.place child a parent)) m) e ∙ get-set nodes l.parent parent (hearing l.place child a parent) at_parent;
-          origin = ap (λ (x : Node). x.origin) (sym same) ∙ is.origin;
-          awaits = subst (λ b. Awaits b (slice_set parent.children l.place (record child { answer = Some a })) (awaited (task_in i).pieces.handed)) (sym origins)
-              (awaits-set (origins_of nodes) parent.children (awaited (task_in i).pieces.handed) l.place child (Some a) at
-              (subst (λ (x : Node). Awaits (origins_of nodes) x.children (awaited (task_in i).pieces.handed)) same is.awaits));
+          origin = ap (λ (x : SpawnNode). x.origin) (sym same) ∙ is.origin;
+          awaits = subst (λ b. Awaits b (slice_set parent.children l.place (record child { answer = Some a })) (awaited (task_in i).trace.handed)) (sym origins)
+              (awaits-set (origins_of nodes) parent.children (awaited (task_in i).trace.handed) l.place child (Some a) at
+              (subst (λ (x : SpawnNode). Awaits (origins_of nodes) x.children (awaited (task_in i).trace.handed)) same is.awaits));
           uncut = is.uncut;
         }
     by_number (inr two) = record {
       node = is.node;
       there = get-other nodes l.parent i.number (hearing l.place child a parent) two ∙ is.there;
       origin = is.origin;
-      awaits = subst (λ b. Awaits b is.node.children (awaited (task_in i).pieces.handed)) (sym origins) is.awaits;
+      awaits = subst (λ b. Awaits b is.node.children (awaited (task_in i).trace.handed)) (sym origins) is.awaits;
       uncut = is.uncut;
     }
 
@@ -90,7 +90,7 @@ pub record HasEnded (w : ℕ) (a : AnswerView) (v : WorkerView) (s next : State)
   pub given : next.given ≡ s.given ++ a.origin ∷ []
   pub runs : next.runs ≡ s.runs + 1
 
-module _ (s next : State) (t : IsTold s) (none : s.root ≡ None) (w : ℕ) (v : WorkerView) (there : slice_get s.workers.items w ≡ Some v) (j : Job) (current : v.current ≡ Some j) where
+module _ (s next : State) (t : IsConsistent s) (none : s.root ≡ None) (w : ℕ) (v : WorkerView) (there : slice_get s.workers.items w ≡ Some v) (j : Job) (current : v.current ≡ Some j) where
   module _ (a : AnswerView) (give : _) (stops : IsStop j.task (stop.Done a give)) (p : HasEnded w a v s next) where
     abbrev pub own : IsJob s.nodes.items j
     own = own-job s t w v there j current
@@ -135,7 +135,7 @@ module _ (s next : State) (t : IsTold s) (none : s.root ≡ None) (w : ℕ) (v :
         (everywhere-set (AreJobs next.nodes.items) s.workers.items w (record v { current = None }) gone (λ k x h. jobs-map s.nodes.items next.nodes.items f x (t.workers k x h)))
       where
         gone : AreJobs next.nodes.items (record v { current = None })
-        gone = let is : AreJobs next.nodes.items v = jobs-map s.nodes.items next.nodes.items f v (t.workers w v there) in record { current = tt; deque = is.deque; ring = is.ring }
+        gone = let is : AreJobs next.nodes.items v = jobs-map s.nodes.items next.nodes.items f v (t.workers w v there) in record { current = tt; deque = is.deque; stalled = is.stalled }
 
     -- main's answer
     pub root-goes : own.node.link ≡ None → next.nodes.items ≡ s.nodes.items → next.root ≡ Some a → Goes (Run w) s next
@@ -154,15 +154,15 @@ module _ (s next : State) (t : IsTold s) (none : s.root ≡ None) (w : ℕ) (v :
             let r = (cores.kept (plan_of s) t.led.workers t.led.events (core_of false s) t.valid t.led.leads).root in ap (λ l. slice_get l 0) r.1
 
         main-is : own.node.origin ≡ main_origin (plan_of s)
-        main-is = some-one own.node.origin (main_origin (plan_of s)) (sym (get-map (λ (n : Node). n.origin) s.nodes.items j.number own.node own.there) ∙ ap (λ m. slice_get (origins_of s.nodes.items) m) zero-number ∙ first)
+        main-is = some-one own.node.origin (main_origin (plan_of s)) (sym (get-map (λ (n : SpawnNode). n.origin) s.nodes.items j.number own.node own.there) ∙ ap (λ m. slice_get (origins_of s.nodes.items) m) zero-number ∙ first)
 
     -- another's answer
-    pub child-goes : (l : Link) → own.node.link ≡ Some l → (parent : Node) → slice_get s.nodes.items l.parent ≡ Some parent → (child : Child) → slice_get parent.children l.place ≡ Some child →
+    pub child-goes : (l : Link) → own.node.link ≡ Some l → (parent : SpawnNode) → slice_get s.nodes.items l.parent ≡ Some parent → (child : Child) → slice_get parent.children l.place ≡ Some child →
         next.nodes.items ≡ slice_set s.nodes.items l.parent (hearing l.place child a parent) → next.root ≡ s.root → Goes (Run w) s next
     child-goes l linked parent at_parent child at nodes root =
         goes (Run w) s next t none (ap arc_value p.plan)
         (run-step s next t none w v (record v { current = None }) there j current (End a.out a.outcome) stops.next
-        (core-is (ap origins_of nodes ∙ map-set-same (λ (x : Node). x.origin) s.nodes.items l.parent parent (hearing l.place child a parent) at_parent refl))).happens
+        (core-is (ap origins_of nodes ∙ map-set-same (λ (x : SpawnNode). x.origin) s.nodes.items l.parent parent (hearing l.place child a parent) at_parent refl))).happens
         (workers-next (λ i is. subst (λ q. IsJob q i) (sym nodes) (job-hears s.nodes.items l parent child a at_parent at i is)))
         (carry-nodes _ _ _ _ _ _ (ap arc_value p.plan) given-is nodes (nodes-hear (plan_of s) s.given s.nodes.items t.nodes j.number own.node own.there fresh (once s t) l linked a is-given parent at_parent child at))
         (carry-root _ _ _ _ _ _ (ap arc_value p.plan) given-is root not-yet)
@@ -177,7 +177,7 @@ module _ (s next : State) (t : IsTold s) (none : s.root ≡ None) (w : ℕ) (v :
         other : own.node.origin ≡ main_origin (plan_of s) → ⊥
         other e =
             let number : j.number ≡ 0 = cores.begun-once (plan_of s) t.led.workers t.led.events (core_of false s) t.valid t.led.leads (main_origin (plan_of s)) j.number 0
-            (get-map (λ (n : Node). n.origin) s.nodes.items j.number own.node own.there ∙ ap (λ o. Some o) e) first in
+            (get-map (λ (n : SpawnNode). n.origin) s.nodes.items j.number own.node own.there ∙ ap (λ o. Some o) e) first in
             let none-linked : own.node.link ≡ None = (t.nodes j.number own.node own.there).first number in
             let both : Some l ≡ None = sym linked ∙ none-linked in absurd (cc)
 

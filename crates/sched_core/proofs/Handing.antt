@@ -17,21 +17,21 @@ use Rattle.sched_meaning.proofs.Loads.{load}
 use Rattle.sched_meaning.proofs.OneStep.{some-one}
 use Rattle.sched_core.specs.Cores.{answer_of, core_of, origins_of, plan_of, task_in, worker_of}
 use Rattle.sched_core.specs.Nodes.{awaiting, new_node}
-use Rattle.sched_core.specs.Told.{AreJobs, Awaits, Goes, IsJob, IsLed, IsTold}
+use Rattle.sched_core.specs.Consistent.{AreJobs, Awaits, Goes, IsJob, IsLed, IsConsistent}
 use Rattle.sched_core.specs.Workers.{WorkerView}
 use Rattle.sched_core.specs.declared.job.Job.{Job}
-use Rattle.sched_core.specs.declared.node.Node.{Node}
+use Rattle.sched_core.specs.declared.node.SpawnNode.{SpawnNode}
 use Rattle.sched_core.specs.declared.state.State.{State}
 use Rattle.sched_core.proofs.Lists.{everywhere-end, get-end, get-map, get-set, length-map}
 use Rattle.sched_core.proofs.Others.{get-total, list-stays, not-answered, others-stay}
 use Rattle.sched_core.proofs.Ready.{awaited-same}
-use Rattle.sched_core.proofs.Running.{deque-none, going, has, own-job, ring-none, run-step, workers-moved}
+use Rattle.sched_core.proofs.Running.{deque-none, going, has, own-job, stalled-none, run-step, workers-moved}
 use Rattle.sched_core.proofs.Spawning.{at-new, at-parent, awaits-end, awaits-grow, job-stays, nodes-after, origins-after}
 use Rattle.sched_core.proofs.Spawning as spawning
 use Rattle.sched_core.proofs.Taking.{carry-nodes, carry-root, carry-workers, goes, is-answered, map-end}
 
 -- what the state is after a spawn
-pub record HasSpawned (w : ℕ) (node : Node) (j child rest : Job) (v : WorkerView) (s next : State) : Type 0 where
+pub record HasSpawned (w : ℕ) (node : SpawnNode) (j child rest : Job) (v : WorkerView) (s next : State) : Type 0 where
   pub workers : next.workers.items ≡ slice_set s.workers.items w (record v { current = Some child; deque = v.deque ++ rest ∷ [] })
   pub nodes : next.nodes.items ≡ slice_set s.nodes.items j.number (awaiting (length s.nodes.items) node)
       ++ new_node (task_in child).origin (Some (record { parent = j.number; place = length node.children })) ∷ []
@@ -40,10 +40,10 @@ pub record HasSpawned (w : ℕ) (node : Node) (j child rest : Job) (v : WorkerVi
   pub root : next.root ≡ s.root
   pub runs : next.runs ≡ s.runs + 1
 
-module _ (s next : State) (t : IsTold s) (none : s.root ≡ None) (w : ℕ) (v : WorkerView) (there : slice_get s.workers.items w ≡ Some v) (j : Job) (current : v.current ≡ Some j) where
-  module _ (child rest : Job) (stops : IsStop j.task (stop.Spawn child.task rest.task)) (begun : child.number ≡ length s.nodes.items) (number : rest.number ≡ j.number) (node : Node) (found : slice_get s.nodes.items j.number ≡ Some node)
+module _ (s next : State) (t : IsConsistent s) (none : s.root ≡ None) (w : ℕ) (v : WorkerView) (there : slice_get s.workers.items w ≡ Some v) (j : Job) (current : v.current ≡ Some j) where
+  module _ (child rest : Job) (stops : IsStop j.task (stop.Spawn child.task rest.task)) (begun : child.number ≡ length s.nodes.items) (number : rest.number ≡ j.number) (node : SpawnNode) (found : slice_get s.nodes.items j.number ≡ Some node)
       (p : HasSpawned w node j child rest v s next) where
-    abbrev after : List Node
+    abbrev after : List SpawnNode
     after = spawning.after (plan_of s) s.given s.nodes.items t.nodes j.number node found (task_in child).origin
 
     own : IsJob s.nodes.items j
@@ -61,7 +61,7 @@ module _ (s next : State) (t : IsTold s) (none : s.root ≡ None) (w : ℕ) (v :
       node = new_node (task_in child).origin (Some (record { parent = j.number; place = length node.children }));
       there = ap (λ m. slice_get after m) begun ∙ at-new (plan_of s) s.given s.nodes.items t.nodes j.number node found (task_in child).origin;
       origin = refl;
-      awaits = subst (λ (x : Task). Awaits (origins_of after) [] (awaited x.pieces.handed)) (sym child-is) tt;
+      awaits = subst (λ (x : Task). Awaits (origins_of after) [] (awaited x.trace.handed)) (sym child-is) tt;
       uncut = ap (λ (x : TaskView). x.cut) stops.keeps.0;
     }
 
@@ -71,26 +71,26 @@ module _ (s next : State) (t : IsTold s) (none : s.root ≡ None) (w : ℕ) (v :
     same-node : own.node ≡ node
     same-node = some-one own.node node (sym own.there ∙ found)
 
-    hands : awaited (task_in rest).pieces.handed ≡ awaited (task_in j).pieces.handed ++ (task_in child).origin ∷ []
+    hands : awaited (task_in rest).trace.handed ≡ awaited (task_in j).trace.handed ++ (task_in child).origin ∷ []
     hands =
-        sym (awaited-same (task_in rest).pieces.handed) ∙ (stops_hand (task_in j) (Spawn (task_in child).origin (task_in rest)) (going s t w v there j current).0.task stops.next).0
-        ∙ ap (λ l. l ++ (task_in child).origin ∷ []) (awaited-same (task_in j).pieces.handed)
+        sym (awaited-same (task_in rest).trace.handed) ∙ (stops_hand (task_in j) (Spawn (task_in child).origin (task_in rest)) (going s t w v there j current).0.task stops.next).0
+        ∙ ap (λ l. l ++ (task_in child).origin ∷ []) (awaited-same (task_in j).trace.handed)
 
     new-origin : slice_get (origins_of s.nodes.items ++ (task_in child).origin ∷ []) (length s.nodes.items) ≡ Some (task_in child).origin
-    new-origin = ap (λ m. slice_get (origins_of s.nodes.items ++ (task_in child).origin ∷ []) m) (sym (length-map (λ (n : Node). n.origin) s.nodes.items)) ∙ get-end (origins_of s.nodes.items) (task_in child).origin
+    new-origin = ap (λ m. slice_get (origins_of s.nodes.items ++ (task_in child).origin ∷ []) m) (sym (length-map (λ (n : SpawnNode). n.origin) s.nodes.items)) ∙ get-end (origins_of s.nodes.items) (task_in child).origin
 
-    rest-awaits : Awaits (origins_of s.nodes.items ++ (task_in child).origin ∷ []) (node.children ++ record { number = length s.nodes.items; answer = None } ∷ []) (awaited (task_in j).pieces.handed ++ (task_in child).origin ∷ [])
+    rest-awaits : Awaits (origins_of s.nodes.items ++ (task_in child).origin ∷ []) (node.children ++ record { number = length s.nodes.items; answer = None } ∷ []) (awaited (task_in j).trace.handed ++ (task_in child).origin ∷ [])
     rest-awaits =
-        awaits-end (origins_of s.nodes.items ++ (task_in child).origin ∷ []) node.children (awaited (task_in j).pieces.handed) (record { number = length s.nodes.items; answer = None }) (task_in child).origin
-        (awaits-grow (origins_of s.nodes.items) ((task_in child).origin ∷ []) node.children (awaited (task_in j).pieces.handed)
-        (subst (λ (n : Node). Awaits (origins_of s.nodes.items) n.children (awaited (task_in j).pieces.handed)) same-node own.awaits)) new-origin
+        awaits-end (origins_of s.nodes.items ++ (task_in child).origin ∷ []) node.children (awaited (task_in j).trace.handed) (record { number = length s.nodes.items; answer = None }) (task_in child).origin
+        (awaits-grow (origins_of s.nodes.items) ((task_in child).origin ∷ []) node.children (awaited (task_in j).trace.handed)
+        (subst (λ (n : SpawnNode). Awaits (origins_of s.nodes.items) n.children (awaited (task_in j).trace.handed)) same-node own.awaits)) new-origin
 
     rest-job : IsJob after rest
     rest-job = record {
       node = awaiting (length s.nodes.items) node;
       there = ap (λ m. slice_get after m) number ∙ at-parent (plan_of s) s.given s.nodes.items t.nodes j.number node found (task_in child).origin;
-      origin = ap (λ (n : Node). n.origin) (sym same-node) ∙ own.origin ∙ sym (stops_keep_origins (task_in j) (Spawn (task_in child).origin (task_in rest)) stops.next).1;
-      awaits = subst (λ b. Awaits b (node.children ++ record { number = length s.nodes.items; answer = None } ∷ []) (awaited (task_in rest).pieces.handed)) (sym origins)
+      origin = ap (λ (n : SpawnNode). n.origin) (sym same-node) ∙ own.origin ∙ sym (stops_keep_origins (task_in j) (Spawn (task_in child).origin (task_in rest)) stops.next).1;
+      awaits = subst (λ b. Awaits b (node.children ++ record { number = length s.nodes.items; answer = None } ∷ []) (awaited (task_in rest).trace.handed)) (sym origins)
           (subst (Awaits (origins_of s.nodes.items ++ (task_in child).origin ∷ []) (node.children ++ record { number = length s.nodes.items; answer = None } ∷ [])) (sym hands) rest-awaits);
       uncut = stops.keeps.4;
     }
@@ -104,11 +104,11 @@ module _ (s next : State) (t : IsTold s) (none : s.root ≡ None) (w : ℕ) (v :
         record {
           current = child-job;
           deque = everywhere-end (IsJob after) v.deque rest (list-stays s t j own after grow v.deque old.deque (deque-none s t w v there j current)) rest-job;
-          ring = list-stays s t j own after grow v.ring old.ring (ring-none s t w v there j current);
+          stalled = list-stays s t j own after grow v.stalled old.stalled (stalled-none s t w v there j current);
         }
 
     after-is : worker_of (record v { current = Some child; deque = v.deque ++ rest ∷ [] }) ≡ after_stop (Spawn (task_in child).origin (task_in rest)) (worker_of v)
-    after-is = λ i. record { current = Some (child-is i); deque = map-end v.deque rest i; ring = map task_in v.ring }
+    after-is = λ i. record { current = Some (child-is i); deque = map-end v.deque rest i; stalled = map task_in v.stalled }
 
     core-is : core_of false next ≡ noted (task_in j) (Spawn (task_in child).origin (task_in rest)) (record (core_of false s) { workers = slice_set (map worker_of s.workers.items) w (after_stop (Spawn (task_in child).origin (task_in rest)) (worker_of v)) })
     core-is = λ i. record {

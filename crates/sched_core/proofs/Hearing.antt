@@ -7,10 +7,10 @@ use Rattle.serial_meaning.specs.declared.origin.Origin.{Origin}
 use Rattle.sched_meaning.proofs.OneStep.{some-one}
 use Rattle.sched_core.specs.Cores.{origins_of}
 use Rattle.sched_core.specs.Nodes.{hearing, missing, missing_one}
-use Rattle.sched_core.specs.Told.{AreNodes, IsAwaited, IsChild, IsGiven, IsHeard, IsLinked, IsNode}
+use Rattle.sched_core.specs.Consistent.{AreNodes, IsAwaited, IsChild, IsGiven, IsHeard, IsLinked, IsNode}
 use Rattle.sched_core.specs.declared.node.Child.{Child}
 use Rattle.sched_core.specs.declared.node.Link.{Link}
-use Rattle.sched_core.specs.declared.node.Node.{Node}
+use Rattle.sched_core.specs.declared.node.SpawnNode.{SpawnNode}
 use Rattle.sched_core.proofs.Lists.{get-other, get-set, map-set-same, same-or, set-or}
 
 -- an answer that was given stays given
@@ -28,46 +28,46 @@ missing-set (x ∷ cs) zero c d h a b = let e : missing_one x.answer ≡ missing
 missing-set (x ∷ cs) (suc k) c d h a b = let e : missing (slice_set cs k d) + 1 ≡ missing cs = missing-set cs k c d h a b in omega arith
 
 -- The origin of number n is answered. Its node knows of a parent, or it is main's.
-module _ (plan : PlanView) (given : List Origin) (nodes : List Node) (all : AreNodes plan given nodes) (n : ℕ) (node : Node) (there : slice_get nodes n ≡ Some node) (fresh : Contains given node.origin → ⊥) where
-  module _ (once : (j k : ℕ) (x y : Node) → slice_get nodes j ≡ Some x → slice_get nodes k ≡ Some y → x.origin ≡ y.origin → j ≡ k) where
+module _ (plan : PlanView) (given : List Origin) (nodes : List SpawnNode) (all : AreNodes plan given nodes) (n : ℕ) (node : SpawnNode) (there : slice_get nodes n ≡ Some node) (fresh : Contains given node.origin → ⊥) where
+  module _ (once : (j k : ℕ) (x y : SpawnNode) → slice_get nodes j ≡ Some x → slice_get nodes k ≡ Some y → x.origin ≡ y.origin → j ≡ k) where
     abbrev pub more : List Origin
     more = given ++ node.origin ∷ []
 
     -- a child of another number has its answer as before
-    other-heard : (c : Child) (x : Node) → slice_get nodes c.number ≡ Some x → (c.number ≡ n → ⊥) → IsHeard plan given x.origin c.answer → IsHeard plan more x.origin c.answer
+    other-heard : (c : Child) (x : SpawnNode) → slice_get nodes c.number ≡ Some x → (c.number ≡ n → ⊥) → IsHeard plan given x.origin c.answer → IsHeard plan more x.origin c.answer
     other-heard c x at two h = heard-more plan given x.origin node.origin c.answer (λ e. two (sym (once n c.number node x there at e))) h
 
     module _ (l : Link) (linked : node.link ≡ Some l) (a : AnswerView) (is : IsGiven plan (given ++ node.origin ∷ []) node.origin a) where
       awaited : IsAwaited nodes n l
       awaited = subst (IsLinked nodes n) linked ((all n node there).link fresh)
 
-      module _ (parent : Node) (at_parent : slice_get nodes l.parent ≡ Some parent) (child : Child) (at : slice_get parent.children l.place ≡ Some child) where
-        abbrev pub after : List Node
+      module _ (parent : SpawnNode) (at_parent : slice_get nodes l.parent ≡ Some parent) (child : Child) (at : slice_get parent.children l.place ≡ Some child) where
+        abbrev pub after : List SpawnNode
         after = slice_set nodes l.parent (hearing l.place child a parent)
 
         parent-same : awaited.parent ≡ parent
         parent-same = some-one awaited.parent parent (sym awaited.there ∙ at_parent)
 
         child-same : awaited.child ≡ child
-        child-same = some-one awaited.child child (sym awaited.at ∙ ap (λ (p : Node). slice_get p.children l.place) parent-same ∙ at)
+        child-same = some-one awaited.child child (sym awaited.at ∙ ap (λ (p : SpawnNode). slice_get p.children l.place) parent-same ∙ at)
 
         number : child.number ≡ n
         number = ap (λ (c : Child). c.number) (sym child-same) ∙ awaited.number
 
         pub origins-after : origins_of after ≡ origins_of nodes
-        origins-after = map-set-same (λ (x : Node). x.origin) nodes l.parent parent (hearing l.place child a parent) at_parent refl
+        origins-after = map-set-same (λ (x : SpawnNode). x.origin) nodes l.parent parent (hearing l.place child a parent) at_parent refl
 
         -- the node of a number, once this one changed
-        node-after : (k : ℕ) (x : Node) → slice_get nodes k ≡ Some x → (y : Node) × (slice_get after k ≡ Some y) × (y.origin ≡ x.origin) × (y.link ≡ x.link)
+        node-after : (k : ℕ) (x : SpawnNode) → slice_get nodes k ≡ Some x → (y : SpawnNode) × (slice_get after k ≡ Some y) × (y.origin ≡ x.origin) × (y.link ≡ x.link)
         node-after k x h = by_number (same-or k l.parent)
           where
-            by_number : (k ≡ l.parent) ⊎ (k ≡ l.parent → ⊥) → (y : Node) × (slice_get after k ≡ Some y) × (y.origin ≡ x.origin) × (y.link ≡ x.link)
+            by_number : (k ≡ l.parent) ⊎ (k ≡ l.parent → ⊥) → (y : SpawnNode) × (slice_get after k ≡ Some y) × (y.origin ≡ x.origin) × (y.link ≡ x.link)
             by_number (inl e) =
                 let same : parent ≡ x = some-one parent x (sym at_parent ∙ ap (λ m. slice_get nodes m) (sym e) ∙ h) in (
                   hearing l.place child a parent,
                   ap (λ m. slice_get after m) e ∙ get-set nodes l.parent parent (hearing l.place child a parent) at_parent,
-                  ap (λ (y : Node). y.origin) same,
-                  ap (λ (y : Node). y.link) same,
+                  ap (λ (y : SpawnNode). y.origin) same,
+                  ap (λ (y : SpawnNode). y.link) same,
                 )
             by_number (inr two) = (x, get-other nodes l.parent k (hearing l.place child a parent) two ∙ h, refl, refl)
 
@@ -80,7 +80,7 @@ module _ (plan : PlanView) (given : List Origin) (nodes : List Node) (all : AreN
         elsewhere : (k place : ℕ) (c : Child) → IsChild plan given nodes k place c → ((k ≡ l.parent) × (place ≡ l.place) → ⊥) → c.number ≡ n → ⊥
         elsewhere k place c ch two e =
             let same : ch.node ≡ node = some-one ch.node node (sym ch.there ∙ ap (λ m. slice_get nodes m) e ∙ there) in
-            let links : record { parent = k; place = place } ≡ l = some-one _ l (sym ch.link ∙ ap (λ (x : Node). x.link) same ∙ linked) in
+            let links : record { parent = k; place = place } ≡ l = some-one _ l (sym ch.link ∙ ap (λ (x : SpawnNode). x.link) same ∙ linked) in
             two (ap (λ (x : Link). x.parent) links, ap (λ (x : Link). x.place) links)
 
         old-child : (k place : ℕ) (c : Child) → IsChild plan given nodes k place c → ((k ≡ l.parent) × (place ≡ l.place) → ⊥) → IsChild plan more after k place c
@@ -90,7 +90,7 @@ module _ (plan : PlanView) (given : List Origin) (nodes : List Node) (all : AreN
         awaited-after k m w = by_number (same-or m.parent l.parent)
           where
             children-at : m.parent ≡ l.parent → slice_get parent.children m.place ≡ Some w.child
-            children-at e = ap (λ (p : Node). slice_get p.children m.place) (some-one parent w.parent (sym at_parent ∙ ap (λ j. slice_get nodes j) (sym e) ∙ w.there)) ∙ w.at
+            children-at e = ap (λ (p : SpawnNode). slice_get p.children m.place) (some-one parent w.parent (sym at_parent ∙ ap (λ j. slice_get nodes j) (sym e) ∙ w.there)) ∙ w.at
 
             at-after : m.parent ≡ l.parent → slice_get after m.parent ≡ Some (hearing l.place child a parent)
             at-after e = ap (λ j. slice_get after j) e ∙ get-set nodes l.parent parent (hearing l.place child a parent) at_parent
@@ -119,10 +119,10 @@ module _ (plan : PlanView) (given : List Origin) (nodes : List Node) (all : AreN
         link-after k None w = w
         link-after k (Some m) w = awaited-after k m w
 
-        link-open : (k : ℕ) (x : Node) → IsNode plan given nodes k x → (Contains more x.origin → ⊥) → IsLinked after k x.link
+        link-open : (k : ℕ) (x : SpawnNode) → IsNode plan given nodes k x → (Contains more x.origin → ⊥) → IsLinked after k x.link
         link-open k x is-node open_yet = link-after k x.link (is-node.link (λ c. open_yet (Contains-append_left given (node.origin ∷ []) x.origin c)))
 
-        other-is : (k : ℕ) (x : Node) → (k ≡ l.parent → ⊥) → IsNode plan given nodes k x → IsNode plan more after k x
+        other-is : (k : ℕ) (x : SpawnNode) → (k ≡ l.parent → ⊥) → IsNode plan given nodes k x → IsNode plan more after k x
         other-is k x two is-node = record {
           unanswered = is-node.unanswered;
           children = λ place c h. old-child k place c (is-node.children place c h) (λ e. two e.0);
@@ -151,7 +151,7 @@ module _ (plan : PlanView) (given : List Origin) (nodes : List Node) (all : AreN
             own = some-one its.node node (sym its.there ∙ ap (λ m. slice_get nodes m) number ∙ there)
 
             none : missing_one child.answer ≡ 1
-            none = unheard (subst (λ (x : Node). IsHeard plan given x.origin child.answer) own its.heard)
+            none = unheard (subst (λ (x : SpawnNode). IsHeard plan given x.origin child.answer) own its.heard)
 
             counted : parent.unanswered - 1 ≡ missing (slice_set parent.children l.place (record child { answer = Some a }))
             counted =
@@ -164,7 +164,7 @@ module _ (plan : PlanView) (given : List Origin) (nodes : List Node) (all : AreN
                 new : IsChild plan more after l.parent l.place (record child { answer = Some a })
                 new =
                     let y = node-after child.number its.node its.there in
-                    record { node = y.0; there = y.1; link = y.3 ∙ its.link; heard = subst (λ p. IsGiven plan more p a) (sym (y.2 ∙ ap (λ (x : Node). x.origin) own)) is }
+                    record { node = y.0; there = y.1; link = y.3 ∙ its.link; heard = subst (λ p. IsGiven plan more p a) (sym (y.2 ∙ ap (λ (x : SpawnNode). x.origin) own)) is }
 
                 by_place : ((place ≡ l.place) × (record child { answer = Some a } ≡ c)) ⊎ ((place ≡ l.place → ⊥) × (slice_get parent.children place ≡ Some c)) → IsChild plan more after l.parent place c
                 by_place (inl e) = subst (λ p. IsChild plan more after l.parent p c) (sym e.0) (subst (IsChild plan more after l.parent l.place) e.1 new)
@@ -182,7 +182,7 @@ module _ (plan : PlanView) (given : List Origin) (nodes : List Node) (all : AreN
       not-main : (k place : ℕ) (c : Child) → IsChild plan given nodes k place c → c.number ≡ n → ⊥
       not-main k place c ch e =
           let same : ch.node ≡ node = some-one ch.node node (sym ch.there ∙ ap (λ m. slice_get nodes m) e ∙ there) in
-          let links : Some (record { parent = k; place = place }) ≡ None = sym ch.link ∙ ap (λ (x : Node). x.link) same ∙ linked in absurd (cc)
+          let links : Some (record { parent = k; place = place }) ≡ None = sym ch.link ∙ ap (λ (x : SpawnNode). x.link) same ∙ linked in absurd (cc)
 
       pub nodes-end : AreNodes plan more nodes
       nodes-end k x h =

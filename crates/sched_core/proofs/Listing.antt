@@ -3,7 +3,7 @@ use Rattle.std.proofs.Common.{◌≡◌, ℕ, ◌+◌, Bool, cond, List, [], ◌
 use Rattle.std.proofs.lemmas.List.FromFn.{filter_of_map_range_with_len_more, length-range_with_len, map-range_with_len_more}
 use Rattle.std.specs.List.{range_with_len}
 use Rattle.sched_meaning.specs.Core.{Core, Worker}
-use Rattle.sched_meaning.specs.Simulation.{goes_on, ring_places}
+use Rattle.sched_meaning.specs.Simulation.{goes_on, stalled_places}
 use Rattle.sched_meaning.specs.declared.event.CoreEvent.{CoreEvent}
 
 append-none : {A : Type 0} (xs : List A) → xs ++ [] ≡ xs
@@ -32,13 +32,13 @@ add-one c f all now next n test h t e =
     e ∙ ap (λ b. now ++ cond b (f n ∷ []) []) t ∙ ap (λ l. l ++ cond (goes_on c (f n)) (f n ∷ []) []) h ∙ append_assoc all (filter (goes_on c) (map f (range_with_len 0 n))) (cond (goes_on c (f n)) (f n ∷ []) [])
     ∙ ap (λ l. all ++ l) (sym (filter_of_map_range_with_len_more (goes_on c) f 0 n n (omega arith)))
 
--- the places of a ring are as many numbers from 0
-pub places-range : (o : Option Worker) → range_with_len 0 (length (ring_places o)) ≡ ring_places o
+-- the places of the stalled tasks are as many numbers from 0
+pub places-range : (o : Option Worker) → range_with_len 0 (length (stalled_places o)) ≡ stalled_places o
 places-range None = refl
-places-range (Some w) = ap (range_with_len 0) (length-range_with_len 0 (length w.ring))
+places-range (Some w) = ap (range_with_len 0) (length-range_with_len 0 (length w.stalled))
 
-pub places-of : (o : Option Worker) (w : Worker) → o ≡ Some w → length (ring_places o) ≡ length w.ring
-places-of o w e = ap (λ x. length (ring_places x)) e ∙ length-range_with_len 0 (length w.ring)
+pub places-of : (o : Option Worker) (w : Worker) → o ≡ Some w → length (stalled_places o) ≡ length w.stalled
+places-of o w e = ap (λ x. length (stalled_places x)) e ∙ length-range_with_len 0 (length w.stalled)
 
-pub places-none : (o : Option Worker) → o ≡ None → 0 ≡ length (ring_places o)
-places-none o e = ap (λ x. length (ring_places x)) (sym e)
+pub places-none : (o : Option Worker) → o ≡ None → 0 ≡ length (stalled_places o)
+places-none o e = ap (λ x. length (stalled_places x)) (sym e)

@@ -1,7 +1,7 @@
 -- Places of lists: after a change, an addition and a removal, and under a map.
 use Rattle.std.proofs.Common.{◌≡◌, ℕ, zero, suc, ◌⊎◌, inl, inr, List, [], ◌∷◌, ◌++◌, Some, None, slice_get, slice_set, remove, length, map, refl, sym, ap, ◌∙◌, subst, arith}
 use Rattle.sched_meaning.proofs.OneStep.{some-one}
-use Rattle.sched_core.specs.Told.{Everywhere}
+use Rattle.sched_core.specs.Consistent.{Everywhere}
 
 pub get-map : {A B : Type 0} (f : A → B) (xs : List A) (n : ℕ) (x : A) → slice_get xs n ≡ Some x → slice_get (map f xs) n ≡ Some (f x)
 get-map f [] n x h = absurd (cc)

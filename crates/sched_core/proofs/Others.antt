@@ -14,10 +14,10 @@ use Rattle.sched_meaning.proofs.Kept.{IsKept, by_origin}
 use Rattle.sched_meaning.proofs.Loads.{load}
 use Rattle.sched_meaning.proofs.OneStep.{some-one}
 use Rattle.sched_core.specs.Cores.{core_of, current_in, plan_of, task_in, worker_of}
-use Rattle.sched_core.specs.Told.{AreJobs, AreWorkers, Everywhere, IsJob, IsLed, IsTold}
+use Rattle.sched_core.specs.Consistent.{AreJobs, AreWorkers, Everywhere, IsJob, IsLed, IsConsistent}
 use Rattle.sched_core.specs.Workers.{WorkerView}
 use Rattle.sched_core.specs.declared.job.Job.{Job}
-use Rattle.sched_core.specs.declared.node.Node.{Node}
+use Rattle.sched_core.specs.declared.node.SpawnNode.{SpawnNode}
 use Rattle.sched_core.specs.declared.state.State.{State}
 use Rattle.sched_core.proofs.Lists.{get-map, get-other, get-set, same-or}
 use Rattle.sched_core.proofs.Taking.{is-answered}
@@ -91,7 +91,7 @@ module _ (plan : PlanView) (c : machine.Core) (valid : IsValid plan.script) (led
       let i : total (is_it o) (answered c) + total (load (by_origin (is_it o))) c.workers ≤ 1 = in-all o in
       let one : 1 ≤ total (is_it o) (answered c) = contains-counts o (answered c) a in absurd (omega arith)
 
-module _ (s : State) (t : IsTold s) where
+module _ (s : State) (t : IsConsistent s) where
   pub all-once : (o : Origin) → total (load (by_origin (is_it o))) (map worker_of s.workers.items) ≤ 1
   all-once o = let i : total (is_it o) (answered (core_of false s)) + total (load (by_origin (is_it o))) (map worker_of s.workers.items) ≤ 1 = in-all (plan_of s) (core_of false s) t.valid t.led o in omega arith
 
@@ -114,10 +114,10 @@ module _ (s : State) (t : IsTold s) where
       node = some-one p.node q.node (sym p.there ∙ ap (λ n. slice_get s.nodes.items n) e ∙ q.there)
 
       same : (task_in i).origin ≡ (task_in j).origin
-      same = sym p.origin ∙ ap (λ (n : Node). n.origin) node ∙ q.origin
+      same = sym p.origin ∙ ap (λ (n : SpawnNode). n.origin) node ∙ q.origin
 
   -- jobs of other numbers than this job's still are
-  module _ (j : Job) (is : IsJob s.nodes.items j) (after : List Node) (grow : (i : Job) → IsJob s.nodes.items i → (i.number ≡ j.number → ⊥) → IsJob after i) where
+  module _ (j : Job) (is : IsJob s.nodes.items j) (after : List SpawnNode) (grow : (i : Job) → IsJob s.nodes.items i → (i.number ≡ j.number → ⊥) → IsJob after i) where
     stays : (i : Job) → IsJob s.nodes.items i → is_it (task_in j).origin (task_in i).origin ≡ 0 → IsJob after i
     stays i p z = grow i p (differs i j p is z)
 
@@ -132,7 +132,7 @@ module _ (s : State) (t : IsTold s) where
     worker-stays v all z = record {
       current = current-stays v.current all.current (first _ _ _ z);
       deque = list-stays v.deque all.deque (second (total (by_origin (is_it (task_in j).origin)) (current_tasks (current_in v.current))) _ _ z);
-      ring = list-stays v.ring all.ring (third (total (by_origin (is_it (task_in j).origin)) (current_tasks (current_in v.current))) (total (by_origin (is_it (task_in j).origin)) (map task_in v.deque)) _ z);
+      stalled = list-stays v.stalled all.stalled (third (total (by_origin (is_it (task_in j).origin)) (current_tasks (current_in v.current))) (total (by_origin (is_it (task_in j).origin)) (map task_in v.deque)) _ z);
     }
       where
         first : (a b c : ℕ) → a + (b + c) ≡ 0 → a ≡ 0

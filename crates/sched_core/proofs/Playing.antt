@@ -19,7 +19,7 @@ use Rattle.sched_core.specs.Begun.{IsBegun}
 use Rattle.sched_core.specs.Cores.{core_of, plan_of, worker_of}
 use Rattle.sched_core.specs.Lawful.{may_happen}
 use Rattle.sched_core.specs.Played.{Ends, GoesOn, IsMains}
-use Rattle.sched_core.specs.Told.{Goes, IsTold}
+use Rattle.sched_core.specs.Consistent.{Goes, IsConsistent}
 use Rattle.sched_core.specs.declared.simulation.Simulated.{Simulated}
 use Rattle.sched_core.specs.declared.state.State.{State}
 use Rattle.sched_core.proofs.Beginning.{core-begun, hired-many}
@@ -54,7 +54,7 @@ none-picked (f ∷ es) w h e k = get-none (f ∷ es) (w % suc (length es)) h (be
 
 -- One step
 
-module _ (s : State) (t : IsTold s) (none : s.root ≡ None) (w : ℕ) where
+module _ (s : State) (t : IsConsistent s) (none : s.root ≡ None) (w : ℕ) where
   -- something is picked
   pub picks-one : picked (core_of false s) w ≡ None → ⊥
   picks-one h =
@@ -83,10 +83,10 @@ module _ (s : State) (t : IsTold s) (none : s.root ≡ None) (w : ℕ) where
 
       module _ (a : AnswerView) (root : next.root ≡ Some a) where
         answered : machine.IsRootAnswered (core_of false next)
-        answered = root-answered next goes.told a root
+        answered = root-answered next goes.consistent a root
 
         mains : IsMains (plan_of s) a
-        mains = subst (λ (p : PlanView). IsMains p a) plan-stays (root-is next goes.told a root)
+        mains = subst (λ (p : PlanView). IsMains p a) plan-stays (root-is next goes.consistent a root)
 
         -- no event but a run answers main
         pub by-run : ((v : ℕ) → e ≡ Run v → ⊥) → ⊥
@@ -124,7 +124,7 @@ pub record IsPlayed (plan : PlanView) (workers number words : ℕ) (s : State) :
   pub steps : ℕ
   pub state : words ≡ state_after number steps
   pub so_far : Simulates plan workers number steps (core_of false s)
-  pub told : IsTold s
+  pub consistent : IsConsistent s
   pub root : s.root ≡ None
   pub plan_is : plan_of s ≡ plan
   pub few : length s.workers.items ≤ 64
@@ -132,12 +132,12 @@ pub record IsPlayed (plan : PlanView) (workers number words : ℕ) (s : State) :
 start : (number : ℕ) → number < 2 ^ 64 → number ≡ state_after number 0
 start number small = omega arith
 
-pub starts : (plan : PlanView) (workers number words : ℕ) (s : State) → IsBegun plan workers s → IsTold s → 1 ≤ workers → workers ≤ 64 → number < 2 ^ 64 → words ≡ number → IsPlayed plan workers number words s
+pub starts : (plan : PlanView) (workers number words : ℕ) (s : State) → IsBegun plan workers s → IsConsistent s → 1 ≤ workers → workers ≤ 64 → number < 2 ^ 64 → words ≡ number → IsPlayed plan workers number words s
 starts plan workers number words s b t some few small first = record {
   steps = 0;
   state = first ∙ start number small;
   so_far = core-begun plan workers s b;
-  told = t;
+  consistent = t;
   root = b.root;
   plan_is = b.plan_is;
   few = let e : length s.workers.items ≡ workers = ap length b.hired ∙ hired-many (fresh plan (main_origin plan)) workers some in omega arith;
@@ -152,17 +152,17 @@ module _ (plan : PlanView) (workers number words : ℕ) (s : State) (p : IsPlaye
     steps = suc p.steps;
     state = let e : p.steps + 1 ≡ suc p.steps = omega arith in state_after_word number p.steps x words after mixed p.state ∙ ap (state_after number) e;
     so_far = (core_of false s, p.so_far, subst (λ (o : Option CoreEvent). MatchOption o (core_of false next ≡ core_of false s) (λ e. Step e (core_of false s) (core_of false next))) (sym named) g.goes.step);
-    told = g.goes.told;
+    consistent = g.goes.consistent;
     root = g.root;
-    plan_is = plan-stays s p.told p.root x g.event g.picks next g.goes ∙ p.plan_is;
-    few = let e : length next.workers.items ≡ length s.workers.items = workers-stay s p.told p.root x g.event g.picks next g.goes in let f : length s.workers.items ≤ 64 = p.few in omega arith;
+    plan_is = plan-stays s p.consistent p.root x g.event g.picks next g.goes ∙ p.plan_is;
+    few = let e : length next.workers.items ≡ length s.workers.items = workers-stay s p.consistent p.root x g.event g.picks next g.goes in let f : length s.workers.items ≤ 64 = p.few in omega arith;
   }
     where
       named : picked (core_of false s) (word number (p.steps + 1)) ≡ Some g.event
       named = ap (picked (core_of false s)) (sym word-named) ∙ g.picks
 
   pub less-left : (next : State) → GoesOn x s next → work_left (core_of false next) < work_left (core_of false s)
-  less-left next g = falls s p.told p.root x g.event g.picks next g.goes
+  less-left next g = falls s p.consistent p.root x g.event g.picks next g.goes
 
   pub worker-is : (simulated : Simulated) → Ends x s simulated → IsSimWorker plan workers number simulated.worker
   worker-is simulated g = record {
@@ -170,7 +170,7 @@ module _ (plan : PlanView) (workers number words : ℕ) (s : State) (p : IsPlaye
     before = core_of false s;
     after = g.next;
     so_far = p.so_far;
-    unanswered = unanswered s p.told p.root;
+    unanswered = unanswered s p.consistent p.root;
     picks = ap (picked (core_of false s)) (sym word-named) ∙ g.picks;
     step = g.step;
     answers = g.answered;

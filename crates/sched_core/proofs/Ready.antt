@@ -6,16 +6,16 @@ use Rattle.serial_meaning.specs.declared.answer.Outcome.{Outcome}
 use Rattle.serial_meaning.specs.declared.answer.Outcome.TheVariants as outcome
 use Rattle.serial_meaning.specs.declared.origin.Origin.{Origin}
 use Rattle.strand_meaning.specs.Laws.{IsFaultOf}
-use Rattle.strand_meaning.specs.Pieces.{Part}
+use Rattle.strand_meaning.specs.Trace.{AwaitedChild}
 use Rattle.strand_machine.specs.Family.{tag, tags}
 use Rattle.strand_machine.specs.Parts.{awaited}
 use Rattle.strand_machine.specs.Stops.{answer_tags, any_cut, is_cut}
 use Rattle.sched_core.specs.Nodes.{answers_in, and_answer, missing, missing_one}
-use Rattle.sched_core.specs.Told.{Awaits, IsHeard}
+use Rattle.sched_core.specs.Consistent.{Awaits, IsHeard}
 use Rattle.sched_core.specs.declared.node.Child.{Child}
 
 -- the machine's list of awaited children is the tasks'
-pub awaited-same : (ps : List Part) → map (λ (p : Part). p.child) ps ≡ awaited ps
+pub awaited-same : (ps : List AwaitedChild) → map (λ (p : AwaitedChild). p.child) ps ≡ awaited ps
 awaited-same [] = refl
 awaited-same (p ∷ ps) = ap (λ l. p.child ∷ l) (awaited-same ps)
 

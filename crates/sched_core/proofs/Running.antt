@@ -18,7 +18,7 @@ use Rattle.sched_meaning.proofs.Good.{IsGoing, IsGood, current-good}
 use Rattle.sched_meaning.proofs.Handed.{stops_hand}
 use Rattle.sched_meaning.proofs.Kept.{by_origin}
 use Rattle.sched_core.specs.Cores.{answer_of, core_of, current_in, origins_of, plan_of, task_in, worker_of}
-use Rattle.sched_core.specs.Told.{AreJobs, Awaits, Goes, IsJob, IsTold}
+use Rattle.sched_core.specs.Consistent.{AreJobs, Awaits, Goes, IsJob, IsConsistent}
 use Rattle.sched_core.specs.Workers.{WorkerView}
 use Rattle.sched_core.specs.declared.job.Job.{Job}
 use Rattle.sched_core.specs.declared.state.State.{State}
@@ -29,7 +29,7 @@ use Rattle.sched_core.proofs.Taking.{carry-nodes, carry-root, carry-workers, goe
 
 -- The worker, and its current job
 
-module _ (s : State) (t : IsTold s) (w : ℕ) (v : WorkerView) (there : slice_get s.workers.items w ≡ Some v) (j : Job) (current : v.current ≡ Some j) where
+module _ (s : State) (t : IsConsistent s) (w : ℕ) (v : WorkerView) (there : slice_get s.workers.items w ≡ Some v) (j : Job) (current : v.current ≡ Some j) where
   pub own-job : IsJob s.nodes.items j
   own-job = subst (λ o. IfSome o (IsJob s.nodes.items)) current (t.workers w v there).current
 
@@ -60,8 +60,8 @@ module _ (s : State) (t : IsTold s) (w : ℕ) (v : WorkerView) (there : slice_ge
       rest : (a b c : ℕ) → a ≡ 1 → a + (b + c) ≤ 1 → b ≡ 0
       rest a b c e f = omega arith
 
-  pub ring-none : total (by_origin (is_it (task_in j).origin)) (map task_in v.ring) ≡ 0
-  ring-none = rest (total (by_origin (is_it (task_in j).origin)) (current_tasks (current_in v.current))) (total (by_origin (is_it (task_in j).origin)) (map task_in v.deque)) _ current-one few
+  pub stalled-none : total (by_origin (is_it (task_in j).origin)) (map task_in v.stalled) ≡ 0
+  stalled-none = rest (total (by_origin (is_it (task_in j).origin)) (current_tasks (current_in v.current))) (total (by_origin (is_it (task_in j).origin)) (map task_in v.deque)) _ current-one few
     where
       rest : (a b c : ℕ) → a ≡ 1 → a + (b + c) ≤ 1 → c ≡ 0
       rest a b c e f = omega arith
@@ -71,7 +71,7 @@ module _ (s : State) (t : IsTold s) (w : ℕ) (v : WorkerView) (there : slice_ge
 
 -- The machine's step
 
-module _ (s next : State) (t : IsTold s) (none : s.root ≡ None) (w : ℕ) (v after : WorkerView) (there : slice_get s.workers.items w ≡ Some v) (j : Job) (current : v.current ≡ Some j) (stop : Stop) (comes : IsNext (task_in j) stop) where
+module _ (s next : State) (t : IsConsistent s) (none : s.root ≡ None) (w : ℕ) (v after : WorkerView) (there : slice_get s.workers.items w ≡ Some v) (j : Job) (current : v.current ≡ Some j) (stop : Stop) (comes : IsNext (task_in j) stop) where
   abbrev pub moved : machine.Core
   moved = record (core_of false s) { workers = slice_set (map worker_of s.workers.items) w (after_stop stop (worker_of v)) }
 
@@ -100,20 +100,20 @@ module _ (s next : State) (t : IsTold s) (none : s.root ≡ None) (w : ℕ) (v a
 
 -- what the state is after it
 pub record HasParked (w : ℕ) (j rest : Job) (v : WorkerView) (s next : State) : Type 0 where
-  pub workers : next.workers.items ≡ slice_set s.workers.items w (record v { current = None; ring = v.ring ++ rest ∷ [] })
+  pub workers : next.workers.items ≡ slice_set s.workers.items w (record v { current = None; stalled = v.stalled ++ rest ∷ [] })
   pub nodes : next.nodes.items ≡ s.nodes.items
   pub plan : next.plan ≡ s.plan
   pub given : next.given ≡ s.given
   pub root : next.root ≡ s.root
   pub runs : next.runs ≡ s.runs + 1
 
-module _ (s next : State) (t : IsTold s) (none : s.root ≡ None) (w : ℕ) (v : WorkerView) (there : slice_get s.workers.items w ≡ Some v) (j : Job) (current : v.current ≡ Some j) (rest : Job) where
+module _ (s next : State) (t : IsConsistent s) (none : s.root ≡ None) (w : ℕ) (v : WorkerView) (there : slice_get s.workers.items w ≡ Some v) (j : Job) (current : v.current ≡ Some j) (rest : Job) where
   module _ (stops : IsStop j.task (stop.Wait rest.task)) (number : rest.number ≡ j.number) (p : HasParked w j rest v s next) where
     own : IsJob s.nodes.items j
     own = own-job s t w v there j current
 
-    hands : awaited (task_in rest).pieces.handed ≡ awaited (task_in j).pieces.handed
-    hands = sym (awaited-same (task_in rest).pieces.handed) ∙ stops_hand (task_in j) (Wait (task_in rest)) (going s t w v there j current).0.task stops.next ∙ awaited-same (task_in j).pieces.handed
+    hands : awaited (task_in rest).trace.handed ≡ awaited (task_in j).trace.handed
+    hands = sym (awaited-same (task_in rest).trace.handed) ∙ stops_hand (task_in j) (Wait (task_in rest)) (going s t w v there j current).0.task stops.next ∙ awaited-same (task_in j).trace.handed
 
     rest-job : IsJob s.nodes.items rest
     rest-job = record {
@@ -124,10 +124,10 @@ module _ (s next : State) (t : IsTold s) (none : s.root ≡ None) (w : ℕ) (v :
       uncut = stops.keeps.3;
     }
 
-    jobs : AreJobs s.nodes.items (record v { current = None; ring = v.ring ++ rest ∷ [] })
+    jobs : AreJobs s.nodes.items (record v { current = None; stalled = v.stalled ++ rest ∷ [] })
     jobs =
         let old : AreJobs s.nodes.items v = t.workers w v there in
-        record { current = tt; deque = old.deque; ring = everywhere-end (IsJob s.nodes.items) v.ring rest old.ring rest-job }
+        record { current = tt; deque = old.deque; stalled = everywhere-end (IsJob s.nodes.items) v.stalled rest old.stalled rest-job }
 
     core-is : core_of false next ≡ noted (task_in j) (Wait (task_in rest)) (record (core_of false s) { workers = slice_set (map worker_of s.workers.items) w (after_stop (Wait (task_in rest)) (worker_of v)) })
     core-is = λ i. record {
@@ -142,11 +142,11 @@ module _ (s next : State) (t : IsTold s) (none : s.root ≡ None) (w : ℕ) (v :
         workers : map worker_of next.workers.items ≡ slice_set (map worker_of s.workers.items) w (after_stop (Wait (task_in rest)) (worker_of v))
         workers =
             ap (map worker_of) p.workers
-            ∙ workers-moved s next t none w v (record v { current = None; ring = v.ring ++ rest ∷ [] }) there j current (Wait (task_in rest)) stops.next (ap (λ r. record { current = None; deque = map task_in v.deque; ring = r }) (map-end v.ring rest))
+            ∙ workers-moved s next t none w v (record v { current = None; stalled = v.stalled ++ rest ∷ [] }) there j current (Wait (task_in rest)) stops.next (ap (λ r. record { current = None; deque = map task_in v.deque; stalled = r }) (map-end v.stalled rest))
 
     pub wait-goes : Goes (Run w) s next
     wait-goes =
         goes (Run w) s next t none (ap arc_value p.plan)
-        (run-step s next t none w v (record v { current = None; ring = v.ring ++ rest ∷ [] }) there j current (Wait (task_in rest)) stops.next core-is).happens
-        (carry-workers _ _ _ _ p.nodes p.workers (everywhere-set (AreJobs s.nodes.items) s.workers.items w (record v { current = None; ring = v.ring ++ rest ∷ [] }) jobs t.workers))
+        (run-step s next t none w v (record v { current = None; stalled = v.stalled ++ rest ∷ [] }) there j current (Wait (task_in rest)) stops.next core-is).happens
+        (carry-workers _ _ _ _ p.nodes p.workers (everywhere-set (AreJobs s.nodes.items) s.workers.items w (record v { current = None; stalled = v.stalled ++ rest ∷ [] }) jobs t.workers))
         (carry-nodes _ _ _ _ _ _ (ap arc_value p.plan) p.given p.nodes t.nodes) (carry-root _ _ _ _ _ _ (ap arc_value p.plan) p.given p.root t.root)

@@ -6,11 +6,11 @@ use Rattle.sched_meaning.proofs.OneStep.{some-one}
 use Rattle.strand_machine.specs.Parts.{awaited}
 use Rattle.sched_core.specs.Cores.{origins_of, task_in}
 use Rattle.sched_core.specs.Nodes.{awaiting, missing, missing_one, new_node}
-use Rattle.sched_core.specs.Told.{AreNodes, Awaits, IsAwaited, IsChild, IsHeard, IsJob, IsLinked, IsNode}
+use Rattle.sched_core.specs.Consistent.{AreNodes, Awaits, IsAwaited, IsChild, IsHeard, IsJob, IsLinked, IsNode}
 use Rattle.sched_core.specs.declared.job.Job.{Job}
 use Rattle.sched_core.specs.declared.node.Child.{Child}
 use Rattle.sched_core.specs.declared.node.Link.{Link}
-use Rattle.sched_core.specs.declared.node.Node.{Node}
+use Rattle.sched_core.specs.declared.node.SpawnNode.{SpawnNode}
 use Rattle.sched_core.proofs.Lists.{end-or, get-end, get-front, get-other, get-set, length-set, map-append-one, map-set-same, same-or, set-or}
 
 pub awaits-grow : (begun more : List Origin) (cs : List Child) (os : List Origin) → Awaits begun cs os → Awaits (begun ++ more) cs os
@@ -34,26 +34,26 @@ not-empty [] n x h e = absurd (cc)
 not-empty (y ∷ xs) n x h e = absurd (omega arith)
 
 -- a node with its origin and link, somewhere
-pub record Stays (nodes : List Node) (k : ℕ) (x : Node) : Type 0 where
-  pub node : Node
+pub record Stays (nodes : List SpawnNode) (k : ℕ) (x : SpawnNode) : Type 0 where
+  pub node : SpawnNode
   pub there : slice_get nodes k ≡ Some node
   pub origin : node.origin ≡ x.origin
   pub link : node.link ≡ x.link
 
-module _ (plan : PlanView) (given : List Origin) (nodes : List Node) (all : AreNodes plan given nodes) (n : ℕ) (node : Node) (there : slice_get nodes n ≡ Some node) (o : Origin) where
+module _ (plan : PlanView) (given : List Origin) (nodes : List SpawnNode) (all : AreNodes plan given nodes) (n : ℕ) (node : SpawnNode) (there : slice_get nodes n ≡ Some node) (o : Origin) where
   abbrev pub child : Child
   child = record { number = length nodes; answer = None }
 
   abbrev pub link : Link
   link = record { parent = n; place = length node.children }
 
-  abbrev pub after : List Node
+  abbrev pub after : List SpawnNode
   after = slice_set nodes n (awaiting (length nodes) node) ++ new_node o (Some (record { parent = n; place = length node.children })) ∷ []
 
   pub origins-after : origins_of after ≡ origins_of nodes ++ o ∷ []
   origins-after =
-      map-append-one (λ (x : Node). x.origin) (slice_set nodes n (awaiting (length nodes) node)) (new_node o (Some link))
-      ∙ ap (λ l. l ++ o ∷ []) (map-set-same (λ (x : Node). x.origin) nodes n node (awaiting (length nodes) node) there refl)
+      map-append-one (λ (x : SpawnNode). x.origin) (slice_set nodes n (awaiting (length nodes) node)) (new_node o (Some link))
+      ∙ ap (λ l. l ++ o ∷ []) (map-set-same (λ (x : SpawnNode). x.origin) nodes n node (awaiting (length nodes) node) there refl)
 
   pub at-new : slice_get after (length nodes) ≡ Some (new_node o (Some link))
   at-new =
@@ -63,10 +63,10 @@ module _ (plan : PlanView) (given : List Origin) (nodes : List Node) (all : AreN
   pub at-parent : slice_get after n ≡ Some (awaiting (length nodes) node)
   at-parent = get-front (slice_set nodes n (awaiting (length nodes) node)) (new_node o (Some link) ∷ []) n (awaiting (length nodes) node) (get-set nodes n node (awaiting (length nodes) node) there)
 
-  pub at-other : (k : ℕ) (x : Node) → (k ≡ n → ⊥) → slice_get nodes k ≡ Some x → slice_get after k ≡ Some x
+  pub at-other : (k : ℕ) (x : SpawnNode) → (k ≡ n → ⊥) → slice_get nodes k ≡ Some x → slice_get after k ≡ Some x
   at-other k x two h = get-front (slice_set nodes n (awaiting (length nodes) node)) (new_node o (Some link) ∷ []) k x (get-other nodes n k (awaiting (length nodes) node) two ∙ h)
 
-  stays : (k : ℕ) (x : Node) → slice_get nodes k ≡ Some x → Stays after k x
+  stays : (k : ℕ) (x : SpawnNode) → slice_get nodes k ≡ Some x → Stays after k x
   stays k x h = by_number (same-or k n)
     where
       by_number : (k ≡ n) ⊎ (k ≡ n → ⊥) → Stays after k x
@@ -75,8 +75,8 @@ module _ (plan : PlanView) (given : List Origin) (nodes : List Node) (all : AreN
           record {
             node = awaiting (length nodes) node;
             there = ap (λ m. slice_get after m) e ∙ at-parent;
-            origin = ap (λ (y : Node). y.origin) same;
-            link = ap (λ (y : Node). y.link) same;
+            origin = ap (λ (y : SpawnNode). y.origin) same;
+            link = ap (λ (y : SpawnNode). y.link) same;
           }
       by_number (inr two) = record { node = x; there = at-other k x two h; origin = refl; link = refl }
 
@@ -95,7 +95,7 @@ module _ (plan : PlanView) (given : List Origin) (nodes : List Node) (all : AreN
             parent = awaiting (length nodes) node;
             child = is.child;
             there = ap (λ m. slice_get after m) e ∙ at-parent;
-            at = get-front node.children (child ∷ []) l.place is.child (ap (λ (y : Node). slice_get y.children l.place) (sym same) ∙ is.at);
+            at = get-front node.children (child ∷ []) l.place is.child (ap (λ (y : SpawnNode). slice_get y.children l.place) (sym same) ∙ is.at);
             number = is.number;
           }
       by_number (inr two) = record { parent = is.parent; child = is.child; there = at-other l.parent is.parent two is.there; at = is.at; number = is.number }
@@ -131,7 +131,7 @@ module _ (plan : PlanView) (given : List Origin) (nodes : List Node) (all : AreN
       first = λ e. absurd (not-empty nodes n node there e);
     }
 
-    old-is : (k : ℕ) (x : Node) → IsNode plan given nodes k x → IsNode plan given after k x
+    old-is : (k : ℕ) (x : SpawnNode) → IsNode plan given nodes k x → IsNode plan given after k x
     old-is k x is = record {
       unanswered = is.unanswered;
       children = λ place c h. child-stays k place c (is.children place c h);
@@ -157,6 +157,6 @@ module _ (plan : PlanView) (given : List Origin) (nodes : List Node) (all : AreN
     node = is.node;
     there = at-other i.number is.node two is.there;
     origin = is.origin;
-    awaits = subst (λ l. Awaits l is.node.children (awaited (task_in i).pieces.handed)) (sym origins-after) (awaits-grow (origins_of nodes) (o ∷ []) is.node.children (awaited (task_in i).pieces.handed) is.awaits);
+    awaits = subst (λ l. Awaits l is.node.children (awaited (task_in i).trace.handed)) (sym origins-after) (awaits-grow (origins_of nodes) (o ∷ []) is.node.children (awaited (task_in i).trace.handed) is.awaits);
     uncut = is.uncut;
   }

@@ -11,12 +11,12 @@ use Rattle.sched_meaning.proofs.OneStep.{some-one}
 use Rattle.sched_core.specs.Cores.{plan_of}
 use Rattle.sched_core.specs.Moves.{BeginsTask, CanHear, CanStop, HandsOut, Lets, Parks, ParksTask, PutsAnswer, StopsAt, WorkerChanges, goes_to, job}
 use Rattle.sched_core.specs.Nodes.{awaiting, missing, missing_one, new_node}
-use Rattle.sched_core.specs.Told.{Goes, IsAwaited, IsChild, IsHeard, IsJob, IsLinked, IsTold}
+use Rattle.sched_core.specs.Consistent.{Goes, IsAwaited, IsChild, IsHeard, IsJob, IsLinked, IsConsistent}
 use Rattle.sched_core.specs.Workers.{WorkerView}
 use Rattle.sched_core.specs.declared.job.Job.{Job}
 use Rattle.sched_core.specs.declared.node.Child.{Child}
 use Rattle.sched_core.specs.declared.node.Link.{Link}
-use Rattle.sched_core.specs.declared.node.Node.{Node}
+use Rattle.sched_core.specs.declared.node.SpawnNode.{SpawnNode}
 use Rattle.sched_core.specs.declared.state.State.{State}
 use Rattle.sched_core.proofs.Ending.{HasEnded, child-goes, root-goes}
 use Rattle.sched_core.proofs.Handing.{spawn-goes}
@@ -39,7 +39,7 @@ missing-at [] k c h = absurd (cc)
 missing-at (d ∷ cs) zero c h = let e : missing_one d.answer ≡ missing_one c.answer = ap (λ (x : Child). missing_one x.answer) (some-one d c h) in omega arith
 missing-at (d ∷ cs) (suc k) c h = let e : missing_one c.answer ≤ missing cs = missing-at cs k c h in omega arith
 
-module _ (s mid : State) (t : IsTold s) (w : ℕ) (j : Job) (lets : WorkerChanges w (Lets j) s.workers.items mid.workers.items) (keeps : Keeps s mid) where
+module _ (s mid : State) (t : IsConsistent s) (w : ℕ) (j : Job) (lets : WorkerChanges w (Lets j) s.workers.items mid.workers.items) (keeps : Keeps s mid) where
   abbrev own : IsJob s.nodes.items j
   own = own-job s t w lets.worker lets.there j lets.does.0
 
@@ -63,7 +63,7 @@ module _ (s mid : State) (t : IsTold s) (w : ℕ) (j : Job) (lets : WorkerChange
       some-left =
           let u : a.parent.unanswered ≡ missing a.parent.children = (t.nodes l.parent a.parent a.there).unanswered in
           let m : missing_one a.child.answer ≤ missing a.parent.children = missing-at a.parent.children l.place a.child a.at in
-          let o : missing_one a.child.answer ≡ 1 = none a.child.answer (subst (λ (n : Node). IsHeard (plan_of s) s.given n.origin a.child.answer) same its.heard) in omega arith
+          let o : missing_one a.child.answer ≡ 1 = none a.child.answer (subst (λ (n : SpawnNode). IsHeard (plan_of s) s.given n.origin a.child.answer) same its.heard) in omega arith
 
   can-hear : (o : Option Link) → IsLinked s.nodes.items j.number o → CanHear s.nodes.items o
   can-hear None h = tt
@@ -98,8 +98,8 @@ module _ (s mid : State) (t : IsTold s) (w : ℕ) (j : Job) (lets : WorkerChange
         b : Both w (Lets j) (Parks (job rest j.number)) s.workers.items after.workers.items
         b = both w (Lets j) (Parks (job rest j.number)) s.workers.items mid.workers.items after.workers.items lets p.workers
 
-        after-is : b.after ≡ record b.worker { current = None; ring = b.worker.ring ++ job rest j.number ∷ [] }
-        after-is = b.second ∙ ap (λ (v : WorkerView). record v { ring = v.ring ++ job rest j.number ∷ [] }) b.first.1
+        after-is : b.after ≡ record b.worker { current = None; stalled = b.worker.stalled ++ job rest j.number ∷ [] }
+        after-is = b.second ∙ ap (λ (v : WorkerView). record v { stalled = v.stalled ++ job rest j.number ∷ [] }) b.first.1
 
     spawns : (child rest : TaskView) → IsStop j.task (stop.Spawn child rest) → BeginsTask w j.number child rest mid after → Goes (Run w) s next
     spawns child rest stops p =
@@ -138,9 +138,9 @@ module _ (s mid : State) (t : IsTold s) (w : ℕ) (j : Job) (lets : WorkerChange
 
         by_link : (o : Option Link) → p.node.link ≡ o → goes_to o answer mid after → Goes (Run w) s next
         by_link None e g =
-            root-goes s next t none w lets.worker lets.there j lets.does.0 answer give stops state (ap (λ (n : Node). n.link) same ∙ e) (nodes ∙ g.1 ∙ keeps.nodes) (root ∙ g.0)
+            root-goes s next t none w lets.worker lets.there j lets.does.0 answer give stops state (ap (λ (n : SpawnNode). n.link) same ∙ e) (nodes ∙ g.1 ∙ keeps.nodes) (root ∙ g.0)
         by_link (Some l) e g =
-            child-goes s next t none w lets.worker lets.there j lets.does.0 answer give stops state l (ap (λ (n : Node). n.link) same ∙ e) g.1.node (ap (λ ns. slice_get ns l.parent) (sym keeps.nodes) ∙ g.1.there) g.1.does.child g.1.does.there
+            child-goes s next t none w lets.worker lets.there j lets.does.0 answer give stops state l (ap (λ (n : SpawnNode). n.link) same ∙ e) g.1.node (ap (λ ns. slice_get ns l.parent) (sym keeps.nodes) ∙ g.1.there) g.1.does.child g.1.does.there
             (nodes ∙ g.1.next_is ∙ ap (λ ns. slice_set ns l.parent g.1.after) keeps.nodes ∙ ap (slice_set s.nodes.items l.parent) g.1.does.next_is) (root ∙ g.0 ∙ keeps.root)
 
     pub run-goes : (to : Stop) → Advances j.task to → StopsAt w j.number to mid after → Goes (Run w) s next

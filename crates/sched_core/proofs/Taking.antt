@@ -16,10 +16,10 @@ use Rattle.sched_meaning.proofs.OneStep.{some-one}
 use Rattle.sched_core.specs.Cores.{answer_of, core_of, current_in, origins_of, plan_of, task_in, worker_of}
 use Rattle.sched_core.specs.Lawful.{may_happen, may_idle}
 use Rattle.sched_core.specs.Moves.{BacksJob, GivesJob, TakesJob, WorkerChanges}
-use Rattle.sched_core.specs.Told.{AreJobs, AreNodes, AreWorkers, Everywhere, Goes, IsHeard, IsJob, IsTold}
+use Rattle.sched_core.specs.Consistent.{AreJobs, AreNodes, AreWorkers, Everywhere, Goes, IsHeard, IsJob, IsConsistent}
 use Rattle.sched_core.specs.Workers.{WorkerView}
 use Rattle.sched_core.specs.declared.job.Job.{Job}
-use Rattle.sched_core.specs.declared.node.Node.{Node}
+use Rattle.sched_core.specs.declared.node.SpawnNode.{SpawnNode}
 use Rattle.sched_core.specs.declared.state.State.{State}
 use Rattle.sched_core.proofs.Lists.{everywhere-front, everywhere-last, everywhere-set, get-map, get-other, get-set, map-set, set-set}
 
@@ -36,30 +36,30 @@ pub was-given : (spent : Bool) (s : State) (o : Origin) → machine.IsAnswered (
 was-given spent s o h = subst (λ l. Contains l o) (given-origins (plan_of s) s.given) h
 
 -- while there is no answer of main's
-pub unanswered : (s : State) → IsTold s → s.root ≡ None → machine.IsRootAnswered (core_of false s) → ⊥
+pub unanswered : (s : State) → IsConsistent s → s.root ≡ None → machine.IsRootAnswered (core_of false s) → ⊥
 unanswered s t none a = subst (λ (r : Option AnswerView). IsHeard (plan_of s) s.given (main_origin (plan_of s)) r) none t.root (was-given false s (main_origin (plan_of s)) a)
 
 -- A step
 
-pub carry-nodes : (p q : PlanView) (g h : List Origin) (n m : List Node) → p ≡ q → g ≡ h → n ≡ m → AreNodes q h m → AreNodes p g n
+pub carry-nodes : (p q : PlanView) (g h : List Origin) (n m : List SpawnNode) → p ≡ q → g ≡ h → n ≡ m → AreNodes q h m → AreNodes p g n
 carry-nodes p q g h n m a b c x = subst (λ l. AreNodes p g l) (sym c) (subst (λ l. AreNodes p l m) (sym b) (subst (λ l. AreNodes l h m) (sym a) x))
 
 pub carry-root : (p q : PlanView) (g h : List Origin) (r u : Option AnswerView) → p ≡ q → g ≡ h → r ≡ u → IsHeard q h (main_origin q) u → IsHeard p g (main_origin p) r
 carry-root p q g h r u a b c x = subst (λ l. IsHeard p g (main_origin p) l) (sym c) (subst (λ l. IsHeard p l (main_origin p) u) (sym b) (subst (λ l. IsHeard l h (main_origin l) u) (sym a) x))
 
-pub carry-workers : (n m : List Node) (ws vs : List WorkerView) → n ≡ m → ws ≡ vs → AreWorkers m vs → AreWorkers n ws
+pub carry-workers : (n m : List SpawnNode) (ws vs : List WorkerView) → n ≡ m → ws ≡ vs → AreWorkers m vs → AreWorkers n ws
 carry-workers n m ws vs a b x = subst (λ l. AreWorkers n l) (sym b) (subst (λ l. AreWorkers l vs) (sym a) x)
 
 -- The plan stays, and the next core is as it should be.
-pub goes : (e : CoreEvent) (s next : State) → IsTold s → s.root ≡ None → plan_of next ≡ plan_of s → Happens e (core_of false s) (core_of false next) →
+pub goes : (e : CoreEvent) (s next : State) → IsConsistent s → s.root ≡ None → plan_of next ≡ plan_of s → Happens e (core_of false s) (core_of false next) →
     AreWorkers next.nodes.items next.workers.items → AreNodes (plan_of next) next.given next.nodes.items → IsHeard (plan_of next) next.given (main_origin (plan_of next)) next.root → Goes e s next
-goes e s next t none plan happens workers nodes root = record { step = step; told = told }
+goes e s next t none plan happens workers nodes root = record { step = step; consistent = consistent }
   where
     step : Step e (core_of false s) (core_of false next)
     step = record { unanswered = unanswered s t none; happens = happens }
 
-    told : IsTold next
-    told = record {
+    consistent : IsConsistent next
+    consistent = record {
       valid = subst (λ (p : PlanView). IsValid p.script) (sym plan) t.valid;
       led = record { workers = t.led.workers; events = e ∷ t.led.events; leads = (core_of false s, subst (λ (p : PlanView). Leads p t.led.workers t.led.events (core_of false s)) (sym plan) t.led.leads, step) };
       workers = workers;
@@ -112,7 +112,7 @@ core-keeps s next k = λ i. record {
   spent = false;
 }
 
-pub moves : (e : CoreEvent) (s next : State) → IsTold s → s.root ≡ None → Keeps s next → Happens e (core_of false s) (core_of false next) →
+pub moves : (e : CoreEvent) (s next : State) → IsConsistent s → s.root ≡ None → Keeps s next → Happens e (core_of false s) (core_of false next) →
     AreWorkers s.nodes.items next.workers.items → Goes e s next
 moves e s next t none k happens workers =
     goes e s next t none (ap arc_value k.plan) happens (subst (λ l. AreWorkers l next.workers.items) (sym k.nodes) workers) (carry-nodes _ _ _ _ _ _ (ap arc_value k.plan) k.given k.nodes t.nodes) (carry-root _ _ _ _ _ _ (ap arc_value k.plan) k.given k.root t.root)
@@ -146,14 +146,14 @@ gives : (j : Job) (w next : WorkerView) → GivesJob j w next → WorkerGives (t
 gives j w next p = record {
   front = ap (map task_in) p.0;
   current = ap (λ (v : WorkerView). current_in v.current) p.1;
-  ring = ap (λ (v : WorkerView). map task_in v.ring) p.1;
+  stalled = ap (λ (v : WorkerView). map task_in v.stalled) p.1;
 }
 
 takes : (j : Job) (w next : WorkerView) → current_in w.current ≡ None → TakesJob j w next → WorkerTakes (task_in j) (worker_of w) (worker_of next)
 takes j w next free p = record { free = free; after = ap worker_of p }
 
 -- The task at a worker's deque's back becomes current.
-module _ (s next : State) (t : IsTold s) (none : s.root ≡ None) (k : Keeps s next) (w : ℕ) (j : Job) (free : is_free (slice_get (map worker_of s.workers.items) w) ≡ true) where
+module _ (s next : State) (t : IsConsistent s) (none : s.root ≡ None) (k : Keeps s next) (w : ℕ) (j : Job) (free : is_free (slice_get (map worker_of s.workers.items) w) ≡ true) where
   module _ (b : Both w (BacksJob j) (TakesJob j) s.workers.items next.workers.items) where
     back-is : b.worker.deque ≡ b.mid.deque ++ j ∷ []
     back-is = b.first.0
@@ -166,7 +166,7 @@ module _ (s next : State) (t : IsTold s) (none : s.root ≡ None) (k : Keeps s n
       free = free-none s.workers.items w b.worker b.there free;
       back = ap (map task_in) back-is ∙ map-end b.mid.deque j ∙ ap (λ (v : WorkerView). map task_in v.deque ++ task_in j ∷ []) (sym popped);
       current = ap (λ (v : WorkerView). current_in v.current) popped;
-      ring = ap (λ (v : WorkerView). map task_in v.ring) popped;
+      stalled = ap (λ (v : WorkerView). map task_in v.stalled) popped;
     }
 
     jobs : AreJobs s.nodes.items b.after
@@ -176,7 +176,7 @@ module _ (s next : State) (t : IsTold s) (none : s.root ≡ None) (k : Keeps s n
         subst (AreJobs s.nodes.items) (sym popped) (record {
           current = everywhere-last (IsJob s.nodes.items) b.mid.deque j all;
           deque = everywhere-front (IsJob s.nodes.items) b.mid.deque (j ∷ []) all;
-          ring = old.ring;
+          stalled = old.stalled;
         })
 
     change : WorkerChanges w (λ v x. WorkerPops (task_in j) (worker_of v) (worker_of x)) s.workers.items next.workers.items
@@ -194,7 +194,7 @@ module _ (s next : State) (t : IsTold s) (none : s.root ≡ None) (k : Keeps s n
 
 -- A steal
 
-jobs-give : (nodes : List Node) (j : Job) (w next : WorkerView) → GivesJob j w next → AreJobs nodes w → IsJob nodes j × AreJobs nodes next
+jobs-give : (nodes : List SpawnNode) (j : Job) (w next : WorkerView) → GivesJob j w next → AreJobs nodes w → IsJob nodes j × AreJobs nodes next
 jobs-give nodes j w next p is = (first, rest)
   where
     all : Everywhere (IsJob nodes) (j ∷ next.deque)
@@ -207,9 +207,9 @@ jobs-give nodes j w next p is = (first, rest)
     others k x h = all (suc k) x h
 
     rest : AreJobs nodes next
-    rest = subst (AreJobs nodes) (sym p.1) (record { current = is.current; deque = others; ring = is.ring })
+    rest = subst (AreJobs nodes) (sym p.1) (record { current = is.current; deque = others; stalled = is.stalled })
 
-module _ (s next : State) (t : IsTold s) (none : s.root ≡ None) (k : Keeps s next) (thief victim : ℕ) (j : Job) (mid : List WorkerView) where
+module _ (s next : State) (t : IsConsistent s) (none : s.root ≡ None) (k : Keeps s next) (thief victim : ℕ) (j : Job) (mid : List WorkerView) where
   module _ (two : thief ≡ victim → ⊥) (p : WorkerChanges victim (GivesJob j) s.workers.items mid) (q : WorkerChanges thief (TakesJob j) mid next.workers.items) where
     there : slice_get s.workers.items thief ≡ Some q.worker
     there = sym (get-other s.workers.items victim thief p.after two) ∙ ap (λ l. slice_get l thief) (sym p.next_is) ∙ q.there
@@ -223,7 +223,7 @@ module _ (s next : State) (t : IsTold s) (none : s.root ≡ None) (k : Keeps s n
     taken : AreJobs s.nodes.items q.after
     taken =
         let is : AreJobs s.nodes.items q.worker = t.workers thief q.worker there in
-        subst (AreJobs s.nodes.items) (sym q.does) (record { current = given.0; deque = is.deque; ring = is.ring })
+        subst (AreJobs s.nodes.items) (sym q.does) (record { current = given.0; deque = is.deque; stalled = is.stalled })
 
     -- The task at the front of the victim's deque becomes the thief's current one.
     pub steal-goes : is_free (slice_get (map worker_of s.workers.items) thief) ≡ true → Goes (Steal thief victim) s next
@@ -242,20 +242,20 @@ module _ (s next : State) (t : IsTold s) (none : s.root ≡ None) (k : Keeps s n
 
 -- Nothing to do
 
-empty-worker : (current : Option Task) (deque ring : List Task) → (not (is_some current) && (not (has_task deque) && not (has_task ring))) ≡ true →
-    record { current = current; deque = deque; ring = ring } ≡ machine.free_worker
+empty-worker : (current : Option Task) (deque stalled : List Task) → (not (is_some current) && (not (has_task deque) && not (has_task stalled))) ≡ true →
+    record { current = current; deque = deque; stalled = stalled } ≡ machine.free_worker
 empty-worker None [] [] h = refl
-empty-worker None [] (x ∷ ring) h = absurd (cc)
-empty-worker None (x ∷ deque) ring h = absurd (cc)
-empty-worker (Some x) deque ring h = absurd (cc)
+empty-worker None [] (x ∷ stalled) h = absurd (cc)
+empty-worker None (x ∷ deque) stalled h = absurd (cc)
+empty-worker (Some x) deque stalled h = absurd (cc)
 
 idle-free : (o : Option machine.Worker) → may_idle o ≡ true → o ≡ Some machine.free_worker
 idle-free None h = absurd (cc)
-idle-free (Some w) h = ap (λ v. Some v) (empty-worker w.current w.deque w.ring h)
+idle-free (Some w) h = ap (λ v. Some v) (empty-worker w.current w.deque w.stalled h)
 
-idle-goes : (s : State) → IsTold s → s.root ≡ None → (w : ℕ) → may_idle (slice_get (map worker_of s.workers.items) w) ≡ true → Goes (Idle w) s s
+idle-goes : (s : State) → IsConsistent s → s.root ≡ None → (w : ℕ) → may_idle (slice_get (map worker_of s.workers.items) w) ≡ true → Goes (Idle w) s s
 idle-goes s t none w idle =
     goes (Idle w) s s t none refl (record { free = idle-free (slice_get (map worker_of s.workers.items) w) idle; next_is = refl }) t.workers t.nodes t.root
 
-pub idle-any : (s : State) → IsTold s → s.root ≡ None → (e : CoreEvent) (w : ℕ) → e ≡ Idle w → may_happen (core_of false s) e ≡ true → Goes e s s
+pub idle-any : (s : State) → IsConsistent s → s.root ≡ None → (e : CoreEvent) (w : ℕ) → e ≡ Idle w → may_happen (core_of false s) e ≡ true → Goes e s s
 idle-any s t none e w is lawful = subst (λ (d : CoreEvent). Goes d s s) (sym is) (idle-goes s t none w (subst (λ (d : CoreEvent). may_happen (core_of false s) d ≡ true) is lawful))

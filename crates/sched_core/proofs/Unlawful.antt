@@ -29,10 +29,10 @@ not-same n m h = by_test (nat_eq n m) refl
 get-below : {A : Type 0} (xs : List A) (n : ℕ) (x : A) → slice_get xs n ≡ Some x → nat_lt n (length xs) ≡ true
 get-below xs n x h = (Decides-ltb n (length xs)).1 (slice_get_within xs n x h)
 
-look-may : (w place : ℕ) (c : Core) (o : Worker) (t : Task) → slice_get c.workers w ≡ Some o → o.current ≡ None → slice_get o.ring place ≡ Some t → may_happen c (Look w place) ≡ true
+look-may : (w place : ℕ) (c : Core) (o : Worker) (t : Task) → slice_get c.workers w ≡ Some o → o.current ≡ None → slice_get o.stalled place ≡ Some t → may_happen c (Look w place) ≡ true
 look-may w place c o t there free at =
     true-both (is_free (slice_get c.workers w)) (has_waiting place (slice_get c.workers w)) (ap is_free there ∙ ap (λ x. not (is_some x)) free)
-    (ap (has_waiting place) there ∙ get-below o.ring place t at)
+    (ap (has_waiting place) there ∙ get-below o.stalled place t at)
 
 steal-may : (thief victim : ℕ) (c next : Core) → steps.Steals thief victim c next → may_happen c (Steal thief victim) ≡ true
 steal-may thief victim c next s =

@@ -1,4 +1,4 @@
--- A look, by what the code does of it: the task leaves the ring, and becomes current with its children's answers or goes to the ring's end.
+-- A look, by what the code does of it: the task is stalled no more, and becomes current with its children's answers or goes to the end of the stalled tasks.
 use Rattle.std.proofs.Common.{◌≡◌, ℕ, true, List, Some, None, slice_get, slice_set, remove, map, sym, ap, ◌∙◌, subst}
 use Rattle.sched_meaning.specs.Simulation.{is_free}
 use Rattle.sched_meaning.specs.declared.event.CoreEvent.TheVariants.{Look}
@@ -7,17 +7,17 @@ use Rattle.strand_machine.specs.Stops.{WentOn}
 use Rattle.sched_core.specs.Cores.{worker_of}
 use Rattle.sched_core.specs.Moves.{CanResume, Leaves, Parks, Resumes, TakesJob, WorkerChanges}
 use Rattle.sched_core.specs.Nodes.{answers_in, settled}
-use Rattle.sched_core.specs.Told.{Goes, IsTold}
+use Rattle.sched_core.specs.Consistent.{Goes, IsConsistent}
 use Rattle.sched_core.specs.Workers.{WorkerView}
 use Rattle.sched_core.specs.declared.job.Job.{Job}
-use Rattle.sched_core.specs.declared.node.Node.{Node}
+use Rattle.sched_core.specs.declared.node.SpawnNode.{SpawnNode}
 use Rattle.sched_core.specs.declared.state.State.{State}
 use Rattle.sched_core.proofs.Passing.{pass-goes}
 use Rattle.sched_core.proofs.Resuming.{parked, resume-goes, tags-right, whole}
 use Rattle.sched_core.proofs.Taking.{Both, Keeps, both}
 
-module _ (s : State) (t : IsTold s) (w place : ℕ) (j : Job) (mid : List WorkerView) (leaves : WorkerChanges w (Leaves place j) s.workers.items mid) where
-  module _ (node : Node) (found : slice_get s.nodes.items j.number ≡ Some node) where
+module _ (s : State) (t : IsConsistent s) (w place : ℕ) (j : Job) (mid : List WorkerView) (leaves : WorkerChanges w (Leaves place j) s.workers.items mid) where
+  module _ (node : SpawnNode) (found : slice_get s.nodes.items j.number ≡ Some node) where
     pub can-resume : node.unanswered ≡ 0 → CanResume s.nodes.items j
     can-resume zero_left = record {
       node = node;
@@ -36,7 +36,7 @@ module _ (s : State) (t : IsTold s) (w place : ℕ) (j : Job) (mid : List Worker
       wakes zero_left next_job r takes plan given root runs =
           resume-goes s next t none w place b.worker b.there free j b.first.0 node found zero_left next_job went r.settles.number (record {
             workers = b.next_is ∙ ap (slice_set s.workers.items w) after-is;
-            nodes = r.after_is ∙ ap (λ (n : Node). slice_set s.nodes.items j.number (settled n)) same;
+            nodes = r.after_is ∙ ap (λ (n : SpawnNode). slice_set s.nodes.items j.number (settled n)) same;
             plan = plan;
             given = given;
             root = root;
@@ -50,7 +50,7 @@ module _ (s : State) (t : IsTold s) (w place : ℕ) (j : Job) (mid : List Worker
           same = some-one r.node node (sym r.there ∙ found)
 
           went : WentOn (answers_in node.children) j.task next_job.task
-          went = subst (λ (n : Node). WentOn (answers_in n.children) j.task next_job.task) same r.settles.task
+          went = subst (λ (n : SpawnNode). WentOn (answers_in n.children) j.task next_job.task) same r.settles.task
 
-          after-is : b.after ≡ record b.worker { current = Some next_job; ring = remove b.worker.ring place }
+          after-is : b.after ≡ record b.worker { current = Some next_job; stalled = remove b.worker.stalled place }
           after-is = b.second ∙ ap (λ (v : WorkerView). record v { current = Some next_job }) b.first.1

@@ -2,7 +2,7 @@
 use Rattle.std.specs.Prelude.{ℕ, List, map, filter, flat_map, length, slice_get}
 use Rattle.std.specs.List.{range_with_len}
 use Rattle.sched_meaning.specs.Core.{Core}
-use Rattle.sched_meaning.specs.Simulation.{goes_on, ring_places}
+use Rattle.sched_meaning.specs.Simulation.{goes_on, stalled_places}
 use Rattle.sched_meaning.specs.declared.event.CoreEvent.{CoreEvent}
 use Rattle.sched_meaning.specs.declared.event.CoreEvent.TheVariants.{Run, Pop, Steal, Look}
 
@@ -30,7 +30,7 @@ abbrev pub looks_at : Core → ℕ → List ℕ → List CoreEvent
 looks_at c w places = going c (map (λ place. Look w place) places)
 
 abbrev pub looks_by : Core → ℕ → List CoreEvent
-looks_by c w = looks_at c w (ring_places (slice_get c.workers w))
+looks_by c w = looks_at c w (stalled_places (slice_get c.workers w))
 
 abbrev pub looks : Core → List ℕ → List CoreEvent
 looks c ws = flat_map (looks_by c) ws

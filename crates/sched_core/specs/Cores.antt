@@ -7,7 +7,7 @@ use Rattle.serial_meaning.specs.Plan.{PlanView}
 use Rattle.serial_meaning.specs.declared.origin.Origin.{Origin}
 use Rattle.strand_meaning.specs.Task.{Task}
 use Rattle.sched_meaning.specs.Core as machine
-use Rattle.sched_core.specs.declared.node.Node.{Node}
+use Rattle.sched_core.specs.declared.node.SpawnNode.{SpawnNode}
 use Rattle.sched_core.specs.declared.state.State.{State}
 use Rattle.sched_core.specs.Workers.{WorkerView}
 use Rattle.sched_core.specs.declared.job.Job.{Job}
@@ -20,9 +20,9 @@ current_in None = None
 current_in (Some j) = Some (task_in j)
 
 abbrev pub worker_of : WorkerView → machine.Worker
-worker_of w = record { current = current_in w.current; deque = map task_in w.deque; ring = map task_in w.ring }
+worker_of w = record { current = current_in w.current; deque = map task_in w.deque; stalled = map task_in w.stalled }
 
-abbrev pub origins_of : List Node → List Origin
+abbrev pub origins_of : List SpawnNode → List Origin
 origins_of nodes = map (λ n. n.origin) nodes
 
 -- what an origin answers: its evaluation

@@ -8,12 +8,12 @@ use Rattle.sched_meaning.specs.declared.event.CoreEvent.TheVariants.{Run, Pop, S
 -- whether a task waits at this place
 abbrev pub has_waiting : ℕ → Option Worker → Bool
 has_waiting place None = false
-has_waiting place (Some w) = nat_lt place (length w.ring)
+has_waiting place (Some w) = nat_lt place (length w.stalled)
 
 -- whether there is such a worker, without tasks
 abbrev pub may_idle : Option Worker → Bool
 may_idle None = false
-may_idle (Some w) = not (is_some w.current) && (not (has_task w.deque) && not (has_task w.ring))
+may_idle (Some w) = not (is_some w.current) && (not (has_task w.deque) && not (has_task w.stalled))
 
 -- whether an event may happen, where the root isn't answered
 abbrev pub may_happen : Core → CoreEvent → Bool

@@ -6,5 +6,5 @@ pub mod Moves
 pub mod Nodes
 pub mod Played
 pub mod Sound
-pub mod Told
+pub mod Consistent
 pub mod Workers

@@ -11,7 +11,7 @@ use Rattle.sched_core.specs.Nodes.{BeginsChild, Hears, NodeChanges, answers_in, 
 use Rattle.sched_core.specs.Workers.{WorkerView}
 use Rattle.sched_core.specs.declared.job.Job.{Job}
 use Rattle.sched_core.specs.declared.node.Link.{Link}
-use Rattle.sched_core.specs.declared.node.Node.{Node}
+use Rattle.sched_core.specs.declared.node.SpawnNode.{SpawnNode}
 use Rattle.sched_core.specs.declared.state.State.{State}
 
 abbrev pub job : TaskView → ℕ → Job
@@ -23,7 +23,7 @@ abbrev pub HandsOut : Job → Job → WorkerView → WorkerView → Type 0
 HandsOut child rest w next = next ≡ record w { current = Some child; deque = w.deque ++ rest ∷ [] }
 
 abbrev pub Parks : Job → WorkerView → WorkerView → Type 0
-Parks rest w next = next ≡ record w { ring = w.ring ++ rest ∷ [] }
+Parks rest w next = next ≡ record w { stalled = w.stalled ++ rest ∷ [] }
 
 -- the current task leaves
 abbrev pub Lets : Job → WorkerView → WorkerView → Type 0
@@ -38,9 +38,9 @@ GivesJob j w next = (w.deque ≡ j ∷ next.deque) × (next ≡ record w { deque
 abbrev pub TakesJob : Job → WorkerView → WorkerView → Type 0
 TakesJob j w next = next ≡ record w { current = Some j }
 
--- the task at this place leaves the ring
+-- the task at this place is stalled no more
 abbrev pub Leaves : ℕ → Job → WorkerView → WorkerView → Type 0
-Leaves place j w next = (slice_get w.ring place ≡ Some j) × (next ≡ record w { ring = remove w.ring place })
+Leaves place j w next = (slice_get w.stalled place ≡ Some j) × (next ≡ record w { stalled = remove w.stalled place })
 
 -- The worker of this number changes so, and no other.
 pub record WorkerChanges (n : ℕ) (R : WorkerView → WorkerView → Type 0) (ws next : List WorkerView) : Type 0 where
@@ -66,7 +66,7 @@ pub record Delivers (link : Option Link) (answer : AnswerView) (s next : State) 
 
 -- The answer of the origin of this number goes where it belongs.
 pub record PutsAnswer (number : ℕ) (answer : AnswerView) (s next : State) : Type 0 where
-  pub node : Node
+  pub node : SpawnNode
   pub there : slice_get s.nodes.items number ≡ Some node
   pub goes : goes_to node.link answer s next
   pub given : next.given ≡ s.given ++ answer.origin ∷ []
@@ -107,35 +107,35 @@ pub record Settles (j : Job) (answers : List AnswerView) (next : Job) : Type 0 w
 -- What a stop of a task of this number needs
 
 -- a node that hears of a child at this place
-pub record CanHearAt (nodes : List Node) (l : Link) : Type 0 where
-  pub parent : Node
+pub record CanHearAt (nodes : List SpawnNode) (l : Link) : Type 0 where
+  pub parent : SpawnNode
   pub there : slice_get nodes l.parent ≡ Some parent
   pub place : l.place < length parent.children
   pub unanswered : 0 < parent.unanswered
 
-abbrev pub CanHear : List Node → Option Link → Type 0
+abbrev pub CanHear : List SpawnNode → Option Link → Type 0
 CanHear nodes None = Unit {0}
 CanHear nodes (Some l) = CanHearAt nodes l
 
 pub record CanStop (w number : ℕ) (s : State) : Type 0 where
   pub worker : w < length s.workers.items
-  pub node : Node
+  pub node : SpawnNode
   pub there : slice_get s.nodes.items number ≡ Some node
   pub within : node.unanswered ≤ length node.children
   pub hears : CanHear s.nodes.items node.link
 
 -- What a task needs to go on
 
-pub record CanResume (nodes : List Node) (j : Job) : Type 0 where
-  pub node : Node
+pub record CanResume (nodes : List SpawnNode) (j : Job) : Type 0 where
+  pub node : SpawnNode
   pub there : slice_get nodes j.number ≡ Some node
   pub answered : missing node.children ≡ 0
   pub waits : j.task.task.waiting ≡ true
-  pub tags : answer_tags (answers_in node.children) ≡ tags j.task.task.plan (awaited j.task.task.pieces.handed)
+  pub tags : answer_tags (answers_in node.children) ≡ tags j.task.task.plan (awaited j.task.task.trace.handed)
 
 -- A task went on with the answers of its children, which its node gave away.
-pub record Resumes (j next : Job) (nodes after : List Node) : Type 0 where
-  pub node : Node
+pub record Resumes (j next : Job) (nodes after : List SpawnNode) : Type 0 where
+  pub node : SpawnNode
   pub there : slice_get nodes j.number ≡ Some node
   pub settles : Settles j (answers_in node.children) next
   pub after_is : after ≡ slice_set nodes j.number (settled node)

@@ -4,22 +4,22 @@ use Rattle.serial_meaning.specs.Answer.{AnswerView}
 use Rattle.serial_meaning.specs.declared.origin.Origin.{Origin}
 use Rattle.sched_core.specs.declared.node.Child.{Child}
 use Rattle.sched_core.specs.declared.node.Link.{Link}
-use Rattle.sched_core.specs.declared.node.Node.{Node}
+use Rattle.sched_core.specs.declared.node.SpawnNode.{SpawnNode}
 
 -- an origin that awaits nobody
-abbrev pub new_node : Origin → Option Link → Node
+abbrev pub new_node : Origin → Option Link → SpawnNode
 new_node o link = record { origin = o; link = link; children = []; unanswered = 0 }
 
 -- the node once it awaits one child more
-abbrev pub awaiting : ℕ → Node → Node
+abbrev pub awaiting : ℕ → SpawnNode → SpawnNode
 awaiting number n = record n { children = n.children ++ record { number = number; answer = None } ∷ []; unanswered = n.unanswered + 1 }
 
 -- the node once this child has answered
-abbrev pub hearing : ℕ → Child → AnswerView → Node → Node
+abbrev pub hearing : ℕ → Child → AnswerView → SpawnNode → SpawnNode
 hearing place child answer n = record n { children = slice_set n.children place (record child { answer = Some answer }); unanswered = n.unanswered - 1 }
 
 -- the node once its task has taken the answers
-abbrev pub settled : Node → Node
+abbrev pub settled : SpawnNode → SpawnNode
 settled n = record n { children = [] }
 
 abbrev pub missing_one : Option AnswerView → ℕ
@@ -41,21 +41,21 @@ answers_in [] = []
 answers_in (c ∷ cs) = and_answer c.answer (answers_in cs)
 
 -- The node of this number changes so, and no other.
-pub record NodeChanges (n : ℕ) (R : Node → Node → Type 0) (nodes next : List Node) : Type 0 where
-  pub node : Node
-  pub after : Node
+pub record NodeChanges (n : ℕ) (R : SpawnNode → SpawnNode → Type 0) (nodes next : List SpawnNode) : Type 0 where
+  pub node : SpawnNode
+  pub after : SpawnNode
   pub there : slice_get nodes n ≡ Some node
   pub does : R node after
   pub next_is : next ≡ slice_set nodes n after
 
 -- A child of this origin is begun.
-pub record BeginsChild (parent : ℕ) (o : Origin) (nodes next : List Node) : Type 0 where
-  pub node : Node
+pub record BeginsChild (parent : ℕ) (o : Origin) (nodes next : List SpawnNode) : Type 0 where
+  pub node : SpawnNode
   pub there : slice_get nodes parent ≡ Some node
   pub next_is : next ≡ slice_set nodes parent (awaiting (length nodes) node) ++ new_node o (Some (record { parent = parent; place = length node.children })) ∷ []
 
 -- The child at this place has answered.
-pub record Hears (place : ℕ) (answer : AnswerView) (n next : Node) : Type 0 where
+pub record Hears (place : ℕ) (answer : AnswerView) (n next : SpawnNode) : Type 0 where
   pub child : Child
   pub there : slice_get n.children place ≡ Some child
   pub next_is : next ≡ hearing place child answer n

@@ -10,7 +10,7 @@ use Rattle.sched_meaning.specs.Steps.{Step}
 use Rattle.sched_meaning.specs.declared.event.CoreEvent.{CoreEvent}
 use Rattle.sched_meaning.specs.declared.event.CoreEvent.TheVariants.{Run}
 use Rattle.sched_core.specs.Cores.{core_of, plan_of}
-use Rattle.sched_core.specs.Told.{Goes}
+use Rattle.sched_core.specs.Consistent.{Goes}
 use Rattle.sched_core.specs.declared.simulation.Simulated.{Simulated}
 use Rattle.sched_core.specs.declared.simulation.Went.{Went}
 use Rattle.sched_core.specs.declared.simulation.Went.TheVariants.{On, Over}

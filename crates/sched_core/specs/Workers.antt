@@ -5,8 +5,8 @@ use Rattle.sched_core.specs.declared.job.Job.{Job}
 pub record WorkerView : Type 0 where
   pub current : Option Job
   pub deque : List Job
-  pub ring : List Job
+  pub stalled : List Job
 
 -- a worker with no other task than this
 abbrev pub only : Option Job → WorkerView
-only current = record { current = current; deque = []; ring = [] }
+only current = record { current = current; deque = []; stalled = [] }

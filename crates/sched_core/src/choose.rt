@@ -1,10 +1,10 @@
 // The choices of a simulation: the events that may happen and go on with the work.
 ghost use Rattle.std.specs.Prelude.{◌≡◌, ◌≤◌, [], ◌∷◌, ◌++◌, cond, false, None, IfOk, OnOk, length, map, slice_get};
-ghost use Rattle.sched_meaning.specs.Simulation.{choices, goes_on, may_resume, picked, ring_places};
+ghost use Rattle.sched_meaning.specs.Simulation.{choices, goes_on, may_resume, picked, stalled_places};
 ghost use Rattle.sched_meaning.specs.declared.event.CoreEvent.TheVariants as event;
 ghost use Rattle.sched_core.specs.Chosen as chosen;
 ghost use Rattle.sched_core.specs.Cores.{core_of, worker_of};
-ghost use Rattle.sched_core.specs.Told.{IsTold};
+ghost use Rattle.sched_core.specs.Consistent.{IsConsistent};
 
 use crate::state::State;
 use sched_meaning::CoreEvent;
@@ -80,7 +80,7 @@ impl State {
 
     /// Whether all children of the task have answered that waits at this place of a worker.
     fn is_ready(&self, w: u32, place: u32) -> bool
-        requires told { IsTold self.now }
+        requires consistent { IsConsistent self.now }
         ensures { result ≡ may_resume (core_of false self.now) place (slice_get (map worker_of self.now.workers.items) w) }
     {
         let Some(worker) = self.workers.get(w as usize) else {
@@ -94,7 +94,7 @@ impl State {
 
     /// Whether a look of this worker at this place goes on with the work.
     fn may_resume(&self, w: u32, place: u32) -> bool
-        requires told { IsTold self.now }
+        requires consistent { IsConsistent self.now }
         ensures { result ≡ goes_on (core_of false self.now) (event.Look w place) }
     {
         self.is_free(w) && self.is_ready(w, place)
@@ -102,7 +102,7 @@ impl State {
 
     /// How many tasks of the worker wait.
     fn waiting(&self, w: u32) -> u32
-        ensures { result ≡ length (ring_places (slice_get (map worker_of self.now.workers.items) w)) }
+        ensures { result ≡ length (stalled_places (slice_get (map worker_of self.now.workers.items) w)) }
     {
         match self.workers.get(w as usize) {
             Some(worker) => worker.waiting(),
@@ -112,7 +112,7 @@ impl State {
 
     /// The looks of one worker that go on with the work stand after these events.
     fn add_looks_of(&self, events: &mut Vec<CoreEvent>, worker: u32) -> Result<(), Memory>
-        requires told { IsTold self.now }
+        requires consistent { IsConsistent self.now }
         ensures { OnOk result (events.new.items ≡ events.old.items ++ chosen.looks_by (core_of false self.now) worker) }
     {
         for place in 0..self.waiting(worker) {
@@ -127,7 +127,7 @@ impl State {
 
     /// The looks that go on with the work stand after these events.
     fn add_looks(&self, events: &mut Vec<CoreEvent>) -> Result<(), Memory>
-        requires told { IsTold self.now }
+        requires consistent { IsConsistent self.now }
         requires few { length self.now.workers.items ≤ 64 }
         ensures { let c = core_of false self.now in OnOk result (events.new.items ≡ events.old.items ++ chosen.looks c (chosen.numbers c)) }
     {
@@ -139,7 +139,7 @@ impl State {
 
     /// All choices: runs, pops, steals by thief and then by victim, and looks by worker and then by place.
     fn choices(&self, alloc: Global) -> Result<Vec<CoreEvent>, Memory>
-        requires told { IsTold self.now }
+        requires consistent { IsConsistent self.now }
         requires few { length self.now.workers.items ≤ 64 }
         requires root { self.now.root ≡ None }
         ensures { IfOk result (λ events. events.items ≡ choices (core_of false self.now)) }
@@ -155,7 +155,7 @@ impl State {
 
 /// The choice that a word names.
 pub(crate) fn pick(state: &State, alloc: Global, word: u64) -> Result<Option<CoreEvent>, Memory>
-    requires told { IsTold state.now }
+    requires consistent { IsConsistent state.now }
     requires few { length state.now.workers.items ≤ 64 }
     requires root { state.now.root ≡ None }
     ensures { IfOk result (λ event. event ≡ picked (core_of false state.now) word) }

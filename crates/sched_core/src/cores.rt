@@ -1,5 +1,5 @@
-use crate::begin::begin;
 use crate::error::CoreError;
+use crate::new_state::new_state;
 use crate::state::State;
 use crate::steps::go;
 use sched_meaning::CoreEvent;
@@ -23,7 +23,7 @@ impl Model for Core {
     ghost use Rattle.serial_meaning.specs.contracts.plan.Plan as plan_type;
     ghost use Rattle.sched_meaning.specs.Core.{Core as CoreView};
     ghost use Rattle.sched_core.specs.Cores.{core_of};
-    ghost use Rattle.sched_core.specs.Told.{Holds};
+    ghost use Rattle.sched_core.specs.Consistent.{Holds};
 
     ghost Value = { CoreView };
 
@@ -49,7 +49,7 @@ impl Core {
         requires { (1 ≤ workers) × (workers ≤ 64) }
         ensures { IfOk result (λ core. core ≡ new_core (arc_value plan.now) workers) }
     {
-        let state = begin(alloc, plan, workers)?;
+        let state = new_state(alloc, plan, workers)?;
         Ok(Core {
             state,
             spent: false,

@@ -4,12 +4,12 @@
 //! What a step is, is defined in `sched_meaning`; the contracts here are its words.
 #![tactic(auto)]
 
-mod begin;
 mod choose;
 mod cores;
 mod error;
 mod job;
 mod lawful;
+mod new_state;
 mod node;
 mod simulation;
 mod state;

@@ -24,7 +24,7 @@ pub(crate) struct Child {
 
 /// An origin that was begun.
 #[derive(Drop)]
-pub(crate) struct Node {
+pub(crate) struct SpawnNode {
     pub origin: Origin,
     /// None of main.
     pub link: Option<Link>,
@@ -49,12 +49,12 @@ fn answers_of(children: Items<Child>, alloc: Global) -> Result<Items<Answer>, Me
     Ok(Items(answers))
 }
 
-impl Node {
+impl SpawnNode {
     /// An origin that awaits nobody.
-    pub fn new(alloc: Global, origin: Origin, link: Option<Link>) -> Node
+    pub fn new(alloc: Global, origin: Origin, link: Option<Link>) -> SpawnNode
         ensures { result ≡ new_node origin link }
     {
-        Node {
+        SpawnNode {
             origin,
             link,
             children: Items(Vec::new(alloc)),
@@ -112,7 +112,7 @@ impl Node {
 
 /// Begins a child of the origin of this number, and gives the child's number.
 pub(crate) fn begin_child(
-    nodes: &mut Vec<Node>,
+    nodes: &mut Vec<SpawnNode>,
     alloc: Global,
     parent: usize,
     child: &Task,
@@ -126,6 +126,6 @@ pub(crate) fn begin_child(
     let origin = child.share_origin(alloc)?;
     let place = nodes[parent].count();
     nodes[parent].await_child(number)?;
-    nodes.push(Node::new(alloc, origin, Some(Link { parent, place })))?;
+    nodes.push(SpawnNode::new(alloc, origin, Some(Link { parent, place })))?;
     Ok(number)
 }

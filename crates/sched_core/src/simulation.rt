@@ -5,10 +5,10 @@ ghost use Rattle.serial_meaning.specs.Eval.{main_origin};
 ghost use Rattle.strand_meaning.specs.Laws.{IsFaultOf};
 ghost use Rattle.sched_meaning.specs.Simulation.{IsSimWorker};
 ghost use Rattle.sched_core.specs.Played.{Plays};
-ghost use Rattle.sched_core.specs.Told.{IsTold};
+ghost use Rattle.sched_core.specs.Consistent.{IsConsistent};
 
-use crate::begin::begin;
 use crate::choose::pick;
+use crate::new_state::new_state;
 use crate::state::State;
 use crate::steps::go;
 use rand_core::SeedableRng;
@@ -36,7 +36,7 @@ enum Went {
 
 /// The step that a word picks.
 fn go_on(state: State, alloc: Global, word: u64) -> Result<Went, Memory>
-    requires told { IsTold state }
+    requires consistent { IsConsistent state }
     requires few { length state.workers.items ≤ 64 }
     requires root { state.root ≡ None }
     ensures { IfOk result (Plays word state) }
@@ -70,7 +70,7 @@ pub fn simulate(
     ensures fault { IfOk result (λ s. IsFaultOf (arc_value plan.now) s.answer.outcome) }
     ensures worker { IfOk result (λ s. IsSimWorker (arc_value plan.now) workers number s.worker) }
 {
-    let mut state = begin(alloc, plan, workers)?;
+    let mut state = new_state(alloc, plan, workers)?;
     let mut words = SplitMix64::seed_from_u64(number);
     loop {
         let word = words.next_word();

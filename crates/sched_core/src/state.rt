@@ -1,4 +1,4 @@
-use crate::node::Node;
+use crate::node::SpawnNode;
 use crate::worker::Worker;
 use script_grammar::Items;
 use serial_meaning::{Answer, Origin, Plan};
@@ -9,7 +9,7 @@ use std::sync::Arc;
 pub(crate) struct State {
     pub plan: Arc<Plan>,
     pub workers: Vec<Worker>,
-    pub nodes: Vec<Node>,
+    pub nodes: Vec<SpawnNode>,
     /// The origins that were answered, in order.
     pub given: Items<Origin>,
     /// Main's answer.

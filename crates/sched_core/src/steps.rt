@@ -4,10 +4,10 @@ ghost use Rattle.sched_meaning.specs.declared.event.CoreEvent.TheVariants as eve
 ghost use Rattle.sched_core.specs.Cores.{core_of};
 ghost use Rattle.sched_core.specs.Lawful.{may_happen};
 ghost use Rattle.sched_core.specs.Moves.{CanResume, Resumes};
-ghost use Rattle.sched_core.specs.Told.{Goes, IsTold};
+ghost use Rattle.sched_core.specs.Consistent.{Goes, IsConsistent};
 
 use crate::job::Job;
-use crate::node::Node;
+use crate::node::SpawnNode;
 use crate::state::State;
 use crate::stops::stop;
 use sched_meaning::CoreEvent;
@@ -16,7 +16,7 @@ use strand_machine::Memory;
 
 /// The worker's current task comes to its next stop.
 fn run(state: &mut State, alloc: Global, w: u32) -> Result<(), Memory>
-    requires told { IsTold state.old }
+    requires consistent { IsConsistent state.old }
     requires root { state.old.root ≡ None }
     requires lawful { may_happen (core_of false state.old) (event.Run w) ≡ true }
     ensures { OnOk result (Goes (event.Run w) state.old state.new) }
@@ -34,28 +34,28 @@ fn run(state: &mut State, alloc: Global, w: u32) -> Result<(), Memory>
 
 /// The task at the back of the worker's deque becomes its current one.
 fn pop(state: &mut State, w: u32)
-    requires told { IsTold state.old }
+    requires consistent { IsConsistent state.old }
     requires root { state.old.root ≡ None }
     requires lawful { may_happen (core_of false state.old) (event.Pop w) ≡ true }
     ensures { Goes (event.Pop w) state.old state.new }
 {
     let job = state.workers[w as usize].take_back();
-    state.workers[w as usize].take(job);
+    state.workers[w as usize].set_current(job);
 }
 
 /// The task at the front of the victim's deque becomes the thief's current one.
 fn steal(state: &mut State, thief: u32, victim: u32)
-    requires told { IsTold state.old }
+    requires consistent { IsConsistent state.old }
     requires root { state.old.root ≡ None }
     requires lawful { may_happen (core_of false state.old) (event.Steal thief victim) ≡ true }
     ensures { Goes (event.Steal thief victim) state.old state.new }
 {
     let job = state.workers[victim as usize].take_front();
-    state.workers[thief as usize].take(job);
+    state.workers[thief as usize].set_current(job);
 }
 
 /// The task with the answers of its children, all of which have answered.
-fn resume(nodes: &mut Vec<Node>, alloc: Global, job: Job) -> Result<Job, Memory>
+fn resume(nodes: &mut Vec<SpawnNode>, alloc: Global, job: Job) -> Result<Job, Memory>
     requires { CanResume nodes.old.items job }
     ensures { IfOk result (λ next. Resumes job next nodes.old.items nodes.new.items) }
 {
@@ -65,9 +65,9 @@ fn resume(nodes: &mut Vec<Node>, alloc: Global, job: Job) -> Result<Job, Memory>
     Ok(Job { task, number })
 }
 
-/// The worker's task at this place of its ring goes on, where all of its children have answered. Else it goes to the ring's end.
+/// The worker's stalled task at this place goes on, where all of its children have answered. Else it goes to the end of the stalled tasks.
 fn look(state: &mut State, alloc: Global, w: u32, place: u32) -> Result<(), Memory>
-    requires told { IsTold state.old }
+    requires consistent { IsConsistent state.old }
     requires root { state.old.root ≡ None }
     requires lawful { may_happen (core_of false state.old) (event.Look w place) ≡ true }
     ensures { OnOk result (Goes (event.Look w place) state.old state.new) }
@@ -75,15 +75,15 @@ fn look(state: &mut State, alloc: Global, w: u32, place: u32) -> Result<(), Memo
     let job = state.workers[w as usize].leave(place);
     if state.nodes[job.number].is_ready() {
         let job = resume(&mut state.nodes, alloc, job)?;
-        state.workers[w as usize].take(job);
+        state.workers[w as usize].set_current(job);
         return Ok(());
     }
-    state.workers[w as usize].park(job)
+    state.workers[w as usize].stall(job)
 }
 
 /// The step of an event that may happen.
 pub(crate) fn go(state: &mut State, alloc: Global, event: CoreEvent) -> Result<(), Memory>
-    requires told { IsTold state.old }
+    requires consistent { IsConsistent state.old }
     requires root { state.old.root ≡ None }
     requires lawful { may_happen (core_of false state.old) event ≡ true }
     ensures { OnOk result (Goes event state.old state.new) }

@@ -1,7 +1,7 @@
 // What a stop of a task does.
 ghost use Rattle.std.specs.Prelude.{◌≡◌, ◌<◌, Some, None, OnOk, length, slice_get};
 ghost use Rattle.sched_core.specs.Moves.{BeginsTask, CanHear, CanStop, Delivers, PutsAnswer, StopsAt};
-ghost use Rattle.sched_core.specs.declared.node.Node.{Node};
+ghost use Rattle.sched_core.specs.declared.node.SpawnNode.{SpawnNode};
 
 use crate::job::Job;
 use crate::node::{Link, begin_child};
@@ -24,7 +24,7 @@ fn deliver(state: &mut State, link: Option<Link>, answer: Answer)
 /// The answer of the origin of this number goes to its parent, or is the root's.
 fn put_answer(state: &mut State, alloc: Global, number: usize, answer: Answer) -> Result<(), Memory>
     requires number { number < length state.old.nodes.items }
-    requires hears { (n : Node) → slice_get state.old.nodes.items number ≡ Some n → CanHear state.old.nodes.items n.link }
+    requires hears { (n : SpawnNode) → slice_get state.old.nodes.items number ≡ Some n → CanHear state.old.nodes.items n.link }
     ensures { OnOk result (PutsAnswer number answer state.old state.new) }
 {
     let origin = share_origin(alloc, &answer.origin)?;
@@ -68,7 +68,7 @@ pub(crate) fn stop(
 {
     match stop {
         Stop::Spawn { child, rest } => begin_task(state, alloc, w, number, child, rest),
-        Stop::Wait { rest } => state.workers[w].park(Job { task: rest, number }),
+        Stop::Wait { rest } => state.workers[w].stall(Job { task: rest, number }),
         Stop::Done { answer, .. } => put_answer(state, alloc, number, answer),
     }
 }

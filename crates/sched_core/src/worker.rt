@@ -12,7 +12,7 @@ const MOST_WAITING: usize = u32::MAX as usize;
 pub(crate) struct Worker {
     current: Option<Job>,
     deque: VecDeque<Job>,
-    ring: Vec<Job>,
+    stalled: Vec<Job>,
 }
 
 impl Model for Worker {
@@ -26,9 +26,9 @@ impl Model for Worker {
 
     ghost coded = { Prim.hlevel (codes, statement_type.the_row.coded, plan_type.the_row.coded) };
 
-    ghost view = { λ w. record { current = w.current; deque = w.deque.items; ring = w.ring.items } };
+    ghost view = { λ w. record { current = w.current; deque = w.deque.items; stalled = w.stalled.items } };
 
-    ghost invariant = { λ w. length w.ring.items < 2 ^ 32 };
+    ghost invariant = { λ w. length w.stalled.items < 2 ^ 32 };
 }
 
 impl Worker {
@@ -43,7 +43,7 @@ impl Worker {
         Worker {
             current,
             deque: VecDeque::new(alloc),
-            ring: Vec::new(alloc),
+            stalled: Vec::new(alloc),
         }
     }
 
@@ -63,17 +63,17 @@ impl Worker {
 
     /// How many of its tasks wait.
     pub fn waiting(&self) -> u32
-        ensures { result ≡ length self.now.ring }
+        ensures { result ≡ length self.now.stalled }
     {
-        self.ring.len() as u32
+        self.stalled.len() as u32
     }
 
     /// The number of the task that waits at this place.
     pub fn waits_at(&self, place: u32) -> Option<usize>
-        ensures some { (j : _) → slice_get self.now.ring place ≡ Some j → result ≡ Some j.number }
-        ensures none { slice_get self.now.ring place ≡ None → result ≡ None }
+        ensures some { (j : _) → slice_get self.now.stalled place ≡ Some j → result ≡ Some j.number }
+        ensures none { slice_get self.now.stalled place ≡ None → result ≡ None }
     {
-        match self.ring.get(place as usize) {
+        match self.stalled.get(place as usize) {
             Some(job) => Some(job.number),
             None => None,
         }
@@ -88,14 +88,14 @@ impl Worker {
         Ok(())
     }
 
-    /// The task goes to the ring's end. There is no memory for it where the ring has as many as it may.
-    pub fn park(&mut self, rest: Job) -> Result<(), Memory>
+    /// The task goes to the end of the stalled tasks. There is no memory for it where as many are stalled as may be.
+    pub fn stall(&mut self, rest: Job) -> Result<(), Memory>
         ensures { OnOk result (Parks rest self.old self.new) }
     {
-        if self.ring.len() >= MOST_WAITING {
+        if self.stalled.len() >= MOST_WAITING {
             return Err(Memory);
         }
-        self.ring.push(rest)?;
+        self.stalled.push(rest)?;
         Ok(())
     }
 
@@ -133,17 +133,17 @@ impl Worker {
     }
 
     /// The task becomes the current one.
-    pub fn take(&mut self, job: Job)
+    pub fn set_current(&mut self, job: Job)
         ensures { TakesJob job self.old self.new }
     {
         self.current = Some(job);
     }
 
-    /// The task at this place leaves the ring.
+    /// The task at this place is stalled no more.
     pub fn leave(&mut self, place: u32) -> Job
-        requires { place < length self.old.ring }
+        requires { place < length self.old.stalled }
         ensures { Leaves place result self.old self.new }
     {
-        self.ring.remove(place as usize)
+        self.stalled.remove(place as usize)
     }
 }

@@ -8,7 +8,7 @@ use Rattle.strand_meaning.specs.Task.{Task}
 use Rattle.strand_meaning.proofs.Comes.{stops_come}
 use Rattle.sched_meaning.specs.Core.{Worker, Core, gone_on, awaited, answered, IsAnswered, IsRootAnswered}
 use Rattle.sched_meaning.specs.Same.{same_origin}
-use Rattle.sched_meaning.specs.Simulation.{is_answered, is_ready, may_run, is_free, has_task, may_give, may_resume, goes_on, is_choice, ring_places, all_events, choices}
+use Rattle.sched_meaning.specs.Simulation.{is_answered, is_ready, may_run, is_free, has_task, may_give, may_resume, goes_on, is_choice, stalled_places, all_events, choices}
 use Rattle.sched_meaning.specs.Sound.{IsFruitful}
 use Rattle.sched_meaning.specs.Steps.{after_stop, WorkerRuns, WorkerPops, WorkerGives, WorkerTakes, WorkerResumes, Changes, noted, Happens, Step}
 use Rattle.sched_meaning.specs.Steps as steps
@@ -208,11 +208,11 @@ module _ (c : Core) (unanswered : IsRootAnswered c → ⊥) where
   pop-advances n f g =
       let same : f.worker ≡ g.worker = some-one f.worker g.worker (sym f.is ∙ g.is) in
       let b = has-back g.front g.rest in
-      let after : Worker = record { current = Some b.last; deque = b.rest; ring = g.worker.ring } in
+      let after : Worker = record { current = Some b.last; deque = b.rest; stalled = g.worker.stalled } in
       let next : Core = record c { workers = slice_set c.workers n after } in
       let pops : steps.Pops n c next = record {
         task = b.last;
-        pops = record { worker = g.worker; after = after; there = g.is; does = record { free = subst (λ (w : Worker). w.current ≡ None) same f.free; back = g.deque ∙ b.is; current = refl; ring = refl }; next_is = refl };
+        pops = record { worker = g.worker; after = after; there = g.is; does = record { free = subst (λ (w : Worker). w.current ≡ None) same f.free; back = g.deque ∙ b.is; current = refl; stalled = refl }; next_is = refl };
       } in (next, record { unanswered = unanswered; happens = pops }, tt)
 
   steal-advances : (thief victim : ℕ) → (thief ≡ victim → ⊥) → Free (slice_get c.workers thief) → Giver (slice_get c.workers victim) → Advances c (Steal thief victim)
@@ -225,17 +225,17 @@ module _ (c : Core) (unanswered : IsRootAnswered c → ⊥) where
         two = two;
         task = g.front;
         without = mid;
-        gives = record { worker = g.worker; after = given; there = g.is; does = record { front = g.deque; current = refl; ring = refl }; next_is = refl };
+        gives = record { worker = g.worker; after = given; there = g.is; does = record { front = g.deque; current = refl; stalled = refl }; next_is = refl };
         takes = record { worker = f.worker; after = taken; there = get-other c.workers thief victim given two ∙ f.is; does = record { free = f.free; after = refl }; next_is = refl };
       } in (next, record { unanswered = unanswered; happens = steals }, tt)
 
   look-advances : (n k : ℕ) → Free (slice_get c.workers n) → may_resume c k (slice_get c.workers n) ≡ true → Advances c (Look n k)
-  look-advances n k f h = by_task (slice_get f.worker.ring k) refl (sym (ap (may_resume c k) f.is) ∙ h)
+  look-advances n k f h = by_task (slice_get f.worker.stalled k) refl (sym (ap (may_resume c k) f.is) ∙ h)
     where
-      by_task : (t : Option Task) → slice_get f.worker.ring k ≡ t → is_ready c t ≡ true → Advances c (Look n k)
+      by_task : (t : Option Task) → slice_get f.worker.stalled k ≡ t → is_ready c t ≡ true → Advances c (Look n k)
       by_task None e g = absurd (cc)
       by_task (Some t) e g =
-          let after : Worker = record f.worker { current = Some (gone_on t); ring = remove f.worker.ring k } in
+          let after : Worker = record f.worker { current = Some (gone_on t); stalled = remove f.worker.stalled k } in
           let next : Core = record c { workers = slice_set c.workers n after } in
           let resumes : steps.Resumes n k c next = record {
             task = t;
@@ -286,7 +286,7 @@ module _ (c : Core) where
   steal_events = flat_map (λ thief. map (λ victim. Steal thief victim) (range_with_len 0 (length c.workers))) (range_with_len 0 (length c.workers))
 
   abbrev look_events : List CoreEvent
-  look_events = flat_map (λ w. map (λ place. Look w place) (ring_places (slice_get c.workers w))) (range_with_len 0 (length c.workers))
+  look_events = flat_map (λ w. map (λ place. Look w place) (stalled_places (slice_get c.workers w))) (range_with_len 0 (length c.workers))
 
   run-listed : (w : ℕ) (next : Core) → steps.Runs w c next → IsListed c (Run w)
   run-listed w next s = record {
@@ -320,12 +320,12 @@ module _ (c : Core) where
     goes = true-both (is_free (slice_get c.workers w)) (may_resume c k (slice_get c.workers w)) (ap is_free s.resumes.there ∙ ap (λ o. not (is_some o)) s.resumes.does.free)
         (ap (may_resume c k) s.resumes.there ∙ ap (is_ready c) s.resumes.does.there ∙ answered-all c (awaited s.task) s.ready);
     listed = in-back (run_events ++ pop_events ++ steal_events) look_events (Look w k)
-        (in-flat (λ w. map (λ place. Look w place) (ring_places (slice_get c.workers w))) (range_with_len 0 (length c.workers)) w (Look w k) (numbered w s.resumes.worker s.resumes.there)
-        (in-map (λ place. Look w place) (ring_places (slice_get c.workers w)) k (subst (λ l. IsIn l k) (sym (ap ring_places s.resumes.there)) place)));
+        (in-flat (λ w. map (λ place. Look w place) (stalled_places (slice_get c.workers w))) (range_with_len 0 (length c.workers)) w (Look w k) (numbered w s.resumes.worker s.resumes.there)
+        (in-map (λ place. Look w place) (stalled_places (slice_get c.workers w)) k (subst (λ l. IsIn l k) (sym (ap stalled_places s.resumes.there)) place)));
   }
     where
-      place : IsIn (range_with_len 0 (length s.resumes.worker.ring)) k
-      place = let e : 0 + k ≡ k = omega arith in subst (λ n. IsIn (range_with_len 0 (length s.resumes.worker.ring)) n) e (in-range 0 (length s.resumes.worker.ring) k (get-below s.resumes.worker.ring k s.task s.resumes.does.there))
+      place : IsIn (range_with_len 0 (length s.resumes.worker.stalled)) k
+      place = let e : 0 + k ≡ k = omega arith in subst (λ n. IsIn (range_with_len 0 (length s.resumes.worker.stalled)) n) e (in-range 0 (length s.resumes.worker.stalled) k (get-below s.resumes.worker.stalled k s.task s.resumes.does.there))
 
   event-listed : (e : CoreEvent) (next : Core) → Happens e c next → IsFruitful e c → IsListed c e
   event-listed (Run w) next h f = run-listed w next h

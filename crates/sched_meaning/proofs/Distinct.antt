@@ -2,7 +2,7 @@
 use Rattle.std.proofs.Common.{◌≡◌, ℕ, zero, suc, ◌+◌, ◌<◌, ◌≤◌, ◌⊎◌, inl, inr, Bool, true, false, cond, List, [], ◌∷◌, ◌++◌, Option, Some, None, length, map, filter, flat_map, slice_get, refl, sym, ap, ◌∙◌, subst, arith}
 use Rattle.std.specs.List.{range_with_len}
 use Rattle.sched_meaning.specs.Core.{Worker, Core}
-use Rattle.sched_meaning.specs.Simulation.{is_choice, ring_places, all_events, choices}
+use Rattle.sched_meaning.specs.Simulation.{is_choice, stalled_places, all_events, choices}
 use Rattle.sched_meaning.specs.declared.event.CoreEvent.{CoreEvent}
 use Rattle.sched_meaning.specs.declared.event.CoreEvent.TheVariants.{Run, Pop, Steal, Look, Idle}
 use Rattle.sched_meaning.proofs.Good.{IsIn}
@@ -145,10 +145,10 @@ module _ (c : Core) where
   steals = flat_map (λ thief. map (λ victim. Steal thief victim) (range_with_len 0 (length c.workers))) (range_with_len 0 (length c.workers))
 
   abbrev looks_of : ℕ → List CoreEvent
-  looks_of w = map (λ place. Look w place) (ring_places (slice_get c.workers w))
+  looks_of w = map (λ place. Look w place) (stalled_places (slice_get c.workers w))
 
   abbrev looks : List CoreEvent
-  looks = flat_map (λ w. map (λ place. Look w place) (ring_places (slice_get c.workers w))) (range_with_len 0 (length c.workers))
+  looks = flat_map (λ w. map (λ place. Look w place) (stalled_places (slice_get c.workers w))) (range_with_len 0 (length c.workers))
 
   runs-kind : (e : CoreEvent) → IsIn runs e → kind e ≡ 0
   runs-kind e h = let m = map-comes (λ w. Run w) ns e h in sym (ap kind m.is)
@@ -160,7 +160,7 @@ module _ (c : Core) where
   steals-kind e h = let f = flat-comes (λ thief. steals_of thief) ns e h in let m = map-comes (λ victim. Steal f.from victim) ns e f.is in sym (ap kind m.is)
 
   looks-kind : (e : CoreEvent) → IsIn looks e → kind e ≡ 3
-  looks-kind e h = let f = flat-comes (λ w. looks_of w) ns e h in let m = map-comes (λ place. Look f.from place) (ring_places (slice_get c.workers f.from)) e f.is in sym (ap kind m.is)
+  looks-kind e h = let f = flat-comes (λ w. looks_of w) ns e h in let m = map-comes (λ place. Look f.from place) (stalled_places (slice_get c.workers f.from)) e f.is in sym (ap kind m.is)
 
   steals-distinct : Distinct steals
   steals-distinct = distinct-flat (λ thief. steals_of thief) (λ thief. distinct-map (λ victim. Steal thief victim) (victim-one thief) ns (range-distinct 0 (length c.workers))) one ns (range-distinct 0 (length c.workers))
@@ -168,17 +168,17 @@ module _ (c : Core) where
       one : (x y : ℕ) (e : CoreEvent) → IsIn (steals_of x) e → IsIn (steals_of y) e → x ≡ y
       one x y e g h = let m = map-comes (λ victim. Steal x victim) ns e g in let k = map-comes (λ victim. Steal y victim) ns e h in thief-one x y m.from k.from (m.is ∙ sym k.is)
 
-  places-distinct : (o : Option Worker) → Distinct (ring_places o)
+  places-distinct : (o : Option Worker) → Distinct (stalled_places o)
   places-distinct None = tt
-  places-distinct (Some w) = range-distinct 0 (length w.ring)
+  places-distinct (Some w) = range-distinct 0 (length w.stalled)
 
   looks-distinct : Distinct looks
-  looks-distinct = distinct-flat (λ w. looks_of w) (λ w. distinct-map (λ place. Look w place) (place-one w) (ring_places (slice_get c.workers w)) (places-distinct (slice_get c.workers w))) one ns (range-distinct 0 (length c.workers))
+  looks-distinct = distinct-flat (λ w. looks_of w) (λ w. distinct-map (λ place. Look w place) (place-one w) (stalled_places (slice_get c.workers w)) (places-distinct (slice_get c.workers w))) one ns (range-distinct 0 (length c.workers))
     where
       one : (x y : ℕ) (e : CoreEvent) → IsIn (looks_of x) e → IsIn (looks_of y) e → x ≡ y
       one x y e g h =
-          let m = map-comes (λ place. Look x place) (ring_places (slice_get c.workers x)) e g in
-          let k = map-comes (λ place. Look y place) (ring_places (slice_get c.workers y)) e h in looker-one x y m.from k.from (m.is ∙ sym k.is)
+          let m = map-comes (λ place. Look x place) (stalled_places (slice_get c.workers x)) e g in
+          let k = map-comes (λ place. Look y place) (stalled_places (slice_get c.workers y)) e h in looker-one x y m.from k.from (m.is ∙ sym k.is)
 
   first-two : Distinct (runs ++ pops)
   first-two = distinct-append runs pops (distinct-map (λ w. Run w) run-one ns (range-distinct 0 (length c.workers))) (distinct-map (λ w. Pop w) pop-one ns (range-distinct 0 (length c.workers)))

@@ -114,18 +114,18 @@ abbrev pub Current : (Task → Type 0) → Option Task → Type 0
 Current P None = Unit {0}
 Current P (Some t) = P t
 
--- the current task and those of the deque are in no wait, and those of the ring stand in one
+-- the current task and those of the deque are in no wait, and the stalled ones stand in one
 pub record IsGood (plan : PlanView) (begun : List Origin) (w : Worker) : Type 0 where
   pub current : Current (IsGoing plan begun) w.current
   pub deque : Each (IsGoing plan begun) w.deque
-  pub ring : Each (IsParked plan begun) w.ring
+  pub stalled : Each (IsParked plan begun) w.stalled
 
 module _ (plan : PlanView) where
   pub grow : (begun more : List Origin) (w : Worker) → IsGood plan begun w → IsGood plan (begun ++ more) w
   grow begun more w is = record {
     current = current-grows w.current is.current;
     deque = each-map (IsGoing plan begun) (IsGoing plan (begun ++ more)) (λ t h. (grow-task plan begun more t h.0, h.1)) w.deque is.deque;
-    ring = each-map (IsParked plan begun) (IsParked plan (begun ++ more)) (λ t h. (grow-task plan begun more t h.0, h.1)) w.ring is.ring;
+    stalled = each-map (IsParked plan begun) (IsParked plan (begun ++ more)) (λ t h. (grow-task plan begun more t h.0, h.1)) w.stalled is.stalled;
   }
     where
       current-grows : (o : Option Task) → Current (IsGoing plan begun) o → Current (IsGoing plan (begun ++ more)) o
@@ -144,9 +144,9 @@ module _ (plan : PlanView) where
   pub good-runs : (begun : List Origin) (w : Worker) (t : Task) (stop : Stop) → IsGood plan begun w → IsLeft plan begun t stop → IsGood plan (begun_by begun stop) (after_stop stop w)
   good-runs begun w t (Spawn child rest) is left =
       let more : IsGood plan (begun ++ child ∷ []) w = grow begun (child ∷ []) w is in
-      record { current = left.0; deque = each-append (IsGoing plan (begun ++ child ∷ [])) w.deque (rest ∷ []) more.deque (left.1, tt); ring = more.ring }
-  good-runs begun w t (Wait rest) is left = record { current = tt; deque = is.deque; ring = each-append (IsParked plan begun) w.ring (rest ∷ []) is.ring (left.0, tt) }
-  good-runs begun w t (End out ended) is left = record { current = tt; deque = is.deque; ring = is.ring }
+      record { current = left.0; deque = each-append (IsGoing plan (begun ++ child ∷ [])) w.deque (rest ∷ []) more.deque (left.1, tt); stalled = more.stalled }
+  good-runs begun w t (Wait rest) is left = record { current = tt; deque = is.deque; stalled = each-append (IsParked plan begun) w.stalled (rest ∷ []) is.stalled (left.0, tt) }
+  good-runs begun w t (End out ended) is left = record { current = tt; deque = is.deque; stalled = is.stalled }
 
   pub good-pops : (begun : List Origin) (t : Task) (w next : Worker) → WorkerPops t w next → IsGood plan begun w → IsGood plan begun next
   good-pops begun t w next p is =
@@ -155,7 +155,7 @@ module _ (plan : PlanView) where
       record {
         current = subst (Current (IsGoing plan begun)) (sym p.current) last;
         deque = each-front (IsGoing plan begun) next.deque (t ∷ []) both;
-        ring = subst (Each (IsParked plan begun)) (sym p.ring) is.ring;
+        stalled = subst (Each (IsParked plan begun)) (sym p.stalled) is.stalled;
       }
 
   pub good-given : (begun : List Origin) (t : Task) (w next : Worker) → WorkerGives t w next → IsGood plan begun w → IsGoing plan begun t
@@ -165,19 +165,19 @@ module _ (plan : PlanView) where
   good-gives begun t w next p is = record {
     current = subst (Current (IsGoing plan begun)) (sym p.current) is.current;
     deque = (subst (Each (IsGoing plan begun)) p.front is.deque).1;
-    ring = subst (Each (IsParked plan begun)) (sym p.ring) is.ring;
+    stalled = subst (Each (IsParked plan begun)) (sym p.stalled) is.stalled;
   }
 
   pub good-takes : (begun : List Origin) (t : Task) (w next : Worker) → WorkerTakes t w next → IsGoing plan begun t → IsGood plan begun w → IsGood plan begun next
-  good-takes begun t w next p going is = subst (IsGood plan begun) (sym p.after) (record { current = going; deque = is.deque; ring = is.ring })
+  good-takes begun t w next p going is = subst (IsGood plan begun) (sym p.after) (record { current = going; deque = is.deque; stalled = is.stalled })
 
   pub good-resumes : (begun : List Origin) (k : ℕ) (t : Task) (w next : Worker) → WorkerResumes k t w next → IsGood plan begun w → IsGood plan begun next
   good-resumes begun k t w next p is =
       subst (IsGood plan begun) (sym p.after)
       (record {
-        current = goes-on plan begun t (each-get (IsParked plan begun) w.ring k t p.there is.ring);
+        current = goes-on plan begun t (each-get (IsParked plan begun) w.stalled k t p.there is.stalled);
         deque = is.deque;
-        ring = each-remove (IsParked plan begun) w.ring k is.ring;
+        stalled = each-remove (IsParked plan begun) w.stalled k is.stalled;
       })
 
   pub good-passes : (begun : List Origin) (k : ℕ) (t : Task) (w next : Worker) → WorkerPasses k t w next → IsGood plan begun w → IsGood plan begun next
@@ -186,5 +186,5 @@ module _ (plan : PlanView) where
       (record {
         current = is.current;
         deque = is.deque;
-        ring = each-append (IsParked plan begun) (remove w.ring k) (t ∷ []) (each-remove (IsParked plan begun) w.ring k is.ring) (each-get (IsParked plan begun) w.ring k t p.there is.ring, tt);
+        stalled = each-append (IsParked plan begun) (remove w.stalled k) (t ∷ []) (each-remove (IsParked plan begun) w.stalled k is.stalled) (each-get (IsParked plan begun) w.stalled k t p.there is.stalled, tt);
       })

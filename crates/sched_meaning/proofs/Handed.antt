@@ -4,16 +4,16 @@ use Rattle.std.proofs.Common.{◌≡◌, ℕ, zero, suc, ◌+◌, ◌-◌, ◌<�
 use Rattle.loop_range.specs.Range.{Range}
 use Rattle.serial_meaning.specs.Plan.{PlanView}
 use Rattle.serial_meaning.specs.Eval.{path_of, depth_left}
-use Rattle.serial_meaning.specs.Open.{Own, Joined}
+use Rattle.serial_meaning.specs.Open.{Own, ChildFaulted}
 use Rattle.serial_meaning.specs.declared.value.Value.{Value}
 use Rattle.serial_meaning.specs.declared.event.Fault.{Fault}
 use Rattle.serial_meaning.specs.declared.event.Event.{Event}
 use Rattle.serial_meaning.specs.declared.origin.Origin.{Origin}
 use Rattle.serial_meaning.specs.declared.origin.Origin.TheVariants.{Instance, Loop}
 use Rattle.serial_meaning.specs.declared.answer.Outcome.{Outcome}
-use Rattle.strand_meaning.specs.Machine.{Token, Opens, Closes, Told, Handed, Syncs, Loops, Reached, Stands, Gives, move}
-use Rattle.strand_meaning.specs.Pieces.{Part, Pieces, behind_last, tell, tell_at, hand, with_tokens}
-use Rattle.strand_meaning.specs.Task.{Stage, Goes, AtSync, AtLoop, Ended, Work, Splits, Runs, Over, Task, own_instance, Step, Passes, Stops, Stop, Spawn, Wait, End, IsNext, Now, Later, stage_after, child_in, stops_at, passing, moved, ends_unless, faults_behind, gave, stage_step, first_half, split_step, over_step, work_step, step}
+use Rattle.strand_meaning.specs.Machine.{Effect, Opens, Closes, Emitted, Handed, Syncs, Loops, Reached, Stands, Gives, move}
+use Rattle.strand_meaning.specs.Trace.{AwaitedChild, Trace, behind_last, emit, emit_at, add_child, with_effects}
+use Rattle.strand_meaning.specs.Task.{InstanceState, Running, AtSync, AtLoop, Ended, Work, Splits, Runs, Over, Task, own_instance, MoveOrStop, Passes, Stops, Stop, Spawn, Wait, End, IsNext, Now, Later, stage_after, child_in, stops_at, passing, moved, ends_unless, faults_behind, gave, stage_step, first_half, split_step, over_step, work_step, step}
 use Rattle.strand_meaning.specs.Sound.{IsEndOf, IsSoundWork, IsTask}
 use Rattle.strand_meaning.specs.Laws.{IsOf, IsSoundStep}
 use Rattle.strand_meaning.proofs.Ends.{steps_are_sound}
@@ -21,40 +21,40 @@ use Rattle.strand_meaning.proofs.Stops.{KeepsStep, step-keeps}
 use Rattle.sched_meaning.specs.Core.{awaited}
 use Rattle.sched_meaning.proofs.Shows.{children, IsDeeper, AtMostOne, MoveHands, strand_at, move_hands}
 
-abbrev pub children_in : List Part → List Origin
+abbrev pub children_in : List AwaitedChild → List Origin
 children_in ps = map (λ p. p.child) ps
 
-pub child-append : (ps qs : List Part) → children_in (ps ++ qs) ≡ children_in ps ++ children_in qs
+pub child-append : (ps qs : List AwaitedChild) → children_in (ps ++ qs) ≡ children_in ps ++ children_in qs
 child-append [] qs = refl
 child-append (p ∷ ps) qs = ap (λ l. p.child ∷ l) (child-append ps qs)
 
-child-behind : (p : Part) (ps : List Part) (e : Event) → children_in (behind_last p ps e) ≡ children_in (p ∷ ps)
+child-behind : (p : AwaitedChild) (ps : List AwaitedChild) (e : Event) → children_in (behind_last p ps e) ≡ children_in (p ∷ ps)
 child-behind p [] e = refl
 child-behind p (q ∷ qs) e = ap (λ l. p.child ∷ l) (child-behind q qs e)
 
-child-tell : (ps : List Part) (e : Event) (pieces : Pieces) → pieces.handed ≡ ps → children_in (tell_at ps e pieces).handed ≡ children_in pieces.handed
-child-tell [] e pieces h = refl
-child-tell (p ∷ ps) e pieces h = child-behind p ps e ∙ ap children_in (sym h)
+child-emit : (ps : List AwaitedChild) (e : Event) (trace : Trace) → trace.handed ≡ ps → children_in (emit_at ps e trace).handed ≡ children_in trace.handed
+child-emit [] e trace h = refl
+child-emit (p ∷ ps) e trace h = child-behind p ps e ∙ ap children_in (sym h)
 
-child-tokens : (ts : List Token) (pieces : Pieces) → children_in (with_tokens ts pieces).handed ≡ children_in pieces.handed ++ children ts
-child-tokens [] pieces = sym (append-nil (children_in pieces.handed))
-child-tokens (Opens j ∷ ts) pieces = child-tokens ts pieces
-child-tokens (Closes j ∷ ts) pieces = child-tokens ts pieces
-child-tokens (Told e ∷ ts) pieces = child-tokens ts (tell e pieces) ∙ ap (λ l. l ++ children ts) (child-tell pieces.handed e pieces refl)
-child-tokens (Handed o place ∷ ts) pieces =
-    child-tokens ts (hand o place pieces) ∙ ap (λ l. l ++ children ts) (child-append pieces.handed _) ∙ append_assoc (children_in pieces.handed) (o ∷ []) (children ts)
-child-tokens (Syncs ∷ ts) pieces = child-tokens ts pieces
-child-tokens (Loops ∷ ts) pieces = child-tokens ts pieces
+child-effects : (ts : List Effect) (trace : Trace) → children_in (with_effects ts trace).handed ≡ children_in trace.handed ++ children ts
+child-effects [] trace = sym (append-nil (children_in trace.handed))
+child-effects (Opens j ∷ ts) trace = child-effects ts trace
+child-effects (Closes j ∷ ts) trace = child-effects ts trace
+child-effects (Emitted e ∷ ts) trace = child-effects ts (emit e trace) ∙ ap (λ l. l ++ children ts) (child-emit trace.handed e trace refl)
+child-effects (Handed o place ∷ ts) trace =
+    child-effects ts (add_child o place trace) ∙ ap (λ l. l ++ children ts) (child-append trace.handed _) ∙ append_assoc (children_in trace.handed) (o ∷ []) (children ts)
+child-effects (Syncs ∷ ts) trace = child-effects ts trace
+child-effects (Loops ∷ ts) trace = child-effects ts trace
 
 abbrev pub first : List Origin → Option Origin
 first [] = None
 first (o ∷ os) = Some o
 
-pub child-first : (ts : List Token) → child_in ts ≡ first (children ts)
+pub child-first : (ts : List Effect) → child_in ts ≡ first (children ts)
 child-first [] = refl
 child-first (Opens j ∷ ts) = child-first ts
 child-first (Closes j ∷ ts) = child-first ts
-child-first (Told e ∷ ts) = child-first ts
+child-first (Emitted e ∷ ts) = child-first ts
 child-first (Handed o place ∷ ts) = refl
 child-first (Syncs ∷ ts) = child-first ts
 child-first (Loops ∷ ts) = child-first ts
@@ -68,7 +68,7 @@ size_of (Loop function rest first path range) = range.hi - range.lo
 abbrev pub IsSmaller : PlanView → Origin → Origin → Type 0
 IsSmaller plan o child = (depth_left plan child < depth_left plan o) ⊎ ((depth_left plan child ≡ depth_left plan o) × (size_of child < size_of o))
 
-abbrev pub HandsStep : Task → Step → Type 0
+abbrev pub HandsStep : Task → MoveOrStop → Type 0
 HandsStep t (Passes next) = awaited next ≡ awaited t
 HandsStep t (Stops (Spawn child rest)) = (awaited rest ≡ awaited t ++ child ∷ []) × IsSmaller t.plan t.origin child
 HandsStep t (Stops (Wait rest)) = awaited rest ≡ awaited t
@@ -94,50 +94,50 @@ module _ (t : Task) where
       let same : c ≡ o = cc in (h ∙ ap (λ d. awaited t ++ d ∷ []) same, subst (λ d. IsSmaller t.plan t.origin d) same (deeper-smaller t.plan t.origin c at k))
   hands-at at (c ∷ d ∷ os) o next e h k = absurd k
 
-  hands-moved : (at : List ℕ) (ts : List Token) (e : Result Reached Fault) → MoveHands t.plan (path_of (own_instance t.origin)) at (children ts) e → HandsStep t (moved t ts e)
-  hands-moved at ts (Ok (Stands m)) h = hands-at at (children ts) (child_in ts) (passing t ts (Runs (stage_after ts m))) (child-first ts) (child-tokens ts t.pieces) h
-  hands-moved at ts (Ok (Gives v)) h = child-tokens ts t.pieces ∙ ap (λ os. awaited t ++ os) h ∙ append-nil (awaited t)
-  hands-moved at ts (Err f) h = child-tokens ts t.pieces ∙ ap (λ os. awaited t ++ os) h ∙ append-nil (awaited t)
+  hands-moved : (at : List ℕ) (ts : List Effect) (e : Result Reached Fault) → MoveHands t.plan (path_of (own_instance t.origin)) at (children ts) e → HandsStep t (moved t ts e)
+  hands-moved at ts (Ok (Stands m)) h = hands-at at (children ts) (child_in ts) (passing t ts (Runs (stage_after ts m))) (child-first ts) (child-effects ts t.trace) h
+  hands-moved at ts (Ok (Gives v)) h = child-effects ts t.trace ∙ ap (λ os. awaited t ++ os) h ∙ append-nil (awaited t)
+  hands-moved at ts (Err f) h = child-effects ts t.trace ∙ ap (λ os. awaited t ++ os) h ∙ append-nil (awaited t)
 
-  hands-faults : (ps : List Part) (f : Fault) → HandsStep t (faults_behind ps t f)
-  hands-faults [] f = hands-ends t.pieces.fault _
+  hands-faults : (ps : List AwaitedChild) (f : Fault) → HandsStep t (faults_behind ps t f)
+  hands-faults [] f = hands-ends t.trace.fault _
   hands-faults (p ∷ ps) f = refl
 
   hands-gave : (o : Origin) (v : Value) → HandsStep t (gave t o v)
-  hands-gave (Instance function args path) v = hands-ends t.pieces.fault _
+  hands-gave (Instance function args path) v = hands-ends t.trace.fault _
   hands-gave (Loop function rest first path range) v = refl
 
-  hands-stage : (stage : Stage) → HandsStep t (stage_step t stage)
-  hands-stage (Goes m) =
+  hands-stage : (stage : InstanceState) → HandsStep t (stage_step t stage)
+  hands-stage (Running m) =
       let path = path_of (own_instance t.origin) in let r = move t.plan path m in hands-moved (strand_at path m) r.items r.ending (move_hands t.plan path m)
   hands-stage (AtSync m) = refl
   hands-stage (AtLoop m) = refl
   hands-stage (Ended (Ok v)) = hands-gave t.origin v
-  hands-stage (Ended (Err (Own f))) = hands-faults t.pieces.handed f
-  hands-stage (Ended (Err (Joined f))) = hands-ends t.pieces.fault _
+  hands-stage (Ended (Err (Own f))) = hands-faults t.trace.handed f
+  hands-stage (Ended (Err (ChildFaulted f))) = hands-ends t.trace.fault _
 
   half-smaller : (o : Origin) (left : Range) (n : ℕ) → IsEndOf o left → left.hi - left.lo ≡ suc (suc n) → IsSmaller t.plan o (first_half o left)
   half-smaller (Instance function args path) left n is e = absurd is
   half-smaller (Loop function rest first path range) left n is e = inr (refl, omega (arith, is.0, is.1))
 
   hands-split : (left : Range) (n : ℕ) → IsEndOf t.origin left → left.hi - left.lo ≡ n → HandsStep t (split_step t left n)
-  hands-split left zero is e = hands-ends t.pieces.fault _
+  hands-split left zero is e = hands-ends t.trace.fault _
   hands-split left (suc zero) is e = refl
-  hands-split left (suc (suc n)) is e = (child-append t.pieces.handed _, half-smaller t.origin left n is e)
+  hands-split left (suc (suc n)) is e = (child-append t.trace.handed _, half-smaller t.origin left n is e)
 
   hands-over : (v : Value) (o : Origin) → HandsStep t (over_step t v o)
-  hands-over v (Instance function args path) = hands-ends t.pieces.fault _
+  hands-over v (Instance function args path) = hands-ends t.trace.fault _
   hands-over v (Loop function rest first path range) = by_size (range.hi - range.lo) refl
     where
       by_size : (n : ℕ) → range.hi - range.lo ≡ n → HandsStep t (over_step t v (Loop function rest first path range))
-      by_size zero g = rw g (hands-ends t.pieces.fault _)
-      by_size (suc zero) g = rw g (hands-ends t.pieces.fault _)
+      by_size zero g = rw g (hands-ends t.trace.fault _)
+      by_size (suc zero) g = rw g (hands-ends t.trace.fault _)
       by_size (suc (suc n)) g = rw g refl
 
-  hands-work : (work : Work) → IsSoundWork t.plan t.origin t.pieces.handed work → HandsStep t (work_step t work)
+  hands-work : (work : Work) → IsSoundWork t.plan t.origin t.trace.handed work → HandsStep t (work_step t work)
   hands-work (Splits left) is = hands-split left (left.hi - left.lo) is.0 refl
   hands-work (Runs stage) is = hands-stage stage
-  hands-work (Over v true) is = hands-ends t.pieces.fault _
+  hands-work (Over v true) is = hands-ends t.trace.fault _
   hands-work (Over v false) is = hands-over v t.origin
 
 step-hands : (t : Task) → IsTask t → HandsStep t (step t)

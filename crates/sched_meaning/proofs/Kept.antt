@@ -46,7 +46,7 @@ module _ (plan : PlanView) where
 
   free-good : (begun : List Origin) (n : ℕ) → Each (IsGood plan begun) (replicate n free_worker)
   free-good begun zero = tt
-  free-good begun (suc n) = (record { current = tt; deque = tt; ring = tt }, free-good begun n)
+  free-good begun (suc n) = (record { current = tt; deque = tt; stalled = tt }, free-good begun n)
 
   pub new-kept : (n : ℕ) → IsClearPlan plan → IsKept plan [] (new_core plan n)
   new-kept n clear = record {
@@ -55,7 +55,7 @@ module _ (plan : PlanView) where
       record {
         current = (record { task = tasks_begin plan (main_origin plan) Main clear; plan_is = refl; children = tt }, refl);
         deque = tt;
-        ring = tt;
+        stalled = tt;
       },
       free-good (main_origin plan ∷ []) (n - 1),
     );

@@ -51,7 +51,7 @@ module _ (plan : PlanView) (c : Core) (is : IsKept plan [] c) (open_yet : IsRoot
   pop-lively : (n : ℕ) (w : Worker) (t : Task) (ts : List Task) → slice_get c.workers n ≡ Some w → w.current ≡ None → w.deque ≡ t ∷ ts → IsLively c
   pop-lively n w t ts there free some =
       let b = has-back t ts in
-      let after : Worker = record { current = Some b.last; deque = b.rest; ring = w.ring } in
+      let after : Worker = record { current = Some b.last; deque = b.rest; stalled = w.stalled } in
       record {
         event = Pop n;
         next = record c { workers = slice_set c.workers n after };
@@ -59,15 +59,15 @@ module _ (plan : PlanView) (c : Core) (is : IsKept plan [] c) (open_yet : IsRoot
           unanswered = open_yet;
           happens = record {
             task = b.last;
-            pops = record { worker = w; after = after; there = there; does = record { free = free; back = some ∙ b.is; current = refl; ring = refl }; next_is = refl };
+            pops = record { worker = w; after = after; there = there; does = record { free = free; back = some ∙ b.is; current = refl; stalled = refl }; next_is = refl };
           };
         };
         fruitful = tt;
       }
 
-  look-lively : (n k : ℕ) (w : Worker) (t : Task) → slice_get c.workers n ≡ Some w → w.current ≡ None → slice_get w.ring k ≡ Some t → IsReady c t → IsLively c
+  look-lively : (n k : ℕ) (w : Worker) (t : Task) → slice_get c.workers n ≡ Some w → w.current ≡ None → slice_get w.stalled k ≡ Some t → IsReady c t → IsLively c
   look-lively n k w t there free at ready =
-      let after : Worker = record w { current = Some (gone_on t); ring = remove w.ring k } in
+      let after : Worker = record w { current = Some (gone_on t); stalled = remove w.stalled k } in
       let next : Core = record c { workers = slice_set c.workers n after } in
       let resumes : Resumes n k c next = record { task = t; ready = ready; resumes = record { worker = w; after = after; there = there; does = record { free = free; there = at; after = refl }; next_is = refl } } in
       record {
@@ -84,11 +84,11 @@ module _ (plan : PlanView) (c : Core) (is : IsKept plan [] c) (open_yet : IsRoot
   abbrev Smaller : Origin → Type 0
   Smaller o = (child : Origin) → IsOpen child → IsSmaller plan o child → IsLively c
 
-  ring-lively : (o : Origin) (n : ℕ) (w : Worker) → slice_get c.workers n ≡ Some w → w.current ≡ None → Some_at (λ t. is_it o (gone_on t).origin) w.ring → Smaller o → IsLively c
-  ring-lively o n w there free s below = by_ready (all-or (IsChild plan c.begun s.value.origin) c (awaited s.value) parked.0.children)
+  stalled-lively : (o : Origin) (n : ℕ) (w : Worker) → slice_get c.workers n ≡ Some w → w.current ≡ None → Some_at (λ t. is_it o (gone_on t).origin) w.stalled → Smaller o → IsLively c
+  stalled-lively o n w there free s below = by_ready (all-or (IsChild plan c.begun s.value.origin) c (awaited s.value) parked.0.children)
     where
       parked : IsParked plan c.begun s.value
-      parked = each-get (IsParked plan c.begun) w.ring s.at s.value s.there (each-get (IsGood plan c.begun) c.workers n w there is.workers).ring
+      parked = each-get (IsParked plan c.begun) w.stalled s.at s.value s.there (each-get (IsGood plan c.begun) c.workers n w there is.workers).stalled
 
       by_ready : IsReady c s.value ⊎ Unanswered (IsChild plan c.begun s.value.origin) c → IsLively c
       by_ready (inl ready) = look-lively n s.at w s.value there free s.there ready
@@ -102,7 +102,7 @@ module _ (plan : PlanView) (c : Core) (is : IsKept plan [] c) (open_yet : IsRoot
       by_deque [] free e =
           let a : total (by_origin (is_it o)) (current_tasks w.current) ≡ 0 = ap (λ x. total (by_origin (is_it o)) (current_tasks x)) free in
           let b : total (by_origin (is_it o)) w.deque ≡ 0 = ap (λ l. total (by_origin (is_it o)) l) e in
-          ring-lively o n w there free (find-some (λ t. is_it o (gone_on t).origin) w.ring k (omega arith)) below
+          stalled-lively o n w there free (find-some (λ t. is_it o (gone_on t).origin) w.stalled k (omega arith)) below
 
       by_current : (t : Option Task) → w.current ≡ t → IsLively c
       by_current (Some t) e = run-lively n w t there e

@@ -117,7 +117,7 @@ module _ (plan : PlanView) (c : Core) (is : IsKept plan [] c) (clear : IsClearPl
 
   tasks-load : (h : Origin → ℕ) (w : Worker) → total (by_origin h) (tasks_of w) ≡ load (by_origin h) w
   tasks-load h w =
-      let a : total (by_origin h) (current_tasks w.current ++ w.deque ++ w.ring) ≡ total (by_origin h) (current_tasks w.current ++ w.deque) + total (by_origin h) w.ring = total-append (by_origin h) (current_tasks w.current ++ w.deque) w.ring in
+      let a : total (by_origin h) (current_tasks w.current ++ w.deque ++ w.stalled) ≡ total (by_origin h) (current_tasks w.current ++ w.deque) + total (by_origin h) w.stalled = total-append (by_origin h) (current_tasks w.current ++ w.deque) w.stalled in
       let b : total (by_origin h) (current_tasks w.current ++ w.deque) ≡ total (by_origin h) (current_tasks w.current) + total (by_origin h) w.deque = total-append (by_origin h) (current_tasks w.current) w.deque in sums _ _ _ _ _ a b
     where
       sums : (x y z v u : ℕ) → x ≡ y + z → y ≡ v + u → x ≡ v + (u + z)

@@ -10,8 +10,8 @@ use Rattle.sched_meaning.specs.declared.event.CoreEvent.TheVariants.{Run, Pop, S
 pub some-one : {A : Type 0} (x y : A) → Some x ≡ Some y → x ≡ y
 some-one x y h = cc
 
-worker-one : (v w : Worker) → v.current ≡ w.current → v.deque ≡ w.deque → v.ring ≡ w.ring → v ≡ w
-worker-one v w a b c = λ i. record { current = a i; deque = b i; ring = c i }
+worker-one : (v w : Worker) → v.current ≡ w.current → v.deque ≡ w.deque → v.stalled ≡ w.stalled → v ≡ w
+worker-one v w a b c = λ i. record { current = a i; deque = b i; stalled = c i }
 
 last-one : {A : Type 0} (xs ys : List A) (x y : A) → xs ++ x ∷ [] ≡ ys ++ y ∷ [] → (xs ≡ ys) × (x ≡ y)
 last-one [] [] x y h = (refl, cc)
@@ -39,13 +39,13 @@ pops-one : (t u : Task) (w a b : Worker) → WorkerPops t w a → WorkerPops u w
 pops-one t u w a b p q = from (last-one a.deque b.deque t u (sym p.back ∙ q.back))
   where
     from : (a.deque ≡ b.deque) × (t ≡ u) → a ≡ b
-    from e = worker-one a b (p.current ∙ ap (λ x. Some x) e.1 ∙ sym q.current) e.0 (p.ring ∙ sym q.ring)
+    from e = worker-one a b (p.current ∙ ap (λ x. Some x) e.1 ∙ sym q.current) e.0 (p.stalled ∙ sym q.stalled)
 
 gives-task : (t u : Task) (w a b : Worker) → WorkerGives t w a → WorkerGives u w b → t ≡ u
 gives-task t u w a b p q = let e : t ∷ a.deque ≡ u ∷ b.deque = sym p.front ∙ q.front in cc
 
 gives-one : (t u : Task) (w a b : Worker) → WorkerGives t w a → WorkerGives u w b → a ≡ b
-gives-one t u w a b p q = worker-one a b (p.current ∙ sym q.current) rest (p.ring ∙ sym q.ring)
+gives-one t u w a b p q = worker-one a b (p.current ∙ sym q.current) rest (p.stalled ∙ sym q.stalled)
   where
     rest : a.deque ≡ b.deque
     rest = let e : t ∷ a.deque ≡ u ∷ b.deque = sym p.front ∙ q.front in cc
@@ -55,10 +55,10 @@ takes-one t u e w a b p q = p.after ∙ ap (λ x. record w { current = Some x })
 
 resumes-one : (k : ℕ) (t u : Task) (w a b : Worker) → WorkerResumes k t w a → WorkerResumes k u w b → a ≡ b
 resumes-one k t u w a b p q =
-    p.after ∙ ap (λ x. record w { current = Some (gone_on x); ring = remove w.ring k }) (some-one t u (sym p.there ∙ q.there)) ∙ sym q.after
+    p.after ∙ ap (λ x. record w { current = Some (gone_on x); stalled = remove w.stalled k }) (some-one t u (sym p.there ∙ q.there)) ∙ sym q.after
 
 passes-one : (k : ℕ) (t u : Task) (w a b : Worker) → WorkerPasses k t w a → WorkerPasses k u w b → a ≡ b
-passes-one k t u w a b p q = p.after ∙ ap (λ x. record w { ring = remove w.ring k ++ x ∷ [] }) (some-one t u (sym p.there ∙ q.there)) ∙ sym q.after
+passes-one k t u w a b p q = p.after ∙ ap (λ x. record w { stalled = remove w.stalled k ++ x ∷ [] }) (some-one t u (sym p.there ∙ q.there)) ∙ sym q.after
 
 -- The core
 

@@ -15,7 +15,7 @@ use Rattle.serial_meaning.specs.Runs.{Run, done, goes_on, ◌then◌}
 use Rattle.serial_meaning.specs.Values.{value_of, values_of, slot_of, items_of, number, is_true, at_index}
 use Rattle.serial_meaning.specs.Functions.{number_of, function_at}
 use Rattle.serial_meaning.specs.Plan.{PlanView, functions_of}
-use Rattle.serial_meaning.specs.Exec.{State, Manner, strand, given, paid_from, tested, has_room, fits_depth, spawn, join_at, implied, activation, called, right_side, found, looped, does, count_of}
+use Rattle.serial_meaning.specs.Exec.{State, Manner, strand, given, paid_from, tested, has_room, fits_depth, spawn, join_at, implied, frame, called, right_side, found, looped, does, count_of}
 use Rattle.serial_meaning.specs.Eval.{path_of}
 use Rattle.serial_meaning.specs.Open.{is_empty_loop}
 use Rattle.serial_meaning.specs.declared.value.Value.{Value}
@@ -25,7 +25,7 @@ use Rattle.serial_meaning.specs.declared.event.Fault.{Fault}
 use Rattle.serial_meaning.specs.declared.event.Event.TheVariants as event
 use Rattle.serial_meaning.specs.declared.origin.Origin.{Origin}
 use Rattle.serial_meaning.specs.declared.origin.Origin.TheVariants as origin
-use Rattle.strand_meaning.specs.Machine.{Place, Spawned, Looped, Token, Opens, Closes, Told, Handed, Syncs, Loops, Halt, Faulted, Inside, loop_tokens, sync_tokens, handing, inside, place_of, Level, Activation, Machine, Reached, Stands, Gives, inside_of, present, here_of, state_of, with_left, with_leaving, with_returning, back, spawns_in, entered, reached, gives, act_run, return_run, value_run, statement_move, return_move, level_move, end_move, move_at, move}
+use Rattle.strand_meaning.specs.Machine.{Destination, Spawned, Looped, Effect, Opens, Closes, Emitted, Handed, Syncs, Loops, Exit, Faulted, Inside, loop_effects, sync_effects, handing, inside, place_of, Level, Frame, Machine, Reached, Stands, Gives, inside_of, present, here_of, state_of, with_left, with_leaving, with_returning, back, spawns_in, entered, reached, gives, act_run, return_run, value_run, statement_move, return_move, level_move, end_move, move_at, move}
 use Rattle.strand_meaning.specs.Task.{child_in}
 use Rattle.strand_meaning.proofs.Own.{present-below}
 
@@ -69,19 +69,19 @@ abbrev pub AfterLevels : List ℕ → List Level → Origin → Type 0
 AfterLevels path [] q = ⊥
 AfterLevels path (l ∷ ls) q = From (inside_of path ls) (l.rank + 1) q ⊎ AfterLevels path ls q
 
--- after one of the scopes of these activations
-abbrev pub AfterScopes : List ℕ → List Activation → Origin → Type 0
+-- after one of the scopes of these frames
+abbrev pub AfterScopes : List ℕ → List Frame → Origin → Type 0
 AfterScopes path [] q = ⊥
 AfterScopes path (a ∷ below) q = AfterLevels (present path below) a.levels q ⊎ AfterScopes path below q
 
 -- in the innermost of these scopes by a rank from k on, or after one of all those
-abbrev pub OnwardAt : List ℕ → List Level → List Activation → ℕ → Origin → Type 0
+abbrev pub OnwardAt : List ℕ → List Level → List Frame → ℕ → Origin → Type 0
 OnwardAt path ls below k q = From (inside_of (present path below) ls) k q ⊎ (AfterLevels (present path below) ls q ⊎ AfterScopes path below q)
 
 abbrev pub Onward : List ℕ → Machine → ℕ → Origin → Type 0
 Onward path m k q = OnwardAt path m.top.levels m.below k q
 
-pub onward-lower : (path : List ℕ) (ls : List Level) (below : List Activation) (j k : ℕ) (q : Origin) → j ≤ k → OnwardAt path ls below k q → OnwardAt path ls below j q
+pub onward-lower : (path : List ℕ) (ls : List Level) (below : List Frame) (j k : ℕ) (q : Origin) → j ≤ k → OnwardAt path ls below k q → OnwardAt path ls below j q
 onward-lower path ls below j k q h (inl f) = inl (from-lower (inside_of (present path below) ls) j k q h f)
 onward-lower path ls below j k q h (inr x) = inr x
 
@@ -96,7 +96,7 @@ goes-on : (path : List ℕ) (ls : List Level) → (ranks : List ℕ) × (inside_
 goes-on path [] = ([], sym (append-nil path))
 goes-on path (l ∷ ls) = let g = goes-on path ls in (g.0 ++ l.rank ∷ [], ap (λ p. p ++ l.rank ∷ []) g.1 ∙ append_assoc path g.0 (l.rank ∷ []))
 
-scopes-apart : (path : List ℕ) (below : List Activation) (more : List ℕ) (q : Origin) → path_of q ≡ present path below ++ more → AfterScopes path below q → ⊥
+scopes-apart : (path : List ℕ) (below : List Frame) (more : List ℕ) (q : Origin) → path_of q ≡ present path below ++ more → AfterScopes path below q → ⊥
 scopes-apart path [] more q e x = absurd x
 scopes-apart path (a ∷ below) more q e (inl x) = levels-apart (present path below) a.levels more q e x
 scopes-apart path (a ∷ below) more q e (inr x) =
@@ -119,7 +119,7 @@ levels-below path at ranks e (l ∷ ls) q (inl f) =
     let g = goes-on at ls in from-further path (inside_of at ls) (ranks ++ g.0) (l.rank + 1) q (g.1 ∙ ap (λ p. p ++ g.0) e ∙ append_assoc path ranks g.0) f
 levels-below path at ranks e (l ∷ ls) q (inr x) = levels-below path at ranks e ls q x
 
-scopes-below : (path : List ℕ) (below : List Activation) (q : Origin) → AfterScopes path below q → From path 0 q
+scopes-below : (path : List ℕ) (below : List Frame) (q : Origin) → AfterScopes path below q → From path 0 q
 scopes-below path [] q x = absurd x
 scopes-below path (a ∷ below) q (inl x) = let b = present-below path below in levels-below path (present path below) b.0 b.1 a.levels q x
 scopes-below path (a ∷ below) q (inr x) = scopes-below path below q x
@@ -131,20 +131,20 @@ onward-below path m k q (inr x) = scopes-below path (m.top ∷ m.below) q x
 -- Ranks
 
 -- how many children are handed out
-abbrev pub handed : List Token → ℕ
+abbrev pub handed : List Effect → ℕ
 handed [] = 0
 handed (Opens j ∷ ts) = handed ts
 handed (Closes j ∷ ts) = handed ts
-handed (Told e ∷ ts) = handed ts
+handed (Emitted e ∷ ts) = handed ts
 handed (Handed o place ∷ ts) = suc (handed ts)
 handed (Syncs ∷ ts) = handed ts
 handed (Loops ∷ ts) = handed ts
 
-pub child-handed : (ts : List Token) (o : Origin) → child_in ts ≡ Some o → 1 ≤ handed ts
+pub child-handed : (ts : List Effect) (o : Origin) → child_in ts ≡ Some o → 1 ≤ handed ts
 child-handed [] o h = absurd (cc)
 child-handed (Opens j ∷ ts) o h = child-handed ts o h
 child-handed (Closes j ∷ ts) o h = child-handed ts o h
-child-handed (Told e ∷ ts) o h = child-handed ts o h
+child-handed (Emitted e ∷ ts) o h = child-handed ts o h
 child-handed (Handed c place ∷ ts) o h = omega arith
 child-handed (Syncs ∷ ts) o h = child-handed ts o h
 child-handed (Loops ∷ ts) o h = child-handed ts o h
@@ -152,15 +152,15 @@ child-handed (Loops ∷ ts) o h = child-handed ts o h
 -- A run at a present path that begins at the rank k: it ends at a rank after the children that it handed out. Where it goes inside, it
 -- handed out none.
 module _ (plan : PlanView) (path : List ℕ) (k : ℕ) (In : ℕ → Type 0) (stays : In k) where
-  abbrev RankEnd : {A : Type 0} → (A → ℕ) → List Token → Result A Halt → Type 0
+  abbrev RankEnd : {A : Type 0} → (A → ℕ) → List Effect → Result A Exit → Type 0
   RankEnd rank ts (Ok a) = k + handed ts ≤ rank a
   RankEnd rank ts (Err (Faulted f)) = Unit {0}
   RankEnd rank ts (Err (Inside here calls sts s)) = (handed ts ≡ 0) × In s.rank
 
-  abbrev Rises : {A : Type 0} → (A → ℕ) → Run Token Halt A → Type 0
+  abbrev Rises : {A : Type 0} → (A → ℕ) → Run Effect Exit A → Type 0
   Rises rank r = RankEnd rank r.items r.ending
 
-  abbrev what : Place → Manner Token Halt Bool
+  abbrev what : Destination → Manner Effect Exit Bool
   what place = handing plan place
 
   abbrev of-state : State Bool → ℕ
@@ -169,51 +169,51 @@ module _ (plan : PlanView) (path : List ℕ) (k : ℕ) (In : ℕ → Type 0) (st
   abbrev of-value : Value × State Bool → ℕ
   of-value p = p.1.rank
 
-  rises-given : {A B : Type 0} (rank : B → ℕ) (place : Place) (o : Result A FaultKind) (s : State Bool) (f : A → Run Token Halt B) → ((a : A) → Rises rank (f a)) → Rises rank (given (what place) plan path o s f)
+  rises-given : {A B : Type 0} (rank : B → ℕ) (place : Destination) (o : Result A FaultKind) (s : State Bool) (f : A → Run Effect Exit B) → ((a : A) → Rises rank (f a)) → Rises rank (given (what place) plan path o s f)
   rises-given rank place (Ok a) s f h = h a
   rises-given rank place (Err kind) s f h = tt
 
-  rises-tested : {B : Type 0} (rank : B → ℕ) (place : Place) (b : Bool) (kind : FaultKind) (s : State Bool) (f : Run Token Halt B) → Rises rank f → Rises rank (tested (what place) plan path b kind s f)
+  rises-tested : {B : Type 0} (rank : B → ℕ) (place : Destination) (b : Bool) (kind : FaultKind) (s : State Bool) (f : Run Effect Exit B) → Rises rank f → Rises rank (tested (what place) plan path b kind s f)
   rises-tested rank place true kind s f h = h
   rises-tested rank place false kind s f h = tt
 
-  rises-paid : {B : Type 0} (rank : B → ℕ) (place : Place) (n : ℕ) (s : State Bool) → s.rank ≡ k → (f : State Bool → Run Token Halt B) → ((s : State Bool) → s.rank ≡ k → Rises rank (f s)) → Rises rank (paid_from (what place) plan path n s f)
+  rises-paid : {B : Type 0} (rank : B → ℕ) (place : Destination) (n : ℕ) (s : State Bool) → s.rank ≡ k → (f : State Bool → Run Effect Exit B) → ((s : State Bool) → s.rank ≡ k → Rises rank (f s)) → Rises rank (paid_from (what place) plan path n s f)
   rises-paid rank place zero s e f h = tt
   rises-paid rank place (suc n) s e f h = h (record s { steps = n }) e
 
-  rises-then : {A B : Type 0} (rank : A → ℕ) (last : B → ℕ) (r : Run Token Halt A) (g : A → B) → ((a : A) → last (g a) ≡ rank a) → Rises rank r → Rises last (r then λ a. done (g a))
+  rises-then : {A B : Type 0} (rank : A → ℕ) (last : B → ℕ) (r : Run Effect Exit A) (g : A → B) → ((a : A) → last (g a) ≡ rank a) → Rises rank r → Rises last (r then λ a. done (g a))
   rises-then {A} {B} rank last r g same h = from r.items r.ending h
     where
-      from : (ts : List Token) (e : Result A Halt) → RankEnd rank ts e → Rises last (goes_on ts e (λ a. done (g a)))
-      from ts (Ok a) h = subst (λ (l : List Token). k + handed l ≤ last (g a)) (sym (append-nil ts)) (subst (λ n. k + handed ts ≤ n) (sym (same a)) h)
+      from : (ts : List Effect) (e : Result A Exit) → RankEnd rank ts e → Rises last (goes_on ts e (λ a. done (g a)))
+      from ts (Ok a) h = subst (λ (l : List Effect). k + handed l ≤ last (g a)) (sym (append-nil ts)) (subst (λ n. k + handed ts ≤ n) (sym (same a)) h)
       from ts (Err (Faulted f)) h = tt
       from ts (Err (Inside here calls sts s)) h = h
 
-  rises-sync : (place : Place) (here : List ℕ) (s : State Bool) → s.rank ≡ k → Rises of-state (join_at (what place) plan path here s)
+  rises-sync : (place : Destination) (here : List ℕ) (s : State Bool) → s.rank ≡ k → Rises of-state (join_at (what place) plan path here s)
   rises-sync place here s e = from s.spawned
     where
-      from : (b : Bool) → k + handed (Told (event.Sync (strand here s)) ∷ (sync_tokens b ++ [])) ≤ s.rank + 1
+      from : (b : Bool) → k + handed (Emitted (event.Sync (strand here s)) ∷ (sync_effects b ++ [])) ≤ s.rank + 1
       from true = omega arith
       from false = omega arith
 
-  rises-spawn : (place : Place) (c : CallText) (s : State Bool) → s.rank ≡ k → Rises of-value (spawn (what place) plan path c s)
+  rises-spawn : (place : Destination) (c : CallText) (s : State Bool) → s.rank ≡ k → Rises of-value (spawn (what place) plan path c s)
   rises-spawn place c s e =
       rises-given of-value place (values_of c.args s.env) s _ (λ vs. rises-tested of-value place (nat_lt (length path + 1) plan.limits.depth) Depth s _ after)
     where
       after : k + 1 ≤ s.rank + 1
       after = omega arith
 
-  rises-called : (place : Place) (calls : ℕ) (c : CallText) (s : State Bool) → s.rank ≡ k → Rises of-value (called (what place) plan path inside calls c s)
+  rises-called : (place : Destination) (calls : ℕ) (c : CallText) (s : State Bool) → s.rank ≡ k → Rises of-value (called (what place) plan path inside calls c s)
   rises-called place calls c s e =
       rises-given of-value place (values_of c.args s.env) s _ (λ vs. rises-tested of-value place (nat_lt calls 256) Calls s _
-      (rises-then of-value of-value (activation (what place) plan path inside (calls + 1) (function_at (functions_of plan) (number_of (functions_of plan) c.name.bytes)) vs s) (λ r. (r.0, record s { rank = r.1.rank; steps = r.1.steps })) (λ r. refl)
+      (rises-then of-value of-value (frame (what place) plan path inside (calls + 1) (function_at (functions_of plan) (number_of (functions_of plan) c.name.bytes)) vs s) (λ r. (r.0, record s { rank = r.1.rank; steps = r.1.steps })) (λ r. refl)
       (by_function vs (function_at (functions_of plan) (number_of (functions_of plan) c.name.bytes)))))
     where
-      by_function : (vs : List Value) (o : Option Function) → Rises of-value (activation (what place) plan path inside (calls + 1) o vs s)
+      by_function : (vs : List Value) (o : Option Function) → Rises of-value (frame (what place) plan path inside (calls + 1) o vs s)
       by_function vs None = omega arith
       by_function vs (Some f) = (refl, subst In (sym e) stays)
 
-  rises-right : (place : Place) (calls : ℕ) (r : Right) (s : State Bool) → s.rank ≡ k → Rises of-value (right_side (what place) plan path inside calls r s)
+  rises-right : (place : Destination) (calls : ℕ) (r : Right) (s : State Bool) → s.rank ≡ k → Rises of-value (right_side (what place) plan path inside calls r s)
   rises-right place calls (right.Value x) s e = rises-given of-value place (value_of x s.env) s _ (λ v. same)
     where
       same : k + 0 ≤ s.rank
@@ -227,13 +227,13 @@ module _ (plan : PlanView) (path : List ℕ) (k : ℕ) (In : ℕ → Type 0) (st
   rises-loop target c lo hi vs s e =
       rises-tested of-state place (nat_lt hi (s.steps + 1)) Budget s _ (rises-tested of-state place (has_room target hi s.env) Index _ _ (rises-tested of-state place (fits_depth (what place) plan path hi) Depth _ _ (from (is_empty_loop o))))
     where
-      place : Place
+      place : Destination
       place = Looped target
 
       o : Origin
       o = origin.Loop (number_of (functions_of plan) c.name.bytes) vs lo (path ++ s.rank ∷ []) (record { lo = 0; hi = hi })
 
-      from : (b : Bool) → k + handed (Told (event.Loop (path ++ s.rank ∷ [])) ∷ (loop_tokens b o place ++ [])) ≤ s.rank + 1
+      from : (b : Bool) → k + handed (Emitted (event.Loop (path ++ s.rank ∷ [])) ∷ (loop_effects b o place ++ [])) ≤ s.rank + 1
       from true = omega arith
       from false = omega arith
 
@@ -286,13 +286,13 @@ module _ (plan : PlanView) (path : List ℕ) (k : ℕ) where
   rises-does height st (act.Store x i v) s e =
       rises-given plan path k Same refl state_rank place (value_of i s.env) s _ (λ n. by_item (at_index (items_of (slot_of s.env x.bytes)) (number n)) _ (rises-given plan path k Same refl state_rank place (value_of v s.env) s _ (λ w. same)))
     where
-      place : Place
+      place : Destination
       place = Spawned height None
 
       same : k + 0 ≤ s.rank
       same = omega arith
 
-      by_item : (o : Option ℤ) (r : Run Token Halt (State Bool)) → Rises plan path k Same refl state_rank r → Rises plan path k Same refl state_rank (found (handing plan place) plan path o s r)
+      by_item : (o : Option ℤ) (r : Run Effect Exit (State Bool)) → Rises plan path k Same refl state_rank r → Rises plan path k Same refl state_rank (found (handing plan place) plan path o s r)
       by_item None r h = tt
       by_item (Some old) r h = h
   rises-does height st (act.Spawn c) s e =
@@ -320,7 +320,7 @@ module _ (plan : PlanView) (path : List ℕ) (k : ℕ) where
 -- Moves
 
 -- What is onward after a move was onward before it, and from the next rank on where a child was handed out.
-abbrev pub MovesOn : List ℕ → Machine → List Token → Result Reached Fault → Type 0
+abbrev pub MovesOn : List ℕ → Machine → List Effect → Result Reached Fault → Type 0
 MovesOn path m ts (Ok (Stands next)) = (q : Origin) → Onward path next next.rank q → Onward path m (m.rank + handed ts) q
 MovesOn path m ts (Ok (Gives v)) = Unit {0}
 MovesOn path m ts (Err f) = Unit {0}
@@ -370,7 +370,7 @@ module _ (plan : PlanView) (path : List ℕ) (m : Machine) where
   -- what a run comes to, by a rank in the same scopes and by what it goes inside to
   reached-on : (In : ℕ → Type 0) (stays : In m.rank) (on : State Bool → Machine) (into : List Stmt → State Bool → Machine) →
       ((k : ℕ) (s : State Bool) (q : Origin) → k ≤ s.rank → Onward path (on s) (on s).rank q → Onward path m k q) → ((sts : List Stmt) (s : State Bool) → In s.rank → Keeps (into sts s)) →
-      (ts : List Token) (e : Result (State Bool) Halt) → RankEnd plan (here_of path m) m.rank In stays (λ s. s.rank) ts e → MovesOn path m ts (reached plan on into e)
+      (ts : List Effect) (e : Result (State Bool) Exit) → RankEnd plan (here_of path m) m.rank In stays (λ s. s.rank) ts e → MovesOn path m ts (reached plan on into e)
   reached-on In stays on into up goes ts (Ok s) h = λ q x. up (m.rank + handed ts) s q h x
   reached-on In stays on into up goes ts (Err (Faulted f)) h = tt
   reached-on In stays on into up goes ts (Err (Inside here calls sts s)) h = λ q x. onward-lower path m.top.levels m.below (m.rank + handed ts) m.rank q (none h.0) (goes sts s h.1 q x)
@@ -398,7 +398,7 @@ module _ (plan : PlanView) (path : List ℕ) (m : Machine) where
   no-inside sts s e = λ q x. x
 
   -- the value of a return, which goes back to the caller, who stands at the same path
-  back-on : m.top.levels ≡ [] → (below : List Activation) → m.below ≡ below → (target : Option Name) (v : Value) (steps : ℕ) → MovesOn path m [] (Ok (back below target v m.rank steps))
+  back-on : m.top.levels ≡ [] → (below : List Frame) → m.below ≡ below → (target : Option Name) (v : Value) (steps : ℕ) → MovesOn path m [] (Ok (back below target v m.rank steps))
   back-on flat [] at target v steps = tt
   back-on flat (caller ∷ below) at target v steps =
       λ q x. subst (λ bs. OnwardAt path m.top.levels bs (m.rank + 0) q) (sym at) (subst (λ ls. OnwardAt path ls (caller ∷ below) (m.rank + 0) q) (sym flat) (outer q x))
@@ -412,7 +412,7 @@ module _ (plan : PlanView) (path : List ℕ) (m : Machine) where
       reached-on Here refl (with_returning m) (λ sts s. m) rises-on no-inside (return_run plan path m).items (return_run plan path m).ending
       (rises-paid plan (here_of path m) m.rank Here refl (λ s. s.rank) place m.steps (state_of m) refl _ (λ s e. by_text (spawns_in (function_at (functions_of plan) m.top.function)) s e))
     where
-      place : Place
+      place : Destination
       place = Spawned (length m.below) None
 
       by_text : (b : Bool) (s : State Bool) → s.rank ≡ m.rank → Rises plan (here_of path m) m.rank Here refl (λ s. s.rank) (implied (handing plan place) plan (here_of path m) b s)
@@ -421,7 +421,7 @@ module _ (plan : PlanView) (path : List ℕ) (m : Machine) where
   return-on flat true = by_function (function_at (functions_of plan) m.top.function)
     where
       by_value : (f : Function) (o : Result Value FaultKind) →
-          let r : Run Token Halt (Value × State Bool) = given (handing plan (Spawned (length m.below) None)) plan (here_of path m) o (state_of m) (λ v. done (v, state_of m)) in MovesOn path m r.items (gives plan m r.ending)
+          let r : Run Effect Exit (Value × State Bool) = given (handing plan (Spawned (length m.below) None)) plan (here_of path m) o (state_of m) (λ v. done (v, state_of m)) in MovesOn path m r.items (gives plan m r.ending)
       by_value f (Ok v) = back-on flat m.below refl m.top.target v m.steps
       by_value f (Err kind) = tt
 

@@ -5,15 +5,15 @@ use Rattle.loop_range.specs.Range.{Range, lower_half, upper_half}
 use Rattle.script_grammar.specs.declared.tree.Name.{Name}
 use Rattle.serial_meaning.specs.Plan.{PlanView}
 use Rattle.serial_meaning.specs.Eval.{Evaluation, path_of, eval}
-use Rattle.serial_meaning.specs.Open.{Own, Joined}
+use Rattle.serial_meaning.specs.Open.{Own, ChildFaulted}
 use Rattle.serial_meaning.specs.declared.value.Value.{Value}
 use Rattle.serial_meaning.specs.declared.event.Fault.{Fault}
 use Rattle.serial_meaning.specs.declared.origin.Origin.{Origin}
 use Rattle.serial_meaning.specs.declared.origin.Origin.TheVariants.{Instance, Loop}
 use Rattle.serial_meaning.specs.declared.answer.Outcome.{Outcome}
-use Rattle.strand_meaning.specs.Machine.{Place, Spawned, Looped, Half, Level, Activation, Token, Opens, Closes, Told, Handed, Syncs, Loops, Machine, Reached, Stands, Gives, inside_of, present, here_of, begun, move}
-use Rattle.strand_meaning.specs.Pieces.{Part, hand}
-use Rattle.strand_meaning.specs.Task.{Stage, Goes, AtSync, AtLoop, Ended, Work, Splits, Runs, Over, Task, start, begun_stage, own_instance, begins_last, Step, Passes, Stops, Stop, Spawn, Wait, End, IsNext, Now, Later, stage_after, child_in, stops_at, passing, moved, waits, ends_unless, faults_behind, gave, stage_step, first_half, split_step, over_step, work_step, step, changed, changed_at, answered, takes, joins, resumed, takes_all, resumed_work}
+use Rattle.strand_meaning.specs.Machine.{Destination, Spawned, Looped, Half, Level, Frame, Effect, Opens, Closes, Emitted, Handed, Syncs, Loops, Machine, Reached, Stands, Gives, inside_of, present, here_of, begun, move}
+use Rattle.strand_meaning.specs.Trace.{AwaitedChild, add_child}
+use Rattle.strand_meaning.specs.Task.{InstanceState, Running, AtSync, AtLoop, Ended, Work, Splits, Runs, Over, Task, start, begun_stage, own_instance, begins_last, MoveOrStop, Passes, Stops, Stop, Spawn, Wait, End, IsNext, Now, Later, stage_after, child_in, stops_at, passing, moved, waits, ends_unless, faults_behind, gave, stage_step, first_half, split_step, over_step, work_step, step, changed, changed_at, answered, takes, joins, resumed, takes_all, resumed_work}
 use Rattle.strand_meaning.specs.Rest.{evaluations}
 use Rattle.strand_meaning.specs.Sound.{IsEndOf, IsSoundWork, IsTask}
 use Rattle.strand_meaning.specs.Laws.{IsSoundStep}
@@ -48,8 +48,8 @@ pub record Between (p : List ℕ) (left : Range) (q : Origin) : Type 0 where
 abbrev pub SplitRegion : List ℕ → Range → Origin → Type 0
 SplitRegion p left q = IsShorter p left q ⊎ Between p left q
 
-abbrev pub StageRegion : List ℕ → Stage → Origin → Type 0
-StageRegion w (Goes m) q = Onward w m m.rank q
+abbrev pub StageRegion : List ℕ → InstanceState → Origin → Type 0
+StageRegion w (Running m) q = Onward w m m.rank q
 StageRegion w (AtSync m) q = Onward w m m.rank q
 StageRegion w (AtLoop m) q = Onward w m m.rank q
 StageRegion w (Ended e) q = ⊥
@@ -89,7 +89,7 @@ pub record AreApart (o : Origin) (work : Work) (c : Origin) (rest : Task) : Type
   pub not_later : Region rest c → ⊥
   pub apart : (q : Origin) → Region (start rest.plan c) q → Region rest q → ⊥
 
-abbrev pub StepRegion : Origin → Work → Step → Type 0
+abbrev pub StepRegion : Origin → Work → MoveOrStop → Type 0
 StepRegion o work (Passes next) = (q : Origin) → Region next q → WorkRegion o work q
 StepRegion o work (Stops (Spawn c rest)) = AreApart o work c rest
 StepRegion o work (Stops (Wait rest)) = (q : Origin) → Region rest q → WorkRegion o work q
@@ -97,11 +97,11 @@ StepRegion o work (Stops (End out ended)) = Unit {0}
 
 -- Moves
 
-after-region : (w : List ℕ) (ts : List Token) (m : Machine) (q : Origin) → StageRegion w (stage_after ts m) q → Onward w m m.rank q
+after-region : (w : List ℕ) (ts : List Effect) (m : Machine) (q : Origin) → StageRegion w (stage_after ts m) q → Onward w m m.rank q
 after-region w [] m q h = h
 after-region w (Opens j ∷ ts) m q h = after-region w ts m q h
 after-region w (Closes j ∷ ts) m q h = after-region w ts m q h
-after-region w (Told e ∷ ts) m q h = after-region w ts m q h
+after-region w (Emitted e ∷ ts) m q h = after-region w ts m q h
 after-region w (Handed o place ∷ ts) m q h = after-region w ts m q h
 after-region w (Syncs ∷ ts) m q h = h
 after-region w (Loops ∷ ts) m q h = h
@@ -142,20 +142,20 @@ module _ (t : Task) (is : IsTask t) where
   region-waits : (work : Work) → t.work ≡ work → StepRegion t.origin work (waits t)
   region-waits work at = λ q h. subst (λ (x : Work). WorkRegion t.origin x q) at h
 
-  region-faults : (work : Work) → t.work ≡ work → (ps : List Part) (f : Fault) → StepRegion t.origin work (faults_behind ps t f)
-  region-faults work at [] f = region-ends work t.pieces.fault _
+  region-faults : (work : Work) → t.work ≡ work → (ps : List AwaitedChild) (f : Fault) → StepRegion t.origin work (faults_behind ps t f)
+  region-faults work at [] f = region-ends work t.trace.fault _
   region-faults work at (p ∷ ps) f = region-waits work at
 
   region-gave : (work : Work) (origin : Origin) (v : Value) → StepRegion t.origin work (gave t origin v)
-  region-gave work (Instance function args path) v = region-ends work t.pieces.fault _
+  region-gave work (Instance function args path) v = region-ends work t.trace.fault _
   region-gave work (Loop function rest first path range) v = λ q h. absurd h
 
   module _ (m : Machine) where
     abbrev w : List ℕ
     w = path_of (own_instance t.origin)
 
-    region-at : (ts : List Token) (k : Machine) (c : Option Origin) → child_in ts ≡ c → ((q : Origin) → Onward w k k.rank q → Onward w m (m.rank + handed ts) q) → AtMostOne t.plan w (strand_at w m) (children ts) →
-        StepRegion t.origin (Runs (Goes m)) (stops_at c (passing t ts (Runs (stage_after ts k))))
+    region-at : (ts : List Effect) (k : Machine) (c : Option Origin) → child_in ts ≡ c → ((q : Origin) → Onward w k k.rank q → Onward w m (m.rank + handed ts) q) → AtMostOne t.plan w (strand_at w m) (children ts) →
+        StepRegion t.origin (Runs (Running m)) (stops_at c (passing t ts (Runs (stage_after ts k))))
     region-at ts k None e up hands = λ q h. onward-lower w m.top.levels m.below m.rank (m.rank + handed ts) q (omega arith) (up q (after-region w ts k q h))
     region-at ts k (Some c) e up hands = record {
       own = inl (through-from here m.rank t.plan c named c (own-through here m.rank t.plan c named));
@@ -174,21 +174,21 @@ module _ (t : Task) (is : IsTask t) where
         after : (q : Origin) → StageRegion w (stage_after ts k) q → Onward w m (suc m.rank) q
         after q h = let r : 1 ≤ handed ts = child-handed ts c e in onward-lower w m.top.levels m.below (suc m.rank) (m.rank + handed ts) q (omega arith) (up q (after-region w ts k q h))
 
-  region-stage : (stage : Stage) → t.work ≡ Runs stage → StepRegion t.origin (Runs stage) (stage_step t stage)
-  region-stage (Goes m) at = by_end (move t.plan path m).items (move t.plan path m).ending (moves-on t.plan path m) (move_hands t.plan path m)
+  region-stage : (stage : InstanceState) → t.work ≡ Runs stage → StepRegion t.origin (Runs stage) (stage_step t stage)
+  region-stage (Running m) at = by_end (move t.plan path m).items (move t.plan path m).ending (moves-on t.plan path m) (move_hands t.plan path m)
     where
       path : List ℕ
       path = path_of (own_instance t.origin)
 
-      by_end : (ts : List Token) (e : Result Reached Fault) → MovesOn path m ts e → MoveHands t.plan path (strand_at path m) (children ts) e → StepRegion t.origin (Runs (Goes m)) (moved t ts e)
+      by_end : (ts : List Effect) (e : Result Reached Fault) → MovesOn path m ts e → MoveHands t.plan path (strand_at path m) (children ts) e → StepRegion t.origin (Runs (Running m)) (moved t ts e)
       by_end ts (Ok (Stands k)) up h = region-at m ts k (child_in ts) refl up h
       by_end ts (Ok (Gives v)) up h = λ q g. absurd g
       by_end ts (Err f) up h = λ q g. absurd g
   region-stage (AtSync m) at = region-waits (Runs (AtSync m)) at
   region-stage (AtLoop m) at = region-waits (Runs (AtLoop m)) at
   region-stage (Ended (Ok v)) at = region-gave (Runs (Ended (Ok v))) t.origin v
-  region-stage (Ended (Err (Own f))) at = region-faults (Runs (Ended (Err (Own f)))) at t.pieces.handed f
-  region-stage (Ended (Err (Joined f))) at = region-ends (Runs (Ended (Err (Joined f)))) t.pieces.fault _
+  region-stage (Ended (Err (Own f))) at = region-faults (Runs (Ended (Err (Own f)))) at t.trace.handed f
+  region-stage (Ended (Err (ChildFaulted f))) at = region-ends (Runs (Ended (Err (ChildFaulted f)))) t.trace.fault _
 
   -- Loops
 
@@ -241,24 +241,24 @@ module _ (t : Task) (is : IsTask t) where
       apart q (inr f) (inr g) = let e : f.rank ≡ g.rank = same-rank path f.more g.more f.rank g.rank (sym f.path_is ∙ g.path_is) in absurd (omega (arith, f.high, g.low))
 
   region-split : (left : Range) (n : ℕ) → t.work ≡ Splits left → IsEndOf t.origin left → left.hi - left.lo ≡ n → StepRegion t.origin (Splits left) (split_step t left n)
-  region-split left zero at is e = region-ends (Splits left) t.pieces.fault _
+  region-split left zero at is e = region-ends (Splits left) t.trace.fault _
   region-split left (suc zero) at is e = last-region t.plan t.origin left is e
   region-split left (suc (suc n)) at is e =
-      halves t.plan t.origin left n is e (record t { pieces = hand (first_half t.origin left) Half t.pieces; work = Splits (upper_half left); advanced = true }) refl refl refl
+      halves t.plan t.origin left n is e (record t { trace = add_child (first_half t.origin left) Half t.trace; work = Splits (upper_half left); advanced = true }) refl refl refl
 
   region-over : (v : Value) (origin : Origin) → t.work ≡ Over v false → StepRegion t.origin (Over v false) (over_step t v origin)
-  region-over v (Instance function args path) at = region-ends (Over v false) t.pieces.fault _
+  region-over v (Instance function args path) at = region-ends (Over v false) t.trace.fault _
   region-over v (Loop function rest first path range) at = by_size (range.hi - range.lo) refl
     where
       by_size : (n : ℕ) → range.hi - range.lo ≡ n → StepRegion t.origin (Over v false) (over_step t v (Loop function rest first path range))
-      by_size zero g = rw g (region-ends (Over v false) t.pieces.fault _)
-      by_size (suc zero) g = rw g (region-ends (Over v false) t.pieces.fault _)
+      by_size zero g = rw g (region-ends (Over v false) t.trace.fault _)
+      by_size (suc zero) g = rw g (region-ends (Over v false) t.trace.fault _)
       by_size (suc (suc n)) g = rw g (region-waits (Over v false) at)
 
-  region-work : (work : Work) → t.work ≡ work → IsSoundWork t.plan t.origin t.pieces.handed work → StepRegion t.origin work (work_step t work)
+  region-work : (work : Work) → t.work ≡ work → IsSoundWork t.plan t.origin t.trace.handed work → StepRegion t.origin work (work_step t work)
   region-work (Splits left) at is = region-split left (left.hi - left.lo) at is.0 refl
   region-work (Runs stage) at is = region-stage stage at
-  region-work (Over v true) at is = region-ends (Over v true) t.pieces.fault _
+  region-work (Over v true) at is = region-ends (Over v true) t.trace.fault _
   region-work (Over v false) at is = region-over v t.origin at
 
   region-step : StepRegion t.origin t.work (step t)
@@ -285,9 +285,9 @@ stop-region t stop is (Later next h n) =
 
 -- Answers
 
--- An activation that takes an answer has the same scopes open.
-module _ (change : Activation → Activation) (keeps : (a : Activation) → (change a).levels ≡ a.levels) (w : List ℕ) where
-  changed-present : (height : ℕ) (below : List Activation) → present w (changed_at height change below) ≡ present w below
+-- A frame that takes an answer has the same scopes open.
+module _ (change : Frame → Frame) (keeps : (a : Frame) → (change a).levels ≡ a.levels) (w : List ℕ) where
+  changed-present : (height : ℕ) (below : List Frame) → present w (changed_at height change below) ≡ present w below
   changed-present height [] = refl
   changed-present height (a ∷ below) = by_test (nat_eq height (length below)) (changed-present height below)
     where
@@ -296,7 +296,7 @@ module _ (change : Activation → Activation) (keeps : (a : Activation) → (cha
       by_test false same = ap (λ p. inside_of p a.levels) same
 
   module _ (q : Origin) where
-    changed-scopes : (height : ℕ) (below : List Activation) → AfterScopes w (changed_at height change below) q → AfterScopes w below q
+    changed-scopes : (height : ℕ) (below : List Frame) → AfterScopes w (changed_at height change below) q → AfterScopes w below q
     changed-scopes height [] x = x
     changed-scopes height (a ∷ below) x = by_test (nat_eq height (length below)) (changed-scopes height below) x
       where
@@ -316,24 +316,24 @@ module _ (change : Activation → Activation) (keeps : (a : Activation) → (cha
         by_test false (inr (inl y)) = inr (inl (subst (λ p. AfterLevels p m.top.levels q) (changed-present height m.below) y))
         by_test false (inr (inr y)) = inr (inr (changed-scopes height m.below y))
 
-same-levels : (target : Option Name) (ended : Result (List Value) Fault) (a : Activation) → (answered target ended a).levels ≡ a.levels
+same-levels : (target : Option Name) (ended : Result (List Value) Fault) (a : Frame) → (answered target ended a).levels ≡ a.levels
 same-levels target (Ok vs) a = refl
 same-levels target (Err f) a = refl
 
 module _ (w : List ℕ) (q : Origin) where
-  takes-region : (place : Place) (ended : Result (List Value) Fault) (stage : Stage) → StageRegion w (takes place ended stage) q → StageRegion w stage q
-  takes-region (Spawned height target) ended (Goes m) h = changed-onward (answered target ended) (same-levels target ended) w q height m h
+  takes-region : (place : Destination) (ended : Result (List Value) Fault) (stage : InstanceState) → StageRegion w (takes place ended stage) q → StageRegion w stage q
+  takes-region (Spawned height target) ended (Running m) h = changed-onward (answered target ended) (same-levels target ended) w q height m h
   takes-region (Spawned height target) ended (AtSync m) h = changed-onward (answered target ended) (same-levels target ended) w q height m h
   takes-region (Spawned height target) ended (AtLoop m) h = changed-onward (answered target ended) (same-levels target ended) w q height m h
   takes-region (Spawned height target) ended (Ended e) h = absurd h
-  takes-region (Looped target) (Ok vs) (Goes m) h = h
+  takes-region (Looped target) (Ok vs) (Running m) h = h
   takes-region (Looped target) (Ok vs) (AtSync m) h = h
   takes-region (Looped target) (Ok vs) (AtLoop m) h = h
   takes-region (Looped target) (Ok vs) (Ended e) h = absurd h
   takes-region (Looped target) (Err f) stage h = absurd h
   takes-region Half ended stage h = h
 
-  all-region : (ps : List Part) (answers : List Evaluation) (stage : Stage) → StageRegion w (takes_all ps answers stage) q → StageRegion w stage q
+  all-region : (ps : List AwaitedChild) (answers : List Evaluation) (stage : InstanceState) → StageRegion w (takes_all ps answers stage) q → StageRegion w stage q
   all-region [] answers stage h = h
   all-region (p ∷ ps) [] stage h = h
   all-region (p ∷ ps) (answer ∷ answers) stage h = takes-region p.place answer.ending stage (all-region ps answers (takes p.place answer.ending stage) h)
@@ -342,8 +342,8 @@ module _ (w : List ℕ) (q : Origin) where
   joins-region None m h = h
   joins-region (Some f) m h = absurd h
 
-  resumed-region : (stage : Stage) → StageRegion w (resumed stage) q → StageRegion w stage q
-  resumed-region (Goes m) h = h
+  resumed-region : (stage : InstanceState) → StageRegion w (resumed stage) q → StageRegion w stage q
+  resumed-region (Running m) h = h
   resumed-region (AtSync m) h = joins-region m.top.faulted m h
   resumed-region (AtLoop m) h = h
   resumed-region (Ended e) h = absurd h
@@ -351,8 +351,8 @@ module _ (w : List ℕ) (q : Origin) where
 pub on-region : (t : Task) (q : Origin) → Region (gone_on t) q → Region t q
 on-region t q h = by_work t.work h
   where
-    by_work : (work : Work) → WorkRegion t.origin (resumed_work t.pieces.handed (evaluations (eval t.plan) t.pieces.handed) work) q → WorkRegion t.origin work q
+    by_work : (work : Work) → WorkRegion t.origin (resumed_work t.trace.handed (evaluations (eval t.plan) t.trace.handed) work) q → WorkRegion t.origin work q
     by_work (Splits left) h = h
     by_work (Runs stage) h =
-        let w = path_of (own_instance t.origin) in all-region w q t.pieces.handed (evaluations (eval t.plan) t.pieces.handed) stage (resumed-region w q (takes_all t.pieces.handed (evaluations (eval t.plan) t.pieces.handed) stage) h)
+        let w = path_of (own_instance t.origin) in all-region w q t.trace.handed (evaluations (eval t.plan) t.trace.handed) stage (resumed-region w q (takes_all t.trace.handed (evaluations (eval t.plan) t.trace.handed) stage) h)
     by_work (Over v gone) h = absurd h

@@ -10,14 +10,14 @@ use Rattle.sched_meaning.specs.Core.{Worker, Core, free_worker, first_worker, ne
 use Rattle.sched_meaning.specs.Steps.{Step, Leads, Happens}
 use Rattle.sched_meaning.specs.declared.event.CoreEvent.TheVariants.{Run, Steal, Look}
 use Rattle.sched_meaning.proofs.OneStep.{some-one}
-use Rattle.sched_meaning.specs.Examples.{OneChild, StolenRestAnswers, NobodyStealsFromItself, NoLookAtAnEmptyRing, OneChoiceAtFirst, StealsGoByThief, stolen_rest}
+use Rattle.sched_meaning.specs.Examples.{OneChild, StolenRestAnswers, NobodyStealsFromItself, NoLookWhereNoneIsStalled, OneChoiceAtFirst, StealsGoByThief, stolen_rest}
 
 module _ (plan : PlanView) (s : OneChild plan) where
   abbrev main : Origin
   main = main_origin plan
 
   abbrev worker : Option Task → List Task → List Task → Worker
-  worker current deque ring = record { current = current; deque = deque; ring = ring }
+  worker current deque stalled = record { current = current; deque = deque; stalled = stalled }
 
   abbrev core : Worker → Worker → List Origin → List AnswerView → ℕ → Core
   core v w begun answers runs = record { plan = plan; workers = v ∷ w ∷ []; begun = begun; answers = answers; runs = runs; spent = false }
@@ -81,7 +81,7 @@ module _ (plan : PlanView) (s : OneChild plan) where
       two = λ e. absurd (cc);
       task = s.rest;
       without = record c1 { workers = worker (Some (start s.rest.plan s.child)) [] [] ∷ free_worker ∷ [] };
-      gives = record { worker = worker (Some (start s.rest.plan s.child)) (s.rest ∷ []) []; after = worker (Some (start s.rest.plan s.child)) [] []; there = refl; does = record { front = refl; current = refl; ring = refl }; next_is = refl };
+      gives = record { worker = worker (Some (start s.rest.plan s.child)) (s.rest ∷ []) []; after = worker (Some (start s.rest.plan s.child)) [] []; there = refl; does = record { front = refl; current = refl; stalled = refl }; next_is = refl };
       takes = record { worker = free_worker; after = worker (Some s.rest) [] []; there = refl; does = record { free = refl; after = refl }; next_is = refl };
     };
   }
@@ -168,8 +168,8 @@ nobody_steals_from_itself plan next step = step.happens.two refl
 first-runs : (plan : PlanView) (w : Worker) → Some (first_worker plan) ≡ Some w → w.current ≡ None → ⊥
 first-runs plan w h g = let same : first_worker plan ≡ w = some-one (first_worker plan) w h in let e : Some (start plan (main_origin plan)) ≡ None = ap (λ (v : Worker). v.current) same ∙ g in absurd (cc)
 
-pub no_look_at_an_empty_ring : NoLookAtAnEmptyRing
-no_look_at_an_empty_ring plan next step = by_look step.happens
+pub no_look_where_none_is_stalled : NoLookWhereNoneIsStalled
+no_look_where_none_is_stalled plan next step = by_look step.happens
   where
     by_look : Happens (Look 0 0) (new_core plan 2) next → ⊥
     by_look (inl r) = first-runs plan r.resumes.worker r.resumes.there r.resumes.does.free

@@ -11,7 +11,7 @@ use Rattle.strand_meaning.specs.Rest.{evaluations}
 pub record Worker : Type 0 where
   pub current : Option Task
   pub deque : List Task
-  pub ring : List Task
+  pub stalled : List Task
 
 -- The origins that were begun and the answers that were given, both in order; how many run events there were; and whether a step
 -- wanted memory.
@@ -25,10 +25,10 @@ pub record Core : Type 0 where
 
 -- a worker without tasks
 abbrev pub free_worker : Worker
-free_worker = record { current = None; deque = []; ring = [] }
+free_worker = record { current = None; deque = []; stalled = [] }
 
 abbrev pub first_worker : PlanView → Worker
-first_worker plan = record { current = Some (start plan (main_origin plan)); deque = []; ring = [] }
+first_worker plan = record { current = Some (start plan (main_origin plan)); deque = []; stalled = [] }
 
 -- so many workers, of which the first has main's task
 abbrev pub new_core : PlanView → ℕ → Core
@@ -45,20 +45,20 @@ new_core plan n = record {
 
 -- the children whose answers a task hasn't taken
 abbrev pub awaited : Task → List Origin
-awaited t = map (λ p. p.child) t.pieces.handed
+awaited t = map (λ p. p.child) t.trace.handed
 
 -- a task that has taken the evaluations of these children
 abbrev pub gone_on : Task → Task
-gone_on t = on (evaluations (eval t.plan) t.pieces.handed) t
+gone_on t = on (evaluations (eval t.plan) t.trace.handed) t
 
 abbrev pub current_tasks : Option Task → List Task
 current_tasks None = []
 current_tasks (Some t) = t ∷ []
 
 abbrev pub tasks_of : Worker → List Task
-tasks_of w = current_tasks w.current ++ w.deque ++ w.ring
+tasks_of w = current_tasks w.current ++ w.deque ++ w.stalled
 
--- the tasks of all workers: one for each current task, and for each place in a deque or a ring
+-- the tasks of all workers: one for each current task, and for each place in a deque or among the stalled tasks
 abbrev pub all_tasks : Core → List Task
 all_tasks c = flat_map tasks_of c.workers
 

@@ -39,8 +39,8 @@ StolenRestAnswers = (plan : PlanView) → OneChild plan → (c : Core) × Leads 
 abbrev pub NobodyStealsFromItself : Type 0
 NobodyStealsFromItself = (plan : PlanView) (next : Core) → Step (Steal 0 0) (new_core plan 2) next → ⊥
 
-abbrev pub NoLookAtAnEmptyRing : Type 0
-NoLookAtAnEmptyRing = (plan : PlanView) (next : Core) → Step (Look 0 0) (new_core plan 2) next → ⊥
+abbrev pub NoLookWhereNoneIsStalled : Type 0
+NoLookWhereNoneIsStalled = (plan : PlanView) (next : Core) → Step (Look 0 0) (new_core plan 2) next → ⊥
 
 abbrev pub OneChoiceAtFirst : Type 0
 OneChoiceAtFirst = (plan : PlanView) → choices (new_core plan 2) ≡ Run 0 ∷ []
@@ -49,7 +49,7 @@ OneChoiceAtFirst = (plan : PlanView) → choices (new_core plan 2) ≡ Run 0 ∷
 abbrev pub three_workers : PlanView → Task → Task → Task → Core
 three_workers plan t u v = record {
   plan = plan;
-  workers = record { current = Some t; deque = u ∷ []; ring = [] } ∷ free_worker ∷ record { current = None; deque = v ∷ []; ring = [] } ∷ [];
+  workers = record { current = Some t; deque = u ∷ []; stalled = [] } ∷ free_worker ∷ record { current = None; deque = v ∷ []; stalled = [] } ∷ [];
   begun = [];
   answers = [];
   runs = 0;

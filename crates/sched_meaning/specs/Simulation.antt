@@ -40,7 +40,7 @@ may_give (Some w) = has_task w.deque
 
 abbrev pub may_resume : Core → ℕ → Option Worker → Bool
 may_resume c place None = false
-may_resume c place (Some w) = is_ready c (slice_get w.ring place)
+may_resume c place (Some w) = is_ready c (slice_get w.stalled place)
 
 -- whether an event may happen now and goes on with the work
 abbrev pub goes_on : Core → CoreEvent → Bool
@@ -55,16 +55,16 @@ is_choice c e = not (is_answered c (main_origin c.plan)) && goes_on c e
 
 -- Choices
 
-abbrev pub ring_places : Option Worker → List ℕ
-ring_places None = []
-ring_places (Some w) = range_with_len 0 (length w.ring)
+abbrev pub stalled_places : Option Worker → List ℕ
+stalled_places None = []
+stalled_places (Some w) = range_with_len 0 (length w.stalled)
 
 -- by kind, and of one kind by worker: steals by thief and then by victim, looks by worker and then by place
 abbrev pub all_events : Core → List CoreEvent
 all_events c =
     let workers = range_with_len 0 (length c.workers) in
     map (λ w. Run w) workers ++ map (λ w. Pop w) workers ++ flat_map (λ thief. map (λ victim. Steal thief victim) workers) workers
-    ++ flat_map (λ w. map (λ place. Look w place) (ring_places (slice_get c.workers w))) workers
+    ++ flat_map (λ w. map (λ place. Look w place) (stalled_places (slice_get c.workers w))) workers
 
 abbrev pub choices : Core → List CoreEvent
 choices c = filter (is_choice c) (all_events c)

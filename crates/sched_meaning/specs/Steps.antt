@@ -11,7 +11,7 @@ use Rattle.sched_meaning.specs.declared.event.CoreEvent.TheVariants.{Run, Pop, S
 -- a worker whose current task came to this stop: after a spawn the rest goes to the deque's back, and the child is current
 abbrev pub after_stop : Stop → Worker → Worker
 after_stop (Spawn child rest) w = record w { current = Some (start rest.plan child); deque = w.deque ++ rest ∷ [] }
-after_stop (Wait rest) w = record w { current = None; ring = w.ring ++ rest ∷ [] }
+after_stop (Wait rest) w = record w { current = None; stalled = w.stalled ++ rest ∷ [] }
 after_stop (End out ended) w = record w { current = None }
 
 -- The current task comes to its next stop.
@@ -25,30 +25,30 @@ pub record WorkerPops (t : Task) (w next : Worker) : Type 0 where
   pub free : w.current ≡ None
   pub back : w.deque ≡ next.deque ++ t ∷ []
   pub current : next.current ≡ Some t
-  pub ring : next.ring ≡ w.ring
+  pub stalled : next.stalled ≡ w.stalled
 
 -- The task at the deque's front is given away.
 pub record WorkerGives (t : Task) (w next : Worker) : Type 0 where
   pub front : w.deque ≡ t ∷ next.deque
   pub current : next.current ≡ w.current
-  pub ring : next.ring ≡ w.ring
+  pub stalled : next.stalled ≡ w.stalled
 
 -- A task that was given becomes the current one.
 pub record WorkerTakes (t : Task) (w next : Worker) : Type 0 where
   pub free : w.current ≡ None
   pub after : next ≡ record w { current = Some t }
 
--- The task at this place of the ring goes on, with the answers of its children.
+-- The stalled task at this place goes on, with the answers of its children.
 pub record WorkerResumes (place : ℕ) (t : Task) (w next : Worker) : Type 0 where
   pub free : w.current ≡ None
-  pub there : slice_get w.ring place ≡ Some t
-  pub after : next ≡ record w { current = Some (gone_on t); ring = remove w.ring place }
+  pub there : slice_get w.stalled place ≡ Some t
+  pub after : next ≡ record w { current = Some (gone_on t); stalled = remove w.stalled place }
 
--- The task at this place of the ring can't go on, and goes to the ring's end.
+-- The stalled task at this place can't go on, and goes to the end of the stalled tasks.
 pub record WorkerPasses (place : ℕ) (t : Task) (w next : Worker) : Type 0 where
   pub free : w.current ≡ None
-  pub there : slice_get w.ring place ≡ Some t
-  pub after : next ≡ record w { ring = remove w.ring place ++ t ∷ [] }
+  pub there : slice_get w.stalled place ≡ Some t
+  pub after : next ≡ record w { stalled = remove w.stalled place ++ t ∷ [] }
 
 -- The core's part
 

@@ -7,7 +7,7 @@ pub enum CoreEvent {
     Pop(u32),
     /// The task at the front of the victim's deque becomes the thief's current task.
     Steal { thief: u32, victim: u32 },
-    /// The worker looks whether the task at this place of its ring may go on.
+    /// The worker looks whether the stalled task at this place may go on.
     Look { worker: u32, place: u32 },
     /// The worker has nothing to do.
     Idle(u32),

@@ -1,6 +1,6 @@
 //! Small cores, event by event. Each function does nothing; its contract is the example.
 
-ghost use Rattle.sched_meaning.specs.Examples.{NoLookAtAnEmptyRing, NobodyStealsFromItself, OneChoiceAtFirst, StealsGoByThief, StolenRestAnswers};
+ghost use Rattle.sched_meaning.specs.Examples.{NoLookWhereNoneIsStalled, NobodyStealsFromItself, OneChoiceAtFirst, StealsGoByThief, StolenRestAnswers};
 
 /// Two workers, and a main that hands out one child and waits for it: main's run begins the child, worker 1 steals main's rest and
 /// runs it to its wait, looks at it in vain, worker 0 answers the child, and then worker 1's look makes main current and its run
@@ -15,8 +15,8 @@ pub fn nobody_steals_from_itself()
 {}
 
 /// Nor a look, since no task waits.
-pub fn no_look_at_an_empty_ring()
-    ensures { NoLookAtAnEmptyRing }
+pub fn no_look_where_none_is_stalled()
+    ensures { NoLookWhereNoneIsStalled }
 {}
 
 /// It has one choice: worker 0 runs.

@@ -38,7 +38,7 @@ pub fn cores_begin_once()
 {}
 
 /// An origin that was begun and isn't answered is that of exactly one task, which is current or stands at one place of a deque or
-/// a ring.
+/// among the stalled tasks.
 pub fn cores_keep_tasks_once()
     ensures { CoresKeepTasksOnce }
 {}

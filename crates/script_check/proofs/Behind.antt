@@ -6,7 +6,7 @@ use Rattle.script_check.specs.declared.findings.Violation.{Violation}
 use Rattle.script_check.specs.Violations.{noted}
 use Rattle.script_check.specs.Names.{Names, nobody, only, both}
 use Rattle.script_grammar.specs.declared.tree.Kind.TheVariants.{Int}
-use Rattle.script_check.specs.Rules.{Known}
+use Rattle.script_check.specs.Rules.{Declared}
 use Rattle.script_check.specs.Expressions.{Faults, Reading, wanted}
 use Rattle.script_check.specs.Statements.{place, Judged, judge, judge_all, known_each, faults_each, after}
 use Rattle.script_check.specs.Walk.{State, keeps, keeps_all, behind, behind_all}
@@ -105,13 +105,13 @@ module _ (functions : List Function) (a : List Stmt) where
   while_state state first last f l = l ∙ ap (with_known functions a) f
 
   -- the sets of the loop as they were found
-  pub while_faults : (condition : Reading) (known known' : Known) (p q : Names) (found first second : Option Violation) →
+  pub while_faults : (condition : Reading) (known known' : Declared) (p q : Names) (found first second : Option Violation) →
       known' ≡ known → q ≡ both p (after a p) → first ≡ noted found (wanted Int condition known' q) →
       second ≡ noted first (faults_each (judge_all a) (place functions true) known' q) →
       second ≡ noted found (wanted Int condition known (both p (after a p)) ++ faults_each (judge_all a) (place functions true) known (both p (after a p)))
   while_faults condition known known' p q found first second k e f s =
       after_two found first second (wanted Int condition known' q) (faults_each (judge_all a) (place functions true) known' q) _ f s refl
-      ∙ ap (λ (m : Known). noted found (wanted Int condition m q ++ faults_each (judge_all a) (place functions true) m q)) k
+      ∙ ap (λ (m : Declared). noted found (wanted Int condition m q ++ faults_each (judge_all a) (place functions true) m q)) k
       ∙ ap (λ (r : Names). noted found (wanted Int condition known r ++ faults_each (judge_all a) (place functions true) known r)) e
 
   -- a scope: what its block makes known, and after its sync nothing is pending

@@ -13,9 +13,9 @@ use Rattle.script_grammar.specs.declared.tree.Act.TheOpen as act
 use Rattle.script_grammar.specs.declared.tree.Act.TheOpen.{Act-F}
 use Rattle.script_check.specs.Names.{Names, IsWithin, both, after_right}
 use Rattle.script_check.specs.Functions.{function_named}
-use Rattle.script_check.specs.Rules.{Known, kind_of, scalar_use, array_use, declaration, array_length, let_in_a_block}
+use Rattle.script_check.specs.Rules.{Declared, kind_of, scalar_use, array_use, declaration, array_length, let_in_a_block}
 use Rattle.script_check.specs.Expressions.{wanted, two_wanted, read}
-use Rattle.script_check.specs.Statements.{Place, Judged, judge, judge_what, judge_act, judge_all, read_right, wanted_as, target_use, loop_call_of, faults_each, block_faults, known_each, after}
+use Rattle.script_check.specs.Statements.{Context, Judged, judge, judge_what, judge_act, judge_all, read_right, wanted_as, target_use, loop_call_of, faults_each, block_faults, known_each, after}
 use Rattle.script_check.proofs.Induction.{Each, Inside, induct, induct_each, judge_open}
 use Rattle.script_check.proofs.Fewer.{Fine, none_fine, same_fine, append_fine, scalar_use_fine, array_use_fine, wanted_fine, two_fine, read_fine, call_fine, loop_call_fine, target_fine, right_fine, wanted_as_fine, nothing_left, nothing_right, both_nothing}
 
@@ -23,7 +23,7 @@ abbrev IsMonotone : (Names → Names) → Type 0
 IsMonotone f = (fewer p : Names) → IsWithin fewer p → IsWithin (f fewer) (f p)
 
 abbrev FineJudged : Judged → Type 0
-FineJudged j = ((place : Place) → Fine (j.faults place)) × IsMonotone j.after
+FineJudged j = ((place : Context) → Fine (j.faults place)) × IsMonotone j.after
 
 abbrev FineStmt : Stmt → Type 0
 FineStmt s = FineJudged (judge s)
@@ -51,7 +51,7 @@ each_monotone : (ss : List Stmt) → Each FineStmt ss → IsMonotone (after ss)
 each_monotone [] h fewer p w = w
 each_monotone (s ∷ ss) h fewer p w = each_monotone ss h.1 ((judge s).after fewer) ((judge s).after p) (h.0.1 fewer p w)
 
-each_fine : (ss : List Stmt) → Each FineStmt ss → (place : Place) → Fine (faults_each (judge_all ss) place)
+each_fine : (ss : List Stmt) → Each FineStmt ss → (place : Context) → Fine (faults_each (judge_all ss) place)
 each_fine [] h place known fewer p w e = refl
 each_fine (s ∷ ss) h place known fewer p w e =
     both_nothing ((judge s).faults place known fewer) (faults_each (judge_all ss) place ((judge s).known place.functions known) ((judge s).after fewer))
@@ -105,7 +105,7 @@ open_fine at (act.Scope a) h = (λ place. each_fine a h (record place { in_block
 all_fine : (s : Stmt) → FineStmt s
 all_fine = induct FineStmt (λ at d h. subst FineJudged (sym (judge_open at d)) (open_fine at d h))
 
-pub fewer_pending_stays_valid : (statements : List Stmt) (place : Place) (known : Known) (fewer p : Names) → IsWithin fewer p →
+pub fewer_pending_stays_valid : (statements : List Stmt) (place : Context) (known : Declared) (fewer p : Names) → IsWithin fewer p →
     faults_each (judge_all statements) place known p ≡ [] →
     (faults_each (judge_all statements) place known fewer ≡ []) × IsWithin (after statements fewer) (after statements p)
 fewer_pending_stays_valid statements place known fewer p w h =

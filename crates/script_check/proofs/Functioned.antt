@@ -6,7 +6,7 @@ use Rattle.script_grammar.specs.declared.tree.Script.{Script}
 use Rattle.script_check.specs.Violations.{violation, noted}
 use Rattle.script_check.specs.Tables.{no_entries}
 use Rattle.script_check.specs.Names.{nobody}
-use Rattle.script_check.specs.Rules.{Known}
+use Rattle.script_check.specs.Rules.{Declared}
 use Rattle.script_check.specs.Expressions.{read, wanted}
 use Rattle.script_check.specs.Statements.{place, judge_all, known_each, faults_each}
 use Rattle.script_check.specs.Valid.{known_params, param_faults, function_faults, all_function_faults, functions_twice, main_faults, violations, CheckFault}
@@ -26,7 +26,7 @@ function_judged fs f new params body end found first second third k p s1 f1 s2 f
     after_three found first second third (param_faults f.params no_entries)
     (faults_each (judge_all f.body) (place fs false) (known_params f.params no_entries) nobody)
     (wanted f.answer (read f.result) (known_each (judge_all f.body) fs (known_params f.params no_entries)) nobody) (function_faults fs f)
-    (f1 ∙ ap (λ (m : Known). noted found (param_faults f.params m)) k)
+    (f1 ∙ ap (λ (m : Declared). noted found (param_faults f.params m)) k)
     (f2 ∙ (λ i. noted first (faults_each (judge_all f.body) (place fs false) (known1 i) (pending1 i))))
     (f3 ∙ (λ i. noted second (wanted f.answer (read f.result) (known3 i) (pending3 i))))
     refl

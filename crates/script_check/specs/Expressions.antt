@@ -10,16 +10,16 @@ use Rattle.script_grammar.specs.declared.tree.SumPart.{SumPart}
 use Rattle.script_grammar.specs.declared.tree.ProductPart.{ProductPart}
 use Rattle.script_check.specs.declared.findings.Violation.{Violation}
 use Rattle.script_check.specs.Names.{Names}
-use Rattle.script_check.specs.Rules.{Known, wrong_kind, scalar_use, array_use, kind_of}
+use Rattle.script_check.specs.Rules.{Declared, wrong_kind, scalar_use, array_use, kind_of}
 
 -- the violations of a part of a script where these variables are known and those names are pending
 abbrev pub Faults : Type 0
-Faults = Known → Names → List Violation
+Faults = Declared → Names → List Violation
 
 -- what is read of an expression or a right side: its place, its kind, and the violations in it
 pub record Reading : Type 0 where
   pub at : ℕ
-  pub kind : Known → Option Kind
+  pub kind : Declared → Option Kind
   pub faults : Faults
 
 abbrev pub int_at : ℕ → Faults → Reading

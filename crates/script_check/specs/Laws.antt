@@ -3,14 +3,14 @@ use Rattle.std.specs.Prelude.{◌≡◌, ℕ, ◌<◌, ◌≤◌, ◌⊎◌, Lis
 use Rattle.script_grammar.specs.declared.tree.Stmt.{Stmt}
 use Rattle.script_grammar.specs.declared.tree.Script.{Script}
 use Rattle.script_check.specs.Names.{Names, IsWithin, both}
-use Rattle.script_check.specs.Rules.{Known}
-use Rattle.script_check.specs.Statements.{Place, judge_all, faults_each, after}
+use Rattle.script_check.specs.Rules.{Declared}
+use Rattle.script_check.specs.Statements.{Context, judge_all, faults_each, after}
 use Rattle.script_check.specs.Valid.{violations, CheckFault}
 
 -- Statements that are valid from a set are valid from each subset of it, with no more pending after them.
 abbrev pub FewerPendingStaysValid : Type 0
 FewerPendingStaysValid =
-    (statements : List Stmt) (place : Place) (known : Known) (fewer p : Names) → IsWithin fewer p →
+    (statements : List Stmt) (place : Context) (known : Declared) (fewer p : Names) → IsWithin fewer p →
     faults_each (judge_all statements) place known p ≡ [] →
     (faults_each (judge_all statements) place known fewer ≡ []) × IsWithin (after statements fewer) (after statements p)
 

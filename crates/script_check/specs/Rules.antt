@@ -15,8 +15,8 @@ use Rattle.script_check.specs.Tables.{Table}
 use Rattle.script_check.specs.Names.{Names}
 
 -- the variables that are known at a place: what the first of each name is
-abbrev pub Known : Type 0
-Known = Table Variable
+abbrev pub Declared : Type 0
+Declared = Table Variable
 
 -- the place has another kind than the one that is wanted; what has no kind has a violation of its own
 abbrev pub is_other_kind : Kind → Option Kind → Bool
@@ -26,7 +26,7 @@ is_other_kind Id (Some Int) = true
 is_other_kind Id (Some Id) = false
 is_other_kind wanted None = false
 
-abbrev pub variable_twice : Known → Name → List Violation
+abbrev pub variable_twice : Declared → Name → List Violation
 variable_twice known x = broken (is_some (known.what x.bytes)) (number_of VariableTwice) x.at
 
 abbrev pub unknown_function : Name → List Violation
@@ -56,7 +56,7 @@ abbrev pub most_variables : ℕ
 most_variables = 256
 
 -- the name is new where as many are known
-abbrev pub too_many_variables : Known → Name → List Violation
+abbrev pub too_many_variables : Declared → Name → List Violation
 too_many_variables known x = broken (is_none (known.what x.bytes) && nat_eq known.count most_variables) (number_of TooManyVariables) x.at
 
 abbrev pub array_length : Number → List Violation
@@ -81,5 +81,5 @@ array_use (Some Array) p x = pending_variable p x
 array_use None p x = unknown_variable x
 
 -- a name in a parameter list or a `let`
-abbrev pub declaration : Known → Name → List Violation
+abbrev pub declaration : Declared → Name → List Violation
 declaration known x = variable_twice known x ++ too_many_variables known x

@@ -18,7 +18,7 @@ use Rattle.script_check.specs.declared.variable.Variable.TheVariants.{Scalar, Ar
 use Rattle.script_check.specs.Tables.{with_first}
 use Rattle.script_check.specs.Functions.{function_named}
 use Rattle.script_check.specs.Names.{Names, both, after_each, after_act}
-use Rattle.script_check.specs.Rules.{Known, unknown_function, wrong_number_of_arguments, wrong_kind, let_in_a_block, array_length, kind_of, scalar_use, array_use, declaration}
+use Rattle.script_check.specs.Rules.{Declared, unknown_function, wrong_number_of_arguments, wrong_kind, let_in_a_block, array_length, kind_of, scalar_use, array_use, declaration}
 use Rattle.script_check.specs.Expressions.{Faults, Reading, wanted, two_wanted, read}
 
 -- Calls
@@ -82,29 +82,29 @@ kind_or_int None = Int
 kind_or_int (Some kind) = kind
 
 -- where statements stand
-pub record Place : Type 0 where
+pub record Context : Type 0 where
   pub functions : List Function
   pub in_block : Bool
 
-abbrev pub place : List Function → Bool → Place
+abbrev pub place : List Function → Bool → Context
 place functions in_block = record { functions = functions; in_block = in_block }
 
 -- what a statement is to those after it, and its violations
 pub record Judged : Type 0 where
   pub after : Names → Names
-  pub known : List Function → Known → Known
-  pub faults : Place → Faults
+  pub known : List Function → Declared → Declared
+  pub faults : Context → Faults
 
-abbrev pub known_each : List Judged → List Function → Known → Known
+abbrev pub known_each : List Judged → List Function → Declared → Declared
 known_each [] functions known = known
 known_each (j ∷ js) functions known = known_each js functions (j.known functions known)
 
-abbrev pub faults_each : List Judged → Place → Faults
+abbrev pub faults_each : List Judged → Context → Faults
 faults_each [] place known p = []
 faults_each (j ∷ js) place known p = j.faults place known p ++ faults_each js place (j.known place.functions known) (j.after p)
 
 -- what a statement makes known; the first of a name stays
-abbrev pub known_act : {A : Type 0} → Act-F A Judged → List Function → Known → Known
+abbrev pub known_act : {A : Type 0} → Act-F A Judged → List Function → Declared → Declared
 known_act (act.Let x r) functions known = with_first known x.bytes (Scalar (kind_or_int ((read_right functions r).kind known)))
 known_act (act.Array x n) functions known = with_first known x.bytes Array
 known_act (act.Set x r) functions known = known
@@ -119,11 +119,11 @@ known_act (act.Pfor x lo hi target c) functions known = known
 known_act (act.Scope a) functions known = known_each a functions known
 
 -- the violations of a block
-abbrev pub block_faults : List Judged → Place → Faults
+abbrev pub block_faults : List Judged → Context → Faults
 block_faults js place = faults_each js (record place { in_block = true })
 
 -- the violations of a statement at an offset
-abbrev pub faults_act : {A : Type 0} → Act-F A Judged → ℕ → Place → Faults
+abbrev pub faults_act : {A : Type 0} → Act-F A Judged → ℕ → Context → Faults
 faults_act (act.Let x r) at place known p =
     let_in_a_block place.in_block at ++ (read_right place.functions r).faults known p ++ declaration known x
 faults_act (act.Array x n) at place known p = let_in_a_block place.in_block at ++ declaration known x ++ array_length n

@@ -11,15 +11,15 @@ use Rattle.script_check.specs.Violations.{violation, broken, is_before}
 use Rattle.script_check.specs.Tables.{no_entries, with_first}
 use Rattle.script_check.specs.Functions.{first_named, function_named, main_name}
 use Rattle.script_check.specs.Names.{nobody}
-use Rattle.script_check.specs.Rules.{Known, declaration}
+use Rattle.script_check.specs.Rules.{Declared, declaration}
 use Rattle.script_check.specs.Expressions.{wanted, read}
 use Rattle.script_check.specs.Statements.{place, judge_all, known_each, faults_each}
 
-abbrev pub known_params : List Param → Known → Known
+abbrev pub known_params : List Param → Declared → Declared
 known_params [] known = known
 known_params (q ∷ params) known = known_params params (with_first known q.name.bytes (Scalar q.kind))
 
-abbrev pub param_faults : List Param → Known → List Violation
+abbrev pub param_faults : List Param → Declared → List Violation
 param_faults [] known = []
 param_faults (q ∷ params) known = declaration known q.name ++ param_faults params (with_first known q.name.bytes (Scalar q.kind))
 

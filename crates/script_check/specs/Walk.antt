@@ -17,7 +17,7 @@ use Rattle.script_check.specs.Spawns.{each_spawns}
 use Rattle.script_check.specs.Tables.{Table, table_of}
 use Rattle.script_check.specs.Functions.{first_named}
 use Rattle.script_check.specs.Names.{Names}
-use Rattle.script_check.specs.Rules.{Known}
+use Rattle.script_check.specs.Rules.{Declared}
 use Rattle.script_check.specs.Statements.{judge, judge_all, known_each, after}
 
 -- the table has the index of the first function of each name
@@ -45,12 +45,12 @@ undone (c ∷ cs) p = undo c (undone cs p)
 -- What the walk knows before a statement: the variables, the pending set, whether what was pending where the innermost block
 -- began may still be so, and the set that was pending there.
 pub record State : Type 0 where
-  pub known : Known
+  pub known : Declared
   pub names : Names
   pub keeps : Bool
   pub before : Names
 
-abbrev pub known_in : Scope → Known
+abbrev pub known_in : Scope → Declared
 known_in scope = table_of scope.known.map
 
 abbrev pub pending_in : Scope → Names

@@ -5,8 +5,8 @@
 mod advice;
 mod bytes;
 mod lines;
-mod place;
+mod position;
 
 pub use advice::follower;
 pub use lines::{add_shown, excerpt};
-pub use place::{Place, place_of};
+pub use position::{Position, place_of};

@@ -5,7 +5,7 @@ ghost use Rattle.script_excerpt.specs.Excerpts.{IsAdvice, IsExcerpt, IsWindow, c
 
 use crate::advice::follower;
 use crate::bytes::extended;
-use crate::place::{Place, line_start, place_of};
+use crate::position::{Position, line_start, place_of};
 use std::alloc::{AllocError, Global};
 
 /// How many bytes of the line are shown before the caret at most, and from it on.
@@ -64,7 +64,7 @@ fn add_room(lines: &mut Vec<u8>, bytes: &[u8]) -> Result<(), AllocError>
 }
 
 // The line that names a place.
-fn place_line(alloc: Global, place: Place) -> Result<Vec<u8>, AllocError>
+fn place_line(alloc: Global, place: Position) -> Result<Vec<u8>, AllocError>
     ensures { IfOk result (λ line. line.items ≡ place_line place.line place.column) }
 {
     let line = format!(in alloc; "line {}, column {}\n", place.line, place.column)?;

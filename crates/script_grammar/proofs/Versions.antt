@@ -4,7 +4,7 @@ use Rattle.std.specs.List.{list_all}
 use Rattle.script_tokens.specs.declared.version.Version.{Version}
 use Rattle.script_tokens.specs.declared.version.Version.TheVariants.{One, Two}
 use Rattle.script_tokens.specs.declared.token.Lexeme.{Lexeme}
-use Rattle.script_tokens.specs.declared.lexing.Stop.{Stop}
+use Rattle.script_tokens.specs.declared.lexing.LexEnd.{LexEnd}
 use Rattle.script_tokens.specs.Version.{begins_at}
 use Rattle.script_tokens.specs.Word.{is_scope}
 use Rattle.script_tokens.specs.Lexing.{IsCut, Lexes}
@@ -21,9 +21,9 @@ tokens_plain bytes (l ∷ ls) e = go (is_scope l.word) e (tokens_plain bytes ls)
     go true f behind = cc
     go false f behind = behind f
 
-tokens_are_of : (version : Version) (bytes : List ℕ) (from : ℕ) (left : List ℕ) (ls : List Lexeme) (stop : Stop) → Lexes version from left ls stop → AreOf version (tokens_of bytes ls)
+tokens_are_of : (version : Version) (bytes : List ℕ) (from : ℕ) (left : List ℕ) (ls : List Lexeme) (stop : LexEnd) → Lexes version from left ls stop → AreOf version (tokens_of bytes ls)
 tokens_are_of One bytes from left ls stop x = tokens_plain bytes ls (one_has_no_scope from left ls stop x)
 tokens_are_of Two bytes from left ls stop x = tt
 
-pub are_of_cut : (bytes : List ℕ) (version : Version) (ls : List Lexeme) (stop : Stop) → IsCut bytes version ls stop → AreOf version (tokens_of bytes ls)
+pub are_of_cut : (bytes : List ℕ) (version : Version) (ls : List Lexeme) (stop : LexEnd) → IsCut bytes version ls stop → AreOf version (tokens_of bytes ls)
 are_of_cut bytes version ls stop x = tokens_are_of version bytes (begins_at version) (drop (begins_at version) bytes) ls stop x.cut

@@ -6,8 +6,8 @@ use Rattle.std.specs.Prelude.{◌≡◌, ℕ, suc, ◌<◌, ◌≤◌, ◌⊎◌
 use Rattle.script_tokens.specs.declared.version.Version.{Version}
 use Rattle.script_tokens.specs.declared.token.Word.{Word}
 use Rattle.script_tokens.specs.declared.token.Word.TheVariants as word
-use Rattle.script_tokens.specs.declared.lexing.Stop.{Stop}
-use Rattle.script_tokens.specs.declared.lexing.Stop.TheVariants.{End, NotAscii, NoToken}
+use Rattle.script_tokens.specs.declared.lexing.LexEnd.{LexEnd}
+use Rattle.script_tokens.specs.declared.lexing.LexEnd.TheVariants.{End, NotAscii, NoToken}
 use Rattle.script_grammar.specs.declared.tree.Function.{Function}
 use Rattle.script_grammar.specs.Grammar.{Token, IsScript, AreOf, IsScriptOf, IsViable, decimal}
 use Rattle.script_grammar.specs.Nesting.{functions_nesting}
@@ -40,18 +40,18 @@ pub data IsFault (version : Version) (before : List Token) (t : Token) : ℕ →
   breaks_limit : {n : ℕ} → IsViable version (before ++ t ∷ []) → BreaksLimit version before t n → IsFault version before t n
 
 -- what stands after the last token: where the text ends, and why there is no further token
-pub record Ending : Type 0 where
+pub record TextEnd : Type 0 where
   pub end : ℕ
-  pub stop : Stop
+  pub stop : LexEnd
 
 -- The fault after all tokens, its number and its place: 6 where the text ends and they are no script yet, else what stopped them.
-abbrev pub FaultAtStop : Version → ℕ → Stop → List Token → ℕ → ℕ → Type 0
+abbrev pub FaultAtStop : Version → ℕ → LexEnd → List Token → ℕ → ℕ → Type 0
 FaultAtStop version end End tokens number at = (number ≡ 6) × (at ≡ end) × ((functions : List Function) → IsScriptOf version tokens functions → ⊥)
 FaultAtStop version end (NotAscii place) tokens number at = (number ≡ 1) × (at ≡ place)
 FaultAtStop version end (NoToken place) tokens number at = (number ≡ 2) × (at ≡ place)
 
 -- the first fault after the tokens `before`, its number and its place
-abbrev pub FaultBehind : Version → Ending → List Token → List Token → ℕ → ℕ → Type 0
+abbrev pub FaultBehind : Version → TextEnd → List Token → List Token → ℕ → ℕ → Type 0
 FaultBehind version ending before [] number at = FaultAtStop version ending.end ending.stop before number at
 FaultBehind version ending before (t ∷ ts) number at =
     (IsFault version before t number × (at ≡ t.at)) ⊎ (((n : ℕ) → IsFault version before t n → ⊥) × FaultBehind version ending (before ++ t ∷ []) ts number at)

@@ -2,8 +2,8 @@
 use Rattle.std.specs.Prelude.{ℕ, ◌≤◌, List, [], length, map}
 use Rattle.script_tokens.specs.declared.token.Lexeme.{Lexeme}
 use Rattle.script_tokens.specs.declared.lexing.TheConstants.{MAX_BYTES}
-use Rattle.script_tokens.specs.declared.lexing.Stop.{Stop}
-use Rattle.script_tokens.specs.declared.lexing.Stop.TheVariants.{End}
+use Rattle.script_tokens.specs.declared.lexing.LexEnd.{LexEnd}
+use Rattle.script_tokens.specs.declared.lexing.LexEnd.TheVariants.{End}
 use Rattle.script_tokens.specs.Version.{version_of}
 use Rattle.script_tokens.specs.Lexing.{IsCut, text_of}
 use Rattle.script_grammar.specs.declared.tree.Script.{Script}
@@ -33,7 +33,7 @@ pub record IsOfText (script : Script) : Type 0 where
 -- the first fault of the bytes, its number and its place
 pub record SyntaxFault (bytes : List ℕ) (number at : ℕ) : Type 0 where
   pub lexemes : List Lexeme
-  pub stop : Stop
+  pub stop : LexEnd
   pub cut : IsCut bytes (version_of bytes) lexemes stop
   pub fault : FaultBehind (version_of bytes) (record { end = length bytes; stop = stop }) [] (tokens_of bytes lexemes) number at
 

@@ -5,8 +5,8 @@ use Rattle.std.proofs.Math.Seq.{drop-append_seam}
 use Rattle.script_tokens.specs.declared.token.Word.{Word}
 use Rattle.script_tokens.specs.declared.token.Word.TheVariants.{Name, Number}
 use Rattle.script_tokens.specs.declared.token.Lexeme.{Lexeme}
-use Rattle.script_tokens.specs.declared.lexing.Stop.{Stop}
-use Rattle.script_tokens.specs.declared.lexing.Stop.TheVariants.{End}
+use Rattle.script_tokens.specs.declared.lexing.LexEnd.{LexEnd}
+use Rattle.script_tokens.specs.declared.lexing.LexEnd.TheVariants.{End}
 use Rattle.script_tokens.specs.Word.{word_of}
 use Rattle.script_tokens.specs.Lexing.{is_blank, IsLongest, Stands, the_end, Lexes, stops, lexeme, text_of}
 use Rattle.script_tokens.proofs.Building.{one_more_byte, lexes_token, lexes_blank}

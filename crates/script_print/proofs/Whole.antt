@@ -9,7 +9,7 @@ use Rattle.script_tokens.specs.declared.token.Word.TheVariants as word
 use Rattle.script_tokens.specs.declared.token.Lexeme.{Lexeme}
 use Rattle.script_tokens.specs.Word.{word_of}
 use Rattle.script_tokens.specs.Version.{version_of, begins_at}
-use Rattle.script_tokens.specs.declared.lexing.Stop.TheVariants.{End}
+use Rattle.script_tokens.specs.declared.lexing.LexEnd.TheVariants.{End}
 use Rattle.script_tokens.specs.Lexing.{text_of, Lexes, IsCut}
 use Rattle.script_tokens.proofs.LexingLemmas.{lexemes_tokens}
 use Rattle.script_tokens.proofs.Versions.{begins_in}

@@ -12,8 +12,8 @@ use Rattle.script_tokens.specs.declared.version.Version.TheVariants.{One, Two}
 use Rattle.script_tokens.specs.declared.token.Word.{Word}
 use Rattle.script_tokens.specs.declared.token.Word.TheVariants.{Name, Number}
 use Rattle.script_tokens.specs.declared.token.Lexeme.{Lexeme}
-use Rattle.script_tokens.specs.declared.lexing.Stop.{Stop}
-use Rattle.script_tokens.specs.declared.lexing.Stop.TheVariants.{End, NotAscii, NoToken}
+use Rattle.script_tokens.specs.declared.lexing.LexEnd.{LexEnd}
+use Rattle.script_tokens.specs.declared.lexing.LexEnd.TheVariants.{End, NotAscii, NoToken}
 use Rattle.script_tokens.specs.Version.{version_line, version_of, begins_at}
 use Rattle.script_tokens.specs.Word.{symbols, keywords, word_spelled, is_letter, is_name_byte, is_name, is_number, word_of}
 use Rattle.script_tokens.specs.Lexing.{is_blank, gap_length, comment_length, Stands, token, the_end, not_ascii, no_token, Lexes, stops, goes_on, IsCut}
@@ -129,7 +129,7 @@ module _ (version : Version) where
 -- Where the tokens end
 
 -- what stands there, so many bytes from the offset `from` on
-abbrev pub StopsAt : ℕ → List ℕ → Stop → Type 0
+abbrev pub StopsAt : ℕ → List ℕ → LexEnd → Type 0
 StopsAt from left End = AreLow (length left) left
 StopsAt from left (NotAscii place) = (n b : ℕ) × (place ≡ from + n) × AreLow n left × (slice_get left n ≡ Some b) × (128 ≤ b)
 StopsAt from left (NoToken place) = (n b : ℕ) × (place ≡ from + n) × AreLow n left × (slice_get left n ≡ Some b) × (b < 128)
@@ -145,7 +145,7 @@ get-front (suc k) b [] bs e = absurd (none-some b (ap (λ l. slice_get l 0) e))
 get-front (suc k) b (c ∷ left) bs e = get-front k b left bs e
 
 -- further back
-back : (from k : ℕ) (left : List ℕ) (stop : Stop) → AreLow k left → StopsAt (from + k) (drop k left) stop → StopsAt from left stop
+back : (from k : ℕ) (left : List ℕ) (stop : LexEnd) → AreLow k left → StopsAt (from + k) (drop k left) stop → StopsAt from left stop
 back from k left End h s = low-fewer (k + length (drop k left)) (length left) left (omega (arith, length-drop k left)) (low-behind k (length (drop k left)) left h s)
 back from k left (NotAscii place) h s = (k + s.0, s.1, omega (arith, s.2), low-behind k s.0 left h s.3, get-drop k s.0 s.1 left s.4, s.5)
 back from k left (NoToken place) h s = (k + s.0, s.1, omega (arith, s.2), low-behind k s.0 left h s.3, get-drop k s.0 s.1 left s.4, s.5)
@@ -153,7 +153,7 @@ back from k left (NoToken place) h s = (k + s.0, s.1, omega (arith, s.2), low-be
 -- Offsets
 
 -- the place of the end, in a text of that length
-abbrev pub place_of : ℕ → Stop → ℕ
+abbrev pub place_of : ℕ → LexEnd → ℕ
 place_of length End = length
 place_of length (NotAscii place) = place
 place_of length (NoToken place) = place
@@ -167,28 +167,28 @@ row-from : (ts : List Token) (from n end : ℕ) → n ≤ from → InRow from ts
 row-from [] from n end h r = omega (arith, h, r)
 row-from (t ∷ ts) from n end h r = (omega (arith, h, r.0), r.1)
 
-stop-later : (from n : ℕ) (left : List ℕ) (stop : Stop) → n ≡ from + length left → StopsAt from left stop → from ≤ place_of n stop
+stop-later : (from n : ℕ) (left : List ℕ) (stop : LexEnd) → n ≡ from + length left → StopsAt from left stop → from ≤ place_of n stop
 stop-later from n left End e s = omega (arith, e)
 stop-later from n left (NotAscii place) e s = omega (arith, s.2)
 stop-later from n left (NoToken place) e s = omega (arith, s.2)
 
 module _ (version : Version) where
-  abbrev Front : ℕ → List ℕ → Stop → Type 0
+  abbrev Front : ℕ → List ℕ → LexEnd → Type 0
   Front at left End = left ≡ []
   Front at left (NotAscii place) = (place ≡ at) × ((b : ℕ) × (bs : List ℕ) × (left ≡ b ∷ bs) × (128 ≤ b))
   Front at left (NoToken place) = (place ≡ at) × ((b : ℕ) × (bs : List ℕ) × (left ≡ b ∷ bs) × (b < 128))
 
-  front : {at : ℕ} {left : List ℕ} {stop : Stop} → Stands version at left (Err stop) → Front at left stop
+  front : {at : ℕ} {left : List ℕ} {stop : LexEnd} → Stands version at left (Err stop) → Front at left stop
   front the_end = refl
   front (not_ascii {b = b} {bs = bs} h) = (refl, (b, bs, refl, h))
   front (no_token {b = b} {bs = bs} h none) = (refl, (b, bs, refl, h))
 
-  front-stops : (from k : ℕ) (left : List ℕ) (stop : Stop) → AreLow k left → Front (from + k) (drop k left) stop → StopsAt from left stop
+  front-stops : (from k : ℕ) (left : List ℕ) (stop : LexEnd) → AreLow k left → Front (from + k) (drop k left) stop → StopsAt from left stop
   front-stops from k left End h f = low-fewer k (length left) left (omega (arith, length-drop k left, ap length f)) h
   front-stops from k left (NotAscii place) h f = (k, f.1.0, f.0, h, get-front k f.1.0 left f.1.1 f.1.2, f.1.3)
   front-stops from k left (NoToken place) h f = (k, f.1.0, f.0, h, get-front k f.1.0 left f.1.1 f.1.2, f.1.3)
 
-  lexes-stop : {from : ℕ} {left : List ℕ} {ls : List Lexeme} {stop : Stop} → Lexes version from left ls stop → StopsAt from left stop
+  lexes-stop : {from : ℕ} {left : List ℕ} {ls : List Lexeme} {stop : LexEnd} → Lexes version from left ls stop → StopsAt from left stop
   lexes-stop {from} {left} {stop = stop} (stops c) = front-stops from (gap_length left) left stop (gap_low left) (front c)
   lexes-stop {from} {left} {stop = stop} (goes_on {l = l} c x) =
       let n = next_low version c in
@@ -197,7 +197,7 @@ module _ (version : Version) where
       let there : l.end ≡ from + (l.end - from) = omega (arith, n.1) in
       back from (l.end - from) left stop low (subst (λ m. StopsAt m (drop (l.end - from) left) stop) there (lexes-stop x))
 
-  lexes-row : (bytes : List ℕ) {from : ℕ} {left : List ℕ} {ls : List Lexeme} {stop : Stop} → (n : ℕ) → n ≡ from + length left → Lexes version from left ls stop → InRow from (tokens_of bytes ls) (place_of n stop)
+  lexes-row : (bytes : List ℕ) {from : ℕ} {left : List ℕ} {ls : List Lexeme} {stop : LexEnd} → (n : ℕ) → n ≡ from + length left → Lexes version from left ls stop → InRow from (tokens_of bytes ls) (place_of n stop)
   lexes-row bytes {from} {left} {stop = stop} n e (stops c) = stop-later from n left stop e (lexes-stop (stops c))
   lexes-row bytes {from} {left} {stop = stop} n e (goes_on {l = l} {ls = ls} c x) =
       let next : IsNext version from left l = lexeme_is_next version from left l c in
@@ -214,7 +214,7 @@ line_low Two bytes e = low-from 10 bytes (ap (list_all is_low) ((bytes_eq-Decide
     chosen true h = refl
     chosen false h = cc
 
-module _ (bytes : List ℕ) (version : Version) (ls : List Lexeme) (stop : Stop) (cut : IsCut bytes version ls stop) where
+module _ (bytes : List ℕ) (version : Version) (ls : List Lexeme) (stop : LexEnd) (cut : IsCut bytes version ls stop) where
   pub cut-stops : StopsAt 0 bytes stop
   cut-stops =
       let first = begins_at version in

@@ -5,14 +5,14 @@ use Rattle.std.proofs.lemmas.Bool.{cases_lt}
 use Rattle.std.proofs.lemmas.Option.{same_Some, slice_get_within}
 use Rattle.script_tokens.specs.declared.version.Version.{Version}
 use Rattle.script_tokens.specs.declared.token.Lexeme.{Lexeme}
-use Rattle.script_tokens.specs.declared.lexing.Stop.{Stop}
-use Rattle.script_tokens.specs.declared.lexing.Stop.TheVariants.{End, NotAscii, NoToken}
+use Rattle.script_tokens.specs.declared.lexing.LexEnd.{LexEnd}
+use Rattle.script_tokens.specs.declared.lexing.LexEnd.TheVariants.{End, NotAscii, NoToken}
 use Rattle.script_tokens.specs.Version.{version_of, begins_at}
 use Rattle.script_tokens.specs.Lexing.{IsCut}
 use Rattle.script_tokens.proofs.Cuts.{every_text}
 use Rattle.script_grammar.specs.declared.tree.Function.{Function}
 use Rattle.script_grammar.specs.Grammar.{Token, IsScript, AreOf, IsScriptOf, IsViable}
-use Rattle.script_grammar.specs.Fault.{BreaksLimit, IsFault, unexpected, breaks_limit, Ending, FaultAtStop, FaultBehind, WithinBehind}
+use Rattle.script_grammar.specs.Fault.{BreaksLimit, IsFault, unexpected, breaks_limit, TextEnd, FaultAtStop, FaultBehind, WithinBehind}
 use Rattle.script_grammar.specs.Text.{tokens_of, SyntaxFault}
 use Rattle.script_grammar.proofs.Versions.{are_of_cut}
 use Rattle.script_text.specs.Faults.{HasTokens, HasFault, not_ascii, no_token, of_token, unexpected_end, IsFirstFault}
@@ -45,7 +45,7 @@ row-at : (b after : List Token) (t : Token) (from end : ℕ) → InRow from (b +
 row-at [] after t from end r = r.0
 row-at (u ∷ b) after t from end r = let l = row-at b after t (suc u.at) end r.1 in omega (arith, r.0, l)
 
-module _ (version : Version) (ending : Ending) where
+module _ (version : Version) (ending : TextEnd) where
   -- the fault of some tokens isn't after that of one of them
   first-token : (b before after : List Token) (t : Token) (s : List Sym) → AreOf version before → AreOf version (b ++ t ∷ after) → Stands before s → depth s ≤ 64 → (from end : ℕ) → InRow from (b ++ t ∷ after) end →
       (number at n : ℕ) → FaultBehind version ending before (b ++ t ∷ after) number at → IsFault version (before ++ b) t n → NotAfter number at n t.at
@@ -91,11 +91,11 @@ module _ (version : Version) (ending : Ending) where
   within-at (u ∷ b) before after t n w g = within-at b (before ++ u ∷ []) after t n w.1 (subst (λ l. BreaksLimit version l t n) (sym (append_assoc before (u ∷ []) b)) g)
 
 -- A text has the fault that is told of it.
-module _ (bytes : List ℕ) (ls : List Lexeme) (stop : Stop) (cut : IsCut bytes (version_of bytes) ls stop) where
+module _ (bytes : List ℕ) (ls : List Lexeme) (stop : LexEnd) (cut : IsCut bytes (version_of bytes) ls stop) where
   abbrev version : Version
   version = version_of bytes
 
-  abbrev ending : Ending
+  abbrev ending : TextEnd
   ending = record { end = length bytes; stop = stop }
 
   abbrev tokens : List Token
@@ -107,7 +107,7 @@ module _ (bytes : List ℕ) (ls : List Lexeme) (stop : Stop) (cut : IsCut bytes 
   has-tokens : HasTokens bytes tokens stop
   has-tokens = record { lexemes = ls; cut = cut; same = refl }
 
-  has-stop : (end : Stop) → stop ≡ end → (before : List Token) (s : List Sym) → AreOf version before → Stands before s → before ≡ tokens → (number at : ℕ) → FaultAtStop version (length bytes) end before number at → HasFault bytes number at
+  has-stop : (end : LexEnd) → stop ≡ end → (before : List Token) (s : List Sym) → AreOf version before → Stands before s → before ≡ tokens → (number at : ℕ) → FaultAtStop version (length bytes) end before number at → HasFault bytes number at
   has-stop End e before s of st same number at f =
       let here : HasFault bytes 6 (length bytes) =
       unexpected_end (subst (HasTokens bytes tokens) e has-tokens) (subst (IsViable version) same (viable version before s of st)) (subst (λ l. (fs : List Function) → IsScriptOf version l fs → ⊥) same f.2) in
@@ -141,7 +141,7 @@ module _ (bytes : List ℕ) (ls : List Lexeme) (stop : Stop) (cut : IsCut bytes 
   row : InRow 0 tokens (place_of (length bytes) stop)
   row = cut-row bytes version ls stop cut
 
-  low-there : (stop : Stop) → StopsAt 0 bytes stop → (place b : ℕ) → slice_get bytes place ≡ Some b → 128 ≤ b → (number at : ℕ) → (at < place_of (length bytes) stop) ⊎ FaultAtStop version (length bytes) stop tokens number at → NotAfter number at 1 place
+  low-there : (stop : LexEnd) → StopsAt 0 bytes stop → (place b : ℕ) → slice_get bytes place ≡ Some b → 128 ≤ b → (number at : ℕ) → (at < place_of (length bytes) stop) ⊎ FaultAtStop version (length bytes) stop tokens number at → NotAfter number at 1 place
   low-there End q place b e h number at k =
       let inside = slice_get_within bytes place b e in let low = q place b inside e in absurd (omega (arith, low, h))
   low-there (NotAscii p) q place b e h number at k = by_place (cases_lt place q.0) k
@@ -168,7 +168,7 @@ module _ (bytes : List ℕ) (ls : List Lexeme) (stop : Stop) (cut : IsCut bytes 
     stopped : (at < place_of (length bytes) stop) ⊎ FaultAtStop version (length bytes) stop tokens number at
     stopped = before-stop version ending tokens [] 0 (place_of (length bytes) stop) row number at f
 
-    stopped-as : (end : Stop) → stop ≡ end → (at < place_of (length bytes) end) ⊎ FaultAtStop version (length bytes) end tokens number at
+    stopped-as : (end : LexEnd) → stop ≡ end → (at < place_of (length bytes) end) ⊎ FaultAtStop version (length bytes) end tokens number at
     stopped-as end e = subst (λ w. (at < place_of (length bytes) w) ⊎ FaultAtStop version (length bytes) w tokens number at) e stopped
 
     not-after : (n place : ℕ) → HasFault bytes n place → NotAfter number at n place

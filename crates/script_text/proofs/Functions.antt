@@ -4,12 +4,12 @@ use Rattle.std.proofs.lemmas.Bool.{lt-ltb, le-ltb}
 use Rattle.script_tokens.specs.declared.token.Word.{Word}
 use Rattle.script_tokens.specs.declared.token.Word.TheVariants as word
 use Rattle.script_tokens.specs.declared.token.Lexeme.{Lexeme}
-use Rattle.script_tokens.specs.declared.lexing.Stop.{Stop}
-use Rattle.script_tokens.specs.declared.lexing.Stop.TheVariants.{End, NotAscii, NoToken}
+use Rattle.script_tokens.specs.declared.lexing.LexEnd.{LexEnd}
+use Rattle.script_tokens.specs.declared.lexing.LexEnd.TheVariants.{End, NotAscii, NoToken}
 use Rattle.script_tokens.specs.Lexing.{text_of}
 use Rattle.script_text.specs.declared.error.SyntaxError.{SyntaxError}
 use Rattle.script_text.specs.declared.error.SyntaxError.TheVariants.{Bad, Memory}
-use Rattle.script_text.specs.declared.parser.source.Source.{Source}
+use Rattle.script_text.specs.declared.parser.source.LexedText.{LexedText}
 use Rattle.script_grammar.specs.declared.tree.Name.{Name}
 use Rattle.script_grammar.specs.declared.tree.Kind.{Kind}
 use Rattle.script_grammar.specs.declared.tree.Kind.TheVariants.{Int, Id}
@@ -18,7 +18,7 @@ use Rattle.script_grammar.specs.declared.tree.Expr.{Expr}
 use Rattle.script_grammar.specs.declared.tree.Stmt.{Stmt}
 use Rattle.script_grammar.specs.declared.tree.Function.{Function}
 use Rattle.script_grammar.specs.Grammar.{Token, tok, name_at, IsExpr, IsStmts, IsParam, int_param, id_param, IsMoreParams, no_more_params, one_more_param, IsParams, no_params, some_params, IsAnswer, int_answer, id_answer, IsFunction, a_function, IsFunctions, no_functions, one_function, IsScript}
-use Rattle.script_grammar.specs.Fault.{Ending}
+use Rattle.script_grammar.specs.Fault.{TextEnd}
 use Rattle.script_text.specs.Machine.{Sym, only, param, params, more_params, param_list, answer, body, stmts, functions, expr_then, step, depth, at_stop, unless_broken, verdict, begun, judge}
 use Rattle.script_grammar.specs.Text.{token_of}
 use Rattle.script_text.specs.Reads.{seen, ending, Leads, Errs, NextIs, NextIsNot, IsBracket, stopped_at, unexpected_in, IsName, a_name_token, IsEnded, ended, AddsParams, IsParamList, parameters, IsBody, a_body, IsRestOfFunction, ReadsFunctions, Judges}
@@ -32,11 +32,11 @@ param_step : (w : Word) (text : List ℕ) (s : List Sym) → (w ≡ word.Id → 
 param_step word.Id text s h = absurd (h refl)
 param_step _ text s h = refl
 
-module _ (source : Source) (d : ℕ) (old : List Lexeme) where
+module _ (source : LexedText) (d : ℕ) (old : List Lexeme) where
   param_same : NextIsNot word.Id old → (n : ℕ) (s : List Sym) → judge (ending source) n (param ∷ s) (seen source old) ≡ judge (ending source) n (only word.Name ∷ s) (seen source old)
   param_same k n s = go old k
     where
-      at : (w : Stop) → at_stop source.end w (param ∷ s) ≡ at_stop source.end w (only word.Name ∷ s)
+      at : (w : LexEnd) → at_stop source.end w (param ∷ s) ≡ at_stop source.end w (only word.Name ∷ s)
       at End = refl
       at (NotAscii place) = refl
       at (NoToken place) = refl
@@ -71,26 +71,26 @@ module _ (source : Source) (d : ℕ) (old : List Lexeme) where
   pub id_err : (at : ℕ) (t1 : List Lexeme) (e : SyntaxError) → d ≤ 64 → NextIs word.Id at old t1 → Errs (only word.Name ∷ []) source d t1 e → Errs (param ∷ []) source d old e
   id_err at t1 e h k f = err_behind (param ∷ []) (only word.Name ∷ []) [] source d d old t1 e (id_enters at t1 h k) (λ s r. r) f
 
-abbrev pub ParamsSoFar : Source → ℕ → List Param → List Lexeme → List Param → List Lexeme → Type 0
+abbrev pub ParamsSoFar : LexedText → ℕ → List Param → List Lexeme → List Param → List Lexeme → Type 0
 ParamsSoFar source d start old found left = record {
   so_far : (more : List Param) (rest : List Token) → IsMoreParams (seen source left) more rest → (all : List Param) × (found ++ more ≡ start ++ all) × IsMoreParams (seen source old) all rest;
   goes : Leads (more_params ∷ []) (more_params ∷ []) source d old left;
 }
 
-pub params_begin : (source : Source) (d : ℕ) (start found : List Param) (old : List Lexeme) → found ≡ start → ParamsSoFar source d start old found old
+pub params_begin : (source : LexedText) (d : ℕ) (start found : List Param) (old : List Lexeme) → found ≡ start → ParamsSoFar source d start old found old
 params_begin source d start found old e = record { so_far = λ more rest m. (more, ap (λ z. z ++ more) e, m); goes = λ n s f. refl }
 
-pub params_end : (source : Source) (d : ℕ) (start found : List Param) (old left : List Lexeme) → ParamsSoFar source d start old found left → NextIsNot word.Comma left → Comes (AddsParams start) (more_params ∷ []) source d old found left
+pub params_end : (source : LexedText) (d : ℕ) (start found : List Param) (old left : List Lexeme) → ParamsSoFar source d start old found left → NextIsNot word.Comma left → Comes (AddsParams start) (more_params ∷ []) source d old found left
 params_end source d start found old left i k =
     let r = i.so_far [] (seen source left) no_more_params in
     ((r.0, sym (append-nil found) ∙ r.1, r.2), λ n s f. i.goes n s f ∙ skipped source n more_params s left refl (has_none more_params word.Comma _ left source.bytes.now refl k))
 
-params_enter : (source : Source) (d at : ℕ) (old left inner : List Lexeme) → d ≤ 64 → Leads (more_params ∷ []) (more_params ∷ []) source d old left → NextIs word.Comma at left inner → Leads (more_params ∷ []) (param ∷ more_params ∷ []) source d old inner
+params_enter : (source : LexedText) (d at : ℕ) (old left inner : List Lexeme) → d ≤ 64 → Leads (more_params ∷ []) (more_params ∷ []) source d old left → NextIs word.Comma at left inner → Leads (more_params ∷ []) (param ∷ more_params ∷ []) source d old inner
 params_enter source d at old left inner h g k = λ n s f.
     g n s f ∙ ap (judge (ending source) n (more_params ∷ s)) (seen-next word.Comma source at left inner k)
     ∙ taken (ending source) n at word.Comma (text_of source.bytes.now k.0) (more_params ∷ s) (param ∷ more_params ∷ s) (seen source inner) refl (omega arith) refl
 
-pub one_more_parameter : (source : Source) (d at : ℕ) (start found found' : List Param) (old left inner rest : List Lexeme) (x : Param) → found' ≡ found ++ x ∷ [] → d ≤ 64 → ParamsSoFar source d start old found left → NextIs word.Comma at left inner
+pub one_more_parameter : (source : LexedText) (d at : ℕ) (start found found' : List Param) (old left inner rest : List Lexeme) (x : Param) → found' ≡ found ++ x ∷ [] → d ≤ 64 → ParamsSoFar source d start old found left → NextIs word.Comma at left inner
     → Comes IsParam (param ∷ []) source d inner x rest → ParamsSoFar source d start old found' rest
 one_more_parameter source d at start found found' old left inner rest x p h i k a = record {
   so_far = λ more to m.
@@ -100,7 +100,7 @@ one_more_parameter source d at start found found' old left inner rest x p h i k 
   goes = λ n s f. params_enter source d at old left inner h i.goes k n s f ∙ a.1 n (more_params ∷ s) f;
 }
 
-pub more_params_err : (source : Source) (d at : ℕ) (start found : List Param) (old left inner : List Lexeme) (e : SyntaxError) → d ≤ 64 → ParamsSoFar source d start old found left → NextIs word.Comma at left inner → Errs (param ∷ []) source d inner e
+pub more_params_err : (source : LexedText) (d at : ℕ) (start found : List Param) (old left inner : List Lexeme) (e : SyntaxError) → d ≤ 64 → ParamsSoFar source d start old found left → NextIs word.Comma at left inner → Errs (param ∷ []) source d inner e
     → Errs (more_params ∷ []) source d old e
 more_params_err source d at start found old left inner e h i k f = err_behind (more_params ∷ []) (param ∷ []) (more_params ∷ []) source d d old inner e (params_enter source d at old left inner h i.goes k) (λ s r. r) f
 
@@ -108,12 +108,12 @@ param_shorter : {ts rest : List Token} {x : Param} → IsParam ts x rest → len
 param_shorter int_param = omega arith
 param_shorter id_param = omega arith
 
-pub params_turn : (source : Source) (at : ℕ) (left inner rest : List Lexeme) (x : Param) → NextIs word.Comma at left inner → IsParam (seen source inner) x (seen source rest) → length rest < length left
+pub params_turn : (source : LexedText) (at : ℕ) (left inner rest : List Lexeme) (x : Param) → NextIs word.Comma at left inner → IsParam (seen source inner) x (seen source rest) → length rest < length left
 params_turn source at left inner rest x k a =
     let f : length left ≡ suc (length inner) = ap length k.1 in
     omega (arith, f, param_shorter a, length-seen source inner, length-seen source rest)
 
-pub no_parameters : (source : Source) (d at : ℕ) (old rest : List Lexeme) (xs : List Param) → d ≤ 64 → xs ≡ [] → NextIs word.Close at old rest → Comes IsParamList (params ∷ only word.Close ∷ []) source d old xs rest
+pub no_parameters : (source : LexedText) (d at : ℕ) (old rest : List Lexeme) (xs : List Param) → d ≤ 64 → xs ≡ [] → NextIs word.Close at old rest → Comes IsParamList (params ∷ only word.Close ∷ []) source d old xs rest
 no_parameters source d at old rest xs h e k =
     let t = seen-next word.Close source at old rest k in (
       subst (λ z. IsParamList (seen source old) z (seen source rest)) (sym e) (subst (λ q. IsParamList q [] (seen source rest)) (sym t) (parameters no_params)),
@@ -125,10 +125,10 @@ params_step : (w : Word) (text : List ℕ) (s : List Sym) → (w ≡ word.Close 
 params_step word.Close text s h = absurd (h refl)
 params_step _ text s h = refl
 
-params_same : (source : Source) (n : ℕ) (s : List Sym) (old : List Lexeme) → NextIsNot word.Close old → judge (ending source) n (params ∷ only word.Close ∷ s) (seen source old) ≡ judge (ending source) n (param ∷ more_params ∷ only word.Close ∷ s) (seen source old)
+params_same : (source : LexedText) (n : ℕ) (s : List Sym) (old : List Lexeme) → NextIsNot word.Close old → judge (ending source) n (params ∷ only word.Close ∷ s) (seen source old) ≡ judge (ending source) n (param ∷ more_params ∷ only word.Close ∷ s) (seen source old)
 params_same source n s [] h = at source.stop
   where
-    at : (w : Stop) → at_stop source.end w (params ∷ only word.Close ∷ s) ≡ at_stop source.end w (param ∷ more_params ∷ only word.Close ∷ s)
+    at : (w : LexEnd) → at_stop source.end w (params ∷ only word.Close ∷ s) ≡ at_stop source.end w (param ∷ more_params ∷ only word.Close ∷ s)
     at End = refl
     at (NotAscii place) = refl
     at (NoToken place) = refl
@@ -136,7 +136,7 @@ params_same source n s (l ∷ ls) h =
     let t : Token = token_of source.bytes.now l in
     ap (λ o. verdict n t o (λ s'. judge (ending source) (begun t n) s' (seen source ls))) (params_step l.word (text_of source.bytes.now l) s h)
 
-pub some_parameters : (source : Source) (d : ℕ) (old mid mid' rest : List Lexeme) (found ys : List Param) (x : Param) → NextIsNot word.Close old → Comes IsParam (param ∷ []) source (d + 1) old x mid → found ≡ x ∷ []
+pub some_parameters : (source : LexedText) (d : ℕ) (old mid mid' rest : List Lexeme) (found ys : List Param) (x : Param) → NextIsNot word.Close old → Comes IsParam (param ∷ []) source (d + 1) old x mid → found ≡ x ∷ []
     → Comes (AddsParams found) (more_params ∷ []) source (d + 1) mid ys mid' → Passed word.Close source d mid' rest → Comes IsParamList (params ∷ only word.Close ∷ []) source d old ys rest
 some_parameters source d old mid mid' rest found ys x k a p b c =
     let t = seen-next word.Close source c.0.0 mid' rest c.0.1 in
@@ -145,21 +145,21 @@ some_parameters source d old mid mid' rest found ys x k a p b c =
       λ n s f. params_same source n s old k ∙ a.1 n (more_params ∷ only word.Close ∷ s) (omega (arith, f)) ∙ b.1 n (only word.Close ∷ s) (omega (arith, f)) ∙ c.1 n s f,
     )
 
-pub parameters_err_first : (source : Source) (d : ℕ) (old : List Lexeme) (e : SyntaxError) → NextIsNot word.Close old → Errs (param ∷ []) source (d + 1) old e → Errs (params ∷ only word.Close ∷ []) source d old e
+pub parameters_err_first : (source : LexedText) (d : ℕ) (old : List Lexeme) (e : SyntaxError) → NextIsNot word.Close old → Errs (param ∷ []) source (d + 1) old e → Errs (params ∷ only word.Close ∷ []) source d old e
 parameters_err_first source d old e k f = err_behind (params ∷ only word.Close ∷ []) (param ∷ []) (more_params ∷ only word.Close ∷ []) source d (d + 1) old old e (λ n s r. params_same source n s old k) (λ s r. omega (arith, r)) f
 
-pub parameters_err_more : (source : Source) (d : ℕ) (old mid : List Lexeme) (x : Param) (e : SyntaxError) → NextIsNot word.Close old → Comes IsParam (param ∷ []) source (d + 1) old x mid → Errs (more_params ∷ []) source (d + 1) mid e → Errs (params ∷ only word.Close ∷ []) source d old e
+pub parameters_err_more : (source : LexedText) (d : ℕ) (old mid : List Lexeme) (x : Param) (e : SyntaxError) → NextIsNot word.Close old → Comes IsParam (param ∷ []) source (d + 1) old x mid → Errs (more_params ∷ []) source (d + 1) mid e → Errs (params ∷ only word.Close ∷ []) source d old e
 parameters_err_more source d old mid x e k a f = err_behind (params ∷ only word.Close ∷ []) (more_params ∷ []) (only word.Close ∷ []) source d (d + 1) old mid e
     (λ n s r. params_same source n s old k ∙ a.1 n (more_params ∷ only word.Close ∷ s) (omega (arith, r))) (λ s r. omega (arith, r)) f
 
-pub parameters_err_close : (source : Source) (d : ℕ) (old mid mid' : List Lexeme) (found ys : List Param) (x : Param) (e : SyntaxError) → NextIsNot word.Close old → Comes IsParam (param ∷ []) source (d + 1) old x mid → Comes (AddsParams found) (more_params ∷ []) source (d + 1) mid ys mid'
+pub parameters_err_close : (source : LexedText) (d : ℕ) (old mid mid' : List Lexeme) (found ys : List Param) (x : Param) (e : SyntaxError) → NextIsNot word.Close old → Comes IsParam (param ∷ []) source (d + 1) old x mid → Comes (AddsParams found) (more_params ∷ []) source (d + 1) mid ys mid'
     → Errs (only word.Close ∷ []) source d mid' e → Errs (params ∷ only word.Close ∷ []) source d old e
 parameters_err_close source d old mid mid' found ys x e k a b f = err_behind (params ∷ only word.Close ∷ []) (only word.Close ∷ []) [] source d d old mid' e
     (λ n s r. params_same source n s old k ∙ a.1 n (more_params ∷ only word.Close ∷ s) (omega (arith, r)) ∙ b.1 n (only word.Close ∷ s) (omega (arith, r))) (λ s r. r) f
 
 -- Answers
 
-module _ (source : Source) (d : ℕ) (old : List Lexeme) where
+module _ (source : LexedText) (d : ℕ) (old : List Lexeme) where
   pub int_answer_read : NextIsNot word.Arrow old → Comes IsAnswer (answer ∷ []) source d old Int old
   int_answer_read k = (int_answer, λ n s f. skipped source n answer s old refl (has_none answer word.Arrow _ old source.bytes.now refl k))
 
@@ -182,7 +182,7 @@ module _ (source : Source) (d : ℕ) (old : List Lexeme) where
 pub body_bracket : IsBracket body word.OpenBlock (stmts ∷ only word.Return ∷ expr_then (only word.Semicolon ∷ only word.CloseBlock ∷ []))
 body_bracket = record { needed = refl; only_rule = refl; one_level = λ s. refl }
 
-module _ (source : Source) (d : ℕ) (old t1 : List Lexeme) (o : Opened word.OpenBlock source d old t1) where
+module _ (source : LexedText) (d : ℕ) (old t1 : List Lexeme) (o : Opened word.OpenBlock source d old t1) where
   body_opened : Leads (body ∷ []) (stmts ∷ only word.Return ∷ expr_then (only word.Semicolon ∷ only word.CloseBlock ∷ [])) source d old t1
   body_opened = o.2 body _ body_bracket
 
@@ -227,7 +227,7 @@ params_bracket = record { needed = refl; only_rule = refl; one_level = λ s. ref
 abbrev pub function_front : List Sym
 function_front = only word.Name ∷ param_list ∷ answer ∷ body ∷ []
 
-module _ (source : Source) (d : ℕ) (old : List Lexeme) where
+module _ (source : LexedText) (d : ℕ) (old : List Lexeme) where
   pub function_err_name : (e : SyntaxError) → Errs (only word.Name ∷ []) source d old e → Errs function_front source d old e
   function_err_name e f = err_first source d function_front (only word.Name ∷ []) (param_list ∷ answer ∷ body ∷ []) d old e (λ n s. refl) (λ s r. r) f
 
@@ -264,20 +264,20 @@ module _ (source : Source) (d : ℕ) (old : List Lexeme) where
 
 -- Lists of functions
 
-module _ (e : Ending) (m at : ℕ) (text : List ℕ) (ts : List Token) where
+module _ (e : TextEnd) (m at : ℕ) (text : List ℕ) (ts : List Token) where
   fn_taken : m ≤ 1023 → judge e m (functions ∷ []) (tok at word.Fn text ∷ ts) ≡ judge e (suc m) (only word.Name ∷ param_list ∷ answer ∷ body ∷ functions ∷ []) ts
   fn_taken h = ap (λ b. unless_broken (if b then Some 7 else None) at (judge e (suc m) (only word.Name ∷ param_list ∷ answer ∷ body ∷ functions ∷ []) ts)) (le-ltb 1023 m h)
 
   fn_many : 1023 < m → judge e m (functions ∷ []) (tok at word.Fn text ∷ ts) ≡ Some (7, at)
   fn_many h = ap (λ b. unless_broken (if b then Some 7 else None) at (judge e (suc m) (only word.Name ∷ param_list ∷ answer ∷ body ∷ functions ∷ []) ts)) (lt-ltb 1023 m h)
 
-abbrev pub FunctionsSoFar : Source → List Lexeme → List Function → List Lexeme → Type 0
+abbrev pub FunctionsSoFar : LexedText → List Lexeme → List Function → List Lexeme → Type 0
 FunctionsSoFar source old found left = record {
   so_far : (more : List Function) (rest : List Token) → IsFunctions (seen source left) more rest → IsFunctions (seen source old) (found ++ more) rest;
   goes : judge (ending source) 0 (functions ∷ []) (seen source old) ≡ judge (ending source) (length found) (functions ∷ []) (seen source left);
 }
 
-module _ (source : Source) (old : List Lexeme) (found : List Function) (left : List Lexeme) (i : FunctionsSoFar source old found left) where
+module _ (source : LexedText) (old : List Lexeme) (found : List Function) (left : List Lexeme) (i : FunctionsSoFar source old found left) where
   pub functions_end : NextIsNot word.Fn left
       → IsFunctions (seen source old) found (seen source left) × (judge (ending source) 0 (functions ∷ []) (seen source old) ≡ judge (ending source) (length found) [] (seen source left))
   functions_end k = (
@@ -332,7 +332,7 @@ module _ (source : Source) (old : List Lexeme) (found : List Function) (left : L
 
 -- Whole scripts
 
-module _ (source : Source) (old rest : List Lexeme) (found : List Function) (a : IsFunctions (seen source old) found (seen source rest))
+module _ (source : LexedText) (old rest : List Lexeme) (found : List Function) (a : IsFunctions (seen source old) found (seen source rest))
     (b : judge (ending source) 0 (functions ∷ []) (seen source old) ≡ judge (ending source) (length found) [] (seen source rest)) where
   pub script_read : rest ≡ [] → source.stop ≡ End → IsScript (seen source old) found × (judge (ending source) 0 (functions ∷ []) (seen source old) ≡ None)
   script_read e f = (
@@ -344,7 +344,7 @@ module _ (source : Source) (old rest : List Lexeme) (found : List Function) (a :
   script_err Memory h f = tt
   script_err (Bad number at) h f = b ∙ last rest h f
     where
-      stopped : (w : Stop) → (w ≡ End → ⊥) → Bad number at ≡ stopped_at source.end w → at_stop source.end w [] ≡ Some (number, at)
+      stopped : (w : LexEnd) → (w ≡ End → ⊥) → Bad number at ≡ stopped_at source.end w → at_stop source.end w [] ≡ Some (number, at)
       stopped End h f = absurd (h refl)
       stopped (NotAscii place) h f = cc
       stopped (NoToken place) h f = cc

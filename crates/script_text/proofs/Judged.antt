@@ -8,12 +8,12 @@ use Rattle.script_tokens.specs.declared.version.Version.{Version}
 use Rattle.script_tokens.specs.declared.version.Version.TheVariants.{One, Two}
 use Rattle.script_tokens.specs.declared.token.Word.{Word}
 use Rattle.script_tokens.specs.declared.token.Word.TheVariants as word
-use Rattle.script_tokens.specs.declared.lexing.Stop.{Stop}
-use Rattle.script_tokens.specs.declared.lexing.Stop.TheVariants.{End, NotAscii, NoToken}
+use Rattle.script_tokens.specs.declared.lexing.LexEnd.{LexEnd}
+use Rattle.script_tokens.specs.declared.lexing.LexEnd.TheVariants.{End, NotAscii, NoToken}
 use Rattle.script_grammar.specs.declared.tree.Function.{Function}
 use Rattle.script_grammar.specs.Grammar.{Token, tok, decimal, IsScript, AreOf, IsViable}
 use Rattle.script_grammar.specs.Nesting.{functions_nesting}
-use Rattle.script_grammar.specs.Fault.{is_fn, functions_begun, IsNested, BreaksLimit, number_out_of_range, name_too_long, nested_too_deep, too_many_functions, IsFault, unexpected, breaks_limit, Ending, FaultAtStop, FaultBehind, WithinBehind, IsProgram}
+use Rattle.script_grammar.specs.Fault.{is_fn, functions_begun, IsNested, BreaksLimit, number_out_of_range, name_too_long, nested_too_deep, too_many_functions, IsFault, unexpected, breaks_limit, TextEnd, FaultAtStop, FaultBehind, WithinBehind, IsProgram}
 use Rattle.script_text.specs.Machine.{Sym, functions, same_word, is_empty, step, run, depth, Trace, onward, trace, all_empty, Fault, broken, unless_broken, verdict, at_stop, begun, judge}
 use Rattle.script_text.proofs.Words.{same_words}
 use Rattle.script_text.proofs.Follows.{behind, script_traced, script_runs}
@@ -183,7 +183,7 @@ module _ (version : Version) where
       last false false false false e = refl
 
   -- what an answer says of the tokens after these
-  abbrev pub Says : Ending → List Token → List Token → Option Fault → Type 0
+  abbrev pub Says : TextEnd → List Token → List Token → Option Fault → Type 0
   Says ending before ts (Some f) = FaultBehind version ending before ts f.0 f.1
   Says ending before ts None = (ending.stop ≡ End) × WithinBehind version before ts × ((fs : List Function) × IsScript (before ++ ts) fs)
 
@@ -191,7 +191,7 @@ module _ (version : Version) where
   no_fault before t v h n (unexpected f) = f v
   no_fault before t v h n (breaks_limit v' b) = h n b
 
-  judged_end : (ending : Ending) (before : List Token) (s : List Sym) → Stands before s → Says ending before [] (at_stop ending.end ending.stop s)
+  judged_end : (ending : TextEnd) (before : List Token) (s : List Sym) → Stands before s → Says ending before [] (at_stop ending.end ending.stop s)
   judged_end ending before s st = at ending.stop refl
     where
       at_end : (b : Bool) → all_empty s ≡ b → ending.stop ≡ End → Says ending before [] (if b then None else Some (6, ending.end))
@@ -205,12 +205,12 @@ module _ (version : Version) where
                 let h : all_empty (functions ∷ []) ≡ false = ap all_empty same ∙ e in cc,
           )
 
-      at : (w : Stop) → ending.stop ≡ w → Says ending before [] (at_stop ending.end w s)
+      at : (w : LexEnd) → ending.stop ≡ w → Says ending before [] (at_stop ending.end w s)
       at End e = at_end (all_empty s) refl e
       at (NotAscii place) e = subst (λ w. FaultAtStop version ending.end w before 1 place) (sym e) (refl, refl)
       at (NoToken place) e = subst (λ w. FaultAtStop version ending.end w before 2 place) (sym e) (refl, refl)
 
-  pub judged : (ending : Ending) (ts before : List Token) (n : ℕ) (s : List Sym) → AreOf version before → AreOf version ts → n ≡ functions_begun before → Stands before s → Says ending before ts (judge ending n s ts)
+  pub judged : (ending : TextEnd) (ts before : List Token) (n : ℕ) (s : List Sym) → AreOf version before → AreOf version ts → n ≡ functions_begun before → Stands before s → Says ending before ts (judge ending n s ts)
   judged ending [] before n s of more e st = judged_end ending before s st
   judged ending (t ∷ ts) before n s of more e st = go (step t.word t.text s) refl (λ x. judged ending ts (before ++ t ∷ []) (begun t n) x of' (are-first version t ts more).1 (ap (begun t) e ∙ sym (begun-more before t)))
     where
@@ -237,7 +237,7 @@ module _ (version : Version) where
       go (Some s') f ih = let st' = one_more before t s st ∙ f in within s' f st' (broken n t (depth s')) refl (ih s' st')
 
   -- a script within the limits has no fault
-  no_fault_in_script : (ending : Ending) (ts before : List Token) (fs : List Function) (number at : ℕ) → ending.stop ≡ End → AreOf version (before ++ ts) → IsScript (before ++ ts) fs → WithinBehind version before ts → FaultBehind version ending before ts number at → ⊥
+  no_fault_in_script : (ending : TextEnd) (ts before : List Token) (fs : List Function) (number at : ℕ) → ending.stop ≡ End → AreOf version (before ++ ts) → IsScript (before ++ ts) fs → WithinBehind version before ts → FaultBehind version ending before ts number at → ⊥
   no_fault_in_script ending [] before fs number at e of d w f =
       let g : FaultAtStop version ending.end End before number at = subst (λ w. FaultAtStop version ending.end w before number at) e f in
       g.2 fs (subst (AreOf version) (append-nil before) of, subst (λ x. IsScript x fs) (append-nil before) d)
@@ -251,13 +251,13 @@ module _ (version : Version) where
       no_fault_in_script ending ts (before ++ t ∷ []) fs number at e of' d' w.1 f.1
 
   -- the machine's answer, for the whole list
-  pub bad_is_fault : (ending : Ending) (ts : List Token) (n at : ℕ) → AreOf version ts → judge ending 0 (functions ∷ []) ts ≡ Some (n, at) → FaultBehind version ending [] ts n at
+  pub bad_is_fault : (ending : TextEnd) (ts : List Token) (n at : ℕ) → AreOf version ts → judge ending 0 (functions ∷ []) ts ≡ Some (n, at) → FaultBehind version ending [] ts n at
   bad_is_fault ending ts n at of e = subst (Says ending [] ts) e (judged ending ts [] 0 (functions ∷ []) of_none of refl refl)
 
-  pub none_is_program : (ending : Ending) (ts : List Token) (fs : List Function) → AreOf version ts → judge ending 0 (functions ∷ []) ts ≡ None → IsScript ts fs → (ending.stop ≡ End) × IsProgram version ts fs
+  pub none_is_program : (ending : TextEnd) (ts : List Token) (fs : List Function) → AreOf version ts → judge ending 0 (functions ∷ []) ts ≡ None → IsScript ts fs → (ending.stop ≡ End) × IsProgram version ts fs
   none_is_program ending ts fs of e d =
       let w = subst (Says ending [] ts) e (judged ending ts [] 0 (functions ∷ []) of_none of refl refl) in
       (w.0, record { of_version = of; derives = d; within = w.1 })
 
-  pub never_bad : (ending : Ending) (ts : List Token) (fs : List Function) (n at : ℕ) → ending.stop ≡ End → IsProgram version ts fs → FaultBehind version ending [] ts n at → ⊥
+  pub never_bad : (ending : TextEnd) (ts : List Token) (fs : List Function) (n at : ℕ) → ending.stop ≡ End → IsProgram version ts fs → FaultBehind version ending [] ts n at → ⊥
   never_bad ending ts fs n at e t f = no_fault_in_script ending ts [] fs n at e t.of_version t.derives t.within f

@@ -5,7 +5,7 @@ use Rattle.script_tokens.specs.declared.token.Lexeme.{Lexeme}
 use Rattle.script_tokens.specs.Lexing.{text_of}
 use Rattle.script_text.specs.declared.error.SyntaxError.{SyntaxError}
 use Rattle.script_text.specs.declared.error.SyntaxError.TheVariants.{Bad, Memory}
-use Rattle.script_text.specs.declared.parser.source.Source.{Source}
+use Rattle.script_text.specs.declared.parser.source.LexedText.{LexedText}
 use Rattle.script_grammar.specs.declared.tree.Name.{Name}
 use Rattle.script_grammar.specs.declared.tree.Expr.{Expr}
 use Rattle.script_grammar.specs.declared.tree.CallText.{CallText}
@@ -21,7 +21,7 @@ use Rattle.script_text.proofs.Statements.{ComesAct, stmt_token, stmt_enters, err
 
 -- Bounds
 
-module _ (source : Source) (d : ℕ) (old : List Lexeme) where
+module _ (source : LexedText) (d : ℕ) (old : List Lexeme) where
   pub bounds_err_in : (e : SyntaxError) → Errs (only word.In ∷ []) source d old e → Errs (only word.In ∷ expr_then (only word.Range ∷ expr_then [])) source d old e
   bounds_err_in e f = err_first source d (only word.In ∷ expr_then (only word.Range ∷ expr_then [])) (only word.In ∷ []) (expr_then (only word.Range ∷ expr_then [])) d old e (λ n s. refl) (λ s r. r) f
 
@@ -69,7 +69,7 @@ module _ (source : Source) (d : ℕ) (old : List Lexeme) where
 
 -- The name again
 
-module _ (source : Source) (d : ℕ) (n : List ℕ) (old : List Lexeme) where
+module _ (source : LexedText) (d : ℕ) (n : List ℕ) (old : List Lexeme) where
   pub repeats : (rest : List Lexeme) (l : Lexeme) → length n ≤ 32 → d ≤ 64 → NextLexeme word.Name l old rest → text_of source.bytes.now l ≡ n
       → ((l : Lexeme) × NextLexeme word.Name l old rest × (text_of source.bytes.now l ≡ n)) × Leads (exactly n ∷ []) [] source d old rest
   repeats rest l short h k e = (
@@ -109,10 +109,10 @@ pub loop_bracket : (n : List ℕ) → IsBracket (loop_args n) word.Open (exactly
 loop_bracket n = record { needed = refl; only_rule = refl; one_level = λ s. refl }
 
 -- what `repeated` shows
-abbrev pub Repeated : Source → ℕ → List ℕ → List Lexeme → List Lexeme → Type 0
+abbrev pub Repeated : LexedText → ℕ → List ℕ → List Lexeme → List Lexeme → Type 0
 Repeated source d n old rest = ((l : Lexeme) × NextLexeme word.Name l old rest × (text_of source.bytes.now l ≡ n)) × Leads (exactly n ∷ []) [] source d old rest
 
-module _ (source : Source) (d : ℕ) (n : List ℕ) (old t1 : List Lexeme) where
+module _ (source : LexedText) (d : ℕ) (n : List ℕ) (old t1 : List Lexeme) where
   pub loop_err_call : (e : SyntaxError) → Errs (only word.Call ∷ []) source d old e → Errs (loop_front n) source d old e
   loop_err_call e f = err_first source d (loop_front n) (only word.Call ∷ []) (only word.Name ∷ loop_args n ∷ only word.Semicolon ∷ []) d old e (λ m s. refl) (λ s r. r) f
 
@@ -169,7 +169,7 @@ module _ (source : Source) (d : ℕ) (n : List ℕ) (old t1 : List Lexeme) where
 abbrev loop_rest : List ℕ → List Sym → List Sym
 loop_rest n s = only word.In ∷ expr_then (only word.Range ∷ expr_then (into ∷ only word.Call ∷ only word.Name ∷ loop_args n ∷ only word.Semicolon ∷ s))
 
-module _ (source : Source) (d : ℕ) (l : Lexeme) (rest : List Lexeme) where
+module _ (source : LexedText) (d : ℕ) (l : Lexeme) (rest : List Lexeme) where
   loop_enters : l.word ≡ word.Pfor → d ≤ 64 → Leads (stmts ∷ []) (loop_name ∷ stmts ∷ []) source d (l ∷ rest) rest
   loop_enters p h = stmt_enters source d l rest word.Pfor (loop_name ∷ []) p refl (λ t s. refl) (λ s. refl) h
 

@@ -1,7 +1,7 @@
 -- What was derived of a tree is so of an equal one, as a value is that was kept for some time.
 use Rattle.std.proofs.Common.{◌≡◌, ℕ, List, Option, sym, subst}
 use Rattle.script_tokens.specs.declared.token.Lexeme.{Lexeme}
-use Rattle.script_text.specs.declared.parser.source.Source.{Source}
+use Rattle.script_text.specs.declared.parser.source.LexedText.{LexedText}
 use Rattle.script_grammar.specs.declared.tree.Name.{Name}
 use Rattle.script_grammar.specs.declared.tree.Expr.{Expr}
 use Rattle.script_grammar.specs.declared.tree.CallText.{CallText}
@@ -20,7 +20,7 @@ bounds_moved {ts = ts} {us = us} {y = y} e m = (subst (λ z. IsBounds ts z y us)
 pub body_moved : {ts us : List Token} {p : List Stmt} {at : ℕ} {x x' : Expr} {L : Type 0} → x' ≡ x → IsBody ts p at x us × L → IsBody ts p at x' us × L
 body_moved {ts = ts} {us = us} {p = p} {at = at} e m = (subst (λ z. IsBody ts p at z us) (sym e) m.0, m.1)
 
-module _ (source : Source) (d : ℕ) (l : Lexeme) (rest last : List Lexeme) where
+module _ (source : LexedText) (d : ℕ) (l : Lexeme) (rest last : List Lexeme) where
   pub if_moved : (x x' : Expr) (p p' q : List Stmt) → x' ≡ x → p' ≡ p → ComesAct source d l rest (act.If x p q) last → ComesAct source d l rest (act.If x' p' q) last
   if_moved x x' p p' q e f m = subst (λ z. ComesAct source d l rest (act.If z p' q) last) (sym e) (subst (λ z. ComesAct source d l rest (act.If x z q) last) (sym f) m)
 

@@ -6,7 +6,7 @@ use Rattle.script_tokens.specs.declared.token.Lexeme.{Lexeme}
 use Rattle.script_tokens.specs.Lexing.{text_of}
 use Rattle.script_text.specs.declared.error.SyntaxError.{SyntaxError}
 use Rattle.script_text.specs.declared.error.SyntaxError.TheVariants.{Bad, Memory}
-use Rattle.script_text.specs.declared.parser.source.Source.{Source}
+use Rattle.script_text.specs.declared.parser.source.LexedText.{LexedText}
 use Rattle.script_grammar.specs.declared.tree.Name.{Name}
 use Rattle.script_grammar.specs.declared.tree.Number.{Number}
 use Rattle.script_grammar.specs.declared.tree.Expr.{Expr}
@@ -26,7 +26,7 @@ use Rattle.script_text.proofs.Expressions.{first_is, expr_shorter, length-seen}
 
 -- Two in a row
 
-module _ (source : Source) (d : ℕ) where
+module _ (source : LexedText) (d : ℕ) where
   pub err_first : (front next tail : List Sym) (d' : ℕ) (old : List Lexeme) (e : SyntaxError) → ((n : ℕ) (s : List Sym) → judge (ending source) n (front ++ s) (seen source old) ≡ judge (ending source) n ((next ++ tail) ++ s) (seen source old))
       → ((s : List Sym) → depth s ≡ d → depth (tail ++ s) ≡ d') → Errs next source d' old e → Errs front source d old e
   err_first front next tail d' old e g h f = err_behind front next tail source d d' old old e (λ n s r. g n s) h f
@@ -40,7 +40,7 @@ right_step word.Call text s a b c d = absurd (c refl)
 right_step word.Spawn text s a b c d = absurd (d refl)
 right_step _ text s a b c d = refl
 
-module _ (source : Source) (d : ℕ) (old rest : List Lexeme) (l : Lexeme) (e : old ≡ l ∷ rest) where
+module _ (source : LexedText) (d : ℕ) (old rest : List Lexeme) (l : Lexeme) (e : old ≡ l ∷ rest) where
   right_same : (l.word ≡ word.Draw → ⊥) → (l.word ≡ word.New → ⊥) → (l.word ≡ word.Call → ⊥) → (l.word ≡ word.Spawn → ⊥) → (n : ℕ) (s : List Sym)
       → judge (ending source) n (machine.right ∷ s) (seen source old) ≡ judge (ending source) n (expr_then s) (seen source old)
   right_same p q r u n s =
@@ -94,12 +94,12 @@ module _ (source : Source) (d : ℕ) (old rest : List Lexeme) (l : Lexeme) (e : 
   pub right_spawn_err : (g : SyntaxError) → l.word ≡ word.Spawn → d ≤ 64 → Errs (only word.Name ∷ call_args ∷ []) source d rest g → Errs (machine.right ∷ []) source d old g
   right_spawn_err g p h f = err_behind (machine.right ∷ []) (only word.Name ∷ call_args ∷ []) [] source d d old rest g (right_enters word.Spawn (only word.Name ∷ call_args ∷ []) p refl (λ t s. refl) (λ s. refl) h) (λ s r. r) f
 
-pub right_missing : (source : Source) (d : ℕ) (old : List Lexeme) (e : SyntaxError) → old ≡ [] → e ≡ unexpected_in source old → Errs (machine.right ∷ []) source d old e
+pub right_missing : (source : LexedText) (d : ℕ) (old : List Lexeme) (e : SyntaxError) → old ≡ [] → e ≡ unexpected_in source old → Errs (machine.right ∷ []) source d old e
 right_missing source d old e h f = unexpected_err machine.right [] source d old e refl (subst (λ z. HasNone machine.right z source.bytes.now) (sym h) tt) f
 
 -- What ends with a semicolon
 
-module _ (source : Source) (d : ℕ) (old mid rest : List Lexeme) where
+module _ (source : LexedText) (d : ℕ) (old mid rest : List Lexeme) where
   pub value_read : (x : Right) → Comes IsRight (machine.right ∷ []) source d old x mid → Passed word.Semicolon source d mid rest → Comes IsValueOf (machine.right ∷ only word.Semicolon ∷ []) source d old x rest
   value_read x a b = (value_of (subst (IsRight (seen source old) x) (seen-next word.Semicolon source b.0.0 mid rest b.0.1) a.0), λ n s f. a.1 n (only word.Semicolon ∷ s) f ∙ b.1 n s f)
 
@@ -109,7 +109,7 @@ module _ (source : Source) (d : ℕ) (old mid rest : List Lexeme) where
   pub call_of_read : (x : CallText) → Comes IsCall (only word.Name ∷ call_args ∷ []) source d old x mid → Passed word.Semicolon source d mid rest → Comes IsCallOf (only word.Name ∷ call_args ∷ only word.Semicolon ∷ []) source d old x rest
   call_of_read x a b = (call_of (subst (IsCall (seen source old) x) (seen-next word.Semicolon source b.0.0 mid rest b.0.1) a.0), λ n s f. a.1 n (only word.Semicolon ∷ s) f ∙ b.1 n s f)
 
-module _ (source : Source) (d : ℕ) (old : List Lexeme) (e : SyntaxError) where
+module _ (source : LexedText) (d : ℕ) (old : List Lexeme) (e : SyntaxError) where
   pub value_err : Errs (machine.right ∷ []) source d old e → Errs (machine.right ∷ only word.Semicolon ∷ []) source d old e
   value_err f = err_first source d (machine.right ∷ only word.Semicolon ∷ []) (machine.right ∷ []) (only word.Semicolon ∷ []) d old e (λ n s. refl) (λ s r. r) f
 
@@ -136,7 +136,7 @@ none_of_two a v w p q (l ∷ ls) bytes e h k =
     ap (find_rule l.word (text_of bytes l)) e ∙ ap (λ b. if b && true then Some p else if machine.same_word l.word w && true then Some q else None) (other_word l.word v h)
     ∙ ap (λ b. if b && true then Some q else None) (other_word l.word w k)
 
-module _ (source : Source) (d : ℕ) (old : List Lexeme) (e : SyntaxError) where
+module _ (source : LexedText) (d : ℕ) (old : List Lexeme) (e : SyntaxError) where
   pub size_missing : NextIsNot word.Assign old → NextIsNot word.OpenItem old → e ≡ unexpected_in source old → Errs (after_let ∷ []) source d old e
   size_missing h k f = unexpected_err after_let [] source d old e refl (none_of_two after_let word.Assign word.OpenItem _ _ old source.bytes.now refl h k) f
 
@@ -144,7 +144,7 @@ module _ (source : Source) (d : ℕ) (old : List Lexeme) (e : SyntaxError) where
   element_missing h k f = unexpected_err after_name [] source d old e refl (none_of_two after_name word.Assign word.OpenItem _ _ old source.bytes.now refl h k) f
 
 -- a bracket that a symbol's second rule begins with
-module _ (source : Source) (d at : ℕ) (old rest : List Lexeme) (a : Sym) (inside : List Sym) (g : (text : List ℕ) (s : List Sym) → step word.OpenItem text (a ∷ s) ≡ Some (inside ++ s)) (one : (s : List Sym) → depth (inside ++ s) ≡ suc (depth s)) (k : NextIs word.OpenItem at old rest) where
+module _ (source : LexedText) (d at : ℕ) (old rest : List Lexeme) (a : Sym) (inside : List Sym) (g : (text : List ℕ) (s : List Sym) → step word.OpenItem text (a ∷ s) ≡ Some (inside ++ s)) (one : (s : List Sym) → depth (inside ++ s) ≡ suc (depth s)) (k : NextIs word.OpenItem at old rest) where
   pub bracket_enters : d < 64 → Leads (a ∷ []) inside source d old rest
   bracket_enters h = λ n s f.
       let level = one s in
@@ -165,7 +165,7 @@ size_inside = only word.Number ∷ only word.CloseItem ∷ only word.Semicolon �
 abbrev pub element_inside : List Sym
 element_inside = expr_then (only word.CloseItem ∷ only word.Assign ∷ expr_then (only word.Semicolon ∷ []))
 
-module _ (source : Source) (d at inside : ℕ) (old t1 : List Lexeme) (k : NextIs word.OpenItem at old t1) where
+module _ (source : LexedText) (d at inside : ℕ) (old t1 : List Lexeme) (k : NextIs word.OpenItem at old t1) where
   size_enters : d < 64 → Leads (after_let ∷ []) size_inside source d old t1
   size_enters h = bracket_enters source d at old t1 after_let size_inside (λ t s. refl) (λ s. refl) k h
 
@@ -249,10 +249,10 @@ no_stmt (l ∷ ls) bytes h = go l.word h
     go word.Scope h = cc
     go _ h = refl
 
-abbrev pub ComesAct : Source → ℕ → Lexeme → List Lexeme → Act → List Lexeme → Type 0
+abbrev pub ComesAct : LexedText → ℕ → Lexeme → List Lexeme → Act → List Lexeme → Type 0
 ComesAct source d l rest x last = IsStmt (seen source (l ∷ rest)) (stmt_at l.start x) (seen source last) × Leads (stmts ∷ []) (stmts ∷ []) source d (l ∷ rest) last
 
-module _ (source : Source) (d : ℕ) (l : Lexeme) (rest : List Lexeme) where
+module _ (source : LexedText) (d : ℕ) (l : Lexeme) (rest : List Lexeme) where
   pub stmt_token : (w : Word) → l.word ≡ w → seen source (l ∷ rest) ≡ tok l.start w (text_of source.bytes.now l) ∷ seen source rest
   stmt_token w p = seen-next w source l.start (l ∷ rest) rest (first_is l (l ∷ rest) rest refl p)
 
@@ -444,7 +444,7 @@ module _ (source : Source) (d : ℕ) (l : Lexeme) (rest : List Lexeme) where
 pub block_bracket : IsBracket block word.OpenBlock (stmts ∷ only word.CloseBlock ∷ [])
 block_bracket = record { needed = refl; only_rule = refl; one_level = λ s. refl }
 
-module _ (source : Source) (d : ℕ) (old t1 : List Lexeme) (o : Opened word.OpenBlock source d old t1) where
+module _ (source : LexedText) (d : ℕ) (old t1 : List Lexeme) (o : Opened word.OpenBlock source d old t1) where
   pub block_read : (t2 rest : List Lexeme) (xs : List Stmt) → Comes IsStmts (stmts ∷ []) source (d + 1) t1 xs t2 → Passed word.CloseBlock source d t2 rest → Comes IsBlock (block ∷ []) source d old xs rest
   block_read t2 rest xs a b = (
     subst (λ z. IsBlock z xs (seen source rest)) (sym (seen-next word.OpenBlock source o.0.0 old t1 o.0.1)) (a_block (subst (IsStmts (seen source t1) xs) (seen-next word.CloseBlock source b.0.0 t2 rest b.0.1) a.0)),
@@ -457,7 +457,7 @@ module _ (source : Source) (d : ℕ) (old t1 : List Lexeme) (o : Opened word.Ope
   pub block_err_close : (t2 : List Lexeme) (xs : List Stmt) (e : SyntaxError) → Comes IsStmts (stmts ∷ []) source (d + 1) t1 xs t2 → Errs (only word.CloseBlock ∷ []) source d t2 e → Errs (block ∷ []) source d old e
   block_err_close t2 xs e a f = err_behind (block ∷ []) (only word.CloseBlock ∷ []) [] source d d old t2 e (λ n s r. o.2 block _ block_bracket n s r ∙ a.1 n (only word.CloseBlock ∷ s) (omega (arith, r))) (λ s r. r) f
 
-module _ (source : Source) (d : ℕ) (old : List Lexeme) where
+module _ (source : LexedText) (d : ℕ) (old : List Lexeme) where
   pub else_missing : (xs : List Stmt) → xs ≡ [] → NextIsNot word.Else old → Comes IsElse (otherwise ∷ []) source d old xs old
   else_missing xs e k = (subst (λ z. IsElse (seen source old) z (seen source old)) (sym e) no_else, λ n s f. skipped source n otherwise s old refl (has_none otherwise word.Else _ old source.bytes.now refl k))
 
@@ -474,19 +474,19 @@ module _ (source : Source) (d : ℕ) (old : List Lexeme) where
 
 -- Lists of statements
 
-abbrev pub StmtsSoFar : Source → ℕ → List Lexeme → List Stmt → List Lexeme → Type 0
+abbrev pub StmtsSoFar : LexedText → ℕ → List Lexeme → List Stmt → List Lexeme → Type 0
 StmtsSoFar source d old xs left = record {
   so_far : (more : List Stmt) (rest : List Token) → IsStmts (seen source left) more rest → IsStmts (seen source old) (xs ++ more) rest;
   goes : Leads (stmts ∷ []) (stmts ∷ []) source d old left;
 }
 
-pub stmts_end : (source : Source) (d : ℕ) (old left : List Lexeme) (xs : List Stmt) → StmtsSoFar source d old xs left → NoStmt left → Comes IsStmts (stmts ∷ []) source d old xs left
+pub stmts_end : (source : LexedText) (d : ℕ) (old left : List Lexeme) (xs : List Stmt) → StmtsSoFar source d old xs left → NoStmt left → Comes IsStmts (stmts ∷ []) source d old xs left
 stmts_end source d old left xs i k = (
   subst (λ z. IsStmts (seen source old) z (seen source left)) (append-nil xs) (i.so_far [] (seen source left) no_stmts),
   λ n s f. i.goes n s f ∙ skipped source n stmts s left refl (no_stmt left source.bytes.now k),
 )
 
-pub one_more_stmt : (source : Source) (d : ℕ) (old left inner rest : List Lexeme) (l : Lexeme) (xs ys : List Stmt) (x : Act) → ys ≡ xs ++ stmt_at l.start x ∷ [] → StmtsSoFar source d old xs left → left ≡ l ∷ inner → ComesAct source d l inner x rest
+pub one_more_stmt : (source : LexedText) (d : ℕ) (old left inner rest : List Lexeme) (l : Lexeme) (xs ys : List Stmt) (x : Act) → ys ≡ xs ++ stmt_at l.start x ∷ [] → StmtsSoFar source d old xs left → left ≡ l ∷ inner → ComesAct source d l inner x rest
     → StmtsSoFar source d old ys rest
 one_more_stmt source d old left inner rest l xs ys x p i e a = record {
   so_far = λ more to m.
@@ -495,7 +495,7 @@ one_more_stmt source d old left inner rest l xs ys x p i e a = record {
   goes = λ n s f. i.goes n s f ∙ ap (λ z. judge (ending source) n (stmts ∷ s) (seen source z)) e ∙ a.1 n s f;
 }
 
-pub stmts_err : (source : Source) (d : ℕ) (old left inner : List Lexeme) (l : Lexeme) (xs : List Stmt) (g : SyntaxError) → StmtsSoFar source d old xs left → left ≡ l ∷ inner → Errs (stmts ∷ []) source d (l ∷ inner) g → Errs (stmts ∷ []) source d old g
+pub stmts_err : (source : LexedText) (d : ℕ) (old left inner : List Lexeme) (l : Lexeme) (xs : List Stmt) (g : SyntaxError) → StmtsSoFar source d old xs left → left ≡ l ∷ inner → Errs (stmts ∷ []) source d (l ∷ inner) g → Errs (stmts ∷ []) source d old g
 stmts_err source d old left inner l xs g i e f = err_behind (stmts ∷ []) (stmts ∷ []) [] source d d old (l ∷ inner) g (λ n s r. i.goes n s r ∙ ap (λ z. judge (ending source) n (stmts ∷ s) (seen source z)) e) (λ s r. r) f
 
 -- What was read is shorter
@@ -548,7 +548,7 @@ mutual
   else_shorter no_else = omega arith
   else_shorter (an_else d) = omega (arith, block_shorter d)
 
-pub stmt_turn : (source : Source) (left inner rest : List Lexeme) (l : Lexeme) (x : Act) → left ≡ l ∷ inner → IsStmt (seen source (l ∷ inner)) (stmt_at l.start x) (seen source rest) → length rest < length left
+pub stmt_turn : (source : LexedText) (left inner rest : List Lexeme) (l : Lexeme) (x : Act) → left ≡ l ∷ inner → IsStmt (seen source (l ∷ inner)) (stmt_at l.start x) (seen source rest) → length rest < length left
 stmt_turn source left inner rest l x e a =
     let f : length left ≡ suc (length inner) = ap length e in
     let g : length (seen source (l ∷ inner)) ≡ suc (length inner) = length-seen source (l ∷ inner) in

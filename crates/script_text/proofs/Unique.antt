@@ -7,10 +7,10 @@ use Rattle.std.proofs.lemmas.Option.{none-some, same_Some}
 use Rattle.script_tokens.specs.declared.version.Version.{Version}
 use Rattle.script_tokens.specs.declared.token.Word.{Word}
 use Rattle.script_tokens.specs.declared.token.Word.TheVariants as word
-use Rattle.script_tokens.specs.declared.lexing.Stop.{Stop}
-use Rattle.script_tokens.specs.declared.lexing.Stop.TheVariants.{End, NotAscii, NoToken}
+use Rattle.script_tokens.specs.declared.lexing.LexEnd.{LexEnd}
+use Rattle.script_tokens.specs.declared.lexing.LexEnd.TheVariants.{End, NotAscii, NoToken}
 use Rattle.script_grammar.specs.Grammar.{Token, AreOf, IsViable}
-use Rattle.script_grammar.specs.Fault.{IsNested, BreaksLimit, number_out_of_range, name_too_long, nested_too_deep, too_many_functions, IsFault, unexpected, breaks_limit, Ending, FaultAtStop, FaultBehind}
+use Rattle.script_grammar.specs.Fault.{IsNested, BreaksLimit, number_out_of_range, name_too_long, nested_too_deep, too_many_functions, IsFault, unexpected, breaks_limit, TextEnd, FaultAtStop, FaultBehind}
 use Rattle.script_text.specs.Machine.{Sym, only, exactly, factor, index, pair, more_factors, more_terms, comparison, minus_end, args, more_args, call_args, right, into, loop_name, loop_args, stmts, after_let, after_name, block, otherwise, functions, param_list, params, more_params, param, answer, body, same_word, Rule, rules, is_empty, find_rule, choose, step, is_closer, depth}
 use Rattle.script_text.proofs.Words.{same_words}
 use Rattle.script_text.proofs.Sound.{viable, taken, are-append, are-first}
@@ -184,17 +184,17 @@ module _ (version : Version) where
         go None e = absurd (fine 2 (unexpected (no_more e)))
         go (Some s') e = let st' = one_more before t s st ∙ e in (s', st', low s' e st' (cases_lt 64 (depth s')))
 
-  one_stop : (end : ℕ) (stop : Stop) (before : List Token) (m at n place : ℕ) → FaultAtStop version end stop before m at → FaultAtStop version end stop before n place → (m ≡ n) × (at ≡ place)
+  one_stop : (end : ℕ) (stop : LexEnd) (before : List Token) (m at n place : ℕ) → FaultAtStop version end stop before m at → FaultAtStop version end stop before n place → (m ≡ n) × (at ≡ place)
   one_stop end End before m at n place f g = (f.0 ∙ sym g.0, f.1 ∙ sym g.1)
   one_stop end (NotAscii p) before m at n place f g = (f.0 ∙ sym g.0, f.1 ∙ sym g.1)
   one_stop end (NoToken p) before m at n place f g = (f.0 ∙ sym g.0, f.1 ∙ sym g.1)
 
   -- what holds of the tokens after some that are at no fault
-  abbrev Later : Ending → List Token → List Token → Type 0
+  abbrev Later : TextEnd → List Token → List Token → Type 0
   Later ending ts before =
       (x : List Sym) → Stands before x → depth x ≤ 64 → (m at n place : ℕ) → FaultBehind version ending before ts m at → FaultBehind version ending before ts n place → (m ≡ n) × (at ≡ place)
 
-  pub one_fault : (ending : Ending) (ts before : List Token) (s : List Sym) → AreOf version before → AreOf version ts → Stands before s → depth s ≤ 64 → (m at n place : ℕ) →
+  pub one_fault : (ending : TextEnd) (ts before : List Token) (s : List Sym) → AreOf version before → AreOf version ts → Stands before s → depth s ≤ 64 → (m at n place : ℕ) →
       FaultBehind version ending before ts m at → FaultBehind version ending before ts n place → (m ≡ n) × (at ≡ place)
   one_fault ending [] before s of more st low m at n place f g = one_stop ending.end ending.stop before m at n place f g
   one_fault ending (t ∷ ts) before s of more st low m at n place f g = go f g (λ x. one_fault ending ts (before ++ t ∷ []) x of' (are-first version t ts more).1)

@@ -1,8 +1,8 @@
 -- From lexemes to bytes.
 use Rattle.std.proofs.Common.{◌≡◌, ℕ, List, [], ◌∷◌, drop, arith, length, Result, Ok, Err, IfOk, refl, sym, ap, ◌∙◌, subst}
 use Rattle.script_tokens.specs.declared.token.Lexeme.{Lexeme}
-use Rattle.script_tokens.specs.declared.lexing.Stop.{Stop}
-use Rattle.script_tokens.specs.declared.lexing.Stop.TheVariants.{End}
+use Rattle.script_tokens.specs.declared.lexing.LexEnd.{LexEnd}
+use Rattle.script_tokens.specs.declared.lexing.LexEnd.TheVariants.{End}
 use Rattle.script_tokens.specs.declared.version.Version.{Version}
 use Rattle.script_tokens.specs.Version.{version_of, begins_at}
 use Rattle.script_tokens.specs.Lexing.{IsCut, Lexes}
@@ -10,7 +10,7 @@ use Rattle.script_tokens.proofs.LexingLemmas.{lexing_unique}
 use Rattle.script_grammar.proofs.Versions.{are_of_cut}
 use Rattle.script_text.specs.declared.error.SyntaxError.{SyntaxError}
 use Rattle.script_text.specs.declared.error.SyntaxError.TheVariants.{Bad}
-use Rattle.script_text.specs.declared.parser.source.Source.{Source}
+use Rattle.script_text.specs.declared.parser.source.LexedText.{LexedText}
 use Rattle.script_grammar.specs.declared.tree.Script.{Script}
 use Rattle.script_grammar.specs.declared.tree.Function.{Function}
 use Rattle.script_grammar.specs.Grammar.{AreOf}
@@ -23,7 +23,7 @@ use Rattle.script_text.proofs.Judged.{bad_is_fault, none_is_program, never_bad, 
 use Rattle.script_text.proofs.Same.{same_functions}
 use Rattle.script_text.proofs.Unique.{one_fault}
 
-module _ (source : Source) (bytes : List ℕ) (ls : List Lexeme) (stop : Stop) (b : source.bytes.now ≡ bytes) (e : source.end ≡ length bytes) (s : source.stop ≡ stop)
+module _ (source : LexedText) (bytes : List ℕ) (ls : List Lexeme) (stop : LexEnd) (b : source.bytes.now ≡ bytes) (e : source.end ≡ length bytes) (s : source.stop ≡ stop)
     (cut : IsCut bytes source.version ls stop) where
   of_source : AreOf source.version (seen source ls)
   of_source = subst (λ z. AreOf source.version (tokens_of z ls)) (sym b) (are_of_cut bytes source.version ls stop cut)
@@ -53,7 +53,7 @@ module _ (source : Source) (bytes : List ℕ) (ls : List Lexeme) (stop : Stop) (
       }
 
 -- two ways to cut a text are one
-pub cut_once : (bytes : List ℕ) (v w : Version) (ls ms : List Lexeme) (stop end : Stop) → IsCut bytes v ls stop → IsCut bytes w ms end → (v ≡ w) × (ls ≡ ms) × (stop ≡ end)
+pub cut_once : (bytes : List ℕ) (v w : Version) (ls ms : List Lexeme) (stop end : LexEnd) → IsCut bytes v ls stop → IsCut bytes w ms end → (v ≡ w) × (ls ≡ ms) × (stop ≡ end)
 cut_once bytes v w ls ms stop end x y =
     let same : w ≡ v = y.told ∙ sym x.told in
     let y' : Lexes v (begins_at v) (drop (begins_at v) bytes) ms end = subst (λ z. Lexes z (begins_at z) (drop (begins_at z) bytes) ms end) same y.cut in

@@ -1,8 +1,8 @@
 -- All faults of a text, each by itself: whether it is one depends on no other.
 use Rattle.std.specs.Prelude.{◌≡◌, ℕ, ◌≤◌, List, ◌∷◌, ◌++◌, length, Some, slice_get}
 use Rattle.script_tokens.specs.declared.token.Lexeme.{Lexeme}
-use Rattle.script_tokens.specs.declared.lexing.Stop.{Stop}
-use Rattle.script_tokens.specs.declared.lexing.Stop.TheVariants.{End, NoToken}
+use Rattle.script_tokens.specs.declared.lexing.LexEnd.{LexEnd}
+use Rattle.script_tokens.specs.declared.lexing.LexEnd.TheVariants.{End, NoToken}
 use Rattle.script_tokens.specs.Version.{version_of}
 use Rattle.script_tokens.specs.Lexing.{IsCut}
 use Rattle.script_grammar.specs.declared.tree.Function.{Function}
@@ -11,7 +11,7 @@ use Rattle.script_grammar.specs.Fault.{IsFault}
 use Rattle.script_grammar.specs.Text.{tokens_of}
 
 -- the text is cut into these tokens, and they end for this reason
-pub record HasTokens (bytes : List ℕ) (tokens : List Token) (stop : Stop) : Type 0 where
+pub record HasTokens (bytes : List ℕ) (tokens : List Token) (stop : LexEnd) : Type 0 where
   pub lexemes : List Lexeme
   pub cut : IsCut bytes (version_of bytes) lexemes stop
   pub same : tokens_of bytes lexemes ≡ tokens
@@ -22,7 +22,7 @@ pub record HasTokens (bytes : List ℕ) (tokens : List Token) (stop : Stop) : Ty
 pub data HasFault (bytes : List ℕ) : (number : ℕ) → (at : ℕ) → Type 0 where
   not_ascii : {at b : ℕ} → slice_get bytes at ≡ Some b → 128 ≤ b → HasFault bytes 1 at
   no_token : {at : ℕ} {tokens : List Token} → HasTokens bytes tokens (NoToken at) → HasFault bytes 2 at
-  of_token : {number : ℕ} {before : List Token} {t : Token} (after : List Token) {stop : Stop} →
+  of_token : {number : ℕ} {before : List Token} {t : Token} (after : List Token) {stop : LexEnd} →
       HasTokens bytes (before ++ t ∷ after) stop → IsFault (version_of bytes) before t number → HasFault bytes number t.at
   unexpected_end : {tokens : List Token} → HasTokens bytes tokens End → IsViable (version_of bytes) tokens →
       ((functions : List Function) → IsScriptOf (version_of bytes) tokens functions → ⊥) → HasFault bytes 6 (length bytes)

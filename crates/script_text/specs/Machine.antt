@@ -7,10 +7,10 @@
 use Rattle.std.specs.Prelude.{ℕ, suc, List, [], ◌∷◌, ◌++◌, Option, Some, None, option_and_then, Bool, true, false, ◌&&◌, ◌||◌, nat_eq, nat_lt, length, if◌then◌else◌}
 use Rattle.script_tokens.specs.declared.token.Word.{Word}
 use Rattle.script_tokens.specs.declared.token.Word.TheVariants as word
-use Rattle.script_tokens.specs.declared.lexing.Stop.{Stop}
-use Rattle.script_tokens.specs.declared.lexing.Stop.TheVariants.{End, NotAscii, NoToken}
+use Rattle.script_tokens.specs.declared.lexing.LexEnd.{LexEnd}
+use Rattle.script_tokens.specs.declared.lexing.LexEnd.TheVariants.{End, NotAscii, NoToken}
 use Rattle.script_grammar.specs.Grammar.{Token, decimal}
-use Rattle.script_grammar.specs.Fault.{is_fn, Ending}
+use Rattle.script_grammar.specs.Fault.{is_fn, TextEnd}
 
 pub data Sym : Type 0 where
   -- a token of that word, or the name with these bytes
@@ -252,7 +252,7 @@ abbrev pub verdict : ℕ → Token → Option (List Sym) → (List Sym → Optio
 verdict n t None go = Some (2, t.at)
 verdict n t (Some s) go = unless_broken (broken n t (depth s)) t.at (go s)
 
-abbrev pub at_stop : ℕ → Stop → List Sym → Option Fault
+abbrev pub at_stop : ℕ → LexEnd → List Sym → Option Fault
 at_stop end End s = if all_empty s then None else Some (6, end)
 at_stop end (NotAscii place) s = Some (1, place)
 at_stop end (NoToken place) s = Some (2, place)
@@ -262,6 +262,6 @@ abbrev pub begun : Token → ℕ → ℕ
 begun t n = if is_fn t.word then suc n else n
 
 -- the first fault of these tokens, where these symbols are expected and n functions have begun
-abbrev pub judge : Ending → ℕ → List Sym → List Token → Option Fault
+abbrev pub judge : TextEnd → ℕ → List Sym → List Token → Option Fault
 judge e n s [] = at_stop e.end e.stop s
 judge e n s (t ∷ ts) = verdict n t (step t.word t.text s) (λ s'. judge e (begun t n) s' ts)

@@ -4,8 +4,8 @@ use Rattle.std.specs.Borrow.{Bor}
 use Rattle.script_tokens.specs.declared.token.Word.{Word}
 use Rattle.script_tokens.specs.declared.token.Word.TheVariants as word
 use Rattle.script_tokens.specs.declared.token.Lexeme.{Lexeme}
-use Rattle.script_tokens.specs.declared.lexing.Stop.{Stop}
-use Rattle.script_tokens.specs.declared.lexing.Stop.TheVariants.{End, NotAscii, NoToken}
+use Rattle.script_tokens.specs.declared.lexing.LexEnd.{LexEnd}
+use Rattle.script_tokens.specs.declared.lexing.LexEnd.TheVariants.{End, NotAscii, NoToken}
 use Rattle.script_tokens.specs.Lexing.{text_of}
 use Rattle.script_grammar.specs.declared.tree.Name.{Name}
 use Rattle.script_grammar.specs.declared.tree.Number.{Number}
@@ -19,45 +19,45 @@ use Rattle.script_grammar.specs.declared.tree.Function.{Function}
 use Rattle.script_grammar.specs.declared.tree.Script.{Script}
 use Rattle.script_text.specs.declared.error.SyntaxError.{SyntaxError}
 use Rattle.script_text.specs.declared.error.SyntaxError.TheVariants.{Bad, Memory}
-use Rattle.script_text.specs.declared.parser.source.Source.{Source}
+use Rattle.script_text.specs.declared.parser.source.LexedText.{LexedText}
 use Rattle.script_grammar.specs.Grammar.{Token, tok, name_at, number_at, decimal, IsExpr, IsMoreArgs, IsArgs, IsCall, IsRight, stmt_at, IsStmt, IsStmts, IsMoreParams, IsParams, IsFunction, IsFunctions, IsScript}
-use Rattle.script_grammar.specs.Fault.{Ending}
+use Rattle.script_grammar.specs.Fault.{TextEnd}
 use Rattle.script_grammar.specs.Text.{tokens_of}
 use Rattle.script_text.specs.Machine.{Sym, only, exactly, pair, stmts, after_name, functions, body, expr_then, rules, rule, find_rule, is_empty, depth, judge, code}
 
-abbrev pub seen : Source → List Lexeme → List Token
+abbrev pub seen : LexedText → List Lexeme → List Token
 seen source ls = tokens_of source.bytes.now ls
 
-abbrev pub ending : Source → Ending
+abbrev pub ending : LexedText → TextEnd
 ending source = record { end = source.end; stop = source.stop }
 
 -- the machine comes from the symbols in front to those after, by the lexemes between
-abbrev pub Leads : List Sym → List Sym → Source → ℕ → List Lexeme → List Lexeme → Type 0
+abbrev pub Leads : List Sym → List Sym → LexedText → ℕ → List Lexeme → List Lexeme → Type 0
 Leads front back source d old rest =
     (n : ℕ) (s : List Sym) → depth s ≡ d → judge (ending source) n (front ++ s) (seen source old) ≡ judge (ending source) n (back ++ s) (seen source rest)
 
 -- the machine finds that fault
-abbrev pub Finds : List Sym → Source → ℕ → List Lexeme → ℕ → ℕ → Type 0
+abbrev pub Finds : List Sym → LexedText → ℕ → List Lexeme → ℕ → ℕ → Type 0
 Finds front source d old number at =
     (n : ℕ) (s : List Sym) → depth s ≡ d → judge (ending source) n (front ++ s) (seen source old) ≡ Some (number, at)
 
 -- the same of an error
-abbrev pub Errs : List Sym → Source → ℕ → List Lexeme → SyntaxError → Type 0
+abbrev pub Errs : List Sym → LexedText → ℕ → List Lexeme → SyntaxError → Type 0
 Errs front source d old Memory = Unit {0}
 Errs front source d old (Bad number at) = Finds front source d old number at
 
 -- What was read from the front derives so, and takes the symbols in front from the machine's stack. Or the machine finds the fault.
-abbrev pub Reads : {X : Type 0} → (List Token → X → List Token → Type 0) → List Sym → Source → ℕ → List Lexeme → Result (X × Bor (List Lexeme)) SyntaxError → Type 0
+abbrev pub Reads : {X : Type 0} → (List Token → X → List Token → Type 0) → List Sym → LexedText → ℕ → List Lexeme → Result (X × Bor (List Lexeme)) SyntaxError → Type 0
 Reads R front source d old (Ok p) = R (seen source old) p.0 (seen source p.1.now) × Leads front [] source d old p.1.now
 Reads R front source d old (Err e) = Errs front source d old e
 
 -- the fault where nothing that may come next does
-abbrev pub stopped_at : ℕ → Stop → SyntaxError
+abbrev pub stopped_at : ℕ → LexEnd → SyntaxError
 stopped_at end End = Bad 6 end
 stopped_at end (NotAscii place) = Bad 1 place
 stopped_at end (NoToken place) = Bad 2 place
 
-abbrev pub unexpected_in : Source → List Lexeme → SyntaxError
+abbrev pub unexpected_in : LexedText → List Lexeme → SyntaxError
 unexpected_in source [] = stopped_at source.end source.stop
 unexpected_in source (l ∷ ls) = Bad 2 l.start
 
@@ -76,7 +76,7 @@ is_plain w = nat_lt 2 (code w)
 abbrev pub IsPlain : Word → Type 0
 IsPlain w = is_plain w ≡ true
 
-abbrev pub Passes : Word → Source → ℕ → List Lexeme → Result (Bor (List Lexeme)) SyntaxError → Type 0
+abbrev pub Passes : Word → LexedText → ℕ → List Lexeme → Result (Bor (List Lexeme)) SyntaxError → Type 0
 Passes w source d old (Ok rest) = ((at : ℕ) × NextIs w at old rest.now) × Leads (only w ∷ []) [] source d old rest.now
 Passes w source d old (Err e) = Errs (only w ∷ []) source d old e
 
@@ -86,7 +86,7 @@ pub record IsBracket (a : Sym) (w : Word) (inside : List Sym) : Type 0 where
   pub only_rule : rules a ≡ rule w inside ∷ []
   pub one_level : (s : List Sym) → depth (inside ++ s) ≡ suc (depth s)
 
-abbrev pub Opens : Word → Source → ℕ → List Lexeme → Result (Bor (List Lexeme)) SyntaxError → Type 0
+abbrev pub Opens : Word → LexedText → ℕ → List Lexeme → Result (Bor (List Lexeme)) SyntaxError → Type 0
 Opens w source d old (Ok rest) =
     ((at : ℕ) × NextIs w at old rest.now) × (d < 64) × ((a : Sym) (inside : List Sym) → IsBracket a w inside → Leads (a ∷ []) inside source d old rest.now)
 Opens w source d old (Err e) = (a : Sym) (inside : List Sym) → IsBracket a w inside → Errs (a ∷ []) source d old e
@@ -96,7 +96,7 @@ Deepens d at (Ok inner) = (inner ≡ d + 1) × (d < 64)
 Deepens d at (Err Memory) = ⊥
 Deepens d at (Err (Bad number place)) = (d ≡ 64) × (number ≡ 5) × (place ≡ at)
 
-abbrev pub Names : Source → Lexeme → Result Name SyntaxError → Type 0
+abbrev pub Names : LexedText → Lexeme → Result Name SyntaxError → Type 0
 Names source l (Ok name) = (name ≡ name_at l.start (text_of source.bytes.now l)) × (length (text_of source.bytes.now l) ≤ 32)
 Names source l (Err Memory) = Unit {0}
 Names source l (Err (Bad number at)) = (32 < length (text_of source.bytes.now l)) × (number ≡ 4) × (at ≡ l.start)
@@ -105,7 +105,7 @@ abbrev pub IsValue : List ℕ → Option ℕ → Type 0
 IsValue digits None = 9223372036854775807 < decimal 0 digits
 IsValue digits (Some value) = (value ≡ decimal 0 digits) × (decimal 0 digits ≤ 9223372036854775807)
 
-abbrev pub Numbers : Source → Lexeme → Result Number SyntaxError → Type 0
+abbrev pub Numbers : LexedText → Lexeme → Result Number SyntaxError → Type 0
 Numbers source l (Ok number) = (number ≡ number_at l.start (text_of source.bytes.now l)) × (decimal 0 (text_of source.bytes.now l) ≤ 9223372036854775807)
 Numbers source l (Err Memory) = ⊥
 Numbers source l (Err (Bad number at)) = (9223372036854775807 < decimal 0 (text_of source.bytes.now l)) × (number ≡ 3) × (at ≡ l.start)
@@ -127,7 +127,7 @@ pub data IsOperands : List Token → Expr → Expr → List Token → Type 0 whe
       → IsExpr ts x (tok c word.Comma v ∷ us) → IsExpr us y (tok d word.Close w ∷ rest)
       → IsOperands (tok b word.Open u ∷ ts) x y rest
 
-abbrev pub ReadsPair : Source → ℕ → List Lexeme → Result (Expr × Expr × Bor (List Lexeme)) SyntaxError → Type 0
+abbrev pub ReadsPair : LexedText → ℕ → List Lexeme → Result (Expr × Expr × Bor (List Lexeme)) SyntaxError → Type 0
 ReadsPair source d old (Ok p) = IsOperands (seen source old) p.0 p.1 (seen source p.2.now) × Leads (pair ∷ []) [] source d old p.2.now
 ReadsPair source d old (Err e) = Errs (pair ∷ []) source d old e
 
@@ -193,12 +193,12 @@ NoStmt [] = Unit {0}
 NoStmt (l ∷ ls) = begins_stmt l.word ≡ false
 
 -- What was read after a lexeme makes with it a statement that does this.
-abbrev pub ReadsAct : Source → ℕ → Lexeme → List Lexeme → Result (Act × Bor (List Lexeme)) SyntaxError → Type 0
+abbrev pub ReadsAct : LexedText → ℕ → Lexeme → List Lexeme → Result (Act × Bor (List Lexeme)) SyntaxError → Type 0
 ReadsAct source d first rest (Ok p) =
     IsStmt (seen source (first ∷ rest)) (stmt_at first.start p.0) (seen source p.1.now) × Leads (stmts ∷ []) (stmts ∷ []) source d (first ∷ rest) p.1.now
 ReadsAct source d first rest (Err e) = Errs (stmts ∷ []) source d (first ∷ rest) e
 
-abbrev pub ReadsElement : Source → ℕ → List Lexeme → Result (Expr × Expr × Bor (List Lexeme)) SyntaxError → Type 0
+abbrev pub ReadsElement : LexedText → ℕ → List Lexeme → Result (Expr × Expr × Bor (List Lexeme)) SyntaxError → Type 0
 ReadsElement source d old (Ok p) = IsElement (seen source old) p.0 p.1 (seen source p.2.now) × Leads (after_name ∷ []) [] source d old p.2.now
 ReadsElement source d old (Err e) = Errs (after_name ∷ []) source d old e
 
@@ -206,7 +206,7 @@ ReadsElement source d old (Err e) = Errs (after_name ∷ []) source d old e
 pub data IsBounds : List Token → Expr → Expr → List Token → Type 0 where
   bounds : {c d : ℕ} {u v : List ℕ} {ts us vs : List Token} {lo hi : Expr} → IsExpr ts lo (tok d word.Range v ∷ us) → IsExpr us hi vs → IsBounds (tok c word.In u ∷ ts) lo hi vs
 
-abbrev pub ReadsBounds : Source → ℕ → List Lexeme → Result (Expr × Expr × Bor (List Lexeme)) SyntaxError → Type 0
+abbrev pub ReadsBounds : LexedText → ℕ → List Lexeme → Result (Expr × Expr × Bor (List Lexeme)) SyntaxError → Type 0
 ReadsBounds source d old (Ok p) = IsBounds (seen source old) p.0 p.1 (seen source p.2.now) × Leads (only word.In ∷ expr_then (only word.Range ∷ expr_then [])) [] source d old p.2.now
 ReadsBounds source d old (Err e) = Errs (only word.In ∷ expr_then (only word.Range ∷ expr_then [])) source d old e
 
@@ -217,7 +217,7 @@ pub data IsLoopCall : List ℕ → List Token → CallText → List Token → Ty
       → IsLoopCall n (tok e word.Call w ∷ tok f word.Name f' ∷ tok g word.Open y ∷ tok h word.Name n ∷ ws) (record { name = name_at f f'; args = xs }) rest
 
 -- the name with these bytes comes next
-abbrev pub Repeats : List ℕ → Source → ℕ → List Lexeme → Result (Bor (List Lexeme)) SyntaxError → Type 0
+abbrev pub Repeats : List ℕ → LexedText → ℕ → List Lexeme → Result (Bor (List Lexeme)) SyntaxError → Type 0
 Repeats n source d old (Ok rest) = ((l : Lexeme) × NextLexeme word.Name l old rest.now × (text_of source.bytes.now l ≡ n)) × Leads (exactly n ∷ []) [] source d old rest.now
 Repeats n source d old (Err e) = Errs (exactly n ∷ []) source d old e
 
@@ -235,7 +235,7 @@ pub data IsBody : List Token → List Stmt → ℕ → Expr → List Token → T
       → IsStmts vs p (tok f word.Return x ∷ ws) → IsExpr ws r (tok g word.Semicolon y ∷ tok h word.CloseBlock z ∷ rest)
       → IsBody (tok e word.OpenBlock w ∷ vs) p f r rest
 
-abbrev pub ReadsBody : Source → ℕ → List Lexeme → Result (List Stmt × ℕ × Expr × Bor (List Lexeme)) SyntaxError → Type 0
+abbrev pub ReadsBody : LexedText → ℕ → List Lexeme → Result (List Stmt × ℕ × Expr × Bor (List Lexeme)) SyntaxError → Type 0
 ReadsBody source d old (Ok p) = IsBody (seen source old) p.0 p.1 p.2 (seen source p.3.now) × Leads (body ∷ []) [] source d old p.3.now
 ReadsBody source d old (Err e) = Errs (body ∷ []) source d old e
 
@@ -244,14 +244,14 @@ abbrev pub IsRestOfFunction : List Token → Function → List Token → Type 0
 IsRestOfFunction ts f rest = (a : ℕ) (t : List ℕ) → IsFunction (tok a word.Fn t ∷ ts) f rest
 
 -- What was read are all functions, and then the machine expects nothing. Or it finds the fault.
-abbrev pub ReadsFunctions : Source → List Lexeme → Result (List Function × Bor (List Lexeme)) SyntaxError → Type 0
+abbrev pub ReadsFunctions : LexedText → List Lexeme → Result (List Function × Bor (List Lexeme)) SyntaxError → Type 0
 ReadsFunctions source old (Ok p) =
     IsFunctions (seen source old) p.0 (seen source p.1.now)
     × (judge (ending source) 0 (functions ∷ []) (seen source old) ≡ judge (ending source) (length p.0) [] (seen source p.1.now))
 ReadsFunctions source old (Err Memory) = Unit {0}
 ReadsFunctions source old (Err (Bad number at)) = judge (ending source) 0 (functions ∷ []) (seen source old) ≡ Some (number, at)
 
-abbrev pub Judges : Source → List Lexeme → Result Script SyntaxError → Type 0
+abbrev pub Judges : LexedText → List Lexeme → Result Script SyntaxError → Type 0
 Judges source old (Ok script) = (script.version ≡ source.version) × IsScript (seen source old) script.functions × (judge (ending source) 0 (functions ∷ []) (seen source old) ≡ None)
 Judges source old (Err Memory) = Unit {0}
 Judges source old (Err (Bad number at)) = judge (ending source) 0 (functions ∷ []) (seen source old) ≡ Some (number, at)

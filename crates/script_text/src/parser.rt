@@ -16,7 +16,7 @@ ghost use Rattle.script_text.specs.NextAnswer.{NextAnswer};
 use crate::error::SyntaxError;
 use crate::fault::TextFault;
 use crate::parser::function::script;
-use crate::parser::source::Source;
+use crate::parser::source::LexedText;
 use script_grammar::Script;
 use script_tokens::{MAX_BYTES, Misfit, Token, Version, lexemes};
 use std::alloc::Global;
@@ -45,7 +45,7 @@ pub fn parse(alloc: Global, bytes: &[u8]) -> Result<Script, SyntaxError>
         → first ≡ second }
 {
     let lexed = lexemes(alloc, bytes)?;
-    let source = Source {
+    let source = LexedText {
         alloc,
         bytes,
         version: lexed.version,

@@ -8,7 +8,7 @@ use Rattle.std.proofs.lemmas.Bool.Decides.{nat_tests}
 use Rattle.script_tokens.specs.declared.version.Version.{Version}
 use Rattle.script_tokens.specs.declared.token.Word.{Word}
 use Rattle.script_tokens.specs.declared.token.Lexeme.{Lexeme}
-use Rattle.script_tokens.specs.declared.lexing.Stop.{Stop}
+use Rattle.script_tokens.specs.declared.lexing.LexEnd.{LexEnd}
 use Rattle.script_tokens.specs.Word.{symbols, is_letter, is_name_byte, word_of}
 use Rattle.script_tokens.specs.Lexing.{is_blank, gap_length, comment_length, IsLongest, Stands, token, Comes, Lexes, stops, goes_on, lexeme}
 use Rattle.script_tokens.specs.Laws.{OneMoreByteDecides}
@@ -94,14 +94,14 @@ module _ (version : Version) where
       at true e = let some = longest.token in let no = word_of-gap b (take (length bs) (bs ++ rest)) e in absurd cc
       at false e = refl
 
-  comes_blank : (from b : ℕ) (bs : List ℕ) (r : Result Lexeme Stop) → is_blank b ≡ true → Comes version (suc from) bs r → Comes version from (b ∷ bs) r
+  comes_blank : (from b : ℕ) (bs : List ℕ) (r : Result Lexeme LexEnd) → is_blank b ≡ true → Comes version (suc from) bs r → Comes version from (b ∷ bs) r
   comes_blank from b bs r h c =
       let gap : gap_length (b ∷ bs) ≡ suc (gap_length bs) = ap (λ x. if x then suc (gap_length bs) else if nat_eq b 35 then suc (comment_length bs) else 0) h in
       let place : suc from + gap_length bs ≡ from + suc (gap_length bs) = omega arith in
       subst (λ n. Stands version (from + n) (drop n (b ∷ bs)) r) (sym gap) (subst (λ n. Stands version n (drop (gap_length bs) bs) r) place c)
 
   -- A token in front is the first lexeme. `rest` is what stands after it.
-  pub lexes_token : (from : ℕ) (text rest : List ℕ) (word : Word) (ls : List Lexeme) (stop : Stop) →
+  pub lexes_token : (from : ℕ) (text rest : List ℕ) (word : Word) (ls : List Lexeme) (stop : LexEnd) →
       IsLongest version (text ++ rest) (length text) word → Lexes version (from + length text) rest ls stop →
       Lexes version from (text ++ rest) (lexeme word from (from + length text) ∷ ls) stop
   lexes_token from text rest word ls stop longest x =
@@ -116,7 +116,7 @@ module _ (version : Version) where
       goes_on here (subst (λ z. Lexes version (from + length text) z ls stop) (sym left) x)
 
   -- a blank in front
-  pub lexes_blank : {from b : ℕ} {bs : List ℕ} {ls : List Lexeme} {stop : Stop} →
+  pub lexes_blank : {from b : ℕ} {bs : List ℕ} {ls : List Lexeme} {stop : LexEnd} →
       is_blank b ≡ true → Lexes version (suc from) bs ls stop → Lexes version from (b ∷ bs) ls stop
   lexes_blank {from} {b} {bs} h (stops {stop = stop} c) = stops (comes_blank from b bs (Err stop) h c)
   lexes_blank {from} {b} {bs} h (goes_on {l = l} {ls = ls} {stop = stop} c x) =

@@ -8,8 +8,8 @@ use Rattle.script_tokens.specs.declared.version.Version.{Version}
 use Rattle.script_tokens.specs.declared.token.Word.{Word}
 use Rattle.script_tokens.specs.declared.token.Word.TheVariants.{Number}
 use Rattle.script_tokens.specs.declared.token.Lexeme.{Lexeme}
-use Rattle.script_tokens.specs.declared.lexing.Stop.{Stop}
-use Rattle.script_tokens.specs.declared.lexing.Stop.TheVariants.{End, NotAscii, NoToken}
+use Rattle.script_tokens.specs.declared.lexing.LexEnd.{LexEnd}
+use Rattle.script_tokens.specs.declared.lexing.LexEnd.TheVariants.{End, NotAscii, NoToken}
 use Rattle.script_tokens.specs.Word.{symbols, word_spelled, is_letter, is_name_byte}
 use Rattle.script_tokens.specs.Lexing.{gap_length, Fronts, Stands, token, the_end, not_ascii, no_token, Comes, Lexes, stops, goes_on, lexeme}
 use Rattle.script_tokens.specs.Laws.{EveryTextIsCut}
@@ -29,29 +29,29 @@ module _ (version : Version) where
       by false false None (Some w) e f g h = (Some (w, 1), short_symbol_longest version b bs w e f (no_long b bs (sym g)) h)
       by false false None None e f g h = (None, no_front version b bs e f (no_long b bs (sym g)) h)
 
-  some_stands : (at : ℕ) (bytes : List ℕ) → (next : Result Lexeme Stop) × Stands version at bytes next
+  some_stands : (at : ℕ) (bytes : List ℕ) → (next : Result Lexeme LexEnd) × Stands version at bytes next
   some_stands at [] = (Err End, the_end)
   some_stands at (b ∷ bs) = by (cases_lt b 128) (longest_of b bs)
     where
-      by : (b < 128) ⊎ (128 ≤ b) → ((front : Option (Word × ℕ)) × Fronts version (b ∷ bs) front) → (next : Result Lexeme Stop) × Stands version at (b ∷ bs) next
+      by : (b < 128) ⊎ (128 ≤ b) → ((front : Option (Word × ℕ)) × Fronts version (b ∷ bs) front) → (next : Result Lexeme LexEnd) × Stands version at (b ∷ bs) next
       by (inr h) x = (Err (NotAscii at), not_ascii h)
       by (inl h) (Some (w, n), x) = (Ok (lexeme w at (at + n)), token x)
       by (inl h) (None, x) = (Err (NoToken at), no_token h x)
 
-  cut : (fuel from : ℕ) (left : List ℕ) → length left ≤ fuel → (ls : List Lexeme) × (stop : Stop) × Lexes version from left ls stop
+  cut : (fuel from : ℕ) (left : List ℕ) → length left ≤ fuel → (ls : List Lexeme) × (stop : LexEnd) × Lexes version from left ls stop
   cut zero from [] h = ([], End, stops (subst (λ n. Stands version n [] (Err End)) (sym (add-zero from)) the_end))
   cut zero from (b ∷ bs) h = absurd (omega arith)
   cut (suc fuel) from left h =
       by (some_stands (from + gap_length left) (drop (gap_length left) left)) (λ l shorter. cut fuel l.end (drop (l.end - from) left) shorter)
     where
-      by : ((next : Result Lexeme Stop) × Comes version from left next) →
-          ((l : Lexeme) → length (drop (l.end - from) left) ≤ fuel → (ls : List Lexeme) × (stop : Stop) × Lexes version l.end (drop (l.end - from) left) ls stop) →
-          (ls : List Lexeme) × (stop : Stop) × Lexes version from left ls stop
+      by : ((next : Result Lexeme LexEnd) × Comes version from left next) →
+          ((l : Lexeme) → length (drop (l.end - from) left) ≤ fuel → (ls : List Lexeme) × (stop : LexEnd) × Lexes version l.end (drop (l.end - from) left) ls stop) →
+          (ls : List Lexeme) × (stop : LexEnd) × Lexes version from left ls stop
       by (Err stop, c) behind = ([], stop, stops c)
       by (Ok l, c) behind =
           let n : IsNext version from left l = lexeme_is_next version from left l c in
           let rest : length (drop (l.end - from) left) ≡ length left - (l.end - from) = length-drop (l.end - from) left in
-          let found : (ls : List Lexeme) × (stop : Stop) × Lexes version l.end (drop (l.end - from) left) ls stop =
+          let found : (ls : List Lexeme) × (stop : LexEnd) × Lexes version l.end (drop (l.end - from) left) ls stop =
           behind l (omega (arith, n.behind, n.below, n.within)) in
           (l ∷ found.0, found.1, goes_on c found.2)
 

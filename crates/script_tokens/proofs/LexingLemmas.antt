@@ -8,8 +8,8 @@ use Rattle.std.proofs.lemmas.List.{append-nil, append_assoc, drop-drop, length-d
 use Rattle.script_tokens.specs.declared.version.Version.{Version}
 use Rattle.script_tokens.specs.declared.token.Word.{Word}
 use Rattle.script_tokens.specs.declared.token.Lexeme.{Lexeme}
-use Rattle.script_tokens.specs.declared.lexing.Stop.{Stop}
-use Rattle.script_tokens.specs.declared.lexing.Stop.TheVariants.{End, NotAscii, NoToken}
+use Rattle.script_tokens.specs.declared.lexing.LexEnd.{LexEnd}
+use Rattle.script_tokens.specs.declared.lexing.LexEnd.TheVariants.{End, NotAscii, NoToken}
 use Rattle.script_tokens.specs.Word.{word_of}
 use Rattle.script_tokens.specs.Lexing.{is_blank, gap_length, comment_length, IsLongest, BeginsNoToken, Stands, token, the_end, not_ascii, no_token, Comes, Lexes, stops, goes_on, text_of, token_of, lexeme}
 use Rattle.script_tokens.specs.Laws.{InOrder, LexingIsUnique, NextTokenIsUnique, LexemesStandInOrder, LexemesAreTokens}
@@ -63,7 +63,7 @@ module _ (version : Version) where
   nothing_begins bytes n w none a = let no = none n a.within in let some = a.token in cc
 
   -- one thing stands at a place
-  pub stands_same : {at : ℕ} {bytes : List ℕ} {r s : Result Lexeme Stop} → Stands version at bytes r → Stands version at bytes s → r ≡ s
+  pub stands_same : {at : ℕ} {bytes : List ℕ} {r s : Result Lexeme LexEnd} → Stands version at bytes r → Stands version at bytes s → r ≡ s
   stands_same {at} {bytes} (token {n = n} {word = w} a) (token {n = m} {word = v} b) =
       ap (λ k. Ok (lexeme w at (at + k))) (longest_same bytes n m w v a b) ∙ ap (λ x. Ok (lexeme x at (at + m))) (longest_word bytes n m w v a b)
   stands_same (token a) the_end = absurd (nothing_at_end _ _ a)
@@ -78,11 +78,11 @@ module _ (version : Version) where
   stands_same (no_token h none) (not_ascii k) = absurd (omega arith)
   stands_same (no_token h none) (no_token k none') = refl
 
-  ok_same : (l k : Lexeme) → ◌≡◌ {A = Result Lexeme Stop} (Ok l) (Ok k) → l ≡ k
+  ok_same : (l k : Lexeme) → ◌≡◌ {A = Result Lexeme LexEnd} (Ok l) (Ok k) → l ≡ k
   ok_same l k e = cc
 
   -- a text has one list of lexemes, and one reason why they end
-  pub lexes_same : {from : ℕ} {left : List ℕ} {ls ms : List Lexeme} {stop end : Stop} → Lexes version from left ls stop → Lexes version from left ms end → (ls ≡ ms) × (stop ≡ end)
+  pub lexes_same : {from : ℕ} {left : List ℕ} {ls ms : List Lexeme} {stop end : LexEnd} → Lexes version from left ls stop → Lexes version from left ms end → (ls ≡ ms) × (stop ≡ end)
   lexes_same (stops c) (stops d) = let e = stands_same c d in (refl, cc)
   lexes_same (stops c) (goes_on d y) = let e = stands_same c d in absurd cc
   lexes_same (goes_on c x) (stops d) = let e = stands_same c d in absurd cc
@@ -133,7 +133,7 @@ module _ (version : Version) where
         text = ap (λ n. word_of version (take (l.end - l.start) (drop n left))) skipped ∙ a.text;
       }
 
-  pub in_order : (from : ℕ) (left : List ℕ) (ls : List Lexeme) (stop : Stop) → Lexes version from left ls stop → InOrder from (from + length left) ls
+  pub in_order : (from : ℕ) (left : List ℕ) (ls : List Lexeme) (stop : LexEnd) → Lexes version from left ls stop → InOrder from (from + length left) ls
   in_order from left [] stop (stops c) = omega arith
   in_order from left (l ∷ ls) stop (goes_on c x) =
       let n : IsNext from left l = lexeme_is_next from left l c in
@@ -155,18 +155,18 @@ module _ (version : Version) where
   -- The lexemes so far are `ls`, from the offset `first` on, and `from` is the end of the last. `Begins` says that whatever lexemes come after
   -- them make the text's.
   abbrev pub Begins : List ℕ → ℕ → List Lexeme → ℕ → Type 0
-  Begins text first ls from = (ms : List Lexeme) (stop : Stop) → Lexes version from (drop from text) ms stop → Lexes version first (drop first text) (ls ++ ms) stop
+  Begins text first ls from = (ms : List Lexeme) (stop : LexEnd) → Lexes version from (drop from text) ms stop → Lexes version first (drop first text) (ls ++ ms) stop
 
   pub begins_nothing : (text : List ℕ) (first from : ℕ) (ls : List Lexeme) → ls ≡ [] → from ≡ first → Begins text first ls from
   begins_nothing text first from ls e f ms stop x =
       subst (λ z. Lexes version first (drop first text) (z ++ ms) stop) (sym e) (subst (λ n. Lexes version n (drop n text) ms stop) f x)
 
-  pub begins_all : (text : List ℕ) (first : ℕ) (ls : List Lexeme) (from : ℕ) (r : Result Lexeme Stop) (stop : Stop) →
+  pub begins_all : (text : List ℕ) (first : ℕ) (ls : List Lexeme) (from : ℕ) (r : Result Lexeme LexEnd) (stop : LexEnd) →
       Begins text first ls from → Comes version from (drop from text) r → r ≡ Err stop → Lexes version first (drop first text) ls stop
   begins_all text first ls from r stop so_far c e =
       subst (λ z. Lexes version first (drop first text) z stop) (append-nil ls) (so_far [] stop (stops (subst (Comes version from (drop from text)) e c)))
 
-  pub begins_more : (text : List ℕ) (first : ℕ) (ls ms : List Lexeme) (from : ℕ) (r : Result Lexeme Stop) (l : Lexeme) →
+  pub begins_more : (text : List ℕ) (first : ℕ) (ls ms : List Lexeme) (from : ℕ) (r : Result Lexeme LexEnd) (l : Lexeme) →
       Begins text first ls from → Comes version from (drop from text) r → r ≡ Ok l → ms ≡ ls ++ l ∷ [] → Begins text first ms l.end
   begins_more text first ls ms from r l so_far c e grown more stop x =
       let comes : Comes version from (drop from text) (Ok l) = subst (Comes version from (drop from text)) e c in
@@ -177,7 +177,7 @@ module _ (version : Version) where
       subst (λ z. Lexes version first (drop first text) z stop) (sym longer) (so_far (l ∷ more) stop (goes_on comes (subst (λ z. Lexes version l.end z more stop) (sym left) x)))
 
   -- the measure of the loop falls, and the lexeme ends in the text
-  pub next_ends : (text : List ℕ) (from : ℕ) (r : Result Lexeme Stop) (l : Lexeme) → from ≤ length text → Comes version from (drop from text) r → r ≡ Ok l →
+  pub next_ends : (text : List ℕ) (from : ℕ) (r : Result Lexeme LexEnd) (l : Lexeme) → from ≤ length text → Comes version from (drop from text) r → r ≡ Ok l →
       (from < l.end) × (l.end ≤ length text)
   next_ends text from r l h c e =
       let n : IsNext from (drop from text) l = lexeme_is_next from (drop from text) l (subst (Comes version from (drop from text)) e c) in
@@ -185,7 +185,7 @@ module _ (version : Version) where
       (omega (arith, n.behind, n.below), omega (arith, n.within))
 
   -- each lexeme has the text of its word
-  texts : (text : List ℕ) (from : ℕ) (ls : List Lexeme) (stop : Stop) → from ≤ length text → Lexes version from (drop from text) ls stop →
+  texts : (text : List ℕ) (from : ℕ) (ls : List Lexeme) (stop : LexEnd) → from ≤ length text → Lexes version from (drop from text) ls stop →
       All (λ l. word_of version (text_of text l) ≡ Some l.word) ls
   texts text from [] stop h (stops c) = λ k d below. absurd (omega arith)
   texts text from (l ∷ ls) stop h (goes_on c x) =

@@ -6,7 +6,7 @@ use Rattle.script_tokens.specs.declared.version.Version.TheVariants.{One, Two}
 use Rattle.script_tokens.specs.declared.token.Word.{Word}
 use Rattle.script_tokens.specs.declared.token.Lexeme.{Lexeme}
 use Rattle.script_tokens.specs.declared.token.Token.{Token}
-use Rattle.script_tokens.specs.declared.lexing.Stop.{Stop}
+use Rattle.script_tokens.specs.declared.lexing.LexEnd.{LexEnd}
 use Rattle.script_tokens.specs.declared.lexing.Misfit.{Misfit}
 use Rattle.script_tokens.specs.Version.{version_line, version_of}
 use Rattle.script_tokens.specs.Word.{word_of, is_scope}
@@ -20,12 +20,12 @@ OneMoreByteDecides =
 
 -- every text is cut
 abbrev pub EveryTextIsCut : Type 0
-EveryTextIsCut = (version : Version) (from : ℕ) (left : List ℕ) → (ls : List Lexeme) × (stop : Stop) × Lexes version from left ls stop
+EveryTextIsCut = (version : Version) (from : ℕ) (left : List ℕ) → (ls : List Lexeme) × (stop : LexEnd) × Lexes version from left ls stop
 
 -- a text is cut in one way
 abbrev pub LexingIsUnique : Type 0
 LexingIsUnique =
-    (version : Version) (from : ℕ) (left : List ℕ) (ls ms : List Lexeme) (stop end : Stop) →
+    (version : Version) (from : ℕ) (left : List ℕ) (ls ms : List Lexeme) (stop end : LexEnd) →
     Lexes version from left ls stop → Lexes version from left ms end → (ls ≡ ms) × (stop ≡ end)
 
 -- `next_token` has one answer
@@ -40,18 +40,18 @@ InOrder from end (l ∷ ls) = (from ≤ l.start) × (l.start < l.end) × InOrder
 
 abbrev pub LexemesStandInOrder : Type 0
 LexemesStandInOrder =
-    (version : Version) (from : ℕ) (left : List ℕ) (ls : List Lexeme) (stop : Stop) → Lexes version from left ls stop → InOrder from (from + length left) ls
+    (version : Version) (from : ℕ) (left : List ℕ) (ls : List Lexeme) (stop : LexEnd) → Lexes version from left ls stop → InOrder from (from + length left) ls
 
 -- the text of each lexeme is the token that its word says
 abbrev pub LexemesAreTokens : Type 0
 LexemesAreTokens =
-    (version : Version) (text : List ℕ) (from : ℕ) (ls : List Lexeme) (stop : Stop) → from ≤ length text → Lexes version from (drop from text) ls stop →
+    (version : Version) (text : List ℕ) (from : ℕ) (ls : List Lexeme) (stop : LexEnd) → from ≤ length text → Lexes version from (drop from text) ls stop →
     All (λ l. word_of version (text_of text l) ≡ Some l.word) ls
 
 -- no lexeme of version 1 is the keyword `scope`
 abbrev pub VersionOneHasNoScope : Type 0
 VersionOneHasNoScope =
-    (from : ℕ) (left : List ℕ) (ls : List Lexeme) (stop : Stop) → Lexes One from left ls stop → list_all (λ l. not (is_scope l.word)) ls ≡ true
+    (from : ℕ) (left : List ℕ) (ls : List Lexeme) (stop : LexEnd) → Lexes One from left ls stop → list_all (λ l. not (is_scope l.word)) ls ≡ true
 
 -- a text is of version 2 exactly where it begins with the version's line
 abbrev pub VersionsBegin : Type 0

@@ -3,8 +3,8 @@ use Rattle.std.specs.Prelude.{◌≡◌, ℕ, suc, ◌+◌, ◌-◌, ◌<◌, �
 use Rattle.script_tokens.specs.declared.version.Version.{Version}
 use Rattle.script_tokens.specs.declared.token.Word.{Word}
 use Rattle.script_tokens.specs.declared.token.Lexeme.{Lexeme}
-use Rattle.script_tokens.specs.declared.lexing.Stop.{Stop}
-use Rattle.script_tokens.specs.declared.lexing.Stop.TheVariants.{End, NotAscii, NoToken}
+use Rattle.script_tokens.specs.declared.lexing.LexEnd.{LexEnd}
+use Rattle.script_tokens.specs.declared.lexing.LexEnd.TheVariants.{End, NotAscii, NoToken}
 use Rattle.script_tokens.specs.declared.lexing.Misfit.{Misfit}
 use Rattle.script_tokens.specs.declared.lexing.Misfit.TheVariants as misfit
 use Rattle.script_tokens.specs.declared.token.Token.{Token}
@@ -47,24 +47,24 @@ abbrev pub lexeme : Word → ℕ → ℕ → Lexeme
 lexeme word start end = record { word = word; start = start; end = end }
 
 -- What stands at the offset `at` of a text, of which `bytes` is the rest from there on: a lexeme, or else the reason why there is none.
-pub data Stands (version : Version) : (at : ℕ) → (bytes : List ℕ) → Result Lexeme Stop → Type 0 where
+pub data Stands (version : Version) : (at : ℕ) → (bytes : List ℕ) → Result Lexeme LexEnd → Type 0 where
   token : {at n : ℕ} {bytes : List ℕ} {word : Word} → IsLongest version bytes n word → Stands version at bytes (Ok (lexeme word at (at + n)))
   the_end : {at : ℕ} → Stands version at [] (Err End)
   not_ascii : {at b : ℕ} {bs : List ℕ} → 128 ≤ b → Stands version at (b ∷ bs) (Err (NotAscii at))
   no_token : {at b : ℕ} {bs : List ℕ} → b < 128 → BeginsNoToken version (b ∷ bs) → Stands version at (b ∷ bs) (Err (NoToken at))
 
 -- What comes next after the offset `from`, of which `left` is the rest of the text: what stands there after the gap.
-abbrev pub Comes : (version : Version) → (from : ℕ) → (left : List ℕ) → Result Lexeme Stop → Type 0
+abbrev pub Comes : (version : Version) → (from : ℕ) → (left : List ℕ) → Result Lexeme LexEnd → Type 0
 Comes version from left next = Stands version (from + gap_length left) (drop (gap_length left) left) next
 
 -- The rest of a text from the offset `from` on is `left`; it is cut into these lexemes, and they end for this reason.
-pub data Lexes (version : Version) : (from : ℕ) → (left : List ℕ) → List Lexeme → Stop → Type 0 where
-  stops : {from : ℕ} {left : List ℕ} {stop : Stop} → Comes version from left (Err stop) → Lexes version from left [] stop
-  goes_on : {from : ℕ} {left : List ℕ} {l : Lexeme} {ls : List Lexeme} {stop : Stop} →
+pub data Lexes (version : Version) : (from : ℕ) → (left : List ℕ) → List Lexeme → LexEnd → Type 0 where
+  stops : {from : ℕ} {left : List ℕ} {stop : LexEnd} → Comes version from left (Err stop) → Lexes version from left [] stop
+  goes_on : {from : ℕ} {left : List ℕ} {l : Lexeme} {ls : List Lexeme} {stop : LexEnd} →
       Comes version from left (Ok l) → Lexes version l.end (drop (l.end - from) left) ls stop → Lexes version from left (l ∷ ls) stop
 
 -- The text is of this version. From the end of the version's line on it is cut into these lexemes, and they end for this reason.
-pub record IsCut (text : List ℕ) (version : Version) (ls : List Lexeme) (stop : Stop) : Type 0 where
+pub record IsCut (text : List ℕ) (version : Version) (ls : List Lexeme) (stop : LexEnd) : Type 0 where
   pub told : version ≡ version_of text
   pub cut : Lexes version (begins_at version) (drop (begins_at version) text) ls stop
 
@@ -73,7 +73,7 @@ abbrev pub text_of : List ℕ → Lexeme → List ℕ
 text_of bytes l = slice_range bytes l.start l.end
 
 -- what `next_token` answers, from what comes next in a text of that length
-abbrev pub token_of : (length : ℕ) → Result Lexeme Stop → Result Token Misfit
+abbrev pub token_of : (length : ℕ) → Result Lexeme LexEnd → Result Token Misfit
 token_of length (Ok l) = Ok (record { kind = kind_of l.word; start = l.start; end = l.end })
 token_of length (Err End) = Ok (record { kind = kinds.End; start = length; end = length })
 token_of length (Err (NotAscii at)) = Err (misfit.NotAscii at)
@@ -81,4 +81,4 @@ token_of length (Err (NoToken at)) = Err (misfit.NoToken at)
 
 abbrev pub NextToken : (version : Version) → (bytes : List ℕ) → (from : ℕ) → Result Token Misfit → Type 0
 NextToken version bytes from result =
-    (next : Result Lexeme Stop) × Comes version from (drop from bytes) next × (result ≡ token_of (length bytes) next)
+    (next : Result Lexeme LexEnd) × Comes version from (drop from bytes) next × (result ≡ token_of (length bytes) next)

@@ -14,7 +14,7 @@ pub const MAX_BYTES: usize = 1_048_576;
 
 /// Why the lexemes of a text end.
 #[derive(Clone, Copy, Debug, PartialEq, Eq)]
-pub enum Stop {
+pub enum LexEnd {
     /// The text was read to its end.
     End,
     /// At this offset stands a byte from 128 on, in a gap or where a token is due.
@@ -23,7 +23,7 @@ pub enum Stop {
     NoToken(u32),
 }
 
-/// Why no token comes next: a [`Stop`] other than the end.
+/// Why no token comes next: a [`LexEnd`] other than the end.
 #[derive(Clone, Copy, Debug, PartialEq, Eq)]
 pub enum Misfit {
     /// At this offset stands a byte from 128 on, in the gap or directly after it.
@@ -41,19 +41,19 @@ pub struct Lexed {
     /// The lexemes before the stop, in order.
     pub lexemes: Vec<Lexeme>,
     /// Why no lexeme comes after them.
-    pub stop: Stop,
+    pub stop: LexEnd,
 }
 
 // The lexeme at the offset `at`, of which `rest` is the text from there on, or why there is none.
-fn lexeme_at(version: Version, at: u32, rest: &[u8]) -> Result<Lexeme, Stop>
+fn lexeme_at(version: Version, at: u32, rest: &[u8]) -> Result<Lexeme, LexEnd>
     requires { at + length rest.now ≤ MAX_BYTES }
     ensures { Stands version at rest.now result }
 {
     let Some((first, _)) = rest.split_first() else {
-        return Err(Stop::End);
+        return Err(LexEnd::End);
     };
     if !first.is_ascii() {
-        return Err(Stop::NotAscii(at));
+        return Err(LexEnd::NotAscii(at));
     }
     match front(version, rest) {
         Some((word, length)) => Ok(Lexeme {
@@ -61,12 +61,12 @@ fn lexeme_at(version: Version, at: u32, rest: &[u8]) -> Result<Lexeme, Stop>
             start: at,
             end: at + length as u32,
         }),
-        None => Err(Stop::NoToken(at)),
+        None => Err(LexEnd::NoToken(at)),
     }
 }
 
 // The lexeme that comes next after the offset `from`, or why there is none.
-fn next_lexeme(version: Version, bytes: &[u8], from: u32) -> Result<Lexeme, Stop>
+fn next_lexeme(version: Version, bytes: &[u8], from: u32) -> Result<Lexeme, LexEnd>
     requires size { length bytes.now ≤ MAX_BYTES }
     requires within { from ≤ length bytes.now }
     ensures { Comes version from (drop from bytes.now) result }
@@ -123,7 +123,7 @@ pub fn next_token(bytes: &[u8], from: u32, version: Version) -> Result<Token, Mi
             start: lexeme.start,
             end: lexeme.end,
         }),
-        Err(Stop::End) => {
+        Err(LexEnd::End) => {
             let end = bytes.len() as u32;
             Ok(Token {
                 kind: TokenKind::End,
@@ -131,7 +131,7 @@ pub fn next_token(bytes: &[u8], from: u32, version: Version) -> Result<Token, Mi
                 end,
             })
         }
-        Err(Stop::NotAscii(at)) => Err(Misfit::NotAscii(at)),
-        Err(Stop::NoToken(at)) => Err(Misfit::NoToken(at)),
+        Err(LexEnd::NotAscii(at)) => Err(Misfit::NotAscii(at)),
+        Err(LexEnd::NoToken(at)) => Err(Misfit::NoToken(at)),
     }
 }

@@ -6,9 +6,9 @@ use Rattle.serial_meaning.specs.Runs.{Run, done, behind, goes_on, ◌then◌}
 use Rattle.serial_meaning.specs.Values.{Env}
 use Rattle.serial_meaning.specs.Functions.{function_at}
 use Rattle.serial_meaning.specs.Plan.{PlanView, functions_of}
-use Rattle.serial_meaning.specs.Exec.{State, strand, goes_out, activation, exec, instance, filled}
+use Rattle.serial_meaning.specs.Exec.{State, strand, goes_out, frame, exec, instance, filled}
 use Rattle.serial_meaning.specs.Eval.{Evaluation, iteration, path_of}
-use Rattle.serial_meaning.specs.Open.{Item, Happened, Child, Opened, Closed, Ending, Own, Joined, Node, put_off_all, joined, loop_end, is_empty_loop, iterations, gathered, node_with}
+use Rattle.serial_meaning.specs.Open.{Item, Happened, Child, Opened, Closed, NodeFault, Own, ChildFaulted, Node, put_off_all, joined, loop_end, is_empty_loop, iterations, gathered, node_with}
 use Rattle.serial_meaning.proofs.RunLaws.{then-then}
 use Rattle.serial_meaning.proofs.Closed.{closed-exec, returned-q}
 use Rattle.serial_meaning.proofs.Closed as Of
@@ -86,22 +86,22 @@ pub record StopsAfter (path : List ℕ) (lo : ℕ) (os : List Origin) (f : Fault
   pub left : Each (λ o. LeftOf (path_of o) f.at) os
 
 -- an own fault stands so
-abbrev pub Stops : List ℕ → ℕ → List Origin → Ending → Type 0
+abbrev pub Stops : List ℕ → ℕ → List Origin → NodeFault → Type 0
 Stops path lo os (Own f) = StopsAfter path lo os f
-Stops path lo os (Joined f) = Unit {0}
+Stops path lo os (ChildFaulted f) = Unit {0}
 
-abbrev Ends : {A : Type 0} → List ℕ → (A → ℕ) → ℕ → ℕ → List Origin → Result A Ending → Type 0
+abbrev Ends : {A : Type 0} → List ℕ → (A → ℕ) → ℕ → ℕ → List Origin → Result A NodeFault → Type 0
 Ends path rank lo hi os (Ok a) = hi ≡ rank a
 Ends path rank lo hi os (Err e) = Stops path lo os e
 
-record Spread {A : Type 0} (path : List ℕ) (rank : A → ℕ) (lo : ℕ) (r : Run Item Ending A) : Type 0 where
+record Spread {A : Type 0} (path : List ℕ) (rank : A → ℕ) (lo : ℕ) (r : Run Item NodeFault A) : Type 0 where
   hi : ℕ
   up : lo ≤ hi
   ends : Ends path rank lo hi (children r.items) r.ending
   spread : ChildrenRise path lo hi (children r.items)
 
 -- more children before a fault
-stops-later : (path : List ℕ) (lo mid : ℕ) (xs ys : List Origin) (e : Ending) → lo ≤ mid → Each (IsAt path lo mid) xs → Stops path mid ys e → Stops path lo (xs ++ ys) e
+stops-later : (path : List ℕ) (lo mid : ℕ) (xs ys : List Origin) (e : NodeFault) → lo ≤ mid → Each (IsAt path lo mid) xs → Stops path mid ys e → Stops path lo (xs ++ ys) e
 stops-later path lo mid xs ys (Own f) h w s = record {
   rank = s.rank;
   more = s.more;
@@ -114,13 +114,13 @@ stops-later path lo mid xs ys (Own f) h w s = record {
     left o g =
         let from = s.from in
         subst (λ z. LeftOf z f.at) (sym g.2) (subst (LeftOf (path ++ g.0 ∷ g.1)) (sym s.at) (left-ranks path g.0 s.rank g.1 s.more (omega (arith, g.4, from))))
-stops-later path lo mid xs ys (Joined f) h w s = tt
+stops-later path lo mid xs ys (ChildFaulted f) h w s = tt
 
-spread-then : {A B : Type 0} (path : List ℕ) (f-rank : A → ℕ) (g-rank : B → ℕ) (lo : ℕ) (r : Run Item Ending A) (f : A → Run Item Ending B) →
+spread-then : {A B : Type 0} (path : List ℕ) (f-rank : A → ℕ) (g-rank : B → ℕ) (lo : ℕ) (r : Run Item NodeFault A) (f : A → Run Item NodeFault B) →
     Spread path f-rank lo r → ((a : A) → Spread path g-rank (f-rank a) (f a)) → Spread path g-rank lo (r then f)
 spread-then {A = A} {B = B} path f-rank g-rank lo r f h k = from r.items r.ending h.hi h.up h.ends h.spread
   where
-    from : (items : List Item) (e : Result A Ending) (hi : ℕ) → lo ≤ hi → Ends path f-rank lo hi (children items) e → ChildrenRise path lo hi (children items) → Spread path g-rank lo (goes_on items e f)
+    from : (items : List Item) (e : Result A NodeFault) (hi : ℕ) → lo ≤ hi → Ends path f-rank lo hi (children items) e → ChildrenRise path lo hi (children items) → Spread path g-rank lo (goes_on items e f)
     from items (Err e) hi u n c = record { hi = hi; up = u; ends = n; spread = c }
     from items (Ok a) hi u n c = record {
       hi = (k a).hi;
@@ -138,12 +138,12 @@ spread-then {A = A} {B = B} path f-rank g-rank lo r f h k = from r.items r.endin
         within : Each (IsAt path lo (f-rank a)) (children items)
         within = subst (λ z. Each (IsAt path lo z) (children items)) n c.within
 
-        later : (e : Result B Ending) → Ends path g-rank (f-rank a) (k a).hi (children (f a).items) e → Ends path g-rank lo (k a).hi (children items ++ children (f a).items) e
+        later : (e : Result B NodeFault) → Ends path g-rank (f-rank a) (k a).hi (children (f a).items) e → Ends path g-rank lo (k a).hi (children items ++ children (f a).items) e
         later (Ok b) x = x
         later (Err e) x = stops-later path lo (f-rank a) (children items) (children (f a).items) e (higher (omega arith)) within x
 
 -- the same of a whole node
-abbrev pub NodeStops : List ℕ → List Origin → Result (List Value) Ending → Type 0
+abbrev pub NodeStops : List ℕ → List Origin → Result (List Value) NodeFault → Type 0
 NodeStops path os (Ok vs) = Unit {0}
 NodeStops path os (Err e) = Stops path 0 os e
 
@@ -152,10 +152,10 @@ pub record NodeSpread (path : List ℕ) (node : Node) : Type 0 where
   pub stops : NodeStops path (children node.items) node.ending
   pub spread : ChildrenRise path 0 hi (children node.items)
 
-node-from_spread : {A : Type 0} (path : List ℕ) (rank : A → ℕ) (r : Run Item Ending A) (g : A → List Value) → Spread path rank 0 r → NodeSpread path (r then λ a. done (g a))
+node-from_spread : {A : Type 0} (path : List ℕ) (rank : A → ℕ) (r : Run Item NodeFault A) (g : A → List Value) → Spread path rank 0 r → NodeSpread path (r then λ a. done (g a))
 node-from_spread {A} path rank r g h = from r.items r.ending h.hi h.ends h.spread
   where
-    from : (items : List Item) (e : Result A Ending) (hi : ℕ) → Ends path rank 0 hi (children items) e → ChildrenRise path 0 hi (children items) → NodeSpread path (goes_on items e (λ a. done (g a)))
+    from : (items : List Item) (e : Result A NodeFault) (hi : ℕ) → Ends path rank 0 hi (children items) e → ChildrenRise path 0 hi (children items) → NodeSpread path (goes_on items e (λ a. done (g a)))
     from items (Err e) hi n c = record { hi = hi; stops = n; spread = c }
     from items (Ok a) hi n c = record { hi = hi; stops = tt; spread = rw append-nil c }
 
@@ -163,9 +163,9 @@ node-from_spread {A} path rank r g h = from r.items r.ending h.hi h.ends h.sprea
 at-under : (path : List ℕ) (k hi : ℕ) (o : Origin) → IsAt (path ++ k ∷ []) 0 hi o → IsAt path k (k + 1) o
 at-under path k hi o h = (k, h.0 ∷ h.1, h.2 ∙ append_assoc path (k ∷ []) (h.0 ∷ h.1), omega arith, omega arith)
 
-stops-under : (path : List ℕ) (k : ℕ) (os : List Origin) (e : Ending) → Stops (path ++ k ∷ []) 0 os e → Stops path k os e
+stops-under : (path : List ℕ) (k : ℕ) (os : List Origin) (e : NodeFault) → Stops (path ++ k ∷ []) 0 os e → Stops path k os e
 stops-under path k os (Own f) s = record { rank = k; more = s.rank ∷ s.more; at = s.at ∙ append_assoc path (k ∷ []) (s.rank ∷ s.more); from = omega arith; left = s.left }
-stops-under path k os (Joined f) s = tt
+stops-under path k os (ChildFaulted f) s = tt
 
 module _ (plan : PlanView) (child : Origin → Evaluation) where
   abbrev S : Type 0
@@ -177,10 +177,10 @@ module _ (plan : PlanView) (child : Origin → Evaluation) where
   abbrev pair_rank : Value × S → ℕ
   pair_rank p = p.1.rank
 
-  abbrev P : List ℕ → ℕ → Run Item Ending S → Type 0
+  abbrev P : List ℕ → ℕ → Run Item NodeFault S → Type 0
   P path lo r = Spread path rank_of lo r
 
-  abbrev Q : List ℕ → ℕ → Run Item Ending (Value × S) → Type 0
+  abbrev Q : List ℕ → ℕ → Run Item NodeFault (Value × S) → Type 0
   Q path lo r = Spread path pair_rank lo r
 
   -- no child
@@ -209,7 +209,7 @@ module _ (plan : PlanView) (child : Origin → Evaluation) where
   loop-spread path false (Err f) o s e target h = record { hi = s.rank + 1; up = omega arith; ends = tt; spread = alone path s.rank o h }
 
   -- all children of a scope stand below its rank
-  scope-spread : (path : List ℕ) (s : S) (r : Run Item Ending S) → P (path ++ s.rank ∷ []) 0 r → P path s.rank (behind (Opened (path ++ s.rank ∷ []) ∷ []) r then goes_out (put_off_all plan child) plan path s.rank)
+  scope-spread : (path : List ℕ) (s : S) (r : Run Item NodeFault S) → P (path ++ s.rank ∷ []) 0 r → P path s.rank (behind (Opened (path ++ s.rank ∷ []) ∷ []) r then goes_out (put_off_all plan child) plan path s.rank)
   scope-spread path s r h = from r.items r.ending h.hi h.ends h.spread
     where
       here : List ℕ
@@ -221,7 +221,7 @@ module _ (plan : PlanView) (child : Origin → Evaluation) where
       out : (items : List Item) → children (items ++ Closed here ∷ []) ≡ children items
       out items = children-append items (Closed here ∷ []) ∙ append-nil (children items)
 
-      from : (items : List Item) (e : Result S Ending) (hi : ℕ) → Ends here rank_of 0 hi (children items) e → ChildrenRise here 0 hi (children items) →
+      from : (items : List Item) (e : Result S NodeFault) (hi : ℕ) → Ends here rank_of 0 hi (children items) e → ChildrenRise here 0 hi (children items) →
           P path s.rank (goes_on (Opened here ∷ items) e (goes_out (put_off_all plan child) plan path s.rank))
       from items (Ok a) hi n c = record { hi = s.rank + 1; up = omega arith; ends = refl; spread = rw (out items) (up hi (children items) c) }
       from items (Err e) hi n c = record { hi = s.rank + 1; up = omega arith; ends = stops-under path s.rank (children items) e n; spread = up hi (children items) c }
@@ -245,9 +245,9 @@ module _ (plan : PlanView) (child : Origin → Evaluation) where
     qq = λ path n r f h k. spread-then path pair_rank pair_rank n r f h k;
   }
 
-  activation-spread : (path : List ℕ) (o : Option Function) (vs : List Value) (s : S) → Q path s.rank (activation (put_off_all plan child) plan path (exec (put_off_all plan child) plan) 0 o vs s)
-  activation-spread path None vs s = quiet path pair_rank s.rank [] _ refl (omega arith)
-  activation-spread path (Some f) vs s =
+  frame-spread : (path : List ℕ) (o : Option Function) (vs : List Value) (s : S) → Q path s.rank (frame (put_off_all plan child) plan path (exec (put_off_all plan child) plan) 0 o vs s)
+  frame-spread path None vs s = quiet path pair_rank s.rank [] _ refl (omega arith)
+  frame-spread path (Some f) vs s =
       spread-then path rank_of pair_rank s.rank _ _ (closed-exec (put_off_all plan child) plan P Q rules path 0 f.body _) (λ a. returned-q (put_off_all plan child) plan P Q rules path f a)
 
   abbrev begins : S
@@ -255,8 +255,8 @@ module _ (plan : PlanView) (child : Origin → Evaluation) where
 
   instance-spread : (path : List ℕ) (o : Option Function) (vs : List Value) → NodeSpread path (instance (put_off_all plan child) plan path o vs then λ v. done (v ∷ []))
   instance-spread path o vs =
-      let run : Run Item Ending (Value × S) = activation (put_off_all plan child) plan path (exec (put_off_all plan child) plan) 0 o vs begins in
-      subst (NodeSpread path) (sym (then-then run (λ p. done p.0) (λ v. done (v ∷ [])))) (node-from_spread path pair_rank run (λ p. p.0 ∷ []) (activation-spread path o vs begins))
+      let run : Run Item NodeFault (Value × S) = frame (put_off_all plan child) plan path (exec (put_off_all plan child) plan) 0 o vs begins in
+      subst (NodeSpread path) (sym (then-then run (λ p. done p.0) (λ v. done (v ∷ [])))) (node-from_spread path pair_rank run (λ p. p.0 ∷ []) (frame-spread path o vs begins))
 
 iterations-rise : (function : ℕ) (rest : List Value) (first : ℤ) (path : List ℕ) (k n : ℕ) → ChildrenRise path k (k + n) (iterations function rest first path k n)
 iterations-rise function rest first path k zero = record { within = tt; rise = tt }

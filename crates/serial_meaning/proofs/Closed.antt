@@ -6,7 +6,7 @@ use Rattle.serial_meaning.proofs.RunLaws.{then-then}
 use Rattle.serial_meaning.specs.Runs.{Run, done, happens, behind, ◌then◌}
 use Rattle.serial_meaning.specs.Values.{value_of, values_of, slot_of, items_of, number, is_true, at_index}
 use Rattle.serial_meaning.specs.Functions.{number_of, function_at, any_spawns}
-use Rattle.serial_meaning.specs.Exec.{State, Manner, Block, strand, fault, emit, given, paid_from, tested, has_room, fits_depth, filled, spawn, join, leaves, goes_out, shown, implied, returned, activation, called, right_side, found, looped, does, statement, each, statements, exec, count_of, set_scalar, set_array, bound}
+use Rattle.serial_meaning.specs.Exec.{State, Manner, BlockMeaning, strand, fault, emit, given, paid_from, tested, has_room, fits_depth, filled, spawn, join, leaves, goes_out, shown, implied, returned, frame, called, right_side, found, looped, does, statement, each, statements, exec, count_of, set_scalar, set_array, bound}
 use Rattle.script_grammar.specs.declared.tree.Name.{Name}
 use Rattle.script_grammar.specs.declared.tree.Function.{Function}
 use Rattle.script_grammar.specs.declared.tree.CallText.{CallText}
@@ -51,7 +51,7 @@ module _ {I E K : Type 0} (how : Manner I E K) (plan : PlanView) where
     pub qq : (path : List ℕ) (n : ℕ) (r : Gives) (f : Value × State K → Gives) → Q path n r → ((p : Value × State K) → Q path p.1.rank (f p)) → Q path n (r then f)
 
   module _ (P : List ℕ → ℕ → Goes → Type 0) (Q : List ℕ → ℕ → Gives → Type 0) (c : Closed P Q) where
-    abbrev pub Fine : Block I E K → Type 0
+    abbrev pub Fine : BlockMeaning I E K → Type 0
     Fine b = (path : List ℕ) (calls : ℕ) (sts : List Stmt) (s : State K) → P path s.rank (b path calls sts s)
 
     module _ (path : List ℕ) where
@@ -94,15 +94,15 @@ module _ {I E K : Type 0} (how : Manner I E K) (plan : PlanView) where
       spawn-q : (t : CallText) (s : State K) → Q path s.rank (spawn how plan path t s)
       spawn-q t s = given-q (values_of t.args s.env) s _ (λ vs. tested-q (nat_lt (length path + 1) plan.limits.depth) Depth s _ (c.q-child path (number_of (functions_of plan) t.name.bytes) vs s))
 
-      module _ (b : Block I E K) (fine : Fine b) where
-        activation-q : (calls : ℕ) (o : Option Function) (vs : List Value) (s : State K) → Q path s.rank (activation how plan path b calls o vs s)
-        activation-q calls None vs s = c.q-done path (Int (pos 0)) s
-        activation-q calls (Some f) vs s =
+      module _ (b : BlockMeaning I E K) (fine : Fine b) where
+        frame-q : (calls : ℕ) (o : Option Function) (vs : List Value) (s : State K) → Q path s.rank (frame how plan path b calls o vs s)
+        frame-q calls None vs s = c.q-done path (Int (pos 0)) s
+        frame-q calls (Some f) vs s =
             let s' : State K = record s { env = bound f.params vs; spawned = how.none } in c.pq path s.rank (b path calls f.body s') _ (fine path calls f.body s') (returned-q f)
 
         called-q : (calls : ℕ) (t : CallText) (s : State K) → Q path s.rank (called how plan path b calls t s)
         called-q calls t s =
-            given-q (values_of t.args s.env) s _ (λ vs. tested-q (nat_lt calls 256) Calls s _ (λ few. c.qq path s.rank (activation how plan path b (calls + 1) (function_at (functions_of plan) (number_of (functions_of plan) t.name.bytes)) vs s) _ (activation-q (calls + 1) (function_at (functions_of plan) (number_of (functions_of plan) t.name.bytes)) vs s) (λ p. c.q-done path p.0 (record s { rank = p.1.rank; steps = p.1.steps }))))
+            given-q (values_of t.args s.env) s _ (λ vs. tested-q (nat_lt calls 256) Calls s _ (λ few. c.qq path s.rank (frame how plan path b (calls + 1) (function_at (functions_of plan) (number_of (functions_of plan) t.name.bytes)) vs s) _ (frame-q (calls + 1) (function_at (functions_of plan) (number_of (functions_of plan) t.name.bytes)) vs s) (λ p. c.q-done path p.0 (record s { rank = p.1.rank; steps = p.1.steps }))))
 
         right_side-q : (calls : ℕ) (r : Right) (s : State K) → Q path s.rank (right_side how plan path b calls r s)
         right_side-q calls (right.Value e) s = given-q (value_of e s.env) s _ (λ v. c.q-done path v s)

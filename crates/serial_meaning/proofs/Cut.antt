@@ -2,7 +2,7 @@
 use Rattle.std.proofs.Common.{◌≡◌, List, [], ◌∷◌, ◌++◌, Option, Some, None, Result, Ok, Err, refl, sym, ap, ◌∙◌, append_assoc, subst}
 use Rattle.serial_meaning.specs.Runs.{Run, behind, goes_on, ◌then◌}
 use Rattle.serial_meaning.specs.Eval.{Evaluation}
-use Rattle.serial_meaning.specs.Open.{Item, Happened, Child, Opened, Closed, Ending, Own, Joined}
+use Rattle.serial_meaning.specs.Open.{Item, Happened, Child, Opened, Closed, NodeFault, Own, ChildFaulted}
 use Rattle.serial_meaning.specs.declared.value.Value.{Value}
 use Rattle.serial_meaning.specs.declared.event.Fault.{Fault}
 use Rattle.serial_meaning.specs.declared.event.Event.{Event}
@@ -52,23 +52,23 @@ module _ (child : Origin → Evaluation) where
   cut-append (Opened j ∷ is) js = cut-append is js
   cut-append (Closed j ∷ is) js = cut-append is js
 
-  abbrev pub Matches : {A B : Type 0} → (A → B) → List Event → Option Fault → Run Event Fault A → Result B Ending → Type 0
+  abbrev pub Matches : {A B : Type 0} → (A → B) → List Event → Option Fault → Run Event Fault A → Result B NodeFault → Type 0
   Matches lift es (Some f) r e = r ≡ record { items = es; ending = Err f }
   Matches {A} lift es None r (Ok b) = (a : A) × (b ≡ lift a) × (r ≡ record { items = es; ending = Ok a })
   Matches lift es None r (Err (Own f)) = r ≡ record { items = es; ending = Err f }
-  Matches lift es None r (Err (Joined f)) = ⊥
+  Matches lift es None r (Err (ChildFaulted f)) = ⊥
 
   -- r is what the open run q is, cut at its first child that faults
-  abbrev pub Cuts : {A B : Type 0} → (A → B) → Run Event Fault A → Run Item Ending B → Type 0
+  abbrev pub Cuts : {A B : Type 0} → (A → B) → Run Event Fault A → Run Item NodeFault B → Type 0
   Cuts lift r q = Matches lift (cut q.items).events (cut q.items).cut_by r q.ending
 
-  matches-front : {C D : Type 0} (lift : C → D) (xs es : List Event) (c : Option Fault) (r : Run Event Fault C) (e : Result D Ending) → Matches lift es c r e → Matches lift (xs ++ es) c (behind xs r) e
+  matches-front : {C D : Type 0} (lift : C → D) (xs es : List Event) (c : Option Fault) (r : Run Event Fault C) (e : Result D NodeFault) → Matches lift es c r e → Matches lift (xs ++ es) c (behind xs r) e
   matches-front lift xs es (Some f) r e h = ap (behind xs) h
   matches-front lift xs es None r (Ok d) h = (h.0, h.1, ap (behind xs) h.2)
   matches-front lift xs es None r (Err (Own f)) h = ap (behind xs) h
-  matches-front lift xs es None r (Err (Joined f)) h = h
+  matches-front lift xs es None r (Err (ChildFaulted f)) h = h
 
-  module _ {A B C D : Type 0} (lift : A → B) (lift' : C → D) (f : A → Run Event Fault C) (g : B → Run Item Ending D) (k : (a : A) → Cuts lift' (f a) (g (lift a))) where
+  module _ {A B C D : Type 0} (lift : A → B) (lift' : C → D) (f : A → Run Event Fault C) (g : B → Run Item NodeFault D) (k : (a : A) → Cuts lift' (f a) (g (lift a))) where
     at_value : (b : B) (a : A) → b ≡ lift a → Cuts lift' (f a) (g b)
     at_value b a e = subst (λ (z : B). Cuts lift' (f a) (g z)) (sym e) (k a)
 
@@ -78,16 +78,16 @@ module _ (child : Origin → Evaluation) where
     after_ok r b es None h =
         let m : Matches lift' (es ++ (cut (g b).items).events) (cut (g b).items).cut_by (behind es (f h.0)) (g b).ending = matches-front lift' es (cut (g b).items).events (cut (g b).items).cut_by (f h.0) (g b).ending (at_value b h.0 h.1) in subst (λ (q : Run Event Fault C). Matches lift' (es ++ (cut (g b).items).events) (cut (g b).items).cut_by q (g b).ending) (sym (ap (λ q. q then f) h.2)) m
 
-    after_err : (r : Run Event Fault A) (x : Ending) (es : List Event) (c : Option Fault) → Matches lift es c r (Err x) → Matches lift' es c (r then f) (Err x)
+    after_err : (r : Run Event Fault A) (x : NodeFault) (es : List Event) (c : Option Fault) → Matches lift es c r (Err x) → Matches lift' es c (r then f) (Err x)
     after_err r x es (Some y) h = ap (λ q. q then f) h
     after_err r (Own y) es None h = ap (λ q. q then f) h
-    after_err r (Joined y) es None h = h
+    after_err r (ChildFaulted y) es None h = h
 
-    from_parts : (r : Run Event Fault A) (items : List Item) (e : Result B Ending) → Matches lift (cut items).events (cut items).cut_by r e → Cuts lift' (r then f) (goes_on items e g)
+    from_parts : (r : Run Event Fault A) (items : List Item) (e : Result B NodeFault) → Matches lift (cut items).events (cut items).cut_by r e → Cuts lift' (r then f) (goes_on items e g)
     from_parts r items (Ok b) h =
         subst (λ (p : Piece). Matches lift' p.events p.cut_by (r then f) (g b).ending) (sym (cut-append items (g b).items)) (after_ok r b (cut items).events (cut items).cut_by h)
     from_parts r items (Err x) h = after_err r x (cut items).events (cut items).cut_by h
 
     -- one after the other
-    pub cuts-then : (r : Run Event Fault A) (q : Run Item Ending B) → Cuts lift r q → Cuts lift' (r then f) (q then g)
+    pub cuts-then : (r : Run Event Fault A) (q : Run Item NodeFault B) → Cuts lift r q → Cuts lift' (r then f) (q then g)
     cuts-then r q h = from_parts r q.items q.ending h

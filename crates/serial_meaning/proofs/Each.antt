@@ -5,7 +5,7 @@ use Rattle.std.specs.Prelude.{Contains}
 use Rattle.script_grammar.specs.declared.tree.Function.{Function}
 use Rattle.serial_meaning.specs.Runs.{Run, done, behind, goes_on, ◌then◌}
 use Rattle.serial_meaning.specs.Plan.{PlanView, drawn}
-use Rattle.serial_meaning.specs.Exec.{State, Manner, strand, goes_out, activation, exec, instance, filled, fits_depth, bound}
+use Rattle.serial_meaning.specs.Exec.{State, Manner, strand, goes_out, frame, exec, instance, filled, fits_depth, bound}
 use Rattle.serial_meaning.proofs.Closed.{Closed, closed-exec, returned-q}
 use Rattle.serial_meaning.specs.declared.value.Value.{Value}
 use Rattle.serial_meaning.specs.declared.event.Event.TheVariants as event
@@ -85,9 +85,9 @@ module _ {I E K : Type 0} (how : Manner I E K) (plan : PlanView) (T : I → Type
       qq = λ path n r f h k. each-then T r f h k;
     }
 
-    activation-each : (path : List ℕ) (o : Option Function) (vs : List Value) (s : State K) → Each T (activation how plan path (exec how plan) 0 o vs s).items
-    activation-each path None vs s = tt
-    activation-each path (Some f) vs s =
+    frame-each : (path : List ℕ) (o : Option Function) (vs : List Value) (s : State K) → Each T (frame how plan path (exec how plan) 0 o vs s).items
+    frame-each path None vs s = tt
+    frame-each path (Some f) vs s =
         each-then T (exec how plan path 0 f.body (start f)) _ (closed-exec how plan P Q rules path 0 f.body (start f)) (λ a. returned-q how plan P Q rules path f a)
       where
         start : Function → State K
@@ -95,7 +95,7 @@ module _ {I E K : Type 0} (how : Manner I E K) (plan : PlanView) (T : I → Type
 
     pub instance-each : (path : List ℕ) (o : Option Function) (vs : List Value) → Each T (instance how plan path o vs then λ v. done (v ∷ [])).items
     instance-each path o vs =
-        each-then T (instance how plan path o vs) (λ v. done (v ∷ [])) (each-then T (activation how plan path (exec how plan) 0 o vs begins) (λ r. done r.0) (activation-each path o vs begins) (λ r. tt)) (λ v. tt)
+        each-then T (instance how plan path o vs) (λ v. done (v ∷ [])) (each-then T (frame how plan path (exec how plan) 0 o vs begins) (λ r. done r.0) (frame-each path o vs begins) (λ r. tt)) (λ v. tt)
       where
         begins : State K
         begins = record { env = []; rank = 0; steps = plan.limits.budget; spawned = how.none }

@@ -15,7 +15,7 @@ use Rattle.serial_meaning.specs.Values.{value_of}
 use Rattle.serial_meaning.specs.Plan.{PlanView}
 use Rattle.serial_meaning.specs.Exec.{State, Manner, fault, statement, exec, returned, instance}
 use Rattle.serial_meaning.specs.Eval.{Evaluation, serial, eval_below}
-use Rattle.serial_meaning.specs.Open.{Item, Happened, Child, Ending, Own, put_off_all, opened}
+use Rattle.serial_meaning.specs.Open.{Item, Happened, Child, NodeFault, Own, put_off_all, opened}
 use Rattle.serial_meaning.specs.Trees.{named, number, variable, product, spawn, stated}
 use Rattle.serial_meaning.specs.Examples.{bad, endless_main, endless_body, never_reached, endless_plan, ElisionEndsAtTheChildsFault, OpenTreeHasBothFaults}
 use Rattle.serial_meaning.proofs.ExecLaws.{exec-cons, exec-nil}
@@ -145,7 +145,7 @@ module _ (n : ℕ) (child : Origin → Evaluation) (faulting : child child_origi
   serial-run : instance (serial child) plan [] (Some endless_main) [] ≡ record { items = event.Print (0 ∷ []) (Int (pos 7)) ∷ event.Spawn (0 ∷ []) ∷ []; ending = Err divided }
   serial-run = simp (opened_print, opened_spawn, value_of-number, faulting)
 
-  abbrev how : Manner Item Ending (Option Fault)
+  abbrev how : Manner Item NodeFault (Option Fault)
   how = put_off_all plan child
 
   abbrev third : State (Option Fault)
@@ -182,13 +182,13 @@ child-evaluation : (n : ℕ) → eval_below (endless_plan n) 3 child_origin ≡ 
 child-evaluation n = ap (λ (r : Run Event Fault Value). r then λ v. done (v ∷ [])) (bad-faults (serial (eval_below (endless_plan n) 2)) n)
 
 child-node : (n : ℕ) → opened (endless_plan n) child_origin ≡ record { items = []; ending = Err (Own divided) }
-child-node n = ap (λ (r : Run Item Ending Value). r then λ v. done (v ∷ [])) (bad-faults (put_off_all (endless_plan n) (eval_below (endless_plan n) 2)) n)
+child-node n = ap (λ (r : Run Item NodeFault Value). r then λ v. done (v ∷ [])) (bad-faults (put_off_all (endless_plan n) (eval_below (endless_plan n) 2)) n)
 
 pub elision_ends_at_the_childs_fault : ElisionEndsAtTheChildsFault
 elision_ends_at_the_childs_fault n = ap (λ (r : Run Event Fault Value). r then λ v. done (v ∷ [])) (serial-run n (eval_below (endless_plan n) 3) (child-evaluation n))
 
 main-node : (n : ℕ) → opened (endless_plan n) (origin.Instance 1 [] []) ≡ record { items = Happened (event.Print (0 ∷ []) (Int (pos 7))) ∷ Happened (event.Spawn (0 ∷ [])) ∷ Child child_origin ∷ []; ending = Err (Own spent) }
-main-node n = ap (λ (r : Run Item Ending Value). r then λ v. done (v ∷ [])) (open-run n (eval_below (endless_plan n) 3) (child-evaluation n))
+main-node n = ap (λ (r : Run Item NodeFault Value). r then λ v. done (v ∷ [])) (open-run n (eval_below (endless_plan n) 3) (child-evaluation n))
 
 pub open_tree_has_both_faults : OpenTreeHasBothFaults
 open_tree_has_both_faults n = rw (main-node n, child-node n)

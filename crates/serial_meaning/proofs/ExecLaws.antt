@@ -5,7 +5,7 @@ use Rattle.serial_meaning.proofs.RunLaws.{then-then, then-same, Gives, then-give
 use Rattle.serial_meaning.specs.Runs.{Run, done, behind, ◌then◌}
 use Rattle.serial_meaning.specs.Values.{value_of, values_of, slot_of, items_of, number, is_true, at_index}
 use Rattle.serial_meaning.specs.Functions.{number_of, function_at, any_spawns}
-use Rattle.serial_meaning.specs.Exec.{State, Manner, Block, strand, fault, given, paid, paid_from, tested, has_room, fits_depth, spawn, join, join_at, leaves, shown, implied, returned, activation, called, right_side, found, store, looped, does, statement, each, statements, exec, count_of, set_scalar, bound}
+use Rattle.serial_meaning.specs.Exec.{State, Manner, BlockMeaning, strand, fault, given, paid, paid_from, tested, has_room, fits_depth, spawn, join, join_at, leaves, shown, implied, returned, frame, called, right_side, found, store, looped, does, statement, each, statements, exec, count_of, set_scalar, bound}
 use Rattle.script_grammar.specs.declared.tree.Function.{Function}
 use Rattle.script_grammar.specs.declared.tree.CallText.{CallText}
 use Rattle.script_grammar.specs.declared.tree.Expr.{Expr}
@@ -28,7 +28,7 @@ use Rattle.serial_meaning.specs.declared.origin.Origin.{Origin}
 
 module _ {I E K : Type 0} (how : Manner I E K) (plan : PlanView) (path : List ℕ) where
   abbrev Blocks : Type 0
-  Blocks = Block I E K
+  Blocks = BlockMeaning I E K
 
   pub each-append : (one : Stmt → State K → Run I E (State K)) (xs ys : List Stmt) (s : State K) →
       each how plan path one (xs ++ ys) s ≡ (each how plan path one xs s then each how plan path one ys)
@@ -60,17 +60,17 @@ module _ {I E K : Type 0} (how : Manner I E K) (plan : PlanView) (path : List �
   tested-same true k s f g same = same
   tested-same false k s f g same = refl
 
-  activation-same : (n : ℕ) (b c : Blocks) → Alike n b c → (calls : ℕ) (o : Option Function) (vs : List Value) (s : State K) → s.steps ≤ n →
-      activation how plan path b calls o vs s ≡ activation how plan path c calls o vs s
-  activation-same n b c alike calls None vs s h = refl
-  activation-same n b c alike calls (Some f) vs s h =
+  frame-same : (n : ℕ) (b c : Blocks) → Alike n b c → (calls : ℕ) (o : Option Function) (vs : List Value) (s : State K) → s.steps ≤ n →
+      frame how plan path b calls o vs s ≡ frame how plan path c calls o vs s
+  frame-same n b c alike calls None vs s h = refl
+  frame-same n b c alike calls (Some f) vs s h =
       ap (λ r. r then returned how plan path f) (alike path calls f.body (record s { env = bound f.params vs; spawned = how.none }) h)
 
   called-same : (n : ℕ) (b c : Blocks) → Alike n b c → (calls : ℕ) (t : CallText) (s : State K) → s.steps ≤ n →
       called how plan path b calls t s ≡ called how plan path c calls t s
   called-same n b c alike calls t s h =
       given-same (values_of t.args s.env) s _ _ (λ vs. tested-same (nat_lt calls 256) Calls s _ _ (ap (λ r. r then λ r. done (r.0, record s { rank = r.1.rank; steps = r.1.steps }))
-      (activation-same n b c alike (calls + 1) (function_at (functions_of plan) (number_of (functions_of plan) t.name.bytes)) vs s h)))
+      (frame-same n b c alike (calls + 1) (function_at (functions_of plan) (number_of (functions_of plan) t.name.bytes)) vs s h)))
 
   right_side-same : (n : ℕ) (b c : Blocks) → Alike n b c → (calls : ℕ) (r : Right) (s : State K) → s.steps ≤ n →
       right_side how plan path b calls r s ≡ right_side how plan path c calls r s
@@ -141,10 +141,10 @@ module _ {I E K : Type 0} (how : Manner I E K) (plan : PlanView) (path : List �
       given-gives (PairWithin s.steps) (values_of t.args s.env) s _ (λ vs. tested-gives (PairWithin s.steps) (nat_lt (length path + 1) plan.limits.depth) Depth s _
       (then-gives (λ (p : Value × K). Unit {0}) (PairWithin s.steps) (how.spawn (origin.Instance (number_of (functions_of plan) t.name.bytes) vs (strand path s)) s.spawned) _ (anything _) (λ p u. omega arith)))
 
-  activation-within : (n : ℕ) (b : Blocks) → Spends n b → (calls : ℕ) (o : Option Function) (vs : List Value) (s : State K) → s.steps ≤ n →
-      Gives (PairWithin s.steps) (activation how plan path b calls o vs s).ending
-  activation-within n b spends calls None vs s h = omega arith
-  activation-within n b spends calls (Some f) vs s h =
+  frame-within : (n : ℕ) (b : Blocks) → Spends n b → (calls : ℕ) (o : Option Function) (vs : List Value) (s : State K) → s.steps ≤ n →
+      Gives (PairWithin s.steps) (frame how plan path b calls o vs s).ending
+  frame-within n b spends calls None vs s h = omega arith
+  frame-within n b spends calls (Some f) vs s h =
       then-gives (Within s.steps) (PairWithin s.steps) (b path calls f.body (record s { env = bound f.params vs; spawned = how.none })) _ (spends path calls f.body _ h)
       (λ a g. pair-weaker a.steps s.steps (returned how plan path f a).ending g (returned-within f a))
 
@@ -152,8 +152,8 @@ module _ {I E K : Type 0} (how : Manner I E K) (plan : PlanView) (path : List �
       Gives (PairWithin s.steps) (called how plan path b calls t s).ending
   called-within n b spends calls t s h =
       given-gives (PairWithin s.steps) (values_of t.args s.env) s _ (λ vs. tested-gives (PairWithin s.steps) (nat_lt calls 256) Calls s _
-      (then-gives (PairWithin s.steps) (PairWithin s.steps) (activation how plan path b (calls + 1) (function_at (functions_of plan) (number_of (functions_of plan) t.name.bytes)) vs s) _
-      (activation-within n b spends (calls + 1) (function_at (functions_of plan) (number_of (functions_of plan) t.name.bytes)) vs s h) (λ p g. g)))
+      (then-gives (PairWithin s.steps) (PairWithin s.steps) (frame how plan path b (calls + 1) (function_at (functions_of plan) (number_of (functions_of plan) t.name.bytes)) vs s) _
+      (frame-within n b spends (calls + 1) (function_at (functions_of plan) (number_of (functions_of plan) t.name.bytes)) vs s h) (λ p g. g)))
 
   right_side-within : (n : ℕ) (b : Blocks) → Spends n b → (calls : ℕ) (r : Right) (s : State K) → s.steps ≤ n →
       Gives (PairWithin s.steps) (right_side how plan path b calls r s).ending

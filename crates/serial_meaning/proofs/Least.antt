@@ -8,7 +8,7 @@ use Rattle.serial_meaning.specs.Laws.{EndsByLeast}
 use Rattle.serial_meaning.specs.Runs.{done}
 use Rattle.serial_meaning.specs.Plan.{PlanView}
 use Rattle.serial_meaning.specs.Eval.{Evaluation, path_of, eval_with, eval_below, eval, depth_left, main_origin, elision}
-use Rattle.serial_meaning.specs.Open.{Item, Happened, Child, Opened, Closed, Ending, Own, Joined, node_with, opened, own_fault, faults_of, faults_with, faults_below, faults_in, faults, is_empty_loop}
+use Rattle.serial_meaning.specs.Open.{Item, Happened, Child, Opened, Closed, NodeFault, Own, ChildFaulted, node_with, opened, own_fault, faults_of, faults_with, faults_below, faults_in, faults, is_empty_loop}
 use Rattle.serial_meaning.proofs.Order.{not_before_itself, not_before-back}
 use Rattle.serial_meaning.proofs.Each.{Each, each-append, each-map, each-at, each-contained}
 use Rattle.serial_meaning.proofs.Children.{Rise, IsAt, NodeStops, children, node-spread}
@@ -105,19 +105,19 @@ module _ (below : Origin → List Fault) (under : (c : Origin) → Each (Under (
     walk (Opened j ∷ is) r = walk is r
     walk (Closed j ∷ is) r = walk is r
 
-    own-later : (path : List ℕ) (os : List Origin) (f : Fault) (e : Result (List Value) Ending) → Among os f → NodeStops path os e → Each (NotBefore f) (own_fault e)
+    own-later : (path : List ℕ) (os : List Origin) (f : Fault) (e : Result (List Value) NodeFault) → Among os f → NodeStops path os e → Each (NotBefore f) (own_fault e)
     own-later path os f (Ok vs) s n = tt
     own-later path os f (Err (Own g)) s n = (among-left os f g s n.left, tt)
-    own-later path os f (Err (Joined g)) s n = tt
+    own-later path os f (Err (ChildFaulted g)) s n = tt
 
-    at_node : (path : List ℕ) (os : List Origin) (fs : List Fault) (es : List Event) (c : Option Fault) (r : Evaluation) (e : Result (List Value) Ending) →
+    at_node : (path : List ℕ) (os : List Origin) (fs : List Fault) (es : List Event) (c : Option Fault) (r : Evaluation) (e : Result (List Value) NodeFault) →
         Walked os fs c → Matches child (λ (vs : List Value). vs) es c r e → NodeStops path os e → LeastOf (fs ++ own_fault e) r.ending
     at_node path os fs es (Some f) r e w m n =
         subst (λ (q : Evaluation). LeastOf (fs ++ own_fault e) q.ending) (sym m) (Contains-append_left fs (own_fault e) f w.0, each-append (NotBefore f) fs (own_fault e) w.1 (own-later path os f e w.2 n))
     at_node path os fs es None r (Ok vs) w m n = subst (λ (q : Evaluation). LeastOf (fs ++ []) q.ending) (sym m.2) (rw w refl)
     at_node path os fs es None r (Err (Own f)) w m n =
         subst (λ (q : Evaluation). LeastOf (fs ++ f ∷ []) q.ending) (sym m) (rw w ((0, omega arith, refl), (not_before_itself f.at, tt)))
-    at_node path os fs es None r (Err (Joined f)) w m n = absurd m
+    at_node path os fs es None r (Err (ChildFaulted f)) w m n = absurd m
 
 least-with : (plan : PlanView) (child : Origin → Evaluation) → ((o : Origin) → is_empty_loop o ≡ true → child o ≡ done []) →
     (below : Origin → List Fault) → ((c : Origin) → Each (Under (path_of c)) (below c)) → ((c : Origin) → LeastOf (below c) (child c).ending) →
@@ -128,10 +128,10 @@ least-with plan child empty below under least o =
     at_node below under child least (path_of o) (children node.items) (faults_of below node.items) (cut child node.items).events (cut child node.items).cut_by (eval_with plan child o) node.ending
     (walk below under child least node.items s.spread.rise) (node-cuts plan child empty o) s.stops
 
-own-under : (path : List ℕ) (os : List Origin) (e : Result (List Value) Ending) → NodeStops path os e → Each (Under path) (own_fault e)
+own-under : (path : List ℕ) (os : List Origin) (e : Result (List Value) NodeFault) → NodeStops path os e → Each (Under path) (own_fault e)
 own-under path os (Ok vs) n = tt
 own-under path os (Err (Own f)) n = ((n.rank, n.more, n.at), tt)
-own-under path os (Err (Joined f)) n = tt
+own-under path os (Err (ChildFaulted f)) n = tt
 
 under-with : (plan : PlanView) (below : Origin → List Fault) → ((c : Origin) → Each (Under (path_of c)) (below c)) → (o : Origin) → Each (Under (path_of o)) (faults_with plan below o)
 under-with plan below under o =

@@ -21,7 +21,7 @@ pub mod RisingExec
 pub mod RunLaws
 pub mod Scopes
 pub mod ScriptRuns
-pub mod SegmentLemmas
+pub mod ChunkLemmas
 pub mod Sim
 pub mod Shares
 pub mod Whole

@@ -11,7 +11,7 @@ use Rattle.serial_meaning.specs.Functions.{function_at}
 use Rattle.serial_meaning.specs.Plan.{PlanView, functions_of}
 use Rattle.serial_meaning.specs.Exec.{State, strand, fits_depth}
 use Rattle.serial_meaning.specs.Eval.{Evaluation, iteration, path_of, eval_with, eval_below, eval, depth_left}
-use Rattle.serial_meaning.specs.Open.{Item, Happened, Child, Opened, Closed, Ending, put_off_all, joined, loop_end, is_zero, iterations, gathered, node_with, opened, own_fault, faults_of, faults_with, faults_below, faults_in, faults}
+use Rattle.serial_meaning.specs.Open.{Item, Happened, Child, Opened, Closed, NodeFault, put_off_all, joined, loop_end, is_zero, iterations, gathered, node_with, opened, own_fault, faults_of, faults_with, faults_below, faults_in, faults}
 use Rattle.serial_meaning.proofs.Each.{Each, each-contained, Parts, instance-each}
 use Rattle.serial_meaning.proofs.Children.{IsAt, children, node-spread}
 use Rattle.serial_meaning.proofs.Levels.{enough}
@@ -87,7 +87,7 @@ module _ (plan : PlanView) (child : Origin → Evaluation) where
   loop-item-fits path function vs lo hi s h = by_size hi h (is_zero (hi - 0)) refl
     where
       by_size : (n : ℕ) → fits_depth (put_off_all plan child) plan path n ≡ true → (b : Bool) → is_zero (n - 0) ≡ b →
-          Each (ItemFits plan) (if b then done {I = Item} {E = Ending} [] else record { items = Child (Loop function vs lo (strand path s) (record { lo = 0; hi = hi })) ∷ []; ending = loop_end (child (Loop function vs lo (strand path s) (record { lo = 0; hi = hi }))).ending }).items
+          Each (ItemFits plan) (if b then done {I = Item} {E = NodeFault} [] else record { items = Child (Loop function vs lo (strand path s) (record { lo = 0; hi = hi })) ∷ []; ending = loop_end (child (Loop function vs lo (strand path s) (record { lo = 0; hi = hi }))).ending }).items
       by_size n g true e = tt
       by_size zero g false e = absurd (cc)
       by_size (suc n) g false e = (rw (longer path s.rank) (below-depth (length path + 2) (length path + 1 + 2) plan.limits.depth g (omega arith)), tt)

@@ -7,7 +7,7 @@ use Rattle.ped_path.specs.Path.{IsBefore}
 use Rattle.serial_meaning.specs.Laws.{places}
 use Rattle.serial_meaning.specs.Runs.{Run, done, behind, goes_on, ◌then◌}
 use Rattle.serial_meaning.specs.Functions.{function_at}
-use Rattle.serial_meaning.specs.Exec.{State, goes_out, activation, exec, instance, filled}
+use Rattle.serial_meaning.specs.Exec.{State, goes_out, frame, exec, instance, filled}
 use Rattle.serial_meaning.specs.Eval.{Evaluation, serial, turns, eval_with, eval_below, eval, depth_left, path_of, first_of, main_origin, elision}
 use Rattle.serial_meaning.proofs.RunLaws.{then-then}
 use Rattle.serial_meaning.proofs.Closed.{Closed, closed-exec, returned-q}
@@ -120,9 +120,9 @@ module _ (plan : PlanView) (child : Origin → Evaluation) (fine : (o : Origin) 
   }
 
   -- an instance, without its value's list
-  activation-rises : (path : List ℕ) (o : Option Function) (vs : List Value) (s : State (Unit {0})) → Q path s.rank (activation (serial child) plan path (exec (serial child) plan) 0 o vs s)
-  activation-rises path None vs s = record { hi = s.rank; below = (refl, omega arith); within = tt; rise = tt }
-  activation-rises path (Some f) vs s =
+  frame-rises : (path : List ℕ) (o : Option Function) (vs : List Value) (s : State (Unit {0})) → Q path s.rank (frame (serial child) plan path (exec (serial child) plan) 0 o vs s)
+  frame-rises path None vs s = record { hi = s.rank; below = (refl, omega arith); within = tt; rise = tt }
+  frame-rises path (Some f) vs s =
       rising-then path rank_of pair_rank s.rank _ _ (closed-exec (serial child) plan P Q rules_hold path 0 f.body _) (λ a. returned-q (serial child) plan P Q rules_hold path f a)
 
   mapped : {A B : Type 0} (items : List Event) (q : Result A Fault) (f : A → Run Event Fault B) → ((a : A) → (f a).items ≡ []) → places (goes_on items q f).items ≡ places items
@@ -133,7 +133,7 @@ module _ (plan : PlanView) (child : Origin → Evaluation) (fine : (o : Origin) 
   start = record { env = []; rank = 0; steps = plan.limits.budget; spawned = tt }
 
   abbrev run_of : List ℕ → Option Function → List Value → Run Event Fault (Value × State (Unit {0}))
-  run_of path o vs = activation (serial child) plan path (exec (serial child) plan) 0 o vs start
+  run_of path o vs = frame (serial child) plan path (exec (serial child) plan) 0 o vs start
 
   abbrev value_run : List ℕ → Option Function → List Value → Run Event Fault Value
   value_run path o vs = run_of path o vs then λ p. done p.0
@@ -150,7 +150,7 @@ module _ (plan : PlanView) (child : Origin → Evaluation) (fine : (o : Origin) 
 
   pub instance-rises : (path : List ℕ) (o : Option Function) (vs : List Value) → RisesBelow path ((instance (serial child) plan path o vs) then λ v. done (v ∷ []))
   instance-rises path o vs =
-      let r = activation-rises path o vs start in
+      let r = frame-rises path o vs start in
       let run : Evaluation = instance (serial child) plan path o vs then λ v. done (v ∷ []) in
       record {
         hi = r.hi;

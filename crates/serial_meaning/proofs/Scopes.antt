@@ -10,7 +10,7 @@ use Rattle.serial_meaning.specs.Laws.{IsOriginOf, Main, ChildOf, PartOf}
 use Rattle.serial_meaning.specs.Answer.{IsLoopPath}
 use Rattle.serial_meaning.specs.Plan.{PlanView}
 use Rattle.serial_meaning.specs.Eval.{iteration, path_of, eval_below, depth_left, main_origin}
-use Rattle.serial_meaning.specs.Open.{Item, Happened, Child, Opened, Closed, Ending, Own, Joined, iterations, opened, own_fault, faults_of, faults_below, faults_in, faults}
+use Rattle.serial_meaning.specs.Open.{Item, Happened, Child, Opened, Closed, NodeFault, Own, ChildFaulted, iterations, opened, own_fault, faults_of, faults_below, faults_in, faults}
 use Rattle.serial_meaning.proofs.Children.{Rise, NodeStops, children, node-spread}
 use Rattle.serial_meaning.proofs.Each.{each-contained}
 use Rattle.serial_meaning.proofs.Least.{Under, faults_below-under}
@@ -285,9 +285,9 @@ child-of-fault below (Opened j ∷ is) f h = let p = child-of-fault below is f h
 child-of-fault below (Closed j ∷ is) f h = let p = child-of-fault below is f h in (p.0, (suc p.1.0, omega (arith, p.1.1), p.1.2), p.2)
 
 -- an own fault stands after all children
-not-own : (path : List ℕ) (os : List Origin) (c : Origin) (e : Result (List Value) Ending) (f : Fault) (more : List ℕ) → NodeStops path os e → Contains os c → f.at ≡ path_of c ++ more → Contains (own_fault e) f → ⊥
+not-own : (path : List ℕ) (os : List Origin) (c : Origin) (e : Result (List Value) NodeFault) (f : Fault) (more : List ℕ) → NodeStops path os e → Contains os c → f.at ≡ path_of c ++ more → Contains (own_fault e) f → ⊥
 not-own path os c (Ok vs) f more n k at g = omega (arith, g.1)
-not-own path os c (Err (Joined x)) f more n k at g = omega (arith, g.1)
+not-own path os c (Err (ChildFaulted x)) f more n k at g = omega (arith, g.1)
 not-own path os c (Err (Own x)) f more n k at g = from (only g)
   where
     only : Contains (x ∷ []) f → x ≡ f

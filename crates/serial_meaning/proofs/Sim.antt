@@ -5,7 +5,7 @@ use Rattle.std.specs.Int.{w64, cast_signed}
 use Rattle.serial_meaning.specs.Runs.{Run, done, behind, goes_on, ◌then◌}
 use Rattle.serial_meaning.specs.Values.{Env, value_of, values_of, slot_of, items_of, number, is_true, at_index}
 use Rattle.serial_meaning.specs.Functions.{number_of, function_at, any_spawns}
-use Rattle.serial_meaning.specs.Exec.{State, Block, fault, given, paid_from, tested, has_room, fits_depth, filled, spawn, leaves, scoped, implied, returned, activation, called, right_side, found, looped, does, statement, each, statements, exec, instance, count_of, set_scalar, set_array, bound}
+use Rattle.serial_meaning.specs.Exec.{State, BlockMeaning, fault, given, paid_from, tested, has_room, fits_depth, filled, spawn, leaves, scoped, implied, returned, frame, called, right_side, found, looped, does, statement, each, statements, exec, instance, count_of, set_scalar, set_array, bound}
 use Rattle.script_grammar.specs.declared.tree.Name.{Name}
 use Rattle.script_grammar.specs.declared.tree.Function.{Function}
 use Rattle.script_grammar.specs.declared.tree.CallText.{CallText}
@@ -22,7 +22,7 @@ use Rattle.serial_meaning.specs.declared.event.FaultKind.TheVariants.{Index, Dep
 use Rattle.serial_meaning.specs.declared.event.Event.TheVariants as event
 use Rattle.serial_meaning.specs.declared.origin.Origin.TheVariants as origin
 use Rattle.serial_meaning.specs.Eval.{Evaluation, serial, first_of, iteration, turns, eval_with, eval_below, eval, depth_left}
-use Rattle.serial_meaning.specs.Open.{Item, Happened, Child, Opened, Ending, put_off, put_off_all, loop_end, is_zero, is_empty_loop, filler, iterations, both, gathered, node_with, opened}
+use Rattle.serial_meaning.specs.Open.{Item, Happened, Child, Opened, NodeFault, put_off, put_off_all, loop_end, is_zero, is_empty_loop, filler, iterations, both, gathered, node_with, opened}
 use Rattle.serial_meaning.proofs.Levels.{every}
 use Rattle.serial_meaning.proofs.Cut.{Cuts, Matches, cut, in_front, child_first, cuts-then}
 use Rattle.serial_meaning.specs.declared.event.Fault.{Fault}
@@ -44,21 +44,21 @@ abbrev pub lift_pair : Value × State (Unit {0}) → Value × State (Option Faul
 lift_pair p = (p.0, lift p.1)
 
 module _ (plan : PlanView) (path : List ℕ) (child : Origin → Evaluation) (empty : (o : Origin) → is_empty_loop o ≡ true → child o ≡ done []) where
-  given-c : {A B C : Type 0} (l : B → C) (o : Result A FaultKind) (s : State (Unit {0})) (f : A → Run Event Fault B) (g : A → Run Item Ending C) → ((a : A) → Cuts child l (f a) (g a)) →
+  given-c : {A B C : Type 0} (l : B → C) (o : Result A FaultKind) (s : State (Unit {0})) (f : A → Run Event Fault B) (g : A → Run Item NodeFault C) → ((a : A) → Cuts child l (f a) (g a)) →
       Cuts child l (given (serial child) plan path o s f) (given (put_off_all plan child) plan path o (lift s) g)
   given-c l (Ok a) s f g h = h a
   given-c l (Err k) s f g h = refl
 
-  tested-c : {B C : Type 0} (l : B → C) (b : Bool) (k : FaultKind) (s : State (Unit {0})) (f : Run Event Fault B) (g : Run Item Ending C) → Cuts child l f g →
+  tested-c : {B C : Type 0} (l : B → C) (b : Bool) (k : FaultKind) (s : State (Unit {0})) (f : Run Event Fault B) (g : Run Item NodeFault C) → Cuts child l f g →
       Cuts child l (tested (serial child) plan path b k s f) (tested (put_off_all plan child) plan path b k (lift s) g)
   tested-c l true k s f g h = h
   tested-c l false k s f g h = refl
 
-  if-c : {B C : Type 0} (l : B → C) (b : Bool) (f f' : Run Event Fault B) (g g' : Run Item Ending C) → Cuts child l f g → Cuts child l f' g' → Cuts child l (if b then f else f') (if b then g else g')
+  if-c : {B C : Type 0} (l : B → C) (b : Bool) (f f' : Run Event Fault B) (g g' : Run Item NodeFault C) → Cuts child l f g → Cuts child l f' g' → Cuts child l (if b then f else f') (if b then g else g')
   if-c l true f f' g g' h k = h
   if-c l false f f' g g' h k = k
 
-  paid-c : {B C : Type 0} (l : B → C) (n : ℕ) (s : State (Unit {0})) (f : State (Unit {0}) → Run Event Fault B) (g : State (Option Fault) → Run Item Ending C) → ((m : ℕ) → Cuts child l (f (record s { steps = m })) (g (lift (record s { steps = m })))) →
+  paid-c : {B C : Type 0} (l : B → C) (n : ℕ) (s : State (Unit {0})) (f : State (Unit {0}) → Run Event Fault B) (g : State (Option Fault) → Run Item NodeFault C) → ((m : ℕ) → Cuts child l (f (record s { steps = m })) (g (lift (record s { steps = m })))) →
       Cuts child l (paid_from (serial child) plan path n s f) (paid_from (put_off_all plan child) plan path n (lift s) g)
   paid-c l zero s f g k = refl
   paid-c l (suc n) s f g k = k n
@@ -102,14 +102,14 @@ module _ (plan : PlanView) (path : List ℕ) (child : Origin → Evaluation) (em
       (loop-c (origin.Loop (number_of (functions_of plan) t.name.bytes) vs lo (path ++ s.rank ∷ []) (record { lo = 0; hi = n })) (event.Loop (path ++ s.rank ∷ [])) s' (λ ws. filled target ws s.env))))
 
   -- one block is what the other is, cut
-  abbrev Alike : Block Event Fault (Unit {0}) → Block Item Ending (Option Fault) → Type 0
+  abbrev Alike : BlockMeaning Event Fault (Unit {0}) → BlockMeaning Item NodeFault (Option Fault) → Type 0
   Alike b c = (here : List ℕ) (calls : ℕ) (sts : List Stmt) (s : State (Unit {0})) → Cuts child lift (b here calls sts s) (c here calls sts (lift s))
 
   -- the sync at a scope's end, and out of the scope
   leaves-c : (rank : ℕ) (s : State (Unit {0})) → Cuts child lift (leaves (serial child) plan path rank s) (leaves (put_off_all plan child) plan path rank (lift s))
   leaves-c rank s = (record s { rank = rank + 1 }, refl, refl)
 
-  module _ (b : Block Event Fault (Unit {0})) (c : Block Item Ending (Option Fault)) (fine : Alike b c) where
+  module _ (b : BlockMeaning Event Fault (Unit {0})) (c : BlockMeaning Item NodeFault (Option Fault)) (fine : Alike b c) where
     scoped-c : (calls : ℕ) (xs : List Stmt) (s : State (Unit {0})) → Cuts child lift (scoped (serial child) plan path b calls xs s) (scoped (put_off_all plan child) plan path c calls xs (lift s))
     scoped-c calls xs s =
         let inner : State (Unit {0}) = record s { rank = 0 } in
@@ -118,15 +118,15 @@ module _ (plan : PlanView) (path : List ℕ) (child : Origin → Evaluation) (em
         (cuts-then child lift lift (leaves (serial child) plan path s.rank) (leaves (put_off_all plan child) plan path s.rank) (leaves-c s.rank)
         (behind [] (b here calls xs inner)) (behind (Opened here ∷ []) (c here calls xs (lift inner))) (fine here calls xs inner))
 
-    activation-c : (calls : ℕ) (o : Option Function) (vs : List Value) (s : State (Unit {0})) → Cuts child lift_pair (activation (serial child) plan path b calls o vs s) (activation (put_off_all plan child) plan path c calls o vs (lift s))
-    activation-c calls None vs s = ((Int (pos 0), s), refl, refl)
-    activation-c calls (Some f) vs s =
+    frame-c : (calls : ℕ) (o : Option Function) (vs : List Value) (s : State (Unit {0})) → Cuts child lift_pair (frame (serial child) plan path b calls o vs s) (frame (put_off_all plan child) plan path c calls o vs (lift s))
+    frame-c calls None vs s = ((Int (pos 0), s), refl, refl)
+    frame-c calls (Some f) vs s =
         let s' : State (Unit {0}) = record s { env = bound f.params vs } in cuts-then child lift lift_pair (returned (serial child) plan path f) (returned (put_off_all plan child) plan path f) (returned-c f) (b path calls f.body s') (c path calls f.body (lift s')) (fine path calls f.body s')
 
     called-c : (calls : ℕ) (t : CallText) (s : State (Unit {0})) → Cuts child lift_pair (called (serial child) plan path b calls t s) (called (put_off_all plan child) plan path c calls t (lift s))
     called-c calls t s =
-        given-c lift_pair (values_of t.args s.env) s _ _ (λ vs. tested-c lift_pair (nat_lt calls 256) Calls s _ _ (cuts-then child lift_pair lift_pair (λ (r : Value × State (Unit {0})). done (r.0, record s { rank = r.1.rank; steps = r.1.steps })) (λ (r : Value × State (Option Fault)). done (r.0, record (lift s) { rank = r.1.rank; steps = r.1.steps })) (λ p. ((p.0, record s { rank = p.1.rank; steps = p.1.steps }), refl, refl)) (activation (serial child) plan path b (calls + 1) (function_at (functions_of plan) (number_of (functions_of plan) t.name.bytes)) vs s) (activation (put_off_all plan child) plan path c (calls + 1) (function_at (functions_of plan) (number_of (functions_of plan) t.name.bytes)) vs (lift s))
-        (activation-c (calls + 1) (function_at (functions_of plan) (number_of (functions_of plan) t.name.bytes)) vs s)))
+        given-c lift_pair (values_of t.args s.env) s _ _ (λ vs. tested-c lift_pair (nat_lt calls 256) Calls s _ _ (cuts-then child lift_pair lift_pair (λ (r : Value × State (Unit {0})). done (r.0, record s { rank = r.1.rank; steps = r.1.steps })) (λ (r : Value × State (Option Fault)). done (r.0, record (lift s) { rank = r.1.rank; steps = r.1.steps })) (λ p. ((p.0, record s { rank = p.1.rank; steps = p.1.steps }), refl, refl)) (frame (serial child) plan path b (calls + 1) (function_at (functions_of plan) (number_of (functions_of plan) t.name.bytes)) vs s) (frame (put_off_all plan child) plan path c (calls + 1) (function_at (functions_of plan) (number_of (functions_of plan) t.name.bytes)) vs (lift s))
+        (frame-c (calls + 1) (function_at (functions_of plan) (number_of (functions_of plan) t.name.bytes)) vs s)))
 
     right_side-c : (calls : ℕ) (r : Right) (s : State (Unit {0})) → Cuts child lift_pair (right_side (serial child) plan path b calls r s) (right_side (put_off_all plan child) plan path c calls r (lift s))
     right_side-c calls (right.Value e) s = given-c lift_pair (value_of e s.env) s _ _ (λ v. ((v, s), refl, refl))
@@ -138,7 +138,7 @@ module _ (plan : PlanView) (path : List ℕ) (child : Origin → Evaluation) (em
     set-c : (calls : ℕ) (x : Name) (r : Right) (s : State (Unit {0})) → Cuts child lift (right_side (serial child) plan path b calls r s then λ p. done (set_scalar p.1 x p.0)) (right_side (put_off_all plan child) plan path c calls r (lift s) then λ p. done (set_scalar p.1 x p.0))
     set-c calls x r s = cuts-then child lift_pair lift _ _ (λ p. (set_scalar p.1 x p.0, refl, refl)) (right_side (serial child) plan path b calls r s) (right_side (put_off_all plan child) plan path c calls r (lift s)) (right_side-c calls r s)
 
-    found-c : (o : Option ℤ) (s : State (Unit {0})) (f : Run Event Fault (State (Unit {0}))) (g : Run Item Ending (State (Option Fault))) → Cuts child lift f g → Cuts child lift (found (serial child) plan path o s f) (found (put_off_all plan child) plan path o (lift s) g)
+    found-c : (o : Option ℤ) (s : State (Unit {0})) (f : Run Event Fault (State (Unit {0}))) (g : Run Item NodeFault (State (Option Fault))) → Cuts child lift f g → Cuts child lift (found (serial child) plan path o s f) (found (put_off_all plan child) plan path o (lift s) g)
     found-c None s f g h = refl
     found-c (Some old) s f g h = h
 
@@ -159,7 +159,7 @@ module _ (plan : PlanView) (path : List ℕ) (child : Origin → Evaluation) (em
         given-c lift (value_of lo s.env) s _ _ (λ l. given-c lift (value_of hi s.env) s _ _ (λ h. given-c lift (values_of t.args s.env) s _ _ (λ vs. looped-c (number l) (count_of (number h -ℤ number l)) vs target t s)))
     does-c calls st (act.Scope xs) s = scoped-c calls xs s
 
-  each-c : (one : Stmt → State (Unit {0}) → Run Event Fault (State (Unit {0}))) (two : Stmt → State (Option Fault) → Run Item Ending (State (Option Fault))) → ((st : Stmt) (s : State (Unit {0})) → Cuts child lift (one st s) (two st (lift s))) →
+  each-c : (one : Stmt → State (Unit {0}) → Run Event Fault (State (Unit {0}))) (two : Stmt → State (Option Fault) → Run Item NodeFault (State (Option Fault))) → ((st : Stmt) (s : State (Unit {0})) → Cuts child lift (one st s) (two st (lift s))) →
       (sts : List Stmt) (s : State (Unit {0})) → Cuts child lift (each (serial child) plan path one sts s) (each (put_off_all plan child) plan path two sts (lift s))
   each-c one two h [] s = (s, refl, refl)
   each-c one two h (st ∷ sts) s = cuts-then child lift lift (each (serial child) plan path one sts) (each (put_off_all plan child) plan path two sts) (each-c one two h sts) (one st s) (two st (lift s)) (h st s)
@@ -181,8 +181,8 @@ module _ (plan : PlanView) (child : Origin → Evaluation) (empty : (o : Origin)
   instance-c path o args =
       let s : State (Unit {0}) = record { env = []; rank = 0; steps = plan.limits.budget; spawned = tt } in
       cuts-then child (λ (v : Value). v) (λ (vs : List Value). vs) (λ v. done (v ∷ [])) (λ v. done (v ∷ [])) (λ v. (v ∷ [], refl, refl)) (instance (serial child) plan path o args) (instance (put_off_all plan child) plan path o args)
-      (cuts-then child lift_pair (λ (v : Value). v) (λ r. done r.0) (λ r. done r.0) (λ p. (p.0, refl, refl)) (activation (serial child) plan path (exec (serial child) plan) 0 o args s) (activation (put_off_all plan child) plan path (exec (put_off_all plan child) plan) 0 o args (lift s))
-      (activation-c plan path child empty (exec (serial child) plan) (exec (put_off_all plan child) plan) exec-c 0 o args s))
+      (cuts-then child lift_pair (λ (v : Value). v) (λ r. done r.0) (λ r. done r.0) (λ p. (p.0, refl, refl)) (frame (serial child) plan path (exec (serial child) plan) 0 o args s) (frame (put_off_all plan child) plan path (exec (put_off_all plan child) plan) 0 o args (lift s))
+      (frame-c plan path child empty (exec (serial child) plan) (exec (put_off_all plan child) plan) exec-c 0 o args s))
 
 module _ (child : Origin → Evaluation) (function : ℕ) (rest : List Value) (first : ℤ) (path : List ℕ) where
   abbrev loop_run : ℕ → ℕ → Evaluation
@@ -191,7 +191,7 @@ module _ (child : Origin → Evaluation) (function : ℕ) (rest : List Value) (f
   abbrev loop_origins : ℕ → ℕ → List Origin
   loop_origins = iterations function rest first path
 
-  abbrev loop_node : ℕ → ℕ → Run Item Ending (List Value)
+  abbrev loop_node : ℕ → ℕ → Run Item NodeFault (List Value)
   loop_node k n = record { items = map Child (loop_origins k n); ending = loop_end (gathered child (loop_origins k n)) }
 
   one_more : (vs : List Value) (xs es : List Event) (c : Option Fault) (r : Evaluation) (q : Result (List Value) Fault) → Matches child (λ (ws : List Value). ws) es c r (loop_end q) →

@@ -33,7 +33,7 @@ use Rattle.serial_meaning.specs.declared.event.Event.TheVariants as event
 use Rattle.serial_meaning.specs.declared.origin.Origin.{Origin}
 use Rattle.serial_meaning.specs.declared.origin.Origin.TheVariants as origin
 
--- where an activation stands: its variables, its instance's rank and steps left, and what it knows of the children that it spawned
+-- where a frame stands: its variables, its instance's rank and steps left, and what it knows of the children that it spawned
 -- since its last sync
 pub record State (K : Type 0) : Type 0 where
   pub env : Env
@@ -116,8 +116,8 @@ abbrev pub most_calls : ℕ
 most_calls = 256
 
 -- what statements do at a present path, with so many open calls; the present path is the instance's path and then the ranks of the open scopes
-abbrev pub Block : Type 0 → Type 0 → Type 0 → Type 0
-Block I E K = List ℕ → ℕ → List Stmt → State K → Run I E (State K)
+abbrev pub BlockMeaning : Type 0 → Type 0 → Type 0 → Type 0
+BlockMeaning I E K = List ℕ → ℕ → List Stmt → State K → Run I E (State K)
 
 -- what is shown at a place, and nothing else happens
 abbrev pub shown : {I E A : Type 0} → List I → A → Run I E A
@@ -175,7 +175,7 @@ module _ {I E K : Type 0} (how : Manner I E K) (plan : PlanView) (path : List �
   abbrev pub goes_out : ℕ → State K → Run I E (State K)
   goes_out rank s = shown (how.closes (path ++ rank ∷ [])) (record s { rank = rank + 1 })
 
-  -- the end of that scope: a sync of the activation in it, and then out
+  -- the end of that scope: a sync of the frame in it, and then out
   abbrev pub leaves : ℕ → State K → Run I E (State K)
   leaves rank s = join_at (path ++ rank ∷ []) s then goes_out rank
 
@@ -191,23 +191,23 @@ module _ {I E K : Type 0} (how : Manner I E K) (plan : PlanView) (path : List �
       given (value_of f.result s.env) s λ v.
       done (v, s)
 
-  -- an activation of a function in this instance: variables and syncs of its own, and the instance's rank and steps; a valid script
+  -- a frame of a function in this instance: variables and syncs of its own, and the instance's rank and steps; a valid script
   -- calls only functions that there are
-  abbrev pub activation : Block I E K → ℕ → Option Function → List Value → State K → Run I E (Value × State K)
-  activation block calls (Some f) vs s =
+  abbrev pub frame : BlockMeaning I E K → ℕ → Option Function → List Value → State K → Run I E (Value × State K)
+  frame block calls (Some f) vs s =
       block path calls f.body (record s { env = bound f.params vs; spawned = how.none }) then returned f
-  activation block calls None vs s = done (Int (pos 0), s)
+  frame block calls None vs s = done (Int (pos 0), s)
 
   -- a call goes on from the caller's rank and steps, and the caller from the callee's last ones
-  abbrev pub called : Block I E K → ℕ → CallText → State K → Run I E (Value × State K)
+  abbrev pub called : BlockMeaning I E K → ℕ → CallText → State K → Run I E (Value × State K)
   called block calls c s =
       given (values_of c.args s.env) s λ vs.
       tested (nat_lt calls most_calls) Calls s
-      (activation block (calls + 1) (function_at (functions_of plan) (number_of (functions_of plan) c.name.bytes)) vs s then λ r.
+      (frame block (calls + 1) (function_at (functions_of plan) (number_of (functions_of plan) c.name.bytes)) vs s then λ r.
       done (r.0, record s { rank = r.1.rank; steps = r.1.steps }))
 
   -- the right side of a let or an assignment
-  abbrev pub right_side : Block I E K → ℕ → Right → State K → Run I E (Value × State K)
+  abbrev pub right_side : BlockMeaning I E K → ℕ → Right → State K → Run I E (Value × State K)
   right_side block calls (right.Value e) s = given (value_of e s.env) s λ v. done (v, s)
   right_side block calls (right.Draw at) s =
       let n = drawn plan (strand path s) in
@@ -246,13 +246,13 @@ module _ {I E K : Type 0} (how : Manner I E K) (plan : PlanView) (path : List �
       done (record s { rank = s.rank + 1; env = filled target ws s.env }))))
 
   -- a scope: the depth, its block one level further at rank 0, and its end
-  abbrev pub scoped : Block I E K → ℕ → List Stmt → State K → Run I E (State K)
+  abbrev pub scoped : BlockMeaning I E K → ℕ → List Stmt → State K → Run I E (State K)
   scoped block calls sts s =
       tested (nat_lt (length path + 1) plan.limits.depth) Depth s
       (shown (how.opens (strand path s)) (record s { rank = 0 }) then block (strand path s) calls sts then leaves s.rank)
 
   -- one statement whose step is paid; block runs what stands inside it
-  abbrev pub does : Block I E K → ℕ → Stmt → Act-F Act Stmt → State K → Run I E (State K)
+  abbrev pub does : BlockMeaning I E K → ℕ → Stmt → Act-F Act Stmt → State K → Run I E (State K)
   does block calls st (act.Let x r) s = right_side block calls r s then λ p. done (set_scalar p.1 x p.0)
   does block calls st (act.Array x n) s = done (set_array s x (zeros (count_of n.value)))
   does block calls st (act.Set x r) s = right_side block calls r s then λ p. done (set_scalar p.1 x p.0)
@@ -271,7 +271,7 @@ module _ {I E K : Type 0} (how : Manner I E K) (plan : PlanView) (path : List �
       looped (number l) (count_of (number h -ℤ number l)) vs target c s
   does block calls st (act.Scope a) s = scoped block calls a s
 
-  abbrev pub statement : Block I E K → ℕ → Stmt → State K → Run I E (State K)
+  abbrev pub statement : BlockMeaning I E K → ℕ → Stmt → State K → Run I E (State K)
   statement block calls st s = paid s λ s. does block calls st (out-Act (out-Stmt st).act) s
 
   abbrev pub each : (Stmt → State K → Run I E (State K)) → List Stmt → State K → Run I E (State K)
@@ -282,15 +282,15 @@ module _ {I E K : Type 0} (how : Manner I E K) (plan : PlanView) where
   -- A statement pays a step before it enters a block, a turn, a call or a scope. So n levels of these are enough for n steps, and one more
   -- statement finds no step. That makes the meaning total, whatever the script. Nothing above depends on the levels: the laws of
   -- `exec` give its equations without them.
-  abbrev pub statements : ℕ → Block I E K
+  abbrev pub statements : ℕ → BlockMeaning I E K
   statements zero path calls = each how plan path (λ st s. fault how plan path Budget s)
   statements (suc n) path calls = each how plan path (statement how plan path (statements n) calls)
 
   -- the statements, from a state
-  abbrev pub exec : Block I E K
+  abbrev pub exec : BlockMeaning I E K
   exec path calls sts s = statements s.steps path calls sts s
 
   -- a whole instance: rank 0, the whole budget, no open call
   abbrev pub instance : (path : List ℕ) → Option Function → List Value → Run I E Value
   instance path f vs =
-      activation how plan path exec 0 f vs (record { env = []; rank = 0; steps = plan.limits.budget; spawned = how.none }) then λ r. done r.0
+      frame how plan path exec 0 f vs (record { env = []; rank = 0; steps = plan.limits.budget; spawned = how.none }) then λ r. done r.0

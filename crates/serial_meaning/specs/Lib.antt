@@ -12,6 +12,6 @@ pub mod Open
 pub mod Plan
 pub mod Render
 pub mod Runs
-pub mod Segments
+pub mod Chunks
 pub mod Trees
 pub mod Values

@@ -27,12 +27,12 @@ pub data Item : Type 0 where
   Closed : List ℕ → Item
 
 -- A node ends by a fault of its own, or at a sync or a loop's end by the least fault of the children that it waited for.
-pub data Ending : Type 0 where
-  Own : Fault → Ending
-  Joined : Fault → Ending
+pub data NodeFault : Type 0 where
+  Own : Fault → NodeFault
+  ChildFaulted : Fault → NodeFault
 
 abbrev pub Node : Type 0
-Node = Run Item Ending (List Value)
+Node = Run Item NodeFault (List Value)
 
 -- the one whose pedigree stands first
 abbrev pub lesser : Fault → Fault → Fault
@@ -60,13 +60,13 @@ abbrev pub put_off : Value → Option Fault → Result (List Value) Fault → Va
 put_off instead faulted (Ok vs) = (first_of vs, faulted)
 put_off instead faulted (Err f) = (instead, Some (least faulted f))
 
-abbrev pub joined : Option Fault → Run Item Ending (Option Fault)
+abbrev pub joined : Option Fault → Run Item NodeFault (Option Fault)
 joined None = done None
-joined (Some f) = stopped (Joined f)
+joined (Some f) = stopped (ChildFaulted f)
 
-abbrev pub loop_end : Result (List Value) Fault → Result (List Value) Ending
+abbrev pub loop_end : Result (List Value) Fault → Result (List Value) NodeFault
 loop_end (Ok vs) = Ok vs
-loop_end (Err f) = Err (Joined f)
+loop_end (Err f) = Err (ChildFaulted f)
 
 abbrev pub is_zero : ℕ → Bool
 is_zero zero = true
@@ -77,7 +77,7 @@ is_empty_loop (Instance function args path) = false
 is_empty_loop (Loop function rest first path range) = is_zero (range.hi - range.lo)
 
 -- A child is an item. What is known of spawned children is the least fault among them. A loop without an iteration is no item.
-abbrev pub put_off_all : PlanView → (Origin → Evaluation) → Manner Item Ending (Option Fault)
+abbrev pub put_off_all : PlanView → (Origin → Evaluation) → Manner Item NodeFault (Option Fault)
 put_off_all plan child = record {
   event = Happened;
   opens = λ j. Opened j ∷ [];
@@ -116,10 +116,10 @@ node_with plan child (Loop function rest first path range) =
 abbrev pub opened : PlanView → Origin → Node
 opened plan o = node_with plan (eval_below plan (depth_left plan o)) o
 
-abbrev pub own_fault : Result (List Value) Ending → List Fault
+abbrev pub own_fault : Result (List Value) NodeFault → List Fault
 own_fault (Ok vs) = []
 own_fault (Err (Own f)) = f ∷ []
-own_fault (Err (Joined f)) = []
+own_fault (Err (ChildFaulted f)) = []
 
 abbrev pub faults_of : (Origin → List Fault) → List Item → List Fault
 faults_of below [] = []
@@ -179,10 +179,10 @@ without_last (j ∷ k ∷ js) = j ∷ without_last (k ∷ js)
 
 -- Where an instance ended by the fault of a child, it ended at the sync or the loop that is its last event, and the strand after that
 -- wasn't reached.
-abbrev pub reached_by : List (List ℕ) → Result (List Value) Ending → List (List ℕ)
+abbrev pub reached_by : List (List ℕ) → Result (List Value) NodeFault → List (List ℕ)
 reached_by js (Ok vs) = js
 reached_by js (Err (Own f)) = js
-reached_by js (Err (Joined f)) = without_last js
+reached_by js (Err (ChildFaulted f)) = without_last js
 
 -- the pedigrees of an instance's own strands, in order; a loop has none
 abbrev pub places_of : Origin → Node → List (List ℕ)

@@ -28,7 +28,7 @@ use Rattle.serial_meaning.specs.declared.event.FaultKind.TheVariants.{Divide, In
 abbrev pub Val : Type 0
 Val = Result Value FaultKind
 
--- the variables of an activation
+-- the variables of a frame
 abbrev pub Env : Type 0
 Env = List Variable
 

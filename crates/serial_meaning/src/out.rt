@@ -1,5 +1,5 @@
 ghost use Rattle.std.specs.Prelude.{◌≡◌, [], ◌∷◌, ◌++◌, length, OnOk, OnErr, slice_get, option_copied, IfSome, IfNone, IfErr};
-ghost use Rattle.serial_meaning.specs.Segments.{joined};
+ghost use Rattle.serial_meaning.specs.Chunks.{joined};
 
 use crate::event::Event;
 use crate::memory::Memory;
@@ -30,12 +30,12 @@ enum Kept {
     Nothing,
     /// One alone, and what takes memory when others come to it.
     One(Global, Event),
-    Listed(Segments),
+    Listed(Chunks),
 }
 
 /// Full segments, and the last one, which grows.
 #[derive(Drop)]
-struct Segments {
+struct Chunks {
     alloc: Global,
     full: Vec<Vec<Event>>,
     last: Vec<Event>,
@@ -44,7 +44,7 @@ struct Segments {
 impl Model for Out {
     ghost use Rattle.std.specs.Prelude.{◌≡◌, List, length};
     ghost use Rattle.serial_meaning.specs.declared.event.Event.{Event};
-    ghost use Rattle.serial_meaning.specs.Segments.{kept_events};
+    ghost use Rattle.serial_meaning.specs.Chunks.{kept_events};
 
     ghost Value = { List Event };
 
@@ -102,25 +102,25 @@ impl Out {
         match &self.kept {
             Kept::Nothing => None,
             Kept::One(_, event) => event_at(slice::from_ref(event), i),
-            Kept::Listed(segments) => segments.get(i),
+            Kept::Listed(chunks) => chunks.get(i),
         }
     }
 
     /// The full segments and the last one, where there is any event.
-    pub fn segments(&self) -> Option<(&[Vec<Event>], &[Event])>
+    pub fn chunks(&self) -> Option<(&[Vec<Event>], &[Event])>
         ensures some { IfSome result (λ parts. joined parts.0.now ++ parts.1.now ≡ self.now) }
         ensures none { IfNone result (self.now ≡ []) }
     {
         match &self.kept {
             Kept::Nothing => None,
             Kept::One(_, event) => Some((&[], slice::from_ref(event))),
-            Kept::Listed(segments) => Some((segments.full.as_slice(), segments.last.as_slice())),
+            Kept::Listed(chunks) => Some((chunks.full.as_slice(), chunks.last.as_slice())),
         }
     }
 }
 
 impl Kept {
-    ghost use Rattle.serial_meaning.specs.Segments.{kept_events, segments_events};
+    ghost use Rattle.serial_meaning.specs.Chunks.{kept_events, chunks_events};
 
     fn push(&mut self, alloc: Global, event: Event) -> Result<(), Memory>
         ensures ok { OnOk result (kept_events self.new ≡ kept_events self.old ++ event ∷ []) }
@@ -138,14 +138,14 @@ impl Kept {
                 };
                 both.push_reserved(first);
                 both.push_reserved(event);
-                *self = Kept::Listed(Segments {
+                *self = Kept::Listed(Chunks {
                     alloc,
                     full: Vec::new(alloc),
                     last: both,
                 });
                 Ok(())
             }
-            Kept::Listed(segments) => segments.push(event),
+            Kept::Listed(chunks) => chunks.push(event),
         }
     }
 
@@ -156,13 +156,13 @@ impl Kept {
         match others {
             Kept::Nothing => Ok(()),
             Kept::One(alloc, event) => self.push(alloc, event),
-            Kept::Listed(segments) => self.append_list(segments),
+            Kept::Listed(chunks) => self.append_list(chunks),
         }
     }
 
     /// Puts these events at the end. One that stands alone here goes to their front, so that they stay where they are.
-    fn append_list(&mut self, mut others: Segments) -> Result<(), Memory>
-        ensures ok { OnOk result (kept_events self.new ≡ kept_events self.old ++ segments_events others) }
+    fn append_list(&mut self, mut others: Chunks) -> Result<(), Memory>
+        ensures ok { OnOk result (kept_events self.new ≡ kept_events self.old ++ chunks_events others) }
         ensures err { OnErr result (kept_events self.new ≡ kept_events self.old) }
     {
         match self {
@@ -185,18 +185,18 @@ impl Kept {
                     }
                 }
             }
-            Kept::Listed(segments) => segments.append(others),
+            Kept::Listed(chunks) => chunks.append(others),
         }
     }
 }
 
-impl Segments {
-    ghost use Rattle.serial_meaning.specs.Segments.{segments_events};
+impl Chunks {
+    ghost use Rattle.serial_meaning.specs.Chunks.{chunks_events};
 
     /// Room for so many more events at the end: in the last segment, or in a new one where that has grown enough.
-    #[tactic(auto, using(crate::proofs::SegmentLemmas::joined_next))]
+    #[tactic(auto, using(crate::proofs::ChunkLemmas::joined_next))]
     fn make_room(&mut self, more: usize) -> Result<(), Memory>
-        ensures { segments_events self.new ≡ segments_events self.old }
+        ensures { chunks_events self.new ≡ chunks_events self.old }
     {
         if more <= self.last.capacity().saturating_sub(self.last.len()) {
             return Ok(());
@@ -213,8 +213,8 @@ impl Segments {
     }
 
     fn push(&mut self, event: Event) -> Result<(), Memory>
-        ensures ok { OnOk result (segments_events self.new ≡ segments_events self.old ++ event ∷ []) }
-        ensures err { OnErr result (segments_events self.new ≡ segments_events self.old) }
+        ensures ok { OnOk result (chunks_events self.new ≡ chunks_events self.old ++ event ∷ []) }
+        ensures err { OnErr result (chunks_events self.new ≡ chunks_events self.old) }
     {
         self.make_room(1)?;
         self.last.push(event)?;
@@ -223,7 +223,7 @@ impl Segments {
 
     /// Puts an event before all others, or gives it back where there is no memory.
     fn put_first(&mut self, event: Event) -> Result<(), Event>
-        ensures ok { OnOk result (segments_events self.new ≡ event ∷ segments_events self.old) }
+        ensures ok { OnOk result (chunks_events self.new ≡ event ∷ chunks_events self.old) }
         ensures err { IfErr result (λ back. back ≡ event) }
     {
         if self.full.is_empty() {
@@ -235,9 +235,9 @@ impl Segments {
 
     /// Puts the other segments after these, whose last one grows no more. A few events are moved to the end of that one, so that
     /// there are fewer segments to go on with.
-    fn append(&mut self, others: Segments) -> Result<(), Memory>
-        ensures ok { OnOk result (segments_events self.new ≡ segments_events self.old ++ segments_events others) }
-        ensures err { OnErr result (segments_events self.new ≡ segments_events self.old) }
+    fn append(&mut self, others: Chunks) -> Result<(), Memory>
+        ensures ok { OnOk result (chunks_events self.new ≡ chunks_events self.old ++ chunks_events others) }
+        ensures err { OnErr result (chunks_events self.new ≡ chunks_events self.old) }
     {
         if others.full.is_empty() && others.last.len() <= MOST_MOVED {
             self.take_in(others.last)
@@ -248,8 +248,8 @@ impl Segments {
 
     /// Puts events at the end of the last segment.
     fn take_in(&mut self, mut events: Vec<Event>) -> Result<(), Memory>
-        ensures ok { OnOk result (segments_events self.new ≡ segments_events self.old ++ events.items) }
-        ensures err { OnErr result (segments_events self.new ≡ segments_events self.old) }
+        ensures ok { OnOk result (chunks_events self.new ≡ chunks_events self.old ++ events.items) }
+        ensures err { OnErr result (chunks_events self.new ≡ chunks_events self.old) }
     {
         self.make_room(events.len())?;
         self.last.append(&mut events)?;
@@ -257,12 +257,12 @@ impl Segments {
     }
 
     /// Puts the other segments after these.
-    #[tactic(auto, using(crate::proofs::SegmentLemmas::joined_after))]
-    fn follow(&mut self, others: Segments) -> Result<(), Memory>
-        ensures ok { OnOk result (segments_events self.new ≡ segments_events self.old ++ segments_events others) }
-        ensures err { OnErr result (segments_events self.new ≡ segments_events self.old) }
+    #[tactic(auto, using(crate::proofs::ChunkLemmas::joined_after))]
+    fn follow(&mut self, others: Chunks) -> Result<(), Memory>
+        ensures ok { OnOk result (chunks_events self.new ≡ chunks_events self.old ++ chunks_events others) }
+        ensures err { OnErr result (chunks_events self.new ≡ chunks_events self.old) }
     {
-        let Segments { mut full, last, .. } = others;
+        let Chunks { mut full, last, .. } = others;
         self.full.try_reserve(full.len().saturating_add(1))?;
         let front = mem::replace(&mut self.last, last);
         self.full.push(front).unwrap();
@@ -271,13 +271,13 @@ impl Segments {
     }
 
     fn get(&self, i: u64) -> Option<&Event>
-        ensures { option_copied result ≡ slice_get (segments_events self.now) i }
+        ensures { option_copied result ≡ slice_get (chunks_events self.now) i }
     {
         let mut left = i;
-        for segment in &self.full {
-            let count = segment.len() as u64;
+        for chunk in &self.full {
+            let count = chunk.len() as u64;
             if left < count {
-                return event_at(segment, left);
+                return event_at(chunk, left);
             }
             left -= count;
         }

@@ -1,7 +1,7 @@
 ghost use Rattle.std.specs.Prelude.{◌≡◌, ◌++◌, ◌∷◌, List, [], IfOk, OnOk, codes, decimal, flat_map};
 ghost use Rattle.std.specs.Fmt.{signed_decimal};
 ghost use Rattle.ped_path.specs.Text.{ped_text};
-ghost use Rattle.serial_meaning.specs.Segments.{joined};
+ghost use Rattle.serial_meaning.specs.Chunks.{joined};
 ghost use Rattle.serial_meaning.specs.Render.{IsWhole, answer_text, strand_text, event_line, strand_line, line, draw_line, value_text, kind_text, fault_line};
 ghost use Rattle.serial_meaning.specs.Columns.{line_in};
 
@@ -52,23 +52,23 @@ pub fn render_strand(alloc: Global, strand: &Strand) -> Result<Vec<u8>, Memory>
 fn write_events(column: Column, events: &Out, text: &mut Vec<u8>) -> Result<(), Memory>
     ensures { OnOk result (text.new.items ≡ text.old.items ++ flat_map (line_in column) events.now) }
 {
-    if let Some((full, last)) = events.segments() {
-        write_segments(column, full, text)?;
-        write_segment(column, last, text)?;
+    if let Some((full, last)) = events.chunks() {
+        write_chunks(column, full, text)?;
+        write_chunk(column, last, text)?;
     }
     Ok(())
 }
 
-fn write_segments(column: Column, segments: &[Vec<Event>], text: &mut Vec<u8>) -> Result<(), Memory>
-    ensures { OnOk result (text.new.items ≡ text.old.items ++ flat_map (line_in column) (joined segments.now)) }
+fn write_chunks(column: Column, chunks: &[Vec<Event>], text: &mut Vec<u8>) -> Result<(), Memory>
+    ensures { OnOk result (text.new.items ≡ text.old.items ++ flat_map (line_in column) (joined chunks.now)) }
 {
-    for segment in segments {
-        write_segment(column, segment, text)?;
+    for chunk in chunks {
+        write_chunk(column, chunk, text)?;
     }
     Ok(())
 }
 
-fn write_segment(column: Column, events: &[Event], text: &mut Vec<u8>) -> Result<(), Memory>
+fn write_chunk(column: Column, events: &[Event], text: &mut Vec<u8>) -> Result<(), Memory>
     ensures { OnOk result (text.new.items ≡ text.old.items ++ flat_map (line_in column) events.now) }
 {
     for event in events {

@@ -11,7 +11,7 @@ use Rattle.serial_meaning.specs.declared.origin.Origin.{Origin}
 use Rattle.serial_meaning.specs.declared.answer.Outcome.{Outcome}
 use Rattle.serial_meaning.specs.declared.answer.Outcome.TheVariants as outcome
 use Rattle.strand_meaning.specs.Laws.{IsFaultOf, IsOf, IsSoundStop, KeepsOrigin, LeavesFewer}
-use Rattle.strand_meaning.specs.Pieces.{Part, Pieces, heard_unless, heard, heard_all}
+use Rattle.strand_meaning.specs.Trace.{AwaitedChild, Trace, heard_unless, heard, heard_all}
 use Rattle.strand_meaning.specs.Rest.{evaluations}
 use Rattle.strand_meaning.specs.Sound.{IsTask}
 use Rattle.strand_meaning.specs.Task.{Task, start, Stop, Spawn, Wait, End}
@@ -27,8 +27,8 @@ use Rattle.strand_machine.specs.Stops.{IsStop, Advances, WentOn, advances, answe
 use Rattle.strand_machine.specs.Tasks.{TaskView, fresh, fresh_with}
 use Rattle.strand_machine.specs.declared.stop.Stop as stops
 use Rattle.strand_machine.specs.declared.stop.Stop.TheVariants as stop
-use Rattle.serial_runner.specs.Stacks.{task_of, IsFrame, AreBelow, IsStack, root_of, tasks, IsAnswerOf, task_of_answer, with_answer, Follows, Closes, AdvancesTo}
-use Rattle.serial_runner.specs.declared.frames.Frame.{Frame}
+use Rattle.serial_runner.specs.Stacks.{task_of, IsOpenTask, AreBelow, IsStack, root_of, tasks, IsAnswerOf, task_of_answer, with_answer, Follows, Closes, AdvancesTo}
+use Rattle.serial_runner.specs.declared.open_tasks.OpenTask.{OpenTask}
 use Rattle.serial_runner.specs.declared.stack.Stack.{Stack}
 use Rattle.serial_runner.specs.declared.stack.Advanced.{Advanced}
 use Rattle.serial_runner.specs.declared.stack.Advanced.TheVariants.{Goes, Ends}
@@ -80,41 +80,41 @@ went_whole answers t next whole h = subst (λ (b : Bool). went b answers t next)
 
 -- Children that a wait is over with aren't awaited
 
-heard-none : (f : Option Fault) (told : List Event) (p : Part) (events : List Event) (ending : Result (List Value) Fault) → (heard_unless f told p events ending).handed ≡ []
-heard-none (Some f) told p events ending = refl
-heard-none None told p events (Ok vs) = refl
-heard-none None told p events (Err f) = refl
+heard-none : (f : Option Fault) (prefix : List Event) (p : AwaitedChild) (events : List Event) (ending : Result (List Value) Fault) → (heard_unless f prefix p events ending).handed ≡ []
+heard-none (Some f) prefix p events ending = refl
+heard-none None prefix p events (Ok vs) = refl
+heard-none None prefix p events (Err f) = refl
 
-none-heard : (ps : List Part) (answers : List Evaluation) (pieces : Pieces) → pieces.handed ≡ [] → (heard_all ps answers pieces).handed ≡ []
-none-heard [] answers pieces h = h
-none-heard (p ∷ ps) [] pieces h = h
-none-heard (p ∷ ps) (a ∷ answers) pieces h = none-heard ps answers (heard p a pieces) (heard-none pieces.fault pieces.told p a.items a.ending)
+none-heard : (ps : List AwaitedChild) (answers : List Evaluation) (trace : Trace) → trace.handed ≡ [] → (heard_all ps answers trace).handed ≡ []
+none-heard [] answers trace h = h
+none-heard (p ∷ ps) [] trace h = h
+none-heard (p ∷ ps) (a ∷ answers) trace h = none-heard ps answers (heard p a trace) (heard-none trace.fault trace.prefix p a.items a.ending)
 
 -- Stacks
 
 -- only the plan and the origin of the task above count
-pub below-same : (t u : Task) (fs : List Frame) → IsOf t u → AreBelow t fs → AreBelow u fs
+pub below-same : (t u : Task) (fs : List OpenTask) → IsOf t u → AreBelow t fs → AreBelow u fs
 below-same t u [] same b = tt
-below-same t u (f ∷ fs) same b = (same.0 ∙ b.0, subst (λ (o : Origin). IsFrame (o ∷ []) f) (sym same.1) b.1, b.2)
+below-same t u (f ∷ fs) same b = (same.0 ∙ b.0, subst (λ (o : Origin). IsOpenTask (o ∷ []) f) (sym same.1) b.1, b.2)
 
-pub root-same : (t u : Task) (fs : List Frame) → IsOf t u → IsOf (root_of t fs) (root_of u fs)
+pub root-same : (t u : Task) (fs : List OpenTask) → IsOf t u → IsOf (root_of t fs) (root_of u fs)
 root-same t u [] same = same
 root-same t u (f ∷ fs) same = (refl, refl)
 
-begun-frame : (knows : Bool) (plan : PlanView) (o : Origin) → IsTask (start plan o) → IsFrame [] (record { task = fresh_with knows plan o; answers = [] })
-begun-frame knows plan o is = record { task = is; idle = refl; goes_on = refl; whole = refl; answers = refl }
+begun-open_task : (knows : Bool) (plan : PlanView) (o : Origin) → IsTask (start plan o) → IsOpenTask [] (record { task = fresh_with knows plan o; answers = [] })
+begun-open_task knows plan o is = record { task = is; idle = refl; goes_on = refl; whole = refl; answers = refl }
 
 -- the stack of an origin's task alone
-pub begun_stack : (plan : PlanView) (o : Origin) (top : Frame) (below : List Frame) → IsTask (start plan o) → top ≡ record { task = fresh plan o; answers = [] } → below ≡ [] → IsStack (record { top = top; below = below })
-begun_stack plan o top below is e h = record { top = subst (IsFrame []) (sym e) (begun-frame (is_root o) plan o is); below = subst (AreBelow (task_of top)) (sym h) tt }
+pub begun_stack : (plan : PlanView) (o : Origin) (top : OpenTask) (below : List OpenTask) → IsTask (start plan o) → top ≡ record { task = fresh plan o; answers = [] } → below ≡ [] → IsStack (record { top = top; below = below })
+begun_stack plan o top below is e h = record { top = subst (IsOpenTask []) (sym e) (begun-open_task (is_root o) plan o is); below = subst (AreBelow (task_of top)) (sym h) tt }
 
 -- What is left of a sound stack, by the stop of its topmost task
 module _ (s : Stack) (is : IsStack s) where
   abbrev t : Task
   t = task_of s.top
 
-  abbrev frame : TaskView → List AnswerView → Frame
-  frame v answers = record { task = v; answers = answers }
+  abbrev open_task : TaskView → List AnswerView → OpenTask
+  open_task v answers = record { task = v; answers = answers }
 
   module _ (child rest : TaskView) (at : IsStop s.top.task (stop.Spawn child rest)) where
     abbrev c : Origin
@@ -129,10 +129,10 @@ module _ (s : Stack) (is : IsStack s) where
     begun : child.task ≡ start t.plan c
     begun = ap (λ (v : TaskView). v.task) is-fresh
 
-    with-child : IsSoundStop t to → KeepsOrigin t to → LeavesFewer t to → HandsStop t to → Follows s (record { top = frame child []; below = frame rest s.top.answers ∷ s.below })
+    with-child : IsSoundStop t to → KeepsOrigin t to → LeavesFewer t to → HandsStop t to → Follows s (record { top = open_task child []; below = open_task rest s.top.answers ∷ s.below })
     with-child sound same fewer hands = record {
       sound = record {
-        top = subst (λ (v : TaskView). IsFrame [] (frame v [])) (sym is-fresh) (begun-frame s.top.task.knows t.plan c (tasks_begin t.plan c sound.0 is.top.task.clear));
+        top = subst (λ (v : TaskView). IsOpenTask [] (open_task v [])) (sym is-fresh) (begun-open_task s.top.task.knows t.plan c (tasks_begin t.plan c sound.0 is.top.task.clear));
         below = (ap (λ (u : Task). u.plan) begun ∙ sym same.0, record { task = sound.1; idle = fewer.1; goes_on = at.keeps.4; whole = is.top.whole; answers = answers }, below-same t rest.task s.below same is.below);
       };
       root = root-same t rest.task s.below same;
@@ -147,9 +147,9 @@ module _ (s : Stack) (is : IsStack s) where
             ∙ sym (tags-append rest.task.plan (handed t) (c ∷ [])) ∙ ap (tags rest.task.plan) (sym hands.0)
 
     -- A child goes on top.
-    pub spawned : (top : Frame) (below : List Frame) → top ≡ record { task = child; answers = [] } → below ≡ record { task = rest; answers = s.top.answers } ∷ s.below → Follows s (record { top = top; below = below })
+    pub spawned : (top : OpenTask) (below : List OpenTask) → top ≡ record { task = child; answers = [] } → below ≡ record { task = rest; answers = s.top.answers } ∷ s.below → Follows s (record { top = top; below = below })
     spawned top below e h =
-        subst (λ (f : Frame). Follows s (record { top = f; below = below })) (sym e) (subst (λ (fs : List Frame). Follows s (record { top = frame child []; below = fs })) (sym h)
+        subst (λ (f : OpenTask). Follows s (record { top = f; below = below })) (sym e) (subst (λ (fs : List OpenTask). Follows s (record { top = open_task child []; below = fs })) (sym h)
         (with-child (stops_are_sound t to is.top.task at.next) (stops_keep_origins t to at.next) (stops_fall t to is.top.task is.top.idle at.next) (stops_hand t to is.top.task at.next)))
 
   module _ (rest : TaskView) (at : IsStop s.top.task (stop.Wait rest)) where
@@ -157,19 +157,19 @@ module _ (s : Stack) (is : IsStack s) where
     pub waits : rest.task.waiting ≡ true
     waits = let fewer : LeavesFewer t (Wait rest.task) = stops_fall t (Wait rest.task) is.top.task is.top.idle at.next in fewer.1
 
-    pub has_answers : answer_tags s.top.answers ≡ tags rest.task.plan (awaited rest.task.pieces.handed)
+    pub has_answers : answer_tags s.top.answers ≡ tags rest.task.plan (awaited rest.task.trace.handed)
     has_answers =
         let same : KeepsOrigin t (Wait rest.task) = stops_keep_origins t (Wait rest.task) at.next in
         let hands : HandsStop t (Wait rest.task) = stops_hand t (Wait rest.task) is.top.task at.next in
         sym (append-nil (answer_tags s.top.answers)) ∙ is.top.answers ∙ ap (λ (p : PlanView). tags p (handed t)) (sym same.0) ∙ ap (tags rest.task.plan) (sym hands)
 
-    none : (went_on rest).pieces.handed ≡ []
-    none = none-heard rest.task.pieces.handed (evaluations (eval rest.task.plan) rest.task.pieces.handed) _ refl
+    none : (went_on rest).trace.handed ≡ []
+    none = none-heard rest.task.trace.handed (evaluations (eval rest.task.plan) rest.task.trace.handed) _ refl
 
-    gone-on : IsSoundStop t (Wait rest.task) → KeepsOrigin t (Wait rest.task) → Follows s (record { top = frame (view_on rest) []; below = s.below })
+    gone-on : IsSoundStop t (Wait rest.task) → KeepsOrigin t (Wait rest.task) → Follows s (record { top = open_task (view_on rest) []; below = s.below })
     gone-on sound same = record {
       sound = record {
-        top = record { task = answers_keep_tasks rest.task sound; idle = refl; goes_on = at.keeps.3; whole = refl; answers = ap (λ (l : List Part). tags rest.task.plan (awaited l)) (sym none) };
+        top = record { task = answers_keep_tasks rest.task sound; idle = refl; goes_on = at.keeps.3; whole = refl; answers = ap (λ (l : List AwaitedChild). tags rest.task.plan (awaited l)) (sym none) };
         below = below-same t (went_on rest) s.below same is.below;
       };
       root = root-same t (went_on rest) s.below same;
@@ -179,16 +179,16 @@ module _ (s : Stack) (is : IsStack s) where
     }
 
     -- It goes on.
-    pub went_up : (top : Frame) (v : TaskView) → top ≡ record { task = v; answers = [] } → v ≡ view_on rest → Follows s (record { top = top; below = s.below })
+    pub went_up : (top : OpenTask) (v : TaskView) → top ≡ record { task = v; answers = [] } → v ≡ view_on rest → Follows s (record { top = top; below = s.below })
     went_up top v e h =
-        subst (λ (f : Frame). Follows s (record { top = f; below = s.below })) (sym (e ∙ ap (λ (w : TaskView). frame w []) h))
+        subst (λ (f : OpenTask). Follows s (record { top = f; below = s.below })) (sym (e ∙ ap (λ (w : TaskView). open_task w []) h))
         (gone-on (stops_are_sound t (Wait rest.task) is.top.task at.next) (stops_keep_origins t (Wait rest.task) at.next))
 
   module _ (answer : AnswerView) (give : AnswerTag) (at : IsStop s.top.task (stop.Done answer give)) where
-    to-parent : (f : Frame) (fs : List Frame) → s.below ≡ f ∷ fs → AreBelow t (f ∷ fs) → Follows s (with_answer answer f fs)
+    to-parent : (f : OpenTask) (fs : List OpenTask) → s.below ≡ f ∷ fs → AreBelow t (f ∷ fs) → Follows s (with_answer answer f fs)
     to-parent f fs e b = record {
       sound = record { top = record { task = b.1.task; idle = b.1.idle; goes_on = b.1.goes_on; whole = more-uncut f.answers answer b.1.whole whole; answers = answers }; below = b.2 };
-      root = subst (λ (l : List Frame). IsOf (root_of t l) (root_of (task_of f) fs)) (sym e) (refl, refl);
+      root = subst (λ (l : List OpenTask). IsOf (root_of t l) (root_of (task_of f) fs)) (sym e) (refl, refl);
       stop = End answer.out answer.outcome;
       comes = at.next;
       leaves = ap tasks (sym e);
@@ -197,17 +197,17 @@ module _ (s : Stack) (is : IsStack s) where
         whole : is_cut answer.outcome ≡ false
         whole = uncut t.plan answer.outcome at.known
 
-        answers : answer_tags (f.answers ++ answer ∷ []) ++ [] ≡ tags (task_of f).plan (awaited (task_of f).pieces.handed)
+        answers : answer_tags (f.answers ++ answer ∷ []) ++ [] ≡ tags (task_of f).plan (awaited (task_of f).trace.handed)
         answers =
             append-nil (answer_tags (f.answers ++ answer ∷ [])) ∙ answer-tags-append f.answers (answer ∷ [])
             ∙ ap (λ (p : PlanView). answer_tags f.answers ++ tag p answer.origin ∷ []) (at.keeps.0 ∙ b.0)
             ∙ ap (λ (o : Origin). answer_tags f.answers ++ tag (task_of f).plan o ∷ []) at.keeps.1 ∙ b.1.answers
 
-    abbrev IsEnd : List Frame → Type 0
+    abbrev IsEnd : List OpenTask → Type 0
     IsEnd fs = IsAnswerOf (root_of t fs) answer
 
     -- An end's answer goes to the task below, or is the one of the task at the bottom.
-    pub ended : (result : Result Advanced Memory) → ((f : Frame) (fs : List Frame) → s.below ≡ f ∷ fs → IfOk result (λ to. to ≡ Goes (with_answer answer f fs))) →
+    pub ended : (result : Result Advanced Memory) → ((f : OpenTask) (fs : List OpenTask) → s.below ≡ f ∷ fs → IfOk result (λ to. to ≡ Goes (with_answer answer f fs))) →
         (s.below ≡ [] → IfOk result (λ to. to ≡ Ends answer)) → IfOk result (AdvancesTo s)
     ended (Err e) parent last = tt
     ended (Ok to) parent last = by_below s.below refl
@@ -215,7 +215,7 @@ module _ (s : Stack) (is : IsStack s) where
         sound : IsSoundStop t (End answer.out answer.outcome)
         sound = stops_are_sound t (End answer.out answer.outcome) is.top.task at.next
 
-        by_below : (fs : List Frame) → s.below ≡ fs → AdvancesTo s to
+        by_below : (fs : List OpenTask) → s.below ≡ fs → AdvancesTo s to
         by_below [] e =
             let closes : Closes s answer = subst IsEnd (sym e) (record { plan = at.keeps.0; origin = at.keeps.1; fault = sound.1 }) in subst (AdvancesTo s) (sym (last e)) closes
         by_below (f ∷ fs) e = let follows : Follows s (with_answer answer f fs) = to-parent f fs e (subst (AreBelow t) e is.below) in subst (AdvancesTo s) (sym (parent f fs e)) follows
@@ -239,13 +239,13 @@ module _ (s : Stack) (is : IsStack s) where
 
 -- The tasks below an answer that is a fault
 
-pub record EndsAt (bottom : Task) (answer : AnswerView) (fs : List Frame) : Type 0 where
+pub record EndsAt (bottom : Task) (answer : AnswerView) (fs : List OpenTask) : Type 0 where
   pub below : AreBelow (task_of_answer answer) fs
   pub fault : is_fault answer.outcome ≡ true
   pub known : IsFaultOf answer.plan answer.outcome
   pub root : IsOf bottom (root_of (task_of_answer answer) fs)
 
-pub ends-next : (bottom : Task) (a b : AnswerView) (by : AnswerTag) (f : Frame) (fs gs : List Frame) → gs ≡ f ∷ fs → EndsAt bottom a gs → EndsByFault f.task b by → EndsAt bottom b fs
+pub ends-next : (bottom : Task) (a b : AnswerView) (by : AnswerTag) (f : OpenTask) (fs gs : List OpenTask) → gs ≡ f ∷ fs → EndsAt bottom a gs → EndsByFault f.task b by → EndsAt bottom b fs
 ends-next bottom a b by f fs gs e at ends =
     let was : EndsAt bottom a (f ∷ fs) = subst (EndsAt bottom a) e at in
     let same : IsOf (task_of f) (task_of_answer b) = (ends.plan, ends.origin) in
@@ -257,7 +257,7 @@ ends-next bottom a b by f fs gs e at ends =
       root = (lower.0 ∙ was.root.0, lower.1 ∙ was.root.1);
     }
 
-pub ends-last : (bottom : Task) (a : AnswerView) (fs : List Frame) → fs ≡ [] → EndsAt bottom a fs → IsAnswerOf bottom a
+pub ends-last : (bottom : Task) (a : AnswerView) (fs : List OpenTask) → fs ≡ [] → EndsAt bottom a fs → IsAnswerOf bottom a
 ends-last bottom a fs e at =
     let was : EndsAt bottom a [] = subst (EndsAt bottom a) e at in
     record { plan = was.root.0; origin = was.root.1; fault = subst (λ (p : PlanView). IsFaultOf p a.outcome) was.root.0 was.known }

@@ -8,5 +8,5 @@ pub mod Over
 pub mod Places
 pub mod Showing
 pub mod Shows
-pub mod Sighted
+pub mod Observing
 pub mod Walking

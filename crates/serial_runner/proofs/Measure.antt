@@ -33,7 +33,7 @@ unfolding next
 next-is t stop n = stops_are_one t (stops_come t).0 stop (stops_come t).1 n
 
 abbrev gone_on : Task → Task
-gone_on t = on (evaluations (eval t.plan) t.pieces.handed) t
+gone_on t = on (evaluations (eval t.plan) t.trace.handed) t
 
 -- this stop, and what comes after it
 abbrev with_stop : (Origin → ℕ) → (Task → ℕ) → Stop → ℕ

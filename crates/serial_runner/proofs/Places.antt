@@ -6,9 +6,9 @@ use Rattle.script_grammar.specs.declared.tree.Name.{Name}
 use Rattle.serial_meaning.specs.Runs.{Run, done, behind, goes_on, ◌then◌}
 use Rattle.serial_meaning.specs.Functions.{function_at}
 use Rattle.serial_meaning.specs.Plan.{PlanView, functions_of}
-use Rattle.serial_meaning.specs.Exec.{State, goes_out, activation, exec, instance, filled}
+use Rattle.serial_meaning.specs.Exec.{State, goes_out, frame, exec, instance, filled}
 use Rattle.serial_meaning.specs.Eval.{Evaluation, path_of, eval_below, depth_left}
-use Rattle.serial_meaning.specs.Open.{Item, Happened, Child, Opened, Closed, Ending, Own, Joined, Node, put_off_all, joined, loop_end, is_empty_loop, risen, strand_after, last_of, opened}
+use Rattle.serial_meaning.specs.Open.{Item, Happened, Child, Opened, Closed, NodeFault, Own, ChildFaulted, Node, put_off_all, joined, loop_end, is_empty_loop, risen, strand_after, last_of, opened}
 use Rattle.serial_meaning.proofs.Closed.{Closed as Rules, closed-exec, returned-q}
 use Rattle.serial_meaning.specs.declared.value.Value.{Value}
 use Rattle.serial_meaning.specs.declared.event.Fault.{Fault}
@@ -16,7 +16,7 @@ use Rattle.serial_meaning.specs.declared.event.Event.{Event}
 use Rattle.serial_meaning.specs.declared.event.Event.TheVariants as event
 use Rattle.serial_meaning.specs.declared.origin.Origin.{Origin}
 use Rattle.serial_meaning.specs.declared.origin.Origin.TheVariants as origin
-use Rattle.strand_meaning.specs.Notes.{IsInstance}
+use Rattle.strand_meaning.specs.Observation.{IsInstance}
 use Rattle.strand_meaning.specs.Strands.{pedigree_of}
 use Rattle.strand_machine.proofs.Eyes.{risen-last}
 
@@ -93,26 +93,26 @@ follow-rest here by (Opened j ∷ xs) ys f = follow-rest (j ++ 0 ∷ []) [] xs y
 follow-rest here by (Closed j ∷ xs) ys f = follow-rest (risen j) [] xs ys f.2
 
 -- Where a run ends: by its own fault at the strand where it stands, and by a child's after the event that led there.
-abbrev EndsAt : {A : Type 0} → List ℕ → (A → ℕ) → List ℕ → List ℕ → Result A Ending → Type 0
+abbrev EndsAt : {A : Type 0} → List ℕ → (A → ℕ) → List ℕ → List ℕ → Result A NodeFault → Type 0
 EndsAt path rank here by (Ok a) = here ≡ path ++ rank a ∷ []
 EndsAt path rank here by (Err (Own f)) = (f.at ≡ here) × IsStrand here
-EndsAt path rank here by (Err (Joined f)) = (here ≡ risen by) × IsStrand by
+EndsAt path rank here by (Err (ChildFaulted f)) = (here ≡ risen by) × IsStrand by
 
 -- a run of an instance at a present path from a rank on
-record Follows {A : Type 0} (path : List ℕ) (rank : A → ℕ) (lo : ℕ) (r : Run Item Ending A) : Type 0 where
+record Follows {A : Type 0} (path : List ℕ) (rank : A → ℕ) (lo : ℕ) (r : Run Item NodeFault A) : Type 0 where
   follow : (by : List ℕ) → Follow (path ++ lo ∷ []) by r.items
   ends : (by : List ℕ) → EndsAt path rank (stands (path ++ lo ∷ []) r.items) (came_by by r.items) r.ending
 
-follows-then : {A B : Type 0} (path : List ℕ) (f-rank : A → ℕ) (g-rank : B → ℕ) (lo : ℕ) (r : Run Item Ending A) (f : A → Run Item Ending B) →
+follows-then : {A B : Type 0} (path : List ℕ) (f-rank : A → ℕ) (g-rank : B → ℕ) (lo : ℕ) (r : Run Item NodeFault A) (f : A → Run Item NodeFault B) →
     Follows path f-rank lo r → ((a : A) → Follows path g-rank (f-rank a) (f a)) → Follows path g-rank lo (r then f)
 follows-then {A = A} {B = B} path f-rank g-rank lo r f h k = from r.items r.ending h.follow h.ends
   where
     start : List ℕ
     start = path ++ lo ∷ []
 
-    from : (items : List Item) (q : Result A Ending) → ((by : List ℕ) → Follow start by items) → ((by : List ℕ) → EndsAt path f-rank (stands start items) (came_by by items) q) → Follows path g-rank lo (goes_on items q f)
+    from : (items : List Item) (q : Result A NodeFault) → ((by : List ℕ) → Follow start by items) → ((by : List ℕ) → EndsAt path f-rank (stands start items) (came_by by items) q) → Follows path g-rank lo (goes_on items q f)
     from items (Err (Own x)) g e = record { follow = g; ends = e }
-    from items (Err (Joined x)) g e = record { follow = g; ends = e }
+    from items (Err (ChildFaulted x)) g e = record { follow = g; ends = e }
     from items (Ok a) g e = record { follow = follow; ends = ends }
       where
         more : List Item
@@ -139,10 +139,10 @@ module _ (plan : PlanView) (child : Origin → Evaluation) where
   abbrev pair_rank : Value × S → ℕ
   pair_rank p = p.1.rank
 
-  abbrev P : List ℕ → ℕ → Run Item Ending S → Type 0
+  abbrev P : List ℕ → ℕ → Run Item NodeFault S → Type 0
   P path lo r = Follows path rank_of lo r
 
-  abbrev Q : List ℕ → ℕ → Run Item Ending (Value × S) → Type 0
+  abbrev Q : List ℕ → ℕ → Run Item NodeFault (Value × S) → Type 0
   Q path lo r = Follows path pair_rank lo r
 
   strand-is : (path : List ℕ) (rank : ℕ) → IsStrand (path ++ rank ∷ [])
@@ -161,7 +161,7 @@ module _ (plan : PlanView) (child : Origin → Evaluation) where
   join-follows path s (Some f) = record { follow = λ by. (refl, strand-is path s.rank, tt); ends = λ by. (refl, strand-is path s.rank) }
 
   -- an event, and the child that it begins
-  begun : {A : Type 0} (path : List ℕ) (rank : A → ℕ) (lo : ℕ) (e : Event) (o : Origin) (q : Result A Ending) → pedigree_of e ≡ path ++ lo ∷ [] → raised_by e ≡ path ++ lo ∷ [] → strand_after (path ++ lo ∷ []) e ≡ risen (path ++ lo ∷ []) ∷ [] →
+  begun : {A : Type 0} (path : List ℕ) (rank : A → ℕ) (lo : ℕ) (e : Event) (o : Origin) (q : Result A NodeFault) → pedigree_of e ≡ path ++ lo ∷ [] → raised_by e ≡ path ++ lo ∷ [] → strand_after (path ++ lo ∷ []) e ≡ risen (path ++ lo ∷ []) ∷ [] →
       path_of o ≡ path ++ lo ∷ [] → EndsAt path rank (risen (path ++ lo ∷ [])) (path ++ lo ∷ []) q → Follows path rank lo (record { items = Happened e ∷ Child o ∷ []; ending = q })
   begun {A = A} path rank lo e o q at by raises below ends = record {
     follow = λ l. (at, strand-is path lo, (below ∙ sym by, (path, lo, by), tt));
@@ -176,10 +176,10 @@ module _ (plan : PlanView) (child : Origin → Evaluation) where
   loop-follows path s o env r below b true = one path rank_of s.rank (event.Loop (path ++ s.rank ∷ [])) (env []) refl refl (r [])
   loop-follows path s o env r below (Ok vs) false =
       begun path rank_of s.rank (event.Loop (path ++ s.rank ∷ [])) o (Ok (env vs)) refl refl refl below (risen-last path s.rank ∙ ap (λ (n : ℕ). path ++ n ∷ []) (sym (r vs)))
-  loop-follows path s o env r below (Err f) false = begun path rank_of s.rank (event.Loop (path ++ s.rank ∷ [])) o (Err (Joined f)) refl refl refl below (refl, strand-is path s.rank)
+  loop-follows path s o env r below (Err f) false = begun path rank_of s.rank (event.Loop (path ++ s.rank ∷ [])) o (Err (ChildFaulted f)) refl refl refl below (refl, strand-is path s.rank)
 
   -- a scope, by what its block and the sync at its end do
-  scope-follows : (path : List ℕ) (s : S) (r : Run Item Ending S) → P (path ++ s.rank ∷ []) 0 r → P path s.rank (behind (Opened (path ++ s.rank ∷ []) ∷ []) r then goes_out (put_off_all plan child) plan path s.rank)
+  scope-follows : (path : List ℕ) (s : S) (r : Run Item NodeFault S) → P (path ++ s.rank ∷ []) 0 r → P path s.rank (behind (Opened (path ++ s.rank ∷ []) ∷ []) r then goes_out (put_off_all plan child) plan path s.rank)
   scope-follows path s r h = from r.items r.ending h.follow h.ends
     where
       j : List ℕ
@@ -188,10 +188,10 @@ module _ (plan : PlanView) (child : Origin → Evaluation) where
       first : List ℕ
       first = j ++ 0 ∷ []
 
-      from : (items : List Item) (q : Result S Ending) → ((by : List ℕ) → Follow first by items) → ((by : List ℕ) → EndsAt j rank_of (stands first items) (came_by by items) q) →
+      from : (items : List Item) (q : Result S NodeFault) → ((by : List ℕ) → Follow first by items) → ((by : List ℕ) → EndsAt j rank_of (stands first items) (came_by by items) q) →
           P path s.rank (goes_on (Opened j ∷ items) q (goes_out (put_off_all plan child) plan path s.rank))
       from items (Err (Own f)) g e = record { follow = λ by. (refl, strand-is path s.rank, g []); ends = λ by. e [] }
-      from items (Err (Joined f)) g e = record { follow = λ by. (refl, strand-is path s.rank, g []); ends = λ by. e [] }
+      from items (Err (ChildFaulted f)) g e = record { follow = λ by. (refl, strand-is path s.rank, g []); ends = λ by. e [] }
       from items (Ok a) g e = record {
         follow = λ by. (refl, strand-is path s.rank, follow-append first [] items (Closed j ∷ []) (g []) (strand-is path s.rank, (a.rank, e []), tt));
         ends = λ by. stands-append first items (Closed j ∷ []) ∙ risen-last path s.rank;
@@ -220,37 +220,37 @@ module _ (plan : PlanView) (child : Origin → Evaluation) where
   abbrev start : S
   start = record { env = []; rank = 0; steps = plan.limits.budget; spawned = None }
 
-  activation-follows : (path : List ℕ) (o : Option Function) (vs : List Value) → Q path 0 (activation (put_off_all plan child) plan path (exec (put_off_all plan child) plan) 0 o vs start)
-  activation-follows path None vs = record { follow = λ by. tt; ends = λ by. refl }
-  activation-follows path (Some f) vs =
+  frame-follows : (path : List ℕ) (o : Option Function) (vs : List Value) → Q path 0 (frame (put_off_all plan child) plan path (exec (put_off_all plan child) plan) 0 o vs start)
+  frame-follows path None vs = record { follow = λ by. tt; ends = λ by. refl }
+  frame-follows path (Some f) vs =
       follows-then path rank_of pair_rank 0 _ _ (closed-exec (put_off_all plan child) plan P Q rules_hold path 0 f.body _) (λ a. returned-q (put_off_all plan child) plan P Q rules_hold path f a)
 
 -- how an instance ends, by where it stands and its by event
-abbrev pub NodeEnds : List ℕ → List ℕ → Result (List Value) Ending → Type 0
+abbrev pub NodeEnds : List ℕ → List ℕ → Result (List Value) NodeFault → Type 0
 NodeEnds here by (Ok vs) = Unit {0}
 NodeEnds here by (Err (Own f)) = (f.at ≡ here) × IsStrand here
-NodeEnds here by (Err (Joined f)) = (here ≡ risen by) × IsStrand by
+NodeEnds here by (Err (ChildFaulted f)) = (here ≡ risen by) × IsStrand by
 
 pub record NodeFollows (path : List ℕ) (node : Node) : Type 0 where
   pub follow : (by : List ℕ) → Follow (path ++ 0 ∷ []) by node.items
   pub ends : (by : List ℕ) → NodeEnds (stands (path ++ 0 ∷ []) node.items) (came_by by node.items) node.ending
 
 -- what shows nothing more
-mapped : {A B : Type 0} (path : List ℕ) (rank : A → ℕ) (r : Run Item Ending A) (f : A → B) (g : B → List Value) → Follows path rank 0 r → NodeFollows path (r then (λ a. done (f a)) then λ b. done (g b))
+mapped : {A B : Type 0} (path : List ℕ) (rank : A → ℕ) (r : Run Item NodeFault A) (f : A → B) (g : B → List Value) → Follows path rank 0 r → NodeFollows path (r then (λ a. done (f a)) then λ b. done (g b))
 mapped {A = A} path rank r f g h = from r.items r.ending h.follow h.ends
   where
     here : List ℕ
     here = path ++ 0 ∷ []
 
-    from : (items : List Item) (q : Result A Ending) → ((by : List ℕ) → Follow here by items) → ((by : List ℕ) → EndsAt path rank (stands here items) (came_by by items) q) →
+    from : (items : List Item) (q : Result A NodeFault) → ((by : List ℕ) → Follow here by items) → ((by : List ℕ) → EndsAt path rank (stands here items) (came_by by items) q) →
         NodeFollows path (goes_on items q (λ a. done (f a)) then λ b. done (g b))
     from items (Ok a) k e = record { follow = λ by. subst (Follow here by) (sym (append-nil (items ++ []) ∙ append-nil items)) (k by); ends = λ by. tt }
     from items (Err (Own x)) k e = record { follow = k; ends = e }
-    from items (Err (Joined x)) k e = record { follow = k; ends = e }
+    from items (Err (ChildFaulted x)) k e = record { follow = k; ends = e }
 
 -- The node of an instance is such.
 pub node-follows : (plan : PlanView) (o : Origin) → IsInstance o → NodeFollows (path_of o) (opened plan o)
 node-follows plan (origin.Instance function args path) i =
     let child : Origin → Evaluation = eval_below plan (depth_left plan (origin.Instance function args path)) in
-    mapped path (pair_rank plan child) (activation (put_off_all plan child) plan path (exec (put_off_all plan child) plan) 0 (function_at (functions_of plan) function) args (start plan child)) (λ r. r.0) (λ v. v ∷ []) (activation-follows plan child path (function_at (functions_of plan) function) args)
+    mapped path (pair_rank plan child) (frame (put_off_all plan child) plan path (exec (put_off_all plan child) plan) 0 (function_at (functions_of plan) function) args (start plan child)) (λ r. r.0) (λ v. v ∷ []) (frame-follows plan child path (function_at (functions_of plan) function) args)
 node-follows plan (origin.Loop function rest first path range) i = absurd i

@@ -2,34 +2,34 @@
 use Rattle.std.proofs.Common.{◌≡◌, true, false, List, [], ◌∷◌, ◌++◌, Option, Some, None, Result, Ok, Err, refl, sym, ap, ◌∙◌, subst}
 use Rattle.loop_range.specs.Range.{Range}
 use Rattle.serial_meaning.specs.Eval.{path_of}
-use Rattle.serial_meaning.specs.Open.{Item, Own, Joined}
+use Rattle.serial_meaning.specs.Open.{Item, Own, ChildFaulted}
 use Rattle.serial_meaning.specs.declared.value.Value.{Value}
 use Rattle.serial_meaning.specs.declared.event.Fault.{Fault}
 use Rattle.serial_meaning.specs.declared.origin.Origin.{Origin}
 use Rattle.serial_meaning.specs.declared.origin.Origin.TheVariants.{Instance, Loop}
 use Rattle.serial_meaning.specs.declared.answer.Outcome.{Outcome}
-use Rattle.strand_meaning.specs.Machine.{Token, Opens, Closes, Told, Handed, Syncs, Loops, Reached, Stands, Gives, move}
-use Rattle.strand_meaning.specs.Notes.{IsInstance, Notes, token_items, work_notes, step_notes, Shows, Now, Later}
-use Rattle.strand_meaning.specs.Pieces.{Part}
-use Rattle.strand_meaning.specs.Task.{Goes, AtSync, AtLoop, Ended, Work, Splits, Runs, Over, Task, own_instance, Step, Passes, Stops, Stop, Spawn, Wait, End, stage_after, child_in, stops_at, passing, moved, ends_unless, faults_behind, gave, work_step}
+use Rattle.strand_meaning.specs.Machine.{Effect, Opens, Closes, Emitted, Handed, Syncs, Loops, Reached, Stands, Gives, move}
+use Rattle.strand_meaning.specs.Observation.{IsInstance, Observation, effect_items, work_notes, step_notes, Shows, Now, Later}
+use Rattle.strand_meaning.specs.Trace.{AwaitedChild}
+use Rattle.strand_meaning.specs.Task.{Running, AtSync, AtLoop, Ended, Work, Splits, Runs, Over, Task, own_instance, MoveOrStop, Passes, Stops, Stop, Spawn, Wait, End, stage_after, child_in, stops_at, passing, moved, ends_unless, faults_behind, gave, work_step}
 use Rattle.strand_meaning.specs.Sound.{IsEndOf, IsLoop, IsSoundWork, IsTask}
 use Rattle.strand_meaning.specs.Laws.{IsSoundStep}
 use Rattle.strand_meaning.proofs.Ends.{steps_are_sound}
 use Rattle.strand_meaning.proofs.Stops.{KeepsStep, step-keeps}
 use Rattle.serial_runner.proofs.Shows.{children, AtMostOne, MoveHands, move_hands}
 use Rattle.serial_runner.proofs.Handed.{first, child-first}
-use Rattle.serial_runner.proofs.Sighted.{item_children, children-append}
+use Rattle.serial_runner.proofs.Observing.{item_children, children-append}
 
-token-children : (ts : List Token) → item_children (token_items ts) ≡ children ts
-token-children [] = refl
-token-children (Opens j ∷ ts) = token-children ts
-token-children (Closes j ∷ ts) = token-children ts
-token-children (Told e ∷ ts) = token-children ts
-token-children (Handed o place ∷ ts) = ap (λ l. o ∷ l) (token-children ts)
-token-children (Syncs ∷ ts) = token-children ts
-token-children (Loops ∷ ts) = token-children ts
+effect-children : (ts : List Effect) → item_children (effect_items ts) ≡ children ts
+effect-children [] = refl
+effect-children (Opens j ∷ ts) = effect-children ts
+effect-children (Closes j ∷ ts) = effect-children ts
+effect-children (Emitted e ∷ ts) = effect-children ts
+effect-children (Handed o place ∷ ts) = ap (λ l. o ∷ l) (effect-children ts)
+effect-children (Syncs ∷ ts) = effect-children ts
+effect-children (Loops ∷ ts) = effect-children ts
 
-abbrev ShowsStep : List Item → Step → Type 0
+abbrev ShowsStep : List Item → MoveOrStop → Type 0
 ShowsStep is (Passes next) = item_children is ≡ []
 ShowsStep is (Stops (Spawn child rest)) = item_children is ≡ child ∷ []
 ShowsStep is (Stops (Wait rest)) = item_children is ≡ []
@@ -55,28 +55,28 @@ module _ (t : Task) where
   at-child is (c ∷ []) (Some o) next h e k = let same : c ≡ o = cc in h ∙ ap (λ d. d ∷ []) same
   at-child is (c ∷ d ∷ os) o next h e k = absurd k
 
-  at-move : (ts : List Token) (e : Result Reached Fault) → MoveHands t.plan (path_of (own_instance t.origin)) (children ts) e → ShowsStep (token_items ts) (moved t ts e)
-  at-move ts (Ok (Stands m)) h = at-child (token_items ts) (children ts) (child_in ts) (passing t ts (Runs (stage_after ts m))) (token-children ts) (child-first ts) h
-  at-move ts (Ok (Gives v)) h = token-children ts ∙ h
-  at-move ts (Err f) h = token-children ts ∙ h
+  at-move : (ts : List Effect) (e : Result Reached Fault) → MoveHands t.plan (path_of (own_instance t.origin)) (children ts) e → ShowsStep (effect_items ts) (moved t ts e)
+  at-move ts (Ok (Stands m)) h = at-child (effect_items ts) (children ts) (child_in ts) (passing t ts (Runs (stage_after ts m))) (effect-children ts) (child-first ts) h
+  at-move ts (Ok (Gives v)) h = effect-children ts ∙ h
+  at-move ts (Err f) h = effect-children ts ∙ h
 
-  at-fault : (ps : List Part) (f : Fault) → ShowsStep [] (faults_behind ps t f)
-  at-fault [] f = at-end t.pieces.fault _
+  at-fault : (ps : List AwaitedChild) (f : Fault) → ShowsStep [] (faults_behind ps t f)
+  at-fault [] f = at-end t.trace.fault _
   at-fault (p ∷ ps) f = refl
 
   at-value : (o : Origin) (v : Value) → ShowsStep [] (gave t o v)
-  at-value (Instance function args path) v = at-end t.pieces.fault _
+  at-value (Instance function args path) v = at-end t.trace.fault _
   at-value (Loop function rest first path range) v = refl
 
-  at-work : (work : Work) → IsInstance t.origin → IsSoundWork t.plan t.origin t.pieces.handed work → ShowsStep (work_notes t.plan (path_of (own_instance t.origin)) work).items (work_step t work)
+  at-work : (work : Work) → IsInstance t.origin → IsSoundWork t.plan t.origin t.trace.handed work → ShowsStep (work_notes t.plan (path_of (own_instance t.origin)) work).items (work_step t work)
   at-work (Splits left) i is = absurd (no_end t.origin left i is.0)
-  at-work (Runs (Goes m)) i is =
+  at-work (Runs (Running m)) i is =
       let path = path_of (own_instance t.origin) in let r = move t.plan path m in at-move r.items r.ending (move_hands t.plan path m)
   at-work (Runs (AtSync m)) i is = refl
   at-work (Runs (AtLoop m)) i is = refl
   at-work (Runs (Ended (Ok v))) i is = at-value t.origin v
-  at-work (Runs (Ended (Err (Own f)))) i is = at-fault t.pieces.handed f
-  at-work (Runs (Ended (Err (Joined f)))) i is = at-end t.pieces.fault _
+  at-work (Runs (Ended (Err (Own f)))) i is = at-fault t.trace.handed f
+  at-work (Runs (Ended (Err (ChildFaulted f)))) i is = at-end t.trace.fault _
   at-work (Over v true) i is = absurd (no_loop t.origin i is.0)
   at-work (Over v false) i is = absurd (no_loop t.origin i is.0)
 
@@ -88,12 +88,12 @@ shows-more is more (Spawn child rest) h k = children-append is more ∙ ap (λ l
 shows-more is more (Wait rest) h k = children-append is more ∙ ap (λ l. l ++ item_children more) h ∙ k
 shows-more is more (End out ended) h k = children-append is more ∙ ap (λ l. l ++ item_children more) h ∙ k
 
-pub stops_show : (t : Task) (notes : Notes) (stop : Stop) → IsTask t → IsInstance t.origin → Shows t notes stop → ShowsStop notes.items stop
+pub stops_show : (t : Task) (notes : Observation) (stop : Stop) → IsTask t → IsInstance t.origin → Shows t notes stop → ShowsStop notes.items stop
 stops_show t notes stop is i (Now h e) =
     let k : ShowsStop (step_notes t).items stop = subst (ShowsStep (step_notes t).items) h (at-work t t.work i is.work) in
-    subst (λ (l : List Item). ShowsStop l stop) (sym (ap (λ (m : Notes). m.items) e)) k
+    subst (λ (l : List Item). ShowsStop l stop) (sym (ap (λ (m : Observation). m.items) e)) k
 stops_show t notes stop is i (Later next later h n e) =
     let same : KeepsStep t (Passes next) = subst (KeepsStep t) h (step-keeps t) in
     let shown : ShowsStep (step_notes t).items (Passes next) = subst (ShowsStep (step_notes t).items) h (at-work t t.work i is.work) in
-    subst (λ (l : List Item). ShowsStop l stop) (sym (ap (λ (m : Notes). m.items) e))
+    subst (λ (l : List Item). ShowsStop l stop) (sym (ap (λ (m : Observation). m.items) e))
     (shows-more (step_notes t).items later.items stop shown (stops_show next later stop (subst (IsSoundStep t) h (steps_are_sound t is)) (subst IsInstance (sym same.1) i) n))

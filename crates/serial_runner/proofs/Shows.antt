@@ -15,7 +15,7 @@ use Rattle.serial_meaning.specs.Runs.{Run, done, goes_on, ◌then◌}
 use Rattle.serial_meaning.specs.Values.{value_of, values_of, slot_of, items_of, number, is_true, at_index}
 use Rattle.serial_meaning.specs.Functions.{number_of, function_at}
 use Rattle.serial_meaning.specs.Plan.{PlanView, functions_of}
-use Rattle.serial_meaning.specs.Exec.{State, Manner, strand, given, paid_from, tested, has_room, fits_depth, spawn, join, implied, activation, called, right_side, found, looped, does, count_of}
+use Rattle.serial_meaning.specs.Exec.{State, Manner, strand, given, paid_from, tested, has_room, fits_depth, spawn, join, implied, frame, called, right_side, found, looped, does, count_of}
 use Rattle.serial_meaning.specs.Eval.{path_of}
 use Rattle.serial_meaning.specs.Open.{is_zero}
 use Rattle.serial_meaning.specs.declared.value.Value.{Value}
@@ -25,15 +25,15 @@ use Rattle.serial_meaning.specs.declared.event.Fault.{Fault}
 use Rattle.serial_meaning.specs.declared.event.Event.TheVariants as event
 use Rattle.serial_meaning.specs.declared.origin.Origin.{Origin}
 use Rattle.serial_meaning.specs.declared.origin.Origin.TheVariants as origin
-use Rattle.strand_meaning.specs.Machine.{Place, Spawned, Looped, Token, Opens, Closes, Told, Handed, Syncs, Loops, Halt, Faulted, Inside, loop_tokens, sync_tokens, handing, inside, place_of, Level, Activation, Machine, Reached, Stands, Gives, present, here_of, state_of, with_left, with_leaving, with_returning, back, entered, reached, gives, spawns_in, return_run, value_run, return_move, level_move, end_move, move_at, move}
+use Rattle.strand_meaning.specs.Machine.{Destination, Spawned, Looped, Effect, Opens, Closes, Emitted, Handed, Syncs, Loops, Exit, Faulted, Inside, loop_effects, sync_effects, handing, inside, place_of, Level, Frame, Machine, Reached, Stands, Gives, present, here_of, state_of, with_left, with_leaving, with_returning, back, entered, reached, gives, spawns_in, return_run, value_run, return_move, level_move, end_move, move_at, move}
 use Rattle.strand_meaning.proofs.Own.{here-below}
 
 -- the children among these
-abbrev pub children : List Token → List Origin
+abbrev pub children : List Effect → List Origin
 children [] = []
 children (Opens j ∷ ts) = children ts
 children (Closes j ∷ ts) = children ts
-children (Told e ∷ ts) = children ts
+children (Emitted e ∷ ts) = children ts
 children (Handed o place ∷ ts) = o ∷ children ts
 children (Syncs ∷ ts) = children ts
 children (Loops ∷ ts) = children ts
@@ -56,42 +56,42 @@ MoveHands plan path os (Ok (Gives v)) = os ≡ []
 MoveHands plan path os (Err f) = os ≡ []
 
 module _ (plan : PlanView) (path : List ℕ) where
-  abbrev what : Place → Manner Token Halt Bool
+  abbrev what : Destination → Manner Effect Exit Bool
   what place = handing plan place
 
   -- a run that hands out one child at most, and none where it ends by a fault
-  abbrev HandsAt : {A : Type 0} → List Origin → Result A Halt → Type 0
+  abbrev HandsAt : {A : Type 0} → List Origin → Result A Exit → Type 0
   HandsAt os (Ok a) = AtMostOne plan path os
   HandsAt os (Err (Faulted f)) = os ≡ []
   HandsAt os (Err (Inside here calls inner s)) = AtMostOne plan path os
 
-  abbrev HandsOut : {A : Type 0} → Run Token Halt A → Type 0
+  abbrev HandsOut : {A : Type 0} → Run Effect Exit A → Type 0
   HandsOut r = HandsAt (children r.items) r.ending
 
-  hands-then : {A B : Type 0} (r : Run Token Halt A) (f : A → B) → HandsOut r → HandsOut (r then λ a. done (f a))
+  hands-then : {A B : Type 0} (r : Run Effect Exit A) (f : A → B) → HandsOut r → HandsOut (r then λ a. done (f a))
   hands-then {A = A} {B = B} r f h = from r.items r.ending h
     where
-      from : (items : List Token) (e : Result A Halt) → HandsAt (children items) e → HandsOut (goes_on items e (λ a. done (f a)))
+      from : (items : List Effect) (e : Result A Exit) → HandsAt (children items) e → HandsOut (goes_on items e (λ a. done (f a)))
       from items (Ok a) k = subst (λ ts. AtMostOne plan path (children ts)) (sym (append-nil items)) k
       from items (Err (Faulted x)) k = k
       from items (Err (Inside here calls inner s)) k = k
 
-  hands-given : {A B : Type 0} (place : Place) (o : Result A FaultKind) (s : State Bool) (f : A → Run Token Halt B) → ((a : A) → HandsOut (f a)) → HandsOut (given (what place) plan path o s f)
+  hands-given : {A B : Type 0} (place : Destination) (o : Result A FaultKind) (s : State Bool) (f : A → Run Effect Exit B) → ((a : A) → HandsOut (f a)) → HandsOut (given (what place) plan path o s f)
   hands-given place (Ok a) s f h = h a
   hands-given place (Err k) s f h = refl
 
-  hands-tested : {A : Type 0} (place : Place) (b : Bool) (k : FaultKind) (s : State Bool) (f : Run Token Halt A) → (b ≡ true → HandsOut f) → HandsOut (tested (what place) plan path b k s f)
+  hands-tested : {A : Type 0} (place : Destination) (b : Bool) (k : FaultKind) (s : State Bool) (f : Run Effect Exit A) → (b ≡ true → HandsOut f) → HandsOut (tested (what place) plan path b k s f)
   hands-tested place true k s f h = h refl
   hands-tested place false k s f h = refl
 
-  hands-paid : {A : Type 0} (place : Place) (n : ℕ) (s : State Bool) (f : State Bool → Run Token Halt A) → ((s : State Bool) → HandsOut (f s)) → HandsOut (paid_from (what place) plan path n s f)
+  hands-paid : {A : Type 0} (place : Destination) (n : ℕ) (s : State Bool) (f : State Bool → Run Effect Exit A) → ((s : State Bool) → HandsOut (f s)) → HandsOut (paid_from (what place) plan path n s f)
   hands-paid place zero s f h = refl
   hands-paid place (suc n) s f h = h (record s { steps = n })
 
-  hands-sync : (place : Place) (s : State Bool) → HandsOut (join (what place) plan path s)
+  hands-sync : (place : Destination) (s : State Bool) → HandsOut (join (what place) plan path s)
   hands-sync place s = by_known s.spawned
     where
-      by_known : (b : Bool) → AtMostOne plan path (children (Told (event.Sync (strand path s)) ∷ (sync_tokens b ++ [])))
+      by_known : (b : Bool) → AtMostOne plan path (children (Emitted (event.Sync (strand path s)) ∷ (sync_effects b ++ [])))
       by_known true = tt
       by_known false = tt
 
@@ -111,12 +111,12 @@ module _ (plan : PlanView) (path : List ℕ) where
       hands-given (Spawned height target) (values_of c.args s.env) s _ (λ vs. hands-tested (Spawned height target) (nat_lt (length path + 1) plan.limits.depth) Depth s _
       (λ h. deeper (origin.Instance (number_of (functions_of plan) c.name.bytes) vs (strand path s)) s.rank (length path + 1) refl (omega arith) h))
 
-  hands-called : (place : Place) (calls : ℕ) (c : CallText) (s : State Bool) → HandsOut (called (what place) plan path inside calls c s)
+  hands-called : (place : Destination) (calls : ℕ) (c : CallText) (s : State Bool) → HandsOut (called (what place) plan path inside calls c s)
   hands-called place calls c s =
-      hands-given place (values_of c.args s.env) s _ (λ vs. hands-tested place (nat_lt calls 256) Calls s _ (λ h. hands-then (activation (what place) plan path inside (calls + 1) (function_at (functions_of plan) (number_of (functions_of plan) c.name.bytes)) vs s) _
+      hands-given place (values_of c.args s.env) s _ (λ vs. hands-tested place (nat_lt calls 256) Calls s _ (λ h. hands-then (frame (what place) plan path inside (calls + 1) (function_at (functions_of plan) (number_of (functions_of plan) c.name.bytes)) vs s) _
       (by_function vs (function_at (functions_of plan) (number_of (functions_of plan) c.name.bytes)))))
     where
-      by_function : (vs : List Value) (o : Option Function) → HandsOut (activation (what place) plan path inside (calls + 1) o vs s)
+      by_function : (vs : List Value) (o : Option Function) → HandsOut (frame (what place) plan path inside (calls + 1) o vs s)
       by_function vs None = tt
       by_function vs (Some f) = tt
 
@@ -131,18 +131,18 @@ module _ (plan : PlanView) (path : List ℕ) where
   hands-loop target c lo hi vs s =
       hands-tested place (nat_lt hi (s.steps + 1)) Budget s _ (λ a. hands-tested place (has_room target hi s.env) Index _ _ (λ b. hands-tested place (fits_depth (what place) plan path hi) Depth _ _ (by_size hi)))
     where
-      place : Place
+      place : Destination
       place = Looped target
 
       loop_of : ℕ → Origin
       loop_of n = origin.Loop (number_of (functions_of plan) c.name.bytes) vs lo (path ++ s.rank ∷ []) (record { lo = 0; hi = n })
 
-      by_empty : (n : ℕ) (b : Bool) → is_zero (n - 0) ≡ b → fits_depth (what place) plan path n ≡ true → AtMostOne plan path (children (loop_tokens b (loop_of n) place ++ []))
+      by_empty : (n : ℕ) (b : Bool) → is_zero (n - 0) ≡ b → fits_depth (what place) plan path n ≡ true → AtMostOne plan path (children (loop_effects b (loop_of n) place ++ []))
       by_empty n true e h = tt
       by_empty zero false e h = absurd (cc)
       by_empty (suc n) false e h = deeper (loop_of (suc n)) s.rank (length path + 2) refl (omega arith) h
 
-      by_size : (n : ℕ) → fits_depth (what place) plan path n ≡ true → AtMostOne plan path (children (loop_tokens (is_zero (n - 0)) (loop_of n) place ++ []))
+      by_size : (n : ℕ) → fits_depth (what place) plan path n ≡ true → AtMostOne plan path (children (loop_effects (is_zero (n - 0)) (loop_of n) place ++ []))
       by_size n h = by_empty n (is_zero (n - 0)) refl h
 
   hands-does : (height : ℕ) (st : Stmt) (a : Act-F Act Stmt) (s : State Bool) → HandsOut (does (what (place_of height a)) plan path inside height st a s)
@@ -152,7 +152,7 @@ module _ (plan : PlanView) (path : List ℕ) where
   hands-does height st (act.Store x i e) s =
       hands-given (Spawned height None) (value_of i s.env) s _ (λ k. by_item (at_index (items_of (slot_of s.env x.bytes)) (number k)) _ (hands-given (Spawned height None) (value_of e s.env) s _ (λ v. tt)))
     where
-      by_item : (o : Option ℤ) (r : Run Token Halt (State Bool)) → HandsOut r → HandsOut (found (what (Spawned height None)) plan path o s r)
+      by_item : (o : Option ℤ) (r : Run Effect Exit (State Bool)) → HandsOut r → HandsOut (found (what (Spawned height None)) plan path o s r)
       by_item None r h = refl
       by_item (Some old) r h = h
   hands-does height st (act.Spawn c) s = hands-then (spawn (what (Spawned height None)) plan path c s) _ (hands-spawn height None c s)
@@ -171,12 +171,12 @@ module _ (plan : PlanView) (path : List ℕ) where
       (λ vs. hands-loop target c (number l) (count_of (number h -ℤ number l)) vs s)))
 
   -- a move, by what its run came to
-  hands-reached : (os : List Origin) (into : State Bool → Machine) (inner : List Stmt → State Bool → Machine) (e : Result (State Bool) Halt) → HandsAt os e → MoveHands plan path os (reached plan into inner e)
+  hands-reached : (os : List Origin) (into : State Bool → Machine) (inner : List Stmt → State Bool → Machine) (e : Result (State Bool) Exit) → HandsAt os e → MoveHands plan path os (reached plan into inner e)
   hands-reached os into inner (Ok s) h = h
   hands-reached os into inner (Err (Faulted f)) h = h
   hands-reached os into inner (Err (Inside here calls sts s)) h = h
 
-  hands-back : (below : List Activation) (target : Option Name) (v : Value) (rank steps : ℕ) → MoveHands plan path [] (Ok (back below target v rank steps))
+  hands-back : (below : List Frame) (target : Option Name) (v : Value) (rank steps : ℕ) → MoveHands plan path [] (Ok (back below target v rank steps))
   hands-back [] target v rank steps = refl
   hands-back (caller ∷ below) target v rank steps = tt
 
@@ -202,7 +202,7 @@ module _ (plan : PlanView) (path : List ℕ) (m : Machine) where
   no-shorter : length path ≤ length here
   no-shorter = let b = here-below path m in let l : length here ≡ length path + length b.0 = ap length b.1 ∙ length-append path b.0 in omega (arith, l)
 
-  abbrev Hands : Run Token Fault Reached → Type 0
+  abbrev Hands : Run Effect Fault Reached → Type 0
   Hands r = MoveHands plan here (children r.items) r.ending
 
   by_returning : (b : Bool) → Hands (return_move plan path m b)
@@ -216,7 +216,7 @@ module _ (plan : PlanView) (path : List ℕ) (m : Machine) where
   by_returning true = by_function (function_at (functions_of plan) m.top.function)
     where
       by_value : (f : Function) (o : Result Value FaultKind) →
-          let r : Run Token Halt (Value × State Bool) = given (handing plan (Spawned (length m.below) None)) plan here o (state_of m) (λ v. done (v, state_of m)) in MoveHands plan here (children r.items) (gives plan m r.ending)
+          let r : Run Effect Exit (Value × State Bool) = given (handing plan (Spawned (length m.below) None)) plan here o (state_of m) (λ v. done (v, state_of m)) in MoveHands plan here (children r.items) (gives plan m r.ending)
       by_value f (Ok v) = hands-back plan here m.below m.top.target v m.rank m.steps
       by_value f (Err k) = refl
 

@@ -10,8 +10,8 @@ use Rattle.serial_meaning.specs.declared.event.Fault.{Fault}
 use Rattle.serial_meaning.specs.declared.origin.Origin.{Origin}
 use Rattle.strand_meaning.specs.Laws.{IsOf, IsSoundStop, KeepsOrigin, LeavesFewer, NotesBegin, NotesGoOn, AnswersShowNothing}
 use Rattle.strand_meaning.specs.Left.{stops_left}
-use Rattle.strand_meaning.specs.Notes.{IsInstance, no_notes, also, IsOnWay, OnWay, IsWhole}
-use Rattle.strand_meaning.specs.Pieces.{Part}
+use Rattle.strand_meaning.specs.Observation.{IsInstance, no_notes, also, IsOnWay, OnWay, IsWhole}
+use Rattle.strand_meaning.specs.Trace.{AwaitedChild}
 use Rattle.strand_meaning.specs.Sound.{AreParts, IsTask}
 use Rattle.strand_meaning.specs.Task.{Task, start}
 use Rattle.serial_meaning.proofs.Origins.{cons-contained}
@@ -28,17 +28,17 @@ use Rattle.strand_machine.specs.declared.stop.Stop.TheVariants as stop
 use Rattle.strand_machine.specs.declared.note.Noted.{Noted}
 use Rattle.strand_machine.specs.declared.eye.Eye.{Eye}
 use Rattle.serial_runner.specs.Nodes.{IsBelow}
-use Rattle.serial_runner.specs.Sights.{with_notes, with_child, seen, begun_walk, origin_of, AreOriginsOf, IsWalk, IsSeen, is_over, WalksOn}
-use Rattle.serial_runner.specs.declared.sight.Sight.{Sight}
+use Rattle.serial_runner.specs.Observed.{with_notes, with_child, seen, begun_walk, origin_of, AreOriginsOf, IsWalk, IsSeen, is_over, WalksOn}
+use Rattle.serial_runner.specs.declared.observed.ObservedInstance.{ObservedInstance}
 use Rattle.serial_runner.specs.declared.walk.Walk.{Walk}
 use Rattle.serial_runner.specs.declared.walk.Walked.{Walked}
 use Rattle.serial_runner.specs.declared.walk.Walked.TheVariants.{Goes, Ends}
-use Rattle.serial_runner.proofs.Sighted.{seen-with, seen_child, seen_none, whole_seen, over_seen}
+use Rattle.serial_runner.proofs.Observing.{seen-with, seen_child, seen_none, whole_seen, over_seen}
 use Rattle.serial_runner.proofs.Showing.{ShowsStop, stops_show}
 use Rattle.serial_runner.proofs.Advancing.{went_whole}
 
 -- Each child that a task awaits is an origin of its plan.
-parts-known : (plan : PlanView) (o : Origin) (ps : List Part) → AreParts plan o ps → AreOriginsOf plan (awaited ps)
+parts-known : (plan : PlanView) (o : Origin) (ps : List AwaitedChild) → AreParts plan o ps → AreOriginsOf plan (awaited ps)
 parts-known plan o [] h c there = absurd (omega (arith, there.1))
 parts-known plan o (p ∷ ps) h c there = from (cons-contained p.child c (awaited ps) there) (parts-known plan o ps h.1 c)
   where
@@ -60,11 +60,11 @@ module _ (plan : PlanView) (o : Origin) (j : List ℕ) (w : Walk) (is : IsWalk p
   pub of_instance : IsInstance t.origin
   of_instance = subst IsInstance (sym is.origin_is) is.instance
 
-  module _ (s : stops.Stop) (eye : Eye) (events : List Event) (fault joined : Option Fault) (noted : IsNoted w.task j w.sight.eye (record { stop = s; eye = eye; events = events; fault = fault; joined = joined })) where
+  module _ (s : stops.Stop) (eye : Eye) (events : List Event) (fault joined : Option Fault) (noted : IsNoted w.task j w.observed.eye (record { stop = s; eye = eye; events = events; fault = fault; joined = joined })) where
     -- what is seen, but for a child that was handed out
-    notes-seen : (sight : Sight) → sight ≡ with_notes eye events fault joined w.sight → sight ≡ record (seen (path_of o) j (also is.notes noted.notes)) { child = (seen (path_of o) j is.notes).child }
-    notes-seen sight e =
-        e ∙ seen-with (path_of o) j is.notes noted.notes w.sight eye events fault joined is.says noted.eye noted.events noted.fault noted.joined
+    notes-seen : (observed : ObservedInstance) → observed ≡ with_notes eye events fault joined w.observed → observed ≡ record (seen (path_of o) j (also is.notes noted.notes)) { child = (seen (path_of o) j is.notes).child }
+    notes-seen observed e =
+        e ∙ seen-with (path_of o) j is.notes noted.notes w.observed eye events fault joined is.says noted.eye noted.events noted.fault noted.joined
 
     shown : ShowsStop noted.notes.items (stop_of s)
     shown = stops_show t noted.notes (stop_of s) is.task of_instance noted.shows
@@ -82,24 +82,24 @@ module _ (plan : PlanView) (o : Origin) (j : List ℕ) (w : Walk) (is : IsWalk p
     goes-on go = go t is.notes noted.notes (stop_of s) is.task of_instance is.on noted.shows
 
     -- Where nothing more counts, and this task is what is left, all that is to be seen of it is seen.
-    all-seen : IsBelow (path_of o) j → (u : Task) → IsOf t u → IsOnWay (also is.notes noted.notes) u → (sight : Sight) → is_over sight ≡ true → sight ≡ seen (path_of o) j (also is.notes noted.notes) → IsSeen plan o j sight
-    all-seen below u same way sight over says = over_seen plan o j is.instance below (also is.notes noted.notes) u (same.0 ∙ is.plan_is) (same.1 ∙ is.origin_is) way sight says over
+    all-seen : IsBelow (path_of o) j → (u : Task) → IsOf t u → IsOnWay (also is.notes noted.notes) u → (observed : ObservedInstance) → is_over observed ≡ true → observed ≡ seen (path_of o) j (also is.notes noted.notes) → IsSeen plan o j observed
+    all-seen below u same way observed over says = over_seen plan o j is.instance below (also is.notes noted.notes) u (same.0 ∙ is.plan_is) (same.1 ∙ is.origin_is) way observed says over
 
-  module _ (n : Noted) (as_noted : IsNoted w.task j w.sight.eye n) (child rest : TaskView) (stopped : n.stop ≡ stop.Spawn child rest) where
+  module _ (n : Noted) (as_noted : IsNoted w.task j w.observed.eye n) (child rest : TaskView) (stopped : n.stop ≡ stop.Spawn child rest) where
     abbrev s : stops.Stop
     s = stop.Spawn child rest
 
-    noted : IsNoted w.task j w.sight.eye (record n { stop = s })
-    noted = subst (λ (to : stops.Stop). IsNoted w.task j w.sight.eye (record n { stop = to })) stopped as_noted
+    noted : IsNoted w.task j w.observed.eye (record n { stop = s })
+    noted = subst (λ (to : stops.Stop). IsNoted w.task j w.observed.eye (record n { stop = to })) stopped as_noted
 
     -- The child is an origin of the plan.
     pub child_known : IsOriginOf plan child.task.origin
     child_known = let k : IsSoundStop t (stop_of s) = sound s n.eye n.events n.fault n.joined noted in subst (λ (p : PlanView). IsOriginOf p child.task.origin) is.plan_is k.0
 
     -- The walk goes on with the rest.
-    pub walks_by_child : NotesGoOn → (before sight : Sight) → before ≡ with_notes n.eye n.events n.fault n.joined w.sight → sight ≡ with_child j child.task.origin before →
-        WalksOn plan o j w (Goes (record { task = rest; sight = sight }))
-    walks_by_child go before sight b h = (walk, less.0)
+    pub walks_by_child : NotesGoOn → (before observed : ObservedInstance) → before ≡ with_notes n.eye n.events n.fault n.joined w.observed → observed ≡ with_child j child.task.origin before →
+        WalksOn plan o j w (Goes (record { task = rest; observed = observed }))
+    walks_by_child go before observed b h = (walk, less.0)
       where
         kept : KeepsOrigin t (stop_of s)
         kept = same s n.eye n.events n.fault n.joined noted
@@ -116,7 +116,7 @@ module _ (plan : PlanView) (o : Origin) (j : List ℕ) (w : Walk) (is : IsWalk p
         task : IsSoundStop t (stop_of s)
         task = sound s n.eye n.events n.fault n.joined noted
 
-        walk : IsWalk plan o j (record { task = rest; sight = sight })
+        walk : IsWalk plan o j (record { task = rest; observed = observed })
         walk = record {
           instance = is.instance;
           task = task.1;
@@ -130,10 +130,10 @@ module _ (plan : PlanView) (o : Origin) (j : List ℕ) (w : Walk) (is : IsWalk p
         }
 
     -- The strand is over.
-    pub over_by_child : IsBelow (path_of o) j → NotesGoOn → (before sight : Sight) → is_over sight ≡ true → before ≡ with_notes n.eye n.events n.fault n.joined w.sight → sight ≡ with_child j child.task.origin before →
-        WalksOn plan o j w (Ends sight)
-    over_by_child below go before sight over b h =
-        all-seen s n.eye n.events n.fault n.joined noted below rest.task kept on sight over
+    pub over_by_child : IsBelow (path_of o) j → NotesGoOn → (before observed : ObservedInstance) → is_over observed ≡ true → before ≡ with_notes n.eye n.events n.fault n.joined w.observed → observed ≡ with_child j child.task.origin before →
+        WalksOn plan o j w (Ends observed)
+    over_by_child below go before observed over b h =
+        all-seen s n.eye n.events n.fault n.joined noted below rest.task kept on observed over
         (h ∙ seen_child (path_of o) j is.notes noted.notes child.task.origin before shows (notes-seen s n.eye n.events n.fault n.joined noted before b))
       where
         kept : KeepsOrigin t (stop_of s)
@@ -145,12 +145,12 @@ module _ (plan : PlanView) (o : Origin) (j : List ℕ) (w : Walk) (is : IsWalk p
         shows : ShowsStop noted.notes.items (stop_of s)
         shows = shown s n.eye n.events n.fault n.joined noted
 
-  module _ (n : Noted) (as_noted : IsNoted w.task j w.sight.eye n) (rest : TaskView) (stopped : n.stop ≡ stop.Wait rest) where
+  module _ (n : Noted) (as_noted : IsNoted w.task j w.observed.eye n) (rest : TaskView) (stopped : n.stop ≡ stop.Wait rest) where
     abbrev at : stops.Stop
     at = stop.Wait rest
 
-    noted_wait : IsNoted w.task j w.sight.eye (record n { stop = at })
-    noted_wait = subst (λ (to : stops.Stop). IsNoted w.task j w.sight.eye (record n { stop = to })) stopped as_noted
+    noted_wait : IsNoted w.task j w.observed.eye (record n { stop = at })
+    noted_wait = subst (λ (to : stops.Stop). IsNoted w.task j w.observed.eye (record n { stop = to })) stopped as_noted
 
     pub it_waits : rest.task.waiting ≡ true
     it_waits = let less : LeavesFewer t (stop_of at) = fewer at n.eye n.events n.fault n.joined noted_wait in less.1
@@ -158,20 +158,20 @@ module _ (plan : PlanView) (o : Origin) (j : List ℕ) (w : Walk) (is : IsWalk p
     pub of_plan : rest.task.plan ≡ plan
     of_plan = let kept : KeepsOrigin t (stop_of at) = same at n.eye n.events n.fault n.joined noted_wait in kept.0 ∙ is.plan_is
 
-    pub children_known : AreOriginsOf plan (awaited rest.task.pieces.handed)
+    pub children_known : AreOriginsOf plan (awaited rest.task.trace.handed)
     children_known =
         let task : IsSoundStop t (stop_of at) = sound at n.eye n.events n.fault n.joined noted_wait in
-        subst (λ (p : PlanView). AreOriginsOf p (awaited rest.task.pieces.handed)) of_plan (parts-known rest.task.plan rest.task.origin rest.task.pieces.handed task.parts)
+        subst (λ (p : PlanView). AreOriginsOf p (awaited rest.task.trace.handed)) of_plan (parts-known rest.task.plan rest.task.origin rest.task.trace.handed task.parts)
 
     -- These are the answers that it awaits.
-    pub it_has_answers : (answers : List AnswerView) (os : List Origin) → os ≡ awaited rest.task.pieces.handed → answer_tags answers ≡ tags plan os → answer_tags answers ≡ tags rest.task.plan (awaited rest.task.pieces.handed)
-    it_has_answers answers os e h = h ∙ ap (tags plan) e ∙ ap (λ (p : PlanView). tags p (awaited rest.task.pieces.handed)) (sym of_plan)
+    pub it_has_answers : (answers : List AnswerView) (os : List Origin) → os ≡ awaited rest.task.trace.handed → answer_tags answers ≡ tags plan os → answer_tags answers ≡ tags rest.task.plan (awaited rest.task.trace.handed)
+    it_has_answers answers os e h = h ∙ ap (tags plan) e ∙ ap (λ (p : PlanView). tags p (awaited rest.task.trace.handed)) (sym of_plan)
 
     -- The walk goes on with the answers.
     pub walks_by_wait : NotesGoOn → AnswersShowNothing → (answers : List AnswerView) → any_cut answers ≡ false → (v : TaskView) → WentOn answers rest v →
-        (sight : Sight) → sight ≡ with_notes n.eye n.events n.fault n.joined w.sight → WalksOn plan o j w (Goes (record { task = v; sight = sight }))
-    walks_by_wait go nothing answers whole v h sight b =
-        subst (λ (u : TaskView). WalksOn plan o j w (Goes (record { task = u; sight = sight }))) (sym (went_whole answers rest v whole h)) (walk, left)
+        (observed : ObservedInstance) → observed ≡ with_notes n.eye n.events n.fault n.joined w.observed → WalksOn plan o j w (Goes (record { task = v; observed = observed }))
+    walks_by_wait go nothing answers whole v h observed b =
+        subst (λ (u : TaskView). WalksOn plan o j w (Goes (record { task = u; observed = observed }))) (sym (went_whole answers rest v whole h)) (walk, left)
       where
         kept : KeepsOrigin t (stop_of at)
         kept = same at n.eye n.events n.fault n.joined noted_wait
@@ -194,7 +194,7 @@ module _ (plan : PlanView) (o : Origin) (j : List ℕ) (w : Walk) (is : IsWalk p
         left : stops_left (went_on rest) < stops_left t
         left = omega (arith, less.0, no_more)
 
-        walk : IsWalk plan o j (record { task = view_on rest; sight = sight })
+        walk : IsWalk plan o j (record { task = view_on rest; observed = observed })
         walk = record {
           instance = is.instance;
           task = answers_keep_tasks rest.task task;
@@ -204,15 +204,15 @@ module _ (plan : PlanView) (o : Origin) (j : List ℕ) (w : Walk) (is : IsWalk p
           origin_is = kept.1 ∙ is.origin_is;
           notes = also is.notes noted_wait.notes;
           on = nothing rest.task (also is.notes noted_wait.notes) task (subst IsInstance (sym (kept.1 ∙ is.origin_is)) is.instance) on;
-          says = seen_none (path_of o) j is.notes noted_wait.notes sight shows (notes-seen at n.eye n.events n.fault n.joined noted_wait sight b);
+          says = seen_none (path_of o) j is.notes noted_wait.notes observed shows (notes-seen at n.eye n.events n.fault n.joined noted_wait observed b);
         }
 
     -- The strand is over.
-    pub over_by_wait : IsBelow (path_of o) j → NotesGoOn → AnswersShowNothing → (sight : Sight) → is_over sight ≡ true → sight ≡ with_notes n.eye n.events n.fault n.joined w.sight → WalksOn plan o j w (Ends sight)
-    over_by_wait below go nothing sight over b =
+    pub over_by_wait : IsBelow (path_of o) j → NotesGoOn → AnswersShowNothing → (observed : ObservedInstance) → is_over observed ≡ true → observed ≡ with_notes n.eye n.events n.fault n.joined w.observed → WalksOn plan o j w (Ends observed)
+    over_by_wait below go nothing observed over b =
         all-seen at n.eye n.events n.fault n.joined noted_wait below (went_on rest) kept
-        (nothing rest.task (also is.notes noted_wait.notes) task (subst IsInstance (sym (kept.1 ∙ is.origin_is)) is.instance) on) sight over
-        (seen_none (path_of o) j is.notes noted_wait.notes sight shows (notes-seen at n.eye n.events n.fault n.joined noted_wait sight b))
+        (nothing rest.task (also is.notes noted_wait.notes) task (subst IsInstance (sym (kept.1 ∙ is.origin_is)) is.instance) on) observed over
+        (seen_none (path_of o) j is.notes noted_wait.notes observed shows (notes-seen at n.eye n.events n.fault n.joined noted_wait observed b))
       where
         task : IsSoundStop t (stop_of at)
         task = sound at n.eye n.events n.fault n.joined noted_wait
@@ -226,23 +226,23 @@ module _ (plan : PlanView) (o : Origin) (j : List ℕ) (w : Walk) (is : IsWalk p
         shows : ShowsStop noted_wait.notes.items (stop_of at)
         shows = shown at n.eye n.events n.fault n.joined noted_wait
 
-  module _ (n : Noted) (as_noted : IsNoted w.task j w.sight.eye n) (answer : AnswerView) (give : AnswerTag) (stopped : n.stop ≡ stop.Done answer give) where
+  module _ (n : Noted) (as_noted : IsNoted w.task j w.observed.eye n) (answer : AnswerView) (give : AnswerTag) (stopped : n.stop ≡ stop.Done answer give) where
     abbrev end : stops.Stop
     end = stop.Done answer give
 
-    noted_end : IsNoted w.task j w.sight.eye (record n { stop = end })
-    noted_end = subst (λ (to : stops.Stop). IsNoted w.task j w.sight.eye (record n { stop = to })) stopped as_noted
+    noted_end : IsNoted w.task j w.observed.eye (record n { stop = end })
+    noted_end = subst (λ (to : stops.Stop). IsNoted w.task j w.observed.eye (record n { stop = to })) stopped as_noted
 
     -- The whole instance is seen.
-    pub walk_ends : IsBelow (path_of o) j → NotesGoOn → (sight : Sight) → sight ≡ with_notes n.eye n.events n.fault n.joined w.sight → WalksOn plan o j w (Ends sight)
-    walk_ends below go sight b = whole_seen plan o j is.instance below (also is.notes noted_end.notes)
-        (subst (λ (q : PlanView). IsWhole q o (also is.notes noted_end.notes)) is.plan_is (subst (λ (d : Origin). IsWhole t.plan d (also is.notes noted_end.notes)) is.origin_is whole)) sight says
+    pub walk_ends : IsBelow (path_of o) j → NotesGoOn → (observed : ObservedInstance) → observed ≡ with_notes n.eye n.events n.fault n.joined w.observed → WalksOn plan o j w (Ends observed)
+    walk_ends below go observed b = whole_seen plan o j is.instance below (also is.notes noted_end.notes)
+        (subst (λ (q : PlanView). IsWhole q o (also is.notes noted_end.notes)) is.plan_is (subst (λ (d : Origin). IsWhole t.plan d (also is.notes noted_end.notes)) is.origin_is whole)) observed says
       where
         shows : ShowsStop noted_end.notes.items (stop_of end)
         shows = shown end n.eye n.events n.fault n.joined noted_end
 
-        says : sight ≡ seen (path_of o) j (also is.notes noted_end.notes)
-        says = seen_none (path_of o) j is.notes noted_end.notes sight shows (notes-seen end n.eye n.events n.fault n.joined noted_end sight b)
+        says : observed ≡ seen (path_of o) j (also is.notes noted_end.notes)
+        says = seen_none (path_of o) j is.notes noted_end.notes observed shows (notes-seen end n.eye n.events n.fault n.joined noted_end observed b)
 
         whole : OnWay (also is.notes noted_end.notes) t (stop_of end)
         whole = goes-on end n.eye n.events n.fault n.joined noted_end go

@@ -1,4 +1,4 @@
-pub mod Kept
+pub mod Beside
 pub mod Nodes
-pub mod Sights
+pub mod Observed
 pub mod Stacks

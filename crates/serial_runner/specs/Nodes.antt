@@ -8,7 +8,7 @@ use Rattle.serial_meaning.specs.declared.origin.Origin.{Origin}
 use Rattle.strand_meaning.specs.Strands.{Strand, child_on_way, strand_of, blocks}
 use Rattle.strand_machine.specs.Eyes.{is_none_ahead}
 use Rattle.serial_runner.specs.declared.node.Node.{Node}
-use Rattle.serial_runner.specs.declared.sight.Sight.{Sight}
+use Rattle.serial_runner.specs.declared.observed.ObservedInstance.{ObservedInstance}
 
 -- A pedigree is below a path where it begins with the path and is longer.
 pub record IsBelow (path j : List ℕ) : Type 0 where
@@ -38,14 +38,14 @@ is_none None = true
 is_none (Some f) = false
 
 -- whether a strand of the instance's own had the pedigree; one that ended by a child's fault hasn't come to the strand after its last event
-abbrev pub came_to : Sight → Bool
+abbrev pub came_to : ObservedInstance → Bool
 came_to s = s.eye.came || (is_none_ahead s.eye.ahead && is_none s.joined)
 
-abbrev pub strand_seen : List ℕ → Sight → Option Strand
+abbrev pub strand_seen : List ℕ → ObservedInstance → Option Strand
 strand_seen j s = if came_to s then Some (record { events = s.events; fault = fault_at j s.fault }) else None
 
-abbrev pub joined_before : Sight → Option Fault
+abbrev pub joined_before : ObservedInstance → Option Fault
 joined_before s = if s.eye.past then s.joined else None
 
-abbrev pub node_seen : List ℕ → Sight → Node
+abbrev pub node_seen : List ℕ → ObservedInstance → Node
 node_seen j s = shown_by s.child (strand_seen j s) (joined_before s)

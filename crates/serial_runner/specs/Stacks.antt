@@ -10,34 +10,34 @@ use Rattle.strand_meaning.specs.Task.{Task, start, Stop, Spawn, Wait, End, IsNex
 use Rattle.strand_machine.specs.Family.{tags}
 use Rattle.strand_machine.specs.Parts.{awaited}
 use Rattle.strand_machine.specs.Stops.{answer_tags, any_cut}
-use Rattle.serial_runner.specs.declared.frames.Frame.{Frame}
+use Rattle.serial_runner.specs.declared.open_tasks.OpenTask.{OpenTask}
 use Rattle.serial_runner.specs.declared.stack.Stack.{Stack}
 use Rattle.serial_runner.specs.declared.stack.Advanced.{Advanced}
 use Rattle.serial_runner.specs.declared.stack.Advanced.TheVariants.{Goes, Ends}
 
-abbrev pub task_of : Frame → Task
+abbrev pub task_of : OpenTask → Task
 task_of f = f.task.task
 
 -- A task with the answers of the children that it awaits, in order, but for the last ones, which are missing. It stands in no wait, and no
 -- answer is a cut.
-pub record IsFrame (missing : List Origin) (f : Frame) : Type 0 where
+pub record IsOpenTask (missing : List Origin) (f : OpenTask) : Type 0 where
   pub task : IsTask (task_of f)
   pub idle : (task_of f).waiting ≡ false
   pub goes_on : f.task.cut ≡ None
   pub whole : any_cut f.answers ≡ false
-  pub answers : answer_tags f.answers ++ tags (task_of f).plan missing ≡ tags (task_of f).plan (awaited (task_of f).pieces.handed)
+  pub answers : answer_tags f.answers ++ tags (task_of f).plan missing ≡ tags (task_of f).plan (awaited (task_of f).trace.handed)
 
--- Of each frame's task the child above it is all that is missing.
-abbrev pub AreBelow : Task → List Frame → Type 0
+-- Of each open task the child above it is all that is missing.
+abbrev pub AreBelow : Task → List OpenTask → Type 0
 AreBelow above [] = Unit {0}
-AreBelow above (f ∷ fs) = (above.plan ≡ (task_of f).plan) × IsFrame (above.origin ∷ []) f × AreBelow (task_of f) fs
+AreBelow above (f ∷ fs) = (above.plan ≡ (task_of f).plan) × IsOpenTask (above.origin ∷ []) f × AreBelow (task_of f) fs
 
 pub record IsStack (s : Stack) : Type 0 where
-  pub top : IsFrame [] s.top
+  pub top : IsOpenTask [] s.top
   pub below : AreBelow (task_of s.top) s.below
 
 -- the task at the bottom
-abbrev pub root_of : Task → List Frame → Task
+abbrev pub root_of : Task → List OpenTask → Task
 root_of t [] = t
 root_of t (f ∷ fs) = root_of (task_of f) fs
 
@@ -46,17 +46,17 @@ root s = root_of (task_of s.top) s.below
 
 -- The tasks of a stack, and what a stop of the topmost one makes of them: its child goes first, its wait is over at once, since its
 -- children have ended, and its end leaves the others.
-abbrev pub tasks : List Frame → List Task
+abbrev pub tasks : List OpenTask → List Task
 tasks [] = []
 tasks (f ∷ fs) = task_of f ∷ tasks fs
 
 abbrev pub behind : Stop → List Task → List Task
 behind (Spawn child rest) ts = start rest.plan child ∷ rest ∷ ts
-behind (Wait rest) ts = on (evaluations (eval rest.plan) rest.pieces.handed) rest ∷ ts
+behind (Wait rest) ts = on (evaluations (eval rest.plan) rest.trace.handed) rest ∷ ts
 behind (End out ended) ts = ts
 
 -- the stack once the task at the head of these has one answer more
-abbrev pub with_answer : AnswerView → Frame → List Frame → Stack
+abbrev pub with_answer : AnswerView → OpenTask → List OpenTask → Stack
 with_answer answer f fs = record { top = record f { answers = f.answers ++ answer ∷ [] }; below = fs }
 
 -- one stop of the topmost task

@@ -2,11 +2,11 @@
 ghost use Rattle.std.specs.Prelude.{◌≡◌, List, [], ◌∷◌, true, IfOk};
 ghost use Rattle.strand_meaning.specs.Laws.{IsFaultOf};
 ghost use Rattle.strand_machine.specs.Faults.{is_fault};
-ghost use Rattle.serial_runner.specs.declared.frames.Frame.{Frame};
+ghost use Rattle.serial_runner.specs.declared.open_tasks.OpenTask.{OpenTask};
 ghost use Rattle.serial_runner.specs.Stacks.{AreBelow, IsAnswerOf, IsStack, AdvancesTo, root_of, task_of_answer, with_answer};
 
-use crate::frames::{Frame, Frames};
-use crate::kept::beside;
+use crate::beside::beside;
+use crate::open_tasks::{OpenTask, OpenTasks};
 use crate::stack::{Advanced, Stack};
 use script_grammar::Items;
 use serial_meaning::Answer;
@@ -14,8 +14,8 @@ use std::alloc::Global;
 use strand_machine::{Memory, Stop, is_fault};
 
 /// The answer of a task that has ended goes to the one below it. The list of the answers that it took is of use again.
-fn answered(answer: Answer, taken: Items<Answer>, mut below: Frames) -> Result<Advanced, Memory>
-    ensures parent { (f : Frame) (fs : List Frame) → below ≡ f ∷ fs → IfOk result (λ advanced. advanced ≡ Advanced.Goes (with_answer answer f fs)) }
+fn answered(answer: Answer, taken: Items<Answer>, mut below: OpenTasks) -> Result<Advanced, Memory>
+    ensures parent { (f : OpenTask) (fs : List OpenTask) → below ≡ f ∷ fs → IfOk result (λ advanced. advanced ≡ Advanced.Goes (with_answer answer f fs)) }
     ensures last { below ≡ [] → IfOk result (λ advanced. advanced ≡ Advanced.Ends answer) }
 {
     below.spare(taken);
@@ -34,15 +34,15 @@ fn answered(answer: Answer, taken: Items<Answer>, mut below: Frames) -> Result<A
 
 /// The answer of the task at the bottom, where this one, of the task on top, is a fault. It is the fault of each task below too, since
 /// nothing that stands after it counts.
-fn end_all(alloc: Global, answer: Answer, mut below: Frames) -> Result<Answer, Memory>
+fn end_all(alloc: Global, answer: Answer, mut below: OpenTasks) -> Result<Answer, Memory>
     requires fault { is_fault answer.outcome ≡ true }
     requires known { IsFaultOf answer.plan answer.outcome }
     requires below { AreBelow (task_of_answer answer) below }
     ensures { IfOk result (IsAnswerOf (root_of (task_of_answer answer) below)) }
 {
     let mut answer = answer;
-    while let Some(frame) = below.pop() {
-        let Frame { task, answers } = frame;
+    while let Some(open_task) = below.pop() {
+        let OpenTask { task, answers } = open_task;
         let (ended, _) = task.end_by(alloc, answers, answer)?;
         answer = ended;
     }
@@ -56,21 +56,21 @@ pub(crate) fn advance(stack: Stack, alloc: Global) -> Result<Advanced, Memory>
     ensures { IfOk result (AdvancesTo stack) }
 {
     let Stack { top, mut below } = stack;
-    let Frame { task, answers } = top;
+    let OpenTask { task, answers } = top;
     let stop = task.advance(alloc)?;
     match stop {
         Stop::Spawn { child, rest } => {
-            let parent = Frame {
+            let parent = OpenTask {
                 task: rest,
                 answers,
             };
             let (child, ()) = beside(child, below.push(parent))?;
-            let top = below.frame(alloc, child);
+            let top = below.open_task(alloc, child);
             Ok(Advanced::Goes(Stack { top, below }))
         }
         Stop::Wait { rest } => {
             let (task, answers) = rest.resume_by(alloc, answers)?;
-            let top = Frame { task, answers };
+            let top = OpenTask { task, answers };
             Ok(Advanced::Goes(Stack { top, below }))
         }
         Stop::Done { answer, give } => {

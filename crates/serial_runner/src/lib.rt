@@ -5,11 +5,11 @@
 #![tactic(auto)]
 
 mod advance;
-mod frames;
-mod kept;
+mod beside;
 mod node;
+mod observed;
+mod open_tasks;
 mod serial;
-mod sight;
 mod stack;
 mod walk;
 

@@ -3,11 +3,11 @@ ghost use Rattle.std.specs.Prelude.{◌≡◌, if◌then◌else◌, Some, None, 
 ghost use Rattle.std.specs.Arc.{arc_value};
 ghost use Rattle.serial_meaning.specs.Eval.{path_of};
 ghost use Rattle.serial_meaning.specs.Laws.{IsOriginOf};
-ghost use Rattle.strand_meaning.specs.Notes.{IsInstance};
+ghost use Rattle.strand_meaning.specs.Observation.{IsInstance};
 ghost use Rattle.serial_runner.specs.Nodes.{IsBelow, fault_at, node_seen, node_toward};
 
-use crate::sight::Sight;
-use crate::walk::see_instance;
+use crate::observed::ObservedInstance;
+use crate::walk::observe_instance;
 use ped_path::Pedigree;
 use serial_meaning::{Fault, Origin, Out, Plan, Strand};
 use std::alloc::Global;
@@ -45,16 +45,16 @@ fn strand_if(came: bool, events: Out, fault: Option<Fault>) -> Option<Strand>
 }
 
 /// What is seen of an instance, as a node.
-fn node_seen(sight: Sight, at: &Pedigree) -> Node
-    ensures { result ≡ node_seen at.now sight }
+fn node_seen(observed: ObservedInstance, at: &Pedigree) -> Node
+    ensures { result ≡ node_seen at.now observed }
 {
-    let Sight {
+    let ObservedInstance {
         eye,
         events,
         fault,
         child,
         joined,
-    } = sight;
+    } = observed;
     if child.is_some() {
         return Node {
             strand: None,
@@ -85,6 +85,6 @@ pub fn walk_node(
     requires below { IsBelow (path_of origin) at.now }
     ensures { IfOk result (λ node. node ≡ node_toward (arc_value plan.now) origin at.now) }
 {
-    let sight = see_instance(alloc, plan, origin, at)?;
-    Ok(node_seen(sight, at))
+    let observed = observe_instance(alloc, plan, origin, at)?;
+    Ok(node_seen(observed, at))
 }

@@ -8,7 +8,7 @@ ghost use Rattle.strand_machine.specs.Tasks.{fresh};
 ghost use Rattle.serial_runner.specs.Stacks.{IsStack, root};
 
 use crate::advance::advance;
-use crate::frames::Frames;
+use crate::open_tasks::OpenTasks;
 use crate::stack::{Advanced, Stack};
 use meet_block::Give;
 use serial_meaning::{Answer, AnswerKey, Origin, Plan};
@@ -32,7 +32,7 @@ pub(crate) fn begin_task(alloc: Global, plan: &Arc<Plan>, origin: Origin) -> Res
 }
 
 /// The stack of this task alone.
-pub(crate) fn begin(alloc: Global, plan: &Arc<Plan>, origin: Origin) -> Result<Stack, Memory>
+pub(crate) fn stack_of(alloc: Global, plan: &Arc<Plan>, origin: Origin) -> Result<Stack, Memory>
     requires { IsOriginOf (arc_value plan.now) origin }
     ensures sound { IfOk result IsStack }
     ensures root { IfOk result (λ stack. root stack ≡ start (arc_value plan.now) origin) }
@@ -42,8 +42,8 @@ pub(crate) fn begin(alloc: Global, plan: &Arc<Plan>, origin: Origin) -> Result<S
     laws::valid_plans_are_clear();
     laws::tasks_begin();
     let task = begin_task(alloc, plan, origin)?;
-    let mut below = Frames::new(alloc);
-    let top = below.frame(alloc, task);
+    let mut below = OpenTasks::new(alloc);
+    let top = below.open_task(alloc, task);
     Ok(Stack { top, below })
 }
 
@@ -58,7 +58,7 @@ pub fn run_serial(alloc: Global, plan: &Arc<Plan>, origin: Origin) -> Result<Ans
     ensures origin { IfOk result (λ answer. answer.origin ≡ origin) }
     ensures fault { IfOk result (λ answer. IsFaultOf (arc_value plan.now) answer.outcome) }
 {
-    let mut stack = begin(alloc, plan, origin)?;
+    let mut stack = stack_of(alloc, plan, origin)?;
     loop {
         match advance(stack, alloc)? {
             Advanced::Goes(next) => stack = next,

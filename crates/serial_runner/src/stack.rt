@@ -1,11 +1,11 @@
-use crate::frames::{Frame, Frames};
+use crate::open_tasks::{OpenTask, OpenTasks};
 use serial_meaning::Answer;
 
 /// The task that runs, and below it those that handed out the one above as their last child.
 #[derive(Drop)]
 pub(crate) struct Stack {
-    pub top: Frame,
-    pub below: Frames,
+    pub top: OpenTask,
+    pub below: OpenTasks,
 }
 
 /// What a stop of the topmost task makes of a stack.

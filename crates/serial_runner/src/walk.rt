@@ -3,17 +3,17 @@ ghost use Rattle.std.specs.Prelude.{◌≡◌, IfOk, None, false};
 ghost use Rattle.std.specs.Arc.{arc_value};
 ghost use Rattle.serial_meaning.specs.Eval.{path_of};
 ghost use Rattle.serial_meaning.specs.Laws.{IsOriginOf};
-ghost use Rattle.strand_meaning.specs.Notes.{IsInstance};
+ghost use Rattle.strand_meaning.specs.Observation.{IsInstance};
 ghost use Rattle.strand_meaning.specs.Sound.{IsTask};
 ghost use Rattle.strand_meaning.specs.Task.{start};
 ghost use Rattle.strand_machine.specs.Family.{tags};
 ghost use Rattle.strand_machine.specs.Stops.{answer_tags, any_cut};
 ghost use Rattle.serial_runner.specs.Nodes.{IsBelow};
-ghost use Rattle.serial_runner.specs.Sights.{AreOriginsOf, IsSeen, IsStopped, IsWalk, WalksOn, begun_walk, origin_of};
+ghost use Rattle.serial_runner.specs.Observed.{AreOriginsOf, IsSeen, IsStopped, IsWalk, WalksOn, begun_walk, origin_of};
 
-use crate::kept::beside;
+use crate::beside::beside;
+use crate::observed::{ObservedInstance, path};
 use crate::serial::{begin_task, run_serial};
-use crate::sight::{Sight, path};
 use ped_path::Pedigree;
 use script_grammar::Items;
 use serial_meaning::{Answer, Origin, Plan};
@@ -26,7 +26,7 @@ use strand_meaning::laws;
 #[derive(Drop)]
 pub(crate) struct Walk {
     pub task: Task,
-    pub sight: Sight,
+    pub observed: ObservedInstance,
 }
 
 /// What a stop of the task makes of a walk.
@@ -34,7 +34,7 @@ pub(crate) struct Walk {
 pub(crate) enum Walked {
     Goes(Walk),
     /// The instance has ended, or nothing that it does later counts.
-    Ends(Sight),
+    Ends(ObservedInstance),
 }
 
 /// The answers of these origins of the plan, in order.
@@ -51,14 +51,14 @@ fn answers_of(alloc: Global, plan: &Arc<Plan>, origins: &[Origin]) -> Result<Ite
 }
 
 /// Runs the task to its next stop, and notes what is seen up to there.
-fn stopped(walk: Walk, alloc: Global, at: &Pedigree) -> Result<(Stop, Sight), Memory>
+fn stopped(walk: Walk, alloc: Global, at: &Pedigree) -> Result<(Stop, ObservedInstance), Memory>
     requires instance { IsInstance (origin_of walk) }
     requires goes_on { walk.task.cut ≡ None }
     ensures { IfOk result (λ p. IsStopped at.now walk p.0 p.1) }
 {
-    let Walk { task, sight } = walk;
-    let seen = sight.eye;
-    let (sight, noted) = beside(sight, task.advance_noted(alloc, at, seen))?;
+    let Walk { task, observed } = walk;
+    let seen = observed.eye;
+    let (observed, noted) = beside(observed, task.advance_noted(alloc, at, seen))?;
     let Noted {
         stop,
         eye,
@@ -66,7 +66,7 @@ fn stopped(walk: Walk, alloc: Global, at: &Pedigree) -> Result<(Stop, Sight), Me
         fault,
         joined,
     } = noted;
-    beside(stop, sight.note(eye, events, fault, joined))
+    beside(stop, observed.observe(eye, events, fault, joined))
 }
 
 /// Runs the task to its next stop. Where it waits there, the children that it awaits are run, unless nothing that it does later counts.
@@ -77,32 +77,35 @@ fn walk_on(walk: Walk, alloc: Global, plan: &Arc<Plan>, at: &Pedigree) -> Result
 {
     laws::notes_go_on();
     laws::answers_show_nothing();
-    let (stop, mut sight) = stopped(walk, alloc, at)?;
+    let (stop, mut observed) = stopped(walk, alloc, at)?;
     match stop {
         Stop::Spawn { child, rest } => {
-            let seen = sight.see(alloc, &child, at);
+            let seen = observed.observe_child(alloc, &child, at);
             drop(child);
-            let ((rest, sight), ()) = beside((rest, sight), seen)?;
-            if sight.is_over() {
+            let ((rest, observed), ()) = beside((rest, observed), seen)?;
+            if observed.is_over() {
                 drop(rest);
-                return Ok(Walked::Ends(sight));
+                return Ok(Walked::Ends(observed));
             }
-            Ok(Walked::Goes(Walk { task: rest, sight }))
+            Ok(Walked::Goes(Walk {
+                task: rest,
+                observed,
+            }))
         }
         Stop::Wait { rest } => {
-            if sight.is_over() {
+            if observed.is_over() {
                 drop(rest);
-                return Ok(Walked::Ends(sight));
+                return Ok(Walked::Ends(observed));
             }
             let answers = answers_of(alloc, plan, rest.awaited().as_slice());
-            let ((rest, sight), answers) = beside((rest, sight), answers)?;
-            let (sight, task) = beside(sight, rest.resume_with(alloc, answers))?;
-            Ok(Walked::Goes(Walk { task, sight }))
+            let ((rest, observed), answers) = beside((rest, observed), answers)?;
+            let (observed, task) = beside(observed, rest.resume_with(alloc, answers))?;
+            Ok(Walked::Goes(Walk { task, observed }))
         }
         Stop::Done { answer, give } => {
             drop(answer);
             drop(give);
-            Ok(Walked::Ends(sight))
+            Ok(Walked::Ends(observed))
         }
     }
 }
@@ -126,18 +129,18 @@ fn begin_walk(
     let task = begin_task(alloc, plan, origin)?;
     Ok(Walk {
         task,
-        sight: Sight::new(eye),
+        observed: ObservedInstance::new(eye),
     })
 }
 
 /// Runs an instance of the plan until nothing that it does later counts for the pedigree, or to its end. Its children are run where it waits
 /// for them.
-pub(crate) fn see_instance(
+pub(crate) fn observe_instance(
     alloc: Global,
     plan: &Arc<Plan>,
     origin: Origin,
     at: &Pedigree,
-) -> Result<Sight, Memory>
+) -> Result<ObservedInstance, Memory>
     requires known { IsOriginOf (arc_value plan.now) origin }
     requires instance { IsInstance origin }
     requires below { IsBelow (path_of origin) at.now }
@@ -148,7 +151,7 @@ pub(crate) fn see_instance(
     loop {
         match walk_on(walk, alloc, plan, at)? {
             Walked::Goes(next) => walk = next,
-            Walked::Ends(sight) => return Ok(sight),
+            Walked::Ends(observed) => return Ok(observed),
         }
     }
 }

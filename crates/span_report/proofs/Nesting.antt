@@ -4,7 +4,7 @@ use Rattle.std.proofs.Common.{ℤ, pos}
 use Rattle.std.specs.Int.{w64, int_wrapping_add}
 use Rattle.serial_meaning.specs.Runs.{Run, done, behind, goes_on, ◌then◌}
 use Rattle.serial_meaning.specs.Functions.{function_at}
-use Rattle.serial_meaning.specs.Exec.{State, goes_out, activation, exec, instance, filled}
+use Rattle.serial_meaning.specs.Exec.{State, goes_out, frame, exec, instance, filled}
 use Rattle.serial_meaning.specs.Eval.{Evaluation, serial, turns, eval_with, eval_below, depth_left, first_of, main_origin, elision}
 use Rattle.serial_meaning.specs.Plan.{PlanView, functions_of, drawn}
 use Rattle.serial_meaning.proofs.RunLaws.{then-then}
@@ -105,16 +105,16 @@ module _ (plan : PlanView) (home : List ℕ) (child : Origin → Evaluation) (fi
     qq = λ path n r f h k. nests-then home path pair_rank pair_rank n r f h k;
   }
 
-  activation-nests : (o : Option Function) (vs : List Value) (s : State (Unit {0})) → Q home s.rank (activation (serial child) plan home (exec (serial child) plan) 0 o vs s)
-  activation-nests None vs s = record { goes = λ es n. n }
-  activation-nests (Some f) vs s =
+  frame-nests : (o : Option Function) (vs : List Value) (s : State (Unit {0})) → Q home s.rank (frame (serial child) plan home (exec (serial child) plan) 0 o vs s)
+  frame-nests None vs s = record { goes = λ es n. n }
+  frame-nests (Some f) vs s =
       nests-then home home rank_of pair_rank s.rank _ _ (closed-exec (serial child) plan P Q rules_hold home 0 f.body _) (λ a. returned-q (serial child) plan P Q rules_hold home f a)
 
   abbrev start : State (Unit {0})
   start = record { env = []; rank = 0; steps = plan.limits.budget; spawned = tt }
 
   abbrev run_of : Option Function → List Value → Run Event Fault (Value × State (Unit {0}))
-  run_of o vs = activation (serial child) plan home (exec (serial child) plan) 0 o vs start
+  run_of o vs = frame (serial child) plan home (exec (serial child) plan) 0 o vs start
 
   abbrev value_run : Option Function → List Value → Run Event Fault Value
   value_run o vs = run_of o vs then λ p. done p.0
@@ -123,7 +123,7 @@ module _ (plan : PlanView) (home : List ℕ) (child : Origin → Evaluation) (fi
   same-items o vs = mapped (value_run o vs).items (value_run o vs).ending (λ v. done (v ∷ [])) (λ a. refl) ∙ mapped (run_of o vs).items (run_of o vs).ending (λ p. done p.0) (λ a. refl)
 
   instance-nests : (o : Option Function) (vs : List Value) → IsNested (Instance home) home 0 ((instance (serial child) plan home o vs) then λ v. done (v ∷ [])).items
-  instance-nests o vs = subst (IsNested (Instance home) home 0) (sym (same-items o vs)) (whole home home pair_rank 0 (run_of o vs) (activation-nests o vs start))
+  instance-nests o vs = subst (IsNested (Instance home) home 0) (sym (same-items o vs)) (whole home home pair_rank 0 (run_of o vs) (frame-nests o vs start))
 
   -- the iterations of the loop with this pedigree
   turns-nest : (function : ℕ) (rest : List Value) (first : ℤ) (k n : ℕ) → IsNested Iterations home k (turns child function rest first home k n).items

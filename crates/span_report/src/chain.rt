@@ -1,7 +1,7 @@
 ghost use Rattle.std.specs.Prelude.{◌≡◌, IfOk, OnOk, length};
 ghost use Rattle.serial_meaning.specs.Eval.{main_origin};
 ghost use Rattle.serial_meaning.specs.Render.{IsWhole};
-ghost use Rattle.serial_meaning.specs.Segments.{joined};
+ghost use Rattle.serial_meaning.specs.Chunks.{joined};
 ghost use Rattle.span_report.specs.Series.{IsSpan};
 ghost use Rattle.span_report.specs.Walks.{opened, walked_all, walked_span};
 
@@ -33,27 +33,27 @@ fn longest_chain(alloc: Global, events: &Out) -> Result<u64, Memory>
     ensures { IfOk result (λ n. n ≡ walked_span events.now) }
 {
     let mut walk = Walk::new(alloc)?;
-    if let Some((full, last)) = events.segments() {
-        note_segments(alloc, &mut walk, full)?;
-        note_segment(alloc, &mut walk, last)?;
+    if let Some((full, last)) = events.chunks() {
+        note_chunks(alloc, &mut walk, full)?;
+        note_chunk(alloc, &mut walk, last)?;
     }
     Ok(walk.longest())
 }
 
-fn note_segments(alloc: Global, walk: &mut Walk, segments: &[Vec<Event>]) -> Result<(), Memory>
-    ensures { OnOk result (opened walk.new ≡ walked_all (opened walk.old) (joined segments.now)) }
+fn note_chunks(alloc: Global, walk: &mut Walk, chunks: &[Vec<Event>]) -> Result<(), Memory>
+    ensures { OnOk result (opened walk.new ≡ walked_all (opened walk.old) (joined chunks.now)) }
 {
-    for segment in segments {
-        note_segment(alloc, walk, segment)?;
+    for chunk in chunks {
+        note_chunk(alloc, walk, chunk)?;
     }
     Ok(())
 }
 
-fn note_segment(alloc: Global, walk: &mut Walk, events: &[Event]) -> Result<(), Memory>
+fn note_chunk(alloc: Global, walk: &mut Walk, events: &[Event]) -> Result<(), Memory>
     ensures { OnOk result (opened walk.new ≡ walked_all (opened walk.old) events.now) }
 {
     for event in events {
-        walk.note(alloc, event)?;
+        walk.add_event(alloc, event)?;
     }
     Ok(())
 }

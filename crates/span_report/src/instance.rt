@@ -57,8 +57,8 @@ impl Open {
 
     /// The path of the iteration with which this path begins, where the instance is in a loop and the path is of that. A path in an
     /// open scope isn't.
-    pub(crate) fn turn(&self, alloc: Global, path: &Ped) -> Result<Option<Ped>, Memory>
-        ensures { IfOk result (λ turn. turn ≡ turn_on self.now.looping path.now) }
+    pub(crate) fn iteration(&self, alloc: Global, path: &Ped) -> Result<Option<Ped>, Memory>
+        ensures { IfOk result (λ found. found ≡ turn_on self.now.looping path.now) }
     {
         let Some(by) = &self.looping else {
             return Ok(None);
@@ -73,7 +73,7 @@ impl Open {
     }
 
     /// Takes in an event of this instance. Where 2^64 - 1 events stand in a chain before it, it answers `Memory`.
-    pub(crate) fn note(&mut self, alloc: Global, event: &Event) -> Result<(), Memory>
+    pub(crate) fn add_event(&mut self, alloc: Global, event: &Event) -> Result<(), Memory>
         ensures { OnOk result (self.new ≡ noted self.old event.now) }
     {
         let before = self.before.max(self.looped);

@@ -29,17 +29,17 @@ impl Walk {
     }
 
     /// Goes on by the run's next event.
-    pub(crate) fn note(&mut self, alloc: Global, event: &Event) -> Result<(), Memory>
+    pub(crate) fn add_event(&mut self, alloc: Global, event: &Event) -> Result<(), Memory>
         ensures { OnOk result (opened self.new ≡ walked (opened self.old) event.now) }
     {
         let path = &pedigree_of(event).path;
         self.leave(path);
         self.enter(alloc, path)?;
-        self.top.note(alloc, event)?;
+        self.top.add_event(alloc, event)?;
         if let Event::Spawn(at) = event {
             let path = at.path.child(alloc, at.rank)?;
             let child = Open::begin(path, Begun::Spawned, self.top.before);
-            self.begin(child)?;
+            self.push(child)?;
         }
         Ok(())
     }
@@ -60,9 +60,9 @@ impl Walk {
     fn enter(&mut self, alloc: Global, path: &Ped) -> Result<(), Memory>
         ensures { OnOk result (opened self.new ≡ entered path.now (opened self.old)) }
     {
-        if let Some(turn) = self.top.turn(alloc, path)? {
+        if let Some(turn) = self.top.iteration(alloc, path)? {
             let child = Open::begin(turn, Begun::Iterated, self.top.before);
-            self.begin(child)?;
+            self.push(child)?;
         }
         Ok(())
     }
@@ -76,7 +76,7 @@ impl Walk {
         self.top.take_in(&child);
     }
 
-    fn begin(&mut self, child: Open) -> Result<(), Memory>
+    fn push(&mut self, child: Open) -> Result<(), Memory>
         ensures { OnOk result (opened self.new ≡ pushed (opened self.old) child) }
     {
         let parent = mem::replace(&mut self.top, child);

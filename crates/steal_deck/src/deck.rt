@@ -4,7 +4,7 @@ ghost use Rattle.steal_deck.specs.Ends.{new_owner, new_thief, known_taken, AllCa
 
 use crate::memory::Memory;
 use crate::remains::Remains;
-use crate::rule::{Look, OneHistory, Party, PopStep, PushStep, ThiefStep};
+use crate::rule::{Account, OneHistory, Party, PopStep, PushStep, ThiefStep};
 use crate::thief::Thief;
 use crossbeam_deque::Worker;
 use std::alloc::Global;
@@ -120,7 +120,7 @@ impl<T> Deck<T> {
         ensures tasks { AreOf self.pushed (result ++ known_taken self) }
     {
         // The owner's lists don't tell by themselves that no number is in them twice: a look at the deck does.
-        self.worker.len_as::<Look>();
+        self.worker.len_as::<Account>();
         Remains { deck: self }
     }
 }

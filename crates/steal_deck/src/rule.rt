@@ -87,9 +87,9 @@ impl<T> Join<Party<T>> for ThiefStep {
 }
 
 /// The owner looks at the deck, and learns what its lists account for.
-pub struct Look;
+pub struct Account;
 
-impl<T> Lesson<T, Party<T>> for Look {
+impl<T> Lesson<T, Party<T>> for Account {
     ghost use Rattle.steal_deck.specs.Steps.{Accounted};
 
     ghost fact = { λ v tasks. Accounted v };

@@ -6,7 +6,7 @@ use Rattle.loop_range.specs.Range.{Range}
 use Rattle.serial_meaning.specs.Answer.{AnswerTag, AnswerView, IsAnswer}
 use Rattle.serial_meaning.specs.Eval.{path_of}
 use Rattle.serial_meaning.specs.declared.event.Event.{Event}
-use Rattle.serial_meaning.specs.Open.{Own, Joined}
+use Rattle.serial_meaning.specs.Open.{Own, ChildFaulted}
 use Rattle.serial_meaning.specs.Plan.{PlanView}
 use Rattle.serial_meaning.specs.declared.value.Value.{Value}
 use Rattle.serial_meaning.specs.declared.event.Fault.{Fault}
@@ -15,8 +15,8 @@ use Rattle.serial_meaning.specs.declared.origin.Origin.TheVariants.{Instance, Lo
 use Rattle.serial_meaning.specs.declared.answer.Outcome.{Outcome}
 use Rattle.strand_meaning.specs.Laws.{IsOf, IsSoundStop, MovesFall, StopsAreSound}
 use Rattle.strand_meaning.specs.Left.{moves_left}
-use Rattle.strand_meaning.specs.Machine.{Token, Reached, Stands, Gives, move}
-use Rattle.strand_meaning.specs.Pieces.{Part}
+use Rattle.strand_meaning.specs.Machine.{Effect, Reached, Stands, Gives, move}
+use Rattle.strand_meaning.specs.Trace.{AwaitedChild}
 use Rattle.strand_meaning.specs.Sound.{IsTask}
 use Rattle.strand_meaning.specs.Task as meaning
 use Rattle.strand_meaning.specs.Task.{Task, Stop, IsNext, Now, Later, own_instance, stage_after, child_in, stops_at, passing, moved, ends_unless, faults_behind, gave, stage_step, split_step, over_step, work_step}
@@ -26,14 +26,14 @@ use Rattle.strand_machine.specs.Tasks.{TaskView, Holds, IsCutShort, IsSound, fre
 use Rattle.strand_machine.specs.declared.body.Body.{Body}
 use Rattle.strand_machine.specs.declared.work.Work.{Work}
 use Rattle.strand_machine.specs.declared.work.Work.TheVariants as work
-use Rattle.strand_machine.specs.declared.stop.Step.{Step as MadeStep}
-use Rattle.strand_machine.specs.declared.stop.Step.TheVariants as step-in
+use Rattle.strand_machine.specs.declared.stop.MoveOrStop.{MoveOrStop as MadeStep}
+use Rattle.strand_machine.specs.declared.stop.MoveOrStop.TheVariants as step-in
 use Rattle.strand_machine.specs.declared.stop.Stop.{Stop as MadeStop}
 use Rattle.strand_machine.specs.declared.stop.Stop.TheVariants as stop-in
 
 -- A pass keeps the plan and the origin
 
-abbrev KeepsOf : Task → meaning.Step → Type 0
+abbrev KeepsOf : Task → meaning.MoveOrStop → Type 0
 KeepsOf t (meaning.Passes next) = IsOf t next
 KeepsOf t (meaning.Stops stop) = Unit {0}
 
@@ -46,45 +46,45 @@ module _ (t : Task) where
   of-at None next h = h
   of-at (Some o) next h = tt
 
-  of-moved : (ts : List Token) (e : Result Reached Fault) → KeepsOf t (moved t ts e)
+  of-moved : (ts : List Effect) (e : Result Reached Fault) → KeepsOf t (moved t ts e)
   of-moved ts (Ok (Stands m)) = of-at (child_in ts) (passing t ts (meaning.Runs (stage_after ts m))) (refl, refl)
   of-moved ts (Ok (Gives v)) = (refl, refl)
   of-moved ts (Err f) = (refl, refl)
 
-  of-faults : (ps : List Part) (f : Fault) → KeepsOf t (faults_behind ps t f)
-  of-faults [] f = of-ends t.pieces.fault _
+  of-faults : (ps : List AwaitedChild) (f : Fault) → KeepsOf t (faults_behind ps t f)
+  of-faults [] f = of-ends t.trace.fault _
   of-faults (p ∷ ps) f = tt
 
   of-gave : (o : Origin) (v : Value) → KeepsOf t (gave t o v)
-  of-gave (Instance function args path) v = of-ends t.pieces.fault _
+  of-gave (Instance function args path) v = of-ends t.trace.fault _
   of-gave (Loop function rest first path range) v = (refl, refl)
 
-  of-stage : (stage : meaning.Stage) → KeepsOf t (stage_step t stage)
-  of-stage (meaning.Goes m) = let r = move t.plan (path_of (own_instance t.origin)) m in of-moved r.items r.ending
+  of-stage : (stage : meaning.InstanceState) → KeepsOf t (stage_step t stage)
+  of-stage (meaning.Running m) = let r = move t.plan (path_of (own_instance t.origin)) m in of-moved r.items r.ending
   of-stage (meaning.AtSync m) = tt
   of-stage (meaning.AtLoop m) = tt
   of-stage (meaning.Ended (Ok v)) = of-gave t.origin v
-  of-stage (meaning.Ended (Err (Own f))) = of-faults t.pieces.handed f
-  of-stage (meaning.Ended (Err (Joined f))) = of-ends t.pieces.fault _
+  of-stage (meaning.Ended (Err (Own f))) = of-faults t.trace.handed f
+  of-stage (meaning.Ended (Err (ChildFaulted f))) = of-ends t.trace.fault _
 
   of-split : (left : Range) (n : ℕ) → KeepsOf t (split_step t left n)
-  of-split left zero = of-ends t.pieces.fault _
+  of-split left zero = of-ends t.trace.fault _
   of-split left (suc zero) = (refl, refl)
   of-split left (suc (suc n)) = tt
 
   of-over : (v : Value) (o : Origin) → KeepsOf t (over_step t v o)
-  of-over v (Instance function args path) = of-ends t.pieces.fault _
+  of-over v (Instance function args path) = of-ends t.trace.fault _
   of-over v (Loop function rest first path range) = by_size (range.hi - range.lo) refl
     where
       by_size : (n : ℕ) → range.hi - range.lo ≡ n → KeepsOf t (over_step t v (Loop function rest first path range))
-      by_size zero g = rw g (of-ends t.pieces.fault _)
-      by_size (suc zero) g = rw g (of-ends t.pieces.fault _)
+      by_size zero g = rw g (of-ends t.trace.fault _)
+      by_size (suc zero) g = rw g (of-ends t.trace.fault _)
       by_size (suc (suc n)) g = rw g tt
 
   of-work : (work : meaning.Work) → KeepsOf t (work_step t work)
   of-work (meaning.Splits left) = of-split left (left.hi - left.lo)
   of-work (meaning.Runs stage) = of-stage stage
-  of-work (meaning.Over v true) = of-ends t.pieces.fault _
+  of-work (meaning.Over v true) = of-ends t.trace.fault _
   of-work (meaning.Over v false) = of-over v t.origin
 
 pass-of : (t next : Task) → meaning.step t ≡ meaning.Passes next → IsOf t next
@@ -159,8 +159,8 @@ one-step now s goes g = record { before = now; leads = leads-start now goes; ste
 runs : (now : TaskView) (s : MadeStep) → now.cut ≡ None → GoesOn now s → IsRun now s
 runs now s goes g = by_work now.task.work g
   where
-    by_stage : (stage : meaning.Stage) → stage_goes_on stage now s → IsRun now s
-    by_stage (meaning.Goes m) h = h
+    by_stage : (stage : meaning.InstanceState) → stage_goes_on stage now s → IsRun now s
+    by_stage (meaning.Running m) h = h
     by_stage (meaning.AtSync m) h = one-step now s goes h
     by_stage (meaning.AtLoop m) h = one-step now s goes h
     by_stage (meaning.Ended e) h = one-step now s goes h
@@ -235,13 +235,13 @@ is-short b w t view short other = by_work w (ap (λ (v : TaskView). is_cut_short
 held-short : (b : Body) (w : Work) (o : Outcome) → w ≡ work.Cut o → Holds b w → IsCutShort b o
 held-short b w o is h = subst (Holds b) is h
 
-pub short-answers : (b : Body) (w : Work) (o : Outcome) (told : List Event) → w ≡ work.Cut o → told ≡ b.pieces.told → Holds b w → IsAnswer b.family.plan b.family.origin told o
-short-answers b w o told is same h = subst (λ (es : List Event). IsAnswer b.family.plan b.family.origin es o) (sym same) (held-short b w o is h).answers
+pub short-answers : (b : Body) (w : Work) (o : Outcome) (prefix : List Event) → w ≡ work.Cut o → prefix ≡ b.trace.prefix → Holds b w → IsAnswer b.family.plan b.family.origin prefix o
+short-answers b w o prefix is same h = subst (λ (es : List Event). IsAnswer b.family.plan b.family.origin es o) (sym same) (held-short b w o is h).answers
 
-pub short-ends : (b : Body) (w : Work) (o : Outcome) (t : TaskView) → view_of b w ≡ t → w ≡ work.Cut o → Holds b w → (told : List Event) (answer : AnswerView) (give : AnswerTag) → told ≡ b.pieces.told →
-    answer ≡ record { plan = b.family.plan; origin = b.family.origin; out = told; outcome = o } → give ≡ tag b.family.plan b.family.origin → Advances t (stop-in.Done answer give)
-short-ends b w o t view is h told answer give same e g = subst (λ (v : TaskView). Advances v (stop-in.Done answer give)) view (subst (λ (x : Work). Advances (view_of b x) (stop-in.Done answer give)) (sym is) (record {
+pub short-ends : (b : Body) (w : Work) (o : Outcome) (t : TaskView) → view_of b w ≡ t → w ≡ work.Cut o → Holds b w → (prefix : List Event) (answer : AnswerView) (give : AnswerTag) → prefix ≡ b.trace.prefix →
+    answer ≡ record { plan = b.family.plan; origin = b.family.origin; out = prefix; outcome = o } → give ≡ tag b.family.plan b.family.origin → Advances t (stop-in.Done answer give)
+short-ends b w o t view is h prefix answer give same e g = subst (λ (v : TaskView). Advances v (stop-in.Done answer give)) view (subst (λ (x : Work). Advances (view_of b x) (stop-in.Done answer give)) (sym is) (record {
   is = ap (λ (a : AnswerView). stop-in.Done a give) (e ∙ ap (λ (es : List Event). record { plan = b.family.plan; origin = b.family.origin; out = es; outcome = o }) same)
-      ∙ ap (λ (y : AnswerTag). stop-in.Done (record { plan = b.family.plan; origin = b.family.origin; out = b.pieces.told; outcome = o }) y) g;
+      ∙ ap (λ (y : AnswerTag). stop-in.Done (record { plan = b.family.plan; origin = b.family.origin; out = b.trace.prefix; outcome = o }) y) g;
   known = (held-short b w o is h).known;
 }))

@@ -9,7 +9,7 @@ use Rattle.serial_meaning.specs.declared.event.Event.{Event}
 use Rattle.serial_meaning.specs.declared.origin.Origin.{Origin}
 use Rattle.serial_meaning.specs.declared.answer.Outcome.{Outcome}
 use Rattle.serial_meaning.specs.declared.answer.Outcome.TheVariants as outcome
-use Rattle.strand_meaning.specs.Pieces.{Part}
+use Rattle.strand_meaning.specs.Trace.{AwaitedChild}
 use Rattle.strand_machine.specs.Family.{FamilyView, AwaitsCount, tag, tags, origins}
 use Rattle.strand_machine.specs.Parts.{awaited}
 use Rattle.strand_machine.specs.Stops.{answer_tags, is_cut}
@@ -101,11 +101,11 @@ first-taken family after m k h at is =
 pub taken-length : (family : FamilyView) (k : ℕ) → AwaitsCount family k → length family.taken ≡ length family.children
 taken-length family k h = ap length h.taken ∙ length-append h.passed (replicate k false) ∙ ap (λ (n : ℕ). length h.passed + n) (length-replicate k false) ∙ h.same
 
-length-awaited : (ps : List Part) → length (awaited ps) ≡ length ps
+length-awaited : (ps : List AwaitedChild) → length (awaited ps) ≡ length ps
 length-awaited [] = refl
 length-awaited (p ∷ ps) = ap suc (length-awaited ps)
 
-pub awaits-count : (family : FamilyView) (ps : List Part) → AwaitsLast family ps → AwaitsCount family (length (awaited ps))
+pub awaits-count : (family : FamilyView) (ps : List AwaitedChild) → AwaitsLast family ps → AwaitsCount family (length (awaited ps))
 awaits-count family ps h =
     let all : length family.children ≡ length h.before + length (awaited ps) = ap length h.children ∙ length-append h.before (awaited ps) in
     record {
@@ -122,7 +122,7 @@ drop-front (o ∷ os) more zero h = absurd (omega arith)
 drop-front (o ∷ os) more (suc n) h = drop-front os more n (omega arith)
 
 -- the last children are those whose answers are awaited
-pub last-awaited : (family : FamilyView) (ps : List Part) → AwaitsLast family ps → drop (length family.children - length (awaited ps)) family.children ≡ awaited ps
+pub last-awaited : (family : FamilyView) (ps : List AwaitedChild) → AwaitsLast family ps → drop (length family.children - length (awaited ps)) family.children ≡ awaited ps
 last-awaited family ps h =
     let all : length family.children ≡ length h.before + length (awaited ps) = ap length h.children ∙ length-append h.before (awaited ps) in
     let n : length family.children - length (awaited ps) ≡ length h.before = omega arith in

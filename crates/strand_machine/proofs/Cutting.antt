@@ -14,19 +14,19 @@ use Rattle.strand_meaning.specs.Answers.{evaluation_of, answer_evaluations}
 use Rattle.strand_meaning.specs.Cuts.{AreAnswersOf, AnswersEnd, IsByFaultOf, by_fault, ended_after, or_ends}
 use Rattle.strand_meaning.specs.Laws.{AnswersAreEvaluations}
 use Rattle.strand_meaning.specs.Machine.{Half}
-use Rattle.strand_meaning.specs.Pieces.{Part, Pieces, heard, heard_all}
+use Rattle.strand_meaning.specs.Trace.{AwaitedChild, Trace, heard, heard_all}
 use Rattle.strand_meaning.specs.Sound.{IsTask}
 use Rattle.strand_meaning.specs.Task.{takes, more_values}
 use Rattle.strand_machine.specs.Family.{FamilyView, tag, tags, origins}
-use Rattle.strand_machine.specs.Going.{AreSaid, BecomesWork, EndsShort, IsShort, Puts, Takes, TakesAnswers, end_of, ended_of, ending_of, meanings, pieces_of, with_stage}
+use Rattle.strand_machine.specs.Merge.{AreSaid, BecomesWork, EndsShort, IsShort, Puts, Takes, TakesAnswers, end_of, ended_of, ending_of, meanings, trace_of, with_stage}
 use Rattle.strand_machine.specs.Parts.{awaited, part_of, parts_of, place_of}
-use Rattle.strand_machine.specs.declared.place.Place.{Place}
-use Rattle.strand_machine.specs.declared.place.Place.TheVariants as place
-use Rattle.strand_machine.specs.Stops.{IsCutOn, WentOn, answer_tags, any_cut, is_cut, told_with, view_on, went}
+use Rattle.strand_machine.specs.declared.destination.Destination.{Destination}
+use Rattle.strand_machine.specs.declared.destination.Destination.TheVariants as place
+use Rattle.strand_machine.specs.Stops.{IsCutOn, WentOn, answer_tags, any_cut, is_cut, prefix_with, view_on, went}
 use Rattle.strand_machine.specs.Tasks.{TaskView, IsCutShort, task_of, view_of, work_of}
 use Rattle.strand_machine.specs.declared.body.Body.{Body}
-use Rattle.strand_machine.specs.declared.going.Going.{Going}
-use Rattle.strand_machine.specs.declared.pieces.Behind.{Behind}
+use Rattle.strand_machine.specs.declared.merge.Merge.{Merge}
+use Rattle.strand_machine.specs.declared.trace.Behind.{Behind}
 use Rattle.strand_machine.specs.declared.work.Work.{Work}
 use Rattle.strand_machine.specs.declared.work.Work.TheVariants as work
 use Rattle.strand_machine.proofs.Answering.{eval-of, origins-tags}
@@ -45,12 +45,12 @@ or-false : (b : Bool) → (b || false) ≡ b
 or-false true = refl
 or-false false = refl
 
-pub takes-answer : (p : Part) (a : AnswerView) (before heard-it after : Going) → pieces_of heard-it ≡ heard p (record { items = a.out; ending = ending_of a.outcome }) (pieces_of before) →
+pub takes-answer : (p : AwaitedChild) (a : AnswerView) (before heard-it after : Merge) → trace_of heard-it ≡ heard p (record { items = a.out; ending = ending_of a.outcome }) (trace_of before) →
     ended_of heard-it ≡ or_ends (ended_of before) a.outcome → heard-it.cut ≡ (before.cut || is_cut a.outcome) → heard-it.values ≡ before.values → heard-it.work ≡ before.work →
     Puts p.place (ending_of a.outcome) heard-it after → IsAnswer a.plan a.origin a.out a.outcome → TakesAnswers (p ∷ []) (a ∷ []) before after
-takes-answer p a before heard-it after pieces ended cut values work h said = record {
+takes-answer p a before heard-it after trace ended cut values work h said = record {
   takes = subst (λ (e : Evaluation). Takes (p ∷ []) (e ∷ []) before after) (sym (says a.out a.outcome)) (record {
-    pieces = h.pieces ∙ pieces;
+    trace = h.trace ∙ trace;
     values = h.values ∙ ap (λ vs. more_values p.place (ending_of a.outcome) vs) values;
     work = subst (λ w. BecomesWork (with_stage (takes p.place (ending_of a.outcome))) w after.work) work h.work;
   });
@@ -59,20 +59,20 @@ takes-answer p a before heard-it after pieces ended cut values work h said = rec
   said = (said, tt);
 }
 
-pub puts-half : (p : Place) (ending : Result (List Value) Fault) (before after : Going) → p ≡ place.Half → after ≡ record before { values = more_values Half ending before.values } → Puts (place_of p) ending before after
+pub puts-half : (p : Destination) (ending : Result (List Value) Fault) (before after : Merge) → p ≡ place.Half → after ≡ record before { values = more_values Half ending before.values } → Puts (place_of p) ending before after
 puts-half p ending before after at is =
     let there : Puts Half ending before (record before { values = more_values Half ending before.values }) = record {
-      pieces = refl;
+      trace = refl;
       ended = refl;
       cut = refl;
       values = refl;
       work = record { is = λ plan. sym (same-stage (work_of plan before.work)); works = λ plan o h. h };
     } in
-    subst (λ (g : Going). Puts (place_of p) ending before g) (sym is) (subst (λ (q : Place). Puts (place_of q) ending before (record before { values = more_values Half ending before.values })) (sym at) there)
+    subst (λ (g : Merge). Puts (place_of p) ending before g) (sym is) (subst (λ (q : Destination). Puts (place_of q) ending before (record before { values = more_values Half ending before.values })) (sym at) there)
 
-pub puts-other : (p : Place) (ending : Result (List Value) Fault) (before : Going) (w : Work) → (p ≡ place.Half → ⊥) → BecomesWork (with_stage (takes (place_of p) ending)) before.work w →
+pub puts-other : (p : Destination) (ending : Result (List Value) Fault) (before : Merge) (w : Work) → (p ≡ place.Half → ⊥) → BecomesWork (with_stage (takes (place_of p) ending)) before.work w →
     Puts (place_of p) ending before (record before { work = w })
-puts-other p ending before w other h = record { pieces = refl; ended = refl; cut = refl; values = sym (other-values p other ending before.values); work = h }
+puts-other p ending before w other h = record { trace = refl; ended = refl; cut = refl; values = sym (other-values p other ending before.values); work = h }
 
 -- One child, and then the others
 
@@ -80,7 +80,7 @@ or-assoc : (a b c : Bool) → ((a || b) || c) ≡ (a || (b || c))
 or-assoc true b c = refl
 or-assoc false b c = refl
 
-answers-then : (p : Part) (ps : List Part) (a : AnswerView) (answers : List AnswerView) (before between after : Going) → TakesAnswers (p ∷ []) (a ∷ []) before between → TakesAnswers ps answers between after →
+answers-then : (p : AwaitedChild) (ps : List AwaitedChild) (a : AnswerView) (answers : List AnswerView) (before between after : Merge) → TakesAnswers (p ∷ []) (a ∷ []) before between → TakesAnswers ps answers between after →
     TakesAnswers (p ∷ ps) (a ∷ answers) before after
 answers-then p ps a answers before between after h k = record {
   takes = takes-then p ps (evaluation_of a.out a.outcome) (answer_evaluations answers) before between after h.takes k.takes;
@@ -89,7 +89,7 @@ answers-then p ps a answers before between after h k = record {
   said = (h.said.0, k.said);
 }
 
-pub answers-next : (xs ys : List AnswerView) (bs cs : List Behind) (a : AnswerView) (b : Behind) (before between after : Going) → xs ≡ a ∷ ys → bs ≡ b ∷ cs →
+pub answers-next : (xs ys : List AnswerView) (bs cs : List Behind) (a : AnswerView) (b : Behind) (before between after : Merge) → xs ≡ a ∷ ys → bs ≡ b ∷ cs →
     TakesAnswers (part_of a.origin b ∷ []) (a ∷ []) before between → TakesAnswers (parts_of (origins (answer_tags ys)) cs) ys between after →
     TakesAnswers (parts_of (origins (answer_tags xs)) bs) xs before after
 answers-next xs ys bs cs a b before between after e k h more =
@@ -98,7 +98,7 @@ answers-next xs ys bs cs a b before between after e k h more =
     subst (λ (ds : List Behind). TakesAnswers (parts_of (origins (answer_tags xs)) ds) xs before after) (sym k)
     (subst (λ (zs : List AnswerView). TakesAnswers (parts_of (origins (answer_tags zs)) (b ∷ cs)) zs before after) (sym e) all)
 
-pub answers-no-more : (xs : List AnswerView) (bs : List Behind) (g : Going) → length xs ≡ 0 → length bs ≡ 0 → TakesAnswers (parts_of (origins (answer_tags xs)) bs) xs g g
+pub answers-no-more : (xs : List AnswerView) (bs : List Behind) (g : Merge) → length xs ≡ 0 → length bs ≡ 0 → TakesAnswers (parts_of (origins (answer_tags xs)) bs) xs g g
 answers-no-more [] bs g h k = record { takes = takes-none g; ended = refl; cut = sym (or-false g.cut); said = tt }
 answers-no-more (x ∷ xs) bs g h k = absurd (omega arith)
 
@@ -120,7 +120,7 @@ whole-answers law (a ∷ answers) said whole =
 
 -- Answers of children
 
-pub answers-of : (plan : PlanView) (ps : List Part) (answers : List AnswerView) → AreSaid answers → answer_tags answers ≡ tags plan (awaited ps) → AreAnswersOf plan ps answers
+pub answers-of : (plan : PlanView) (ps : List AwaitedChild) (answers : List AnswerView) → AreSaid answers → answer_tags answers ≡ tags plan (awaited ps) → AreAnswersOf plan ps answers
 answers-of plan [] [] said e = tt
 answers-of plan [] (a ∷ answers) said e = absurd (cc)
 answers-of plan (p ∷ ps) [] said e = absurd (cc)
@@ -152,10 +152,10 @@ fault-first : (f : Option Fault) → end_of f false ≡ by_fault f
 fault-first None = refl
 fault-first (Some f) = refl
 
-pub own-children : (b : Body) (told : List Event) (fault : Option Fault) (os : List Origin) (bs : List Behind) (ts : List AnswerTag) → ◌≡◌ {A = Pieces} (record { told = told; fault = fault; handed = parts_of os bs }) b.pieces →
-    length os ≡ length bs → ts ≡ tags b.family.plan (awaited b.pieces.handed) → origins ts ≡ os
-own-children b told fault os bs ts view same e =
-    ap origins e ∙ origins-tags b.family.plan (awaited b.pieces.handed) ∙ ap (λ (p : Pieces). awaited p.handed) (sym view) ∙ awaited_parts os bs same
+pub own-children : (b : Body) (prefix : List Event) (fault : Option Fault) (os : List Origin) (bs : List Behind) (ts : List AnswerTag) → ◌≡◌ {A = Trace} (record { prefix = prefix; fault = fault; handed = parts_of os bs }) b.trace →
+    length os ≡ length bs → ts ≡ tags b.family.plan (awaited b.trace.handed) → origins ts ≡ os
+own-children b prefix fault os bs ts view same e =
+    ap origins e ∙ origins-tags b.family.plan (awaited b.trace.handed) ∙ ap (λ (p : Trace). awaited p.handed) (sym view) ∙ awaited_parts os bs same
 
 pub went-whole : (answers : List AnswerView) (t next : TaskView) → any_cut answers ≡ false → next ≡ view_on t → WentOn answers t next
 went-whole answers t next whole h = subst (λ (cut : Bool). went cut answers t next) (sym whole) h
@@ -164,52 +164,52 @@ pub went-short : (answers : List AnswerView) (t next : TaskView) → any_cut ans
 went-short answers t next cut h = subst (λ (c : Bool). went c answers t next) (sym cut) h
 
 -- what the parts gave out is what the task had
-pub taken-from : (b : Body) (w : Work) (told : List Event) (fault : Option Fault) (values : List Value) (left : Work) (ps : List Part) (answers : List AnswerView) (after : Going) → values ≡ b.values → left ≡ w →
-    TakesAnswers ps answers (record { told = told; fault = fault; values = values; work = left; cut = false; by_cut = false }) after →
-    TakesAnswers ps answers (record { told = told; fault = fault; values = b.values; work = w; cut = false; by_cut = false }) after
-taken-from b w told fault values left ps answers after vs ws h =
-    subst (λ (x : Work). TakesAnswers ps answers (record { told = told; fault = fault; values = b.values; work = x; cut = false; by_cut = false }) after) ws
-    (subst (λ (xs : List Value). TakesAnswers ps answers (record { told = told; fault = fault; values = xs; work = left; cut = false; by_cut = false }) after) vs h)
+pub taken-from : (b : Body) (w : Work) (prefix : List Event) (fault : Option Fault) (values : List Value) (left : Work) (ps : List AwaitedChild) (answers : List AnswerView) (after : Merge) → values ≡ b.values → left ≡ w →
+    TakesAnswers ps answers (record { prefix = prefix; fault = fault; values = values; work = left; cut = false; by_cut = false }) after →
+    TakesAnswers ps answers (record { prefix = prefix; fault = fault; values = b.values; work = w; cut = false; by_cut = false }) after
+taken-from b w prefix fault values left ps answers after vs ws h =
+    subst (λ (x : Work). TakesAnswers ps answers (record { prefix = prefix; fault = fault; values = b.values; work = x; cut = false; by_cut = false }) after) ws
+    (subst (λ (xs : List Value). TakesAnswers ps answers (record { prefix = prefix; fault = fault; values = xs; work = left; cut = false; by_cut = false }) after) vs h)
 
 -- What is left of a task that took a cut
 
-module _ (b : Body) (w : Work) (told : List Event) (fault : Option Fault) (os : List Origin) (bs : List Behind) (answers : List AnswerView) (after : Going) where
-  abbrev begun : Going
-  begun = record { told = told; fault = fault; values = b.values; work = w; cut = false; by_cut = false }
+module _ (b : Body) (w : Work) (prefix : List Event) (fault : Option Fault) (os : List Origin) (bs : List Behind) (answers : List AnswerView) (after : Merge) where
+  abbrev begun : Merge
+  begun = record { prefix = prefix; fault = fault; values = b.values; work = w; cut = false; by_cut = false }
 
   -- where none is a cut they are the children's evaluations
   pub takes-whole : AnswersAreEvaluations → TakesAnswers (parts_of (origins (answer_tags answers)) bs) answers begun after → any_cut answers ≡ false →
       Takes (parts_of (origins (answer_tags answers)) bs) (meanings (answer_tags answers)) begun after
   takes-whole law h whole = subst (λ (es : List Evaluation). Takes (parts_of (origins (answer_tags answers)) bs) es begun after) (whole-answers law answers h.said whole) h.takes
 
-  module _ (view : ◌≡◌ {A = Pieces} (record { told = told; fault = fault; handed = parts_of os bs }) b.pieces) (children : origins (answer_tags answers) ≡ os)
+  module _ (view : ◌≡◌ {A = Trace} (record { prefix = prefix; fault = fault; handed = parts_of os bs }) b.trace) (children : origins (answer_tags answers) ≡ os)
       (h : TakesAnswers (parts_of (origins (answer_tags answers)) bs) answers begun after) where
-    handed : parts_of (origins (answer_tags answers)) bs ≡ b.pieces.handed
-    handed = ap (λ (cs : List Origin). parts_of cs bs) children ∙ ap (λ (p : Pieces). p.handed) view
+    handed : parts_of (origins (answer_tags answers)) bs ≡ b.trace.handed
+    handed = ap (λ (cs : List Origin). parts_of cs bs) children ∙ ap (λ (p : Trace). p.handed) view
 
-    front : pieces_of begun ≡ record b.pieces { handed = [] }
-    front = ap (λ (p : Pieces). record p { handed = [] }) view
+    front : trace_of begun ≡ record b.trace { handed = [] }
+    front = ap (λ (p : Trace). record p { handed = [] }) view
 
-    told-same : after.told ≡ told_with answers (task_of b w)
-    told-same =
-        ap (λ (p : Pieces). p.told) h.takes.pieces ∙ ap (λ (ps : List Part). (heard_all ps (answer_evaluations answers) (pieces_of begun)).told) handed
-        ∙ ap (λ (p : Pieces). (heard_all b.pieces.handed (answer_evaluations answers) p).told) front
+    prefix-same : after.prefix ≡ prefix_with answers (task_of b w)
+    prefix-same =
+        ap (λ (p : Trace). p.prefix) h.takes.trace ∙ ap (λ (ps : List AwaitedChild). (heard_all ps (answer_evaluations answers) (trace_of begun)).prefix) handed
+        ∙ ap (λ (p : Trace). (heard_all b.trace.handed (answer_evaluations answers) p).prefix) front
 
-    ended-same : ended_of after ≡ ended_after (by_fault b.pieces.fault) answers
-    ended-same = h.ended ∙ ap (λ (o : Option Outcome). ended_after o answers) (fault-first fault ∙ ap (λ (p : Pieces). by_fault p.fault) view)
+    ended-same : ended_of after ≡ ended_after (by_fault b.trace.fault) answers
+    ended-same = h.ended ∙ ap (λ (o : Option Outcome). ended_after o answers) (fault-first fault ∙ ap (λ (p : Trace). by_fault p.fault) view)
 
-    pub ends-short : AnswersEnd → IsTask (task_of b w) → AreAnswersOf b.family.plan b.pieces.handed answers → any_cut answers ≡ true → EndsShort b.family after
+    pub ends-short : AnswersEnd → IsTask (task_of b w) → AreAnswersOf b.family.plan b.trace.handed answers → any_cut answers ≡ true → EndsShort b.family after
     ends-short law is are cut =
-        let some = ends-some (by_fault b.pieces.fault) answers cut in
+        let some = ends-some (by_fault b.trace.fault) answers cut in
         let end = law (task_of b w) answers some.0 is are some.1 in
-        record { outcome = some.0; ended = ended-same ∙ some.1; answers = subst (λ (es : List Event). IsAnswer b.family.plan b.family.origin es some.0) (sym told-same) end.0; known = end.1 }
+        record { outcome = some.0; ended = ended-same ∙ some.1; answers = subst (λ (es : List Event). IsAnswer b.family.plan b.family.origin es some.0) (sym prefix-same) end.0; known = end.1 }
 
     pub short-on : (next : TaskView) → IsShort b.family after b.advanced next → IsCutOn answers (view_of b w) next × (next.loads ≡ b.family.loads)
     short-on next s = (
       record {
         plan = s.plan;
         origin = s.origin;
-        told = s.told ∙ told-same;
+        prefix = s.prefix ∙ prefix-same;
         handed = s.handed;
         waits = s.waits;
         advanced = s.advanced;
@@ -222,31 +222,31 @@ module _ (b : Body) (w : Work) (told : List Event) (fault : Option Fault) (os : 
 
 -- the task itself
 
-pub short-some : (family : FamilyView) (g : Going) (r : Option Outcome) → EndsShort family g → r ≡ ended_of g → r ≡ None → ⊥
+pub short-some : (family : FamilyView) (g : Merge) (r : Option Outcome) → EndsShort family g → r ≡ ended_of g → r ≡ None → ⊥
 short-some family g r h e none = let some : Some h.outcome ≡ None = sym h.ended ∙ sym e ∙ none in absurd (cc)
 
-same-end : (family : FamilyView) (g : Going) (h : EndsShort family g) (o : Outcome) (r : Option Outcome) → r ≡ ended_of g → r ≡ Some o → h.outcome ≡ o
+same-end : (family : FamilyView) (g : Merge) (h : EndsShort family g) (o : Outcome) (r : Option Outcome) → r ≡ ended_of g → r ≡ Some o → h.outcome ≡ o
 same-end family g h o r e is = let some : Some h.outcome ≡ Some o = sym h.ended ∙ sym e ∙ is in cc
 
-pub short-holds : (family : FamilyView) (g : Going) → EndsShort family g → (o : Outcome) (r : Option Outcome) → r ≡ ended_of g → r ≡ Some o →
-    (b : Body) → b.family ≡ family → b.pieces ≡ record { told = g.told; fault = None; handed = [] } → b.waiting ≡ false → IsCutShort b o
-short-holds family g h o r e is b same pieces waits =
-    let told : b.pieces.told ≡ g.told = ap (λ (p : Pieces). p.told) pieces in
+pub short-holds : (family : FamilyView) (g : Merge) → EndsShort family g → (o : Outcome) (r : Option Outcome) → r ≡ ended_of g → r ≡ Some o →
+    (b : Body) → b.family ≡ family → b.trace ≡ record { prefix = g.prefix; fault = None; handed = [] } → b.waiting ≡ false → IsCutShort b o
+short-holds family g h o r e is b same trace waits =
+    let prefix : b.trace.prefix ≡ g.prefix = ap (λ (p : Trace). p.prefix) trace in
     let end = same-end family g h o r e is in
     record {
-      answers = subst (λ (f : FamilyView). IsAnswer f.plan f.origin b.pieces.told o) (sym same)
-          (subst (λ (es : List Event). IsAnswer family.plan family.origin es o) (sym told) (subst (IsAnswer family.plan family.origin g.told) end h.answers));
+      answers = subst (λ (f : FamilyView). IsAnswer f.plan f.origin b.trace.prefix o) (sym same)
+          (subst (λ (es : List Event). IsAnswer family.plan family.origin es o) (sym prefix) (subst (IsAnswer family.plan family.origin g.prefix) end h.answers));
       known = subst (λ (f : FamilyView). IsByFaultOf f.plan o) (sym same) (subst (IsByFaultOf family.plan) end h.known);
       waits = waits;
     }
 
-pub short-view : (family : FamilyView) (g : Going) (advanced : Bool) (o : Outcome) (r : Option Outcome) → r ≡ ended_of g → r ≡ Some o →
-    (b : Body) → b.family ≡ family → b.pieces ≡ record { told = g.told; fault = None; handed = [] } → b.waiting ≡ false → b.advanced ≡ advanced → IsShort family g advanced (view_of b (work.Cut o))
-short-view family g advanced o r e is b same pieces waits was = record {
+pub short-view : (family : FamilyView) (g : Merge) (advanced : Bool) (o : Outcome) (r : Option Outcome) → r ≡ ended_of g → r ≡ Some o →
+    (b : Body) → b.family ≡ family → b.trace ≡ record { prefix = g.prefix; fault = None; handed = [] } → b.waiting ≡ false → b.advanced ≡ advanced → IsShort family g advanced (view_of b (work.Cut o))
+short-view family g advanced o r e is b same trace waits was = record {
   plan = ap (λ (f : FamilyView). f.plan) same;
   origin = ap (λ (f : FamilyView). f.origin) same;
-  told = ap (λ (p : Pieces). p.told) pieces;
-  handed = ap (λ (p : Pieces). p.handed) pieces;
+  prefix = ap (λ (p : Trace). p.prefix) trace;
+  handed = ap (λ (p : Trace). p.handed) trace;
   waits = waits;
   advanced = was;
   cut = sym is ∙ e;

@@ -19,38 +19,38 @@ use Rattle.serial_meaning.specs.declared.answer.Outcome.{Outcome}
 use Rattle.serial_meaning.specs.declared.answer.Outcome.TheVariants as outcome
 use Rattle.strand_meaning.specs.Laws.{IsSoundStep, IsFaultOf, StepsAreSound}
 use Rattle.serial_meaning.specs.Runs.{Run}
-use Rattle.strand_meaning.specs.Machine.{Token, Reached, move}
-use Rattle.strand_meaning.specs.Pieces.{Part}
+use Rattle.strand_meaning.specs.Machine.{Effect, Reached, move}
+use Rattle.strand_meaning.specs.Trace.{AwaitedChild}
 use Rattle.strand_meaning.specs.Sound.{IsEndOf, IsTask}
 use Rattle.strand_meaning.specs.Task as meaning
 use Rattle.strand_meaning.specs.Task.{Task, ends, ends_unless, own_instance, first_half, split_step, over_step, waits, begins_last, gave, faults_behind, moved, stops_at, child_in}
 use Rattle.strand_moves.specs.Machines as moves
-use Rattle.strand_moves.specs.Moves.{IsTrailOf, ShowsTrail, tokens_of, run_of}
+use Rattle.strand_moves.specs.Moves.{IsTrailOf, ShowsTrail, effects_of, run_of}
 use Rattle.strand_moves.specs.declared.instance.Instance.{Instance as RawInstance}
-use Rattle.strand_moves.specs.declared.shown.Shown.{Shown}
-use Rattle.strand_moves.specs.declared.shown.Moved.TheVariants as moved-in
+use Rattle.strand_moves.specs.declared.effects.Effects.{Effects}
+use Rattle.strand_moves.specs.declared.effects.MoveResult.TheVariants as moved-in
 use Rattle.strand_family.specs.Origins.{only}
 use Rattle.strand_machine.specs.Bodies.{is_long}
 use Rattle.strand_machine.specs.Family.{FamilyView, handed}
 use Rattle.strand_machine.specs.Parts.{awaited, place_of}
 use Rattle.strand_machine.specs.Loops.{IsHandedFor}
-use Rattle.strand_machine.specs.Shown.{shown_task, IsSoundShown, IsKnownChild, IsHandedChild}
+use Rattle.strand_machine.specs.Effects.{shown_task, IsSoundShown, IsKnownChild, IsHandedChild}
 use Rattle.strand_machine.specs.Stops.{IsStep, ended}
-use Rattle.strand_machine.specs.declared.stop.Step.{Step as MadeStep}
-use Rattle.strand_machine.specs.declared.stop.Step.TheVariants as step-in
+use Rattle.strand_machine.specs.declared.stop.MoveOrStop.{MoveOrStop as MadeStep}
+use Rattle.strand_machine.specs.declared.stop.MoveOrStop.TheVariants as step-in
 use Rattle.strand_machine.specs.declared.stop.Stop.TheVariants as stop-in
 use Rattle.strand_machine.specs.Tasks.{view_of, fresh_with, cut_of, AwaitsLast, RunsAt, WorksAt, IsSound, task_of, task_with, work_of, gone, waiting, with_child, ended_by}
 use Rattle.strand_machine.specs.declared.body.Body.{Body}
-use Rattle.strand_machine.specs.declared.place.Place.{Place}
-use Rattle.strand_machine.specs.declared.place.Place.TheVariants as place
-use Rattle.strand_machine.specs.declared.work.Stage.TheVariants as stage
+use Rattle.strand_machine.specs.declared.destination.Destination.{Destination}
+use Rattle.strand_machine.specs.declared.destination.Destination.TheVariants as place
+use Rattle.strand_machine.specs.declared.work.InstanceState.TheVariants as stage
 use Rattle.strand_machine.specs.declared.work.Left.{Left}
 use Rattle.strand_machine.specs.declared.work.Work.{Work}
 use Rattle.strand_machine.specs.declared.work.Work.TheVariants as work
 
 -- Sound moves
 
-sound-step : StepsAreSound → (b : Body) (w : Work) (s : meaning.Step) → IsSound b w → meaning.step (task_of b w) ≡ s → IsSoundStep (task_of b w) s
+sound-step : StepsAreSound → (b : Body) (w : Work) (s : meaning.MoveOrStop) → IsSound b w → meaning.step (task_of b w) ≡ s → IsSoundStep (task_of b w) s
 sound-step steps_are_sound b w s h e = subst (IsSoundStep (task_of b w)) e (steps_are_sound (task_of b w) h.task)
 
 pub pass-sound : StepsAreSound → (b : Body) (w next : Work) → IsSound b w → meaning.step (task_of b w) ≡ meaning.Passes (task_of (gone b) next) → WorksAt b.family.plan b.family.origin next → IsSound (gone b) next
@@ -59,7 +59,7 @@ pass-sound law b w next h e works = record { task = sound-step law b w (meaning.
 pub wait-sound : StepsAreSound → (b : Body) (w next : Work) → IsSound b w → meaning.step (task_of b w) ≡ meaning.Stops (meaning.Wait (task_of (waiting b) next)) → WorksAt b.family.plan b.family.origin next → IsSound (waiting b) next
 wait-sound law b w next h e works = record { task = sound-step law b w (meaning.Stops (meaning.Wait (task_of (waiting b) next))) h e; family = h.family; works = works }
 
-awaited-append : (ps qs : List Part) → awaited (ps ++ qs) ≡ awaited ps ++ awaited qs
+awaited-append : (ps qs : List AwaitedChild) → awaited (ps ++ qs) ≡ awaited ps ++ awaited qs
 awaited-append [] qs = refl
 awaited-append (p ∷ ps) qs = ap (λ l. p.child ∷ l) (awaited-append ps qs)
 
@@ -70,7 +70,7 @@ one-longer (suc n) = ap (λ l. false ∷ l) (one-longer n)
 one-more : (n : ℕ) → replicate n false ++ false ∷ [] ≡ replicate (n + 1) false
 one-more n = rw add-one (one-longer n)
 
-pub awaits-more : (family : FamilyView) (parts : List Part) (p : Part) → AwaitsLast family parts → AwaitsLast (handed family p.child) (parts ++ p ∷ [])
+pub awaits-more : (family : FamilyView) (parts : List AwaitedChild) (p : AwaitedChild) → AwaitsLast family parts → AwaitsLast (handed family p.child) (parts ++ p ∷ [])
 awaits-more family parts p h = record {
   before = h.before;
   passed = h.passed;
@@ -80,18 +80,18 @@ awaits-more family parts p h = record {
       ∙ ap (λ l. h.passed ++ l) (one-more (length parts) ∙ ap (λ n. replicate n false) (sym (length-append parts (p ∷ []))));
 }
 
-pub spawn-sound : StepsAreSound → (b : Body) (w next : Work) (child : Origin) (p : Place) → IsSound b w → meaning.step (task_of b w) ≡ meaning.Stops (meaning.Spawn child (task_of (with_child b child p) next)) →
+pub spawn-sound : StepsAreSound → (b : Body) (w next : Work) (child : Origin) (p : Destination) → IsSound b w → meaning.step (task_of b w) ≡ meaning.Stops (meaning.Spawn child (task_of (with_child b child p) next)) →
     WorksAt b.family.plan b.family.origin next → IsOriginOf b.family.plan child × IsSound (with_child b child p) next
 spawn-sound law b w next child p h e works =
     let s = sound-step law b w (meaning.Stops (meaning.Spawn child (task_of (with_child b child p) next))) h e in
-    (s.0, record { task = s.1; family = awaits-more b.family b.pieces.handed (record { child = child; place = place_of p; behind = [] }) h.family; works = works })
+    (s.0, record { task = s.1; family = awaits-more b.family b.trace.handed (record { child = child; place = place_of p; behind = [] }) h.family; works = works })
 
 -- Ends
 
-pub ends-is : (t : Task) (o : Outcome) → ends t o ≡ meaning.Stops (meaning.End t.pieces.told (ended_by t.pieces.fault o))
-ends-is t o = by_fault t.pieces.fault
+pub ends-is : (t : Task) (o : Outcome) → ends t o ≡ meaning.Stops (meaning.End t.trace.prefix (ended_by t.trace.fault o))
+ends-is t o = by_fault t.trace.fault
   where
-    by_fault : (f : Option Fault) → ends_unless f t o ≡ meaning.Stops (meaning.End t.pieces.told (ended_by f o))
+    by_fault : (f : Option Fault) → ends_unless f t o ≡ meaning.Stops (meaning.End t.trace.prefix (ended_by f o))
     by_fault None = refl
     by_fault (Some f) = refl
 
@@ -101,10 +101,10 @@ answer-of plan o out (outcome.Values vs) e f = e
 answer-of plan o out (outcome.Fault g) e f = e
 answer-of plan o out (outcome.Cut g) e f = absurd f
 
-pub end-answers : StepsAreSound → (b : Body) (w : Work) (o : Outcome) → IsSound b w → meaning.step (task_of b w) ≡ ends (task_of b w) o → IsAnswer b.family.plan b.family.origin b.pieces.told (ended_by b.pieces.fault o)
+pub end-answers : StepsAreSound → (b : Body) (w : Work) (o : Outcome) → IsSound b w → meaning.step (task_of b w) ≡ ends (task_of b w) o → IsAnswer b.family.plan b.family.origin b.trace.prefix (ended_by b.trace.fault o)
 end-answers law b w o h e =
-    let s = sound-step law b w (meaning.Stops (meaning.End b.pieces.told (ended_by b.pieces.fault o))) h (e ∙ ends-is (task_of b w) o) in
-    answer-of b.family.plan b.family.origin b.pieces.told (ended_by b.pieces.fault o) s.0 s.1
+    let s = sound-step law b w (meaning.Stops (meaning.End b.trace.prefix (ended_by b.trace.fault o))) h (e ∙ ends-is (task_of b w) o) in
+    answer-of b.family.plan b.family.origin b.trace.prefix (ended_by b.trace.fault o) s.0 s.1
 
 -- What a call gives
 
@@ -124,7 +124,7 @@ pass-is b w next s works e h = rw h (record { is = e; keeps = (refl, refl, refl,
 pub wait-is : (b : Body) (w next : Work) (s : MadeStep) → WorksAt b.family.plan b.family.origin next → meaning.step (task_of b w) ≡ meaning.Stops (meaning.Wait (task_of (waiting b) next)) → s ≡ step-in.Stops (stop-in.Wait (view_of (waiting b) next)) → IsStep (view_of b w) s
 wait-is b w next s works e h = rw h (record { is = e; keeps = (refl, refl, refl, works-on b.family.plan b.family.origin next works) })
 
-pub spawn-is : (b : Body) (w next : Work) (child : Origin) (p : Place) (s : MadeStep) → WorksAt b.family.plan b.family.origin next → meaning.step (task_of b w) ≡ meaning.Stops (meaning.Spawn child (task_of (with_child b child p) next)) →
+pub spawn-is : (b : Body) (w next : Work) (child : Origin) (p : Destination) (s : MadeStep) → WorksAt b.family.plan b.family.origin next → meaning.step (task_of b w) ≡ meaning.Stops (meaning.Spawn child (task_of (with_child b child p) next)) →
     s ≡ step-in.Stops (stop-in.Spawn (fresh_with b.family.knows b.family.plan child) (view_of (with_child b child p) next)) → IsStep (view_of b w) s
 spawn-is b w next child p s works e h = rw h (record { is = e; keeps = (refl, refl, refl, refl, works-on b.family.plan b.family.origin next works) })
 
@@ -206,20 +206,20 @@ over-on b v false e = absurd (true≢false (sym e))
 -- Instances
 
 pub give-instance : (b : Body) (v : Value) (function : ℕ) (args : List Value) (path : List ℕ) → b.family.origin ≡ Instance function args path →
-    meaning.step (task_of b (work.Runs (stage.Gave v))) ≡ ends (task_of b (work.Runs (stage.Gave v))) (outcome.Value v)
-give-instance b v function args path e = ap (λ (o : Origin). gave (task_of b (work.Runs (stage.Gave v))) o v) e
+    meaning.step (task_of b (work.Runs (stage.Returned v))) ≡ ends (task_of b (work.Runs (stage.Returned v))) (outcome.Value v)
+give-instance b v function args path e = ap (λ (o : Origin). gave (task_of b (work.Runs (stage.Returned v))) o v) e
 
 pub give-loop : (b : Body) (v : Value) (function : ℕ) (rest : List Value) (first : ℤ) (path : List ℕ) (range : Range) → b.family.origin ≡ Loop function rest first path range →
-    meaning.step (task_of b (work.Runs (stage.Gave v))) ≡ meaning.Passes (task_of (gone b) (work.Over v false))
-give-loop b v function rest first path range e = ap (λ (o : Origin). gave (task_of b (work.Runs (stage.Gave v))) o v) e
+    meaning.step (task_of b (work.Runs (stage.Returned v))) ≡ meaning.Passes (task_of (gone b) (work.Over v false))
+give-loop b v function rest first path range e = ap (λ (o : Origin). gave (task_of b (work.Runs (stage.Returned v))) o v) e
 
-pub fault-alone : (b : Body) (f : Fault) → b.pieces.handed ≡ [] → meaning.step (task_of b (work.Runs (stage.Faulted f))) ≡ ends (task_of b (work.Runs (stage.Faulted f))) (outcome.Fault f)
-fault-alone b f e = ap (λ (ps : List Part). faults_behind ps (task_of b (work.Runs (stage.Faulted f))) f) e
+pub fault-alone : (b : Body) (f : Fault) → b.trace.handed ≡ [] → meaning.step (task_of b (work.Runs (stage.Faulted f))) ≡ ends (task_of b (work.Runs (stage.Faulted f))) (outcome.Fault f)
+fault-alone b f e = ap (λ (ps : List AwaitedChild). faults_behind ps (task_of b (work.Runs (stage.Faulted f))) f) e
 
-pub fault-behind : (b : Body) (f : Fault) → (b.pieces.handed ≡ [] → ⊥) → meaning.step (task_of b (work.Runs (stage.Faulted f))) ≡ meaning.Stops (meaning.Wait (task_of (waiting b) (work.Runs (stage.Faulted f))))
-fault-behind b f h = from b.pieces.handed h
+pub fault-behind : (b : Body) (f : Fault) → (b.trace.handed ≡ [] → ⊥) → meaning.step (task_of b (work.Runs (stage.Faulted f))) ≡ meaning.Stops (meaning.Wait (task_of (waiting b) (work.Runs (stage.Faulted f))))
+fault-behind b f h = from b.trace.handed h
   where
-    from : (ps : List Part) → (ps ≡ [] → ⊥) → faults_behind ps (task_of b (work.Runs (stage.Faulted f))) f ≡ waits (task_of b (work.Runs (stage.Faulted f)))
+    from : (ps : List AwaitedChild) → (ps ≡ [] → ⊥) → faults_behind ps (task_of b (work.Runs (stage.Faulted f))) f ≡ waits (task_of b (work.Runs (stage.Faulted f)))
     from [] g = absurd (g refl)
     from (p ∷ ps) g = refl
 
@@ -233,19 +233,19 @@ handed-half plan (Loop function rest first path range) child left part h e = ([]
 
 module _ (b : Body) (i : RawInstance) where
   abbrev here : Task
-  here = task_of b (work.Runs (stage.Goes i))
+  here = task_of b (work.Runs (stage.Running i))
 
-  abbrev made : Run Token Fault Reached → meaning.Step
+  abbrev made : Run Effect Fault Reached → meaning.MoveOrStop
   made r = moved here r.items r.ending
 
-  pub go-went : (next : RawInstance) (s : Shown) → RunsAt b.family.plan (path_of (own_instance b.family.origin)) i →
+  pub go-went : (next : RawInstance) (s : Effects) → RunsAt b.family.plan (path_of (own_instance b.family.origin)) i →
       move b.family.plan (moves.path_of i) (moves.machine_of b.family.plan i) ≡ run_of (moved-in.Went s) (moves.machine_of b.family.plan next) →
-      meaning.step here ≡ stops_at (child_in (tokens_of s)) (shown_task b next s)
+      meaning.step here ≡ stops_at (child_in (effects_of s)) (shown_task b next s)
   go-went next s at e = ap (λ (p : List ℕ). made (move b.family.plan p (moves.machine_of b.family.plan i))) (sym at.at) ∙ ap made e
 
   pub go-gave : (next : RawInstance) (v : Value) → RunsAt b.family.plan (path_of (own_instance b.family.origin)) i →
-      move b.family.plan (moves.path_of i) (moves.machine_of b.family.plan i) ≡ run_of (moved-in.Gave v) (moves.machine_of b.family.plan next) →
-      meaning.step here ≡ meaning.Passes (task_of (gone b) (work.Runs (stage.Gave v)))
+      move b.family.plan (moves.path_of i) (moves.machine_of b.family.plan i) ≡ run_of (moved-in.Returned v) (moves.machine_of b.family.plan next) →
+      meaning.step here ≡ meaning.Passes (task_of (gone b) (work.Runs (stage.Returned v)))
   go-gave next v at e = ap (λ (p : List ℕ). made (move b.family.plan p (moves.machine_of b.family.plan i))) (sym at.at) ∙ ap made e
 
   pub go-faulted : (next : RawInstance) (f : Fault) → RunsAt b.family.plan (path_of (own_instance b.family.origin)) i →
@@ -253,12 +253,12 @@ module _ (b : Body) (i : RawInstance) where
       meaning.step here ≡ meaning.Passes (task_of (gone b) (work.Runs (stage.Faulted f)))
   go-faulted next f at e = ap (λ (p : List ℕ). made (move b.family.plan p (moves.machine_of b.family.plan i))) (sym at.at) ∙ ap made e
 
-  pub shown-sound : StepsAreSound → (next : RawInstance) (s : Shown) → IsSound b (work.Runs (stage.Goes i)) →
+  pub shown-sound : StepsAreSound → (next : RawInstance) (s : Effects) → IsSound b (work.Runs (stage.Running i)) →
       move b.family.plan (moves.path_of i) (moves.machine_of b.family.plan i) ≡ run_of (moved-in.Went s) (moves.machine_of b.family.plan next) →
       RunsAt b.family.plan (path_of (own_instance b.family.origin)) next → ShowsTrail b.family.plan s → IsSoundShown b next s
   shown-sound law next s h moved-so runs trail =
       let e = go-went next s h.works moved-so in
-      let known = from (child_in (tokens_of s)) (sound-step law b (work.Runs (stage.Goes i)) (stops_at (child_in (tokens_of s)) (shown_task b next s)) h e) in
+      let known = from (child_in (effects_of s)) (sound-step law b (work.Runs (stage.Running i)) (stops_at (child_in (effects_of s)) (shown_task b next s)) h e) in
       record { task = known.0; child = known.1; handed = known.2; family = h.family; runs = runs; trail = trail }
     where
       from : (o : Option Origin) → IsSoundStep here (stops_at o (shown_task b next s)) → IsTask (shown_task b next s) × IsKnownChild b.family.plan o × IsHandedChild b.family.plan b.family.origin o

@@ -1,4 +1,4 @@
--- A task among whose pieces a child's answer is a fault.
+-- A task in whose trace a child's answer is a fault.
 use Rattle.std.proofs.lemmas.Bool.{true≢false}
 use Rattle.std.proofs.Common.{◌≡◌, Bool, true, false, ◌||◌, List, [], ◌∷◌, ◌++◌, Option, Some, None, Result, Ok, Err, refl, sym, ap, ◌∙◌, subst}
 use Rattle.serial_meaning.specs.Answer.{AnswerView, AnswerTag, IsAnswer, IsEval, outcome_of}
@@ -16,8 +16,8 @@ use Rattle.serial_meaning.specs.declared.origin.Origin.TheVariants.{Instance, Lo
 use Rattle.serial_meaning.specs.declared.answer.Outcome.{Outcome}
 use Rattle.serial_meaning.specs.declared.answer.Outcome.TheVariants as outcome
 use Rattle.strand_meaning.specs.Laws.{IsFaultOf}
-use Rattle.strand_meaning.specs.Pieces.{Part, Pieces, heard_unless, heard, heard_all}
-use Rattle.strand_meaning.specs.Rest.{evaluations, told_run, parts_run, work_run}
+use Rattle.strand_meaning.specs.Trace.{AwaitedChild, Trace, heard_unless, heard, heard_all}
+use Rattle.strand_meaning.specs.Rest.{evaluations, prefix_run, parts_run, work_run}
 use Rattle.strand_meaning.specs.Sound.{IsTask}
 use Rattle.strand_meaning.specs.Task.{Task}
 use Rattle.strand_machine.specs.Family.{tag, tags}
@@ -47,21 +47,21 @@ answers-err plan o out (outcome.Value v) is h = absurd (cc)
 answers-err plan o out (outcome.Values vs) is h = absurd (cc)
 answers-err plan o out (outcome.Cut f) is h = absurd (cc)
 
-heard-err : (f : Option Fault) (told : List Event) (p : Part) (events : List Event) (ending : Result (List Value) Fault) → IsErr ending → (heard_unless f told p events ending).fault ≡ None → ⊥
-heard-err (Some g) told p events ending is h = absurd (cc)
-heard-err None told p events (Ok vs) is h = is
-heard-err None told p events (Err g) is h = absurd (cc)
+heard-err : (f : Option Fault) (prefix : List Event) (p : AwaitedChild) (events : List Event) (ending : Result (List Value) Fault) → IsErr ending → (heard_unless f prefix p events ending).fault ≡ None → ⊥
+heard-err (Some g) prefix p events ending is h = absurd (cc)
+heard-err None prefix p events (Ok vs) is h = is
+heard-err None prefix p events (Err g) is h = absurd (cc)
 
--- where the last of the children ends by a fault, there is one among the pieces once they are heard
-pub last-err : (plan : PlanView) (ps : List Part) (ts : List AnswerTag) (t : AnswerTag) → ts ++ t ∷ [] ≡ tags plan (awaited ps) → IsErr (eval t.plan t.origin).ending →
-    (pieces : Pieces) → (heard_all ps (evaluations (eval plan) ps) pieces).fault ≡ None → ⊥
-last-err plan [] [] t e is pieces h = absurd (cc)
-last-err plan [] (x ∷ ts) t e is pieces h = absurd (cc)
-last-err plan (p ∷ []) [] t e is pieces h =
+-- where the last of the children ends by a fault, there is one in the trace once they are heard
+pub last-err : (plan : PlanView) (ps : List AwaitedChild) (ts : List AnswerTag) (t : AnswerTag) → ts ++ t ∷ [] ≡ tags plan (awaited ps) → IsErr (eval t.plan t.origin).ending →
+    (trace : Trace) → (heard_all ps (evaluations (eval plan) ps) trace).fault ≡ None → ⊥
+last-err plan [] [] t e is trace h = absurd (cc)
+last-err plan [] (x ∷ ts) t e is trace h = absurd (cc)
+last-err plan (p ∷ []) [] t e is trace h =
     let same : t ≡ tag plan p.child = cc in
-    heard-err pieces.fault pieces.told p (eval plan p.child).items (eval plan p.child).ending (subst (λ (s : AnswerTag). IsErr (eval s.plan s.origin).ending) same is) h
-last-err plan (p ∷ q ∷ ps) [] t e is pieces h = absurd (cc)
-last-err plan (p ∷ ps) (x ∷ ts) t e is pieces h = last-err plan ps ts t (cc) is (heard p (eval plan p.child) pieces) h
+    heard-err trace.fault trace.prefix p (eval plan p.child).items (eval plan p.child).ending (subst (λ (s : AnswerTag). IsErr (eval s.plan s.origin).ending) same is) h
+last-err plan (p ∷ q ∷ ps) [] t e is trace h = absurd (cc)
+last-err plan (p ∷ ps) (x ∷ ts) t e is trace h = last-err plan ps ts t (cc) is (heard p (eval plan p.child) trace) h
 
 -- The end by it
 
@@ -69,23 +69,23 @@ err-outcome : (o : Origin) (f : Fault) → outcome_of o (Err f) ≡ outcome.Faul
 err-outcome (Instance function args path) f = refl
 err-outcome (Loop function rest first path range) f = refl
 
--- a task with a fault among its pieces is its origin's evaluation up to there
-faulted-same : (t : Task) → IsTask t → (f : Fault) → t.pieces.fault ≡ Some f → ◌≡◌ {A = Evaluation} (record { items = t.pieces.told; ending = Err f }) (eval t.plan t.origin)
+-- a task with a fault in its trace is its origin's evaluation up to there
+faulted-same : (t : Task) → IsTask t → (f : Fault) → t.trace.fault ≡ Some f → ◌≡◌ {A = Evaluation} (record { items = t.trace.prefix; ending = Err f }) (eval t.plan t.origin)
 faulted-same t is f h = ap run (sym h) ∙ is.finishes
   where
     run : Option Fault → Evaluation
-    run g = told_run (record t.pieces { fault = g }) then λ u. parts_run (eval t.plan) t.pieces.handed t.values then work_run t.plan t.origin t.pieces.handed t.work
+    run g = prefix_run (record t.trace { fault = g }) then λ u. parts_run (eval t.plan) t.trace.handed t.values then work_run t.plan t.origin t.trace.handed t.work
 
-pub faulted-answer : (t : Task) → IsTask t → (f : Fault) → t.pieces.fault ≡ Some f → IsEval t.plan t.origin t.pieces.told (outcome.Fault f)
+pub faulted-answer : (t : Task) → IsTask t → (f : Fault) → t.trace.fault ≡ Some f → IsEval t.plan t.origin t.trace.prefix (outcome.Fault f)
 faulted-answer t is f h =
     let same = faulted-same t is f h in
     record { events = ap (λ (q : Evaluation). q.items) same; ends = sym (err-outcome t.origin f) ∙ ap (λ (q : Evaluation). outcome_of t.origin q.ending) same }
 
-pub faulted-known : (t : Task) → IsTask t → (f : Fault) → t.pieces.fault ≡ Some f → IsFaultOf t.plan (outcome.Fault f)
+pub faulted-known : (t : Task) → IsTask t → (f : Fault) → t.trace.fault ≡ Some f → IsFaultOf t.plan (outcome.Fault f)
 faulted-known t is f h = subst (λ (q : Evaluation). EndsWithin (faults t.plan) q.ending) (sym (faulted-same t is f h)) (origins_end_within_faults t.plan t.origin is.known)
 
-pub answers-by : (b : Body) (w : Work) (told : List Event) (f : Fault) → IsSound b w → told ≡ b.pieces.told → b.pieces.fault ≡ Some f → IsEval b.family.plan b.family.origin told (outcome.Fault f)
-answers-by b w told f sound same h = subst (λ (es : List Event). IsEval b.family.plan b.family.origin es (outcome.Fault f)) (sym same) (faulted-answer (task_of b w) sound.task f h)
+pub answers-by : (b : Body) (w : Work) (prefix : List Event) (f : Fault) → IsSound b w → prefix ≡ b.trace.prefix → b.trace.fault ≡ Some f → IsEval b.family.plan b.family.origin prefix (outcome.Fault f)
+answers-by b w prefix f sound same h = subst (λ (es : List Event). IsEval b.family.plan b.family.origin es (outcome.Fault f)) (sym same) (faulted-answer (task_of b w) sound.task f h)
 
 -- The call
 
@@ -116,15 +116,15 @@ pub goes-whole : (xs ys given : List AnswerView) (a : AnswerView) (t next : Task
 goes-whole xs ys given a t next e same whole f on =
     let none : any_cut ys ≡ false = ap any_cut e ∙ whole-more xs a f (ap any_cut same ∙ whole) in subst (λ (b : Bool). went b ys t next) none on
 
--- once its children's answers are taken, of which the last is a fault, there is one among a task's pieces
-pub not-none : (v begun after : TaskView) (ts : List AnswerTag) (t : AnswerTag) → begun ≡ v → after ≡ view_on begun → ts ++ t ∷ [] ≡ tags v.task.plan (awaited v.task.pieces.handed) →
-    IsErr (eval t.plan t.origin).ending → after.task.pieces.fault ≡ None → ⊥
+-- once its children's answers are taken, of which the last is a fault, there is one in a task's trace
+pub not-none : (v begun after : TaskView) (ts : List AnswerTag) (t : AnswerTag) → begun ≡ v → after ≡ view_on begun → ts ++ t ∷ [] ≡ tags v.task.plan (awaited v.task.trace.handed) →
+    IsErr (eval t.plan t.origin).ending → after.task.trace.fault ≡ None → ⊥
 not-none v begun after ts t same on tagged err none =
     let is : after ≡ view_on v = on ∙ ap view_on same in
-    last-err v.task.plan v.task.pieces.handed ts t tagged err (record v.task.pieces { handed = [] }) (ap (λ (w : TaskView). w.task.pieces.fault) (sym is) ∙ none)
+    last-err v.task.plan v.task.trace.handed ts t tagged err (record v.task.trace { handed = [] }) (ap (λ (w : TaskView). w.task.trace.fault) (sym is) ∙ none)
 
 -- the answer of the task after them is the task's own
-pub ends-by : (b : Body) (w : Work) (v begun after : TaskView) → begun ≡ v → after ≡ view_on begun → view_of b w ≡ after → IsSound b w → (f : Fault) → b.pieces.fault ≡ Some f →
+pub ends-by : (b : Body) (w : Work) (v begun after : TaskView) → begun ≡ v → after ≡ view_on begun → view_of b w ≡ after → IsSound b w → (f : Fault) → b.trace.fault ≡ Some f →
     (out : List Event) (answer : AnswerView) (by : AnswerTag) → answer ≡ record { plan = b.family.plan; origin = b.family.origin; out = out; outcome = outcome.Fault f } → by ≡ tag b.family.plan b.family.origin →
     EndsByFault v answer by
 ends-by b w v begun after same on view sound f h out answer by e g =

@@ -6,9 +6,9 @@ use Rattle.std.proofs.Math.ListN.{set}
 use Rattle.serial_meaning.specs.declared.event.Event.{Event}
 use Rattle.serial_meaning.specs.declared.event.Fault.{Fault}
 use Rattle.serial_meaning.specs.declared.origin.Origin.{Origin}
-use Rattle.strand_meaning.specs.Pieces.{Part, behind_last, tell}
+use Rattle.strand_meaning.specs.Trace.{AwaitedChild, behind_last, emit}
 use Rattle.strand_machine.specs.Parts.{part_of, parts_of, awaited}
-use Rattle.strand_machine.specs.declared.pieces.Behind.{Behind}
+use Rattle.strand_machine.specs.declared.trace.Behind.{Behind}
 
 pub awaited_parts : (os : List Origin) (bs : List Behind) → length os ≡ length bs → awaited (parts_of os bs) ≡ os
 awaited_parts [] bs h = refl
@@ -30,18 +30,18 @@ alone (o ∷ os) [] n r h k e = absurd (omega arith)
 alone (o ∷ os) (b ∷ bs) n r h k e = (λ t. absurd (not-zero n (omega arith) (sym e ∙ t)), λ x. absurd (cc))
 
 -- an event after the last child
-tell_last : (o : Origin) (os : List Origin) (c : Behind) (cs : List Behind) (b : Behind) (e : Event) → length os ≡ length cs → b ≡ get_or (c ∷ cs) (length cs) b →
+emit_last : (o : Origin) (os : List Origin) (c : Behind) (cs : List Behind) (b : Behind) (e : Event) → length os ≡ length cs → b ≡ get_or (c ∷ cs) (length cs) b →
     behind_last (part_of o c) (parts_of os cs) e ≡ parts_of (o ∷ os) (set (c ∷ cs) (length cs) (record b { events = b.events ++ e ∷ [] }))
-tell_last o [] c [] b e h g = ap (λ (d : Behind). part_of o (record d { events = d.events ++ e ∷ [] }) ∷ []) (sym g)
-tell_last o [] c (d ∷ cs) b e h g = absurd (omega arith)
-tell_last o (p ∷ os) c [] b e h g = absurd (omega arith)
-tell_last o (p ∷ os) c (d ∷ cs) b e h g = ap (λ l. part_of o c ∷ l) (tell_last p os d cs b e (omega arith) g)
+emit_last o [] c [] b e h g = ap (λ (d : Behind). part_of o (record d { events = d.events ++ e ∷ [] }) ∷ []) (sym g)
+emit_last o [] c (d ∷ cs) b e h g = absurd (omega arith)
+emit_last o (p ∷ os) c [] b e h g = absurd (omega arith)
+emit_last o (p ∷ os) c (d ∷ cs) b e h g = ap (λ l. part_of o c ∷ l) (emit_last p os d cs b e (omega arith) g)
 
-pub told-last : (told : List Event) (fault : Option Fault) (os : List Origin) (bs : List Behind) (i : ℕ) (b : Behind) (e : Event) (es : List Event) → length os ≡ length bs → i + 1 ≡ length bs → b ≡ get_or bs i b → es ≡ b.events ++ e ∷ [] →
-    record { told = told; fault = fault; handed = parts_of os (set bs i (record b { events = es })) } ≡ tell e (record { told = told; fault = fault; handed = parts_of os bs })
-told-last told fault os [] i b e es h k g w = absurd (omega arith)
-told-last told fault [] (c ∷ cs) i b e es h k g w = absurd (omega arith)
-told-last told fault (o ∷ os) (c ∷ cs) i b e es h k g w =
+pub prefix-last : (prefix : List Event) (fault : Option Fault) (os : List Origin) (bs : List Behind) (i : ℕ) (b : Behind) (e : Event) (es : List Event) → length os ≡ length bs → i + 1 ≡ length bs → b ≡ get_or bs i b → es ≡ b.events ++ e ∷ [] →
+    record { prefix = prefix; fault = fault; handed = parts_of os (set bs i (record b { events = es })) } ≡ emit e (record { prefix = prefix; fault = fault; handed = parts_of os bs })
+prefix-last prefix fault os [] i b e es h k g w = absurd (omega arith)
+prefix-last prefix fault [] (c ∷ cs) i b e es h k g w = absurd (omega arith)
+prefix-last prefix fault (o ∷ os) (c ∷ cs) i b e es h k g w =
     let at : i ≡ length cs = omega arith in
     let last : b ≡ get_or (c ∷ cs) (length cs) b = rw at at g in
-    rw (w, at) (ap (λ (ps : List Part). record { told = told; fault = fault; handed = ps }) (sym (tell_last o os c cs b e (omega arith) last)))
+    rw (w, at) (ap (λ (ps : List AwaitedChild). record { prefix = prefix; fault = fault; handed = ps }) (sym (emit_last o os c cs b e (omega arith) last)))

@@ -13,15 +13,15 @@ use Rattle.strand_machine.specs.declared.body.Body.{Body}
 use Rattle.strand_machine.specs.declared.parts.Parts.{Parts}
 use Rattle.strand_machine.specs.declared.stop.Passed.{Passed}
 use Rattle.strand_machine.specs.declared.stop.Passed.TheVariants as passed
-use Rattle.strand_machine.specs.declared.stop.Step.{Step}
-use Rattle.strand_machine.specs.declared.stop.Step.TheVariants as step
+use Rattle.strand_machine.specs.declared.stop.MoveOrStop.{MoveOrStop}
+use Rattle.strand_machine.specs.declared.stop.MoveOrStop.TheVariants as step
 use Rattle.strand_machine.specs.declared.stop.Stop.TheVariants as stop
 use Rattle.strand_machine.specs.declared.work.Work.{Work}
 use Rattle.strand_machine.proofs.Advancing.{leads-start, run-falls, run-leads, run-stops, sound_holds}
 use Rattle.strand_machine.proofs.Dispatch.{end-is, works-on}
 
 -- what is known of a move is known of the step that it makes
-pub made-ok : {E : Type 0} (p : Parts) (r : Result Passed E) (F G : Step → Type 0) → ((s : Step) → F s → G s) → IfOk r (λ (x : Passed). F (made p x)) → IfOk r (λ (x : Passed). G (made p x))
+pub made-ok : {E : Type 0} (p : Parts) (r : Result Passed E) (F G : MoveOrStop → Type 0) → ((s : MoveOrStop) → F s → G s) → IfOk r (λ (x : Passed). F (made p x)) → IfOk r (λ (x : Passed). G (made p x))
 made-ok p (Ok x) F G f h = f (made p x) h
 made-ok p (Err x) F G f h = tt
 

@@ -7,7 +7,7 @@ use Rattle.serial_meaning.proofs.value.Value.TheSendSync as value_shared
 use Rattle.serial_meaning.specs.contracts.value.Value as value
 use Rattle.std.proofs.Crossing.{Box-send}
 use Rattle.strand_family.proofs.Shares.{family_sends, give_sends}
-use Rattle.strand_machine.proofs.pieces.Pieces.TheSendSync as pieces_shared
+use Rattle.strand_machine.proofs.trace.Trace.TheSendSync as trace_shared
 use Rattle.strand_machine.proofs.work.Work.TheSendSync as work_shared
 use Rattle.strand_machine.specs.contracts.body.Body as body
 use Rattle.strand_machine.specs.contracts.parts.Parts as parts
@@ -17,7 +17,7 @@ use Rattle.strand_machine.specs.contracts.task.Task as task
 use Rattle.strand_machine.specs.contracts.task.Task.TheInside as task_inside
 
 body_sends : IsSend body.the_row
-body_sends = declared_send body.the_type (family_sends, (pieces_shared.the_send, (items_shared.the_send value.the_row value_shared.the_send, (search sendable, (search sendable, tt)))))
+body_sends = declared_send body.the_type (family_sends, (trace_shared.the_send, (items_shared.the_send value.the_row value_shared.the_send, (search sendable, (search sendable, tt)))))
 
 parts_sends : IsSend parts.the_row
 parts_sends = declared_send parts.the_type (body_sends, (work_shared.the_send, tt))

@@ -15,14 +15,14 @@ use Rattle.serial_meaning.specs.declared.origin.Origin.{Origin}
 use Rattle.serial_meaning.specs.declared.answer.Outcome.{Outcome}
 use Rattle.strand_meaning.specs.Machine as machine
 use Rattle.strand_meaning.specs.Machine.{Half}
-use Rattle.strand_meaning.specs.Pieces.{Part, Pieces, heard_all}
+use Rattle.strand_meaning.specs.Trace.{AwaitedChild, Trace, heard_all}
 use Rattle.strand_meaning.specs.Laws.{AnswersKeepTasks}
 use Rattle.strand_meaning.specs.Rest.{evaluations}
 use Rattle.strand_meaning.specs.Sound.{IsTask}
 use Rattle.strand_meaning.specs.Task as meaning
 use Rattle.strand_meaning.specs.Task.{Splits, Runs, Over, Task, changed, answered, with_values, joins, resumed, takes, takes_all, more_values, all_values, resumed_work, on, own_instance}
 use Rattle.strand_machine.specs.Family.{FamilyView, HasPassed, HasStopped, tags, origins}
-use Rattle.strand_machine.specs.Going.{BecomesStage, BecomesWork, Takes, IsAnswered, with_stage, pieces_of, meanings}
+use Rattle.strand_machine.specs.Merge.{BecomesStage, BecomesWork, Takes, IsAnswered, with_stage, trace_of, meanings}
 use Rattle.strand_machine.specs.Parts.{awaited, parts_of, place_of}
 use Rattle.strand_meaning.specs.Cuts.{AreAnswersOf}
 use Rattle.strand_machine.specs.Stops.{WentOn, any_cut, resumes, view_on, went}
@@ -30,12 +30,12 @@ use Rattle.strand_moves.specs.Machines.{IsInstance, machine_of, path_of}
 use Rattle.strand_moves.specs.declared.instance.Instance.{Instance}
 use Rattle.strand_machine.specs.Tasks.{TaskView, cut_of, work_of, task_of, view_of, AwaitsLast, IsSound}
 use Rattle.strand_machine.specs.declared.body.Body.{Body}
-use Rattle.strand_machine.specs.declared.going.Going.{Going}
-use Rattle.strand_machine.specs.declared.pieces.Behind.{Behind}
-use Rattle.strand_machine.specs.declared.place.Place.{Place}
-use Rattle.strand_machine.specs.declared.place.Place.TheVariants as place
-use Rattle.strand_machine.specs.declared.work.Stage.{Stage}
-use Rattle.strand_machine.specs.declared.work.Stage.TheVariants as stage
+use Rattle.strand_machine.specs.declared.merge.Merge.{Merge}
+use Rattle.strand_machine.specs.declared.trace.Behind.{Behind}
+use Rattle.strand_machine.specs.declared.destination.Destination.{Destination}
+use Rattle.strand_machine.specs.declared.destination.Destination.TheVariants as place
+use Rattle.strand_machine.specs.declared.work.InstanceState.{InstanceState}
+use Rattle.strand_machine.specs.declared.work.InstanceState.TheVariants as stage
 use Rattle.strand_machine.specs.declared.work.Work.{Work}
 use Rattle.strand_machine.specs.declared.work.Work.TheVariants as work
 use Rattle.strand_machine.proofs.Answering.{origins-tags, awaits-count, taken-length}
@@ -47,12 +47,12 @@ same-stage (Splits left) = refl
 same-stage (Runs stage) = refl
 same-stage (Over v gone_on) = refl
 
-two-stages : (f g : meaning.Stage → meaning.Stage) (w : meaning.Work) → with_stage g (with_stage f w) ≡ with_stage (λ s. g (f s)) w
+two-stages : (f g : meaning.InstanceState → meaning.InstanceState) (w : meaning.Work) → with_stage g (with_stage f w) ≡ with_stage (λ s. g (f s)) w
 two-stages f g (Splits left) = refl
 two-stages f g (Runs stage) = refl
 two-stages f g (Over v gone_on) = refl
 
-resumed-stage : (ps : List Part) (es : List Evaluation) (w : meaning.Work) → resumed_work [] [] (with_stage (takes_all ps es) w) ≡ resumed_work ps es w
+resumed-stage : (ps : List AwaitedChild) (es : List Evaluation) (w : meaning.Work) → resumed_work [] [] (with_stage (takes_all ps es) w) ≡ resumed_work ps es w
 resumed-stage ps es (Splits left) = refl
 resumed-stage ps es (Runs stage) = refl
 resumed-stage ps es (Over v gone_on) = refl
@@ -71,34 +71,34 @@ values-taken plan target t values given before after to is e =
 
 -- A stage
 
-module _ (change : meaning.Stage → meaning.Stage) (f : machine.Machine → machine.Machine) (s : Stage) (i j : Instance) where
-  pub at-goes : ((m : machine.Machine) → change (meaning.Goes m) ≡ meaning.Goes (f m)) → s ≡ stage.Goes i → ((plan : PlanView) → machine_of plan j ≡ f (machine_of plan i)) →
-      path_of j ≡ path_of i → ((plan : PlanView) → IsInstance plan i → IsInstance plan j) → BecomesStage change s (stage.Goes j)
-  at-goes meant is made path sound = subst (λ (x : Stage). BecomesStage change x (stage.Goes j)) (sym is) (record {
-    is = λ plan. ap (λ m. meaning.Goes m) (made plan) ∙ sym (meant (machine_of plan i));
+module _ (change : meaning.InstanceState → meaning.InstanceState) (f : machine.Machine → machine.Machine) (s : InstanceState) (i j : Instance) where
+  pub at-goes : ((m : machine.Machine) → change (meaning.Running m) ≡ meaning.Running (f m)) → s ≡ stage.Running i → ((plan : PlanView) → machine_of plan j ≡ f (machine_of plan i)) →
+      path_of j ≡ path_of i → ((plan : PlanView) → IsInstance plan i → IsInstance plan j) → BecomesStage change s (stage.Running j)
+  at-goes meant is made path sound = subst (λ (x : InstanceState). BecomesStage change x (stage.Running j)) (sym is) (record {
+    is = λ plan. ap (λ m. meaning.Running m) (made plan) ∙ sym (meant (machine_of plan i));
     stands = λ plan at h. record { sound = sound plan h.sound; at = path ∙ h.at };
   })
 
   pub at-sync : ((m : machine.Machine) → change (meaning.AtSync m) ≡ meaning.AtSync (f m)) → s ≡ stage.AtSync i → ((plan : PlanView) → machine_of plan j ≡ f (machine_of plan i)) →
       path_of j ≡ path_of i → ((plan : PlanView) → IsInstance plan i → IsInstance plan j) → BecomesStage change s (stage.AtSync j)
-  at-sync meant is made path sound = subst (λ (x : Stage). BecomesStage change x (stage.AtSync j)) (sym is) (record {
+  at-sync meant is made path sound = subst (λ (x : InstanceState). BecomesStage change x (stage.AtSync j)) (sym is) (record {
     is = λ plan. ap (λ m. meaning.AtSync m) (made plan) ∙ sym (meant (machine_of plan i));
     stands = λ plan at h. record { sound = sound plan h.sound; at = path ∙ h.at };
   })
 
   pub at-loop : ((m : machine.Machine) → change (meaning.AtLoop m) ≡ meaning.AtLoop (f m)) → s ≡ stage.AtLoop i → ((plan : PlanView) → machine_of plan j ≡ f (machine_of plan i)) →
       path_of j ≡ path_of i → ((plan : PlanView) → IsInstance plan i → IsInstance plan j) → BecomesStage change s (stage.AtLoop j)
-  at-loop meant is made path sound = subst (λ (x : Stage). BecomesStage change x (stage.AtLoop j)) (sym is) (record {
+  at-loop meant is made path sound = subst (λ (x : InstanceState). BecomesStage change x (stage.AtLoop j)) (sym is) (record {
     is = λ plan. ap (λ m. meaning.AtLoop m) (made plan) ∙ sym (meant (machine_of plan i));
     stands = λ plan at h. record { sound = sound plan h.sound; at = path ∙ h.at };
   })
 
 -- The same where it is the values of a loop that are taken.
-module _ (ending : Result (List Value) Fault) (target t : Option Name) (values given : List Value) (s : Stage) (i j : Instance) where
-  pub loops-goes : ending ≡ Ok values → t ≡ target → given ≡ values → s ≡ stage.Goes i → ((plan : PlanView) → machine_of plan j ≡ with_values t given (machine_of plan i)) →
-      path_of j ≡ path_of i → ((plan : PlanView) → IsInstance plan i → IsInstance plan j) → BecomesStage (takes (machine.Looped target) ending) s (stage.Goes j)
+module _ (ending : Result (List Value) Fault) (target t : Option Name) (values given : List Value) (s : InstanceState) (i j : Instance) where
+  pub loops-goes : ending ≡ Ok values → t ≡ target → given ≡ values → s ≡ stage.Running i → ((plan : PlanView) → machine_of plan j ≡ with_values t given (machine_of plan i)) →
+      path_of j ≡ path_of i → ((plan : PlanView) → IsInstance plan i → IsInstance plan j) → BecomesStage (takes (machine.Looped target) ending) s (stage.Running j)
   loops-goes is to same at made path sound =
-      at-goes (takes (machine.Looped target) ending) (with_values target values) s i j (λ m. ap (λ (x : Result (List Value) Fault). takes (machine.Looped target) x (meaning.Goes m)) is) at
+      at-goes (takes (machine.Looped target) ending) (with_values target values) s i j (λ m. ap (λ (x : Result (List Value) Fault). takes (machine.Looped target) x (meaning.Running m)) is) at
       (λ plan. values-taken plan target t values given i j to same (made plan)) path sound
 
   pub loops-sync : ending ≡ Ok values → t ≡ target → given ≡ values → s ≡ stage.AtSync i → ((plan : PlanView) → machine_of plan j ≡ with_values t given (machine_of plan i)) →
@@ -113,37 +113,37 @@ module _ (ending : Result (List Value) Fault) (target t : Option Name) (values g
       at-loop (takes (machine.Looped target) ending) (with_values target values) s i j (λ m. ap (λ (x : Result (List Value) Fault). takes (machine.Looped target) x (meaning.AtLoop m)) is) at
       (λ plan. values-taken plan target t values given i j to same (made plan)) path sound
 
-pub joins-none : (i : Instance) (r : Option (Bor Fault)) → ((plan : PlanView) → option_copied r ≡ (machine_of plan i).top.faulted) → r ≡ None → BecomesStage resumed (stage.AtSync i) (stage.Goes i)
+pub joins-none : (i : Instance) (r : Option (Bor Fault)) → ((plan : PlanView) → option_copied r ≡ (machine_of plan i).top.faulted) → r ≡ None → BecomesStage resumed (stage.AtSync i) (stage.Running i)
 joins-none i r h e = record {
   is = λ plan. sym (ap (λ f. joins f (machine_of plan i)) (sym (h plan) ∙ ap option_copied e));
   stands = λ plan path k. k;
 }
 
 pub joins-some : (i : Instance) (r : Option (Bor Fault)) (b : Bor Fault) (fault : Fault) → ((plan : PlanView) → option_copied r ≡ (machine_of plan i).top.faulted) → r ≡ Some b → fault ≡ b.now →
-    BecomesStage resumed (stage.AtSync i) (stage.Joined fault)
+    BecomesStage resumed (stage.AtSync i) (stage.ChildFaulted fault)
 joins-some i r b fault h e same = record {
   is = λ plan. sym (ap (λ f. joins f (machine_of plan i)) (sym (h plan) ∙ ap option_copied e ∙ ap (λ (x : Fault). Some x) (sym same)));
   stands = λ plan path k. tt;
 }
 
-pub runs-on : (w : Work) (before after : Stage) → w ≡ work.Runs before → BecomesStage resumed before after → BecomesWork (resumed_work [] []) w (work.Runs after)
+pub runs-on : (w : Work) (before after : InstanceState) → w ≡ work.Runs before → BecomesStage resumed before after → BecomesWork (resumed_work [] []) w (work.Runs after)
 runs-on w before after is h = subst (λ (x : Work). BecomesWork (resumed_work [] []) x (work.Runs after)) (sym is) (record {
   is = λ plan. ap (λ s. meaning.Runs s) (h.is plan);
   works = λ plan o k. h.stands plan (origins-of.path_of (own_instance o)) k;
 })
 
 -- the stage after an answer, by the child's place
-pub placed : (p : Place) (q : machine.Place) (ending : Result (List Value) Fault) (before after : Stage) → place_of p ≡ q → BecomesStage (takes q ending) before after → BecomesStage (takes (place_of p) ending) before after
-placed p q ending before after at h = subst (λ (x : machine.Place). BecomesStage (takes x ending) before after) (sym at) h
+pub placed : (p : Destination) (q : machine.Destination) (ending : Result (List Value) Fault) (before after : InstanceState) → place_of p ≡ q → BecomesStage (takes q ending) before after → BecomesStage (takes (place_of p) ending) before after
+placed p q ending before after at h = subst (λ (x : machine.Destination). BecomesStage (takes x ending) before after) (sym at) h
 
 -- what remains is an instance, whose stage changed
-pub runs-taken : (change : meaning.Stage → meaning.Stage) (w : Work) (before after : Stage) → w ≡ work.Runs before → BecomesStage change before after → BecomesWork (with_stage change) w (work.Runs after)
+pub runs-taken : (change : meaning.InstanceState → meaning.InstanceState) (w : Work) (before after : InstanceState) → w ≡ work.Runs before → BecomesStage change before after → BecomesWork (with_stage change) w (work.Runs after)
 runs-taken change w before after is h = subst (λ (x : Work). BecomesWork (with_stage change) x (work.Runs after)) (sym is) (record {
   is = λ plan. ap (λ s. meaning.Runs s) (h.is plan);
   works = λ plan o k. h.stands plan (origins-of.path_of (own_instance o)) k;
 })
 
-pub stage-stays : (ending : Result (List Value) Fault) (s : Stage) → BecomesStage (takes Half ending) s s
+pub stage-stays : (ending : Result (List Value) Fault) (s : InstanceState) → BecomesStage (takes Half ending) s s
 stage-stays ending s = record { is = λ plan. refl; stands = λ plan path h. h }
 
 pub on-ok : {A E : Type 0} (r : Result A E) (P Q : Type 0) → (P → Q) → OnOk r P → OnOk r Q
@@ -152,17 +152,17 @@ on-ok (Err x) P Q f h = tt
 
 -- One child
 
-pub other-values : (p : Place) → (p ≡ place.Half → ⊥) → (ending : Result (List Value) Fault) (values : List Value) → more_values (place_of p) ending values ≡ values
+pub other-values : (p : Destination) → (p ≡ place.Half → ⊥) → (ending : Result (List Value) Fault) (values : List Value) → more_values (place_of p) ending values ≡ values
 other-values (place.Spawned height target) h ending values = refl
 other-values (place.Looped target) h ending values = refl
 other-values place.Half h ending values = absurd (h refl)
 
 -- One child, and then the others
 
-pub takes-then : (p : Part) (ps : List Part) (e : Evaluation) (es : List Evaluation) (before between after : Going) → Takes (p ∷ []) (e ∷ []) before between → Takes ps es between after →
+pub takes-then : (p : AwaitedChild) (ps : List AwaitedChild) (e : Evaluation) (es : List Evaluation) (before between after : Merge) → Takes (p ∷ []) (e ∷ []) before between → Takes ps es between after →
     Takes (p ∷ ps) (e ∷ es) before after
 takes-then p ps e es before between after h k = record {
-  pieces = k.pieces ∙ ap (heard_all ps es) h.pieces;
+  trace = k.trace ∙ ap (heard_all ps es) h.trace;
   values = k.values ∙ ap (all_values ps es) h.values;
   work = record {
     is = λ plan. k.work.is plan ∙ ap (with_stage (takes_all ps es)) (h.work.is plan) ∙ two-stages (takes p.place e.ending) (takes_all ps es) (work_of plan before.work);
@@ -170,9 +170,9 @@ takes-then p ps e es before between after h k = record {
   };
 }
 
-pub takes-none : (g : Going) → Takes [] [] g g
+pub takes-none : (g : Merge) → Takes [] [] g g
 takes-none g = record {
-  pieces = refl;
+  trace = refl;
   values = refl;
   work = record { is = λ plan. sym (same-stage (work_of plan g.work)); works = λ plan o h. h };
 }
@@ -185,7 +185,7 @@ meanings-tags plan (o ∷ os) [] h = absurd (omega arith)
 meanings-tags plan (o ∷ os) (b ∷ bs) h = ap (λ es. eval plan o ∷ es) (meanings-tags plan os bs (omega arith))
 
 -- answers with the children's tags are the children's evaluations
-pub takes-awaited : (plan : PlanView) (os : List Origin) (bs : List Behind) (ts : List AnswerTag) (before after : Going) → length os ≡ length bs → ts ≡ tags plan (awaited (parts_of os bs)) →
+pub takes-awaited : (plan : PlanView) (os : List Origin) (bs : List Behind) (ts : List AnswerTag) (before after : Merge) → length os ≡ length bs → ts ≡ tags plan (awaited (parts_of os bs)) →
     Takes (parts_of (origins ts) bs) (meanings ts) before after → Takes (parts_of os bs) (evaluations (eval plan) (parts_of os bs)) before after
 takes-awaited plan os bs ts before after same are h =
     let all : ts ≡ tags plan os = are ∙ ap (tags plan) (awaited_parts os bs same) in
@@ -194,42 +194,42 @@ takes-awaited plan os bs ts before after same are h =
     subst (λ es. Takes (parts_of os bs) es before after) answers (subst (λ cs. Takes (parts_of cs bs) (meanings ts) before after) children h)
 
 -- the task with the answers of its children, once its wait is over
-pub goes-on : (t : Task) (before after : Going) (rest : Work) → pieces_of before ≡ record t.pieces { handed = [] } → before.values ≡ t.values → work_of t.plan before.work ≡ t.work →
-    Takes t.pieces.handed (evaluations (eval t.plan) t.pieces.handed) before after → BecomesWork (resumed_work [] []) after.work rest →
-    ◌≡◌ {A = Task} (record t { pieces = pieces_of after; values = after.values; work = work_of t.plan rest; waiting = false }) (on (evaluations (eval t.plan) t.pieces.handed) t)
-goes-on t before after rest pieces values work h over =
-    let ps = t.pieces.handed in
+pub goes-on : (t : Task) (before after : Merge) (rest : Work) → trace_of before ≡ record t.trace { handed = [] } → before.values ≡ t.values → work_of t.plan before.work ≡ t.work →
+    Takes t.trace.handed (evaluations (eval t.plan) t.trace.handed) before after → BecomesWork (resumed_work [] []) after.work rest →
+    ◌≡◌ {A = Task} (record t { trace = trace_of after; values = after.values; work = work_of t.plan rest; waiting = false }) (on (evaluations (eval t.plan) t.trace.handed) t)
+goes-on t before after rest trace values work h over =
+    let ps = t.trace.handed in
     let es = evaluations (eval t.plan) ps in
-    let told : pieces_of after ≡ heard_all ps es (record t.pieces { handed = [] }) = h.pieces ∙ ap (heard_all ps es) pieces in
+    let prefix : trace_of after ≡ heard_all ps es (record t.trace { handed = [] }) = h.trace ∙ ap (heard_all ps es) trace in
     let given : after.values ≡ all_values ps es t.values = h.values ∙ ap (all_values ps es) values in
     let left : work_of t.plan rest ≡ resumed_work ps es t.work =
     over.is t.plan ∙ ap (resumed_work [] []) (h.work.is t.plan) ∙ resumed-stage ps es (work_of t.plan before.work) ∙ ap (resumed_work ps es) work in
-    ap (λ (p : Pieces). record t { pieces = p; values = after.values; work = work_of t.plan rest; waiting = false }) told
-    ∙ ap (λ (vs : List Value). record t { pieces = heard_all ps es (record t.pieces { handed = [] }); values = vs; work = work_of t.plan rest; waiting = false }) given
-    ∙ ap (λ (w : meaning.Work). record t { pieces = heard_all ps es (record t.pieces { handed = [] }); values = all_values ps es t.values; work = w; waiting = false }) left
+    ap (λ (p : Trace). record t { trace = p; values = after.values; work = work_of t.plan rest; waiting = false }) prefix
+    ∙ ap (λ (vs : List Value). record t { trace = heard_all ps es (record t.trace { handed = [] }); values = vs; work = work_of t.plan rest; waiting = false }) given
+    ∙ ap (λ (w : meaning.Work). record t { trace = heard_all ps es (record t.trace { handed = [] }); values = all_values ps es t.values; work = w; waiting = false }) left
 
 -- The task after its wait
 
-module _ (b : Body) (w : Work) (told : List Event) (fault : Option Fault) (os : List Origin) (bs : List Behind) (ts : List AnswerTag) (after : Going) (new-os : List Origin) (new-bs : List Behind) (rest : Work) where
+module _ (b : Body) (w : Work) (prefix : List Event) (fault : Option Fault) (os : List Origin) (bs : List Behind) (ts : List AnswerTag) (after : Merge) (new-os : List Origin) (new-bs : List Behind) (rest : Work) where
   abbrev next-body : Body
-  next-body = record { family = b.family; pieces = record { told = after.told; fault = after.fault; handed = parts_of new-os new-bs }; values = after.values; waiting = false; advanced = b.advanced }
+  next-body = record { family = b.family; trace = record { prefix = after.prefix; fault = after.fault; handed = parts_of new-os new-bs }; values = after.values; waiting = false; advanced = b.advanced }
 
-  abbrev begins : Going
-  begins = record { told = told; fault = fault; values = b.values; work = w; cut = false; by_cut = false }
+  abbrev begins : Merge
+  begins = record { prefix = prefix; fault = fault; values = b.values; work = w; cut = false; by_cut = false }
 
-  task-on : ◌≡◌ {A = Pieces} (record { told = told; fault = fault; handed = parts_of os bs }) b.pieces → length os ≡ length bs → ts ≡ tags b.family.plan (awaited b.pieces.handed) → new-os ≡ [] →
+  task-on : ◌≡◌ {A = Trace} (record { prefix = prefix; fault = fault; handed = parts_of os bs }) b.trace → length os ≡ length bs → ts ≡ tags b.family.plan (awaited b.trace.handed) → new-os ≡ [] →
       Takes (parts_of (origins ts) bs) (meanings ts) begins after → BecomesWork (resumed_work [] []) after.work rest →
-      task_of next-body rest ≡ on (evaluations (eval b.family.plan) b.pieces.handed) (task_of b w)
+      task_of next-body rest ≡ on (evaluations (eval b.family.plan) b.trace.handed) (task_of b w)
   task-on view same are none h over =
       let plan = b.family.plan in
-      let handed : parts_of os bs ≡ b.pieces.handed = ap (λ (p : Pieces). p.handed) view in
-      let tagged : ts ≡ tags plan (awaited (parts_of os bs)) = are ∙ ap (λ (ps : List Part). tags plan (awaited ps)) (sym handed) in
-      let taken : Takes b.pieces.handed (evaluations (eval plan) b.pieces.handed) begins after =
-      subst (λ (ps : List Part). Takes ps (evaluations (eval plan) ps) begins after) handed (takes-awaited plan os bs ts begins after same tagged h) in
-      ap (λ (no : List Origin). task_of (record { family = b.family; pieces = record { told = after.told; fault = after.fault; handed = parts_of no new-bs }; values = after.values; waiting = false; advanced = b.advanced }) rest) none
-      ∙ goes-on (task_of b w) begins after rest (ap (λ (p : Pieces). record p { handed = [] }) view) refl refl taken over
+      let handed : parts_of os bs ≡ b.trace.handed = ap (λ (p : Trace). p.handed) view in
+      let tagged : ts ≡ tags plan (awaited (parts_of os bs)) = are ∙ ap (λ (ps : List AwaitedChild). tags plan (awaited ps)) (sym handed) in
+      let taken : Takes b.trace.handed (evaluations (eval plan) b.trace.handed) begins after =
+      subst (λ (ps : List AwaitedChild). Takes ps (evaluations (eval plan) ps) begins after) handed (takes-awaited plan os bs ts begins after same tagged h) in
+      ap (λ (no : List Origin). task_of (record { family = b.family; trace = record { prefix = after.prefix; fault = after.fault; handed = parts_of no new-bs }; values = after.values; waiting = false; advanced = b.advanced }) rest) none
+      ∙ goes-on (task_of b w) begins after rest (ap (λ (p : Trace). record p { handed = [] }) view) refl refl taken over
 
-  pub goes-on-view : ◌≡◌ {A = Pieces} (record { told = told; fault = fault; handed = parts_of os bs }) b.pieces → length os ≡ length bs → ts ≡ tags b.family.plan (awaited b.pieces.handed) → new-os ≡ [] →
+  pub goes-on-view : ◌≡◌ {A = Trace} (record { prefix = prefix; fault = fault; handed = parts_of os bs }) b.trace → length os ≡ length bs → ts ≡ tags b.family.plan (awaited b.trace.handed) → new-os ≡ [] →
       Takes (parts_of (origins ts) bs) (meanings ts) begins after → BecomesWork (resumed_work [] []) after.work rest → IsAnswered b w →
       view_of next-body rest ≡ view_on (view_of b w)
   goes-on-view view same are none h over sound =
@@ -237,7 +237,7 @@ module _ (b : Body) (w : Work) (told : List Event) (fault : Option Fault) (os : 
       let uncut : cut_of rest ≡ cut_of w = works-on plan b.family.origin rest (over.works plan _ (h.work.works plan _ sound.works)) ∙ sym (works-on plan b.family.origin w sound.works) in
       ap (λ (t : Task). record (view_of b w) { task = t; cut = cut_of rest }) (task-on view same are none h over) ∙ ap (λ (o : Option Outcome). record (view_on (view_of b w)) { cut = o }) uncut
 
-  pub goes-on-sound : ◌≡◌ {A = Pieces} (record { told = told; fault = fault; handed = parts_of os bs }) b.pieces → length os ≡ length bs → ts ≡ tags b.family.plan (awaited b.pieces.handed) → new-os ≡ [] →
+  pub goes-on-sound : ◌≡◌ {A = Trace} (record { prefix = prefix; fault = fault; handed = parts_of os bs }) b.trace → length os ≡ length bs → ts ≡ tags b.family.plan (awaited b.trace.handed) → new-os ≡ [] →
       Takes (parts_of (origins ts) bs) (meanings ts) begins after → BecomesWork (resumed_work [] []) after.work rest → AnswersKeepTasks → IsAnswered b w → IsSound next-body rest
   goes-on-sound view same are none h over law sound =
       let plan = b.family.plan in
@@ -249,11 +249,11 @@ module _ (b : Body) (w : Work) (told : List Event) (fault : Option Fault) (os : 
       }
 
 pub answered-sound : (b : Body) (w : Work) → IsSound b w → IsAnswered b w
-answered-sound b w h = record { task = h.task; taken = taken-length b.family _ (awaits-count b.family b.pieces.handed h.family); works = h.works }
+answered-sound b w h = record { task = h.task; taken = taken-length b.family _ (awaits-count b.family b.trace.handed h.family); works = h.works }
 
 -- Looks
 
-pub looked-last : (f g : FamilyView) (ps : List Part) (ready : Bool) (loads : List ℕ) → g ≡ record f { ready = ready; loads = loads } → AwaitsLast f ps → AwaitsLast g ps
+pub looked-last : (f g : FamilyView) (ps : List AwaitedChild) (ready : Bool) (loads : List ℕ) → g ≡ record f { ready = ready; loads = loads } → AwaitsLast f ps → AwaitsLast g ps
 looked-last f g ps ready loads e h =
     let there : AwaitsLast (record f { ready = ready; loads = loads }) ps = record { before = h.before; passed = h.passed; same = h.same; children = h.children; taken = h.taken } in
     subst (λ (x : FamilyView). AwaitsLast x ps) (sym e) there
@@ -262,7 +262,7 @@ looked-last f g ps ready loads e h =
 pub looked-sound : (b : Body) (w : Work) (g : FamilyView) (ready : Bool) (loads : List ℕ) → g ≡ record b.family { ready = ready; loads = loads } → IsSound b w → IsSound (record b { family = g }) w
 looked-sound b w g ready loads e h =
     let there : IsSound (record b { family = record b.family { ready = ready; loads = loads } }) w =
-    record { task = h.task; family = looked-last b.family (record b.family { ready = ready; loads = loads }) b.pieces.handed ready loads refl h.family; works = h.works } in
+    record { task = h.task; family = looked-last b.family (record b.family { ready = ready; loads = loads }) b.trace.handed ready loads refl h.family; works = h.works } in
     subst (λ (x : FamilyView). IsSound (record b { family = x }) w) (sym e) there
 
 -- a look that finds all answers, and the answers taken
@@ -293,15 +293,15 @@ taken-view b w g k ready loads e d t view =
     ∙ ap (λ (v : TaskView). record v { loads = g.loads }) view
 
 pub resumed-on : (b : Body) (w : Work) (g k : FamilyView) (ready : Bool) (loads : List ℕ) → g ≡ record b.family { ready = ready; loads = loads } → k ≡ record g { taken = k.taken } →
-    (t next : TaskView) → view_of b w ≡ t → t.cut ≡ None → (answers : List AnswerView) → AreAnswersOf k.plan b.pieces.handed answers → WentOn answers (view_of (record b { family = k }) w) next → HasPassed b.family.loads g.loads →
-    (xs : List AnswerView) × AreAnswersOf t.task.plan t.task.pieces.handed xs × resumes (any_cut xs) xs t next × HasPassed t.loads next.loads
+    (t next : TaskView) → view_of b w ≡ t → t.cut ≡ None → (answers : List AnswerView) → AreAnswersOf k.plan b.trace.handed answers → WentOn answers (view_of (record b { family = k }) w) next → HasPassed b.family.loads g.loads →
+    (xs : List AnswerView) × AreAnswersOf t.task.plan t.task.trace.handed xs × resumes (any_cut xs) xs t next × HasPassed t.loads next.loads
 resumed-on b w g k ready loads e d t next view goes answers are went-on passed = (answers, answered, both.0, both.1)
   where
     plan : k.plan ≡ t.task.plan
     plan = ap (λ (f : FamilyView). f.plan) d ∙ ap (λ (f : FamilyView). f.plan) e ∙ ap (λ (v : TaskView). v.task.plan) view
 
-    answered : AreAnswersOf t.task.plan t.task.pieces.handed answers
-    answered = subst (λ (v : TaskView). AreAnswersOf t.task.plan v.task.pieces.handed answers) view (subst (λ (p : PlanView). AreAnswersOf p b.pieces.handed answers) plan are)
+    answered : AreAnswersOf t.task.plan t.task.trace.handed answers
+    answered = subst (λ (v : TaskView). AreAnswersOf t.task.plan v.task.trace.handed answers) view (subst (λ (p : PlanView). AreAnswersOf p b.trace.handed answers) plan are)
 
     there : went (any_cut answers) answers (record t { loads = g.loads }) next
     there = subst (λ (v : TaskView). WentOn answers v next) (taken-view b w g k ready loads e d t view) went-on
@@ -318,7 +318,7 @@ resumed-on b w g k ready loads e d t next view goes answers are went-on passed =
       record {
         plan = h.0.plan;
         origin = h.0.origin;
-        told = h.0.told;
+        prefix = h.0.prefix;
         handed = h.0.handed;
         waits = h.0.waits;
         advanced = h.0.advanced;

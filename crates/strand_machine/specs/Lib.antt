@@ -2,11 +2,11 @@ pub mod Bodies
 pub mod Eyes
 pub mod Family
 pub mod Faults
-pub mod Going
+pub mod Merge
 pub mod Loops
 pub mod Made
 pub mod Noted
 pub mod Parts
-pub mod Shown
+pub mod Effects
 pub mod Stops
 pub mod Tasks

@@ -7,12 +7,12 @@ use Rattle.strand_machine.specs.declared.stop.Passed.{Passed}
 use Rattle.strand_machine.specs.declared.stop.Passed.TheVariants as passed
 use Rattle.strand_machine.specs.declared.stop.Resumed.{Resumed}
 use Rattle.strand_machine.specs.declared.stop.Resumed.TheVariants as resumed
-use Rattle.strand_machine.specs.declared.stop.Step.{Step}
-use Rattle.strand_machine.specs.declared.stop.Step.TheVariants as step
+use Rattle.strand_machine.specs.declared.stop.MoveOrStop.{MoveOrStop}
+use Rattle.strand_machine.specs.declared.stop.MoveOrStop.TheVariants as step
 use Rattle.strand_machine.specs.declared.stop.Stop.TheVariants as stop
 
 -- The move or stop that left the task's parts so.
-abbrev pub made : Parts → Passed → Step
+abbrev pub made : Parts → Passed → MoveOrStop
 made p passed.Goes = step.Passes (view_of p.body p.work)
 made p passed.Waits = step.Stops (stop.Wait (view_of p.body p.work))
 made p (passed.Spawned child) = step.Stops (stop.Spawn child (view_of p.body p.work))
@@ -33,7 +33,7 @@ IsStopped (passed.Spawned child) = Unit {0}
 IsStopped (passed.Ends outcome) = Unit {0}
 
 -- It is a stop, the task's next one.
-abbrev pub StopsSo : TaskView → Step → Type 0
+abbrev pub StopsSo : TaskView → MoveOrStop → Type 0
 StopsSo t (step.Passes next) = ⊥
 StopsSo t (step.Stops stop) = IsStop t stop
 

@@ -1,22 +1,22 @@
 -- What a call of `advance_noted` gives.
 use Rattle.std.specs.Prelude.{◌≡◌, ℕ, List, ◌++◌, Some}
-use Rattle.strand_meaning.specs.Notes as meaning
-use Rattle.strand_meaning.specs.Notes.{Shows, newest, token_items}
+use Rattle.strand_meaning.specs.Observation as meaning
+use Rattle.strand_meaning.specs.Observation.{Shows, newest, effect_items}
 use Rattle.strand_meaning.specs.Strands.{own_events, events_at}
-use Rattle.strand_moves.specs.Moves.{tokens_of}
-use Rattle.strand_moves.specs.declared.shown.Moved.{Moved}
-use Rattle.strand_moves.specs.declared.shown.Moved.TheVariants as moved
+use Rattle.strand_moves.specs.Moves.{effects_of}
+use Rattle.strand_moves.specs.declared.effects.MoveResult.{MoveResult}
+use Rattle.strand_moves.specs.declared.effects.MoveResult.TheVariants as moved
 use Rattle.strand_machine.specs.Eyes.{looks}
 use Rattle.strand_machine.specs.Stops.{IsStop, stop_of}
 use Rattle.strand_machine.specs.Tasks.{TaskView}
 use Rattle.strand_machine.specs.declared.eye.Eye.{Eye}
 use Rattle.strand_machine.specs.declared.note.Noted.{Noted}
-use Rattle.strand_machine.specs.declared.note.Notes.{Notes}
+use Rattle.strand_machine.specs.declared.note.Observed.{Observed}
 
 -- The next stop of a task, and of what is noted on the way to it that which is of this pedigree, with what the eye had seen before.
 pub record IsNoted (t : TaskView) (j : List ℕ) (before : Eye) (n : Noted) : Type 0 where
   pub stop : IsStop t n.stop
-  pub notes : meaning.Notes
+  pub notes : meaning.Observation
   pub shows : Shows t.task notes (stop_of n.stop)
   pub eye : n.eye ≡ looks j before notes.items
   pub events : n.events ≡ events_at j (own_events notes.items)
@@ -24,7 +24,7 @@ pub record IsNoted (t : TaskView) (j : List ℕ) (before : Eye) (n : Noted) : Ty
   pub joined : n.joined ≡ notes.joined
 
 -- these notes, and what a step shows of this pedigree
-abbrev pub with_step : List ℕ → meaning.Notes → Notes → Notes
+abbrev pub with_step : List ℕ → meaning.Observation → Observed → Observed
 with_step j step notes = record {
   eye = looks j notes.eye step.items;
   events = notes.events ++ events_at j (own_events step.items);
@@ -33,7 +33,7 @@ with_step j step notes = record {
 }
 
 -- and what a move of an instance shows
-abbrev pub with_moved : List ℕ → Moved → Notes → Notes
-with_moved j (moved.Went s) notes = record notes { eye = looks j notes.eye (token_items (tokens_of s)); events = notes.events ++ events_at j (own_events (token_items (tokens_of s))) }
-with_moved j (moved.Gave v) notes = notes
+abbrev pub with_moved : List ℕ → MoveResult → Observed → Observed
+with_moved j (moved.Went s) notes = record notes { eye = looks j notes.eye (effect_items (effects_of s)); events = notes.events ++ events_at j (own_events (effect_items (effects_of s))) }
+with_moved j (moved.Returned v) notes = notes
 with_moved j (moved.Faulted f) notes = record notes { fault = Some f }

@@ -2,24 +2,24 @@
 use Rattle.std.specs.Prelude.{List, [], ◌∷◌}
 use Rattle.serial_meaning.specs.declared.origin.Origin.{Origin}
 use Rattle.strand_meaning.specs.Machine as meaning
-use Rattle.strand_meaning.specs.Pieces.{Part}
-use Rattle.strand_machine.specs.declared.place.Place.{Place}
-use Rattle.strand_machine.specs.declared.place.Place.TheVariants as place
-use Rattle.strand_machine.specs.declared.pieces.Behind.{Behind}
+use Rattle.strand_meaning.specs.Trace.{AwaitedChild}
+use Rattle.strand_machine.specs.declared.destination.Destination.{Destination}
+use Rattle.strand_machine.specs.declared.destination.Destination.TheVariants as place
+use Rattle.strand_machine.specs.declared.trace.Behind.{Behind}
 
-abbrev pub place_of : Place → meaning.Place
+abbrev pub place_of : Destination → meaning.Destination
 place_of (place.Spawned height target) = meaning.Spawned height target
 place_of (place.Looped target) = meaning.Looped target
 place_of place.Half = meaning.Half
 
-abbrev pub part_of : Origin → Behind → Part
+abbrev pub part_of : Origin → Behind → AwaitedChild
 part_of child b = record { child = child; place = place_of b.place; behind = b.events }
 
-abbrev pub parts_of : List Origin → List Behind → List Part
+abbrev pub parts_of : List Origin → List Behind → List AwaitedChild
 parts_of [] bs = []
 parts_of (o ∷ os) [] = []
 parts_of (o ∷ os) (b ∷ bs) = part_of o b ∷ parts_of os bs
 
-abbrev pub awaited : List Part → List Origin
+abbrev pub awaited : List AwaitedChild → List Origin
 awaited [] = []
 awaited (p ∷ ps) = p.child ∷ awaited ps

@@ -7,7 +7,7 @@ use Rattle.strand_meaning.specs.Laws.{IsFaultOf}
 use Rattle.strand_meaning.specs.Answers.{answer_evaluations}
 use Rattle.strand_meaning.specs.Cuts.{AreAnswersOf, IsByFaultOf, by_fault, ended_after}
 use Rattle.strand_meaning.specs.Left.{moves_left}
-use Rattle.strand_meaning.specs.Pieces.{heard_all}
+use Rattle.strand_meaning.specs.Trace.{heard_all}
 use Rattle.strand_meaning.specs.Rest.{evaluations}
 use Rattle.strand_meaning.specs.Task as meaning
 use Rattle.strand_meaning.specs.Task.{IsNext, on}
@@ -19,8 +19,8 @@ use Rattle.strand_machine.specs.Tasks.{TaskView, fresh_with, ended_by}
 use Rattle.strand_machine.specs.declared.body.Body.{Body}
 use Rattle.strand_machine.specs.declared.stop.Stop.{Stop}
 use Rattle.strand_machine.specs.declared.stop.Stop.TheVariants as stop
-use Rattle.strand_machine.specs.declared.stop.Step.{Step}
-use Rattle.strand_machine.specs.declared.stop.Step.TheVariants as step
+use Rattle.strand_machine.specs.declared.stop.MoveOrStop.{MoveOrStop}
+use Rattle.strand_machine.specs.declared.stop.MoveOrStop.TheVariants as step
 use Rattle.strand_machine.specs.declared.stop.Resumed.{Resumed}
 use Rattle.strand_machine.specs.declared.stop.Resumed.TheVariants as resumed
 
@@ -29,7 +29,7 @@ stop_of (stop.Spawn child rest) = meaning.Spawn child.task.origin rest.task
 stop_of (stop.Wait rest) = meaning.Wait rest.task
 stop_of (stop.Done answer give) = meaning.End answer.out answer.outcome
 
-abbrev pub step_of : Step → meaning.Step
+abbrev pub step_of : MoveOrStop → meaning.MoveOrStop
 step_of (step.Passes next) = meaning.Passes next.task
 step_of (step.Stops stop) = meaning.Stops (stop_of stop)
 
@@ -42,12 +42,12 @@ Keeps t (stop.Spawn child rest) =
 Keeps t (stop.Wait rest) = (rest.children ≡ t.children) × (rest.loads ≡ t.loads) × (rest.knows ≡ t.knows) × (rest.cut ≡ None)
 Keeps t (stop.Done answer give) = (answer.plan ≡ t.task.plan) × (answer.origin ≡ t.task.origin) × (give ≡ tag t.task.plan t.task.origin)
 
-abbrev pub KeepsStep : TaskView → Step → Type 0
+abbrev pub KeepsStep : TaskView → MoveOrStop → Type 0
 KeepsStep t (step.Passes next) = (next.children ≡ t.children) × (next.loads ≡ t.loads) × (next.knows ≡ t.knows) × (next.cut ≡ None)
 KeepsStep t (step.Stops stop) = Keeps t stop
 
 -- The next move or stop of a task.
-pub record IsStep (t : TaskView) (s : Step) : Type 0 where
+pub record IsStep (t : TaskView) (s : MoveOrStop) : Type 0 where
   pub is : meaning.step t.task ≡ step_of s
   pub keeps : KeepsStep t s
 
@@ -64,24 +64,24 @@ pub record LeadsTo (first now : TaskView) : Type 0 where
   pub cut : now.cut ≡ None
 
 -- Moves of a task in a row, and the next move or stop after them.
-pub record IsRun (t : TaskView) (s : Step) : Type 0 where
+pub record IsRun (t : TaskView) (s : MoveOrStop) : Type 0 where
   pub before : TaskView
   pub leads : LeadsTo t before
   pub step : IsStep before s
 
 -- An instance that goes on makes moves in a row. Else it is one move or stop.
-abbrev pub stage_goes_on : meaning.Stage → TaskView → Step → Type 0
-stage_goes_on (meaning.Goes m) = IsRun
+abbrev pub stage_goes_on : meaning.InstanceState → TaskView → MoveOrStop → Type 0
+stage_goes_on (meaning.Running m) = IsRun
 stage_goes_on (meaning.AtSync m) = IsStep
 stage_goes_on (meaning.AtLoop m) = IsStep
 stage_goes_on (meaning.Ended e) = IsStep
 
-abbrev pub work_goes_on : meaning.Work → TaskView → Step → Type 0
+abbrev pub work_goes_on : meaning.Work → TaskView → MoveOrStop → Type 0
 work_goes_on (meaning.Splits left) = IsStep
 work_goes_on (meaning.Runs stage) = stage_goes_on stage
 work_goes_on (meaning.Over v gone_on) = IsStep
 
-abbrev pub GoesOn : TaskView → Step → Type 0
+abbrev pub GoesOn : TaskView → MoveOrStop → Type 0
 GoesOn t = work_goes_on t.task.work t
 
 -- a child is of an origin of the plan, and a fault by which the task ended is one of the plan's
@@ -98,7 +98,7 @@ pub record IsStop (t : TaskView) (s : Stop) : Type 0 where
 
 -- The end of a task that took a cut.
 pub record IsCutEnd (t : TaskView) (ended : Outcome) (s : Stop) : Type 0 where
-  pub is : s ≡ stop.Done (record { plan = t.task.plan; origin = t.task.origin; out = t.task.pieces.told; outcome = ended }) (tag t.task.plan t.task.origin)
+  pub is : s ≡ stop.Done (record { plan = t.task.plan; origin = t.task.origin; out = t.task.trace.prefix; outcome = ended }) (tag t.task.plan t.task.origin)
   pub known : IsByFaultOf t.task.plan ended
 
 abbrev pub advances : Option Outcome → TaskView → Stop → Type 0
@@ -111,7 +111,7 @@ Advances t s = advances t.cut t s
 
 -- The task with the answers of its children, which are their evaluations.
 abbrev pub went_on : TaskView → meaning.Task
-went_on t = on (evaluations (eval t.task.plan) t.task.pieces.handed) t.task
+went_on t = on (evaluations (eval t.task.plan) t.task.trace.handed) t.task
 
 abbrev pub is_cut : Outcome → Bool
 is_cut (outcome.Value v) = false
@@ -125,18 +125,18 @@ any_cut [] = false
 any_cut (a ∷ answers) = is_cut a.outcome || any_cut answers
 
 -- what a task told once it heard these answers
-abbrev pub told_with : List AnswerView → meaning.Task → List Event
-told_with answers t = (heard_all t.pieces.handed (answer_evaluations answers) (record t.pieces { handed = [] })).told
+abbrev pub prefix_with : List AnswerView → meaning.Task → List Event
+prefix_with answers t = (heard_all t.trace.handed (answer_evaluations answers) (record t.trace { handed = [] })).prefix
 
--- A task that took these answers, of which one is a cut. It ends by the first fault or cut in the order of its pieces.
+-- A task that took these answers, of which one is a cut. It ends by the first fault or cut in the order of its trace.
 pub record IsCutOn (answers : List AnswerView) (t next : TaskView) : Type 0 where
   pub plan : next.task.plan ≡ t.task.plan
   pub origin : next.task.origin ≡ t.task.origin
-  pub told : next.task.pieces.told ≡ told_with answers t.task
-  pub handed : next.task.pieces.handed ≡ []
+  pub prefix : next.task.trace.prefix ≡ prefix_with answers t.task
+  pub handed : next.task.trace.handed ≡ []
   pub waits : next.task.waiting ≡ false
   pub advanced : next.task.advanced ≡ t.task.advanced
-  pub cut : next.cut ≡ ended_after (by_fault t.task.pieces.fault) answers
+  pub cut : next.cut ≡ ended_after (by_fault t.task.trace.fault) answers
   pub children : next.children ≡ t.children
   pub knows : next.knows ≡ t.knows
 
@@ -147,7 +147,7 @@ resumes true answers t next = IsCutOn answers t next
 -- The wait is over, and the task took these answers of its children; or it is as it was, and a look has loaded a number that isn't 0.
 abbrev pub IsResumed : TaskView → Resumed → Type 0
 IsResumed t (resumed.On next) =
-    (answers : List AnswerView) × AreAnswersOf t.task.plan t.task.pieces.handed answers × resumes (any_cut answers) answers t next × HasPassed t.loads next.loads
+    (answers : List AnswerView) × AreAnswersOf t.task.plan t.task.trace.handed answers × resumes (any_cut answers) answers t next × HasPassed t.loads next.loads
 IsResumed t (resumed.NotYet same) = (same.task ≡ t.task) × (same.children ≡ t.children) × HasStopped t.loads same.loads × (same.knows ≡ t.knows) × (same.cut ≡ t.cut)
 
 abbrev pub answer_tags : List AnswerView → List AnswerTag
@@ -166,12 +166,12 @@ went true answers t next = IsCutOn answers t next × (next.loads ≡ t.loads)
 abbrev pub WentOn : List AnswerView → TaskView → TaskView → Type 0
 WentOn answers t next = went (any_cut answers) answers t next
 
--- that a task may end so, and its end: by the fault among its pieces, or else so
+-- that a task may end so, and its end: by the fault in its trace, or else so
 abbrev pub CanEnd : Body → Outcome → Type 0
-CanEnd b o = IsAnswer b.family.plan b.family.origin b.pieces.told (ended_by b.pieces.fault o)
+CanEnd b o = IsAnswer b.family.plan b.family.origin b.trace.prefix (ended_by b.trace.fault o)
 
-abbrev pub ended : Body → Outcome → Step
+abbrev pub ended : Body → Outcome → MoveOrStop
 ended b o =
     step.Stops
-    (stop.Done (record { plan = b.family.plan; origin = b.family.origin; out = b.pieces.told; outcome = ended_by b.pieces.fault o })
+    (stop.Done (record { plan = b.family.plan; origin = b.family.origin; out = b.trace.prefix; outcome = ended_by b.trace.fault o })
     (tag b.family.plan b.family.origin))

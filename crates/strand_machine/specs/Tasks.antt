@@ -3,7 +3,7 @@ use Rattle.std.specs.Prelude.{◌≡◌, ℕ, Bool, true, false, List, [], ◌++
 use Rattle.std.specs.Prelude.{pos}
 use Rattle.serial_meaning.specs.Answer.{IsAnswer}
 use Rattle.serial_meaning.specs.Eval.{path_of}
-use Rattle.serial_meaning.specs.Open.{Own, Joined}
+use Rattle.serial_meaning.specs.Open.{Own, ChildFaulted}
 use Rattle.serial_meaning.specs.Plan.{PlanView}
 use Rattle.serial_meaning.specs.declared.event.Fault.{Fault}
 use Rattle.serial_meaning.specs.declared.value.Value.TheVariants.{Int}
@@ -11,7 +11,7 @@ use Rattle.serial_meaning.specs.declared.origin.Origin.{Origin}
 use Rattle.serial_meaning.specs.declared.answer.Outcome.{Outcome}
 use Rattle.serial_meaning.specs.declared.answer.Outcome.TheVariants as outcome
 use Rattle.strand_meaning.specs.Cuts.{IsByFaultOf}
-use Rattle.strand_meaning.specs.Pieces.{Part, hand}
+use Rattle.strand_meaning.specs.Trace.{AwaitedChild, add_child}
 use Rattle.strand_meaning.specs.Task as meaning
 use Rattle.strand_meaning.specs.Task.{Task, start, own_instance}
 use Rattle.strand_meaning.specs.Sound.{IsTask}
@@ -22,9 +22,9 @@ use Rattle.strand_machine.specs.Family.{FamilyView, handed}
 use Rattle.strand_machine.specs.Loops.{is_root}
 use Rattle.strand_machine.specs.Parts.{awaited, place_of}
 use Rattle.strand_machine.specs.declared.body.Body.{Body}
-use Rattle.strand_machine.specs.declared.place.Place.{Place}
-use Rattle.strand_machine.specs.declared.work.Stage.{Stage}
-use Rattle.strand_machine.specs.declared.work.Stage.TheVariants as stage
+use Rattle.strand_machine.specs.declared.destination.Destination.{Destination}
+use Rattle.strand_machine.specs.declared.work.InstanceState.{InstanceState}
+use Rattle.strand_machine.specs.declared.work.InstanceState.TheVariants as stage
 use Rattle.strand_machine.specs.declared.work.Work.{Work}
 use Rattle.strand_machine.specs.declared.work.Work.TheVariants as work
 
@@ -46,13 +46,13 @@ fresh_with knows plan o = record { task = start plan o; children = []; loads = [
 abbrev pub fresh : PlanView → Origin → TaskView
 fresh plan o = fresh_with (is_root o) plan o
 
-abbrev pub stage_of : PlanView → Stage → meaning.Stage
-stage_of plan (stage.Goes i) = meaning.Goes (moves.machine_of plan i)
+abbrev pub stage_of : PlanView → InstanceState → meaning.InstanceState
+stage_of plan (stage.Running i) = meaning.Running (moves.machine_of plan i)
 stage_of plan (stage.AtSync i) = meaning.AtSync (moves.machine_of plan i)
 stage_of plan (stage.AtLoop i) = meaning.AtLoop (moves.machine_of plan i)
-stage_of plan (stage.Gave v) = meaning.Ended (Ok v)
+stage_of plan (stage.Returned v) = meaning.Ended (Ok v)
 stage_of plan (stage.Faulted f) = meaning.Ended (Err (Own f))
-stage_of plan (stage.Joined f) = meaning.Ended (Err (Joined f))
+stage_of plan (stage.ChildFaulted f) = meaning.Ended (Err (ChildFaulted f))
 
 abbrev pub work_of : PlanView → Work → meaning.Work
 work_of plan (work.Splits left) = meaning.Splits left.range
@@ -74,7 +74,7 @@ abbrev pub task_with : Body → meaning.Work → Task
 task_with b w = record {
   plan = b.family.plan;
   origin = b.family.origin;
-  pieces = b.pieces;
+  trace = b.trace;
   values = b.values;
   work = w;
   waiting = b.waiting;
@@ -88,7 +88,7 @@ abbrev pub view_of : Body → Work → TaskView
 view_of b w = record { task = task_of b w; children = b.family.children; loads = b.family.loads; knows = b.family.knows; cut = cut_of w }
 
 -- The join's last tags are those of the children whose answers aren't taken.
-pub record AwaitsLast (family : FamilyView) (parts : List Part) : Type 0 where
+pub record AwaitsLast (family : FamilyView) (parts : List AwaitedChild) : Type 0 where
   pub before : List Origin
   pub passed : List Bool
   pub same : length passed ≡ length before
@@ -100,13 +100,13 @@ pub record RunsAt (plan : PlanView) (path : List ℕ) (i : Instance) : Type 0 wh
   pub sound : moves.IsInstance plan i
   pub at : moves.path_of i ≡ path
 
-abbrev pub StandsAt : PlanView → List ℕ → Stage → Type 0
-StandsAt plan path (stage.Goes i) = RunsAt plan path i
+abbrev pub StandsAt : PlanView → List ℕ → InstanceState → Type 0
+StandsAt plan path (stage.Running i) = RunsAt plan path i
 StandsAt plan path (stage.AtSync i) = RunsAt plan path i
 StandsAt plan path (stage.AtLoop i) = RunsAt plan path i
-StandsAt plan path (stage.Gave v) = Unit {0}
+StandsAt plan path (stage.Returned v) = Unit {0}
 StandsAt plan path (stage.Faulted f) = Unit {0}
-StandsAt plan path (stage.Joined f) = Unit {0}
+StandsAt plan path (stage.ChildFaulted f) = Unit {0}
 
 -- the same of what remains of a task of this origin; a loop that is split has the trail of its strand
 abbrev pub WorksAt : PlanView → Origin → Work → Type 0
@@ -118,12 +118,12 @@ WorksAt plan o (work.Cut ended) = ⊥
 -- What holds of a task that took no cut.
 pub record IsSound (b : Body) (w : Work) : Type 0 where
   pub task : IsTask (task_of b w)
-  pub family : AwaitsLast b.family b.pieces.handed
+  pub family : AwaitsLast b.family b.trace.handed
   pub works : WorksAt b.family.plan b.family.origin w
 
 -- What holds of a task that took a cut: it ends so.
 pub record IsCutShort (b : Body) (ended : Outcome) : Type 0 where
-  pub answers : IsAnswer b.family.plan b.family.origin b.pieces.told ended
+  pub answers : IsAnswer b.family.plan b.family.origin b.trace.prefix ended
   pub known : IsByFaultOf b.family.plan ended
   pub waits : b.waiting ≡ false
 
@@ -141,10 +141,10 @@ gone b = record b { advanced = true }
 abbrev pub waiting : Body → Body
 waiting b = record b { waiting = true; advanced = true }
 
-abbrev pub with_child : Body → Origin → Place → Body
-with_child b o p = record b { family = handed b.family o; pieces = hand o (place_of p) b.pieces; advanced = true }
+abbrev pub with_child : Body → Origin → Destination → Body
+with_child b o p = record b { family = handed b.family o; trace = add_child o (place_of p) b.trace; advanced = true }
 
--- the fault among the pieces, or else so
+-- the fault in the trace, or else so
 abbrev pub ended_by : Option Fault → Outcome → Outcome
 ended_by (Some f) o = outcome.Fault f
 ended_by None o = o

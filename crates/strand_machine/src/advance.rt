@@ -30,14 +30,14 @@ impl Task {
         let Work::Cut(ended) = work else {
             unreachable!()
         };
-        let Body { family, pieces, .. } = body;
-        let (told, _) = pieces.told();
-        let (answer, give) = family.answer(told, ended);
+        let Body { family, trace, .. } = body;
+        let (prefix, _) = trace.prefix();
+        let (answer, give) = family.answer(prefix, ended);
         Stop::Done { answer, give }
     }
 
     /// Runs to the next stop: a child that is handed out, a wait, or the end. A task that waits stops at its wait again. One that took an
-    /// answer that is a cut ends by the first fault or cut in the order of its pieces. On `Memory` it is dropped.
+    /// answer that is a cut ends by the first fault or cut in the order of its trace. On `Memory` it is dropped.
     pub fn advance(self, alloc: Global) -> Result<Stop, Memory>
         ensures { IfOk result (Advances self) }
     {

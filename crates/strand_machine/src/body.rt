@@ -1,6 +1,6 @@
 ghost use Rattle.std.specs.Prelude.{◌≡◌, ◌<◌, [], IsTrue, ◌↔◌};
 
-use crate::pieces::Pieces;
+use crate::trace::Trace;
 use script_grammar::Items;
 use serial_meaning::{Origin, Value};
 use std::alloc::Global;
@@ -11,7 +11,7 @@ use strand_family::Family;
 #[derive(Drop)]
 pub(crate) struct Body {
     pub family: Family,
-    pub pieces: Pieces,
+    pub trace: Trace,
     /// The values of a loop's iterations whose answers were taken, in order.
     pub values: Items<Value>,
     pub waiting: bool,

@@ -98,7 +98,7 @@ impl Eye {
     }
 
     /// An event of the instance's own.
-    pub(crate) fn tell(&mut self, at: &Pedigree, event: &Event)
+    pub(crate) fn emit(&mut self, at: &Pedigree, event: &Event)
         ensures { self.new ≡ looks at.now self.old (Happened event.now ∷ []) }
     {
         self.past = is_past(pedigree(event), at);
@@ -113,14 +113,14 @@ impl Eye {
     }
 
     /// A scope with this path begins.
-    pub(crate) fn open(&mut self, at: &Pedigree, path: &Ped)
+    pub(crate) fn enter_scope(&mut self, at: &Pedigree, path: &Ped)
         ensures { self.new ≡ looks at.now self.old (Opened path.now ∷ []) }
     {
         self.go_to(first_of(path, at));
     }
 
     /// The scope has ended that this strand began.
-    pub(crate) fn close(&mut self, at: &Pedigree, scope: &Pedigree)
+    pub(crate) fn leave_scope(&mut self, at: &Pedigree, scope: &Pedigree)
         ensures { self.new ≡ looks at.now self.old (Closed scope.now ∷ []) }
     {
         self.go_to(after(scope, at));

@@ -32,7 +32,7 @@ impl Task {
         answers: Items<Answer>,
         last: Answer,
     ) -> Result<(Answer, Give<Answer>), Memory>
-        requires tags { answer_tags answers ++ tag last.plan last.origin ∷ [] ≡ tags self.task.plan (awaited self.task.pieces.handed) }
+        requires tags { answer_tags answers ++ tag last.plan last.origin ∷ [] ≡ tags self.task.plan (awaited self.task.trace.handed) }
         requires fault { is_fault last.outcome ≡ true }
         requires whole { any_cut answers ≡ false }
         requires goes_on { self.cut ≡ None }
@@ -47,13 +47,13 @@ impl Task {
         let Parts { body, work } = Box::into_inner(parts);
         let Body {
             family,
-            pieces,
+            trace,
             values,
             ..
         } = body;
         drop((work, values));
-        let (told, fault) = pieces.told();
+        let (prefix, fault) = trace.prefix();
         let Some(fault) = fault else { unreachable!() };
-        Ok(family.answer(told, Outcome::Fault(fault)))
+        Ok(family.answer(prefix, Outcome::Fault(fault)))
     }
 }

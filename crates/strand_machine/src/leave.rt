@@ -7,20 +7,20 @@ ghost use Rattle.strand_machine.specs.Loops.{IsHandedFor};
 ghost use Rattle.strand_machine.specs.Made.{IsSoundMade, made};
 ghost use Rattle.strand_machine.specs.Stops.{IsStep};
 ghost use Rattle.strand_machine.specs.Tasks.{IsSound, view_of, fresh_with, gone, waiting, with_child};
-ghost use Rattle.strand_machine.specs.declared.stop.Step.TheVariants as step;
+ghost use Rattle.strand_machine.specs.declared.stop.MoveOrStop.TheVariants as step;
 ghost use Rattle.strand_machine.specs.declared.stop.Stop.TheVariants as stop;
-ghost use Rattle.strand_machine.specs.declared.work.Stage.TheVariants as stage;
+ghost use Rattle.strand_machine.specs.declared.work.InstanceState.TheVariants as stage;
 ghost use Rattle.strand_machine.specs.declared.work.Work.TheVariants as work;
 
 use crate::body::Body;
-use crate::kept::set;
+use crate::destination::Destination;
 use crate::memory::Memory;
 use crate::origin::share_origin;
 use crate::parts::Parts;
-use crate::place::Place;
+use crate::replace::set;
 use crate::stop::Passed;
 use crate::task::Task;
-use crate::work::{Stage, Work};
+use crate::work::{InstanceState, Work};
 use script_grammar::Boxed;
 use serial_meaning::{AnswerKey, Fault, Origin, Outcome, Value};
 use std::alloc::Global;
@@ -84,7 +84,12 @@ fn begin_child(family: &mut Family, alloc: Global, child: Child) -> Result<Task,
 
 /// Begins a child whose value goes to this place.
 #[inline(always)]
-fn hand_out(body: &mut Body, alloc: Global, child: Child, place: Place) -> Result<Task, Memory>
+fn hand_out(
+    body: &mut Body,
+    alloc: Global,
+    child: Child,
+    place: Destination,
+) -> Result<Task, Memory>
     requires own { IsOriginOf body.old.family.plan body.old.family.origin }
     requires known { IsOriginOf body.old.family.plan child.origin }
     requires trail { IsTrailOf body.old.family.plan child.origin child.trail }
@@ -99,7 +104,7 @@ fn hand_out(body: &mut Body, alloc: Global, child: Child, place: Place) -> Resul
             return Err(memory);
         }
     };
-    match body.pieces.hand(shared, place) {
+    match body.trace.add_child(shared, place) {
         Ok(()) => {
             body.advanced = true;
             begin_child(&mut body.family, alloc, child)
@@ -117,7 +122,7 @@ pub(crate) fn spawn_part(
     parts: &mut Parts,
     alloc: Global,
     child: Child,
-    place: Place,
+    place: Destination,
     work: Work,
 ) -> Result<Passed, Memory>
     requires known { IsOriginOf parts.old.body.family.plan child.origin }
@@ -145,7 +150,7 @@ pub(crate) fn spawn(
     parts: &mut Parts,
     alloc: Global,
     child: Boxed<Child>,
-    place: Place,
+    place: Destination,
     work: Work,
 ) -> Result<Passed, Memory>
     requires known { IsOriginOf parts.old.body.family.plan child.origin }
@@ -160,9 +165,9 @@ pub(crate) fn spawn(
 }
 
 /// An instance that ended by a value: the task ends too, or else it was the last iteration of a loop.
-pub(crate) fn give(parts: &mut Parts, value: Value) -> Passed
-    requires { IsSound parts.old.body (work.Runs (stage.Gave value)) }
-    ensures step { IsStep (view_of parts.old.body (work.Runs (stage.Gave value))) (made parts.new result) }
+pub(crate) fn returned(parts: &mut Parts, value: Value) -> Passed
+    requires { IsSound parts.old.body (work.Runs (stage.Returned value)) }
+    ensures step { IsStep (view_of parts.old.body (work.Runs (stage.Returned value))) (made parts.new result) }
     ensures sound { IsSoundMade parts.new result }
 {
     laws::steps_are_sound();
@@ -173,14 +178,14 @@ pub(crate) fn give(parts: &mut Parts, value: Value) -> Passed
 }
 
 /// An instance that ended by a fault of its own. The task waits for the children that it handed out, and then ends by it.
-pub(crate) fn fault(parts: &mut Parts, fault: Fault) -> Passed
+pub(crate) fn faulted(parts: &mut Parts, fault: Fault) -> Passed
     requires { IsSound parts.old.body (work.Runs (stage.Faulted fault)) }
     ensures step { IsStep (view_of parts.old.body (work.Runs (stage.Faulted fault))) (made parts.new result) }
     ensures sound { IsSoundMade parts.new result }
 {
     laws::steps_are_sound();
-    if parts.body.pieces.is_alone() {
+    if parts.body.trace.is_alone() {
         return Passed::Ends(Outcome::Fault(fault));
     }
-    wait(parts, Work::Runs(Stage::Faulted(fault)))
+    wait(parts, Work::Runs(InstanceState::Faulted(fault)))
 }

@@ -5,22 +5,22 @@
 
 mod advance;
 mod body;
+mod destination;
 mod eye;
 mod fault;
-mod going;
-mod kept;
 mod leave;
 mod memory;
+mod merge;
 mod note;
 mod origin;
 mod parts;
-mod pieces;
-mod place;
+mod replace;
 mod resume;
 mod run;
 mod step;
 mod stop;
 mod task;
+mod trace;
 mod work;
 
 pub use eye::Eye;

@@ -3,22 +3,22 @@ ghost use Rattle.std.specs.Prelude.{◌≡◌, ◌-◌, List, [], true, length, 
 ghost use Rattle.serial_meaning.specs.Plan.{PlanView};
 ghost use Rattle.strand_meaning.specs.Task.{resumed, resumed_work};
 ghost use Rattle.strand_machine.specs.Family.{tags, origins, AwaitsCount};
-ghost use Rattle.strand_machine.specs.Going.{BecomesStage, BecomesWork, EndsShort, IsAnswered, IsShort, IsWhole, TakesAnswers, end_of};
+ghost use Rattle.strand_machine.specs.Merge.{BecomesStage, BecomesWork, EndsShort, IsAnswered, IsShort, IsWhole, TakesAnswers, end_of};
 ghost use Rattle.strand_machine.specs.Parts.{awaited, parts_of};
 ghost use Rattle.strand_meaning.specs.Cuts.{AreAnswersOf};
 ghost use Rattle.strand_machine.specs.Made.{resumed_as};
 ghost use Rattle.strand_machine.specs.Stops.{IsResumed, WentOn, answer_tags};
 ghost use Rattle.strand_machine.specs.Tasks.{Holds, IsSound, view_of};
-ghost use Rattle.strand_machine.specs.declared.work.Stage.TheVariants as stage;
+ghost use Rattle.strand_machine.specs.declared.work.InstanceState.TheVariants as stage;
 
-use crate::going::Going;
-use crate::kept::set;
 use crate::memory::Memory;
+use crate::merge::Merge;
 use crate::parts::Parts;
-use crate::pieces::{Behind, Pieces};
+use crate::replace::set;
 use crate::stop::Resumed;
 use crate::task::Task;
-use crate::work::{Stage, Work};
+use crate::trace::{Behind, Trace};
+use crate::work::{InstanceState, Work};
 use meet_block::Look;
 use script_grammar::Items;
 use serial_meaning::{Answer, Fault, Outcome};
@@ -45,27 +45,27 @@ fn take_answers(family: &mut Family, alloc: Global, awaited: u64) -> Result<Item
 }
 
 /// An instance at a sync goes on, or ends by the least fault of the children for which it waited.
-fn join(instance: Instance) -> Result<Stage, Memory>
+fn join(instance: Instance) -> Result<InstanceState, Memory>
     ensures { IfOk result (BecomesStage resumed (stage.AtSync instance)) }
 {
     let fault = match instance.faulted() {
         Some(fault) => fault.share()?,
-        None => return Ok(Stage::Goes(instance)),
+        None => return Ok(InstanceState::Running(instance)),
     };
-    Ok(Stage::Joined(fault))
+    Ok(InstanceState::ChildFaulted(fault))
 }
 
 /// A stage once a wait is over.
-fn go_on_stage(stage: Stage) -> Result<Stage, Memory>
+fn go_on_stage(stage: InstanceState) -> Result<InstanceState, Memory>
     ensures { IfOk result (BecomesStage resumed stage) }
 {
     match stage {
-        Stage::AtSync(instance) => join(instance),
-        Stage::Goes(instance) => Ok(Stage::Goes(instance)),
-        Stage::AtLoop(instance) => Ok(Stage::Goes(instance)),
-        Stage::Gave(value) => Ok(Stage::Gave(value)),
-        Stage::Faulted(fault) => Ok(Stage::Faulted(fault)),
-        Stage::Joined(fault) => Ok(Stage::Joined(fault)),
+        InstanceState::AtSync(instance) => join(instance),
+        InstanceState::Running(instance) => Ok(InstanceState::Running(instance)),
+        InstanceState::AtLoop(instance) => Ok(InstanceState::Running(instance)),
+        InstanceState::Returned(value) => Ok(InstanceState::Returned(value)),
+        InstanceState::Faulted(fault) => Ok(InstanceState::Faulted(fault)),
+        InstanceState::ChildFaulted(fault) => Ok(InstanceState::ChildFaulted(fault)),
     }
 }
 
@@ -85,14 +85,14 @@ fn go_on_work(work: Work) -> Result<Work, Memory>
 }
 
 /// Takes the answers of all awaited children, in order. Their list comes back, and keeps its room.
-fn take_all(
-    going: &mut Going,
+fn merge_all(
+    merge: &mut Merge,
     alloc: Global,
     behind: Vec<Behind>,
     answers: Items<Answer>,
 ) -> Result<Items<Answer>, Memory>
     requires { length answers ≡ length behind.items }
-    ensures takes { let told = answer_tags answers in OnOk result (TakesAnswers (parts_of (origins told) behind.items) answers going.old going.new) }
+    ensures takes { let heard = answer_tags answers in OnOk result (TakesAnswers (parts_of (origins heard) behind.items) answers merge.old merge.new) }
     ensures none { IfOk result (λ left. left ≡ []) }
 {
     let mut left = answers.0;
@@ -101,7 +101,7 @@ fn take_all(
         let Some(answer) = left.pop() else {
             unreachable!()
         };
-        going.take(alloc, part, answer)?;
+        merge.merge_answer(alloc, part, answer)?;
     }
     Ok(Items(left))
 }
@@ -118,55 +118,55 @@ fn end_of(fault: Option<Fault>, by_cut: bool) -> Option<Outcome>
 }
 
 /// What is left of a task that took a cut: it ends by the first fault or cut.
-fn cut_short(parts: &mut Parts, alloc: Global, going: Going)
-    requires { EndsShort parts.old.body.family going }
-    ensures short { IsShort parts.old.body.family going parts.old.body.advanced (view_of parts.new.body parts.new.work) }
+fn cut_short(parts: &mut Parts, alloc: Global, merge: Merge)
+    requires { EndsShort parts.old.body.family merge }
+    ensures short { IsShort parts.old.body.family merge parts.old.body.advanced (view_of parts.new.body parts.new.work) }
     ensures holds { Holds parts.new.body parts.new.work }
 {
-    let Going {
-        told,
+    let Merge {
+        prefix,
         fault,
         by_cut,
         values,
         work,
         ..
-    } = going;
+    } = merge;
     drop((values, work));
     let Some(outcome) = end_of(fault, by_cut) else {
         unreachable!()
     };
-    set(&mut parts.body.pieces, Pieces::of(alloc, told));
+    set(&mut parts.body.trace, Trace::of(alloc, prefix));
     parts.body.waiting = false;
     set(&mut parts.work, Work::Cut(outcome));
 }
 
 /// What is left of a task that took answers, none of them a cut: it goes on.
-fn goes_on(parts: &mut Parts, alloc: Global, going: Going) -> Result<(), Memory>
-    ensures { OnOk result (IsWhole going parts.old.body parts.new) }
+fn goes_on(parts: &mut Parts, alloc: Global, merge: Merge) -> Result<(), Memory>
+    ensures { OnOk result (IsWhole merge parts.old.body parts.new) }
 {
-    let Going {
-        told,
+    let Merge {
+        prefix,
         fault,
         values,
         work,
         ..
-    } = going;
-    let pieces = Pieces {
-        told,
+    } = merge;
+    let trace = Trace {
+        prefix,
         fault,
         awaited: Items(Vec::new(alloc)),
         behind: Vec::new(alloc),
     };
     match go_on_work(work) {
         Ok(work) => {
-            set(&mut parts.body.pieces, pieces);
+            set(&mut parts.body.trace, trace);
             set(&mut parts.body.values, values);
             parts.body.waiting = false;
             set(&mut parts.work, work);
             Ok(())
         }
         Err(memory) => {
-            drop((pieces, values));
+            drop((trace, values));
             Err(memory)
         }
     }
@@ -179,45 +179,45 @@ pub(crate) fn go_on(
     answers: Items<Answer>,
 ) -> Result<Items<Answer>, Memory>
     requires sound { IsAnswered parts.old.body parts.old.work }
-    requires tags { answer_tags answers ≡ tags parts.old.body.family.plan (awaited parts.old.body.pieces.handed) }
+    requires tags { answer_tags answers ≡ tags parts.old.body.family.plan (awaited parts.old.body.trace.handed) }
     ensures went { OnOk result (WentOn answers (view_of parts.old.body parts.old.work) (view_of parts.new.body parts.new.work)) }
-    ensures answers { OnOk result (AreAnswersOf parts.old.body.family.plan parts.old.body.pieces.handed answers) }
+    ensures answers { OnOk result (AreAnswersOf parts.old.body.family.plan parts.old.body.trace.handed answers) }
     ensures none { IfOk result (λ left. left ≡ []) }
     ensures holds { OnOk result (Holds parts.new.body parts.new.work) }
 {
     laws::answers_keep_tasks();
     laws::answers_are_evaluations();
     laws::answers_end();
-    let taken = mem::replace(&mut parts.body.pieces, Pieces::new(alloc));
+    let taken = mem::replace(&mut parts.body.trace, Trace::new(alloc));
     let values = mem::replace(&mut parts.body.values, Items(Vec::new(alloc)));
     let work = mem::replace(&mut parts.work, Work::nothing());
-    let Pieces {
-        told,
+    let Trace {
+        prefix,
         fault,
         behind,
         awaited,
     } = taken;
     drop(awaited);
-    let mut going = Going {
-        told,
+    let mut merge = Merge {
+        prefix,
         fault,
         values,
         work,
         cut: false,
         by_cut: false,
     };
-    let left = match take_all(&mut going, alloc, behind, answers) {
+    let left = match merge_all(&mut merge, alloc, behind, answers) {
         Ok(left) => left,
         Err(memory) => {
-            drop(going);
+            drop(merge);
             return Err(memory);
         }
     };
-    if going.cut {
-        cut_short(parts, alloc, going);
+    if merge.cut {
+        cut_short(parts, alloc, merge);
         return Ok(left);
     }
-    match goes_on(parts, alloc, going) {
+    match goes_on(parts, alloc, merge) {
         Ok(()) => Ok(left),
         Err(memory) => {
             drop(left);
@@ -235,7 +235,7 @@ fn look_on(parts: &mut Parts, alloc: Global) -> Result<bool, Memory>
     match parts.body.family.look() {
         Look::NotYet(_) => Ok(false),
         Look::Ready => {
-            let awaited = parts.body.pieces.awaited().as_slice().len() as u64;
+            let awaited = parts.body.trace.awaited().as_slice().len() as u64;
             let answers = take_answers(&mut parts.body.family, alloc, awaited)?;
             drop(go_on(parts, alloc, answers)?);
             Ok(true)
@@ -261,7 +261,7 @@ impl Task {
     /// its next advance. On `Memory` the task and the answers are dropped.
     pub fn resume_with(self, alloc: Global, answers: Items<Answer>) -> Result<Task, Memory>
         requires waits { self.task.waiting ≡ true }
-        requires tags { answer_tags answers ≡ tags self.task.plan (awaited self.task.pieces.handed) }
+        requires tags { answer_tags answers ≡ tags self.task.plan (awaited self.task.trace.handed) }
         ensures { IfOk result (WentOn answers self) }
     {
         let (task, left) = self.resume_by(alloc, answers)?;
@@ -276,7 +276,7 @@ impl Task {
         answers: Items<Answer>,
     ) -> Result<(Task, Items<Answer>), Memory>
         requires waits { self.task.waiting ≡ true }
-        requires tags { answer_tags answers ≡ tags self.task.plan (awaited self.task.pieces.handed) }
+        requires tags { answer_tags answers ≡ tags self.task.plan (awaited self.task.trace.handed) }
         ensures went { IfOk result (λ resumed. WentOn answers self resumed.0) }
         ensures none { IfOk result (λ resumed. resumed.1 ≡ []) }
     {

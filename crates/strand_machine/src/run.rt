@@ -1,68 +1,68 @@
 // The moves of a task's instance.
 ghost use Rattle.std.specs.Prelude.{◌≡◌, IfOk, OnOk};
 ghost use Rattle.strand_meaning.specs.Task.{stops_at, child_in};
-ghost use Rattle.strand_moves.specs.Moves.{tokens_of};
+ghost use Rattle.strand_moves.specs.Moves.{effects_of};
 ghost use Rattle.strand_machine.specs.Made.{IsSoundMade, made};
-ghost use Rattle.strand_machine.specs.Shown.{shown_task, IsSoundShown};
+ghost use Rattle.strand_machine.specs.Effects.{shown_task, IsSoundShown};
 ghost use Rattle.strand_machine.specs.Stops.{IsRun, KeepsStep, step_of};
 ghost use Rattle.strand_machine.specs.Tasks.{IsSound, view_of};
-ghost use Rattle.strand_machine.specs.declared.work.Stage.TheVariants as stage;
+ghost use Rattle.strand_machine.specs.declared.work.InstanceState.TheVariants as stage;
 ghost use Rattle.strand_machine.specs.declared.work.Work.TheVariants as work;
 
-use crate::leave::{fault, give, pass, spawn, wait};
+use crate::destination::Destination;
+use crate::leave::{faulted, pass, returned, spawn, wait};
 use crate::memory::Memory;
 use crate::parts::Parts;
-use crate::place::Place;
 use crate::stop::Passed;
-use crate::work::{Stage, Work};
+use crate::work::{InstanceState, Work};
 use std::alloc::Global;
 use strand_meaning::laws;
-use strand_moves::{Instance, Moved, Shown};
+use strand_moves::{Effects, Instance, MoveResult};
 
-/// What a move showed joins the pieces; a child is handed out.
+/// What a move showed joins the trace; a child is handed out.
 #[inline(always)]
 pub(crate) fn show(
     parts: &mut Parts,
     alloc: Global,
     instance: Instance,
-    shown: Shown,
+    shown: Effects,
 ) -> Result<Passed, Memory>
     requires { IsSoundShown parts.old.body instance shown }
-    ensures step { IfOk result (λ passed. step_of (made parts.new passed) ≡ stops_at (child_in (tokens_of shown)) (shown_task parts.old.body instance shown)) }
-    ensures keeps { IfOk result (λ passed. KeepsStep (view_of parts.old.body (work.Runs (stage.Goes instance))) (made parts.new passed)) }
+    ensures step { IfOk result (λ passed. step_of (made parts.new passed) ≡ stops_at (child_in (effects_of shown)) (shown_task parts.old.body instance shown)) }
+    ensures keeps { IfOk result (λ passed. KeepsStep (view_of parts.old.body (work.Runs (stage.Running instance))) (made parts.new passed)) }
     ensures sound { IfOk result (IsSoundMade parts.new) }
 {
     match shown {
-        Shown::Nothing => Ok(pass(parts, Work::Runs(Stage::Goes(instance)))),
-        Shown::Opened(_) => Ok(pass(parts, Work::Runs(Stage::Goes(instance)))),
-        Shown::Closed(_) => Ok(pass(parts, Work::Runs(Stage::Goes(instance)))),
-        Shown::Told(event) => {
-            parts.body.pieces.tell(alloc, event)?;
-            Ok(pass(parts, Work::Runs(Stage::Goes(instance))))
+        Effects::Nothing => Ok(pass(parts, Work::Runs(InstanceState::Running(instance)))),
+        Effects::Opened(_) => Ok(pass(parts, Work::Runs(InstanceState::Running(instance)))),
+        Effects::Closed(_) => Ok(pass(parts, Work::Runs(InstanceState::Running(instance)))),
+        Effects::Emitted(event) => {
+            parts.body.trace.emit(alloc, event)?;
+            Ok(pass(parts, Work::Runs(InstanceState::Running(instance))))
         }
-        Shown::Synced(event) => {
-            parts.body.pieces.tell(alloc, event)?;
-            Ok(pass(parts, Work::Runs(Stage::AtSync(instance))))
+        Effects::Synced(event) => {
+            parts.body.trace.emit(alloc, event)?;
+            Ok(pass(parts, Work::Runs(InstanceState::AtSync(instance))))
         }
-        Shown::Spawned {
+        Effects::Spawned {
             event,
             child,
             height,
             target,
         } => {
-            parts.body.pieces.tell(alloc, event)?;
-            let place = Place::Spawned(height, target);
-            let next = Work::Runs(Stage::Goes(instance));
+            parts.body.trace.emit(alloc, event)?;
+            let place = Destination::Spawned(height, target);
+            let next = Work::Runs(InstanceState::Running(instance));
             spawn(parts, alloc, child, place, next)
         }
-        Shown::Looped {
+        Effects::Looped {
             event,
             child,
             target,
         } => {
-            parts.body.pieces.tell(alloc, event)?;
-            let place = Place::Looped(target);
-            let next = Work::Runs(Stage::AtLoop(instance));
+            parts.body.trace.emit(alloc, event)?;
+            let place = Destination::Looped(target);
+            let next = Work::Runs(InstanceState::AtLoop(instance));
             spawn(parts, alloc, child, place, next)
         }
     }
@@ -70,8 +70,8 @@ pub(crate) fn show(
 
 /// Moves of the instance in a row, up to the first that shows more than an event, with the wait or the end that comes of it.
 pub(crate) fn go(parts: &mut Parts, alloc: Global, mut instance: Instance) -> Result<Passed, Memory>
-    requires { IsSound parts.old.body (work.Runs (stage.Goes instance)) }
-    ensures step { IfOk result (λ passed. IsRun (view_of parts.old.body (work.Runs (stage.Goes instance))) (made parts.new passed)) }
+    requires { IsSound parts.old.body (work.Runs (stage.Running instance)) }
+    ensures step { IfOk result (λ passed. IsRun (view_of parts.old.body (work.Runs (stage.Running instance))) (made parts.new passed)) }
     ensures sound { IfOk result (IsSoundMade parts.new) }
 {
     laws::steps_are_sound();
@@ -79,15 +79,15 @@ pub(crate) fn go(parts: &mut Parts, alloc: Global, mut instance: Instance) -> Re
     loop {
         parts.body.advanced = true;
         match instance.run(alloc, parts.body.family.plan())? {
-            Moved::Went(Shown::Nothing) => {}
-            Moved::Went(Shown::Told(event)) => parts.body.pieces.tell(alloc, event)?,
-            Moved::Went(Shown::Synced(event)) => {
-                parts.body.pieces.tell(alloc, event)?;
-                return Ok(wait(parts, Work::Runs(Stage::AtSync(instance))));
+            MoveResult::Went(Effects::Nothing) => {}
+            MoveResult::Went(Effects::Emitted(event)) => parts.body.trace.emit(alloc, event)?,
+            MoveResult::Went(Effects::Synced(event)) => {
+                parts.body.trace.emit(alloc, event)?;
+                return Ok(wait(parts, Work::Runs(InstanceState::AtSync(instance))));
             }
-            Moved::Went(shown) => return show(parts, alloc, instance, shown),
-            Moved::Gave(value) => return Ok(give(parts, value)),
-            Moved::Faulted(own) => return Ok(fault(parts, own)),
+            MoveResult::Went(shown) => return show(parts, alloc, instance, shown),
+            MoveResult::Returned(value) => return Ok(returned(parts, value)),
+            MoveResult::Faulted(own) => return Ok(faulted(parts, own)),
         }
     }
 }

@@ -7,14 +7,14 @@ ghost use Rattle.strand_machine.specs.Tasks.{IsSound, view_of};
 ghost use Rattle.strand_machine.specs.declared.work.Work.TheVariants as work;
 
 use crate::body::Body;
-use crate::leave::{fault, give, pass, spawn_part, wait};
+use crate::destination::Destination;
+use crate::leave::{faulted, pass, returned, spawn_part, wait};
 use crate::memory::Memory;
 use crate::parts::Parts;
-use crate::place::Place;
 use crate::run::go;
-use crate::stop::{Passed, Step, Stop};
+use crate::stop::{MoveOrStop, Passed, Stop};
 use crate::task::Task;
-use crate::work::{Left, Stage, Work, begin_last};
+use crate::work::{InstanceState, Left, Work, begun_last};
 use serial_meaning::{Outcome, Value};
 use std::alloc::Global;
 use std::mem;
@@ -39,19 +39,19 @@ fn split(parts: &mut Parts, alloc: Global, left: Left) -> Result<Passed, Memory>
         };
         let range = halves.1;
         let work = Work::Splits(Left { range, trail });
-        return spawn_part(parts, alloc, child, Place::Half, work);
+        return spawn_part(parts, alloc, child, Destination::Half, work);
     }
     if range.len() == 0 {
         let values = parts.body.take_values(alloc);
         return Ok(Passed::Ends(Outcome::Values(values)));
     }
     let body = &parts.body;
-    let work = begin_last(alloc, body.family.plan(), body.family.origin(), trail)?;
+    let work = begun_last(alloc, body.family.plan(), body.family.origin(), trail)?;
     Ok(pass(parts, work))
 }
 
 /// A loop that ends with this value after those that were taken.
-fn close_with(body: &mut Body, alloc: Global, value: Value) -> Result<Passed, Memory>
+fn end_loop_with(body: &mut Body, alloc: Global, value: Value) -> Result<Passed, Memory>
     ensures ends { IfOk result (λ passed. passed ≡ Passed.Ends (outcome.Values (body.old.values ++ value ∷ []))) }
     ensures body { OnOk result (body.new ≡ record body.old { values = [] }) }
 {
@@ -61,35 +61,41 @@ fn close_with(body: &mut Body, alloc: Global, value: Value) -> Result<Passed, Me
 }
 
 /// A loop whose last iteration gave this value. Where it handed out a part it waits for it first.
-fn close(parts: &mut Parts, alloc: Global, value: Value, gone_on: bool) -> Result<Passed, Memory>
+fn end_loop(parts: &mut Parts, alloc: Global, value: Value, gone_on: bool) -> Result<Passed, Memory>
     requires { IsSound parts.old.body (work.Over value gone_on) }
     ensures step { IfOk result (λ passed. IsStep (view_of parts.old.body (work.Over value gone_on)) (made parts.new passed)) }
     ensures sound { IfOk result (IsSoundMade parts.new) }
 {
     laws::steps_are_sound();
     if gone_on {
-        return close_with(&mut parts.body, alloc, value);
+        return end_loop_with(&mut parts.body, alloc, value);
     }
     if parts.body.is_long() {
         return Ok(wait(parts, Work::Over(value, false)));
     }
-    close_with(&mut parts.body, alloc, value)
+    end_loop_with(&mut parts.body, alloc, value)
 }
 
 /// An instance, by where it stands.
-pub(crate) fn run(parts: &mut Parts, alloc: Global, stage: Stage) -> Result<Passed, Memory>
+pub(crate) fn run(parts: &mut Parts, alloc: Global, stage: InstanceState) -> Result<Passed, Memory>
     requires { IsSound parts.old.body (work.Runs stage) }
     ensures step { IfOk result (λ passed. GoesOn (view_of parts.old.body (work.Runs stage)) (made parts.new passed)) }
     ensures sound { IfOk result (IsSoundMade parts.new) }
 {
     laws::steps_are_sound();
     match stage {
-        Stage::Goes(instance) => go(parts, alloc, instance),
-        Stage::AtSync(instance) => Ok(wait(parts, Work::Runs(Stage::AtSync(instance)))),
-        Stage::AtLoop(instance) => Ok(wait(parts, Work::Runs(Stage::AtLoop(instance)))),
-        Stage::Gave(value) => Ok(give(parts, value)),
-        Stage::Faulted(own) => Ok(fault(parts, own)),
-        Stage::Joined(fault) => Ok(Passed::Ends(Outcome::Fault(fault))),
+        InstanceState::Running(instance) => go(parts, alloc, instance),
+        InstanceState::AtSync(instance) => Ok(wait(
+            parts,
+            Work::Runs(InstanceState::AtSync(instance)),
+        )),
+        InstanceState::AtLoop(instance) => Ok(wait(
+            parts,
+            Work::Runs(InstanceState::AtLoop(instance)),
+        )),
+        InstanceState::Returned(value) => Ok(returned(parts, value)),
+        InstanceState::Faulted(own) => Ok(faulted(parts, own)),
+        InstanceState::ChildFaulted(fault) => Ok(Passed::Ends(Outcome::Fault(fault))),
     }
 }
 
@@ -103,7 +109,7 @@ pub(crate) fn pass_with(parts: &mut Parts, alloc: Global, work: Work) -> Result<
     match work {
         Work::Splits(left) => split(parts, alloc, left),
         Work::Runs(stage) => run(parts, alloc, stage),
-        Work::Over(value, gone_on) => close(parts, alloc, value, gone_on),
+        Work::Over(value, gone_on) => end_loop(parts, alloc, value, gone_on),
         Work::Cut(_) => unreachable!(),
     }
 }
@@ -118,20 +124,20 @@ fn pass_on(parts: &mut Parts, alloc: Global) -> Result<Passed, Memory>
     pass_with(parts, alloc, work)
 }
 
-/// The end of a task: by the fault among its pieces, or else so. Its box is given back.
+/// The end of a task: by the fault in its trace, or else so. Its box is given back.
 fn end(parts: Box<Parts>, outcome: Outcome) -> Stop
     requires { CanEnd parts.value.body outcome }
-    ensures { Step.Stops result ≡ ended parts.value.body outcome }
+    ensures { MoveOrStop.Stops result ≡ ended parts.value.body outcome }
 {
     let Parts { body, work } = Box::into_inner(parts);
     let Body {
         family,
-        pieces,
+        trace,
         values,
         ..
     } = body;
     drop((work, values));
-    let (told, fault) = pieces.told();
+    let (prefix, fault) = trace.prefix();
     let outcome = match fault {
         Some(fault) => {
             drop(outcome);
@@ -139,18 +145,18 @@ fn end(parts: Box<Parts>, outcome: Outcome) -> Stop
         }
         None => outcome,
     };
-    let (answer, give) = family.answer(told, outcome);
+    let (answer, give) = family.answer(prefix, outcome);
     Stop::Done { answer, give }
 }
 
 /// The task with what it passed to.
-pub(crate) fn stepped(parts: Box<Parts>, passed: Passed) -> Step
+pub(crate) fn stepped(parts: Box<Parts>, passed: Passed) -> MoveOrStop
     requires { IsSoundMade parts.value passed }
     ensures { result ≡ made parts.value passed }
 {
     match passed {
-        Passed::Goes => Step::Passes(Task { parts }),
-        passed => Step::Stops(stopped(parts, passed)),
+        Passed::Goes => MoveOrStop::Passes(Task { parts }),
+        passed => MoveOrStop::Stops(stopped(parts, passed)),
     }
 }
 
@@ -176,7 +182,7 @@ pub(crate) fn run_on(parts: &mut Parts, alloc: Global) -> Result<Passed, Memory>
 pub(crate) fn stopped(parts: Box<Parts>, passed: Passed) -> Stop
     requires sound { IsSoundMade parts.value passed }
     requires stops { IsStopped passed }
-    ensures { Step.Stops result ≡ made parts.value passed }
+    ensures { MoveOrStop.Stops result ≡ made parts.value passed }
 {
     match passed {
         Passed::Goes => unreachable!(),

@@ -15,7 +15,7 @@ pub enum Stop {
 
 /// A move, or a stop.
 #[derive(Drop)]
-pub(crate) enum Step {
+pub(crate) enum MoveOrStop {
     Passes(Task),
     Stops(Stop),
 }
@@ -29,7 +29,7 @@ pub(crate) enum Passed {
     Waits,
     /// It handed out a child.
     Spawned(Task),
-    /// It ends so, but for a fault among its pieces.
+    /// It ends so, but for a fault in its trace.
     Ends(Outcome),
 }
 

@@ -9,8 +9,8 @@ use crate::body::Body;
 use crate::memory::Memory;
 use crate::origin::{share_origin, trail_of};
 use crate::parts::Parts;
-use crate::pieces::Pieces;
-use crate::work::begin;
+use crate::trace::Trace;
+use crate::work::begun_work;
 use meet_block::Give;
 use script_grammar::Items;
 use serial_meaning::{Answer, Fault, Origin, Out, Outcome, Plan};
@@ -85,7 +85,7 @@ impl Task {
         // Read for the proof: a checked script is valid.
         let _script = plan.checked.script();
         let Child { origin, trail } = child;
-        let work = match begin(alloc, &plan, &origin, trail) {
+        let work = match begun_work(alloc, &plan, &origin, trail) {
             Ok(work) => work,
             Err(memory) => {
                 drop((plan, origin, loops, give));
@@ -101,7 +101,7 @@ impl Task {
         };
         let body = Body {
             family,
-            pieces: Pieces::new(alloc),
+            trace: Trace::new(alloc),
             values: Items(Vec::new(alloc)),
             waiting: false,
             advanced: false,
@@ -165,18 +165,18 @@ impl Task {
         let Parts { body, work } = Box::into_inner(parts);
         let Body {
             family,
-            pieces,
+            trace,
             values,
             ..
         } = body;
-        drop((work, pieces, values));
+        drop((work, trace, values));
         family.answer(Out::new(), Outcome::Cut { by })
     }
 
     /// The children that it handed out and whose answers it hasn't taken, in order.
     pub fn awaited(&self) -> &Items<Origin>
-        ensures { result.now ≡ awaited self.now.task.pieces.handed }
+        ensures { result.now ≡ awaited self.now.task.trace.handed }
     {
-        self.parts.body.pieces.awaited()
+        self.parts.body.trace.awaited()
     }
 }

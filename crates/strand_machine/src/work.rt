@@ -21,19 +21,19 @@ use strand_moves::Instance;
 
 /// Where an instance stands.
 #[derive(Drop)]
-pub(crate) enum Stage {
+pub(crate) enum InstanceState {
     /// It goes on.
-    Goes(Instance),
+    Running(Instance),
     /// It waits after a sync.
     AtSync(Instance),
     /// It waits after a loop.
     AtLoop(Instance),
     /// It has ended by a value.
-    Gave(Value),
+    Returned(Value),
     /// It has ended by a fault of its own.
     Faulted(Fault),
     /// It has ended by the fault of a child for which it waited.
-    Joined(Fault),
+    ChildFaulted(Fault),
 }
 
 /// The iterations of a loop that nobody has begun, and the trail of the loop's strand.
@@ -49,7 +49,7 @@ pub(crate) enum Work {
     /// Iterations of a loop that nobody has begun.
     Splits(Left),
     /// An instance: the task's own, or the loop's last iteration.
-    Runs(Stage),
+    Runs(InstanceState),
     /// Nothing of a loop whose last iteration gave this value. It is known whether the task has gone on from the wait at its end.
     Over(Value, bool),
     /// Nothing of a task that took a cut for an answer. It ends so.
@@ -65,7 +65,7 @@ impl Work {
 
 /// What remains of an origin of which nothing is done.
 #[inline(always)]
-pub(crate) fn begin(
+pub(crate) fn begun_work(
     alloc: Global,
     plan: &Plan,
     origin: &Origin,
@@ -81,7 +81,7 @@ pub(crate) fn begin(
     let _depth = plan.limits.depth;
     Ok(match origin {
         Origin::Instance { function, args, .. } => {
-            Work::Runs(begin_instance(alloc, plan, *function, args.as_slice(), trail)?)
+            Work::Runs(begun_instance(alloc, plan, *function, args.as_slice(), trail)?)
         }
         Origin::Loop { range, .. } => Work::Splits(Left {
             range: *range,
@@ -91,7 +91,7 @@ pub(crate) fn begin(
 }
 
 /// What remains of a loop of which the last iteration alone is left.
-pub(crate) fn begin_last(
+pub(crate) fn begun_last(
     alloc: Global,
     plan: &Plan,
     origin: &Origin,
@@ -106,7 +106,7 @@ pub(crate) fn begin_last(
     // Read for the proof: a plan has as many coefficients as its depth.
     let _depth = plan.limits.depth;
     match origin {
-        Origin::Instance { .. } => begin(alloc, plan, origin, trail),
+        Origin::Instance { .. } => begun_work(alloc, plan, origin, trail),
         Origin::Loop {
             function,
             rest,
@@ -119,27 +119,27 @@ pub(crate) fn begin_last(
             let mut args = share_values(alloc, rest.as_slice())?;
             args.0.insert(0, Value::Int(number))?;
             let trail = trail.child(alloc, &plan.gamma, k)?;
-            Ok(Work::Runs(begin_instance(alloc, plan, *function, args.as_slice(), trail)?))
+            Ok(Work::Runs(begun_instance(alloc, plan, *function, args.as_slice(), trail)?))
         }
     }
 }
 
 /// An instance before its first move. One of no function has the value 0.
 #[inline(always)]
-fn begin_instance(
+fn begun_instance(
     alloc: Global,
     plan: &Plan,
     function: u32,
     args: &[Value],
     trail: Trail,
-) -> Result<Stage, Memory>
+) -> Result<InstanceState, Memory>
     requires fits { FitsGamma plan.now.gamma trail }
     requires within { length trail.path < plan.now.limits.depth }
     ensures begun { IfOk result (λ stage. stage_of plan.now stage ≡ begun_stage (begun plan.now function args.now)) }
     ensures stands { IfOk result (StandsAt plan.now trail.path) }
 {
     if function as usize >= plan.functions().len() {
-        return Ok(Stage::Gave(Value::Int(0)));
+        return Ok(InstanceState::Returned(Value::Int(0)));
     }
-    Ok(Stage::Goes(Instance::begin(alloc, plan, function, args, trail)?))
+    Ok(InstanceState::Running(Instance::new(alloc, plan, function, args, trail)?))
 }

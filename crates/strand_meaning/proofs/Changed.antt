@@ -17,7 +17,7 @@ use Rattle.serial_meaning.specs.Names.{names_in}
 use Rattle.serial_meaning.specs.Values.{Env, value_of, values_of, slot_of, items_of, number, is_true, at_index}
 use Rattle.serial_meaning.specs.Functions.{number_of, function_at}
 use Rattle.serial_meaning.specs.Plan.{PlanView, functions_of, drawn}
-use Rattle.serial_meaning.specs.Exec.{State, Manner, strand, given, paid_from, tested, has_room, fits_depth, filled, spawn, join, implied, activation, called, right_side, found, store, looped, does, count_of, with_slot, set_item, set_array, bound}
+use Rattle.serial_meaning.specs.Exec.{State, Manner, strand, given, paid_from, tested, has_room, fits_depth, filled, spawn, join, implied, frame, called, right_side, found, store, looped, does, count_of, with_slot, set_item, set_array, bound}
 use Rattle.serial_meaning.specs.Open.{is_empty_loop, filler}
 use Rattle.serial_meaning.specs.declared.value.Value.{Value}
 use Rattle.serial_meaning.specs.declared.value.Value.TheVariants.{Int}
@@ -29,7 +29,7 @@ use Rattle.serial_meaning.specs.declared.event.Event.TheVariants as event
 use Rattle.serial_meaning.specs.declared.origin.Origin.{Origin}
 use Rattle.serial_meaning.specs.declared.origin.Origin.TheVariants as origin
 use Rattle.strand_meaning.specs.Clear.{names_in_all, names_in_right, target_names, touched}
-use Rattle.strand_meaning.specs.Machine.{Place, Spawned, Looped, Token, Opens, Closes, Told, Handed, Halt, Faulted, Inside, loop_tokens, sync_tokens, handing, inside, place_of, Level, Activation, Machine, Reached, Stands, state_of, inside_of, present, here_of, with_left, into_level, with_leaving, out_of_level, with_returning, with_scalar, back, spawns_in, calling, entered, reached, gives, value_run, statement_move, return_move, level_move, end_move, move_at, move}
+use Rattle.strand_meaning.specs.Machine.{Destination, Spawned, Looped, Effect, Opens, Closes, Emitted, Handed, Exit, Faulted, Inside, loop_effects, sync_effects, handing, inside, place_of, Level, Frame, Machine, Reached, Stands, state_of, inside_of, present, here_of, with_left, into_level, with_leaving, out_of_level, with_returning, with_scalar, back, spawns_in, calling, entered, reached, gives, value_run, statement_move, return_move, level_move, end_move, move_at, move}
 use Rattle.strand_meaning.specs.Task.{changed, changed_at}
 use Rattle.strand_meaning.specs.Laws.{on_reached, changed_run}
 use Rattle.strand_meaning.proofs.Shown.{changed-top, same-number}
@@ -42,7 +42,7 @@ other-number n k h = from (nat_eq n k) refl
     from true e = let g : n ≡ k = eqb-true n k e in absurd (omega arith)
     from false e = refl
 
-pub length-changed : (k : ℕ) (f : Activation → Activation) (below : List Activation) → length (changed_at k f below) ≡ length below
+pub length-changed : (k : ℕ) (f : Frame → Frame) (below : List Frame) → length (changed_at k f below) ≡ length below
 length-changed k f [] = refl
 length-changed k f (a ∷ below) = from (nat_eq k (length below)) (length-changed k f below)
   where
@@ -50,18 +50,18 @@ length-changed k f (a ∷ below) = from (nat_eq k (length below)) (length-change
     from true ih = refl
     from false ih = ap suc ih
 
--- an activation with its variables changed, and what it knows of faults
-abbrev pub altered : (Env → Env) → (Option Fault → Option Fault) → Activation → Activation
+-- a frame with its variables changed, and what it knows of faults
+abbrev pub altered : (Env → Env) → (Option Fault → Option Fault) → Frame → Frame
 altered fix mark a = record a { env = fix a.env; faulted = mark a.faulted }
 
 module _ (plan : PlanView) (path : List ℕ) (fix : Env → Env) (mark : Option Fault → Option Fault) where
-  abbrev change : Activation → Activation
+  abbrev change : Frame → Frame
   change = altered fix mark
 
-  abbrev what : Place → Manner Token Halt Bool
+  abbrev what : Destination → Manner Effect Exit Bool
   what place = handing plan place
 
-  -- the innermost activation is altered
+  -- the innermost frame is altered
   module _ (m : Machine) (left : List Stmt) (st : Stmt) where
     abbrev height : ℕ
     height = length m.below
@@ -76,11 +76,11 @@ module _ (plan : PlanView) (path : List ℕ) (fix : Env → Env) (mark : Option 
     abbrev fixed : State Bool → State Bool
     fixed s = record s { env = fix s.env }
 
-    abbrev finished : (State Bool → Machine) → (List Stmt → State Bool → Machine) → Run Token Halt (State Bool) → Run Token Fault Reached
+    abbrev finished : (State Bool → Machine) → (List Stmt → State Bool → Machine) → Run Effect Exit (State Bool) → Run Effect Fault Reached
     finished on into r = record { items = r.items; ending = reached plan on into r.ending }
 
     -- r' is r, from altered variables
-    abbrev Alike : (on' on : State Bool → Machine) → (into' into : List Stmt → State Bool → Machine) → Run Token Halt (State Bool) → Run Token Halt (State Bool) → Type 0
+    abbrev Alike : (on' on : State Bool → Machine) → (into' into : List Stmt → State Bool → Machine) → Run Effect Exit (State Bool) → Run Effect Exit (State Bool) → Type 0
     Alike on' on into' into r' r = finished on' into' r' ≡ changed_run (changed height change) (finished on into r)
 
     abbrev here : ℕ → State Bool
@@ -90,18 +90,18 @@ module _ (plan : PlanView) (path : List ℕ) (fix : Env → Env) (mark : Option 
     there n = fixed (here n)
 
     module _ (into' into : List Stmt → State Bool → Machine) where
-      abbrev Same : Run Token Halt (State Bool) → Run Token Halt (State Bool) → Type 0
+      abbrev Same : Run Effect Exit (State Bool) → Run Effect Exit (State Bool) → Type 0
       Same = Alike (with_left other left) (with_left m left) into' into
 
       -- the same things, and states that differ so
-      ends-so : (items : List Token) (s' s : State Bool) → s' ≡ fixed s → Same (record { items = items; ending = Ok s' }) (record { items = items; ending = Ok s })
+      ends-so : (items : List Effect) (s' s : State Bool) → s' ≡ fixed s → Same (record { items = items; ending = Ok s' }) (record { items = items; ending = Ok s })
       ends-so items s' s h =
           ap (λ (s : State Bool). record { items = items; ending = Ok (Stands (with_left other left s)) }) h ∙ ap (λ (k : Machine). record { items = items; ending = Ok (Stands k) }) (sym (changed-top change (with_left m left s)))
 
       so-done : (s : State Bool) → Same (done (fixed s)) (done s)
       so-done s = ends-so [] (fixed s) s refl
 
-      so-given : {A : Type 0} (place : Place) (o' o : Result A FaultKind) (n : ℕ) (f g : A → Run Token Halt (State Bool)) → o' ≡ o → ((a : A) → Same (f a) (g a)) →
+      so-given : {A : Type 0} (place : Destination) (o' o : Result A FaultKind) (n : ℕ) (f g : A → Run Effect Exit (State Bool)) → o' ≡ o → ((a : A) → Same (f a) (g a)) →
           Same (given (what place) plan now o' (there n) f) (given (what place) plan now o (here n) g)
       so-given {A} place o' o n f g e h = ap (λ (q : Result A FaultKind). finished (with_left other left) into' (given (what place) plan now q (there n) f)) e ∙ by_value o
         where
@@ -109,41 +109,41 @@ module _ (plan : PlanView) (path : List ℕ) (fix : Env → Env) (mark : Option 
           by_value (Ok a) = h a
           by_value (Err k) = refl
 
-      so-tested : (place : Place) (b' b : Bool) (k : FaultKind) (n : ℕ) (f g : Run Token Halt (State Bool)) → b' ≡ b → Same f g → Same (tested (what place) plan now b' k (there n) f) (tested (what place) plan now b k (here n) g)
+      so-tested : (place : Destination) (b' b : Bool) (k : FaultKind) (n : ℕ) (f g : Run Effect Exit (State Bool)) → b' ≡ b → Same f g → Same (tested (what place) plan now b' k (there n) f) (tested (what place) plan now b k (here n) g)
       so-tested place b' b k n f g e h = ap (λ (q : Bool). finished (with_left other left) into' (tested (what place) plan now q k (there n) f)) e ∙ by_test b
         where
           by_test : (b : Bool) → Same (tested (what place) plan now b k (there n) f) (tested (what place) plan now b k (here n) g)
           by_test true = h
           by_test false = refl
 
-      so-paid : (place : Place) (n : ℕ) (s : State Bool) (f g : State Bool → Run Token Halt (State Bool)) → ((k : ℕ) → Same (f (record (fixed s) { steps = k })) (g (record s { steps = k }))) →
+      so-paid : (place : Destination) (n : ℕ) (s : State Bool) (f g : State Bool → Run Effect Exit (State Bool)) → ((k : ℕ) → Same (f (record (fixed s) { steps = k })) (g (record s { steps = k }))) →
           Same (paid_from (what place) plan now n (fixed s) f) (paid_from (what place) plan now n s g)
       so-paid place zero s f g h = refl
       so-paid place (suc n) s f g h = h n
 
-      so-sync : (place : Place) (n : ℕ) → Same (join (what place) plan now (there n)) (join (what place) plan now (here n))
+      so-sync : (place : Destination) (n : ℕ) → Same (join (what place) plan now (there n)) (join (what place) plan now (here n))
       so-sync place n = by_spawned m.top.spawned
         where
           next : State Bool
           next = record { env = m.top.env; rank = m.rank + 1; steps = n; spawned = false }
 
-          by_spawned : (k : Bool) → Same (record { items = Told (event.Sync (now ++ m.rank ∷ [])) ∷ (sync_tokens k ++ []); ending = Ok (fixed next) }) (record { items = Told (event.Sync (now ++ m.rank ∷ [])) ∷ (sync_tokens k ++ []); ending = Ok next })
-          by_spawned k = ends-so (Told (event.Sync (now ++ m.rank ∷ [])) ∷ (sync_tokens k ++ [])) (fixed next) next refl
+          by_spawned : (k : Bool) → Same (record { items = Emitted (event.Sync (now ++ m.rank ∷ [])) ∷ (sync_effects k ++ []); ending = Ok (fixed next) }) (record { items = Emitted (event.Sync (now ++ m.rank ∷ [])) ∷ (sync_effects k ++ []); ending = Ok next })
+          by_spawned k = ends-so (Emitted (event.Sync (now ++ m.rank ∷ [])) ∷ (sync_effects k ++ [])) (fixed next) next refl
 
       abbrev sets : Option Name → Value × State Bool → State Bool
       sets target p = record p.1 { env = with_scalar target p.0 p.1.env }
 
-      abbrev child_run : Place → CallText → List Value → State Bool → Run Token Halt (Value × State Bool)
+      abbrev child_run : Destination → CallText → List Value → State Bool → Run Effect Exit (Value × State Bool)
       child_run place c vs s =
-          happens (Told (event.Spawn (strand now s))) s then λ s.
+          happens (Emitted (event.Spawn (strand now s))) s then λ s.
           (what place).spawn (origin.Instance (number_of (functions_of plan) c.name.bytes) vs (strand now s)) s.spawned then λ r.
           done (r.0, record s { rank = s.rank + 1; spawned = r.1 })
 
-      so-set : (items : List Token) (target : Option Name) (v : Value) (s : State Bool) → Keeps fix (target_names target) →
+      so-set : (items : List Effect) (target : Option Name) (v : Value) (s : State Bool) → Keeps fix (target_names target) →
           Same (record { items = items; ending = Ok (sets target (v, fixed s)) }) (record { items = items; ending = Ok (sets target (v, s)) })
       so-set items target v s k = ends-so items (sets target (v, fixed s)) (sets target (v, s)) (ap (λ (env : Env). record s { env = env }) (scalar-kept fix target v s.env k))
 
-      so-spawn : (place : Place) (target : Option Name) (c : CallText) (n : ℕ) → Keeps fix (names_in_all c.args) → Keeps fix (target_names target) →
+      so-spawn : (place : Destination) (target : Option Name) (c : CallText) (n : ℕ) → Keeps fix (names_in_all c.args) → Keeps fix (target_names target) →
           Same (spawn (what place) plan now c (there n) then λ p. done (sets target p)) (spawn (what place) plan now c (here n) then λ p. done (sets target p))
       so-spawn place target c n a k =
           ap (λ (o : Result (List Value) FaultKind). finished (with_left other left) into' (given (what place) plan now o (there n) (λ vs. tested (what place) plan now (nat_lt (length now + 1) plan.limits.depth) Depth (there n) (child_run place c vs (there n))) then λ p. done (sets target p))) (values-kept fix c.args m.top.env a)
@@ -152,7 +152,7 @@ module _ (plan : PlanView) (path : List ℕ) (fix : Env → Env) (mark : Option 
           by_test : (vs : List Value) (b : Bool) → Same (tested (what place) plan now b Depth (there n) (child_run place c vs (there n)) then λ p. done (sets target p)) (tested (what place) plan now b Depth (here n) (child_run place c vs (here n)) then λ p. done (sets target p))
           by_test vs true =
               let o = origin.Instance (number_of (functions_of plan) c.name.bytes) vs (now ++ m.rank ∷ []) in
-              so-set (Told (event.Spawn (now ++ m.rank ∷ [])) ∷ Handed o place ∷ []) target (filler plan o) (record { env = m.top.env; rank = m.rank + 1; steps = n; spawned = true }) k
+              so-set (Emitted (event.Spawn (now ++ m.rank ∷ [])) ∷ Handed o place ∷ []) target (filler plan o) (record { env = m.top.env; rank = m.rank + 1; steps = n; spawned = true }) k
           by_test vs false = refl
 
           by_args : (o : Result (List Value) FaultKind) →
@@ -161,8 +161,8 @@ module _ (plan : PlanView) (path : List ℕ) (fix : Env → Env) (mark : Option 
           by_args (Ok vs) = by_test vs (nat_lt (length now + 1) plan.limits.depth)
           by_args (Err e) = refl
 
-      -- a callee begins the same, over the altered activation
-      so-call : (place : Place) (target : Option Name) (c : CallText) (n : ℕ) → ((inner : List Stmt) (s : State Bool) → into' inner s ≡ changed height change (into inner s)) →
+      -- a callee begins the same, over the altered frame
+      so-call : (place : Destination) (target : Option Name) (c : CallText) (n : ℕ) → ((inner : List Stmt) (s : State Bool) → into' inner s ≡ changed height change (into inner s)) →
           Keeps fix (names_in_all c.args) → Keeps fix (target_names target) →
           Same (called (what place) plan now inside height c (there n) then λ p. done (sets target p)) (called (what place) plan now inside height c (here n) then λ p. done (sets target p))
       so-call place target c n enters a k =
@@ -172,12 +172,12 @@ module _ (plan : PlanView) (path : List ℕ) (fix : Env → Env) (mark : Option 
           callee : Option Function
           callee = function_at (functions_of plan) (number_of (functions_of plan) c.name.bytes)
 
-          call_run : (ℕ → State Bool) → List Value → Run Token Halt (Value × State Bool)
-          call_run at vs = activation (what place) plan now inside (height + 1) callee vs (at n) then λ r. done (r.0, record (at n) { rank = r.1.rank; steps = r.1.steps })
+          call_run : (ℕ → State Bool) → List Value → Run Effect Exit (Value × State Bool)
+          call_run at vs = frame (what place) plan now inside (height + 1) callee vs (at n) then λ r. done (r.0, record (at n) { rank = r.1.rank; steps = r.1.steps })
 
           by_function : (vs : List Value) (o : Option Function) →
-              Same ((activation (what place) plan now inside (height + 1) o vs (there n) then λ r. done (r.0, record (there n) { rank = r.1.rank; steps = r.1.steps })) then λ p. done (sets target p))
-              ((activation (what place) plan now inside (height + 1) o vs (here n) then λ r. done (r.0, record (here n) { rank = r.1.rank; steps = r.1.steps })) then λ p. done (sets target p))
+              Same ((frame (what place) plan now inside (height + 1) o vs (there n) then λ r. done (r.0, record (there n) { rank = r.1.rank; steps = r.1.steps })) then λ p. done (sets target p))
+              ((frame (what place) plan now inside (height + 1) o vs (here n) then λ r. done (r.0, record (here n) { rank = r.1.rank; steps = r.1.steps })) then λ p. done (sets target p))
           by_function vs None = so-set [] target _ (here n) k
           by_function vs (Some f) = ap (λ (k : Machine). record { items = []; ending = Ok (Stands k) }) (enters f.body (record { env = bound f.params vs; rank = m.rank; steps = n; spawned = false }))
 
@@ -198,7 +198,7 @@ module _ (plan : PlanView) (path : List ℕ) (fix : Env → Env) (mark : Option 
       EntersBy (right.Call at c) = (inner : List Stmt) (s : State Bool) → into' inner s ≡ changed height change (into inner s)
       EntersBy (right.Spawn at c) = Unit {0}
 
-      so-right : (place : Place) (x : Name) (r : Right) (n : ℕ) → EntersBy r → Keeps fix (x.bytes ∷ names_in_right r) →
+      so-right : (place : Destination) (x : Name) (r : Right) (n : ℕ) → EntersBy r → Keeps fix (x.bytes ∷ names_in_right r) →
           Same (right_side (what place) plan now inside height r (there n) then λ p. done (sets (Some x) p)) (right_side (what place) plan now inside height r (here n) then λ p. done (sets (Some x) p))
       so-right place x (right.Value e) n enters k =
           ap (λ (o : Result Value FaultKind). finished (with_left other left) into' (given (what place) plan now o (there n) (λ v. done (v, there n)) then λ p. done (sets (Some x) p))) (value-kept fix e m.top.env k.1)
@@ -207,8 +207,8 @@ module _ (plan : PlanView) (path : List ℕ) (fix : Env → Env) (mark : Option 
           by_value : (o : Result Value FaultKind) → Same (given (what place) plan now o (there n) (λ v. done (v, there n)) then λ p. done (sets (Some x) p)) (given (what place) plan now o (here n) (λ v. done (v, here n)) then λ p. done (sets (Some x) p))
           by_value (Ok v) = so-set [] (Some x) v (here n) (k.0, tt)
           by_value (Err f) = refl
-      so-right place x (right.Draw at) n enters k = so-set (Told (event.Draw (now ++ m.rank ∷ []) (drawn plan (now ++ m.rank ∷ []))) ∷ []) (Some x) _ (record (here n) { rank = m.rank + 1 }) (k.0, tt)
-      so-right place x (right.New at) n enters k = so-set (Told (event.New (now ++ m.rank ∷ [])) ∷ []) (Some x) _ (record (here n) { rank = m.rank + 1 }) (k.0, tt)
+      so-right place x (right.Draw at) n enters k = so-set (Emitted (event.Draw (now ++ m.rank ∷ []) (drawn plan (now ++ m.rank ∷ []))) ∷ []) (Some x) _ (record (here n) { rank = m.rank + 1 }) (k.0, tt)
+      so-right place x (right.New at) n enters k = so-set (Emitted (event.New (now ++ m.rank ∷ [])) ∷ []) (Some x) _ (record (here n) { rank = m.rank + 1 }) (k.0, tt)
       so-right place x (right.Call at c) n enters k = so-call place (Some x) c n enters k.1 (k.0, tt)
       so-right place x (right.Spawn at c) n enters k = so-spawn place (Some x) c n k.1 (k.0, tt)
 
@@ -217,11 +217,11 @@ module _ (plan : PlanView) (path : List ℕ) (fix : Env → Env) (mark : Option 
           ends-so [] (set_array (there n) x xs) (set_array (here n) x ys)
           (ap (λ (env : Env). record (here n) { env = env }) (ap (λ (l : List ℤ). with_slot (fix m.top.env) x.bytes (Array l)) e ∙ k.1 m.top.env (Array ys)))
 
-      so-store : (place : Place) (x : Name) (i e : Expr) (n : ℕ) → Keeps fix (x.bytes ∷ (names_in i ++ names_in e)) → Same (store (what place) plan now x i e (there n)) (store (what place) plan now x i e (here n))
+      so-store : (place : Destination) (x : Name) (i e : Expr) (n : ℕ) → Keeps fix (x.bytes ∷ (names_in i ++ names_in e)) → Same (store (what place) plan now x i e (there n)) (store (what place) plan now x i e (here n))
       so-store place x i e n k =
           so-given place (value_of i (fix m.top.env)) (value_of i m.top.env) n _ _ (value-kept fix i m.top.env (each-left (Keep fix) (names_in i) (names_in e) k.1)) (λ v. by_array v (items_of (slot_of (fix m.top.env) x.bytes)) (items_of (slot_of m.top.env x.bytes)) (ap items_of (k.0.0 m.top.env)))
         where
-          by_item : (o : Option ℤ) (r' r : Run Token Halt (State Bool)) → Same r' r → Same (found (what place) plan now o (there n) r') (found (what place) plan now o (here n) r)
+          by_item : (o : Option ℤ) (r' r : Run Effect Exit (State Bool)) → Same r' r → Same (found (what place) plan now o (there n) r') (found (what place) plan now o (here n) r)
           by_item None r' r h = refl
           by_item (Some old) r' r h = h
 
@@ -232,7 +232,7 @@ module _ (plan : PlanView) (path : List ℕ) (fix : Env → Env) (mark : Option 
               ap (λ (l : List ℤ). finished (with_left other left) into' (found (what place) plan now (at_index l (number v)) (there n) (given (what place) plan now (value_of e (fix m.top.env)) (there n) (λ w. done (set_array (there n) x (set_item l (number v) w)))))) h
               ∙ by_item (at_index ys (number v)) _ _ (so-given place (value_of e (fix m.top.env)) (value_of e m.top.env) n _ _ (value-kept fix e m.top.env (each-right (Keep fix) (names_in i) (names_in e) k.1)) (λ w. so-array x _ _ n refl k.0))
 
-      so-inside : (place : Place) (b : Bool) (r' r : Run Token Halt (State Bool)) (n : ℕ) → Same r' r → Same (if b then r' else done (there n)) (if b then r else done (here n))
+      so-inside : (place : Destination) (b : Bool) (r' r : Run Effect Exit (State Bool)) (n : ℕ) → Same r' r → Same (if b then r' else done (there n)) (if b then r else done (here n))
       so-inside place true r' r n h = h
       so-inside place false r' r n h = so-done (here n)
 
@@ -248,8 +248,8 @@ module _ (plan : PlanView) (path : List ℕ) (fix : Env → Env) (mark : Option 
           o : Origin
           o = origin.Loop (number_of (functions_of plan) c.name.bytes) vs lo (now ++ m.rank ∷ []) (record { lo = 0; hi = hi })
 
-          items : Bool → List Token
-          items b = Told (event.Loop (now ++ m.rank ∷ [])) ∷ (loop_tokens b o (Looped target) ++ [])
+          items : Bool → List Effect
+          items b = Emitted (event.Loop (now ++ m.rank ∷ [])) ∷ (loop_effects b o (Looped target) ++ [])
 
           next : Env → State Bool
           next env = record { env = env; rank = m.rank + 1; steps = n - hi; spawned = m.top.spawned }
@@ -292,7 +292,7 @@ module _ (plan : PlanView) (path : List ℕ) (fix : Env → Env) (mark : Option 
     so-does act.Sync n k = so-sync (entered plan st act.Sync left other) (entered plan st act.Sync left m) (Spawned height None) n
     so-does (act.Print e) n k =
         so-given (entered plan st (act.Print e) left other) (entered plan st (act.Print e) left m) (Spawned height None) (value_of e (fix m.top.env)) (value_of e m.top.env) n _ _ (value-kept fix e m.top.env k)
-        (λ v. ends-so (entered plan st (act.Print e) left other) (entered plan st (act.Print e) left m) (Told (event.Print (now ++ m.rank ∷ []) v) ∷ []) (there n) (here n) refl)
+        (λ v. ends-so (entered plan st (act.Print e) left other) (entered plan st (act.Print e) left m) (Emitted (event.Print (now ++ m.rank ∷ []) v) ∷ []) (there n) (here n) refl)
     so-does (act.If e a b) n k =
         so-given (entered plan st (act.If e a b) left other) (entered plan st (act.If e a b) left m) (Spawned height None) (value_of e (fix m.top.env)) (value_of e m.top.env) n _ _ (value-kept fix e m.top.env k)
         (λ v. ap (λ (k : Machine). record { items = []; ending = Ok (Stands k) }) (enters-left ((if is_true v then a else b) ++ left) (here n)))
@@ -319,7 +319,7 @@ module _ (plan : PlanView) (path : List ℕ) (fix : Env → Env) (mark : Option 
   abbrev rebuilt : Machine → List Stmt → List Level → Bool → Bool → Machine
   rebuilt m left levels leaving returning = record m { top = record m.top { left = left; levels = levels; leaving = leaving; returning = returning } }
 
-  -- the innermost activation altered before the move, or after it
+  -- the innermost frame altered before the move, or after it
   abbrev TopMoves : Machine → Type 0
   TopMoves m = move plan path (record m { top = change m.top }) ≡ changed_run (changed (length m.below) change) (move plan path m)
 
@@ -335,13 +335,13 @@ module _ (plan : PlanView) (path : List ℕ) (fix : Env → Env) (mark : Option 
       b : Machine
       b = rebuilt m [] [] leaving false
 
-      how : Manner Token Halt Bool
+      how : Manner Effect Exit Bool
       how = what (Spawned (length m.below) None)
 
-      run : State Bool → ℕ → Run Token Halt (State Bool)
+      run : State Bool → ℕ → Run Effect Exit (State Bool)
       run s n = paid_from how plan (present path m.below) n s (λ s. implied how plan (present path m.below) (spawns_in (function_at (functions_of plan) m.top.function)) s)
 
-      finished_by : Machine → Run Token Halt (State Bool) → Run Token Fault Reached
+      finished_by : Machine → Run Effect Exit (State Bool) → Run Effect Fault Reached
       finished_by k r = record { items = r.items; ending = reached plan (with_returning k) (λ inner s. k) r.ending }
 
       start : State Bool
@@ -349,7 +349,7 @@ module _ (plan : PlanView) (path : List ℕ) (fix : Env → Env) (mark : Option 
 
       by_text : (t : Bool) (s : State Bool) → finished_by (record b { top = change b.top }) (implied how plan (present path m.below) t (record s { env = fix s.env })) ≡ changed_run (changed (length m.below) change) (finished_by b (implied how plan (present path m.below) t s))
       by_text true s =
-          ap (λ (k : Machine). record { items = Told (event.Sync (strand (present path m.below) s)) ∷ (sync_tokens s.spawned ++ []); ending = Ok (Stands k) }) (sym (changed-top change (with_returning b (record s { rank = s.rank + 1; spawned = false }))))
+          ap (λ (k : Machine). record { items = Emitted (event.Sync (strand (present path m.below) s)) ∷ (sync_effects s.spawned ++ []); ending = Ok (Stands k) }) (sym (changed-top change (with_returning b (record s { rank = s.rank + 1; spawned = false }))))
       by_text false s = ap (λ (k : Machine). record { items = []; ending = Ok (Stands k) }) (sym (changed-top change (with_returning b s)))
 
       by_steps : (n : ℕ) → finished_by (record b { top = change b.top }) (run (record start { env = fix start.env }) n) ≡ changed_run (changed (length m.below) change) (finished_by b (run start n))
@@ -360,17 +360,17 @@ module _ (plan : PlanView) (path : List ℕ) (fix : Env → Env) (mark : Option 
   top-level m l ls false returning =
       let b : Machine = rebuilt m [] (l ∷ ls) false returning in
       let s : State Bool = state_of b in
-      ap (λ (k : Machine). record { items = Told (event.Sync (strand (inside_of (present path m.below) ls ++ l.rank ∷ []) s)) ∷ (sync_tokens s.spawned ++ []); ending = Ok (Stands k) })
+      ap (λ (k : Machine). record { items = Emitted (event.Sync (strand (inside_of (present path m.below) ls ++ l.rank ∷ []) s)) ∷ (sync_effects s.spawned ++ []); ending = Ok (Stands k) })
       (sym (changed-top change (with_leaving b (record s { rank = s.rank + 1; spawned = false }))))
   top-level m l ls true returning =
       let b : Machine = rebuilt m [] (l ∷ ls) true returning in
       ap (λ (k : Machine). record { items = Closes (inside_of (present path m.below) ls ++ l.rank ∷ []) ∷ []; ending = Ok (Stands k) })
       (sym (changed-top change (out_of_level b l ls (record (state_of b) { rank = l.rank + 1 }))))
 
-  -- Another activation is altered
+  -- Another frame is altered
 
   -- the present path is the same
-  present-changed : (k : ℕ) (below : List Activation) → present path (changed_at k change below) ≡ present path below
+  present-changed : (k : ℕ) (below : List Frame) → present path (changed_at k change below) ≡ present path below
   present-changed k [] = refl
   present-changed k (a ∷ below) = from (nat_eq k (length below)) (present-changed k below)
     where
@@ -413,7 +413,7 @@ module _ (plan : PlanView) (path : List ℕ) (fix : Env → Env) (mark : Option 
     deep-entered st (act.Pfor x lo hi target c) left inner s = deep-left (inner ++ left) s
     deep-entered st (act.Scope a) left inner s = deep-level left inner s
 
-    -- the path inside so many scopes of the innermost activation
+    -- the path inside so many scopes of the innermost frame
     same-path : (ls : List Level) → inside_of (present path (changed_at k change m.below)) ls ≡ inside_of (present path m.below) ls
     same-path ls = ap (λ p. inside_of p ls) (present-changed k m.below)
 
@@ -428,13 +428,13 @@ module _ (plan : PlanView) (path : List ℕ) (fix : Env → Env) (mark : Option 
         a : Act-F Act Stmt
         a = out-Act (out-Stmt st).act
 
-        run : List ℕ → ℕ → Run Token Halt (State Bool)
+        run : List ℕ → ℕ → Run Effect Exit (State Bool)
         run p n = paid_from (what (place_of n a)) plan p m.steps (state_of m) (λ s. does (what (place_of n a)) plan p inside n st a s)
 
-        finished : Machine → Run Token Halt (State Bool) → Run Token Fault Reached
+        finished : Machine → Run Effect Exit (State Bool) → Run Effect Fault Reached
         finished b r = record { items = r.items; ending = reached plan (with_left b left) (entered plan st a left b) r.ending }
 
-        by_end : (items : List Token) (e : Result (State Bool) Halt) → finished deep (record { items = items; ending = e }) ≡ changed_run (changed k change) (finished m (record { items = items; ending = e }))
+        by_end : (items : List Effect) (e : Result (State Bool) Exit) → finished deep (record { items = items; ending = e }) ≡ changed_run (changed k change) (finished m (record { items = items; ending = e }))
         by_end items (Ok s) = ap (λ (b : Machine). record { items = items; ending = Ok (Stands b) }) (deep-left left s)
         by_end items (Err (Faulted f)) = refl
         by_end items (Err (Inside here calls inner s)) = ap (λ (b : Machine). record { items = items; ending = Ok (Stands b) }) (deep-entered st a left inner s)
@@ -442,8 +442,8 @@ module _ (plan : PlanView) (path : List ℕ) (fix : Env → Env) (mark : Option 
     deep-itself : m.below ≡ m.below → deep ≡ changed k change m
     deep-itself h = rw (other-number k (length m.below) lower) refl
 
-    deep-back : (below : List Activation) (target : Option Name) (v : Value) (rank steps : ℕ) → k < length below →
-        ((caller : Activation) (more : List Activation) → below ≡ caller ∷ more → k ≡ length more → Keeps fix (target_names target)) →
+    deep-back : (below : List Frame) (target : Option Name) (v : Value) (rank steps : ℕ) → k < length below →
+        ((caller : Frame) (more : List Frame) → below ≡ caller ∷ more → k ≡ length more → Keeps fix (target_names target)) →
         on_reached (changed k change) (Ok (back below target v rank steps)) ≡ Ok (back (changed_at k change below) target v rank steps)
     deep-back [] target v rank steps h keeps = absurd (omega arith)
     deep-back (caller ∷ more) target v rank steps h keeps = by_place (nat_eq k (length more)) refl
@@ -459,34 +459,34 @@ module _ (plan : PlanView) (path : List ℕ) (fix : Env → Env) (mark : Option 
             ap (λ (env : Env). Ok (Stands (record { rank = rank; steps = steps; top = record (change caller) { env = env }; below = more }))) (sym (scalar-kept fix target v caller.env (keeps caller more refl g)))
         by_place false e = refl
 
-    deep-return : (returning : Bool) → ((caller : Activation) (more : List Activation) → m.below ≡ caller ∷ more → k ≡ length more → Keeps fix (target_names m.top.target)) →
+    deep-return : (returning : Bool) → ((caller : Frame) (more : List Frame) → m.below ≡ caller ∷ more → k ≡ length more → Keeps fix (target_names m.top.target)) →
         return_move plan path deep returning ≡ changed_run (changed k change) (return_move plan path m returning)
     deep-return false keeps =
         ap (λ (n : ℕ). finished deep (run (here_of path deep) n)) (length-changed k change m.below) ∙ ap (λ p. finished deep (run p (length m.below))) (same-path m.top.levels)
         ∙ by_end (run (here_of path m) (length m.below)).items (run (here_of path m) (length m.below)).ending
       where
-        run : List ℕ → ℕ → Run Token Halt (State Bool)
+        run : List ℕ → ℕ → Run Effect Exit (State Bool)
         run p n = paid_from (what (Spawned n None)) plan p m.steps (state_of m) (λ s. implied (what (Spawned n None)) plan p (spawns_in (function_at (functions_of plan) m.top.function)) s)
 
-        finished : Machine → Run Token Halt (State Bool) → Run Token Fault Reached
+        finished : Machine → Run Effect Exit (State Bool) → Run Effect Fault Reached
         finished b r = record { items = r.items; ending = reached plan (with_returning b) (λ inner s. b) r.ending }
 
         returning-so : (s : State Bool) → with_returning deep s ≡ changed k change (with_returning m s)
         returning-so s = rw (other-number k (length m.below) lower) refl
 
-        by_end : (items : List Token) (e : Result (State Bool) Halt) → finished deep (record { items = items; ending = e }) ≡ changed_run (changed k change) (finished m (record { items = items; ending = e }))
+        by_end : (items : List Effect) (e : Result (State Bool) Exit) → finished deep (record { items = items; ending = e }) ≡ changed_run (changed k change) (finished m (record { items = items; ending = e }))
         by_end items (Ok s) = ap (λ (b : Machine). record { items = items; ending = Ok (Stands b) }) (returning-so s)
         by_end items (Err (Faulted f)) = refl
         by_end items (Err (Inside here calls inner s)) = ap (λ (b : Machine). record { items = items; ending = Ok (Stands b) }) (deep-itself refl)
     deep-return true keeps = by_function (function_at (functions_of plan) m.top.function)
       where
-        run : List ℕ → ℕ → Function → Result Value FaultKind → Run Token Halt (Value × State Bool)
+        run : List ℕ → ℕ → Function → Result Value FaultKind → Run Effect Exit (Value × State Bool)
         run p n f o = given (what (Spawned n None)) plan p o (state_of m) (λ v. done (v, state_of m))
 
-        finished : Machine → Run Token Halt (Value × State Bool) → Run Token Fault Reached
+        finished : Machine → Run Effect Exit (Value × State Bool) → Run Effect Fault Reached
         finished b r = record { items = r.items; ending = gives plan b r.ending }
 
-        by_end : (items : List Token) (e : Result (Value × State Bool) Halt) → finished deep (record { items = items; ending = e }) ≡ changed_run (changed k change) (finished m (record { items = items; ending = e }))
+        by_end : (items : List Effect) (e : Result (Value × State Bool) Exit) → finished deep (record { items = items; ending = e }) ≡ changed_run (changed k change) (finished m (record { items = items; ending = e }))
         by_end items (Ok r) = ap (λ (o : Result Reached Fault). record { items = items; ending = o }) (sym (deep-back m.below m.top.target r.0 r.1.rank r.1.steps lower keeps))
         by_end items (Err (Faulted f)) = refl
         by_end items (Err (Inside here calls inner s)) = ap (λ (b : Machine). record { items = items; ending = Ok (Stands b) }) (deep-itself refl)
@@ -503,16 +503,16 @@ module _ (plan : PlanView) (path : List ℕ) (fix : Env → Env) (mark : Option 
         ap (λ (n : ℕ). finished deep (run (here_of path deep) n)) (length-changed k change m.below) ∙ ap (λ p. finished deep (run p (length m.below))) (same-path m.top.levels)
         ∙ by_end (run (here_of path m) (length m.below)).items (run (here_of path m) (length m.below)).ending
       where
-        run : List ℕ → ℕ → Run Token Halt (State Bool)
+        run : List ℕ → ℕ → Run Effect Exit (State Bool)
         run p n = join (what (Spawned n None)) plan p (state_of m)
 
-        finished : Machine → Run Token Halt (State Bool) → Run Token Fault Reached
+        finished : Machine → Run Effect Exit (State Bool) → Run Effect Fault Reached
         finished b r = record { items = r.items; ending = reached plan (with_leaving b) (λ inner s. b) r.ending }
 
         leaving-so : (s : State Bool) → with_leaving deep s ≡ changed k change (with_leaving m s)
         leaving-so s = rw (other-number k (length m.below) lower) refl
 
-        by_end : (items : List Token) (e : Result (State Bool) Halt) → finished deep (record { items = items; ending = e }) ≡ changed_run (changed k change) (finished m (record { items = items; ending = e }))
+        by_end : (items : List Effect) (e : Result (State Bool) Exit) → finished deep (record { items = items; ending = e }) ≡ changed_run (changed k change) (finished m (record { items = items; ending = e }))
         by_end items (Ok s) = ap (λ (b : Machine). record { items = items; ending = Ok (Stands b) }) (leaving-so s)
         by_end items (Err (Faulted f)) = refl
         by_end items (Err (Inside here calls inner s)) = ap (λ (b : Machine). record { items = items; ending = Ok (Stands b) }) (deep-itself refl)
@@ -526,13 +526,13 @@ module _ (plan : PlanView) (path : List ℕ) (fix : Env → Env) (mark : Option 
         out-so : out_of_level deep l ls s ≡ changed k change (out_of_level m l ls s)
         out-so = rw (other-number k (length m.below) lower) refl
 
-  -- The activation with k below it may be altered: the next statement doesn't touch what is changed, nor does a value that comes there,
+  -- The frame with k below it may be altered: the next statement doesn't touch what is changed, nor does a value that comes there,
   -- and no value of its own is given.
   pub record IsFree (k : ℕ) (m : Machine) : Type 0 where
     pub inside : k ≤ length m.below
     pub touches : k ≡ length m.below → (st : Stmt) (left : List Stmt) → m.top.left ≡ st ∷ left → Keeps fix (touched (out-Act (out-Stmt st).act))
     pub closes : k ≡ length m.below → m.top.left ≡ [] → m.top.returning ≡ false
-    pub comes : (caller : Activation) (more : List Activation) → m.below ≡ caller ∷ more → k ≡ length more → Keeps fix (target_names m.top.target)
+    pub comes : (caller : Frame) (more : List Frame) → m.below ≡ caller ∷ more → k ≡ length more → Keeps fix (target_names m.top.target)
 
   pub altered-move : (k : ℕ) (m : Machine) → IsFree k m → move plan path (changed k change m) ≡ changed_run (changed k change) (move plan path m)
   altered-move k m free = by_place (nat_eq k (length m.below)) refl

@@ -18,9 +18,9 @@ use Rattle.script_check.specs.Tables.{no_entries, with_first}
 use Rattle.script_check.specs.Functions.{function_named}
 use Rattle.script_check.specs.Names as check
 use Rattle.script_check.specs.Names.{nobody, both, with_name, after_right}
-use Rattle.script_check.specs.Rules.{Known, kind_of, scalar_use, array_use, declaration, variable_twice, too_many_variables, array_length, let_in_a_block}
+use Rattle.script_check.specs.Rules.{Declared, kind_of, scalar_use, array_use, declaration, variable_twice, too_many_variables, array_length, let_in_a_block}
 use Rattle.script_check.specs.Expressions.{wanted, two_wanted, read}
-use Rattle.script_check.specs.Statements.{Place, place, Judged, judge, judge_what, judge_act, judge_all, read_right, wanted_as, target_use, loop_call_of, faults_each, block_faults, known_each, after}
+use Rattle.script_check.specs.Statements.{Context, place, Judged, judge, judge_what, judge_act, judge_all, read_right, wanted_as, target_use, loop_call_of, faults_each, block_faults, known_each, after}
 use Rattle.script_check.specs.Valid.{IsValid, known_params, param_faults, function_faults, all_function_faults, functions_twice, main_faults}
 use Rattle.script_check.specs.Functions.{main_name}
 use Rattle.script_check.proofs.Fewer.{nothing_left, nothing_right}
@@ -93,17 +93,17 @@ clear-ends more w (Levels block left h c rest) = Levels block left h c (clear-en
 -- Known variables
 
 -- what is pending is known
-abbrev IsKnown : check.Names → Known → Type 0
+abbrev IsKnown : check.Names → Declared → Type 0
 IsKnown p known = (x : List ℕ) → p x ≡ true → is_some (known.what x) ≡ true
 
-first-has : (known : Known) (x : List ℕ) (v : _) → is_some ((with_first known x v).what x) ≡ true
+first-has : (known : Declared) (x : List ℕ) (v : _) → is_some ((with_first known x v).what x) ≡ true
 first-has known x v = from (is_some (known.what x)) refl
   where
     from : (b : Bool) → is_some (known.what x) ≡ b → is_some ((if b then known else record { what = update bytes_eq known.what x (Some v); count = known.count + 1 }).what x) ≡ true
     from true e = e
     from false e = ap (λ (b : Bool). is_some (cond b (Some v) (known.what x))) (is-itself x)
 
-first-keeps : (known : Known) (x : List ℕ) (v : _) (y : List ℕ) → is_some (known.what y) ≡ true → is_some ((with_first known x v).what y) ≡ true
+first-keeps : (known : Declared) (x : List ℕ) (v : _) (y : List ℕ) → is_some (known.what y) ≡ true → is_some ((with_first known x v).what y) ≡ true
 first-keeps known x v y h = from (is_some (known.what x))
   where
     here : (b : Bool) → is_some (cond b (Some v) (known.what y)) ≡ true
@@ -114,14 +114,14 @@ first-keeps known x v y h = from (is_some (known.what x))
     from true = h
     from false = here (bytes_eq x y)
 
-scalar-known : (known : Known) (p : check.Names) (x : Name) → scalar_use (known.what x.bytes) p x ≡ [] → is_some (known.what x.bytes) ≡ true
+scalar-known : (known : Declared) (p : check.Names) (x : Name) → scalar_use (known.what x.bytes) p x ≡ [] → is_some (known.what x.bytes) ≡ true
 scalar-known known p x h = from (known.what x.bytes) h
   where
     from : (o : Option _) → scalar_use o p x ≡ [] → is_some o ≡ true
     from (Some v) g = refl
     from None g = absurd (true≢false (not-broken true 6 x.at g))
 
-new-free : (p : check.Names) (known : Known) (x : Name) → IsKnown p known → declaration known x ≡ [] → p x.bytes ≡ false
+new-free : (p : check.Names) (known : Declared) (x : Name) → IsKnown p known → declaration known x ≡ [] → p x.bytes ≡ false
 new-free p known x k h = from (p x.bytes) refl
   where
     unknown : is_some (known.what x.bytes) ≡ false
@@ -143,7 +143,7 @@ or-right true b h = refl
 or-right false b h = h
 
 -- a right side adds its target alone
-right-known : (x : Name) (r : Right) (p : check.Names) (known : Known) → is_some (known.what x.bytes) ≡ true → IsKnown p known → IsKnown (after_right x r p) known
+right-known : (x : Name) (r : Right) (p : check.Names) (known : Declared) → is_some (known.what x.bytes) ≡ true → IsKnown p known → IsKnown (after_right x r p) known
 right-known x (right.Value e) p known h k y g = k y g
 right-known x (right.Draw at) p known h k y g = k y g
 right-known x (right.New at) p known h k y g = k y g
@@ -181,9 +181,9 @@ right-within x (right.Spawn at c) p all w name h = from (Contains-append_cases (
 -- is after it is.
 record IsGood (j : Judged) (s : Stmt) : Type 0 where
   own : Names
-  stays : (place : Place) (known : Known) (p : check.Names) → place.in_block ≡ true → j.faults place known p ≡ [] → j.known place.functions known ≡ known
-  knows : (place : Place) (known : Known) (p : check.Names) → IsKnown p known → j.faults place known p ≡ [] → IsKnown (j.after p) (j.known place.functions known)
-  clears : (all : Names) → IsWithin own all → (place : Place) (known : Known) (p : check.Names) → IsKnown p known → j.faults place known p ≡ [] →
+  stays : (place : Context) (known : Declared) (p : check.Names) → place.in_block ≡ true → j.faults place known p ≡ [] → j.known place.functions known ≡ known
+  knows : (place : Context) (known : Declared) (p : check.Names) → IsKnown p known → j.faults place known p ≡ [] → IsKnown (j.after p) (j.known place.functions known)
+  clears : (all : Names) → IsWithin own all → (place : Context) (known : Declared) (p : check.Names) → IsKnown p known → j.faults place known p ≡ [] →
       (sts : List Stmt) (ends : Names) → IsClear (kept (j.after p) all) sts ends → IsClear (kept p all) (s ∷ sts) ends
 
 abbrev Good : Stmt → Type 0
@@ -193,7 +193,7 @@ own-all : (ss : List Stmt) → Each Good ss → Names
 own-all [] h = []
 own-all (s ∷ ss) h = h.0.own ++ own-all ss h.1
 
-stays-all : (ss : List Stmt) → Each Good ss → (place : Place) (known : Known) (p : check.Names) → place.in_block ≡ true → faults_each (judge_all ss) place known p ≡ [] →
+stays-all : (ss : List Stmt) → Each Good ss → (place : Context) (known : Declared) (p : check.Names) → place.in_block ≡ true → faults_each (judge_all ss) place known p ≡ [] →
     known_each (judge_all ss) place.functions known ≡ known
 stays-all [] h place known p b e = refl
 stays-all (s ∷ ss) h place known p b e =
@@ -201,7 +201,7 @@ stays-all (s ∷ ss) h place known p b e =
     stays-all ss h.1 place ((judge s).known place.functions known) ((judge s).after p) b (nothing_right ((judge s).faults place known p) rest e)
     ∙ h.0.stays place known p b (nothing_left ((judge s).faults place known p) rest e)
 
-knows-all : (ss : List Stmt) → Each Good ss → (place : Place) (known : Known) (p : check.Names) → IsKnown p known → faults_each (judge_all ss) place known p ≡ [] →
+knows-all : (ss : List Stmt) → Each Good ss → (place : Context) (known : Declared) (p : check.Names) → IsKnown p known → faults_each (judge_all ss) place known p ≡ [] →
     IsKnown (after ss p) (known_each (judge_all ss) place.functions known)
 knows-all [] h place known p k e = k
 knows-all (s ∷ ss) h place known p k e =
@@ -209,7 +209,7 @@ knows-all (s ∷ ss) h place known p k e =
     knows-all ss h.1 place ((judge s).known place.functions known) ((judge s).after p)
     (h.0.knows place known p k (nothing_left ((judge s).faults place known p) rest e)) (nothing_right ((judge s).faults place known p) rest e)
 
-clears-all : (ss : List Stmt) (h : Each Good ss) (all : Names) → IsWithin (own-all ss h) all → (place : Place) (known : Known) (p : check.Names) → IsKnown p known →
+clears-all : (ss : List Stmt) (h : Each Good ss) (all : Names) → IsWithin (own-all ss h) all → (place : Context) (known : Declared) (p : check.Names) → IsKnown p known →
     faults_each (judge_all ss) place known p ≡ [] → IsClear (kept p all) ss (kept (after ss p) all)
 unfolding own-all
 clears-all [] h all w place known p k e = Nothing (within-itself (kept p all))
@@ -279,8 +279,8 @@ good-array at x n = record {
 }
 
 -- a statement that adds nothing and makes nothing known
-good-plain : (at : ℕ) (d : Act-F Act Stmt) → IsSimple d → ((p : check.Names) → (told d at).after p ≡ p) → ((functions : List Function) (known : Known) → (told d at).known functions known ≡ known) →
-    ((p : Names) → pending_after d p ≡ p) → ((place : Place) (known : Known) (p : check.Names) → (told d at).faults place known p ≡ [] → Free p (touched d)) → IsGood (told d at) (statement at d)
+good-plain : (at : ℕ) (d : Act-F Act Stmt) → IsSimple d → ((p : check.Names) → (told d at).after p ≡ p) → ((functions : List Function) (known : Declared) → (told d at).known functions known ≡ known) →
+    ((p : Names) → pending_after d p ≡ p) → ((place : Context) (known : Declared) (p : check.Names) → (told d at).faults place known p ≡ [] → Free p (touched d)) → IsGood (told d at) (statement at d)
 good-plain at d s same still adds free = record {
   own = [];
   stays = λ place known p b h. still place.functions known;
@@ -309,7 +309,7 @@ good-if at e a b g h = record {
       let inner = record place { in_block = true } in
       let first = first-of place known p f in
       let still : known_each (judge_all a) place.functions known ≡ known = stays-all a g inner known p refl first in
-      let last : faults_each (judge_all b) inner known p ≡ [] = subst (λ (m : Known). faults_each (judge_all b) inner m p ≡ []) still (last-of place known p f) in
+      let last : faults_each (judge_all b) inner known p ≡ [] = subst (λ (m : Declared). faults_each (judge_all b) inner m p ≡ []) still (last-of place known p f) in
       let again : known_each (judge_all b) place.functions (known_each (judge_all a) place.functions known) ≡ known =
       stays-all b h inner (known_each (judge_all a) place.functions known) p refl (last-of place known p f) ∙ still in
       subst (IsKnown (both (after a p) (after b p))) (sym again)
@@ -320,7 +320,7 @@ good-if at e a b g h = record {
       let inner = record place { in_block = true } in
       let first = first-of place known p f in
       let still : known_each (judge_all a) place.functions known ≡ known = stays-all a g inner known p refl first in
-      let last : faults_each (judge_all b) inner known p ≡ [] = subst (λ (m : Known). faults_each (judge_all b) inner m p ≡ []) still (last-of place known p f) in
+      let last : faults_each (judge_all b) inner known p ≡ [] = subst (λ (m : Declared). faults_each (judge_all b) inner m p ≡ []) still (last-of place known p f) in
       let more = kept (both (after a p) (after b p)) all in
       Branches e a b more (opens at (act.If e a b))
       (free-apart p (names_in e) all (read-free e known p (wanted-left Int (read e) known p (test-of place known p f))))
@@ -331,17 +331,17 @@ good-if at e a b g h = record {
       rest;
 }
   where
-    first-of : (place : Place) (known : Known) (p : check.Names) → (told (act.If e a b) at).faults place known p ≡ [] → faults_each (judge_all a) (record place { in_block = true }) known p ≡ []
+    first-of : (place : Context) (known : Declared) (p : check.Names) → (told (act.If e a b) at).faults place known p ≡ [] → faults_each (judge_all a) (record place { in_block = true }) known p ≡ []
     first-of place known p f =
         nothing_right (wanted Int (read e) known p) (block_faults (judge_all a) place known p)
         (nothing_left (wanted Int (read e) known p ++ block_faults (judge_all a) place known p) (block_faults (judge_all b) place (known_each (judge_all a) place.functions known) p) f)
 
-    last-of : (place : Place) (known : Known) (p : check.Names) → (told (act.If e a b) at).faults place known p ≡ [] →
+    last-of : (place : Context) (known : Declared) (p : check.Names) → (told (act.If e a b) at).faults place known p ≡ [] →
         faults_each (judge_all b) (record place { in_block = true }) (known_each (judge_all a) place.functions known) p ≡ []
     last-of place known p f =
         nothing_right (wanted Int (read e) known p ++ block_faults (judge_all a) place known p) (block_faults (judge_all b) place (known_each (judge_all a) place.functions known) p) f
 
-    test-of : (place : Place) (known : Known) (p : check.Names) → (told (act.If e a b) at).faults place known p ≡ [] → wanted Int (read e) known p ≡ []
+    test-of : (place : Context) (known : Declared) (p : check.Names) → (told (act.If e a b) at).faults place known p ≡ [] → wanted Int (read e) known p ≡ []
     test-of place known p f =
         nothing_left (wanted Int (read e) known p) (block_faults (judge_all a) place known p)
         (nothing_left (wanted Int (read e) known p ++ block_faults (judge_all a) place known p) (block_faults (judge_all b) place (known_each (judge_all a) place.functions known) p) f)
@@ -364,10 +364,10 @@ good-while at e a g = record {
       rest;
 }
   where
-    body-of : (place : Place) (known : Known) (p : check.Names) → (told (act.While e a) at).faults place known p ≡ [] → faults_each (judge_all a) (record place { in_block = true }) known (both p (after a p)) ≡ []
+    body-of : (place : Context) (known : Declared) (p : check.Names) → (told (act.While e a) at).faults place known p ≡ [] → faults_each (judge_all a) (record place { in_block = true }) known (both p (after a p)) ≡ []
     body-of place known p f = nothing_right (wanted Int (read e) known (both p (after a p))) (block_faults (judge_all a) place known (both p (after a p))) f
 
-    all-known : (place : Place) (known : Known) (p : check.Names) → IsKnown p known → (told (act.While e a) at).faults place known p ≡ [] → IsKnown (both p (after a p)) known
+    all-known : (place : Context) (known : Declared) (p : check.Names) → IsKnown p known → (told (act.While e a) at).faults place known p ≡ [] → IsKnown (both p (after a p)) known
     all-known place known p k f y t =
         from ((fewer_pending_stays_valid a (record place { in_block = true }) known p (both p (after a p)) (λ z u. or-left (p z) (after a p z) u) (body-of place known p f)).0)
         (or-cases (p y) (after a p y) t)

@@ -11,8 +11,8 @@ use Rattle.script_grammar.specs.declared.tree.Act.TheOpen as act
 use Rattle.script_grammar.specs.declared.tree.Act.TheOpen.{Act-F}
 use Rattle.serial_meaning.specs.Names.{Names}
 use Rattle.strand_meaning.specs.Clear.{IsWithin, IsApart, IsClear, Nothing, Simple, Branches, Turns, Levels, touched, pending_right, pending_after, target_names}
-use Rattle.strand_meaning.specs.Machine.{Place, Spawned, Looped, Half}
-use Rattle.strand_meaning.specs.Pieces.{Part}
+use Rattle.strand_meaning.specs.Machine.{Destination, Spawned, Looped, Half}
+use Rattle.strand_meaning.specs.Trace.{AwaitedChild}
 use Rattle.strand_meaning.specs.Sound.{unfilled_by, unfilled, is_by, any_by, IsPlace, ArePlaces}
 use Rattle.strand_meaning.proofs.Keeps.{later-contained}
 use Rattle.strand_meaning.proofs.Shown.{same-number}
@@ -83,9 +83,9 @@ next-apart {pending} (Branches e first second both h apart c d rest) = rw h apar
 next-apart {pending} (Turns e body all h w apart c rest) = rw h (apart-within _ pending all w apart)
 next-apart {pending} (Levels block left h c rest) = rw h (λ name g k. none-contained name g)
 
--- Unfilled variables of one activation
+-- Unfilled variables of one frame
 
-pub unfilled-append : (height : ℕ) (ps qs : List Part) → unfilled height (ps ++ qs) ≡ unfilled height ps ++ unfilled height qs
+pub unfilled-append : (height : ℕ) (ps qs : List AwaitedChild) → unfilled height (ps ++ qs) ≡ unfilled height ps ++ unfilled height qs
 unfilled-append height [] qs = refl
 unfilled-append height (p ∷ ps) qs = ap (λ l. unfilled_by height p.place ++ l) (unfilled-append height ps qs) ∙ sym (append_assoc (unfilled_by height p.place) (unfilled height ps) (unfilled height qs))
 
@@ -93,7 +93,7 @@ pub or-assoc : (a b c : Bool) → (a || (b || c)) ≡ ((a || b) || c)
 or-assoc true b c = refl
 or-assoc false b c = refl
 
-pub any-append : (height : ℕ) (ps qs : List Part) → any_by height (ps ++ qs) ≡ (any_by height ps || any_by height qs)
+pub any-append : (height : ℕ) (ps qs : List AwaitedChild) → any_by height (ps ++ qs) ≡ (any_by height ps || any_by height qs)
 any-append height [] qs = refl
 any-append height (p ∷ ps) qs = ap (λ b. is_by height p.place || b) (any-append height ps qs) ∙ or-assoc (is_by height p.place) (any_by height ps) (any_by height qs)
 
@@ -106,34 +106,34 @@ neither false false h = (refl, refl)
 neither true b h = absurd (cc)
 neither false true h = absurd (cc)
 
-unfilled-none : (height : ℕ) (place : Place) → is_by height place ≡ false → unfilled_by height place ≡ []
+unfilled-none : (height : ℕ) (place : Destination) → is_by height place ≡ false → unfilled_by height place ≡ []
 unfilled-none height (Spawned owner target) h = rw h refl
 unfilled-none height (Looped target) h = refl
 unfilled-none height Half h = refl
 
 -- what isn't spawned has no unfilled variable
-pub none-unfilled : (height : ℕ) (ps : List Part) → any_by height ps ≡ false → unfilled height ps ≡ []
+pub none-unfilled : (height : ℕ) (ps : List AwaitedChild) → any_by height ps ≡ false → unfilled height ps ≡ []
 none-unfilled height [] h = refl
 none-unfilled height (p ∷ ps) h =
     let n = neither (is_by height p.place) (any_by height ps) h in ap (λ l. l ++ unfilled height ps) (unfilled-none height p.place n.0) ∙ none-unfilled height ps n.1
 
--- no child of an activation that there isn't
-pub none-above : (height : ℕ) (ps : List Part) → ArePlaces height ps → any_by (suc height) ps ≡ false
+-- no child of a frame that there isn't
+pub none-above : (height : ℕ) (ps : List AwaitedChild) → ArePlaces height ps → any_by (suc height) ps ≡ false
 none-above height [] h = refl
 none-above height (p ∷ ps) h = rw (first p.place h.0) (none-above height ps h.1)
   where
-    first : (place : Place) → IsPlace height place → is_by (suc height) place ≡ false
+    first : (place : Destination) → IsPlace height place → is_by (suc height) place ≡ false
     first (Spawned owner target) g = other-number owner (suc height) (omega arith)
     first (Looped target) g = absurd g
     first Half g = refl
 
-pub target-unfilled : (height owner : ℕ) (target : Option Name) (ps : List Part) (p : Part) → Contains ps p → p.place ≡ Spawned owner target → owner ≡ height → IsWithin (target_names target) (unfilled height ps)
+pub target-unfilled : (height owner : ℕ) (target : Option Name) (ps : List AwaitedChild) (p : AwaitedChild) → Contains ps p → p.place ≡ Spawned owner target → owner ≡ height → IsWithin (target_names target) (unfilled height ps)
 target-unfilled height owner target [] p c e g name h = absurd (omega (arith, c.1))
 target-unfilled height owner target (q ∷ ps) p c e g name h = from (Contains-append_cases (q ∷ []) ps p c) (λ k. target-unfilled height owner target ps p k e g name h)
   where
     here : q ≡ p → Contains (unfilled_by height q.place) name
     here k =
-        let same : q.place ≡ Spawned owner target = ap (λ (r : Part). r.place) k ∙ e in
+        let same : q.place ≡ Spawned owner target = ap (λ (r : AwaitedChild). r.place) k ∙ e in
         let names : unfilled_by height q.place ≡ target_names target = ap (unfilled_by height) same ∙ ap (λ (n : ℕ). if nat_eq owner n then target_names target else []) (sym g) ∙ ap (λ (b : Bool). if b then target_names target else []) (same-number owner) in
         subst (λ (l : Names). Contains l name) (sym names) h
 

@@ -3,7 +3,7 @@ use Rattle.std.proofs.Common.{◌≡◌, List, [], ◌∷◌, ◌++◌, Option, 
 use Rattle.serial_meaning.specs.Runs.{Run, done, behind, goes_on, ◌then◌}
 use Rattle.serial_meaning.specs.Plan.{PlanView}
 use Rattle.serial_meaning.specs.Eval.{Evaluation, eval}
-use Rattle.serial_meaning.specs.Open.{Item, Happened, Child, Opened, Closed, Ending, Own, Joined, opened}
+use Rattle.serial_meaning.specs.Open.{Item, Happened, Child, Opened, Closed, NodeFault, Own, ChildFaulted, opened}
 use Rattle.serial_meaning.proofs.RunLaws.{goes_on-behind, then-then}
 use Rattle.serial_meaning.proofs.Cut.{Matches, cut, child_first}
 use Rattle.serial_meaning.proofs.Sim.{eval-cuts}
@@ -18,11 +18,11 @@ behind-then xs r f = goes_on-behind xs r.items r.ending f
 
 module _ (child : Origin → Evaluation) where
   -- a piece and how it ends
-  abbrev ends_by : {A : Type 0} → List Event → Option Fault → Result A Ending → Run Event Fault A
+  abbrev ends_by : {A : Type 0} → List Event → Option Fault → Result A NodeFault → Run Event Fault A
   ends_by es (Some f) e = record { items = es; ending = Err f }
   ends_by es None e = record { items = es; ending = closed_end child e }
 
-  closed-cut : {A : Type 0} (items : List Item) (e : Result A Ending) → closed_at child items e ≡ ends_by (cut child items).events (cut child items).cut_by e
+  closed-cut : {A : Type 0} (items : List Item) (e : Result A NodeFault) → closed_at child items e ≡ ends_by (cut child items).events (cut child items).cut_by e
   closed-cut {A} [] e = refl
   closed-cut {A} (Happened x ∷ items) e = ap (behind (x ∷ [])) (closed-cut items e) ∙ from (cut child items).events (cut child items).cut_by
     where
@@ -41,13 +41,13 @@ module _ (child : Origin → Evaluation) where
   closed-cut {A} (Opened j ∷ items) e = closed-cut items e
   closed-cut {A} (Closed j ∷ items) e = closed-cut items e
 
-  matches-ends : {A : Type 0} (es : List Event) (c : Option Fault) (r : Run Event Fault A) (e : Result A Ending) → Matches child (λ (a : A). a) es c r e → r ≡ ends_by es c e
+  matches-ends : {A : Type 0} (es : List Event) (c : Option Fault) (r : Run Event Fault A) (e : Result A NodeFault) → Matches child (λ (a : A). a) es c r e → r ≡ ends_by es c e
   matches-ends es (Some f) r e h = h
   matches-ends es None r (Ok b) h = h.2 ∙ ap (λ a. record { items = es; ending = Ok a }) (sym h.1)
   matches-ends es None r (Err (Own f)) h = h
-  matches-ends es None r (Err (Joined f)) h = absurd h
+  matches-ends es None r (Err (ChildFaulted f)) h = absurd h
 
-  pub closed-then : {A B : Type 0} (r : Run Item Ending A) (f : A → B) → closed child (r then λ a. done (f a)) ≡ (closed child r then λ a. done (f a))
+  pub closed-then : {A B : Type 0} (r : Run Item NodeFault A) (f : A → B) → closed child (r then λ a. done (f a)) ≡ (closed child r then λ a. done (f a))
   closed-then {A} {B} r f = by_end r.items r.ending
     where
       by_items : (items : List Item) (a : A) → closed_at child (items ++ []) (Ok (f a)) ≡ (closed_at child items (Ok a) then λ a. done (f a))
@@ -58,16 +58,16 @@ module _ (child : Origin → Evaluation) where
       by_items (Opened j ∷ items) a = by_items items a
       by_items (Closed j ∷ items) a = by_items items a
 
-      by_fault : (items : List Item) (e : Ending) → closed_at child items (Err e) ≡ (closed_at child items (Err e) then λ a. done (f a))
+      by_fault : (items : List Item) (e : NodeFault) → closed_at child items (Err e) ≡ (closed_at child items (Err e) then λ a. done (f a))
       by_fault [] (Own g) = refl
-      by_fault [] (Joined g) = refl
+      by_fault [] (ChildFaulted g) = refl
       by_fault (Happened x ∷ items) e = ap (behind (x ∷ [])) (by_fault items e) ∙ sym (behind-then (x ∷ []) (closed_at child items (Err e)) (λ (a : A). done (f a)))
       by_fault (Child o ∷ items) e =
           ap (λ (r : Run Event Fault B). child o then λ vs. r) (by_fault items e) ∙ sym (then-then (child o) (λ vs. closed_at child items (Err e)) (λ (a : A). done (f a)))
       by_fault (Opened j ∷ items) e = by_fault items e
       by_fault (Closed j ∷ items) e = by_fault items e
 
-      by_end : (items : List Item) (e : Result A Ending) → closed child (goes_on items e (λ a. done (f a))) ≡ (closed_at child items e then λ a. done (f a))
+      by_end : (items : List Item) (e : Result A NodeFault) → closed child (goes_on items e (λ a. done (f a))) ≡ (closed_at child items e then λ a. done (f a))
       by_end items (Ok a) = by_items items a
       by_end items (Err e) = by_fault items e
 

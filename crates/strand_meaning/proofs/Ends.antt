@@ -5,7 +5,7 @@ use Rattle.loop_range.specs.Range.{Range, lower_half, upper_half}
 use Rattle.serial_meaning.specs.Runs.{Run, done, ◌then◌}
 use Rattle.serial_meaning.specs.Plan.{PlanView}
 use Rattle.serial_meaning.specs.Eval.{Evaluation, iteration, path_of, turns, eval}
-use Rattle.serial_meaning.specs.Open.{Item, Ending, Own, Joined, opened, faults}
+use Rattle.serial_meaning.specs.Open.{Item, NodeFault, Own, ChildFaulted, opened, faults}
 use Rattle.serial_meaning.specs.Laws.{IsOriginOf, EndsWithin}
 use Rattle.serial_meaning.specs.Answer.{outcome_of}
 use Rattle.serial_meaning.proofs.RunLaws.{then-then, then-same}
@@ -18,17 +18,17 @@ use Rattle.serial_meaning.specs.declared.origin.Origin.TheVariants.{Instance, Lo
 use Rattle.serial_meaning.specs.declared.answer.Outcome.{Outcome}
 use Rattle.serial_meaning.specs.declared.answer.Outcome.TheVariants as outcome
 use Rattle.strand_meaning.specs.Clear.{IsClearPlan}
-use Rattle.strand_meaning.specs.Machine.{Place, Spawned, Looped, Half, begun}
-use Rattle.strand_meaning.specs.Pieces.{Part, Pieces, hand}
-use Rattle.strand_meaning.specs.Task.{Stage, Goes, AtSync, AtLoop, Ended, Work, Splits, Runs, Over, Task, begun_stage, start, own_instance, Stops, Spawn, waits, ends, ends_unless, faults_behind, gave, stage_step, first_half, begins_last, split_step, over_step, work_step, step}
-use Rattle.strand_meaning.specs.Rest.{children_of, rest_of_stage, rest_open, closed, told_run, parts_run, turns_left, all_with, work_run, finish}
+use Rattle.strand_meaning.specs.Machine.{Destination, Spawned, Looped, Half, begun}
+use Rattle.strand_meaning.specs.Trace.{AwaitedChild, Trace, add_child}
+use Rattle.strand_meaning.specs.Task.{InstanceState, Running, AtSync, AtLoop, Ended, Work, Splits, Runs, Over, Task, begun_stage, start, own_instance, Stops, Spawn, waits, ends, ends_unless, faults_behind, gave, stage_step, first_half, begins_last, split_step, over_step, work_step, step}
+use Rattle.strand_meaning.specs.Rest.{children_of, rest_of_stage, rest_open, closed, prefix_run, parts_run, turns_left, all_with, work_run, finish}
 use Rattle.strand_meaning.specs.Sound.{IsHalf, AreHalves, IsSoundStage, IsSoFar, IsEndOf, IsLoop, IsLongLoop, FitsOrigin, AreParts, IsInstanceOrLoop, IsSoundWork, UnfilledArePendingIn, IsTask}
 use Rattle.serial_meaning.specs.Loops.{IsHandedFor}
 use Rattle.strand_meaning.specs.Laws.{IsFaultOf, IsSoundStep}
 use Rattle.strand_meaning.proofs.Steps.{so_far-same, parts-append, ended-rest, halves-places, sound-going}
 use Rattle.strand_meaning.proofs.Starts.{begun-whole, begun-sound, begun-pending, halves-rest}
 use Rattle.strand_meaning.proofs.Closing.{closed-then, eval-closed}
-use Rattle.strand_meaning.proofs.Finishing.{hand-so_far}
+use Rattle.strand_meaning.proofs.Finishing.{add_child-so_far}
 use Rattle.strand_meaning.proofs.Begun.{shown-more, half-path}
 use Rattle.strand_meaning.proofs.Depth.{loop-of-plan}
 use Rattle.strand_meaning.proofs.Loops.{then-done, eval-loop, halves-turns, own-of-plan, part-of-loop}
@@ -44,12 +44,12 @@ fault-of plan (Instance function args path) (Ok vs) h = tt
 fault-of plan (Loop function rest first path range) (Ok vs) h = tt
 fault-of plan o (Err f) h = subst (IsFaultOf plan) (sym (err-outcome o f)) h
 
--- a task's pieces and then how it ends
-abbrev ended_run : Pieces → Result (List Value) Fault → Evaluation
-ended_run pieces r = told_run pieces then λ u. record { items = []; ending = r }
+-- a task's trace and then how it ends
+abbrev ended_run : Trace → Result (List Value) Fault → Evaluation
+ended_run trace r = prefix_run trace then λ u. record { items = []; ending = r }
 
-end-is : (t : Task) → IsTask t → (r : Result (List Value) Fault) → ended_run t.pieces r ≡ eval t.plan t.origin → (ended : Outcome) → ended ≡ outcome_of t.origin r → IsSoundStep t (ends t ended)
-end-is t is r h ended e = by_fault t.pieces.fault refl
+end-is : (t : Task) → IsTask t → (r : Result (List Value) Fault) → ended_run t.trace r ≡ eval t.plan t.origin → (ended : Outcome) → ended ≡ outcome_of t.origin r → IsSoundStep t (ends t ended)
+end-is t is r h ended e = by_fault t.trace.fault refl
   where
     o : Origin
     o = t.origin
@@ -58,32 +58,32 @@ end-is t is r h ended e = by_fault t.pieces.fault refl
     within q g = subst (λ (p : Evaluation). EndsWithin (faults t.plan) p.ending) (sym g) (origins_end_within_faults t.plan o is.known)
 
     run : Option Fault → Evaluation
-    run f = ended_run (record t.pieces { fault = f }) r
+    run f = ended_run (record t.trace { fault = f }) r
 
-    by_fault : (f : Option Fault) → t.pieces.fault ≡ f → IsSoundStep t (ends_unless f t ended)
+    by_fault : (f : Option Fault) → t.trace.fault ≡ f → IsSoundStep t (ends_unless f t ended)
     by_fault (Some f) g =
-        let q : Evaluation = record { items = t.pieces.told; ending = Err f } in
+        let q : Evaluation = record { items = t.trace.prefix; ending = Err f } in
         let same : q ≡ eval t.plan o = ap run (sym g) ∙ h in
         (record { events = ap (λ (p : Evaluation). p.items) same; ends = sym (err-outcome o f) ∙ ap (λ (p : Evaluation). outcome_of o p.ending) same }, within q same)
     by_fault None g =
-        let q : Evaluation = record { items = t.pieces.told; ending = r } in
-        let same : q ≡ eval t.plan o = ap (λ (l : List Event). record { items = l; ending = r }) (sym (append-nil t.pieces.told)) ∙ ap run (sym g) ∙ h in
+        let q : Evaluation = record { items = t.trace.prefix; ending = r } in
+        let same : q ≡ eval t.plan o = ap (λ (l : List Event). record { items = l; ending = r }) (sym (append-nil t.trace.prefix)) ∙ ap run (sym g) ∙ h in
         (record { events = ap (λ (p : Evaluation). p.items) same; ends = e ∙ ap (λ (p : Evaluation). outcome_of o p.ending) same }, subst (IsFaultOf t.plan) (sym e) (fault-of t.plan o r (within q same)))
 
 -- a task without children
-alone : (t : Task) → t.pieces.handed ≡ [] → finish t ≡ (told_run t.pieces then λ u. work_run t.plan t.origin [] t.work t.values)
-alone t h = ap (λ (ps : List Part). told_run t.pieces then λ u. parts_run (eval t.plan) ps t.values then work_run t.plan t.origin ps t.work) h
+alone : (t : Task) → t.trace.handed ≡ [] → finish t ≡ (prefix_run t.trace then λ u. work_run t.plan t.origin [] t.work t.values)
+alone t h = ap (λ (ps : List AwaitedChild). prefix_run t.trace then λ u. parts_run (eval t.plan) ps t.values then work_run t.plan t.origin ps t.work) h
 
-end-alone : (t : Task) → IsTask t → t.pieces.handed ≡ [] → (r : Result (List Value) Fault) → work_run t.plan t.origin [] t.work t.values ≡ record { items = []; ending = r } →
+end-alone : (t : Task) → IsTask t → t.trace.handed ≡ [] → (r : Result (List Value) Fault) → work_run t.plan t.origin [] t.work t.values ≡ record { items = []; ending = r } →
     (ended : Outcome) → ended ≡ outcome_of t.origin r → IsSoundStep t (ends t ended)
-end-alone t is none r h ended e = end-is t is r (ap (λ (q : Evaluation). told_run t.pieces then λ u. q) (sym h) ∙ sym (alone t none) ∙ is.finishes) ended e
+end-alone t is none r h ended e = end-is t is r (ap (λ (q : Evaluation). prefix_run t.trace then λ u. q) (sym h) ∙ sym (alone t none) ∙ is.finishes) ended e
 
 -- Parts of a loop are there only where it is long.
-halves-long : (plan : PlanView) (o : Origin) (ps : List Part) → AreHalves ps → AreParts plan o ps → (ps ≡ []) ⊎ IsLongLoop o
+halves-long : (plan : PlanView) (o : Origin) (ps : List AwaitedChild) → AreHalves ps → AreParts plan o ps → (ps ≡ []) ⊎ IsLongLoop o
 halves-long plan o [] h k = inl refl
 halves-long plan o (p ∷ ps) h k = inr (from p.place h.0 k.0.fits)
   where
-    from : (place : Place) → IsHalf place → FitsOrigin o place → IsLongLoop o
+    from : (place : Destination) → IsHalf place → FitsOrigin o place → IsLongLoop o
     from (Spawned owner target) g f = absurd g
     from (Looped target) g f = absurd g
     from Half g f = f
@@ -93,10 +93,10 @@ waits-sound : (t : Task) → IsTask t → IsSoundStep t (waits t)
 waits-sound t is = record { finishes = is.finishes; known = is.known; clear = is.clear; parts = is.parts; shown = is.shown; work = is.work; pending = is.pending }
 
 -- other work that gives the same
-with-work : (t : Task) → IsTask t → (work : Work) → ((vs : List Value) → work_run t.plan t.origin t.pieces.handed t.work vs ≡ work_run t.plan t.origin t.pieces.handed work vs) →
-    IsSoundWork t.plan t.origin t.pieces.handed work → UnfilledArePendingIn t.plan t.pieces.handed work → IsTask (record t { work = work; advanced = true })
+with-work : (t : Task) → IsTask t → (work : Work) → ((vs : List Value) → work_run t.plan t.origin t.trace.handed t.work vs ≡ work_run t.plan t.origin t.trace.handed work vs) →
+    IsSoundWork t.plan t.origin t.trace.handed work → UnfilledArePendingIn t.plan t.trace.handed work → IsTask (record t { work = work; advanced = true })
 with-work t is work same sound pends = record {
-  finishes = sym (so_far-same (eval t.plan) t.pieces t.values (work_run t.plan t.origin t.pieces.handed t.work) (work_run t.plan t.origin t.pieces.handed work) same) ∙ is.finishes;
+  finishes = sym (so_far-same (eval t.plan) t.trace t.values (work_run t.plan t.origin t.trace.handed t.work) (work_run t.plan t.origin t.trace.handed work) same) ∙ is.finishes;
   known = is.known;
   clear = is.clear;
   parts = is.parts;
@@ -106,10 +106,10 @@ with-work t is work same sound pends = record {
 }
 
 module _ (t : Task) (is : IsTask t) where
-  abbrev ps : List Part
-  ps = t.pieces.handed
+  abbrev ps : List AwaitedChild
+  ps = t.trace.handed
 
-  abbrev run_at : List Part → Work → List Value → Evaluation
+  abbrev run_at : List AwaitedChild → Work → List Value → Evaluation
   run_at parts work values = work_run t.plan t.origin parts work values
 
   -- an instance that has ended
@@ -133,20 +133,20 @@ module _ (t : Task) (is : IsTask t) where
           same : (vs : List Value) → run_at ps t.work vs ≡ run_at ps (Over v false) vs
           same vs =
               ap (λ (w : Work). run_at ps w vs) at
-              ∙ ap (λ (r : Run Item Ending Value). closed (children_of t.plan own) r then λ v. done (all_with t.origin vs v)) (ended-rest t.plan (children_of t.plan own) (path_of own) 0 ps (halves-places ps halves) (Ok v))
+              ∙ ap (λ (r : Run Item NodeFault Value). closed (children_of t.plan own) r then λ v. done (all_with t.origin vs v)) (ended-rest t.plan (children_of t.plan own) (path_of own) 0 ps (halves-places ps halves) (Ok v))
               ∙ ap (λ (o : Origin). done (all_with o vs v)) h
 
-  fault-sound : (f : Fault) → t.work ≡ Runs (Ended (Err (Own f))) → (qs : List Part) → ps ≡ qs → IsSoundStep t (faults_behind qs t f)
+  fault-sound : (f : Fault) → t.work ≡ Runs (Ended (Err (Own f))) → (qs : List AwaitedChild) → ps ≡ qs → IsSoundStep t (faults_behind qs t f)
   fault-sound f at [] h = end-alone t is h (Err f) (ap (λ (w : Work). run_at [] w t.values) at) (outcome.Fault f) (sym (err-outcome t.origin f))
   fault-sound f at (q ∷ qs) h = waits-sound t is
 
-  stage-sound : (stage : Stage) → t.work ≡ Runs stage → IsInstanceOrLoop t.origin → IsSoFar t.plan (own_instance t.origin) ps stage → IsSoundStage t.plan ps stage → IsSoundStep t (stage_step t stage)
-  stage-sound (Goes m) at is-loop far sound = sound-going t is m (own-of-plan t.plan t.origin is.known is-loop) is-loop far sound (subst (UnfilledArePendingIn t.plan ps) at is.pending) at
+  stage-sound : (stage : InstanceState) → t.work ≡ Runs stage → IsInstanceOrLoop t.origin → IsSoFar t.plan (own_instance t.origin) ps stage → IsSoundStage t.plan ps stage → IsSoundStep t (stage_step t stage)
+  stage-sound (Running m) at is-loop far sound = sound-going t is m (own-of-plan t.plan t.origin is.known is-loop) is-loop far sound (subst (UnfilledArePendingIn t.plan ps) at is.pending) at
   stage-sound (AtSync m) at is-loop far sound = waits-sound t is
   stage-sound (AtLoop m) at is-loop far sound = waits-sound t is
   stage-sound (Ended (Ok v)) at is-loop far sound = gave-sound v at sound is-loop
   stage-sound (Ended (Err (Own f))) at is-loop far sound = fault-sound f at ps refl
-  stage-sound (Ended (Err (Joined f))) at is-loop far sound =
+  stage-sound (Ended (Err (ChildFaulted f))) at is-loop far sound =
       end-alone t is sound (Err f) (ap (λ (w : Work). run_at [] w t.values) at) (outcome.Fault f) (sym (err-outcome t.origin f))
 
   -- a loop whose last iteration gave a value
@@ -217,7 +217,7 @@ module _ (t : Task) (is : IsTask t) where
         kids : Origin → Evaluation
         kids = children_of t.plan own
 
-        stage : Stage
+        stage : InstanceState
         stage = begun_stage (begun t.plan function (iteration-args (range.hi - 1)))
           where
             iteration-args : ℕ → List Value
@@ -233,7 +233,7 @@ module _ (t : Task) (is : IsTask t) where
         opens : opened t.plan own ≡ (rest_open t.plan kids (path_of own) ps stage then λ v. done (v ∷ []))
         opens =
             begun-whole t.plan function _ (path ++ (range.hi - 1) ∷ [])
-            ∙ ap (λ (r : Run Item Ending Value). r then λ v. done (v ∷ [])) (sym (halves-rest t.plan kids (path_of own) ps halves (begun t.plan function _)))
+            ∙ ap (λ (r : Run Item NodeFault Value). r then λ v. done (v ∷ [])) (sym (halves-rest t.plan kids (path_of own) ps halves (begun t.plan function _)))
 
         last : left.lo ≡ range.hi - 1
         last = let top : left.hi ≡ range.hi = end-of.1 in omega arith
@@ -265,7 +265,7 @@ module _ (t : Task) (is : IsTask t) where
             some = let top : left.hi ≡ range.hi = end-of.1 in let low : range.lo ≤ left.lo = end-of.0 in omega arith
 
     -- the lower half of it is handed out
-    half-left : left.lo + 2 ≤ left.hi → IsSoundStep t (Stops (Spawn (first_half t.origin left) (record t { pieces = hand (first_half t.origin left) Half t.pieces; work = Splits (upper_half left); advanced = true })))
+    half-left : left.lo + 2 ≤ left.hi → IsSoundStep t (Stops (Spawn (first_half t.origin left) (record t { trace = add_child (first_half t.origin left) Half t.trace; work = Splits (upper_half left); advanced = true })))
     half-left h = (
       subst (IsOriginOf t.plan) (sym half-is) known-half,
       record {
@@ -273,7 +273,7 @@ module _ (t : Task) (is : IsTask t) where
         known = is.known;
         clear = is.clear;
         parts = parts-append t.plan t.origin ps _ is.parts (record { known = subst (IsOriginOf t.plan) (sym half-is) known-half; fits = subst IsLongLoop (sym loop) long; same = inl tt }, tt);
-        shown = λ none. shown-more t.origin t.pieces.told ps (record { child = first_half t.origin left; place = Half; behind = [] }) (is.shown none) (inl (tt, half-path t.origin left));
+        shown = λ none. shown-more t.origin t.trace.prefix ps (record { child = first_half t.origin left; place = Half; behind = [] }) (is.shown none) (inl (tt, half-path t.origin left));
         work = (subst (λ (o : Origin). IsEndOf o (upper_half left)) (sym loop) upper, more ps halves);
         pending = tt;
       },
@@ -301,7 +301,7 @@ module _ (t : Task) (is : IsTask t) where
         known-half : IsOriginOf t.plan half
         known-half = part-of-loop t.plan function rest first path range (lower_half left) whole known-loop refl low (omega arith) (omega arith)
 
-        more : (qs : List Part) → AreHalves qs → AreHalves (qs ++ record { child = first_half t.origin left; place = Half; behind = [] } ∷ [])
+        more : (qs : List AwaitedChild) → AreHalves qs → AreHalves (qs ++ record { child = first_half t.origin left; place = Half; behind = [] } ∷ [])
         more [] g = (tt, tt)
         more (q ∷ qs) g = (g.0, more qs g.1)
 
@@ -318,10 +318,10 @@ module _ (t : Task) (is : IsTask t) where
             ∙ then-same (eval t.plan half) _ _ (λ ws g. then-then upper_turns (λ us. done (ws ++ us)) (λ us. done (vs ++ us)) ∙ then-same upper_turns _ _ (λ us k. ap (λ (l : List Value). done l) (sym (append_assoc vs ws us))))
             ∙ ap (λ (o : Origin). abbrev-tail o (first_half o left) vs) (sym loop)
 
-        finishes : finish (record t { pieces = hand (first_half t.origin left) Half t.pieces; work = Splits (upper_half left); advanced = true }) ≡ eval t.plan t.origin
+        finishes : finish (record t { trace = add_child (first_half t.origin left) Half t.trace; work = Splits (upper_half left); advanced = true }) ≡ eval t.plan t.origin
         finishes =
-            hand-so_far (eval t.plan) (first_half t.origin left) Half t.pieces t.values (λ vs. turns_left (eval t.plan) t.origin (upper_half left) then λ us. done (vs ++ us))
-            ∙ sym (so_far-same (eval t.plan) t.pieces t.values (run_at ps t.work) (abbrev-tail t.origin (first_half t.origin left)) two)
+            add_child-so_far (eval t.plan) (first_half t.origin left) Half t.trace t.values (λ vs. turns_left (eval t.plan) t.origin (upper_half left) then λ us. done (vs ++ us))
+            ∙ sym (so_far-same (eval t.plan) t.trace t.values (run_at ps t.work) (abbrev-tail t.origin (first_half t.origin left)) two)
             ∙ is.finishes
 
   split-sound : (left : Range) → t.work ≡ Splits left → IsEndOf t.origin left → AreHalves ps → IsSoundStep t (split_step t left (left.hi - left.lo))
@@ -354,9 +354,9 @@ pub tasks_begin : (plan : PlanView) (o : Origin) → IsOriginOf plan o → IsCle
 tasks_begin plan (Instance function args path) known clear =
     let o = Instance function args path in
     let kids = children_of plan o in
-    let rest : Run Item Ending Value = rest_of_stage plan kids path (begun_stage (begun plan function args)) in
+    let rest : Run Item NodeFault Value = rest_of_stage plan kids path (begun_stage (begun plan function args)) in
     let whole : opened plan o ≡ (rest_open plan kids path [] (begun_stage (begun plan function args)) then λ v. done (v ∷ [])) =
-    begun-whole plan function args path ∙ ap (λ (r : Run Item Ending Value). r then λ v. done (v ∷ [])) (sym (halves-rest plan kids path [] tt (begun plan function args))) in
+    begun-whole plan function args path ∙ ap (λ (r : Run Item NodeFault Value). r then λ v. done (v ∷ [])) (sym (halves-rest plan kids path [] tt (begun plan function args))) in
     record {
       finishes = sym (eval-closed plan o ∙ ap (closed kids) whole ∙ closed-then kids (rest_open plan kids path [] (begun_stage (begun plan function args))) (λ v. v ∷ []));
       known = known;

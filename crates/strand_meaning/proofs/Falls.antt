@@ -1,4 +1,4 @@
--- A move uses up a step, or ends an activation.
+-- A move uses up a step, or ends a frame.
 use Rattle.std.proofs.Common.{◌≡◌, ℕ, zero, suc, ◌+◌, ◌-◌, ◌*◌, ◌<◌, ◌≤◌, Bool, true, false, nat_lt, List, [], ◌∷◌, Option, Some, None, Result, Ok, Err, refl, ap, arith, if◌then◌else◌, length}
 use Rattle.std.proofs.Common.{ℤ, pos, ◌-ℤ◌}
 use Rattle.script_grammar.specs.declared.tree.Name.{Name}
@@ -14,17 +14,17 @@ use Rattle.serial_meaning.specs.Runs.{Run, done, goes_on, ◌then◌}
 use Rattle.serial_meaning.specs.Values.{value_of, values_of, slot_of, items_of, number, is_true, at_index}
 use Rattle.serial_meaning.specs.Functions.{number_of, function_at}
 use Rattle.serial_meaning.specs.Plan.{PlanView, functions_of}
-use Rattle.serial_meaning.specs.Exec.{State, Manner, given, paid_from, tested, has_room, fits_depth, spawn, implied, activation, called, right_side, found, looped, does, count_of}
+use Rattle.serial_meaning.specs.Exec.{State, Manner, given, paid_from, tested, has_room, fits_depth, spawn, implied, frame, called, right_side, found, looped, does, count_of}
 use Rattle.serial_meaning.specs.declared.value.Value.{Value}
 use Rattle.serial_meaning.specs.declared.value.Value.TheVariants.{Int}
 use Rattle.serial_meaning.specs.declared.event.FaultKind.{FaultKind}
 use Rattle.serial_meaning.specs.declared.event.FaultKind.TheVariants.{Index, Depth, Calls, Budget}
 use Rattle.serial_meaning.specs.declared.event.Fault.{Fault}
-use Rattle.strand_meaning.specs.Machine.{Place, Spawned, Looped, Token, Halt, Faulted, Inside, handing, inside, place_of, Level, Activation, Machine, Reached, Stands, Gives, state_of, here_of, with_left, with_returning, back, spawns_in, entered, reached, gives, value_run, statement_move, return_move, level_move, end_move, move_at, move}
+use Rattle.strand_meaning.specs.Machine.{Destination, Spawned, Looped, Effect, Exit, Faulted, Inside, handing, inside, place_of, Level, Frame, Machine, Reached, Stands, Gives, state_of, here_of, with_left, with_returning, back, spawns_in, entered, reached, gives, value_run, statement_move, return_move, level_move, end_move, move_at, move}
 use Rattle.strand_meaning.specs.Left.{ways_out, all_ways_out, moves_of}
 
 -- no more than these steps are left, where it goes on or inside
-abbrev Within : {A : Type 0} → (A → ℕ) → ℕ → Result A Halt → Type 0
+abbrev Within : {A : Type 0} → (A → ℕ) → ℕ → Result A Exit → Type 0
 Within steps n (Ok a) = steps a ≤ n
 Within steps n (Err (Faulted f)) = Unit {0}
 Within steps n (Err (Inside here calls inner s)) = s.steps ≤ n
@@ -35,10 +35,10 @@ steps_of s = s.steps
 abbrev pair_steps : Value × State Bool → ℕ
 pair_steps p = p.1.steps
 
-within-then : {A B : Type 0} (f-steps : A → ℕ) (g-steps : B → ℕ) (n : ℕ) (r : Run Token Halt A) (f : A → Run Token Halt B) → Within f-steps n r.ending → ((a : A) → f-steps a ≤ n → Within g-steps n (f a).ending) → Within g-steps n (r then f).ending
+within-then : {A B : Type 0} (f-steps : A → ℕ) (g-steps : B → ℕ) (n : ℕ) (r : Run Effect Exit A) (f : A → Run Effect Exit B) → Within f-steps n r.ending → ((a : A) → f-steps a ≤ n → Within g-steps n (f a).ending) → Within g-steps n (r then f).ending
 within-then {A = A} {B = B} f-steps g-steps n r f h k = from r.items r.ending h
   where
-    from : (items : List Token) (e : Result A Halt) → Within f-steps n e → Within g-steps n (goes_on items e f).ending
+    from : (items : List Effect) (e : Result A Exit) → Within f-steps n e → Within g-steps n (goes_on items e f).ending
     from items (Ok a) g = k a g
     from items (Err (Faulted x)) g = tt
     from items (Err (Inside here calls inner s)) g = g
@@ -49,41 +49,41 @@ Falls m (Ok (Gives v)) = Unit {0}
 Falls m (Err f) = Unit {0}
 
 module _ (plan : PlanView) (path : List ℕ) where
-  abbrev what : Place → Manner Token Halt Bool
+  abbrev what : Destination → Manner Effect Exit Bool
   what place = handing plan place
 
-  within-given : {A B : Type 0} (steps : B → ℕ) (n : ℕ) (place : Place) (o : Result A FaultKind) (s : State Bool) (f : A → Run Token Halt B) → ((a : A) → Within steps n (f a).ending) → Within steps n (given (what place) plan path o s f).ending
+  within-given : {A B : Type 0} (steps : B → ℕ) (n : ℕ) (place : Destination) (o : Result A FaultKind) (s : State Bool) (f : A → Run Effect Exit B) → ((a : A) → Within steps n (f a).ending) → Within steps n (given (what place) plan path o s f).ending
   within-given steps n place (Ok a) s f h = h a
   within-given steps n place (Err k) s f h = tt
 
-  within-tested : {B : Type 0} (steps : B → ℕ) (n : ℕ) (place : Place) (b : Bool) (k : FaultKind) (s : State Bool) (f : Run Token Halt B) → Within steps n f.ending → Within steps n (tested (what place) plan path b k s f).ending
+  within-tested : {B : Type 0} (steps : B → ℕ) (n : ℕ) (place : Destination) (b : Bool) (k : FaultKind) (s : State Bool) (f : Run Effect Exit B) → Within steps n f.ending → Within steps n (tested (what place) plan path b k s f).ending
   within-tested steps n place true k s f h = h
   within-tested steps n place false k s f h = tt
 
   module _ (n : ℕ) where
-    spawn-within : (place : Place) (c : CallText) (s : State Bool) → s.steps ≤ n → Within pair_steps n (spawn (what place) plan path c s).ending
+    spawn-within : (place : Destination) (c : CallText) (s : State Bool) → s.steps ≤ n → Within pair_steps n (spawn (what place) plan path c s).ending
     spawn-within place c s h = within-given pair_steps n place (values_of c.args s.env) s _ (λ vs. within-tested pair_steps n place (nat_lt (length path + 1) plan.limits.depth) Depth s _ h)
 
-    called-within : (place : Place) (calls : ℕ) (c : CallText) (s : State Bool) → s.steps ≤ n → Within pair_steps n (called (what place) plan path inside calls c s).ending
+    called-within : (place : Destination) (calls : ℕ) (c : CallText) (s : State Bool) → s.steps ≤ n → Within pair_steps n (called (what place) plan path inside calls c s).ending
     called-within place calls c s h =
         within-given pair_steps n place (values_of c.args s.env) s _ (λ vs. within-tested pair_steps n place (nat_lt calls 256) Calls s _
-        (within-then pair_steps pair_steps n (activation (what place) plan path inside (calls + 1) callee vs s) _ (by_function vs callee) (λ p g. g)))
+        (within-then pair_steps pair_steps n (frame (what place) plan path inside (calls + 1) callee vs s) _ (by_function vs callee) (λ p g. g)))
       where
         callee : Option Function
         callee = function_at (functions_of plan) (number_of (functions_of plan) c.name.bytes)
 
-        by_function : (vs : List Value) (o : Option Function) → Within pair_steps n (activation (what place) plan path inside (calls + 1) o vs s).ending
+        by_function : (vs : List Value) (o : Option Function) → Within pair_steps n (frame (what place) plan path inside (calls + 1) o vs s).ending
         by_function vs None = h
         by_function vs (Some f) = h
 
-    right-within : (place : Place) (calls : ℕ) (r : Right) (s : State Bool) → s.steps ≤ n → Within pair_steps n (right_side (what place) plan path inside calls r s).ending
+    right-within : (place : Destination) (calls : ℕ) (r : Right) (s : State Bool) → s.steps ≤ n → Within pair_steps n (right_side (what place) plan path inside calls r s).ending
     right-within place calls (right.Value e) s h = within-given pair_steps n place (value_of e s.env) s _ (λ v. h)
     right-within place calls (right.Draw at) s h = h
     right-within place calls (right.New at) s h = h
     right-within place calls (right.Call at c) s h = called-within place calls c s h
     right-within place calls (right.Spawn at c) s h = spawn-within place c s h
 
-    looped-within : (place : Place) (lo : ℤ) (hi : ℕ) (vs : List Value) (target : Option Name) (c : CallText) (s : State Bool) → s.steps ≤ n → Within steps_of n (looped (what place) plan path lo hi vs target c s).ending
+    looped-within : (place : Destination) (lo : ℤ) (hi : ℕ) (vs : List Value) (target : Option Name) (c : CallText) (s : State Bool) → s.steps ≤ n → Within steps_of n (looped (what place) plan path lo hi vs target c s).ending
     looped-within place lo hi vs target c s h =
         within-tested steps_of n place (nat_lt hi (s.steps + 1)) Budget s _ (within-tested steps_of n place (has_room target hi s.env) Index _ _ (within-tested steps_of n place (fits_depth (what place) plan path hi) Depth _ _ fewer))
       where
@@ -97,7 +97,7 @@ module _ (plan : PlanView) (path : List ℕ) where
     does-within height st (act.Store x i e) s h =
         within-given steps_of n (Spawned height None) (value_of i s.env) s _ (λ k. by_item (at_index (items_of (slot_of s.env x.bytes)) (number k)) _ (within-given steps_of n (Spawned height None) (value_of e s.env) s _ (λ v. h)))
       where
-        by_item : (o : Option ℤ) (r : Run Token Halt (State Bool)) → Within steps_of n r.ending → Within steps_of n (found (what (Spawned height None)) plan path o s r).ending
+        by_item : (o : Option ℤ) (r : Run Effect Exit (State Bool)) → Within steps_of n r.ending → Within steps_of n (found (what (Spawned height None)) plan path o s r).ending
         by_item None r g = tt
         by_item (Some old) r g = g
     does-within height st (act.Spawn c) s h = within-then pair_steps steps_of n (spawn (what (Spawned height None)) plan path c s) _ (spawn-within (Spawned height None) c s h) (λ p g. g)
@@ -160,7 +160,7 @@ module _ (plan : PlanView) (path : List ℕ) where
       a : Act-F Act Stmt
       a = out-Act (out-Stmt st).act
 
-      by_end : (n : ℕ) → m.steps ≡ suc n → (e : Result (State Bool) Halt) → Within steps_of n e → Falls m (reached plan (with_left m left) (entered plan st a left m) e)
+      by_end : (n : ℕ) → m.steps ≡ suc n → (e : Result (State Bool) Exit) → Within steps_of n e → Falls m (reached plan (with_left m left) (entered plan st a left m) e)
       by_end n h (Ok s) g = omega arith
       by_end n h (Err (Faulted f)) g = tt
       by_end n h (Err (Inside here calls inner s)) g = let e = entered-falls m st a left inner s in fewer (entered plan st a left m inner s) e.steps e.deeper
@@ -177,7 +177,7 @@ module _ (plan : PlanView) (path : List ℕ) where
   return-falls : (m : Machine) (returning : Bool) → Falls m (return_move plan path m returning).ending
   return-falls m false = by_steps m.steps refl
     where
-      how : Manner Token Halt Bool
+      how : Manner Effect Exit Bool
       how = handing plan (Spawned (length m.below) None)
 
       by_text : (n : ℕ) → m.steps ≡ suc n → (b : Bool) → Falls m (reached plan (with_returning m) (λ inner s. m) (implied how plan (here_of path m) b (record (state_of m) { steps = n })).ending)
@@ -189,7 +189,7 @@ module _ (plan : PlanView) (path : List ℕ) where
       by_steps (suc n) h = by_text n h (spawns_in (function_at (functions_of plan) m.top.function))
   return-falls m true = by_function (function_at (functions_of plan) m.top.function)
     where
-      to_caller : (v : Value) (below : List Activation) → m.below ≡ below → Falls m (Ok (back below m.top.target v m.rank m.steps))
+      to_caller : (v : Value) (below : List Frame) → m.below ≡ below → Falls m (Ok (back below m.top.target v m.rank m.steps))
       to_caller v [] h = tt
       to_caller v (caller ∷ below) h = rw h (omega arith)
 

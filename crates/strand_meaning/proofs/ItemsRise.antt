@@ -7,9 +7,9 @@ use Rattle.serial_meaning.specs.Runs.{Run, done, behind, goes_on, ◌then◌}
 use Rattle.serial_meaning.specs.Values.{Env}
 use Rattle.serial_meaning.specs.Functions.{function_at}
 use Rattle.serial_meaning.specs.Plan.{PlanView, functions_of}
-use Rattle.serial_meaning.specs.Exec.{State, strand, goes_out, activation, exec, instance, filled}
+use Rattle.serial_meaning.specs.Exec.{State, strand, goes_out, frame, exec, instance, filled}
 use Rattle.serial_meaning.specs.Eval.{Evaluation, path_of, iteration}
-use Rattle.serial_meaning.specs.Open.{Item, Happened, Child, Opened, Closed, Ending, Node, put_off_all, joined, loop_end, is_empty_loop, iterations, node_with}
+use Rattle.serial_meaning.specs.Open.{Item, Happened, Child, Opened, Closed, NodeFault, Node, put_off_all, joined, loop_end, is_empty_loop, iterations, node_with}
 use Rattle.serial_meaning.proofs.RunLaws.{then-then}
 use Rattle.serial_meaning.proofs.Closed.{closed-exec, returned-q}
 use Rattle.serial_meaning.proofs.Closed as Of
@@ -135,22 +135,22 @@ rise-append path lo mid hi (Child o ∷ xs) ys p q r t =
 rise-append path lo mid hi (Opened k ∷ xs) ys p q r t = rise-append path lo mid hi xs ys p q r t
 rise-append path lo mid hi (Closed k ∷ xs) ys p q r t = rise-append path lo mid hi xs ys p q r t
 
-abbrev Ends : {A : Type 0} → (A → ℕ) → ℕ → Result A Ending → Type 0
+abbrev Ends : {A : Type 0} → (A → ℕ) → ℕ → Result A NodeFault → Type 0
 Ends rank hi (Ok a) = hi ≡ rank a
 Ends rank hi (Err e) = Unit {0}
 
-record Spread {A : Type 0} (path : List ℕ) (rank : A → ℕ) (lo : ℕ) (r : Run Item Ending A) : Type 0 where
+record Spread {A : Type 0} (path : List ℕ) (rank : A → ℕ) (lo : ℕ) (r : Run Item NodeFault A) : Type 0 where
   hi : ℕ
   up : lo ≤ hi
   ends : Ends rank hi r.ending
   placed : Placed path lo hi r.items
   rise : ItemsRise r.items
 
-spread-then : {A B : Type 0} (path : List ℕ) (f-rank : A → ℕ) (g-rank : B → ℕ) (lo : ℕ) (r : Run Item Ending A) (f : A → Run Item Ending B) →
+spread-then : {A B : Type 0} (path : List ℕ) (f-rank : A → ℕ) (g-rank : B → ℕ) (lo : ℕ) (r : Run Item NodeFault A) (f : A → Run Item NodeFault B) →
     Spread path f-rank lo r → ((a : A) → Spread path g-rank (f-rank a) (f a)) → Spread path g-rank lo (r then f)
 spread-then {A = A} {B = B} path f-rank g-rank lo r f h k = from r.items r.ending h.hi h.up h.ends h.placed h.rise
   where
-    from : (items : List Item) (e : Result A Ending) (hi : ℕ) → lo ≤ hi → Ends f-rank hi e → Placed path lo hi items → ItemsRise items → Spread path g-rank lo (goes_on items e f)
+    from : (items : List Item) (e : Result A NodeFault) (hi : ℕ) → lo ≤ hi → Ends f-rank hi e → Placed path lo hi items → ItemsRise items → Spread path g-rank lo (goes_on items e f)
     from items (Err e) hi u n p s = record { hi = hi; up = u; ends = tt; placed = p; rise = s }
     from items (Ok a) hi u n p s = record {
       hi = (k a).hi;
@@ -189,10 +189,10 @@ module _ (plan : PlanView) (child : Origin → Evaluation) where
   abbrev pair_rank : Value × S → ℕ
   pair_rank p = p.1.rank
 
-  abbrev P : List ℕ → ℕ → Run Item Ending S → Type 0
+  abbrev P : List ℕ → ℕ → Run Item NodeFault S → Type 0
   P path lo r = Spread path rank_of lo r
 
-  abbrev Q : List ℕ → ℕ → Run Item Ending (Value × S) → Type 0
+  abbrev Q : List ℕ → ℕ → Run Item NodeFault (Value × S) → Type 0
   Q path lo r = Spread path pair_rank lo r
 
   -- an event of the strand at this rank, before which so many are left
@@ -202,11 +202,11 @@ module _ (plan : PlanView) (child : Origin → Evaluation) where
   quiet : {A : Type 0} (path : List ℕ) (rank : A → ℕ) (lo : ℕ) (a : A) → lo ≡ rank a → Spread path rank lo (done a)
   quiet path rank lo a e = record { hi = lo; up = omega arith; ends = e; placed = tt; rise = tt }
 
-  told : {A : Type 0} (path : List ℕ) (rank : A → ℕ) (lo hi : ℕ) (e : Event) (q : Result A Ending) → pedigree_of e ≡ path ++ lo ∷ [] → lo ≤ hi → Ends rank hi q → Spread path rank lo (record { items = Happened e ∷ []; ending = q })
-  told path rank lo hi e q h up ends = record { hi = hi; up = up; ends = ends; placed = (subst (EventAt path lo hi) (sym h) (event-at path lo hi up), tt); rise = (tt, tt) }
+  prefix : {A : Type 0} (path : List ℕ) (rank : A → ℕ) (lo hi : ℕ) (e : Event) (q : Result A NodeFault) → pedigree_of e ≡ path ++ lo ∷ [] → lo ≤ hi → Ends rank hi q → Spread path rank lo (record { items = Happened e ∷ []; ending = q })
+  prefix path rank lo hi e q h up ends = record { hi = hi; up = up; ends = ends; placed = (subst (EventAt path lo hi) (sym h) (event-at path lo hi up), tt); rise = (tt, tt) }
 
   -- an event and the child that it begins
-  begins_child : {A : Type 0} (path : List ℕ) (rank : A → ℕ) (lo : ℕ) (e : Event) (o : Origin) (q : Result A Ending) → pedigree_of e ≡ path ++ lo ∷ [] → path_of o ≡ path ++ lo ∷ [] → IsWhole o → Ends rank (lo + 1) q →
+  begins_child : {A : Type 0} (path : List ℕ) (rank : A → ℕ) (lo : ℕ) (e : Event) (o : Origin) (q : Result A NodeFault) → pedigree_of e ≡ path ++ lo ∷ [] → path_of o ≡ path ++ lo ∷ [] → IsWhole o → Ends rank (lo + 1) q →
       Spread path rank lo (record { items = Happened e ∷ Child o ∷ []; ending = q })
   begins_child path rank lo e o q h g w ends = record {
     hi = lo + 1;
@@ -217,22 +217,22 @@ module _ (plan : PlanView) (child : Origin → Evaluation) where
   }
 
   sync-spread : (path : List ℕ) (s : S) (k : Option Fault) → P path s.rank (behind (Happened (event.Sync (strand path s)) ∷ []) (joined k then λ k. done (record s { rank = s.rank + 1; spawned = k })))
-  sync-spread path s None = told path rank_of s.rank (s.rank + 1) (event.Sync (strand path s)) (Ok (record s { rank = s.rank + 1; spawned = None })) refl (omega arith) refl
+  sync-spread path s None = prefix path rank_of s.rank (s.rank + 1) (event.Sync (strand path s)) (Ok (record s { rank = s.rank + 1; spawned = None })) refl (omega arith) refl
   sync-spread path s (Some f) = record { hi = s.rank; up = omega arith; ends = tt; placed = (event-at path s.rank s.rank (omega arith), tt); rise = (tt, tt) }
 
   loop-spread : (path : List ℕ) (b : Bool) (q : Result (List Value) Fault) (o : Origin) (s : S) (target : List Value → Env) → path_of o ≡ path ++ s.rank ∷ [] → IsWhole o →
       P path s.rank (behind (Happened (event.Loop (strand path s)) ∷ []) ((if b then done [] else record { items = Child o ∷ []; ending = loop_end q }) then λ ws. done (record s { rank = s.rank + 1; env = target ws })))
-  loop-spread path true q o s target h w = told path rank_of s.rank (s.rank + 1) (event.Loop (strand path s)) (Ok (record s { rank = s.rank + 1; env = target [] })) refl (omega arith) refl
+  loop-spread path true q o s target h w = prefix path rank_of s.rank (s.rank + 1) (event.Loop (strand path s)) (Ok (record s { rank = s.rank + 1; env = target [] })) refl (omega arith) refl
   loop-spread path false (Ok ws) o s target h w = begins_child path rank_of s.rank (event.Loop (strand path s)) o (Ok (record s { rank = s.rank + 1; env = target ws })) refl h w refl
   loop-spread path false (Err f) o s target h w = begins_child path rank_of s.rank (event.Loop (strand path s)) o _ refl h w tt
 
-  scope-spread : (path : List ℕ) (s : S) (r : Run Item Ending S) → P (path ++ s.rank ∷ []) 0 r → P path s.rank (behind (Opened (path ++ s.rank ∷ []) ∷ []) r then goes_out (put_off_all plan child) plan path s.rank)
+  scope-spread : (path : List ℕ) (s : S) (r : Run Item NodeFault S) → P (path ++ s.rank ∷ []) 0 r → P path s.rank (behind (Opened (path ++ s.rank ∷ []) ∷ []) r then goes_out (put_off_all plan child) plan path s.rank)
   scope-spread path s r h = from r.items r.ending h.hi h.placed h.rise
     where
       here : List ℕ
       here = path ++ s.rank ∷ []
 
-      from : (items : List Item) (e : Result S Ending) (hi : ℕ) → Placed here 0 hi items → ItemsRise items → P path s.rank (goes_on (Opened here ∷ items) e (goes_out (put_off_all plan child) plan path s.rank))
+      from : (items : List Item) (e : Result S NodeFault) (hi : ℕ) → Placed here 0 hi items → ItemsRise items → P path s.rank (goes_on (Opened here ∷ items) e (goes_out (put_off_all plan child) plan path s.rank))
       from items (Ok a) hi p t = record {
         hi = s.rank + 1;
         up = omega arith;
@@ -248,9 +248,9 @@ module _ (plan : PlanView) (child : Origin → Evaluation) where
     q-done = λ path v s. quiet path pair_rank s.rank (v, s) refl;
     p-stop = λ path k s. record { hi = s.rank; up = omega arith; ends = tt; placed = tt; rise = tt };
     q-stop = λ path k s. record { hi = s.rank; up = omega arith; ends = tt; placed = tt; rise = tt };
-    p-print = λ path v s. told path rank_of s.rank s.rank (event.Print (strand path s) v) (Ok s) refl (omega arith) refl;
-    q-draw = λ path s. told path pair_rank s.rank (s.rank + 1) (event.Draw (strand path s) _) (Ok (_, record s { rank = s.rank + 1 })) refl (omega arith) refl;
-    q-new = λ path s. told path pair_rank s.rank (s.rank + 1) (event.New (strand path s)) (Ok (_, record s { rank = s.rank + 1 })) refl (omega arith) refl;
+    p-print = λ path v s. prefix path rank_of s.rank s.rank (event.Print (strand path s) v) (Ok s) refl (omega arith) refl;
+    q-draw = λ path s. prefix path pair_rank s.rank (s.rank + 1) (event.Draw (strand path s) _) (Ok (_, record s { rank = s.rank + 1 })) refl (omega arith) refl;
+    q-new = λ path s. prefix path pair_rank s.rank (s.rank + 1) (event.New (strand path s)) (Ok (_, record s { rank = s.rank + 1 })) refl (omega arith) refl;
     p-join = λ path s. sync-spread path s s.spawned;
     q-child = λ path n vs s _. begins_child path pair_rank s.rank (event.Spawn (strand path s)) (origin.Instance n vs (strand path s)) _ refl refl tt refl;
     p-loop = λ path n vs lo hi target s _. let o = origin.Loop n vs lo (strand path s) (record { lo = 0; hi = hi }) in loop-spread path (is_empty_loop o) (child o).ending o s (λ ws. filled target ws s.env) refl refl;
@@ -261,25 +261,25 @@ module _ (plan : PlanView) (child : Origin → Evaluation) where
     qq = λ path n r f h k. spread-then path pair_rank pair_rank n r f h k;
   }
 
-  activation-spread : (path : List ℕ) (o : Option Function) (vs : List Value) (s : S) → Q path s.rank (activation (put_off_all plan child) plan path (exec (put_off_all plan child) plan) 0 o vs s)
-  activation-spread path None vs s = quiet path pair_rank s.rank _ refl
-  activation-spread path (Some f) vs s =
+  frame-spread : (path : List ℕ) (o : Option Function) (vs : List Value) (s : S) → Q path s.rank (frame (put_off_all plan child) plan path (exec (put_off_all plan child) plan) 0 o vs s)
+  frame-spread path None vs s = quiet path pair_rank s.rank _ refl
+  frame-spread path (Some f) vs s =
       spread-then path rank_of pair_rank s.rank _ _ (closed-exec (put_off_all plan child) plan P Q rules path 0 f.body _) (λ a. returned-q (put_off_all plan child) plan P Q rules path f a)
 
   abbrev begins : S
   begins = record { env = []; rank = 0; steps = plan.limits.budget; spawned = None }
 
-  items-kept : {A : Type 0} (r : Run Item Ending A) (g : A → List Value) → ItemsRise r.items → ItemsRise (r then λ a. done (g a)).items
+  items-kept : {A : Type 0} (r : Run Item NodeFault A) (g : A → List Value) → ItemsRise r.items → ItemsRise (r then λ a. done (g a)).items
   items-kept {A} r g h = from r.items r.ending h
     where
-      from : (items : List Item) (e : Result A Ending) → ItemsRise items → ItemsRise (goes_on items e (λ a. done (g a))).items
+      from : (items : List Item) (e : Result A NodeFault) → ItemsRise items → ItemsRise (goes_on items e (λ a. done (g a))).items
       from items (Err e) h = h
       from items (Ok a) h = rw append-nil h
 
   instance-rises : (path : List ℕ) (o : Option Function) (vs : List Value) → ItemsRise (instance (put_off_all plan child) plan path o vs then λ v. done (v ∷ [])).items
   instance-rises path o vs =
-      let run : Run Item Ending (Value × S) = activation (put_off_all plan child) plan path (exec (put_off_all plan child) plan) 0 o vs begins in
-      subst (λ (n : Node). ItemsRise n.items) (sym (then-then run (λ p. done p.0) (λ v. done (v ∷ [])))) (items-kept run (λ p. p.0 ∷ []) (activation-spread path o vs begins).rise)
+      let run : Run Item NodeFault (Value × S) = frame (put_off_all plan child) plan path (exec (put_off_all plan child) plan) 0 o vs begins in
+      subst (λ (n : Node). ItemsRise n.items) (sym (then-then run (λ p. done p.0) (λ v. done (v ∷ [])))) (items-kept run (λ p. p.0 ∷ []) (frame-spread path o vs begins).rise)
 
 iterations-placed : (function : ℕ) (rest : List Value) (first : ℤ) (path : List ℕ) (k n : ℕ) → Placed path k (k + n) (map Child (iterations function rest first path k n))
 iterations-placed function rest first path k zero = tt

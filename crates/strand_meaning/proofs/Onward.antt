@@ -5,16 +5,16 @@ use Rattle.script_grammar.specs.declared.tree.Name.{Name}
 use Rattle.serial_meaning.specs.Runs.{Run, done, behind, goes_on, ◌then◌}
 use Rattle.serial_meaning.specs.Plan.{PlanView}
 use Rattle.serial_meaning.specs.Eval.{Evaluation, path_of, eval}
-use Rattle.serial_meaning.specs.Open.{Item, Ending, Own, Joined}
+use Rattle.serial_meaning.specs.Open.{Item, NodeFault, Own, ChildFaulted}
 use Rattle.serial_meaning.specs.declared.value.Value.{Value}
 use Rattle.serial_meaning.specs.declared.event.Fault.{Fault}
 use Rattle.serial_meaning.specs.declared.event.Event.{Event}
 use Rattle.serial_meaning.specs.declared.origin.Origin.{Origin}
 use Rattle.strand_meaning.specs.Clear.{IsWithin, IsApart, target_names}
-use Rattle.strand_meaning.specs.Machine.{Place, Spawned, Looped, Half, Activation, Machine}
-use Rattle.strand_meaning.specs.Pieces.{Part, Pieces, heard_unless, heard, heard_all}
-use Rattle.strand_meaning.specs.Task.{Stage, Goes, AtSync, AtLoop, Ended, Work, Splits, Runs, Over, Task, own_instance, changed, changed_at, answered, takes, takes_all, joins, resumed, resumed_work, more_values, all_values, on}
-use Rattle.strand_meaning.specs.Rest.{children_of, evaluations, rest_of_stage, rest_open, closed, told_end, told_run, parts_run, all_with, work_run, finish}
+use Rattle.strand_meaning.specs.Machine.{Destination, Spawned, Looped, Half, Frame, Machine}
+use Rattle.strand_meaning.specs.Trace.{AwaitedChild, Trace, heard_unless, heard, heard_all}
+use Rattle.strand_meaning.specs.Task.{InstanceState, Running, AtSync, AtLoop, Ended, Work, Splits, Runs, Over, Task, own_instance, changed, changed_at, answered, takes, takes_all, joins, resumed, resumed_work, more_values, all_values, on}
+use Rattle.strand_meaning.specs.Rest.{children_of, evaluations, rest_of_stage, rest_open, closed, prefix_end, prefix_run, parts_run, all_with, work_run, finish}
 use Rattle.strand_meaning.specs.Sound.{unfilled_by, unfilled, is_by, any_by, IsSound, AreSound, IsPlace, ArePlaces, IsHalf, behind_sync, IsSoundStage, AreParts, IsSoundWork, AreShownBy, UnfilledArePendingIn, IsTask}
 use Rattle.strand_meaning.proofs.Closing.{behind-then}
 use Rattle.strand_meaning.proofs.Changed.{length-changed}
@@ -25,51 +25,51 @@ use Rattle.strand_meaning.proofs.Steps.{so_far-same}
 clash : true ≡ false → ⊥
 clash h = absurd (cc)
 
--- The pieces
+-- The trace
 
 module _ (child : Origin → Evaluation) where
-  abbrev from_parts : List Part → Pieces → List Value → (List Value → Evaluation) → Evaluation
-  from_parts ps pieces values tail = told_run pieces then λ u. parts_run child ps values then tail
+  abbrev from_parts : List AwaitedChild → Trace → List Value → (List Value → Evaluation) → Evaluation
+  from_parts ps trace values tail = prefix_run trace then λ u. parts_run child ps values then tail
 
-  heard-one : (p : Part) (ps : List Part) (pieces : Pieces) (values : List Value) (tail : List Value → Evaluation) →
-      from_parts (p ∷ ps) pieces values tail ≡ from_parts ps (heard p (child p.child) pieces) (more_values p.place (child p.child).ending values) tail
-  heard-one p ps pieces values tail = by_cases pieces.fault (child p.child).items (child p.child).ending
+  heard-one : (p : AwaitedChild) (ps : List AwaitedChild) (trace : Trace) (values : List Value) (tail : List Value → Evaluation) →
+      from_parts (p ∷ ps) trace values tail ≡ from_parts ps (heard p (child p.child) trace) (more_values p.place (child p.child).ending values) tail
+  heard-one p ps trace values tail = by_cases trace.fault (child p.child).items (child p.child).ending
     where
       by_cases : (f : Option Fault) (events : List Event) (q : Result (List Value) Fault) →
-          (record { items = pieces.told; ending = told_end f } then λ (u : Unit {0}). (goes_on events q (λ vs. behind p.behind (parts_run child ps (more_values p.place (Ok vs) values)))) then tail)
-          ≡ from_parts ps (heard_unless f pieces.told p events q) (more_values p.place q values) tail
+          (record { items = trace.prefix; ending = prefix_end f } then λ (u : Unit {0}). (goes_on events q (λ vs. behind p.behind (parts_run child ps (more_values p.place (Ok vs) values)))) then tail)
+          ≡ from_parts ps (heard_unless f trace.prefix p events q) (more_values p.place q values) tail
       by_cases (Some f) events q = refl
       by_cases None events (Err f) = refl
       by_cases None events (Ok vs) =
           let r : Evaluation = parts_run child ps (more_values p.place (Ok vs) values) in
-          ap (behind pieces.told) (behind-then events (behind p.behind r) tail ∙ ap (behind events) (behind-then p.behind r tail))
-          ∙ ap (λ (l : List Event). record { items = pieces.told ++ l; ending = (r then tail).ending }) (sym (append_assoc events p.behind (r then tail).items))
-          ∙ ap (λ (l : List Event). record { items = l; ending = (r then tail).ending }) (sym (append_assoc pieces.told (events ++ p.behind) (r then tail).items))
+          ap (behind trace.prefix) (behind-then events (behind p.behind r) tail ∙ ap (behind events) (behind-then p.behind r tail))
+          ∙ ap (λ (l : List Event). record { items = trace.prefix ++ l; ending = (r then tail).ending }) (sym (append_assoc events p.behind (r then tail).items))
+          ∙ ap (λ (l : List Event). record { items = l; ending = (r then tail).ending }) (sym (append_assoc trace.prefix (events ++ p.behind) (r then tail).items))
 
-  heard-so_far : (ps : List Part) (pieces : Pieces) (values : List Value) (tail : List Value → Evaluation) →
-      from_parts ps pieces values tail ≡ from_parts [] (heard_all ps (evaluations child ps) pieces) (all_values ps (evaluations child ps) values) tail
-  heard-so_far [] pieces values tail = refl
-  heard-so_far (p ∷ ps) pieces values tail =
-      heard-one p ps pieces values tail ∙ heard-so_far ps (heard p (child p.child) pieces) (more_values p.place (child p.child).ending values) tail
+  heard-so_far : (ps : List AwaitedChild) (trace : Trace) (values : List Value) (tail : List Value → Evaluation) →
+      from_parts ps trace values tail ≡ from_parts [] (heard_all ps (evaluations child ps) trace) (all_values ps (evaluations child ps) values) tail
+  heard-so_far [] trace values tail = refl
+  heard-so_far (p ∷ ps) trace values tail =
+      heard-one p ps trace values tail ∙ heard-so_far ps (heard p (child p.child) trace) (more_values p.place (child p.child).ending values) tail
 
-  heard-none : (ps : List Part) (pieces : Pieces) → pieces.handed ≡ [] → (heard_all ps (evaluations child ps) pieces).handed ≡ []
-  heard-none [] pieces h = h
-  heard-none (p ∷ ps) pieces h = heard-none ps (heard p (child p.child) pieces) (by_cases pieces.fault (child p.child).ending)
+  heard-none : (ps : List AwaitedChild) (trace : Trace) → trace.handed ≡ [] → (heard_all ps (evaluations child ps) trace).handed ≡ []
+  heard-none [] trace h = h
+  heard-none (p ∷ ps) trace h = heard-none ps (heard p (child p.child) trace) (by_cases trace.fault (child p.child).ending)
     where
-      by_cases : (f : Option Fault) (q : Result (List Value) Fault) → (heard_unless f pieces.told p (child p.child).items q).handed ≡ []
+      by_cases : (f : Option Fault) (q : Result (List Value) Fault) → (heard_unless f trace.prefix p (child p.child).items q).handed ≡ []
       by_cases (Some f) q = refl
       by_cases None (Ok vs) = refl
       by_cases None (Err f) = refl
 
 -- What remains
 
-pub takes-same : (plan : PlanView) (o : Origin) (ps : List Part) → AreParts plan o ps → (stage : Stage) →
+pub takes-same : (plan : PlanView) (o : Origin) (ps : List AwaitedChild) → AreParts plan o ps → (stage : InstanceState) →
     takes_all ps (evaluations (children_of plan (own_instance o)) ps) stage ≡ takes_all ps (evaluations (eval plan) ps) stage
 takes-same plan o [] h stage = refl
 takes-same plan o (p ∷ ps) h stage =
     takes-same plan o ps h.1 (takes p.place (children_of plan (own_instance o) p.child).ending stage) ∙ ap (takes_all ps (evaluations (eval plan) ps)) (one h.0.same)
   where
-    half : (place : Place) (q r : Result (List Value) Fault) → IsHalf place → takes place q stage ≡ takes place r stage
+    half : (place : Destination) (q r : Result (List Value) Fault) → IsHalf place → takes place q stage ≡ takes place r stage
     half (Spawned owner target) q r g = absurd g
     half (Looped target) q r g = absurd g
     half Half q r g = refl
@@ -78,8 +78,8 @@ takes-same plan o (p ∷ ps) h stage =
     one (inl g) = half p.place _ _ g
     one (inr e) = ap (λ (r : Evaluation). takes p.place r.ending stage) e
 
-resumed-twice : (stage : Stage) → resumed (resumed stage) ≡ resumed stage
-resumed-twice (Goes m) = refl
+resumed-twice : (stage : InstanceState) → resumed (resumed stage) ≡ resumed stage
+resumed-twice (Running m) = refl
 resumed-twice (AtSync m) = from m.top.faulted
   where
     from : (f : Option Fault) → resumed (joins f m) ≡ joins f m
@@ -88,17 +88,17 @@ resumed-twice (AtSync m) = from m.top.faulted
 resumed-twice (AtLoop m) = refl
 resumed-twice (Ended e) = refl
 
--- Activations that take an answer
+-- Frames that take an answer
 
 or-right : (a : Bool) → (a || true) ≡ true
 or-right true = refl
 or-right false = refl
 
-fewer : (height : ℕ) (p : Part) (ps : List Part) → IsWithin (unfilled height ps) (unfilled height (p ∷ ps))
+fewer : (height : ℕ) (p : AwaitedChild) (ps : List AwaitedChild) → IsWithin (unfilled height ps) (unfilled height (p ∷ ps))
 fewer height p ps name h = Contains-append_right (unfilled_by height p.place) (unfilled height ps) name h
 
-module _ (plan : PlanView) (p : Part) (ps : List Part) where
-  less-sound : (height : ℕ) (a : Activation) → IsSound plan (p ∷ ps) height a → IsSound plan ps height a
+module _ (plan : PlanView) (p : AwaitedChild) (ps : List AwaitedChild) where
+  less-sound : (height : ℕ) (a : Frame) → IsSound plan (p ∷ ps) height a → IsSound plan ps height a
   less-sound height a s = record {
     clear = (s.clear.0, clear-within (unfilled height ps) (unfilled height (p ∷ ps)) (fewer height p ps) s.clear.1);
     spawned = λ e. s.spawned (ap (λ b. is_by height p.place || b) e ∙ or-right (is_by height p.place));
@@ -110,7 +110,7 @@ module _ (plan : PlanView) (p : Part) (ps : List Part) where
     returning = s.returning;
   }
 
-  answered-sound : (height : ℕ) (a : Activation) (target : Option Name) (q : Result (List Value) Fault) → is_by height p.place ≡ true → IsSound plan (p ∷ ps) height a → IsSound plan ps height (answered target q a)
+  answered-sound : (height : ℕ) (a : Frame) (target : Option Name) (q : Result (List Value) Fault) → is_by height p.place ≡ true → IsSound plan (p ∷ ps) height a → IsSound plan ps height (answered target q a)
   answered-sound height a target (Ok vs) h s =
       let l = less-sound height a s in record { clear = l.clear; spawned = l.spawned; faulted = l.faulted; in_text = l.in_text; left_in_text = l.left_in_text; levels = l.levels; leaving = l.leaving; returning = l.returning }
   answered-sound height a target (Err f) h s =
@@ -125,7 +125,7 @@ module _ (plan : PlanView) (p : Part) (ps : List Part) where
         returning = l.returning;
       }
 
-  less-below : (target : Option Name) (below : List Activation) → AreSound plan (p ∷ ps) target below → AreSound plan ps target below
+  less-below : (target : Option Name) (below : List Frame) → AreSound plan (p ∷ ps) target below → AreSound plan ps target below
   less-below target [] s = tt
   less-below target (caller ∷ below) s = (λ name c d. s.0 name c (fewer (length below) p ps name d), less-sound (length below) caller s.1, less-below caller.target below s.2)
 
@@ -133,14 +133,14 @@ module _ (plan : PlanView) (p : Part) (ps : List Part) where
     by-owner : (height : ℕ) → nat_eq owner height ≡ true → is_by height p.place ≡ true
     by-owner height h = ap (is_by height) is-spawned ∙ h
 
-    same-target : (a : Activation) → (answered to q a).target ≡ a.target
+    same-target : (a : Frame) → (answered to q a).target ≡ a.target
     same-target a = from q
       where
         from : (q : Result (List Value) Fault) → (answered to q a).target ≡ a.target
         from (Ok vs) = refl
         from (Err f) = refl
 
-    changed-below : (target : Option Name) (below : List Activation) → AreSound plan (p ∷ ps) target below → AreSound plan ps target (changed_at owner (answered to q) below)
+    changed-below : (target : Option Name) (below : List Frame) → AreSound plan (p ∷ ps) target below → AreSound plan ps target (changed_at owner (answered to q) below)
     changed-below target [] s = tt
     changed-below target (caller ∷ below) s = by_place (nat_eq owner (length below)) refl (changed-below caller.target below s.2)
       where
@@ -160,8 +160,8 @@ module _ (plan : PlanView) (p : Part) (ps : List Part) where
         by_place false e later =
             (subst (λ n. IsApart (target_names target) (unfilled n ps)) same apart, subst (λ n. IsSound plan ps n caller) same (less-sound (length below) caller s.1), later)
 
-    -- the innermost activation and the others
-    changed-machine : (T : ℕ → Activation → Type 0) → ((height : ℕ) (a : Activation) → nat_eq owner height ≡ true → T height a → T height (answered to q a)) →
+    -- the innermost frame and the others
+    changed-machine : (T : ℕ → Frame → Type 0) → ((height : ℕ) (a : Frame) → nat_eq owner height ≡ true → T height a → T height (answered to q a)) →
         (m : Machine) → T (length m.below) m.top → AreSound plan (p ∷ ps) m.top.target m.below →
         let k = changed owner (answered to q) m in T (length k.below) k.top × AreSound plan ps k.top.target k.below
     changed-machine T keeps m t s = by_place (nat_eq owner (length m.below)) refl
@@ -173,22 +173,22 @@ module _ (plan : PlanView) (p : Part) (ps : List Part) where
 
 -- Stages that take answers: what holds of them, or they have ended by a fault.
 
-abbrev HasFaulted : Stage → Type 0
-HasFaulted stage = (e : Ending) × (stage ≡ Ended (Err e))
+abbrev HasFaulted : InstanceState → Type 0
+HasFaulted stage = (e : NodeFault) × (stage ≡ Ended (Err e))
 
-abbrev Taking : PlanView → List Part → Stage → Type 0
+abbrev Taking : PlanView → List AwaitedChild → InstanceState → Type 0
 Taking plan ps stage = IsSoundStage plan ps stage ⊎ HasFaulted stage
 
-faulted-takes : (place : Place) (q : Result (List Value) Fault) (e : Ending) → HasFaulted (takes place q (Ended (Err e)))
+faulted-takes : (place : Destination) (q : Result (List Value) Fault) (e : NodeFault) → HasFaulted (takes place q (Ended (Err e)))
 faulted-takes (Spawned owner target) q e = (e, refl)
 faulted-takes (Looped target) (Ok vs) e = (e, refl)
-faulted-takes (Looped target) (Err f) e = (Joined f, refl)
+faulted-takes (Looped target) (Err f) e = (ChildFaulted f, refl)
 faulted-takes Half q e = (e, refl)
 
-places-owner : (height : ℕ) (ps : List Part) (n : ℕ) → height ≡ n → ArePlaces height ps → ArePlaces n ps
+places-owner : (height : ℕ) (ps : List AwaitedChild) (n : ℕ) → height ≡ n → ArePlaces height ps → ArePlaces n ps
 places-owner height ps n e h = subst (λ k. ArePlaces k ps) e h
 
-module _ (plan : PlanView) (p : Part) (ps : List Part) (q : Result (List Value) Fault) where
+module _ (plan : PlanView) (p : AwaitedChild) (ps : List AwaitedChild) (q : Result (List Value) Fault) where
   same-height : (owner : ℕ) (to : Option Name) (m : Machine) → length m.below ≡ length (changed owner (answered to q) m).below
   same-height owner to m = from (nat_eq owner (length m.below))
     where
@@ -196,7 +196,7 @@ module _ (plan : PlanView) (p : Part) (ps : List Part) (q : Result (List Value) 
       from true = refl
       from false = sym (length-changed owner (answered to q) m.below)
 
-  sync-kept : (height : ℕ) (a : Activation) (to : Option Name) → IsSound plan [] height (behind_sync a) → IsSound plan [] height (behind_sync (answered to q a))
+  sync-kept : (height : ℕ) (a : Frame) (to : Option Name) → IsSound plan [] height (behind_sync a) → IsSound plan [] height (behind_sync (answered to q a))
   sync-kept height a to s = from q
     where
       from : (q : Result (List Value) Fault) → IsSound plan [] height (behind_sync (answered to q a))
@@ -214,8 +214,8 @@ module _ (plan : PlanView) (p : Part) (ps : List Part) (q : Result (List Value) 
       by_place false h =
           (subst (λ n. IsSound plan ps n m.top) (sym (length-changed owner (answered to q) m.below)) (less-sound plan p ps (length m.below) m.top s), changed-below plan p ps owner to q e m.top.target m.below b)
 
-  takes-spawned : (owner : ℕ) (to : Option Name) → p.place ≡ Spawned owner to → (stage : Stage) → IsSoundStage plan (p ∷ ps) stage → Taking plan ps (takes (Spawned owner to) q stage)
-  takes-spawned owner to e (Goes m) s =
+  takes-spawned : (owner : ℕ) (to : Option Name) → p.place ≡ Spawned owner to → (stage : InstanceState) → IsSoundStage plan (p ∷ ps) stage → Taking plan ps (takes (Spawned owner to) q stage)
+  takes-spawned owner to e (Running m) s =
       let k = top-changed owner to e m s.1 s.2 in inl (places-owner (length m.below) ps (length (changed owner (answered to q) m).below) (same-height owner to m) s.0.1, k.0, k.1)
   takes-spawned owner to e (AtSync m) s =
       let k = changed-machine plan p ps owner to q e (λ height a. IsSound plan [] height (behind_sync a)) (λ height a h t. sync-kept height a to t) m s.1 s.2 in
@@ -224,16 +224,16 @@ module _ (plan : PlanView) (p : Part) (ps : List Part) (q : Result (List Value) 
   takes-spawned owner to e (Ended (Ok v)) s = inl s.1
   takes-spawned owner to e (Ended (Err x)) s = inr (x, refl)
 
-  takes-half : (stage : Stage) → IsSoundStage plan (p ∷ ps) stage → Taking plan ps stage
-  takes-half (Goes m) s = inl (s.0.1, less-sound plan p ps (length m.below) m.top s.1, less-below plan p ps m.top.target m.below s.2)
+  takes-half : (stage : InstanceState) → IsSoundStage plan (p ∷ ps) stage → Taking plan ps stage
+  takes-half (Running m) s = inl (s.0.1, less-sound plan p ps (length m.below) m.top s.1, less-below plan p ps m.top.target m.below s.2)
   takes-half (AtSync m) s = inl (s.0.1, s.1, less-below plan p ps m.top.target m.below s.2)
   takes-half (AtLoop m) s = inl (less-sound plan p ps (length m.below) m.top s.0, less-below plan p ps m.top.target m.below s.1)
   takes-half (Ended (Ok v)) s = inl s.1
   takes-half (Ended (Err x)) s = inr (x, refl)
 
-  takes-looped : (to : Option Name) → p.place ≡ Looped to → (q : Result (List Value) Fault) (stage : Stage) → IsSoundStage plan (p ∷ ps) stage → Taking plan ps (takes (Looped to) q stage)
-  takes-looped to e (Err f) stage s = inr (Joined f, refl)
-  takes-looped to e (Ok vs) (Goes m) s = let no : IsPlace (length m.below) (Looped to) = subst (IsPlace (length m.below)) e s.0.0 in absurd no
+  takes-looped : (to : Option Name) → p.place ≡ Looped to → (q : Result (List Value) Fault) (stage : InstanceState) → IsSoundStage plan (p ∷ ps) stage → Taking plan ps (takes (Looped to) q stage)
+  takes-looped to e (Err f) stage s = inr (ChildFaulted f, refl)
+  takes-looped to e (Ok vs) (Running m) s = let no : IsPlace (length m.below) (Looped to) = subst (IsPlace (length m.below)) e s.0.0 in absurd no
   takes-looped to e (Ok vs) (AtSync m) s = let no : IsPlace (length m.below) (Looped to) = subst (IsPlace (length m.below)) e s.0.0 in absurd no
   takes-looped to e (Ok vs) (AtLoop m) s =
       let l = less-sound plan p ps (length m.below) m.top s.0 in
@@ -241,21 +241,21 @@ module _ (plan : PlanView) (p : Part) (ps : List Part) (q : Result (List Value) 
   takes-looped to e (Ok vs) (Ended (Ok v)) s = let no : IsHalf (Looped to) = subst IsHalf e s.0 in absurd no
   takes-looped to e (Ok vs) (Ended (Err x)) s = inr (x, refl)
 
-  takes-sound : (place : Place) → p.place ≡ place → (stage : Stage) → IsSoundStage plan (p ∷ ps) stage → Taking plan ps (takes place q stage)
+  takes-sound : (place : Destination) → p.place ≡ place → (stage : InstanceState) → IsSoundStage plan (p ∷ ps) stage → Taking plan ps (takes place q stage)
   takes-sound (Spawned owner to) e stage s = takes-spawned owner to e stage s
   takes-sound (Looped to) e stage s = takes-looped to e q stage s
   takes-sound Half e stage s = takes-half stage s
 
-  takes-either : (stage : Stage) → Taking plan (p ∷ ps) stage → Taking plan ps (takes p.place q stage)
+  takes-either : (stage : InstanceState) → Taking plan (p ∷ ps) stage → Taking plan ps (takes p.place q stage)
   takes-either stage (inl s) = takes-sound p.place refl stage s
-  takes-either stage (inr h) = inr (subst (λ (x : Stage). HasFaulted (takes p.place q x)) (sym h.1) (faulted-takes p.place q h.0))
+  takes-either stage (inr h) = inr (subst (λ (x : InstanceState). HasFaulted (takes p.place q x)) (sym h.1) (faulted-takes p.place q h.0))
 
-all-taken : (plan : PlanView) (child : Origin → Evaluation) (ps : List Part) (stage : Stage) → Taking plan ps stage → Taking plan [] (takes_all ps (evaluations child ps) stage)
+all-taken : (plan : PlanView) (child : Origin → Evaluation) (ps : List AwaitedChild) (stage : InstanceState) → Taking plan ps stage → Taking plan [] (takes_all ps (evaluations child ps) stage)
 all-taken plan child [] stage t = t
 all-taken plan child (p ∷ ps) stage t = all-taken plan child ps (takes p.place (child p.child).ending stage) (takes-either plan p ps (child p.child).ending stage t)
 
-resumed-sound : (plan : PlanView) (stage : Stage) → Taking plan [] stage → IsSoundStage plan [] (resumed stage)
-resumed-sound plan (Goes m) (inl s) = s
+resumed-sound : (plan : PlanView) (stage : InstanceState) → Taking plan [] stage → IsSoundStage plan [] (resumed stage)
+resumed-sound plan (Running m) (inl s) = s
 resumed-sound plan (AtSync m) (inl s) = by_fault m.top.faulted refl
   where
     by_fault : (f : Option Fault) → m.top.faulted ≡ f → IsSoundStage plan [] (joins f m)
@@ -265,18 +265,18 @@ resumed-sound plan (AtSync m) (inl s) = by_fault m.top.faulted refl
 resumed-sound plan (AtLoop m) (inl s) = (tt, s.0, s.1)
 resumed-sound plan (Ended (Ok v)) (inl s) = tt
 resumed-sound plan (Ended (Err (Own f))) (inl s) = (0, tt)
-resumed-sound plan (Ended (Err (Joined f))) (inl s) = refl
-resumed-sound plan stage (inr h) = subst (λ (x : Stage). IsSoundStage plan [] (resumed x)) (sym h.1) (from h.0)
+resumed-sound plan (Ended (Err (ChildFaulted f))) (inl s) = refl
+resumed-sound plan stage (inr h) = subst (λ (x : InstanceState). IsSoundStage plan [] (resumed x)) (sym h.1) (from h.0)
   where
-    from : (e : Ending) → IsSoundStage plan [] (Ended (Err e))
+    from : (e : NodeFault) → IsSoundStage plan [] (Ended (Err e))
     from (Own f) = (0, tt)
-    from (Joined f) = refl
+    from (ChildFaulted f) = refl
 
 -- The task
 
 module _ (t : Task) (is : IsTask t) where
-  abbrev ps : List Part
-  ps = t.pieces.handed
+  abbrev ps : List AwaitedChild
+  ps = t.trace.handed
 
   abbrev answers : List Evaluation
   answers = evaluations (eval t.plan) ps
@@ -287,26 +287,26 @@ module _ (t : Task) (is : IsTask t) where
   abbrev kids : Origin → Evaluation
   kids = children_of t.plan own
 
-  abbrev pieces-on : Pieces
-  pieces-on = heard_all ps answers (record t.pieces { handed = [] })
+  abbrev trace-on : Trace
+  trace-on = heard_all ps answers (record t.trace { handed = [] })
 
-  abbrev taken_stage : Stage → Stage
+  abbrev taken_stage : InstanceState → InstanceState
   taken_stage stage = resumed (takes_all ps answers stage)
 
   -- nothing more is taken
-  pub rest-same : (stage : Stage) → rest_open t.plan kids (path_of own) ps stage ≡ rest_open t.plan kids (path_of own) [] (taken_stage stage)
+  pub rest-same : (stage : InstanceState) → rest_open t.plan kids (path_of own) ps stage ≡ rest_open t.plan kids (path_of own) [] (taken_stage stage)
   rest-same stage =
-      ap (λ (s : Stage). rest_of_stage t.plan kids (path_of own) s) (ap resumed (takes-same t.plan t.origin ps is.parts stage) ∙ sym (resumed-twice (takes_all ps answers stage)))
+      ap (λ (s : InstanceState). rest_of_stage t.plan kids (path_of own) s) (ap resumed (takes-same t.plan t.origin ps is.parts stage) ∙ sym (resumed-twice (takes_all ps answers stage)))
 
   work-same : (work : Work) (vs : List Value) → work_run t.plan t.origin ps work vs ≡ work_run t.plan t.origin [] (resumed_work ps answers work) vs
   work-same (Splits left) vs = refl
-  work-same (Runs stage) vs = ap (λ (r : Run Item Ending Value). closed kids r then λ v. done (all_with t.origin vs v)) (rest-same stage)
+  work-same (Runs stage) vs = ap (λ (r : Run Item NodeFault Value). closed kids r then λ v. done (all_with t.origin vs v)) (rest-same stage)
   work-same (Over v gone_on) vs = refl
 
   work-sound : (work : Work) → IsSoundWork t.plan t.origin ps work → IsSoundWork t.plan t.origin [] (resumed_work ps answers work)
   work-sound (Splits left) s = (s.0, tt)
   work-sound (Runs stage) s =
-      (s.0, record { front = s.1.front; whole = s.1.whole ∙ ap (λ (r : Run Item Ending Value). behind s.1.front (r then λ v. done (v ∷ []))) (rest-same stage) }, resumed-sound t.plan (takes_all ps answers stage) (all-taken t.plan (eval t.plan) ps stage (inl s.2)))
+      (s.0, record { front = s.1.front; whole = s.1.whole ∙ ap (λ (r : Run Item NodeFault Value). behind s.1.front (r then λ v. done (v ∷ []))) (rest-same stage) }, resumed-sound t.plan (takes_all ps answers stage) (all-taken t.plan (eval t.plan) ps stage (inl s.2)))
   work-sound (Over v true) s = (s.0, refl)
   work-sound (Over v false) s = (s.0, refl)
 
@@ -315,15 +315,15 @@ module _ (t : Task) (is : IsTask t) where
   work-pending (Runs stage) p = answers-pending t.plan (eval t.plan) ps stage p
   work-pending (Over v gone_on) p = tt
 
-  pub none-handed : pieces-on.handed ≡ []
-  none-handed = heard-none (eval t.plan) ps (record t.pieces { handed = [] }) refl
+  pub none-handed : trace-on.handed ≡ []
+  none-handed = heard-none (eval t.plan) ps (record t.trace { handed = [] }) refl
 
   finishes : finish (on answers t) ≡ eval t.plan t.origin
   finishes =
       let tail : List Value → Evaluation = work_run t.plan t.origin [] (resumed_work ps answers t.work) in
-      ap (λ (qs : List Part). told_run pieces-on then λ u. parts_run (eval t.plan) qs (all_values ps answers t.values) then work_run t.plan t.origin qs (resumed_work ps answers t.work)) none-handed
-      ∙ sym (heard-so_far (eval t.plan) ps (record t.pieces { handed = [] }) t.values tail)
-      ∙ sym (so_far-same (eval t.plan) t.pieces t.values (work_run t.plan t.origin ps t.work) tail (work-same t.work))
+      ap (λ (qs : List AwaitedChild). prefix_run trace-on then λ u. parts_run (eval t.plan) qs (all_values ps answers t.values) then work_run t.plan t.origin qs (resumed_work ps answers t.work)) none-handed
+      ∙ sym (heard-so_far (eval t.plan) ps (record t.trace { handed = [] }) t.values tail)
+      ∙ sym (so_far-same (eval t.plan) t.trace t.values (work_run t.plan t.origin ps t.work) tail (work-same t.work))
       ∙ is.finishes
 
   pub keeps_task : IsTask (on answers t)
@@ -332,11 +332,11 @@ module _ (t : Task) (is : IsTask t) where
     known = is.known;
     clear = is.clear;
     parts = subst (AreParts t.plan t.origin) (sym none-handed) tt;
-    shown = λ none. subst (AreShownBy t.origin pieces-on.told) (sym none-handed) tt;
-    work = subst (λ (qs : List Part). IsSoundWork t.plan t.origin qs (resumed_work ps answers t.work)) (sym none-handed) (work-sound t.work is.work);
-    pending = subst (λ (qs : List Part). UnfilledArePendingIn t.plan qs (resumed_work ps answers t.work)) (sym none-handed) (work-pending t.work is.pending);
+    shown = λ none. subst (AreShownBy t.origin trace-on.prefix) (sym none-handed) tt;
+    work = subst (λ (qs : List AwaitedChild). IsSoundWork t.plan t.origin qs (resumed_work ps answers t.work)) (sym none-handed) (work-sound t.work is.work);
+    pending = subst (λ (qs : List AwaitedChild). UnfilledArePendingIn t.plan qs (resumed_work ps answers t.work)) (sym none-handed) (work-pending t.work is.pending);
   }
 
 -- A task that takes its children's evaluations stays sound.
-pub answers_keep_tasks : (t : Task) → IsTask t → IsTask (on (evaluations (eval t.plan) t.pieces.handed) t)
+pub answers_keep_tasks : (t : Task) → IsTask t → IsTask (on (evaluations (eval t.plan) t.trace.handed) t)
 answers_keep_tasks t is = keeps_task t is

@@ -5,7 +5,7 @@ use Rattle.std.specs.Prelude.{Contains}
 use Rattle.std.specs.Str.{bytes_eq}
 use Rattle.ped_path.specs.Path.{IsBefore}
 use Rattle.serial_meaning.specs.Eval.{Evaluation, path_of}
-use Rattle.serial_meaning.specs.Open.{Item, Happened, Child, Opened, Closed, Ending, Own, Joined}
+use Rattle.serial_meaning.specs.Open.{Item, Happened, Child, Opened, Closed, NodeFault, Own, ChildFaulted}
 use Rattle.serial_meaning.proofs.Children.{NodeStops, children}
 use Rattle.serial_meaning.proofs.Cut.{Matches, cut, child_first}
 use Rattle.serial_meaning.proofs.Each.{Each, each-map, each-contained}
@@ -169,17 +169,17 @@ module _ (child : Origin → Evaluation) (under : (c : Origin) → StaysUnder (p
   through (Opened k ∷ is) c x more below r m = elim (cons-contained (Opened k) (Child c) is m) [ inl h ↦ absurd (cc) | inr h ↦ through is c x more below r h ]
   through (Closed k ∷ is) c x more below r m = elim (cons-contained (Closed k) (Child c) is m) [ inl h ↦ absurd (cc) | inr h ↦ through is c x more below r h ]
 
-  agree-at : (path : List ℕ) (os : List Origin) (es : List Event) (d : Option Fault) (r : Evaluation) (c : Origin) (x : ℕ) (more : List ℕ) (e : Result (List Value) Ending) → j ≡ path_of c ++ x ∷ more → Contains os c →
+  agree-at : (path : List ℕ) (os : List Origin) (es : List Event) (d : Option Fault) (r : Evaluation) (c : Origin) (x : ℕ) (more : List ℕ) (e : Result (List Value) NodeFault) → j ≡ path_of c ++ x ∷ more → Contains os c →
       Through es d (child c) → Matches child (λ (vs : List Value). vs) es d r e → NodeStops path os e → IsWholeUpTo j r.ending → Agree j r (child c)
   agree-at path os es (Some f) r c x more e below k t m n w =
       let v : IsWholeUpTo j (Err f) = rw m at w in let a = t v in rw m (record { events = a.0; fault = a.1; whole = a.2 })
   agree-at path os es None r c x more (Ok vs) below k t m n w = rw (m.2, t.2) (record { events = t.0; fault = refl; whole = tt })
   agree-at path os es None r c x more (Err (Own f)) below k t m n w =
       rw (m, t.2) (record { events = t.0; fault = fault_at-other j f (right-not (path_of c) x more below f.at (each-contained (λ o. LeftOf (path_of o) f.at) os c n.left k)); whole = tt })
-  agree-at path os es None r c x more (Err (Joined f)) below k t m n w = absurd m
+  agree-at path os es None r c x more (Err (ChildFaulted f)) below k t m n w = absurd m
 
   -- The evaluation r of a node, of which c is a child, and the pedigree is below c.
-  pub agree : (path : List ℕ) (is : List Item) (c : Origin) (x : ℕ) (more : List ℕ) (r : Evaluation) (e : Result (List Value) Ending) → j ≡ path_of c ++ x ∷ more → ItemsRise is → NodeStops path (children is) e →
+  pub agree : (path : List ℕ) (is : List Item) (c : Origin) (x : ℕ) (more : List ℕ) (r : Evaluation) (e : Result (List Value) NodeFault) → j ≡ path_of c ++ x ∷ more → ItemsRise is → NodeStops path (children is) e →
       Contains is (Child c) → Matches child (λ (vs : List Value). vs) (cut child is).events (cut child is).cut_by r e → IsWholeUpTo j r.ending → Agree j r (child c)
   agree path is c x more r e below rise n k m w =
       agree-at path (children is) (cut child is).events (cut child is).cut_by r c x more e below (child-contained is c k) (through is c x more below rise k) m n w
@@ -228,24 +228,24 @@ module _ (child : Origin → Evaluation) (under : (c : Origin) → StaysUnder (p
   own (Opened k ∷ is) r b = own is r b
   own (Closed k ∷ is) r b = own is r b
 
-  no_own-fault : (path : List ℕ) (os : List Origin) (c : Origin) (e : Result (List Value) Ending) → NodeStops path os e → Contains os c → (LeftOf (path_of c) j → ⊥) → own_fault_at j e ≡ None
+  no_own-fault : (path : List ℕ) (os : List Origin) (c : Origin) (e : Result (List Value) NodeFault) → NodeStops path os e → Contains os c → (LeftOf (path_of c) j → ⊥) → own_fault_at j e ≡ None
   no_own-fault path os c (Ok vs) n k l = refl
   no_own-fault path os c (Err (Own f)) n k l =
       ap (λ b. if b then Some f else None) (is-other f.at j (λ g. l (subst (LeftOf (path_of c)) g (each-contained (λ o. LeftOf (path_of o) f.at) os c n.left k))))
-  no_own-fault path os c (Err (Joined f)) n k l = refl
+  no_own-fault path os c (Err (ChildFaulted f)) n k l = refl
 
-  own-at : (path : List ℕ) (es : List Event) (is : List Item) (d : Option Fault) (r : Evaluation) (e : Result (List Value) Ending) →
+  own-at : (path : List ℕ) (es : List Event) (is : List Item) (d : Option Fault) (r : Evaluation) (e : Result (List Value) NodeFault) →
       OwnAlone es is d → Matches child (λ (vs : List Value). vs) es d r e → NodeStops path (children is) e → IsWholeUpTo j r.ending →
       record { events = events_at j (own_events is); fault = own_fault_at j e } ≡ strand_in j r
   own-at path es is None r (Ok vs) o m n w = rw m.2 (ap (λ l. record { events = l; fault = None }) (sym o))
   own-at path es is None r (Err (Own f)) o m n w = rw m (ap (λ l. record { events = l; fault = fault_at j (Err f) }) (sym o))
-  own-at path es is None r (Err (Joined f)) o m n w = absurd m
+  own-at path es is None r (Err (ChildFaulted f)) o m n w = absurd m
   own-at path es is (Some f) r e o m n w =
       let v : IsWholeUpTo j (Err f) = rw m at w in
       let a = o v in
       rw (m, no_own-fault path (children is) a.2.0 e n a.2.1 a.2.2, fault_at-other j f a.1) (ap (λ l. record { events = l; fault = None }) (sym a.0))
 
   -- The evaluation r of a node, where the pedigree is below none of its children.
-  pub own-strand : (path : List ℕ) (is : List Item) (r : Evaluation) (e : Result (List Value) Ending) → ItemsRise is → NodeStops path (children is) e → BelowNone (children is) →
+  pub own-strand : (path : List ℕ) (is : List Item) (r : Evaluation) (e : Result (List Value) NodeFault) → ItemsRise is → NodeStops path (children is) e → BelowNone (children is) →
       Matches child (λ (vs : List Value). vs) (cut child is).events (cut child is).cut_by r e → IsWholeUpTo j r.ending → record { events = events_at j (own_events is); fault = own_fault_at j e } ≡ strand_in j r
   own-strand path is r e rise n b m w = own-at path (cut child is).events is (cut child is).cut_by r e (own is rise b) m n w

@@ -12,9 +12,9 @@ use Rattle.serial_meaning.specs.Eval.{Evaluation}
 use Rattle.serial_meaning.specs.declared.value.Value.{Value}
 use Rattle.serial_meaning.specs.declared.event.Fault.{Fault}
 use Rattle.serial_meaning.specs.declared.origin.Origin.{Origin}
-use Rattle.strand_meaning.specs.Machine.{Place, Spawned, Looped, Half, Activation, Machine}
-use Rattle.strand_meaning.specs.Pieces.{Part}
-use Rattle.strand_meaning.specs.Task.{Stage, Goes, AtSync, AtLoop, Ended, changed, changed_at, answered, takes, takes_all, joins, resumed}
+use Rattle.strand_meaning.specs.Machine.{Destination, Spawned, Looped, Half, Frame, Machine}
+use Rattle.strand_meaning.specs.Trace.{AwaitedChild}
+use Rattle.strand_meaning.specs.Task.{InstanceState, Running, AtSync, AtLoop, Ended, changed, changed_at, answered, takes, takes_all, joins, resumed}
 use Rattle.strand_meaning.specs.Rest.{evaluations}
 use Rattle.strand_meaning.specs.Pending.{ArePending, ArePendingStill, IsCall, IsSync, IsPfor}
 use Rattle.strand_meaning.specs.Sound.{unfilled, ArePendingBelow, ArePendingAtSync, UnfilledArePending}
@@ -24,12 +24,12 @@ use Rattle.strand_meaning.proofs.PendingMoves.{pending-fewer, still-fewer, below
 
 -- Fewer unfilled variables
 
-sync-fewer : (plan : PlanView) (names others : Names) (a : Activation) → ((name : List ℕ) → Contains others name → Contains names name) → (b : Bool) → ArePendingAtSync plan names a b → ArePendingAtSync plan others a b
+sync-fewer : (plan : PlanView) (names others : Names) (a : Frame) → ((name : List ℕ) → Contains others name → Contains names name) → (b : Bool) → ArePendingAtSync plan names a b → ArePendingAtSync plan others a b
 sync-fewer plan names others a w true p = (p.0, pending-fewer plan names others a [] w p.1)
 sync-fewer plan names others a w false p = still-fewer plan names others a IsSync w p
 
-stage-fewer : (plan : PlanView) (ps qs : List Part) → ((j : ℕ) (name : List ℕ) → Contains (unfilled j qs) name → Contains (unfilled j ps) name) → (stage : Stage) → UnfilledArePending plan ps stage → UnfilledArePending plan qs stage
-stage-fewer plan ps qs w (Goes m) p =
+stage-fewer : (plan : PlanView) (ps qs : List AwaitedChild) → ((j : ℕ) (name : List ℕ) → Contains (unfilled j qs) name → Contains (unfilled j ps) name) → (stage : InstanceState) → UnfilledArePending plan ps stage → UnfilledArePending plan qs stage
+stage-fewer plan ps qs w (Running m) p =
     let n = length m.below in (pending-fewer plan (unfilled n ps) (unfilled n qs) m.top m.top.left (w n) p.0, below-fewer plan ps qs n (λ j h. w j) m.below (omega arith) p.1)
 stage-fewer plan ps qs w (AtSync m) p =
     let n = length m.below in (sync-fewer plan (unfilled n ps) (unfilled n qs) m.top (w n) (m.top.leaving || m.top.returning) p.0, below-fewer plan ps qs n (λ j h. w j) m.below (omega arith) p.1)
@@ -37,27 +37,27 @@ stage-fewer plan ps qs w (AtLoop m) p =
     let n = length m.below in (still-fewer plan (unfilled n ps) (unfilled n qs) m.top IsPfor (w n) p.0, below-fewer plan ps qs n (λ j h. w j) m.below (omega arith) p.1)
 stage-fewer plan ps qs w (Ended ended) p = tt
 
-pub alike-pending : (plan : PlanView) {ps qs : List Part} → Alike ps qs → (stage : Stage) → UnfilledArePending plan ps stage → UnfilledArePending plan qs stage
+pub alike-pending : (plan : PlanView) {ps qs : List AwaitedChild} → Alike ps qs → (stage : InstanceState) → UnfilledArePending plan ps stage → UnfilledArePending plan qs stage
 alike-pending plan {ps} {qs} a stage p = stage-fewer plan ps qs (λ j name h. subst (λ (l : Names). Contains l name) (sym (alike-unfilled j a)) h) stage p
 
 -- Answers
 
 module _ (plan : PlanView) where
-  -- the innermost activation, where nothing of a stage is unfilled
-  abbrev AtGoing : Activation → Type 0
+  -- the innermost frame, where nothing of a stage is unfilled
+  abbrev AtGoing : Frame → Type 0
   AtGoing a = ArePending plan [] a a.left
 
-  abbrev AtSyncing : Activation → Type 0
+  abbrev AtSyncing : Frame → Type 0
   AtSyncing a = ArePendingAtSync plan [] a (a.leaving || a.returning)
 
-  abbrev AtLooping : Activation → Type 0
+  abbrev AtLooping : Frame → Type 0
   AtLooping a = ArePendingStill plan [] a IsPfor
 
-  abbrev AtCalling : Activation → Type 0
+  abbrev AtCalling : Frame → Type 0
   AtCalling a = ArePendingStill plan [] a IsCall
 
   -- one that takes an answer
-  module _ (a : Activation) (to : Option Name) where
+  module _ (a : Frame) (to : Option Name) where
     pending-kept : (q : Result (List Value) Fault) (left : List Stmt) → ArePending plan [] a left → ArePending plan [] (answered to q a) left
     pending-kept (Ok vs) left p = record { function = p.function; of_plan = p.of_plan; now = p.now; stands = p.stands; pending = p.pending }
     pending-kept (Err f) left p = record { function = p.function; of_plan = p.of_plan; now = p.now; stands = p.stands; pending = p.pending }
@@ -79,7 +79,7 @@ module _ (plan : PlanView) where
     syncing-kept (Ok vs) p = by-sync (a.leaving || a.returning) (Ok vs) p
     syncing-kept (Err f) p = by-sync (a.leaving || a.returning) (Err f) p
 
-  below-kept : (owner : ℕ) (to : Option Name) (q : Result (List Value) Fault) (below : List Activation) → ArePendingBelow plan [] below → ArePendingBelow plan [] (changed_at owner (answered to q) below)
+  below-kept : (owner : ℕ) (to : Option Name) (q : Result (List Value) Fault) (below : List Frame) → ArePendingBelow plan [] below → ArePendingBelow plan [] (changed_at owner (answered to q) below)
   below-kept owner to q [] p = tt
   below-kept owner to q (caller ∷ below) p = by_place (nat_eq owner (length below)) (below-kept owner to q below p.1)
     where
@@ -88,7 +88,7 @@ module _ (plan : PlanView) where
       by_place true later = (still-kept caller to IsCall q p.0, p.1)
       by_place false later = (p.0, later)
 
-  machine-kept : (P : Activation → Type 0) (owner : ℕ) (to : Option Name) (q : Result (List Value) Fault) → ((a : Activation) → P a → P (answered to q a)) → (m : Machine) → P m.top → ArePendingBelow plan [] m.below →
+  machine-kept : (P : Frame → Type 0) (owner : ℕ) (to : Option Name) (q : Result (List Value) Fault) → ((a : Frame) → P a → P (answered to q a)) → (m : Machine) → P m.top → ArePendingBelow plan [] m.below →
       let k = changed owner (answered to q) m in P k.top × ArePendingBelow plan [] k.below
   machine-kept P owner to q keeps m p below = by_place (nat_eq owner (length m.below))
     where
@@ -97,15 +97,15 @@ module _ (plan : PlanView) where
       by_place true = (keeps m.top p, below)
       by_place false = (p, below-kept owner to q m.below below)
 
-  spawned-kept : (owner : ℕ) (to : Option Name) (q : Result (List Value) Fault) (stage : Stage) → UnfilledArePending plan [] stage → UnfilledArePending plan [] (takes (Spawned owner to) q stage)
-  spawned-kept owner to q (Goes m) p = machine-kept AtGoing owner to q (λ a. going-kept a to q) m p.0 p.1
+  spawned-kept : (owner : ℕ) (to : Option Name) (q : Result (List Value) Fault) (stage : InstanceState) → UnfilledArePending plan [] stage → UnfilledArePending plan [] (takes (Spawned owner to) q stage)
+  spawned-kept owner to q (Running m) p = machine-kept AtGoing owner to q (λ a. going-kept a to q) m p.0 p.1
   spawned-kept owner to q (AtSync m) p = machine-kept AtSyncing owner to q (λ a. syncing-kept a to q) m p.0 p.1
   spawned-kept owner to q (AtLoop m) p = machine-kept AtLooping owner to q (λ a. still-kept a to IsPfor q) m p.0 p.1
   spawned-kept owner to q (Ended ended) p = tt
 
   -- a loop's values
-  looped-kept : (to : Option Name) (vs : List Value) (stage : Stage) → UnfilledArePending plan [] stage → UnfilledArePending plan [] (takes (Looped to) (Ok vs) stage)
-  looped-kept to vs (Goes m) p = (record { function = p.0.function; of_plan = p.0.of_plan; now = p.0.now; stands = p.0.stands; pending = p.0.pending }, p.1)
+  looped-kept : (to : Option Name) (vs : List Value) (stage : InstanceState) → UnfilledArePending plan [] stage → UnfilledArePending plan [] (takes (Looped to) (Ok vs) stage)
+  looped-kept to vs (Running m) p = (record { function = p.0.function; of_plan = p.0.of_plan; now = p.0.now; stands = p.0.stands; pending = p.0.pending }, p.1)
   looped-kept to vs (AtSync m) p = (by_kind (m.top.leaving || m.top.returning) p.0, p.1)
     where
       by_kind : (b : Bool) → ArePendingAtSync plan [] m.top b → ArePendingAtSync plan [] (record m.top { env = filled to vs m.top.env }) b
@@ -116,19 +116,19 @@ module _ (plan : PlanView) where
       let s = p.0 in let t = s.there in (record { st = s.st; such = s.such; there = record { function = t.function; of_plan = t.of_plan; now = t.now; stands = t.stands; pending = t.pending } }, p.1)
   looped-kept to vs (Ended ended) p = tt
 
-  takes-kept : (place : Place) (q : Result (List Value) Fault) (stage : Stage) → UnfilledArePending plan [] stage → UnfilledArePending plan [] (takes place q stage)
+  takes-kept : (place : Destination) (q : Result (List Value) Fault) (stage : InstanceState) → UnfilledArePending plan [] stage → UnfilledArePending plan [] (takes place q stage)
   takes-kept (Spawned owner to) q stage p = spawned-kept owner to q stage p
   takes-kept (Looped to) (Ok vs) stage p = looped-kept to vs stage p
   takes-kept (Looped to) (Err f) stage p = tt
   takes-kept Half q stage p = p
 
-  all-kept : (child : Origin → Evaluation) (ps : List Part) (stage : Stage) → UnfilledArePending plan [] stage → UnfilledArePending plan [] (takes_all ps (evaluations child ps) stage)
+  all-kept : (child : Origin → Evaluation) (ps : List AwaitedChild) (stage : InstanceState) → UnfilledArePending plan [] stage → UnfilledArePending plan [] (takes_all ps (evaluations child ps) stage)
   all-kept child [] stage p = p
   all-kept child (q ∷ ps) stage p = all-kept child ps (takes q.place (child q.child).ending stage) (takes-kept q.place (child q.child).ending stage p)
 
   -- it goes on after a wait
-  resumed-pending : (stage : Stage) → UnfilledArePending plan [] stage → UnfilledArePending plan [] (resumed stage)
-  resumed-pending (Goes m) p = p
+  resumed-pending : (stage : InstanceState) → UnfilledArePending plan [] stage → UnfilledArePending plan [] (resumed stage)
+  resumed-pending (Running m) p = p
   resumed-pending (AtSync m) p = by_fault m.top.faulted
     where
       by_kind : (b : Bool) → ArePendingAtSync plan [] m.top b → ArePending plan [] m.top m.top.left
@@ -141,6 +141,6 @@ module _ (plan : PlanView) where
   resumed-pending (AtLoop m) p = (still-left plan m.top IsPfor p.0, p.1)
   resumed-pending (Ended ended) p = tt
 
-  pub answers-pending : (child : Origin → Evaluation) (ps : List Part) (stage : Stage) → UnfilledArePending plan ps stage → UnfilledArePending plan [] (resumed (takes_all ps (evaluations child ps) stage))
+  pub answers-pending : (child : Origin → Evaluation) (ps : List AwaitedChild) (stage : InstanceState) → UnfilledArePending plan ps stage → UnfilledArePending plan [] (resumed (takes_all ps (evaluations child ps) stage))
   answers-pending child ps stage p =
       resumed-pending (takes_all ps (evaluations child ps) stage) (all-kept child ps stage (stage-fewer plan ps [] (λ j name h. absurd (none-contained name h)) stage p))

@@ -1,4 +1,4 @@
--- A move keeps the unfilled variables of each activation in the set that validity has where it stands.
+-- A move keeps the unfilled variables of each frame in the set that validity has where it stands.
 use Rattle.std.proofs.Common.{◌≡◌, ℕ, zero, suc, ◌+◌, ◌-◌, ◌<◌, ◌≤◌, Bool, true, false, ◌||◌, ◌⊎◌, nat_eq, nat_lt, List, [], ◌∷◌, ◌++◌, Option, Some, None, Result, Ok, Err, inl, inr, refl, sym, ap, ◌∙◌, if◌then◌else◌, length, append-nil, arith, subst}
 use Rattle.std.proofs.Common.{ℤ, pos, ◌-ℤ◌}
 use Rattle.std.specs.Prelude.{Contains}
@@ -23,7 +23,7 @@ use Rattle.serial_meaning.specs.Names.{Names}
 use Rattle.serial_meaning.specs.Values.{Env, value_of, values_of, slot_of, items_of, number, is_true, at_index}
 use Rattle.serial_meaning.specs.Functions.{number_of, function_at}
 use Rattle.serial_meaning.specs.Plan.{PlanView, functions_of}
-use Rattle.serial_meaning.specs.Exec.{State, Manner, given, paid_from, tested, has_room, fits_depth, filled, spawn, join, implied, activation, called, right_side, found, store, looped, does, count_of, bound}
+use Rattle.serial_meaning.specs.Exec.{State, Manner, given, paid_from, tested, has_room, fits_depth, filled, spawn, join, implied, frame, called, right_side, found, store, looped, does, count_of, bound}
 use Rattle.serial_meaning.specs.Open.{is_empty_loop}
 use Rattle.serial_meaning.specs.declared.value.Value.{Value}
 use Rattle.serial_meaning.specs.declared.value.Value.TheVariants.{Int}
@@ -34,12 +34,12 @@ use Rattle.serial_meaning.specs.declared.event.Event.TheVariants as event
 use Rattle.serial_meaning.specs.declared.origin.Origin.{Origin}
 use Rattle.serial_meaning.specs.declared.origin.Origin.TheVariants as origin
 use Rattle.strand_meaning.specs.Clear.{pending_right, target_names}
-use Rattle.strand_meaning.specs.Machine.{Place, Spawned, Looped, Token, Told, Halt, loop_tokens, sync_tokens, handing, inside, place_of, Level, Activation, Machine, Reached, Stands, Gives, state_of, here_of, with_left, into_level, with_leaving, out_of_level, with_returning, with_scalar, back, spawns_in, calling, entered, reached, gives, value_run, statement_move, return_move, level_move, end_move, move_at, move}
-use Rattle.strand_meaning.specs.Pieces.{Part}
-use Rattle.strand_meaning.specs.Task.{Goes, AtSync, stage_after}
+use Rattle.strand_meaning.specs.Machine.{Destination, Spawned, Looped, Effect, Emitted, Exit, loop_effects, sync_effects, handing, inside, place_of, Level, Frame, Machine, Reached, Stands, Gives, state_of, here_of, with_left, into_level, with_leaving, out_of_level, with_returning, with_scalar, back, spawns_in, calling, entered, reached, gives, value_run, statement_move, return_move, level_move, end_move, move_at, move}
+use Rattle.strand_meaning.specs.Trace.{AwaitedChild}
+use Rattle.strand_meaning.specs.Task.{Running, AtSync, stage_after}
 use Rattle.strand_meaning.specs.Pending.{act_of, Then, Else, Turn, Here, StandsAt, Outside, InScope, judged_by, ArePending, ArePendingStill, IsCall, IsSync, IsPfor}
 use Rattle.strand_meaning.specs.Sound.{unfilled, any_by, IsSoundStage, ArePendingBelow, ArePendingAtSync, UnfilledArePending}
-use Rattle.strand_meaning.proofs.Shown.{token_parts, same-number}
+use Rattle.strand_meaning.proofs.Shown.{effect_parts, same-number}
 use Rattle.strand_meaning.proofs.Clears.{none-contained, unfilled-append, none-unfilled, none-above}
 use Rattle.strand_meaning.proofs.Variables.{is-itself}
 use Rattle.strand_meaning.proofs.FreeNames.{single-name}
@@ -61,13 +61,13 @@ AreIn names set = (name : List ℕ) → Contains names name → set name ≡ tru
 
 -- Other variables, in the same place
 
-pub pending-fewer : (plan : PlanView) (names others : Names) (a : Activation) (left : List Stmt) → ((name : List ℕ) → Contains others name → Contains names name) → ArePending plan names a left → ArePending plan others a left
+pub pending-fewer : (plan : PlanView) (names others : Names) (a : Frame) (left : List Stmt) → ((name : List ℕ) → Contains others name → Contains names name) → ArePending plan names a left → ArePending plan others a left
 pending-fewer plan names others a left w p = record { function = p.function; of_plan = p.of_plan; now = p.now; stands = p.stands; pending = λ name h. p.pending name (w name h) }
 
-pub still-fewer : (plan : PlanView) (names others : Names) (a : Activation) (IsSuch : Act-F Act Stmt → Type 0) → ((name : List ℕ) → Contains others name → Contains names name) → ArePendingStill plan names a IsSuch → ArePendingStill plan others a IsSuch
+pub still-fewer : (plan : PlanView) (names others : Names) (a : Frame) (IsSuch : Act-F Act Stmt → Type 0) → ((name : List ℕ) → Contains others name → Contains names name) → ArePendingStill plan names a IsSuch → ArePendingStill plan others a IsSuch
 still-fewer plan names others a IsSuch w p = record { st = p.st; such = p.such; there = pending-fewer plan names others a (p.st ∷ a.left) w p.there }
 
-pub below-fewer : (plan : PlanView) (ps qs : List Part) (height : ℕ) → ((j : ℕ) → j < height → (name : List ℕ) → Contains (unfilled j qs) name → Contains (unfilled j ps) name) → (below : List Activation) → length below ≤ height →
+pub below-fewer : (plan : PlanView) (ps qs : List AwaitedChild) (height : ℕ) → ((j : ℕ) → j < height → (name : List ℕ) → Contains (unfilled j qs) name → Contains (unfilled j ps) name) → (below : List Frame) → length below ≤ height →
     ArePendingBelow plan ps below → ArePendingBelow plan qs below
 below-fewer plan ps qs height w [] h p = tt
 below-fewer plan ps qs height w (caller ∷ below) h p = (
@@ -75,11 +75,11 @@ below-fewer plan ps qs height w (caller ∷ below) h p = (
   below-fewer plan ps qs height w below (omega arith) p.1,
 )
 
--- parts that are of no activation below change nothing there
-below-more : (plan : PlanView) (ps qs : List Part) (height : ℕ) → ((j : ℕ) → j < height → any_by j qs ≡ false) → (below : List Activation) → length below ≤ height → ArePendingBelow plan ps below → ArePendingBelow plan (ps ++ qs) below
+-- parts that are of no frame below change nothing there
+below-more : (plan : PlanView) (ps qs : List AwaitedChild) (height : ℕ) → ((j : ℕ) → j < height → any_by j qs ≡ false) → (below : List Frame) → length below ≤ height → ArePendingBelow plan ps below → ArePendingBelow plan (ps ++ qs) below
 below-more plan ps qs height none below h p = below-fewer plan ps (ps ++ qs) height (λ j k name c. subst (λ (l : Names). Contains l name) (sym (same-unfilled j ps qs (none j k))) c) below h p
 
--- A statement that its activation stood still at, and which kept all that was pending, is passed.
+-- A statement that its frame stood still at, and which kept all that was pending, is passed.
 abbrev Keeps : (Act-F Act Stmt → Type 0) → Type 0
 Keeps IsSuch = (d : Act-F Act Stmt) → IsSuch d → (set : check.Names) → check.IsWithin (judged_by d set) (told d set)
 
@@ -105,7 +105,7 @@ call-keeps (act.While e a) i set name h = absurd i
 call-keeps (act.Pfor x lo hi target c) i set name h = absurd i
 call-keeps (act.Scope a) i set name h = absurd i
 
-still-passed : (plan : PlanView) (names : Names) (a : Activation) (IsSuch : Act-F Act Stmt → Type 0) → Keeps IsSuch → ArePendingStill plan names a IsSuch → ArePending plan names a a.left
+still-passed : (plan : PlanView) (names : Names) (a : Frame) (IsSuch : Act-F Act Stmt → Type 0) → Keeps IsSuch → ArePendingStill plan names a IsSuch → ArePending plan names a a.left
 still-passed plan names a IsSuch keeps p =
     let o = stands-on p.there.stands in record {
       function = p.there.function;
@@ -117,17 +117,17 @@ still-passed plan names a IsSuch keeps p =
     }
 
 -- where nothing is unfilled
-pub still-left : (plan : PlanView) (a : Activation) (IsSuch : Act-F Act Stmt → Type 0) → ArePendingStill plan [] a IsSuch → ArePending plan [] a a.left
+pub still-left : (plan : PlanView) (a : Frame) (IsSuch : Act-F Act Stmt → Type 0) → ArePendingStill plan [] a IsSuch → ArePending plan [] a a.left
 still-left plan a IsSuch p =
     let o = stands-on p.there.stands in record { function = p.there.function; of_plan = p.there.of_plan; now = o.now; stands = o.stands; pending = λ name h. absurd (none-contained name h) }
 
 -- what holds after a move
-abbrev pub PendingEnd : PlanView → List Part → List Token → Result Reached Fault → Type 0
-PendingEnd plan parts ts (Ok (Stands k)) = UnfilledArePending plan (parts ++ token_parts ts) (stage_after ts k)
+abbrev pub PendingEnd : PlanView → List AwaitedChild → List Effect → Result Reached Fault → Type 0
+PendingEnd plan parts ts (Ok (Stands k)) = UnfilledArePending plan (parts ++ effect_parts ts) (stage_after ts k)
 PendingEnd plan parts ts (Ok (Gives v)) = Unit {0}
 PendingEnd plan parts ts (Err f) = Unit {0}
 
-module _ (plan : PlanView) (path : List ℕ) (parts : List Part) (m : Machine) (st : Stmt) (left : List Stmt) (top-left : m.top.left ≡ st ∷ left) (sound : IsSoundStage plan parts (Goes m)) (pends : UnfilledArePending plan parts (Goes m)) where
+module _ (plan : PlanView) (path : List ℕ) (parts : List AwaitedChild) (m : Machine) (st : Stmt) (left : List Stmt) (top-left : m.top.left ≡ st ∷ left) (sound : IsSoundStage plan parts (Running m)) (pends : UnfilledArePending plan parts (Running m)) where
   abbrev height : ℕ
   height = length m.below
 
@@ -138,10 +138,10 @@ module _ (plan : PlanView) (path : List ℕ) (parts : List Part) (m : Machine) (
   abbrev pending : Names
   pending = unfilled height parts
 
-  abbrev what : Place → Manner Token Halt Bool
+  abbrev what : Destination → Manner Effect Exit Bool
   what place = handing plan place
 
-  no-parts : (T : List Part → Type 0) → T parts → T (parts ++ [])
+  no-parts : (T : List AwaitedChild → Type 0) → T parts → T (parts ++ [])
   no-parts T t = subst T (sym (append-nil parts)) t
 
   top : ArePending plan pending m.top (st ∷ left)
@@ -155,11 +155,11 @@ module _ (plan : PlanView) (path : List ℕ) (parts : List Part) (m : Machine) (
   passed names w s =
       let o = stands-on top.stands in record { function = top.function; of_plan = top.of_plan; now = o.now; stands = o.stands; pending = λ name h. o.all name (w name h) }
 
-  going : AreIn pending ((judge st).after set) → (s : State Bool) → UnfilledArePending plan (parts ++ []) (Goes (with_left m left s))
-  going w s = no-parts (λ ps. UnfilledArePending plan ps (Goes (with_left m left s))) (passed pending w s, pends.1)
+  going : AreIn pending ((judge st).after set) → (s : State Bool) → UnfilledArePending plan (parts ++ []) (Running (with_left m left s))
+  going w s = no-parts (λ ps. UnfilledArePending plan ps (Running (with_left m left s))) (passed pending w s, pends.1)
 
   -- the same, of which the rank and the steps say nothing
-  calm : AreIn pending ((judge st).after set) → (env : Env) → UnfilledArePending plan (parts ++ []) (Goes (with_left m left (record { env = env; rank = 0; steps = 0; spawned = m.top.spawned })))
+  calm : AreIn pending ((judge st).after set) → (env : Env) → UnfilledArePending plan (parts ++ []) (Running (with_left m left (record { env = env; rank = 0; steps = 0; spawned = m.top.spawned })))
   calm w env = going w (record { env = env; rank = 0; steps = 0; spawned = m.top.spawned })
 
   -- it stands still at the statement
@@ -171,18 +171,18 @@ module _ (plan : PlanView) (path : List ℕ) (parts : List Part) (m : Machine) (
   }
 
   module _ (into : List Stmt → State Bool → Machine) where
-    abbrev Fine : Run Token Halt (State Bool) → Type 0
+    abbrev Fine : Run Effect Exit (State Bool) → Type 0
     Fine r = PendingEnd plan parts r.items (reached plan (with_left m left) into r.ending)
 
-    fine-given : (place : Place) {A : Type 0} (o : Result A FaultKind) (s : State Bool) (f : A → Run Token Halt (State Bool)) → ((a : A) → Fine (f a)) → Fine (given (what place) plan now o s f)
+    fine-given : (place : Destination) {A : Type 0} (o : Result A FaultKind) (s : State Bool) (f : A → Run Effect Exit (State Bool)) → ((a : A) → Fine (f a)) → Fine (given (what place) plan now o s f)
     fine-given place (Ok a) s f h = h a
     fine-given place (Err k) s f h = tt
 
-    fine-tested : (place : Place) (b : Bool) (k : FaultKind) (s : State Bool) (f : Run Token Halt (State Bool)) → Fine f → Fine (tested (what place) plan now b k s f)
+    fine-tested : (place : Destination) (b : Bool) (k : FaultKind) (s : State Bool) (f : Run Effect Exit (State Bool)) → Fine f → Fine (tested (what place) plan now b k s f)
     fine-tested place true k s f h = h
     fine-tested place false k s f h = tt
 
-    fine-paid : (place : Place) (n : ℕ) (s : State Bool) (f : State Bool → Run Token Halt (State Bool)) → ((k : ℕ) → Fine (f (record s { steps = k }))) → Fine (paid_from (what place) plan now n s f)
+    fine-paid : (place : Destination) (n : ℕ) (s : State Bool) (f : State Bool → Run Effect Exit (State Bool)) → ((k : ℕ) → Fine (f (record s { steps = k }))) → Fine (paid_from (what place) plan now n s f)
     fine-paid place zero s f h = tt
     fine-paid place (suc n) s f h = h n
 
@@ -192,20 +192,20 @@ module _ (plan : PlanView) (path : List ℕ) (parts : List Part) (m : Machine) (
     abbrev sets : Option Name → Value × State Bool → State Bool
     sets target p = record p.1 { env = with_scalar target p.0 p.1.env }
 
-    -- a child of the innermost activation
+    -- a child of the innermost frame
     fine-spawn : (target : Option Name) (c : CallText) (n : ℕ) → AreIn (target_names target ++ pending) ((judge st).after set) → Fine (spawn (what (Spawned height target)) plan now c (here n) then λ p. done (sets target p))
     fine-spawn target c n w = by_args (values_of c.args m.top.env)
       where
-        place : Place
+        place : Destination
         place = Spawned height target
 
-        child_run : List Value → Run Token Halt (Value × State Bool)
+        child_run : List Value → Run Effect Exit (Value × State Bool)
         child_run vs =
-            happens (Told (event.Spawn (now ++ m.rank ∷ []))) (here n) then λ s.
+            happens (Emitted (event.Spawn (now ++ m.rank ∷ []))) (here n) then λ s.
             (what place).spawn (origin.Instance (number_of (functions_of plan) c.name.bytes) vs (now ++ m.rank ∷ [])) s.spawned then λ r.
             done (r.0, record s { rank = s.rank + 1; spawned = r.1 })
 
-        more : List Value → List Part
+        more : List Value → List AwaitedChild
         more vs = record { child = origin.Instance (number_of (functions_of plan) c.name.bytes) vs (now ++ m.rank ∷ []); place = place; behind = [] } ∷ []
 
         none-lower : (vs : List Value) (j : ℕ) → j < height → any_by j (more vs) ≡ false
@@ -228,7 +228,7 @@ module _ (plan : PlanView) (path : List ℕ) (parts : List Part) (m : Machine) (
             by_place (inl g) = Contains-append_right (target_names target) pending name g
             by_place (inr g) = Contains-append_left (target_names target) pending name (subst (λ (l : Names). Contains l name) own g)
 
-        next : (vs : List Value) (env : Env) → UnfilledArePending plan (parts ++ more vs) (Goes (with_left m left (record { env = env; rank = m.rank + 1; steps = n; spawned = true })))
+        next : (vs : List Value) (env : Env) → UnfilledArePending plan (parts ++ more vs) (Running (with_left m left (record { env = env; rank = m.rank + 1; steps = n; spawned = true })))
         next vs env = (
           passed (unfilled height (parts ++ more vs)) (λ name h. w name (within vs name h)) (record { env = env; rank = m.rank + 1; steps = n; spawned = true }),
           below-more plan parts (more vs) height (none-lower vs) m.below (omega arith) pends.1,
@@ -242,12 +242,12 @@ module _ (plan : PlanView) (path : List ℕ) (parts : List Part) (m : Machine) (
         by_args (Ok vs) = by_test vs (nat_lt (length now + 1) plan.limits.depth)
         by_args (Err k) = tt
 
-    -- a callee, over the activation that calls
+    -- a callee, over the frame that calls
     fine-call : (target : Option Name) (c : CallText) (n : ℕ) → ((inner : List Stmt) (s : State Bool) → into inner s ≡ calling plan target c left m inner s) → IsCall (act_of st) → AreIn pending ((judge st).after set) →
         Fine (called (what (Spawned height target)) plan now inside height c (here n) then λ p. done (sets target p))
     fine-call target c n enters is-call w = by_args (values_of c.args m.top.env)
       where
-        place : Place
+        place : Destination
         place = Spawned height target
 
         number : ℕ
@@ -259,19 +259,19 @@ module _ (plan : PlanView) (path : List ℕ) (parts : List Part) (m : Machine) (
         none : unfilled (suc height) parts ≡ []
         none = none-unfilled (suc height) parts (none-above height parts sound.0)
 
-        callee : (f : Function) (vs : List Value) → function_at (functions_of plan) number ≡ Some f → UnfilledArePending plan parts (Goes (calling plan target c left m f.body (begins f vs)))
+        callee : (f : Function) (vs : List Value) → function_at (functions_of plan) number ≡ Some f → UnfilledArePending plan parts (Running (calling plan target c left m f.body (begins f vs)))
         callee f vs e = (
           record { function = f; of_plan = e; now = nobody; stands = Outside Here; pending = λ name h. absurd (none-contained name (subst (λ (l : Names). Contains l name) none h)) },
           (still pending (λ name h. h) IsCall is-call (state_of m), pends.1),
         )
 
         by_function : (vs : List Value) (o : Option Function) → function_at (functions_of plan) number ≡ o →
-            Fine ((activation (what place) plan now inside (height + 1) o vs (here n) then λ r. done (r.0, record (here n) { rank = r.1.rank; steps = r.1.steps })) then λ p. done (sets target p))
+            Fine ((frame (what place) plan now inside (height + 1) o vs (here n) then λ r. done (r.0, record (here n) { rank = r.1.rank; steps = r.1.steps })) then λ p. done (sets target p))
         by_function vs None e = calm w _
-        by_function vs (Some f) e = no-parts (λ ps. UnfilledArePending plan ps (Goes (into f.body (begins f vs)))) (subst (λ (k : Machine). UnfilledArePending plan parts (Goes k)) (sym (enters f.body (begins f vs))) (callee f vs e))
+        by_function vs (Some f) e = no-parts (λ ps. UnfilledArePending plan ps (Running (into f.body (begins f vs)))) (subst (λ (k : Machine). UnfilledArePending plan parts (Running k)) (sym (enters f.body (begins f vs))) (callee f vs e))
 
-        run : List Value → Run Token Halt (Value × State Bool)
-        run vs = activation (what place) plan now inside (height + 1) (function_at (functions_of plan) number) vs (here n) then λ r. done (r.0, record (here n) { rank = r.1.rank; steps = r.1.steps })
+        run : List Value → Run Effect Exit (Value × State Bool)
+        run vs = frame (what place) plan now inside (height + 1) (function_at (functions_of plan) number) vs (here n) then λ r. done (r.0, record (here n) { rank = r.1.rank; steps = r.1.steps })
 
         by_test : (vs : List Value) (b : Bool) → Fine (tested (what place) plan now b Calls (here n) (run vs) then λ p. done (sets target p))
         by_test vs true = by_function vs (function_at (functions_of plan) number) refl
@@ -300,11 +300,11 @@ module _ (plan : PlanView) (path : List ℕ) (parts : List Part) (m : Machine) (
     fine-right x (right.Call at c) n enters w = fine-call (Some x) c n enters.1 enters.0 w
     fine-right x (right.Spawn at c) n enters w = fine-spawn (Some x) c n w
 
-    fine-store : (place : Place) (x : Name) (i e : Expr) (n : ℕ) → AreIn pending ((judge st).after set) → Fine (store (what place) plan now x i e (here n))
+    fine-store : (place : Destination) (x : Name) (i e : Expr) (n : ℕ) → AreIn pending ((judge st).after set) → Fine (store (what place) plan now x i e (here n))
     fine-store place x i e n w =
         fine-given place (value_of i m.top.env) (here n) _ (λ k. by_item (at_index (items_of (slot_of m.top.env x.bytes)) (number k)) _ (fine-given place (value_of e m.top.env) (here n) _ (λ v. calm w _)))
       where
-        by_item : (o : Option ℤ) (r : Run Token Halt (State Bool)) → Fine r → Fine (found (what place) plan now o (here n) r)
+        by_item : (o : Option ℤ) (r : Run Effect Exit (State Bool)) → Fine r → Fine (found (what place) plan now o (here n) r)
         by_item None r h = tt
         by_item (Some old) r h = h
 
@@ -336,7 +336,7 @@ module _ (plan : PlanView) (path : List ℕ) (parts : List Part) (m : Machine) (
         none : m.top.spawned ≡ false → AreIn pending ((judge st).after set)
         none h name c = absurd (none-contained name (subst (λ (l : Names). Contains l name) (none-unfilled height parts (nothing-by (any_by height parts) refl h)) c))
 
-        by_spawned : (b : Bool) → m.top.spawned ≡ b → PendingEnd plan parts (Told (event.Sync (now ++ m.rank ∷ [])) ∷ (sync_tokens b ++ [])) (Ok (Stands (with_left m left next)))
+        by_spawned : (b : Bool) → m.top.spawned ≡ b → PendingEnd plan parts (Emitted (event.Sync (now ++ m.rank ∷ [])) ∷ (sync_effects b ++ [])) (Ok (Stands (with_left m left next)))
         by_spawned true h = no-parts (λ ps. UnfilledArePending plan ps (AtSync (with_left m left next))) waits
         by_spawned false h = going (none h) next
 
@@ -344,7 +344,7 @@ module _ (plan : PlanView) (path : List ℕ) (parts : List Part) (m : Machine) (
     fine-loop target c lo hi vs n is-pfor w =
         fine-tested place (nat_lt hi (n + 1)) Budget (here n) _ (fine-tested place (has_room target hi m.top.env) Index (here (n - hi)) _ (fine-tested place (fits_depth (what place) plan now hi) Depth (here (n - hi)) _ (by_size (is_empty_loop o))))
       where
-        place : Place
+        place : Destination
         place = Looped target
 
         o : Origin
@@ -353,17 +353,17 @@ module _ (plan : PlanView) (path : List ℕ) (parts : List Part) (m : Machine) (
         next : State Bool
         next = record { env = filled target [] m.top.env; rank = m.rank + 1; steps = n - hi; spawned = m.top.spawned }
 
-        more : List Part
+        more : List AwaitedChild
         more = record { child = o; place = place; behind = [] } ∷ []
 
-        by_size : (b : Bool) → PendingEnd plan parts (Told (event.Loop (now ++ m.rank ∷ [])) ∷ (loop_tokens b o place ++ [])) (Ok (Stands (with_left m left next)))
+        by_size : (b : Bool) → PendingEnd plan parts (Emitted (event.Loop (now ++ m.rank ∷ [])) ∷ (loop_effects b o place ++ [])) (Ok (Stands (with_left m left next)))
         by_size true = going w next
         by_size false = (
           still (unfilled height (parts ++ more)) (λ name h. subst (λ (l : Names). Contains l name) (sym (same-unfilled height parts more refl)) h) IsPfor is-pfor next,
           below-more plan parts more height (λ j h. refl) m.below (omega arith) pends.1,
         )
 
-  abbrev run_of : (a : Act-F Act Stmt) → ℕ → Run Token Halt (State Bool)
+  abbrev run_of : (a : Act-F Act Stmt) → ℕ → Run Effect Exit (State Bool)
   run_of a n = does (what (place_of height a)) plan now inside height st a (record (state_of m) { steps = n })
 
   abbrev PendingAct : Act-F Act Stmt → ℕ → Type 0
@@ -391,9 +391,9 @@ module _ (plan : PlanView) (path : List ℕ) (parts : List Part) (m : Machine) (
       from (inl c) = or-left (bytes_eq x.bytes name) (set name) (ap (bytes_eq x.bytes) (sym (single-name x.bytes name c)) ∙ is-itself x.bytes)
       from (inr c) = or-right (bytes_eq x.bytes name) (set name) (w name c)
 
-  block-pending : (block : List Stmt) (s : State Bool) → StandsOn top.function.body m.top.levels (block ++ left) set → AreIn pending set → UnfilledArePending plan (parts ++ []) (Goes (with_left m (block ++ left) s))
+  block-pending : (block : List Stmt) (s : State Bool) → StandsOn top.function.body m.top.levels (block ++ left) set → AreIn pending set → UnfilledArePending plan (parts ++ []) (Running (with_left m (block ++ left) s))
   block-pending block s o w =
-      no-parts (λ ps. UnfilledArePending plan ps (Goes (with_left m (block ++ left) s))) (
+      no-parts (λ ps. UnfilledArePending plan ps (Running (with_left m (block ++ left) s))) (
         record { function = top.function; of_plan = top.of_plan; now = o.now; stands = o.stands; pending = λ name h. o.all name (w name h) },
         pends.1,
       )
@@ -430,7 +430,7 @@ module _ (plan : PlanView) (path : List ℕ) (parts : List Part) (m : Machine) (
       s : State Bool
       s = record (state_of m) { steps = n }
 
-      by_test : (t : Bool) → UnfilledArePending plan (parts ++ []) (Goes (with_left m ((if t then a else b) ++ left) s))
+      by_test : (t : Bool) → UnfilledArePending plan (parts ++ []) (Running (with_left m ((if t then a else b) ++ left) s))
       by_test true = block-pending a s (stands-in top.stands a (Then e a b same)) (judged (act.If e a b) same)
       by_test false = block-pending b s (stands-in top.stands b (Else e a b same)) (judged (act.If e a b) same)
   by_act (act.While e a) same n = fine-given (entered plan st (act.While e a) left m) (Spawned height None) (value_of e m.top.env) _ _ (λ v. by_test (is_true v))
@@ -438,10 +438,10 @@ module _ (plan : PlanView) (path : List ℕ) (parts : List Part) (m : Machine) (
       s : State Bool
       s = record (state_of m) { steps = n }
 
-      turn : UnfilledArePending plan (parts ++ []) (Goes (with_left m (a ++ st ∷ left) s))
+      turn : UnfilledArePending plan (parts ++ []) (Running (with_left m (a ++ st ∷ left) s))
       turn =
           let o = stands-in top.stands a (Turn e a same) in
-          no-parts (λ ps. UnfilledArePending plan ps (Goes (with_left m (a ++ st ∷ left) s))) (
+          no-parts (λ ps. UnfilledArePending plan ps (Running (with_left m (a ++ st ∷ left) s))) (
             record { function = top.function; of_plan = top.of_plan; now = o.now; stands = o.stands; pending = λ name h. o.all name (judged (act.While e a) same name h) },
             pends.1,
           )
@@ -455,7 +455,7 @@ module _ (plan : PlanView) (path : List ℕ) (parts : List Part) (m : Machine) (
       (λ vs. fine-loop into target c (number l) (count_of (number h -ℤ number l)) vs n (such (act.Pfor x lo hi target c) same IsPfor tt) (after-it (act.Pfor x lo hi target c) same pending (judged (act.Pfor x lo hi target c) same)))))
   by_act (act.Scope a) same n =
       fine-tested (entered plan st (act.Scope a) left m) (Spawned height None) (nat_lt (length now + 1) plan.limits.depth) Depth (record (state_of m) { steps = n }) _
-      (no-parts (λ ps. UnfilledArePending plan ps (Goes (into_level m left a s))) (
+      (no-parts (λ ps. UnfilledArePending plan ps (Running (into_level m left a s))) (
         record {
           function = top.function;
           of_plan = top.of_plan;
@@ -472,8 +472,8 @@ module _ (plan : PlanView) (path : List ℕ) (parts : List Part) (m : Machine) (
   statement-pending : PendingEnd plan parts (statement_move plan path m st left).items (statement_move plan path m st left).ending
   statement-pending = fine-paid (entered plan st (act_of st) left m) (place_of height (act_of st)) m.steps (state_of m) _ (λ n. by_act (act_of st) refl n)
 
-module _ (plan : PlanView) (path : List ℕ) (parts : List Part) where
-  no-more : (T : List Part → Type 0) → T parts → T (parts ++ [])
+module _ (plan : PlanView) (path : List ℕ) (parts : List AwaitedChild) where
+  no-more : (T : List AwaitedChild → Type 0) → T parts → T (parts ++ [])
   no-more T t = subst T (sym (append-nil parts)) t
 
   -- at the end of its statements
@@ -487,13 +487,13 @@ module _ (plan : PlanView) (path : List ℕ) (parts : List Part) where
   }
 
   -- the step of a return and its sync
-  return-pending : (m : Machine) → m.top.left ≡ [] → UnfilledArePending plan parts (Goes m) → PendingEnd plan parts (return_move plan path m false).items (return_move plan path m false).ending
+  return-pending : (m : Machine) → m.top.left ≡ [] → UnfilledArePending plan parts (Running m) → PendingEnd plan parts (return_move plan path m false).items (return_move plan path m false).ending
   return-pending m ended pends = by_steps m.steps
     where
-      how : Manner Token Halt Bool
+      how : Manner Effect Exit Bool
       how = handing plan (Spawned (length m.below) None)
 
-      finished : Run Token Halt (State Bool) → Type 0
+      finished : Run Effect Exit (State Bool) → Type 0
       finished r = PendingEnd plan parts r.items (reached plan (with_returning m) (λ inner s. m) r.ending)
 
       top : ArePending plan (unfilled (length m.below) parts) m.top []
@@ -503,23 +503,23 @@ module _ (plan : PlanView) (path : List ℕ) (parts : List Part) where
       or-true true = refl
       or-true false = refl
 
-      going : (s : State Bool) → UnfilledArePending plan (parts ++ []) (Goes (with_returning m s))
+      going : (s : State Bool) → UnfilledArePending plan (parts ++ []) (Running (with_returning m s))
       going s =
-          let a : Activation = (with_returning m s).top in
-          no-more (λ ps. UnfilledArePending plan ps (Goes (with_returning m s))) (
+          let a : Frame = (with_returning m s).top in
+          no-more (λ ps. UnfilledArePending plan ps (Running (with_returning m s))) (
             subst (ArePending plan (unfilled (length m.below) parts) a) (sym ended) (at-end m (with_returning m s) (unfilled (length m.below) parts) refl refl top),
             pends.1,
           )
 
       waiting : (s : State Bool) → UnfilledArePending plan (parts ++ []) (AtSync (with_returning m s))
       waiting s =
-          let a : Activation = (with_returning m s).top in
+          let a : Frame = (with_returning m s).top in
           no-more (λ ps. UnfilledArePending plan ps (AtSync (with_returning m s))) (
             subst (ArePendingAtSync plan (unfilled (length m.below) parts) a) (sym (or-true m.top.leaving)) (ended, at-end m (with_returning m s) (unfilled (length m.below) parts) refl refl top),
             pends.1,
           )
 
-      by_spawned : (n : ℕ) (b : Bool) → PendingEnd plan parts (Told (event.Sync (here_of path m ++ m.rank ∷ [])) ∷ (sync_tokens b ++ [])) (Ok (Stands (with_returning m (record { env = m.top.env; rank = m.rank + 1; steps = n; spawned = false }))))
+      by_spawned : (n : ℕ) (b : Bool) → PendingEnd plan parts (Emitted (event.Sync (here_of path m ++ m.rank ∷ [])) ∷ (sync_effects b ++ [])) (Ok (Stands (with_returning m (record { env = m.top.env; rank = m.rank + 1; steps = n; spawned = false }))))
       by_spawned n true = waiting (record { env = m.top.env; rank = m.rank + 1; steps = n; spawned = false })
       by_spawned n false = going (record { env = m.top.env; rank = m.rank + 1; steps = n; spawned = false })
 
@@ -531,21 +531,21 @@ module _ (plan : PlanView) (path : List ℕ) (parts : List Part) where
       by_steps zero = tt
       by_steps (suc n) = by_text n (spawns_in (function_at (functions_of plan) m.top.function))
 
-  -- the value of a return, which goes to the activation that stood still at its call
-  value-pending : (m : Machine) → UnfilledArePending plan parts (Goes m) → PendingEnd plan parts (return_move plan path m true).items (return_move plan path m true).ending
+  -- the value of a return, which goes to the frame that stood still at its call
+  value-pending : (m : Machine) → UnfilledArePending plan parts (Running m) → PendingEnd plan parts (return_move plan path m true).items (return_move plan path m true).ending
   value-pending m pends = by_function (function_at (functions_of plan) m.top.function)
     where
-      to_caller : (v : Value) (below : List Activation) → ArePendingBelow plan parts below → PendingEnd plan parts [] (Ok (back below m.top.target v m.rank m.steps))
+      to_caller : (v : Value) (below : List Frame) → ArePendingBelow plan parts below → PendingEnd plan parts [] (Ok (back below m.top.target v m.rank m.steps))
       to_caller v [] s = tt
       to_caller v (caller ∷ below) s =
           let k : Machine = record { rank = m.rank; steps = m.steps; top = record caller { env = with_scalar m.top.target v caller.env }; below = below } in
-          no-more (λ ps. UnfilledArePending plan ps (Goes k)) (same-place (still-passed plan (unfilled (length below) parts) caller IsCall call-keeps s.0), s.1)
+          no-more (λ ps. UnfilledArePending plan ps (Running k)) (same-place (still-passed plan (unfilled (length below) parts) caller IsCall call-keeps s.0), s.1)
         where
           same-place : ArePending plan (unfilled (length below) parts) caller caller.left → ArePending plan (unfilled (length below) parts) (record caller { env = with_scalar m.top.target v caller.env }) caller.left
           same-place p = record { function = p.function; of_plan = p.of_plan; now = p.now; stands = p.stands; pending = p.pending }
 
       by_value : (o : Result Value FaultKind) →
-          let r : Run Token Halt (Value × State Bool) = given (handing plan (Spawned (length m.below) None)) plan (here_of path m) o (state_of m) (λ v. done (v, state_of m)) in PendingEnd plan parts r.items (gives plan m r.ending)
+          let r : Run Effect Exit (Value × State Bool) = given (handing plan (Spawned (length m.below) None)) plan (here_of path m) o (state_of m) (λ v. done (v, state_of m)) in PendingEnd plan parts r.items (gives plan m r.ending)
       by_value (Ok v) = to_caller v m.below pends.1
       by_value (Err k) = tt
 
@@ -554,7 +554,7 @@ module _ (plan : PlanView) (path : List ℕ) (parts : List Part) where
       by_function (Some f) = by_value (value_of f.result m.top.env)
 
   -- the end of a scope
-  level-pending : (m : Machine) (l : Level) (ls : List Level) → m.top.left ≡ [] → m.top.levels ≡ l ∷ ls → IsSoundStage plan parts (Goes m) → UnfilledArePending plan parts (Goes m) → (leaving : Bool) → m.top.leaving ≡ leaving →
+  level-pending : (m : Machine) (l : Level) (ls : List Level) → m.top.left ≡ [] → m.top.levels ≡ l ∷ ls → IsSoundStage plan parts (Running m) → UnfilledArePending plan parts (Running m) → (leaving : Bool) → m.top.leaving ≡ leaving →
       PendingEnd plan parts (level_move plan path m l ls leaving).items (level_move plan path m l ls leaving).ending
   level-pending m l ls ended open_so sound pends leaving f = by_leaving leaving f
     where
@@ -567,13 +567,13 @@ module _ (plan : PlanView) (path : List ℕ) (parts : List Part) where
       there : ArePending plan (unfilled (length m.below) parts) (with_leaving m next).top []
       there = at-end m (with_leaving m next) (unfilled (length m.below) parts) refl refl top
 
-      going : UnfilledArePending plan (parts ++ []) (Goes (with_leaving m next))
-      going = no-more (λ ps. UnfilledArePending plan ps (Goes (with_leaving m next))) (subst (ArePending plan (unfilled (length m.below) parts) (with_leaving m next).top) (sym ended) there, pends.1)
+      going : UnfilledArePending plan (parts ++ []) (Running (with_leaving m next))
+      going = no-more (λ ps. UnfilledArePending plan ps (Running (with_leaving m next))) (subst (ArePending plan (unfilled (length m.below) parts) (with_leaving m next).top) (sym ended) there, pends.1)
 
       waiting : UnfilledArePending plan (parts ++ []) (AtSync (with_leaving m next))
       waiting = no-more (λ ps. UnfilledArePending plan ps (AtSync (with_leaving m next))) ((ended, there), pends.1)
 
-      by_spawned : (b : Bool) → PendingEnd plan parts (Told (event.Sync (here_of path m ++ m.rank ∷ [])) ∷ (sync_tokens b ++ [])) (Ok (Stands (with_leaving m next)))
+      by_spawned : (b : Bool) → PendingEnd plan parts (Emitted (event.Sync (here_of path m ++ m.rank ∷ [])) ∷ (sync_effects b ++ [])) (Ok (Stands (with_leaving m next)))
       by_spawned true = waiting
       by_spawned false = going
 
@@ -585,10 +585,10 @@ module _ (plan : PlanView) (path : List ℕ) (parts : List Part) where
           from true e = absurd (clash (sym (sound.1.spawned e) ∙ g))
           from false e = refl
 
-      out : m.top.spawned ≡ false → UnfilledArePending plan (parts ++ []) (Goes (out_of_level m l ls (record (state_of m) { rank = l.rank + 1 })))
+      out : m.top.spawned ≡ false → UnfilledArePending plan (parts ++ []) (Running (out_of_level m l ls (record (state_of m) { rank = l.rank + 1 })))
       out g =
           let s = stands-out (subst (λ (k : List Level). StandsAt top.function.body k [] top.now) open_so top.stands) in
-          no-more (λ ps. UnfilledArePending plan ps (Goes (out_of_level m l ls (record (state_of m) { rank = l.rank + 1 })))) (
+          no-more (λ ps. UnfilledArePending plan ps (Running (out_of_level m l ls (record (state_of m) { rank = l.rank + 1 })))) (
             record { function = top.function; of_plan = top.of_plan; now = s.0; stands = s.1; pending = λ name h. absurd (none-contained name (subst (λ (names : Names). Contains names name) (none g) h)) },
             pends.1,
           )
@@ -598,7 +598,7 @@ module _ (plan : PlanView) (path : List ℕ) (parts : List Part) where
       by_leaving true h = out (sound.1.leaving h).0
 
   -- A move keeps them there.
-  pub pending-move : (m : Machine) → IsSoundStage plan parts (Goes m) → UnfilledArePending plan parts (Goes m) → PendingEnd plan parts (move plan path m).items (move plan path m).ending
+  pub pending-move : (m : Machine) → IsSoundStage plan parts (Running m) → UnfilledArePending plan parts (Running m) → PendingEnd plan parts (move plan path m).items (move plan path m).ending
   pending-move m sound pends = by_left m.top.left refl
     where
       by_returning : m.top.left ≡ [] → (b : Bool) → PendingEnd plan parts (return_move plan path m b).items (return_move plan path m b).ending

@@ -3,7 +3,7 @@ use Rattle.std.proofs.Common.{◌≡◌, ℕ, zero, suc, ◌-◌, true, false, L
 use Rattle.loop_range.specs.Range.{Range}
 use Rattle.serial_meaning.specs.Plan.{PlanView}
 use Rattle.serial_meaning.specs.Eval.{path_of}
-use Rattle.serial_meaning.specs.Open.{Own, Joined}
+use Rattle.serial_meaning.specs.Open.{Own, ChildFaulted}
 use Rattle.serial_meaning.specs.Laws.{IsOriginOf}
 use Rattle.serial_meaning.specs.Answer.{IsEval}
 use Rattle.serial_meaning.specs.declared.value.Value.{Value}
@@ -11,15 +11,15 @@ use Rattle.serial_meaning.specs.declared.event.Fault.{Fault}
 use Rattle.serial_meaning.specs.declared.origin.Origin.{Origin}
 use Rattle.serial_meaning.specs.declared.origin.Origin.TheVariants.{Instance, Loop}
 use Rattle.serial_meaning.specs.declared.answer.Outcome.{Outcome}
-use Rattle.strand_meaning.specs.Machine.{Token, Reached, Stands, Gives, move}
-use Rattle.strand_meaning.specs.Pieces.{Part}
-use Rattle.strand_meaning.specs.Task.{Stage, Goes, AtSync, AtLoop, Ended, Work, Splits, Runs, Over, Task, own_instance, Step, Passes, Stops, Stop, Spawn, Wait, End, IsNext, Now, Later, stage_after, child_in, stops_at, passing, moved, ends_unless, faults_behind, gave, stage_step, split_step, over_step, work_step, step}
+use Rattle.strand_meaning.specs.Machine.{Effect, Reached, Stands, Gives, move}
+use Rattle.strand_meaning.specs.Trace.{AwaitedChild}
+use Rattle.strand_meaning.specs.Task.{InstanceState, Running, AtSync, AtLoop, Ended, Work, Splits, Runs, Over, Task, own_instance, MoveOrStop, Passes, Stops, Stop, Spawn, Wait, End, IsNext, Now, Later, stage_after, child_in, stops_at, passing, moved, ends_unless, faults_behind, gave, stage_step, split_step, over_step, work_step, step}
 use Rattle.strand_meaning.specs.Sound.{IsTask}
 use Rattle.serial_meaning.specs.Loops.{IsHandedFor}
 use Rattle.strand_meaning.specs.Laws.{IsSoundStop, IsSoundStep, IsFaultOf, IsOf, KeepsOrigin}
 use Rattle.strand_meaning.proofs.Ends.{steps_are_sound}
 
-abbrev pub KeepsStep : Task → Step → Type 0
+abbrev pub KeepsStep : Task → MoveOrStop → Type 0
 KeepsStep t (Passes next) = IsOf t next
 KeepsStep t (Stops stop) = KeepsOrigin t stop
 
@@ -32,45 +32,45 @@ module _ (t : Task) where
   keeps-at None next h = h
   keeps-at (Some o) next h = h
 
-  keeps-moved : (ts : List Token) (e : Result Reached Fault) → KeepsStep t (moved t ts e)
+  keeps-moved : (ts : List Effect) (e : Result Reached Fault) → KeepsStep t (moved t ts e)
   keeps-moved ts (Ok (Stands m)) = keeps-at (child_in ts) (passing t ts (Runs (stage_after ts m))) (refl, refl)
   keeps-moved ts (Ok (Gives v)) = (refl, refl)
   keeps-moved ts (Err f) = (refl, refl)
 
-  keeps-faults : (ps : List Part) (f : Fault) → KeepsStep t (faults_behind ps t f)
-  keeps-faults [] f = keeps-ends t.pieces.fault _
+  keeps-faults : (ps : List AwaitedChild) (f : Fault) → KeepsStep t (faults_behind ps t f)
+  keeps-faults [] f = keeps-ends t.trace.fault _
   keeps-faults (p ∷ ps) f = (refl, refl)
 
   keeps-gave : (o : Origin) (v : Value) → KeepsStep t (gave t o v)
-  keeps-gave (Instance function args path) v = keeps-ends t.pieces.fault _
+  keeps-gave (Instance function args path) v = keeps-ends t.trace.fault _
   keeps-gave (Loop function rest first path range) v = (refl, refl)
 
-  keeps-stage : (stage : Stage) → KeepsStep t (stage_step t stage)
-  keeps-stage (Goes m) = let r = move t.plan (path_of (own_instance t.origin)) m in keeps-moved r.items r.ending
+  keeps-stage : (stage : InstanceState) → KeepsStep t (stage_step t stage)
+  keeps-stage (Running m) = let r = move t.plan (path_of (own_instance t.origin)) m in keeps-moved r.items r.ending
   keeps-stage (AtSync m) = (refl, refl)
   keeps-stage (AtLoop m) = (refl, refl)
   keeps-stage (Ended (Ok v)) = keeps-gave t.origin v
-  keeps-stage (Ended (Err (Own f))) = keeps-faults t.pieces.handed f
-  keeps-stage (Ended (Err (Joined f))) = keeps-ends t.pieces.fault _
+  keeps-stage (Ended (Err (Own f))) = keeps-faults t.trace.handed f
+  keeps-stage (Ended (Err (ChildFaulted f))) = keeps-ends t.trace.fault _
 
   keeps-split : (left : Range) (n : ℕ) → KeepsStep t (split_step t left n)
-  keeps-split left zero = keeps-ends t.pieces.fault _
+  keeps-split left zero = keeps-ends t.trace.fault _
   keeps-split left (suc zero) = (refl, refl)
   keeps-split left (suc (suc n)) = (refl, refl)
 
   keeps-over : (v : Value) (o : Origin) → KeepsStep t (over_step t v o)
-  keeps-over v (Instance function args path) = keeps-ends t.pieces.fault _
+  keeps-over v (Instance function args path) = keeps-ends t.trace.fault _
   keeps-over v (Loop function rest first path range) = by_size (range.hi - range.lo) refl
     where
       by_size : (n : ℕ) → range.hi - range.lo ≡ n → KeepsStep t (over_step t v (Loop function rest first path range))
-      by_size zero g = rw g (keeps-ends t.pieces.fault _)
-      by_size (suc zero) g = rw g (keeps-ends t.pieces.fault _)
+      by_size zero g = rw g (keeps-ends t.trace.fault _)
+      by_size (suc zero) g = rw g (keeps-ends t.trace.fault _)
       by_size (suc (suc n)) g = rw g (refl, refl)
 
   keeps-work : (work : Work) → KeepsStep t (work_step t work)
   keeps-work (Splits left) = keeps-split left (left.hi - left.lo)
   keeps-work (Runs stage) = keeps-stage stage
-  keeps-work (Over v true) = keeps-ends t.pieces.fault _
+  keeps-work (Over v true) = keeps-ends t.trace.fault _
   keeps-work (Over v false) = keeps-over v t.origin
 
 pub step-keeps : (t : Task) → KeepsStep t (step t)
@@ -103,11 +103,11 @@ stops_are_sound t stop is (Later next h n) =
 
 -- There is no other.
 
-abbrev stop_of : Stop → Step → Stop
+abbrev stop_of : Stop → MoveOrStop → Stop
 stop_of d (Passes next) = d
 stop_of d (Stops stop) = stop
 
-abbrev next_of : Task → Step → Task
+abbrev next_of : Task → MoveOrStop → Task
 next_of d (Passes next) = next
 next_of d (Stops stop) = d
 

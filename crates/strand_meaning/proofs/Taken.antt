@@ -7,30 +7,30 @@ use Rattle.script_grammar.specs.declared.tree.Act.{out-Act}
 use Rattle.serial_meaning.specs.Runs.{Run, done, stopped, behind}
 use Rattle.serial_meaning.specs.Plan.{PlanView}
 use Rattle.serial_meaning.specs.Eval.{Evaluation, first_of}
-use Rattle.serial_meaning.specs.Open.{Item, Ending, Own, least}
+use Rattle.serial_meaning.specs.Open.{Item, NodeFault, Own, least}
 use Rattle.serial_meaning.specs.declared.value.Value.{Value}
 use Rattle.serial_meaning.specs.declared.event.Fault.{Fault}
 use Rattle.serial_meaning.specs.declared.origin.Origin.{Origin}
 use Rattle.strand_meaning.specs.Clear.{IsApart, target_names, touched}
-use Rattle.strand_meaning.specs.Machine.{Place, Spawned, Looped, Half, Token, Opens, Closes, Told, Handed, Syncs, Loops, Activation, Machine, Reached, Stands, Gives, move}
-use Rattle.strand_meaning.specs.Pieces.{Part}
-use Rattle.strand_meaning.specs.Task.{Stage, Goes, AtSync, AtLoop, Ended, stage_after, changed, changed_at, answered, in_machine, takes, takes_all, resumed, with_answer}
+use Rattle.strand_meaning.specs.Machine.{Destination, Spawned, Looped, Half, Effect, Opens, Closes, Emitted, Handed, Syncs, Loops, Frame, Machine, Reached, Stands, Gives, move}
+use Rattle.strand_meaning.specs.Trace.{AwaitedChild}
+use Rattle.strand_meaning.specs.Task.{InstanceState, Running, AtSync, AtLoop, Ended, stage_after, changed, changed_at, answered, in_machine, takes, takes_all, resumed, with_answer}
 use Rattle.strand_meaning.specs.Rest.{evaluations, rest_of_stage, rest_open}
 use Rattle.strand_meaning.specs.Sound.{IsPlace, ArePlaces, is_by, any_by}
-use Rattle.strand_meaning.specs.Notes.{token_items}
-use Rattle.strand_meaning.proofs.Shown.{token_parts, shown}
+use Rattle.strand_meaning.specs.Observation.{effect_items}
+use Rattle.strand_meaning.proofs.Shown.{effect_parts, shown}
 use Rattle.strand_meaning.proofs.Keeps.{keeps-answer, keeps-nothing, first-contained}
 use Rattle.strand_meaning.proofs.Moves.{complete-move}
 use Rattle.strand_meaning.specs.Laws.{on_reached, changed_run}
 use Rattle.strand_meaning.proofs.Changed.{length-changed, IsFree, altered-move}
 
 -- a machine that takes an answer
-abbrev pub take : Place → Result (List Value) Fault → Machine → Machine
+abbrev pub take : Destination → Result (List Value) Fault → Machine → Machine
 take (Spawned height target) ended m = changed height (answered target ended) m
 take (Looped target) ended m = m
 take Half ended m = m
 
-abbrev pub taken : (Origin → Evaluation) → List Part → Machine → Machine
+abbrev pub taken : (Origin → Evaluation) → List AwaitedChild → Machine → Machine
 taken child [] m = m
 taken child (p ∷ ps) m = taken child ps (take p.place (child p.child).ending m)
 
@@ -54,17 +54,17 @@ shape-answered height target ended m = by_place (nat_eq height (length m.below))
     by_place true (Err f) = refl
     by_place false ended = ap (λ (n : ℕ). record { height = n; left = m.top.left; leaving = m.top.leaving; returning = m.top.returning; target = m.top.target; spawned = m.top.spawned }) (length-changed height (answered target ended) m.below)
 
-shape-take : (place : Place) (ended : Result (List Value) Fault) (m : Machine) → shape_of (take place ended m) ≡ shape_of m
+shape-take : (place : Destination) (ended : Result (List Value) Fault) (m : Machine) → shape_of (take place ended m) ≡ shape_of m
 shape-take (Spawned height target) ended m = shape-answered height target ended m
 shape-take (Looped target) ended m = refl
 shape-take Half ended m = refl
 
-pub shape-taken : (child : Origin → Evaluation) (ps : List Part) (m : Machine) → shape_of (taken child ps m) ≡ shape_of m
+pub shape-taken : (child : Origin → Evaluation) (ps : List AwaitedChild) (m : Machine) → shape_of (taken child ps m) ≡ shape_of m
 shape-taken child [] m = refl
 shape-taken child (p ∷ ps) m = shape-taken child ps (take p.place (child p.child).ending m) ∙ shape-take p.place (child p.child).ending m
 
--- the next move doesn't touch the target of a child, nor is it the end of its activation
-abbrev pub IsFreePlace : Shape → Place → Type 0
+-- the next move doesn't touch the target of a child, nor is it the end of its frame
+abbrev pub IsFreePlace : Shape → Destination → Type 0
 IsFreePlace s (Spawned owner target) =
     (owner ≤ s.height)
     × (owner ≡ s.height → (st : Stmt) (left : List Stmt) → s.left ≡ st ∷ left → IsApart (touched (out-Act (out-Stmt st).act)) (target_names target))
@@ -73,7 +73,7 @@ IsFreePlace s (Spawned owner target) =
 IsFreePlace s (Looped target) = Unit {0}
 IsFreePlace s Half = Unit {0}
 
-abbrev pub AreFree : List Part → Shape → Type 0
+abbrev pub AreFree : List AwaitedChild → Shape → Type 0
 AreFree [] s = Unit {0}
 AreFree (p ∷ ps) s = IsFreePlace s p.place × AreFree ps s
 
@@ -103,7 +103,7 @@ module _ (plan : PlanView) (path : List ℕ) where
   }
 
   -- an answer taken before the move, or after it
-  pub take-move : (place : Place) (ended : Result (List Value) Fault) (m : Machine) → IsFreePlace (shape_of m) place → move plan path (take place ended m) ≡ changed_run (take place ended) (move plan path m)
+  pub take-move : (place : Destination) (ended : Result (List Value) Fault) (m : Machine) → IsFreePlace (shape_of m) place → move plan path (take place ended m) ≡ changed_run (take place ended) (move plan path m)
   take-move (Spawned owner target) (Ok vs) m free =
       altered-move plan path (with_answer target (first_of vs)) (λ known. known) owner m (free-answer owner target m free (first_of vs) (λ known. known))
   take-move (Spawned owner target) (Err f) m free =
@@ -111,7 +111,7 @@ module _ (plan : PlanView) (path : List ℕ) where
   take-move (Looped target) ended m free = ap (λ (e : Result Reached Fault). record { items = (move plan path m).items; ending = e }) (sym (changed-nothing (move plan path m).ending))
   take-move Half ended m free = ap (λ (e : Result Reached Fault). record { items = (move plan path m).items; ending = e }) (sym (changed-nothing (move plan path m).ending))
 
-  taken-move : (child : Origin → Evaluation) (ps : List Part) (m : Machine) → AreFree ps (shape_of m) → move plan path (taken child ps m) ≡ changed_run (taken child ps) (move plan path m)
+  taken-move : (child : Origin → Evaluation) (ps : List AwaitedChild) (m : Machine) → AreFree ps (shape_of m) → move plan path (taken child ps m) ≡ changed_run (taken child ps) (move plan path m)
   taken-move child [] m free = ap (λ (e : Result Reached Fault). record { items = (move plan path m).items; ending = e }) (sym (changed-nothing (move plan path m).ending))
   taken-move child (p ∷ ps) m free =
       let ended = (child p.child).ending in
@@ -126,54 +126,54 @@ module _ (plan : PlanView) (path : List ℕ) where
 
 -- The stage that takes answers
 
-in-nothing : (stage : Stage) → in_machine (λ m. m) stage ≡ stage
-in-nothing (Goes m) = refl
+in-nothing : (stage : InstanceState) → in_machine (λ m. m) stage ≡ stage
+in-nothing (Running m) = refl
 in-nothing (AtSync m) = refl
 in-nothing (AtLoop m) = refl
 in-nothing (Ended e) = refl
 
-in-both : (f g : Machine → Machine) (stage : Stage) → in_machine g (in_machine f stage) ≡ in_machine (λ m. g (f m)) stage
-in-both f g (Goes m) = refl
+in-both : (f g : Machine → Machine) (stage : InstanceState) → in_machine g (in_machine f stage) ≡ in_machine (λ m. g (f m)) stage
+in-both f g (Running m) = refl
 in-both f g (AtSync m) = refl
 in-both f g (AtLoop m) = refl
 in-both f g (Ended e) = refl
 
-takes-place : (height : ℕ) (place : Place) (ended : Result (List Value) Fault) → IsPlace height place → (stage : Stage) → takes place ended stage ≡ in_machine (take place ended) stage
+takes-place : (height : ℕ) (place : Destination) (ended : Result (List Value) Fault) → IsPlace height place → (stage : InstanceState) → takes place ended stage ≡ in_machine (take place ended) stage
 takes-place height (Spawned owner target) ended h stage = refl
 takes-place height (Looped target) ended h stage = absurd h
 takes-place height Half ended h stage = sym (in-nothing stage)
 
-pub takes-taken : (child : Origin → Evaluation) (height : ℕ) (ps : List Part) → ArePlaces height ps → (stage : Stage) → takes_all ps (evaluations child ps) stage ≡ in_machine (taken child ps) stage
+pub takes-taken : (child : Origin → Evaluation) (height : ℕ) (ps : List AwaitedChild) → ArePlaces height ps → (stage : InstanceState) → takes_all ps (evaluations child ps) stage ≡ in_machine (taken child ps) stage
 takes-taken child height [] h stage = sym (in-nothing stage)
 takes-taken child height (p ∷ ps) h stage =
     takes-taken child height ps h.1 (takes p.place (child p.child).ending stage)
     ∙ ap (in_machine (taken child ps)) (takes-place height p.place (child p.child).ending h.0 stage)
     ∙ in-both (take p.place (child p.child).ending) (taken child ps) stage
 
-pub takes-append : (child : Origin → Evaluation) (ps qs : List Part) (stage : Stage) → takes_all (ps ++ qs) (evaluations child (ps ++ qs)) stage ≡ takes_all qs (evaluations child qs) (takes_all ps (evaluations child ps) stage)
+pub takes-append : (child : Origin → Evaluation) (ps qs : List AwaitedChild) (stage : InstanceState) → takes_all (ps ++ qs) (evaluations child (ps ++ qs)) stage ≡ takes_all qs (evaluations child qs) (takes_all ps (evaluations child ps) stage)
 takes-append child [] qs stage = refl
 takes-append child (p ∷ ps) qs stage = takes-append child ps qs (takes p.place (child p.child).ending stage)
 
-stage-in : (change : Machine → Machine) (ts : List Token) (m : Machine) → stage_after ts (change m) ≡ in_machine change (stage_after ts m)
+stage-in : (change : Machine → Machine) (ts : List Effect) (m : Machine) → stage_after ts (change m) ≡ in_machine change (stage_after ts m)
 stage-in change [] m = refl
 stage-in change (Opens j ∷ ts) m = stage-in change ts m
 stage-in change (Closes j ∷ ts) m = stage-in change ts m
-stage-in change (Told e ∷ ts) m = stage-in change ts m
+stage-in change (Emitted e ∷ ts) m = stage-in change ts m
 stage-in change (Handed o place ∷ ts) m = stage-in change ts m
 stage-in change (Syncs ∷ ts) m = refl
 stage-in change (Loops ∷ ts) m = refl
 
 -- what remains after a move of a machine with these parts
-abbrev pub shown_with : PlanView → (Origin → Evaluation) → List ℕ → List Part → List Token → Result Reached Fault → Run Item Ending Value
-shown_with plan child path ps ts (Ok (Stands m)) = rest_open plan child path (ps ++ token_parts ts) (stage_after ts m)
+abbrev pub shown_with : PlanView → (Origin → Evaluation) → List ℕ → List AwaitedChild → List Effect → Result Reached Fault → Run Item NodeFault Value
+shown_with plan child path ps ts (Ok (Stands m)) = rest_open plan child path (ps ++ effect_parts ts) (stage_after ts m)
 shown_with plan child path ps ts (Ok (Gives v)) = done v
 shown_with plan child path ps ts (Err f) = stopped (Own f)
 
-module _ (plan : PlanView) (child : Origin → Evaluation) (path : List ℕ) (height : ℕ) (ps : List Part) (places : ArePlaces height ps) where
-  shown-taken : (ts : List Token) (e : Result Reached Fault) → shown plan child path ts (on_reached (taken child ps) e) ≡ shown_with plan child path ps ts e
+module _ (plan : PlanView) (child : Origin → Evaluation) (path : List ℕ) (height : ℕ) (ps : List AwaitedChild) (places : ArePlaces height ps) where
+  shown-taken : (ts : List Effect) (e : Result Reached Fault) → shown plan child path ts (on_reached (taken child ps) e) ≡ shown_with plan child path ps ts e
   shown-taken ts (Ok (Stands m)) =
-      ap (λ stage. rest_of_stage plan child path (resumed (takes_all (token_parts ts) (evaluations child (token_parts ts)) stage))) (stage-in (taken child ps) ts m ∙ sym (takes-taken child height ps places (stage_after ts m)))
-      ∙ ap (λ stage. rest_of_stage plan child path (resumed stage)) (sym (takes-append child ps (token_parts ts) (stage_after ts m)))
+      ap (λ stage. rest_of_stage plan child path (resumed (takes_all (effect_parts ts) (evaluations child (effect_parts ts)) stage))) (stage-in (taken child ps) ts m ∙ sym (takes-taken child height ps places (stage_after ts m)))
+      ∙ ap (λ stage. rest_of_stage plan child path (resumed stage)) (sym (takes-append child ps (effect_parts ts) (stage_after ts m)))
   shown-taken ts (Ok (Gives v)) = refl
   shown-taken ts (Err f) = refl
 
@@ -182,17 +182,17 @@ module _ (plan : PlanView) (child : Origin → Evaluation) (path : List ℕ) (he
 
   -- What remains of an instance is what a move shows, and then what it leaves, with the parts so far and those of the move.
   pub open-move : (m : Machine) → AreFree ps (shape_of m) → ((taken child ps m).top.spawned ≡ false → (taken child ps m).top.faulted ≡ None) → (m.top.leaving ≡ true → m.top.left ≡ []) →
-      rest_open plan child path ps (Goes m) ≡ behind (token_items (move plan path m).items) (shown_with plan child path ps (move plan path m).items (move plan path m).ending)
+      rest_open plan child path ps (Running m) ≡ behind (effect_items (move plan path m).items) (shown_with plan child path ps (move plan path m).items (move plan path m).ending)
   open-move m free none ended =
       let r = move plan path m in
-      ap (λ stage. rest_of_stage plan child path (resumed stage)) (takes-taken child height ps places (Goes m))
+      ap (λ stage. rest_of_stage plan child path (resumed stage)) (takes-taken child height ps places (Running m))
       ∙ complete-move plan child path (taken child ps m) none (ended-so m ended)
-      ∙ ap (λ (r : Run Token Fault Reached). behind (token_items r.items) (shown plan child path r.items r.ending)) (taken-move plan path child ps m free)
-      ∙ ap (behind (token_items r.items)) (shown-taken r.items r.ending)
+      ∙ ap (λ (r : Run Effect Fault Reached). behind (effect_items r.items) (shown plan child path r.items r.ending)) (taken-move plan path child ps m free)
+      ∙ ap (behind (effect_items r.items)) (shown-taken r.items r.ending)
 
--- what is known of the innermost activation where no child is its own
+-- what is known of the innermost frame where no child is its own
 
-taken-spawned : (child : Origin → Evaluation) (ps : List Part) (m : Machine) → (taken child ps m).top.spawned ≡ m.top.spawned
+taken-spawned : (child : Origin → Evaluation) (ps : List AwaitedChild) (m : Machine) → (taken child ps m).top.spawned ≡ m.top.spawned
 taken-spawned child ps m = ap (λ (s : Shape). s.spawned) (shape-taken child ps m)
 
 neither : (a b : Bool) → (a || b) ≡ false → (a ≡ false) × (b ≡ false)
@@ -200,12 +200,12 @@ neither false false h = (refl, refl)
 neither true b h = absurd (cc)
 neither false true h = absurd (cc)
 
-take-top : (place : Place) (ended : Result (List Value) Fault) (m : Machine) → is_by (length m.below) place ≡ false → (take place ended m).top ≡ m.top
+take-top : (place : Destination) (ended : Result (List Value) Fault) (m : Machine) → is_by (length m.below) place ≡ false → (take place ended m).top ≡ m.top
 take-top (Spawned owner target) ended m h = rw h refl
 take-top (Looped target) ended m h = refl
 take-top Half ended m h = refl
 
-taken-top : (child : Origin → Evaluation) (ps : List Part) (m : Machine) → any_by (length m.below) ps ≡ false → (taken child ps m).top ≡ m.top
+taken-top : (child : Origin → Evaluation) (ps : List AwaitedChild) (m : Machine) → any_by (length m.below) ps ≡ false → (taken child ps m).top ≡ m.top
 taken-top child [] m h = refl
 taken-top child (p ∷ ps) m h =
     let ended = (child p.child).ending in
@@ -213,8 +213,8 @@ taken-top child (p ∷ ps) m h =
     let same : length (take p.place ended m).below ≡ length m.below = ap (λ (s : Shape). s.height) (shape-take p.place ended m) in
     taken-top child ps (take p.place ended m) (ap (λ n. any_by n ps) same ∙ n.1) ∙ take-top p.place ended m n.0
 
--- An activation that spawned nothing knows of no fault, also once all answers are taken.
-pub none-known : (child : Origin → Evaluation) (ps : List Part) (m : Machine) → (any_by (length m.below) ps ≡ true → m.top.spawned ≡ true) → (m.top.spawned ≡ false → m.top.faulted ≡ None) →
+-- A frame that spawned nothing knows of no fault, also once all answers are taken.
+pub none-known : (child : Origin → Evaluation) (ps : List AwaitedChild) (m : Machine) → (any_by (length m.below) ps ≡ true → m.top.spawned ≡ true) → (m.top.spawned ≡ false → m.top.faulted ≡ None) →
     (taken child ps m).top.spawned ≡ false → (taken child ps m).top.faulted ≡ None
 none-known child ps m spawned faulted h = from (any_by (length m.below) ps) refl
   where
@@ -223,4 +223,4 @@ none-known child ps m spawned faulted h = from (any_by (length m.below) ps) refl
 
     from : (b : Bool) → any_by (length m.below) ps ≡ b → (taken child ps m).top.faulted ≡ None
     from true e = let no : true ≡ false = sym (spawned e) ∙ unspawned in absurd (cc)
-    from false e = ap (λ (a : Activation). a.faulted) (taken-top child ps m e) ∙ faulted unspawned
+    from false e = ap (λ (a : Frame). a.faulted) (taken-top child ps m e) ∙ faulted unspawned

@@ -5,7 +5,7 @@ use Rattle.script_grammar.specs.declared.tree.Function.{Function}
 use Rattle.serial_meaning.specs.Runs.{Run, done, behind, goes_on, ◌then◌}
 use Rattle.serial_meaning.specs.Functions.{function_at}
 use Rattle.serial_meaning.specs.Plan.{PlanView, functions_of}
-use Rattle.serial_meaning.specs.Exec.{State, strand, goes_out, activation, exec, instance, filled, bound}
+use Rattle.serial_meaning.specs.Exec.{State, strand, goes_out, frame, exec, instance, filled, bound}
 use Rattle.serial_meaning.specs.Eval.{Evaluation, first_of, serial, iteration, turns, eval_with, eval_below, path_of}
 use Rattle.serial_meaning.proofs.Each.{Each, each-append}
 use Rattle.serial_meaning.proofs.Closed.{Closed, closed-exec, returned-q}
@@ -93,9 +93,9 @@ module _ (plan : PlanView) (child : Origin → Evaluation) (fine : (o : Origin) 
     qq = λ path n r f h k. under-then path r f h k;
   }
 
-  activation-under : (path : List ℕ) (o : Option Function) (vs : List Value) (s : S) → StaysUnder path (activation (serial child) plan path (exec (serial child) plan) 0 o vs s)
-  activation-under path None vs s = record { events = tt; ends = tt }
-  activation-under path (Some f) vs s =
+  frame-under : (path : List ℕ) (o : Option Function) (vs : List Value) (s : S) → StaysUnder path (frame (serial child) plan path (exec (serial child) plan) 0 o vs s)
+  frame-under path None vs s = record { events = tt; ends = tt }
+  frame-under path (Some f) vs s =
       under-then path (exec (serial child) plan path 0 f.body (start f)) _ (closed-exec (serial child) plan P Q rules path 0 f.body (start f)) (λ a. returned-q (serial child) plan P Q rules path f a)
     where
       start : Function → S
@@ -103,7 +103,7 @@ module _ (plan : PlanView) (child : Origin → Evaluation) (fine : (o : Origin) 
 
   instance-under : (path : List ℕ) (o : Option Function) (vs : List Value) → StaysUnder path (instance (serial child) plan path o vs then λ v. done (v ∷ []))
   instance-under path o vs =
-      under-then path (instance (serial child) plan path o vs) (λ v. done (v ∷ [])) (under-then path (activation (serial child) plan path (exec (serial child) plan) 0 o vs begins) (λ r. done r.0) (activation-under path o vs begins) (λ r. nothing path r.0)) (λ v. nothing path (v ∷ []))
+      under-then path (instance (serial child) plan path o vs) (λ v. done (v ∷ [])) (under-then path (frame (serial child) plan path (exec (serial child) plan) 0 o vs begins) (λ r. done r.0) (frame-under path o vs begins) (λ r. nothing path r.0)) (λ v. nothing path (v ∷ []))
     where
       begins : S
       begins = record { env = []; rank = 0; steps = plan.limits.budget; spawned = tt }

@@ -8,7 +8,7 @@ use Rattle.serial_meaning.specs.Plan.{PlanView}
 use Rattle.serial_meaning.specs.Eval.{eval, main_origin}
 use Rattle.serial_meaning.specs.Examples.{plan_of}
 use Rattle.serial_meaning.specs.declared.origin.Origin.TheVariants.{Loop}
-use Rattle.strand_meaning.specs.Task.{Task, start, Step, Passes, Stops, Spawn, Wait, End, step, on}
+use Rattle.strand_meaning.specs.Task.{Task, start, MoveOrStop, Passes, Stops, Spawn, Wait, End, step, on}
 use Rattle.strand_meaning.specs.Rest.{evaluations}
 
 -- a stop, without what is left
@@ -18,10 +18,10 @@ pub data Mark : Type 0 where
   ToEnd : Mark
 
 -- The stops of a task, where each wait is over with the evaluations of the children: in as many moves and stops as are given.
-abbrev pub marked : (Task → List Mark) → PlanView → Step → List Mark
+abbrev pub marked : (Task → List Mark) → PlanView → MoveOrStop → List Mark
 marked go plan (Passes next) = go next
 marked go plan (Stops (Spawn child rest)) = ToChild ∷ go rest
-marked go plan (Stops (Wait rest)) = ToWait ∷ go (on (evaluations (eval plan) rest.pieces.handed) rest)
+marked go plan (Stops (Wait rest)) = ToWait ∷ go (on (evaluations (eval plan) rest.trace.handed) rest)
 marked go plan (Stops (End out ended)) = ToEnd ∷ []
 
 abbrev pub marks : ℕ → Task → List Mark

@@ -18,12 +18,12 @@ use Rattle.serial_meaning.specs.declared.answer.Outcome.{Outcome}
 use Rattle.serial_meaning.specs.declared.answer.Outcome.TheVariants as outcome
 use Rattle.strand_meaning.specs.Answers.{evaluation_of}
 use Rattle.strand_meaning.specs.Clear.{IsClearPlan}
-use Rattle.strand_meaning.specs.Machine.{Spawned, Token, Machine, Reached, Stands, Gives, move}
-use Rattle.strand_meaning.specs.Pieces.{Part}
-use Rattle.strand_meaning.specs.Task.{Goes, changed, answered, Task, Stop, Spawn, Wait, End, Step, Passes, Stops, start, step, IsNext, on}
+use Rattle.strand_meaning.specs.Machine.{Spawned, Effect, Machine, Reached, Stands, Gives, move}
+use Rattle.strand_meaning.specs.Trace.{AwaitedChild}
+use Rattle.strand_meaning.specs.Task.{Running, changed, answered, Task, Stop, Spawn, Wait, End, MoveOrStop, Passes, Stops, start, step, IsNext, on}
 use Rattle.strand_meaning.specs.Rest.{evaluations}
 use Rattle.strand_meaning.specs.Left.{stops_left, moves_left}
-use Rattle.strand_meaning.specs.Notes.{IsInstance, Notes, no_notes, also, Shows, IsOnWay, OnWay}
+use Rattle.strand_meaning.specs.Observation.{IsInstance, Observation, no_notes, also, Shows, IsOnWay, OnWay}
 use Rattle.strand_meaning.specs.Sound.{IsSoundStage, UnfilledArePendingIn, IsTask}
 
 -- No function of a valid script touches a pending variable.
@@ -46,7 +46,7 @@ IsSoundStop t (Spawn child rest) = IsOriginOf t.plan child × IsTask rest × IsH
 IsSoundStop t (Wait rest) = IsTask rest
 IsSoundStop t (End out ended) = IsEval t.plan t.origin out ended × IsFaultOf t.plan ended
 
-abbrev pub IsSoundStep : Task → Step → Type 0
+abbrev pub IsSoundStep : Task → MoveOrStop → Type 0
 IsSoundStep t (Passes next) = IsTask next
 IsSoundStep t (Stops stop) = IsSoundStop t stop
 
@@ -59,7 +59,7 @@ StopsAreSound = (t : Task) (stop : Stop) → IsTask t → IsNext t stop → IsSo
 
 -- A task that takes the evaluations of its children as their answers stays sound.
 abbrev pub AnswersKeepTasks : Type 0
-AnswersKeepTasks = (t : Task) → IsTask t → IsTask (on (evaluations (eval t.plan) t.pieces.handed) t)
+AnswersKeepTasks = (t : Task) → IsTask t → IsTask (on (evaluations (eval t.plan) t.trace.handed) t)
 
 abbrev pub on_reached : (Machine → Machine) → Result Reached Fault → Result Reached Fault
 on_reached change (Ok (Stands m)) = Ok (Stands (change m))
@@ -67,21 +67,21 @@ on_reached change (Ok (Gives v)) = Ok (Gives v)
 on_reached change (Err f) = Err f
 
 -- a move's run, with what it leaves changed
-abbrev pub changed_run : (Machine → Machine) → Run Token Fault Reached → Run Token Fault Reached
+abbrev pub changed_run : (Machine → Machine) → Run Effect Fault Reached → Run Effect Fault Reached
 changed_run change r = record { items = r.items; ending = on_reached change r.ending }
 
 -- A child's value or fault may be put in before a move or after it, and the move shows the same: no move reads or writes an unfilled
 -- variable.
 abbrev pub MovesLeaveUnfilledAlone : Type 0
 MovesLeaveUnfilledAlone =
-    (plan : PlanView) (path : List ℕ) (parts : List Part) (m : Machine) (p : Part) (owner : ℕ) (target : Option Name) (ended : Result (List Value) Fault) →
-    IsSoundStage plan parts (Goes m) → Contains parts p → p.place ≡ Spawned owner target →
+    (plan : PlanView) (path : List ℕ) (parts : List AwaitedChild) (m : Machine) (p : AwaitedChild) (owner : ℕ) (target : Option Name) (ended : Result (List Value) Fault) →
+    IsSoundStage plan parts (Running m) → Contains parts p → p.place ≡ Spawned owner target →
     move plan path (changed owner (answered target ended) m) ≡ changed_run (changed owner (answered target ended)) (move plan path m)
 
--- The unfilled variables of each activation of a task are in the set by which validity judges the statement at which it stands; at an implied sync,
+-- The unfilled variables of each frame of a task are in the set by which validity judges the statement at which it stands; at an implied sync,
 -- and at the `return` that brings one, in the set that validity has at the end of the statements before it.
 abbrev pub UnfilledIsPending : Type 0
-UnfilledIsPending = (t : Task) → IsTask t → UnfilledArePendingIn t.plan t.pieces.handed t.work
+UnfilledIsPending = (t : Task) → IsTask t → UnfilledArePendingIn t.plan t.trace.handed t.work
 
 -- a task of the same plan and origin
 abbrev pub IsOf : Task → Task → Type 0
@@ -108,7 +108,7 @@ AnswersAreEvaluations = (plan : PlanView) (o : Origin) (out : List Event) (ended
 
 -- Answers leave no more stops than the wait did.
 abbrev pub AnswersLeaveNoMore : Type 0
-AnswersLeaveNoMore = (t : Task) → IsTask t → t.waiting ≡ true → stops_left (on (evaluations (eval t.plan) t.pieces.handed) t) ≤ stops_left t
+AnswersLeaveNoMore = (t : Task) → IsTask t → t.waiting ≡ true → stops_left (on (evaluations (eval t.plan) t.trace.handed) t) ≤ stops_left t
 
 -- What is left of a task at a stop has its plan and its origin.
 abbrev pub StopsKeepOrigins : Type 0
@@ -140,12 +140,12 @@ NotesBegin = (plan : PlanView) (o : Origin) → IsInstance o → IsOnWay no_note
 
 -- With what is noted up to a stop all is noted of the task there, and at the end its whole node.
 abbrev pub NotesGoOn : Type 0
-NotesGoOn = (t : Task) (notes later : Notes) (stop : Stop) → IsTask t → IsInstance t.origin → IsOnWay notes t → Shows t later stop → OnWay (also notes later) t stop
+NotesGoOn = (t : Task) (notes later : Observation) (stop : Stop) → IsTask t → IsInstance t.origin → IsOnWay notes t → Shows t later stop → OnWay (also notes later) t stop
 
 -- A task that takes its children's answers shows nothing.
 abbrev pub AnswersShowNothing : Type 0
-AnswersShowNothing = (t : Task) (notes : Notes) → IsTask t → IsInstance t.origin → IsOnWay notes t → IsOnWay notes (on (evaluations (eval t.plan) t.pieces.handed) t)
+AnswersShowNothing = (t : Task) (notes : Observation) → IsTask t → IsInstance t.origin → IsOnWay notes t → IsOnWay notes (on (evaluations (eval t.plan) t.trace.handed) t)
 
 -- There is one way to the next stop.
 abbrev pub StopsAreShown : Type 0
-StopsAreShown = (t : Task) (stop : Stop) → IsNext t stop → (notes : Notes) × Shows t notes stop
+StopsAreShown = (t : Task) (stop : Stop) → IsNext t stop → (notes : Observation) × Shows t notes stop

@@ -7,9 +7,9 @@ use Rattle.serial_meaning.specs.Open.{Item, Happened, Child, Opened, Closed}
 use Rattle.serial_meaning.specs.declared.event.Event.{Event}
 use Rattle.serial_meaning.specs.declared.event.Event.TheVariants as event
 use Rattle.serial_meaning.specs.declared.origin.Origin.{Origin}
-use Rattle.strand_meaning.specs.Machine.{Activation, Machine}
-use Rattle.strand_meaning.specs.Pieces.{Part}
-use Rattle.strand_meaning.specs.Task.{Stage, Goes, AtSync, AtLoop, Ended, Work, Splits, Runs, Over, Task, begins_last, own_instance}
+use Rattle.strand_meaning.specs.Machine.{Frame, Machine}
+use Rattle.strand_meaning.specs.Trace.{AwaitedChild}
+use Rattle.strand_meaning.specs.Task.{InstanceState, Running, AtSync, AtLoop, Ended, Work, Splits, Runs, Over, Task, begins_last, own_instance}
 use Rattle.strand_meaning.specs.Rest.{children_of, rest_open}
 
 abbrev pub event_stops : Event → ℕ
@@ -33,41 +33,41 @@ at_wait true = 0
 at_wait false = 1
 
 -- an end, or a wait before it
-abbrev pub at_end : Bool → List Part → ℕ
+abbrev pub at_end : Bool → List AwaitedChild → ℕ
 at_end true parts = 1
 at_end false [] = 1
 at_end false (p ∷ ps) = 2
 
-module _ (plan : PlanView) (child : Origin → Evaluation) (path : List ℕ) (waiting : Bool) (parts : List Part) where
-  abbrev pub stage_stops : Stage → ℕ
-  stage_stops (Goes m) = 3 + item_stops (rest_open plan child path parts (Goes m)).items
+module _ (plan : PlanView) (child : Origin → Evaluation) (path : List ℕ) (waiting : Bool) (parts : List AwaitedChild) where
+  abbrev pub stage_stops : InstanceState → ℕ
+  stage_stops (Running m) = 3 + item_stops (rest_open plan child path parts (Running m)).items
   stage_stops (AtSync m) = at_wait waiting + (3 + item_stops (rest_open plan child path parts (AtSync m)).items)
   stage_stops (AtLoop m) = at_wait waiting + (3 + item_stops (rest_open plan child path parts (AtLoop m)).items)
   stage_stops (Ended e) = at_end waiting parts
 
 -- what a loop's last iteration will come to
-abbrev pub work_stops : PlanView → Origin → Bool → List Part → Work → ℕ
+abbrev pub work_stops : PlanView → Origin → Bool → List AwaitedChild → Work → ℕ
 work_stops plan o waiting parts (Splits left) = 1
 work_stops plan o waiting parts (Runs stage) = 2 + stage_stops plan (children_of plan (own_instance o)) (path_of (own_instance o)) waiting parts stage
 work_stops plan o waiting parts (Over v false) = at_wait waiting + 1
 work_stops plan o waiting parts (Over v true) = 1
 
-abbrev pub stops_of : PlanView → Origin → Bool → List Part → Work → ℕ
+abbrev pub stops_of : PlanView → Origin → Bool → List AwaitedChild → Work → ℕ
 stops_of plan o waiting parts (Splits left) = (left.hi - left.lo) + work_stops plan o false [] (begins_last plan o)
 stops_of plan o waiting parts (Runs stage) = work_stops plan o waiting parts (Runs stage)
 stops_of plan o waiting parts (Over v gone_on) = work_stops plan o waiting parts (Over v gone_on)
 
 abbrev pub stops_left : Task → ℕ
-stops_left t = stops_of t.plan t.origin t.waiting t.pieces.handed t.work
+stops_left t = stops_of t.plan t.origin t.waiting t.trace.handed t.work
 
 -- Moves
 
--- the moves by which an activation leaves its open scopes: of each the sync at its end and the way out
-abbrev pub ways_out : Activation → ℕ
+-- the moves by which a frame leaves its open scopes: of each the sync at its end and the way out
+abbrev pub ways_out : Frame → ℕ
 ways_out a = 2 * length a.levels - (if a.leaving then 1 else 0)
 
 -- those, and one by which each ends
-abbrev pub all_ways_out : List Activation → ℕ
+abbrev pub all_ways_out : List Frame → ℕ
 all_ways_out [] = 0
 all_ways_out (a ∷ below) = ways_out a + 1 + all_ways_out below
 
@@ -75,8 +75,8 @@ all_ways_out (a ∷ below) = ways_out a + 1 + all_ways_out below
 abbrev pub moves_of : Machine → ℕ
 moves_of m = 3 * m.steps + ways_out m.top + all_ways_out m.below
 
-abbrev pub stage_moves : Stage → ℕ
-stage_moves (Goes m) = 2 + moves_of m
+abbrev pub stage_moves : InstanceState → ℕ
+stage_moves (Running m) = 2 + moves_of m
 stage_moves (AtSync m) = 0
 stage_moves (AtLoop m) = 0
 stage_moves (Ended e) = 1

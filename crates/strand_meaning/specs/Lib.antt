@@ -5,9 +5,9 @@ pub mod Examples
 pub mod Laws
 pub mod Left
 pub mod Machine
-pub mod Notes
+pub mod Observation
 pub mod Pending
-pub mod Pieces
+pub mod Trace
 pub mod Rest
 pub mod Sound
 pub mod StrandExamples

@@ -1,4 +1,4 @@
--- An instance as a machine: a stack of activations that does one thing at a time. What a statement does is the text of the serial
+-- An instance as a machine: a stack of frames that does one thing at a time. What a statement does is the text of the serial
 -- elision and of the open tree, in a third manner: children are handed out, and what stands inside a block, a turn or a callee is what
 -- the machine does next.
 use Rattle.std.specs.Prelude.{ℕ, Bool, true, false, List, [], ◌∷◌, ◌++◌, Option, Some, None, Result, Ok, Err, length}
@@ -15,7 +15,7 @@ use Rattle.serial_meaning.specs.Runs.{Run, done, stopped, happens}
 use Rattle.serial_meaning.specs.Values.{Env, value_of}
 use Rattle.serial_meaning.specs.Functions.{number_of, function_at, any_spawns}
 use Rattle.serial_meaning.specs.Plan.{PlanView, functions_of}
-use Rattle.serial_meaning.specs.Exec.{State, Manner, Block, with_slot, bound, given, paid, implied, join_at, goes_out, statement}
+use Rattle.serial_meaning.specs.Exec.{State, Manner, BlockMeaning, with_slot, bound, given, paid, implied, join_at, goes_out, statement}
 use Rattle.serial_meaning.specs.Open.{filler, is_empty_loop}
 use Rattle.serial_meaning.specs.declared.value.Value.{Value}
 use Rattle.serial_meaning.specs.declared.value.Value.TheVariants.{Int}
@@ -26,56 +26,56 @@ use Rattle.serial_meaning.specs.declared.origin.Origin.{Origin}
 
 -- The manner
 
--- where a child's value goes: into a variable, if any, of the activation with so many below it, which spawned it; into an array, if
--- any, of the innermost activation, whose loop it is; or among the values of the loop that it is a part of
-pub data Place : Type 0 where
-  Spawned : ℕ → Option Name → Place
-  Looped : Option Name → Place
-  Half : Place
+-- where a child's value goes: into a variable, if any, of the frame with so many below it, which spawned it; into an array, if
+-- any, of the innermost frame, whose loop it is; or among the values of the loop that it is a part of
+pub data Destination : Type 0 where
+  Spawned : ℕ → Option Name → Destination
+  Looped : Option Name → Destination
+  Half : Destination
 
 -- what a move shows: an event, a child, that it stands at a sync and waits, that it stands at a loop's end and waits, and where a scope begins
 -- and has ended
-pub data Token : Type 0 where
-  Opens : List ℕ → Token
-  Closes : List ℕ → Token
-  Told : Event → Token
-  Handed : Origin → Place → Token
-  Syncs : Token
-  Loops : Token
+pub data Effect : Type 0 where
+  Opens : List ℕ → Effect
+  Closes : List ℕ → Effect
+  Emitted : Event → Effect
+  Handed : Origin → Destination → Effect
+  Syncs : Effect
+  Loops : Effect
 
 -- A statement is left by a fault, or because it goes inside: to these statements, at a present path and with so many open calls, from this
 -- state.
-pub data Halt : Type 0 where
-  Faulted : Fault → Halt
-  Inside : List ℕ → ℕ → List Stmt → State Bool → Halt
+pub data Exit : Type 0 where
+  Faulted : Fault → Exit
+  Inside : List ℕ → ℕ → List Stmt → State Bool → Exit
 
-abbrev pub loop_tokens : Bool → Origin → Place → List Token
-loop_tokens true o place = []
-loop_tokens false o place = Handed o place ∷ Loops ∷ []
+abbrev pub loop_effects : Bool → Origin → Destination → List Effect
+loop_effects true o place = []
+loop_effects false o place = Handed o place ∷ Loops ∷ []
 
-abbrev pub sync_tokens : Bool → List Token
-sync_tokens true = Syncs ∷ []
-sync_tokens false = []
+abbrev pub sync_effects : Bool → List Effect
+sync_effects true = Syncs ∷ []
+sync_effects false = []
 
 -- Children are handed out, and a filler stands for a spawned child's value. A loop's values aren't put in yet. It is known whether
 -- there was a spawn since the last sync, and a sync waits only then.
-abbrev pub handing : PlanView → Place → Manner Token Halt Bool
+abbrev pub handing : PlanView → Destination → Manner Effect Exit Bool
 handing plan place = record {
-  event = Told;
+  event = Emitted;
   opens = λ j. Opens j ∷ [];
   closes = λ j. Closes j ∷ [];
   own = Faulted;
   none = false;
   spawn = λ o k. happens (Handed o place) (filler plan o, true);
-  loop = λ o. record { items = loop_tokens (is_empty_loop o) o place; ending = Ok [] };
-  sync = λ k. record { items = sync_tokens k; ending = Ok false };
+  loop = λ o. record { items = loop_effects (is_empty_loop o) o place; ending = Ok [] };
+  sync = λ k. record { items = sync_effects k; ending = Ok false };
 }
 
 -- what stands inside isn't done, but left for the next moves
-abbrev pub inside : Block Token Halt Bool
+abbrev pub inside : BlockMeaning Effect Exit Bool
 inside here calls sts s = stopped (Inside here calls sts s)
 
-abbrev pub place_of : ℕ → Act-F Act Stmt → Place
+abbrev pub place_of : ℕ → Act-F Act Stmt → Destination
 place_of height (act.Let x r) = Spawned height (Some x)
 place_of height (act.Array x n) = Spawned height None
 place_of height (act.Set x r) = Spawned height (Some x)
@@ -91,7 +91,7 @@ place_of height (act.Scope a) = Spawned height None
 
 -- The stack
 
--- A scope that an activation has open: the rank of the strand that came to it, and the statements left after it.
+-- A scope that a frame has open: the rank of the strand that came to it, and the statements left after it.
 pub record Level : Type 0 where
   pub rank : ℕ
   pub left : List Stmt
@@ -99,8 +99,8 @@ pub record Level : Type 0 where
 -- A function that was begun: its place in the script, the statements left in its innermost open scope, its open scopes, of which the innermost
 -- stands first, and whether the sync at the end of that one is after it;
 -- whether all these and the sync that its return implies are after it; its variables; whether it spawned since its own last sync, and the least fault among the answers of these children that
--- were taken; and the variable of the activation below it that its value goes to.
-pub record Activation : Type 0 where
+-- were taken; and the variable of the frame below it that its value goes to.
+pub record Frame : Type 0 where
   pub function : ℕ
   pub left : List Stmt
   pub levels : List Level
@@ -111,12 +111,12 @@ pub record Activation : Type 0 where
   pub faulted : Option Fault
   pub target : Option Name
 
--- an instance's rank, its steps left, its innermost activation and the others from the innermost on, which are its open calls
+-- an instance's rank, its steps left, its innermost frame and the others from the innermost on, which are its open calls
 pub record Machine : Type 0 where
   pub rank : ℕ
   pub steps : ℕ
-  pub top : Activation
-  pub below : List Activation
+  pub top : Frame
+  pub below : List Frame
 
 -- after a move: a machine, or the instance's value
 pub data Reached : Type 0 where
@@ -133,8 +133,8 @@ abbrev pub inside_of : List ℕ → List Level → List ℕ
 inside_of path [] = path
 inside_of path (l ∷ ls) = inside_of path ls ++ l.rank ∷ []
 
--- the present path of the innermost of these activations, in an instance of that path
-abbrev pub present : List ℕ → List Activation → List ℕ
+-- the present path of the innermost of these frames, in an instance of that path
+abbrev pub present : List ℕ → List Frame → List ℕ
 present path [] = path
 present path (a ∷ below) = inside_of (present path below) a.levels
 
@@ -142,7 +142,7 @@ present path (a ∷ below) = inside_of (present path below) a.levels
 abbrev pub here_of : List ℕ → Machine → List ℕ
 here_of path m = inside_of (present path m.below) m.top.levels
 
--- the innermost activation goes on with these statements, from this state
+-- the innermost frame goes on with these statements, from this state
 abbrev pub with_left : Machine → List Stmt → State Bool → Machine
 with_left m left s = record m { rank = s.rank; steps = s.steps; top = record m.top { left = left; env = s.env; spawned = s.spawned } }
 
@@ -170,8 +170,8 @@ abbrev pub with_scalar : Option Name → Value → Env → Env
 with_scalar None v env = env
 with_scalar (Some x) v env = with_slot env x.bytes (Scalar v)
 
--- the value of an activation that ended goes to the one below it, which goes on
-abbrev pub back : List Activation → Option Name → Value → ℕ → ℕ → Reached
+-- the value of a frame that ended goes to the one below it, which goes on
+abbrev pub back : List Frame → Option Name → Value → ℕ → ℕ → Reached
 back [] target v rank steps = Gives v
 back (caller ∷ below) target v rank steps = Stands (record { rank = rank; steps = steps; top = record caller { env = with_scalar target v caller.env }; below = below })
 
@@ -180,7 +180,7 @@ spawns_in (Some f) = any_spawns f.body
 spawns_in None = false
 
 module _ (plan : PlanView) where
-  -- a new activation over the one that calls
+  -- a new frame over the one that calls
   abbrev pub calling : Option Name → CallText → List Stmt → Machine → List Stmt → State Bool → Machine
   calling target c left m body s = record {
     rank = s.rank;
@@ -198,42 +198,42 @@ module _ (plan : PlanView) where
   entered st (act.Scope a) left m inner s = into_level m left inner s
   entered st a left m inner s = with_left m (inner ++ left) s
 
-  abbrev pub reached : (State Bool → Machine) → (List Stmt → State Bool → Machine) → Result (State Bool) Halt → Result Reached Fault
+  abbrev pub reached : (State Bool → Machine) → (List Stmt → State Bool → Machine) → Result (State Bool) Exit → Result Reached Fault
   reached on into (Ok s) = Ok (Stands (on s))
   reached on into (Err (Faulted f)) = Err f
   reached on into (Err (Inside here calls inner s)) = Ok (Stands (into inner s))
 
-  abbrev pub gives : Machine → Result (Value × State Bool) Halt → Result Reached Fault
+  abbrev pub gives : Machine → Result (Value × State Bool) Exit → Result Reached Fault
   gives m (Ok r) = Ok (back m.below m.top.target r.0 r.1.rank r.1.steps)
   gives m (Err (Faulted f)) = Err f
   gives m (Err (Inside here calls inner s)) = Ok (Stands m)
 
   module _ (path : List ℕ) where
-    abbrev pub act_run : Machine → Stmt → Act-F Act Stmt → Run Token Halt (State Bool)
+    abbrev pub act_run : Machine → Stmt → Act-F Act Stmt → Run Effect Exit (State Bool)
     act_run m st a = statement (handing plan (place_of (length m.below) a)) plan (here_of path m) inside (length m.below) st (state_of m)
 
     -- the step of a return and the sync that it implies
-    abbrev pub return_run : Machine → Run Token Halt (State Bool)
+    abbrev pub return_run : Machine → Run Effect Exit (State Bool)
     return_run m =
         let how = handing plan (Spawned (length m.below) None) in
         paid how plan (here_of path m) (state_of m) λ s. implied how plan (here_of path m) (spawns_in (function_at (functions_of plan) m.top.function)) s
 
     -- the value of a return
-    abbrev pub value_run : Option Function → Machine → Run Token Halt (Value × State Bool)
+    abbrev pub value_run : Option Function → Machine → Run Effect Exit (Value × State Bool)
     value_run (Some f) m = given (handing plan (Spawned (length m.below) None)) plan (here_of path m) (value_of f.result m.top.env) (state_of m) λ v. done (v, state_of m)
     value_run None m = done (Int (pos 0), state_of m)
 
-    abbrev pub statement_move : Machine → Stmt → List Stmt → Run Token Fault Reached
+    abbrev pub statement_move : Machine → Stmt → List Stmt → Run Effect Fault Reached
     statement_move m st left =
         let a = out-Act (out-Stmt st).act in
         let r = act_run m st a in record { items = r.items; ending = reached (with_left m left) (entered st a left m) r.ending }
 
-    abbrev pub return_move : Machine → Bool → Run Token Fault Reached
+    abbrev pub return_move : Machine → Bool → Run Effect Fault Reached
     return_move m false = let r = return_run m in record { items = r.items; ending = reached (with_returning m) (λ inner s. m) r.ending }
     return_move m true = let r = value_run (function_at (functions_of plan) m.top.function) m in record { items = r.items; ending = gives m r.ending }
 
     -- the end of the innermost scope: the sync there; and then what is left after it
-    abbrev pub level_move : Machine → Level → List Level → Bool → Run Token Fault Reached
+    abbrev pub level_move : Machine → Level → List Level → Bool → Run Effect Fault Reached
     level_move m l ls false =
         let how = handing plan (Spawned (length m.below) None) in
         let r = join_at how plan (present path m.below) (here_of path m) (state_of m) in
@@ -244,16 +244,16 @@ module _ (plan : PlanView) where
         record { items = r.items; ending = reached (out_of_level m l ls) (λ inner s. m) r.ending }
 
     -- where no statement is left
-    abbrev pub end_move : Machine → List Level → Run Token Fault Reached
+    abbrev pub end_move : Machine → List Level → Run Effect Fault Reached
     end_move m [] = return_move m m.top.returning
     end_move m (l ∷ ls) = level_move m l ls m.top.leaving
 
-    abbrev pub move_at : Machine → List Stmt → Run Token Fault Reached
+    abbrev pub move_at : Machine → List Stmt → Run Effect Fault Reached
     move_at m [] = end_move m m.top.levels
     move_at m (st ∷ left) = statement_move m st left
 
     -- One move: a statement; the sync at the end of a scope; the way out of it; the step and sync of a return; or its value.
-    abbrev pub move : Machine → Run Token Fault Reached
+    abbrev pub move : Machine → Run Effect Fault Reached
     move m = move_at m m.top.left
 
 -- an instance before its first move, and the value of one whose function there isn't

@@ -1,4 +1,4 @@
--- Where an activation stands in the statements of its function, and which variables validity has pending there (docs/LANGUAGE.md, "Pending
+-- Where a frame stands in the statements of its function, and which variables validity has pending there (docs/LANGUAGE.md, "Pending
 -- variables"): `Names` of `script_check` is the set that the judge of statements carries along.
 use Rattle.std.specs.Prelude.{◌≡◌, ℕ, true, List, [], ◌∷◌, ◌++◌, Some, Contains}
 use Rattle.script_grammar.specs.declared.tree.Expr.{Expr}
@@ -14,7 +14,7 @@ use Rattle.script_check.specs.Statements.{judge, after}
 use Rattle.serial_meaning.specs.Names.{Names}
 use Rattle.serial_meaning.specs.Functions.{function_at}
 use Rattle.serial_meaning.specs.Plan.{PlanView, functions_of}
-use Rattle.strand_meaning.specs.Machine.{Level, Activation}
+use Rattle.strand_meaning.specs.Machine.{Level, Frame}
 
 abbrev pub act_of : Stmt → Act-F Act Stmt
 act_of st = out-Act (out-Stmt st).act
@@ -50,21 +50,21 @@ abbrev pub set_at : List Stmt → check.Names → check.Names
 set_at [] now = now
 set_at (st ∷ sts) now = judged_by (act_of st) now
 
--- The activation stands where these statements are left of its function, and each of the variables is in the set that validity has there.
-pub record ArePending (plan : PlanView) (names : Names) (a : Activation) (left : List Stmt) : Type 0 where
+-- The frame stands where these statements are left of its function, and each of the variables is in the set that validity has there.
+pub record ArePending (plan : PlanView) (names : Names) (a : Frame) (left : List Stmt) : Type 0 where
   pub function : Function
   pub of_plan : function_at (functions_of plan) a.function ≡ Some function
   pub now : check.Names
   pub stands : StandsAt function.body a.levels left now
   pub pending : (name : List ℕ) → Contains names name → set_at left now name ≡ true
 
--- the activation stands still at the statement before those that are left to it
-pub record ArePendingStill (plan : PlanView) (names : Names) (a : Activation) (IsSuch : Act-F Act Stmt → Type 0) : Type 0 where
+-- the frame stands still at the statement before those that are left to it
+pub record ArePendingStill (plan : PlanView) (names : Names) (a : Frame) (IsSuch : Act-F Act Stmt → Type 0) : Type 0 where
   pub st : Stmt
   pub such : IsSuch (act_of st)
   pub there : ArePending plan names a (st ∷ a.left)
 
--- the statements at which an activation can stand still
+-- the statements at which a frame can stand still
 abbrev pub IsCall : Act-F Act Stmt → Type 0
 IsCall (act.Let x (right.Call at c)) = Unit {0}
 IsCall (act.Set x (right.Call at c)) = Unit {0}

@@ -9,7 +9,7 @@ use Rattle.serial_meaning.specs.Functions.{function_at}
 use Rattle.serial_meaning.specs.Plan.{PlanView, functions_of}
 use Rattle.serial_meaning.specs.Exec.{State, given, paid, implied, goes_out, leaves, exec}
 use Rattle.serial_meaning.specs.Eval.{Evaluation, path_of, turns, eval_below, eval, depth_left}
-use Rattle.serial_meaning.specs.Open.{Item, Happened, Child, Opened, Closed, Ending, Own, Joined, put_off_all}
+use Rattle.serial_meaning.specs.Open.{Item, Happened, Child, Opened, Closed, NodeFault, Own, ChildFaulted, put_off_all}
 use Rattle.serial_meaning.specs.declared.value.Value.{Value}
 use Rattle.serial_meaning.specs.declared.value.Value.TheVariants.{Int}
 use Rattle.serial_meaning.specs.declared.event.Fault.{Fault}
@@ -17,109 +17,109 @@ use Rattle.serial_meaning.specs.declared.event.Event.{Event}
 use Rattle.serial_meaning.specs.declared.origin.Origin.{Origin}
 use Rattle.serial_meaning.specs.declared.origin.Origin.TheVariants.{Instance, Loop}
 use Rattle.loop_range.specs.Range.{Range}
-use Rattle.strand_meaning.specs.Machine.{Level, Activation, Machine, inside_of, present, with_scalar, spawns_in}
-use Rattle.strand_meaning.specs.Pieces.{Part, Pieces}
-use Rattle.strand_meaning.specs.Task.{Stage, Goes, AtSync, AtLoop, Ended, Work, Splits, Runs, Over, Task, own_instance, takes_all, resumed, more_values}
+use Rattle.strand_meaning.specs.Machine.{Level, Frame, Machine, inside_of, present, with_scalar, spawns_in}
+use Rattle.strand_meaning.specs.Trace.{AwaitedChild, Trace}
+use Rattle.strand_meaning.specs.Task.{InstanceState, Running, AtSync, AtLoop, Ended, Work, Splits, Runs, Over, Task, own_instance, takes_all, resumed, more_values}
 
 -- what an origin's children give: their evaluations
 abbrev pub children_of : PlanView → Origin → Origin → Evaluation
 children_of plan o = eval_below plan (depth_left plan o)
 
-abbrev pub evaluations : (Origin → Evaluation) → List Part → List Evaluation
+abbrev pub evaluations : (Origin → Evaluation) → List AwaitedChild → List Evaluation
 evaluations child [] = []
 evaluations child (p ∷ ps) = child p.child ∷ evaluations child ps
 
 -- What remains of an instance, with its children's evaluations in place of their answers
 
 module _ (plan : PlanView) (child : Origin → Evaluation) (path : List ℕ) where
-  -- at the present path of an activation, outside of its scopes
-  abbrev pub valued : List ℕ → Option Function → State (Option Fault) → Run Item Ending (Value × State (Option Fault))
+  -- at the present path of a frame, outside of its scopes
+  abbrev pub valued : List ℕ → Option Function → State (Option Fault) → Run Item NodeFault (Value × State (Option Fault))
   valued here (Some f) s = given (put_off_all plan child) plan here (value_of f.result s.env) s λ v. done (v, s)
   valued here None s = done (Int (pos 0), s)
 
   -- a return, or what is left of it after its sync
-  abbrev pub closes : List ℕ → Bool → Option Function → State (Option Fault) → Run Item Ending (Value × State (Option Fault))
+  abbrev pub closes : List ℕ → Bool → Option Function → State (Option Fault) → Run Item NodeFault (Value × State (Option Fault))
   closes here false f s =
       paid (put_off_all plan child) plan here s λ s. implied (put_off_all plan child) plan here (spawns_in f) s then valued here f
   closes here true f s = valued here f s
 
   -- the end of a scope that stands at this rank: the sync in it, unless that is done, and out of it
-  abbrev pub level_end : Bool → List ℕ → ℕ → State (Option Fault) → Run Item Ending (State (Option Fault))
+  abbrev pub level_end : Bool → List ℕ → ℕ → State (Option Fault) → Run Item NodeFault (State (Option Fault))
   level_end false here rank s = leaves (put_off_all plan child) plan here rank s
   level_end true here rank s = goes_out (put_off_all plan child) plan here rank s
 
   -- what is after the statements of the innermost of these open scopes: its end and the statements after it, and so on outwards
-  abbrev pub outwards : List ℕ → ℕ → Bool → List Level → State (Option Fault) → Run Item Ending (State (Option Fault))
+  abbrev pub outwards : List ℕ → ℕ → Bool → List Level → State (Option Fault) → Run Item NodeFault (State (Option Fault))
   outwards here calls leaving [] s = done s
   outwards here calls leaving (l ∷ ls) s =
       level_end leaving (inside_of here ls) l.rank s then λ s.
       exec (put_off_all plan child) plan (inside_of here ls) calls l.left s then
       outwards here calls false ls
 
-  -- after the statements of an activation over these: the ends of its scopes and its return
-  abbrev pub afterwards : Activation → List Activation → State (Option Fault) → Run Item Ending (Value × State (Option Fault))
+  -- after the statements of a frame over these: the ends of its scopes and its return
+  abbrev pub afterwards : Frame → List Frame → State (Option Fault) → Run Item NodeFault (Value × State (Option Fault))
   afterwards a below s =
       outwards (present path below) (length below) a.leaving a.levels s then closes (present path below) a.returning (function_at (functions_of plan) a.function)
 
-  -- an activation to its end: its statements left, and what is after them
-  abbrev pub remains : Activation → List Activation → State (Option Fault) → Run Item Ending (Value × State (Option Fault))
+  -- a frame to its end: its statements left, and what is after them
+  abbrev pub remains : Frame → List Frame → State (Option Fault) → Run Item NodeFault (Value × State (Option Fault))
   remains a below s = exec (put_off_all plan child) plan (inside_of (present path below) a.levels) (length below) a.left s then afterwards a below
 
-  abbrev pub caller_state : Activation → Option Name → Value × State (Option Fault) → State (Option Fault)
+  abbrev pub caller_state : Frame → Option Name → Value × State (Option Fault) → State (Option Fault)
   caller_state caller target r = record { env = with_scalar target r.0 caller.env; rank = r.1.rank; steps = r.1.steps; spawned = caller.faulted }
 
-  -- the activations below it, from the value on that goes to the first of them
-  abbrev pub remains_below : List Activation → Option Name → Value × State (Option Fault) → Run Item Ending Value
+  -- the frames below it, from the value on that goes to the first of them
+  abbrev pub remains_below : List Frame → Option Name → Value × State (Option Fault) → Run Item NodeFault Value
   remains_below [] target r = done r.0
   remains_below (caller ∷ below) target r = remains caller below (caller_state caller target r) then remains_below below caller.target
 
-  -- what is known of an activation's children is the least fault among their answers
+  -- what is known of a frame's children is the least fault among their answers
   abbrev pub open_state : Machine → State (Option Fault)
   open_state m = record { env = m.top.env; rank = m.rank; steps = m.steps; spawned = m.top.faulted }
 
   -- a machine whose children have all answered
-  abbrev pub rest_of_machine : Machine → Run Item Ending Value
+  abbrev pub rest_of_machine : Machine → Run Item NodeFault Value
   rest_of_machine m = remains m.top m.below (open_state m) then remains_below m.below m.top.target
 
-  abbrev pub rest_of_stage : Stage → Run Item Ending Value
-  rest_of_stage (Goes m) = rest_of_machine m
+  abbrev pub rest_of_stage : InstanceState → Run Item NodeFault Value
+  rest_of_stage (Running m) = rest_of_machine m
   rest_of_stage (AtSync m) = rest_of_machine m
   rest_of_stage (AtLoop m) = rest_of_machine m
   rest_of_stage (Ended ended) = record { items = []; ending = ended }
 
-  abbrev pub rest_open : List Part → Stage → Run Item Ending Value
+  abbrev pub rest_open : List AwaitedChild → InstanceState → Run Item NodeFault Value
   rest_open parts stage = rest_of_stage (resumed (takes_all parts (evaluations child parts) stage))
 
 -- An open run with each child's evaluation in its place, up to the first fault
 
 module _ (child : Origin → Evaluation) where
-  abbrev pub closed_end : {A : Type 0} → Result A Ending → Result A Fault
+  abbrev pub closed_end : {A : Type 0} → Result A NodeFault → Result A Fault
   closed_end (Ok a) = Ok a
   closed_end (Err (Own f)) = Err f
-  closed_end (Err (Joined f)) = Err f
+  closed_end (Err (ChildFaulted f)) = Err f
 
-  abbrev pub closed_at : {A : Type 0} → List Item → Result A Ending → Run Event Fault A
+  abbrev pub closed_at : {A : Type 0} → List Item → Result A NodeFault → Run Event Fault A
   closed_at [] ending = record { items = []; ending = closed_end ending }
   closed_at (Happened e ∷ items) ending = behind (e ∷ []) (closed_at items ending)
   closed_at (Child o ∷ items) ending = child o then λ vs. closed_at items ending
   closed_at (Opened j ∷ items) ending = closed_at items ending
   closed_at (Closed j ∷ items) ending = closed_at items ending
 
-  abbrev pub closed : {A : Type 0} → Run Item Ending A → Run Event Fault A
+  abbrev pub closed : {A : Type 0} → Run Item NodeFault A → Run Event Fault A
   closed r = closed_at r.items r.ending
 
 -- What a task gives in the end
 
-abbrev pub told_end : Option Fault → Result (Unit {0}) Fault
-told_end None = Ok tt
-told_end (Some f) = Err f
+abbrev pub prefix_end : Option Fault → Result (Unit {0}) Fault
+prefix_end None = Ok tt
+prefix_end (Some f) = Err f
 
-abbrev pub told_run : Pieces → Run Event Fault (Unit {0})
-told_run pieces = record { items = pieces.told; ending = told_end pieces.fault }
+abbrev pub prefix_run : Trace → Run Event Fault (Unit {0})
+prefix_run trace = record { items = trace.prefix; ending = prefix_end trace.fault }
 
 module _ (child : Origin → Evaluation) where
   -- the children's evaluations and the events after them, with the values of a loop's parts after those that were taken
-  abbrev pub parts_run : List Part → List Value → Run Event Fault (List Value)
+  abbrev pub parts_run : List AwaitedChild → List Value → Run Event Fault (List Value)
   parts_run [] values = done values
   parts_run (p ∷ ps) values = child p.child then λ vs. behind p.behind (parts_run ps (more_values p.place (Ok vs) values))
 
@@ -134,7 +134,7 @@ all_with (Instance function args path) values v = v ∷ []
 all_with (Loop function rest first path range) values v = values ++ v ∷ []
 
 -- what remains
-abbrev pub work_run : PlanView → Origin → List Part → Work → List Value → Evaluation
+abbrev pub work_run : PlanView → Origin → List AwaitedChild → Work → List Value → Evaluation
 work_run plan o parts (Splits left) values = turns_left (eval plan) o left then λ vs. done (values ++ vs)
 work_run plan o parts (Runs stage) values =
     let child = children_of plan (own_instance o) in
@@ -143,4 +143,4 @@ work_run plan o parts (Over v gone_on) values = done (values ++ v ∷ [])
 
 -- Pieces with each child's evaluation in its place, and then what remains, up to the first fault.
 abbrev pub finish : Task → Evaluation
-finish t = told_run t.pieces then λ u. parts_run (eval t.plan) t.pieces.handed t.values then work_run t.plan t.origin t.pieces.handed t.work
+finish t = prefix_run t.trace then λ u. parts_run (eval t.plan) t.trace.handed t.values then work_run t.plan t.origin t.trace.handed t.work

@@ -7,41 +7,41 @@ use Rattle.serial_meaning.specs.Names.{Names}
 use Rattle.serial_meaning.specs.Functions.{function_at, any_spawns}
 use Rattle.serial_meaning.specs.Plan.{PlanView, functions_of}
 use Rattle.serial_meaning.specs.Eval.{path_of, eval}
-use Rattle.serial_meaning.specs.Open.{Item, Own, Joined, opened}
+use Rattle.serial_meaning.specs.Open.{Item, Own, ChildFaulted, opened}
 use Rattle.serial_meaning.specs.Laws.{IsOriginOf, places}
 use Rattle.serial_meaning.specs.declared.event.Event.{Event}
 use Rattle.serial_meaning.specs.declared.origin.Origin.{Origin}
 use Rattle.serial_meaning.specs.declared.origin.Origin.TheVariants.{Instance, Loop}
 use Rattle.strand_meaning.specs.Clear.{IsApart, IsClear, IsClearPlan, target_names}
-use Rattle.strand_meaning.specs.Machine.{Place, Spawned, Looped, Half, Level, Activation, spawns_in}
-use Rattle.strand_meaning.specs.Pieces.{Part}
+use Rattle.strand_meaning.specs.Machine.{Destination, Spawned, Looped, Half, Level, Frame, spawns_in}
+use Rattle.strand_meaning.specs.Trace.{AwaitedChild}
 use Rattle.strand_meaning.specs.Pending.{ArePending, ArePendingStill, IsCall, IsSync, IsPfor}
-use Rattle.strand_meaning.specs.Task.{Stage, Goes, AtSync, AtLoop, Ended, Work, Splits, Runs, Over, Task, own_instance}
+use Rattle.strand_meaning.specs.Task.{InstanceState, Running, AtSync, AtLoop, Ended, Work, Splits, Runs, Over, Task, own_instance}
 use Rattle.strand_meaning.specs.Rest.{children_of, rest_open, finish}
 
 -- Unfilled variables
 
--- the variables of the activation with so many below it into which the values of children are still to come
-abbrev pub unfilled_by : ℕ → Place → Names
+-- the variables of the frame with so many below it into which the values of children are still to come
+abbrev pub unfilled_by : ℕ → Destination → Names
 unfilled_by height (Spawned owner target) = if nat_eq owner height then target_names target else []
 unfilled_by height (Looped target) = []
 unfilled_by height Half = []
 
-abbrev pub unfilled : ℕ → List Part → Names
+abbrev pub unfilled : ℕ → List AwaitedChild → Names
 unfilled height [] = []
 unfilled height (p ∷ ps) = unfilled_by height p.place ++ unfilled height ps
 
--- whether the activation with so many below it spawned a child of these
-abbrev pub is_by : ℕ → Place → Bool
+-- whether the frame with so many below it spawned a child of these
+abbrev pub is_by : ℕ → Destination → Bool
 is_by height (Spawned owner target) = nat_eq owner height
 is_by height (Looped target) = false
 is_by height Half = false
 
-abbrev pub any_by : ℕ → List Part → Bool
+abbrev pub any_by : ℕ → List AwaitedChild → Bool
 any_by height [] = false
 any_by height (p ∷ ps) = is_by height p.place || any_by height ps
 
--- Activations
+-- Frames
 
 -- After the end of a scope nothing is unfilled, and the statements left after it touch no variable that is pending before them. Where they spawn,
 -- so does the function's text.
@@ -50,8 +50,8 @@ AreSoundLevels in_text [] = Unit {0}
 AreSoundLevels in_text (l ∷ ls) = ((ends : Names) × IsClear [] l.left ends) × (any_spawns l.left ≡ true → in_text) × AreSoundLevels in_text ls
 
 -- The statements left touch no unfilled variable. A spawn since its own last sync, and a fault among the answers of these children, are
--- known of an activation. A sync comes before its value where it spawned.
-pub record IsSound (plan : PlanView) (parts : List Part) (height : ℕ) (a : Activation) : Type 0 where
+-- known of a frame. A sync comes before its value where it spawned.
+pub record IsSound (plan : PlanView) (parts : List AwaitedChild) (height : ℕ) (a : Frame) : Type 0 where
   pub clear : (ends : Names) × IsClear (unfilled height parts) a.left ends
   pub levels : AreSoundLevels (spawns_in (function_at (functions_of plan) a.function) ≡ true) a.levels
   pub spawned : any_by height parts ≡ true → a.spawned ≡ true
@@ -61,71 +61,71 @@ pub record IsSound (plan : PlanView) (parts : List Part) (height : ℕ) (a : Act
   pub leaving : a.leaving ≡ true → (a.spawned ≡ false) × (a.left ≡ [])
   pub returning : a.returning ≡ true → (a.spawned ≡ false) × (a.left ≡ []) × (a.levels ≡ [])
 
--- the activations below the one whose value goes there
-abbrev pub AreSound : PlanView → List Part → Option Name → List Activation → Type 0
+-- the frames below the one whose value goes there
+abbrev pub AreSound : PlanView → List AwaitedChild → Option Name → List Frame → Type 0
 AreSound plan parts target [] = Unit {0}
 AreSound plan parts target (caller ∷ below) =
     IsApart (target_names target) (unfilled (length below) parts) × IsSound plan parts (length below) caller × AreSound plan parts caller.target below
 
 -- Stages
 
--- a child that was spawned by an activation that there is, or a part of a loop
-abbrev pub IsPlace : ℕ → Place → Type 0
+-- a child that was spawned by a frame that there is, or a part of a loop
+abbrev pub IsPlace : ℕ → Destination → Type 0
 IsPlace height (Spawned owner target) = owner ≤ height
 IsPlace height (Looped target) = ⊥
 IsPlace height Half = Unit {0}
 
-abbrev pub ArePlaces : ℕ → List Part → Type 0
+abbrev pub ArePlaces : ℕ → List AwaitedChild → Type 0
 ArePlaces height [] = Unit {0}
 ArePlaces height (p ∷ ps) = IsPlace height p.place × ArePlaces height ps
 
-abbrev pub IsHalf : Place → Type 0
+abbrev pub IsHalf : Destination → Type 0
 IsHalf (Spawned owner target) = ⊥
 IsHalf (Looped target) = ⊥
 IsHalf Half = Unit {0}
 
-abbrev pub AreHalves : List Part → Type 0
+abbrev pub AreHalves : List AwaitedChild → Type 0
 AreHalves [] = Unit {0}
 AreHalves (p ∷ ps) = IsHalf p.place × AreHalves ps
 
--- An activation at a sync has nothing unfilled once it goes on, and knows of no fault.
-abbrev pub behind_sync : Activation → Activation
+-- A frame at a sync has nothing unfilled once it goes on, and knows of no fault.
+abbrev pub behind_sync : Frame → Frame
 behind_sync a = record a { faulted = None }
 
-abbrev pub IsSoundStage : PlanView → List Part → Stage → Type 0
-IsSoundStage plan parts (Goes m) = ArePlaces (length m.below) parts × IsSound plan parts (length m.below) m.top × AreSound plan parts m.top.target m.below
+abbrev pub IsSoundStage : PlanView → List AwaitedChild → InstanceState → Type 0
+IsSoundStage plan parts (Running m) = ArePlaces (length m.below) parts × IsSound plan parts (length m.below) m.top × AreSound plan parts m.top.target m.below
 IsSoundStage plan parts (AtSync m) = ArePlaces (length m.below) parts × IsSound plan [] (length m.below) (behind_sync m.top) × AreSound plan parts m.top.target m.below
 IsSoundStage plan parts (AtLoop m) = IsSound plan parts (length m.below) m.top × AreSound plan parts m.top.target m.below
 IsSoundStage plan parts (Ended (Ok v)) = AreHalves parts
 IsSoundStage plan parts (Ended (Err (Own f))) = (height : ℕ) × ArePlaces height parts
-IsSoundStage plan parts (Ended (Err (Joined f))) = parts ≡ []
+IsSoundStage plan parts (Ended (Err (ChildFaulted f))) = parts ≡ []
 
 -- What an instance passed in the open tree, and what remains of it.
-pub record IsSoFar (plan : PlanView) (o : Origin) (parts : List Part) (stage : Stage) : Type 0 where
+pub record IsSoFar (plan : PlanView) (o : Origin) (parts : List AwaitedChild) (stage : InstanceState) : Type 0 where
   pub front : List Item
   pub whole : opened plan o ≡ behind front (rest_open plan (children_of plan o) (path_of o) parts stage then λ v. done (v ∷ []))
 
 -- Pending variables
 
--- An activation that called stands at the call.
-abbrev pub ArePendingBelow : PlanView → List Part → List Activation → Type 0
+-- A frame that called stands at the call.
+abbrev pub ArePendingBelow : PlanView → List AwaitedChild → List Frame → Type 0
 ArePendingBelow plan parts [] = Unit {0}
 ArePendingBelow plan parts (caller ∷ below) = ArePendingStill plan (unfilled (length below) parts) caller IsCall × ArePendingBelow plan parts below
 
 -- One that waits at a sync stands at that statement; at the sync that the end of a scope or a return implies, at the end of the statements before it.
-abbrev pub ArePendingAtSync : PlanView → Names → Activation → Bool → Type 0
+abbrev pub ArePendingAtSync : PlanView → Names → Frame → Bool → Type 0
 ArePendingAtSync plan names a true = (a.left ≡ []) × ArePending plan names a []
 ArePendingAtSync plan names a false = ArePendingStill plan names a IsSync
 
--- The unfilled variables of each activation are in the set that validity has where it stands.
-abbrev pub UnfilledArePending : PlanView → List Part → Stage → Type 0
-UnfilledArePending plan parts (Goes m) = ArePending plan (unfilled (length m.below) parts) m.top m.top.left × ArePendingBelow plan parts m.below
+-- The unfilled variables of each frame are in the set that validity has where it stands.
+abbrev pub UnfilledArePending : PlanView → List AwaitedChild → InstanceState → Type 0
+UnfilledArePending plan parts (Running m) = ArePending plan (unfilled (length m.below) parts) m.top m.top.left × ArePendingBelow plan parts m.below
 UnfilledArePending plan parts (AtSync m) =
     ArePendingAtSync plan (unfilled (length m.below) parts) m.top (m.top.leaving || m.top.returning) × ArePendingBelow plan parts m.below
 UnfilledArePending plan parts (AtLoop m) = ArePendingStill plan (unfilled (length m.below) parts) m.top IsPfor × ArePendingBelow plan parts m.below
 UnfilledArePending plan parts (Ended ended) = Unit {0}
 
-abbrev pub UnfilledArePendingIn : PlanView → List Part → Work → Type 0
+abbrev pub UnfilledArePendingIn : PlanView → List AwaitedChild → Work → Type 0
 UnfilledArePendingIn plan parts (Splits left) = Unit {0}
 UnfilledArePendingIn plan parts (Runs stage) = UnfilledArePending plan parts stage
 UnfilledArePendingIn plan parts (Over v gone_on) = Unit {0}
@@ -147,18 +147,18 @@ IsLongLoop (Instance function args path) = ⊥
 IsLongLoop (Loop function rest first path range) = range.lo + 1 < range.hi
 
 -- parts of a loop come from one that is split
-abbrev pub FitsOrigin : Origin → Place → Type 0
+abbrev pub FitsOrigin : Origin → Destination → Type 0
 FitsOrigin o (Spawned owner target) = Unit {0}
 FitsOrigin o (Looped target) = Unit {0}
 FitsOrigin o Half = IsLongLoop o
 
 -- A child is an origin of the plan. Where it is one of the instance under way, what the open tree takes of it is its evaluation.
-pub record IsPart (plan : PlanView) (o : Origin) (p : Part) : Type 0 where
+pub record IsPart (plan : PlanView) (o : Origin) (p : AwaitedChild) : Type 0 where
   pub known : IsOriginOf plan p.child
   pub fits : FitsOrigin o p.place
   pub same : IsHalf p.place ⊎ (children_of plan (own_instance o) p.child ≡ eval plan p.child)
 
-abbrev pub AreParts : PlanView → Origin → List Part → Type 0
+abbrev pub AreParts : PlanView → Origin → List AwaitedChild → Type 0
 AreParts plan o [] = Unit {0}
 AreParts plan o (p ∷ ps) = IsPart plan o p × AreParts plan o ps
 
@@ -166,7 +166,7 @@ abbrev pub IsInstanceOrLoop : Origin → Type 0
 IsInstanceOrLoop (Instance function args path) = Unit {0}
 IsInstanceOrLoop (Loop function rest first path range) = range.lo < range.hi
 
-abbrev pub IsSoundWork : PlanView → Origin → List Part → Work → Type 0
+abbrev pub IsSoundWork : PlanView → Origin → List AwaitedChild → Work → Type 0
 IsSoundWork plan o parts (Splits left) = IsEndOf o left × AreHalves parts
 IsSoundWork plan o parts (Runs stage) = IsInstanceOrLoop o × IsSoFar plan (own_instance o) parts stage × IsSoundStage plan parts stage
 IsSoundWork plan o parts (Over v true) = IsLoop o × (parts ≡ [])
@@ -176,12 +176,12 @@ IsSoundWork plan o parts (Over v false) = IsLoop o × AreHalves parts
 
 -- A half of the task's loop has its path. Any other child's path is that of a strand of the task's own instance, in a scope or outside of all,
 -- and stands among these events as the one by which the child was spawned or begun.
-abbrev pub IsShownBy : Origin → List Event → Part → Type 0
+abbrev pub IsShownBy : Origin → List Event → AwaitedChild → Type 0
 IsShownBy o events p =
     (IsHalf p.place × (path_of p.child ≡ path_of o)) ⊎ ((rank : ℕ) × (more : List ℕ) × (path_of p.child ≡ path_of (own_instance o) ++ rank ∷ more) × Contains (places events) (path_of p.child))
 
 -- the first is shown by these events, and each other by those between it and the child before it
-abbrev pub AreShownBy : Origin → List Event → List Part → Type 0
+abbrev pub AreShownBy : Origin → List Event → List AwaitedChild → Type 0
 AreShownBy o events [] = Unit {0}
 AreShownBy o events (p ∷ ps) = IsShownBy o events p × AreShownBy o p.behind ps
 
@@ -190,7 +190,7 @@ pub record IsTask (t : Task) : Type 0 where
   pub finishes : finish t ≡ eval t.plan t.origin
   pub known : IsOriginOf t.plan t.origin
   pub clear : IsClearPlan t.plan
-  pub parts : AreParts t.plan t.origin t.pieces.handed
-  pub shown : t.pieces.fault ≡ None → AreShownBy t.origin t.pieces.told t.pieces.handed
-  pub work : IsSoundWork t.plan t.origin t.pieces.handed t.work
-  pub pending : UnfilledArePendingIn t.plan t.pieces.handed t.work
+  pub parts : AreParts t.plan t.origin t.trace.handed
+  pub shown : t.trace.fault ≡ None → AreShownBy t.origin t.trace.prefix t.trace.handed
+  pub work : IsSoundWork t.plan t.origin t.trace.handed t.work
+  pub pending : UnfilledArePendingIn t.plan t.trace.handed t.work

@@ -5,7 +5,7 @@ use Rattle.std.specs.Ordering.{nat_cmp, is_lt}
 use Rattle.std.specs.Cmp.Lexicographic.{slice_cmp}
 use Rattle.std.specs.Str.{bytes_eq}
 use Rattle.serial_meaning.specs.Eval.{path_of, iteration, main_origin}
-use Rattle.serial_meaning.specs.Open.{Item, Happened, Child, Opened, Closed, Ending, Own, Joined, Node, opened, places_of}
+use Rattle.serial_meaning.specs.Open.{Item, Happened, Child, Opened, Closed, NodeFault, Own, ChildFaulted, Node, opened, places_of}
 use Rattle.serial_meaning.specs.Plan.{PlanView}
 use Rattle.serial_meaning.specs.declared.value.Value.{Value}
 use Rattle.serial_meaning.specs.declared.event.Fault.{Fault}
@@ -47,16 +47,16 @@ last_place j [] = j
 last_place j (e ∷ es) = last_place (pedigree_of e) es
 
 -- the fault of a child by which it ended
-abbrev pub joined_fault : Result (List Value) Ending → Option Fault
+abbrev pub joined_fault : Result (List Value) NodeFault → Option Fault
 joined_fault (Ok vs) = None
 joined_fault (Err (Own f)) = None
-joined_fault (Err (Joined f)) = Some f
+joined_fault (Err (ChildFaulted f)) = Some f
 
 -- its own fault, where that is at this pedigree
-abbrev pub own_fault_at : List ℕ → Result (List Value) Ending → Option Fault
+abbrev pub own_fault_at : List ℕ → Result (List Value) NodeFault → Option Fault
 own_fault_at j (Ok vs) = None
 own_fault_at j (Err (Own f)) = if bytes_eq f.at j then Some f else None
-own_fault_at j (Err (Joined f)) = None
+own_fault_at j (Err (ChildFaulted f)) = None
 
 -- whether a pedigree begins with this path, and goes on
 abbrev pub is_below : List ℕ → List ℕ → Bool
@@ -96,10 +96,10 @@ abbrev pub ended_before : List ℕ → List ℕ → Bool
 ended_before place j = is_lt (slice_cmp nat_cmp place j) && not (bytes_eq (take (length place) j) place)
 
 -- the fault of a child by which an instance ended before a pedigree
-abbrev pub blocks_by : List ℕ → List ℕ → Result (List Value) Ending → Option Fault
+abbrev pub blocks_by : List ℕ → List ℕ → Result (List Value) NodeFault → Option Fault
 blocks_by place j (Ok vs) = None
 blocks_by place j (Err (Own f)) = None
-blocks_by place j (Err (Joined f)) = if ended_before place j then Some f else None
+blocks_by place j (Err (ChildFaulted f)) = if ended_before place j then Some f else None
 
 abbrev pub blocks : Node → List ℕ → Option Fault
 blocks n j = blocks_by (last_place [] (own_events n.items)) j n.ending

@@ -7,7 +7,7 @@ use Rattle.serial_meaning.specs.Values.{Env}
 use Rattle.serial_meaning.specs.Plan.{PlanView}
 use Rattle.serial_meaning.specs.Exec.{filled}
 use Rattle.serial_meaning.specs.Eval.{Evaluation, first_of, iteration, path_of}
-use Rattle.serial_meaning.specs.Open.{Ending, Own, Joined, least}
+use Rattle.serial_meaning.specs.Open.{NodeFault, Own, ChildFaulted, least}
 use Rattle.serial_meaning.specs.declared.value.Value.{Value}
 use Rattle.serial_meaning.specs.declared.environment.Slot.{Slot}
 use Rattle.serial_meaning.specs.declared.environment.Slot.TheVariants.{Scalar}
@@ -17,30 +17,30 @@ use Rattle.serial_meaning.specs.declared.origin.Origin.{Origin}
 use Rattle.serial_meaning.specs.declared.origin.Origin.TheVariants.{Instance, Loop}
 use Rattle.serial_meaning.specs.declared.answer.Outcome.{Outcome}
 use Rattle.serial_meaning.specs.declared.answer.Outcome.TheVariants as outcome
-use Rattle.strand_meaning.specs.Machine.{Place, Spawned, Looped, Half, Token, Opens, Closes, Told, Handed, Syncs, Loops, Activation, Machine, Reached, Stands, Gives, begun, move}
-use Rattle.strand_meaning.specs.Pieces.{Part, Pieces, no_pieces, with_tokens, hand, heard_all}
+use Rattle.strand_meaning.specs.Machine.{Destination, Spawned, Looped, Half, Effect, Opens, Closes, Emitted, Handed, Syncs, Loops, Frame, Machine, Reached, Stands, Gives, begun, move}
+use Rattle.strand_meaning.specs.Trace.{AwaitedChild, Trace, no_trace, with_effects, add_child, heard_all}
 
 -- where an instance stands: it goes on; it waits after a sync, or after a loop; it has ended, by a value or as a node of the open
 -- tree ends
-pub data Stage : Type 0 where
-  Goes : Machine → Stage
-  AtSync : Machine → Stage
-  AtLoop : Machine → Stage
-  Ended : Result Value Ending → Stage
+pub data InstanceState : Type 0 where
+  Running : Machine → InstanceState
+  AtSync : Machine → InstanceState
+  AtLoop : Machine → InstanceState
+  Ended : Result Value NodeFault → InstanceState
 
 -- What remains: iterations of a loop that nobody has begun; an instance, which is the task's own or the loop's last iteration; or
 -- nothing of a loop whose last iteration gave this value, and whether the task has gone on from the wait at its end.
 pub data Work : Type 0 where
   Splits : Range → Work
-  Runs : Stage → Work
+  Runs : InstanceState → Work
   Over : Value → Bool → Work
 
--- Beside its pieces and what remains: the values of those iterations of a loop whose answers were taken, in order; whether the task
+-- Beside its trace and what remains: the values of those iterations of a loop whose answers were taken, in order; whether the task
 -- stands in a wait; and whether it was advanced.
 pub record Task : Type 0 where
   pub plan : PlanView
   pub origin : Origin
-  pub pieces : Pieces
+  pub trace : Trace
   pub values : List Value
   pub work : Work
   pub waiting : Bool
@@ -48,8 +48,8 @@ pub record Task : Type 0 where
 
 -- The beginning
 
-abbrev pub begun_stage : Reached → Stage
-begun_stage (Stands m) = Goes m
+abbrev pub begun_stage : Reached → InstanceState
+begun_stage (Stands m) = Running m
 begun_stage (Gives v) = Ended (Ok v)
 
 abbrev pub begun_work : PlanView → Origin → Work
@@ -57,7 +57,7 @@ begun_work plan (Instance function args path) = Runs (begun_stage (begun plan fu
 begun_work plan (Loop function rest first path range) = Splits range
 
 abbrev pub start : PlanView → Origin → Task
-start plan o = record { plan = plan; origin = o; pieces = no_pieces; values = []; work = begun_work plan o; waiting = false; advanced = false }
+start plan o = record { plan = plan; origin = o; trace = no_trace; values = []; work = begun_work plan o; waiting = false; advanced = false }
 
 -- the instance that an origin's task runs itself: for a loop its last iteration
 abbrev pub own_instance : Origin → Origin
@@ -72,69 +72,69 @@ pub data Stop : Type 0 where
   Wait : Task → Stop
   End : List Event → Outcome → Stop
 
-pub data Step : Type 0 where
-  Passes : Task → Step
-  Stops : Stop → Step
+pub data MoveOrStop : Type 0 where
+  Passes : Task → MoveOrStop
+  Stops : Stop → MoveOrStop
 
 -- a stage after a move that showed these
-abbrev pub stage_after : List Token → Machine → Stage
-stage_after [] m = Goes m
+abbrev pub stage_after : List Effect → Machine → InstanceState
+stage_after [] m = Running m
 stage_after (Opens j ∷ ts) m = stage_after ts m
 stage_after (Closes j ∷ ts) m = stage_after ts m
-stage_after (Told e ∷ ts) m = stage_after ts m
+stage_after (Emitted e ∷ ts) m = stage_after ts m
 stage_after (Handed o place ∷ ts) m = stage_after ts m
 stage_after (Syncs ∷ ts) m = AtSync m
 stage_after (Loops ∷ ts) m = AtLoop m
 
-abbrev pub child_in : List Token → Option Origin
+abbrev pub child_in : List Effect → Option Origin
 child_in [] = None
 child_in (Opens j ∷ ts) = child_in ts
 child_in (Closes j ∷ ts) = child_in ts
-child_in (Told e ∷ ts) = child_in ts
+child_in (Emitted e ∷ ts) = child_in ts
 child_in (Handed o place ∷ ts) = Some o
 child_in (Syncs ∷ ts) = child_in ts
 child_in (Loops ∷ ts) = child_in ts
 
-abbrev pub stops_at : Option Origin → Task → Step
+abbrev pub stops_at : Option Origin → Task → MoveOrStop
 stops_at (Some o) t = Stops (Spawn o t)
 stops_at None t = Passes t
 
-abbrev pub passing : Task → List Token → Work → Task
-passing t tokens work = record t { pieces = with_tokens tokens t.pieces; work = work; advanced = true }
+abbrev pub passing : Task → List Effect → Work → Task
+passing t effects work = record t { trace = with_effects effects t.trace; work = work; advanced = true }
 
-abbrev pub moved : Task → List Token → Result Reached Fault → Step
-moved t tokens (Ok (Stands m)) = stops_at (child_in tokens) (passing t tokens (Runs (stage_after tokens m)))
-moved t tokens (Ok (Gives v)) = Passes (passing t tokens (Runs (Ended (Ok v))))
-moved t tokens (Err f) = Passes (passing t tokens (Runs (Ended (Err (Own f)))))
+abbrev pub moved : Task → List Effect → Result Reached Fault → MoveOrStop
+moved t effects (Ok (Stands m)) = stops_at (child_in effects) (passing t effects (Runs (stage_after effects m)))
+moved t effects (Ok (Gives v)) = Passes (passing t effects (Runs (Ended (Ok v))))
+moved t effects (Err f) = Passes (passing t effects (Runs (Ended (Err (Own f)))))
 
-abbrev pub waits : Task → Step
+abbrev pub waits : Task → MoveOrStop
 waits t = Stops (Wait (record t { waiting = true; advanced = true }))
 
--- the end, where nothing that was handed out is left: by the fault among the pieces, or else so
-abbrev pub ends_unless : Option Fault → Task → Outcome → Step
-ends_unless (Some f) t ended = Stops (End t.pieces.told (outcome.Fault f))
-ends_unless None t ended = Stops (End t.pieces.told ended)
+-- the end, where nothing that was handed out is left: by the fault in the trace, or else so
+abbrev pub ends_unless : Option Fault → Task → Outcome → MoveOrStop
+ends_unless (Some f) t ended = Stops (End t.trace.prefix (outcome.Fault f))
+ends_unless None t ended = Stops (End t.trace.prefix ended)
 
-abbrev pub ends : Task → Outcome → Step
-ends t ended = ends_unless t.pieces.fault t ended
+abbrev pub ends : Task → Outcome → MoveOrStop
+ends t ended = ends_unless t.trace.fault t ended
 
 -- an own fault waits for the children handed out since the last wait
-abbrev pub faults_behind : List Part → Task → Fault → Step
+abbrev pub faults_behind : List AwaitedChild → Task → Fault → MoveOrStop
 faults_behind [] t f = ends t (outcome.Fault f)
 faults_behind (p ∷ ps) t f = waits t
 
 -- the instance that the task ran ended well
-abbrev pub gave : Task → Origin → Value → Step
+abbrev pub gave : Task → Origin → Value → MoveOrStop
 gave t (Instance function args path) v = ends t (outcome.Value v)
 gave t (Loop function rest first path range) v = Passes (record t { work = Over v false; advanced = true })
 
-abbrev pub stage_step : Task → Stage → Step
-stage_step t (Goes m) = let r = move t.plan (path_of (own_instance t.origin)) m in moved t r.items r.ending
+abbrev pub stage_step : Task → InstanceState → MoveOrStop
+stage_step t (Running m) = let r = move t.plan (path_of (own_instance t.origin)) m in moved t r.items r.ending
 stage_step t (AtSync m) = waits t
 stage_step t (AtLoop m) = waits t
 stage_step t (Ended (Ok v)) = gave t t.origin v
-stage_step t (Ended (Err (Own f))) = faults_behind t.pieces.handed t f
-stage_step t (Ended (Err (Joined f))) = ends t (outcome.Fault f)
+stage_step t (Ended (Err (Own f))) = faults_behind t.trace.handed t f
+stage_step t (Ended (Err (ChildFaulted f))) = ends t (outcome.Fault f)
 
 -- Of a loop, half of the iterations left is handed out while there are two. The last is run by the task itself.
 abbrev pub first_half : Origin → Range → Origin
@@ -144,30 +144,30 @@ first_half (Loop function rest first path range) left = Loop function rest first
 abbrev pub begins_last : PlanView → Origin → Work
 begins_last plan o = begun_work plan (own_instance o)
 
-abbrev pub split_step : Task → Range → ℕ → Step
+abbrev pub split_step : Task → Range → ℕ → MoveOrStop
 split_step t left zero = ends t (outcome.Values t.values)
 split_step t left (suc zero) = Passes (record t { work = begins_last t.plan t.origin; advanced = true })
 split_step t left (suc (suc n)) =
-    let o = first_half t.origin left in Stops (Spawn o (record t { pieces = hand o Half t.pieces; work = Splits (upper_half left); advanced = true }))
+    let o = first_half t.origin left in Stops (Spawn o (record t { trace = add_child o Half t.trace; work = Splits (upper_half left); advanced = true }))
 
 -- a loop of two iterations or more handed out a part
-abbrev pub over_step : Task → Value → Origin → Step
+abbrev pub over_step : Task → Value → Origin → MoveOrStop
 over_step t v (Instance function args path) = ends t (outcome.Values (t.values ++ v ∷ []))
 over_step t v (Loop function rest first path range) = by_size (range.hi - range.lo)
   where
-    by_size : ℕ → Step
+    by_size : ℕ → MoveOrStop
     by_size zero = ends t (outcome.Values (t.values ++ v ∷ []))
     by_size (suc zero) = ends t (outcome.Values (t.values ++ v ∷ []))
     by_size (suc (suc n)) = waits t
 
-abbrev pub work_step : Task → Work → Step
+abbrev pub work_step : Task → Work → MoveOrStop
 work_step t (Splits left) = split_step t left (left.hi - left.lo)
 work_step t (Runs stage) = stage_step t stage
 work_step t (Over v true) = ends t (outcome.Values (t.values ++ v ∷ []))
 work_step t (Over v false) = over_step t v t.origin
 
 -- One move, or a stop.
-abbrev pub step : Task → Step
+abbrev pub step : Task → MoveOrStop
 step t = work_step t t.work
 
 -- the stop that a task comes to: at once, or after moves
@@ -177,12 +177,12 @@ pub data IsNext : Task → Stop → Type 0 where
 
 -- Going on
 
--- the activation with so many below it, changed
-abbrev pub changed_at : ℕ → (Activation → Activation) → List Activation → List Activation
+-- the frame with so many below it, changed
+abbrev pub changed_at : ℕ → (Frame → Frame) → List Frame → List Frame
 changed_at height change [] = []
 changed_at height change (a ∷ below) = if nat_eq height (length below) then change a ∷ below else a ∷ changed_at height change below
 
-abbrev pub changed : ℕ → (Activation → Activation) → Machine → Machine
+abbrev pub changed : ℕ → (Frame → Frame) → Machine → Machine
 changed height change m =
     if nat_eq height (length m.below) then record m { top = change m.top } else record m { below = changed_at height change m.below }
 
@@ -195,13 +195,13 @@ abbrev pub with_answer : Option Name → Value → Env → Env
 with_answer None v env = env
 with_answer (Some x) v env = replaced env x.bytes (Scalar v)
 
--- an activation that takes the answer of a child that it spawned
-abbrev pub answered : Option Name → Result (List Value) Fault → Activation → Activation
+-- a frame that takes the answer of a child that it spawned
+abbrev pub answered : Option Name → Result (List Value) Fault → Frame → Frame
 answered target (Ok vs) a = record a { env = with_answer target (first_of vs) a.env }
 answered target (Err f) a = record a { faulted = Some (least a.faulted f) }
 
-abbrev pub in_machine : (Machine → Machine) → Stage → Stage
-in_machine change (Goes m) = Goes (change m)
+abbrev pub in_machine : (Machine → Machine) → InstanceState → InstanceState
+in_machine change (Running m) = Running (change m)
 in_machine change (AtSync m) = AtSync (change m)
 in_machine change (AtLoop m) = AtLoop (change m)
 in_machine change (Ended e) = Ended e
@@ -209,40 +209,40 @@ in_machine change (Ended e) = Ended e
 abbrev pub with_values : Option Name → List Value → Machine → Machine
 with_values target vs m = record m { top = record m.top { env = filled target vs m.top.env } }
 
-abbrev pub takes : Place → Result (List Value) Fault → Stage → Stage
+abbrev pub takes : Destination → Result (List Value) Fault → InstanceState → InstanceState
 takes (Spawned height target) ended stage = in_machine (changed height (answered target ended)) stage
 takes (Looped target) (Ok vs) stage = in_machine (with_values target vs) stage
-takes (Looped target) (Err f) stage = Ended (Err (Joined f))
+takes (Looped target) (Err f) stage = Ended (Err (ChildFaulted f))
 takes Half ended stage = stage
 
-abbrev pub joins : Option Fault → Machine → Stage
-joins None m = Goes m
-joins (Some f) m = Ended (Err (Joined f))
+abbrev pub joins : Option Fault → Machine → InstanceState
+joins None m = Running m
+joins (Some f) m = Ended (Err (ChildFaulted f))
 
--- A wait is over: the instance ends at a sync where a child of this activation faulted, and else goes on.
-abbrev pub resumed : Stage → Stage
-resumed (Goes m) = Goes m
+-- A wait is over: the instance ends at a sync where a child of this frame faulted, and else goes on.
+abbrev pub resumed : InstanceState → InstanceState
+resumed (Running m) = Running m
 resumed (AtSync m) = joins m.top.faulted m
-resumed (AtLoop m) = Goes m
+resumed (AtLoop m) = Running m
 resumed (Ended e) = Ended e
 
-abbrev pub takes_all : List Part → List Evaluation → Stage → Stage
+abbrev pub takes_all : List AwaitedChild → List Evaluation → InstanceState → InstanceState
 takes_all [] answers stage = stage
 takes_all (p ∷ ps) [] stage = stage
 takes_all (p ∷ ps) (answer ∷ answers) stage = takes_all ps answers (takes p.place answer.ending stage)
 
-abbrev pub resumed_work : List Part → List Evaluation → Work → Work
+abbrev pub resumed_work : List AwaitedChild → List Evaluation → Work → Work
 resumed_work parts answers (Splits left) = Splits left
 resumed_work parts answers (Runs stage) = Runs (resumed (takes_all parts answers stage))
 resumed_work parts answers (Over v gone_on) = Over v true
 
-abbrev pub more_values : Place → Result (List Value) Fault → List Value → List Value
+abbrev pub more_values : Destination → Result (List Value) Fault → List Value → List Value
 more_values (Spawned height target) ended values = values
 more_values (Looped target) ended values = values
 more_values Half (Ok vs) values = values ++ vs
 more_values Half (Err f) values = values
 
-abbrev pub all_values : List Part → List Evaluation → List Value → List Value
+abbrev pub all_values : List AwaitedChild → List Evaluation → List Value → List Value
 all_values [] answers values = values
 all_values (p ∷ ps) [] values = values
 all_values (p ∷ ps) (answer ∷ answers) values = all_values ps answers (more_values p.place answer.ending values)
@@ -250,8 +250,8 @@ all_values (p ∷ ps) (answer ∷ answers) values = all_values ps answers (more_
 -- The task once its wait is over, with the answers of the children that it handed out, in order.
 abbrev pub on : List Evaluation → Task → Task
 on answers t =
-    let parts = t.pieces.handed in record t {
-      pieces = heard_all parts answers (record t.pieces { handed = [] });
+    let parts = t.trace.handed in record t {
+      trace = heard_all parts answers (record t.trace { handed = [] });
       values = all_values parts answers t.values;
       work = resumed_work parts answers t.work;
       waiting = false;

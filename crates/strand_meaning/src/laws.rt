@@ -65,7 +65,7 @@ pub fn moves_leave_unfilled_alone()
     ensures { MovesLeaveUnfilledAlone }
 {}
 
-/// In each task the unfilled variables of each activation are among the pending ones by which validity judges the statement at which it stands.
+/// In each task the unfilled variables of each frame are among the pending ones by which validity judges the statement at which it stands.
 pub fn unfilled_is_pending()
     ensures { UnfilledIsPending }
 {}
@@ -116,7 +116,7 @@ pub fn faults_pass()
     ensures { FaultsPass }
 {}
 
-/// A task that heard a fault or a cut answers by the first of them in the order of its pieces.
+/// A task that heard a fault or a cut answers by the first of them in the order of its trace.
 pub fn answers_end()
     ensures { AnswersEnd }
 {}

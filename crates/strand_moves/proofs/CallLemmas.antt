@@ -14,8 +14,8 @@ use Rattle.serial_meaning.specs.declared.value.Value.{Value}
 use Rattle.script_grammar.specs.declared.tree.Expr.{Expr}
 use Rattle.script_grammar.specs.declared.tree.Param.{Param}
 use Rattle.strand_values.specs.Changes.{called_with}
-use Rattle.strand_moves.specs.declared.activation.Activation.{Activation}
-use Rattle.strand_moves.specs.declared.activation.Level.{Level}
+use Rattle.strand_moves.specs.declared.frame.Frame.{Frame}
+use Rattle.strand_moves.specs.declared.frame.Level.{Level}
 use Rattle.script_grammar.specs.declared.tree.Stmt.{Stmt}
 use Rattle.strand_moves.specs.declared.running.Running.{Running}
 use Rattle.strand_values.specs.declared.halt.Halt as values
@@ -23,7 +23,7 @@ use Rattle.strand_values.specs.declared.halt.Halt.TheVariants as halt
 use Rattle.strand_moves.specs.Acts.{IsCallee, Stands, Stays}
 use Rattle.strand_moves.specs.Quick.{quiet}
 use Rattle.strand_moves.specs.Cursors.{left_of}
-use Rattle.strand_moves.specs.Running.{activation_of, block_inside, body_in, body_of, levels_of, machine_of, scopes_of}
+use Rattle.strand_moves.specs.Running.{frame_of, block_inside, body_in, body_of, levels_of, machine_of, scopes_of}
 use Rattle.strand_moves.proofs.Equations.{callee}
 
 -- Tests
@@ -41,18 +41,18 @@ is_not_below a b h = by_test (nat_lt a b) refl
 -- Machines
 
 pub calls-open : (plan : PlanView) (i : Running) → length (machine_of plan i).below ≡ length i.below.items
-calls-open plan i = length-map (reverse i.below.items) (activation_of plan false) ∙ length-reverse i.below.items
+calls-open plan i = length-map (reverse i.below.items) (frame_of plan false) ∙ length-reverse i.below.items
 
--- the activations below, with one more
-pub below-more : (plan : PlanView) (items : List Activation) (a : Activation) → map (activation_of plan false) (reverse (items ++ a ∷ [])) ≡ activation_of plan false a ∷ map (activation_of plan false) (reverse items)
-below-more plan items a = ap (map (activation_of plan false)) (reverse-append items (a ∷ []))
+-- the frames below, with one more
+pub below-more : (plan : PlanView) (items : List Frame) (a : Frame) → map (frame_of plan false) (reverse (items ++ a ∷ [])) ≡ frame_of plan false a ∷ map (frame_of plan false) (reverse items)
+below-more plan items a = ap (map (frame_of plan false)) (reverse-append items (a ∷ []))
 
 -- their open scopes
-pub scopes-more : (items : List Activation) (a : Activation) → scopes_of (reverse (items ++ a ∷ [])) ≡ reverse a.levels.items ++ scopes_of (reverse items)
-scopes-more items a = ap (λ (stack : List Activation). scopes_of stack) (reverse-append items (a ∷ []))
+pub scopes-more : (items : List Frame) (a : Frame) → scopes_of (reverse (items ++ a ∷ [])) ≡ reverse a.levels.items ++ scopes_of (reverse items)
+scopes-more items a = ap (λ (stack : List Frame). scopes_of stack) (reverse-append items (a ∷ []))
 
 module _ (plan : PlanView) (number : ℕ) (f : Function) (vs : List Value) (target : Option Name) where
-  pub callee-begun : (a : Activation) → IsCallee number (bound f.params vs) target a → function_at (functions_of plan) number ≡ Some f → activation_of plan false a ≡ callee target number f vs
+  pub callee-begun : (a : Frame) → IsCallee number (bound f.params vs) target a → function_at (functions_of plan) number ≡ Some f → frame_of plan false a ≡ callee target number f vs
   callee-begun a is h =
       let text = ap (λ (ls : List Level). block_inside (body_of plan a.function) (reverse ls)) is.levels in
       let levels = ap (λ (ls : List Level). levels_of (body_of plan a.function) (reverse ls)) is.levels in
@@ -62,7 +62,7 @@ module _ (plan : PlanView) (number : ℕ) (f : Function) (vs : List Value) (targ
 
   pub machine-begun : (old new : Running) → IsCallee number (bound f.params vs) target new.top → new.below.items ≡ old.below.items ++ old.top ∷ [] → new.rank ≡ old.rank → new.steps ≡ old.steps → new.leaving ≡ old.leaving → old.leaving ≡ false →
       function_at (functions_of plan) number ≡ Some f →
-      machine_of plan new ≡ record { rank = old.rank; steps = old.steps; top = callee target number f vs; below = activation_of plan old.leaving old.top ∷ map (activation_of plan false) (reverse old.below.items) }
+      machine_of plan new ≡ record { rank = old.rank; steps = old.steps; top = callee target number f vs; below = frame_of plan old.leaving old.top ∷ map (frame_of plan false) (reverse old.below.items) }
   machine-begun old new is b r s l e h = rw (l, e, callee-begun new.top is h, b, below-more plan old.below.items old.top, r, s) refl
 
 -- a call that begins opens no scope and leaves none
@@ -70,7 +70,7 @@ pub begun-stays : (number : ℕ) (env : Env) (target : Option Name) (old new : R
 begun-stays number env target old new is b t l =
     record {
       trail = t;
-      scopes = ap (λ (ls : List Level). reverse ls ++ scopes_of (reverse new.below.items)) is.levels ∙ ap (λ (stack : List Activation). scopes_of (reverse stack)) b ∙ scopes-more old.below.items old.top;
+      scopes = ap (λ (ls : List Level). reverse ls ++ scopes_of (reverse new.below.items)) is.levels ∙ ap (λ (stack : List Frame). scopes_of (reverse stack)) b ∙ scopes-more old.below.items old.top;
       leaving = l;
     }
 

@@ -15,13 +15,13 @@ use Rattle.serial_meaning.specs.Open.{answer_filler}
 use Rattle.serial_meaning.specs.declared.value.Value.{Value}
 use Rattle.serial_meaning.specs.declared.event.Event.TheVariants as event
 use Rattle.serial_meaning.specs.declared.origin.Origin.TheVariants as origin
-use Rattle.strand_meaning.specs.Machine.{Spawned, Told, Handed, with_scalar}
+use Rattle.strand_meaning.specs.Machine.{Spawned, Emitted, Handed, with_scalar}
 use Rattle.strand_moves.specs.declared.running.Running.{Running}
-use Rattle.strand_moves.specs.declared.shown.Shown.{Shown}
-use Rattle.strand_moves.specs.declared.shown.Shown.TheVariants as shown
+use Rattle.strand_moves.specs.declared.effects.Effects.{Effects}
+use Rattle.strand_moves.specs.declared.effects.Effects.TheVariants as shown
 use Rattle.strand_moves.specs.Acts.{loop_begins}
 use Rattle.strand_moves.specs.Running.{machine_of, present_of}
-use Rattle.strand_moves.specs.Moves.{acted, spawn_to, tokens_of}
+use Rattle.strand_moves.specs.Moves.{acted, spawn_to, effects_of}
 use Rattle.strand_moves.proofs.CallLemmas.{is_below, calls-open}
 use Rattle.strand_moves.proofs.Equations.{went, spawn}
 use Rattle.strand_moves.proofs.LoopEquations.{pfor-none, pfor-some}
@@ -36,7 +36,7 @@ module _ (plan : PlanView) (i : Running) (st : Stmt) where
       instead ≡ answer_filler (function_at (functions_of plan) function) → env ≡ with_scalar target instead i.top.env → received ≡ record i { top = record i.top { env = env } } →
       height ≡ length i.below.items → to ≡ target →
       acted plan (present_of i) (machine_of plan i) st (spawn_to target c)
-      ≡ went (Told (event.Spawn at) ∷ Handed (origin.Instance function vs path) (Spawned height to) ∷ []) (machine_of plan (record received { rank = received.rank + 1; top = record received.top { spawned = true } }))
+      ≡ went (Emitted (event.Spawn at) ∷ Handed (origin.Instance function vs path) (Spawned height to) ∷ []) (machine_of plan (record received { rank = received.rank + 1; top = record received.top { spawned = true } }))
   spawned-child target c vs instead function height at path to env received known room number a p filler e r h t =
       let deep = is_below (length (present_of i) + 1) plan.limits.depth room in
       let put = rw (filler, number) at e in
@@ -52,13 +52,13 @@ module _ (plan : PlanView) (i : Running) (st : Stmt) where
     left : i.steps - n ≡ steps
     left = omega arith
 
-    pub looped-none : n ≡ 0 → (s : Shown) (passed : Running) → s ≡ shown.Told (event.Loop (strand_at begun)) → passed ≡ passed_on →
-        acted plan (present_of i) (machine_of plan i) st (act.Pfor var lo hi target c) ≡ went (tokens_of s) (machine_of plan passed)
+    pub looped-none : n ≡ 0 → (s : Effects) (passed : Running) → s ≡ shown.Emitted (event.Loop (strand_at begun)) → passed ≡ passed_on →
+        acted plan (present_of i) (machine_of plan i) st (act.Pfor var lo hi target c) ≡ went (effects_of s) (machine_of plan passed)
     looped-none none s passed e p =
         rw (e, p, is-begun, ← left) (pfor-none plan (present_of i) (machine_of plan i) st var lo hi target c l h vs n known-lo known-hi known-args counted none begins)
 
-    pub looped-some : 0 < n → (s : Shown) (passed : Running) (function : ℕ) (first : ℤ) (path : List ℕ) (trail : Trail) → function ≡ number_of (functions_of plan) c.name.bytes → first ≡ number l → path ≡ strand_at begun →
+    pub looped-some : 0 < n → (s : Effects) (passed : Running) (function : ℕ) (first : ℤ) (path : List ℕ) (trail : Trail) → function ≡ number_of (functions_of plan) c.name.bytes → first ≡ number l → path ≡ strand_at begun →
         s ≡ shown.Looped (event.Loop (strand_at begun)) (record { origin = origin.Loop function vs first path (record { lo = 0; hi = n }); trail = trail }) target → passed ≡ passed_on →
-        acted plan (present_of i) (machine_of plan i) st (act.Pfor var lo hi target c) ≡ went (tokens_of s) (machine_of plan passed)
+        acted plan (present_of i) (machine_of plan i) st (act.Pfor var lo hi target c) ≡ went (effects_of s) (machine_of plan passed)
     looped-some some s passed function first path trail f g a e p =
         rw (e, p, f, g, a, is-begun, ← left) (pfor-some plan (present_of i) (machine_of plan i) st var lo hi target c l h vs n known-lo known-hi known-args counted some begins)

@@ -4,7 +4,7 @@ use Rattle.std.proofs.lemmas.List.{append-nil, append_assoc, drop_all, drop_more
 use Rattle.std.proofs.lemmas.Option.{slice_get_within, get_or_from_slice_get}
 use Rattle.script_grammar.specs.declared.tree.Stmt.{Stmt, out-Stmt}
 use Rattle.script_grammar.specs.declared.tree.Act.{out-Act}
-use Rattle.strand_moves.specs.declared.cursor.Part.TheVariants as part
+use Rattle.strand_moves.specs.declared.cursor.Branch.TheVariants as part
 use Rattle.strand_moves.specs.declared.cursor.Entered.{Entered}
 use Rattle.strand_moves.specs.declared.cursor.Cursor.{Cursor}
 use Rattle.strand_moves.specs.Cursors.{part_of, part_at, place_before, block_in, block_of, behind_of, left_of, IsBehind, Passes}

@@ -8,7 +8,7 @@ use Rattle.script_grammar.specs.declared.tree.Act.TheOpen.{Act-F}
 use Rattle.serial_meaning.specs.Values.{value_of, is_true}
 use Rattle.serial_meaning.specs.Plan.{PlanView}
 use Rattle.serial_meaning.specs.declared.value.Value.{Value}
-use Rattle.strand_moves.specs.declared.cursor.Part.TheVariants as part
+use Rattle.strand_moves.specs.declared.cursor.Branch.TheVariants as part
 use Rattle.strand_moves.specs.declared.cursor.Cursor.{Cursor}
 use Rattle.strand_moves.specs.declared.running.Running.{Running}
 use Rattle.strand_moves.specs.Cursors.{part_of, left_of}

@@ -29,17 +29,17 @@ use Rattle.serial_meaning.specs.declared.event.Fault.{Fault}
 use Rattle.serial_meaning.specs.declared.event.Event.TheVariants as event
 use Rattle.serial_meaning.specs.declared.origin.Origin.{Origin}
 use Rattle.serial_meaning.specs.declared.origin.Origin.TheVariants as origin
-use Rattle.strand_meaning.specs.Machine.{Spawned, Token, Told, Handed, Opens, handing, here_of, inside, place_of, Activation, Machine, Reached, Stands, state_of, with_left, with_scalar, entered, reached, statement_move, sync_tokens}
+use Rattle.strand_meaning.specs.Machine.{Spawned, Effect, Emitted, Handed, Opens, handing, here_of, inside, place_of, Frame, Machine, Reached, Stands, state_of, with_left, with_scalar, entered, reached, statement_move, sync_effects}
 use Rattle.strand_moves.specs.Moves.{acted, call_to, spawn_to}
 
 abbrev pub with_env : Machine → Env → Machine
 with_env m env = record m { top = record m.top { env = env } }
 
 -- how a run goes on, or ends by a fault, from this machine
-abbrev pub went : List Token → Machine → Run Token Fault Reached
-went tokens m = record { items = tokens; ending = Ok (Stands m) }
+abbrev pub went : List Effect → Machine → Run Effect Fault Reached
+went effects m = record { items = effects; ending = Ok (Stands m) }
 
-abbrev pub faults : FaultKind → List ℕ → Run Token Fault Reached
+abbrev pub faults : FaultKind → List ℕ → Run Effect Fault Reached
 faults kind strand = record { items = []; ending = Err (record { kind = kind; at = strand }) }
 
 -- The step
@@ -51,7 +51,7 @@ behind_statement m n left = record m { steps = n; top = record m.top { left = le
 module _ (plan : PlanView) (here : List ℕ) (m : Machine) (st : Stmt) (left : List Stmt) where
   by_act : (n : ℕ) (a : Act-F Act Stmt) →
       (let r = does (handing plan (place_of (length m.below) a)) plan here inside (length m.below) st a (record (state_of m) { steps = n }) in
-      let run : Run Token Fault Reached = record { items = r.items; ending = reached plan (with_left m left) (entered plan st a left m) r.ending } in run)
+      let run : Run Effect Fault Reached = record { items = r.items; ending = reached plan (with_left m left) (entered plan st a left m) r.ending } in run)
       ≡ acted plan here (behind_statement m n left) st a
   unfolding acted
   by_act n (act.Let x (right.Value e)) = refl
@@ -81,7 +81,7 @@ module _ (plan : PlanView) (path : List ℕ) (m : Machine) (st : Stmt) (left : L
       let a = out-Act (out-Stmt st).act in
       ap (λ (k : ℕ).
       let r = paid_from (handing plan (place_of (length m.below) a)) plan (here_of path m) k (state_of m) (λ s. does (handing plan (place_of (length m.below) a)) plan (here_of path m) inside (length m.below) st a s) in
-      let run : Run Token Fault Reached = record { items = r.items; ending = reached plan (with_left m left) (entered plan st a left m) r.ending } in run) h
+      let run : Run Effect Fault Reached = record { items = r.items; ending = reached plan (with_left m left) (entered plan st a left m) r.ending } in run) h
       ∙ by_act plan (here_of path m) m st left n a
 
   pub unpaid-move : m.steps ≡ 0 → statement_move plan path m st left ≡ faults Budget (here_of path m ++ m.rank ∷ [])
@@ -89,8 +89,8 @@ module _ (plan : PlanView) (path : List ℕ) (m : Machine) (st : Stmt) (left : L
 
 -- The statements
 
--- the activation that a call begins
-abbrev pub callee : Option Name → ℕ → Function → List Value → Activation
+-- the frame that a call begins
+abbrev pub callee : Option Name → ℕ → Function → List Value → Frame
 callee target number f vs = record { function = number; left = f.body; levels = []; leaving = false; returning = false; env = bound f.params vs; spawned = false; faulted = None; target = target }
 
 module _ (plan : PlanView) (path : List ℕ) (m : Machine) (st : Stmt) where
@@ -113,12 +113,12 @@ module _ (plan : PlanView) (path : List ℕ) (m : Machine) (st : Stmt) where
   set-value-fault x e kind h = rw h refl
 
   pub set-draw : (x : Name) (at n : ℕ) (env : Env) → n ≡ drawn plan (path ++ m.rank ∷ []) → env ≡ with_slot m.top.env x.bytes (Scalar (Int (cast_signed w64 n))) →
-      acted plan path m st (act.Set x (right.Draw at)) ≡ went (Told (event.Draw (path ++ m.rank ∷ []) n) ∷ []) (record (with_env m env) { rank = m.rank + 1 })
+      acted plan path m st (act.Set x (right.Draw at)) ≡ went (Emitted (event.Draw (path ++ m.rank ∷ []) n) ∷ []) (record (with_env m env) { rank = m.rank + 1 })
   unfolding acted
   set-draw x at n env h k = rw (k, h) refl
 
   pub set-new : (x : Name) (at : ℕ) (env : Env) → env ≡ with_slot m.top.env x.bytes (Scalar (Id (path ++ m.rank ∷ []))) →
-      acted plan path m st (act.Set x (right.New at)) ≡ went (Told (event.New (path ++ m.rank ∷ [])) ∷ []) (record (with_env m env) { rank = m.rank + 1 })
+      acted plan path m st (act.Set x (right.New at)) ≡ went (Emitted (event.New (path ++ m.rank ∷ [])) ∷ []) (record (with_env m env) { rank = m.rank + 1 })
   unfolding acted
   set-new x at env k = rw k refl
 
@@ -126,12 +126,12 @@ module _ (plan : PlanView) (path : List ℕ) (m : Machine) (st : Stmt) where
   unfolding acted
   array x n env h = rw h refl
 
-  pub sync : acted plan path m st act.Sync ≡ went (Told (event.Sync (path ++ m.rank ∷ [])) ∷ sync_tokens m.top.spawned) (record m { rank = m.rank + 1; top = record m.top { spawned = false } })
+  pub sync : acted plan path m st act.Sync ≡ went (Emitted (event.Sync (path ++ m.rank ∷ [])) ∷ sync_effects m.top.spawned) (record m { rank = m.rank + 1; top = record m.top { spawned = false } })
   unfolding acted
   sync =
-      ap (λ (tokens : List Token). went (Told (event.Sync (path ++ m.rank ∷ [])) ∷ tokens) (record m { rank = m.rank + 1; top = record m.top { spawned = false } })) (append-nil (sync_tokens m.top.spawned))
+      ap (λ (effects : List Effect). went (Emitted (event.Sync (path ++ m.rank ∷ [])) ∷ effects) (record m { rank = m.rank + 1; top = record m.top { spawned = false } })) (append-nil (sync_effects m.top.spawned))
 
-  pub print : (e : Expr) (v : Value) → value_of e m.top.env ≡ Ok v → acted plan path m st (act.Print e) ≡ went (Told (event.Print (path ++ m.rank ∷ []) v) ∷ []) m
+  pub print : (e : Expr) (v : Value) → value_of e m.top.env ≡ Ok v → acted plan path m st (act.Print e) ≡ went (Emitted (event.Print (path ++ m.rank ∷ []) v) ∷ []) m
   unfolding acted
   print e v h = rw h refl
 
@@ -199,7 +199,7 @@ module _ (plan : PlanView) (path : List ℕ) (m : Machine) (st : Stmt) where
 
   pub spawn : (target : Option Name) (c : CallText) (vs : List Value) (env : Env) → values_of c.args m.top.env ≡ Ok vs → nat_lt (length path + 1) plan.limits.depth ≡ true →
       env ≡ with_scalar target (filler plan (child c vs)) m.top.env →
-      acted plan path m st (spawn_to target c) ≡ went (Told (event.Spawn (path ++ m.rank ∷ [])) ∷ Handed (child c vs) (Spawned (length m.below) target) ∷ []) (record m { rank = m.rank + 1; top = record m.top { env = env; spawned = true } })
+      acted plan path m st (spawn_to target c) ≡ went (Emitted (event.Spawn (path ++ m.rank ∷ [])) ∷ Handed (child c vs) (Spawned (length m.below) target) ∷ []) (record m { rank = m.rank + 1; top = record m.top { env = env; spawned = true } })
   unfolding acted
   spawn None c vs env h k j = rw (h, k, j) refl
   spawn (Some x) c vs env h k j = rw (h, k, j) refl

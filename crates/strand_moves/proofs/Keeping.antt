@@ -9,12 +9,12 @@ use Rattle.serial_meaning.specs.declared.event.FaultKind.{FaultKind}
 use Rattle.strand_meaning.specs.Machine.{here_of, inside_of, present}
 use Rattle.strand_values.specs.declared.halt.Halt as values
 use Rattle.strand_values.specs.declared.halt.Halt.TheVariants as halt
-use Rattle.strand_moves.specs.declared.activation.Activation.{Activation}
-use Rattle.strand_moves.specs.declared.activation.Level.{Level}
+use Rattle.strand_moves.specs.declared.frame.Frame.{Frame}
+use Rattle.strand_moves.specs.declared.frame.Level.{Level}
 use Rattle.strand_moves.specs.declared.running.Running.{Running}
-use Rattle.strand_moves.specs.declared.shown.Moved.{Moved}
+use Rattle.strand_moves.specs.declared.effects.MoveResult.{MoveResult}
 use Rattle.strand_moves.specs.Acts.{Costs, GoesIn, Keeps, Stands, Stays}
-use Rattle.strand_moves.specs.Running.{AreAround, IsInstance, IsStrand, activation_of, body_of, levels_of, machine_of, most_ranks, open_scopes, path_around, path_of, present_of, ranks_after, scopes_of}
+use Rattle.strand_moves.specs.Running.{AreAround, IsInstance, IsStrand, frame_of, body_of, levels_of, machine_of, most_ranks, open_scopes, path_around, path_of, present_of, ranks_after, scopes_of}
 
 -- Paths
 
@@ -31,30 +31,30 @@ module _ (plan : PlanView) where
   inside-levels body [] rs here h = refl
   inside-levels body (l ∷ ls) rs here h = ap (λ (p : List ℕ). p ++ l.rank ∷ []) (inside-levels body ls rs l.trail.path h.2) ∙ sym h.0
 
-  present-below : (stack : List Activation) (here : List ℕ) → AreAround plan (scopes_of stack) here → present (path_around (scopes_of stack) here) (map (activation_of plan false) stack) ≡ here
+  present-below : (stack : List Frame) (here : List ℕ) → AreAround plan (scopes_of stack) here → present (path_around (scopes_of stack) here) (map (frame_of plan false) stack) ≡ here
   present-below [] here h = refl
   present-below (a ∷ stack) here h =
       let ls = reverse a.levels.items in
       let out = path_around ls here in
       let path = around-append ls (scopes_of stack) here in
-      let rest = ap (λ (p : List ℕ). present p (map (activation_of plan false) stack)) path ∙ present-below stack out (around-rest ls (scopes_of stack) here h) in
+      let rest = ap (λ (p : List ℕ). present p (map (frame_of plan false) stack)) path ∙ present-below stack out (around-rest ls (scopes_of stack) here h) in
       ap (λ (p : List ℕ). inside_of p (levels_of (body_of plan a.function) ls)) rest ∙ inside-levels (body_of plan a.function) ls (scopes_of stack) here h
 
   -- the present path is that of the machine
   pub here-is : (i : Running) → IsInstance plan i → here_of (path_of i) (machine_of plan i) ≡ present_of i
   here-is i h = present-below (i.top ∷ reverse i.below.items) i.trail.path h.around
 
--- Activations whose scopes stay
+-- Frames whose scopes stay
 
-scopes-last : (xs : List Activation) (x : Activation) → scopes_of (xs ++ x ∷ []) ≡ scopes_of xs ++ (reverse x.levels.items ++ [])
+scopes-last : (xs : List Frame) (x : Frame) → scopes_of (xs ++ x ∷ []) ≡ scopes_of xs ++ (reverse x.levels.items ++ [])
 scopes-last [] x = refl
 scopes-last (y ∷ xs) x = ap (λ (ls : List Level). reverse y.levels.items ++ ls) (scopes-last xs x) ∙ sym (append_assoc (reverse y.levels.items) (scopes_of xs) (reverse x.levels.items ++ []))
 
-scopes-turned : (x : Activation) (xs : List Activation) → scopes_of (reverse (x ∷ xs)) ≡ scopes_of (reverse xs) ++ (reverse x.levels.items ++ [])
-scopes-turned x xs = ap (λ (stack : List Activation). scopes_of stack) (reverse-append (x ∷ []) xs) ∙ scopes-last (reverse xs) x
+scopes-turned : (x : Frame) (xs : List Frame) → scopes_of (reverse (x ∷ xs)) ≡ scopes_of (reverse xs) ++ (reverse x.levels.items ++ [])
+scopes-turned x xs = ap (λ (stack : List Frame). scopes_of stack) (reverse-append (x ∷ []) xs) ∙ scopes-last (reverse xs) x
 
 -- one of them is changed
-pub scopes-set : (xs : List Activation) (h : ℕ) (a : Activation) → a.levels.items ≡ (get_or xs h a).levels.items → scopes_of (reverse (set xs h a)) ≡ scopes_of (reverse xs)
+pub scopes-set : (xs : List Frame) (h : ℕ) (a : Frame) → a.levels.items ≡ (get_or xs h a).levels.items → scopes_of (reverse (set xs h a)) ≡ scopes_of (reverse xs)
 scopes-set [] h a e = refl
 scopes-set (x ∷ xs) zero a e = scopes-turned a xs ∙ ap (λ (ls : List Level). scopes_of (reverse xs) ++ (reverse ls ++ [])) e ∙ sym (scopes-turned x xs)
 scopes-set (x ∷ xs) (suc h) a e =
@@ -96,17 +96,17 @@ module _ (plan : PlanView) (old new : Running) (h : IsInstance plan old) (on : o
         leaving = λ e. let no = s.leaving ∙ on in absurd (cc);
       }
 
-  pub keeps-stays : (result : Result Moved values.Halt) → Keeps plan old new result
+  pub keeps-stays : (result : Result MoveResult values.Halt) → Keeps plan old new result
   keeps-stays (Ok moved) = record { instance = stays-instance; path = same-path old new s }
   keeps-stays (Err (halt.Fault kind)) = (record { instance = stays-instance; path = same-path old new s }, s.trail)
   keeps-stays (Err halt.Memory) = tt
 
-pub stands-still : (old new : Running) → Stays old new → (result : Result Moved values.Halt) → Stands old new result
+pub stands-still : (old new : Running) → Stays old new → (result : Result MoveResult values.Halt) → Stands old new result
 stands-still old new s (Ok moved) = s
 stands-still old new s (Err (halt.Fault kind)) = s
 stands-still old new s (Err halt.Memory) = tt
 
-pub stands-same : (old : Running) (result : Result Moved values.Halt) → Stands old old result
+pub stands-same : (old : Running) (result : Result MoveResult values.Halt) → Stands old old result
 stands-same old result = stands-still old old (record { trail = refl; scopes = refl; leaving = refl }) result
 
 -- after the step of a statement
@@ -120,10 +120,10 @@ module _ (plan : PlanView) (old paid : Running) (n : ℕ) (h : IsInstance plan o
   paid-costs : (new : Running) → Costs paid new → new.rank + new.steps ≤ old.rank + old.steps
   paid-costs new c = let P : Running → Type 0 = λ x. Costs x new in let d = subst P is-paid c in omega (arith, d, less)
 
-  pub keeps-paid : (new : Running) → Stays paid new → Costs paid new → (result : Result Moved values.Halt) → Keeps plan old new result
+  pub keeps-paid : (new : Running) → Stays paid new → Costs paid new → (result : Result MoveResult values.Halt) → Keeps plan old new result
   keeps-paid new s c result = keeps-stays plan old new h on (paid-stays new s) (paid-costs new c) result
 
-  pub keeps-unless : (new : Running) → Costs paid new → (result : Result Moved values.Halt) → Stands paid new result → Keeps plan old new result
+  pub keeps-unless : (new : Running) → Costs paid new → (result : Result MoveResult values.Halt) → Stands paid new result → Keeps plan old new result
   keeps-unless new c (Ok moved) s = keeps-paid new s c (Ok moved)
   keeps-unless new c (Err (halt.Fault kind)) s = keeps-paid new s c (Err (halt.Fault kind))
   keeps-unless new c (Err halt.Memory) s = tt
@@ -143,7 +143,7 @@ module _ (plan : PlanView) (old paid : Running) (n : ℕ) (h : IsInstance plan o
         leaving = λ e. let no = g.leaving ∙ on in absurd (cc);
       }
 
-  keeps-into-at : (new : Running) (result : Result Moved values.Halt) → IfOk result (λ _. GoesIn plan (record old { steps = n }) new) → ((kind : FaultKind) → result ≡ Err (halt.Fault kind) → new ≡ record old { steps = n }) → Keeps plan old new result
+  keeps-into-at : (new : Running) (result : Result MoveResult values.Halt) → IfOk result (λ _. GoesIn plan (record old { steps = n }) new) → ((kind : FaultKind) → result ≡ Err (halt.Fault kind) → new ≡ record old { steps = n }) → Keeps plan old new result
   keeps-into-at new (Ok moved) g same = record { instance = into-instance new g; path = ap (λ (ls : List Level). path_around ls new.trail.path) g.scopes }
   keeps-into-at new (Err (halt.Fault kind)) g same =
       let s : Stays old new = subst (λ (x : Running). Stays old x) (sym (same kind refl)) (record { trail = refl; scopes = refl; leaving = refl }) in
@@ -152,14 +152,14 @@ module _ (plan : PlanView) (old paid : Running) (n : ℕ) (h : IsInstance plan o
       keeps-stays plan old new h on s (omega (arith, rank, steps, less)) (Err (halt.Fault kind))
   keeps-into-at new (Err halt.Memory) g same = tt
 
-  pub keeps-into : (new : Running) (result : Result Moved values.Halt) → IfOk result (λ _. GoesIn plan paid new) → ((kind : FaultKind) → result ≡ Err (halt.Fault kind) → new ≡ paid) → Keeps plan old new result
+  pub keeps-into : (new : Running) (result : Result MoveResult values.Halt) → IfOk result (λ _. GoesIn plan paid new) → ((kind : FaultKind) → result ≡ Err (halt.Fault kind) → new ≡ paid) → Keeps plan old new result
   keeps-into new result g same =
       let P : Running → Type 0 = λ x. IfOk result (λ _. GoesIn plan x new) in
       keeps-into-at new result (subst P is-paid g) (λ kind e. same kind e ∙ is-paid)
 
--- An instance of which activations were changed, but for their places
+-- An instance of which frames were changed, but for their places
 
-module _ (i : Running) (below : List Activation) (same : scopes_of (reverse below) ≡ scopes_of (reverse i.below.items)) where
+module _ (i : Running) (below : List Frame) (same : scopes_of (reverse below) ≡ scopes_of (reverse i.below.items)) where
   changed-scopes : scopes_of (i.top ∷ reverse below) ≡ open_scopes i
   changed-scopes = ap (λ (ls : List Level). reverse i.top.levels.items ++ ls) same
 
@@ -172,7 +172,7 @@ module _ (i : Running) (below : List Activation) (same : scopes_of (reverse belo
   pub changed-around : (plan : PlanView) → AreAround plan (open_scopes i) i.trail.path → AreAround plan (scopes_of (i.top ∷ reverse below)) i.trail.path
   changed-around plan h = subst (λ (ls : List Level). AreAround plan ls i.trail.path) (sym changed-scopes) h
 
--- the scopes of an activation that is replaced by one with the same
-pub scopes-replaced : (xs : List Activation) (h : ℕ) (old a : Activation) → h < length xs → old ≡ get_or xs h old → a.levels.items ≡ old.levels.items → scopes_of (reverse (set xs h a)) ≡ scopes_of (reverse xs)
+-- the scopes of a frame that is replaced by one with the same
+pub scopes-replaced : (xs : List Frame) (h : ℕ) (old a : Frame) → h < length xs → old ≡ get_or xs h old → a.levels.items ≡ old.levels.items → scopes_of (reverse (set xs h a)) ≡ scopes_of (reverse xs)
 scopes-replaced xs h old a within there same =
-    scopes-set xs h a (same ∙ ap (λ (x : Activation). x.levels.items) (there ∙ get_or_default xs h old a within))
+    scopes-set xs h a (same ∙ ap (λ (x : Frame). x.levels.items) (there ∙ get_or_default xs h old a within))

@@ -10,9 +10,9 @@ use Rattle.script_grammar.specs.declared.tree.Act.TheOpen as act
 use Rattle.script_grammar.specs.declared.tree.Act.TheOpen.{Act-F}
 use Rattle.serial_meaning.specs.Plan.{PlanView}
 use Rattle.serial_meaning.specs.declared.event.Event.TheVariants as event
-use Rattle.strand_meaning.specs.Machine.{Opens, Closes, Machine, Told, Token, end_move, here_of, inside_of, level_move, move, move_at, present, return_move, sync_tokens}
+use Rattle.strand_meaning.specs.Machine.{Opens, Closes, Machine, Emitted, Effect, end_move, here_of, inside_of, level_move, move, move_at, present, return_move, sync_effects}
 use Rattle.strand_meaning.specs.Machine as meaning
-use Rattle.strand_moves.specs.declared.activation.Level.{Level}
+use Rattle.strand_moves.specs.declared.frame.Level.{Level}
 use Rattle.strand_moves.specs.declared.cursor.Cursor.{Cursor}
 use Rattle.strand_moves.specs.declared.running.Running.{Running}
 use Rattle.strand_moves.specs.Acts.{GoesIn, IsKept}
@@ -30,10 +30,10 @@ module _ (plan : PlanView) (path : List ℕ) (m : Machine) where
 
     pub joins : m.top.leaving ≡ false →
         end_move plan path m m.top.levels
-        ≡ went (Told (event.Sync (here_of path m ++ m.rank ∷ [])) ∷ sync_tokens m.top.spawned) (record m { rank = m.rank + 1; top = record m.top { leaving = true; spawned = false } })
+        ≡ went (Emitted (event.Sync (here_of path m ++ m.rank ∷ [])) ∷ sync_effects m.top.spawned) (record m { rank = m.rank + 1; top = record m.top { leaving = true; spawned = false } })
     joins e =
         end-some false e
-        ∙ ap (λ (tokens : List Token). went (Told (event.Sync (here_of path m ++ m.rank ∷ [])) ∷ tokens) (record m { rank = m.rank + 1; top = record m.top { leaving = true; spawned = false } })) (append-nil (sync_tokens m.top.spawned))
+        ∙ ap (λ (effects : List Effect). went (Emitted (event.Sync (here_of path m ++ m.rank ∷ [])) ∷ effects) (record m { rank = m.rank + 1; top = record m.top { leaving = true; spawned = false } })) (append-nil (sync_effects m.top.spawned))
 
     pub goes-out : m.top.leaving ≡ true →
         end_move plan path m m.top.levels
@@ -134,12 +134,12 @@ module _ (plan : PlanView) (i : Running) (h : IsInstance plan i) where
     first : (l : Level) × ((rest : List Level) × (reverse i.top.levels.items ≡ l ∷ rest))
     first = some-first (reverse i.top.levels.items) (turned-some i.top.levels.items some)
 
-    pub join-moves : end_move plan (path_of i) (machine_of plan i) (machine_of plan i).top.levels ≡ went (Told (event.Sync (present_of i ++ i.rank ∷ [])) ∷ sync_tokens i.top.spawned) (machine_of plan joined)
+    pub join-moves : end_move plan (path_of i) (machine_of plan i) (machine_of plan i).top.levels ≡ went (Emitted (event.Sync (present_of i ++ i.rank ∷ [])) ∷ sync_effects i.top.spawned) (machine_of plan joined)
     join-moves =
         let m = machine_of plan i in
         let body = body_of plan i.top.function in
         joins plan (path_of i) m _ _ (ap (λ (ls : List Level). levels_of body ls) first.1.1) on
-        ∙ ap (λ (p : List ℕ). went (Told (event.Sync (p ++ i.rank ∷ [])) ∷ sync_tokens i.top.spawned) (machine_of plan joined)) (here-is plan i h)
+        ∙ ap (λ (p : List ℕ). went (Emitted (event.Sync (p ++ i.rank ∷ [])) ∷ sync_effects i.top.spawned) (machine_of plan joined)) (here-is plan i h)
 
     pub join-kept : left_of (text_of plan i.top) i.top.cursor ≡ [] → IsKept plan i joined
     join-kept none =

@@ -3,10 +3,10 @@ use Rattle.std.proofs.Common.{◌≡◌, ℕ, ◌+◌, List, [], Option, Some, N
 use Rattle.script_grammar.specs.declared.tree.Stmt.{Stmt}
 use Rattle.serial_meaning.specs.Plan.{PlanView}
 use Rattle.strand_meaning.specs.Machine.{Machine, end_move, move, statement_move}
-use Rattle.strand_moves.specs.declared.activation.Level.{Level}
+use Rattle.strand_moves.specs.declared.frame.Level.{Level}
 use Rattle.strand_moves.specs.declared.cursor.Cursor.{Cursor}
 use Rattle.strand_moves.specs.declared.running.Running.{Running}
-use Rattle.strand_moves.specs.declared.shown.Moved.{Moved}
+use Rattle.strand_moves.specs.declared.effects.MoveResult.{MoveResult}
 use Rattle.strand_moves.specs.Cursors.{left_of, Passes}
 use Rattle.strand_moves.specs.Moves.{run_of}
 use Rattle.strand_moves.specs.Rows.{Comes, HasPassed, IsNext, Row, RunsOn, unpassed}
@@ -59,7 +59,7 @@ module _ (plan : PlanView) (first now : Running) (next : Option Stmt) (h : Comes
   pub comes-path : path_of now ≡ path_of first
   comes-path = ap (λ (x : Running). path_of x) h.passed ∙ h.path
 
-  comes-runs : (m : Moved) (new : Running) → move plan (path_of now) (unpassed plan now next) ≡ run_of m (machine_of plan new) → RunsOn plan first m new
+  comes-runs : (m : MoveResult) (new : Running) → move plan (path_of now) (unpassed plan now next) ≡ run_of m (machine_of plan new) → RunsOn plan first m new
   comes-runs m new e =
       let same : unpassed plan now next ≡ machine_of plan h.before = ap (λ (x : Running). unpassed plan x next) h.passed ∙ passed-machine plan h.before now.top.cursor next h.at in
       let path : path_of now ≡ path_of h.before = ap (λ (x : Running). path_of x) h.passed in
@@ -69,7 +69,7 @@ module _ (plan : PlanView) (first now : Running) (next : Option Stmt) (h : Comes
         last = ap (λ (n : Machine). move plan (path_of h.before) n) (sym same) ∙ ap (λ (p : List ℕ). move plan p (unpassed plan now next)) (sym path) ∙ e;
       }
 
-  pub comes-moved : {E : Type 0} (r : Result Moved E) (new : Running) → IfOk r (λ m. move plan (path_of now) (unpassed plan now next) ≡ run_of m (machine_of plan new)) → IfOk r (λ m. RunsOn plan first m new)
+  pub comes-moved : {E : Type 0} (r : Result MoveResult E) (new : Running) → IfOk r (λ m. move plan (path_of now) (unpassed plan now next) ≡ run_of m (machine_of plan new)) → IfOk r (λ m. RunsOn plan first m new)
   comes-moved (Ok m) new e = comes-runs m new e
   comes-moved (Err e) new h = tt
 

@@ -11,18 +11,18 @@ use Rattle.serial_meaning.specs.Runs.{Run}
 use Rattle.serial_meaning.specs.Plan.{PlanView}
 use Rattle.serial_meaning.specs.declared.event.Fault.{Fault}
 use Rattle.serial_meaning.specs.declared.event.FaultKind.TheVariants.{Budget}
-use Rattle.strand_meaning.specs.Machine.{Token, Machine, Reached, here_of, statement_move}
+use Rattle.strand_meaning.specs.Machine.{Effect, Machine, Reached, here_of, statement_move}
 use Rattle.strand_values.specs.declared.halt.Halt as values
 use Rattle.strand_moves.specs.declared.running.Running.{Running}
-use Rattle.strand_moves.specs.declared.shown.Moved.{Moved}
+use Rattle.strand_moves.specs.declared.effects.MoveResult.{MoveResult}
 use Rattle.strand_moves.specs.Acts.{Acts}
 use Rattle.strand_moves.specs.Cursors.{IsBehind}
 use Rattle.strand_moves.specs.Running.{machine_of, path_of, present_of, text_of}
 use Rattle.strand_moves.specs.Moves.{acted, Makes, strand_of}
 use Rattle.strand_moves.proofs.Equations.{behind_statement, faults, paid-move, unpaid-move}
 
-pub shows-same : (run other : Run Token Fault Reached) (strand : List ℕ) (m : Machine) (result : Result Moved values.Halt) → run ≡ other → Makes other strand m result → Makes run strand m result
-shows-same run other strand m result e h = let P : Run Token Fault Reached → Type 0 = λ r. Makes r strand m result in subst P (sym e) h
+pub shows-same : (run other : Run Effect Fault Reached) (strand : List ℕ) (m : Machine) (result : Result MoveResult values.Halt) → run ≡ other → Makes other strand m result → Makes run strand m result
+shows-same run other strand m result e h = let P : Run Effect Fault Reached → Type 0 = λ r. Makes r strand m result in subst P (sym e) h
 
 -- an act by its variant
 pub act-is : (d : Act-F Act Stmt) (a b : Act) → a ≡ b → roll-Act d ≡ b → out-Act a ≡ d
@@ -39,7 +39,7 @@ module _ (plan : PlanView) (path : List ℕ) (m : Machine) (st : Stmt) (x : Name
   spawn-at = refl
 
 module _ (plan : PlanView) (i paid : Running) (n : ℕ) (is-paid : paid ≡ record i { steps = n }) (less : n + 1 ≡ i.steps) where
-  pub statement-paid : here_of (path_of i) (machine_of plan i) ≡ present_of i → (st : Stmt) (a : Act-F Act Stmt) (new : Running) (result : Result Moved values.Halt) → out-Act (out-Stmt st).act ≡ a → Acts plan st a paid new result →
+  pub statement-paid : here_of (path_of i) (machine_of plan i) ≡ present_of i → (st : Stmt) (a : Act-F Act Stmt) (new : Running) (result : Result MoveResult values.Halt) → out-Act (out-Stmt st).act ≡ a → Acts plan st a paid new result →
       Makes (statement_move plan (path_of i) (machine_of plan i) st (machine_of plan i).top.left) (strand_of (present_of i) (machine_of plan i)) (machine_of plan new) result
   statement-paid here st a new result e h =
       let m = machine_of plan i in

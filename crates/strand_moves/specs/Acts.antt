@@ -16,15 +16,15 @@ use Rattle.serial_meaning.specs.declared.event.FaultKind.{FaultKind}
 use Rattle.serial_meaning.specs.declared.event.FaultKind.TheVariants.{Index, Depth, Budget}
 use Rattle.strand_values.specs.declared.halt.Halt as values
 use Rattle.strand_values.specs.declared.halt.Halt.TheVariants as halt
-use Rattle.strand_moves.specs.declared.activation.Activation.{Activation}
+use Rattle.strand_moves.specs.declared.frame.Frame.{Frame}
 use Rattle.strand_moves.specs.declared.running.Running.{Running}
-use Rattle.strand_moves.specs.declared.shown.Moved.{Moved}
+use Rattle.strand_moves.specs.declared.effects.MoveResult.{MoveResult}
 use Rattle.strand_moves.specs.Cursors.{left_of}
 use Rattle.strand_moves.specs.Running.{IsInstance, machine_of, open_scopes, path_of, present_of}
 use Rattle.strand_moves.specs.Moves.{acted, Makes, strand_of}
 
 -- the call shows and leaves what this act does, and a fault is one of this strand
-abbrev pub Acts : PlanView → Stmt → Act-F Act Stmt → Running → Running → Result Moved values.Halt → Type 0
+abbrev pub Acts : PlanView → Stmt → Act-F Act Stmt → Running → Running → Result MoveResult values.Halt → Type 0
 Acts plan st a old new result =
     Makes (acted plan (present_of old) (machine_of plan old) st a) (strand_of (present_of old) (machine_of plan old)) (machine_of plan new) result
 
@@ -39,7 +39,7 @@ pub record Stays (old new : Running) : Type 0 where
   pub leaving : new.leaving ≡ old.leaving
 
 -- Where there was memory for it, they stay.
-abbrev pub Stands : Running → Running → Result Moved values.Halt → Type 0
+abbrev pub Stands : Running → Running → Result MoveResult values.Halt → Type 0
 Stands old new (Ok moved) = Stays old new
 Stands old new (Err (halt.Fault kind)) = Stays old new
 Stands old new (Err halt.Memory) = Unit {0}
@@ -59,7 +59,7 @@ pub record IsKept (plan : PlanView) (old new : Running) : Type 0 where
   pub path : path_of new ≡ path_of old
 
 -- A move keeps an instance and its path, and one that is a fault keeps the present path too. Want of memory keeps nothing.
-abbrev pub Keeps : PlanView → Running → Running → Result Moved values.Halt → Type 0
+abbrev pub Keeps : PlanView → Running → Running → Result MoveResult values.Halt → Type 0
 Keeps plan old new (Ok moved) = IsKept plan old new
 Keeps plan old new (Err (halt.Fault kind)) = IsKept plan old new × (new.trail ≡ old.trail)
 Keeps plan old new (Err halt.Memory) = Unit {0}
@@ -85,8 +85,8 @@ loop_begins plan path n target env steps = by_steps (nat_lt n (steps + 1))
     by_steps true = by_room (has_room target n env)
     by_steps false = Err Budget
 
--- an activation that a call of this function begins with these variables
-pub record IsCallee (number : ℕ) (variables : Env) (to : Option Name) (a : Activation) : Type 0 where
+-- a frame that a call of this function begins with these variables
+pub record IsCallee (number : ℕ) (variables : Env) (to : Option Name) (a : Frame) : Type 0 where
   pub function : a.function ≡ number
   pub left : (body : List Stmt) → left_of body a.cursor ≡ body
   pub levels : a.levels.items ≡ []

@@ -4,13 +4,13 @@ use Rattle.script_grammar.specs.declared.tree.Stmt.{Stmt, out-Stmt}
 use Rattle.script_grammar.specs.declared.tree.Act.{Act, out-Act}
 use Rattle.script_grammar.specs.declared.tree.Act.TheOpen as act
 use Rattle.script_grammar.specs.declared.tree.Act.TheOpen.{Act-F}
-use Rattle.strand_moves.specs.declared.cursor.Part.{Part}
-use Rattle.strand_moves.specs.declared.cursor.Part.TheVariants as part
+use Rattle.strand_moves.specs.declared.cursor.Branch.{Branch}
+use Rattle.strand_moves.specs.declared.cursor.Branch.TheVariants as part
 use Rattle.strand_moves.specs.declared.cursor.Entered.{Entered}
 use Rattle.strand_moves.specs.declared.cursor.Cursor.{Cursor}
 
 -- a block of a statement, and no statements where it has no such block
-abbrev pub part_of : Act-F Act Stmt → Part → List Stmt
+abbrev pub part_of : Act-F Act Stmt → Branch → List Stmt
 part_of (act.Let x r) p = []
 part_of (act.Array x n) p = []
 part_of (act.Set x r) p = []
@@ -28,12 +28,12 @@ part_of (act.While e a) part.Turn = a
 part_of (act.Pfor x lo hi target c) p = []
 part_of (act.Scope a) p = []
 
-abbrev pub part_at : Option Stmt → Part → List Stmt
+abbrev pub part_at : Option Stmt → Branch → List Stmt
 part_at None p = []
 part_at (Some st) p = part_of (out-Act (out-Stmt st).act) p
 
 -- where the statement stands that was entered: the enclosing block goes on at a loop itself, and after an `if`
-abbrev pub place_before : Part → ℕ → ℕ
+abbrev pub place_before : Branch → ℕ → ℕ
 place_before part.Yes back = back - 1
 place_before part.No back = back - 1
 place_before part.Turn back = back

@@ -5,7 +5,7 @@ use Rattle.strand_meaning.specs.Machine as meaning
 use Rattle.strand_moves.specs.declared.instance.Instance.{Instance}
 use Rattle.strand_moves.specs.Rows as rows
 use Rattle.strand_moves.specs.Running as running
-use Rattle.strand_moves.specs.declared.shown.Moved.{Moved}
+use Rattle.strand_moves.specs.declared.effects.MoveResult.{MoveResult}
 
 abbrev pub machine_of : PlanView → Instance → meaning.Machine
 machine_of plan i = running.machine_of plan i.running.value
@@ -18,5 +18,5 @@ abbrev pub IsInstance : PlanView → Instance → Type 0
 IsInstance plan i = running.IsInstance plan i.running.value
 
 -- Moves in a row that showed nothing, and one more.
-abbrev pub RunsOn : PlanView → Instance → Moved → Instance → Type 0
+abbrev pub RunsOn : PlanView → Instance → MoveResult → Instance → Type 0
 RunsOn plan i m now = rows.RunsOn plan i.running.value m now.running.value

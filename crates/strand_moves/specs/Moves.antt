@@ -15,23 +15,23 @@ use Rattle.serial_meaning.specs.Exec.{does}
 use Rattle.serial_meaning.specs.Plan.{PlanView}
 use Rattle.serial_meaning.specs.declared.event.Fault.{Fault}
 use Rattle.serial_meaning.specs.declared.origin.Origin.{Origin}
-use Rattle.strand_meaning.specs.Machine.{Spawned, Looped, Token, Opens, Closes, Told, Handed, Syncs, Loops, Machine, Reached, Stands, Gives, handing, inside, place_of, state_of, with_left, entered, reached}
+use Rattle.strand_meaning.specs.Machine.{Spawned, Looped, Effect, Opens, Closes, Emitted, Handed, Syncs, Loops, Machine, Reached, Stands, Gives, handing, inside, place_of, state_of, with_left, entered, reached}
 use Rattle.strand_values.specs.declared.halt.Halt as values
 use Rattle.strand_values.specs.declared.halt.Halt.TheVariants as halt
-use Rattle.strand_moves.specs.declared.shown.Shown.{Shown}
-use Rattle.strand_moves.specs.declared.shown.Shown.TheVariants as shown
-use Rattle.strand_moves.specs.declared.shown.Moved.{Moved}
-use Rattle.strand_moves.specs.declared.shown.Moved.TheVariants as moved
+use Rattle.strand_moves.specs.declared.effects.Effects.{Effects}
+use Rattle.strand_moves.specs.declared.effects.Effects.TheVariants as shown
+use Rattle.strand_moves.specs.declared.effects.MoveResult.{MoveResult}
+use Rattle.strand_moves.specs.declared.effects.MoveResult.TheVariants as moved
 
--- the tokens of what is shown
-abbrev pub tokens_of : Shown → List Token
-tokens_of shown.Nothing = []
-tokens_of (shown.Told e) = Told e ∷ []
-tokens_of (shown.Opened path) = Opens path ∷ []
-tokens_of (shown.Closed j) = Closes j ∷ []
-tokens_of (shown.Spawned e child height target) = Told e ∷ Handed child.origin (Spawned height target) ∷ []
-tokens_of (shown.Synced e) = Told e ∷ Syncs ∷ []
-tokens_of (shown.Looped e child target) = Told e ∷ Handed child.origin (Looped target) ∷ Loops ∷ []
+-- the effects of what is shown
+abbrev pub effects_of : Effects → List Effect
+effects_of shown.Nothing = []
+effects_of (shown.Emitted e) = Emitted e ∷ []
+effects_of (shown.Opened path) = Opens path ∷ []
+effects_of (shown.Closed j) = Closes j ∷ []
+effects_of (shown.Spawned e child height target) = Emitted e ∷ Handed child.origin (Spawned height target) ∷ []
+effects_of (shown.Synced e) = Emitted e ∷ Syncs ∷ []
+effects_of (shown.Looped e child target) = Emitted e ∷ Handed child.origin (Looped target) ∷ Loops ∷ []
 
 -- The trail is one of the plan's coefficients, and of the origin's path.
 pub record IsTrailOf (plan : PlanView) (o : Origin) (trail : Trail) : Type 0 where
@@ -39,28 +39,28 @@ pub record IsTrailOf (plan : PlanView) (o : Origin) (trail : Trail) : Type 0 whe
   pub path : trail.path ≡ path_of o
 
 -- a child that is shown has the trail of its origin
-abbrev pub ShowsTrail : PlanView → Shown → Type 0
+abbrev pub ShowsTrail : PlanView → Effects → Type 0
 ShowsTrail plan shown.Nothing = Unit {0}
-ShowsTrail plan (shown.Told e) = Unit {0}
+ShowsTrail plan (shown.Emitted e) = Unit {0}
 ShowsTrail plan (shown.Opened path) = Unit {0}
 ShowsTrail plan (shown.Closed j) = Unit {0}
 ShowsTrail plan (shown.Spawned e child height target) = IsTrailOf plan child.origin child.trail
 ShowsTrail plan (shown.Synced e) = Unit {0}
 ShowsTrail plan (shown.Looped e child target) = IsTrailOf plan child.origin child.trail
 
-abbrev pub MovesTrail : PlanView → Moved → Type 0
+abbrev pub MovesTrail : PlanView → MoveResult → Type 0
 MovesTrail plan (moved.Went s) = ShowsTrail plan s
-MovesTrail plan (moved.Gave v) = Unit {0}
+MovesTrail plan (moved.Returned v) = Unit {0}
 MovesTrail plan (moved.Faulted f) = Unit {0}
 
 -- a move that ends in this machine, if it ends in one
-abbrev pub run_of : Moved → Machine → Run Token Fault Reached
-run_of (moved.Went s) m = record { items = tokens_of s; ending = Ok (Stands m) }
-run_of (moved.Gave v) m = record { items = []; ending = Ok (Gives v) }
+abbrev pub run_of : MoveResult → Machine → Run Effect Fault Reached
+run_of (moved.Went s) m = record { items = effects_of s; ending = Ok (Stands m) }
+run_of (moved.Returned v) m = record { items = []; ending = Ok (Gives v) }
 run_of (moved.Faulted f) m = record { items = []; ending = Err f }
 
 -- A move is the defined one, where a fault is one of this strand. Want of memory may come at any time.
-abbrev pub Makes : Run Token Fault Reached → List ℕ → Machine → Result Moved values.Halt → Type 0
+abbrev pub Makes : Run Effect Fault Reached → List ℕ → Machine → Result MoveResult values.Halt → Type 0
 Makes run strand m (Ok moved) = run ≡ run_of moved m
 Makes run strand m (Err (halt.Fault kind)) = run ≡ record { items = []; ending = Err (record { kind = kind; at = strand }) }
 Makes run strand m (Err halt.Memory) = Unit {0}
@@ -69,7 +69,7 @@ abbrev pub strand_of : List ℕ → Machine → List ℕ
 strand_of here m = here ++ m.rank ∷ []
 
 -- what a statement does at a present path that is paid and stands no longer among those left
-unfoldable pub acted : PlanView → List ℕ → Machine → Stmt → Act-F Act Stmt → Run Token Fault Reached
+unfoldable pub acted : PlanView → List ℕ → Machine → Stmt → Act-F Act Stmt → Run Effect Fault Reached
 acted plan here m st a =
     let r = does (handing plan (place_of (length m.below) a)) plan here inside (length m.below) st a (state_of m) in record { items = r.items; ending = reached plan (with_left m m.top.left) (entered plan st a m.top.left m) r.ending }
 

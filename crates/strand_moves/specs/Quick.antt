@@ -9,19 +9,19 @@ use Rattle.script_grammar.specs.declared.tree.Act.TheOpen.{Act-F}
 use Rattle.serial_meaning.specs.Runs.{Run}
 use Rattle.serial_meaning.specs.Plan.{PlanView}
 use Rattle.serial_meaning.specs.declared.event.Fault.{Fault}
-use Rattle.strand_meaning.specs.Machine.{Token, Reached}
+use Rattle.strand_meaning.specs.Machine.{Effect, Reached}
 use Rattle.strand_values.specs.declared.halt.Halt as values
 use Rattle.strand_values.specs.declared.halt.Halt.TheVariants as halt
 use Rattle.strand_moves.specs.declared.running.Running.{Running}
-use Rattle.strand_moves.specs.declared.shown.Moved.{Moved}
-use Rattle.strand_moves.specs.declared.shown.Moved.TheVariants as moved
-use Rattle.strand_moves.specs.declared.shown.Shown.TheVariants as shown
+use Rattle.strand_moves.specs.declared.effects.MoveResult.{MoveResult}
+use Rattle.strand_moves.specs.declared.effects.MoveResult.TheVariants as moved
+use Rattle.strand_moves.specs.declared.effects.Effects.TheVariants as shown
 use Rattle.strand_moves.specs.Cursors.{IsBehind}
 use Rattle.strand_moves.specs.Running.{machine_of, present_of, text_of}
 use Rattle.strand_moves.specs.Moves.{acted, run_of}
 
 -- what was done without showing anything, as a move
-abbrev pub quiet : Result (Unit {0}) values.Halt → Result Moved values.Halt
+abbrev pub quiet : Result (Unit {0}) values.Halt → Result MoveResult values.Halt
 quiet (Ok u) = Ok (moved.Went shown.Nothing)
 quiet (Err h) = Err h
 
@@ -55,7 +55,7 @@ is_plain (act.Pfor x lo hi target c) = false
 is_plain (act.Scope a) = false
 
 -- The instance ends by a fault, and nothing is shown.
-abbrev pub ByFault : Run Token Fault Reached → Type 0
+abbrev pub ByFault : Run Effect Fault Reached → Type 0
 ByFault run = (f : Fault) × (run ≡ record { items = []; ending = Err f })
 
 -- What a statement does was done and showed nothing. Or nothing changed, and a plain one meets a fault.
@@ -73,7 +73,7 @@ IsQuiet st old new false =
     × ((plan : PlanView) → IsBehind (text_of plan old.top) old.top.cursor st → is_plain (out-Act (out-Stmt st).act) ≡ true →
     ByFault (acted plan (present_of old) (machine_of plan old) st (out-Act (out-Stmt st).act)))
 
--- the innermost activation is of the same function, in the same scopes, and no step is paid
+-- the innermost frame is of the same function, in the same scopes, and no step is paid
 pub record StaysThere (old new : Running) : Type 0 where
   pub function : new.top.function ≡ old.top.function
   pub levels : new.top.levels.items ≡ old.top.levels.items

@@ -5,9 +5,9 @@ use Rattle.serial_meaning.specs.Plan.{PlanView}
 use Rattle.strand_meaning.specs.Machine.{Machine, move}
 use Rattle.strand_moves.specs.declared.cursor.Cursor.{Cursor}
 use Rattle.strand_moves.specs.declared.running.Running.{Running}
-use Rattle.strand_moves.specs.declared.shown.Moved.{Moved}
-use Rattle.strand_moves.specs.declared.shown.Moved.TheVariants as moved
-use Rattle.strand_moves.specs.declared.shown.Shown.TheVariants as shown
+use Rattle.strand_moves.specs.declared.effects.MoveResult.{MoveResult}
+use Rattle.strand_moves.specs.declared.effects.MoveResult.TheVariants as moved
+use Rattle.strand_moves.specs.declared.effects.Effects.TheVariants as shown
 use Rattle.strand_moves.specs.Cursors.{IsBehind, left_of, Passes}
 use Rattle.strand_moves.specs.Moves.{run_of}
 use Rattle.strand_moves.specs.Running.{IsInstance, machine_of, path_of, text_of}
@@ -19,7 +19,7 @@ pub data Row (plan : PlanView) (first : Running) : Running → Type 0 where
       Row plan first now
 
 -- They lead to an instance that makes one move more, and that one was made.
-pub record RunsOn (plan : PlanView) (first : Running) (m : Moved) (now : Running) : Type 0 where
+pub record RunsOn (plan : PlanView) (first : Running) (m : MoveResult) (now : Running) : Type 0 where
   pub before : Running
   pub row : Row plan first before
   pub last : move plan (path_of before) (machine_of plan before) ≡ run_of m (machine_of plan now)

@@ -6,8 +6,8 @@ use Rattle.script_grammar.specs.declared.tree.Stmt.{Stmt}
 use Rattle.serial_meaning.specs.Functions.{function_at}
 use Rattle.serial_meaning.specs.Plan.{PlanView, functions_of}
 use Rattle.strand_meaning.specs.Machine as meaning
-use Rattle.strand_moves.specs.declared.activation.Activation.{Activation}
-use Rattle.strand_moves.specs.declared.activation.Level.{Level}
+use Rattle.strand_moves.specs.declared.frame.Frame.{Frame}
+use Rattle.strand_moves.specs.declared.frame.Level.{Level}
 use Rattle.strand_moves.specs.declared.running.Running.{Running}
 use Rattle.strand_moves.specs.Cursors.{left_of, scope_after}
 
@@ -30,13 +30,13 @@ abbrev pub levels_of : List Stmt → List Level → List meaning.Level
 levels_of body [] = []
 levels_of body (l ∷ ls) = record { rank = l.rank; left = left_of (block_inside body ls) l.cursor } ∷ levels_of body ls
 
--- the statements among which an activation's cursor stands
-abbrev pub text_of : PlanView → Activation → List Stmt
+-- the statements among which a frame's cursor stands
+abbrev pub text_of : PlanView → Frame → List Stmt
 text_of plan a = block_inside (body_of plan a.function) (reverse a.levels.items)
 
--- an activation that is, or isn't, after the sync at the end of its innermost scope
-abbrev pub activation_of : PlanView → Bool → Activation → meaning.Activation
-activation_of plan leaving a = record {
+-- a frame that is, or isn't, after the sync at the end of its innermost scope
+abbrev pub frame_of : PlanView → Bool → Frame → meaning.Frame
+frame_of plan leaving a = record {
   function = a.function;
   left = left_of (text_of plan a) a.cursor;
   levels = levels_of (body_of plan a.function) (reverse a.levels.items);
@@ -52,12 +52,12 @@ abbrev pub machine_of : PlanView → Running → meaning.Machine
 machine_of plan i = record {
   rank = i.rank;
   steps = i.steps;
-  top = activation_of plan i.leaving i.top;
-  below = map (activation_of plan false) (reverse i.below.items);
+  top = frame_of plan i.leaving i.top;
+  below = map (frame_of plan false) (reverse i.below.items);
 }
 
--- the open scopes of all these activations
-abbrev pub scopes_of : List Activation → List Level
+-- the open scopes of all these frames
+abbrev pub scopes_of : List Frame → List Level
 scopes_of [] = []
 scopes_of (a ∷ below) = reverse a.levels.items ++ scopes_of below
 

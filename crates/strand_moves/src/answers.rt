@@ -15,7 +15,7 @@ use std::alloc::Global;
 use strand_values::{Environment, Target};
 
 impl Running {
-    /// Takes the fault of a child of the activation with `height` others below it.
+    /// Takes the fault of a child of the frame with `height` others below it.
     pub fn take_fault(&mut self, height: usize, fault: Fault)
         ensures machine { (plan : PlanView) (target : _) → machine_of plan self.new ≡ changed height (answered target (Err fault)) (machine_of plan self.old) }
         ensures path { path_of self.new ≡ path_of self.old }
@@ -28,7 +28,7 @@ impl Running {
         }
     }
 
-    /// Takes the value of a child of the activation with `height` others below it. A variable that isn't there doesn't come to be.
+    /// Takes the value of a child of the frame with `height` others below it. A variable that isn't there doesn't come to be.
     pub fn take_value(&mut self, height: usize, target: Option<&Target>, value: Value)
         ensures machine { (plan : PlanView) → machine_of plan self.new ≡ changed height (answered (option_copied target.entry) (Ok (value ∷ []))) (machine_of plan self.old) }
         ensures path { path_of self.new ≡ path_of self.old }
@@ -41,7 +41,7 @@ impl Running {
         }
     }
 
-    /// Takes the values of a loop of the innermost activation. Where there was no memory for it the instance is of no more use.
+    /// Takes the values of a loop of the innermost frame. Where there was no memory for it the instance is of no more use.
     pub fn take_values(
         &mut self,
         alloc: Global,
@@ -56,7 +56,7 @@ impl Running {
         Ok(())
     }
 
-    /// The least fault among the answers that the innermost activation took since its last sync.
+    /// The least fault among the answers that the innermost frame took since its last sync.
     pub fn faulted(&self) -> Option<&Fault>
         ensures { (plan : PlanView) → option_copied result ≡ (machine_of plan self.now).top.faulted }
     {

@@ -1,4 +1,4 @@
-// Calls, and the end of an activation.
+// Calls, and the end of a frame.
 
 ghost use Rattle.std.specs.Prelude.{◌≡◌, ◌<◌, ◌≤◌, ◌+◌, ◌++◌, ◌∷◌, [], false, true, Some, None, IfOk, OnOk};
 ghost use Rattle.std.specs.Option.{option_copied};
@@ -12,11 +12,11 @@ ghost use Rattle.strand_moves.specs.Running.{IsStrand, machine_of, path_of, pres
 ghost use Rattle.strand_moves.specs.Moves.{Makes, MovesTrail, call_to, strand_of};
 ghost use Rattle.strand_moves.specs.Quick.{quiet};
 
-use crate::activation::{Activation, lets, target_of};
+use crate::effects::{Effects, MoveResult};
+use crate::frame::{Frame, lets, target_of};
 use crate::memory::Memory;
 use crate::quick::quiet;
 use crate::running::Running;
-use crate::shown::{Moved, Shown};
 use script_grammar::{CallText, Function, Name};
 use serial_meaning::{FaultKind, Plan, Value};
 use std::alloc::Global;
@@ -34,7 +34,7 @@ impl Running {
         plan: &Plan,
         target: Option<&Name>,
         call: &CallText,
-    ) -> Result<Moved, Halt>
+    ) -> Result<MoveResult, Halt>
         requires { self.old.leaving ≡ false }
         ensures shows { (st : Stmt) → Acts plan.now st (call_to (option_copied target.entry) call.now) self.old self.new result }
         ensures child { IfOk result (MovesTrail plan.now) }
@@ -92,7 +92,7 @@ impl Running {
         Ok(())
     }
 
-    /// Begins a function with these variables over the innermost activation.
+    /// Begins a function with these variables over the innermost frame.
     fn open(
         &mut self,
         alloc: Global,
@@ -112,13 +112,13 @@ impl Running {
             self.below.try_reserve_exact(2)?;
         }
         let target = target_of(target);
-        let callee = Activation::new(alloc, number, env, target);
+        let callee = Frame::new(alloc, number, env, target);
         let caller = mem::replace(&mut self.top, callee);
         self.below.push(caller)?;
         Ok(())
     }
 
-    /// Gives a variable of the innermost activation a value, if there is one.
+    /// Gives a variable of the innermost frame a value, if there is one.
     pub(crate) fn receive(&mut self, target: Option<&Target>, value: Value) -> Result<(), Memory>
         ensures env { OnOk result (self.new.top.env ≡ with_scalar (option_copied target.entry) value self.old.top.env) }
         ensures others { self.new ≡ record self.old { top = record self.old.top { env = self.new.top.env } } }
@@ -130,7 +130,7 @@ impl Running {
     }
 
     /// The step of a return and the sync that it implies.
-    pub(crate) fn return_step(&mut self, plan: &Plan) -> Result<Moved, Halt>
+    pub(crate) fn return_step(&mut self, plan: &Plan) -> Result<MoveResult, Halt>
         requires strand { IsStrand plan.now self.old }
         requires here { here_of (path_of self.old) (machine_of plan.now self.old) ≡ present_of self.old }
         ensures shows { let m = machine_of plan.now self.old in
@@ -142,19 +142,19 @@ impl Running {
         self.pay()?;
         self.top.returning = true;
         if self.has_spawns(plan) {
-            return Ok(Moved::Went(self.sync()?));
+            return Ok(MoveResult::Went(self.sync()?));
         }
-        Ok(Moved::Went(Shown::Nothing))
+        Ok(MoveResult::Went(Effects::Nothing))
     }
 
-    /// Whether the word `spawn` stands in the text of the innermost activation.
+    /// Whether the word `spawn` stands in the text of the innermost frame.
     fn has_spawns(&self, plan: &Plan) -> bool
         ensures { result ≡ spawns_in (function_at (functions_of plan.now) self.now.top.function) }
     {
         plan.spawns(self.top.function)
     }
 
-    /// The value of the innermost activation's function, as its variables are.
+    /// The value of the innermost frame's function, as its variables are.
     fn result(&self, plan: &Plan) -> Result<Value, Halt>
         ensures { Gives result (result_of (function_at (functions_of plan.now) self.now.top.function) self.now.top.env) }
     {
@@ -164,8 +164,8 @@ impl Running {
         }
     }
 
-    /// The value of an activation that ends goes to the one below it, or is that of the instance.
-    pub(crate) fn end(&mut self, plan: &Plan) -> Result<Moved, Halt>
+    /// The value of a frame that ends goes to the one below it, or is that of the instance.
+    pub(crate) fn end(&mut self, plan: &Plan) -> Result<MoveResult, Halt>
         requires outside { self.old.top.levels.items ≡ [] }
         requires goes_on { self.old.leaving ≡ false }
         requires here { here_of (path_of self.old) (machine_of plan.now self.old) ≡ present_of self.old }
@@ -177,7 +177,7 @@ impl Running {
     {
         let value = self.result(plan)?;
         match self.below.pop() {
-            None => Ok(Moved::Gave(value)),
+            None => Ok(MoveResult::Returned(value)),
             Some(caller) => {
                 // the callee is dropped at one place, whatever was received
                 let received = {
@@ -185,7 +185,7 @@ impl Running {
                     self.receive(callee.target.as_ref(), value)
                 };
                 received?;
-                Ok(Moved::Went(Shown::Nothing))
+                Ok(MoveResult::Went(Effects::Nothing))
             }
         }
     }

@@ -10,17 +10,17 @@ ghost use Rattle.serial_meaning.specs.Functions.{function_at};
 ghost use Rattle.serial_meaning.specs.Open.{answer_filler};
 ghost use Rattle.serial_meaning.specs.Plan.{PlanView, functions_of};
 ghost use Rattle.serial_meaning.specs.declared.event.Event.TheVariants as event;
-ghost use Rattle.strand_meaning.specs.Machine.{Told, sync_tokens, with_scalar};
+ghost use Rattle.strand_meaning.specs.Machine.{Emitted, sync_effects, with_scalar};
 ghost use Rattle.strand_moves.specs.Acts.{Acts, Costs, Stays, loop_begins};
 ghost use Rattle.strand_moves.specs.Running.{IsStrand, present_of};
-ghost use Rattle.strand_moves.specs.Moves.{spawn_to, tokens_of, MovesTrail, ShowsTrail};
-ghost use Rattle.strand_moves.specs.declared.shown.Shown.TheVariants as shown;
+ghost use Rattle.strand_moves.specs.Moves.{spawn_to, effects_of, MovesTrail, ShowsTrail};
+ghost use Rattle.strand_moves.specs.declared.effects.Effects.TheVariants as shown;
 
-use crate::activation::{copy_of, target_of};
 use crate::calls::function_in;
+use crate::effects::{Child, Effects, MoveResult};
+use crate::frame::{copy_of, target_of};
 use crate::memory::Memory;
 use crate::running::Running;
-use crate::shown::{Child, Moved, Shown};
 use dotmix::Trail;
 use loop_range::IterRange;
 use ped_path::{Ped, Pedigree};
@@ -38,7 +38,7 @@ impl Running {
         plan: &Plan,
         target: Option<&Name>,
         call: &CallText,
-    ) -> Result<Moved, Halt>
+    ) -> Result<MoveResult, Halt>
         requires { IsStrand plan.now self.old }
         ensures shows { (st : Stmt) → Acts plan.now st (spawn_to (option_copied target.entry) call.now) self.old self.new result }
         ensures child { IfOk result (MovesTrail plan.now) }
@@ -62,7 +62,7 @@ impl Running {
         self.rank += 1;
         self.top.spawned = true;
         let height = self.below.len();
-        Ok(Moved::Went(Shown::Spawned {
+        Ok(MoveResult::Went(Effects::Spawned {
             event,
             child,
             height,
@@ -71,9 +71,9 @@ impl Running {
     }
 
     /// A sync, written or implied.
-    pub(crate) fn sync(&mut self) -> Result<Shown, Memory>
+    pub(crate) fn sync(&mut self) -> Result<Effects, Memory>
         requires { self.old.rank < 2 ^ 32 }
-        ensures shown { IfOk result (λ s. tokens_of s ≡ Told (event.Sync (present_of self.old ++ self.old.rank ∷ [])) ∷ sync_tokens self.old.top.spawned) }
+        ensures shown { IfOk result (λ s. effects_of s ≡ Emitted (event.Sync (present_of self.old ++ self.old.rank ∷ [])) ∷ sync_effects self.old.top.spawned) }
         ensures passed { OnOk result (self.new ≡ record self.old { rank = self.old.rank + 1; top = record self.old.top { spawned = false } }) }
         ensures child { (plan : PlanView) → IfOk result (ShowsTrail plan) }
         ensures stays { Stays self.old self.new }
@@ -84,9 +84,9 @@ impl Running {
         self.rank += 1;
         self.top.spawned = false;
         Ok(if waits {
-            Shown::Synced(event)
+            Effects::Synced(event)
         } else {
-            Shown::Told(event)
+            Effects::Emitted(event)
         })
     }
 
@@ -99,7 +99,7 @@ impl Running {
         hi: &Expr,
         target: &Option<Name>,
         call: &CallText,
-    ) -> Result<Moved, Halt>
+    ) -> Result<MoveResult, Halt>
         requires strand { IsStrand plan.now self.old }
         requires steps { self.old.steps < 2 ^ 32 }
         ensures shows { (st : Stmt) (var : _) → Acts plan.now st (act.Pfor var lo.now hi.now target.now call.now) self.old self.new result }
@@ -113,7 +113,7 @@ impl Running {
         let count = iterations(first, end);
         self.begin_loop(plan, target, count)?;
         if count == 0 {
-            return Ok(Moved::Went(self.pass_loop(alloc, target)?));
+            return Ok(MoveResult::Went(self.pass_loop(alloc, target)?));
         }
         let function = plan.callee(&call.name);
         let (trail, path) = self.child_place(alloc, plan)?;
@@ -126,7 +126,7 @@ impl Running {
             range,
         };
         let child = boxed(alloc, origin, trail)?;
-        Ok(Moved::Went(self.hand_loop(alloc, target, child)?))
+        Ok(MoveResult::Went(self.hand_loop(alloc, target, child)?))
     }
 
     /// The steps of a loop of so many iterations, the room of its target, and the depth of its iterations.
@@ -155,9 +155,9 @@ impl Running {
     }
 
     /// A loop without an iteration.
-    fn pass_loop(&mut self, alloc: Global, target: &Option<Name>) -> Result<Shown, Memory>
+    fn pass_loop(&mut self, alloc: Global, target: &Option<Name>) -> Result<Effects, Memory>
         requires { self.old.rank < 2 ^ 32 }
-        ensures shown { IfOk result (λ s. s ≡ shown.Told (event.Loop (present_of self.old ++ self.old.rank ∷ []))) }
+        ensures shown { IfOk result (λ s. s ≡ shown.Emitted (event.Loop (present_of self.old ++ self.old.rank ∷ []))) }
         ensures passed { OnOk result (self.new ≡ record self.old { rank = self.old.rank + 1; top = record self.old.top { env = filled target.now [] self.old.top.env } }) }
         ensures stays { Stays self.old self.new }
         ensures few { Costs self.old self.new }
@@ -165,7 +165,7 @@ impl Running {
         self.top.env.fill(alloc, target.as_ref(), &[])?;
         let event = Event::Loop(self.pedigree()?);
         self.rank += 1;
-        Ok(Shown::Told(event))
+        Ok(Effects::Emitted(event))
     }
 
     /// A loop of one iteration or more.
@@ -174,7 +174,7 @@ impl Running {
         alloc: Global,
         target: &Option<Name>,
         child: Boxed<Child>,
-    ) -> Result<Shown, Memory>
+    ) -> Result<Effects, Memory>
         requires { self.old.rank < 2 ^ 32 }
         ensures shown { IfOk result (λ s. s ≡ shown.Looped (event.Loop (present_of self.old ++ self.old.rank ∷ [])) child target.now) }
         ensures passed { OnOk result (self.new ≡ record self.old { rank = self.old.rank + 1; top = record self.old.top { env = filled target.now [] self.old.top.env } }) }
@@ -185,7 +185,7 @@ impl Running {
         let target = copy_of(target.as_ref());
         let event = Event::Loop(self.pedigree()?);
         self.rank += 1;
-        Ok(Shown::Looped {
+        Ok(Effects::Looped {
             event,
             child,
             target,

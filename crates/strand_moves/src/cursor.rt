@@ -3,7 +3,7 @@
 ghost use Rattle.std.specs.Prelude.{◌≡◌, false, List, [], ◌∷◌, ◌++◌, IfOk, MatchOption, if◌then◌else◌};
 ghost use Rattle.script_grammar.specs.declared.tree.Stmt.{Stmt, out-Stmt};
 ghost use Rattle.script_grammar.specs.declared.tree.Act.{out-Act};
-ghost use Rattle.strand_moves.specs.declared.cursor.Part.TheVariants as part;
+ghost use Rattle.strand_moves.specs.declared.cursor.Branch.TheVariants as part;
 ghost use Rattle.strand_moves.specs.Quick.{is_fork};
 ghost use Rattle.strand_moves.specs.Cursors.{part_of, block_in, block_of, left_of, scope_after, scope_of, IsBehind, Passes};
 
@@ -14,7 +14,7 @@ use std::alloc::Global;
 
 /// A block of a statement: one of the two of an `if`, or a loop's body.
 #[derive(Clone, Copy, Debug, Default, PartialEq, Eq)]
-pub(crate) enum Part {
+pub(crate) enum Branch {
     #[default]
     Yes,
     No,
@@ -24,7 +24,7 @@ pub(crate) enum Part {
 /// A block that was entered, and the index at which the enclosing block goes on: at a loop itself, and after an `if`.
 #[derive(Clone, Copy, Debug, Default, PartialEq, Eq)]
 pub(crate) struct Entered {
-    pub(crate) part: Part,
+    pub(crate) part: Branch,
     pub(crate) back: usize,
 }
 
@@ -36,18 +36,18 @@ pub(crate) struct Cursor {
 }
 
 /// A block of a statement, and no statements where it has no such block.
-fn part_in<'a>(statement: &'a Stmt, part: Part) -> &'a [Stmt]
+fn part_in<'a>(statement: &'a Stmt, part: Branch) -> &'a [Stmt]
     ensures { result.now ≡ part_of (out-Act (out-Stmt statement.now).act) part }
 {
     match &statement.act {
         Act::If(_, yes, no) => match part {
-            Part::Yes => yes.as_slice(),
-            Part::No => no.as_slice(),
-            Part::Turn => &[],
+            Branch::Yes => yes.as_slice(),
+            Branch::No => no.as_slice(),
+            Branch::Turn => &[],
         },
         Act::While(_, body) => match part {
-            Part::Turn => body.as_slice(),
-            Part::Yes | Part::No => &[],
+            Branch::Turn => body.as_slice(),
+            Branch::Yes | Branch::No => &[],
         },
         _ => &[],
     }
@@ -78,8 +78,8 @@ fn inner<'a>(block: &'a [Stmt], entered: Entered) -> &'a [Stmt]
     ensures { result.now ≡ block_in block.now entered }
 {
     let place = match entered.part {
-        Part::Turn => entered.back,
-        Part::Yes | Part::No => entered.back.saturating_sub(1),
+        Branch::Turn => entered.back,
+        Branch::Yes | Branch::No => entered.back.saturating_sub(1),
     };
     match block.get(place) {
         Some(statement) => part_in(statement, entered.part),
@@ -204,7 +204,7 @@ impl Cursor {
             left_of body self.new ≡ part_of (out-Act (out-Stmt st).act) (if yes then part.Yes else part.No) ++ left_of body self.old) }
     {
         self.entered.push(Entered {
-            part: if yes { Part::Yes } else { Part::No },
+            part: if yes { Branch::Yes } else { Branch::No },
             back: self.next,
         })?;
         self.next = 0;
@@ -212,12 +212,12 @@ impl Cursor {
     }
 
     /// Enters the body of the loop after which the cursor stands. The loop is left again after it.
-    pub(crate) fn turn(&mut self) -> Result<(), Memory>
+    pub(crate) fn enter_loop(&mut self) -> Result<(), Memory>
         ensures { IfOk result (λ _. (body : List Stmt) (st : Stmt) → IsBehind body self.old st →
             left_of body self.new ≡ part_of (out-Act (out-Stmt st).act) part.Turn ++ (st ∷ left_of body self.old)) }
     {
         self.entered.push(Entered {
-            part: Part::Turn,
+            part: Branch::Turn,
             back: self.next.saturating_sub(1),
         })?;
         self.next = 0;

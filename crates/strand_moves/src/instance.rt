@@ -7,9 +7,9 @@ ghost use Rattle.serial_meaning.specs.Plan.{PlanView, functions_of};
 ghost use Rattle.strand_meaning.specs.Machine.{Stands, begun, move};
 ghost use Rattle.strand_meaning.specs.Task.{answered, changed, with_values};
 
+use crate::effects::MoveResult;
 use crate::memory::Memory;
 use crate::running::Running;
-use crate::shown::Moved;
 use dotmix::Trail;
 use script_grammar::Name;
 use serial_meaning::{Fault, Plan, Value};
@@ -27,7 +27,7 @@ impl Instance {
     ghost use Rattle.strand_moves.specs.Moves.{run_of, MovesTrail};
 
     /// An instance of the function at this place in the script, before its first move.
-    pub fn begin(
+    pub fn new(
         alloc: Global,
         plan: &Plan,
         function: u32,
@@ -41,25 +41,25 @@ impl Instance {
         ensures path { IfOk result (λ i. path_of i ≡ trail.path) }
         ensures sound { IfOk result (IsInstance plan.now) }
     {
-        let running = Running::begin(alloc, plan, function, args, trail)?;
+        let running = Running::new(alloc, plan, function, args, trail)?;
         Ok(Instance {
             running: Box::new(alloc, running)?,
         })
     }
 
     /// One move. Where there was no memory for it the instance is of no more use.
-    pub fn step(&mut self, alloc: Global, plan: &Plan) -> Result<Moved, Memory>
+    pub fn make_move(&mut self, alloc: Global, plan: &Plan) -> Result<MoveResult, Memory>
         requires { IsInstance plan.now self.old }
         ensures moves { IfOk result (λ moved. move plan.now (path_of self.old) (machine_of plan.now self.old) ≡ run_of moved (machine_of plan.now self.new)) }
         ensures child { IfOk result (MovesTrail plan.now) }
         ensures path { IfOk result (λ _. path_of self.new ≡ path_of self.old) }
         ensures sound { IfOk result (λ _. IsInstance plan.now self.new) }
     {
-        self.running.step(alloc, plan)
+        self.running.make_move(alloc, plan)
     }
 
     /// Moves in a row that show nothing, and then one more. Where there was no memory for one the instance is of no more use.
-    pub fn run(&mut self, alloc: Global, plan: &Plan) -> Result<Moved, Memory>
+    pub fn run(&mut self, alloc: Global, plan: &Plan) -> Result<MoveResult, Memory>
         requires { IsInstance plan.now self.old }
         ensures moves { IfOk result (λ moved. RunsOn plan.now self.old moved self.new) }
         ensures child { IfOk result (MovesTrail plan.now) }
@@ -69,7 +69,7 @@ impl Instance {
         self.running.run(alloc, plan)
     }
 
-    /// Takes the fault of a child of the activation with `height` others below it.
+    /// Takes the fault of a child of the frame with `height` others below it.
     pub fn take_fault(&mut self, height: usize, fault: Fault)
         ensures machine { (plan : PlanView) (target : _) → machine_of plan self.new ≡ changed height (answered target (Err fault)) (machine_of plan self.old) }
         ensures path { path_of self.new ≡ path_of self.old }
@@ -78,7 +78,7 @@ impl Instance {
         self.running.take_fault(height, fault);
     }
 
-    /// Takes the value of a child of the activation with `height` others below it. A variable that isn't there doesn't come to be.
+    /// Takes the value of a child of the frame with `height` others below it. A variable that isn't there doesn't come to be.
     pub fn take_value(&mut self, height: usize, target: Option<&Target>, value: Value)
         ensures machine { (plan : PlanView) → machine_of plan self.new ≡ changed height (answered (option_copied target.entry) (Ok (value ∷ []))) (machine_of plan self.old) }
         ensures path { path_of self.new ≡ path_of self.old }
@@ -87,7 +87,7 @@ impl Instance {
         self.running.take_value(height, target, value);
     }
 
-    /// Takes the values of a loop of the innermost activation. Where there was no memory for it the instance is of no more use.
+    /// Takes the values of a loop of the innermost frame. Where there was no memory for it the instance is of no more use.
     pub fn take_values(
         &mut self,
         alloc: Global,
@@ -101,7 +101,7 @@ impl Instance {
         self.running.take_values(alloc, target, values)
     }
 
-    /// The least fault among the answers that the innermost activation took since its last sync.
+    /// The least fault among the answers that the innermost frame took since its last sync.
     pub fn faulted(&self) -> Option<&Fault>
         ensures { (plan : PlanView) → option_copied result ≡ (machine_of plan self.now).top.faulted }
     {

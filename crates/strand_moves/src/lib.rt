@@ -1,31 +1,31 @@
 //! One move of an instance of a running script.
 //!
-//! What a move is, is defined in `strand_meaning`; the contracts here are its words. An instance is a stack of activations over the
+//! What a move is, is defined in `strand_meaning`; the contracts here are its words. An instance is a stack of frames over the
 //! plan's tree: nothing of the tree is copied but the names of targets.
 #![tactic(auto)]
 
-mod activation;
 mod answers;
 mod calls;
 mod children;
 mod cursor;
+mod effects;
+mod frame;
 mod instance;
 mod memory;
 mod quick;
 mod right;
 mod running;
 mod scopes;
-mod shown;
 mod statement;
 
+pub use effects::{Child, Effects, MoveResult};
 pub use instance::Instance;
 pub use memory::Memory;
-pub use shown::{Child, Moved, Shown};
 
 fn is_shared<T: Send + Sync>() {}
 
 /// An instance may be sent to other threads. The body asks for it, so that a field which forbids it fails the build.
 fn all_are_shared() {
     is_shared::<Instance>();
-    is_shared::<Moved>();
+    is_shared::<MoveResult>();
 }

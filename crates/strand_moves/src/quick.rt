@@ -10,20 +10,20 @@ ghost use Rattle.strand_moves.specs.Running.{IsInstance};
 ghost use Rattle.strand_moves.specs.Quick.{IsDone, IsQuiet, IsWent, StaysThere, is_fork, quiet};
 ghost use Rattle.strand_moves.specs.Rows.{Comes};
 
+use crate::effects::{Effects, MoveResult};
 use crate::memory::Memory;
 use crate::running::Running;
-use crate::shown::{Moved, Shown};
 use script_grammar::{Act, Name, Right, Stmt};
 use serial_meaning::Plan;
 use std::alloc::Global;
 use strand_values::Halt;
 
 /// What was done as a move.
-pub(crate) fn quiet(done: Result<(), Halt>) -> Result<Moved, Halt>
+pub(crate) fn quiet(done: Result<(), Halt>) -> Result<MoveResult, Halt>
     ensures { result ≡ quiet done }
 {
     match done {
-        Ok(()) => Ok(Moved::Went(Shown::Nothing)),
+        Ok(()) => Ok(MoveResult::Went(Effects::Nothing)),
         Err(halt) => Err(halt),
     }
 }
@@ -84,7 +84,7 @@ impl Running {
             Act::Array(x, n) => went(self.array(alloc, x, *n)),
             Act::Store(x, i, e) => went(self.store(x, i, e)),
             Act::If(e, _, _) => went(self.branch(e)),
-            Act::While(e, _) => went(self.turn(e)),
+            Act::While(e, _) => went(self.while_test(e)),
             _ => Ok(false),
         }
     }

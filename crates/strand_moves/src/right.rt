@@ -12,9 +12,9 @@ ghost use Rattle.strand_moves.specs.Running.{IsStrand};
 ghost use Rattle.strand_moves.specs.Moves.{MovesTrail};
 ghost use Rattle.strand_moves.specs.Quick.{StaysThere, quiet};
 
+use crate::effects::{Effects, MoveResult};
 use crate::quick::quiet;
 use crate::running::Running;
-use crate::shown::{Moved, Shown};
 use script_grammar::{Expr, Name, Right};
 use serial_meaning::{Event, Plan, Value};
 use std::alloc::Global;
@@ -28,7 +28,7 @@ impl Running {
         plan: &Plan,
         x: &Name,
         r: &Right,
-    ) -> Result<Moved, Halt>
+    ) -> Result<MoveResult, Halt>
         requires strand { IsStrand plan.now self.old }
         requires goes_on { self.old.leaving ≡ false }
         ensures shows { (st : Stmt) → Acts plan.now st (act.Set x.now r.now) self.old self.new result }
@@ -56,7 +56,7 @@ impl Running {
         self.top.env.assign(x, e)
     }
 
-    fn set_draw(&mut self, plan: &Plan, x: &Name) -> Result<Moved, Halt>
+    fn set_draw(&mut self, plan: &Plan, x: &Name) -> Result<MoveResult, Halt>
         requires { IsStrand plan.now self.old }
         ensures shows { (st : Stmt) (at : ℕ) → Acts plan.now st (act.Set x.now (right.Draw at)) self.old self.new result }
         ensures child { (plan : PlanView) → IfOk result (MovesTrail plan) }
@@ -67,10 +67,10 @@ impl Running {
         self.top.env.set_scalar(x, Value::Int(word.cast_signed()))?;
         let event = Event::Draw(self.pedigree()?, word);
         self.rank += 1;
-        Ok(Moved::Went(Shown::Told(event)))
+        Ok(MoveResult::Went(Effects::Emitted(event)))
     }
 
-    fn set_new(&mut self, x: &Name) -> Result<Moved, Halt>
+    fn set_new(&mut self, x: &Name) -> Result<MoveResult, Halt>
         requires { self.old.rank < 2 ^ 32 }
         ensures shows { (plan : PlanView) (st : Stmt) (at : ℕ) → Acts plan st (act.Set x.now (right.New at)) self.old self.new result }
         ensures child { (plan : PlanView) → IfOk result (MovesTrail plan) }
@@ -81,6 +81,6 @@ impl Running {
         self.top.env.set_scalar(x, Value::Id(object))?;
         let event = Event::New(self.pedigree()?);
         self.rank += 1;
-        Ok(Moved::Went(Shown::Told(event)))
+        Ok(MoveResult::Went(Effects::Emitted(event)))
     }
 }

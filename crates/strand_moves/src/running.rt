@@ -6,9 +6,9 @@ ghost use Rattle.dotmix.specs.Trails.{FitsGamma};
 ghost use Rattle.serial_meaning.specs.Plan.{functions_of};
 ghost use Rattle.strand_meaning.specs.Machine.{Stands, begun, move};
 
-use crate::activation::{Activation, lets};
+use crate::effects::MoveResult;
+use crate::frame::{Frame, lets};
 use crate::memory::Memory;
-use crate::shown::Moved;
 use dotmix::Trail;
 use ped_path::Pedigree;
 use script_grammar::Stmt;
@@ -16,7 +16,7 @@ use serial_meaning::{Fault, FaultKind, Plan, Value};
 use std::alloc::Global;
 use strand_values::{Environment, Halt};
 
-/// What stands in an instance's box: its present path, its rank and the steps that it has left, and its activations.
+/// What stands in an instance's box: its present path, its rank and the steps that it has left, and its frames.
 #[derive(Drop)]
 pub(crate) struct Running {
     /// The trail of the present path: the instance's own, and then the ranks of the open scopes.
@@ -25,10 +25,10 @@ pub(crate) struct Running {
     pub(crate) steps: u64,
     /// Whether the sync at the end of the innermost open scope is after it.
     pub(crate) leaving: bool,
-    /// The innermost activation.
-    pub(crate) top: Activation,
+    /// The innermost frame.
+    pub(crate) top: Frame,
     /// The others, which are its open calls, the outermost first.
-    pub(crate) below: Vec<Activation>,
+    pub(crate) below: Vec<Frame>,
 }
 
 impl Running {
@@ -38,7 +38,7 @@ impl Running {
     ghost use Rattle.strand_moves.specs.Rows.{HasPassed, RunsOn, unpassed};
 
     /// An instance of the function at this place in the script, before its first move.
-    pub fn begin(
+    pub fn new(
         alloc: Global,
         plan: &Plan,
         function: u32,
@@ -60,13 +60,13 @@ impl Running {
             rank: 0,
             steps: plan.limits.budget as u64,
             leaving: false,
-            top: Activation::new(alloc, function, env, None),
+            top: Frame::new(alloc, function, env, None),
             below: Vec::new(alloc),
         })
     }
 
     /// One move. Where there was no memory for it the instance is of no more use.
-    pub fn step(&mut self, alloc: Global, plan: &Plan) -> Result<Moved, Memory>
+    pub fn make_move(&mut self, alloc: Global, plan: &Plan) -> Result<MoveResult, Memory>
         requires { IsInstance plan.now self.old }
         ensures moves { IfOk result (λ moved. move plan.now (path_of self.old) (machine_of plan.now self.old) ≡ run_of moved (machine_of plan.now self.new)) }
         ensures child { IfOk result (MovesTrail plan.now) }
@@ -81,7 +81,7 @@ impl Running {
     }
 
     /// Moves in a row that show nothing, and then one more. Where there was no memory for one the instance is of no more use.
-    pub fn run(&mut self, alloc: Global, plan: &Plan) -> Result<Moved, Memory>
+    pub fn run(&mut self, alloc: Global, plan: &Plan) -> Result<MoveResult, Memory>
         requires { IsInstance plan.now self.old }
         ensures moves { IfOk result (λ moved. RunsOn plan.now self.old moved self.new) }
         ensures child { IfOk result (MovesTrail plan.now) }
@@ -93,7 +93,12 @@ impl Running {
     }
 
     /// The move of a statement that the cursor has just passed, or where none was left.
-    fn make(&mut self, alloc: Global, plan: &Plan, next: Option<&Stmt>) -> Result<Moved, Memory>
+    fn make(
+        &mut self,
+        alloc: Global,
+        plan: &Plan,
+        next: Option<&Stmt>,
+    ) -> Result<MoveResult, Memory>
         requires sound { IsInstance plan.now self.old }
         requires passed { HasPassed plan.now self.old (option_copied next) }
         ensures moves { IfOk result (λ moved. move plan.now (path_of self.old) (unpassed plan.now self.old (option_copied next.entry)) ≡ run_of moved (machine_of plan.now self.new)) }
@@ -107,14 +112,14 @@ impl Running {
             Err(Halt::Fault(kind)) => {
                 let path = self.trail.path.share()?;
                 let at = Pedigree { path, rank };
-                Ok(Moved::Faulted(Fault { kind, at }))
+                Ok(MoveResult::Faulted(Fault { kind, at }))
             }
             Err(Halt::Memory) => Err(Memory),
         }
     }
 
     /// The same, or the kind of the fault by which it ends.
-    fn act(&mut self, alloc: Global, plan: &Plan, next: Option<&Stmt>) -> Result<Moved, Halt>
+    fn act(&mut self, alloc: Global, plan: &Plan, next: Option<&Stmt>) -> Result<MoveResult, Halt>
         requires sound { IsInstance plan.now self.old }
         requires passed { HasPassed plan.now self.old (option_copied next) }
         ensures moves { Makes (move plan.now (path_of self.old) (unpassed plan.now self.old (option_copied next.entry))) (strand_of (present_of self.old) (machine_of plan.now self.old)) (machine_of plan.now self.new) result }
@@ -123,7 +128,7 @@ impl Running {
     {
         match next {
             Some(statement) => self.statement(alloc, plan, statement),
-            None => self.close(plan),
+            None => self.end_block(plan),
         }
     }
 

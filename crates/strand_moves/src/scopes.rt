@@ -7,19 +7,19 @@ ghost use Rattle.script_grammar.specs.declared.tree.Stmt.{Stmt, out-Stmt};
 ghost use Rattle.serial_meaning.specs.Plan.{PlanView};
 ghost use Rattle.serial_meaning.specs.declared.event.Event.TheVariants as event;
 ghost use Rattle.serial_meaning.specs.declared.event.FaultKind.{FaultKind};
-ghost use Rattle.strand_meaning.specs.Machine.{Told, end_move, sync_tokens};
+ghost use Rattle.strand_meaning.specs.Machine.{Emitted, end_move, sync_effects};
 ghost use Rattle.strand_values.specs.declared.halt.Halt.TheVariants.{Fault};
 ghost use Rattle.strand_moves.specs.Acts.{Acts, GoesIn, Keeps};
 ghost use Rattle.strand_moves.specs.Cursors.{IsBehind, left_of};
 ghost use Rattle.strand_moves.specs.Running.{IsInstance, IsStrand, machine_of, path_of, present_of, text_of};
-ghost use Rattle.strand_moves.specs.Moves.{Makes, MovesTrail, ShowsTrail, strand_of, tokens_of};
-ghost use Rattle.strand_moves.specs.declared.shown.Shown.TheVariants as shown;
+ghost use Rattle.strand_moves.specs.Moves.{Makes, MovesTrail, ShowsTrail, strand_of, effects_of};
+ghost use Rattle.strand_moves.specs.declared.effects.Effects.TheVariants as shown;
 
-use crate::activation::Level;
 use crate::cursor::Cursor;
+use crate::effects::{Effects, MoveResult};
+use crate::frame::Level;
 use crate::memory::Memory;
 use crate::running::Running;
-use crate::shown::{Moved, Shown};
 use dotmix::Trail;
 use ped_path::Pedigree;
 use serial_meaning::{FaultKind, Plan};
@@ -29,7 +29,7 @@ use strand_values::Halt;
 
 impl Running {
     /// A scope, after which the cursor stands: its block stands one level further, at rank 0.
-    pub(crate) fn scope(&mut self, alloc: Global, plan: &Plan) -> Result<Moved, Halt>
+    pub(crate) fn scope(&mut self, alloc: Global, plan: &Plan) -> Result<MoveResult, Halt>
         requires { IsStrand plan.now self.old }
         ensures shows { (st : Stmt) (block : List Stmt) → IsBehind (text_of plan.now self.old.top) self.old.top.cursor st →
             out-Act (out-Stmt st).act ≡ act.Scope block → Acts plan.now st (act.Scope block) self.old self.new result }
@@ -42,7 +42,7 @@ impl Running {
         }
         let (inner, path) = self.child_place(alloc, plan)?;
         self.go_in(alloc, inner)?;
-        Ok(Moved::Went(Shown::Opened(path)))
+        Ok(MoveResult::Went(Effects::Opened(path)))
     }
 
     /// Goes on at rank 0 in the block of the scope after which the cursor stands, on the path of this trail.
@@ -60,8 +60,8 @@ impl Running {
         Ok(())
     }
 
-    /// Where no statement is left in the innermost block: the end of a scope, or of the activation.
-    pub(crate) fn close(&mut self, plan: &Plan) -> Result<Moved, Halt>
+    /// Where no statement is left in the innermost block: the end of a scope, or of the frame.
+    pub(crate) fn end_block(&mut self, plan: &Plan) -> Result<MoveResult, Halt>
         requires instance { IsInstance plan.now self.old }
         requires none { left_of (text_of plan.now self.old.top) self.old.top.cursor ≡ [] }
         ensures shows { let m = machine_of plan.now self.old in
@@ -71,12 +71,12 @@ impl Running {
     {
         if self.leaving {
             return match self.top.levels.pop() {
-                Some(level) => Ok(Moved::Went(self.go_out(level)?)),
-                None => Ok(Moved::Went(Shown::Nothing)),
+                Some(level) => Ok(MoveResult::Went(self.go_out(level)?)),
+                None => Ok(MoveResult::Went(Effects::Nothing)),
             };
         }
         if !self.top.levels.as_slice().is_empty() {
-            return Ok(Moved::Went(self.join_scope()?));
+            return Ok(MoveResult::Went(self.join_scope()?));
         }
         if self.top.returning {
             return self.end(plan);
@@ -85,9 +85,9 @@ impl Running {
     }
 
     /// The sync at the end of the innermost scope.
-    fn join_scope(&mut self) -> Result<Shown, Memory>
+    fn join_scope(&mut self) -> Result<Effects, Memory>
         requires { self.old.rank < 2 ^ 32 }
-        ensures shown { IfOk result (λ s. tokens_of s ≡ Told (event.Sync (present_of self.old ++ self.old.rank ∷ [])) ∷ sync_tokens self.old.top.spawned) }
+        ensures shown { IfOk result (λ s. effects_of s ≡ Emitted (event.Sync (present_of self.old ++ self.old.rank ∷ [])) ∷ sync_effects self.old.top.spawned) }
         ensures passed { OnOk result (self.new ≡ record self.old { rank = self.old.rank + 1; leaving = true; top = record self.old.top { spawned = false } }) }
         ensures child { (plan : PlanView) → IfOk result (ShowsTrail plan) }
     {
@@ -97,7 +97,7 @@ impl Running {
     }
 
     /// Goes on after this scope, at the next rank of the path around it.
-    fn go_out(&mut self, level: Level) -> Result<Shown, Memory>
+    fn go_out(&mut self, level: Level) -> Result<Effects, Memory>
         requires { level.rank < 2 ^ 32 }
         ensures shown { IfOk result (λ s. s ≡ shown.Closed (level.trail.path ++ level.rank ∷ [])) }
         ensures passed { OnOk result (self.new ≡ record self.old { trail = level.trail; rank = level.rank + 1; leaving = false; top = record self.old.top { cursor = level.cursor } }) }
@@ -113,6 +113,6 @@ impl Running {
         self.rank = rank + 1;
         self.top.cursor = cursor;
         self.leaving = false;
-        Ok(Shown::Closed(at))
+        Ok(Effects::Closed(at))
     }
 }

@@ -14,9 +14,9 @@ ghost use Rattle.strand_moves.specs.Running.{IsInstance, machine_of, path_of, pr
 ghost use Rattle.strand_moves.specs.Moves.{Makes, MovesTrail, strand_of};
 ghost use Rattle.strand_moves.specs.Quick.{StaysThere, quiet};
 
+use crate::effects::{Effects, MoveResult};
 use crate::quick::quiet;
 use crate::running::Running;
-use crate::shown::{Moved, Shown};
 use script_grammar::{Act, Expr, Name, Number, Stmt};
 use serial_meaning::{Event, FaultKind, Plan};
 use std::alloc::Global;
@@ -29,7 +29,7 @@ impl Running {
         alloc: Global,
         plan: &Plan,
         statement: &Stmt,
-    ) -> Result<Moved, Halt>
+    ) -> Result<MoveResult, Halt>
         requires instance { IsInstance plan.now self.old }
         requires goes_on { self.old.leaving ≡ false }
         requires behind { IsBehind (text_of plan.now self.old.top) self.old.top.cursor statement.now }
@@ -49,7 +49,7 @@ impl Running {
             Act::Sync => self.wait(),
             Act::Print(e) => self.print(e),
             Act::If(e, _, _) => quiet(self.branch(e)),
-            Act::While(e, _) => quiet(self.turn(e)),
+            Act::While(e, _) => quiet(self.while_test(e)),
             Act::Pfor {
                 var: _,
                 lo,
@@ -90,17 +90,17 @@ impl Running {
         Ok(())
     }
 
-    fn wait(&mut self) -> Result<Moved, Halt>
+    fn wait(&mut self) -> Result<MoveResult, Halt>
         requires { self.old.rank < 2 ^ 32 }
         ensures shows { (plan : PlanView) (st : Stmt) → Acts plan st act.Sync self.old self.new result }
         ensures child { (plan : PlanView) → IfOk result (MovesTrail plan) }
         ensures stays { Stays self.old self.new }
         ensures few { Costs self.old self.new }
     {
-        Ok(Moved::Went(self.sync()?))
+        Ok(MoveResult::Went(self.sync()?))
     }
 
-    fn print(&mut self, e: &Expr) -> Result<Moved, Halt>
+    fn print(&mut self, e: &Expr) -> Result<MoveResult, Halt>
         requires { self.old.rank < 2 ^ 32 }
         ensures shows { (plan : PlanView) (st : Stmt) → Acts plan st (act.Print e.now) self.old self.new result }
         ensures child { (plan : PlanView) → IfOk result (MovesTrail plan) }
@@ -108,7 +108,7 @@ impl Running {
         ensures few { Costs self.old self.new }
     {
         let value = self.top.env.value(e)?;
-        Ok(Moved::Went(Shown::Told(Event::Print(self.pedigree()?, value))))
+        Ok(MoveResult::Went(Effects::Emitted(Event::Print(self.pedigree()?, value))))
     }
 
     pub(crate) fn branch(&mut self, e: &Expr) -> Result<(), Halt>
@@ -124,7 +124,7 @@ impl Running {
         Ok(())
     }
 
-    pub(crate) fn turn(&mut self, e: &Expr) -> Result<(), Halt>
+    pub(crate) fn while_test(&mut self, e: &Expr) -> Result<(), Halt>
         ensures shows { (plan : PlanView) (st : Stmt) (body : List Stmt) → IsBehind (text_of plan self.old.top) self.old.top.cursor st →
             out-Act (out-Stmt st).act ≡ act.While e.now body → Acts plan st (act.While e.now body) self.old self.new (quiet result) }
         ensures same { (kind : FaultKind) → result ≡ Err (Fault kind) → self.new ≡ self.old }
@@ -134,7 +134,7 @@ impl Running {
     {
         let holds = self.top.env.holds(e)?;
         if holds {
-            self.top.cursor.turn()?;
+            self.top.cursor.enter_loop()?;
         }
         Ok(())
     }

@@ -23,7 +23,7 @@ use serial_meaning::{Slot, Value};
 use std::alloc::Global;
 use std::marker::Model;
 
-/// The variables of an activation, in the order in which they were made: its parameters, and then those of its `let` statements.
+/// The variables of a frame, in the order in which they were made: its parameters, and then those of its `let` statements.
 #[derive(Drop)]
 pub struct Environment {
     variables: Vec<Entry>,

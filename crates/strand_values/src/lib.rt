@@ -1,4 +1,4 @@
-//! The variables of an activation, and the values of expressions in it.
+//! The variables of a frame, and the values of expressions in it.
 //!
 //! What an expression gives and what a statement writes is defined in `serial_meaning`; the contracts here are its words.
 #![tactic(auto)]

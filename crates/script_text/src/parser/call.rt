@@ -8,13 +8,13 @@ ghost use Rattle.script_text.specs.Reads.{Reads, AddsArgs, IsArguments};
 
 use crate::error::SyntaxError;
 use crate::parser::expression::expr;
-use crate::parser::source::{Source, after, expect, expect_name, open};
+use crate::parser::source::{LexedText, after, expect, expect_name, open};
 use script_grammar::{CallText, Expr, Items};
 use script_tokens::{Lexeme, Word};
 
 // What stands after an argument: further ones, each after a comma. They are put after those that were found before.
 pub(crate) fn more_args<'t>(
-    source: &Source<'_>,
+    source: &LexedText<'_>,
     mut found: Vec<Expr>,
     tokens: &'t [Lexeme],
     depth: u8,
@@ -33,7 +33,7 @@ pub(crate) fn more_args<'t>(
 
 // The arguments after an opening parenthesis, and the closing one.
 fn arguments<'t>(
-    source: &Source<'_>,
+    source: &LexedText<'_>,
     tokens: &'t [Lexeme],
     depth: u8,
 ) -> Result<(Items<Expr>, &'t [Lexeme]), SyntaxError>
@@ -52,7 +52,7 @@ fn arguments<'t>(
 }
 
 pub(crate) fn call<'t>(
-    source: &Source<'_>,
+    source: &LexedText<'_>,
     tokens: &'t [Lexeme],
     depth: u8,
 ) -> Result<(CallText, &'t [Lexeme]), SyntaxError>

@@ -8,7 +8,7 @@ ghost use Rattle.script_tokens.specs.declared.token.Word.TheVariants as word;
 
 use crate::error::SyntaxError;
 use crate::parser::source::{
-    Source, after, beside, deeper, expect, name_of, number_of, open, unexpected,
+    LexedText, after, beside, deeper, expect, name_of, number_of, open, unexpected,
 };
 use script_grammar::{Boxed, Comparison, Expr, Items, ProductPart, ProductSign, SumPart};
 use script_tokens::{Lexeme, Word};
@@ -96,7 +96,7 @@ fn joined_product(
 
 #[cycle(expressions)]
 pub(crate) fn expr<'t>(
-    source: &Source<'_>,
+    source: &LexedText<'_>,
     tokens: &'t [Lexeme],
     depth: u8,
 ) -> Result<(Expr, &'t [Lexeme]), SyntaxError>
@@ -115,7 +115,7 @@ pub(crate) fn expr<'t>(
 
 #[cycle(expressions)]
 fn sum<'t>(
-    source: &Source<'_>,
+    source: &LexedText<'_>,
     tokens: &'t [Lexeme],
     depth: u8,
 ) -> Result<(Expr, &'t [Lexeme]), SyntaxError>
@@ -129,7 +129,7 @@ fn sum<'t>(
 
 #[cycle(expressions)]
 fn more_terms<'t>(
-    source: &Source<'_>,
+    source: &LexedText<'_>,
     tokens: &'t [Lexeme],
     depth: u8,
 ) -> Result<(Items<SumPart>, &'t [Lexeme]), SyntaxError>
@@ -148,7 +148,7 @@ fn more_terms<'t>(
 
 #[cycle(expressions)]
 fn term<'t>(
-    source: &Source<'_>,
+    source: &LexedText<'_>,
     tokens: &'t [Lexeme],
     depth: u8,
 ) -> Result<(Expr, &'t [Lexeme]), SyntaxError>
@@ -162,7 +162,7 @@ fn term<'t>(
 
 #[cycle(expressions)]
 fn more_factors<'t>(
-    source: &Source<'_>,
+    source: &LexedText<'_>,
     tokens: &'t [Lexeme],
     depth: u8,
 ) -> Result<(Items<ProductPart>, &'t [Lexeme]), SyntaxError>
@@ -181,7 +181,7 @@ fn more_factors<'t>(
 
 #[cycle(expressions)]
 fn factor<'t>(
-    source: &Source<'_>,
+    source: &LexedText<'_>,
     tokens: &'t [Lexeme],
     depth: u8,
 ) -> Result<(Expr, &'t [Lexeme]), SyntaxError>
@@ -211,7 +211,7 @@ fn factor<'t>(
 // A factor that begins with a name, after which `rest` stands.
 #[cycle(expressions)]
 fn name_or_item<'t>(
-    source: &Source<'_>,
+    source: &LexedText<'_>,
     first: Lexeme,
     rest: &'t [Lexeme],
     depth: u8,
@@ -234,7 +234,7 @@ fn name_or_item<'t>(
 // A factor that begins with a minus.
 #[cycle(expressions)]
 fn negation<'t>(
-    source: &Source<'_>,
+    source: &LexedText<'_>,
     first: Lexeme,
     rest: &'t [Lexeme],
     depth: u8,
@@ -252,7 +252,7 @@ fn negation<'t>(
 // A factor that begins with a parenthesis.
 #[cycle(expressions)]
 fn group<'t>(
-    source: &Source<'_>,
+    source: &LexedText<'_>,
     first: Lexeme,
     rest: &'t [Lexeme],
     depth: u8,
@@ -269,7 +269,7 @@ fn group<'t>(
 // The operands of `same` and `older`.
 #[cycle(expressions)]
 fn operands<'t>(
-    source: &Source<'_>,
+    source: &LexedText<'_>,
     tokens: &'t [Lexeme],
     depth: u8,
 ) -> Result<(Boxed<Expr>, Boxed<Expr>, &'t [Lexeme]), SyntaxError>

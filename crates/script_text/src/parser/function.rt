@@ -8,15 +8,15 @@ ghost use Rattle.script_text.specs.Reads.{Reads, ReadsBody, ReadsFunctions, Adds
 
 use crate::error::SyntaxError;
 use crate::fault::TextFault;
-use crate::parser::source::{Source, after, beside, expect, expect_name, open, unexpected};
+use crate::parser::source::{LexedText, after, beside, expect, expect_name, open, unexpected};
 use crate::parser::statement::{ended_expr, stmts};
 use script_grammar::{Expr, Function, Items, Kind, Param, Script, Stmt};
-use script_tokens::{Lexeme, Stop, Word};
+use script_tokens::{LexEnd, Lexeme, Word};
 
 const MOST_FUNCTIONS: usize = 1024;
 
 fn param<'t>(
-    source: &Source<'_>,
+    source: &LexedText<'_>,
     tokens: &'t [Lexeme],
     depth: u8,
 ) -> Result<(Param, &'t [Lexeme]), SyntaxError>
@@ -45,7 +45,7 @@ fn param<'t>(
 
 // What stands after a parameter: further ones, each after a comma. They are put after those that were found before.
 fn more_params<'t>(
-    source: &Source<'_>,
+    source: &LexedText<'_>,
     mut found: Vec<Param>,
     tokens: &'t [Lexeme],
     depth: u8,
@@ -64,7 +64,7 @@ fn more_params<'t>(
 
 // The parameters after an opening parenthesis, and the closing one.
 fn params<'t>(
-    source: &Source<'_>,
+    source: &LexedText<'_>,
     tokens: &'t [Lexeme],
     depth: u8,
 ) -> Result<(Items<Param>, &'t [Lexeme]), SyntaxError>
@@ -84,7 +84,7 @@ fn params<'t>(
 
 // `-> id`, if it comes.
 fn answer<'t>(
-    source: &Source<'_>,
+    source: &LexedText<'_>,
     tokens: &'t [Lexeme],
     depth: u8,
 ) -> Result<(Kind, &'t [Lexeme]), SyntaxError>
@@ -100,7 +100,7 @@ fn answer<'t>(
 
 // `{ .. return E; }`: the statements, the place of `return`, and what it returns.
 fn body<'t>(
-    source: &Source<'_>,
+    source: &LexedText<'_>,
     tokens: &'t [Lexeme],
     depth: u8,
 ) -> Result<(Items<Stmt>, u32, Expr, &'t [Lexeme]), SyntaxError>
@@ -119,7 +119,7 @@ fn body<'t>(
 
 // What stands after `fn`.
 fn function<'t>(
-    source: &Source<'_>,
+    source: &LexedText<'_>,
     tokens: &'t [Lexeme],
 ) -> Result<(Function, &'t [Lexeme]), SyntaxError>
     ensures { Reads IsRestOfFunction (only word.Name ∷ param_list ∷ answer ∷ body ∷ [])
@@ -144,7 +144,7 @@ fn function<'t>(
 }
 
 fn functions<'t>(
-    source: &Source<'_>,
+    source: &LexedText<'_>,
     tokens: &'t [Lexeme],
 ) -> Result<(Items<Function>, &'t [Lexeme]), SyntaxError>
     ensures { ReadsFunctions source.now tokens.now result }
@@ -162,7 +162,7 @@ fn functions<'t>(
     Ok((Items(found), left))
 }
 
-pub(crate) fn script(source: &Source<'_>, tokens: &[Lexeme]) -> Result<Script, SyntaxError>
+pub(crate) fn script(source: &LexedText<'_>, tokens: &[Lexeme]) -> Result<Script, SyntaxError>
     ensures { Judges source.now tokens.now result }
 {
     let (functions, rest) = functions(source, tokens)?;
@@ -170,7 +170,7 @@ pub(crate) fn script(source: &Source<'_>, tokens: &[Lexeme]) -> Result<Script, S
         return Err(unexpected(source, rest));
     }
     match source.stop {
-        Stop::End => Ok(Script {
+        LexEnd::End => Ok(Script {
             version: source.version,
             functions,
         }),

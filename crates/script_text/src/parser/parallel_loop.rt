@@ -10,14 +10,14 @@ use crate::error::SyntaxError;
 use crate::parser::call::more_args;
 use crate::parser::expression::expr;
 use crate::parser::source::{
-    Source, after, beside, expect, expect_name, name_of, next, open, text, unexpected,
+    LexedText, after, beside, expect, expect_name, name_of, next, open, text, unexpected,
 };
 use script_grammar::{Act, CallText, Expr, Name};
 use script_tokens::{Lexeme, Word};
 
 // A statement that begins with `pfor`.
 pub(crate) fn pfor<'t>(
-    source: &Source<'_>,
+    source: &LexedText<'_>,
     first: Lexeme,
     rest: &'t [Lexeme],
     depth: u8,
@@ -50,7 +50,7 @@ pub(crate) fn pfor<'t>(
 
 // `in E..E`
 fn bounds<'t>(
-    source: &Source<'_>,
+    source: &LexedText<'_>,
     tokens: &'t [Lexeme],
     depth: u8,
 ) -> Result<(Expr, Expr, &'t [Lexeme]), SyntaxError>
@@ -66,7 +66,7 @@ fn bounds<'t>(
 
 // `into a`, if it comes.
 fn target<'t>(
-    source: &Source<'_>,
+    source: &LexedText<'_>,
     tokens: &'t [Lexeme],
     depth: u8,
 ) -> Result<(Option<Name>, &'t [Lexeme]), SyntaxError>
@@ -82,7 +82,7 @@ fn target<'t>(
 
 // `call f(i, ..);`, where `i` is the loop's name again.
 fn loop_call<'t>(
-    source: &Source<'_>,
+    source: &LexedText<'_>,
     var: &Name,
     tokens: &'t [Lexeme],
     depth: u8,
@@ -105,7 +105,7 @@ fn loop_call<'t>(
 
 // What stands after the name, which has to come again.
 fn repeated<'t>(
-    source: &Source<'_>,
+    source: &LexedText<'_>,
     name: &Name,
     tokens: &'t [Lexeme],
     depth: u8,

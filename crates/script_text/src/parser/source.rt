@@ -3,26 +3,26 @@
 ghost use Rattle.std.specs.Prelude.{◌≡◌, ℕ, ◌≤◌, ◌<◌, [], ◌∷◌, true, MatchOption};
 ghost use Rattle.script_tokens.specs.Lexing.{text_of};
 ghost use Rattle.script_tokens.specs.declared.token.Word.TheVariants as word;
-ghost use Rattle.script_text.specs.Kept.{Beside};
+ghost use Rattle.script_text.specs.Beside.{Beside};
 ghost use Rattle.script_text.specs.Machine.{only};
 ghost use Rattle.script_text.specs.Reads.{IsPlain, IsValue, IsName, IsNumber, Names, Numbers, NextIs, NextIsNot, NextLexeme, Passes, Opens, Deepens, Reads, unexpected_in};
 
 use crate::error::SyntaxError;
 use crate::fault::TextFault;
 use script_grammar::{Name, NameText, Number};
-use script_tokens::{Lexeme, Stop, Version, Word};
+use script_tokens::{LexEnd, Lexeme, Version, Word};
 use std::alloc::Global;
 
 /// A text that was cut into lexemes.
 #[derive(Drop)]
-pub(crate) struct Source<'a> {
+pub(crate) struct LexedText<'a> {
     pub(crate) alloc: Global,
     pub(crate) bytes: &'a [u8],
     pub(crate) version: Version,
     /// The length of the text.
     pub(crate) end: u32,
     /// Why there is no further lexeme.
-    pub(crate) stop: Stop,
+    pub(crate) stop: LexEnd,
 }
 
 const DEEPEST: u8 = 64;
@@ -32,7 +32,7 @@ const LONGEST_NAME: usize = 32;
 const LARGEST_NUMBER: u64 = 9_223_372_036_854_775_807;
 
 // The bytes of a lexeme. A place past the end of the text stands for the end.
-pub(crate) fn text<'a>(source: &Source<'a>, lexeme: Lexeme) -> &'a [u8]
+pub(crate) fn text<'a>(source: &LexedText<'a>, lexeme: Lexeme) -> &'a [u8]
     ensures { result.now ≡ text_of source.now.bytes.now lexeme }
 {
     let bytes = source.bytes;
@@ -41,7 +41,7 @@ pub(crate) fn text<'a>(source: &Source<'a>, lexeme: Lexeme) -> &'a [u8]
     &bytes[start..end]
 }
 
-pub(crate) fn name_of(source: &Source<'_>, lexeme: Lexeme) -> Result<Name, SyntaxError>
+pub(crate) fn name_of(source: &LexedText<'_>, lexeme: Lexeme) -> Result<Name, SyntaxError>
     ensures { Names source.now lexeme result }
 {
     let text = text(source, lexeme);
@@ -54,7 +54,7 @@ pub(crate) fn name_of(source: &Source<'_>, lexeme: Lexeme) -> Result<Name, Synta
     })
 }
 
-pub(crate) fn number_of(source: &Source<'_>, lexeme: Lexeme) -> Result<Number, SyntaxError>
+pub(crate) fn number_of(source: &LexedText<'_>, lexeme: Lexeme) -> Result<Number, SyntaxError>
     ensures { Numbers source.now lexeme result }
 {
     match value_of(text(source, lexeme)) {
@@ -102,14 +102,14 @@ pub(crate) fn after(tokens: &[Lexeme], word: Word) -> Option<(u32, &[Lexeme])>
 }
 
 // The fault where nothing that may come next does.
-pub(crate) fn unexpected(source: &Source<'_>, tokens: &[Lexeme]) -> SyntaxError
+pub(crate) fn unexpected(source: &LexedText<'_>, tokens: &[Lexeme]) -> SyntaxError
     ensures { result ≡ unexpected_in source.now tokens.now }
 {
     match (tokens, source.stop) {
         ([first, ..], _) => TextFault::UnexpectedToken.at(first.start),
-        ([], Stop::End) => TextFault::UnexpectedEnd.at(source.end),
-        ([], Stop::NotAscii(at)) => TextFault::NotAscii.at(at),
-        ([], Stop::NoToken(at)) => TextFault::UnexpectedToken.at(at),
+        ([], LexEnd::End) => TextFault::UnexpectedEnd.at(source.end),
+        ([], LexEnd::NotAscii(at)) => TextFault::NotAscii.at(at),
+        ([], LexEnd::NoToken(at)) => TextFault::UnexpectedToken.at(at),
     }
 }
 
@@ -127,7 +127,7 @@ pub(crate) fn deeper(depth: u8, at: u32) -> Result<u8, SyntaxError>
 
 // What stands after the word, which has to come next.
 pub(crate) fn expect<'t>(
-    source: &Source<'_>,
+    source: &LexedText<'_>,
     tokens: &'t [Lexeme],
     word: Word,
     depth: u8,
@@ -144,7 +144,7 @@ pub(crate) fn expect<'t>(
 
 // What stands after an opening bracket, which has to come next.
 pub(crate) fn open<'t>(
-    source: &Source<'_>,
+    source: &LexedText<'_>,
     tokens: &'t [Lexeme],
     word: Word,
     depth: u8,
@@ -176,7 +176,7 @@ pub(crate) fn beside<A: Drop, B>(
 }
 
 pub(crate) fn expect_name<'t>(
-    source: &Source<'_>,
+    source: &LexedText<'_>,
     tokens: &'t [Lexeme],
     depth: u8,
 ) -> Result<(Name, &'t [Lexeme]), SyntaxError>
@@ -190,7 +190,7 @@ pub(crate) fn expect_name<'t>(
 }
 
 pub(crate) fn expect_number<'t>(
-    source: &Source<'_>,
+    source: &LexedText<'_>,
     tokens: &'t [Lexeme],
     depth: u8,
 ) -> Result<(Number, &'t [Lexeme]), SyntaxError>

@@ -11,14 +11,14 @@ use crate::parser::call::call;
 use crate::parser::expression::expr;
 use crate::parser::parallel_loop::pfor;
 use crate::parser::source::{
-    Source, after, beside, deeper, expect, expect_name, expect_number, name_of, open, unexpected,
+    LexedText, after, beside, deeper, expect, expect_name, expect_number, name_of, open, unexpected,
 };
 use script_grammar::{Act, CallText, Expr, Items, Number, Right, Stmt};
 use script_tokens::{Lexeme, Word};
 
 // The right side of `let x = ..` and `x = ..`.
 fn right_side<'t>(
-    source: &Source<'_>,
+    source: &LexedText<'_>,
     tokens: &'t [Lexeme],
     depth: u8,
 ) -> Result<(Right, &'t [Lexeme]), SyntaxError>
@@ -48,7 +48,7 @@ fn right_side<'t>(
 
 // A right side and the semicolon after it.
 fn value<'t>(
-    source: &Source<'_>,
+    source: &LexedText<'_>,
     tokens: &'t [Lexeme],
     depth: u8,
 ) -> Result<(Right, &'t [Lexeme]), SyntaxError>
@@ -61,7 +61,7 @@ fn value<'t>(
 
 // An expression and the semicolon after it.
 pub(crate) fn ended_expr<'t>(
-    source: &Source<'_>,
+    source: &LexedText<'_>,
     tokens: &'t [Lexeme],
     depth: u8,
 ) -> Result<(Expr, &'t [Lexeme]), SyntaxError>
@@ -74,7 +74,7 @@ pub(crate) fn ended_expr<'t>(
 
 // A call and the semicolon after it.
 fn ended_call<'t>(
-    source: &Source<'_>,
+    source: &LexedText<'_>,
     tokens: &'t [Lexeme],
     depth: u8,
 ) -> Result<(CallText, &'t [Lexeme]), SyntaxError>
@@ -88,7 +88,7 @@ fn ended_call<'t>(
 
 // `[n];`, where no `=` comes.
 fn array_size<'t>(
-    source: &Source<'_>,
+    source: &LexedText<'_>,
     tokens: &'t [Lexeme],
     depth: u8,
 ) -> Result<(Number, &'t [Lexeme]), SyntaxError>
@@ -108,7 +108,7 @@ fn array_size<'t>(
 
 // `[E] = E;`, where no `=` comes.
 fn element<'t>(
-    source: &Source<'_>,
+    source: &LexedText<'_>,
     tokens: &'t [Lexeme],
     depth: u8,
 ) -> Result<(Expr, Expr, &'t [Lexeme]), SyntaxError>
@@ -129,7 +129,7 @@ fn element<'t>(
 
 // A statement that begins with `let`.
 fn declaration<'t>(
-    source: &Source<'_>,
+    source: &LexedText<'_>,
     first: Lexeme,
     rest: &'t [Lexeme],
     depth: u8,
@@ -149,7 +149,7 @@ fn declaration<'t>(
 
 // A statement that begins with a name.
 fn assignment<'t>(
-    source: &Source<'_>,
+    source: &LexedText<'_>,
     first: Lexeme,
     rest: &'t [Lexeme],
     depth: u8,
@@ -200,7 +200,7 @@ fn next_stmt(tokens: &[Lexeme]) -> Option<(Lexeme, &[Lexeme])>
 
 #[cycle(statements)]
 pub(crate) fn stmts<'t>(
-    source: &Source<'_>,
+    source: &LexedText<'_>,
     tokens: &'t [Lexeme],
     depth: u8,
 ) -> Result<(Items<Stmt>, &'t [Lexeme]), SyntaxError>
@@ -223,7 +223,7 @@ pub(crate) fn stmts<'t>(
 // A statement, told by its first lexeme.
 #[cycle(statements)]
 fn act<'t>(
-    source: &Source<'_>,
+    source: &LexedText<'_>,
     first: Lexeme,
     rest: &'t [Lexeme],
     depth: u8,
@@ -261,7 +261,7 @@ fn act<'t>(
 // A statement that begins with `if`.
 #[cycle(statements)]
 fn choice<'t>(
-    source: &Source<'_>,
+    source: &LexedText<'_>,
     first: Lexeme,
     rest: &'t [Lexeme],
     depth: u8,
@@ -282,7 +282,7 @@ fn choice<'t>(
 // A statement that begins with `while`.
 #[cycle(statements)]
 fn repetition<'t>(
-    source: &Source<'_>,
+    source: &LexedText<'_>,
     first: Lexeme,
     rest: &'t [Lexeme],
     depth: u8,
@@ -299,7 +299,7 @@ fn repetition<'t>(
 // A statement that begins with `scope`.
 #[cycle(statements)]
 fn level<'t>(
-    source: &Source<'_>,
+    source: &LexedText<'_>,
     first: Lexeme,
     rest: &'t [Lexeme],
     depth: u8,
@@ -314,7 +314,7 @@ fn level<'t>(
 
 #[cycle(statements)]
 fn block<'t>(
-    source: &Source<'_>,
+    source: &LexedText<'_>,
     tokens: &'t [Lexeme],
     depth: u8,
 ) -> Result<(Items<Stmt>, &'t [Lexeme]), SyntaxError>
@@ -330,7 +330,7 @@ fn block<'t>(
 // The block after `else`. Where no `else` comes, it is empty.
 #[cycle(statements)]
 fn otherwise<'t>(
-    source: &Source<'_>,
+    source: &LexedText<'_>,
     tokens: &'t [Lexeme],
     depth: u8,
 ) -> Result<(Items<Stmt>, &'t [Lexeme]), SyntaxError>

@@ -2,50 +2,50 @@
 
 use super::same;
 use script_tokens::{
-    Lexed, MAX_BYTES, Misfit, Stop, Token, TokenKind, Version, Word, lexemes, next_token,
+    LexEnd, Lexed, MAX_BYTES, Misfit, Token, TokenKind, Version, Word, lexemes, next_token,
 };
 use std::alloc::{AllocError, Global};
 use std::process::Abort;
 use std::test::Fail;
 
 // A text, the texts of its lexemes joined by `|`, and why they end.
-type Cut = (&'static [u8], &'static [u8], Stop);
+type Cut = (&'static [u8], &'static [u8], LexEnd);
 
 static CUTS: [Cut; 34] = [
-    (b"", b"", Stop::End),
-    (b"12abc", b"12|abc", Stop::End),
-    (b"007", b"007", Stop::End),
-    (b"_ _1 x9_Z", b"_|_1|x9_Z", Stop::End),
-    (b"fn fnx Fn", b"fn|fnx|Fn", Stop::End),
-    (b"if(x)", b"if|(|x|)", Stop::End),
-    (b"a..b", b"a|..|b", Stop::End),
-    (b"0..5", b"0|..|5", Stop::End),
-    (b"->- >", b"->|-|>", Stop::End),
-    (b"<==", b"<=|=", Stop::End),
-    (b"= ==", b"=|==", Stop::End),
-    (b"!=>=>", b"!=|>=|>", Stop::End),
-    (b"--1", b"-|-|1", Stop::End),
-    (b" \t\r\na", b"a", Stop::End),
-    (b"a#b", b"a", Stop::End),
-    (b"#a\nb#c\n", b"b", Stop::End),
-    (b"#\x00\x01\x7f##\nb", b"b", Stop::End),
-    (b"a # \xc8", b"a", Stop::NotAscii(4)),
-    (b"# \xc8\nb", b"", Stop::NotAscii(2)),
-    (b"ab\xff", b"ab", Stop::NotAscii(2)),
-    (b"1 \x80", b"1", Stop::NotAscii(2)),
-    (b"\x80!", b"", Stop::NotAscii(0)),
-    (b"a ! \xff", b"a", Stop::NoToken(2)),
-    (b"!", b"", Stop::NoToken(0)),
-    (b"1.5", b"1", Stop::NoToken(1)),
-    (b"...", b"..", Stop::NoToken(2)),
-    (b"\x01", b"", Stop::NoToken(0)),
-    (b"a\x7f", b"a", Stop::NoToken(1)),
-    (b"\x0b", b"", Stop::NoToken(0)),
-    (b"version 2\nscope x", b"scope|x", Stop::End),
-    (b"version 2\n", b"", Stop::End),
-    (b"version 2", b"version|2", Stop::End),
-    (b"version 2\n!", b"", Stop::NoToken(10)),
-    (b"version 2\n# \xff", b"", Stop::NotAscii(12)),
+    (b"", b"", LexEnd::End),
+    (b"12abc", b"12|abc", LexEnd::End),
+    (b"007", b"007", LexEnd::End),
+    (b"_ _1 x9_Z", b"_|_1|x9_Z", LexEnd::End),
+    (b"fn fnx Fn", b"fn|fnx|Fn", LexEnd::End),
+    (b"if(x)", b"if|(|x|)", LexEnd::End),
+    (b"a..b", b"a|..|b", LexEnd::End),
+    (b"0..5", b"0|..|5", LexEnd::End),
+    (b"->- >", b"->|-|>", LexEnd::End),
+    (b"<==", b"<=|=", LexEnd::End),
+    (b"= ==", b"=|==", LexEnd::End),
+    (b"!=>=>", b"!=|>=|>", LexEnd::End),
+    (b"--1", b"-|-|1", LexEnd::End),
+    (b" \t\r\na", b"a", LexEnd::End),
+    (b"a#b", b"a", LexEnd::End),
+    (b"#a\nb#c\n", b"b", LexEnd::End),
+    (b"#\x00\x01\x7f##\nb", b"b", LexEnd::End),
+    (b"a # \xc8", b"a", LexEnd::NotAscii(4)),
+    (b"# \xc8\nb", b"", LexEnd::NotAscii(2)),
+    (b"ab\xff", b"ab", LexEnd::NotAscii(2)),
+    (b"1 \x80", b"1", LexEnd::NotAscii(2)),
+    (b"\x80!", b"", LexEnd::NotAscii(0)),
+    (b"a ! \xff", b"a", LexEnd::NoToken(2)),
+    (b"!", b"", LexEnd::NoToken(0)),
+    (b"1.5", b"1", LexEnd::NoToken(1)),
+    (b"...", b"..", LexEnd::NoToken(2)),
+    (b"\x01", b"", LexEnd::NoToken(0)),
+    (b"a\x7f", b"a", LexEnd::NoToken(1)),
+    (b"\x0b", b"", LexEnd::NoToken(0)),
+    (b"version 2\nscope x", b"scope|x", LexEnd::End),
+    (b"version 2\n", b"", LexEnd::End),
+    (b"version 2", b"version|2", LexEnd::End),
+    (b"version 2\n!", b"", LexEnd::NoToken(10)),
+    (b"version 2\n# \xff", b"", LexEnd::NotAscii(12)),
 ];
 
 /// The texts of the lexemes, joined by `|`.
@@ -72,7 +72,7 @@ fn assert_cut(
     alloc: Global,
     text: &[u8],
     parts: &[u8],
-    stop: Stop,
+    stop: LexEnd,
 ) -> Result<(), Fail> {
     assert!(rt; text.len() <= MAX_BYTES);
     let lexed = lexemes(alloc, text)?;
@@ -149,7 +149,7 @@ fn kind_at(start: u32) -> TokenKind {
 #[test]
 fn keywords_and_symbols_have_their_words(rt: HostRuntime) -> Result<(), Fail> {
     let lexed = lexemes(rt.alloc(), ALL_WORDS)?;
-    same(&rt, "stop", lexed.stop, Stop::End);
+    same(&rt, "stop", lexed.stop, LexEnd::End);
     same(&rt, "count", lexed.lexemes.len(), WORDS.len());
     for (found, word) in lexed.lexemes.iter().zip(&WORDS) {
         same(&rt, found.start, found.word, *word);
@@ -213,7 +213,7 @@ fn largest(alloc: Global, byte: u8) -> Result<Lexed, Fail> {
 fn the_largest_texts_are_read(rt: HostRuntime) -> Result<(), Fail> {
     for &(byte, count, first) in &LARGEST {
         let lexed = largest(rt.alloc(), byte)?;
-        same(&rt, byte, lexed.stop, Stop::End);
+        same(&rt, byte, lexed.stop, LexEnd::End);
         same(&rt, byte, lexed.lexemes.len(), count);
         same(&rt, byte, lexed.lexemes.first().map(|l| l.word), first);
     }

@@ -98,7 +98,7 @@ fn appended_events_stand_behind_the_others(rt: HostRuntime) -> Result<(), Fail> 
 /// How many events each full segment has, and then the last one.
 fn lengths(alloc: Global, events: &Out) -> Result<Vec<usize>, Memory> {
     let mut lengths = Vec::new(alloc);
-    if let Some((full, last)) = events.segments() {
+    if let Some((full, last)) = events.chunks() {
         for segment in full {
             lengths.push(segment.len())?;
         }

@@ -12,8 +12,8 @@ returns-clause-idle c =
     let now = take c.in_ok-hands.hands.len (met ++ drop (length met) new) in
     let whole : c.as_mut_slice.result.now ≡ new = search rules in
     let long : length new ≡ c.in_ok-hands.hands.len = search rules in
-    let kept : now ≡ met = take_at met (drop (length met) new) c.in_ok-hands.hands.len (c.in_ok-meet.ensures.count ∙ ap length whole ∙ long) in
-    subst (AreIdle c.args.workers) (sym kept) (are-idle c.args.workers new met c.in_ok-hands.ensures (subst (λ (l : List HandView). HaveMet l met) whole c.in_ok-meet.ensures.met))
+    let overflow : now ≡ met = take_at met (drop (length met) new) c.in_ok-hands.hands.len (c.in_ok-meet.ensures.count ∙ ap length whole ∙ long) in
+    subst (AreIdle c.args.workers) (sym overflow) (are-idle c.args.workers new met c.in_ok-hands.ensures (subst (λ (l : List HandView). HaveMet l met) whole c.in_ok-meet.ensures.met))
 
 pub returns-clause-count : goal.returns-clause-count
 returns-clause-count c = as-many c.args.workers _ (returns-clause-idle c)

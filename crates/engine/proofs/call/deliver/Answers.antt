@@ -1,7 +1,7 @@
 use Rattle.std.proofs.Common.{◌≡◌, rules}
 use Rattle.engine.specs.Lines.{blocked_line}
 use Rattle.engine.specs.Promise.{watched}
-use Rattle.engine.specs.declared.report.Ending.TheVariants.{Blocked}
+use Rattle.engine.specs.declared.report.ReportEnd.TheVariants.{Blocked}
 use Rattle.engine.proofs.CallLemmas.{blocked_delivers}
 use Rattle.engine.proofs.call.deliver.Goals as goal
 

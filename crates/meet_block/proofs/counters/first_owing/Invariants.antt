@@ -1,5 +1,5 @@
 use Rattle.std.proofs.Common.{ℕ, length, ◌-◌, replicate}
-use Rattle.meet_block.specs.Blocks.{InOrder, Searched}
+use Rattle.meet_block.specs.CounterViews.{InOrder, Searched}
 use Rattle.meet_block.proofs.counters.first_owing.Given as goal
 
 abbrev pub invariant-loop-at : goal.invariant-loop-at

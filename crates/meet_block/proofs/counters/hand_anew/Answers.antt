@@ -1,5 +1,5 @@
 use Rattle.std.proofs.Common.{ap, ◌∙◌, sym, subst}
-use Rattle.meet_block.specs.Blocks.{HandsOut, handed}
+use Rattle.meet_block.specs.CounterViews.{HandsOut, handed}
 use Rattle.meet_block.specs.Rows.{listed}
 use Rattle.meet_block.proofs.Places.{hands_more}
 use Rattle.meet_block.proofs.counters.hand_anew.Goals as goal

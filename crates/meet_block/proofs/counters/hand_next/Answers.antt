@@ -3,7 +3,7 @@ use lib.ListN.{get_elem?}
 use Rattle.std.specs.Prelude.{OnOk, OnErr}
 use Rattle.std.proofs.lemmas.Result.{IfOk-weaker, IfErr-weaker}
 use Rattle.atomic_table.proofs.Lists.{at_index}
-use Rattle.meet_block.specs.Blocks.{HandsOut, handed, ends_open, tags_of}
+use Rattle.meet_block.specs.CounterViews.{HandsOut, handed, ends_open, tags_of}
 use Rattle.meet_block.specs.Rows.{listed, with_blocks}
 use Rattle.meet_block.proofs.Orders.{open_of}
 use Rattle.meet_block.proofs.Places.{closed_end, hands_last}

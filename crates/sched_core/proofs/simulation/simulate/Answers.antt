@@ -6,10 +6,10 @@ use Rattle.sched_core.proofs.simulation.simulate.Goals as goal
 pub loop-next-init : goal.loop-next-init
 loop-next-init c =
     let small : c.args.number < 2 ^ 64 = omega (arith, c.ranges.number) in
-    starts (arc_value c.args.plan.now) c.args.workers c.args.number c.seed_from_u64-words.result c.in_ok-state.state c.in_ok-state.ensures.begun c.in_ok-state.ensures.told c.requires.0 c.requires.1 small c.seed_from_u64-words.ensures.same
+    starts (arc_value c.args.plan.now) c.args.workers c.args.number c.seed_from_u64-words.result c.in_ok-state.state c.in_ok-state.ensures.begun c.in_ok-state.ensures.consistent c.requires.0 c.requires.1 small c.seed_from_u64-words.ensures.same
 
-pub go_on-requires-clause-told : goal.go_on-requires-clause-told
-go_on-requires-clause-told c = c.loop-next.invariant.told
+pub go_on-requires-clause-consistent : goal.go_on-requires-clause-consistent
+go_on-requires-clause-consistent c = c.loop-next.invariant.consistent
 
 pub go_on-requires-clause-few : goal.go_on-requires-clause-few
 go_on-requires-clause-few c = c.loop-next.invariant.few

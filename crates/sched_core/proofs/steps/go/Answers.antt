@@ -26,4 +26,4 @@ pub returns-in-Look : goal.returns-in-Look
 returns-in-Look c = rw c.in-Look.is c.look.ensures
 
 pub returns-in-Idle : goal.returns-in-Idle
-returns-in-Idle c = idle-any c.args.state.now c.requires.told c.requires.root c.args.event _ c.in-Idle.is c.requires.lawful
+returns-in-Idle c = idle-any c.args.state.now c.requires.consistent c.requires.root c.args.event _ c.in-Idle.is c.requires.lawful

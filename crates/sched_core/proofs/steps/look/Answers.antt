@@ -5,7 +5,7 @@ use Rattle.sched_core.specs.Lawful.{has_waiting}
 use Rattle.sched_core.specs.Moves.{Leaves, Parks, TakesJob, WorkerChanges}
 use Rattle.sched_core.proofs.Lists.{length-set}
 use Rattle.sched_core.proofs.Placing.{change-at, first-true, get-at, is-below, on-ok}
-use Rattle.sched_core.proofs.Resuming.{ring-job}
+use Rattle.sched_core.proofs.Resuming.{stalled-job}
 use Rattle.std.proofs.lemmas.Option.{slice_get_within}
 use Rattle.sched_core.proofs.Waking.{can-resume, passes-on, wakes}
 use Rattle.sched_core.proofs.steps.look.Goals as goal
@@ -19,7 +19,7 @@ index-requires c =
     let mid = slice_set ws w c.leave-job.new.self in
     let free : is_free (slice_get (map worker_of ws) w) ≡ true = first-true (is_free (slice_get (map worker_of ws) w)) (has_waiting c.args.place (slice_get (map worker_of ws) w)) c.requires.lawful in
     let leaves : WorkerChanges w (Leaves c.args.place j) ws mid = change-at w (Leaves c.args.place j) ws c.index_mut.result.now c.leave-job.new.self c.index_mut.ensures.value (is-below is_free refl ws w free) c.leave-job.ensures in
-    let is = ring-job s c.requires.told w c.args.place leaves.worker leaves.there j leaves.does.0 in
+    let is = stalled-job s c.requires.consistent w c.args.place leaves.worker leaves.there j leaves.does.0 in
     let small : j.number < length s.nodes.items = slice_get_within s.nodes.items j.number is.node is.there in
     omega (arith, small, s.nodes.ok.0)
 
@@ -32,11 +32,11 @@ resume-requires c =
     let mid = slice_set ws w c.leave-job.new.self in
     let free : is_free (slice_get (map worker_of ws) w) ≡ true = first-true (is_free (slice_get (map worker_of ws) w)) (has_waiting c.args.place (slice_get (map worker_of ws) w)) c.requires.lawful in
     let leaves : WorkerChanges w (Leaves c.args.place j) ws mid = change-at w (Leaves c.args.place j) ws c.index_mut.result.now c.leave-job.new.self c.index_mut.ensures.value (is-below is_free refl ws w free) c.leave-job.ensures in
-    let is = ring-job s c.requires.told w c.args.place leaves.worker leaves.there j leaves.does.0 in
+    let is = stalled-job s c.requires.consistent w c.args.place leaves.worker leaves.there j leaves.does.0 in
     let small : j.number < length s.nodes.items = slice_get_within s.nodes.items j.number is.node is.there in
     let node = c.index.result.now in
     let found : slice_get s.nodes.items j.number ≡ Some node = get-at s.nodes.items j.number node c.index.ensures small in
-    can-resume s c.requires.told w c.args.place j mid leaves node found (c.is_ready.ensures.0 c.if-is_ready.true)
+    can-resume s c.requires.consistent w c.args.place j mid leaves node found (c.is_ready.ensures.0 c.if-is_ready.true)
 
 pub index_mut-requires-then-is_ready : goal.index_mut-requires-then-is_ready
 index_mut-requires-then-is_ready c =
@@ -56,13 +56,13 @@ returns-then-is_ready c =
     let mid = slice_set ws w c.leave-job.new.self in
     let free : is_free (slice_get (map worker_of ws) w) ≡ true = first-true (is_free (slice_get (map worker_of ws) w)) (has_waiting c.args.place (slice_get (map worker_of ws) w)) c.requires.lawful in
     let leaves : WorkerChanges w (Leaves c.args.place j) ws mid = change-at w (Leaves c.args.place j) ws c.index_mut.result.now c.leave-job.new.self c.index_mut.ensures.value (is-below is_free refl ws w free) c.leave-job.ensures in
-    let is = ring-job s c.requires.told w c.args.place leaves.worker leaves.there j leaves.does.0 in
+    let is = stalled-job s c.requires.consistent w c.args.place leaves.worker leaves.there j leaves.does.0 in
     let small : j.number < length s.nodes.items = slice_get_within s.nodes.items j.number is.node is.there in
     let node = c.index.result.now in
     let found : slice_get s.nodes.items j.number ≡ Some node = get-at s.nodes.items j.number node c.index.ensures small in
     let still : w < length mid = let l : length mid ≡ length ws = length-set ws w c.leave-job.new.self in let k : w < length ws = is-below is_free refl ws w free in omega arith in
-    wakes s c.requires.told w c.args.place j mid leaves node found c.requires.root free _ (c.is_ready.ensures.0 c.if-is_ready.true) c.in_ok-job.job c.in_ok-job.ensures
-    (change-at w (TakesJob c.in_ok-job.job) mid c.index_mut-then-is_ready.result.now c.take.new.self c.index_mut-then-is_ready.ensures.value still c.take.ensures) refl refl refl refl
+    wakes s c.requires.consistent w c.args.place j mid leaves node found c.requires.root free _ (c.is_ready.ensures.0 c.if-is_ready.true) c.in_ok-job.job c.in_ok-job.ensures
+    (change-at w (TakesJob c.in_ok-job.job) mid c.index_mut-then-is_ready.result.now c.set_current.new.self c.index_mut-then-is_ready.ensures.value still c.set_current.ensures) refl refl refl refl
 
 pub index_mut-requires-2 : goal.index_mut-requires-2
 index_mut-requires-2 c =
@@ -82,12 +82,12 @@ returns c =
     let mid = slice_set ws w c.leave-job.new.self in
     let free : is_free (slice_get (map worker_of ws) w) ≡ true = first-true (is_free (slice_get (map worker_of ws) w)) (has_waiting c.args.place (slice_get (map worker_of ws) w)) c.requires.lawful in
     let leaves : WorkerChanges w (Leaves c.args.place j) ws mid = change-at w (Leaves c.args.place j) ws c.index_mut.result.now c.leave-job.new.self c.index_mut.ensures.value (is-below is_free refl ws w free) c.leave-job.ensures in
-    let is = ring-job s c.requires.told w c.args.place leaves.worker leaves.there j leaves.does.0 in
+    let is = stalled-job s c.requires.consistent w c.args.place leaves.worker leaves.there j leaves.does.0 in
     let small : j.number < length s.nodes.items = slice_get_within s.nodes.items j.number is.node is.there in
     let node = c.index.result.now in
     let found : slice_get s.nodes.items j.number ≡ Some node = get-at s.nodes.items j.number node c.index.ensures small in
     let still : w < length mid = let l : length mid ≡ length ws = length-set ws w c.leave-job.new.self in let k : w < length ws = is-below is_free refl ws w free in omega arith in
-    on-ok c.park.result
-    (λ h. passes-on s c.requires.told w c.args.place j mid leaves node found c.requires.root free _ (λ z. (let both : false ≡ true = sym c.if-is_ready.false ∙ c.is_ready.ensures.1 z in absurd (cc)))
-    (change-at w (Parks j) mid c.index_mut-2.result.now c.park.new.self c.index_mut-2.ensures.value still h) (record { plan = refl; nodes = refl; given = refl; root = refl; runs = refl }))
-    c.park.ensures
+    on-ok c.stall.result
+    (λ h. passes-on s c.requires.consistent w c.args.place j mid leaves node found c.requires.root free _ (λ z. (let both : false ≡ true = sym c.if-is_ready.false ∙ c.is_ready.ensures.1 z in absurd (cc)))
+    (change-at w (Parks j) mid c.index_mut-2.result.now c.stall.new.self c.index_mut-2.ensures.value still h) (record { plan = refl; nodes = refl; given = refl; root = refl; runs = refl }))
+    c.stall.ensures

@@ -11,7 +11,7 @@ stop-requires c =
     let ws = s.workers.items in
     let w = c.args.w in
     let j = c.let_go-task.result in
-    can-stop s _ c.requires.told w j
+    can-stop s _ c.requires.consistent w j
     (change-at w (Lets j) ws c.index_mut.result.now c.let_go-task.new.self c.index_mut.ensures.value (is-below may_run refl ws w c.requires.lawful) c.let_go-task.ensures)
     (record { plan = refl; nodes = refl; given = refl; root = refl; runs = refl })
 
@@ -21,6 +21,6 @@ returns c =
     let ws = s.workers.items in
     let w = c.args.w in
     let j = c.let_go-task.result in
-    run-goes s _ c.requires.told w j
+    run-goes s _ c.requires.consistent w j
     (change-at w (Lets j) ws c.index_mut.result.now c.let_go-task.new.self c.index_mut.ensures.value (is-below may_run refl ws w c.requires.lawful) c.let_go-task.ensures)
     (record { plan = refl; nodes = refl; given = refl; root = refl; runs = refl }) c.requires.root c.stop.new.state _ refl refl refl refl refl refl c.in_ok-stopped.stopped c.in_ok-stopped.ensures c.in_ok-stop.ensures

@@ -1,6 +1,6 @@
 use Rattle.std.proofs.Common.{◌≤◌, length, refl, sym, ◌∙◌, subst}
 use Rattle.sched_meaning.proofs.OneStep.{some-one}
-use Rattle.sched_core.specs.declared.node.Node.{Node}
+use Rattle.sched_core.specs.declared.node.SpawnNode.{SpawnNode}
 use Rattle.sched_core.proofs.Placing.{change-at, on-ok}
 use Rattle.std.proofs.lemmas.Option.{slice_get_within}
 use Rattle.sched_core.proofs.stops.begin_task.Goals as goal
@@ -9,7 +9,7 @@ pub begin_child-requires-clause-parent : goal.begin_child-requires-clause-parent
 begin_child-requires-clause-parent c = slice_get_within c.args.state.now.nodes.items c.args.number c.requires.node c.requires.there
 
 pub begin_child-requires-clause-unanswered : goal.begin_child-requires-clause-unanswered
-begin_child-requires-clause-unanswered c = λ n h. subst (λ (x : Node). x.unanswered ≤ length x.children) (some-one c.requires.node n (sym c.requires.there ∙ h)) c.requires.within
+begin_child-requires-clause-unanswered c = λ n h. subst (λ (x : SpawnNode). x.unanswered ≤ length x.children) (some-one c.requires.node n (sym c.requires.there ∙ h)) c.requires.within
 
 pub returns : goal.returns
 returns c =

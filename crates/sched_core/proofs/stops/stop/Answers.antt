@@ -3,7 +3,7 @@ use Rattle.std.proofs.lemmas.Option.{slice_get_within}
 use Rattle.strand_machine.specs.declared.stop.Stop.TheVariants as stop
 use Rattle.sched_meaning.proofs.OneStep.{some-one}
 use Rattle.sched_core.specs.Moves.{CanHear, job}
-use Rattle.sched_core.specs.declared.node.Node.{Node}
+use Rattle.sched_core.specs.declared.node.SpawnNode.{SpawnNode}
 use Rattle.sched_core.proofs.Arms.{by-kind, parks-at}
 use Rattle.sched_core.proofs.Placing.{on-ok}
 use Rattle.sched_core.proofs.stops.stop.Goals as goal
@@ -19,16 +19,16 @@ index_mut-requires c = let small : c.args.w < length c.args.state.now.workers.it
 
 pub returns-in-Wait : goal.returns-in-Wait
 returns-in-Wait c =
-    by-kind c.park.result c.args.w c.args.number c.args.stop (stop.Wait c.in-Wait.rest) c.args.state.now _ c.in-Wait.is
-    (on-ok c.park.result
-    (parks-at c.args.w (job c.in-Wait.rest c.args.number) c.args.state.now _ c.index_mut.result.now c.park.new.self c.index_mut.ensures.value c.requires.worker refl refl refl refl refl refl)
-    c.park.ensures)
+    by-kind c.stall.result c.args.w c.args.number c.args.stop (stop.Wait c.in-Wait.rest) c.args.state.now _ c.in-Wait.is
+    (on-ok c.stall.result
+    (parks-at c.args.w (job c.in-Wait.rest c.args.number) c.args.state.now _ c.index_mut.result.now c.stall.new.self c.index_mut.ensures.value c.requires.worker refl refl refl refl refl refl)
+    c.stall.ensures)
 
 pub put_answer-requires-clause-number : goal.put_answer-requires-clause-number
 put_answer-requires-clause-number c = slice_get_within c.args.state.now.nodes.items c.args.number c.requires.node c.requires.there
 
 pub put_answer-requires-clause-hears : goal.put_answer-requires-clause-hears
-put_answer-requires-clause-hears c = λ n h. subst (λ (x : Node). CanHear c.args.state.now.nodes.items x.link) (some-one c.requires.node n (sym c.requires.there ∙ h)) c.requires.hears
+put_answer-requires-clause-hears c = λ n h. subst (λ (x : SpawnNode). CanHear c.args.state.now.nodes.items x.link) (some-one c.requires.node n (sym c.requires.there ∙ h)) c.requires.hears
 
 pub returns : goal.returns
 returns c = by-kind c.put_answer.result c.args.w c.args.number c.args.stop (stop.Done c.in-Done.answer c.in-Done.give) c.args.state.now c.put_answer.new.state c.in-Done.is c.put_answer.ensures

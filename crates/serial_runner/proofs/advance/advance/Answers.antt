@@ -12,8 +12,8 @@ resume_by-requires-clause-tags c = has_answers c.args.stack c.requires c.in-Wait
 pub returns-in_ok-child-in-Spawn : goal.returns-in_ok-child-in-Spawn
 returns-in_ok-child-in-Spawn c =
     let k = c.in_ok-child-in-Spawn.ensures in
-    spawned c.args.stack c.requires c.in-Spawn.child c.in-Spawn.rest (stopped _ _ c.requires.top.goes_on (rw c.in-Spawn.is at c.in_ok-stop.ensures)) _ _ (c.frame-top.ensures.frame ∙ ap (λ task. record { task = task; answers = [] }) k.0)
-    (c.frame-top.ensures.same ∙ made (λ _. c.push.new.self ≡ _ ∷ _) _ _ k.1 c.push.ensures)
+    spawned c.args.stack c.requires c.in-Spawn.child c.in-Spawn.rest (stopped _ _ c.requires.top.goes_on (rw c.in-Spawn.is at c.in_ok-stop.ensures)) _ _ (c.open_task-top.ensures.open_task ∙ ap (λ task. record { task = task; answers = [] }) k.0)
+    (c.open_task-top.ensures.same ∙ made (λ _. c.push.new.self ≡ _ ∷ _) _ _ k.1 c.push.ensures)
 
 pub returns-in_ok-task-in-Wait : goal.returns-in_ok-task-in-Wait
 returns-in_ok-task-in-Wait c =

@@ -4,7 +4,7 @@ use Rattle.strand_machine.specs.Family.{tags}
 use Rattle.strand_machine.specs.Parts.{awaited}
 use Rattle.strand_machine.specs.Stops.{answer_tags, any_cut, WentOn}
 use Rattle.strand_machine.specs.Tasks.{TaskView}
-use Rattle.serial_runner.specs.Sights.{origin_of, with_child, WalksOn}
+use Rattle.serial_runner.specs.Observed.{origin_of, with_child, WalksOn}
 use Rattle.serial_runner.specs.declared.walk.Walked.TheVariants.{Goes}
 use Rattle.serial_runner.proofs.Noting.{made}
 use Rattle.serial_runner.proofs.Walking.{it_waits, children_known, it_has_answers, walks_by_child, over_by_child, walks_by_wait, over_by_wait, walk_ends}
@@ -14,14 +14,14 @@ pub returns-then-is_over : goal.returns-then-is_over
 returns-then-is_over c =
     let s = c.in_ok-stop.ensures in
     over_by_child _ _ _ _ c.requires.walk s.noted s.is_noted c.in-Spawn.child c.in-Spawn.rest (sym s.stops ∙ c.in-Spawn.is) c.requires.below c.notes_go_on.ensures _ _ (sym c.is_over.ensures ∙ c.if-is_over.true) s.sees
-    (ap (λ z. z.1) c.in_ok-rest-in-Spawn.ensures.0 ∙ made (λ _. c.see-seen.new.self ≡ with_child c.args.at.now c.in-Spawn.child.task.origin _) _ _ c.in_ok-rest-in-Spawn.ensures.1 c.see-seen.ensures)
+    (ap (λ z. z.1) c.in_ok-rest-in-Spawn.ensures.0 ∙ made (λ _. c.observe_child-seen.new.self ≡ with_child c.args.at.now c.in-Spawn.child.task.origin _) _ _ c.in_ok-rest-in-Spawn.ensures.1 c.observe_child-seen.ensures)
 
 pub returns-else-is_over : goal.returns-else-is_over
 returns-else-is_over c =
     let s = c.in_ok-stop.ensures in
-    subst (λ (task : TaskView). WalksOn (arc_value c.args.plan.now) (origin_of c.args.walk) c.args.at.now c.args.walk (Goes (record { task = task; sight = c.in_ok-rest-in-Spawn.sight }))) (sym (ap (λ z. z.0) c.in_ok-rest-in-Spawn.ensures.0))
+    subst (λ (task : TaskView). WalksOn (arc_value c.args.plan.now) (origin_of c.args.walk) c.args.at.now c.args.walk (Goes (record { task = task; observed = c.in_ok-rest-in-Spawn.observed }))) (sym (ap (λ z. z.0) c.in_ok-rest-in-Spawn.ensures.0))
     (walks_by_child _ _ _ _ c.requires.walk s.noted s.is_noted c.in-Spawn.child c.in-Spawn.rest (sym s.stops ∙ c.in-Spawn.is) c.notes_go_on.ensures _ _ s.sees
-    (ap (λ z. z.1) c.in_ok-rest-in-Spawn.ensures.0 ∙ made (λ _. c.see-seen.new.self ≡ with_child c.args.at.now c.in-Spawn.child.task.origin _) _ _ c.in_ok-rest-in-Spawn.ensures.1 c.see-seen.ensures))
+    (ap (λ z. z.1) c.in_ok-rest-in-Spawn.ensures.0 ∙ made (λ _. c.observe_child-seen.new.self ≡ with_child c.args.at.now c.in-Spawn.child.task.origin _) _ _ c.in_ok-rest-in-Spawn.ensures.1 c.observe_child-seen.ensures))
 
 pub returns-then-is_over-2 : goal.returns-then-is_over-2
 returns-then-is_over-2 c =
@@ -42,18 +42,18 @@ pub resume_with-requires-clause-tags : goal.resume_with-requires-clause-tags
 resume_with-requires-clause-tags c =
     let s = c.in_ok-stop.ensures in
     let k = c.in_ok-rest-in-Wait.ensures in
-    subst (λ (v : TaskView). answer_tags c.in_ok-rest-in-Wait.answers ≡ tags v.task.plan (awaited v.task.pieces.handed)) (sym (ap (λ z. z.0) k.0))
+    subst (λ (v : TaskView). answer_tags c.in_ok-rest-in-Wait.answers ≡ tags v.task.plan (awaited v.task.trace.handed)) (sym (ap (λ z. z.0) k.0))
     (it_has_answers _ _ _ _ c.requires.walk s.noted s.is_noted c.in-Wait.rest (sym s.stops ∙ c.in-Wait.is) c.in_ok-rest-in-Wait.answers _ (c.as_slice.ensures ∙ c.awaited.ensures)
     (made (λ answers. answer_tags answers ≡ tags (arc_value c.args.plan.now) c.as_slice.result.now) _ _ k.1 c.answers_of-answers.ensures.tags))
 
-pub returns-in_ok-sight-in-Wait : goal.returns-in_ok-sight-in-Wait
-returns-in_ok-sight-in-Wait c =
+pub returns-in_ok-observed-in-Wait : goal.returns-in_ok-observed-in-Wait
+returns-in_ok-observed-in-Wait c =
     let s = c.in_ok-stop.ensures in
     let k = c.in_ok-rest-in-Wait.ensures in
-    let m = c.in_ok-sight-in-Wait.ensures in
+    let m = c.in_ok-observed-in-Wait.ensures in
     walks_by_wait _ _ _ _ c.requires.walk s.noted s.is_noted c.in-Wait.rest (sym s.stops ∙ c.in-Wait.is) c.notes_go_on.ensures c.answers_show_nothing.ensures c.in_ok-rest-in-Wait.answers
     (made (λ answers. any_cut answers ≡ _) _ _ k.1 c.answers_of-answers.ensures.whole) _
-    (subst (λ (v : TaskView). WentOn c.in_ok-rest-in-Wait.answers v c.in_ok-sight-in-Wait.task) (ap (λ z. z.0) k.0) (made (WentOn c.in_ok-rest-in-Wait.answers _) _ _ m.1 c.resume_with.ensures)) _
+    (subst (λ (v : TaskView). WentOn c.in_ok-rest-in-Wait.answers v c.in_ok-observed-in-Wait.task) (ap (λ z. z.0) k.0) (made (WentOn c.in_ok-rest-in-Wait.answers _) _ _ m.1 c.resume_with.ensures)) _
     (m.0 ∙ ap (λ z. z.1) k.0 ∙ s.sees)
 
 pub returns-in-Done : goal.returns-in-Done

@@ -26,8 +26,8 @@ take_answers-requires-clause-ready c = ap (λ (f : FamilyView). f.ready) c.in-Re
 pub take_answers-requires-clause-last : goal.take_answers-requires-clause-last
 take_answers-requires-clause-last c =
     let b = c.args.parts.now.body in
-    let last = looked-last b.family c.look.new.self b.pieces.handed true c.look.new.self.loads c.in-Ready.ensures.1 c.requires.family in
-    subst (AwaitsCount c.look.new.self) (sym (ap length (c.as_slice.ensures ∙ c.awaited.ensures))) (awaits-count c.look.new.self b.pieces.handed last)
+    let last = looked-last b.family c.look.new.self b.trace.handed true c.look.new.self.loads c.in-Ready.ensures.1 c.requires.family in
+    subst (AwaitsCount c.look.new.self) (sym (ap length (c.as_slice.ensures ∙ c.awaited.ensures))) (awaits-count c.look.new.self b.trace.handed last)
 
 pub go_on-requires-clause-sound : goal.go_on-requires-clause-sound
 go_on-requires-clause-sound c =
@@ -39,9 +39,9 @@ pub go_on-requires-clause-tags : goal.go_on-requires-clause-tags
 go_on-requires-clause-tags c =
     let b = c.args.parts.now.body in
     let g = c.look.new.self in
-    let last = looked-last b.family g b.pieces.handed true g.loads c.in-Ready.ensures.1 c.requires.family in
+    let last = looked-last b.family g b.trace.handed true g.loads c.in-Ready.ensures.1 c.requires.family in
     c.in_ok-answers-in-Ready.ensures.tags ∙ ap (λ (n : ℕ). tags g.plan (drop (length g.children - n) g.children)) (ap length (c.as_slice.ensures ∙ c.awaited.ensures))
-    ∙ ap (tags g.plan) (last-awaited g b.pieces.handed last) ∙ ap (λ (p : PlanView). tags p (awaited b.pieces.handed)) (sym (ap (λ (f : FamilyView). f.plan) c.take_answers.ensures.family))
+    ∙ ap (tags g.plan) (last-awaited g b.trace.handed last) ∙ ap (λ (p : PlanView). tags p (awaited b.trace.handed)) (sym (ap (λ (f : FamilyView). f.plan) c.take_answers.ensures.family))
 
 pub returns-in_ok-go_on-in-Ready-clause-resumed : goal.returns-in_ok-go_on-in-Ready-clause-resumed
 returns-in_ok-go_on-in-Ready-clause-resumed c =

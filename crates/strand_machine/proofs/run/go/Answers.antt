@@ -1,14 +1,14 @@
 use Rattle.std.proofs.Common.{◌∙◌, sym, refl, arith}
 use Rattle.strand_machine.specs.Made.{made}
 use Rattle.strand_machine.specs.Tasks.{gone, view_of}
-use Rattle.strand_machine.specs.declared.work.Stage.TheVariants as stage
+use Rattle.strand_machine.specs.declared.work.InstanceState.TheVariants as stage
 use Rattle.strand_machine.specs.declared.work.Work.TheVariants as work
 use Rattle.strand_machine.proofs.Advancing.{leads-start}
 use Rattle.strand_machine.proofs.Moving.{holding, row-run, went-sound, went-is, gave-sound, faulted-sound, syncs-sound, syncs-run, gives-run, faults-run, still-on, still-falls, tells-on, tells-falls, run-is-ok, runs-on, on-run-over}
 use Rattle.strand_machine.proofs.run.go.Goals as goal
 
 pub loop-instance-init : goal.loop-instance-init
-loop-instance-init c = record { sound = c.requires; leads = leads-start (view_of c.args.parts.now.body (work.Runs (stage.Goes c.args.instance))) refl }
+loop-instance-init c = record { sound = c.requires; leads = leads-start (view_of c.args.parts.now.body (work.Runs (stage.Running c.args.instance))) refl }
 
 pub run-requires : goal.run-requires
 run-requires c = rw c.plan.ensures c.loop-instance.invariant.sound.works.sound
@@ -34,19 +34,19 @@ wait-requires c =
     let q = row-run c.steps_are_sound.ensures c.moves_fall.ensures c.plan.result.now l.parts.body l.instance c.plan.ensures l.invariant.sound r.before r.row in
     let path = m.path ∙ l.invariant.sound.works.at ∙ sym q.sound.works.at in
     let s = c.in-Went-Synced in
-    syncs-sound (gone l.parts.body) i c.run.new.self _ _ c.plan.ensures r.last q.sound c.steps_are_sound.ensures s.field-0 s.event c.tell-in-Went-Synced.new.self s.is s.field-0-is c.in_ok-tell-in-Went-Synced.ensures path m.sound m.child
+    syncs-sound (gone l.parts.body) i c.run.new.self _ _ c.plan.ensures r.last q.sound c.steps_are_sound.ensures s.field-0 s.event c.emit-in-Went-Synced.new.self s.is s.field-0-is c.in_ok-emit-in-Went-Synced.ensures path m.sound m.child
 
-pub give-requires : goal.give-requires
-give-requires c =
+pub returned-requires : goal.returned-requires
+returned-requires c =
     let l = c.loop-instance in
     let m = c.in_ok-run.ensures in
     let r = m.moves in
     let i = holding l.instance r.before in
     let q = row-run c.steps_are_sound.ensures c.moves_fall.ensures c.plan.result.now l.parts.body l.instance c.plan.ensures l.invariant.sound r.before r.row in
-    gave-sound (gone l.parts.body) i c.run.new.self _ _ c.plan.ensures r.last q.sound c.steps_are_sound.ensures c.in-Gave.value c.in-Gave.is
+    gave-sound (gone l.parts.body) i c.run.new.self _ _ c.plan.ensures r.last q.sound c.steps_are_sound.ensures c.in-Returned.value c.in-Returned.is
 
-pub fault-requires : goal.fault-requires
-fault-requires c =
+pub faulted-requires : goal.faulted-requires
+faulted-requires c =
     let l = c.loop-instance in
     let m = c.in_ok-run.ensures in
     let r = m.moves in
@@ -76,18 +76,18 @@ returns-in-Went-Synced-clause-step c =
     let k = on-run-over _ l.parts.body b l.instance i l.invariant q in
     let path = m.path ∙ l.invariant.sound.works.at ∙ sym q.sound.works.at in
     let s = c.in-Went-Synced in
-    syncs-run b i c.run.new.self _ _ c.plan.ensures r.last k.sound c.moves_fall.ensures _ k.leads s.field-0 s.event c.tell-in-Went-Synced.new.self s.is s.field-0-is
-    c.in_ok-tell-in-Went-Synced.ensures (runs-on b i c.run.new.self _ _ c.plan.ensures r.last k.sound path m.sound) _ c.wait.ensures.made
+    syncs-run b i c.run.new.self _ _ c.plan.ensures r.last k.sound c.moves_fall.ensures _ k.leads s.field-0 s.event c.emit-in-Went-Synced.new.self s.is s.field-0-is
+    c.in_ok-emit-in-Went-Synced.ensures (runs-on b i c.run.new.self _ _ c.plan.ensures r.last k.sound path m.sound) _ c.wait.ensures.made
 
-pub returns-in-Gave-clause-step : goal.returns-in-Gave-clause-step
-returns-in-Gave-clause-step c =
+pub returns-in-Returned-clause-step : goal.returns-in-Returned-clause-step
+returns-in-Returned-clause-step c =
     let l = c.loop-instance in
     let r = c.in_ok-run.ensures.moves in
     let b = gone l.parts.body in
     let i = holding l.instance r.before in
     let q = row-run c.steps_are_sound.ensures c.moves_fall.ensures c.plan.result.now l.parts.body l.instance c.plan.ensures l.invariant.sound r.before r.row in
     let k = on-run-over _ l.parts.body b l.instance i l.invariant q in
-    gives-run b i c.run.new.self _ _ c.plan.ensures r.last k.sound c.moves_fall.ensures _ k.leads c.in-Gave.value c.in-Gave.is _ c.give.ensures.step
+    gives-run b i c.run.new.self _ _ c.plan.ensures r.last k.sound c.moves_fall.ensures _ k.leads c.in-Returned.value c.in-Returned.is _ c.returned.ensures.step
 
 pub returns-in-Faulted-clause-step : goal.returns-in-Faulted-clause-step
 returns-in-Faulted-clause-step c =
@@ -97,7 +97,7 @@ returns-in-Faulted-clause-step c =
     let i = holding l.instance r.before in
     let q = row-run c.steps_are_sound.ensures c.moves_fall.ensures c.plan.result.now l.parts.body l.instance c.plan.ensures l.invariant.sound r.before r.row in
     let k = on-run-over _ l.parts.body b l.instance i l.invariant q in
-    faults-run b i c.run.new.self _ _ c.plan.ensures r.last k.sound c.moves_fall.ensures _ k.leads c.in-Faulted.own c.in-Faulted.is _ c.fault.ensures.step
+    faults-run b i c.run.new.self _ _ c.plan.ensures r.last k.sound c.moves_fall.ensures _ k.leads c.in-Faulted.own c.in-Faulted.is _ c.faulted.ensures.step
 
 -- the moves before it: nothing
 
@@ -132,8 +132,8 @@ loop-instance-smaller c =
     let r = c.in_ok-run.ensures.moves in
     let i = holding l.instance r.before in
     let q = row-run c.steps_are_sound.ensures c.moves_fall.ensures c.plan.result.now l.parts.body l.instance c.plan.ensures l.invariant.sound r.before r.row in
-    let s = c.in-Went-Told in
-    let falls = tells-falls (gone l.parts.body) i c.run.new.self _ _ c.plan.ensures r.last q.sound c.moves_fall.ensures s.field-0 s.event c.tell.new.self s.is s.field-0-is c.in_ok-tell-in-Went-Told.ensures in
+    let s = c.in-Went-Emitted in
+    let falls = tells-falls (gone l.parts.body) i c.run.new.self _ _ c.plan.ensures r.last q.sound c.moves_fall.ensures s.field-0 s.event c.emit.new.self s.is s.field-0-is c.in_ok-emit-in-Went-Emitted.ensures in
     omega (arith, falls, q.leads.fewer)
 
 pub loop-instance-preserved : goal.loop-instance-preserved
@@ -146,6 +146,6 @@ loop-instance-preserved c =
     let q = row-run c.steps_are_sound.ensures c.moves_fall.ensures c.plan.result.now l.parts.body l.instance c.plan.ensures l.invariant.sound r.before r.row in
     let k = on-run-over _ l.parts.body b l.instance i l.invariant q in
     let path = m.path ∙ l.invariant.sound.works.at ∙ sym q.sound.works.at in
-    let s = c.in-Went-Told in
-    tells-on b i c.run.new.self _ _ c.plan.ensures r.last k.sound c.steps_are_sound.ensures c.moves_fall.ensures _ k.leads s.field-0 s.event c.tell.new.self s.is s.field-0-is
-    c.in_ok-tell-in-Went-Told.ensures path m.sound m.child
+    let s = c.in-Went-Emitted in
+    tells-on b i c.run.new.self _ _ c.plan.ensures r.last k.sound c.steps_are_sound.ensures c.moves_fall.ensures _ k.leads s.field-0 s.event c.emit.new.self s.is s.field-0-is
+    c.in_ok-emit-in-Went-Emitted.ensures path m.sound m.child

@@ -1,12 +1,12 @@
 use Rattle.strand_meaning.specs.Left.{moves_left}
 use Rattle.strand_machine.specs.Tasks.{task_of, view_of}
-use Rattle.strand_machine.specs.declared.work.Stage.TheVariants as stage
+use Rattle.strand_machine.specs.declared.work.InstanceState.TheVariants as stage
 use Rattle.strand_machine.specs.declared.work.Work.TheVariants as work
 use Rattle.strand_machine.proofs.Moving.{IsOnRun}
 use Rattle.strand_machine.proofs.run.go.Given as goal
 
 abbrev pub invariant-loop-instance : goal.invariant-loop-instance
-invariant-loop-instance l = IsOnRun (view_of l.initial.parts.body (work.Runs (stage.Goes l.fn.instance))) l.parts.body l.instance
+invariant-loop-instance l = IsOnRun (view_of l.initial.parts.body (work.Runs (stage.Running l.fn.instance))) l.parts.body l.instance
 
 abbrev pub decreases-loop-instance : goal.decreases-loop-instance
-decreases-loop-instance l = moves_left (task_of l.parts.body (work.Runs (stage.Goes l.instance)))
+decreases-loop-instance l = moves_left (task_of l.parts.body (work.Runs (stage.Running l.instance)))

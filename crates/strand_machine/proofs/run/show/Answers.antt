@@ -1,17 +1,17 @@
 use Rattle.std.proofs.Common.{◌≡◌, refl}
 use Rattle.strand_meaning.specs.Task.{stops_at, child_in}
-use Rattle.strand_moves.specs.Moves.{tokens_of}
-use Rattle.strand_machine.specs.Shown.{shown_task}
+use Rattle.strand_moves.specs.Moves.{effects_of}
+use Rattle.strand_machine.specs.Effects.{shown_task}
 use Rattle.strand_machine.specs.Stops.{KeepsStep, step_of}
 use Rattle.strand_machine.specs.Tasks.{view_of, fresh_with, with_child}
-use Rattle.strand_machine.specs.declared.place.Place.TheVariants as place
-use Rattle.strand_machine.specs.declared.stop.Step.{Step}
-use Rattle.strand_machine.specs.declared.stop.Step.TheVariants as step
+use Rattle.strand_machine.specs.declared.destination.Destination.TheVariants as place
+use Rattle.strand_machine.specs.declared.stop.MoveOrStop.{MoveOrStop}
+use Rattle.strand_machine.specs.declared.stop.MoveOrStop.TheVariants as step
 use Rattle.strand_machine.specs.declared.stop.Stop.TheVariants as stop
-use Rattle.strand_machine.specs.declared.work.Stage.TheVariants as stage
+use Rattle.strand_machine.specs.declared.work.InstanceState.TheVariants as stage
 use Rattle.strand_machine.specs.declared.work.Work.TheVariants as work
 use Rattle.strand_machine.proofs.Making.{made-ok}
-use Rattle.strand_machine.proofs.Moving.{nothing-sound, nothing-step, opened-sound, opened-step, closed-sound, closed-step, told-sound, told-step, synced-sound, synced-step, spawned-known, spawned-trail, spawned-handed, spawned-sound, spawned-step, looped-known, looped-trail, looped-handed, looped-sound, looped-step, passes-keep, spawns-keep, with_pieces}
+use Rattle.strand_machine.proofs.Moving.{nothing-sound, nothing-step, opened-sound, opened-step, closed-sound, closed-step, emitted-sound, emitted-step, synced-sound, synced-step, spawned-known, spawned-trail, spawned-handed, spawned-sound, spawned-step, looped-known, looped-trail, looped-handed, looped-sound, looped-step, passes-keep, spawns-keep, with_trace}
 use Rattle.strand_machine.proofs.run.show.Goals as goal
 
 -- nothing
@@ -24,8 +24,8 @@ returns-in-Nothing-clause-step c = nothing-step c.args.parts.now.body c.args.ins
 
 pub returns-in-Nothing-clause-keeps : goal.returns-in-Nothing-clause-keeps
 returns-in-Nothing-clause-keeps c =
-    let w = work.Runs (stage.Goes c.args.instance) in
-    passes-keep c.args.parts.now.body c.args.parts.now.body.pieces w w _ refl c.pass.ensures.made
+    let w = work.Runs (stage.Running c.args.instance) in
+    passes-keep c.args.parts.now.body c.args.parts.now.body.trace w w _ refl c.pass.ensures.made
 
 -- where a scope begins or has ended
 
@@ -37,8 +37,8 @@ returns-in-Opened-clause-step c = opened-step c.args.parts.now.body c.args.insta
 
 pub returns-in-Opened-clause-keeps : goal.returns-in-Opened-clause-keeps
 returns-in-Opened-clause-keeps c =
-    let w = work.Runs (stage.Goes c.args.instance) in
-    passes-keep c.args.parts.now.body c.args.parts.now.body.pieces w w _ refl c.pass-in-Opened.ensures.made
+    let w = work.Runs (stage.Running c.args.instance) in
+    passes-keep c.args.parts.now.body c.args.parts.now.body.trace w w _ refl c.pass-in-Opened.ensures.made
 
 pub pass-requires-in-Closed : goal.pass-requires-in-Closed
 pass-requires-in-Closed c = closed-sound c.args.parts.now.body c.args.instance c.args.shown c.in-Closed.field-0 c.in-Closed.is c.requires
@@ -48,36 +48,36 @@ returns-in-Closed-clause-step c = closed-step c.args.parts.now.body c.args.insta
 
 pub returns-in-Closed-clause-keeps : goal.returns-in-Closed-clause-keeps
 returns-in-Closed-clause-keeps c =
-    let w = work.Runs (stage.Goes c.args.instance) in
-    passes-keep c.args.parts.now.body c.args.parts.now.body.pieces w w _ refl c.pass-in-Closed.ensures.made
+    let w = work.Runs (stage.Running c.args.instance) in
+    passes-keep c.args.parts.now.body c.args.parts.now.body.trace w w _ refl c.pass-in-Closed.ensures.made
 
 -- an event
 
-pub pass-requires-in-Told : goal.pass-requires-in-Told
-pass-requires-in-Told c = told-sound c.args.parts.now.body c.args.instance c.args.shown c.in-Told.event c.tell.new.self c.in-Told.is c.in_ok-tell-in-Told.ensures c.requires
+pub pass-requires-in-Emitted : goal.pass-requires-in-Emitted
+pass-requires-in-Emitted c = emitted-sound c.args.parts.now.body c.args.instance c.args.shown c.in-Emitted.event c.emit.new.self c.in-Emitted.is c.in_ok-emit-in-Emitted.ensures c.requires
 
-pub returns-in-Told-clause-step : goal.returns-in-Told-clause-step
-returns-in-Told-clause-step c =
-    told-step c.args.parts.now.body c.args.instance c.args.shown c.in-Told.event c.tell.new.self _ c.in-Told.is c.in_ok-tell-in-Told.ensures c.pass-in-Told.ensures.made
+pub returns-in-Emitted-clause-step : goal.returns-in-Emitted-clause-step
+returns-in-Emitted-clause-step c =
+    emitted-step c.args.parts.now.body c.args.instance c.args.shown c.in-Emitted.event c.emit.new.self _ c.in-Emitted.is c.in_ok-emit-in-Emitted.ensures c.pass-in-Emitted.ensures.made
 
-pub returns-in-Told-clause-keeps : goal.returns-in-Told-clause-keeps
-returns-in-Told-clause-keeps c =
-    let w = work.Runs (stage.Goes c.args.instance) in
-    passes-keep c.args.parts.now.body c.tell.new.self w w _ refl c.pass-in-Told.ensures.made
+pub returns-in-Emitted-clause-keeps : goal.returns-in-Emitted-clause-keeps
+returns-in-Emitted-clause-keeps c =
+    let w = work.Runs (stage.Running c.args.instance) in
+    passes-keep c.args.parts.now.body c.emit.new.self w w _ refl c.pass-in-Emitted.ensures.made
 
 -- a sync
 
 pub pass-requires-in-Synced : goal.pass-requires-in-Synced
-pass-requires-in-Synced c = synced-sound c.args.parts.now.body c.args.instance c.args.shown c.in-Synced.event c.tell-in-Synced.new.self c.in-Synced.is c.in_ok-tell-in-Synced.ensures c.requires
+pass-requires-in-Synced c = synced-sound c.args.parts.now.body c.args.instance c.args.shown c.in-Synced.event c.emit-in-Synced.new.self c.in-Synced.is c.in_ok-emit-in-Synced.ensures c.requires
 
 pub returns-in-Synced-clause-step : goal.returns-in-Synced-clause-step
 returns-in-Synced-clause-step c =
-    synced-step c.args.parts.now.body c.args.instance c.args.shown c.in-Synced.event c.tell-in-Synced.new.self _ c.in-Synced.is c.in_ok-tell-in-Synced.ensures c.pass-in-Synced.ensures.made
+    synced-step c.args.parts.now.body c.args.instance c.args.shown c.in-Synced.event c.emit-in-Synced.new.self _ c.in-Synced.is c.in_ok-emit-in-Synced.ensures c.pass-in-Synced.ensures.made
 
 pub returns-in-Synced-clause-keeps : goal.returns-in-Synced-clause-keeps
 returns-in-Synced-clause-keeps c =
     let i = c.args.instance in
-    passes-keep c.args.parts.now.body c.tell-in-Synced.new.self (work.Runs (stage.Goes i)) (work.Runs (stage.AtSync i)) _ refl c.pass-in-Synced.ensures.made
+    passes-keep c.args.parts.now.body c.emit-in-Synced.new.self (work.Runs (stage.Running i)) (work.Runs (stage.AtSync i)) _ refl c.pass-in-Synced.ensures.made
 
 -- a child
 
@@ -95,28 +95,28 @@ spawn-requires-clause-handed c =
 
 pub spawn-requires-clause-sound : goal.spawn-requires-clause-sound
 spawn-requires-clause-sound c =
-    spawned-sound c.args.parts.now.body c.args.instance c.args.shown c.in-Spawned.event c.in-Spawned.child c.in-Spawned.height c.in-Spawned.target c.tell-in-Spawned.new.self c.in-Spawned.is c.in_ok-tell-in-Spawned.ensures c.requires
+    spawned-sound c.args.parts.now.body c.args.instance c.args.shown c.in-Spawned.event c.in-Spawned.child c.in-Spawned.height c.in-Spawned.target c.emit-in-Spawned.new.self c.in-Spawned.is c.in_ok-emit-in-Spawned.ensures c.requires
 
 pub returns-in-Spawned-clause-step : goal.returns-in-Spawned-clause-step
 returns-in-Spawned-clause-step c =
     let b = c.args.parts.now.body in
     let i = c.args.instance in
     let s = c.in-Spawned in
-    let p = c.tell-in-Spawned.new.self in
+    let p = c.emit-in-Spawned.new.self in
     made-ok c.spawn.new.parts c.spawn.result
-    (λ (r : Step). r ≡ step.Stops (stop.Spawn (fresh_with b.family.knows b.family.plan s.child.origin) (view_of (with_child (with_pieces b p) s.child.origin (place.Spawned s.height s.target)) (work.Runs (stage.Goes i)))))
-    (λ (r : Step). step_of r ≡ stops_at (child_in (tokens_of c.args.shown)) (shown_task b i c.args.shown))
-    (λ r h. spawned-step b i c.args.shown s.event s.child s.height s.target p r s.is c.in_ok-tell-in-Spawned.ensures h) c.spawn.ensures.made
+    (λ (r : MoveOrStop). r ≡ step.Stops (stop.Spawn (fresh_with b.family.knows b.family.plan s.child.origin) (view_of (with_child (with_trace b p) s.child.origin (place.Spawned s.height s.target)) (work.Runs (stage.Running i)))))
+    (λ (r : MoveOrStop). step_of r ≡ stops_at (child_in (effects_of c.args.shown)) (shown_task b i c.args.shown))
+    (λ r h. spawned-step b i c.args.shown s.event s.child s.height s.target p r s.is c.in_ok-emit-in-Spawned.ensures h) c.spawn.ensures.made
 
 pub returns-in-Spawned-clause-keeps : goal.returns-in-Spawned-clause-keeps
 returns-in-Spawned-clause-keeps c =
     let b = c.args.parts.now.body in
-    let w = work.Runs (stage.Goes c.args.instance) in
+    let w = work.Runs (stage.Running c.args.instance) in
     let s = c.in-Spawned in
-    let p = c.tell-in-Spawned.new.self in
+    let p = c.emit-in-Spawned.new.self in
     let at = place.Spawned s.height s.target in
     made-ok c.spawn.new.parts c.spawn.result
-    (λ (r : Step). r ≡ step.Stops (stop.Spawn (fresh_with b.family.knows b.family.plan s.child.origin) (view_of (with_child (with_pieces b p) s.child.origin at) w)))
+    (λ (r : MoveOrStop). r ≡ step.Stops (stop.Spawn (fresh_with b.family.knows b.family.plan s.child.origin) (view_of (with_child (with_trace b p) s.child.origin at) w)))
     (KeepsStep (view_of b w)) (λ r h. spawns-keep b p w w s.child.origin at r refl h) c.spawn.ensures.made
 
 -- a loop
@@ -135,26 +135,26 @@ spawn-requires-in-Looped-clause-handed c =
 
 pub spawn-requires-in-Looped-clause-sound : goal.spawn-requires-in-Looped-clause-sound
 spawn-requires-in-Looped-clause-sound c =
-    looped-sound c.args.parts.now.body c.args.instance c.args.shown c.in-Looped.event c.in-Looped.child c.in-Looped.target c.tell-in-Looped.new.self c.in-Looped.is c.in_ok-tell-in-Looped.ensures c.requires
+    looped-sound c.args.parts.now.body c.args.instance c.args.shown c.in-Looped.event c.in-Looped.child c.in-Looped.target c.emit-in-Looped.new.self c.in-Looped.is c.in_ok-emit-in-Looped.ensures c.requires
 
 pub returns-clause-step : goal.returns-clause-step
 returns-clause-step c =
     let b = c.args.parts.now.body in
     let i = c.args.instance in
     let s = c.in-Looped in
-    let p = c.tell-in-Looped.new.self in
+    let p = c.emit-in-Looped.new.self in
     made-ok c.spawn-in-Looped.new.parts c.spawn-in-Looped.result
-    (λ (r : Step). r ≡ step.Stops (stop.Spawn (fresh_with b.family.knows b.family.plan s.child.origin) (view_of (with_child (with_pieces b p) s.child.origin (place.Looped s.target)) (work.Runs (stage.AtLoop i)))))
-    (λ (r : Step). step_of r ≡ stops_at (child_in (tokens_of c.args.shown)) (shown_task b i c.args.shown))
-    (λ r h. looped-step b i c.args.shown s.event s.child s.target p r s.is c.in_ok-tell-in-Looped.ensures h) c.spawn-in-Looped.ensures.made
+    (λ (r : MoveOrStop). r ≡ step.Stops (stop.Spawn (fresh_with b.family.knows b.family.plan s.child.origin) (view_of (with_child (with_trace b p) s.child.origin (place.Looped s.target)) (work.Runs (stage.AtLoop i)))))
+    (λ (r : MoveOrStop). step_of r ≡ stops_at (child_in (effects_of c.args.shown)) (shown_task b i c.args.shown))
+    (λ r h. looped-step b i c.args.shown s.event s.child s.target p r s.is c.in_ok-emit-in-Looped.ensures h) c.spawn-in-Looped.ensures.made
 
 pub returns-clause-keeps : goal.returns-clause-keeps
 returns-clause-keeps c =
     let b = c.args.parts.now.body in
     let i = c.args.instance in
     let s = c.in-Looped in
-    let p = c.tell-in-Looped.new.self in
+    let p = c.emit-in-Looped.new.self in
     let at = place.Looped s.target in
     made-ok c.spawn-in-Looped.new.parts c.spawn-in-Looped.result
-    (λ (r : Step). r ≡ step.Stops (stop.Spawn (fresh_with b.family.knows b.family.plan s.child.origin) (view_of (with_child (with_pieces b p) s.child.origin at) (work.Runs (stage.AtLoop i)))))
-    (KeepsStep (view_of b (work.Runs (stage.Goes i)))) (λ r h. spawns-keep b p (work.Runs (stage.Goes i)) (work.Runs (stage.AtLoop i)) s.child.origin at r refl h) c.spawn-in-Looped.ensures.made
+    (λ (r : MoveOrStop). r ≡ step.Stops (stop.Spawn (fresh_with b.family.knows b.family.plan s.child.origin) (view_of (with_child (with_trace b p) s.child.origin at) (work.Runs (stage.AtLoop i)))))
+    (KeepsStep (view_of b (work.Runs (stage.Running i)))) (λ r h. spawns-keep b p (work.Runs (stage.Running i)) (work.Runs (stage.AtLoop i)) s.child.origin at r refl h) c.spawn-in-Looped.ensures.made

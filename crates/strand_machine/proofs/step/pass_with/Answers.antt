@@ -21,12 +21,12 @@ pub returns-in-Runs-clause-step : goal.returns-in-Runs-clause-step
 returns-in-Runs-clause-step c =
     subst (λ (x : Work). IfOk c.run.result (λ passed. GoesOn (view_of c.args.parts.now.body x) (made c.run.new.parts passed))) (sym c.in-Runs.is) c.run.ensures.step
 
-pub close-requires : goal.close-requires
-close-requires c = sound-at c.args.parts.now.body c.args.work (work.Over c.in-Over.value c.in-Over.gone_on) c.in-Over.is c.requires
+pub end_loop-requires : goal.end_loop-requires
+end_loop-requires c = sound-at c.args.parts.now.body c.args.work (work.Over c.in-Over.value c.in-Over.gone_on) c.in-Over.is c.requires
 
 pub returns-in-Over-clause-step : goal.returns-in-Over-clause-step
 returns-in-Over-clause-step c =
-    subst (λ (x : Work). IfOk c.close.result (λ passed. GoesOn (view_of c.args.parts.now.body x) (made c.close.new.parts passed))) (sym c.in-Over.is) c.close.ensures.step
+    subst (λ (x : Work). IfOk c.end_loop.result (λ passed. GoesOn (view_of c.args.parts.now.body x) (made c.end_loop.new.parts passed))) (sym c.in-Over.is) c.end_loop.ensures.step
 
 pub unreachable-requires : goal.unreachable-requires
 unreachable-requires c = (sound-at c.args.parts.now.body c.args.work (work.Cut _) c.in-Cut.is c.requires).works

@@ -2,18 +2,18 @@ use Rattle.std.proofs.Common.{IfOk, refl, sym, subst}
 use Rattle.strand_machine.specs.Made.{made}
 use Rattle.strand_machine.specs.Stops.{GoesOn}
 use Rattle.strand_machine.specs.Tasks.{view_of}
-use Rattle.strand_machine.specs.declared.work.Stage.{Stage}
-use Rattle.strand_machine.specs.declared.work.Stage.TheVariants as stage
+use Rattle.strand_machine.specs.declared.work.InstanceState.{InstanceState}
+use Rattle.strand_machine.specs.declared.work.InstanceState.TheVariants as stage
 use Rattle.strand_machine.specs.declared.work.Work.TheVariants as work
 use Rattle.strand_machine.proofs.Arms.{stage-sound, stage-is, sync-sound, sync-is, loop-sound, loop-is, joined-ends, joined-is}
 use Rattle.strand_machine.proofs.step.run.Goals as goal
 
 pub go-requires : goal.go-requires
-go-requires c = stage-sound c.args.parts.now.body c.args.stage (stage.Goes c.in-Goes.instance) c.in-Goes.is c.requires
+go-requires c = stage-sound c.args.parts.now.body c.args.stage (stage.Running c.in-Running.instance) c.in-Running.is c.requires
 
-pub returns-in-Goes-clause-step : goal.returns-in-Goes-clause-step
-returns-in-Goes-clause-step c =
-    subst (λ (x : Stage). IfOk c.go.result (λ passed. GoesOn (view_of c.args.parts.now.body (work.Runs x)) (made c.go.new.parts passed))) (sym c.in-Goes.is) c.go.ensures.step
+pub returns-in-Running-clause-step : goal.returns-in-Running-clause-step
+returns-in-Running-clause-step c =
+    subst (λ (x : InstanceState). IfOk c.go.result (λ passed. GoesOn (view_of c.args.parts.now.body (work.Runs x)) (made c.go.new.parts passed))) (sym c.in-Running.is) c.go.ensures.step
 
 pub wait-requires : goal.wait-requires
 wait-requires c = sync-sound c.steps_are_sound.ensures c.args.parts.now.body c.args.stage c.in-AtSync.instance c.in-AtSync.is c.requires
@@ -27,20 +27,20 @@ wait-requires-in-AtLoop c = loop-sound c.steps_are_sound.ensures c.args.parts.no
 pub returns-in-AtLoop-clause-step : goal.returns-in-AtLoop-clause-step
 returns-in-AtLoop-clause-step c = loop-is c.args.parts.now.body c.args.stage c.in-AtLoop.instance _ c.in-AtLoop.is c.requires c.wait-in-AtLoop.ensures.made
 
-pub give-requires : goal.give-requires
-give-requires c = stage-sound c.args.parts.now.body c.args.stage (stage.Gave c.in-Gave.value) c.in-Gave.is c.requires
+pub returned-requires : goal.returned-requires
+returned-requires c = stage-sound c.args.parts.now.body c.args.stage (stage.Returned c.in-Returned.value) c.in-Returned.is c.requires
 
-pub returns-in-Gave-clause-step : goal.returns-in-Gave-clause-step
-returns-in-Gave-clause-step c = stage-is c.args.parts.now.body c.args.stage (stage.Gave c.in-Gave.value) _ c.in-Gave.is c.give.ensures.step
+pub returns-in-Returned-clause-step : goal.returns-in-Returned-clause-step
+returns-in-Returned-clause-step c = stage-is c.args.parts.now.body c.args.stage (stage.Returned c.in-Returned.value) _ c.in-Returned.is c.returned.ensures.step
 
-pub fault-requires : goal.fault-requires
-fault-requires c = stage-sound c.args.parts.now.body c.args.stage (stage.Faulted c.in-Faulted.own) c.in-Faulted.is c.requires
+pub faulted-requires : goal.faulted-requires
+faulted-requires c = stage-sound c.args.parts.now.body c.args.stage (stage.Faulted c.in-Faulted.own) c.in-Faulted.is c.requires
 
 pub returns-in-Faulted-clause-step : goal.returns-in-Faulted-clause-step
-returns-in-Faulted-clause-step c = stage-is c.args.parts.now.body c.args.stage (stage.Faulted c.in-Faulted.own) _ c.in-Faulted.is c.fault.ensures.step
+returns-in-Faulted-clause-step c = stage-is c.args.parts.now.body c.args.stage (stage.Faulted c.in-Faulted.own) _ c.in-Faulted.is c.faulted.ensures.step
 
-pub returns-in-Joined-clause-step : goal.returns-in-Joined-clause-step
-returns-in-Joined-clause-step c = joined-is c.args.parts.now.body c.args.stage c.in-Joined.fault _ c.in-Joined.is refl
+pub returns-in-ChildFaulted-clause-step : goal.returns-in-ChildFaulted-clause-step
+returns-in-ChildFaulted-clause-step c = joined-is c.args.parts.now.body c.args.stage c.in-ChildFaulted.fault _ c.in-ChildFaulted.is refl
 
-pub returns-in-Joined-clause-sound : goal.returns-in-Joined-clause-sound
-returns-in-Joined-clause-sound c = joined-ends c.steps_are_sound.ensures c.args.parts.now.body c.args.stage c.in-Joined.fault c.in-Joined.is c.requires
+pub returns-in-ChildFaulted-clause-sound : goal.returns-in-ChildFaulted-clause-sound
+returns-in-ChildFaulted-clause-sound c = joined-ends c.steps_are_sound.ensures c.args.parts.now.body c.args.stage c.in-ChildFaulted.fault c.in-ChildFaulted.is c.requires

@@ -4,9 +4,9 @@ use Rattle.serial_meaning.specs.declared.answer.Outcome.TheVariants as outcome
 use Rattle.strand_family.specs.Origins.{only}
 use Rattle.strand_machine.specs.Stops.{IsStep}
 use Rattle.strand_machine.specs.Tasks.{view_of, with_child, fresh_with}
-use Rattle.strand_machine.specs.declared.stop.Step.TheVariants as step
+use Rattle.strand_machine.specs.declared.stop.MoveOrStop.TheVariants as step
 use Rattle.strand_machine.specs.declared.stop.Stop.TheVariants as stop
-use Rattle.strand_machine.specs.declared.place.Place.TheVariants as place
+use Rattle.strand_machine.specs.declared.destination.Destination.TheVariants as place
 use Rattle.strand_machine.specs.declared.work.Left.{Left}
 use Rattle.strand_machine.specs.declared.work.Work.TheVariants as work
 use Rattle.strand_machine.proofs.Dispatch.{end-answers, end-is, handed-half, part-trail, pass-sound, pass-is, spawn-sound, spawn-is, split-many, split-none, split-one}

@@ -5,8 +5,8 @@ use Rattle.crew.specs.Hands.{HandView}
 use Rattle.crew.proofs.Meeting.{first-has-none, is_dealt}
 use Rattle.crew.proofs.hiring.Crew.many.Goals as goal
 
-pub take_on-requires-clause-kept : goal.take_on-requires-clause-kept
-take_on-requires-clause-kept c = (first-has-none c.args.workers c.in_ok-hands.hands.items c.index_mut.result.now c.index_mut.result.now c.in_ok-hands.ensures.idle c.requires.workers.0 c.index_mut.ensures.value).0
+pub take_on-requires-clause-overflow : goal.take_on-requires-clause-overflow
+take_on-requires-clause-overflow c = (first-has-none c.args.workers c.in_ok-hands.hands.items c.index_mut.result.now c.index_mut.result.now c.in_ok-hands.ensures.idle c.requires.workers.0 c.index_mut.ensures.value).0
 
 pub take_on-requires-clause-pushed : goal.take_on-requires-clause-pushed
 take_on-requires-clause-pushed c = (first-has-none c.args.workers c.in_ok-hands.hands.items c.index_mut.result.now c.index_mut.result.now c.in_ok-hands.ensures.idle c.requires.workers.0 c.index_mut.ensures.value).1

@@ -9,5 +9,5 @@ pub returns-clause-hands : goal.returns-clause-hands
 returns-clause-hands c =
     let idle = c.in_ok-hands.hands.items in
     let few : 1 ≤ c.args.workers = c.requires.0 in
-    begins (arc_value c.args.plan.now) c.args.workers idle idle c.index_mut.result.now c.begin.new.self c.in_ok-hands.ensures.idle refl few
-    (c.begin.ensures ∙ ap₂ (λ (x : HandView) (t : TaskView). record x { current = Some t }) c.index_mut.ensures.value c.in_ok-root.ensures.task)
+    begins (arc_value c.args.plan.now) c.args.workers idle idle c.index_mut.result.now c.set_current.new.self c.in_ok-hands.ensures.idle refl few
+    (c.set_current.ensures ∙ ap₂ (λ (x : HandView) (t : TaskView). record x { current = Some t }) c.index_mut.ensures.value c.in_ok-root.ensures.task)

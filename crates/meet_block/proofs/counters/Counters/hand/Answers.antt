@@ -1,5 +1,5 @@
 use Rattle.std.proofs.Common.{arith, ap, length, length-append}
-use Rattle.meet_block.specs.Blocks.{tags_of}
+use Rattle.meet_block.specs.CounterViews.{tags_of}
 use Rattle.meet_block.specs.Rows.{listed}
 use Rattle.meet_block.proofs.counters.Counters.hand.Goals as goal
 

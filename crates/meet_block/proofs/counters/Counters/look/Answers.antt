@@ -1,6 +1,6 @@
 use Rattle.std.proofs.Common.{◌≡◌, ℕ, ◌++◌, ◌∷◌, [], length, replicate, true, false, ap, ◌∙◌, sym, subst, arith}
 use Rattle.meet_block.specs.Joined.{joined}
-use Rattle.meet_block.specs.Blocks.{InOrder, known, tags_of}
+use Rattle.meet_block.specs.CounterViews.{InOrder, known, tags_of}
 use Rattle.meet_block.specs.Rows.{listed}
 use Rattle.meet_block.proofs.Orders.{order_any, finds_all, finds_owing}
 use Rattle.meet_block.proofs.Rows.{listed_with}

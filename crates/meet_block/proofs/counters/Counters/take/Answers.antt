@@ -2,7 +2,7 @@ use Rattle.std.proofs.Common.{◌≡◌, ◌-◌, ap, ◌∙◌, sym, length, tr
 use lib.ListN.{get_elem?}
 use Rattle.std.specs.Prelude.{slice_get}
 use Rattle.meet_block.specs.Joined.{joined}
-use Rattle.meet_block.specs.Blocks.{InOrder, known, tags_of, taken_of}
+use Rattle.meet_block.specs.CounterViews.{InOrder, known, tags_of, taken_of}
 use Rattle.meet_block.specs.Rows.{listed}
 use Rattle.meet_block.proofs.Orders.{at_of_get, get_of_at, below, each_ready}
 use Rattle.meet_block.proofs.Places.{holds_here, taken_at, tag_at, takes_known, takes_order, takes_tags, within_tags}

@@ -1,6 +1,6 @@
 use Rattle.std.proofs.Common.{rules, ◌∷◌, ap, ◌∙◌, refl, sym, Some}
 use Rattle.atomic_table.specs.Table.{rest}
-use Rattle.meet_block.specs.declared.view.Stage.TheVariants.{Claimed}
+use Rattle.meet_block.specs.declared.view.SeatState.TheVariants.{Claimed}
 use Rattle.meet_block.specs.Counter.{child}
 use Rattle.meet_block.proofs.Steps.{claims, arrives}
 use Rattle.meet_block.proofs.tied.Tied.put.Goals as goal

@@ -11,4 +11,4 @@ returns c =
     let d = core_of false s in
     c.in_ok-add_looks.ensures
     ∙ ap (λ l. l ++ looks d (numbers d)) (c.in_ok-add_steals.ensures ∙ ap (λ l. l ++ steals d (numbers d)) (c.in_ok-add_pops.ensures ∙ ap (λ l. l ++ pops d (numbers d)) (c.in_ok-add_runs.ensures ∙ ap (λ l. l ++ runs d (numbers d)) c.new-events.ensures.items)))
-    ∙ sym (choices-are d (unanswered s c.requires.told c.requires.root))
+    ∙ sym (choices-are d (unanswered s c.requires.consistent c.requires.root))

@@ -11,7 +11,7 @@ returns-in-Some c =
     let v = c.in-Some.worker.now in
     let found = c.in-Some.ensures.lookup in
     let there : slice_get ws c.args.w ≡ Some v = seen-at ws c.deref.result.now c.args.w v c.deref.ensures.value found.3.0 found.1 in
-    c.waiting.ensures ∙ sym (length-map task_in v.ring) ∙ sym (places-of (slice_get (map worker_of ws) c.args.w) (worker_of v) (get-map worker_of ws c.args.w v there))
+    c.waiting.ensures ∙ sym (length-map task_in v.stalled) ∙ sym (places-of (slice_get (map worker_of ws) c.args.w) (worker_of v) (get-map worker_of ws c.args.w v there))
 
 pub returns-in-None : goal.returns-in-None
 returns-in-None c =

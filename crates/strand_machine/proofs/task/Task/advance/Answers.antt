@@ -3,7 +3,7 @@ use Rattle.strand_machine.specs.Made.{StopsSo}
 use Rattle.strand_machine.specs.Stops.{IsStop}
 use Rattle.strand_machine.specs.Tasks.{IsSound, TaskView, view_of}
 use Rattle.strand_machine.specs.declared.parts.Parts.{Parts}
-use Rattle.strand_machine.specs.declared.stop.Step.{Step}
+use Rattle.strand_machine.specs.declared.stop.MoveOrStop.{MoveOrStop}
 use Rattle.strand_machine.proofs.Advancing.{advances-uncut, goes-on-uncut, is-sound}
 use Rattle.strand_machine.proofs.task.Task.advance.Goals as goal
 
@@ -19,4 +19,4 @@ returns c =
     let same = ap (λ (q : Parts). view_of q.body q.work) c.deref_mut.ensures.value ∙ c.self.view_is in
     let p = c.deref_mut.result.now in
     advances-uncut c.args.self c.stopped.result goes
-    (subst (λ (t : TaskView). IsStop t c.stopped.result) same (subst (λ (s : Step). StopsSo (view_of p.body p.work) s) (sym c.stopped.ensures) c.in_ok-passed.ensures.stop))
+    (subst (λ (t : TaskView). IsStop t c.stopped.result) same (subst (λ (s : MoveOrStop). StopsSo (view_of p.body p.work) s) (sym c.stopped.ensures) c.in_ok-passed.ensures.stop))

@@ -1,6 +1,6 @@
 use Rattle.std.proofs.Common.{◌≡◌, sym, ap, ◌∙◌, subst}
 use Rattle.strand_machine.specs.Family.{tags}
-use Rattle.strand_machine.specs.Going.{IsAnswered}
+use Rattle.strand_machine.specs.Merge.{IsAnswered}
 use Rattle.strand_machine.specs.Parts.{awaited}
 use Rattle.strand_machine.specs.Stops.{WentOn, answer_tags}
 use Rattle.strand_machine.specs.Tasks.{TaskView, view_of}
@@ -18,7 +18,7 @@ go_on-requires-clause-sound c =
 pub go_on-requires-clause-tags : goal.go_on-requires-clause-tags
 go_on-requires-clause-tags c =
     let same = ap (λ (q : Parts). view_of q.body q.work) c.deref_mut.ensures.value ∙ c.self.view_is in
-    subst (λ (t : TaskView). answer_tags c.args.answers ≡ tags t.task.plan (awaited t.task.pieces.handed)) (sym same) c.requires.tags
+    subst (λ (t : TaskView). answer_tags c.args.answers ≡ tags t.task.plan (awaited t.task.trace.handed)) (sym same) c.requires.tags
 
 pub returns-clause-went : goal.returns-clause-went
 returns-clause-went c =

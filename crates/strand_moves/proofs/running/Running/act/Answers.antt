@@ -25,8 +25,8 @@ statement-requires-clause-goes_on c = let has = subst (λ (n : Option Stmt). Has
 pub statement-requires-clause-behind : goal.statement-requires-clause-behind
 statement-requires-clause-behind c = let has = subst (λ (n : Option Stmt). HasPassed c.args.plan.now c.args.self.now n) (ap option_copied c.in-Some.is) c.requires.passed in has.1
 
-pub close-requires-clause-none : goal.close-requires-clause-none
-close-requires-clause-none c = subst (λ (n : Option Stmt). HasPassed c.args.plan.now c.args.self.now n) (ap option_copied c.in-None.is) c.requires.passed
+pub end_block-requires-clause-none : goal.end_block-requires-clause-none
+end_block-requires-clause-none c = subst (λ (n : Option Stmt). HasPassed c.args.plan.now c.args.self.now n) (ap option_copied c.in-None.is) c.requires.passed
 
 pub returns-in-None-clause-moves : goal.returns-in-None-clause-moves
 returns-in-None-clause-moves c =
@@ -35,5 +35,5 @@ returns-in-None-clause-moves c =
     let m = machine_of plan i in
     let is = ap option_copied c.in-None.is in
     let none = subst (λ (n : Option Stmt). HasPassed plan i n) is c.requires.passed in
-    shows-same (move plan (path_of i) (unpassed plan i (option_copied c.args.next))) (end_move plan (path_of i) m m.top.levels) (strand_of (present_of i) m) (machine_of plan c.close.new.self) c.close.result
-    (end-moves plan i (option_copied c.args.next) is none) c.close.ensures.shows
+    shows-same (move plan (path_of i) (unpassed plan i (option_copied c.args.next))) (end_move plan (path_of i) m m.top.levels) (strand_of (present_of i) m) (machine_of plan c.end_block.new.self) c.end_block.result
+    (end-moves plan i (option_copied c.args.next) is none) c.end_block.ensures.shows

@@ -1,6 +1,6 @@
 use Rattle.std.proofs.Common.{◌++◌, true, List, reverse, refl, sym, ap, ◌∙◌}
 use Rattle.std.proofs.lemmas.List.{append-nil}
-use Rattle.strand_moves.specs.declared.activation.Activation.{Activation}
+use Rattle.strand_moves.specs.declared.frame.Frame.{Frame}
 use Rattle.strand_moves.specs.declared.running.Running.{Running}
 use Rattle.serial_meaning.specs.Functions.{function_at}
 use Rattle.serial_meaning.specs.Plan.{functions_of}
@@ -32,7 +32,7 @@ pub returns-in-None-clause-stays : goal.returns-in-None-clause-stays
 returns-in-None-clause-stays c =
     let i = c.args.self.now in
     let same = sym (append-nil c.pop.new.self.items) ∙ sym c.in-None.ensures.items in
-    record { trail = refl; scopes = ap (λ (stack : List Activation). reverse i.top.levels.items ++ scopes_of (reverse stack)) same; leaving = refl }
+    record { trail = refl; scopes = ap (λ (stack : List Frame). reverse i.top.levels.items ++ scopes_of (reverse stack)) same; leaving = refl }
 
 pub returns-in_err-value-clause-shows : goal.returns-in_err-value-clause-shows
 returns-in_err-value-clause-shows c =

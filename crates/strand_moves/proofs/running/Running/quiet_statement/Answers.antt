@@ -56,7 +56,7 @@ returns-in-While-clause-did c =
     let a = act.While c.in-While.e c.in-While.field-1 in
     let st = c.args.statement.now in
     let is = act-is a st.act (variant.While c.in-While.e c.in-While.field-1) c.in-While.is (variant.rolls-While c.in-While.e c.in-While.field-1) in
-    quiet-is st a c.args.self.now c.turn.new.self is c.turn.result c.went-in-While.result (λ plan behind. c.turn.ensures.shows plan st c.in-While.field-1 behind is) c.turn.ensures.same c.went-in-While.ensures
+    quiet-is st a c.args.self.now c.while_test.new.self is c.while_test.result c.went-in-While.result (λ plan behind. c.while_test.ensures.shows plan st c.in-While.field-1 behind is) c.while_test.ensures.same c.went-in-While.ensures
 
 pub returns-in-If-clause-cursor : goal.returns-in-If-clause-cursor
 returns-in-If-clause-cursor c = λ no.

@@ -99,8 +99,8 @@ returns-in-While-clause-shows c =
     let st = c.args.statement.now in
     let is = act-is (act.While c.in-While.e c.in-While.field-1) st.act (variant.While c.in-While.e c.in-While.field-1) c.in-While.is (variant.rolls-While c.in-While.e c.in-While.field-1) in
     let behind = paid-behind plan c.args.self.now p p.steps c.in_ok-pay.ensures.ok c.in_ok-pay.ensures.paid st c.requires.behind in
-    statement-paid plan c.args.self.now p p.steps c.in_ok-pay.ensures.ok c.in_ok-pay.ensures.paid (here-is plan c.args.self.now c.requires.instance) st (act.While c.in-While.e c.in-While.field-1) c.turn.new.self c.quiet-in-While.result is
-    (rw c.quiet-in-While.ensures (c.turn.ensures.shows plan st c.in-While.field-1 behind is))
+    statement-paid plan c.args.self.now p p.steps c.in_ok-pay.ensures.ok c.in_ok-pay.ensures.paid (here-is plan c.args.self.now c.requires.instance) st (act.While c.in-While.e c.in-While.field-1) c.while_test.new.self c.quiet-in-While.result is
+    (rw c.quiet-in-While.ensures (c.while_test.ensures.shows plan st c.in-While.field-1 behind is))
 
 pub returns-in-Pfor-clause-shows : goal.returns-in-Pfor-clause-shows
 returns-in-Pfor-clause-shows c =
@@ -124,7 +124,7 @@ pub returns-in-If-clause-child : goal.returns-in-If-clause-child
 returns-in-If-clause-child c = rw c.quiet-in-If.ensures (quiet-child c.args.plan.now c.branch-self.result)
 
 pub returns-in-While-clause-child : goal.returns-in-While-clause-child
-returns-in-While-clause-child c = rw c.quiet-in-While.ensures (quiet-child c.args.plan.now c.turn.result)
+returns-in-While-clause-child c = rw c.quiet-in-While.ensures (quiet-child c.args.plan.now c.while_test.result)
 
 pub returns-in-Let-clause-keeps : goal.returns-in-Let-clause-keeps
 returns-in-Let-clause-keeps c =
@@ -164,7 +164,7 @@ returns-in-If-clause-keeps c =
 
 pub returns-in-While-clause-keeps : goal.returns-in-While-clause-keeps
 returns-in-While-clause-keeps c =
-    keeps-paid c.args.plan.now c.args.self.now c.pay.new.self c.pay.new.self.steps c.requires.instance c.requires.goes_on c.in_ok-pay.ensures.ok c.in_ok-pay.ensures.paid c.turn.new.self c.turn.ensures.stays c.turn.ensures.few c.quiet-in-While.result
+    keeps-paid c.args.plan.now c.args.self.now c.pay.new.self c.pay.new.self.steps c.requires.instance c.requires.goes_on c.in_ok-pay.ensures.ok c.in_ok-pay.ensures.paid c.while_test.new.self c.while_test.ensures.stays c.while_test.ensures.few c.quiet-in-While.result
 
 pub returns-in-Pfor-clause-keeps : goal.returns-in-Pfor-clause-keeps
 returns-in-Pfor-clause-keeps c =

@@ -1,0 +1,24 @@
+use std::marker::Model;
+use strand_machine::Task;
+
+/// A task that stands in a wait.
+#[derive(Drop)]
+pub(crate) struct Stalled {
+    pub task: Task,
+}
+
+impl Model for Stalled {
+    ghost use Rattle.std.specs.Prelude.{◌≡◌, true};
+    ghost use Rattle.std.specs.Coded.{codes};
+    ghost use Rattle.script_grammar.specs.contracts.tree.Stmt as statement_type;
+    ghost use Rattle.serial_meaning.specs.contracts.plan.Plan as plan_type;
+    ghost use Rattle.strand_machine.specs.Tasks.{TaskView};
+
+    ghost Value = { TaskView };
+
+    ghost coded = { Prim.hlevel (codes, statement_type.the_row.coded, plan_type.the_row.coded) };
+
+    ghost view = { λ p. p.task };
+
+    ghost invariant = { λ p. p.task.task.waiting ≡ true };
+}

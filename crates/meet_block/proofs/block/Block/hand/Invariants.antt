@@ -1,5 +1,0 @@
-use Rattle.std.proofs.Common.{Some}
-use Rattle.meet_block.proofs.block.Block.hand.Given as goal
-
-abbrev pub ghosts-split : goal.ghosts-split
-ghosts-split g a = record { told = Some a.tag.now }

@@ -1,0 +1,79 @@
+// A core before its first step.
+ghost use Rattle.std.specs.Prelude.{◌≡◌, ◌≤◌, IfOk};
+ghost use Rattle.std.specs.Arc.{arc_value};
+ghost use Rattle.serial_meaning.specs.Eval.{main_origin};
+ghost use Rattle.strand_machine.specs.Tasks.{fresh};
+ghost use Rattle.sched_core.specs.Begun.{IsBegun, hired};
+ghost use Rattle.sched_core.specs.Consistent.{IsConsistent};
+
+use crate::job::Job;
+use crate::node::SpawnNode;
+use crate::state::State;
+use crate::worker::Worker;
+use meet_block::Give;
+use script_grammar::Items;
+use serial_meaning::{AnswerKey, Plan};
+use std::alloc::Global;
+use std::sync::Arc;
+use strand_machine::{Memory, Task};
+
+/// Main's task. Nobody looks for what it gives, nor for what the tasks below it give: the core keeps their answers.
+#[tactic(auto, using(crate::proofs::Mains::main_known))]
+fn main_task(alloc: Global, plan: &Arc<Plan>) -> Result<Task, Memory>
+    ensures { IfOk result (λ task. task ≡ fresh (arc_value plan.now) (main_origin (arc_value plan.now))) }
+{
+    let key = AnswerKey {
+        plan: Arc::try_clone(plan)?,
+        origin: plan.main_origin(alloc)?,
+    };
+    let give = Give::alone(&key);
+    let AnswerKey { plan, origin } = key;
+    Ok(Task::start(alloc, plan, origin, give)?)
+}
+
+/// So many workers, of which the first has this task.
+fn hire(alloc: Global, main: Task, workers: u32) -> Result<Vec<Worker>, Memory>
+    requires { 1 ≤ workers }
+    ensures { IfOk result (λ all. all.items ≡ hired main workers) }
+{
+    let mut all = Vec::with_capacity(alloc, workers as usize)?;
+    let job = Job {
+        task: main,
+        number: 0,
+    };
+    all.push(Worker::new(alloc, Some(job)))?;
+    for _i in 1..workers {
+        all.push(Worker::new(alloc, None))?;
+    }
+    Ok(all)
+}
+
+/// The core before its first step, by its fields.
+fn first_state(alloc: Global, plan: &Arc<Plan>, workers: u32) -> Result<State, Memory>
+    requires { 1 ≤ workers }
+    ensures { IfOk result (IsBegun (arc_value plan.now) workers) }
+{
+    let main = main_task(alloc, plan)?;
+    let mut nodes = Vec::with_capacity(alloc, 1)?;
+    let origin = main.share_origin(alloc)?;
+    nodes.push(SpawnNode::new(alloc, origin, None))?;
+    Ok(State {
+        plan: Arc::try_clone(plan)?,
+        workers: hire(alloc, main, workers)?,
+        nodes,
+        given: Items(Vec::new(alloc)),
+        root: None,
+        runs: 0,
+    })
+}
+
+/// The core before its first step.
+pub(crate) fn new_state(alloc: Global, plan: &Arc<Plan>, workers: u32) -> Result<State, Memory>
+    requires { 1 ≤ workers }
+    ensures begun { IfOk result (IsBegun (arc_value plan.now) workers) }
+    ensures consistent { IfOk result IsConsistent }
+{
+    // Read for the proof: a checked script is valid.
+    let _script = plan.checked.script();
+    first_state(alloc, plan, workers)
+}

@@ -1,0 +1,50 @@
+// Where a byte of a text stands.
+
+ghost use Rattle.std.specs.Prelude.{◌≡◌, ◌≤◌, length};
+ghost use Rattle.script_excerpt.specs.Places.{IsColumn, IsLineStart, line_of};
+
+/// Where a byte stands, as editors count: lines and columns from 1 on, a column for each byte.
+#[derive(Clone, Copy, Debug, PartialEq, Eq)]
+pub struct Position {
+    pub line: usize,
+    pub column: usize,
+}
+
+/// Where the line begins that byte `at` of a text stands on.
+pub fn line_start(text: &[u8], at: usize) -> usize
+    requires { at ≤ length text.now }
+    ensures { IsLineStart text.now at result }
+{
+    let mut start = at;
+    while 0 < start && text[start - 1] != b'\n' {
+        start -= 1;
+    }
+    start
+}
+
+// The number of the line that byte `at` of a text stands on.
+fn line_number(text: &[u8], at: usize) -> usize
+    requires { at ≤ length text.now }
+    ensures { result ≡ line_of text.now at }
+{
+    let before = &text[..at];
+    let mut line = 1;
+    for &byte in before {
+        if byte == b'\n' {
+            line += 1;
+        }
+    }
+    line
+}
+
+/// The place of byte `at` of a text, or of its end. A line ends with its line feed.
+pub fn place_of(text: &[u8], at: usize) -> Position
+    requires { at ≤ length text.now }
+    ensures line { result.line ≡ line_of text.now at }
+    ensures column { IsColumn text.now at result.column }
+{
+    Position {
+        line: line_number(text, at),
+        column: at - line_start(text, at) + 1,
+    }
+}

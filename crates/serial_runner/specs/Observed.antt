@@ -1,0 +1,99 @@
+-- What is seen of an instance that runs, with an eye on one pedigree.
+use Rattle.std.specs.Prelude.{◌≡◌, ◌<◌, ℕ, Bool, ◌||◌, ◌&&◌, true, false, List, [], ◌∷◌, ◌++◌, Option, Some, None, Contains}
+use Rattle.serial_meaning.specs.Eval.{path_of}
+use Rattle.serial_meaning.specs.Laws.{IsOriginOf}
+use Rattle.serial_meaning.specs.Open.{Child}
+use Rattle.serial_meaning.specs.Plan.{PlanView}
+use Rattle.serial_meaning.specs.declared.event.Event.{Event}
+use Rattle.serial_meaning.specs.declared.event.Fault.{Fault}
+use Rattle.serial_meaning.specs.declared.origin.Origin.{Origin}
+use Rattle.strand_meaning.specs.Left.{stops_left}
+use Rattle.strand_meaning.specs.Observation.{Observation, newest, IsInstance, IsOnWay}
+use Rattle.strand_meaning.specs.Sound.{IsTask}
+use Rattle.strand_meaning.specs.Strands.{own_events, events_at, child_on_way}
+use Rattle.strand_machine.specs.Eyes.{first_look, looks}
+use Rattle.strand_machine.specs.Noted.{IsNoted}
+use Rattle.strand_machine.specs.declared.note.Noted.{Noted}
+use Rattle.strand_machine.specs.declared.stop.Stop.{Stop}
+use Rattle.strand_machine.specs.Tasks.{fresh}
+use Rattle.strand_machine.specs.declared.eye.Eye.{Eye}
+use Rattle.serial_runner.specs.Nodes.{is_none, node_seen, node_toward}
+use Rattle.serial_runner.specs.declared.observed.ObservedInstance.{ObservedInstance}
+use Rattle.serial_runner.specs.declared.walk.Walk.{Walk}
+use Rattle.serial_runner.specs.declared.walk.Walked.{Walked}
+use Rattle.serial_runner.specs.declared.walk.Walked.TheVariants.{Goes, Ends}
+
+abbrev pub nothing_seen : Eye → ObservedInstance
+nothing_seen eye = record { eye = eye; events = []; fault = None; child = None; joined = None }
+
+abbrev pub with_notes : Eye → List Event → Option Fault → Option Fault → ObservedInstance → ObservedInstance
+with_notes eye events fault joined s = record s {
+  eye = eye;
+  events = s.events ++ events;
+  fault = newest s.fault fault;
+  joined = newest s.joined joined;
+}
+
+abbrev pub first_of : Option Origin → Option Origin → Option Origin
+first_of (Some o) later = Some o
+first_of None later = later
+
+abbrev pub with_child : List ℕ → Origin → ObservedInstance → ObservedInstance
+with_child j o s = record s { child = first_of s.child (child_on_way j (Child o ∷ [])) }
+
+-- what notes say of a pedigree, of an instance with this path
+abbrev pub seen : List ℕ → List ℕ → Observation → ObservedInstance
+seen path j notes = record {
+  eye = looks j (first_look path j) notes.items;
+  events = events_at j (own_events notes.items);
+  fault = notes.fault;
+  child = child_on_way j notes.items;
+  joined = notes.joined;
+}
+
+-- a walk of which nothing is done
+abbrev pub begun_walk : PlanView → Origin → List ℕ → Walk
+begun_walk plan o j = record { task = fresh plan o; observed = nothing_seen (first_look (path_of o) j) }
+
+abbrev pub origin_of : Walk → Origin
+origin_of w = w.task.task.origin
+
+abbrev pub AreOriginsOf : PlanView → List Origin → Type 0
+AreOriginsOf plan os = (o : Origin) → Contains os o → IsOriginOf plan o
+
+-- An instance of the plan that runs, and all that is to be seen of it.
+pub record IsWalk (plan : PlanView) (o : Origin) (j : List ℕ) (w : Walk) : Type 0 where
+  pub instance : IsInstance o
+  pub task : IsTask w.task.task
+  pub idle : w.task.task.waiting ≡ false
+  pub goes_on : w.task.cut ≡ None
+  pub plan_is : w.task.task.plan ≡ plan
+  pub origin_is : origin_of w ≡ o
+  pub notes : Observation
+  pub on : IsOnWay notes w.task.task
+  pub says : w.observed ≡ seen (path_of o) j notes
+
+-- The task of a walk has come to this stop, and this is what is seen then.
+pub record IsStopped (j : List ℕ) (w : Walk) (stop : Stop) (observed : ObservedInstance) : Type 0 where
+  pub noted : Noted
+  pub is_noted : IsNoted w.task j w.observed.eye noted
+  pub stops : stop ≡ noted.stop
+  pub sees : observed ≡ with_notes noted.eye noted.events noted.fault noted.joined w.observed
+
+-- What is seen of an instance, for a node, is what its node shows.
+abbrev pub IsSeen : PlanView → Origin → List ℕ → ObservedInstance → Type 0
+IsSeen plan o j s = node_seen j s ≡ node_toward plan o j
+
+-- A child on the way is known; or a strand of the instance's own had the pedigree and is over, and no fault came. What the instance shows later
+-- tells no more.
+abbrev pub is_some : Option Origin → Bool
+is_some None = false
+is_some (Some o) = true
+
+abbrev pub is_over : ObservedInstance → Bool
+is_over s = is_some s.child || (s.eye.came && is_none s.fault)
+
+-- One stop further: a walk with fewer stops left, or all that is to be seen, since the instance has ended or nothing that it does later counts.
+abbrev pub WalksOn : PlanView → Origin → List ℕ → Walk → Walked → Type 0
+WalksOn plan o j w (Goes next) = IsWalk plan o j next × (stops_left next.task.task < stops_left w.task.task)
+WalksOn plan o j w (Ends observed) = IsSeen plan o j observed

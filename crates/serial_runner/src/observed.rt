@@ -1,0 +1,129 @@
+// What is seen of an instance that runs.
+ghost use Rattle.std.specs.Prelude.{◌≡◌, IfOk, OnOk, length, take};
+ghost use Rattle.std.specs.Str.{bytes_eq};
+ghost use Rattle.serial_meaning.specs.Eval.{path_of};
+ghost use Rattle.strand_meaning.specs.Observation.{newest};
+ghost use Rattle.strand_meaning.specs.Strands.{is_below};
+ghost use Rattle.serial_runner.specs.Observed.{is_over, nothing_seen, with_notes, with_child};
+
+use ped_path::{Ped, Pedigree};
+use serial_meaning::{Fault, Origin, Out};
+use std::alloc::Global;
+use strand_machine::{Eye, Memory, Task};
+
+/// What is seen of an instance up to some moment, with an eye on one pedigree.
+#[derive(Drop)]
+pub(crate) struct ObservedInstance {
+    pub eye: Eye,
+    /// What the strand with the pedigree did.
+    pub events: Out,
+    /// The instance's own fault, wherever it came.
+    pub fault: Option<Fault>,
+    /// The child on the way to the pedigree.
+    pub child: Option<Origin>,
+    /// The fault of a child by which the instance ended, wherever it did.
+    pub joined: Option<Fault>,
+}
+
+/// The path of an origin.
+pub(crate) fn path(origin: &Origin) -> &Ped
+    ensures { result.now ≡ path_of origin.now }
+{
+    match origin {
+        Origin::Instance { path, .. } => path,
+        Origin::Loop { path, .. } => path,
+    }
+}
+
+/// Whether a pedigree begins with all ranks of a path.
+fn begins_with(at: &Pedigree, path: &Ped) -> bool
+    ensures { result ≡ bytes_eq (take (length path.now) at.now) path.now }
+{
+    for i in 0..path.len() {
+        let Some(wanted) = path.rank_at(i) else {
+            return false;
+        };
+        let Some(rank) = at.rank_at(i) else {
+            return false;
+        };
+        if rank != wanted {
+            return false;
+        }
+    }
+    true
+}
+
+/// Whether a pedigree begins with this path, and goes on.
+fn is_below(path: &Ped, at: &Pedigree) -> bool
+    ensures { result ≡ is_below path.now at.now }
+{
+    path.len() < at.len() && begins_with(at, path)
+}
+
+/// The later fault, if there is one.
+fn newest(old: Option<Fault>, new: Option<Fault>) -> Option<Fault>
+    ensures { result ≡ newest old new }
+{
+    match new {
+        Some(fault) => Some(fault),
+        None => old,
+    }
+}
+
+impl ObservedInstance {
+    /// Nothing yet.
+    pub fn new(eye: Eye) -> ObservedInstance
+        ensures { result ≡ nothing_seen eye }
+    {
+        ObservedInstance {
+            eye,
+            events: Out::new(),
+            fault: None,
+            child: None,
+            joined: None,
+        }
+    }
+
+    /// What is noted of the instance up to its next stop, where the eye has what it had seen before that too.
+    pub fn observe(
+        self,
+        eye: Eye,
+        events: Out,
+        fault: Option<Fault>,
+        joined: Option<Fault>,
+    ) -> Result<ObservedInstance, Memory>
+        ensures { IfOk result (λ observed. observed ≡ with_notes eye events fault joined self) }
+    {
+        let mut told = self.events;
+        told.append(events)?;
+        Ok(ObservedInstance {
+            eye,
+            events: told,
+            fault: newest(self.fault, fault),
+            child: self.child,
+            joined: newest(self.joined, joined),
+        })
+    }
+
+    /// A child that is handed out.
+    pub fn observe_child(
+        &mut self,
+        alloc: Global,
+        child: &Task,
+        at: &Pedigree,
+    ) -> Result<(), Memory>
+        ensures { OnOk result (self.new ≡ with_child at.now child.now.task.origin self.old) }
+    {
+        if self.child.is_none() && is_below(path(child.origin()), at) {
+            self.child = Some(child.share_origin(alloc)?);
+        }
+        Ok(())
+    }
+
+    /// Whether what the instance does later tells no more of the pedigree: the child on the way there is known, or the strand is over.
+    pub fn is_over(&self) -> bool
+        ensures { result ≡ is_over self.now }
+    {
+        self.child.is_some() || (self.eye.came && self.fault.is_none())
+    }
+}

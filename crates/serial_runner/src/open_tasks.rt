@@ -1,0 +1,89 @@
+ghost use Rattle.std.specs.Prelude.{◌≡◌, ◌∷◌, [], OnOk, IfSome, IfNone};
+
+use script_grammar::Items;
+use serial_meaning::Answer;
+use std::alloc::Global;
+use std::marker::Model;
+use strand_machine::{Memory, Task};
+
+/// A task, and the answers of its children so far, in order.
+#[derive(Drop)]
+pub(crate) struct OpenTask {
+    pub task: Task,
+    pub answers: Items<Answer>,
+}
+
+/// Open tasks of which the last one is taken first. Contracts see them in the order in which they will be taken. The lists of answers that they no longer
+/// need are kept for the next ones, since most tasks want one.
+#[derive(Drop)]
+pub(crate) struct OpenTasks {
+    open_tasks: Vec<OpenTask>,
+    spare: Vec<Items<Answer>>,
+}
+
+impl Model for OpenTasks {
+    ghost use Rattle.std.specs.Prelude.{List, reverse};
+    ghost use Rattle.std.specs.Coded.{codes};
+    ghost use Rattle.script_grammar.specs.contracts.tree.Stmt as statement_type;
+    ghost use Rattle.serial_meaning.specs.contracts.plan.Plan as plan_type;
+    ghost use Rattle.serial_runner.specs.declared.open_tasks.OpenTask.{OpenTask};
+
+    ghost Value = { List OpenTask };
+
+    ghost coded = { Prim.hlevel (codes, statement_type.the_row.coded, plan_type.the_row.coded) };
+
+    ghost view = { λ f. reverse f.open_tasks.items };
+}
+
+impl OpenTasks {
+    /// No open task.
+    pub fn new(alloc: Global) -> OpenTasks
+        ensures { result ≡ [] }
+    {
+        OpenTasks {
+            open_tasks: Vec::new(alloc),
+            spare: Vec::new(alloc),
+        }
+    }
+
+    /// A task that has no answer yet.
+    pub fn open_task(&mut self, alloc: Global, task: Task) -> OpenTask
+        ensures open_task { result ≡ record { task = task; answers = [] } }
+        ensures same { self.new ≡ self.old }
+    {
+        let answers = match self.spare.pop() {
+            Some(mut answers) => {
+                answers.0.clear();
+                answers
+            }
+            None => Items(Vec::new(alloc)),
+        };
+        OpenTask { task, answers }
+    }
+
+    /// Keeps a list that is no longer needed, where there is room for it.
+    pub fn spare(&mut self, answers: Items<Answer>)
+        ensures { self.new ≡ self.old }
+    {
+        match self.spare.push(answers) {
+            Ok(()) => {}
+            Err(failed) => drop(failed),
+        }
+    }
+
+    /// One more, to be taken first.
+    pub fn push(&mut self, open_task: OpenTask) -> Result<(), Memory>
+        ensures { OnOk result (self.new ≡ open_task ∷ self.old) }
+    {
+        self.open_tasks.push(open_task)?;
+        Ok(())
+    }
+
+    /// Takes the first one.
+    pub fn pop(&mut self) -> Option<OpenTask>
+        ensures some { IfSome result (λ open_task. self.old ≡ open_task ∷ self.new) }
+        ensures none { IfNone result (self.old ≡ []) }
+    {
+        self.open_tasks.pop()
+    }
+}

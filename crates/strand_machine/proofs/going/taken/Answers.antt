@@ -1,8 +1,0 @@
-use Rattle.strand_meaning.specs.Task.{takes}
-use Rattle.strand_machine.specs.Going.{ending_of}
-use Rattle.strand_machine.specs.Parts.{place_of}
-use Rattle.strand_machine.proofs.Taking.{runs-taken}
-use Rattle.strand_machine.proofs.going.taken.Goals as goal
-
-pub returns-in_ok-taken_stage-in-Runs : goal.returns-in_ok-taken_stage-in-Runs
-returns-in_ok-taken_stage-in-Runs c = runs-taken (takes (place_of c.args.place) (ending_of c.args.outcome)) c.args.work.now _ _ c.in-Runs.is c.in_ok-taken_stage-in-Runs.ensures

@@ -1,0 +1,25 @@
+use Rattle.std.proofs.Common.{◌≡◌, sym, ap, ◌∙◌, subst}
+use Rattle.strand_meaning.specs.Observation.{step_notes}
+use Rattle.strand_machine.specs.Made.{made}
+use Rattle.strand_machine.specs.Noted.{with_step}
+use Rattle.strand_machine.specs.Stops.{IsStep}
+use Rattle.strand_machine.specs.Tasks.{IsSound, TaskView, view_of}
+use Rattle.strand_machine.specs.declared.parts.Parts.{Parts}
+use Rattle.strand_machine.specs.declared.stop.MoveOrStop.{MoveOrStop}
+use Rattle.strand_machine.proofs.Advancing.{is-sound}
+use Rattle.strand_machine.proofs.note.step_observed.Goals as goal
+
+pub pass_observed-requires : goal.pass_observed-requires
+pass_observed-requires c =
+    let p = c.task.inside.parts.value in
+    subst (λ (q : Parts). IsSound q.body q.work) (sym c.deref_mut.ensures.value) (is-sound p.body p.work c.args.task c.task.view_is c.requires c.task.invariant)
+
+pub returns-clause-step : goal.returns-clause-step
+returns-clause-step c =
+    let same = ap (λ (q : Parts). view_of q.body q.work) c.deref_mut.ensures.value ∙ c.task.view_is in
+    subst (λ (s : MoveOrStop). IsStep c.args.task s) (sym c.stepped.ensures) (subst (λ (t : TaskView). IsStep t (made c.pass_observed.new.parts c.in_ok-passed.passed)) same c.in_ok-passed.ensures.step)
+
+pub returns-clause-notes : goal.returns-clause-notes
+returns-clause-notes c =
+    let same = ap (λ (q : Parts). view_of q.body q.work) c.deref_mut.ensures.value ∙ c.task.view_is in
+    subst (λ (t : TaskView). c.pass_observed.new.notes ≡ with_step c.args.at.now (step_notes t.task) c.args.notes.now) same c.in_ok-passed.ensures.notes

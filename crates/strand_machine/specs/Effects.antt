@@ -1,0 +1,39 @@
+-- A task after a move of its instance.
+use Rattle.std.specs.Prelude.{Option, Some, None}
+use Rattle.serial_meaning.specs.Eval.{path_of}
+use Rattle.serial_meaning.specs.Laws.{IsOriginOf}
+use Rattle.serial_meaning.specs.Plan.{PlanView}
+use Rattle.serial_meaning.specs.declared.origin.Origin.{Origin}
+use Rattle.strand_meaning.specs.Task as meaning
+use Rattle.strand_meaning.specs.Task.{Task, own_instance, passing, stage_after, child_in}
+use Rattle.strand_meaning.specs.Sound.{IsTask}
+use Rattle.strand_moves.specs.Machines.{machine_of}
+use Rattle.strand_moves.specs.Moves.{ShowsTrail, effects_of}
+use Rattle.strand_moves.specs.declared.instance.Instance.{Instance}
+use Rattle.strand_moves.specs.declared.effects.Effects.{Effects}
+use Rattle.strand_machine.specs.Loops.{IsHandedFor}
+use Rattle.strand_machine.specs.Tasks.{RunsAt, AwaitsLast, task_with}
+use Rattle.strand_machine.specs.declared.body.Body.{Body}
+
+-- the task after a move that showed this and left the instance so
+abbrev pub shown_task : Body → Instance → Effects → Task
+shown_task b i s =
+    let m = machine_of b.family.plan i in
+    passing (task_with b (meaning.Runs (meaning.Running m))) (effects_of s) (meaning.Runs (stage_after (effects_of s) m))
+
+abbrev pub IsKnownChild : PlanView → Option Origin → Type 0
+IsKnownChild plan None = Unit {0}
+IsKnownChild plan (Some o) = IsOriginOf plan o
+
+abbrev pub IsHandedChild : PlanView → Origin → Option Origin → Type 0
+IsHandedChild plan o None = Unit {0}
+IsHandedChild plan o (Some child) = IsHandedFor plan o child
+
+-- That task is sound, and its child, if any, an origin of the plan with its trail, and one that is handed out for the task's own origin.
+pub record IsSoundShown (b : Body) (i : Instance) (s : Effects) : Type 0 where
+  pub task : IsTask (shown_task b i s)
+  pub child : IsKnownChild b.family.plan (child_in (effects_of s))
+  pub handed : IsHandedChild b.family.plan b.family.origin (child_in (effects_of s))
+  pub family : AwaitsLast b.family b.trace.handed
+  pub runs : RunsAt b.family.plan (path_of (own_instance b.family.origin)) i
+  pub trail : ShowsTrail b.family.plan s

@@ -1,0 +1,122 @@
+-- A task that takes its children's answers.
+use Rattle.std.specs.Prelude.{◌≡◌, ℕ, Bool, true, false, ◌||◌, Option, Some, None, List, [], ◌∷◌, Result, Ok, Err, length}
+use Rattle.serial_meaning.specs.Answer.{AnswerTag, AnswerView, IsAnswer}
+use Rattle.serial_meaning.specs.Eval.{Evaluation, eval}
+use Rattle.serial_meaning.specs.Plan.{PlanView}
+use Rattle.serial_meaning.specs.declared.answer.Outcome.{Outcome}
+use Rattle.serial_meaning.specs.declared.answer.Outcome.TheVariants as outcome
+use Rattle.serial_meaning.specs.declared.event.Fault.{Fault}
+use Rattle.serial_meaning.specs.declared.origin.Origin.{Origin}
+use Rattle.serial_meaning.specs.declared.value.Value.{Value}
+use Rattle.strand_meaning.specs.Answers.{answer_evaluations}
+use Rattle.strand_meaning.specs.Cuts.{IsByFaultOf, ended_after}
+use Rattle.strand_meaning.specs.Machine.{Destination}
+use Rattle.strand_meaning.specs.Trace.{AwaitedChild, Trace, heard_all}
+use Rattle.strand_meaning.specs.Sound.{IsTask}
+use Rattle.strand_meaning.specs.Task as meaning
+use Rattle.strand_meaning.specs.Task.{Splits, Runs, Over, takes, takes_all, more_values, all_values, resumed_work}
+use Rattle.strand_machine.specs.Family.{FamilyView}
+use Rattle.strand_machine.specs.Stops.{any_cut}
+use Rattle.strand_machine.specs.Tasks.{TaskView, stage_of, work_of, task_of, StandsAt, WorksAt}
+use Rattle.strand_machine.specs.declared.body.Body.{Body}
+use Rattle.strand_machine.specs.declared.merge.Merge.{Merge}
+use Rattle.strand_machine.specs.declared.parts.Parts.{Parts}
+use Rattle.strand_machine.specs.declared.work.InstanceState.{InstanceState}
+use Rattle.strand_machine.specs.declared.work.Work.{Work}
+
+-- the values of an outcome, or its fault
+abbrev pub ending_of : Outcome → Result (List Value) Fault
+ending_of (outcome.Value v) = Ok (v ∷ [])
+ending_of (outcome.Values vs) = Ok vs
+ending_of (outcome.Fault f) = Err f
+ending_of (outcome.Cut f) = Err f
+
+-- what remains, with the instance's stage changed where an instance remains
+abbrev pub with_stage : (meaning.InstanceState → meaning.InstanceState) → meaning.Work → meaning.Work
+with_stage change (Splits left) = Splits left
+with_stage change (Runs stage) = Runs (change stage)
+with_stage change (Over v gone_on) = Over v gone_on
+
+-- By its meaning the stage after it is the one before it, changed so, and an instance in it is still one of the plan.
+pub record BecomesStage (change : meaning.InstanceState → meaning.InstanceState) (before after : InstanceState) : Type 0 where
+  pub is : (plan : PlanView) → stage_of plan after ≡ change (stage_of plan before)
+  pub stands : (plan : PlanView) (path : List ℕ) → StandsAt plan path before → StandsAt plan path after
+
+-- The same of what remains of a task.
+pub record BecomesWork (change : meaning.Work → meaning.Work) (before after : Work) : Type 0 where
+  pub is : (plan : PlanView) → work_of plan after ≡ change (work_of plan before)
+  pub works : (plan : PlanView) (o : Origin) → WorksAt plan o before → WorksAt plan o after
+
+abbrev pub trace_of : Merge → Trace
+trace_of g = record { prefix = g.prefix; fault = g.fault; handed = [] }
+
+-- A task took the answers of these children.
+pub record Takes (parts : List AwaitedChild) (answers : List Evaluation) (before after : Merge) : Type 0 where
+  pub trace : trace_of after ≡ heard_all parts answers (trace_of before)
+  pub values : after.values ≡ all_values parts answers before.values
+  pub work : BecomesWork (with_stage (takes_all parts answers)) before.work after.work
+
+-- the first fault or cut among the answers so far
+abbrev pub end_of : Option Fault → Bool → Option Outcome
+end_of None by_cut = None
+end_of (Some f) false = Some (outcome.Fault f)
+end_of (Some f) true = Some (outcome.Cut f)
+
+abbrev pub ended_of : Merge → Option Outcome
+ended_of g = end_of g.fault g.by_cut
+
+-- what an answer that was heard changes besides
+pub record Puts (at : Destination) (ending : Result (List Value) Fault) (before after : Merge) : Type 0 where
+  pub trace : trace_of after ≡ trace_of before
+  pub ended : ended_of after ≡ ended_of before
+  pub cut : after.cut ≡ before.cut
+  pub values : after.values ≡ more_values at ending before.values
+  pub work : BecomesWork (with_stage (takes at ending)) before.work after.work
+
+-- these are answers
+abbrev pub AreSaid : List AnswerView → Type 0
+AreSaid [] = Unit {0}
+AreSaid (a ∷ answers) = IsAnswer a.plan a.origin a.out a.outcome × AreSaid answers
+
+-- A task took these answers of these children.
+pub record TakesAnswers (parts : List AwaitedChild) (answers : List AnswerView) (before after : Merge) : Type 0 where
+  pub takes : Takes parts (answer_evaluations answers) before after
+  pub ended : ended_of after ≡ ended_after (ended_of before) answers
+  pub cut : after.cut ≡ (before.cut || any_cut answers)
+  pub said : AreSaid answers
+
+-- How a task ends that took a cut.
+pub record EndsShort (family : FamilyView) (g : Merge) : Type 0 where
+  pub outcome : Outcome
+  pub ended : ended_of g ≡ Some outcome
+  pub answers : IsAnswer family.plan family.origin g.prefix outcome
+  pub known : IsByFaultOf family.plan outcome
+
+-- what is left of it
+pub record IsShort (family : FamilyView) (g : Merge) (was_advanced : Bool) (next : TaskView) : Type 0 where
+  pub plan : next.task.plan ≡ family.plan
+  pub origin : next.task.origin ≡ family.origin
+  pub prefix : next.task.trace.prefix ≡ g.prefix
+  pub handed : next.task.trace.handed ≡ []
+  pub waits : next.task.waiting ≡ false
+  pub advanced : next.task.advanced ≡ was_advanced
+  pub cut : next.cut ≡ ended_of g
+  pub children : next.children ≡ family.children
+  pub loads : next.loads ≡ family.loads
+  pub knows : next.knows ≡ family.knows
+
+-- What is left of a task that took no cut.
+pub record IsWhole (g : Merge) (before : Body) (after : Parts) : Type 0 where
+  pub body : after.body ≡ record before { trace = trace_of g; values = g.values; waiting = false }
+  pub work : BecomesWork (resumed_work [] []) g.work after.work
+
+-- what origins give by the serial meaning
+abbrev pub meanings : List AnswerTag → List Evaluation
+meanings [] = []
+meanings (t ∷ ts) = eval t.plan t.origin ∷ meanings ts
+
+-- What holds of a task whose children's answers are at hand: those of all children that it handed out were taken from its join.
+pub record IsAnswered (b : Body) (w : Work) : Type 0 where
+  pub task : IsTask (task_of b w)
+  pub taken : length b.family.taken ≡ length b.family.children
+  pub works : WorksAt b.family.plan b.family.origin w

@@ -1,0 +1,74 @@
+-- What a task gave so far, in the order of the serial elision.
+use Rattle.std.specs.Prelude.{List, [], ◌∷◌, ◌++◌, Option, Some, None, Result, Ok, Err}
+use Rattle.serial_meaning.specs.Eval.{Evaluation}
+use Rattle.serial_meaning.specs.declared.value.Value.{Value}
+use Rattle.serial_meaning.specs.declared.event.Fault.{Fault}
+use Rattle.serial_meaning.specs.declared.event.Event.{Event}
+use Rattle.serial_meaning.specs.declared.origin.Origin.{Origin}
+use Rattle.strand_meaning.specs.Machine.{Destination, Effect, Opens, Closes, Emitted, Handed, Syncs, Loops}
+
+-- a child that was handed out and whose answer isn't taken, where its value goes, and the task's own events after it, up to the next
+-- child
+pub record AwaitedChild : Type 0 where
+  pub child : Origin
+  pub place : Destination
+  pub behind : List Event
+
+-- The events before the first child whose answer isn't taken, up to the first fault among these, and that fault, after which
+-- nothing counts; and then the children.
+pub record Trace : Type 0 where
+  pub prefix : List Event
+  pub fault : Option Fault
+  pub handed : List AwaitedChild
+
+abbrev pub no_trace : Trace
+no_trace = record { prefix = []; fault = None; handed = [] }
+
+-- An event of the task's own
+
+abbrev pub prefix_unless : Option Fault → List Event → List Event → List Event
+prefix_unless None prefix more = prefix ++ more
+prefix_unless (Some f) prefix more = prefix
+
+abbrev pub behind_last : AwaitedChild → List AwaitedChild → Event → List AwaitedChild
+behind_last p [] e = record p { behind = p.behind ++ e ∷ [] } ∷ []
+behind_last p (q ∷ qs) e = p ∷ behind_last q qs e
+
+abbrev pub emit_at : List AwaitedChild → Event → Trace → Trace
+emit_at [] e trace = record trace { prefix = prefix_unless trace.fault trace.prefix (e ∷ []) }
+emit_at (p ∷ ps) e trace = record trace { handed = behind_last p ps e }
+
+abbrev pub emit : Event → Trace → Trace
+emit e trace = emit_at trace.handed e trace
+
+-- a child more
+abbrev pub add_child : Origin → Destination → Trace → Trace
+add_child o place trace = record trace { handed = trace.handed ++ record { child = o; place = place; behind = [] } ∷ [] }
+
+-- what a move shows
+abbrev pub with_effects : List Effect → Trace → Trace
+with_effects [] trace = trace
+with_effects (Opens j ∷ ts) trace = with_effects ts trace
+with_effects (Closes j ∷ ts) trace = with_effects ts trace
+with_effects (Emitted e ∷ ts) trace = with_effects ts (emit e trace)
+with_effects (Handed o place ∷ ts) trace = with_effects ts (add_child o place trace)
+with_effects (Syncs ∷ ts) trace = with_effects ts trace
+with_effects (Loops ∷ ts) trace = with_effects ts trace
+
+-- Answers
+
+-- the answer's events, and where it is no fault then those after the child
+abbrev pub heard_unless : Option Fault → List Event → AwaitedChild → List Event → Result (List Value) Fault → Trace
+heard_unless (Some f) prefix p events ending = record { prefix = prefix; fault = Some f; handed = [] }
+heard_unless None prefix p events (Ok vs) = record { prefix = prefix ++ (events ++ p.behind); fault = None; handed = [] }
+heard_unless None prefix p events (Err f) = record { prefix = prefix ++ events; fault = Some f; handed = [] }
+
+-- a trace without children, after which a child's answer was taken
+abbrev pub heard : AwaitedChild → Evaluation → Trace → Trace
+heard p answer trace = heard_unless trace.fault trace.prefix p answer.items answer.ending
+
+-- the answers of all children, in order
+abbrev pub heard_all : List AwaitedChild → List Evaluation → Trace → Trace
+heard_all [] answers trace = trace
+heard_all (p ∷ ps) [] trace = trace
+heard_all (p ∷ ps) (answer ∷ answers) trace = heard_all ps answers (heard p answer trace)

@@ -1,0 +1,9 @@
+use Rattle.std.proofs.Common.{refl}
+use Rattle.strand_moves.proofs.CursorLemmas.{left-turn}
+use Rattle.strand_moves.proofs.cursor.Cursor.enter_loop.Goals as goal
+
+pub returns : goal.returns
+returns c = λ body st behind.
+    let pushed = c.in_ok-push.ensures.ok in
+    let back = c.saturating_sub.ensures in
+    left-turn body c.args.self.now _ st behind (cc) refl

@@ -1,0 +1,53 @@
+use dotmix::Trail;
+use ped_path::{Ped, Pedigree};
+use script_grammar::{Boxed, Name};
+use serial_meaning::{Event, Fault, Origin, Value};
+use strand_values::Target;
+
+/// A child that is handed out: what it is begun as, and the trail of its path.
+#[derive(Drop)]
+pub struct Child {
+    /// An instance, or the iterations of a loop.
+    pub origin: Origin,
+    /// The trail of the origin's path, by the plan's coefficients.
+    pub trail: Trail,
+}
+
+/// What a move shows, in order: an event, if any, and then a child or a wait; or where a scope begins or has ended.
+#[derive(Drop)]
+pub enum Effects {
+    Nothing,
+    /// An event, and nothing after it.
+    Emitted(Event),
+    /// A scope was begun, whose path this is: the strand that began it has the same ranks.
+    Opened(Ped),
+    /// The scope that this strand began has ended.
+    Closed(Pedigree),
+    /// A child was spawned. Its value goes to the variable `target`, if any, of the frame with `height` others below it.
+    Spawned {
+        event: Event,
+        child: Boxed<Child>,
+        height: usize,
+        target: Option<Target>,
+    },
+    /// A sync, at which the instance waits for its children.
+    Synced(Event),
+    /// A loop of one iteration or more, for which the instance waits. Its values go to the array `target`, if any, of the innermost
+    /// frame.
+    Looped {
+        event: Event,
+        child: Boxed<Child>,
+        target: Option<Name>,
+    },
+}
+
+/// How a move ended.
+#[derive(Drop)]
+pub enum MoveResult {
+    /// The instance goes on, or waits where that was shown.
+    Went(Effects),
+    /// The instance ended with this value. Nothing was shown.
+    Returned(Value),
+    /// The instance ended by a fault of its own. Nothing was shown.
+    Faulted(Fault),
+}

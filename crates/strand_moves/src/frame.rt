@@ -1,0 +1,131 @@
+// Frames.
+
+ghost use Rattle.std.specs.Prelude.{◌≡◌, [], List, false, None, reverse};
+ghost use Rattle.std.specs.Option.{option_copied};
+ghost use Rattle.script_grammar.specs.declared.tree.Stmt.{Stmt};
+ghost use Rattle.strand_moves.specs.Running.{block_inside, body_of, text_of};
+
+use crate::cursor::Cursor;
+use dotmix::Trail;
+use script_grammar::{Act, Name, Stmt};
+use serial_meaning::{Fault, Plan};
+use std::alloc::Global;
+use strand_values::{Environment, Target};
+
+/// A scope that is open.
+#[derive(Drop)]
+pub(crate) struct Level {
+    /// The trail of the path around it.
+    pub(crate) trail: Trail,
+    /// The rank of the strand that came to it.
+    pub(crate) rank: u64,
+    /// The place after it in the block around it.
+    pub(crate) cursor: Cursor,
+}
+
+/// A function that was begun.
+#[derive(Drop)]
+pub(crate) struct Frame {
+    /// Its place in the script.
+    pub(crate) function: u32,
+    /// Whether its return is paid, and the sync that this implies is after it.
+    pub(crate) returning: bool,
+    /// Whether it spawned since its last sync.
+    pub(crate) spawned: bool,
+    /// Its open scopes, the outermost first.
+    pub(crate) levels: Vec<Level>,
+    /// The place in the innermost one, or in the function's body.
+    pub(crate) cursor: Cursor,
+    pub(crate) env: Environment,
+    /// The least fault among the answers of its children since its last sync that were taken.
+    pub(crate) faulted: Option<Fault>,
+    /// The variable of the frame below that its value goes to.
+    pub(crate) target: Option<Target>,
+}
+
+impl Frame {
+    ghost use Rattle.strand_moves.specs.Cursors.{left_of};
+
+    /// A function with these variables before its first statement.
+    pub(crate) fn new(alloc: Global, number: u32, env: Environment, target: Option<Target>) -> Frame
+        ensures function { result.function ≡ number }
+        ensures left { (body : List Stmt) → left_of body result.cursor ≡ body }
+        ensures levels { result.levels.items ≡ [] }
+        ensures returning { result.returning ≡ false }
+        ensures env { result.env ≡ env }
+        ensures spawned { result.spawned ≡ false }
+        ensures faulted { result.faulted ≡ None }
+        ensures target { result.target ≡ target }
+    {
+        Frame {
+            function: number,
+            returning: false,
+            spawned: false,
+            levels: Vec::new(alloc),
+            cursor: Cursor::start(alloc),
+            env,
+            faulted: None,
+            target,
+        }
+    }
+
+    /// The statements among which its cursor stands: its function's body, or the block of its innermost open scope.
+    #[inline(always)]
+    pub(crate) fn text<'a>(&self, plan: &'a Plan) -> &'a [Stmt]
+        ensures { result.now ≡ text_of plan.now self.now }
+    {
+        inside(body(plan, self.function), self.levels.as_slice())
+    }
+}
+
+/// The block of the innermost of these scopes, which are open in a function of this body.
+fn inside<'a>(body: &'a [Stmt], levels: &[Level]) -> &'a [Stmt]
+    ensures { result.now ≡ block_inside body.now (reverse levels.now) }
+{
+    let mut block = body;
+    for level in levels {
+        block = level.cursor.scope(block);
+    }
+    block
+}
+
+/// How many variables the statements make, but for those of the blocks inside them.
+pub(crate) fn lets(body: &[Stmt]) -> usize {
+    let mut count: usize = 0;
+    for statement in body {
+        if let Act::Let(_, _) | Act::Array(_, _) = &statement.act {
+            count = count.saturating_add(1);
+        }
+    }
+    count
+}
+
+/// The statements of the function at this place, and none where there is no function.
+pub(crate) fn body(plan: &Plan, function: u32) -> &[Stmt]
+    ensures { result.now ≡ body_of plan.now function }
+{
+    match plan.functions().get(function as usize) {
+        Some(f) => f.body.as_slice(),
+        None => &[],
+    }
+}
+
+/// A copy of a name, if there is one.
+pub(crate) fn copy_of(name: Option<&Name>) -> Option<Name>
+    ensures { result ≡ option_copied name.entry }
+{
+    match name {
+        Some(name) => Some(name.copy()),
+        None => None,
+    }
+}
+
+/// The variable of this name, if there is one.
+pub(crate) fn target_of(name: Option<&Name>) -> Option<Target>
+    ensures { result ≡ option_copied name.entry }
+{
+    match name {
+        Some(name) => Some(Target::of(name)),
+        None => None,
+    }
+}
