@@ -6,12 +6,12 @@ use Rattle.once_cell.specs.contracts.race.once_box.OnceBox as cell
 use Rattle.std.proofs.Crossing.{Arc-send, Box-send, Vec-send, Vec-sync, Deque-send}
 use Rattle.std.proofs.option.Option.TheSendSync as option_shared
 use Rattle.crossbeam_utils.proofs.cache_padded.CachePadded.TheSendSync as padded_shared
-use Rattle.serial_meaning.proofs.Shares.{known_sends, known_syncs}
+use Rattle.serial_meaning.proofs.CodeLemmas.Shares.{known_sends, known_syncs}
 use Rattle.serial_meaning.specs.contracts.known.Known as known
 use Rattle.steal_deck.proofs.deck.Deck.TheSendSync as deck_shared
 use Rattle.steal_deck.proofs.thief.Thief.TheSendSync as thief_shared
 use Rattle.steal_deck.specs.contracts.thief.Thief as thief
-use Rattle.strand_machine.proofs.Shares.{task_sends}
+use Rattle.strand_machine.proofs.CodeLemmas.Shares.{task_sends}
 use Rattle.strand_machine.specs.contracts.task.Task as task
 use Rattle.crew.specs.contracts.faults.Faults as faults
 use Rattle.crew.specs.contracts.hand.Hand as hand

@@ -3,9 +3,9 @@ use Rattle.std.proofs.Common.{◌≡◌, Result, IsFalse, refl}
 use Rattle.ped_words.specs.declared.command.Command.{Command}
 use Rattle.ped_words.specs.declared.rule.WordError.{WordError}
 use Rattle.serial_meaning.specs.Plan.{PlanView}
-use Rattle.serial_meaning.proofs.Draws.{draws_are_dotmix}
-use Rattle.serial_meaning.proofs.Least.{fault_is_least}
-use Rattle.serial_meaning.proofs.RisingExec.{elision_rises}
+use Rattle.serial_meaning.proofs.RisingPedigrees.Draws.{draws_are_dotmix}
+use Rattle.serial_meaning.proofs.LeastFault.Least.{fault_is_least}
+use Rattle.serial_meaning.proofs.RisingPedigrees.RisingExec.{elision_rises}
 use Rattle.engine.specs.Clauses.{Change, IsCall, IsLawful, seen}
 use Rattle.engine.specs.Promise.{KeepsPromise, ReadsNone, has_line, has_output}
 use Rattle.engine.specs.Report.{plan_of}

@@ -4,8 +4,8 @@ use Rattle.std.specs.Prelude.{slice_index}
 use Rattle.std.proofs.lemmas.List.FromFn.{get_or-map-range_with_len}
 use Rattle.dotmix.specs.Draws.{dotmix}
 use Rattle.bulk_draw.specs.Streams.{later, stream}
-use Rattle.serial_meaning.proofs.Draws.{draws_are_dotmix}
-use Rattle.sched_meaning.proofs.Simulated.{sim_workers_are_one}
+use Rattle.serial_meaning.proofs.RisingPedigrees.Draws.{draws_are_dotmix}
+use Rattle.sched_meaning.proofs.SimulationsEnd.Simulated.{sim_workers_are_one}
 use Rattle.engine.specs.Laws.{SimulationsAreOne, StreamsAreDraws}
 use Rattle.engine.specs.Report.{run_report, worker_line}
 use Rattle.engine.specs.declared.report.ReportEnd.{ReportEnd}

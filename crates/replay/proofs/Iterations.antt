@@ -9,14 +9,14 @@ use Rattle.serial_meaning.specs.Laws.{IsOriginOf, ChildOf}
 use Rattle.serial_meaning.specs.Plan.{PlanView}
 use Rattle.serial_meaning.specs.Eval.{path_of, iteration}
 use Rattle.serial_meaning.specs.Open.{Item, Happened, Child, Opened, Closed, opened}
-use Rattle.serial_meaning.proofs.Origins.{child-below}
+use Rattle.serial_meaning.proofs.OriginFaults.Origins.{child-below}
 use Rattle.serial_meaning.specs.declared.value.Value.{Value}
 use Rattle.serial_meaning.specs.declared.origin.Origin.{Origin}
 use Rattle.serial_meaning.specs.declared.origin.Origin.TheVariants.{Instance, Loop}
 use Rattle.strand_meaning.specs.Rest.{children_of}
 use Rattle.strand_meaning.specs.Strands.{is_below, child_on_way, entered, iteration_on_way}
-use Rattle.strand_meaning.proofs.ItemsRise.{IsWhole, ItemsRise, items-rise}
-use Rattle.strand_meaning.proofs.Loops.{contains-turn}
+use Rattle.strand_meaning.proofs.ElisionsStrands.ItemsRise.{IsWhole, ItemsRise, items-rise}
+use Rattle.strand_meaning.proofs.SoundSteps.Loops.{contains-turn}
 use Rattle.serial_runner.specs.Nodes.{IsBelow}
 use Rattle.serial_runner.proofs.Below.{both, below-of}
 use Rattle.replay.specs.Descents.{IsOnWayTo}

@@ -18,7 +18,7 @@ use std::sync::Arc;
 use strand_machine::{Memory, Task};
 
 /// Main's task. Nobody looks for what it gives, nor for what the tasks below it give: the core keeps their answers.
-#[tactic(auto, using(crate::proofs::Mains::main_known))]
+#[tactic(auto, using(crate::proofs::KnownOfNodes::Mains::main_known))]
 fn main_task(alloc: Global, plan: &Arc<Plan>) -> Result<Task, Memory>
     ensures { IfOk result (λ task. task ≡ fresh (arc_value plan.now) (main_origin (arc_value plan.now))) }
 {

@@ -96,7 +96,7 @@ pub(crate) fn use_array(scope: &Scope, found: &mut Findings, x: &Name)
 
 /// An expression of any kind.
 #[cycle(expressions)]
-#[tactic(auto, using(crate::proofs::Noted::noted_append))]
+#[tactic(auto, using(crate::proofs::LeastViolation::Noted::noted_append))]
 pub(crate) fn see(scope: &Scope, found: &mut Findings, e: &Expr) -> Seen
     ensures at { result.at ≡ (read e.now).at }
     ensures kind { result.kind ≡ (read e.now).kind (known_in scope.now) }
@@ -147,7 +147,7 @@ pub(crate) fn see(scope: &Scope, found: &mut Findings, e: &Expr) -> Seen
 
 /// An expression that has to be of this kind. The answer is its place.
 #[cycle(expressions)]
-#[tactic(auto, using(crate::proofs::Noted::noted_append), unfolding(crate::specs::Expressions::wanted))]
+#[tactic(auto, using(crate::proofs::LeastViolation::Noted::noted_append), unfolding(crate::specs::Expressions::wanted))]
 pub(crate) fn want(scope: &Scope, found: &mut Findings, kind: Kind, e: &Expr) -> u32
     ensures at { result ≡ (read e.now).at }
     ensures found { found.new ≡ noted found.old (wanted kind (read e.now) (known_in scope.now) (pending_in scope.now)) }
@@ -159,7 +159,7 @@ pub(crate) fn want(scope: &Scope, found: &mut Findings, kind: Kind, e: &Expr) ->
 
 /// The operands of a sum after the first.
 #[cycle(expressions)]
-#[tactic(auto, using(crate::proofs::Noted::noted_append))]
+#[tactic(auto, using(crate::proofs::LeastViolation::Noted::noted_append))]
 fn want_summands(scope: &Scope, found: &mut Findings, parts: &[SumPart])
     ensures { found.new ≡ noted found.old (all_wanted kind.Int (map read_sum_part parts.now) (known_in scope.now) (pending_in scope.now)) }
 {
@@ -170,7 +170,7 @@ fn want_summands(scope: &Scope, found: &mut Findings, parts: &[SumPart])
 
 /// The operands of a product after the first.
 #[cycle(expressions)]
-#[tactic(auto, using(crate::proofs::Noted::noted_append))]
+#[tactic(auto, using(crate::proofs::LeastViolation::Noted::noted_append))]
 fn want_factors(scope: &Scope, found: &mut Findings, parts: &[ProductPart])
     ensures { found.new ≡ noted found.old (all_wanted kind.Int (map read_product_part parts.now) (known_in scope.now) (pending_in scope.now)) }
 {

@@ -48,7 +48,7 @@ fn see_right(functions: &Functions, scope: &Scope, found: &mut Findings, right: 
 }
 
 /// `let x = R`.
-#[tactic(auto, using(crate::proofs::Noted::noted_append))]
+#[tactic(auto, using(crate::proofs::LeastViolation::Noted::noted_append))]
 fn judge_let(
     alloc: Global,
     functions: &Functions,
@@ -76,7 +76,7 @@ fn kind_or_int(kind: Option<Kind>) -> Kind
 }
 
 /// `let a[n]`.
-#[tactic(auto, using(crate::proofs::Noted::noted_append))]
+#[tactic(auto, using(crate::proofs::LeastViolation::Noted::noted_append))]
 fn judge_array(
     alloc: Global,
     scope: &mut Scope,
@@ -111,7 +111,7 @@ fn judge_set(
 }
 
 /// A right side that is set: where the variable has a kind, that kind.
-#[tactic(auto, using(crate::proofs::Noted::noted_append), unfolding(crate::specs::Expressions::wanted))]
+#[tactic(auto, using(crate::proofs::LeastViolation::Noted::noted_append), unfolding(crate::specs::Expressions::wanted))]
 fn want_right(
     functions: &Functions,
     scope: &Scope,
@@ -138,7 +138,7 @@ fn spawn_into(alloc: Global, scope: &mut Scope, x: &Name, right: &Right) -> Resu
 }
 
 /// `a[E] = E`.
-#[tactic(auto, using(crate::proofs::Noted::noted_append))]
+#[tactic(auto, using(crate::proofs::LeastViolation::Noted::noted_append))]
 fn judge_store(scope: &Scope, found: &mut Findings, x: &Name, i: &Expr, e: &Expr)
     ensures { found.new ≡ noted found.old (array_use ((known_in scope.now).what x.now.bytes) (pending_in scope.now) x.now
         ++ two_wanted kind.Int (read i.now) (read e.now) (known_in scope.now) (pending_in scope.now)) }
@@ -148,7 +148,7 @@ fn judge_store(scope: &Scope, found: &mut Findings, x: &Name, i: &Expr, e: &Expr
 }
 
 /// `pfor i in E..E into a call f(i, ..)`.
-#[tactic(auto, using(crate::proofs::Noted::noted_append))]
+#[tactic(auto, using(crate::proofs::LeastViolation::Noted::noted_append))]
 fn judge_loop(
     functions: &Functions,
     scope: &Scope,
@@ -168,7 +168,7 @@ fn judge_loop(
 }
 
 /// Two expressions that have to be numbers.
-#[tactic(auto, using(crate::proofs::Noted::noted_append), unfolding(crate::specs::Expressions::two_wanted))]
+#[tactic(auto, using(crate::proofs::LeastViolation::Noted::noted_append), unfolding(crate::specs::Expressions::two_wanted))]
 fn want_two(scope: &Scope, found: &mut Findings, a: &Expr, b: &Expr)
     ensures { found.new ≡ noted found.old (two_wanted kind.Int (read a.now) (read b.now) (known_in scope.now) (pending_in scope.now)) }
 {
@@ -244,7 +244,7 @@ fn judge_block(
 /// One statement. Both blocks of an `if`, and that of a `scope`, are judged with what is pending before; a `while` is judged once, with
 /// what an earlier turn may have left pending. A `scope` ends with a sync.
 #[cycle(statements)]
-#[tactic(auto, using(crate::proofs::Noted::noted_append))]
+#[tactic(auto, using(crate::proofs::LeastViolation::Noted::noted_append))]
 fn judge(
     alloc: Global,
     functions: &Functions,

@@ -1,20 +1,4 @@
-mod Gaps
-mod Words
-mod Follows
-mod Nested
-mod Sound
-mod Same
-mod Judged
-mod Unique
-mod Ascii
-mod First
-mod Decimals
-mod Steps
-mod Kept
-mod Expressions
-mod Calls
-mod Statements
-mod Loops
-mod Moved
-mod Functions
-mod Whole
+pub mod Nesting
+pub mod OneTree
+pub mod OneFault
+pub mod Parsing

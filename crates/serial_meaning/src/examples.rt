@@ -4,13 +4,13 @@
 ghost use Rattle.serial_meaning.specs.Examples.{CallsEndAt256, CallsShareTheRank, DepthTwoIsEnoughForASpawn, ElisionEndsAtTheChildsFault, EmptyLoopRaisesTheRank, FourStepsAreEnough, ImpliedSyncRaisesTheRank, OpenTreeHasBothFaults, ScopeHasStrands, ScopeIsALevel, ScopeNeedsDepthTwo, SpawnNeedsDepthTwo, TargetMustHaveRoom, ThreeStepsAreTooFew, ScopeRaisesTheRank, ChildStandsInItsScope};
 
 /// `fn main() { print 1; print 2; print 3; return 0; }` with a budget of 3 prints 1, 2 and 3 and ends by the fault Budget at 0.
-#[tactic(auto, using(crate::proofs::ScriptRuns::three_steps_are_too_few))]
+#[tactic(auto, using(crate::proofs::Equations::ScriptRuns::three_steps_are_too_few))]
 pub fn three_steps_are_too_few()
     ensures { ThreeStepsAreTooFew }
 {}
 
 /// The same with a budget of 4 ends well.
-#[tactic(auto, using(crate::proofs::ScriptRuns::four_steps_are_enough))]
+#[tactic(auto, using(crate::proofs::Equations::ScriptRuns::four_steps_are_enough))]
 pub fn four_steps_are_enough()
     ensures { FourStepsAreEnough }
 {}
@@ -48,7 +48,7 @@ pub fn implied_sync_raises_the_rank()
 {}
 
 /// `fn f() { call f(); return 0; } fn main() { call f(); return 0; }` ends by the fault Calls at 0, with a budget of 300.
-#[tactic(auto, using(crate::proofs::ScriptRuns::calls_end_at_256))]
+#[tactic(auto, using(crate::proofs::Equations::ScriptRuns::calls_end_at_256))]
 pub fn calls_end_at_256()
     ensures { CallsEndAt256 }
 {}

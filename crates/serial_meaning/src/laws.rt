@@ -6,13 +6,13 @@ ghost use Rattle.serial_meaning.specs.Laws.{DrawsAreDotMix, ElisionHasEquations,
 
 /// What statements do, in the serial elision, is the first and then the others, blocks and calls by the same meaning: the equations
 /// hold with no bound on levels. That the meaning is total is its form: it is a function, by recursion on the steps and the depth.
-#[tactic(auto, using(crate::proofs::ExecLaws::elision_has_equations))]
+#[tactic(auto, using(crate::proofs::Equations::ExecLaws::elision_has_equations))]
 pub fn elision_has_equations()
     ensures { ElisionHasEquations }
 {}
 
 /// The same for the open tree.
-#[tactic(auto, using(crate::proofs::ExecLaws::open_tree_has_equations))]
+#[tactic(auto, using(crate::proofs::Equations::ExecLaws::open_tree_has_equations))]
 pub fn open_tree_has_equations()
     ensures { OpenTreeHasEquations }
 {}

@@ -15,10 +15,10 @@ use Rattle.strand_meaning.specs.Trace.{AwaitedChild, Trace, heard_unless, heard,
 use Rattle.strand_meaning.specs.Rest.{evaluations}
 use Rattle.strand_meaning.specs.Sound.{IsTask}
 use Rattle.strand_meaning.specs.Task.{Task, start, Stop, Spawn, Wait, End}
-use Rattle.strand_meaning.proofs.Ends.{tasks_begin}
-use Rattle.strand_meaning.proofs.Fewer.{stops_fall}
-use Rattle.strand_meaning.proofs.Onward.{answers_keep_tasks}
-use Rattle.strand_meaning.proofs.Stops.{stops_are_sound, stops_keep_origins}
+use Rattle.strand_meaning.proofs.SoundSteps.Ends.{tasks_begin}
+use Rattle.strand_meaning.proofs.NextStops.Fewer.{stops_fall}
+use Rattle.strand_meaning.proofs.TakenAnswers.Onward.{answers_keep_tasks}
+use Rattle.strand_meaning.proofs.NextStops.Stops.{stops_are_sound, stops_keep_origins}
 use Rattle.strand_machine.specs.Family.{tag, tags}
 use Rattle.strand_machine.specs.Faults.{is_fault, EndsByFault}
 use Rattle.strand_machine.specs.Loops.{is_root}

@@ -16,8 +16,8 @@ use Rattle.strand_meaning.specs.Trace.{AwaitedChild, Trace, behind_last, emit, e
 use Rattle.strand_meaning.specs.Task.{InstanceState, Running, AtSync, AtLoop, Ended, Work, Splits, Runs, Over, Task, own_instance, MoveOrStop, Passes, Stops, Stop, Spawn, Wait, End, IsNext, Now, Later, stage_after, child_in, stops_at, passing, moved, ends_unless, faults_behind, gave, stage_step, first_half, split_step, over_step, work_step, step}
 use Rattle.strand_meaning.specs.Sound.{IsEndOf, IsSoundWork, IsTask}
 use Rattle.strand_meaning.specs.Laws.{IsOf, IsSoundStep}
-use Rattle.strand_meaning.proofs.Ends.{steps_are_sound}
-use Rattle.strand_meaning.proofs.Stops.{KeepsStep, step-keeps}
+use Rattle.strand_meaning.proofs.SoundSteps.Ends.{steps_are_sound}
+use Rattle.strand_meaning.proofs.NextStops.Stops.{KeepsStep, step-keeps}
 use Rattle.strand_machine.specs.Parts.{awaited}
 use Rattle.serial_runner.proofs.Shows.{children, IsDeeper, AtMostOne, MoveHands, move_hands}
 

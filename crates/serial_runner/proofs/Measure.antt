@@ -11,11 +11,11 @@ use Rattle.strand_meaning.specs.Rest.{evaluations}
 use Rattle.strand_meaning.specs.Left.{stops_left}
 use Rattle.strand_meaning.specs.Sound.{IsTask}
 use Rattle.strand_meaning.specs.Laws.{IsSoundStop, KeepsOrigin, LeavesFewer}
-use Rattle.strand_meaning.proofs.Comes.{stops_come}
-use Rattle.strand_meaning.proofs.Ends.{tasks_begin}
-use Rattle.strand_meaning.proofs.Fewer.{stops_fall, answers_leave_no_more}
-use Rattle.strand_meaning.proofs.Stops.{stops_are_one, stops_are_sound, stops_keep_origins}
-use Rattle.strand_meaning.proofs.Onward.{answers_keep_tasks}
+use Rattle.strand_meaning.proofs.NextStops.Comes.{stops_come}
+use Rattle.strand_meaning.proofs.SoundSteps.Ends.{tasks_begin}
+use Rattle.strand_meaning.proofs.NextStops.Fewer.{stops_fall, answers_leave_no_more}
+use Rattle.strand_meaning.proofs.NextStops.Stops.{stops_are_one, stops_are_sound, stops_keep_origins}
+use Rattle.strand_meaning.proofs.TakenAnswers.Onward.{answers_keep_tasks}
 use Rattle.serial_runner.specs.Stacks.{task_of, IsStack, tasks, behind, Follows}
 use Rattle.serial_runner.specs.declared.stack.Stack.{Stack}
 use Rattle.serial_runner.proofs.Handed.{size_of, IsSmaller, HandsStop, stops_hand}

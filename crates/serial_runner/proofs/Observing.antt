@@ -13,10 +13,10 @@ use Rattle.serial_meaning.specs.declared.origin.Origin.TheVariants.{Instance, Lo
 use Rattle.strand_meaning.specs.Observation.{IsInstance, Observation, also, newest, own_fault_of, node_left, IsOnWay, IsWhole}
 use Rattle.strand_meaning.specs.Task.{Task}
 use Rattle.strand_meaning.specs.Strands.{Strand, is_below, events_at, own_events, own_fault_at, joined_fault, last_place, ended_before, child_on_way, is_one_of, strand_of, blocks}
-use Rattle.strand_meaning.proofs.NoteWords.{events_at-append}
+use Rattle.strand_meaning.proofs.NodesNoted.NoteWords.{events_at-append}
 use Rattle.strand_machine.specs.Eyes.{first_look, looks, is_none_ahead}
 use Rattle.strand_machine.specs.declared.eye.Eye.{Eye}
-use Rattle.strand_machine.proofs.Eyes.{looks-append, own-append, places-seen, places-without, past-seen}
+use Rattle.strand_machine.proofs.NodesNoted.Eyes.{looks-append, own-append, places-seen, places-without, past-seen}
 use Rattle.serial_runner.specs.Nodes.{IsBelow, shown_by, shown_at, fault_at, is_none, came_to, strand_seen, joined_before, node_seen}
 use Rattle.serial_runner.specs.Observed.{with_notes, first_of, with_child, seen, IsSeen, is_some, is_over}
 use Rattle.serial_runner.specs.declared.node.Node.{Node}

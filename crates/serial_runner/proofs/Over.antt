@@ -8,15 +8,15 @@ use Rattle.std.specs.declared.cmp.Ordering.TheVariants.{Less, Equal, Greater}
 use Rattle.ped_path.specs.Path.{IsBefore}
 use Rattle.serial_meaning.specs.Eval.{path_of}
 use Rattle.serial_meaning.specs.Open.{Item, Happened, Child, Opened, Closed, risen, led_to, without_last}
-use Rattle.serial_meaning.proofs.Order.{before-by_rank, before-prefix, not_before_itself, not_before-back, before-before}
+use Rattle.serial_meaning.proofs.RisingPedigrees.Order.{before-by_rank, before-prefix, not_before_itself, not_before-back, before-before}
 use Rattle.serial_meaning.specs.declared.event.Event.{Event}
 use Rattle.serial_meaning.specs.declared.event.Event.TheVariants as event
 use Rattle.serial_meaning.specs.declared.origin.Origin.{Origin}
 use Rattle.strand_meaning.specs.Strands.{pedigree_of, events_at, own_events, last_place, is_below, child_on_way, ended_before, is_one_of}
-use Rattle.strand_meaning.proofs.Variables.{same-name, is-other}
+use Rattle.strand_meaning.proofs.Unfilled.Variables.{same-name, is-other}
 use Rattle.strand_machine.specs.Eyes.{looks, goes_to, less, ahead_of, is_none_ahead}
 use Rattle.strand_machine.specs.declared.eye.Eye.{Eye}
-use Rattle.strand_machine.proofs.Eyes.{risen-last}
+use Rattle.strand_machine.proofs.NodesNoted.Eyes.{risen-last}
 use Rattle.serial_runner.proofs.Below.{below-of}
 use Rattle.serial_runner.proofs.Places.{IsStrand, stands, came_by, Follow}
 

@@ -9,7 +9,7 @@ use Rattle.serial_meaning.specs.Plan.{PlanView, functions_of}
 use Rattle.serial_meaning.specs.Exec.{State, goes_out, frame, exec, instance, filled}
 use Rattle.serial_meaning.specs.Eval.{Evaluation, path_of, eval_below, depth_left}
 use Rattle.serial_meaning.specs.Open.{Item, Happened, Child, Opened, Closed, NodeFault, Own, ChildFaulted, Node, put_off_all, joined, loop_end, is_empty_loop, risen, strand_after, last_of, opened}
-use Rattle.serial_meaning.proofs.Closed.{Closed as Rules, closed-exec, returned-q}
+use Rattle.serial_meaning.proofs.RisingPedigrees.Closed.{Closed as Rules, closed-exec, returned-q}
 use Rattle.serial_meaning.specs.declared.value.Value.{Value}
 use Rattle.serial_meaning.specs.declared.event.Fault.{Fault}
 use Rattle.serial_meaning.specs.declared.event.Event.{Event}
@@ -18,7 +18,7 @@ use Rattle.serial_meaning.specs.declared.origin.Origin.{Origin}
 use Rattle.serial_meaning.specs.declared.origin.Origin.TheVariants as origin
 use Rattle.strand_meaning.specs.Observation.{IsInstance}
 use Rattle.strand_meaning.specs.Strands.{pedigree_of}
-use Rattle.strand_machine.proofs.Eyes.{risen-last}
+use Rattle.strand_machine.proofs.NodesNoted.Eyes.{risen-last}
 
 -- a strand's pedigree: a path and a rank
 abbrev pub IsStrand : List ℕ → Type 0

@@ -14,8 +14,8 @@ use Rattle.strand_meaning.specs.Trace.{AwaitedChild}
 use Rattle.strand_meaning.specs.Task.{Running, AtSync, AtLoop, Ended, Work, Splits, Runs, Over, Task, own_instance, MoveOrStop, Passes, Stops, Stop, Spawn, Wait, End, stage_after, child_in, stops_at, passing, moved, ends_unless, faults_behind, gave, work_step}
 use Rattle.strand_meaning.specs.Sound.{IsEndOf, IsLoop, IsSoundWork, IsTask}
 use Rattle.strand_meaning.specs.Laws.{IsSoundStep}
-use Rattle.strand_meaning.proofs.Ends.{steps_are_sound}
-use Rattle.strand_meaning.proofs.Stops.{KeepsStep, step-keeps}
+use Rattle.strand_meaning.proofs.SoundSteps.Ends.{steps_are_sound}
+use Rattle.strand_meaning.proofs.NextStops.Stops.{KeepsStep, step-keeps}
 use Rattle.serial_runner.proofs.Shows.{children, AtMostOne, MoveHands, move_hands}
 use Rattle.serial_runner.proofs.Handed.{first, child-first}
 use Rattle.serial_runner.proofs.Observing.{item_children, children-append}

@@ -14,10 +14,10 @@ use Rattle.strand_meaning.specs.Observation.{IsInstance, no_notes, also, IsOnWay
 use Rattle.strand_meaning.specs.Trace.{AwaitedChild}
 use Rattle.strand_meaning.specs.Sound.{AreParts, IsTask}
 use Rattle.strand_meaning.specs.Task.{Task, start}
-use Rattle.serial_meaning.proofs.Origins.{cons-contained}
-use Rattle.strand_meaning.proofs.Fewer.{stops_fall, answers_leave_no_more}
-use Rattle.strand_meaning.proofs.Onward.{answers_keep_tasks}
-use Rattle.strand_meaning.proofs.Stops.{stops_are_sound, stops_keep_origins}
+use Rattle.serial_meaning.proofs.OriginFaults.Origins.{cons-contained}
+use Rattle.strand_meaning.proofs.NextStops.Fewer.{stops_fall, answers_leave_no_more}
+use Rattle.strand_meaning.proofs.TakenAnswers.Onward.{answers_keep_tasks}
+use Rattle.strand_meaning.proofs.NextStops.Stops.{stops_are_sound, stops_keep_origins}
 use Rattle.strand_machine.specs.Family.{tags}
 use Rattle.strand_machine.specs.Noted.{IsNoted}
 use Rattle.strand_machine.specs.Parts.{awaited}

@@ -28,7 +28,7 @@ pub fn span(alloc: Global, answer: &Answer) -> Result<Span, Memory>
 }
 
 /// How many events the longest chain has.
-#[tactic(auto, using(crate::proofs::Stacks::walked_append))]
+#[tactic(auto, using(crate::proofs::LongestChains::Stacks::walked_append))]
 fn longest_chain(alloc: Global, events: &Out) -> Result<u64, Memory>
     ensures { IfOk result (λ n. n ≡ walked_span events.now) }
 {

@@ -52,7 +52,6 @@ pub(crate) fn wait(parts: &mut Parts, work: Work) -> Passed
 }
 
 /// Begins a child, and counts it among the family's. The key by which it is handed out is made of its own plan and origin.
-#[inline(always)]
 fn begin_child(family: &mut Family, alloc: Global, child: Child) -> Result<Task, Memory>
     requires own { IsOriginOf family.old.plan family.old.origin }
     requires known { IsOriginOf family.old.plan child.origin }
@@ -83,7 +82,6 @@ fn begin_child(family: &mut Family, alloc: Global, child: Child) -> Result<Task,
 }
 
 /// Begins a child whose value goes to this place.
-#[inline(always)]
 fn hand_out(
     body: &mut Body,
     alloc: Global,
@@ -117,7 +115,6 @@ fn hand_out(
 }
 
 /// The task hands out a child, and this remains.
-#[inline(always)]
 pub(crate) fn spawn_part(
     parts: &mut Parts,
     alloc: Global,

@@ -65,7 +65,7 @@ impl Trace {
     }
 
     /// The children whose answers aren't taken, in order.
-    #[tactic(auto, using(crate::proofs::Handed::awaited_parts))]
+    #[tactic(auto, using(crate::proofs::Moves::Handed::awaited_parts))]
     pub fn awaited(&self) -> &Items<Origin>
         ensures { result.now ≡ awaited self.now.handed }
     {
@@ -91,7 +91,7 @@ impl Trace {
     }
 
     /// One more child.
-    #[tactic(auto, using(crate::proofs::Handed::parts_more))]
+    #[tactic(auto, using(crate::proofs::Moves::Handed::parts_more))]
     pub fn add_child(&mut self, child: Origin, place: Destination) -> Result<(), Memory>
         ensures { OnOk result (self.new ≡ add_child child (place_of place) self.old) }
     {

@@ -64,7 +64,6 @@ impl Work {
 }
 
 /// What remains of an origin of which nothing is done.
-#[inline(always)]
 pub(crate) fn begun_work(
     alloc: Global,
     plan: &Plan,
@@ -125,7 +124,6 @@ pub(crate) fn begun_last(
 }
 
 /// An instance before its first move. One of no function has the value 0.
-#[inline(always)]
 fn begun_instance(
     alloc: Global,
     plan: &Plan,

@@ -31,7 +31,6 @@ use strand_values::{Halt, Target, iterations, number};
 
 impl Running {
     /// A spawn, whose child's value is to go to a variable, if any.
-    #[inline(always)]
     pub(crate) fn spawn(
         &mut self,
         alloc: Global,
@@ -193,7 +192,6 @@ impl Running {
     }
 
     /// The trail of a child of this strand, and its path, over the same memory.
-    #[inline(always)]
     pub(crate) fn child_place(&self, alloc: Global, plan: &Plan) -> Result<(Trail, Ped), Memory>
         requires fits { FitsGamma plan.now.gamma self.now.trail }
         requires within { length (present_of self.now) < length plan.now.gamma }

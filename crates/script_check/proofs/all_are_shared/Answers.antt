@@ -1,6 +1,6 @@
 use denote.Param.Send.{IsSend, IsSync, param_send, param_sync}
 use contract.Lifetimes.{Lfts}
-use Rattle.script_check.proofs.Shares.{checked_sends, checked_syncs}
+use Rattle.script_check.proofs.Tables.Shares.{checked_sends, checked_syncs}
 use Rattle.script_check.proofs.all_are_shared.Lts as types
 use Rattle.script_check.proofs.all_are_shared.Goals as goal
 

@@ -1,6 +1,6 @@
 use denote.Param.Send.{IsSend, IsSync, param_send, param_sync}
 use contract.Lifetimes.{Lfts}
-use Rattle.serial_meaning.proofs.Shares.{plan_sends, plan_syncs, answer_sends, answer_syncs, key_sends, key_syncs, known_sends, known_syncs}
+use Rattle.serial_meaning.proofs.CodeLemmas.Shares.{plan_sends, plan_syncs, answer_sends, answer_syncs, key_sends, key_syncs, known_sends, known_syncs}
 use Rattle.serial_meaning.proofs.all_are_shared.Lts as types
 use Rattle.serial_meaning.proofs.all_are_shared.Goals as goal
 

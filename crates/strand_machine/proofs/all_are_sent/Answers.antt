@@ -1,6 +1,6 @@
 use denote.Param.Send.{IsSend, param_send}
 use contract.Lifetimes.{Lfts}
-use Rattle.strand_machine.proofs.Shares.{task_sends, stop_sends, resumed_sends}
+use Rattle.strand_machine.proofs.CodeLemmas.Shares.{task_sends, stop_sends, resumed_sends}
 use Rattle.strand_machine.proofs.all_are_sent.Lts as types
 use Rattle.strand_machine.proofs.all_are_sent.Goals as goal
 

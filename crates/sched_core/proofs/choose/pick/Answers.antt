@@ -1,7 +1,7 @@
 use Rattle.std.proofs.Common.{◌≡◌, List, length, sym, ap, ◌∙◌}
 use Rattle.sched_meaning.specs.Simulation.{picked_of}
 use Rattle.sched_meaning.specs.declared.event.CoreEvent.{CoreEvent}
-use Rattle.sched_core.proofs.Picking.{picked-none, picked-so}
+use Rattle.sched_core.proofs.Choices.Picking.{picked-none, picked-so}
 use Rattle.sched_core.proofs.choose.pick.Goals as goal
 
 pub returns-then-count-eq0 : goal.returns-then-count-eq0

@@ -1,7 +1,7 @@
 use Rattle.std.proofs.Common.{◌≡◌, ◌≤◌, ◌++◌, ◌∷◌, [], ap, ◌∙◌, arith}
 use Rattle.sched_core.specs.Begun.{hired}
 use Rattle.sched_core.specs.Workers.{WorkerView}
-use Rattle.sched_core.proofs.Beginning.{hired-more}
+use Rattle.sched_core.proofs.KnownOfNodes.Beginning.{hired-more}
 use Rattle.sched_core.proofs.new_state.hire.Goals as goal
 
 pub loop-i-preserved : goal.loop-i-preserved

@@ -5,7 +5,7 @@ use Rattle.script_check.specs.Valid.{IsValid}
 use Rattle.serial_meaning.specs.Plan.{PlanView}
 use Rattle.sched_core.specs.Begun.{IsBegun}
 use Rattle.sched_core.specs.Consistent.{IsConsistent}
-use Rattle.sched_core.proofs.Beginning.{consistent-begun}
+use Rattle.sched_core.proofs.KnownOfNodes.Beginning.{consistent-begun}
 use Rattle.sched_core.proofs.new_state.new_state.Goals as goal
 
 pub returns-clause-consistent : goal.returns-clause-consistent

@@ -1,7 +1,7 @@
 use Rattle.std.proofs.Common.{◌≡◌, ◌++◌, Some, length, sym, ap, ◌∙◌, arith}
 use Rattle.std.specs.Vec.Iter.{into_iter_items}
 use Rattle.sched_core.specs.Nodes.{answers_in, missing}
-use Rattle.sched_core.proofs.Answered.{none-more, not-missing, one-more, rest-whole}
+use Rattle.sched_core.proofs.KnownOfNodes.Answered.{none-more, not-missing, one-more, rest-whole}
 use Rattle.sched_core.proofs.node.answers_of.Goals as goal
 
 pub loop-child-init : goal.loop-child-init

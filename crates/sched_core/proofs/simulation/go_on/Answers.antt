@@ -1,5 +1,5 @@
 use Rattle.std.proofs.Common.{sym, ◌∙◌}
-use Rattle.sched_core.proofs.Playing.{by-run, ends, goes-on, lawful, picks-one}
+use Rattle.sched_core.proofs.Choices.Playing.{by-run, ends, goes-on, lawful, picks-one}
 use Rattle.sched_core.proofs.simulation.go_on.Goals as goal
 
 pub unreachable-requires : goal.unreachable-requires

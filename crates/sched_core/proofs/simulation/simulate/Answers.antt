@@ -1,6 +1,6 @@
 use Rattle.std.specs.Arc.{arc_value}
 use Rattle.std.proofs.Common.{◌<◌, ◌^◌, arith}
-use Rattle.sched_core.proofs.Playing.{less-left, mains-are, plays-on, starts, worker-is}
+use Rattle.sched_core.proofs.Choices.Playing.{less-left, mains-are, plays-on, starts, worker-is}
 use Rattle.sched_core.proofs.simulation.simulate.Goals as goal
 
 pub loop-next-init : goal.loop-next-init

@@ -1,8 +1,8 @@
 use Rattle.std.specs.Arc.{arc_value}
 use Rattle.std.proofs.Common.{false}
-use Rattle.sched_meaning.proofs.Falling.{work_left}
+use Rattle.sched_meaning.proofs.SimulationsEnd.Falling.{work_left}
 use Rattle.sched_core.specs.Cores.{core_of}
-use Rattle.sched_core.proofs.Playing.{IsPlayed}
+use Rattle.sched_core.proofs.Choices.Playing.{IsPlayed}
 use Rattle.sched_core.proofs.simulation.simulate.Given as goal
 
 abbrev pub invariant-loop-next : goal.invariant-loop-next

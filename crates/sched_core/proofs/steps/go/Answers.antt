@@ -1,4 +1,4 @@
-use Rattle.sched_core.proofs.Taking.{idle-any}
+use Rattle.sched_core.proofs.Events.Taking.{idle-any}
 use Rattle.sched_core.proofs.steps.go.Goals as goal
 
 pub run-requires-clause-lawful : goal.run-requires-clause-lawful

@@ -3,11 +3,11 @@ use Rattle.sched_meaning.specs.Simulation.{is_free}
 use Rattle.sched_core.specs.Cores.{worker_of}
 use Rattle.sched_core.specs.Lawful.{has_waiting}
 use Rattle.sched_core.specs.Moves.{Leaves, Parks, TakesJob, WorkerChanges}
-use Rattle.sched_core.proofs.Lists.{length-set}
-use Rattle.sched_core.proofs.Placing.{change-at, first-true, get-at, is-below, on-ok}
-use Rattle.sched_core.proofs.Resuming.{stalled-job}
+use Rattle.sched_core.proofs.Worked.Lists.{length-set}
+use Rattle.sched_core.proofs.Worked.Placing.{change-at, first-true, get-at, is-below, on-ok}
+use Rattle.sched_core.proofs.Events.Resuming.{stalled-job}
 use Rattle.std.proofs.lemmas.Option.{slice_get_within}
-use Rattle.sched_core.proofs.Waking.{can-resume, passes-on, wakes}
+use Rattle.sched_core.proofs.Events.Waking.{can-resume, passes-on, wakes}
 use Rattle.sched_core.proofs.steps.look.Goals as goal
 
 pub index-requires : goal.index-requires

@@ -2,9 +2,9 @@ use Rattle.std.proofs.Common.{◌≡◌, ◌<◌, true, slice_get, slice_set, le
 use Rattle.sched_meaning.specs.Simulation.{is_free, may_give}
 use Rattle.sched_core.specs.Cores.{worker_of}
 use Rattle.sched_core.specs.Moves.{BacksJob, TakesJob}
-use Rattle.sched_core.proofs.Lists.{length-set}
-use Rattle.sched_core.proofs.Placing.{change-at, first-true, is-below}
-use Rattle.sched_core.proofs.Taking.{both, pop-goes}
+use Rattle.sched_core.proofs.Worked.Lists.{length-set}
+use Rattle.sched_core.proofs.Worked.Placing.{change-at, first-true, is-below}
+use Rattle.sched_core.proofs.Events.Taking.{both, pop-goes}
 use Rattle.sched_core.proofs.steps.pop.Goals as goal
 
 pub returns : goal.returns

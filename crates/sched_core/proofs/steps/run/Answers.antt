@@ -1,8 +1,8 @@
 use Rattle.std.proofs.Common.{refl}
 use Rattle.sched_meaning.specs.Simulation.{may_run}
 use Rattle.sched_core.specs.Moves.{Lets}
-use Rattle.sched_core.proofs.Placing.{change-at, is-below}
-use Rattle.sched_core.proofs.Stopping.{can-stop, run-goes}
+use Rattle.sched_core.proofs.Worked.Placing.{change-at, is-below}
+use Rattle.sched_core.proofs.Events.Stopping.{can-stop, run-goes}
 use Rattle.sched_core.proofs.steps.run.Goals as goal
 
 pub stop-requires : goal.stop-requires

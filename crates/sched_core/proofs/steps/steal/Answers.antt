@@ -2,9 +2,9 @@ use Rattle.std.proofs.Common.{◌≡◌, ◌<◌, ◌&&◌, not, nat_eq, true, s
 use Rattle.sched_meaning.specs.Simulation.{is_free, may_give}
 use Rattle.sched_core.specs.Cores.{worker_of}
 use Rattle.sched_core.specs.Moves.{GivesJob, TakesJob}
-use Rattle.sched_core.proofs.Lists.{length-set}
-use Rattle.sched_core.proofs.Placing.{change-at, first-true, is-below, second-true, two-numbers}
-use Rattle.sched_core.proofs.Taking.{steal-goes}
+use Rattle.sched_core.proofs.Worked.Lists.{length-set}
+use Rattle.sched_core.proofs.Worked.Placing.{change-at, first-true, is-below, second-true, two-numbers}
+use Rattle.sched_core.proofs.Events.Taking.{steal-goes}
 use Rattle.sched_core.proofs.steps.steal.Goals as goal
 
 pub returns : goal.returns

@@ -1,7 +1,7 @@
 use Rattle.std.proofs.Common.{◌≤◌, length, refl, sym, ◌∙◌, subst}
-use Rattle.sched_meaning.proofs.OneStep.{some-one}
+use Rattle.sched_meaning.proofs.OneCore.OneStep.{some-one}
 use Rattle.sched_core.specs.declared.node.SpawnNode.{SpawnNode}
-use Rattle.sched_core.proofs.Placing.{change-at, on-ok}
+use Rattle.sched_core.proofs.Worked.Placing.{change-at, on-ok}
 use Rattle.std.proofs.lemmas.Option.{slice_get_within}
 use Rattle.sched_core.proofs.stops.begin_task.Goals as goal
 

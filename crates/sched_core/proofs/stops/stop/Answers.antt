@@ -1,11 +1,11 @@
 use Rattle.std.proofs.Common.{◌<◌, length, refl, sym, ◌∙◌, subst, arith}
 use Rattle.std.proofs.lemmas.Option.{slice_get_within}
 use Rattle.strand_machine.specs.declared.stop.Stop.TheVariants as stop
-use Rattle.sched_meaning.proofs.OneStep.{some-one}
+use Rattle.sched_meaning.proofs.OneCore.OneStep.{some-one}
 use Rattle.sched_core.specs.Moves.{CanHear, job}
 use Rattle.sched_core.specs.declared.node.SpawnNode.{SpawnNode}
-use Rattle.sched_core.proofs.Arms.{by-kind, parks-at}
-use Rattle.sched_core.proofs.Placing.{on-ok}
+use Rattle.sched_core.proofs.Events.Arms.{by-kind, parks-at}
+use Rattle.sched_core.proofs.Worked.Placing.{on-ok}
 use Rattle.sched_core.proofs.stops.stop.Goals as goal
 
 pub begin_task-requires : goal.begin_task-requires

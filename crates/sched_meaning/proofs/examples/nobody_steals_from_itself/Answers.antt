@@ -1,4 +1,4 @@
-use Rattle.sched_meaning.proofs.Small.{nobody_steals_from_itself}
+use Rattle.sched_meaning.proofs.Computed.Small.{nobody_steals_from_itself}
 use Rattle.sched_meaning.proofs.examples.nobody_steals_from_itself.Goals as goal
 
 pub returns : goal.returns

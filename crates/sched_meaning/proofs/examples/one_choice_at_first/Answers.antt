@@ -1,4 +1,4 @@
-use Rattle.sched_meaning.proofs.Small.{one_choice_at_first}
+use Rattle.sched_meaning.proofs.Computed.Small.{one_choice_at_first}
 use Rattle.sched_meaning.proofs.examples.one_choice_at_first.Goals as goal
 
 pub returns : goal.returns

@@ -1,4 +1,4 @@
-use Rattle.sched_meaning.proofs.Small.{stolen_rest_answers}
+use Rattle.sched_meaning.proofs.Computed.Small.{stolen_rest_answers}
 use Rattle.sched_meaning.proofs.examples.stolen_rest_answers.Goals as goal
 
 pub returns : goal.returns

@@ -1,4 +1,4 @@
-use Rattle.sched_meaning.proofs.Choosing.{choices_advance, advances-choose}
+use Rattle.sched_meaning.proofs.WorkGoesOn.Choosing.{choices_advance, advances-choose}
 use Rattle.sched_meaning.proofs.laws.choices_go_on.Goals as goal
 
 pub returns : goal.returns

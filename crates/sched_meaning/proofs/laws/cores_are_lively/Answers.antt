@@ -1,4 +1,4 @@
-use Rattle.sched_meaning.proofs.Cores.{goes-further}
+use Rattle.sched_meaning.proofs.KeptByEvents.Cores.{goes-further}
 use Rattle.sched_meaning.proofs.laws.cores_are_lively.Goals as goal
 
 pub returns : goal.returns

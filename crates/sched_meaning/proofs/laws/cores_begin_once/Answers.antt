@@ -1,4 +1,4 @@
-use Rattle.sched_meaning.proofs.Cores.{begun-once}
+use Rattle.sched_meaning.proofs.KeptByEvents.Cores.{begun-once}
 use Rattle.sched_meaning.proofs.laws.cores_begin_once.Goals as goal
 
 pub returns : goal.returns

@@ -1,4 +1,4 @@
-use Rattle.sched_meaning.proofs.Cores.{stands}
+use Rattle.sched_meaning.proofs.KeptByEvents.Cores.{stands}
 use Rattle.sched_meaning.proofs.laws.cores_keep_tasks_once.Goals as goal
 
 pub returns : goal.returns

@@ -1,4 +1,4 @@
-use Rattle.sched_meaning.proofs.Counted.{segments_come}
+use Rattle.sched_meaning.proofs.Segments.Counted.{segments_come}
 use Rattle.sched_meaning.proofs.laws.segments_come.Goals as goal
 
 pub returns : goal.returns

@@ -1,4 +1,4 @@
-use Rattle.sched_meaning.proofs.Simulated.{sim_workers_are_one}
+use Rattle.sched_meaning.proofs.SimulationsEnd.Simulated.{sim_workers_are_one}
 use Rattle.sched_meaning.proofs.laws.sim_workers_are_one.Goals as goal
 
 pub returns : goal.returns

@@ -1,4 +1,4 @@
-use Rattle.sched_meaning.proofs.OneStep.{steps_are_one}
+use Rattle.sched_meaning.proofs.OneCore.OneStep.{steps_are_one}
 use Rattle.sched_meaning.proofs.laws.steps_are_one.Goals as goal
 
 pub returns : goal.returns

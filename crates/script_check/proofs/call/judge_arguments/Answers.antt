@@ -1,8 +1,8 @@
 use Rattle.std.proofs.Common.{◌≡◌, ◌<◌, ◌≤◌, ◌+◌, ◌∙◌, length, get_or, arith, rules}
 use Rattle.std.proofs.lemmas.List.{at_drop_all}
 use Rattle.script_check.specs.Walk.{known_in, pending_in}
-use Rattle.script_check.proofs.Reading.{at_index}
-use Rattle.script_check.proofs.Called.{with_parameter, without_parameter}
+use Rattle.script_check.proofs.Walk.Reading.{at_index}
+use Rattle.script_check.proofs.Walk.Called.{with_parameter, without_parameter}
 use Rattle.script_check.proofs.call.judge_arguments.Goals as goal
 use Rattle.script_check.proofs.call.judge_arguments.Goals.{in-Some, in-None}
 

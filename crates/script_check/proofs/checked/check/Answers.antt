@@ -7,8 +7,8 @@ use Rattle.script_check.specs.Tables.{table_of}
 use Rattle.script_check.specs.Valid.{functions_twice, violations}
 use Rattle.script_check.specs.Violations.{noted}
 use Rattle.script_check.specs.Walk.{IsIndex}
-use Rattle.script_check.proofs.Least.{nothing_noted}
-use Rattle.script_check.proofs.Functioned.{all_noted, fault_is}
+use Rattle.script_check.proofs.LeastViolation.Least.{nothing_noted}
+use Rattle.script_check.proofs.Walk.Functioned.{all_noted, fault_is}
 use Rattle.script_check.proofs.checked.check.Goals as goal
 
 same_number : (m a n b : ℕ) → (let l : Result Checked CheckError = Err (Bad m a) in l ≡ Err (Bad n b)) → m ≡ n

@@ -1,5 +1,5 @@
 use Rattle.std.proofs.Common.{◌∙◌}
-use Rattle.script_check.proofs.Functioned.{one_function}
+use Rattle.script_check.proofs.Walk.Functioned.{one_function}
 use Rattle.script_check.proofs.checked.judge_script.Goals as goal
 
 pub loop-f-preserved : goal.loop-f-preserved

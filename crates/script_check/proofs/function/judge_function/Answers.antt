@@ -3,7 +3,7 @@ use Rattle.script_check.specs.Violations.{noted}
 use Rattle.script_check.specs.Statements.{place, judge_all, faults_each}
 use Rattle.script_check.specs.Valid.{known_params, param_faults}
 use Rattle.script_check.specs.Walk.{behind_all, state_of}
-use Rattle.script_check.proofs.Functioned.{function_judged}
+use Rattle.script_check.proofs.Walk.Functioned.{function_judged}
 use Rattle.script_check.proofs.function.judge_function.Goals as goal
 
 pub returns : goal.returns

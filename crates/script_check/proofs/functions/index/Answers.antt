@@ -2,7 +2,7 @@ use Rattle.std.proofs.Common.{◌≡◌, ap, ◌∙◌, rules}
 use Rattle.std.specs.Prelude.{is_some}
 use Rattle.script_check.specs.Tables.{table_of, with_first}
 use Rattle.script_check.specs.Violations.{noted, broken}
-use Rattle.script_check.proofs.Indexed.{one_indexed, one_twice}
+use Rattle.script_check.proofs.Tables.Indexed.{one_indexed, one_twice}
 use Rattle.script_check.proofs.functions.index.Goals as goal
 
 pub loop-i-preserved : goal.loop-i-preserved

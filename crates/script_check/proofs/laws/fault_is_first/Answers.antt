@@ -1,4 +1,4 @@
-use Rattle.script_check.proofs.First.{fault_first}
+use Rattle.script_check.proofs.LeastViolation.First.{fault_first}
 use Rattle.script_check.proofs.laws.fault_is_first.Goals as goal
 
 pub returns : goal.returns

@@ -1,4 +1,4 @@
-use Rattle.script_check.proofs.First.{fault_unique}
+use Rattle.script_check.proofs.LeastViolation.First.{fault_unique}
 use Rattle.script_check.proofs.laws.fault_is_unique.Goals as goal
 
 pub returns : goal.returns

@@ -1,4 +1,4 @@
-use Rattle.script_check.proofs.Linear.{loop_closed}
+use Rattle.script_check.proofs.FewerPending.Linear.{loop_closed}
 use Rattle.script_check.proofs.laws.loop_set_is_closed.Goals as goal
 
 pub returns : goal.returns

@@ -3,7 +3,7 @@ use Rattle.script_grammar.specs.declared.tree.Act.{the_lemmas}
 use Rattle.script_check.specs.Names.{Names, nobody, both, with_name}
 use Rattle.script_check.specs.Statements.{judge, after}
 use Rattle.script_check.specs.Walk.{State, keeps, keeps_all, state_of}
-use Rattle.script_check.proofs.Collected.{alone, two_sets, kept_more, one_more, all_of_it, keeps_none}
+use Rattle.script_check.proofs.Walk.Collected.{alone, two_sets, kept_more, one_more, all_of_it, keeps_none}
 use Rattle.script_check.proofs.spawns.+spawns.Goals as goal
 
 pub collect-returns-then-not-branch-clause-keeps : goal.collect-returns-then-not-branch-clause-keeps

@@ -7,8 +7,8 @@ use Rattle.script_check.specs.Names.{nobody, both}
 use Rattle.script_check.specs.Expressions.{read, wanted}
 use Rattle.script_check.specs.Statements.{place, Judged, judge_what, judge_all, faults_each, after}
 use Rattle.script_check.specs.Walk.{State, keeps_what, keeps_all, state_of}
-use Rattle.script_check.proofs.Behind.{one_behind, one_judged, if_state, if_faults, while_state, while_faults, scope_state, with_known, with_loop_set, behind_by}
-use Rattle.script_check.proofs.Induction.{judge_is, keeps_is, judge_if, keeps_if, judge_while, keeps_while, judge_scope, keeps_scope}
+use Rattle.script_check.proofs.Walk.Behind.{one_behind, one_judged, if_state, if_faults, while_state, while_faults, scope_state, with_known, with_loop_set, behind_by}
+use Rattle.script_check.proofs.FewerPending.Induction.{judge_is, keeps_is, judge_if, keeps_if, judge_while, keeps_while, judge_scope, keeps_scope}
 use Rattle.script_check.proofs.statement.+statements.Goals as goal
 
 pub judge-returns-in_ok-end_if-in-If-clause-state : goal.judge-returns-in_ok-end_if-in-If-clause-state

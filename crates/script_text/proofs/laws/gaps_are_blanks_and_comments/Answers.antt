@@ -1,4 +1,4 @@
-use Rattle.script_text.proofs.Gaps.{gaps_are_lists}
+use Rattle.script_text.proofs.Nesting.Gaps.{gaps_are_lists}
 use Rattle.script_text.proofs.laws.gaps_are_blanks_and_comments.Goals as goal
 
 pub returns : goal.returns

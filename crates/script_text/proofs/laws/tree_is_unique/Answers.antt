@@ -1,4 +1,4 @@
-use Rattle.script_text.proofs.Whole.{one_script}
+use Rattle.script_text.proofs.OneTree.Whole.{one_script}
 use Rattle.script_text.proofs.laws.tree_is_unique.Goals as goal
 
 pub returns : goal.returns

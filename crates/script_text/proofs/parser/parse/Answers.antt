@@ -1,6 +1,6 @@
 use Rattle.std.proofs.Common.{length, refl, sym, subst}
 use Rattle.script_tokens.specs.Lexing.{IsCut}
-use Rattle.script_text.proofs.Whole.{ok_is_text, bad_is_syntax_fault, no_fault_in_text, one_script}
+use Rattle.script_text.proofs.OneTree.Whole.{ok_is_text, bad_is_syntax_fault, no_fault_in_text, one_script}
 use Rattle.script_text.proofs.parser.parse.Goals as goal
 
 pub returns-in_err-lexed-clause-one_tree : goal.returns-in_err-lexed-clause-one_tree

@@ -1,4 +1,4 @@
-use Rattle.serial_meaning.proofs.ScriptRuns.{calls_share_the_rank}
+use Rattle.serial_meaning.proofs.Equations.ScriptRuns.{calls_share_the_rank}
 use Rattle.serial_meaning.proofs.examples.calls_share_the_rank.Goals as goal
 
 pub returns : goal.returns

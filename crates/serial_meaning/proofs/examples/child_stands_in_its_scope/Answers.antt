@@ -1,4 +1,4 @@
-use Rattle.serial_meaning.proofs.ScriptRuns.{child_stands_in_its_scope}
+use Rattle.serial_meaning.proofs.Equations.ScriptRuns.{child_stands_in_its_scope}
 use Rattle.serial_meaning.proofs.examples.child_stands_in_its_scope.Goals as goal
 
 pub returns : goal.returns

@@ -1,4 +1,4 @@
-use Rattle.serial_meaning.proofs.ScriptRuns.{depth_two_is_enough_for_a_spawn}
+use Rattle.serial_meaning.proofs.Equations.ScriptRuns.{depth_two_is_enough_for_a_spawn}
 use Rattle.serial_meaning.proofs.examples.depth_two_is_enough_for_a_spawn.Goals as goal
 
 pub returns : goal.returns

@@ -1,4 +1,4 @@
-use Rattle.serial_meaning.proofs.ScriptRuns.{empty_loop_raises_the_rank}
+use Rattle.serial_meaning.proofs.Equations.ScriptRuns.{empty_loop_raises_the_rank}
 use Rattle.serial_meaning.proofs.examples.empty_loop_raises_the_rank.Goals as goal
 
 pub returns : goal.returns

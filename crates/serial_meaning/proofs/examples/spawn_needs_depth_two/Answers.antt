@@ -1,4 +1,4 @@
-use Rattle.serial_meaning.proofs.ScriptRuns.{spawn_needs_depth_two}
+use Rattle.serial_meaning.proofs.Equations.ScriptRuns.{spawn_needs_depth_two}
 use Rattle.serial_meaning.proofs.examples.spawn_needs_depth_two.Goals as goal
 
 pub returns : goal.returns

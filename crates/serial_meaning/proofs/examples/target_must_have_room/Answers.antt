@@ -1,4 +1,4 @@
-use Rattle.serial_meaning.proofs.ScriptRuns.{target_must_have_room}
+use Rattle.serial_meaning.proofs.Equations.ScriptRuns.{target_must_have_room}
 use Rattle.serial_meaning.proofs.examples.target_must_have_room.Goals as goal
 
 pub returns : goal.returns

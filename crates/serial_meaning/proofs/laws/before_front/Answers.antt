@@ -1,4 +1,4 @@
-use Rattle.serial_meaning.proofs.Loops.{before_front}
+use Rattle.serial_meaning.proofs.CutsBefore.Loops.{before_front}
 use Rattle.serial_meaning.proofs.laws.before_front.Goals as goal
 
 pub returns : goal.returns

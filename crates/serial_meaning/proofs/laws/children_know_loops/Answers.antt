@@ -1,4 +1,4 @@
-use Rattle.serial_meaning.proofs.Loops.{children_know_loops}
+use Rattle.serial_meaning.proofs.CutsBefore.Loops.{children_know_loops}
 use Rattle.serial_meaning.proofs.laws.children_know_loops.Goals as goal
 
 pub returns : goal.returns

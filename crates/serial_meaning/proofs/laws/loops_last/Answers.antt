@@ -1,4 +1,4 @@
-use Rattle.serial_meaning.proofs.Loops.{loops_last}
+use Rattle.serial_meaning.proofs.CutsBefore.Loops.{loops_last}
 use Rattle.serial_meaning.proofs.laws.loops_last.Goals as goal
 
 pub returns : goal.returns

@@ -1,4 +1,4 @@
-use Rattle.serial_meaning.proofs.Scopes.{paths_are_of_one_kind}
+use Rattle.serial_meaning.proofs.OriginFaults.Scopes.{paths_are_of_one_kind}
 use Rattle.serial_meaning.proofs.laws.paths_are_of_one_kind.Goals as goal
 
 pub returns : goal.returns

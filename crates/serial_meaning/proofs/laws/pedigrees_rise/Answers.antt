@@ -1,4 +1,4 @@
-use Rattle.serial_meaning.proofs.RisingExec.{elision_rises}
+use Rattle.serial_meaning.proofs.RisingPedigrees.RisingExec.{elision_rises}
 use Rattle.serial_meaning.proofs.laws.pedigrees_rise.Goals as goal
 
 pub returns : goal.returns

@@ -1,4 +1,4 @@
-use Rattle.serial_meaning.proofs.Whole.{whole_answers_are_evals}
+use Rattle.serial_meaning.proofs.CutsBefore.Whole.{whole_answers_are_evals}
 use Rattle.serial_meaning.proofs.laws.whole_answers_are_evals.Goals as goal
 
 pub returns : goal.returns

@@ -1,5 +1,5 @@
 use Rattle.std.proofs.Common.{◌≡◌, ℕ, length, take, sym, subst, ◌∙◌, arith}
-use Rattle.strand_machine.proofs.Fronts.{front-all, front-apart, front-none, front-on}
+use Rattle.strand_machine.proofs.NodesNoted.Fronts.{front-all, front-apart, front-none, front-on}
 use Rattle.serial_runner.proofs.observed.begins_with.Goals as goal
 
 pub returns-in_default-rank_at : goal.returns-in_default-rank_at

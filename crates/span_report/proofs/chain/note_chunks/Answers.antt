@@ -3,7 +3,7 @@ use Rattle.std.specs.declared.alloc.Global.{Global}
 use Rattle.serial_meaning.specs.declared.event.Event.{Event}
 use Rattle.serial_meaning.specs.Chunks.{joined}
 use Rattle.span_report.specs.Walks.{Opened, opened, walked_all}
-use Rattle.span_report.proofs.Stacks.{walked_append}
+use Rattle.span_report.proofs.LongestChains.Stacks.{walked_append}
 use Rattle.span_report.proofs.chain.note_chunks.Goals as goal
 
 -- past a segment

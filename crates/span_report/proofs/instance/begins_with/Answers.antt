@@ -1,5 +1,5 @@
 use Rattle.std.proofs.Common.{sym, ◌∙◌, arith}
-use Rattle.span_report.proofs.Stacks.{starts-short, starts-apart, starts-on}
+use Rattle.span_report.proofs.LongestChains.Stacks.{starts-short, starts-apart, starts-on}
 use Rattle.span_report.proofs.instance.begins_with.Goals as goal
 
 pub returns-in_default-rank_at : goal.returns-in_default-rank_at

@@ -3,7 +3,7 @@ use Rattle.std.proofs.lemmas.Bool.{true≢false}
 use Rattle.serial_meaning.specs.declared.answer.Outcome.TheVariants as outcome
 use Rattle.strand_machine.specs.declared.work.InstanceState.TheVariants as stage
 use Rattle.strand_machine.specs.declared.work.Work.TheVariants as work
-use Rattle.strand_machine.proofs.Dispatch.{end-answers, end-is, wait-sound, wait-is, fault-alone, fault-behind}
+use Rattle.strand_machine.proofs.Moves.Dispatch.{end-answers, end-is, wait-sound, wait-is, fault-alone, fault-behind}
 use Rattle.strand_machine.proofs.leave.faulted.Goals as goal
 
 pub returns-then-is_alone-clause-step : goal.returns-then-is_alone-clause-step

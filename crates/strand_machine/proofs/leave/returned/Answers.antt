@@ -2,7 +2,7 @@ use Rattle.std.proofs.Common.{false, refl, sym, ◌∙◌}
 use Rattle.serial_meaning.specs.declared.answer.Outcome.TheVariants as outcome
 use Rattle.strand_machine.specs.declared.work.InstanceState.TheVariants as stage
 use Rattle.strand_machine.specs.declared.work.Work.TheVariants as work
-use Rattle.strand_machine.proofs.Dispatch.{end-answers, end-is, pass-sound, pass-is, give-instance, give-loop}
+use Rattle.strand_machine.proofs.Moves.Dispatch.{end-answers, end-is, pass-sound, pass-is, give-instance, give-loop}
 use Rattle.strand_machine.proofs.leave.returned.Goals as goal
 
 pub returns-in-Instance-clause-step : goal.returns-in-Instance-clause-step

@@ -1,5 +1,5 @@
 use Rattle.std.proofs.Common.{Ok, refl}
-use Rattle.strand_machine.proofs.Taking.{loops-goes, loops-sync, loops-loop}
+use Rattle.strand_machine.proofs.TakenAnswers.Taking.{loops-goes, loops-sync, loops-loop}
 use Rattle.strand_machine.proofs.merge.filled.Goals as goal
 
 pub returns-in_ok-take_values-in-Running : goal.returns-in_ok-take_values-in-Running

@@ -1,6 +1,6 @@
 use Rattle.std.proofs.Common.{ap}
 use Rattle.strand_machine.specs.Merge.{ending_of}
-use Rattle.strand_machine.proofs.Taking.{fault-taken}
+use Rattle.strand_machine.proofs.TakenAnswers.Taking.{fault-taken}
 use Rattle.strand_machine.proofs.merge.merge_spawned.Goals as goal
 
 pub returns-in-Fault-clause-machine : goal.returns-in-Fault-clause-machine

@@ -1,7 +1,7 @@
 use Rattle.std.proofs.Common.{ap}
 use Rattle.strand_machine.specs.Merge.{ending_of}
 use Rattle.strand_machine.specs.Parts.{place_of}
-use Rattle.strand_machine.proofs.Taking.{on-ok, placed, stage-stays}
+use Rattle.strand_machine.proofs.TakenAnswers.Taking.{on-ok, placed, stage-stays}
 use Rattle.strand_machine.proofs.merge.merge_stage.Goals as goal
 
 pub returns-in-Spawned : goal.returns-in-Spawned

@@ -1,7 +1,7 @@
 use Rattle.strand_meaning.specs.Task.{takes}
 use Rattle.strand_machine.specs.Merge.{ending_of}
 use Rattle.strand_machine.specs.Parts.{place_of}
-use Rattle.strand_machine.proofs.Taking.{runs-taken}
+use Rattle.strand_machine.proofs.TakenAnswers.Taking.{runs-taken}
 use Rattle.strand_machine.proofs.merge.merge_work.Goals as goal
 
 pub returns-in_ok-merge_stage-in-Runs : goal.returns-in_ok-merge_stage-in-Runs

@@ -2,7 +2,7 @@ use Rattle.std.proofs.Common.{refl}
 use Rattle.strand_meaning.specs.Machine.{Spawned}
 use Rattle.strand_meaning.specs.Task.{takes, changed, answered}
 use Rattle.strand_machine.specs.Merge.{ending_of}
-use Rattle.strand_machine.proofs.Taking.{at-goes, at-sync, at-loop}
+use Rattle.strand_machine.proofs.TakenAnswers.Taking.{at-goes, at-sync, at-loop}
 use Rattle.strand_machine.proofs.merge.spawned.Goals as goal
 
 pub returns-in-Running : goal.returns-in-Running

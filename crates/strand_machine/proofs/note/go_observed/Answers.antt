@@ -1,4 +1,4 @@
-use Rattle.strand_machine.proofs.Moving.{went-sound, gave-sound, faulted-sound}
+use Rattle.strand_machine.proofs.Moves.Moving.{went-sound, gave-sound, faulted-sound}
 use Rattle.strand_machine.proofs.note.go_observed.Goals as goal
 
 pub show-requires : goal.show-requires

@@ -6,7 +6,7 @@ use Rattle.strand_machine.specs.Noted.{with_step}
 use Rattle.strand_machine.specs.Stops.{IsStep}
 use Rattle.strand_machine.specs.Tasks.{task_of, view_of}
 use Rattle.strand_machine.specs.declared.work.Work.{Work}
-use Rattle.strand_machine.proofs.Making.{sound-at}
+use Rattle.strand_machine.proofs.Moves.Making.{sound-at}
 use Rattle.strand_machine.proofs.note.pass_observed.Goals as goal
 
 pub work_observed-requires : goal.work_observed-requires

@@ -1,5 +1,5 @@
 use Rattle.strand_machine.specs.Made.{made}
-use Rattle.strand_machine.proofs.Arms.{stage-once}
+use Rattle.strand_machine.proofs.Moves.Arms.{stage-once}
 use Rattle.strand_machine.proofs.note.run_observed.Goals as goal
 
 pub returns-in_default-clause-step : goal.returns-in_default-clause-step

@@ -6,7 +6,7 @@ use Rattle.strand_machine.specs.Stops.{IsStep}
 use Rattle.strand_machine.specs.Tasks.{IsSound, TaskView, view_of}
 use Rattle.strand_machine.specs.declared.parts.Parts.{Parts}
 use Rattle.strand_machine.specs.declared.stop.MoveOrStop.{MoveOrStop}
-use Rattle.strand_machine.proofs.Advancing.{is-sound}
+use Rattle.strand_machine.proofs.NextStops.Advancing.{is-sound}
 use Rattle.strand_machine.proofs.note.step_observed.Goals as goal
 
 pub pass_observed-requires : goal.pass_observed-requires

@@ -1,5 +1,5 @@
 use Rattle.std.proofs.Common.{false, refl, ◌∙◌}
-use Rattle.strand_machine.proofs.Cutting.{short-holds, short-some, short-view}
+use Rattle.strand_machine.proofs.TakenAnswers.Cutting.{short-holds, short-some, short-view}
 use Rattle.strand_machine.proofs.resume.cut_short.Goals as goal
 
 pub unreachable-requires : goal.unreachable-requires

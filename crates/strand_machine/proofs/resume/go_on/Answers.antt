@@ -5,11 +5,11 @@ use Rattle.strand_machine.specs.Parts.{awaited}
 use Rattle.strand_machine.specs.Stops.{answer_tags}
 use Rattle.strand_machine.specs.Tasks.{IsSound, view_of}
 use Rattle.strand_machine.specs.declared.body.Body.{Body}
-use Rattle.strand_machine.proofs.Advancing.{sound_holds}
-use Rattle.strand_machine.proofs.Answering.{length-answer-tags, length-tags}
-use Rattle.strand_machine.proofs.Cutting.{answers-of, ends-short, own-children, short-on, taken-from, takes-whole, went-short, went-whole}
-use Rattle.strand_machine.proofs.Handed.{awaited_parts}
-use Rattle.strand_machine.proofs.Taking.{goes-on-sound, goes-on-view}
+use Rattle.strand_machine.proofs.NextStops.Advancing.{sound_holds}
+use Rattle.strand_machine.proofs.TakenAnswers.Answering.{length-answer-tags, length-tags}
+use Rattle.strand_machine.proofs.TakenAnswers.Cutting.{answers-of, ends-short, own-children, short-on, taken-from, takes-whole, went-short, went-whole}
+use Rattle.strand_machine.proofs.Moves.Handed.{awaited_parts}
+use Rattle.strand_machine.proofs.TakenAnswers.Taking.{goes-on-sound, goes-on-view}
 use Rattle.strand_machine.proofs.resume.go_on.Goals as goal
 
 pub merge_all-requires : goal.merge_all-requires

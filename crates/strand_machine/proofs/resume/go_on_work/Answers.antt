@@ -1,4 +1,4 @@
-use Rattle.strand_machine.proofs.Taking.{runs-on}
+use Rattle.strand_machine.proofs.TakenAnswers.Taking.{runs-on}
 use Rattle.strand_machine.proofs.resume.go_on_work.Goals as goal
 
 pub returns-in_ok-stage-in-Runs : goal.returns-in_ok-stage-in-Runs

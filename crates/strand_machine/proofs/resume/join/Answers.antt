@@ -1,4 +1,4 @@
-use Rattle.strand_machine.proofs.Taking.{joins-none, joins-some}
+use Rattle.strand_machine.proofs.TakenAnswers.Taking.{joins-none, joins-some}
 use Rattle.strand_machine.proofs.resume.join.Goals as goal
 
 pub returns-in-None : goal.returns-in-None

@@ -3,10 +3,10 @@ use Rattle.serial_meaning.specs.Plan.{PlanView}
 use Rattle.strand_machine.specs.Family.{FamilyView, AwaitsCount, tags}
 use Rattle.strand_machine.specs.Parts.{awaited}
 use Rattle.strand_machine.specs.Tasks.{view_of}
-use Rattle.strand_machine.proofs.Advancing.{sound_holds}
-use Rattle.strand_machine.proofs.Answering.{awaits-count, last-awaited}
-use Rattle.strand_machine.proofs.Dispatch.{works-on}
-use Rattle.strand_machine.proofs.Taking.{looked-last, looked-same, looked-sound, taken-answered, resumed-on}
+use Rattle.strand_machine.proofs.NextStops.Advancing.{sound_holds}
+use Rattle.strand_machine.proofs.TakenAnswers.Answering.{awaits-count, last-awaited}
+use Rattle.strand_machine.proofs.Moves.Dispatch.{works-on}
+use Rattle.strand_machine.proofs.TakenAnswers.Taking.{looked-last, looked-same, looked-sound, taken-answered, resumed-on}
 use Rattle.strand_machine.proofs.resume.look_on.Goals as goal
 
 pub returns-in-NotYet-clause-resumed : goal.returns-in-NotYet-clause-resumed

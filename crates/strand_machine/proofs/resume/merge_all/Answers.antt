@@ -7,7 +7,7 @@ use Rattle.strand_machine.specs.Merge.{TakesAnswers}
 use Rattle.strand_machine.specs.Parts.{parts_of}
 use Rattle.strand_machine.specs.Stops.{answer_tags}
 use Rattle.strand_machine.specs.declared.trace.Behind.{Behind}
-use Rattle.strand_machine.proofs.Cutting.{answers-next, answers-no-more}
+use Rattle.strand_machine.proofs.TakenAnswers.Cutting.{answers-next, answers-no-more}
 use Rattle.strand_machine.proofs.resume.merge_all.Goals as goal
 
 pub loop-part-init : goal.loop-part-init

@@ -3,7 +3,7 @@ use Rattle.std.proofs.Math.ListN.{length-set}
 use Rattle.std.specs.Prelude.{slice_get}
 use Rattle.strand_machine.specs.Family.{FamilyView, AwaitsCount, tags}
 use Rattle.strand_machine.specs.Stops.{answer_tags}
-use Rattle.strand_machine.proofs.Answering.{one-more, all-of-them, family-kept, first-there, first-taken, taken-length}
+use Rattle.strand_machine.proofs.TakenAnswers.Answering.{one-more, all-of-them, family-kept, first-there, first-taken, taken-length}
 use Rattle.strand_machine.proofs.resume.take_answers.Goals as goal
 
 pub overflow_sub-first : goal.overflow_sub-first

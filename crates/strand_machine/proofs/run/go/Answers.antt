@@ -3,8 +3,8 @@ use Rattle.strand_machine.specs.Made.{made}
 use Rattle.strand_machine.specs.Tasks.{gone, view_of}
 use Rattle.strand_machine.specs.declared.work.InstanceState.TheVariants as stage
 use Rattle.strand_machine.specs.declared.work.Work.TheVariants as work
-use Rattle.strand_machine.proofs.Advancing.{leads-start}
-use Rattle.strand_machine.proofs.Moving.{holding, row-run, went-sound, went-is, gave-sound, faulted-sound, syncs-sound, syncs-run, gives-run, faults-run, still-on, still-falls, tells-on, tells-falls, run-is-ok, runs-on, on-run-over}
+use Rattle.strand_machine.proofs.NextStops.Advancing.{leads-start}
+use Rattle.strand_machine.proofs.Moves.Moving.{holding, row-run, went-sound, went-is, gave-sound, faulted-sound, syncs-sound, syncs-run, gives-run, faults-run, still-on, still-falls, tells-on, tells-falls, run-is-ok, runs-on, on-run-over}
 use Rattle.strand_machine.proofs.run.go.Goals as goal
 
 pub loop-instance-init : goal.loop-instance-init

@@ -2,7 +2,7 @@ use Rattle.strand_meaning.specs.Left.{moves_left}
 use Rattle.strand_machine.specs.Tasks.{task_of, view_of}
 use Rattle.strand_machine.specs.declared.work.InstanceState.TheVariants as stage
 use Rattle.strand_machine.specs.declared.work.Work.TheVariants as work
-use Rattle.strand_machine.proofs.Moving.{IsOnRun}
+use Rattle.strand_machine.proofs.Moves.Moving.{IsOnRun}
 use Rattle.strand_machine.proofs.run.go.Given as goal
 
 abbrev pub invariant-loop-instance : goal.invariant-loop-instance

@@ -10,8 +10,8 @@ use Rattle.strand_machine.specs.declared.stop.MoveOrStop.TheVariants as step
 use Rattle.strand_machine.specs.declared.stop.Stop.TheVariants as stop
 use Rattle.strand_machine.specs.declared.work.InstanceState.TheVariants as stage
 use Rattle.strand_machine.specs.declared.work.Work.TheVariants as work
-use Rattle.strand_machine.proofs.Making.{made-ok}
-use Rattle.strand_machine.proofs.Moving.{nothing-sound, nothing-step, opened-sound, opened-step, closed-sound, closed-step, emitted-sound, emitted-step, synced-sound, synced-step, spawned-known, spawned-trail, spawned-handed, spawned-sound, spawned-step, looped-known, looped-trail, looped-handed, looped-sound, looped-step, passes-keep, spawns-keep, with_trace}
+use Rattle.strand_machine.proofs.Moves.Making.{made-ok}
+use Rattle.strand_machine.proofs.Moves.Moving.{nothing-sound, nothing-step, opened-sound, opened-step, closed-sound, closed-step, emitted-sound, emitted-step, synced-sound, synced-step, spawned-known, spawned-trail, spawned-handed, spawned-sound, spawned-step, looped-known, looped-trail, looped-handed, looped-sound, looped-step, passes-keep, spawns-keep, with_trace}
 use Rattle.strand_machine.proofs.run.show.Goals as goal
 
 -- nothing

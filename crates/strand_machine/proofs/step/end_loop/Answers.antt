@@ -1,8 +1,8 @@
 use Rattle.std.proofs.Common.{false, [], ◌∷◌, ◌++◌, sym, ◌∙◌}
 use Rattle.serial_meaning.specs.declared.answer.Outcome.TheVariants as outcome
 use Rattle.strand_machine.specs.declared.work.Work.TheVariants as work
-use Rattle.strand_machine.proofs.Dispatch.{end-answers, wait-sound, wait-is, over-on, over-long, over-short}
-use Rattle.strand_machine.proofs.Making.{closes, closes-sound}
+use Rattle.strand_machine.proofs.Moves.Dispatch.{end-answers, wait-sound, wait-is, over-on, over-long, over-short}
+use Rattle.strand_machine.proofs.Moves.Making.{closes, closes-sound}
 use Rattle.strand_machine.proofs.step.end_loop.Goals as goal
 
 pub returns-then-gone_on-clause-step : goal.returns-then-gone_on-clause-step

@@ -3,7 +3,7 @@ use Rattle.strand_machine.specs.Made.{made}
 use Rattle.strand_machine.specs.Stops.{GoesOn}
 use Rattle.strand_machine.specs.Tasks.{view_of}
 use Rattle.strand_machine.specs.declared.work.Work.{Work}
-use Rattle.strand_machine.proofs.Making.{sound-at}
+use Rattle.strand_machine.proofs.Moves.Making.{sound-at}
 use Rattle.strand_machine.proofs.step.pass_on.Goals as goal
 
 pub pass_with-requires : goal.pass_with-requires

@@ -4,7 +4,7 @@ use Rattle.strand_machine.specs.Stops.{GoesOn}
 use Rattle.strand_machine.specs.Tasks.{view_of}
 use Rattle.strand_machine.specs.declared.work.Work.{Work}
 use Rattle.strand_machine.specs.declared.work.Work.TheVariants as work
-use Rattle.strand_machine.proofs.Making.{sound-at}
+use Rattle.strand_machine.proofs.Moves.Making.{sound-at}
 use Rattle.strand_machine.proofs.step.pass_with.Goals as goal
 
 pub split-requires : goal.split-requires

@@ -5,7 +5,7 @@ use Rattle.strand_machine.specs.Tasks.{view_of}
 use Rattle.strand_machine.specs.declared.work.InstanceState.{InstanceState}
 use Rattle.strand_machine.specs.declared.work.InstanceState.TheVariants as stage
 use Rattle.strand_machine.specs.declared.work.Work.TheVariants as work
-use Rattle.strand_machine.proofs.Arms.{stage-sound, stage-is, sync-sound, sync-is, loop-sound, loop-is, joined-ends, joined-is}
+use Rattle.strand_machine.proofs.Moves.Arms.{stage-sound, stage-is, sync-sound, sync-is, loop-sound, loop-is, joined-ends, joined-is}
 use Rattle.strand_machine.proofs.step.run.Goals as goal
 
 pub go-requires : goal.go-requires

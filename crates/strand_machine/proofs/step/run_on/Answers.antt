@@ -1,5 +1,5 @@
 use Rattle.strand_machine.specs.Tasks.{view_of}
-use Rattle.strand_machine.proofs.Making.{is-stopped, way-falls, way-on, way-start, way-stops}
+use Rattle.strand_machine.proofs.Moves.Making.{is-stopped, way-falls, way-on, way-start, way-stops}
 use Rattle.strand_machine.proofs.step.run_on.Goals as goal
 
 pub loop-passed-init : goal.loop-passed-init

@@ -1,6 +1,6 @@
 use Rattle.strand_meaning.specs.Left.{moves_left}
 use Rattle.strand_machine.specs.Tasks.{task_of, view_of}
-use Rattle.strand_machine.proofs.Making.{IsOnWay}
+use Rattle.strand_machine.proofs.Moves.Making.{IsOnWay}
 use Rattle.strand_machine.proofs.step.run_on.Given as goal
 
 abbrev pub invariant-loop-passed : goal.invariant-loop-passed

@@ -9,9 +9,9 @@ use Rattle.strand_machine.specs.declared.stop.Stop.TheVariants as stop
 use Rattle.strand_machine.specs.declared.destination.Destination.TheVariants as place
 use Rattle.strand_machine.specs.declared.work.Left.{Left}
 use Rattle.strand_machine.specs.declared.work.Work.TheVariants as work
-use Rattle.strand_machine.proofs.Dispatch.{end-answers, end-is, handed-half, part-trail, pass-sound, pass-is, spawn-sound, spawn-is, split-many, split-none, split-one}
-use Rattle.strand_machine.proofs.Making.{made-ok}
-use Rattle.strand_machine.proofs.Halves.{many, halves, only-one}
+use Rattle.strand_machine.proofs.Moves.Dispatch.{end-answers, end-is, handed-half, part-trail, pass-sound, pass-is, spawn-sound, spawn-is, split-many, split-none, split-one}
+use Rattle.strand_machine.proofs.Moves.Making.{made-ok}
+use Rattle.strand_machine.proofs.Moves.Halves.{many, halves, only-one}
 use Rattle.strand_machine.proofs.step.split.Goals as goal
 
 pub spawn_part-requires-clause-known : goal.spawn_part-requires-clause-known

@@ -1,4 +1,4 @@
-use Rattle.strand_machine.proofs.Making.{goes-holds, is-stopped}
+use Rattle.strand_machine.proofs.Moves.Making.{goes-holds, is-stopped}
 use Rattle.strand_machine.proofs.step.stepped.Goals as goal
 
 pub invariant_of-result : goal.invariant_of-result

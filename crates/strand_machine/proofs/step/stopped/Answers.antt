@@ -1,4 +1,4 @@
-use Rattle.strand_machine.proofs.Making.{ends-can, never-goes, spawned-holds, waits-holds}
+use Rattle.strand_machine.proofs.Moves.Making.{ends-can, never-goes, spawned-holds, waits-holds}
 use Rattle.strand_machine.proofs.step.stopped.Goals as goal
 
 pub unreachable-requires : goal.unreachable-requires

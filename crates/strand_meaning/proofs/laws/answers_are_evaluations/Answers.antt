@@ -1,4 +1,4 @@
-use Rattle.strand_meaning.proofs.AnswerRuns.{answers_are_evaluations}
+use Rattle.strand_meaning.proofs.TakenAnswers.AnswerRuns.{answers_are_evaluations}
 use Rattle.strand_meaning.proofs.laws.answers_are_evaluations.Goals as goal
 
 pub returns : goal.returns

@@ -1,4 +1,4 @@
-use Rattle.strand_meaning.proofs.Cutting.{faults_pass}
+use Rattle.strand_meaning.proofs.TakenAnswers.Cutting.{faults_pass}
 use Rattle.strand_meaning.proofs.laws.faults_pass.Goals as goal
 
 pub returns : goal.returns

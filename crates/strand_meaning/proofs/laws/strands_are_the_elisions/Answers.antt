@@ -1,4 +1,4 @@
-use Rattle.strand_meaning.proofs.ElisionStrands.{strands_are_the_elisions}
+use Rattle.strand_meaning.proofs.ElisionsStrands.ElisionStrands.{strands_are_the_elisions}
 use Rattle.strand_meaning.proofs.laws.strands_are_the_elisions.Goals as goal
 
 pub returns : goal.returns

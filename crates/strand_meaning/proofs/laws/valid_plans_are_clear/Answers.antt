@@ -1,4 +1,4 @@
-use Rattle.strand_meaning.proofs.ClearOfValid.{clear_of_valid}
+use Rattle.strand_meaning.proofs.ClearPlans.ClearOfValid.{clear_of_valid}
 use Rattle.strand_meaning.proofs.laws.valid_plans_are_clear.Goals as goal
 
 pub returns : goal.returns

@@ -1,5 +1,5 @@
 use Rattle.serial_meaning.specs.declared.environment.Slot.TheVariants.{Scalar}
-use Rattle.strand_moves.proofs.ReplacedLemmas.{replaces}
+use Rattle.strand_moves.proofs.Frames.ReplacedLemmas.{replaces}
 use Rattle.strand_moves.proofs.answers.replace.Goals as goal
 
 pub returns-in-Some : goal.returns-in-Some

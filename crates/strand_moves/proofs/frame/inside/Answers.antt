@@ -1,5 +1,5 @@
 use Rattle.std.proofs.Common.{sym}
-use Rattle.strand_moves.proofs.Blocks.{from-outermost}
+use Rattle.strand_moves.proofs.OpenScopes.Blocks.{from-outermost}
 use Rattle.strand_moves.proofs.frame.inside.Goals as goal
 
 pub loop-level-init : goal.loop-level-init

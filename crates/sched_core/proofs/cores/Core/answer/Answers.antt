@@ -1,4 +1,4 @@
-use Rattle.sched_core.proofs.Holding.{answer-fault, answer-none}
+use Rattle.sched_core.proofs.KnownOfNodes.Holding.{answer-fault, answer-none}
 use Rattle.sched_core.proofs.cores.Core.answer.Goals as goal
 
 pub returns-clause-none : goal.returns-clause-none

@@ -1,7 +1,7 @@
 use Rattle.std.proofs.Common.{◌∙◌, ap, subst}
 use Rattle.sched_meaning.specs.Core as machine
 use Rattle.sched_core.specs.Sound.{IsSound}
-use Rattle.sched_core.proofs.Holding.{sound-held}
+use Rattle.sched_core.proofs.KnownOfNodes.Holding.{sound-held}
 use Rattle.sched_core.proofs.cores.Core.is_sound.Goals as goal
 
 pub returns : goal.returns

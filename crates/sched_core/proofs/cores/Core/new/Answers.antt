@@ -1,5 +1,5 @@
 use Rattle.std.specs.Arc.{arc_value}
-use Rattle.sched_core.proofs.Beginning.{core-begun}
+use Rattle.sched_core.proofs.KnownOfNodes.Beginning.{core-begun}
 use Rattle.sched_core.proofs.cores.Core.new.Goals as goal
 
 pub returns : goal.returns

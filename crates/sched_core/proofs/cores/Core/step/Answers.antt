@@ -1,7 +1,7 @@
 use Rattle.std.proofs.Common.{false, refl, sym}
 use Rattle.sched_core.specs.Cores.{core_of}
 use Rattle.sched_core.specs.Lawful.{may_happen}
-use Rattle.sched_core.proofs.Holding.{has-none, is-made, may-go, root-open, consistent-open}
+use Rattle.sched_core.proofs.KnownOfNodes.Holding.{has-none, is-made, may-go, root-open, consistent-open}
 use Rattle.sched_core.proofs.cores.Core.step.Goals as goal
 
 pub returns-then-not-allows-clause-not_lawful : goal.returns-then-not-allows-clause-not_lawful

@@ -2,8 +2,8 @@ use Rattle.std.proofs.Common.{◌≡◌, ℕ, false, ◌++◌, length, map, subs
 use Rattle.std.specs.List.{range_with_len}
 use Rattle.sched_core.specs.Chosen.{looks, looks_by}
 use Rattle.sched_core.specs.Cores.{core_of, worker_of}
-use Rattle.sched_core.proofs.Listing.{add-many}
-use Rattle.sched_core.proofs.Lists.{length-map}
+use Rattle.sched_core.proofs.Choices.Listing.{add-many}
+use Rattle.sched_core.proofs.Worked.Lists.{length-map}
 use Rattle.sched_core.proofs.state.State.add_looks.Goals as goal
 
 pub loop-worker-preserved : goal.loop-worker-preserved

@@ -4,7 +4,7 @@ use Rattle.sched_meaning.specs.Simulation.{stalled_places}
 use Rattle.sched_meaning.specs.declared.event.CoreEvent.TheVariants.{Look}
 use Rattle.sched_core.specs.Chosen.{looks_at}
 use Rattle.sched_core.specs.Cores.{core_of, worker_of}
-use Rattle.sched_core.proofs.Listing.{add-one, places-range}
+use Rattle.sched_core.proofs.Choices.Listing.{add-one, places-range}
 use Rattle.sched_core.proofs.state.State.add_looks_of.Goals as goal
 
 pub loop-place-preserved : goal.loop-place-preserved

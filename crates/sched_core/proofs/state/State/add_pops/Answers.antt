@@ -3,8 +3,8 @@ use Rattle.std.specs.List.{range_with_len}
 use Rattle.sched_meaning.specs.declared.event.CoreEvent.TheVariants.{Pop}
 use Rattle.sched_core.specs.Chosen.{pops}
 use Rattle.sched_core.specs.Cores.{core_of, worker_of}
-use Rattle.sched_core.proofs.Listing.{add-one}
-use Rattle.sched_core.proofs.Lists.{length-map}
+use Rattle.sched_core.proofs.Choices.Listing.{add-one}
+use Rattle.sched_core.proofs.Worked.Lists.{length-map}
 use Rattle.sched_core.proofs.state.State.add_pops.Goals as goal
 
 pub loop-w-preserved : goal.loop-w-preserved

@@ -3,8 +3,8 @@ use Rattle.std.specs.List.{range_with_len}
 use Rattle.sched_meaning.specs.declared.event.CoreEvent.TheVariants.{Steal}
 use Rattle.sched_core.specs.Chosen.{going}
 use Rattle.sched_core.specs.Cores.{core_of, worker_of}
-use Rattle.sched_core.proofs.Listing.{add-one}
-use Rattle.sched_core.proofs.Lists.{length-map}
+use Rattle.sched_core.proofs.Choices.Listing.{add-one}
+use Rattle.sched_core.proofs.Worked.Lists.{length-map}
 use Rattle.sched_core.proofs.state.State.add_steals_of.Goals as goal
 
 pub loop-victim-preserved : goal.loop-victim-preserved

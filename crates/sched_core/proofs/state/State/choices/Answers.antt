@@ -1,8 +1,8 @@
 use Rattle.std.proofs.Common.{false, ◌++◌, sym, ap, ◌∙◌}
 use Rattle.sched_core.specs.Chosen.{looks, numbers, pops, runs, steals}
 use Rattle.sched_core.specs.Cores.{core_of}
-use Rattle.sched_core.proofs.Picking.{choices-are}
-use Rattle.sched_core.proofs.Taking.{unanswered}
+use Rattle.sched_core.proofs.Choices.Picking.{choices-are}
+use Rattle.sched_core.proofs.Events.Taking.{unanswered}
 use Rattle.sched_core.proofs.state.State.choices.Goals as goal
 
 pub returns : goal.returns

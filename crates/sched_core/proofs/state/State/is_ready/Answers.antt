@@ -1,6 +1,6 @@
 use Rattle.std.proofs.Common.{◌≡◌, ◌<◌, Some, None, length, slice_get, ap, ◌∙◌, arith}
-use Rattle.sched_core.proofs.Looking.{WaitsAt, none-consistent, none-waits, ready-is, waits-consistent}
-use Rattle.sched_core.proofs.Placing.{get-at, seen-at}
+use Rattle.sched_core.proofs.Worked.Looking.{WaitsAt, none-consistent, none-waits, ready-is, waits-consistent}
+use Rattle.sched_core.proofs.Worked.Placing.{get-at, seen-at}
 use Rattle.sched_core.proofs.state.State.is_ready.Goals as goal
 
 pub index-requires : goal.index-requires

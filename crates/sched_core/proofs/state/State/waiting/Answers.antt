@@ -1,8 +1,8 @@
 use Rattle.std.proofs.Common.{◌≡◌, Some, None, map, slice_get, sym, ◌∙◌}
 use Rattle.sched_core.specs.Cores.{task_in, worker_of}
-use Rattle.sched_core.proofs.Listing.{places-none, places-of}
-use Rattle.sched_core.proofs.Lists.{get-map, get-map-none, length-map}
-use Rattle.sched_core.proofs.Placing.{seen-at, seen-past}
+use Rattle.sched_core.proofs.Choices.Listing.{places-none, places-of}
+use Rattle.sched_core.proofs.Worked.Lists.{get-map, get-map-none, length-map}
+use Rattle.sched_core.proofs.Worked.Placing.{seen-at, seen-past}
 use Rattle.sched_core.proofs.state.State.waiting.Goals as goal
 
 pub returns-in-Some : goal.returns-in-Some

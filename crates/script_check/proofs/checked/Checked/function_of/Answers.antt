@@ -4,9 +4,9 @@ use Rattle.script_grammar.specs.declared.tree.Script.{Script}
 use Rattle.script_grammar.specs.declared.tree.Function.{Function}
 use Rattle.script_check.specs.declared.checked.Kept.{Kept}
 use Rattle.script_check.specs.Valid.{functions_twice}
-use Rattle.script_check.proofs.Distinct.{is_first}
-use Rattle.script_check.proofs.Fewer.{nothing_left}
-use Rattle.script_check.proofs.Indexed.{named_within}
+use Rattle.script_check.proofs.Tables.Distinct.{is_first}
+use Rattle.script_check.proofs.FewerPending.Fewer.{nothing_left}
+use Rattle.script_check.proofs.Tables.Indexed.{named_within}
 use Rattle.script_check.proofs.checked.Checked.function_of.Goals as goal
 
 pub returns-in-Some-clause-function : goal.returns-in-Some-clause-function

@@ -3,7 +3,7 @@ use Rattle.script_grammar.specs.declared.tree.Script.{Script}
 use Rattle.script_check.specs.declared.checked.Kept.{Kept}
 use Rattle.script_check.specs.Functions.{first_named, main_name}
 use Rattle.script_check.specs.Tables.{table_of}
-use Rattle.script_check.proofs.Indexed.{has_main, main_within}
+use Rattle.script_check.proofs.Tables.Indexed.{has_main, main_within}
 use Rattle.script_check.proofs.checked.Checked.main.Goals as goal
 
 pub returns-clause-main : goal.returns-clause-main

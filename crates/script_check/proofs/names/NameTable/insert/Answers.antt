@@ -1,7 +1,7 @@
 use Rattle.std.proofs.Common.{◌≡◌, false, rules}
 use Rattle.std.specs.Prelude.{is_some}
 use Rattle.script_check.specs.Tables.{table_of}
-use Rattle.script_check.proofs.Entries.{added}
+use Rattle.script_check.proofs.Tables.Entries.{added}
 use Rattle.script_check.proofs.names.NameTable.insert.Goals as goal
 
 pub returns-in_ok-insert : goal.returns-in_ok-insert

@@ -1,4 +1,4 @@
-use Rattle.script_check.proofs.Entries.{removed}
+use Rattle.script_check.proofs.Tables.Entries.{removed}
 use Rattle.script_check.proofs.names.NameTable.remove.Goals as goal
 
 pub returns-clause-what : goal.returns-clause-what

@@ -1,7 +1,7 @@
 use Rattle.std.proofs.Common.{◌≡◌, [], ◌∷◌, ◌++◌, ap, ◌∙◌, rules}
 use Rattle.script_check.specs.declared.scope.Block.{Block}
 use Rattle.script_check.specs.Walk.{pending_in}
-use Rattle.script_check.proofs.Undone.{one_undone}
+use Rattle.script_check.proofs.Walk.Undone.{one_undone}
 use Rattle.script_check.proofs.scope.Scope.leave.Goals as goal
 
 pub loop-change-preserved : goal.loop-change-preserved

@@ -2,8 +2,8 @@ use Rattle.std.proofs.Common.{◌≡◌, ℕ, false, List, ap, ◌∙◌, rules}
 use Rattle.script_check.specs.Names.{with_name}
 use Rattle.script_check.specs.Tables.{table_of}
 use Rattle.script_check.specs.Walk.{names_of, state_of, pending_in, undone}
-use Rattle.script_check.proofs.Collected.{names_added}
-use Rattle.script_check.proofs.Undone.{one_added}
+use Rattle.script_check.proofs.Walk.Collected.{names_added}
+use Rattle.script_check.proofs.Walk.Undone.{one_added}
 use Rattle.script_check.proofs.scope.Scope.spawn_to.Goals as goal
 
 pub returns-in_ok-insert : goal.returns-in_ok-insert

@@ -3,7 +3,7 @@ use Rattle.script_check.specs.Names.{nobody}
 use Rattle.script_check.specs.Tables.{no_entries, table_of}
 use Rattle.script_check.specs.declared.scope.Change.TheVariants.{Cleared}
 use Rattle.script_check.specs.Walk.{names_of, state_of, pending_in, undone}
-use Rattle.script_check.proofs.Undone.{one_change}
+use Rattle.script_check.proofs.Walk.Undone.{one_change}
 use Rattle.script_check.proofs.scope.Scope.sync.Goals as goal
 
 pub returns : goal.returns

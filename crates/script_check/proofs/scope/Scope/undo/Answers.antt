@@ -3,7 +3,7 @@ use Rattle.script_check.specs.declared.scope.Change.{Change}
 use Rattle.script_check.specs.declared.scope.Change.TheVariants.{Added}
 use Rattle.script_check.specs.Tables.{table_of}
 use Rattle.script_check.specs.Walk.{without_name, undo, pending_in}
-use Rattle.script_check.proofs.Undone.{names_without}
+use Rattle.script_check.proofs.Walk.Undone.{names_without}
 use Rattle.script_check.proofs.scope.Scope.undo.Goals as goal
 
 pub returns-in-Added-clause-names : goal.returns-in-Added-clause-names

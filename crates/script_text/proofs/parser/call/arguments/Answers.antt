@@ -1,6 +1,6 @@
 use Rattle.std.proofs.Common.{rules, arith}
 use Rattle.std.proofs.lemmas.Result.{err_from_is_err_and}
-use Rattle.script_text.proofs.Calls.{no_arguments, some_arguments, arguments_err_first, arguments_err_more, arguments_err_close}
+use Rattle.script_text.proofs.Parsing.Calls.{no_arguments, some_arguments, arguments_err_first, arguments_err_more, arguments_err_close}
 use Rattle.script_text.proofs.parser.call.arguments.Goals as goal
 
 pub returns-in-Some : goal.returns-in-Some

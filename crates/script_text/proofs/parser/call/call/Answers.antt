@@ -1,6 +1,6 @@
 use Rattle.std.proofs.lemmas.Result.{err_from_is_err_and}
 use Rattle.script_text.specs.Machine.{call_args}
-use Rattle.script_text.proofs.Calls.{args_bracket, call_read, call_err_name, call_err_open, call_err_args}
+use Rattle.script_text.proofs.Parsing.Calls.{args_bracket, call_read, call_err_name, call_err_open, call_err_args}
 use Rattle.script_text.proofs.parser.call.call.Goals as goal
 
 pub returns-in_err-name : goal.returns-in_err-name

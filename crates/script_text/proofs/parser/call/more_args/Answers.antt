@@ -1,6 +1,6 @@
 use Rattle.std.proofs.Common.{refl, rules}
 use Rattle.std.proofs.lemmas.Result.{err_from_is_err_and}
-use Rattle.script_text.proofs.Calls.{args_begin, args_end, one_more_argument, more_args_err, args_turn}
+use Rattle.script_text.proofs.Parsing.Calls.{args_begin, args_end, one_more_argument, more_args_err, args_turn}
 use Rattle.script_text.proofs.parser.call.more_args.Goals as goal
 
 pub returns-in_err-x : goal.returns-in_err-x

@@ -1,5 +1,5 @@
 use Rattle.std.proofs.Common.{length}
-use Rattle.script_text.proofs.Calls.{ArgsSoFar}
+use Rattle.script_text.proofs.Parsing.Calls.{ArgsSoFar}
 use Rattle.script_text.proofs.parser.call.more_args.Given as goal
 
 abbrev pub invariant-loop-rest : goal.invariant-loop-rest

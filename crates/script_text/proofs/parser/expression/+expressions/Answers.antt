@@ -3,8 +3,8 @@ use Rattle.std.proofs.lemmas.Result.{err_from_is_err_and}
 use Rattle.script_tokens.specs.declared.token.Word.TheVariants as word
 use Rattle.script_grammar.specs.Grammar.{IsFactor, IsFactors, IsTerms, sum_of, product_of}
 use Rattle.script_text.specs.Machine.{factor, pair, more_factors, more_terms}
-use Rattle.script_text.proofs.Kept.{passed, passed_not, came, came_not, kept}
-use Rattle.script_text.proofs.Expressions.{expr_alone, expr_compared, expr_err_left, expr_err_right, factor_err_pair, factor_group, factor_item, factor_minus, factor_name, factor_name_err, factor_number, factor_number_err, factor_older, factor_same, factor_turn, factors_end, group_deep, group_err_rest, group_err_x, item_deep, item_err_place, item_err_rest, minus_deep, minus_err, more_factors_err, more_terms_err, one_more_factor, one_more_term, operands_err_close, operands_err_comma, operands_err_x, operands_err_y, operands_read, pair_bracket, sum_err_first, sum_err_others, sum_reads, term_err_first, term_err_others, term_reads, term_turn, terms_end}
+use Rattle.script_text.proofs.Parsing.Kept.{passed, passed_not, came, came_not, kept}
+use Rattle.script_text.proofs.Parsing.Expressions.{expr_alone, expr_compared, expr_err_left, expr_err_right, factor_err_pair, factor_group, factor_item, factor_minus, factor_name, factor_name_err, factor_number, factor_number_err, factor_older, factor_same, factor_turn, factors_end, group_deep, group_err_rest, group_err_x, item_deep, item_err_place, item_err_rest, minus_deep, minus_err, more_factors_err, more_terms_err, one_more_factor, one_more_term, operands_err_close, operands_err_comma, operands_err_x, operands_err_y, operands_read, pair_bracket, sum_err_first, sum_err_others, sum_reads, term_err_first, term_err_others, term_reads, term_turn, terms_end}
 use Rattle.script_text.proofs.parser.expression.+expressions.Goals as goal
 
 pub expr-returns-in_err-left : goal.expr-returns-in_err-left

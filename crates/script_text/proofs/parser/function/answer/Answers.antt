@@ -1,5 +1,5 @@
 use Rattle.std.proofs.lemmas.Result.{err_from_is_err_and}
-use Rattle.script_text.proofs.Functions.{int_answer_read, id_answer_read, id_answer_err}
+use Rattle.script_text.proofs.Parsing.Functions.{int_answer_read, id_answer_read, id_answer_err}
 use Rattle.script_text.proofs.parser.function.answer.Goals as goal
 
 pub returns-in_err-rest : goal.returns-in_err-rest

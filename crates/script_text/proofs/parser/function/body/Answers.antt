@@ -1,9 +1,9 @@
 use Rattle.std.proofs.lemmas.Result.{err_from_is_err_and}
 use Rattle.script_tokens.specs.declared.token.Word.TheVariants as word
-use Rattle.script_text.proofs.Kept.{passed, passed_not}
-use Rattle.script_text.proofs.Moved.{body_moved}
+use Rattle.script_text.proofs.Parsing.Kept.{passed, passed_not}
+use Rattle.script_text.proofs.OneTree.Moved.{body_moved}
 use Rattle.script_text.specs.Machine.{body}
-use Rattle.script_text.proofs.Functions.{body_bracket, body_err_stmts, body_err_return, body_err_result, body_err_close, body_read}
+use Rattle.script_text.proofs.Parsing.Functions.{body_bracket, body_err_stmts, body_err_return, body_err_result, body_err_close, body_read}
 use Rattle.script_text.proofs.parser.function.body.Goals as goal
 
 pub returns-in_err-rest : goal.returns-in_err-rest

@@ -1,6 +1,6 @@
 use Rattle.std.proofs.lemmas.Result.{err_from_is_err_and}
 use Rattle.script_text.specs.Machine.{param_list}
-use Rattle.script_text.proofs.Functions.{params_bracket, function_err_name, function_err_open, function_err_params, function_err_answer, function_err_body, function_read}
+use Rattle.script_text.proofs.Parsing.Functions.{params_bracket, function_err_name, function_err_open, function_err_params, function_err_answer, function_err_body, function_read}
 use Rattle.script_text.proofs.parser.function.function.Goals as goal
 
 pub returns-in_err-name : goal.returns-in_err-name

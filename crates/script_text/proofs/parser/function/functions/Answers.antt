@@ -1,6 +1,6 @@
 use Rattle.std.proofs.Common.{rules, arith}
 use Rattle.std.proofs.lemmas.Result.{err_from_is_err_and}
-use Rattle.script_text.proofs.Functions.{functions_end, functions_err, one_more_fn, functions_turn}
+use Rattle.script_text.proofs.Parsing.Functions.{functions_end, functions_err, one_more_fn, functions_turn}
 use Rattle.script_text.proofs.parser.function.functions.Goals as goal
 
 pub returns-in_err-next : goal.returns-in_err-next

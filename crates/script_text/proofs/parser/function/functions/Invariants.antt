@@ -1,5 +1,5 @@
 use Rattle.std.proofs.Common.{length}
-use Rattle.script_text.proofs.Functions.{FunctionsSoFar}
+use Rattle.script_text.proofs.Parsing.Functions.{FunctionsSoFar}
 use Rattle.script_text.proofs.parser.function.functions.Given as goal
 
 abbrev pub invariant-loop-at : goal.invariant-loop-at

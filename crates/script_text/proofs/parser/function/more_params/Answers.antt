@@ -1,6 +1,6 @@
 use Rattle.std.proofs.Common.{refl, rules}
 use Rattle.std.proofs.lemmas.Result.{err_from_is_err_and}
-use Rattle.script_text.proofs.Functions.{params_begin, params_end, one_more_parameter, more_params_err, params_turn}
+use Rattle.script_text.proofs.Parsing.Functions.{params_begin, params_end, one_more_parameter, more_params_err, params_turn}
 use Rattle.script_text.proofs.parser.function.more_params.Goals as goal
 
 pub returns-in_err-next : goal.returns-in_err-next

@@ -1,5 +1,5 @@
 use Rattle.std.proofs.Common.{length}
-use Rattle.script_text.proofs.Functions.{ParamsSoFar}
+use Rattle.script_text.proofs.Parsing.Functions.{ParamsSoFar}
 use Rattle.script_text.proofs.parser.function.more_params.Given as goal
 
 abbrev pub invariant-loop-rest : goal.invariant-loop-rest

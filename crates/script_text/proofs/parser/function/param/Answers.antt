@@ -1,5 +1,5 @@
 use Rattle.std.proofs.lemmas.Result.{err_from_is_err_and}
-use Rattle.script_text.proofs.Functions.{int_read, int_err, id_read, id_err}
+use Rattle.script_text.proofs.Parsing.Functions.{int_read, int_err, id_read, id_err}
 use Rattle.script_text.proofs.parser.function.param.Goals as goal
 
 pub returns-in_err-name : goal.returns-in_err-name

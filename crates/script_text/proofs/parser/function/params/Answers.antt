@@ -1,6 +1,6 @@
 use Rattle.std.proofs.Common.{rules, arith}
 use Rattle.std.proofs.lemmas.Result.{err_from_is_err_and}
-use Rattle.script_text.proofs.Functions.{no_parameters, some_parameters, parameters_err_first, parameters_err_more, parameters_err_close}
+use Rattle.script_text.proofs.Parsing.Functions.{no_parameters, some_parameters, parameters_err_first, parameters_err_more, parameters_err_close}
 use Rattle.script_text.proofs.parser.function.params.Goals as goal
 
 pub returns-in-Some : goal.returns-in-Some

@@ -4,9 +4,9 @@ use Rattle.std.proofs.lemmas.Result.{err_from_is_err_and}
 use Rattle.script_tokens.specs.declared.token.Word.TheVariants as word
 use Rattle.script_grammar.specs.Grammar.{IsExpr}
 use Rattle.script_text.specs.Machine.{expr_then}
-use Rattle.script_text.proofs.Kept.{passed, passed_not, came, came_not}
-use Rattle.script_text.proofs.Moved.{bounds_moved}
-use Rattle.script_text.proofs.Loops.{bounds_err_in, bounds_err_lo, bounds_err_range, bounds_err_hi, bounds_read}
+use Rattle.script_text.proofs.Parsing.Kept.{passed, passed_not, came, came_not}
+use Rattle.script_text.proofs.OneTree.Moved.{bounds_moved}
+use Rattle.script_text.proofs.Parsing.Loops.{bounds_err_in, bounds_err_lo, bounds_err_range, bounds_err_hi, bounds_read}
 use Rattle.script_text.proofs.parser.parallel_loop.bounds.Goals as goal
 
 pub returns-in_err-rest : goal.returns-in_err-rest

@@ -1,7 +1,7 @@
 use Rattle.std.proofs.Common.{rules}
 use Rattle.std.proofs.lemmas.Result.{err_from_is_err_and}
 use Rattle.script_text.specs.Machine.{loop_args}
-use Rattle.script_text.proofs.Loops.{loop_bracket, loop_err_call, loop_err_name, loop_err_open, loop_err_again, loop_err_args, loop_err_close, loop_err_end, loop_call_read}
+use Rattle.script_text.proofs.Parsing.Loops.{loop_bracket, loop_err_call, loop_err_name, loop_err_open, loop_err_again, loop_err_args, loop_err_close, loop_err_end, loop_call_read}
 use Rattle.script_text.proofs.parser.parallel_loop.loop_call.Goals as goal
 
 pub returns-in_err-rest : goal.returns-in_err-rest

@@ -5,9 +5,9 @@ use Rattle.script_tokens.specs.declared.token.Word.TheVariants as word
 use Rattle.script_grammar.specs.Grammar.{IsInto}
 use Rattle.script_text.specs.Machine.{only, into, loop_args}
 use Rattle.script_text.specs.Reads.{IsLoopCall}
-use Rattle.script_text.proofs.Kept.{came, came_not}
-use Rattle.script_text.proofs.Moved.{pfor_moved}
-use Rattle.script_text.proofs.Loops.{pfor_missing, pfor_err_name, pfor_err_bounds, pfor_err_target, pfor_err_call, pfor_read}
+use Rattle.script_text.proofs.Parsing.Kept.{came, came_not}
+use Rattle.script_text.proofs.OneTree.Moved.{pfor_moved}
+use Rattle.script_text.proofs.Parsing.Loops.{pfor_missing, pfor_err_name, pfor_err_bounds, pfor_err_target, pfor_err_call, pfor_read}
 use Rattle.script_text.proofs.parser.parallel_loop.pfor.Goals as goal
 
 pub returns-in_default : goal.returns-in_default

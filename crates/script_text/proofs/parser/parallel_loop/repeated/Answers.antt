@@ -1,6 +1,6 @@
 use Rattle.std.proofs.Common.{◌∙◌, sym}
 use Rattle.std.specs.Cmp.Lexicographic.{same_text, other_text}
-use Rattle.script_text.proofs.Loops.{repeats, repeats_other, repeats_missing}
+use Rattle.script_text.proofs.Parsing.Loops.{repeats, repeats_other, repeats_missing}
 use Rattle.script_text.proofs.parser.parallel_loop.repeated.Goals as goal
 
 pub returns-in_default : goal.returns-in_default

@@ -1,5 +1,5 @@
 use Rattle.std.proofs.lemmas.Result.{err_from_is_err_and}
-use Rattle.script_text.proofs.Loops.{no_target, target_read, target_err}
+use Rattle.script_text.proofs.Parsing.Loops.{no_target, target_read, target_err}
 use Rattle.script_text.proofs.parser.parallel_loop.target.Goals as goal
 
 pub returns-in_err-name : goal.returns-in_err-name

@@ -1,4 +1,4 @@
-use Rattle.script_text.proofs.Steps.{passes, passes_not}
+use Rattle.script_text.proofs.Parsing.Steps.{passes, passes_not}
 use Rattle.script_text.proofs.parser.source.expect.Goals as goal
 
 pub returns-in-Some : goal.returns-in-Some

@@ -1,6 +1,6 @@
 use Rattle.std.proofs.lemmas.Result.{err_from_is_err_and}
 use Rattle.script_tokens.specs.declared.token.Word.TheVariants as word
-use Rattle.script_text.proofs.Calls.{number_read, number_read_err, missing}
+use Rattle.script_text.proofs.Parsing.Calls.{number_read, number_read_err, missing}
 use Rattle.script_text.proofs.parser.source.expect_number.Goals as goal
 
 pub returns-in_err-number_of-in-Some : goal.returns-in_err-number_of-in-Some

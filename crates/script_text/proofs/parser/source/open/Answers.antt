@@ -1,5 +1,5 @@
 use Rattle.std.proofs.lemmas.Result.{err_from_is_err_and}
-use Rattle.script_text.proofs.Steps.{opens, opens_not, opens_deep}
+use Rattle.script_text.proofs.Parsing.Steps.{opens, opens_not, opens_deep}
 use Rattle.script_text.proofs.parser.source.open.Goals as goal
 
 pub returns-in_err-deeper-in-Some : goal.returns-in_err-deeper-in-Some

@@ -1,5 +1,5 @@
 use Rattle.std.proofs.Common.{◌≡◌, ◌-◌, get_or, arith}
-use Rattle.script_text.proofs.Decimals.{decimal-too_big}
+use Rattle.script_text.proofs.Parsing.Decimals.{decimal-too_big}
 use Rattle.script_text.proofs.parser.source.value_of.Goals as goal
 
 pub returns-then-value-digit : goal.returns-then-value-digit

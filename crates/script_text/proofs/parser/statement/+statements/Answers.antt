@@ -4,9 +4,9 @@ use Rattle.script_tokens.specs.declared.token.Word.TheVariants as word
 use Rattle.std.specs.Prelude.{◌∷◌, []}
 use Rattle.script_grammar.specs.Grammar.{IsBlock, IsElse}
 use Rattle.script_text.specs.Machine.{only, call_args, expr_then, block, otherwise}
-use Rattle.script_text.proofs.Kept.{came, came_not}
-use Rattle.script_text.proofs.Moved.{if_moved, while_moved}
-use Rattle.script_text.proofs.Statements.{spawn_read, call_stmt_read, sync_read, print_read, stmt_err, if_read, while_read, if_err, if_err_block, if_err_else, while_err, while_err_block, scope_read, scope_err, block_bracket, block_read, block_err_stmts, block_err_close, else_missing, else_read, else_err, stmts_end, one_more_stmt, stmts_err, stmt_turn}
+use Rattle.script_text.proofs.Parsing.Kept.{came, came_not}
+use Rattle.script_text.proofs.OneTree.Moved.{if_moved, while_moved}
+use Rattle.script_text.proofs.Parsing.Statements.{spawn_read, call_stmt_read, sync_read, print_read, stmt_err, if_read, while_read, if_err, if_err_block, if_err_else, while_err, while_err_block, scope_read, scope_err, block_bracket, block_read, block_err_stmts, block_err_close, else_missing, else_read, else_err, stmts_end, one_more_stmt, stmts_err, stmt_turn}
 use Rattle.script_text.proofs.parser.statement.+statements.Goals as goal
 
 pub act-returns-in_err-called-in-Spawn : goal.act-returns-in_err-called-in-Spawn

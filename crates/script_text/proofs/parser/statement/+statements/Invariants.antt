@@ -1,5 +1,5 @@
 use Rattle.std.proofs.Common.{length, ◌+◌, ◌-◌, ◌*◌}
-use Rattle.script_text.proofs.Statements.{StmtsSoFar}
+use Rattle.script_text.proofs.Parsing.Statements.{StmtsSoFar}
 use Rattle.script_text.proofs.parser.statement.+statements.Given as goal
 
 abbrev pub decreases-block : goal.decreases-block

@@ -1,5 +1,5 @@
 use Rattle.std.proofs.lemmas.Result.{err_from_is_err_and}
-use Rattle.script_text.proofs.Statements.{size_missing, size_deep, size_read, size_err_number, size_err_close, size_err_end}
+use Rattle.script_text.proofs.Parsing.Statements.{size_missing, size_deep, size_read, size_err_number, size_err_close, size_err_end}
 use Rattle.script_text.proofs.parser.statement.array_size.Goals as goal
 
 pub returns-in_default : goal.returns-in_default

@@ -1,5 +1,5 @@
 use Rattle.std.proofs.lemmas.Result.{err_from_is_err_and}
-use Rattle.script_text.proofs.Statements.{stmt_name_err, set_read, store_read, set_err, store_err}
+use Rattle.script_text.proofs.Parsing.Statements.{stmt_name_err, set_read, store_read, set_err, store_err}
 use Rattle.script_text.proofs.parser.statement.assignment.Goals as goal
 
 pub returns-in_err-name : goal.returns-in_err-name

@@ -1,5 +1,5 @@
 use Rattle.std.proofs.lemmas.Result.{err_from_is_err_and}
-use Rattle.script_text.proofs.Statements.{let_read, array_read, let_err_name, let_err_value, let_err_size}
+use Rattle.script_text.proofs.Parsing.Statements.{let_read, array_read, let_err_name, let_err_value, let_err_size}
 use Rattle.script_text.proofs.parser.statement.declaration.Goals as goal
 
 pub returns-in_err-name : goal.returns-in_err-name

@@ -4,9 +4,9 @@ use Rattle.std.proofs.lemmas.Result.{err_from_is_err_and}
 use Rattle.script_tokens.specs.declared.token.Word.TheVariants as word
 use Rattle.script_text.specs.Machine.{only, expr_then}
 use Rattle.script_text.specs.Reads.{IsEnded}
-use Rattle.script_text.proofs.Kept.{passed, passed_not, came, came_not}
-use Rattle.script_text.proofs.Moved.{element_moved}
-use Rattle.script_text.proofs.Statements.{element_missing, element_deep, element_read, element_err_place, element_err_close, element_err_assign, element_err_value}
+use Rattle.script_text.proofs.Parsing.Kept.{passed, passed_not, came, came_not}
+use Rattle.script_text.proofs.OneTree.Moved.{element_moved}
+use Rattle.script_text.proofs.Parsing.Statements.{element_missing, element_deep, element_read, element_err_place, element_err_close, element_err_assign, element_err_value}
 use Rattle.script_text.proofs.parser.statement.element.Goals as goal
 
 pub returns-in_default : goal.returns-in_default

@@ -3,8 +3,8 @@ use Rattle.std.proofs.lemmas.Result.{err_from_is_err_and}
 use Rattle.script_tokens.specs.declared.token.Word.TheVariants as word
 use Rattle.script_text.specs.Machine.{only, call_args}
 use Rattle.script_text.specs.Reads.{IsCallOf}
-use Rattle.script_text.proofs.Kept.{kept}
-use Rattle.script_text.proofs.Statements.{call_of_read, call_of_err, call_of_err_end}
+use Rattle.script_text.proofs.Parsing.Kept.{kept}
+use Rattle.script_text.proofs.Parsing.Statements.{call_of_read, call_of_err, call_of_err_end}
 use Rattle.script_text.proofs.parser.statement.ended_call.Goals as goal
 
 pub returns-in_err-called : goal.returns-in_err-called

@@ -3,8 +3,8 @@ use Rattle.std.proofs.lemmas.Result.{err_from_is_err_and}
 use Rattle.script_tokens.specs.declared.token.Word.TheVariants as word
 use Rattle.script_text.specs.Machine.{only, expr_then}
 use Rattle.script_text.specs.Reads.{IsEnded}
-use Rattle.script_text.proofs.Kept.{kept}
-use Rattle.script_text.proofs.Statements.{ended_read, ended_err, ended_err_end}
+use Rattle.script_text.proofs.Parsing.Kept.{kept}
+use Rattle.script_text.proofs.Parsing.Statements.{ended_read, ended_err, ended_err_end}
 use Rattle.script_text.proofs.parser.statement.ended_expr.Goals as goal
 
 pub returns-in_err-x : goal.returns-in_err-x

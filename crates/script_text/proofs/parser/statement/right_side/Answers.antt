@@ -1,5 +1,5 @@
 use Rattle.std.proofs.lemmas.Result.{err_from_is_err_and}
-use Rattle.script_text.proofs.Statements.{right_value_read, right_value_err, right_draw_read, right_new_read, right_call_read, right_spawn_read, right_call_err, right_spawn_err}
+use Rattle.script_text.proofs.Parsing.Statements.{right_value_read, right_value_err, right_draw_read, right_new_read, right_call_read, right_spawn_read, right_call_err, right_spawn_err}
 use Rattle.script_text.proofs.parser.statement.right_side.Goals as goal
 
 pub returns-in_err-called-in-Call : goal.returns-in_err-called-in-Call

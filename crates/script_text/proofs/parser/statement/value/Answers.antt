@@ -3,8 +3,8 @@ use Rattle.std.proofs.lemmas.Result.{err_from_is_err_and}
 use Rattle.script_tokens.specs.declared.token.Word.TheVariants as word
 use Rattle.script_text.specs.Machine.{only, right}
 use Rattle.script_text.specs.Reads.{IsValueOf}
-use Rattle.script_text.proofs.Kept.{kept}
-use Rattle.script_text.proofs.Statements.{value_read, value_err, value_err_end}
+use Rattle.script_text.proofs.Parsing.Kept.{kept}
+use Rattle.script_text.proofs.Parsing.Statements.{value_read, value_err, value_err_end}
 use Rattle.script_text.proofs.parser.statement.value.Goals as goal
 
 pub returns-in_err-side : goal.returns-in_err-side

@@ -2,7 +2,7 @@ use Rattle.std.proofs.Common.{◌≡◌, List, length, Some, None, sym, ap, subs
 use Rattle.script_grammar.specs.declared.tree.Function.{Function}
 use Rattle.script_check.specs.Functions.{first_named}
 use Rattle.serial_meaning.specs.Plan.{PlanView, functions_of}
-use Rattle.serial_meaning.proofs.Callees.{number_found, number_missing}
+use Rattle.serial_meaning.proofs.OriginFaults.Callees.{number_found, number_missing}
 use Rattle.serial_meaning.proofs.plan.Plan.callee.Goals as goal
 
 pub returns-in-Some : goal.returns-in-Some

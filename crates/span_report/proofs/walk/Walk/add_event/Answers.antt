@@ -2,7 +2,7 @@ use Rattle.std.proofs.Common.{ℕ, List, ap, ◌∙◌}
 use Rattle.span_report.specs.declared.instance.Begun.TheVariants.{Spawned}
 use Rattle.span_report.specs.Opens.{begun}
 use Rattle.span_report.specs.Walks.{Opened, entered, opened}
-use Rattle.span_report.proofs.Stacks.{walked-spawn}
+use Rattle.span_report.proofs.LongestChains.Stacks.{walked-spawn}
 use Rattle.span_report.proofs.walk.Walk.add_event.Goals as goal
 
 pub returns-in_ok-push : goal.returns-in_ok-push

@@ -1,5 +1,5 @@
 use Rattle.std.proofs.Common.{sym, ◌∙◌, reverse}
-use Rattle.span_report.proofs.Stacks.{left-here}
+use Rattle.span_report.proofs.LongestChains.Stacks.{left-here}
 use Rattle.span_report.proofs.walk.Walk.leave.Goals as goal
 
 pub returns : goal.returns

@@ -4,8 +4,8 @@ use Rattle.std.specs.Prelude.{OnOk}
 use Rattle.serial_meaning.specs.Answer.{AnswerView}
 use Rattle.strand_machine.specs.Merge.{TakesAnswers}
 use Rattle.strand_machine.specs.Parts.{part_of}
-use Rattle.strand_machine.proofs.Cutting.{takes-answer}
-use Rattle.strand_machine.proofs.Taking.{on-ok}
+use Rattle.strand_machine.proofs.TakenAnswers.Cutting.{takes-answer}
+use Rattle.strand_machine.proofs.TakenAnswers.Taking.{on-ok}
 use Rattle.strand_machine.proofs.merge.Merge.merge_answer.Goals as goal
 
 pub returns-in-Ok : goal.returns-in-Ok

@@ -1,6 +1,6 @@
 use Rattle.strand_machine.specs.Merge.{ending_of}
-use Rattle.strand_machine.proofs.Cutting.{puts-half, puts-other}
-use Rattle.strand_machine.proofs.Taking.{on-ok}
+use Rattle.strand_machine.proofs.TakenAnswers.Cutting.{puts-half, puts-other}
+use Rattle.strand_machine.proofs.TakenAnswers.Taking.{on-ok}
 use Rattle.strand_machine.proofs.merge.Merge.merge_value.Goals as goal
 
 pub returns-in-Half : goal.returns-in-Half

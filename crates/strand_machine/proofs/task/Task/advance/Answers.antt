@@ -4,7 +4,7 @@ use Rattle.strand_machine.specs.Stops.{IsStop}
 use Rattle.strand_machine.specs.Tasks.{IsSound, TaskView, view_of}
 use Rattle.strand_machine.specs.declared.parts.Parts.{Parts}
 use Rattle.strand_machine.specs.declared.stop.MoveOrStop.{MoveOrStop}
-use Rattle.strand_machine.proofs.Advancing.{advances-uncut, goes-on-uncut, is-sound}
+use Rattle.strand_machine.proofs.NextStops.Advancing.{advances-uncut, goes-on-uncut, is-sound}
 use Rattle.strand_machine.proofs.task.Task.advance.Goals as goal
 
 pub run_on-requires : goal.run_on-requires

@@ -1,5 +1,5 @@
-use Rattle.strand_machine.proofs.Advancing.{falls, is-task}
-use Rattle.strand_machine.proofs.Noting.{noted-start, noted-on, noted-stop}
+use Rattle.strand_machine.proofs.NextStops.Advancing.{falls, is-task}
+use Rattle.strand_machine.proofs.NodesNoted.Noting.{noted-start, noted-on, noted-stop}
 use Rattle.strand_machine.proofs.task.Task.advance_noted.Goals as goal
 
 pub loop-notes-init : goal.loop-notes-init

@@ -1,5 +1,5 @@
 use Rattle.strand_meaning.specs.Left.{moves_left}
-use Rattle.strand_machine.proofs.Noting.{LeadsNoted}
+use Rattle.strand_machine.proofs.NodesNoted.Noting.{LeadsNoted}
 use Rattle.strand_machine.proofs.task.Task.advance_noted.Given as goal
 
 abbrev pub invariant-loop-notes : goal.invariant-loop-notes

@@ -6,9 +6,9 @@ use Rattle.strand_meaning.specs.Task.{begun_work}
 use Rattle.strand_machine.specs.Tasks.{Holds, view_of, work_of, WorksAt}
 use Rattle.strand_machine.specs.Loops.{knows_of}
 use Rattle.strand_machine.specs.declared.parts.Parts.{Parts}
-use Rattle.strand_machine.proofs.Advancing.{sound_holds}
-use Rattle.strand_machine.proofs.Dispatch.{works-on}
-use Rattle.strand_machine.proofs.Starting.{start-sound, start-view}
+use Rattle.strand_machine.proofs.NextStops.Advancing.{sound_holds}
+use Rattle.strand_machine.proofs.Moves.Dispatch.{works-on}
+use Rattle.strand_machine.proofs.Moves.Starting.{start-sound, start-view}
 use Rattle.strand_machine.proofs.task.Task.begin.Goals as goal
 
 pub invariant_of-result : goal.invariant_of-result

@@ -6,9 +6,9 @@ use Rattle.strand_machine.specs.Parts.{awaited}
 use Rattle.strand_machine.specs.Stops.{answer_tags}
 use Rattle.strand_machine.specs.Tasks.{Holds, TaskView, view_of}
 use Rattle.strand_machine.specs.declared.parts.Parts.{Parts}
-use Rattle.strand_machine.proofs.Advancing.{holds-sound, is-sound}
-use Rattle.strand_machine.proofs.Faulting.{answers-by, goes-whole, tags-with, view-err, not-none, ends-by}
-use Rattle.strand_machine.proofs.Taking.{answered-sound}
+use Rattle.strand_machine.proofs.NextStops.Advancing.{holds-sound, is-sound}
+use Rattle.strand_machine.proofs.TakenAnswers.Faulting.{answers-by, goes-whole, tags-with, view-err, not-none, ends-by}
+use Rattle.strand_machine.proofs.TakenAnswers.Taking.{answered-sound}
 use Rattle.strand_machine.proofs.task.Task.end_by.Goals as goal
 
 pub go_on-requires-clause-sound : goal.go_on-requires-clause-sound

@@ -1,7 +1,7 @@
 use Rattle.std.proofs.Common.{sym, ap, ◌∙◌, subst}
 use Rattle.strand_machine.specs.Tasks.{Holds, view_of}
 use Rattle.strand_machine.specs.declared.parts.Parts.{Parts}
-use Rattle.strand_machine.proofs.Advancing.{is-short, short-answers, short-ends}
+use Rattle.strand_machine.proofs.NextStops.Advancing.{is-short, short-answers, short-ends}
 use Rattle.strand_machine.proofs.task.Task.end_short.Goals as goal
 
 pub unreachable-requires : goal.unreachable-requires

@@ -1,8 +1,8 @@
 use Rattle.std.proofs.Common.{sym, ap, ◌∙◌, subst}
 use Rattle.strand_machine.specs.Tasks.{IsSound, view_of}
 use Rattle.strand_machine.specs.declared.parts.Parts.{Parts}
-use Rattle.strand_machine.proofs.Advancing.{waits-sound}
-use Rattle.strand_machine.proofs.Making.{resumed-so}
+use Rattle.strand_machine.proofs.NextStops.Advancing.{waits-sound}
+use Rattle.strand_machine.proofs.Moves.Making.{resumed-so}
 use Rattle.strand_machine.proofs.task.Task.resume.Goals as goal
 
 pub look_on-requires : goal.look_on-requires

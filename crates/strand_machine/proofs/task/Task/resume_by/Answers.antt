@@ -5,8 +5,8 @@ use Rattle.strand_machine.specs.Parts.{awaited}
 use Rattle.strand_machine.specs.Stops.{WentOn, answer_tags}
 use Rattle.strand_machine.specs.Tasks.{TaskView, view_of}
 use Rattle.strand_machine.specs.declared.parts.Parts.{Parts}
-use Rattle.strand_machine.proofs.Advancing.{waits-sound}
-use Rattle.strand_machine.proofs.Taking.{answered-sound}
+use Rattle.strand_machine.proofs.NextStops.Advancing.{waits-sound}
+use Rattle.strand_machine.proofs.TakenAnswers.Taking.{answered-sound}
 use Rattle.strand_machine.proofs.task.Task.resume_by.Goals as goal
 
 pub go_on-requires-clause-sound : goal.go_on-requires-clause-sound

@@ -1,6 +1,6 @@
 use Rattle.std.proofs.Common.{List, ap, length}
 use Rattle.serial_meaning.specs.declared.origin.Origin.{Origin}
-use Rattle.strand_machine.proofs.Handed.{alone}
+use Rattle.strand_machine.proofs.Moves.Handed.{alone}
 use Rattle.strand_machine.proofs.trace.Trace.is_alone.Goals as goal
 
 pub returns : goal.returns

@@ -1,5 +1,5 @@
 use Rattle.std.proofs.Common.{refl}
-use Rattle.strand_moves.proofs.CursorLemmas.{left-back}
+use Rattle.strand_moves.proofs.Cursors.CursorLemmas.{left-back}
 use Rattle.strand_moves.proofs.cursor.Cursor.back.Goals as goal
 
 pub returns : goal.returns

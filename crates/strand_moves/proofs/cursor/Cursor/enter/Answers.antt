@@ -1,5 +1,5 @@
 use Rattle.std.proofs.Common.{refl}
-use Rattle.strand_moves.proofs.CursorLemmas.{left-branch}
+use Rattle.strand_moves.proofs.Cursors.CursorLemmas.{left-branch}
 use Rattle.strand_moves.proofs.cursor.Cursor.enter.Goals as goal
 use Rattle.strand_moves.proofs.cursor.Cursor.enter.Goals.{then-yes, else-yes}
 

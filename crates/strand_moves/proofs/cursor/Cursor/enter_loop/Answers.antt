@@ -1,5 +1,5 @@
 use Rattle.std.proofs.Common.{refl}
-use Rattle.strand_moves.proofs.CursorLemmas.{left-turn}
+use Rattle.strand_moves.proofs.Cursors.CursorLemmas.{left-turn}
 use Rattle.strand_moves.proofs.cursor.Cursor.enter_loop.Goals as goal
 
 pub returns : goal.returns

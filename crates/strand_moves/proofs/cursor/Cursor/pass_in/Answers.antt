@@ -1,6 +1,6 @@
 use Rattle.std.proofs.Common.{◌+◌, refl}
 use Rattle.std.proofs.lemmas.Option.{slice_get_read}
-use Rattle.strand_moves.proofs.CursorLemmas.{passes}
+use Rattle.strand_moves.proofs.Cursors.CursorLemmas.{passes}
 use Rattle.strand_moves.proofs.cursor.Cursor.pass_in.Goals as goal
 
 pub returns-in-Some : goal.returns-in-Some

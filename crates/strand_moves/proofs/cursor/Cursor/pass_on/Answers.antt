@@ -1,7 +1,7 @@
 use Rattle.std.proofs.Common.{◌+◌, arith, ◌∙◌, refl, sym}
 use Rattle.std.proofs.lemmas.List.{append-nil}
 use Rattle.std.proofs.lemmas.Option.{slice_get_read}
-use Rattle.strand_moves.proofs.CursorLemmas.{nothing-there, passes, left-out, left-ended, left-same}
+use Rattle.strand_moves.proofs.Cursors.CursorLemmas.{nothing-there, passes, left-out, left-ended, left-same}
 use Rattle.strand_moves.proofs.cursor.Cursor.pass_on.Goals as goal
 
 pub returns-in-Some : goal.returns-in-Some

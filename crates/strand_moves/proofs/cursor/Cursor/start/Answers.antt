@@ -1,7 +1,7 @@
 use Rattle.std.proofs.Common.{◌∙◌, ap}
 use Rattle.std.proofs.lemmas.List.{append-nil}
 use Rattle.strand_moves.specs.Cursors.{left_of}
-use Rattle.strand_moves.proofs.CursorLemmas.{rest_of}
+use Rattle.strand_moves.proofs.Cursors.CursorLemmas.{rest_of}
 use Rattle.strand_moves.proofs.cursor.Cursor.start.Goals as goal
 
 pub returns : goal.returns

@@ -5,8 +5,8 @@ use Rattle.strand_meaning.specs.Machine.{end_move, move, statement_move}
 use Rattle.strand_moves.specs.Rows.{HasPassed, unpassed}
 use Rattle.strand_moves.specs.Running.{machine_of, path_of, present_of}
 use Rattle.strand_moves.specs.Moves.{strand_of}
-use Rattle.strand_moves.proofs.Passing.{end-moves, next-moves}
-use Rattle.strand_moves.proofs.Paying.{shows-same}
+use Rattle.strand_moves.proofs.Cursors.Passing.{end-moves, next-moves}
+use Rattle.strand_moves.proofs.Statements.Paying.{shows-same}
 use Rattle.strand_moves.proofs.running.Running.act.Goals as goal
 
 pub returns-in-Some-clause-moves : goal.returns-in-Some-clause-moves

@@ -1,7 +1,7 @@
 use Rattle.std.proofs.Common.{w64, rules, SFits}
 use Rattle.std.proofs.lemmas.Int.{to_z-of_z}
 use Rattle.strand_moves.specs.Running.{machine_of, present_of}
-use Rattle.strand_moves.proofs.Equations.{array}
+use Rattle.strand_moves.proofs.Statements.Equations.{array}
 use Rattle.strand_moves.proofs.running.Running.array.Goals as goal
 
 pub returns-clause-shows : goal.returns-clause-shows

@@ -1,6 +1,6 @@
 use Rattle.strand_moves.specs.Running.{machine_of, present_of}
-use Rattle.strand_moves.proofs.Paying.{call-at, spawn-at}
-use Rattle.strand_moves.proofs.QuickLemmas.{quiet-child}
+use Rattle.strand_moves.proofs.Statements.Paying.{call-at, spawn-at}
+use Rattle.strand_moves.proofs.Statements.QuickLemmas.{quiet-child}
 use Rattle.strand_moves.proofs.running.Running.assign.Goals as goal
 
 pub returns-in-Value-clause-shows : goal.returns-in-Value-clause-shows

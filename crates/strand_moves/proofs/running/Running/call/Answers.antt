@@ -1,6 +1,6 @@
 use Rattle.std.proofs.Common.{ap, ◌∙◌, sym}
 use Rattle.std.specs.Option.{option_copied}
-use Rattle.strand_moves.proofs.QuickLemmas.{quiet-child}
+use Rattle.strand_moves.proofs.Statements.QuickLemmas.{quiet-child}
 use Rattle.strand_moves.proofs.running.Running.call.Goals as goal
 
 pub returns-in-Some-clause-shows : goal.returns-in-Some-clause-shows

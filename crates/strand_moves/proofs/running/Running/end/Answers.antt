@@ -8,9 +8,9 @@ use Rattle.strand_meaning.specs.Machine.{return_move}
 use Rattle.strand_moves.specs.Acts.{result_of}
 use Rattle.strand_moves.specs.Running.{machine_of, path_of, present_of, scopes_of}
 use Rattle.strand_moves.specs.Moves.{strand_of}
-use Rattle.strand_moves.proofs.Ending.{ended-stays, value-fault, value-received}
-use Rattle.strand_moves.proofs.Exits.{shows-exit}
-use Rattle.strand_moves.proofs.Keeping.{stands-same}
+use Rattle.strand_moves.proofs.Frames.Ending.{ended-stays, value-fault, value-received}
+use Rattle.strand_moves.proofs.OpenScopes.Exits.{shows-exit}
+use Rattle.strand_moves.proofs.OpenScopes.Keeping.{stands-same}
 use Rattle.strand_moves.proofs.running.Running.end.Goals as goal
 
 pub returns-in_ok-received-in-Some-clause-shows : goal.returns-in_ok-received-in-Some-clause-shows

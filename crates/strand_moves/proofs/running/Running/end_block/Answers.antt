@@ -5,9 +5,9 @@ use Rattle.strand_moves.specs.declared.effects.Effects.{Effects}
 use Rattle.strand_moves.specs.Acts.{IsKept}
 use Rattle.strand_moves.specs.Moves.{effects_of}
 use Rattle.strand_moves.specs.Running.{machine_of}
-use Rattle.strand_moves.proofs.Equations.{went}
-use Rattle.strand_moves.proofs.Levels.{is-out, join-kept, join-moves, joined, out-kept, out-moves, rank-fits}
-use Rattle.strand_moves.proofs.Keeping.{here-is}
+use Rattle.strand_moves.proofs.Statements.Equations.{went}
+use Rattle.strand_moves.proofs.OpenScopes.Levels.{is-out, join-kept, join-moves, joined, out-kept, out-moves, rank-fits}
+use Rattle.strand_moves.proofs.OpenScopes.Keeping.{here-is}
 use Rattle.strand_moves.proofs.running.Running.end_block.Goals as goal
 
 -- out of the innermost scope

@@ -9,9 +9,9 @@ use Rattle.strand_meaning.specs.Machine.{Machine}
 use Rattle.strand_moves.specs.Acts.{IsCallee}
 use Rattle.strand_moves.specs.Running.{machine_of, present_of}
 use Rattle.strand_moves.specs.Moves.{acted, call_to, strand_of}
-use Rattle.strand_moves.proofs.CallLemmas.{begun-stays, called-by, called-fault, is_below, is_not_below, calls-open, machine-begun, stands-quiet}
-use Rattle.strand_moves.proofs.Equations.{call, callee, call-args-fault, calls-fault, went}
-use Rattle.strand_moves.proofs.Exits.{quiet-exit}
+use Rattle.strand_moves.proofs.Frames.CallLemmas.{begun-stays, called-by, called-fault, is_below, is_not_below, calls-open, machine-begun, stands-quiet}
+use Rattle.strand_moves.proofs.Statements.Equations.{call, callee, call-args-fault, calls-fault, went}
+use Rattle.strand_moves.proofs.OpenScopes.Exits.{quiet-exit}
 use Rattle.strand_moves.proofs.running.Running.enter.Goals as goal
 
 pub returns-in_err-env-clause-shows : goal.returns-in_err-env-clause-shows

@@ -2,7 +2,7 @@ use Rattle.std.proofs.Common.{◌≡◌, Some, None, IfOk, subst}
 use Rattle.strand_meaning.specs.Machine.{Machine, move}
 use Rattle.strand_moves.specs.Moves.{run_of}
 use Rattle.strand_moves.specs.Running.{machine_of, path_of}
-use Rattle.strand_moves.proofs.Passing.{passed-has, passed-machine, passed-sound}
+use Rattle.strand_moves.proofs.Cursors.Passing.{passed-has, passed-machine, passed-sound}
 use Rattle.strand_moves.proofs.running.Running.make_move.Goals as goal
 
 pub make-requires-clause-sound : goal.make-requires-clause-sound

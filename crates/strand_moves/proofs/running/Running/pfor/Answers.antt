@@ -4,9 +4,9 @@ use Rattle.script_grammar.specs.declared.tree.Act.TheOpen as act
 use Rattle.serial_meaning.specs.Values.{value_of, values_of}
 use Rattle.strand_moves.specs.Running.{machine_of, present_of}
 use Rattle.strand_moves.specs.Moves.{acted, strand_of}
-use Rattle.strand_moves.proofs.ChildLemmas.{looped-none, looped-some}
-use Rattle.strand_moves.proofs.Exits.{shows-exit, shows-fault}
-use Rattle.strand_moves.proofs.LoopEquations.{pfor-lo-fault, pfor-hi-fault, pfor-args-fault, pfor-fault}
+use Rattle.strand_moves.proofs.HandedChildren.ChildLemmas.{looped-none, looped-some}
+use Rattle.strand_moves.proofs.OpenScopes.Exits.{shows-exit, shows-fault}
+use Rattle.strand_moves.proofs.Statements.LoopEquations.{pfor-lo-fault, pfor-hi-fault, pfor-args-fault, pfor-fault}
 use Rattle.strand_moves.proofs.running.Running.pfor.Goals as goal
 
 pub returns-in_err-value-clause-shows : goal.returns-in_err-value-clause-shows

@@ -2,8 +2,8 @@ use Rattle.script_grammar.specs.declared.tree.Act.TheOpen as act
 use Rattle.serial_meaning.specs.Values.{value_of}
 use Rattle.strand_moves.specs.Running.{machine_of, present_of}
 use Rattle.strand_moves.specs.Moves.{acted, strand_of}
-use Rattle.strand_moves.proofs.Equations.{print, print-fault}
-use Rattle.strand_moves.proofs.Exits.{shows-exit}
+use Rattle.strand_moves.proofs.Statements.Equations.{print, print-fault}
+use Rattle.strand_moves.proofs.OpenScopes.Exits.{shows-exit}
 use Rattle.strand_moves.proofs.running.Running.print.Goals as goal
 
 pub returns-in_err-value-clause-shows : goal.returns-in_err-value-clause-shows

@@ -2,8 +2,8 @@ use Rattle.std.proofs.Common.{w64, rules, SFits}
 use Rattle.std.proofs.lemmas.Int.{to_z-of_z}
 use Rattle.script_grammar.specs.declared.tree.Act.TheOpen as act
 use Rattle.script_grammar.specs.declared.tree.Right.TheVariants as right
-use Rattle.strand_moves.proofs.Assigning.{number-acts}
-use Rattle.strand_moves.proofs.QuickLemmas.{done-is}
+use Rattle.strand_moves.proofs.Statements.Assigning.{number-acts}
+use Rattle.strand_moves.proofs.Statements.QuickLemmas.{done-is}
 use Rattle.strand_moves.proofs.running.Running.quiet_right.Goals as goal
 
 pub returns-in_ok-set_number-in-Some-clause-did : goal.returns-in_ok-set_number-in-Some-clause-did

@@ -7,9 +7,9 @@ use Rattle.script_grammar.specs.declared.tree.Stmt.{Stmt}
 use Rattle.strand_moves.specs.Running.{machine_of, present_of}
 use Rattle.strand_moves.specs.Moves.{acted}
 use Rattle.strand_moves.specs.Quick.{is_fork, is_plain}
-use Rattle.strand_moves.proofs.Equations.{let-is-set}
-use Rattle.strand_moves.proofs.Paying.{act-is}
-use Rattle.strand_moves.proofs.QuickLemmas.{quiet-is, done-quiet}
+use Rattle.strand_moves.proofs.Statements.Equations.{let-is-set}
+use Rattle.strand_moves.proofs.Statements.Paying.{act-is}
+use Rattle.strand_moves.proofs.Statements.QuickLemmas.{quiet-is, done-quiet}
 use Rattle.strand_moves.proofs.running.Running.quiet_statement.Goals as goal
 
 pub returns-in-Let-clause-did : goal.returns-in-Let-clause-did

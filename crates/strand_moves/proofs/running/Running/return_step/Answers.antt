@@ -3,7 +3,7 @@ use Rattle.serial_meaning.specs.Functions.{function_at}
 use Rattle.serial_meaning.specs.Plan.{functions_of}
 use Rattle.strand_meaning.specs.Machine.{spawns_in}
 use Rattle.strand_moves.specs.declared.running.Running.{Running}
-use Rattle.strand_moves.proofs.Ending.{return-joined}
+use Rattle.strand_moves.proofs.Frames.Ending.{return-joined}
 use Rattle.strand_moves.proofs.running.Running.return_step.Goals as goal
 
 pub returns-then-has_spawns-clause-shows : goal.returns-then-has_spawns-clause-shows

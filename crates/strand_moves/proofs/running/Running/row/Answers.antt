@@ -2,9 +2,9 @@ use Rattle.std.proofs.Common.{◌≡◌, ◌+◌, ◌-◌, refl, sym, ap, ◌∙
 use Rattle.strand_moves.specs.declared.cursor.Cursor.{Cursor}
 use Rattle.strand_moves.specs.Cursors.{block_of}
 use Rattle.strand_moves.specs.Rows.{Still, More}
-use Rattle.strand_moves.proofs.Keeping.{here-is, stays-instance, same-path}
-use Rattle.strand_moves.proofs.Passing.{comes-undone, text-same}
-use Rattle.strand_moves.proofs.QuickLemmas.{did-quiet, did-nothing, passed-on, quick-went}
+use Rattle.strand_moves.proofs.OpenScopes.Keeping.{here-is, stays-instance, same-path}
+use Rattle.strand_moves.proofs.Cursors.Passing.{comes-undone, text-same}
+use Rattle.strand_moves.proofs.Statements.QuickLemmas.{did-quiet, did-nothing, passed-on, quick-went}
 use Rattle.strand_moves.proofs.running.Running.row.Goals as goal
 
 pub loop-passed-init : goal.loop-passed-init

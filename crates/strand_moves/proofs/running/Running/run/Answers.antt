@@ -1,7 +1,7 @@
 use Rattle.std.proofs.Common.{◌≡◌, ℕ, List, IfOk, subst}
 use Rattle.std.specs.Option.{option_copied}
 use Rattle.strand_moves.specs.Running.{path_of}
-use Rattle.strand_moves.proofs.Passing.{comes-has, comes-moved, comes-path, comes-sound}
+use Rattle.strand_moves.proofs.Cursors.Passing.{comes-has, comes-moved, comes-path, comes-sound}
 use Rattle.strand_moves.proofs.running.Running.run.Goals as goal
 
 pub make-requires-clause-sound : goal.make-requires-clause-sound

@@ -1,9 +1,9 @@
 use Rattle.std.proofs.Common.{◌+◌, length, ap, arith}
 use Rattle.serial_meaning.specs.Plan.{PlanView}
 use Rattle.strand_moves.specs.Running.{machine_of, present_of}
-use Rattle.strand_moves.proofs.CallLemmas.{is_not_below}
-use Rattle.strand_moves.proofs.Equations.{scope-depth-fault}
-use Rattle.strand_moves.proofs.Levels.{Begins, goes-in, in-moves}
+use Rattle.strand_moves.proofs.Frames.CallLemmas.{is_not_below}
+use Rattle.strand_moves.proofs.Statements.Equations.{scope-depth-fault}
+use Rattle.strand_moves.proofs.OpenScopes.Levels.{Begins, goes-in, in-moves}
 use Rattle.strand_moves.proofs.running.Running.scope.Goals as goal
 
 pub returns-then-len-plan-clause-shows : goal.returns-then-len-plan-clause-shows

@@ -2,7 +2,7 @@ use Rattle.std.proofs.Common.{◌++◌, ◌∷◌, [], ap, ◌∙◌, w64, rules
 use Rattle.std.proofs.lemmas.Int.{to_z-of_z}
 use Rattle.serial_meaning.specs.Plan.{PlanView, drawn}
 use Rattle.strand_moves.specs.Running.{machine_of, present_of}
-use Rattle.strand_moves.proofs.Equations.{set-draw}
+use Rattle.strand_moves.proofs.Statements.Equations.{set-draw}
 use Rattle.strand_moves.proofs.running.Running.set_draw.Goals as goal
 
 pub returns-clause-shows : goal.returns-clause-shows

@@ -1,5 +1,5 @@
 use Rattle.strand_moves.specs.Running.{machine_of, present_of}
-use Rattle.strand_moves.proofs.Equations.{set-new}
+use Rattle.strand_moves.proofs.Statements.Equations.{set-new}
 use Rattle.strand_moves.proofs.running.Running.set_new.Goals as goal
 
 pub returns-clause-shows : goal.returns-clause-shows

@@ -1,5 +1,5 @@
 use Rattle.std.proofs.Common.{ap}
-use Rattle.strand_moves.proofs.Assigning.{assigned-acts, on-err}
+use Rattle.strand_moves.proofs.Statements.Assigning.{assigned-acts, on-err}
 use Rattle.strand_moves.specs.declared.running.Running.{Running}
 use Rattle.serial_meaning.specs.Values.{Env}
 use Rattle.strand_moves.proofs.running.Running.set_value.Goals as goal

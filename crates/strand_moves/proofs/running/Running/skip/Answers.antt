@@ -5,9 +5,9 @@ use Rattle.strand_moves.specs.declared.running.Running.{Running}
 use Rattle.strand_moves.specs.Acts.{Stays}
 use Rattle.strand_moves.specs.Running.{machine_of, present_of}
 use Rattle.strand_moves.specs.Moves.{acted, call_to, strand_of}
-use Rattle.strand_moves.proofs.CallLemmas.{is_below, is_not_below, calls-open}
-use Rattle.strand_moves.proofs.Equations.{call-none, call-args-fault, calls-fault, went}
-use Rattle.strand_moves.proofs.Exits.{quiet-exit}
+use Rattle.strand_moves.proofs.Frames.CallLemmas.{is_below, is_not_below, calls-open}
+use Rattle.strand_moves.proofs.Statements.Equations.{call-none, call-args-fault, calls-fault, went}
+use Rattle.strand_moves.proofs.OpenScopes.Exits.{quiet-exit}
 use Rattle.strand_moves.proofs.running.Running.skip.Goals as goal
 
 pub returns-in_err-values-clause-shows : goal.returns-in_err-values-clause-shows

@@ -7,10 +7,10 @@ use Rattle.serial_meaning.specs.Values.{values_of}
 use Rattle.strand_moves.specs.declared.running.Running.{Running}
 use Rattle.strand_moves.specs.Running.{machine_of, present_of}
 use Rattle.strand_moves.specs.Moves.{acted, spawn_to, strand_of}
-use Rattle.strand_moves.proofs.CallLemmas.{is_not_below}
-use Rattle.strand_moves.proofs.ChildLemmas.{spawned-child, strand_at}
-use Rattle.strand_moves.proofs.Equations.{spawn-args-fault, spawn-depth-fault}
-use Rattle.strand_moves.proofs.Exits.{shows-exit}
+use Rattle.strand_moves.proofs.Frames.CallLemmas.{is_not_below}
+use Rattle.strand_moves.proofs.HandedChildren.ChildLemmas.{spawned-child, strand_at}
+use Rattle.strand_moves.proofs.Statements.Equations.{spawn-args-fault, spawn-depth-fault}
+use Rattle.strand_moves.proofs.OpenScopes.Exits.{shows-exit}
 use Rattle.strand_moves.proofs.running.Running.spawn.Goals as goal
 
 pub returns-in_err-args-clause-shows : goal.returns-in_err-args-clause-shows

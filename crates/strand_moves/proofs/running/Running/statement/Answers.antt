@@ -5,11 +5,11 @@ use Rattle.script_grammar.specs.declared.tree.Act.TheVariants as variant
 use Rattle.strand_moves.specs.Running.{machine_of, path_of, present_of}
 use Rattle.strand_moves.specs.Moves.{acted, strand_of}
 use Rattle.strand_meaning.specs.Machine.{statement_move}
-use Rattle.strand_moves.proofs.Equations.{faults, let-is-set}
-use Rattle.strand_moves.proofs.Exits.{shows-fault}
-use Rattle.strand_moves.proofs.Paying.{act-is, shows-same, statement-paid, statement-unpaid, paid-behind}
-use Rattle.strand_moves.proofs.QuickLemmas.{quiet-child}
-use Rattle.strand_moves.proofs.Keeping.{here-is, keeps-into, keeps-paid, keeps-unless}
+use Rattle.strand_moves.proofs.Statements.Equations.{faults, let-is-set}
+use Rattle.strand_moves.proofs.OpenScopes.Exits.{shows-fault}
+use Rattle.strand_moves.proofs.Statements.Paying.{act-is, shows-same, statement-paid, statement-unpaid, paid-behind}
+use Rattle.strand_moves.proofs.Statements.QuickLemmas.{quiet-child}
+use Rattle.strand_moves.proofs.OpenScopes.Keeping.{here-is, keeps-into, keeps-paid, keeps-unless}
 use Rattle.strand_moves.proofs.running.Running.statement.Goals as goal
 
 pub returns-in-Let-clause-shows : goal.returns-in-Let-clause-shows

@@ -5,10 +5,10 @@ use Rattle.serial_meaning.specs.Values.{value_of}
 use Rattle.strand_moves.specs.Running.{machine_of, present_of}
 use Rattle.strand_moves.specs.Moves.{acted, strand_of}
 use Rattle.strand_values.specs.Gives.{numbered}
-use Rattle.strand_moves.proofs.Conditions.{number-known, number-fault}
-use Rattle.strand_moves.proofs.Equations.{store, store-fault, store-index-fault, store-value-fault}
-use Rattle.strand_moves.proofs.Exits.{quiet-exit}
-use Rattle.strand_moves.proofs.Items.{missing, there}
+use Rattle.strand_moves.proofs.Statements.Conditions.{number-known, number-fault}
+use Rattle.strand_moves.proofs.Statements.Equations.{store, store-fault, store-index-fault, store-value-fault}
+use Rattle.strand_moves.proofs.OpenScopes.Exits.{quiet-exit}
+use Rattle.strand_moves.proofs.HandedChildren.Items.{missing, there}
 use Rattle.strand_moves.proofs.running.Running.store.Goals as goal
 
 pub returns-in_err-index-clause-shows : goal.returns-in_err-index-clause-shows

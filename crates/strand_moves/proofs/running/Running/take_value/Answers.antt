@@ -2,8 +2,8 @@ use Rattle.std.proofs.Common.{false, Ok, ◌∷◌, [], refl, ap, set, arith}
 use Rattle.std.specs.Option.{option_copied}
 use Rattle.strand_meaning.specs.Task.{answered}
 use Rattle.strand_moves.specs.Running.{frame_of}
-use Rattle.strand_moves.proofs.BelowLemmas.{changed-inside, changed-beyond}
-use Rattle.strand_moves.proofs.Keeping.{changed-around, changed-few, changed-path, scopes-replaced}
+use Rattle.strand_moves.proofs.Frames.BelowLemmas.{changed-inside, changed-beyond}
+use Rattle.strand_moves.proofs.OpenScopes.Keeping.{changed-around, changed-few, changed-path, scopes-replaced}
 use Rattle.strand_moves.proofs.running.Running.take_value.Goals as goal
 
 pub returns-then-height-len-2-clause-machine : goal.returns-then-height-len-2-clause-machine

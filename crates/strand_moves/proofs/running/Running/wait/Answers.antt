@@ -1,5 +1,5 @@
 use Rattle.strand_moves.specs.Running.{machine_of, present_of}
-use Rattle.strand_moves.proofs.Equations.{sync}
+use Rattle.strand_moves.proofs.Statements.Equations.{sync}
 use Rattle.strand_moves.proofs.running.Running.wait.Goals as goal
 
 pub returns-clause-shows : goal.returns-clause-shows

@@ -4,10 +4,10 @@ use Rattle.serial_meaning.specs.Values.{value_of}
 use Rattle.strand_moves.specs.Running.{machine_of, present_of, text_of}
 use Rattle.strand_moves.specs.Moves.{acted, strand_of}
 use Rattle.strand_values.specs.Gives.{holding}
-use Rattle.strand_moves.proofs.Conditions.{holding-known, holding-fault}
-use Rattle.strand_moves.proofs.Entering.{turn-into}
-use Rattle.strand_moves.proofs.Equations.{no-turn, turn-fault}
-use Rattle.strand_moves.proofs.Exits.{quiet-exit}
+use Rattle.strand_moves.proofs.Statements.Conditions.{holding-known, holding-fault}
+use Rattle.strand_moves.proofs.Cursors.Entering.{turn-into}
+use Rattle.strand_moves.proofs.Statements.Equations.{no-turn, turn-fault}
+use Rattle.strand_moves.proofs.OpenScopes.Exits.{quiet-exit}
 use Rattle.strand_moves.proofs.running.Running.while_test.Goals as goal
 
 pub returns-in_err-holds-clause-shows : goal.returns-in_err-holds-clause-shows

@@ -1,0 +1,9 @@
+pub mod Arms
+pub mod Stopping
+pub mod Taking
+pub mod Passing
+pub mod Waking
+pub mod Running
+pub mod Handing
+pub mod Ending
+pub mod Resuming

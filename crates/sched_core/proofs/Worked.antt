@@ -1,0 +1,5 @@
+pub mod Lists
+pub mod Looking
+pub mod Others
+pub mod Placing
+pub mod Ready

@@ -1,0 +1,8 @@
+pub mod Begun
+pub mod Shows
+pub mod Presents
+pub mod Handed
+pub mod Regions
+pub mod Changing
+pub mod Loads
+pub mod Once

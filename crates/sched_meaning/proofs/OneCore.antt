@@ -1,0 +1,2 @@
+pub mod SameOrigin
+pub mod OneStep

@@ -1,0 +1,194 @@
+-- What a task weighs, with all that it hands out, where each stop weighs so much and each child that is begun so much. A stop takes
+-- away just what it weighs.
+use Rattle.std.proofs.Common.{◌≡◌, ℕ, zero, suc, ◌+◌, ◌<◌, ◌≤◌, inl, inr, Bool, true, false, nat_lt, refl, sym, ap, ◌∙◌, subst, arith, if◌then◌else◌}
+use Rattle.std.proofs.lemmas.Bool.Decides.{nat_tests}
+use Rattle.serial_meaning.specs.Plan.{PlanView}
+use Rattle.serial_meaning.specs.Eval.{depth_left}
+use Rattle.serial_meaning.specs.Laws.{IsOriginOf}
+use Rattle.serial_meaning.specs.declared.origin.Origin.{Origin}
+use Rattle.strand_meaning.specs.Clear.{IsClearPlan}
+use Rattle.strand_meaning.specs.Task.{Task, start, Stop, Spawn, Wait, End, IsNext}
+use Rattle.strand_meaning.specs.Left.{stops_left}
+use Rattle.strand_meaning.specs.Sound.{IsTask}
+use Rattle.strand_meaning.specs.Laws.{IsSoundStop, KeepsOrigin, LeavesFewer}
+use Rattle.strand_meaning.proofs.NextStops.Comes.{stops_come}
+use Rattle.strand_meaning.proofs.SoundSteps.Ends.{tasks_begin}
+use Rattle.strand_meaning.proofs.NextStops.Fewer.{stops_fall, answers_leave_no_more}
+use Rattle.strand_meaning.proofs.NextStops.Stops.{stops_are_one, stops_are_sound, stops_keep_origins}
+use Rattle.strand_meaning.proofs.TakenAnswers.Onward.{answers_keep_tasks}
+use Rattle.sched_meaning.specs.Core.{gone_on}
+use Rattle.sched_meaning.proofs.BegunOnce.Handed.{size_of, IsSmaller, HandsStop, stops_hand}
+
+-- the stop that a task comes to
+pub next : Task → Stop
+next t = (stops_come t).0
+
+pub next-comes : (t : Task) → IsNext t (next t)
+unfolding next
+next-comes t = (stops_come t).1
+
+next-is : (t : Task) (stop : Stop) → IsNext t stop → next t ≡ stop
+unfolding next
+next-is t stop n = stops_are_one t (stops_come t).0 stop (stops_come t).1 n
+
+-- A task on which the laws of stops can be used: of this origin of the plan, and in no wait.
+pub record IsAt (plan : PlanView) (o : Origin) (t : Task) : Type 0 where
+  pub task : IsTask t
+  pub idle : t.waiting ≡ false
+  pub plan_is : t.plan ≡ plan
+  pub origin_is : t.origin ≡ o
+
+-- what holds after a stop
+abbrev pub Behind : PlanView → Origin → ℕ → Stop → Type 0
+Behind plan o n (Spawn c t) = IsOriginOf plan c × IsSmaller plan o c × IsAt plan o t × (stops_left t < n)
+Behind plan o n (Wait t) = IsAt plan o (gone_on t) × (stops_left (gone_on t) < n)
+Behind plan o n (End out ended) = Unit {0}
+
+pub behind-stop : (plan : PlanView) (o : Origin) (t : Task) (stop : Stop) → IsAt plan o t → IsNext t stop → Behind plan o (stops_left t) stop
+behind-stop plan o t stop at n = from stop (stops_are_sound t stop at.task n) (stops_keep_origins t stop n) (stops_fall t stop at.task at.idle n) (stops_hand t stop at.task n)
+  where
+    from : (stop : Stop) → IsSoundStop t stop → KeepsOrigin t stop → LeavesFewer t stop → HandsStop t stop → Behind plan o (stops_left t) stop
+    from (Spawn c r) sound same fewer hands = (
+      subst (λ (p : PlanView). IsOriginOf p c) at.plan_is sound.0,
+      subst (λ (q : Origin). IsSmaller plan q c) at.origin_is (subst (λ (p : PlanView). IsSmaller p t.origin c) at.plan_is hands.1),
+      record { task = sound.1; idle = fewer.1; plan_is = same.0 ∙ at.plan_is; origin_is = same.1 ∙ at.origin_is },
+      fewer.0,
+    )
+    from (Wait r) sound same fewer hands =
+        let more : stops_left (gone_on r) ≤ stops_left r = answers_leave_no_more r sound fewer.1 in
+        (record { task = answers_keep_tasks r sound; idle = refl; plan_is = same.0 ∙ at.plan_is; origin_is = same.1 ∙ at.origin_is }, less more fewer.0)
+      where
+        less : {a b c : ℕ} → a ≤ b → b < c → a < c
+        less h k = omega arith
+    from (End out ended) sound same fewer hands = tt
+
+module _ (a : ℕ) (h : Origin → ℕ) where
+  -- this stop, and what comes after it
+  abbrev with_stop : (Origin → ℕ) → (Task → ℕ) → Stop → ℕ
+  with_stop child rest (Spawn o t) = a + (h o + (child o + rest t))
+  with_stop child rest (Wait t) = a + rest (gone_on t)
+  with_stop child rest (End out ended) = a
+
+  -- within so many stops of its own, where its children weigh so much
+  abbrev weight_within : (Origin → ℕ) → ℕ → Task → ℕ
+  weight_within child zero t = 0
+  weight_within child (suc n) t = with_stop child (weight_within child n) (next t)
+
+  abbrev weight_with : (Origin → ℕ) → Task → ℕ
+  weight_with child t = weight_within child (suc (stops_left t)) t
+
+  module _ (plan : PlanView) where
+    -- an origin of so many ranks left, where deeper ones weigh so much, and where it has less than so many iterations
+    abbrev sized : ℕ → (Origin → ℕ) → ℕ → Origin → ℕ
+    sized d deeper zero o = 0
+    sized d deeper (suc n) o = weight_with (λ c. if nat_lt (depth_left plan c) d then deeper c else sized d deeper n c) (start plan o)
+
+    -- an origin with less than so many ranks left
+    abbrev deep : ℕ → Origin → ℕ
+    deep zero o = 0
+    deep (suc d) o = sized (depth_left plan o) (deep d) (suc (size_of o)) o
+
+    -- an origin, with all that it hands out
+    pub whole : Origin → ℕ
+    whole o = deep (suc (depth_left plan o)) o
+
+  -- what a task weighs, with all that it hands out
+  pub weight : Task → ℕ
+  weight t = weight_with (whole t.plan) t
+
+  module _ (plan : PlanView) (clear : IsClearPlan plan) where
+    -- Numbers of the children that agree
+
+    abbrev Agree : Origin → (Origin → ℕ) → (Origin → ℕ) → Type 0
+    Agree o f g = (c : Origin) → IsOriginOf plan c → IsSmaller plan o c → f c ≡ g c
+
+    -- enough stops, and the same numbers of the children, give the same
+    stops-agree : (o : Origin) (f g : Origin → ℕ) → Agree o f g → (n m : ℕ) (t : Task) → IsAt plan o t → stops_left t < n → stops_left t < m → weight_within f n t ≡ weight_within g m t
+    stops-agree o f g same zero m t at x y = absurd (omega arith)
+    stops-agree o f g same (suc n) zero t at x y = absurd (omega arith)
+    stops-agree o f g same (suc n) (suc m) t at x y = by_stop (next t) (behind-stop plan o t (next t) at (next-comes t)) (stops-agree o f g same n m)
+      where
+        by_stop : (stop : Stop) → Behind plan o (stops_left t) stop → ((u : Task) → IsAt plan o u → stops_left u < n → stops_left u < m → weight_within f n u ≡ weight_within g m u) →
+            with_stop f (weight_within f n) stop ≡ with_stop g (weight_within g m) stop
+        by_stop (Spawn c u) b later =
+            let p : f c ≡ g c = same c b.0 b.1 in let q : weight_within f n u ≡ weight_within g m u = later u b.2 (omega (arith, b.3)) (omega (arith, b.3)) in cong p q
+          where
+            cong : {i j k l : ℕ} → i ≡ j → k ≡ l → a + (h c + (i + k)) ≡ a + (h c + (j + l))
+            cong p q = omega arith
+        by_stop (Wait u) b later = ap (λ n. a + n) (later (gone_on u) b.0 (omega (arith, b.1)) (omega (arith, b.1)))
+        by_stop (End out ended) b later = refl
+
+    begun : (o : Origin) → IsOriginOf plan o → IsAt plan o (start plan o)
+    begun o known = record { task = tasks_begin plan o known clear; idle = refl; plan_is = refl; origin_is = refl }
+
+    all_agree : (o : Origin) (f g : Origin → ℕ) → IsOriginOf plan o → Agree o f g → weight_with f (start plan o) ≡ weight_with g (start plan o)
+    all_agree o f g known same = let n : ℕ = suc (stops_left (start plan o)) in stops-agree o f g same n n (start plan o) (begun o known) (omega arith) (omega arith)
+
+    sized-agree : (d : ℕ) (f g : Origin → ℕ) → ((c : Origin) → IsOriginOf plan c → depth_left plan c < d → f c ≡ g c) →
+        (n m : ℕ) (o : Origin) → IsOriginOf plan o → depth_left plan o ≡ d → size_of o < n → size_of o < m → sized plan d f n o ≡ sized plan d g m o
+    sized-agree d f g below zero m o known e x y = absurd (omega arith)
+    sized-agree d f g below (suc n) zero o known e x y = absurd (omega arith)
+    sized-agree d f g below (suc n) (suc m) o known e x y = all_agree o _ _ known (λ c there small. by_test c there small (nat_lt (depth_left plan c) d) refl (sized-agree d f g below n m c there))
+      where
+        by_test : (c : Origin) → IsOriginOf plan c → IsSmaller plan o c → (b : Bool) → nat_lt (depth_left plan c) d ≡ b →
+            (depth_left plan c ≡ d → size_of c < n → size_of c < m → sized plan d f n c ≡ sized plan d g m c) →
+            (if b then f c else sized plan d f n c) ≡ (if b then g c else sized plan d g m c)
+        by_test c there small true t later = below c there (grind (arith, nat_tests))
+        by_test c there (inl lower) false t later = absurd (grind (arith, nat_tests))
+        by_test c there (inr same) false t later = later (same.0 ∙ e) (omega (arith, same.1)) (omega (arith, same.1))
+
+    deep-agree : (d e : ℕ) (o : Origin) → IsOriginOf plan o → depth_left plan o < d → depth_left plan o < e → deep plan d o ≡ deep plan e o
+    deep-agree zero e o known x y = absurd (omega arith)
+    deep-agree (suc d) zero o known x y = absurd (omega arith)
+    deep-agree (suc d) (suc e) o known x y =
+        sized-agree (depth_left plan o) (deep plan d) (deep plan e) (λ c there lower. deep-agree d e c there (omega arith) (omega arith)) (suc (size_of o)) (suc (size_of o)) o known refl (omega arith) (omega arith)
+
+    whole-is : (o : Origin) → IsOriginOf plan o → whole plan o ≡ weight_with (whole plan) (start plan o)
+    unfolding whole
+    whole-is o known = all_agree o _ _ known (λ c there small. by_test c there small (nat_lt (depth_left plan c) (depth_left plan o)) refl)
+      where
+        d : ℕ
+        d = depth_left plan o
+
+        by_test : (c : Origin) → IsOriginOf plan c → IsSmaller plan o c → (b : Bool) → nat_lt (depth_left plan c) d ≡ b → (if b then deep plan d c else sized plan d (deep plan d) (size_of o) c) ≡ deep plan (suc (depth_left plan c)) c
+        by_test c there small true t = deep-agree d (suc (depth_left plan c)) c there (grind (arith, nat_tests)) (omega arith)
+        by_test c there (inl lower) false t = absurd (grind (arith, nat_tests))
+        by_test c there (inr same) false t =
+            subst (λ (n : ℕ). sized plan n (deep plan n) (size_of o) c ≡ deep plan (suc (depth_left plan c)) c) same.0
+            (sized-agree (depth_left plan c) (deep plan (depth_left plan c)) (deep plan (depth_left plan c)) (λ x k l. refl) (size_of o) (suc (size_of c)) c there refl same.1 (omega arith))
+
+  stops-enough : (plan : PlanView) (o : Origin) (t : Task) (n : ℕ) → IsClearPlan plan → IsAt plan o t → stops_left t < n → weight_within (whole plan) n t ≡ weight t
+  unfolding weight
+  stops-enough plan o t n clear at x =
+      stops-agree plan clear o (whole plan) (whole plan) (λ c k s. refl) n (suc (stops_left t)) t at x (omega arith) ∙ ap (λ (p : PlanView). weight_with (whole p) t) (sym at.plan_is)
+
+  stops-begun : (plan other : PlanView) (o : Origin) → IsClearPlan plan → IsOriginOf plan o → other ≡ plan → whole plan o ≡ weight (start other o)
+  unfolding weight
+  stops-begun plan other o clear known same = whole-is plan clear o known ∙ ap (λ (p : PlanView). weight_with (whole p) (start p o)) (sym same)
+
+  -- what a stop and what it leaves weigh
+  abbrev pub stop_weight : Stop → ℕ
+  stop_weight (Spawn child rest) = a + (h child + (weight (start rest.plan child) + weight rest))
+  stop_weight (Wait rest) = a + weight (gone_on rest)
+  stop_weight (End out ended) = a
+
+  pub weight-stop : (t : Task) (stop : Stop) → IsTask t → t.waiting ≡ false → IsNext t stop → weight t ≡ stop_weight stop
+  unfolding weight
+  weight-stop t stop is idle n = first ∙ by_stop stop (behind-stop t.plan t.origin t stop at n)
+    where
+      at : IsAt t.plan t.origin t
+      at = record { task = is; idle = idle; plan_is = refl; origin_is = refl }
+
+      f : Origin → ℕ
+      f = whole t.plan
+
+      first : weight_with f t ≡ with_stop f (weight_within f (stops_left t)) stop
+      first = ap (with_stop f (weight_within f (stops_left t))) (next-is t stop n)
+
+      by_stop : (stop : Stop) → Behind t.plan t.origin (stops_left t) stop → with_stop f (weight_within f (stops_left t)) stop ≡ stop_weight stop
+      by_stop (Spawn c u) b = two _ _ _ _ (stops-begun t.plan u.plan c is.clear b.0 b.2.plan_is) (stops-enough t.plan t.origin u (stops_left t) is.clear b.2 b.3)
+        where
+          two : (x y z w : ℕ) → x ≡ y → z ≡ w → a + (h c + (x + z)) ≡ a + (h c + (y + w))
+          two x y z w e k = omega arith
+      by_stop (Wait u) b = ap (λ n. a + n) (stops-enough t.plan t.origin (gone_on u) (stops_left t) is.clear b.0 b.1)
+      by_stop (End out ended) b = refl

@@ -1,0 +1,3 @@
+pub mod Lively
+pub mod Choosing
+pub mod Distinct

@@ -1,0 +1,4 @@
+pub mod Fewer
+pub mod FewerStatements
+pub mod Linear
+pub mod Induction

@@ -1,0 +1,6 @@
+pub mod Behind
+pub mod Called
+pub mod Collected
+pub mod Functioned
+pub mod Reading
+pub mod Undone

@@ -1,0 +1,65 @@
+-- What is noted of functions.
+use Rattle.std.proofs.Common.{◌≡◌, ℕ, ◌+◌, ◌<◌, false, List, [], ◌++◌, length, drop, get_or, Option, Some, None, refl, sym, ap, ◌∙◌}
+use Rattle.script_grammar.specs.declared.tree.Function.{Function}
+use Rattle.script_check.specs.declared.findings.Violation.{Violation}
+use Rattle.script_grammar.specs.declared.tree.Script.{Script}
+use Rattle.script_check.specs.Violations.{violation, noted}
+use Rattle.script_check.specs.Tables.{no_entries}
+use Rattle.script_check.specs.Names.{nobody}
+use Rattle.script_check.specs.Rules.{Declared}
+use Rattle.script_check.specs.Expressions.{read, wanted}
+use Rattle.script_check.specs.Statements.{place, judge_all, known_each, faults_each}
+use Rattle.script_check.specs.Valid.{known_params, param_faults, function_faults, all_function_faults, functions_twice, main_faults, violations, CheckFault}
+use Rattle.script_check.specs.Functions.{function_named, main_name}
+use Rattle.script_check.proofs.LeastViolation.Least.{least_contained, none_before_least}
+use Rattle.script_check.specs.Walk.{State, behind_all}
+use Rattle.script_check.proofs.LeastViolation.Noted.{noted_append, after_three}
+use Rattle.script_check.proofs.Walk.Reading.{at_index}
+
+pub function_judged : (fs : List Function) (f : Function) (new params body end : State) (found first second third : Option Violation) →
+    new.known ≡ no_entries → new.names ≡ nobody →
+    params ≡ record new { known = known_params f.params new.known } → first ≡ noted found (param_faults f.params new.known) →
+    body ≡ behind_all fs f.body params → second ≡ noted first (faults_each (judge_all f.body) (place fs false) params.known params.names) →
+    end ≡ record body { names = nobody; keeps = false } → third ≡ noted second (wanted f.answer (read f.result) end.known end.names) →
+    third ≡ noted found (function_faults fs f)
+function_judged fs f new params body end found first second third k p s1 f1 s2 f2 s3 f3 =
+    after_three found first second third (param_faults f.params no_entries)
+    (faults_each (judge_all f.body) (place fs false) (known_params f.params no_entries) nobody)
+    (wanted f.answer (read f.result) (known_each (judge_all f.body) fs (known_params f.params no_entries)) nobody) (function_faults fs f)
+    (f1 ∙ ap (λ (m : Declared). noted found (param_faults f.params m)) k)
+    (f2 ∙ (λ i. noted first (faults_each (judge_all f.body) (place fs false) (known1 i) (pending1 i))))
+    (f3 ∙ (λ i. noted second (wanted f.answer (read f.result) (known3 i) (pending3 i))))
+    refl
+  where
+    known1 : params.known ≡ known_params f.params no_entries
+    known1 = ap (λ (s : State). s.known) s1 ∙ ap (known_params f.params) k
+
+    pending1 : params.names ≡ nobody
+    pending1 = ap (λ (s : State). s.names) s1 ∙ p
+
+    known3 : end.known ≡ known_each (judge_all f.body) fs (known_params f.params no_entries)
+    known3 = ap (λ (s : State). s.known) s3 ∙ ap (λ (s : State). s.known) s2 ∙ ap (known_each (judge_all f.body) fs) known1
+
+    pending3 : end.names ≡ nobody
+    pending3 = ap (λ (s : State). s.names) s3
+
+pub one_function : (functions fs : List Function) (i : ℕ) (f : Function) (before now : Option Violation) → i < length fs → f ≡ get_or fs i f →
+    now ≡ noted before (function_faults functions f) →
+    noted now (all_function_faults functions (drop (i + 1) fs)) ≡ noted before (all_function_faults functions (drop i fs))
+one_function functions fs i f before now h is e =
+    ap (λ o. noted o (all_function_faults functions (drop (i + 1) fs))) e
+    ∙ sym (noted_append before (function_faults functions f) (all_function_faults functions (drop (i + 1) fs)))
+    ∙ ap (λ l. noted before (all_function_faults functions l)) (sym (at_index fs i f h is))
+
+pub all_noted : (script : Script) (first second : Option Violation) → first ≡ noted None (functions_twice [] script.functions) →
+    second ≡ noted first (main_faults (function_named script.functions main_name) ++ all_function_faults script.functions script.functions) →
+    second ≡ noted None (violations script)
+all_noted script first second f s =
+    s ∙ ap (λ o. noted o (main_faults (function_named script.functions main_name) ++ all_function_faults script.functions script.functions)) f
+    ∙ sym (noted_append None (functions_twice [] script.functions) (main_faults (function_named script.functions main_name) ++ all_function_faults script.functions script.functions))
+
+pub fault_is : (script : Script) (v : Violation) (number at : ℕ) → noted None (violations script) ≡ Some v → v.number ≡ number → v.at ≡ at → CheckFault script number at
+fault_is script v number at h n a =
+    let e : v ≡ violation number at = λ i. record { at = a i; number = n i } in
+    let l : noted None (violations script) ≡ Some (violation number at) = h ∙ ap (λ (w : Violation). Some w) e in
+    record { violated = least_contained (violations script) (violation number at) l; least = none_before_least (violations script) (violation number at) l }

@@ -1,0 +1,4 @@
+pub mod Gaps
+pub mod Follows
+pub mod Sound
+pub mod Nested

@@ -1,0 +1,4 @@
+pub mod Ascii
+pub mod Judged
+pub mod Unique
+pub mod First

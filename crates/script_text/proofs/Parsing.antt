@@ -1,0 +1,9 @@
+pub mod Calls
+pub mod Decimals
+pub mod Expressions
+pub mod Functions
+pub mod Loops
+pub mod Statements
+pub mod Steps
+pub mod Words
+pub mod Kept

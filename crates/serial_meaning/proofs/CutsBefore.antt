@@ -1,0 +1,4 @@
+pub mod Before
+pub mod Earlier
+pub mod Loops
+pub mod Whole

@@ -1,0 +1,4 @@
+pub mod Levels
+pub mod Callees
+pub mod Origins
+pub mod Scopes

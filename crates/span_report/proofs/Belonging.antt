@@ -1,0 +1,4 @@
+pub mod Homes
+pub mod Places
+pub mod Positions
+pub mod Above

@@ -1,0 +1,4 @@
+pub mod Nesting
+pub mod Coming
+pub mod Apart
+pub mod Clear

@@ -1,0 +1,7 @@
+pub mod Arms
+pub mod Dispatch
+pub mod Handed
+pub mod Making
+pub mod Moving
+pub mod Halves
+pub mod Starting

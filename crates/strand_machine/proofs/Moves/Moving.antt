@@ -1,0 +1,384 @@
+-- What a task is after a move of its instance, by what the move showed.
+use Rattle.std.proofs.Common.{◌≡◌, ◌<◌, ℕ, suc, true, false, List, [], ◌∷◌, ◌++◌, Option, None, Result, Ok, Err, length, replicate, refl, sym, ap, ◌∙◌, subst}
+use Rattle.std.specs.Prelude.{IfOk}
+use Rattle.script_grammar.specs.declared.tree.Name.{Name}
+use Rattle.serial_meaning.specs.Eval.{path_of}
+use Rattle.serial_meaning.specs.Laws.{IsOriginOf}
+use Rattle.serial_meaning.specs.Plan.{PlanView}
+use Rattle.serial_meaning.specs.declared.event.Event.{Event}
+use Rattle.serial_meaning.specs.declared.event.Fault.{Fault}
+use Rattle.serial_meaning.specs.declared.origin.Origin.{Origin}
+use Rattle.serial_meaning.specs.declared.value.Value.{Value}
+use Rattle.strand_meaning.specs.Laws.{MovesFall, StepsAreSound}
+use Rattle.strand_meaning.specs.Left.{moves_left}
+use Rattle.strand_meaning.specs.Machine.{Reached, Stands, Gives, Effect, move}
+use Rattle.strand_meaning.specs.Trace.{AwaitedChild, Trace, emit, emit_at, behind_last}
+use Rattle.strand_meaning.specs.Task as meaning
+use Rattle.strand_meaning.specs.Task.{IsNext, Now, Later, own_instance, stops_at, child_in}
+use Rattle.strand_moves.specs.Machines as moves
+use Rattle.strand_moves.specs.Moves.{IsTrailOf, MovesTrail, ShowsTrail, effects_of, run_of}
+use Rattle.strand_moves.specs.Rows.{Row, Still, More}
+use Rattle.strand_moves.specs.declared.instance.Instance.{Instance as RawInstance}
+use Rattle.strand_moves.specs.declared.running.Running.{Running}
+use Rattle.strand_moves.specs.declared.effects.Child.{Child}
+use Rattle.strand_moves.specs.declared.effects.MoveResult.{MoveResult}
+use Rattle.strand_moves.specs.declared.effects.MoveResult.TheVariants as moved-in
+use Rattle.strand_moves.specs.declared.effects.Effects.{Effects}
+use Rattle.strand_moves.specs.declared.effects.Effects.TheVariants as shown-in
+use Rattle.strand_machine.specs.Family.{FamilyView}
+use Rattle.strand_machine.specs.Loops.{IsHandedFor}
+use Rattle.strand_machine.specs.Parts.{awaited, place_of}
+use Rattle.strand_machine.specs.Effects.{shown_task, IsSoundShown}
+use Rattle.strand_machine.specs.Stops.{IsStep, IsRun, LeadsTo, KeepsStep, step_of}
+use Rattle.strand_machine.specs.Tasks.{TaskView, task_of, view_of, fresh_with, cut_of, AwaitsLast, RunsAt, IsSound, gone, waiting, with_child}
+use Rattle.strand_machine.specs.declared.body.Body.{Body}
+use Rattle.strand_machine.specs.declared.destination.Destination.{Destination}
+use Rattle.strand_machine.specs.declared.destination.Destination.TheVariants as place
+use Rattle.strand_machine.specs.declared.stop.MoveOrStop.{MoveOrStop as MadeStep}
+use Rattle.strand_machine.specs.declared.stop.MoveOrStop.TheVariants as step-in
+use Rattle.strand_machine.specs.declared.stop.Stop.TheVariants as stop-in
+use Rattle.strand_machine.specs.declared.work.InstanceState.TheVariants as stage
+use Rattle.strand_machine.specs.declared.work.Work.{Work}
+use Rattle.strand_machine.specs.declared.work.Work.TheVariants as work
+use Rattle.strand_machine.proofs.NextStops.Advancing.{falls, leads-on, leads-over, leads-start}
+use Rattle.strand_machine.proofs.Moves.Dispatch.{awaits-more, pass-sound, pass-is, wait-sound, wait-is, go-went, go-gave, go-faulted, shown-sound}
+
+-- An event changes no child
+
+awaited-behind : (p : AwaitedChild) (ps : List AwaitedChild) (e : Event) → awaited (behind_last p ps e) ≡ awaited (p ∷ ps)
+awaited-behind p [] e = refl
+awaited-behind p (q ∷ qs) e = ap (λ (l : List Origin). p.child ∷ l) (awaited-behind q qs e)
+
+length-behind : (p : AwaitedChild) (ps : List AwaitedChild) (e : Event) → length (behind_last p ps e) ≡ length (p ∷ ps)
+length-behind p [] e = refl
+length-behind p (q ∷ qs) e = ap (λ (n : ℕ). suc n) (length-behind q qs e)
+
+awaits-same : (family : FamilyView) (ps qs : List AwaitedChild) → awaited qs ≡ awaited ps → length qs ≡ length ps → AwaitsLast family ps → AwaitsLast family qs
+awaits-same family ps qs a n h = record {
+  before = h.before;
+  passed = h.passed;
+  same = h.same;
+  children = h.children ∙ ap (λ (l : List Origin). h.before ++ l) (sym a);
+  taken = h.taken ∙ ap (λ (m : ℕ). h.passed ++ replicate m false) (sym n);
+}
+
+awaits-emitted : (family : FamilyView) (trace : Trace) (e : Event) → AwaitsLast family trace.handed → AwaitsLast family (emit e trace).handed
+awaits-emitted family trace e h = from trace.handed refl
+  where
+    from : (ps : List AwaitedChild) → trace.handed ≡ ps → AwaitsLast family (emit_at ps e trace).handed
+    from [] g = h
+    from (p ∷ ps) g = awaits-same family (p ∷ ps) (behind_last p ps e) (awaited-behind p ps e) (length-behind p ps e) (subst (AwaitsLast family) g h)
+
+-- The body after an event
+
+abbrev pub with_trace : Body → Trace → Body
+with_trace b p = record b { trace = p }
+
+module _ (b : Body) (i : RawInstance) where
+  abbrev goes : Work
+  goes = work.Runs (stage.Running i)
+
+  -- nothing
+
+  pub nothing-sound : (s : Effects) → s ≡ shown-in.Nothing → IsSoundShown b i s → IsSound (gone b) goes
+  nothing-sound s is h = let k : IsSoundShown b i shown-in.Nothing = subst (IsSoundShown b i) is h in record { task = k.task; family = k.family; works = k.runs }
+
+  pub nothing-step : (s : Effects) (r : MadeStep) → s ≡ shown-in.Nothing → r ≡ step-in.Passes (view_of (gone b) goes) →
+      step_of r ≡ stops_at (child_in (effects_of s)) (shown_task b i s)
+  nothing-step s r is h = rw (h, is) refl
+
+  -- where a scope begins or has ended
+
+  pub opened-sound : (s : Effects) (j : List ℕ) → s ≡ shown-in.Opened j → IsSoundShown b i s → IsSound (gone b) goes
+  opened-sound s j is h = let k : IsSoundShown b i (shown-in.Opened j) = subst (IsSoundShown b i) is h in record { task = k.task; family = k.family; works = k.runs }
+
+  pub opened-step : (s : Effects) (j : List ℕ) (r : MadeStep) → s ≡ shown-in.Opened j → r ≡ step-in.Passes (view_of (gone b) goes) → step_of r ≡ stops_at (child_in (effects_of s)) (shown_task b i s)
+  opened-step s j r is h = rw (h, is) refl
+
+  pub closed-sound : (s : Effects) (j : List ℕ) → s ≡ shown-in.Closed j → IsSoundShown b i s → IsSound (gone b) goes
+  closed-sound s j is h = let k : IsSoundShown b i (shown-in.Closed j) = subst (IsSoundShown b i) is h in record { task = k.task; family = k.family; works = k.runs }
+
+  pub closed-step : (s : Effects) (j : List ℕ) (r : MadeStep) → s ≡ shown-in.Closed j → r ≡ step-in.Passes (view_of (gone b) goes) → step_of r ≡ stops_at (child_in (effects_of s)) (shown_task b i s)
+  closed-step s j r is h = rw (h, is) refl
+
+  -- an event
+
+  emitted-at : (e : Event) → IsSoundShown b i (shown-in.Emitted e) → IsSound (gone (with_trace b (emit e b.trace))) goes
+  emitted-at e h = record { task = h.task; family = awaits-emitted b.family b.trace e h.family; works = h.runs }
+
+  pub emitted-sound : (s : Effects) (e : Event) (p : Trace) → s ≡ shown-in.Emitted e → p ≡ emit e b.trace → IsSoundShown b i s → IsSound (gone (with_trace b p)) goes
+  emitted-sound s e p is q h = subst (λ (x : Trace). IsSound (gone (with_trace b x)) goes) (sym q) (emitted-at e (subst (IsSoundShown b i) is h))
+
+  pub emitted-step : (s : Effects) (e : Event) (p : Trace) (r : MadeStep) → s ≡ shown-in.Emitted e → p ≡ emit e b.trace → r ≡ step-in.Passes (view_of (gone (with_trace b p)) goes) →
+      step_of r ≡ stops_at (child_in (effects_of s)) (shown_task b i s)
+  emitted-step s e p r is q h = rw (h, q, is) refl
+
+  -- a sync
+
+  abbrev at-sync : Work
+  at-sync = work.Runs (stage.AtSync i)
+
+  synced-at : (e : Event) → IsSoundShown b i (shown-in.Synced e) → IsSound (gone (with_trace b (emit e b.trace))) at-sync
+  synced-at e h = record { task = h.task; family = awaits-emitted b.family b.trace e h.family; works = h.runs }
+
+  pub synced-sound : (s : Effects) (e : Event) (p : Trace) → s ≡ shown-in.Synced e → p ≡ emit e b.trace → IsSoundShown b i s → IsSound (gone (with_trace b p)) at-sync
+  synced-sound s e p is q h = subst (λ (x : Trace). IsSound (gone (with_trace b x)) at-sync) (sym q) (synced-at e (subst (IsSoundShown b i) is h))
+
+  pub synced-step : (s : Effects) (e : Event) (p : Trace) (r : MadeStep) → s ≡ shown-in.Synced e → p ≡ emit e b.trace → r ≡ step-in.Passes (view_of (gone (with_trace b p)) at-sync) →
+      step_of r ≡ stops_at (child_in (effects_of s)) (shown_task b i s)
+  synced-step s e p r is q h = rw (h, q, is) refl
+
+  -- a child
+
+  pub spawned-known : (s : Effects) (e : Event) (o : Child) (height : ℕ) (target : Option Name) → s ≡ shown-in.Spawned e o height target → IsSoundShown b i s → IsOriginOf b.family.plan o.origin
+  spawned-known s e o height target is h = let k : IsSoundShown b i (shown-in.Spawned e o height target) = subst (IsSoundShown b i) is h in k.child
+
+  pub spawned-trail : (s : Effects) (e : Event) (o : Child) (height : ℕ) (target : Option Name) → s ≡ shown-in.Spawned e o height target → IsSoundShown b i s → IsTrailOf b.family.plan o.origin o.trail
+  spawned-trail s e o height target is h = let k : IsSoundShown b i (shown-in.Spawned e o height target) = subst (IsSoundShown b i) is h in k.trail
+
+  pub spawned-handed : (s : Effects) (e : Event) (o : Child) (height : ℕ) (target : Option Name) → s ≡ shown-in.Spawned e o height target → IsSoundShown b i s → IsHandedFor b.family.plan b.family.origin o.origin
+  spawned-handed s e o height target is h = let k : IsSoundShown b i (shown-in.Spawned e o height target) = subst (IsSoundShown b i) is h in k.handed
+
+  spawned-at : (e : Event) (o : Child) (height : ℕ) (target : Option Name) → IsSoundShown b i (shown-in.Spawned e o height target) →
+      IsSound (with_child (with_trace b (emit e b.trace)) o.origin (place.Spawned height target)) goes
+  spawned-at e o height target h = record {
+    task = h.task;
+    family = awaits-more b.family (emit e b.trace).handed (record { child = o.origin; place = place_of (place.Spawned height target); behind = [] }) (awaits-emitted b.family b.trace e h.family);
+    works = h.runs;
+  }
+
+  pub spawned-sound : (s : Effects) (e : Event) (o : Child) (height : ℕ) (target : Option Name) (p : Trace) → s ≡ shown-in.Spawned e o height target → p ≡ emit e b.trace → IsSoundShown b i s →
+      IsSound (with_child (with_trace b p) o.origin (place.Spawned height target)) goes
+  spawned-sound s e o height target p is q h =
+      subst (λ (x : Trace). IsSound (with_child (with_trace b x) o.origin (place.Spawned height target)) goes) (sym q) (spawned-at e o height target (subst (IsSoundShown b i) is h))
+
+  pub spawned-step : (s : Effects) (e : Event) (o : Child) (height : ℕ) (target : Option Name) (p : Trace) (r : MadeStep) → s ≡ shown-in.Spawned e o height target → p ≡ emit e b.trace →
+      r ≡ step-in.Stops (stop-in.Spawn (fresh_with b.family.knows b.family.plan o.origin) (view_of (with_child (with_trace b p) o.origin (place.Spawned height target)) goes)) →
+      step_of r ≡ stops_at (child_in (effects_of s)) (shown_task b i s)
+  spawned-step s e o height target p r is q h = rw (h, q, is) refl
+
+  -- a loop
+
+  abbrev at-loop : Work
+  at-loop = work.Runs (stage.AtLoop i)
+
+  pub looped-known : (s : Effects) (e : Event) (o : Child) (target : Option Name) → s ≡ shown-in.Looped e o target → IsSoundShown b i s → IsOriginOf b.family.plan o.origin
+  looped-known s e o target is h = let k : IsSoundShown b i (shown-in.Looped e o target) = subst (IsSoundShown b i) is h in k.child
+
+  pub looped-trail : (s : Effects) (e : Event) (o : Child) (target : Option Name) → s ≡ shown-in.Looped e o target → IsSoundShown b i s → IsTrailOf b.family.plan o.origin o.trail
+  looped-trail s e o target is h = let k : IsSoundShown b i (shown-in.Looped e o target) = subst (IsSoundShown b i) is h in k.trail
+
+  pub looped-handed : (s : Effects) (e : Event) (o : Child) (target : Option Name) → s ≡ shown-in.Looped e o target → IsSoundShown b i s → IsHandedFor b.family.plan b.family.origin o.origin
+  looped-handed s e o target is h = let k : IsSoundShown b i (shown-in.Looped e o target) = subst (IsSoundShown b i) is h in k.handed
+
+  looped-at : (e : Event) (o : Child) (target : Option Name) → IsSoundShown b i (shown-in.Looped e o target) →
+      IsSound (with_child (with_trace b (emit e b.trace)) o.origin (place.Looped target)) at-loop
+  looped-at e o target h = record {
+    task = h.task;
+    family = awaits-more b.family (emit e b.trace).handed (record { child = o.origin; place = place_of (place.Looped target); behind = [] }) (awaits-emitted b.family b.trace e h.family);
+    works = h.runs;
+  }
+
+  pub looped-sound : (s : Effects) (e : Event) (o : Child) (target : Option Name) (p : Trace) → s ≡ shown-in.Looped e o target → p ≡ emit e b.trace → IsSoundShown b i s →
+      IsSound (with_child (with_trace b p) o.origin (place.Looped target)) at-loop
+  looped-sound s e o target p is q h =
+      subst (λ (x : Trace). IsSound (with_child (with_trace b x) o.origin (place.Looped target)) at-loop) (sym q) (looped-at e o target (subst (IsSoundShown b i) is h))
+
+  pub looped-step : (s : Effects) (e : Event) (o : Child) (target : Option Name) (p : Trace) (r : MadeStep) → s ≡ shown-in.Looped e o target → p ≡ emit e b.trace →
+      r ≡ step-in.Stops (stop-in.Spawn (fresh_with b.family.knows b.family.plan o.origin) (view_of (with_child (with_trace b p) o.origin (place.Looped target)) at-loop)) →
+      step_of r ≡ stops_at (child_in (effects_of s)) (shown_task b i s)
+  looped-step s e o target p r is q h = rw (h, q, is) refl
+
+-- What the family keeps
+
+pub passes-keep : (b : Body) (p : Trace) (w next : Work) (r : MadeStep) → cut_of next ≡ None → r ≡ step-in.Passes (view_of (gone (with_trace b p)) next) → KeepsStep (view_of b w) r
+passes-keep b p w next r none h = rw h (refl, refl, refl, none)
+
+pub spawns-keep : (b : Body) (p : Trace) (w next : Work) (o : Origin) (at : Destination) (r : MadeStep) → cut_of next ≡ None →
+    r ≡ step-in.Stops (stop-in.Spawn (fresh_with b.family.knows b.family.plan o) (view_of (with_child (with_trace b p) o at) next)) → KeepsStep (view_of b w) r
+spawns-keep b p w next o at r none h = rw h (refl, refl, refl, refl, none)
+
+keeps-alike : (b : Body) (w other : Work) (r : MadeStep) → KeepsStep (view_of b w) r → KeepsStep (view_of b other) r
+keeps-alike b w other (step-in.Passes next) h = h
+keeps-alike b w other (step-in.Stops (stop-in.Spawn child rest)) h = h
+keeps-alike b w other (step-in.Stops (stop-in.Wait rest)) h = h
+keeps-alike b w other (step-in.Stops (stop-in.Done answer give)) h = h
+
+-- The instance of a task that moves in a row have led to goes on.
+pub record IsOnRun (first : TaskView) (b : Body) (i : RawInstance) : Type 0 where
+  pub sound : IsSound b (work.Runs (stage.Running i))
+  pub leads : LeadsTo first (view_of b (work.Runs (stage.Running i)))
+
+-- A move
+
+module _ (b : Body) (i next : RawInstance) (plan : PlanView) (m : MoveResult) (p : plan ≡ b.family.plan) (e : move plan (moves.path_of i) (moves.machine_of plan i) ≡ run_of m (moves.machine_of plan next)) (h : IsSound b (work.Runs (stage.Running i))) where
+  pub runs-on : moves.path_of next ≡ moves.path_of i → moves.IsInstance plan next → RunsAt b.family.plan (path_of (own_instance b.family.origin)) next
+  runs-on path sound = record { sound = subst (λ (q : PlanView). moves.IsInstance q next) p sound; at = path ∙ h.works.at }
+
+  moves-so : (n : MoveResult) → m ≡ n → move b.family.plan (moves.path_of i) (moves.machine_of b.family.plan i) ≡ run_of n (moves.machine_of b.family.plan next)
+  moves-so n is =
+      subst (λ (q : PlanView). move q (moves.path_of i) (moves.machine_of q i) ≡ run_of n (moves.machine_of q next)) p
+      (e ∙ ap (λ (x : MoveResult). run_of x (moves.machine_of plan next)) is)
+
+  pub went-sound : StepsAreSound → (s : Effects) → m ≡ moved-in.Went s → moves.path_of next ≡ moves.path_of i → moves.IsInstance plan next → MovesTrail plan m → IsSoundShown b next s
+  went-sound law s is path sound trail =
+      shown-sound b i law next s h (moves-so (moved-in.Went s) is) (runs-on path sound)
+      (subst (λ (q : PlanView). ShowsTrail q s) p (subst (MovesTrail plan) is trail))
+
+  pub gave-sound : StepsAreSound → (v : Value) → m ≡ moved-in.Returned v → IsSound (gone b) (work.Runs (stage.Returned v))
+  gave-sound law v is = pass-sound law b (work.Runs (stage.Running i)) (work.Runs (stage.Returned v)) h (go-gave b i next v h.works (moves-so (moved-in.Returned v) is)) tt
+
+  pub gave-is : (v : Value) (r : MadeStep) → m ≡ moved-in.Returned v → r ≡ step-in.Passes (view_of (gone b) (work.Runs (stage.Returned v))) → IsStep (view_of b (work.Runs (stage.Running i))) r
+  gave-is v r is = pass-is b (work.Runs (stage.Running i)) (work.Runs (stage.Returned v)) r tt (go-gave b i next v h.works (moves-so (moved-in.Returned v) is))
+
+  pub faulted-sound : StepsAreSound → (f : Fault) → m ≡ moved-in.Faulted f → IsSound (gone b) (work.Runs (stage.Faulted f))
+  faulted-sound law f is = pass-sound law b (work.Runs (stage.Running i)) (work.Runs (stage.Faulted f)) h (go-faulted b i next f h.works (moves-so (moved-in.Faulted f) is)) tt
+
+  pub faulted-is : (f : Fault) (r : MadeStep) → m ≡ moved-in.Faulted f → r ≡ step-in.Passes (view_of (gone b) (work.Runs (stage.Faulted f))) → IsStep (view_of b (work.Runs (stage.Running i))) r
+  faulted-is f r is = pass-is b (work.Runs (stage.Running i)) (work.Runs (stage.Faulted f)) r tt (go-faulted b i next f h.works (moves-so (moved-in.Faulted f) is))
+
+  went-one : (s : Effects) (r : MadeStep) → m ≡ moved-in.Went s → step_of r ≡ stops_at (child_in (effects_of s)) (shown_task b next s) → KeepsStep (view_of b (work.Runs (stage.Running next))) r →
+      IsStep (view_of b (work.Runs (stage.Running i))) r
+  went-one s r is g k = record { is = go-went b i next s h.works (moves-so (moved-in.Went s) is) ∙ sym g; keeps = keeps-alike b (work.Runs (stage.Running next)) (work.Runs (stage.Running i)) r k }
+
+  pub went-is : {X E : Type 0} (f : X → MadeStep) (s : Effects) (r : Result X E) → m ≡ moved-in.Went s → IfOk r (λ x. step_of (f x) ≡ stops_at (child_in (effects_of s)) (shown_task b next s)) →
+      IfOk r (λ x. KeepsStep (view_of b (work.Runs (stage.Running next))) (f x)) → IfOk r (λ x. IsStep (view_of b (work.Runs (stage.Running i))) (f x))
+  went-is f s (Ok x) is g k = went-one s (f x) is g k
+  went-is f s (Err x) is g k = tt
+
+  -- one that shows nothing, or an event alone: the instance goes on
+
+  still-is : (s : Effects) → m ≡ moved-in.Went s → s ≡ shown-in.Nothing → IsStep (view_of b (work.Runs (stage.Running i))) (step-in.Passes (view_of (gone b) (work.Runs (stage.Running next))))
+  still-is s is shows = went-one s _ is (nothing-step b next s _ shows refl) (refl, refl, refl, refl)
+
+  pub still-on : StepsAreSound → MovesFall → (first : TaskView) → LeadsTo first (view_of b (work.Runs (stage.Running i))) → (s : Effects) → m ≡ moved-in.Went s → s ≡ shown-in.Nothing →
+      moves.path_of next ≡ moves.path_of i → moves.IsInstance plan next → MovesTrail plan m → IsOnRun first (gone b) next
+  still-on law fall first leads s is shows path sound trail = record {
+    sound = nothing-sound b next s shows (went-sound law s is path sound trail);
+    leads = leads-on fall first _ _ _ leads (still-is s is shows) refl;
+  }
+
+  pub still-falls : MovesFall → (s : Effects) → m ≡ moved-in.Went s → s ≡ shown-in.Nothing → moves_left (task_of (gone b) (work.Runs (stage.Running next))) < moves_left (task_of b (work.Runs (stage.Running i)))
+  still-falls fall s is shows = falls fall (view_of b (work.Runs (stage.Running i))) (view_of (gone b) (work.Runs (stage.Running next))) _ (still-is s is shows) refl
+
+  tells-is : (s : Effects) (t : Event) (q : Trace) → m ≡ moved-in.Went s → s ≡ shown-in.Emitted t → q ≡ emit t b.trace →
+      IsStep (view_of b (work.Runs (stage.Running i))) (step-in.Passes (view_of (gone (with_trace b q)) (work.Runs (stage.Running next))))
+  tells-is s t q is shows g = went-one s _ is (emitted-step b next s t q _ shows g refl) (refl, refl, refl, refl)
+
+  pub tells-on : StepsAreSound → MovesFall → (first : TaskView) → LeadsTo first (view_of b (work.Runs (stage.Running i))) → (s : Effects) (t : Event) (q : Trace) → m ≡ moved-in.Went s → s ≡ shown-in.Emitted t → q ≡ emit t b.trace →
+      moves.path_of next ≡ moves.path_of i → moves.IsInstance plan next → MovesTrail plan m → IsOnRun first (gone (with_trace b q)) next
+  tells-on law fall first leads s t q is shows g path sound trail = record {
+    sound = emitted-sound b next s t q shows g (went-sound law s is path sound trail);
+    leads = leads-on fall first _ _ _ leads (tells-is s t q is shows g) refl;
+  }
+
+  pub tells-falls : MovesFall → (s : Effects) (t : Event) (q : Trace) → m ≡ moved-in.Went s → s ≡ shown-in.Emitted t → q ≡ emit t b.trace →
+      moves_left (task_of (gone (with_trace b q)) (work.Runs (stage.Running next))) < moves_left (task_of b (work.Runs (stage.Running i)))
+  tells-falls fall s t q is shows g = falls fall (view_of b (work.Runs (stage.Running i))) (view_of (gone (with_trace b q)) (work.Runs (stage.Running next))) _ (tells-is s t q is shows g) refl
+
+  -- one that ends the moves in a row: a wait at a sync, a value, a fault
+
+  abbrev syncs : Work
+  syncs = work.Runs (stage.AtSync next)
+
+  pub syncs-sound : StepsAreSound → (s : Effects) (t : Event) (q : Trace) → m ≡ moved-in.Went s → s ≡ shown-in.Synced t → q ≡ emit t b.trace →
+      moves.path_of next ≡ moves.path_of i → moves.IsInstance plan next → MovesTrail plan m → IsSound (waiting (gone (with_trace b q))) syncs
+  syncs-sound law s t q is shows g path sound trail =
+      let k = synced-sound b next s t q shows g (went-sound law s is path sound trail) in wait-sound law (gone (with_trace b q)) syncs syncs k refl k.works
+
+  pub syncs-run : MovesFall → (first : TaskView) → LeadsTo first (view_of b (work.Runs (stage.Running i))) → (s : Effects) (t : Event) (q : Trace) → m ≡ moved-in.Went s → s ≡ shown-in.Synced t → q ≡ emit t b.trace →
+      RunsAt b.family.plan (path_of (own_instance b.family.origin)) next → (r : MadeStep) → r ≡ step-in.Stops (stop-in.Wait (view_of (waiting (gone (with_trace b q))) syncs)) → IsRun first r
+  syncs-run fall first leads s t q is shows g at r e = record {
+    before = view_of (gone (with_trace b q)) syncs;
+    leads = leads-on fall first _ _ _ leads (went-one s (step-in.Passes (view_of (gone (with_trace b q)) syncs)) is (synced-step b next s t q _ shows g refl) (refl, refl, refl, refl)) refl;
+    step = wait-is (gone (with_trace b q)) syncs syncs r at refl e;
+  }
+
+  pub gives-run : MovesFall → (first : TaskView) → LeadsTo first (view_of b (work.Runs (stage.Running i))) → (v : Value) → m ≡ moved-in.Returned v →
+      (r : MadeStep) → IsStep (view_of (gone b) (work.Runs (stage.Returned v))) r → IsRun first r
+  gives-run fall first leads v is r e = record {
+    before = view_of (gone b) (work.Runs (stage.Returned v));
+    leads = leads-on fall first _ _ _ leads (gave-is v (step-in.Passes (view_of (gone b) (work.Runs (stage.Returned v)))) is refl) refl;
+    step = e;
+  }
+
+  pub faults-run : MovesFall → (first : TaskView) → LeadsTo first (view_of b (work.Runs (stage.Running i))) → (f : Fault) → m ≡ moved-in.Faulted f →
+      (r : MadeStep) → IsStep (view_of (gone b) (work.Runs (stage.Faulted f))) r → IsRun first r
+  faults-run fall first leads f is r e = record {
+    before = view_of (gone b) (work.Runs (stage.Faulted f));
+    leads = leads-on fall first _ _ _ leads (faulted-is f (step-in.Passes (view_of (gone b) (work.Runs (stage.Faulted f)))) is refl) refl;
+    step = e;
+  }
+
+-- Moves in a row
+
+module _ (first : TaskView) (b : Body) (i : RawInstance) (h : IsOnRun first b i) where
+  run-is : (r : MadeStep) → IsStep (view_of b (work.Runs (stage.Running i))) r → IsRun first r
+  run-is r k = record { before = view_of b (work.Runs (stage.Running i)); leads = h.leads; step = k }
+
+  pub run-is-ok : {X E : Type 0} (f : X → MadeStep) (r : Result X E) → IfOk r (λ x. IsStep (view_of b (work.Runs (stage.Running i))) (f x)) → IfOk r (λ x. IsRun first (f x))
+  run-is-ok f (Ok x) k = run-is (f x) k
+  run-is-ok f (Err x) k = tt
+
+-- Moves in a row that show nothing
+
+-- the instance with this in its box
+abbrev pub holding : RawInstance → Running → RawInstance
+holding i r = record i { running = record i.running { value = r } }
+
+moved-gone : (t : meaning.Task) (effects : List Effect) (ending : Result Reached Fault) → meaning.moved t effects ending ≡ meaning.moved (record t { advanced = true }) effects ending
+moved-gone t effects (Ok (Stands m)) = refl
+moved-gone t effects (Ok (Gives v)) = refl
+moved-gone t effects (Err f) = refl
+
+-- what comes next where the next step is the same
+next-alike : (t other : meaning.Task) (stop : meaning.Stop) → meaning.step t ≡ meaning.step other → IsNext other stop → IsNext t stop
+next-alike t other stop same (Now e) = Now (same ∙ e)
+next-alike t other stop same (Later next e n) = Later next (same ∙ e) n
+
+module _ (b : Body) (i : RawInstance) where
+  abbrev on_task : meaning.Task
+  on_task = task_of b (work.Runs (stage.Running i))
+
+  step-gone : meaning.step on_task ≡ meaning.step (record on_task { advanced = true })
+  step-gone = let r = move b.family.plan (path_of (own_instance b.family.origin)) (moves.machine_of b.family.plan i) in moved-gone on_task r.items r.ending
+
+  -- an instance that goes on is advanced by its next move anyway
+  pub gone-run : (first : TaskView) → IsOnRun first b i → IsOnRun first (gone b) i
+  gone-run first h =
+      let t = h.sound.task in
+      let l = h.leads in
+      record {
+        sound = record {
+          task = record { finishes = t.finishes; known = t.known; clear = t.clear; parts = t.parts; shown = t.shown; work = t.work; pending = t.pending };
+          family = h.sound.family;
+          works = h.sound.works;
+        };
+        leads = record {
+          next = λ stop n. l.next stop (next-alike on_task (record on_task { advanced = true }) stop step-gone n);
+          fewer = l.fewer;
+          plan = l.plan;
+          origin = l.origin;
+          children = l.children;
+          loads = l.loads;
+          knows = l.knows;
+          cut = l.cut;
+        };
+      }
+
+module _ (law : StepsAreSound) (fall : MovesFall) (plan : PlanView) (first : TaskView) (b : Body) (i : RawInstance) (p : plan ≡ b.family.plan) (h : IsOnRun first (gone b) i) where
+  row-on : (now : Running) → Row plan i.running.value now → IsOnRun first (gone b) (holding i now)
+  row-on now (Still _ e) = subst (λ (r : Running). IsOnRun first (gone b) (holding i r)) (sym e) h
+  row-on now (More before _ row e path sound) =
+      let k = row-on before row in
+      still-on (gone b) (holding i before) (holding i now) plan (moved-in.Went shown-in.Nothing) p e k.sound law fall first k.leads shown-in.Nothing refl refl path sound tt
+
+-- where the moves in a row that show nothing came to, before the last one
+pub row-run : StepsAreSound → MovesFall → (plan : PlanView) (b : Body) (i : RawInstance) → plan ≡ b.family.plan → IsSound b (work.Runs (stage.Running i)) → (now : Running) → Row plan i.running.value now →
+    IsOnRun (view_of b (work.Runs (stage.Running i))) (gone b) (holding i now)
+row-run law fall plan b i p sound now row =
+    let first = view_of b (work.Runs (stage.Running i)) in
+    row-on law fall plan first b i p (gone-run b i first (record { sound = sound; leads = leads-start first refl })) now row
+
+pub on-run-over : (first : TaskView) (b c : Body) (i j : RawInstance) → IsOnRun first b i → IsOnRun (view_of b (work.Runs (stage.Running i))) c j → IsOnRun first c j
+on-run-over first b c i j h k = record { sound = k.sound; leads = leads-over first _ _ h.leads k.leads }

@@ -1,0 +1,3 @@
+pub mod Eyes
+pub mod Fronts
+pub mod Noting

@@ -1,0 +1,93 @@
+-- What is noted of a step.
+use Rattle.std.proofs.Common.{◌≡◌, ℕ, List, [], ◌++◌, Option, Some, None, refl, sym, ap, ◌∙◌, subst}
+use Rattle.serial_meaning.specs.declared.event.Event.{Event}
+use Rattle.serial_meaning.specs.declared.event.Fault.{Fault}
+use Rattle.strand_meaning.specs.Laws.{MovesFall, StopsAreSound}
+use Rattle.strand_meaning.specs.Observation as meaning
+use Rattle.strand_meaning.specs.Observation.{newest, also, no_notes, step_notes, Shows, Now, Later}
+use Rattle.strand_meaning.specs.Sound.{IsTask}
+use Rattle.strand_meaning.specs.Strands.{own_events, events_at}
+use Rattle.strand_meaning.specs.Task.{Stop}
+use Rattle.strand_meaning.proofs.NodesNoted.Noted.{also-assoc}
+use Rattle.strand_meaning.proofs.NodesNoted.NoteWords.{events_at-append}
+use Rattle.strand_machine.specs.Eyes.{looks}
+use Rattle.strand_machine.specs.Noted.{IsNoted, with_step}
+use Rattle.strand_machine.specs.Stops.{IsStep, LeadsTo, stop_of}
+use Rattle.strand_machine.specs.Tasks.{TaskView}
+use Rattle.strand_machine.specs.declared.eye.Eye.{Eye}
+use Rattle.strand_machine.specs.declared.note.Observed.{Observed}
+use Rattle.strand_machine.specs.declared.stop.MoveOrStop.{MoveOrStop as MadeStep}
+use Rattle.strand_machine.specs.declared.stop.MoveOrStop.TheVariants as step-in
+use Rattle.strand_machine.specs.declared.stop.Stop.{Stop as MadeStop}
+use Rattle.strand_machine.proofs.NextStops.Advancing.{leads-start, leads-on, stops-there}
+use Rattle.strand_machine.proofs.NodesNoted.Eyes.{looks-append, own-append}
+
+newest-none : (f : Option Fault) → newest None f ≡ f
+newest-none None = refl
+newest-none (Some f) = refl
+
+also-nothing : (later : meaning.Observation) → later ≡ also no_notes later
+also-nothing later =
+    ap (λ (f : Option Fault). record later { fault = f }) (sym (newest-none later.fault)) ∙ ap (λ (f : Option Fault). record later { fault = newest None later.fault; joined = f }) (sym (newest-none later.joined))
+
+-- What comes next of a task comes next of the first one, after what is noted, of which the notes have what is of the pedigree j.
+pub record LeadsNoted (first : TaskView) (j : List ℕ) (before : Eye) (now : TaskView) (notes : Observed) : Type 0 where
+  pub leads : LeadsTo first now
+  pub front : meaning.Observation
+  pub shows : (later : meaning.Observation) (stop : Stop) → Shows now.task later stop → Shows first.task (also front later) stop
+  pub eye : notes.eye ≡ looks j before front.items
+  pub events : notes.events ≡ events_at j (own_events front.items)
+  pub fault : notes.fault ≡ front.fault
+  pub joined : notes.joined ≡ front.joined
+
+pub noted-start : (t : TaskView) (j : List ℕ) (eye : Eye) (notes : Observed) → t.cut ≡ None → notes ≡ record { eye = eye; events = []; fault = None; joined = None } → LeadsNoted t j eye t notes
+noted-start t j eye notes goes h = record {
+  leads = leads-start t goes;
+  front = no_notes;
+  shows = λ later stop s. subst (λ (n : meaning.Observation). Shows t.task n stop) (also-nothing later) s;
+  eye = ap (λ (n : Observed). n.eye) h;
+  events = ap (λ (n : Observed). n.events) h;
+  fault = ap (λ (n : Observed). n.fault) h;
+  joined = ap (λ (n : Observed). n.joined) h;
+}
+
+module _ (first : TaskView) (j : List ℕ) (eye : Eye) (now : TaskView) (notes after : Observed) (h : LeadsNoted first j eye now notes) (same : after ≡ with_step j (step_notes now.task) notes) where
+  abbrev step-shows : meaning.Observation
+  step-shows = step_notes now.task
+
+  more-seen : after.eye ≡ looks j eye (h.front.items ++ step-shows.items)
+  more-seen = ap (λ (n : Observed). n.eye) same ∙ ap (λ (e : Eye). looks j e step-shows.items) h.eye ∙ sym (looks-append j eye h.front.items step-shows.items)
+
+  more-events : after.events ≡ events_at j (own_events (h.front.items ++ step-shows.items))
+  more-events =
+      ap (λ (n : Observed). n.events) same
+      ∙ ap (λ (l : List Event). l ++ events_at j (own_events step-shows.items)) h.events
+      ∙ sym (events_at-append j (own_events h.front.items) (own_events step-shows.items))
+      ∙ ap (events_at j) (sym (own-append h.front.items step-shows.items))
+
+  pub noted-on : MovesFall → (next : TaskView) (s : MadeStep) → IsStep now s → s ≡ step-in.Passes next → LeadsNoted first j eye next after
+  noted-on law next s g e =
+      let k : IsStep now (step-in.Passes next) = subst (IsStep now) e g in
+      record {
+        leads = leads-on law first now next s h.leads g e;
+        front = also h.front step-shows;
+        shows = λ later stop n. subst (λ (x : meaning.Observation). Shows first.task x stop) (sym (also-assoc h.front step-shows later)) (h.shows (also step-shows later) stop (Later next.task later k.is n refl));
+        eye = more-seen;
+        events = more-events;
+        fault = ap (λ (n : Observed). n.fault) same ∙ ap (λ (f : Option Fault). newest f step-shows.fault) h.fault;
+        joined = ap (λ (n : Observed). n.joined) same ∙ ap (λ (f : Option Fault). newest f step-shows.joined) h.joined;
+      }
+
+  pub noted-stop : StopsAreSound → IsTask first.task → (stop : MadeStop) (s : MadeStep) → IsStep now s → s ≡ step-in.Stops stop →
+      IsNoted first j eye (record { stop = stop; eye = after.eye; events = after.events; fault = after.fault; joined = after.joined })
+  noted-stop sounds sound stop s g e =
+      let k : IsStep now (step-in.Stops stop) = subst (IsStep now) e g in
+      record {
+        stop = stops-there sounds first now s stop sound h.leads g e;
+        notes = also h.front step-shows;
+        shows = h.shows step-shows (stop_of stop) (Now k.is refl);
+        eye = more-seen;
+        events = more-events;
+        fault = ap (λ (n : Observed). n.fault) same ∙ ap (λ (f : Option Fault). newest f step-shows.fault) h.fault;
+        joined = ap (λ (n : Observed). n.joined) same ∙ ap (λ (f : Option Fault). newest f step-shows.joined) h.joined;
+      }

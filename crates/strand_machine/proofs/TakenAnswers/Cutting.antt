@@ -1,0 +1,256 @@
+-- A task that takes its children's answers, of which some may be cuts.
+use Rattle.std.proofs.Common.{◌≡◌, Bool, true, false, ◌||◌, List, [], ◌∷◌, Option, Some, None, Result, length, refl, sym, ap, ◌∙◌, subst, arith}
+use Rattle.std.proofs.lemmas.Bool.{true≢false}
+use Rattle.serial_meaning.specs.Answer.{AnswerView, AnswerTag, IsAnswer}
+use Rattle.serial_meaning.specs.Eval.{Evaluation, eval}
+use Rattle.serial_meaning.specs.Plan.{PlanView}
+use Rattle.serial_meaning.specs.declared.value.Value.{Value}
+use Rattle.serial_meaning.specs.declared.event.Event.{Event}
+use Rattle.serial_meaning.specs.declared.event.Fault.{Fault}
+use Rattle.serial_meaning.specs.declared.origin.Origin.{Origin}
+use Rattle.serial_meaning.specs.declared.answer.Outcome.{Outcome}
+use Rattle.serial_meaning.specs.declared.answer.Outcome.TheVariants as outcome
+use Rattle.strand_meaning.specs.Answers.{evaluation_of, answer_evaluations}
+use Rattle.strand_meaning.specs.Cuts.{AreAnswersOf, AnswersEnd, IsByFaultOf, by_fault, ended_after, or_ends}
+use Rattle.strand_meaning.specs.Laws.{AnswersAreEvaluations}
+use Rattle.strand_meaning.specs.Machine.{Half}
+use Rattle.strand_meaning.specs.Trace.{AwaitedChild, Trace, heard, heard_all}
+use Rattle.strand_meaning.specs.Sound.{IsTask}
+use Rattle.strand_meaning.specs.Task.{takes, more_values}
+use Rattle.strand_machine.specs.Family.{FamilyView, tag, tags, origins}
+use Rattle.strand_machine.specs.Merge.{AreSaid, BecomesWork, EndsShort, IsShort, Puts, Takes, TakesAnswers, end_of, ended_of, ending_of, meanings, trace_of, with_stage}
+use Rattle.strand_machine.specs.Parts.{awaited, part_of, parts_of, place_of}
+use Rattle.strand_machine.specs.declared.destination.Destination.{Destination}
+use Rattle.strand_machine.specs.declared.destination.Destination.TheVariants as place
+use Rattle.strand_machine.specs.Stops.{IsCutOn, WentOn, answer_tags, any_cut, is_cut, prefix_with, view_on, went}
+use Rattle.strand_machine.specs.Tasks.{TaskView, IsCutShort, task_of, view_of, work_of}
+use Rattle.strand_machine.specs.declared.body.Body.{Body}
+use Rattle.strand_machine.specs.declared.merge.Merge.{Merge}
+use Rattle.strand_machine.specs.declared.trace.Behind.{Behind}
+use Rattle.strand_machine.specs.declared.work.Work.{Work}
+use Rattle.strand_machine.specs.declared.work.Work.TheVariants as work
+use Rattle.strand_machine.proofs.TakenAnswers.Answering.{eval-of, origins-tags}
+use Rattle.strand_machine.proofs.Moves.Handed.{awaited_parts}
+use Rattle.strand_machine.proofs.TakenAnswers.Taking.{other-values, same-stage, takes-then, takes-none}
+
+-- One child
+
+says : (out : List Event) (ended : Outcome) → evaluation_of out ended ≡ record { items = out; ending = ending_of ended }
+says out (outcome.Value v) = refl
+says out (outcome.Values vs) = refl
+says out (outcome.Fault f) = refl
+says out (outcome.Cut f) = refl
+
+or-false : (b : Bool) → (b || false) ≡ b
+or-false true = refl
+or-false false = refl
+
+pub takes-answer : (p : AwaitedChild) (a : AnswerView) (before heard-it after : Merge) → trace_of heard-it ≡ heard p (record { items = a.out; ending = ending_of a.outcome }) (trace_of before) →
+    ended_of heard-it ≡ or_ends (ended_of before) a.outcome → heard-it.cut ≡ (before.cut || is_cut a.outcome) → heard-it.values ≡ before.values → heard-it.work ≡ before.work →
+    Puts p.place (ending_of a.outcome) heard-it after → IsAnswer a.plan a.origin a.out a.outcome → TakesAnswers (p ∷ []) (a ∷ []) before after
+takes-answer p a before heard-it after trace ended cut values work h said = record {
+  takes = subst (λ (e : Evaluation). Takes (p ∷ []) (e ∷ []) before after) (sym (says a.out a.outcome)) (record {
+    trace = h.trace ∙ trace;
+    values = h.values ∙ ap (λ vs. more_values p.place (ending_of a.outcome) vs) values;
+    work = subst (λ w. BecomesWork (with_stage (takes p.place (ending_of a.outcome))) w after.work) work h.work;
+  });
+  ended = h.ended ∙ ended;
+  cut = h.cut ∙ cut ∙ ap (λ (b : Bool). before.cut || b) (sym (or-false (is_cut a.outcome)));
+  said = (said, tt);
+}
+
+pub puts-half : (p : Destination) (ending : Result (List Value) Fault) (before after : Merge) → p ≡ place.Half → after ≡ record before { values = more_values Half ending before.values } → Puts (place_of p) ending before after
+puts-half p ending before after at is =
+    let there : Puts Half ending before (record before { values = more_values Half ending before.values }) = record {
+      trace = refl;
+      ended = refl;
+      cut = refl;
+      values = refl;
+      work = record { is = λ plan. sym (same-stage (work_of plan before.work)); works = λ plan o h. h };
+    } in
+    subst (λ (g : Merge). Puts (place_of p) ending before g) (sym is) (subst (λ (q : Destination). Puts (place_of q) ending before (record before { values = more_values Half ending before.values })) (sym at) there)
+
+pub puts-other : (p : Destination) (ending : Result (List Value) Fault) (before : Merge) (w : Work) → (p ≡ place.Half → ⊥) → BecomesWork (with_stage (takes (place_of p) ending)) before.work w →
+    Puts (place_of p) ending before (record before { work = w })
+puts-other p ending before w other h = record { trace = refl; ended = refl; cut = refl; values = sym (other-values p other ending before.values); work = h }
+
+-- One child, and then the others
+
+or-assoc : (a b c : Bool) → ((a || b) || c) ≡ (a || (b || c))
+or-assoc true b c = refl
+or-assoc false b c = refl
+
+answers-then : (p : AwaitedChild) (ps : List AwaitedChild) (a : AnswerView) (answers : List AnswerView) (before between after : Merge) → TakesAnswers (p ∷ []) (a ∷ []) before between → TakesAnswers ps answers between after →
+    TakesAnswers (p ∷ ps) (a ∷ answers) before after
+answers-then p ps a answers before between after h k = record {
+  takes = takes-then p ps (evaluation_of a.out a.outcome) (answer_evaluations answers) before between after h.takes k.takes;
+  ended = k.ended ∙ ap (λ (o : Option Outcome). ended_after o answers) h.ended;
+  cut = k.cut ∙ ap (λ (b : Bool). b || any_cut answers) (h.cut ∙ ap (λ (b : Bool). before.cut || b) (or-false (is_cut a.outcome))) ∙ or-assoc before.cut (is_cut a.outcome) (any_cut answers);
+  said = (h.said.0, k.said);
+}
+
+pub answers-next : (xs ys : List AnswerView) (bs cs : List Behind) (a : AnswerView) (b : Behind) (before between after : Merge) → xs ≡ a ∷ ys → bs ≡ b ∷ cs →
+    TakesAnswers (part_of a.origin b ∷ []) (a ∷ []) before between → TakesAnswers (parts_of (origins (answer_tags ys)) cs) ys between after →
+    TakesAnswers (parts_of (origins (answer_tags xs)) bs) xs before after
+answers-next xs ys bs cs a b before between after e k h more =
+    let all : TakesAnswers (parts_of (origins (answer_tags (a ∷ ys))) (b ∷ cs)) (a ∷ ys) before after =
+    answers-then (part_of a.origin b) (parts_of (origins (answer_tags ys)) cs) a ys before between after h more in
+    subst (λ (ds : List Behind). TakesAnswers (parts_of (origins (answer_tags xs)) ds) xs before after) (sym k)
+    (subst (λ (zs : List AnswerView). TakesAnswers (parts_of (origins (answer_tags zs)) (b ∷ cs)) zs before after) (sym e) all)
+
+pub answers-no-more : (xs : List AnswerView) (bs : List Behind) (g : Merge) → length xs ≡ 0 → length bs ≡ 0 → TakesAnswers (parts_of (origins (answer_tags xs)) bs) xs g g
+answers-no-more [] bs g h k = record { takes = takes-none g; ended = refl; cut = sym (or-false g.cut); said = tt }
+answers-no-more (x ∷ xs) bs g h k = absurd (omega arith)
+
+-- Answers of which none is a cut
+
+or-left : (a b : Bool) → (a || b) ≡ false → a ≡ false
+or-left false b h = refl
+or-left true b h = absurd (true≢false h)
+
+or-right : (a b : Bool) → (a || b) ≡ false → b ≡ false
+or-right false b h = h
+or-right true b h = absurd (true≢false h)
+
+pub whole-answers : AnswersAreEvaluations → (answers : List AnswerView) → AreSaid answers → any_cut answers ≡ false → answer_evaluations answers ≡ meanings (answer_tags answers)
+whole-answers law [] said whole = refl
+whole-answers law (a ∷ answers) said whole =
+    ap (λ (e : Evaluation). e ∷ answer_evaluations answers) (law a.plan a.origin a.out a.outcome (eval-of a.plan a.origin a.out a.outcome (or-left (is_cut a.outcome) (any_cut answers) whole) said.0))
+    ∙ ap (λ (es : List Evaluation). eval a.plan a.origin ∷ es) (whole-answers law answers said.1 (or-right (is_cut a.outcome) (any_cut answers) whole))
+
+-- Answers of children
+
+pub answers-of : (plan : PlanView) (ps : List AwaitedChild) (answers : List AnswerView) → AreSaid answers → answer_tags answers ≡ tags plan (awaited ps) → AreAnswersOf plan ps answers
+answers-of plan [] [] said e = tt
+answers-of plan [] (a ∷ answers) said e = absurd (cc)
+answers-of plan (p ∷ ps) [] said e = absurd (cc)
+answers-of plan (p ∷ ps) (a ∷ answers) said e =
+    let same : tag a.plan a.origin ≡ tag plan p.child = cc in
+    (ap (λ (t : AnswerTag). t.plan) same, ap (λ (t : AnswerTag). t.origin) same, said.0, answers-of plan ps answers said.1 (cc))
+
+-- an end stays, and one comes of a cut
+
+abbrev EndsAfter : Option Outcome → List AnswerView → Type 0
+EndsAfter o answers = (ended : Outcome) × (ended_after o answers ≡ Some ended)
+
+end-stays : (ended : Outcome) (answers : List AnswerView) → EndsAfter (Some ended) answers
+end-stays ended [] = (ended, refl)
+end-stays ended (a ∷ answers) = end-stays ended answers
+
+ends-next : (o : Outcome) (answers : List AnswerView) → (any_cut answers ≡ true → EndsAfter None answers) → (is_cut o || any_cut answers) ≡ true → EndsAfter (or_ends None o) answers
+ends-next (outcome.Value v) answers later cut = later cut
+ends-next (outcome.Values vs) answers later cut = later cut
+ends-next (outcome.Fault f) answers later cut = end-stays (outcome.Fault f) answers
+ends-next (outcome.Cut f) answers later cut = end-stays (outcome.Cut f) answers
+
+ends-some : (o : Option Outcome) (answers : List AnswerView) → any_cut answers ≡ true → EndsAfter o answers
+ends-some o [] cut = absurd (true≢false (sym cut))
+ends-some (Some ended) (a ∷ answers) cut = end-stays ended answers
+ends-some None (a ∷ answers) cut = ends-next a.outcome answers (ends-some None answers) cut
+
+fault-first : (f : Option Fault) → end_of f false ≡ by_fault f
+fault-first None = refl
+fault-first (Some f) = refl
+
+pub own-children : (b : Body) (prefix : List Event) (fault : Option Fault) (os : List Origin) (bs : List Behind) (ts : List AnswerTag) → ◌≡◌ {A = Trace} (record { prefix = prefix; fault = fault; handed = parts_of os bs }) b.trace →
+    length os ≡ length bs → ts ≡ tags b.family.plan (awaited b.trace.handed) → origins ts ≡ os
+own-children b prefix fault os bs ts view same e =
+    ap origins e ∙ origins-tags b.family.plan (awaited b.trace.handed) ∙ ap (λ (p : Trace). awaited p.handed) (sym view) ∙ awaited_parts os bs same
+
+pub went-whole : (answers : List AnswerView) (t next : TaskView) → any_cut answers ≡ false → next ≡ view_on t → WentOn answers t next
+went-whole answers t next whole h = subst (λ (cut : Bool). went cut answers t next) (sym whole) h
+
+pub went-short : (answers : List AnswerView) (t next : TaskView) → any_cut answers ≡ true → IsCutOn answers t next × (next.loads ≡ t.loads) → WentOn answers t next
+went-short answers t next cut h = subst (λ (c : Bool). went c answers t next) (sym cut) h
+
+-- what the parts gave out is what the task had
+pub taken-from : (b : Body) (w : Work) (prefix : List Event) (fault : Option Fault) (values : List Value) (left : Work) (ps : List AwaitedChild) (answers : List AnswerView) (after : Merge) → values ≡ b.values → left ≡ w →
+    TakesAnswers ps answers (record { prefix = prefix; fault = fault; values = values; work = left; cut = false; by_cut = false }) after →
+    TakesAnswers ps answers (record { prefix = prefix; fault = fault; values = b.values; work = w; cut = false; by_cut = false }) after
+taken-from b w prefix fault values left ps answers after vs ws h =
+    subst (λ (x : Work). TakesAnswers ps answers (record { prefix = prefix; fault = fault; values = b.values; work = x; cut = false; by_cut = false }) after) ws
+    (subst (λ (xs : List Value). TakesAnswers ps answers (record { prefix = prefix; fault = fault; values = xs; work = left; cut = false; by_cut = false }) after) vs h)
+
+-- What is left of a task that took a cut
+
+module _ (b : Body) (w : Work) (prefix : List Event) (fault : Option Fault) (os : List Origin) (bs : List Behind) (answers : List AnswerView) (after : Merge) where
+  abbrev begun : Merge
+  begun = record { prefix = prefix; fault = fault; values = b.values; work = w; cut = false; by_cut = false }
+
+  -- where none is a cut they are the children's evaluations
+  pub takes-whole : AnswersAreEvaluations → TakesAnswers (parts_of (origins (answer_tags answers)) bs) answers begun after → any_cut answers ≡ false →
+      Takes (parts_of (origins (answer_tags answers)) bs) (meanings (answer_tags answers)) begun after
+  takes-whole law h whole = subst (λ (es : List Evaluation). Takes (parts_of (origins (answer_tags answers)) bs) es begun after) (whole-answers law answers h.said whole) h.takes
+
+  module _ (view : ◌≡◌ {A = Trace} (record { prefix = prefix; fault = fault; handed = parts_of os bs }) b.trace) (children : origins (answer_tags answers) ≡ os)
+      (h : TakesAnswers (parts_of (origins (answer_tags answers)) bs) answers begun after) where
+    handed : parts_of (origins (answer_tags answers)) bs ≡ b.trace.handed
+    handed = ap (λ (cs : List Origin). parts_of cs bs) children ∙ ap (λ (p : Trace). p.handed) view
+
+    front : trace_of begun ≡ record b.trace { handed = [] }
+    front = ap (λ (p : Trace). record p { handed = [] }) view
+
+    prefix-same : after.prefix ≡ prefix_with answers (task_of b w)
+    prefix-same =
+        ap (λ (p : Trace). p.prefix) h.takes.trace ∙ ap (λ (ps : List AwaitedChild). (heard_all ps (answer_evaluations answers) (trace_of begun)).prefix) handed
+        ∙ ap (λ (p : Trace). (heard_all b.trace.handed (answer_evaluations answers) p).prefix) front
+
+    ended-same : ended_of after ≡ ended_after (by_fault b.trace.fault) answers
+    ended-same = h.ended ∙ ap (λ (o : Option Outcome). ended_after o answers) (fault-first fault ∙ ap (λ (p : Trace). by_fault p.fault) view)
+
+    pub ends-short : AnswersEnd → IsTask (task_of b w) → AreAnswersOf b.family.plan b.trace.handed answers → any_cut answers ≡ true → EndsShort b.family after
+    ends-short law is are cut =
+        let some = ends-some (by_fault b.trace.fault) answers cut in
+        let end = law (task_of b w) answers some.0 is are some.1 in
+        record { outcome = some.0; ended = ended-same ∙ some.1; answers = subst (λ (es : List Event). IsAnswer b.family.plan b.family.origin es some.0) (sym prefix-same) end.0; known = end.1 }
+
+    pub short-on : (next : TaskView) → IsShort b.family after b.advanced next → IsCutOn answers (view_of b w) next × (next.loads ≡ b.family.loads)
+    short-on next s = (
+      record {
+        plan = s.plan;
+        origin = s.origin;
+        prefix = s.prefix ∙ prefix-same;
+        handed = s.handed;
+        waits = s.waits;
+        advanced = s.advanced;
+        cut = s.cut ∙ ended-same;
+        children = s.children;
+        knows = s.knows;
+      },
+      s.loads,
+    )
+
+-- the task itself
+
+pub short-some : (family : FamilyView) (g : Merge) (r : Option Outcome) → EndsShort family g → r ≡ ended_of g → r ≡ None → ⊥
+short-some family g r h e none = let some : Some h.outcome ≡ None = sym h.ended ∙ sym e ∙ none in absurd (cc)
+
+same-end : (family : FamilyView) (g : Merge) (h : EndsShort family g) (o : Outcome) (r : Option Outcome) → r ≡ ended_of g → r ≡ Some o → h.outcome ≡ o
+same-end family g h o r e is = let some : Some h.outcome ≡ Some o = sym h.ended ∙ sym e ∙ is in cc
+
+pub short-holds : (family : FamilyView) (g : Merge) → EndsShort family g → (o : Outcome) (r : Option Outcome) → r ≡ ended_of g → r ≡ Some o →
+    (b : Body) → b.family ≡ family → b.trace ≡ record { prefix = g.prefix; fault = None; handed = [] } → b.waiting ≡ false → IsCutShort b o
+short-holds family g h o r e is b same trace waits =
+    let prefix : b.trace.prefix ≡ g.prefix = ap (λ (p : Trace). p.prefix) trace in
+    let end = same-end family g h o r e is in
+    record {
+      answers = subst (λ (f : FamilyView). IsAnswer f.plan f.origin b.trace.prefix o) (sym same)
+          (subst (λ (es : List Event). IsAnswer family.plan family.origin es o) (sym prefix) (subst (IsAnswer family.plan family.origin g.prefix) end h.answers));
+      known = subst (λ (f : FamilyView). IsByFaultOf f.plan o) (sym same) (subst (IsByFaultOf family.plan) end h.known);
+      waits = waits;
+    }
+
+pub short-view : (family : FamilyView) (g : Merge) (advanced : Bool) (o : Outcome) (r : Option Outcome) → r ≡ ended_of g → r ≡ Some o →
+    (b : Body) → b.family ≡ family → b.trace ≡ record { prefix = g.prefix; fault = None; handed = [] } → b.waiting ≡ false → b.advanced ≡ advanced → IsShort family g advanced (view_of b (work.Cut o))
+short-view family g advanced o r e is b same trace waits was = record {
+  plan = ap (λ (f : FamilyView). f.plan) same;
+  origin = ap (λ (f : FamilyView). f.origin) same;
+  prefix = ap (λ (p : Trace). p.prefix) trace;
+  handed = ap (λ (p : Trace). p.handed) trace;
+  waits = waits;
+  advanced = was;
+  cut = sym is ∙ e;
+  children = ap (λ (f : FamilyView). f.children) same;
+  loads = ap (λ (f : FamilyView). f.loads) same;
+  knows = ap (λ (f : FamilyView). f.knows) same;
+}

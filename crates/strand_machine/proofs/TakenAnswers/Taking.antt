@@ -1,0 +1,333 @@
+-- A task that takes its children's answers, and goes on.
+use Rattle.std.proofs.Common.{◌≡◌, ℕ, Bool, true, false, List, [], ◌∷◌, Option, Some, None, Result, Ok, Err, length, refl, sym, ap, ◌∙◌, subst, arith, append-nil}
+use Rattle.serial_meaning.specs.Answer.{AnswerView, AnswerTag}
+use Rattle.std.specs.Prelude.{OnOk}
+use Rattle.std.specs.Borrow.{Bor}
+use Rattle.std.specs.Option.{option_copied}
+use Rattle.script_grammar.specs.declared.tree.Name.{Name}
+use Rattle.serial_meaning.specs.Eval.{Evaluation, first_of, eval}
+use Rattle.serial_meaning.specs.Eval as origins-of
+use Rattle.serial_meaning.specs.Plan.{PlanView}
+use Rattle.serial_meaning.specs.declared.value.Value.{Value}
+use Rattle.serial_meaning.specs.declared.event.Event.{Event}
+use Rattle.serial_meaning.specs.declared.event.Fault.{Fault}
+use Rattle.serial_meaning.specs.declared.origin.Origin.{Origin}
+use Rattle.serial_meaning.specs.declared.answer.Outcome.{Outcome}
+use Rattle.strand_meaning.specs.Machine as machine
+use Rattle.strand_meaning.specs.Machine.{Half}
+use Rattle.strand_meaning.specs.Trace.{AwaitedChild, Trace, heard_all}
+use Rattle.strand_meaning.specs.Laws.{AnswersKeepTasks}
+use Rattle.strand_meaning.specs.Rest.{evaluations}
+use Rattle.strand_meaning.specs.Sound.{IsTask}
+use Rattle.strand_meaning.specs.Task as meaning
+use Rattle.strand_meaning.specs.Task.{Splits, Runs, Over, Task, changed, answered, with_values, joins, resumed, takes, takes_all, more_values, all_values, resumed_work, on, own_instance}
+use Rattle.strand_machine.specs.Family.{FamilyView, HasPassed, HasStopped, tags, origins}
+use Rattle.strand_machine.specs.Merge.{BecomesStage, BecomesWork, Takes, IsAnswered, with_stage, trace_of, meanings}
+use Rattle.strand_machine.specs.Parts.{awaited, parts_of, place_of}
+use Rattle.strand_meaning.specs.Cuts.{AreAnswersOf}
+use Rattle.strand_machine.specs.Stops.{WentOn, any_cut, resumes, view_on, went}
+use Rattle.strand_moves.specs.Machines.{IsInstance, machine_of, path_of}
+use Rattle.strand_moves.specs.declared.instance.Instance.{Instance}
+use Rattle.strand_machine.specs.Tasks.{TaskView, cut_of, work_of, task_of, view_of, AwaitsLast, IsSound}
+use Rattle.strand_machine.specs.declared.body.Body.{Body}
+use Rattle.strand_machine.specs.declared.merge.Merge.{Merge}
+use Rattle.strand_machine.specs.declared.trace.Behind.{Behind}
+use Rattle.strand_machine.specs.declared.destination.Destination.{Destination}
+use Rattle.strand_machine.specs.declared.destination.Destination.TheVariants as place
+use Rattle.strand_machine.specs.declared.work.InstanceState.{InstanceState}
+use Rattle.strand_machine.specs.declared.work.InstanceState.TheVariants as stage
+use Rattle.strand_machine.specs.declared.work.Work.{Work}
+use Rattle.strand_machine.specs.declared.work.Work.TheVariants as work
+use Rattle.strand_machine.proofs.TakenAnswers.Answering.{origins-tags, awaits-count, taken-length}
+use Rattle.strand_machine.proofs.Moves.Dispatch.{works-on}
+use Rattle.strand_machine.proofs.Moves.Handed.{awaited_parts}
+
+pub same-stage : (w : meaning.Work) → with_stage (λ s. s) w ≡ w
+same-stage (Splits left) = refl
+same-stage (Runs stage) = refl
+same-stage (Over v gone_on) = refl
+
+two-stages : (f g : meaning.InstanceState → meaning.InstanceState) (w : meaning.Work) → with_stage g (with_stage f w) ≡ with_stage (λ s. g (f s)) w
+two-stages f g (Splits left) = refl
+two-stages f g (Runs stage) = refl
+two-stages f g (Over v gone_on) = refl
+
+resumed-stage : (ps : List AwaitedChild) (es : List Evaluation) (w : meaning.Work) → resumed_work [] [] (with_stage (takes_all ps es) w) ≡ resumed_work ps es w
+resumed-stage ps es (Splits left) = refl
+resumed-stage ps es (Runs stage) = refl
+resumed-stage ps es (Over v gone_on) = refl
+
+-- An instance
+
+pub fault-taken : (plan : PlanView) (height : ℕ) (target : Option Name) (fault : Fault) (ending : Result (List Value) Fault) (before after : Instance) → ending ≡ Err fault →
+    machine_of plan after ≡ changed height (answered target (Err fault)) (machine_of plan before) → machine_of plan after ≡ changed height (answered target ending) (machine_of plan before)
+fault-taken plan height target fault ending before after is e =
+    e ∙ ap (λ (x : Result (List Value) Fault). changed height (answered target x) (machine_of plan before)) (sym is)
+
+pub values-taken : (plan : PlanView) (target t : Option Name) (values given : List Value) (before after : Instance) → t ≡ target → given ≡ values →
+    machine_of plan after ≡ with_values t given (machine_of plan before) → machine_of plan after ≡ with_values target values (machine_of plan before)
+values-taken plan target t values given before after to is e =
+    e ∙ ap (λ (x : Option Name). with_values x given (machine_of plan before)) to ∙ ap (λ (x : List Value). with_values target x (machine_of plan before)) is
+
+-- A stage
+
+module _ (change : meaning.InstanceState → meaning.InstanceState) (f : machine.Machine → machine.Machine) (s : InstanceState) (i j : Instance) where
+  pub at-goes : ((m : machine.Machine) → change (meaning.Running m) ≡ meaning.Running (f m)) → s ≡ stage.Running i → ((plan : PlanView) → machine_of plan j ≡ f (machine_of plan i)) →
+      path_of j ≡ path_of i → ((plan : PlanView) → IsInstance plan i → IsInstance plan j) → BecomesStage change s (stage.Running j)
+  at-goes meant is made path sound = subst (λ (x : InstanceState). BecomesStage change x (stage.Running j)) (sym is) (record {
+    is = λ plan. ap (λ m. meaning.Running m) (made plan) ∙ sym (meant (machine_of plan i));
+    stands = λ plan at h. record { sound = sound plan h.sound; at = path ∙ h.at };
+  })
+
+  pub at-sync : ((m : machine.Machine) → change (meaning.AtSync m) ≡ meaning.AtSync (f m)) → s ≡ stage.AtSync i → ((plan : PlanView) → machine_of plan j ≡ f (machine_of plan i)) →
+      path_of j ≡ path_of i → ((plan : PlanView) → IsInstance plan i → IsInstance plan j) → BecomesStage change s (stage.AtSync j)
+  at-sync meant is made path sound = subst (λ (x : InstanceState). BecomesStage change x (stage.AtSync j)) (sym is) (record {
+    is = λ plan. ap (λ m. meaning.AtSync m) (made plan) ∙ sym (meant (machine_of plan i));
+    stands = λ plan at h. record { sound = sound plan h.sound; at = path ∙ h.at };
+  })
+
+  pub at-loop : ((m : machine.Machine) → change (meaning.AtLoop m) ≡ meaning.AtLoop (f m)) → s ≡ stage.AtLoop i → ((plan : PlanView) → machine_of plan j ≡ f (machine_of plan i)) →
+      path_of j ≡ path_of i → ((plan : PlanView) → IsInstance plan i → IsInstance plan j) → BecomesStage change s (stage.AtLoop j)
+  at-loop meant is made path sound = subst (λ (x : InstanceState). BecomesStage change x (stage.AtLoop j)) (sym is) (record {
+    is = λ plan. ap (λ m. meaning.AtLoop m) (made plan) ∙ sym (meant (machine_of plan i));
+    stands = λ plan at h. record { sound = sound plan h.sound; at = path ∙ h.at };
+  })
+
+-- The same where it is the values of a loop that are taken.
+module _ (ending : Result (List Value) Fault) (target t : Option Name) (values given : List Value) (s : InstanceState) (i j : Instance) where
+  pub loops-goes : ending ≡ Ok values → t ≡ target → given ≡ values → s ≡ stage.Running i → ((plan : PlanView) → machine_of plan j ≡ with_values t given (machine_of plan i)) →
+      path_of j ≡ path_of i → ((plan : PlanView) → IsInstance plan i → IsInstance plan j) → BecomesStage (takes (machine.Looped target) ending) s (stage.Running j)
+  loops-goes is to same at made path sound =
+      at-goes (takes (machine.Looped target) ending) (with_values target values) s i j (λ m. ap (λ (x : Result (List Value) Fault). takes (machine.Looped target) x (meaning.Running m)) is) at
+      (λ plan. values-taken plan target t values given i j to same (made plan)) path sound
+
+  pub loops-sync : ending ≡ Ok values → t ≡ target → given ≡ values → s ≡ stage.AtSync i → ((plan : PlanView) → machine_of plan j ≡ with_values t given (machine_of plan i)) →
+      path_of j ≡ path_of i → ((plan : PlanView) → IsInstance plan i → IsInstance plan j) → BecomesStage (takes (machine.Looped target) ending) s (stage.AtSync j)
+  loops-sync is to same at made path sound =
+      at-sync (takes (machine.Looped target) ending) (with_values target values) s i j (λ m. ap (λ (x : Result (List Value) Fault). takes (machine.Looped target) x (meaning.AtSync m)) is) at
+      (λ plan. values-taken plan target t values given i j to same (made plan)) path sound
+
+  pub loops-loop : ending ≡ Ok values → t ≡ target → given ≡ values → s ≡ stage.AtLoop i → ((plan : PlanView) → machine_of plan j ≡ with_values t given (machine_of plan i)) →
+      path_of j ≡ path_of i → ((plan : PlanView) → IsInstance plan i → IsInstance plan j) → BecomesStage (takes (machine.Looped target) ending) s (stage.AtLoop j)
+  loops-loop is to same at made path sound =
+      at-loop (takes (machine.Looped target) ending) (with_values target values) s i j (λ m. ap (λ (x : Result (List Value) Fault). takes (machine.Looped target) x (meaning.AtLoop m)) is) at
+      (λ plan. values-taken plan target t values given i j to same (made plan)) path sound
+
+pub joins-none : (i : Instance) (r : Option (Bor Fault)) → ((plan : PlanView) → option_copied r ≡ (machine_of plan i).top.faulted) → r ≡ None → BecomesStage resumed (stage.AtSync i) (stage.Running i)
+joins-none i r h e = record {
+  is = λ plan. sym (ap (λ f. joins f (machine_of plan i)) (sym (h plan) ∙ ap option_copied e));
+  stands = λ plan path k. k;
+}
+
+pub joins-some : (i : Instance) (r : Option (Bor Fault)) (b : Bor Fault) (fault : Fault) → ((plan : PlanView) → option_copied r ≡ (machine_of plan i).top.faulted) → r ≡ Some b → fault ≡ b.now →
+    BecomesStage resumed (stage.AtSync i) (stage.ChildFaulted fault)
+joins-some i r b fault h e same = record {
+  is = λ plan. sym (ap (λ f. joins f (machine_of plan i)) (sym (h plan) ∙ ap option_copied e ∙ ap (λ (x : Fault). Some x) (sym same)));
+  stands = λ plan path k. tt;
+}
+
+pub runs-on : (w : Work) (before after : InstanceState) → w ≡ work.Runs before → BecomesStage resumed before after → BecomesWork (resumed_work [] []) w (work.Runs after)
+runs-on w before after is h = subst (λ (x : Work). BecomesWork (resumed_work [] []) x (work.Runs after)) (sym is) (record {
+  is = λ plan. ap (λ s. meaning.Runs s) (h.is plan);
+  works = λ plan o k. h.stands plan (origins-of.path_of (own_instance o)) k;
+})
+
+-- the stage after an answer, by the child's place
+pub placed : (p : Destination) (q : machine.Destination) (ending : Result (List Value) Fault) (before after : InstanceState) → place_of p ≡ q → BecomesStage (takes q ending) before after → BecomesStage (takes (place_of p) ending) before after
+placed p q ending before after at h = subst (λ (x : machine.Destination). BecomesStage (takes x ending) before after) (sym at) h
+
+-- what remains is an instance, whose stage changed
+pub runs-taken : (change : meaning.InstanceState → meaning.InstanceState) (w : Work) (before after : InstanceState) → w ≡ work.Runs before → BecomesStage change before after → BecomesWork (with_stage change) w (work.Runs after)
+runs-taken change w before after is h = subst (λ (x : Work). BecomesWork (with_stage change) x (work.Runs after)) (sym is) (record {
+  is = λ plan. ap (λ s. meaning.Runs s) (h.is plan);
+  works = λ plan o k. h.stands plan (origins-of.path_of (own_instance o)) k;
+})
+
+pub stage-stays : (ending : Result (List Value) Fault) (s : InstanceState) → BecomesStage (takes Half ending) s s
+stage-stays ending s = record { is = λ plan. refl; stands = λ plan path h. h }
+
+pub on-ok : {A E : Type 0} (r : Result A E) (P Q : Type 0) → (P → Q) → OnOk r P → OnOk r Q
+on-ok (Ok x) P Q f h = f h
+on-ok (Err x) P Q f h = tt
+
+-- One child
+
+pub other-values : (p : Destination) → (p ≡ place.Half → ⊥) → (ending : Result (List Value) Fault) (values : List Value) → more_values (place_of p) ending values ≡ values
+other-values (place.Spawned height target) h ending values = refl
+other-values (place.Looped target) h ending values = refl
+other-values place.Half h ending values = absurd (h refl)
+
+-- One child, and then the others
+
+pub takes-then : (p : AwaitedChild) (ps : List AwaitedChild) (e : Evaluation) (es : List Evaluation) (before between after : Merge) → Takes (p ∷ []) (e ∷ []) before between → Takes ps es between after →
+    Takes (p ∷ ps) (e ∷ es) before after
+takes-then p ps e es before between after h k = record {
+  trace = k.trace ∙ ap (heard_all ps es) h.trace;
+  values = k.values ∙ ap (all_values ps es) h.values;
+  work = record {
+    is = λ plan. k.work.is plan ∙ ap (with_stage (takes_all ps es)) (h.work.is plan) ∙ two-stages (takes p.place e.ending) (takes_all ps es) (work_of plan before.work);
+    works = λ plan o w. k.work.works plan o (h.work.works plan o w);
+  };
+}
+
+pub takes-none : (g : Merge) → Takes [] [] g g
+takes-none g = record {
+  trace = refl;
+  values = refl;
+  work = record { is = λ plan. sym (same-stage (work_of plan g.work)); works = λ plan o h. h };
+}
+
+-- All children
+
+meanings-tags : (plan : PlanView) (os : List Origin) (bs : List Behind) → length os ≡ length bs → meanings (tags plan os) ≡ evaluations (eval plan) (parts_of os bs)
+meanings-tags plan [] bs h = refl
+meanings-tags plan (o ∷ os) [] h = absurd (omega arith)
+meanings-tags plan (o ∷ os) (b ∷ bs) h = ap (λ es. eval plan o ∷ es) (meanings-tags plan os bs (omega arith))
+
+-- answers with the children's tags are the children's evaluations
+pub takes-awaited : (plan : PlanView) (os : List Origin) (bs : List Behind) (ts : List AnswerTag) (before after : Merge) → length os ≡ length bs → ts ≡ tags plan (awaited (parts_of os bs)) →
+    Takes (parts_of (origins ts) bs) (meanings ts) before after → Takes (parts_of os bs) (evaluations (eval plan) (parts_of os bs)) before after
+takes-awaited plan os bs ts before after same are h =
+    let all : ts ≡ tags plan os = are ∙ ap (tags plan) (awaited_parts os bs same) in
+    let children : origins ts ≡ os = ap origins all ∙ origins-tags plan os in
+    let answers : meanings ts ≡ evaluations (eval plan) (parts_of os bs) = ap meanings all ∙ meanings-tags plan os bs same in
+    subst (λ es. Takes (parts_of os bs) es before after) answers (subst (λ cs. Takes (parts_of cs bs) (meanings ts) before after) children h)
+
+-- the task with the answers of its children, once its wait is over
+pub goes-on : (t : Task) (before after : Merge) (rest : Work) → trace_of before ≡ record t.trace { handed = [] } → before.values ≡ t.values → work_of t.plan before.work ≡ t.work →
+    Takes t.trace.handed (evaluations (eval t.plan) t.trace.handed) before after → BecomesWork (resumed_work [] []) after.work rest →
+    ◌≡◌ {A = Task} (record t { trace = trace_of after; values = after.values; work = work_of t.plan rest; waiting = false }) (on (evaluations (eval t.plan) t.trace.handed) t)
+goes-on t before after rest trace values work h over =
+    let ps = t.trace.handed in
+    let es = evaluations (eval t.plan) ps in
+    let prefix : trace_of after ≡ heard_all ps es (record t.trace { handed = [] }) = h.trace ∙ ap (heard_all ps es) trace in
+    let given : after.values ≡ all_values ps es t.values = h.values ∙ ap (all_values ps es) values in
+    let left : work_of t.plan rest ≡ resumed_work ps es t.work =
+    over.is t.plan ∙ ap (resumed_work [] []) (h.work.is t.plan) ∙ resumed-stage ps es (work_of t.plan before.work) ∙ ap (resumed_work ps es) work in
+    ap (λ (p : Trace). record t { trace = p; values = after.values; work = work_of t.plan rest; waiting = false }) prefix
+    ∙ ap (λ (vs : List Value). record t { trace = heard_all ps es (record t.trace { handed = [] }); values = vs; work = work_of t.plan rest; waiting = false }) given
+    ∙ ap (λ (w : meaning.Work). record t { trace = heard_all ps es (record t.trace { handed = [] }); values = all_values ps es t.values; work = w; waiting = false }) left
+
+-- The task after its wait
+
+module _ (b : Body) (w : Work) (prefix : List Event) (fault : Option Fault) (os : List Origin) (bs : List Behind) (ts : List AnswerTag) (after : Merge) (new-os : List Origin) (new-bs : List Behind) (rest : Work) where
+  abbrev next-body : Body
+  next-body = record { family = b.family; trace = record { prefix = after.prefix; fault = after.fault; handed = parts_of new-os new-bs }; values = after.values; waiting = false; advanced = b.advanced }
+
+  abbrev begins : Merge
+  begins = record { prefix = prefix; fault = fault; values = b.values; work = w; cut = false; by_cut = false }
+
+  task-on : ◌≡◌ {A = Trace} (record { prefix = prefix; fault = fault; handed = parts_of os bs }) b.trace → length os ≡ length bs → ts ≡ tags b.family.plan (awaited b.trace.handed) → new-os ≡ [] →
+      Takes (parts_of (origins ts) bs) (meanings ts) begins after → BecomesWork (resumed_work [] []) after.work rest →
+      task_of next-body rest ≡ on (evaluations (eval b.family.plan) b.trace.handed) (task_of b w)
+  task-on view same are none h over =
+      let plan = b.family.plan in
+      let handed : parts_of os bs ≡ b.trace.handed = ap (λ (p : Trace). p.handed) view in
+      let tagged : ts ≡ tags plan (awaited (parts_of os bs)) = are ∙ ap (λ (ps : List AwaitedChild). tags plan (awaited ps)) (sym handed) in
+      let taken : Takes b.trace.handed (evaluations (eval plan) b.trace.handed) begins after =
+      subst (λ (ps : List AwaitedChild). Takes ps (evaluations (eval plan) ps) begins after) handed (takes-awaited plan os bs ts begins after same tagged h) in
+      ap (λ (no : List Origin). task_of (record { family = b.family; trace = record { prefix = after.prefix; fault = after.fault; handed = parts_of no new-bs }; values = after.values; waiting = false; advanced = b.advanced }) rest) none
+      ∙ goes-on (task_of b w) begins after rest (ap (λ (p : Trace). record p { handed = [] }) view) refl refl taken over
+
+  pub goes-on-view : ◌≡◌ {A = Trace} (record { prefix = prefix; fault = fault; handed = parts_of os bs }) b.trace → length os ≡ length bs → ts ≡ tags b.family.plan (awaited b.trace.handed) → new-os ≡ [] →
+      Takes (parts_of (origins ts) bs) (meanings ts) begins after → BecomesWork (resumed_work [] []) after.work rest → IsAnswered b w →
+      view_of next-body rest ≡ view_on (view_of b w)
+  goes-on-view view same are none h over sound =
+      let plan = b.family.plan in
+      let uncut : cut_of rest ≡ cut_of w = works-on plan b.family.origin rest (over.works plan _ (h.work.works plan _ sound.works)) ∙ sym (works-on plan b.family.origin w sound.works) in
+      ap (λ (t : Task). record (view_of b w) { task = t; cut = cut_of rest }) (task-on view same are none h over) ∙ ap (λ (o : Option Outcome). record (view_on (view_of b w)) { cut = o }) uncut
+
+  pub goes-on-sound : ◌≡◌ {A = Trace} (record { prefix = prefix; fault = fault; handed = parts_of os bs }) b.trace → length os ≡ length bs → ts ≡ tags b.family.plan (awaited b.trace.handed) → new-os ≡ [] →
+      Takes (parts_of (origins ts) bs) (meanings ts) begins after → BecomesWork (resumed_work [] []) after.work rest → AnswersKeepTasks → IsAnswered b w → IsSound next-body rest
+  goes-on-sound view same are none h over law sound =
+      let plan = b.family.plan in
+      let nobody : AwaitsLast b.family [] = record { before = b.family.children; passed = b.family.taken; same = sound.taken; children = sym (append-nil b.family.children); taken = sym (append-nil b.family.taken) } in
+      record {
+        task = subst IsTask (sym (task-on view same are none h over)) (law (task_of b w) sound.task);
+        family = subst (λ (no : List Origin). AwaitsLast b.family (parts_of no new-bs)) (sym none) nobody;
+        works = over.works plan _ (h.work.works plan _ sound.works);
+      }
+
+pub answered-sound : (b : Body) (w : Work) → IsSound b w → IsAnswered b w
+answered-sound b w h = record { task = h.task; taken = taken-length b.family _ (awaits-count b.family b.trace.handed h.family); works = h.works }
+
+-- Looks
+
+pub looked-last : (f g : FamilyView) (ps : List AwaitedChild) (ready : Bool) (loads : List ℕ) → g ≡ record f { ready = ready; loads = loads } → AwaitsLast f ps → AwaitsLast g ps
+looked-last f g ps ready loads e h =
+    let there : AwaitsLast (record f { ready = ready; loads = loads }) ps = record { before = h.before; passed = h.passed; same = h.same; children = h.children; taken = h.taken } in
+    subst (λ (x : FamilyView). AwaitsLast x ps) (sym e) there
+
+-- a look that finds no answers leaves the task as it was
+pub looked-sound : (b : Body) (w : Work) (g : FamilyView) (ready : Bool) (loads : List ℕ) → g ≡ record b.family { ready = ready; loads = loads } → IsSound b w → IsSound (record b { family = g }) w
+looked-sound b w g ready loads e h =
+    let there : IsSound (record b { family = record b.family { ready = ready; loads = loads } }) w =
+    record { task = h.task; family = looked-last b.family (record b.family { ready = ready; loads = loads }) b.trace.handed ready loads refl h.family; works = h.works } in
+    subst (λ (x : FamilyView). IsSound (record b { family = x }) w) (sym e) there
+
+-- a look that finds all answers, and the answers taken
+pub taken-answered : (b : Body) (w : Work) (g k : FamilyView) (ready : Bool) (loads : List ℕ) → g ≡ record b.family { ready = ready; loads = loads } → k ≡ record g { taken = k.taken } →
+    length k.taken ≡ length g.taken → IsSound b w → IsAnswered (record b { family = k }) w
+taken-answered b w g k ready loads e d same h =
+    let looked = looked-sound b w g ready loads e h in
+    let whole = answered-sound (record b { family = g }) w looked in
+    let there : IsAnswered (record b { family = record g { taken = k.taken } }) w = record { task = whole.task; taken = same ∙ whole.taken; works = whole.works } in
+    subst (λ (x : FamilyView). IsAnswered (record b { family = x }) w) (sym d) there
+
+pub looked-same : (b : Body) (w : Work) (g : FamilyView) (ready : Bool) (loads : List ℕ) → g ≡ record b.family { ready = ready; loads = loads } → (t : TaskView) → view_of b w ≡ t → HasStopped b.family.loads g.loads →
+    (task_of (record b { family = g }) w ≡ t.task) × (g.children ≡ t.children) × HasStopped t.loads g.loads × (g.knows ≡ t.knows) × (cut_of w ≡ t.cut)
+looked-same b w g ready loads e t view stopped = (
+  ap (λ (f : FamilyView). task_of (record b { family = f }) w) e ∙ ap (λ (v : TaskView). v.task) view,
+  ap (λ (f : FamilyView). f.children) e ∙ ap (λ (v : TaskView). v.children) view,
+  subst (λ (l : List ℕ). HasStopped l g.loads) (ap (λ (v : TaskView). v.loads) view) stopped,
+  ap (λ (f : FamilyView). f.knows) e ∙ ap (λ (v : TaskView). v.knows) view,
+  ap (λ (v : TaskView). v.cut) view,
+)
+
+-- with the numbers that the look has loaded
+taken-view : (b : Body) (w : Work) (g k : FamilyView) (ready : Bool) (loads : List ℕ) → g ≡ record b.family { ready = ready; loads = loads } → k ≡ record g { taken = k.taken } → (t : TaskView) → view_of b w ≡ t →
+    view_of (record b { family = k }) w ≡ record t { loads = g.loads }
+taken-view b w g k ready loads e d t view =
+    ap (λ (f : FamilyView). view_of (record b { family = f }) w) d
+    ∙ ap (λ (f : FamilyView). record (view_of (record b { family = record f { taken = k.taken } }) w) { loads = g.loads }) e
+    ∙ ap (λ (v : TaskView). record v { loads = g.loads }) view
+
+pub resumed-on : (b : Body) (w : Work) (g k : FamilyView) (ready : Bool) (loads : List ℕ) → g ≡ record b.family { ready = ready; loads = loads } → k ≡ record g { taken = k.taken } →
+    (t next : TaskView) → view_of b w ≡ t → t.cut ≡ None → (answers : List AnswerView) → AreAnswersOf k.plan b.trace.handed answers → WentOn answers (view_of (record b { family = k }) w) next → HasPassed b.family.loads g.loads →
+    (xs : List AnswerView) × AreAnswersOf t.task.plan t.task.trace.handed xs × resumes (any_cut xs) xs t next × HasPassed t.loads next.loads
+resumed-on b w g k ready loads e d t next view goes answers are went-on passed = (answers, answered, both.0, both.1)
+  where
+    plan : k.plan ≡ t.task.plan
+    plan = ap (λ (f : FamilyView). f.plan) d ∙ ap (λ (f : FamilyView). f.plan) e ∙ ap (λ (v : TaskView). v.task.plan) view
+
+    answered : AreAnswersOf t.task.plan t.task.trace.handed answers
+    answered = subst (λ (v : TaskView). AreAnswersOf t.task.plan v.task.trace.handed answers) view (subst (λ (p : PlanView). AreAnswersOf p b.trace.handed answers) plan are)
+
+    there : went (any_cut answers) answers (record t { loads = g.loads }) next
+    there = subst (λ (v : TaskView). WentOn answers v next) (taken-view b w g k ready loads e d t view) went-on
+
+    read : next.loads ≡ g.loads → HasPassed t.loads next.loads
+    read same = subst (λ (l : List ℕ). HasPassed t.loads l) (sym same) (subst (λ (l : List ℕ). HasPassed l g.loads) (ap (λ (v : TaskView). v.loads) view) passed)
+
+    by_cut : (cut : Bool) → went cut answers (record t { loads = g.loads }) next → resumes cut answers t next × HasPassed t.loads next.loads
+    by_cut false h = (
+      (ap (λ (v : TaskView). v.task) h, ap (λ (v : TaskView). v.children) h, ap (λ (v : TaskView). v.knows) h, ap (λ (v : TaskView). v.cut) h ∙ goes),
+      read (ap (λ (v : TaskView). v.loads) h),
+    )
+    by_cut true h = (
+      record {
+        plan = h.0.plan;
+        origin = h.0.origin;
+        prefix = h.0.prefix;
+        handed = h.0.handed;
+        waits = h.0.waits;
+        advanced = h.0.advanced;
+        cut = h.0.cut;
+        children = h.0.children;
+        knows = h.0.knows;
+      },
+      read h.1,
+    )
+
+    both : resumes (any_cut answers) answers t next × HasPassed t.loads next.loads
+    both = by_cut (any_cut answers) there

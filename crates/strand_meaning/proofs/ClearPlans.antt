@@ -1,0 +1,2 @@
+pub mod FreeNames
+pub mod ClearOfValid

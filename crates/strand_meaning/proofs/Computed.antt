@@ -1,0 +1,2 @@
+pub mod TaskRuns
+pub mod StrandRuns

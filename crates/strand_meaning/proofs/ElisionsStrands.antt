@@ -1,0 +1,4 @@
+pub mod ItemsRise
+pub mod Under
+pub mod Passing
+pub mod ElisionStrands

@@ -1,0 +1,4 @@
+pub mod Stops
+pub mod Falls
+pub mod Comes
+pub mod Fewer

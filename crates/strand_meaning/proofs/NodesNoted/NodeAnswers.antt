@@ -1,0 +1,92 @@
+-- A task that takes its children's answers shows nothing.
+use Rattle.std.proofs.Common.{◌≡◌, ℕ, true, false, List, [], ◌∷◌, Option, Some, None, Result, Ok, Err, refl, sym, ap, ◌∙◌}
+use Rattle.serial_meaning.specs.Runs.{Run, done, behind, ◌then◌}
+use Rattle.serial_meaning.specs.Plan.{PlanView}
+use Rattle.serial_meaning.specs.Eval.{Evaluation, eval}
+use Rattle.serial_meaning.specs.Open.{Item, NodeFault, Own, ChildFaulted}
+use Rattle.serial_meaning.specs.declared.value.Value.{Value}
+use Rattle.serial_meaning.specs.declared.event.Fault.{Fault}
+use Rattle.serial_meaning.specs.declared.origin.Origin.{Origin}
+use Rattle.serial_meaning.specs.declared.origin.Origin.TheVariants.{Instance, Loop}
+use Rattle.strand_meaning.specs.Machine.{Destination, Spawned, Looped, Half, Machine}
+use Rattle.strand_meaning.specs.Trace.{AwaitedChild}
+use Rattle.strand_meaning.specs.Task.{InstanceState, Running, AtSync, AtLoop, Ended, Work, Splits, Runs, Over, Task, in_machine, takes, takes_all, joins, resumed, on}
+use Rattle.strand_meaning.specs.Rest.{evaluations}
+use Rattle.strand_meaning.specs.Sound.{IsSoundStage, IsTask}
+use Rattle.strand_meaning.specs.Observation.{IsInstance, work_left, Observation, stage_fault, IsOnWay}
+use Rattle.strand_meaning.proofs.TakenAnswers.Onward.{rest-same, none-handed}
+use Rattle.strand_meaning.proofs.Unfilled.Taken.{takes-taken}
+
+-- No answer is a fault of the instance's own, and none takes such a fault from it.
+
+in-none : (change : Machine → Machine) (stage : InstanceState) → stage_fault stage ≡ None → stage_fault (in_machine change stage) ≡ None
+in-none change (Running m) h = refl
+in-none change (AtSync m) h = refl
+in-none change (AtLoop m) h = refl
+in-none change (Ended e) h = h
+
+takes-none : (place : Destination) (ended : Result (List Value) Fault) (stage : InstanceState) → stage_fault stage ≡ None → stage_fault (takes place ended stage) ≡ None
+takes-none (Spawned height target) ended stage h = in-none _ stage h
+takes-none (Looped target) (Ok vs) stage h = in-none _ stage h
+takes-none (Looped target) (Err f) stage h = refl
+takes-none Half ended stage h = h
+
+all-none : (child : Origin → Evaluation) (ps : List AwaitedChild) (stage : InstanceState) → stage_fault stage ≡ None → stage_fault (takes_all ps (evaluations child ps) stage) ≡ None
+all-none child [] stage h = h
+all-none child (p ∷ ps) stage h = all-none child ps (takes p.place (child p.child).ending stage) (takes-none p.place (child p.child).ending stage h)
+
+joins-none : (f : Option Fault) (m : Machine) → stage_fault (joins f m) ≡ None
+joins-none None m = refl
+joins-none (Some f) m = refl
+
+resumed-none : (stage : InstanceState) → stage_fault stage ≡ None → stage_fault (resumed stage) ≡ None
+resumed-none (Running m) h = refl
+resumed-none (AtSync m) h = joins-none m.top.faulted m
+resumed-none (AtLoop m) h = refl
+resumed-none (Ended e) h = h
+
+module _ (plan : PlanView) (child : Origin → Evaluation) (ps : List AwaitedChild) where
+  after-none : (stage : InstanceState) → stage_fault stage ≡ None → stage_fault (resumed (takes_all ps (evaluations child ps) stage)) ≡ None
+  after-none stage h = resumed-none (takes_all ps (evaluations child ps) stage) (all-none child ps stage h)
+
+  stays : (stage : InstanceState) → IsSoundStage plan ps stage → stage_fault stage ≡ stage_fault (resumed (takes_all ps (evaluations child ps) stage))
+  stays (Running m) sound = sym (after-none (Running m) refl)
+  stays (AtSync m) sound = sym (after-none (AtSync m) refl)
+  stays (AtLoop m) sound = sym (after-none (AtLoop m) refl)
+  stays (Ended (Ok v)) sound = sym (after-none (Ended (Ok v)) refl)
+  stays (Ended (Err (Own f))) sound = ap (λ (s : InstanceState). stage_fault (resumed s)) (sym (takes-taken child sound.0 ps sound.1 (Ended (Err (Own f)))))
+  stays (Ended (Err (ChildFaulted f))) sound = sym (after-none (Ended (Err (ChildFaulted f))) refl)
+
+stage-answers : (t : Task) (function : ℕ) (args : List Value) (path : List ℕ) (stage : InstanceState) (notes : Observation) → let u : Task = record t { origin = Instance function args path; work = Runs stage } in
+    IsTask u → IsOnWay notes u → IsOnWay notes (on (evaluations (eval u.plan) u.trace.handed) u)
+stage-answers t function args path stage notes is h = record {
+  node = h.node ∙ ap (behind notes.items) same;
+  fault = h.fault ∙ stays t.plan (eval t.plan) t.trace.handed stage is.work.2;
+  joined = h.joined;
+}
+  where
+    u : Task
+    u = record t { origin = Instance function args path; work = Runs stage }
+
+    taken_stage : InstanceState
+    taken_stage = resumed (takes_all t.trace.handed (evaluations (eval t.plan) t.trace.handed) stage)
+
+    same : work_left t.plan (Instance function args path) t.trace.handed (Runs stage) ≡ work_left t.plan (Instance function args path) (on (evaluations (eval t.plan) t.trace.handed) u).trace.handed (Runs taken_stage)
+    same =
+        ap (λ (r : Run Item NodeFault Value). r then λ v. done (v ∷ [])) (rest-same u is stage)
+        ∙ ap (λ (ps : List AwaitedChild). work_left t.plan (Instance function args path) ps (Runs taken_stage)) (sym (none-handed u is))
+
+pub answers_show_nothing : (t : Task) (notes : Observation) → IsTask t → IsInstance t.origin → IsOnWay notes t → IsOnWay notes (on (evaluations (eval t.plan) t.trace.handed) t)
+answers_show_nothing t notes is inst h = by_origin t.origin is inst h
+  where
+    by_origin : (o : Origin) → IsTask (record t { origin = o }) → IsInstance o → IsOnWay notes (record t { origin = o }) →
+        let u : Task = record t { origin = o } in IsOnWay notes (on (evaluations (eval u.plan) u.trace.handed) u)
+    by_origin (Loop function rest first path range) is inst h = absurd inst
+    by_origin (Instance function args path) is inst h = by_work t.work is h
+      where
+        by_work : (work : Work) → IsTask (record t { origin = Instance function args path; work = work }) → IsOnWay notes (record t { origin = Instance function args path; work = work }) →
+            let u : Task = record t { origin = Instance function args path; work = work } in IsOnWay notes (on (evaluations (eval u.plan) u.trace.handed) u)
+        by_work (Splits left) is h = absurd is.work.0
+        by_work (Runs stage) is h = stage-answers t function args path stage notes is h
+        by_work (Over v true) is h = absurd is.work.0
+        by_work (Over v false) is h = absurd is.work.0

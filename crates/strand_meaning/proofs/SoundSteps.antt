@@ -1,0 +1,9 @@
+pub mod Depth
+pub mod Closing
+pub mod Finishing
+pub mod Own
+pub mod Begun
+pub mod Steps
+pub mod Loops
+pub mod Starts
+pub mod Ends

@@ -1,0 +1,137 @@
+-- Each child that a task handed out is shown by the events before it.
+use Rattle.std.proofs.Common.{◌≡◌, ℕ, Bool, true, false, List, [], ◌∷◌, ◌++◌, Option, None, refl, sym, ap, ◌∙◌, subst, inr}
+use Rattle.std.specs.Prelude.{Contains}
+use Rattle.std.proofs.lemmas.List.Elements.{Contains-append_right}
+use Rattle.serial_meaning.specs.Laws.{places}
+use Rattle.serial_meaning.specs.Plan.{PlanView}
+use Rattle.serial_meaning.specs.Eval.{path_of}
+use Rattle.serial_meaning.proofs.RisingPedigrees.Rising.{places-append}
+use Rattle.script_grammar.specs.declared.tree.Name.{Name}
+use Rattle.serial_meaning.specs.declared.event.Fault.{Fault}
+use Rattle.serial_meaning.specs.declared.event.Event.{Event}
+use Rattle.serial_meaning.specs.declared.event.Event.TheVariants as event
+use Rattle.serial_meaning.specs.declared.origin.Origin.{Origin}
+use Rattle.serial_meaning.specs.declared.origin.Origin.TheVariants.{Instance, Loop}
+use Rattle.loop_range.specs.Range.{Range}
+use Rattle.strand_meaning.specs.Machine.{Destination, Spawned, Looped, Effect, Opens, Closes, Emitted, Handed, Syncs, Loops, Machine, sync_effects, loop_effects, move}
+use Rattle.strand_meaning.specs.Trace.{AwaitedChild, Trace, prefix_unless, behind_last, emit, emit_at, add_child, with_effects}
+use Rattle.strand_meaning.specs.Task.{own_instance, first_half}
+use Rattle.strand_meaning.specs.Sound.{IsShownBy, AreShownBy}
+use Rattle.strand_meaning.proofs.Unfilled.Keeps.{first-contained}
+use Rattle.strand_meaning.proofs.SoundSteps.Own.{Begins, EffectRules, effects-move}
+
+-- the events before the next child
+abbrev pub front_of : List Event → List AwaitedChild → List Event
+front_of events [] = events
+front_of events (p ∷ ps) = front_of p.behind ps
+
+pub shown-more : (o : Origin) (events : List Event) (ps : List AwaitedChild) (q : AwaitedChild) → AreShownBy o events ps → IsShownBy o (front_of events ps) q → AreShownBy o events (ps ++ q ∷ [])
+shown-more o events [] q h k = (k, tt)
+shown-more o events (p ∷ ps) q h k = (h.0, shown-more o p.behind ps q h.1 k)
+
+-- An event of the task's own
+
+emit-fault : (e : Event) (trace : Trace) → (emit e trace).fault ≡ trace.fault
+emit-fault e trace = by_parts trace.handed
+  where
+    by_parts : (ps : List AwaitedChild) → (emit_at ps e trace).fault ≡ trace.fault
+    by_parts [] = refl
+    by_parts (p ∷ ps) = refl
+
+pub effects-fault : (ts : List Effect) (trace : Trace) → (with_effects ts trace).fault ≡ trace.fault
+effects-fault [] trace = refl
+effects-fault (Opens j ∷ ts) trace = effects-fault ts trace
+effects-fault (Closes j ∷ ts) trace = effects-fault ts trace
+effects-fault (Emitted e ∷ ts) trace = effects-fault ts (emit e trace) ∙ emit-fault e trace
+effects-fault (Handed o place ∷ ts) trace = effects-fault ts (add_child o place trace)
+effects-fault (Syncs ∷ ts) trace = effects-fault ts trace
+effects-fault (Loops ∷ ts) trace = effects-fault ts trace
+
+effects-one-by-one : (xs ys : List Effect) (trace : Trace) → with_effects (xs ++ ys) trace ≡ with_effects ys (with_effects xs trace)
+effects-one-by-one [] ys trace = refl
+effects-one-by-one (Opens j ∷ xs) ys trace = effects-one-by-one xs ys trace
+effects-one-by-one (Closes j ∷ xs) ys trace = effects-one-by-one xs ys trace
+effects-one-by-one (Emitted e ∷ xs) ys trace = effects-one-by-one xs ys (emit e trace)
+effects-one-by-one (Handed o place ∷ xs) ys trace = effects-one-by-one xs ys (add_child o place trace)
+effects-one-by-one (Syncs ∷ xs) ys trace = effects-one-by-one xs ys trace
+effects-one-by-one (Loops ∷ xs) ys trace = effects-one-by-one xs ys trace
+
+behind-shown : (o : Origin) (events : List Event) (p : AwaitedChild) (ps : List AwaitedChild) (e : Event) → AreShownBy o events (p ∷ ps) → AreShownBy o events (behind_last p ps e)
+behind-shown o events p [] e h = h
+behind-shown o events p (q ∷ qs) e h = (h.0, behind-shown o p.behind q qs e h.1)
+
+behind-front : (events : List Event) (p : AwaitedChild) (ps : List AwaitedChild) (e : Event) → front_of events (behind_last p ps e) ≡ front_of events (p ∷ ps) ++ e ∷ []
+behind-front events p [] e = refl
+behind-front events p (q ∷ qs) e = behind-front p.behind q qs e
+
+front-prefix : (e : Event) (trace : Trace) → trace.fault ≡ None → front_of (emit e trace).prefix (emit e trace).handed ≡ front_of trace.prefix trace.handed ++ e ∷ []
+front-prefix e trace none = by_parts trace.handed
+  where
+    by_parts : (ps : List AwaitedChild) → let q : Trace = emit_at ps e (record { prefix = trace.prefix; fault = trace.fault; handed = ps }) in front_of q.prefix q.handed ≡ front_of trace.prefix ps ++ e ∷ []
+    by_parts [] = ap (λ (f : Option Fault). prefix_unless f trace.prefix (e ∷ [])) none
+    by_parts (p ∷ ps) = behind-front trace.prefix p ps e
+
+module _ (o : Origin) where
+  abbrev pub Shown : Trace → Type 0
+  Shown trace = AreShownBy o trace.prefix trace.handed
+
+  emit-shown : (e : Event) (trace : Trace) → Shown trace → Shown (emit e trace)
+  emit-shown e trace h = by_parts trace.handed h
+    where
+      by_parts : (ps : List AwaitedChild) → AreShownBy o trace.prefix ps → Shown (emit_at ps e (record { prefix = trace.prefix; fault = trace.fault; handed = ps }))
+      by_parts [] s = tt
+      by_parts (p ∷ ps) s = behind-shown o trace.prefix p ps e s
+
+  abbrev own_path : List ℕ
+  own_path = path_of (own_instance o)
+
+  -- a child after the event by which it begins
+  begun-shown : (e : Event) (c : Origin) (place : Destination) → Begins own_path e c → (trace : Trace) → trace.fault ≡ None → Shown trace → Shown (add_child c place (emit e trace))
+  begun-shown e c place b trace none h =
+      shown-more o (emit e trace).prefix (emit e trace).handed (record { child = c; place = place; behind = [] }) (emit-shown e trace h) (inr (b.rank, b.more, b.at, there))
+    where
+      old : List Event
+      old = front_of trace.prefix trace.handed
+
+      last : Contains (places old ++ path_of c ∷ []) (path_of c)
+      last = Contains-append_right (places old) (path_of c ∷ []) (path_of c) (first-contained (path_of c) [])
+
+      there : Contains (places (front_of (emit e trace).prefix (emit e trace).handed)) (path_of c)
+      there = subst (λ (l : List (List ℕ)). Contains l (path_of c)) (sym (ap places (front-prefix e trace none) ∙ places-append old (e ∷ []) ∙ ap (λ (l : List (List ℕ)). places old ++ l) b.place)) last
+
+  -- effects after which all is still shown
+  abbrev pub Shows : List Effect → Type 0
+  Shows ts = (trace : Trace) → trace.fault ≡ None → Shown trace → Shown (with_effects ts trace)
+
+  shows-more : (xs ys : List Effect) → Shows xs → Shows ys → Shows (xs ++ ys)
+  shows-more xs ys h k trace none s =
+      subst Shown (sym (effects-one-by-one xs ys trace)) (k (with_effects xs trace) (effects-fault xs trace ∙ none) (h trace none s))
+
+  shows : EffectRules own_path Shows
+  shows = record {
+    none = λ trace none s. s;
+    more = shows-more;
+    prefix = λ e trace none s. emit-shown e trace s;
+    spawned = λ e c height target begins trace none s. begun-shown e c (Spawned height target) begins trace none s;
+    synced = at_sync;
+    looped = at_loop;
+    opened = λ j trace none s. s;
+    closed = λ j trace none s. s;
+  }
+    where
+      at_sync : (j : List ℕ) (b : Bool) → Shows (Emitted (event.Sync j) ∷ sync_effects b)
+      at_sync j true trace none s = emit-shown (event.Sync j) trace s
+      at_sync j false trace none s = emit-shown (event.Sync j) trace s
+
+      at_loop : (e : Event) (c : Origin) (target : Option Name) (b : Bool) → Begins own_path e c → Shows (Emitted e ∷ loop_effects b c (Looped target))
+      at_loop e c target true begins trace none s = emit-shown e trace s
+      at_loop e c target false begins trace none s = begun-shown e c (Looped target) begins trace none s
+
+  -- A move hands out no child but after the event by which it begins.
+  pub move-shows : (plan : PlanView) (m : Machine) → Shows (move plan own_path m).items
+  move-shows plan m = effects-move Shows plan own_path shows m
+
+-- Half of a loop has the loop's path.
+pub half-path : (o : Origin) (left : Range) → path_of (first_half o left) ≡ path_of o
+half-path (Instance function args path) left = refl
+half-path (Loop function rest first path range) left = refl

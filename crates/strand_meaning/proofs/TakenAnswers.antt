@@ -1,0 +1,3 @@
+pub mod AnswerRuns
+pub mod Onward
+pub mod Cutting

@@ -1,0 +1,316 @@
+-- What a task is by the first of its children's answers that is a fault or a cut.
+use Rattle.std.proofs.Common.{◌≡◌, ℕ, List, [], ◌∷◌, ◌++◌, Option, Some, None, Result, Ok, Err, ◌-◌, refl, sym, ap, ◌∙◌, subst, append_assoc, append-nil, inl, inr}
+use Rattle.std.specs.Prelude.{Contains}
+use Rattle.std.proofs.lemmas.List.Elements.{Contains-append_left, Contains-append_right}
+use Rattle.ped_path.specs.Path.{IsBefore}
+use Rattle.serial_meaning.specs.Answer.{AnswerView, IsEval, IsLoopPath, IsCut, IsAnswer, outcome_of}
+use Rattle.serial_meaning.specs.Eval.{Evaluation, path_of, eval}
+use Rattle.serial_meaning.specs.Laws.{IsOriginOf, EndsWithin, places}
+use Rattle.serial_meaning.specs.Open.{faults}
+use Rattle.serial_meaning.specs.Plan.{PlanView}
+use Rattle.serial_meaning.specs.Runs.{behind, ◌then◌}
+use Rattle.serial_meaning.proofs.CutsBefore.Earlier.{before-own}
+use Rattle.serial_meaning.proofs.OriginFaults.Origins.{origins_end_within_faults}
+use Rattle.serial_meaning.proofs.RisingPedigrees.Rising.{places-append}
+use Rattle.serial_meaning.specs.declared.value.Value.{Value}
+use Rattle.serial_meaning.specs.declared.event.Fault.{Fault}
+use Rattle.serial_meaning.specs.declared.event.Event.{Event}
+use Rattle.serial_meaning.specs.declared.origin.Origin.{Origin}
+use Rattle.serial_meaning.specs.declared.origin.Origin.TheVariants.{Instance, Loop}
+use Rattle.serial_meaning.specs.declared.answer.Outcome.{Outcome}
+use Rattle.serial_meaning.specs.declared.answer.Outcome.TheVariants as outcome
+use Rattle.strand_meaning.specs.Answers.{evaluation_of, answer_evaluations}
+use Rattle.strand_meaning.specs.Cuts.{GaveValue, GaveValues, heard_of, AreAnswersOf, or_ends, ended_after, by_fault, IsByFaultOf}
+use Rattle.strand_meaning.specs.Trace.{AwaitedChild, Trace, heard, heard_all}
+use Rattle.strand_meaning.specs.Rest.{evaluations, prefix_run, parts_run, work_run}
+use Rattle.strand_meaning.specs.Sound.{IsShownBy, AreShownBy, IsTask}
+use Rattle.strand_meaning.specs.Task.{Task, own_instance, more_values}
+use Rattle.strand_meaning.proofs.TakenAnswers.AnswerRuns.{answers_are_evaluations}
+use Rattle.strand_meaning.proofs.SoundSteps.Begun.{front_of}
+use Rattle.strand_meaning.proofs.SoundSteps.Closing.{behind-then}
+use Rattle.strand_meaning.proofs.SoundSteps.Ends.{err-outcome}
+
+module _ (child : Origin → Evaluation) where
+  -- What stands before a child is among what the trace gives, where the children before it gave values.
+  shown-comes : (events : List Event) (front : List AwaitedChild) (p : AwaitedChild) (later : List AwaitedChild) (values : List Value) (tail : List Value → Evaluation) (j : List ℕ) → GaveValues child front →
+      Contains (places (front_of events front)) j → Contains (places (events ++ (parts_run child (front ++ p ∷ later) values then tail).items)) j
+  shown-comes events [] p later values tail j gave c =
+      let more : List Event = (parts_run child (p ∷ later) values then tail).items in
+      subst (λ (l : List (List ℕ)). Contains l j) (sym (places-append events more)) (Contains-append_left (places events) (places more) j c)
+  shown-comes events (q ∷ front) p later values tail j gave c = by_end (child q.child).ending (λ vs. shown-comes q.behind front p later (more_values q.place (Ok vs) values) tail j gave.1 c) gave.0
+    where
+      rest : List Value → Evaluation
+      rest vs = parts_run child (front ++ p ∷ later) (more_values q.place (Ok vs) values)
+
+      with_end : Result (List Value) Fault → Evaluation
+      with_end e = record { items = (child q.child).items; ending = e } then λ vs. behind q.behind (rest vs)
+
+      by_end : (e : Result (List Value) Fault) → ((vs : List Value) → Contains (places (q.behind ++ (rest vs then tail).items)) j) → GaveValue e → Contains (places (events ++ (with_end e then tail).items)) j
+      by_end (Err f) h g = absurd g
+      by_end (Ok vs) h g = subst (λ (l : List Event). Contains (places l) j) (sym split) last
+        where
+          front_events : List Event
+          front_events = events ++ (child q.child).items
+
+          -- the items are those of the child, and then those after it
+          split : events ++ (with_end (Ok vs) then tail).items ≡ front_events ++ (q.behind ++ (rest vs then tail).items)
+          split =
+              ap (λ (r : Evaluation). events ++ r.items) (behind-then (child q.child).items (behind q.behind (rest vs)) tail ∙ ap (behind (child q.child).items) (behind-then q.behind (rest vs) tail))
+              ∙ sym (append_assoc events (child q.child).items (q.behind ++ (rest vs then tail).items))
+
+          last : Contains (places (front_events ++ (q.behind ++ (rest vs then tail).items))) j
+          last =
+              let more : List Event = q.behind ++ (rest vs then tail).items in
+              subst (λ (l : List (List ℕ)). Contains l j) (sym (places-append front_events more)) (Contains-append_right (places front_events) (places more) j (h vs))
+
+  -- The trace up to the first fault of a child, and that fault.
+  heard-ends : (prefix : List Event) (front : List AwaitedChild) (p : AwaitedChild) (later : List AwaitedChild) (values : List Value) (tail : List Value → Evaluation) (f : Fault) → GaveValues child front → (child p.child).ending ≡ Err f →
+      behind prefix (parts_run child (front ++ p ∷ later) values then tail) ≡ record { items = (heard_all (front ++ p ∷ []) (evaluations child (front ++ p ∷ [])) (record { prefix = prefix; fault = None; handed = [] })).prefix; ending = Err f }
+  heard-ends prefix [] p later values tail f gave e = by_end (child p.child).ending e
+    where
+      run : Result (List Value) Fault → Evaluation
+      run q = record { items = (child p.child).items; ending = q } then λ vs. behind p.behind (parts_run child later (more_values p.place (Ok vs) values))
+
+      heard_with : Result (List Value) Fault → Trace
+      heard_with q = heard_all (p ∷ []) (record { items = (child p.child).items; ending = q } ∷ []) (record { prefix = prefix; fault = None; handed = [] })
+
+      by_end : (q : Result (List Value) Fault) → q ≡ Err f → behind prefix (run q then tail) ≡ record { items = (heard_with q).prefix; ending = Err f }
+      by_end (Ok vs) g = absurd (cc)
+      by_end (Err x) g = ap (λ (y : Result (List Value) Fault). record { items = prefix ++ (child p.child).items; ending = y }) g
+  heard-ends prefix (q ∷ front) p later values tail f gave e =
+      by_end (child q.child).ending (λ vs. heard-ends (prefix ++ ((child q.child).items ++ q.behind)) front p later (more_values q.place (Ok vs) values) tail f gave.1 e) gave.0
+    where
+      rest : List Value → Evaluation
+      rest vs = parts_run child (front ++ p ∷ later) (more_values q.place (Ok vs) values)
+
+      ps : List AwaitedChild
+      ps = front ++ p ∷ []
+
+      next : List Event
+      next = prefix ++ ((child q.child).items ++ q.behind)
+
+      with_end : Result (List Value) Fault → Evaluation
+      with_end r = record { items = (child q.child).items; ending = r } then λ vs. behind q.behind (rest vs)
+
+      heard_with : Result (List Value) Fault → Trace
+      heard_with r = heard_all (q ∷ ps) (record { items = (child q.child).items; ending = r } ∷ evaluations child ps) (record { prefix = prefix; fault = None; handed = [] })
+
+      by_end : (r : Result (List Value) Fault) →
+          ((vs : List Value) → behind next (rest vs then tail) ≡ record { items = (heard_all ps (evaluations child ps) (record { prefix = next; fault = None; handed = [] })).prefix; ending = Err f }) →
+          GaveValue r → behind prefix (with_end r then tail) ≡ record { items = (heard_with r).prefix; ending = Err f }
+      by_end (Err x) h g = absurd g
+      by_end (Ok vs) h g =
+          ap (behind prefix) (behind-then (child q.child).items (behind q.behind (rest vs)) tail ∙ ap (behind (child q.child).items) (behind-then q.behind (rest vs) tail))
+          ∙ ap (λ (l : List Event). record { items = l; ending = (rest vs then tail).ending }) (ap (λ (l : List Event). prefix ++ l) (sym (append_assoc (child q.child).items q.behind (rest vs then tail).items)) ∙ sym (append_assoc prefix ((child q.child).items ++ q.behind) (rest vs then tail).items))
+          ∙ h vs
+
+-- how the child after the front ones is shown
+shown-at : (o : Origin) (events : List Event) (front : List AwaitedChild) (p : AwaitedChild) (later : List AwaitedChild) → AreShownBy o events (front ++ p ∷ later) → IsShownBy o (front_of events front) p
+shown-at o events [] p later h = h.0
+shown-at o events (q ∷ front) p later h = shown-at o q.behind front p later h.1
+
+-- a task's trace without a fault, before the rest
+trace-whole : (t : Task) (ps : List AwaitedChild) → IsTask t → t.trace.fault ≡ None → t.trace.handed ≡ ps →
+    behind t.trace.prefix (parts_run (eval t.plan) ps t.values then work_run t.plan t.origin ps t.work) ≡ eval t.plan t.origin
+trace-whole t ps is none e = sym (ap run none) ∙ ap whole (sym e) ∙ is.finishes
+  where
+    run : Option Fault → Evaluation
+    run f = prefix_run (record t.trace { fault = f }) then λ u. parts_run (eval t.plan) ps t.values then work_run t.plan t.origin ps t.work
+
+    whole : List AwaitedChild → Evaluation
+    whole qs = prefix_run t.trace then λ u. parts_run (eval t.plan) qs t.values then work_run t.plan t.origin qs t.work
+
+-- the path of a task's origin begins that of each child
+own-begins : (o : Origin) → (more : List ℕ) × (path_of (own_instance o) ≡ path_of o ++ more)
+own-begins (Instance function args path) = ([], sym (append-nil path))
+own-begins (Loop function rest first path range) = ((range.hi - 1) ∷ [], refl)
+
+child-begins : (o : Origin) (events : List Event) (p : AwaitedChild) → IsShownBy o events p → (more : List ℕ) × (path_of p.child ≡ path_of o ++ more)
+child-begins o events p (inl h) = ([], h.1 ∙ sym (append-nil (path_of o)))
+child-begins o events p (inr h) =
+    let b = own-begins o in (b.0 ++ h.0 ∷ h.1, h.2 ∙ ap (λ (l : List ℕ). l ++ h.0 ∷ h.1) b.1 ∙ append_assoc (path_of o) b.0 (h.0 ∷ h.1))
+
+-- A child's cut is its parent's.
+pub cuts_pass : (t : Task) (front : List AwaitedChild) (p : AwaitedChild) (later : List AwaitedChild) (by : Fault) → IsTask t → t.trace.fault ≡ None → t.trace.handed ≡ front ++ p ∷ later →
+    GaveValues (eval t.plan) front → IsCut t.plan p.child by → IsCut t.plan t.origin by
+cuts_pass t front p later by is none e gave cut = record { known = cut.known; before = before t.origin refl; loops = loops }
+  where
+    events : List Event
+    events = front_of t.trace.prefix front
+
+    shown : IsShownBy t.origin events p
+    shown = shown-at t.origin t.trace.prefix front p later (subst (AreShownBy t.origin t.trace.prefix) e (is.shown none))
+
+    begins : (more : List ℕ) × (path_of p.child ≡ path_of t.origin ++ more)
+    begins = child-begins t.origin events p shown
+
+    loops : (path more : List ℕ) → path ++ more ≡ path_of t.origin → IsLoopPath t.plan path → IsBefore by.at path
+    loops path more s loop = cut.loops path (more ++ begins.0) (sym (append_assoc path more begins.0) ∙ ap (λ (l : List ℕ). l ++ begins.0) s ∙ sym begins.1) loop
+
+    before : (o : Origin) → t.origin ≡ o → IsBefore by.at (path_of o)
+    before (Loop function rest first path range) h =
+        cut.loops path begins.0 (ap (λ (x : Origin). path_of x ++ begins.0) (sym h) ∙ sym begins.1) (function, rest, first, range, subst (IsOriginOf t.plan) h is.known)
+    before (Instance function args path) h = by_place (subst (λ (x : Origin). IsShownBy x events p) h shown)
+      where
+        o : Origin
+        o = Instance function args path
+
+        tail : List Value → Evaluation
+        tail = work_run t.plan t.origin (front ++ p ∷ later) t.work
+
+        reached : Contains (places events) (path_of p.child) → Contains (places (eval t.plan o).items) (path_of p.child)
+        reached c =
+            subst (λ (r : Evaluation). Contains (places r.items) (path_of p.child)) (trace-whole t (front ++ p ∷ later) is none e ∙ ap (eval t.plan) h)
+            (shown-comes (eval t.plan) t.trace.prefix front p later t.values tail (path_of p.child) gave c)
+
+        by_place : IsShownBy o events p → IsBefore by.at path
+        by_place (inl g) = subst (IsBefore by.at) g.1 cut.before
+        by_place (inr g) =
+            before-own t.plan function args path (subst (IsOriginOf t.plan) h is.known) by cut.known (path_of p.child) cut.before (reached g.3)
+
+-- an evaluation that ends by a fault is an answer
+eval-fault : (plan : PlanView) (o : Origin) (out : List Event) (f : Fault) → ◌≡◌ {A = Evaluation} (record { items = out; ending = Err f }) (eval plan o) → IsEval plan o out (outcome.Fault f)
+eval-fault plan o out f same = record { events = ap (λ (q : Evaluation). q.items) same; ends = sym (err-outcome o f) ∙ ap (λ (q : Evaluation). outcome_of o q.ending) same }
+
+fault-known : (plan : PlanView) (o : Origin) (out : List Event) (f : Fault) → IsOriginOf plan o → ◌≡◌ {A = Evaluation} (record { items = out; ending = Err f }) (eval plan o) → Contains (faults plan) f
+fault-known plan o out f known same = subst (λ (q : Evaluation). EndsWithin (faults plan) q.ending) (sym same) (origins_end_within_faults plan o known)
+
+-- what was heard, where the trace had this fault
+abbrev heard_with : Task → List AwaitedChild → List Evaluation → Option Fault → List Event
+heard_with t ps answers f = (heard_all ps answers (record t.trace { fault = f; handed = [] })).prefix
+
+-- A child's fault is its parent's.
+pub faults_pass : (t : Task) (front : List AwaitedChild) (p : AwaitedChild) (later : List AwaitedChild) (f : Fault) → IsTask t → t.trace.fault ≡ None → t.trace.handed ≡ front ++ p ∷ later →
+    GaveValues (eval t.plan) front → (eval t.plan p.child).ending ≡ Err f → IsEval t.plan t.origin (heard_of t (front ++ p ∷ [])).prefix (outcome.Fault f) × Contains (faults t.plan) f
+faults_pass t front p later f is none e gave ended = (eval-fault t.plan t.origin out f same, fault-known t.plan t.origin out f is.known same)
+  where
+    ps : List AwaitedChild
+    ps = front ++ p ∷ []
+
+    out : List Event
+    out = (heard_of t ps).prefix
+
+    same : ◌≡◌ {A = Evaluation} (record { items = out; ending = Err f }) (eval t.plan t.origin)
+    same =
+        ap (λ (g : Option Fault). record { items = heard_with t ps (evaluations (eval t.plan) ps) g; ending = Err f }) none
+        ∙ sym (heard-ends (eval t.plan) t.trace.prefix front p later t.values (work_run t.plan t.origin (front ++ p ∷ later) t.work) f gave ended)
+        ∙ trace-whole t (front ++ p ∷ later) is none e
+
+-- All answers
+
+-- after a fault nothing is heard
+heard-faulted : (ps : List AwaitedChild) (answers : List Evaluation) (prefix : List Event) (f : Fault) → (heard_all ps answers (record { prefix = prefix; fault = Some f; handed = [] })).prefix ≡ prefix
+heard-faulted [] answers prefix f = refl
+heard-faulted (p ∷ ps) [] prefix f = refl
+heard-faulted (p ∷ ps) (a ∷ answers) prefix f = heard-faulted ps answers prefix f
+
+ended-stays : (answers : List AnswerView) (x : Outcome) → ended_after (Some x) answers ≡ Some x
+ended-stays [] x = refl
+ended-stays (a ∷ answers) x = ended-stays answers x
+
+some-same : (x y : Outcome) → Some x ≡ Some y → x ≡ y
+some-same x y e = ap or_x e
+  where
+    or_x : Option Outcome → Outcome
+    or_x None = x
+    or_x (Some z) = z
+
+-- what the first child says whose outcome isn't values, and what was heard up to it
+abbrev Says : PlanView → AwaitedChild → List Event → List Event → Outcome → Type 0
+Says plan p heard up_to (outcome.Value v) = ⊥
+Says plan p heard up_to (outcome.Values vs) = ⊥
+Says plan p heard up_to (outcome.Fault f) = ((eval plan p.child).ending ≡ Err f) × (heard ≡ up_to)
+Says plan p heard up_to (outcome.Cut f) = IsCut plan p.child f
+
+abbrev clear_of : List Event → Trace
+clear_of prefix = record { prefix = prefix; fault = None; handed = [] }
+
+record First (plan : PlanView) (ps : List AwaitedChild) (answers : List Evaluation) (prefix : List Event) (ended : Outcome) : Type 0 where
+  front : List AwaitedChild
+  p : AwaitedChild
+  later : List AwaitedChild
+  split : ps ≡ front ++ p ∷ later
+  gave : GaveValues (eval plan) front
+  says : Says plan p (heard_all ps answers (clear_of prefix)).prefix (heard_all (front ++ p ∷ []) (evaluations (eval plan) (front ++ p ∷ [])) (clear_of prefix)).prefix ended
+
+first_end : (plan : PlanView) (ps : List AwaitedChild) (answers : List AnswerView) (prefix : List Event) (ended : Outcome) → AreAnswersOf plan ps answers → ended_after None answers ≡ Some ended →
+    First plan ps (answer_evaluations answers) prefix ended
+first_end plan [] [] prefix ended h e = absurd (cc)
+first_end plan [] (a ∷ answers) prefix ended h e = absurd h
+first_end plan (p ∷ ps) [] prefix ended h e = absurd h
+first_end plan (p ∷ ps) (a ∷ answers) prefix ended h e =
+    by_outcome a.outcome (subst (λ (o : Origin). IsAnswer plan o a.out a.outcome) h.1 (subst (λ (q : PlanView). IsAnswer q a.origin a.out a.outcome) h.0 h.2)) e
+    (λ more g. first_end plan ps answers more ended h.3 g)
+  where
+    rest : List Evaluation
+    rest = answer_evaluations answers
+
+    -- a child that gave values
+    goes_on : (vs : List Value) → record { items = a.out; ending = Ok vs } ≡ eval plan p.child → First plan ps rest (prefix ++ (a.out ++ p.behind)) ended →
+        First plan (p ∷ ps) (record { items = a.out; ending = Ok vs } ∷ rest) prefix ended
+    goes_on vs same next = record {
+      front = p ∷ next.front;
+      p = next.p;
+      later = next.later;
+      split = ap (λ (l : List AwaitedChild). p ∷ l) next.split;
+      gave = (subst (λ (q : Evaluation). GaveValue q.ending) same tt, next.gave);
+      says = subst (λ (q : Evaluation). Says plan next.p (heard_all ps rest (clear_of (prefix ++ (a.out ++ p.behind)))).prefix (heard_all (next.front ++ next.p ∷ []) (evaluations (eval plan) (next.front ++ next.p ∷ [])) (heard p q (clear_of prefix))).prefix ended) same next.says;
+    }
+
+    fault : (f : Fault) → record { items = a.out; ending = Err f } ≡ eval plan p.child → First plan (p ∷ ps) (record { items = a.out; ending = Err f } ∷ rest) prefix (outcome.Fault f)
+    fault f same = record {
+      front = [];
+      p = p;
+      later = ps;
+      split = refl;
+      gave = tt;
+      says = (
+        sym (ap (λ (q : Evaluation). q.ending) same),
+        heard-faulted ps rest (prefix ++ a.out) f ∙ ap (λ (q : Evaluation). (heard p q (clear_of prefix)).prefix) same,
+      );
+    }
+
+    ended-by : (x : Outcome) → ended_after (Some x) answers ≡ Some ended → x ≡ ended
+    ended-by x g = some-same x ended (sym (ended-stays answers x) ∙ g)
+
+    by_outcome : (o : Outcome) → IsAnswer plan p.child a.out o → ended_after (or_ends None o) answers ≡ Some ended → ((more : List Event) → ended_after None answers ≡ Some ended → First plan ps rest more ended) →
+        First plan (p ∷ ps) (evaluation_of a.out o ∷ rest) prefix ended
+    by_outcome (outcome.Value v) is g next = goes_on (v ∷ []) (answers_are_evaluations plan p.child a.out (outcome.Value v) is) (next (prefix ++ (a.out ++ p.behind)) g)
+    by_outcome (outcome.Values vs) is g next = goes_on vs (answers_are_evaluations plan p.child a.out (outcome.Values vs) is) (next (prefix ++ (a.out ++ p.behind)) g)
+    by_outcome (outcome.Fault f) is g next =
+        subst (First plan (p ∷ ps) (evaluation_of a.out (outcome.Fault f) ∷ rest) prefix) (ended-by (outcome.Fault f) g) (fault f (answers_are_evaluations plan p.child a.out (outcome.Fault f) is))
+    by_outcome (outcome.Cut f) is g next =
+        subst (First plan (p ∷ ps) (evaluation_of a.out (outcome.Cut f) ∷ rest) prefix) (ended-by (outcome.Cut f) g) (record { front = []; p = p; later = ps; split = refl; gave = tt; says = is })
+
+-- A task that heard a fault or a cut answers by the first of them.
+pub answers_end : (t : Task) (answers : List AnswerView) (ended : Outcome) → IsTask t → AreAnswersOf t.plan t.trace.handed answers → ended_after (by_fault t.trace.fault) answers ≡ Some ended →
+    IsAnswer t.plan t.origin (heard_all t.trace.handed (answer_evaluations answers) (record t.trace { handed = [] })).prefix ended × IsByFaultOf t.plan ended
+answers_end t answers ended is are e = by_trace t.trace.fault refl e
+  where
+    ps : List AwaitedChild
+    ps = t.trace.handed
+
+    heard_by : Option Fault → List Event
+    heard_by = heard_with t ps (answer_evaluations answers)
+
+    run : Option Fault → Evaluation
+    run f = prefix_run (record t.trace { fault = f }) then λ u. parts_run (eval t.plan) ps t.values then work_run t.plan t.origin ps t.work
+
+    by_first : (x : Outcome) → t.trace.fault ≡ None → First t.plan ps (answer_evaluations answers) t.trace.prefix x → IsAnswer t.plan t.origin (heard_by None) x × IsByFaultOf t.plan x
+    by_first (outcome.Value v) none first = absurd first.says
+    by_first (outcome.Values vs) none first = absurd first.says
+    by_first (outcome.Cut f) none first = let cut = cuts_pass t first.front first.p first.later f is none first.split first.gave first.says in (cut, cut.known)
+    by_first (outcome.Fault f) none first =
+        let whole = faults_pass t first.front first.p first.later f is none first.split first.gave first.says.0 in
+        let qs : List AwaitedChild = first.front ++ first.p ∷ [] in
+        (subst (λ (out : List Event). IsEval t.plan t.origin out (outcome.Fault f)) (ap (heard_with t qs (evaluations (eval t.plan) qs)) none ∙ sym first.says.1) whole.0, whole.1)
+
+    by_trace : (f : Option Fault) → t.trace.fault ≡ f → ended_after (by_fault f) answers ≡ Some ended → IsAnswer t.plan t.origin (heard_by t.trace.fault) ended × IsByFaultOf t.plan ended
+    by_trace None none g =
+        subst (λ (f : Option Fault). IsAnswer t.plan t.origin (heard_by f) ended × IsByFaultOf t.plan ended) (sym none) (by_first ended none (first_end t.plan ps answers t.trace.prefix ended are g))
+    by_trace (Some f) some g =
+        let out : List Event = heard_by t.trace.fault in
+        let heard_is : out ≡ t.trace.prefix = ap heard_by some ∙ heard-faulted ps (answer_evaluations answers) t.trace.prefix f in
+        let same : ◌≡◌ {A = Evaluation} (record { items = out; ending = Err f }) (eval t.plan t.origin) = ap (λ (l : List Event). record { items = l; ending = Err f }) heard_is ∙ ap run (sym some) ∙ is.finishes in
+        subst (λ (x : Outcome). IsAnswer t.plan t.origin out x × IsByFaultOf t.plan x) (some-same (outcome.Fault f) ended (sym (ended-stays answers (outcome.Fault f)) ∙ g))
+        (eval-fault t.plan t.origin out f same, fault-known t.plan t.origin out f is.known same)

@@ -1,0 +1,342 @@
+-- A task that takes its children's evaluations as their answers.
+use Rattle.std.proofs.Common.{◌≡◌, ℕ, Bool, true, false, ◌||◌, nat_eq, List, [], ◌∷◌, ◌++◌, Option, Some, None, Result, Ok, Err, inl, inr, ◌⊎◌, length, refl, sym, ap, ◌∙◌, append_assoc, subst, if◌then◌else◌}
+use Rattle.std.proofs.lemmas.List.Elements.{Contains-append_right}
+use Rattle.script_grammar.specs.declared.tree.Name.{Name}
+use Rattle.serial_meaning.specs.Runs.{Run, done, behind, goes_on, ◌then◌}
+use Rattle.serial_meaning.specs.Plan.{PlanView}
+use Rattle.serial_meaning.specs.Eval.{Evaluation, path_of, eval}
+use Rattle.serial_meaning.specs.Open.{Item, NodeFault, Own, ChildFaulted}
+use Rattle.serial_meaning.specs.declared.value.Value.{Value}
+use Rattle.serial_meaning.specs.declared.event.Fault.{Fault}
+use Rattle.serial_meaning.specs.declared.event.Event.{Event}
+use Rattle.serial_meaning.specs.declared.origin.Origin.{Origin}
+use Rattle.strand_meaning.specs.Clear.{IsWithin, IsApart, target_names}
+use Rattle.strand_meaning.specs.Machine.{Destination, Spawned, Looped, Half, Frame, Machine}
+use Rattle.strand_meaning.specs.Trace.{AwaitedChild, Trace, heard_unless, heard, heard_all}
+use Rattle.strand_meaning.specs.Task.{InstanceState, Running, AtSync, AtLoop, Ended, Work, Splits, Runs, Over, Task, own_instance, changed, changed_at, answered, takes, takes_all, joins, resumed, resumed_work, more_values, all_values, on}
+use Rattle.strand_meaning.specs.Rest.{children_of, evaluations, rest_of_stage, rest_open, closed, prefix_end, prefix_run, parts_run, all_with, work_run, finish}
+use Rattle.strand_meaning.specs.Sound.{unfilled_by, unfilled, is_by, any_by, IsSound, AreSound, IsPlace, ArePlaces, IsHalf, behind_sync, IsSoundStage, AreParts, IsSoundWork, AreShownBy, UnfilledArePendingIn, IsTask}
+use Rattle.strand_meaning.proofs.SoundSteps.Closing.{behind-then}
+use Rattle.strand_meaning.proofs.Unfilled.Changed.{length-changed}
+use Rattle.strand_meaning.proofs.Unfilled.Clears.{clear-within}
+use Rattle.strand_meaning.proofs.UnfilledPending.PendingAnswers.{answers-pending}
+use Rattle.strand_meaning.proofs.SoundSteps.Steps.{so_far-same}
+
+clash : true ≡ false → ⊥
+clash h = absurd (cc)
+
+-- The trace
+
+module _ (child : Origin → Evaluation) where
+  abbrev from_parts : List AwaitedChild → Trace → List Value → (List Value → Evaluation) → Evaluation
+  from_parts ps trace values tail = prefix_run trace then λ u. parts_run child ps values then tail
+
+  heard-one : (p : AwaitedChild) (ps : List AwaitedChild) (trace : Trace) (values : List Value) (tail : List Value → Evaluation) →
+      from_parts (p ∷ ps) trace values tail ≡ from_parts ps (heard p (child p.child) trace) (more_values p.place (child p.child).ending values) tail
+  heard-one p ps trace values tail = by_cases trace.fault (child p.child).items (child p.child).ending
+    where
+      by_cases : (f : Option Fault) (events : List Event) (q : Result (List Value) Fault) →
+          (record { items = trace.prefix; ending = prefix_end f } then λ (u : Unit {0}). (goes_on events q (λ vs. behind p.behind (parts_run child ps (more_values p.place (Ok vs) values)))) then tail)
+          ≡ from_parts ps (heard_unless f trace.prefix p events q) (more_values p.place q values) tail
+      by_cases (Some f) events q = refl
+      by_cases None events (Err f) = refl
+      by_cases None events (Ok vs) =
+          let r : Evaluation = parts_run child ps (more_values p.place (Ok vs) values) in
+          ap (behind trace.prefix) (behind-then events (behind p.behind r) tail ∙ ap (behind events) (behind-then p.behind r tail))
+          ∙ ap (λ (l : List Event). record { items = trace.prefix ++ l; ending = (r then tail).ending }) (sym (append_assoc events p.behind (r then tail).items))
+          ∙ ap (λ (l : List Event). record { items = l; ending = (r then tail).ending }) (sym (append_assoc trace.prefix (events ++ p.behind) (r then tail).items))
+
+  heard-so_far : (ps : List AwaitedChild) (trace : Trace) (values : List Value) (tail : List Value → Evaluation) →
+      from_parts ps trace values tail ≡ from_parts [] (heard_all ps (evaluations child ps) trace) (all_values ps (evaluations child ps) values) tail
+  heard-so_far [] trace values tail = refl
+  heard-so_far (p ∷ ps) trace values tail =
+      heard-one p ps trace values tail ∙ heard-so_far ps (heard p (child p.child) trace) (more_values p.place (child p.child).ending values) tail
+
+  heard-none : (ps : List AwaitedChild) (trace : Trace) → trace.handed ≡ [] → (heard_all ps (evaluations child ps) trace).handed ≡ []
+  heard-none [] trace h = h
+  heard-none (p ∷ ps) trace h = heard-none ps (heard p (child p.child) trace) (by_cases trace.fault (child p.child).ending)
+    where
+      by_cases : (f : Option Fault) (q : Result (List Value) Fault) → (heard_unless f trace.prefix p (child p.child).items q).handed ≡ []
+      by_cases (Some f) q = refl
+      by_cases None (Ok vs) = refl
+      by_cases None (Err f) = refl
+
+-- What remains
+
+pub takes-same : (plan : PlanView) (o : Origin) (ps : List AwaitedChild) → AreParts plan o ps → (stage : InstanceState) →
+    takes_all ps (evaluations (children_of plan (own_instance o)) ps) stage ≡ takes_all ps (evaluations (eval plan) ps) stage
+takes-same plan o [] h stage = refl
+takes-same plan o (p ∷ ps) h stage =
+    takes-same plan o ps h.1 (takes p.place (children_of plan (own_instance o) p.child).ending stage) ∙ ap (takes_all ps (evaluations (eval plan) ps)) (one h.0.same)
+  where
+    half : (place : Destination) (q r : Result (List Value) Fault) → IsHalf place → takes place q stage ≡ takes place r stage
+    half (Spawned owner target) q r g = absurd g
+    half (Looped target) q r g = absurd g
+    half Half q r g = refl
+
+    one : IsHalf p.place ⊎ (children_of plan (own_instance o) p.child ≡ eval plan p.child) → takes p.place (children_of plan (own_instance o) p.child).ending stage ≡ takes p.place (eval plan p.child).ending stage
+    one (inl g) = half p.place _ _ g
+    one (inr e) = ap (λ (r : Evaluation). takes p.place r.ending stage) e
+
+resumed-twice : (stage : InstanceState) → resumed (resumed stage) ≡ resumed stage
+resumed-twice (Running m) = refl
+resumed-twice (AtSync m) = from m.top.faulted
+  where
+    from : (f : Option Fault) → resumed (joins f m) ≡ joins f m
+    from None = refl
+    from (Some f) = refl
+resumed-twice (AtLoop m) = refl
+resumed-twice (Ended e) = refl
+
+-- Frames that take an answer
+
+or-right : (a : Bool) → (a || true) ≡ true
+or-right true = refl
+or-right false = refl
+
+fewer : (height : ℕ) (p : AwaitedChild) (ps : List AwaitedChild) → IsWithin (unfilled height ps) (unfilled height (p ∷ ps))
+fewer height p ps name h = Contains-append_right (unfilled_by height p.place) (unfilled height ps) name h
+
+module _ (plan : PlanView) (p : AwaitedChild) (ps : List AwaitedChild) where
+  less-sound : (height : ℕ) (a : Frame) → IsSound plan (p ∷ ps) height a → IsSound plan ps height a
+  less-sound height a s = record {
+    clear = (s.clear.0, clear-within (unfilled height ps) (unfilled height (p ∷ ps)) (fewer height p ps) s.clear.1);
+    spawned = λ e. s.spawned (ap (λ b. is_by height p.place || b) e ∙ or-right (is_by height p.place));
+    faulted = s.faulted;
+    in_text = s.in_text;
+    left_in_text = s.left_in_text;
+    levels = s.levels;
+    leaving = s.leaving;
+    returning = s.returning;
+  }
+
+  answered-sound : (height : ℕ) (a : Frame) (target : Option Name) (q : Result (List Value) Fault) → is_by height p.place ≡ true → IsSound plan (p ∷ ps) height a → IsSound plan ps height (answered target q a)
+  answered-sound height a target (Ok vs) h s =
+      let l = less-sound height a s in record { clear = l.clear; spawned = l.spawned; faulted = l.faulted; in_text = l.in_text; left_in_text = l.left_in_text; levels = l.levels; leaving = l.leaving; returning = l.returning }
+  answered-sound height a target (Err f) h s =
+      let l = less-sound height a s in record {
+        clear = l.clear;
+        spawned = l.spawned;
+        faulted = λ e. absurd (clash (sym (s.spawned (ap (λ b. b || any_by height ps) h)) ∙ e));
+        in_text = l.in_text;
+        left_in_text = l.left_in_text;
+        levels = l.levels;
+        leaving = l.leaving;
+        returning = l.returning;
+      }
+
+  less-below : (target : Option Name) (below : List Frame) → AreSound plan (p ∷ ps) target below → AreSound plan ps target below
+  less-below target [] s = tt
+  less-below target (caller ∷ below) s = (λ name c d. s.0 name c (fewer (length below) p ps name d), less-sound (length below) caller s.1, less-below caller.target below s.2)
+
+  module _ (owner : ℕ) (to : Option Name) (q : Result (List Value) Fault) (is-spawned : p.place ≡ Spawned owner to) where
+    by-owner : (height : ℕ) → nat_eq owner height ≡ true → is_by height p.place ≡ true
+    by-owner height h = ap (is_by height) is-spawned ∙ h
+
+    same-target : (a : Frame) → (answered to q a).target ≡ a.target
+    same-target a = from q
+      where
+        from : (q : Result (List Value) Fault) → (answered to q a).target ≡ a.target
+        from (Ok vs) = refl
+        from (Err f) = refl
+
+    changed-below : (target : Option Name) (below : List Frame) → AreSound plan (p ∷ ps) target below → AreSound plan ps target (changed_at owner (answered to q) below)
+    changed-below target [] s = tt
+    changed-below target (caller ∷ below) s = by_place (nat_eq owner (length below)) refl (changed-below caller.target below s.2)
+      where
+        height : ℕ
+        height = length (changed_at owner (answered to q) below)
+
+        same : length below ≡ height
+        same = sym (length-changed owner (answered to q) below)
+
+        apart : IsApart (target_names target) (unfilled (length below) ps)
+        apart name c d = s.0 name c (fewer (length below) p ps name d)
+
+        by_place : (b : Bool) → nat_eq owner (length below) ≡ b → AreSound plan ps caller.target (changed_at owner (answered to q) below) →
+            AreSound plan ps target (if b then answered to q caller ∷ below else caller ∷ changed_at owner (answered to q) below)
+        by_place true e later =
+            (apart, answered-sound (length below) caller to q (by-owner (length below) e) s.1, subst (λ (x : Option Name). AreSound plan ps x below) (sym (same-target caller)) (less-below caller.target below s.2))
+        by_place false e later =
+            (subst (λ n. IsApart (target_names target) (unfilled n ps)) same apart, subst (λ n. IsSound plan ps n caller) same (less-sound (length below) caller s.1), later)
+
+    -- the innermost frame and the others
+    changed-machine : (T : ℕ → Frame → Type 0) → ((height : ℕ) (a : Frame) → nat_eq owner height ≡ true → T height a → T height (answered to q a)) →
+        (m : Machine) → T (length m.below) m.top → AreSound plan (p ∷ ps) m.top.target m.below →
+        let k = changed owner (answered to q) m in T (length k.below) k.top × AreSound plan ps k.top.target k.below
+    changed-machine T keeps m t s = by_place (nat_eq owner (length m.below)) refl
+      where
+        by_place : (b : Bool) → nat_eq owner (length m.below) ≡ b →
+            let k = if b then record m { top = answered to q m.top } else record m { below = changed_at owner (answered to q) m.below } in T (length k.below) k.top × AreSound plan ps k.top.target k.below
+        by_place true e = (keeps (length m.below) m.top e t, subst (λ (x : Option Name). AreSound plan ps x m.below) (sym (same-target m.top)) (less-below m.top.target m.below s))
+        by_place false e = (subst (λ n. T n m.top) (sym (length-changed owner (answered to q) m.below)) t, changed-below m.top.target m.below s)
+
+-- Stages that take answers: what holds of them, or they have ended by a fault.
+
+abbrev HasFaulted : InstanceState → Type 0
+HasFaulted stage = (e : NodeFault) × (stage ≡ Ended (Err e))
+
+abbrev Taking : PlanView → List AwaitedChild → InstanceState → Type 0
+Taking plan ps stage = IsSoundStage plan ps stage ⊎ HasFaulted stage
+
+faulted-takes : (place : Destination) (q : Result (List Value) Fault) (e : NodeFault) → HasFaulted (takes place q (Ended (Err e)))
+faulted-takes (Spawned owner target) q e = (e, refl)
+faulted-takes (Looped target) (Ok vs) e = (e, refl)
+faulted-takes (Looped target) (Err f) e = (ChildFaulted f, refl)
+faulted-takes Half q e = (e, refl)
+
+places-owner : (height : ℕ) (ps : List AwaitedChild) (n : ℕ) → height ≡ n → ArePlaces height ps → ArePlaces n ps
+places-owner height ps n e h = subst (λ k. ArePlaces k ps) e h
+
+module _ (plan : PlanView) (p : AwaitedChild) (ps : List AwaitedChild) (q : Result (List Value) Fault) where
+  same-height : (owner : ℕ) (to : Option Name) (m : Machine) → length m.below ≡ length (changed owner (answered to q) m).below
+  same-height owner to m = from (nat_eq owner (length m.below))
+    where
+      from : (b : Bool) → length m.below ≡ length (if b then record m { top = answered to q m.top } else record m { below = changed_at owner (answered to q) m.below }).below
+      from true = refl
+      from false = sym (length-changed owner (answered to q) m.below)
+
+  sync-kept : (height : ℕ) (a : Frame) (to : Option Name) → IsSound plan [] height (behind_sync a) → IsSound plan [] height (behind_sync (answered to q a))
+  sync-kept height a to s = from q
+    where
+      from : (q : Result (List Value) Fault) → IsSound plan [] height (behind_sync (answered to q a))
+      from (Ok vs) = record { clear = s.clear; spawned = s.spawned; faulted = s.faulted; in_text = s.in_text; left_in_text = s.left_in_text; levels = s.levels; leaving = s.leaving; returning = s.returning }
+      from (Err f) = record { clear = s.clear; spawned = s.spawned; faulted = s.faulted; in_text = s.in_text; left_in_text = s.left_in_text; levels = s.levels; leaving = s.leaving; returning = s.returning }
+
+  top-changed : (owner : ℕ) (to : Option Name) → p.place ≡ Spawned owner to → (m : Machine) → IsSound plan (p ∷ ps) (length m.below) m.top → AreSound plan (p ∷ ps) m.top.target m.below →
+      let k = changed owner (answered to q) m in IsSound plan ps (length k.below) k.top × AreSound plan ps k.top.target k.below
+  top-changed owner to e m s b = by_place (nat_eq owner (length m.below)) refl
+    where
+      by_place : (t : Bool) → nat_eq owner (length m.below) ≡ t →
+          let k = if t then record m { top = answered to q m.top } else record m { below = changed_at owner (answered to q) m.below } in IsSound plan ps (length k.below) k.top × AreSound plan ps k.top.target k.below
+      by_place true h =
+          (answered-sound plan p ps (length m.below) m.top to q (ap (is_by (length m.below)) e ∙ h) s, subst (λ (x : Option Name). AreSound plan ps x m.below) (sym (same-target plan p ps owner to q e m.top)) (less-below plan p ps m.top.target m.below b))
+      by_place false h =
+          (subst (λ n. IsSound plan ps n m.top) (sym (length-changed owner (answered to q) m.below)) (less-sound plan p ps (length m.below) m.top s), changed-below plan p ps owner to q e m.top.target m.below b)
+
+  takes-spawned : (owner : ℕ) (to : Option Name) → p.place ≡ Spawned owner to → (stage : InstanceState) → IsSoundStage plan (p ∷ ps) stage → Taking plan ps (takes (Spawned owner to) q stage)
+  takes-spawned owner to e (Running m) s =
+      let k = top-changed owner to e m s.1 s.2 in inl (places-owner (length m.below) ps (length (changed owner (answered to q) m).below) (same-height owner to m) s.0.1, k.0, k.1)
+  takes-spawned owner to e (AtSync m) s =
+      let k = changed-machine plan p ps owner to q e (λ height a. IsSound plan [] height (behind_sync a)) (λ height a h t. sync-kept height a to t) m s.1 s.2 in
+      inl (places-owner (length m.below) ps (length (changed owner (answered to q) m).below) (same-height owner to m) s.0.1, k.0, k.1)
+  takes-spawned owner to e (AtLoop m) s = let k = top-changed owner to e m s.0 s.1 in inl (k.0, k.1)
+  takes-spawned owner to e (Ended (Ok v)) s = inl s.1
+  takes-spawned owner to e (Ended (Err x)) s = inr (x, refl)
+
+  takes-half : (stage : InstanceState) → IsSoundStage plan (p ∷ ps) stage → Taking plan ps stage
+  takes-half (Running m) s = inl (s.0.1, less-sound plan p ps (length m.below) m.top s.1, less-below plan p ps m.top.target m.below s.2)
+  takes-half (AtSync m) s = inl (s.0.1, s.1, less-below plan p ps m.top.target m.below s.2)
+  takes-half (AtLoop m) s = inl (less-sound plan p ps (length m.below) m.top s.0, less-below plan p ps m.top.target m.below s.1)
+  takes-half (Ended (Ok v)) s = inl s.1
+  takes-half (Ended (Err x)) s = inr (x, refl)
+
+  takes-looped : (to : Option Name) → p.place ≡ Looped to → (q : Result (List Value) Fault) (stage : InstanceState) → IsSoundStage plan (p ∷ ps) stage → Taking plan ps (takes (Looped to) q stage)
+  takes-looped to e (Err f) stage s = inr (ChildFaulted f, refl)
+  takes-looped to e (Ok vs) (Running m) s = let no : IsPlace (length m.below) (Looped to) = subst (IsPlace (length m.below)) e s.0.0 in absurd no
+  takes-looped to e (Ok vs) (AtSync m) s = let no : IsPlace (length m.below) (Looped to) = subst (IsPlace (length m.below)) e s.0.0 in absurd no
+  takes-looped to e (Ok vs) (AtLoop m) s =
+      let l = less-sound plan p ps (length m.below) m.top s.0 in
+      inl (record { clear = l.clear; spawned = l.spawned; faulted = l.faulted; in_text = l.in_text; left_in_text = l.left_in_text; levels = l.levels; leaving = l.leaving; returning = l.returning }, less-below plan p ps m.top.target m.below s.1)
+  takes-looped to e (Ok vs) (Ended (Ok v)) s = let no : IsHalf (Looped to) = subst IsHalf e s.0 in absurd no
+  takes-looped to e (Ok vs) (Ended (Err x)) s = inr (x, refl)
+
+  takes-sound : (place : Destination) → p.place ≡ place → (stage : InstanceState) → IsSoundStage plan (p ∷ ps) stage → Taking plan ps (takes place q stage)
+  takes-sound (Spawned owner to) e stage s = takes-spawned owner to e stage s
+  takes-sound (Looped to) e stage s = takes-looped to e q stage s
+  takes-sound Half e stage s = takes-half stage s
+
+  takes-either : (stage : InstanceState) → Taking plan (p ∷ ps) stage → Taking plan ps (takes p.place q stage)
+  takes-either stage (inl s) = takes-sound p.place refl stage s
+  takes-either stage (inr h) = inr (subst (λ (x : InstanceState). HasFaulted (takes p.place q x)) (sym h.1) (faulted-takes p.place q h.0))
+
+all-taken : (plan : PlanView) (child : Origin → Evaluation) (ps : List AwaitedChild) (stage : InstanceState) → Taking plan ps stage → Taking plan [] (takes_all ps (evaluations child ps) stage)
+all-taken plan child [] stage t = t
+all-taken plan child (p ∷ ps) stage t = all-taken plan child ps (takes p.place (child p.child).ending stage) (takes-either plan p ps (child p.child).ending stage t)
+
+resumed-sound : (plan : PlanView) (stage : InstanceState) → Taking plan [] stage → IsSoundStage plan [] (resumed stage)
+resumed-sound plan (Running m) (inl s) = s
+resumed-sound plan (AtSync m) (inl s) = by_fault m.top.faulted refl
+  where
+    by_fault : (f : Option Fault) → m.top.faulted ≡ f → IsSoundStage plan [] (joins f m)
+    by_fault None h =
+        (tt, record { clear = s.1.clear; spawned = s.1.spawned; faulted = λ e. h; in_text = s.1.in_text; left_in_text = s.1.left_in_text; levels = s.1.levels; leaving = s.1.leaving; returning = s.1.returning }, s.2)
+    by_fault (Some f) h = refl
+resumed-sound plan (AtLoop m) (inl s) = (tt, s.0, s.1)
+resumed-sound plan (Ended (Ok v)) (inl s) = tt
+resumed-sound plan (Ended (Err (Own f))) (inl s) = (0, tt)
+resumed-sound plan (Ended (Err (ChildFaulted f))) (inl s) = refl
+resumed-sound plan stage (inr h) = subst (λ (x : InstanceState). IsSoundStage plan [] (resumed x)) (sym h.1) (from h.0)
+  where
+    from : (e : NodeFault) → IsSoundStage plan [] (Ended (Err e))
+    from (Own f) = (0, tt)
+    from (ChildFaulted f) = refl
+
+-- The task
+
+module _ (t : Task) (is : IsTask t) where
+  abbrev ps : List AwaitedChild
+  ps = t.trace.handed
+
+  abbrev answers : List Evaluation
+  answers = evaluations (eval t.plan) ps
+
+  abbrev own : Origin
+  own = own_instance t.origin
+
+  abbrev kids : Origin → Evaluation
+  kids = children_of t.plan own
+
+  abbrev trace-on : Trace
+  trace-on = heard_all ps answers (record t.trace { handed = [] })
+
+  abbrev taken_stage : InstanceState → InstanceState
+  taken_stage stage = resumed (takes_all ps answers stage)
+
+  -- nothing more is taken
+  pub rest-same : (stage : InstanceState) → rest_open t.plan kids (path_of own) ps stage ≡ rest_open t.plan kids (path_of own) [] (taken_stage stage)
+  rest-same stage =
+      ap (λ (s : InstanceState). rest_of_stage t.plan kids (path_of own) s) (ap resumed (takes-same t.plan t.origin ps is.parts stage) ∙ sym (resumed-twice (takes_all ps answers stage)))
+
+  work-same : (work : Work) (vs : List Value) → work_run t.plan t.origin ps work vs ≡ work_run t.plan t.origin [] (resumed_work ps answers work) vs
+  work-same (Splits left) vs = refl
+  work-same (Runs stage) vs = ap (λ (r : Run Item NodeFault Value). closed kids r then λ v. done (all_with t.origin vs v)) (rest-same stage)
+  work-same (Over v gone_on) vs = refl
+
+  work-sound : (work : Work) → IsSoundWork t.plan t.origin ps work → IsSoundWork t.plan t.origin [] (resumed_work ps answers work)
+  work-sound (Splits left) s = (s.0, tt)
+  work-sound (Runs stage) s =
+      (s.0, record { front = s.1.front; whole = s.1.whole ∙ ap (λ (r : Run Item NodeFault Value). behind s.1.front (r then λ v. done (v ∷ []))) (rest-same stage) }, resumed-sound t.plan (takes_all ps answers stage) (all-taken t.plan (eval t.plan) ps stage (inl s.2)))
+  work-sound (Over v true) s = (s.0, refl)
+  work-sound (Over v false) s = (s.0, refl)
+
+  work-pending : (work : Work) → UnfilledArePendingIn t.plan ps work → UnfilledArePendingIn t.plan [] (resumed_work ps answers work)
+  work-pending (Splits left) p = tt
+  work-pending (Runs stage) p = answers-pending t.plan (eval t.plan) ps stage p
+  work-pending (Over v gone_on) p = tt
+
+  pub none-handed : trace-on.handed ≡ []
+  none-handed = heard-none (eval t.plan) ps (record t.trace { handed = [] }) refl
+
+  finishes : finish (on answers t) ≡ eval t.plan t.origin
+  finishes =
+      let tail : List Value → Evaluation = work_run t.plan t.origin [] (resumed_work ps answers t.work) in
+      ap (λ (qs : List AwaitedChild). prefix_run trace-on then λ u. parts_run (eval t.plan) qs (all_values ps answers t.values) then work_run t.plan t.origin qs (resumed_work ps answers t.work)) none-handed
+      ∙ sym (heard-so_far (eval t.plan) ps (record t.trace { handed = [] }) t.values tail)
+      ∙ sym (so_far-same (eval t.plan) t.trace t.values (work_run t.plan t.origin ps t.work) tail (work-same t.work))
+      ∙ is.finishes
+
+  pub keeps_task : IsTask (on answers t)
+  keeps_task = record {
+    finishes = finishes;
+    known = is.known;
+    clear = is.clear;
+    parts = subst (AreParts t.plan t.origin) (sym none-handed) tt;
+    shown = λ none. subst (AreShownBy t.origin trace-on.prefix) (sym none-handed) tt;
+    work = subst (λ (qs : List AwaitedChild). IsSoundWork t.plan t.origin qs (resumed_work ps answers t.work)) (sym none-handed) (work-sound t.work is.work);
+    pending = subst (λ (qs : List AwaitedChild). UnfilledArePendingIn t.plan qs (resumed_work ps answers t.work)) (sym none-handed) (work-pending t.work is.pending);
+  }
+
+-- A task that takes its children's evaluations stays sound.
+pub answers_keep_tasks : (t : Task) → IsTask t → IsTask (on (evaluations (eval t.plan) t.trace.handed) t)
+answers_keep_tasks t is = keeps_task t is

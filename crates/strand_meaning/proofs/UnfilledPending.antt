@@ -1,0 +1,4 @@
+pub mod Standing
+pub mod PendingMoves
+pub mod Alike
+pub mod PendingAnswers

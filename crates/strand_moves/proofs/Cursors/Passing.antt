@@ -1,0 +1,91 @@
+-- A cursor that passes a statement, and the move that is then made.
+use Rattle.std.proofs.Common.{◌≡◌, ℕ, ◌+◌, List, [], Option, Some, None, Result, Ok, Err, IfOk, reverse, refl, sym, ap, subst, ◌∙◌}
+use Rattle.script_grammar.specs.declared.tree.Stmt.{Stmt}
+use Rattle.serial_meaning.specs.Plan.{PlanView}
+use Rattle.strand_meaning.specs.Machine.{Machine, end_move, move, statement_move}
+use Rattle.strand_moves.specs.declared.frame.Level.{Level}
+use Rattle.strand_moves.specs.declared.cursor.Cursor.{Cursor}
+use Rattle.strand_moves.specs.declared.running.Running.{Running}
+use Rattle.strand_moves.specs.declared.effects.MoveResult.{MoveResult}
+use Rattle.strand_moves.specs.Cursors.{left_of, Passes}
+use Rattle.strand_moves.specs.Moves.{run_of}
+use Rattle.strand_moves.specs.Rows.{Comes, HasPassed, IsNext, Row, RunsOn, unpassed}
+use Rattle.strand_moves.specs.Running.{IsInstance, block_inside, body_of, machine_of, path_of, text_of}
+use Rattle.strand_moves.proofs.Statements.Going.{moves-on}
+use Rattle.strand_moves.proofs.Statements.QuickLemmas.{cursor-sound, passed-on, with_cursor}
+
+module _ (plan : PlanView) (i : Running) where
+  abbrev with_left : List Stmt → Machine
+  with_left left = let m = machine_of plan i in record m { top = record m.top { left = left } }
+
+  -- the move of a statement that was passed
+  pub next-moves : (next : Option Stmt) (st : Stmt) → next ≡ Some st →
+      move plan (path_of i) (unpassed plan i next) ≡ statement_move plan (path_of i) (machine_of plan i) st (left_of (text_of plan i.top) i.top.cursor)
+  next-moves next st e =
+      ap (λ (n : Option Stmt). move plan (path_of i) (unpassed plan i n)) e
+      ∙ moves-on plan (path_of i) (unpassed plan i (Some st)) st (left_of (text_of plan i.top) i.top.cursor) refl
+
+  -- and where none was left
+  pub end-moves : (next : Option Stmt) → next ≡ None → left_of (text_of plan i.top) i.top.cursor ≡ [] →
+      move plan (path_of i) (unpassed plan i next) ≡ end_move plan (path_of i) (machine_of plan i) (machine_of plan i).top.levels
+  end-moves next e none =
+      ap (λ (n : Option Stmt). move plan (path_of i) (unpassed plan i n)) e
+      ∙ ap (λ (left : List Stmt). end_move plan (path_of i) (with_left left) (machine_of plan i).top.levels) (sym none)
+
+  module _ (cursor : Cursor) where
+    abbrev pub passed_by : Running
+    passed_by = record i { top = record i.top { cursor = cursor } }
+
+    pub passed-machine : (next : Option Stmt) → IsNext (text_of plan i.top) i.top.cursor cursor next → unpassed plan passed_by next ≡ machine_of plan i
+    passed-machine None h = ap with_left (sym h.0)
+    passed-machine (Some st) h = ap with_left (sym h.first)
+
+    pub passed-sound : (next : Option Stmt) → IsInstance plan i → IsNext (text_of plan i.top) i.top.cursor cursor next → IsInstance plan passed_by
+    passed-sound None sound h = cursor-sound plan i cursor sound (λ e. h.1)
+    passed-sound (Some st) sound h = let on = passed-on plan i _ _ sound h.first in cursor-sound plan i cursor sound (λ e. absurd (cc))
+
+    pub passed-has : (next : Option Stmt) → IsInstance plan i → IsNext (text_of plan i.top) i.top.cursor cursor next → HasPassed plan passed_by next
+    passed-has None sound h = h.1
+    passed-has (Some st) sound h = (passed-on plan i _ _ sound h.first, h.behind)
+
+-- where moves in a row came to
+module _ (plan : PlanView) (first now : Running) (next : Option Stmt) (h : Comes plan first now next) where
+  pub comes-sound : IsInstance plan now
+  comes-sound = subst (λ (x : Running). IsInstance plan x) (sym h.passed) (passed-sound plan h.before now.top.cursor next h.sound h.at)
+
+  pub comes-has : HasPassed plan now next
+  comes-has = subst (λ (x : Running). HasPassed plan x next) (sym h.passed) (passed-has plan h.before now.top.cursor next h.sound h.at)
+
+  pub comes-path : path_of now ≡ path_of first
+  comes-path = ap (λ (x : Running). path_of x) h.passed ∙ h.path
+
+  comes-runs : (m : MoveResult) (new : Running) → move plan (path_of now) (unpassed plan now next) ≡ run_of m (machine_of plan new) → RunsOn plan first m new
+  comes-runs m new e =
+      let same : unpassed plan now next ≡ machine_of plan h.before = ap (λ (x : Running). unpassed plan x next) h.passed ∙ passed-machine plan h.before now.top.cursor next h.at in
+      let path : path_of now ≡ path_of h.before = ap (λ (x : Running). path_of x) h.passed in
+      record {
+        before = h.before;
+        row = h.row;
+        last = ap (λ (n : Machine). move plan (path_of h.before) n) (sym same) ∙ ap (λ (p : List ℕ). move plan p (unpassed plan now next)) (sym path) ∙ e;
+      }
+
+  pub comes-moved : {E : Type 0} (r : Result MoveResult E) (new : Running) → IfOk r (λ m. move plan (path_of now) (unpassed plan now next) ≡ run_of m (machine_of plan new)) → IfOk r (λ m. RunsOn plan first m new)
+  comes-moved (Ok m) new e = comes-runs m new e
+  comes-moved (Err e) new h = tt
+
+-- the same text
+pub text-same : (plan : PlanView) (old new : Running) → new.top.function ≡ old.top.function → new.top.levels.items ≡ old.top.levels.items → text_of plan new.top ≡ text_of plan old.top
+text-same plan old new function levels =
+    ap (λ (ls : List Level). block_inside (body_of plan new.top.function) (reverse ls)) levels ∙ ap (λ (f : ℕ). block_inside (body_of plan f) (reverse old.top.levels.items)) function
+
+-- a statement that was taken back after moves in a row, and that the cursor still stands after
+pub comes-undone : (plan : PlanView) (first i : Running) → Row plan first i → IsInstance plan i → path_of i ≡ path_of first → (st : Stmt) (cursor : Cursor) (n : ℕ) → Passes (text_of plan i.top) i.top.cursor cursor st → n + 1 ≡ i.steps →
+    (last : Running) → last ≡ with_cursor plan i n cursor → Comes plan first (record last { steps = last.steps + 1 }) (Some st)
+comes-undone plan first i row sound path st cursor n passes less last same = subst (λ (x : Running). Comes plan first (record x { steps = x.steps + 1 }) (Some st)) (sym same) (record {
+  before = i;
+  row = row;
+  sound = sound;
+  path = path;
+  passed = ap (λ (k : ℕ). record i { steps = k; top = record i.top { cursor = cursor } }) less;
+  at = passes;
+})

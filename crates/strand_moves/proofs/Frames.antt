@@ -1,0 +1,4 @@
+pub mod BelowLemmas
+pub mod CallLemmas
+pub mod Ending
+pub mod ReplacedLemmas

@@ -1,0 +1,97 @@
+-- Calls that begin and end, as changes of a machine.
+use Rattle.std.proofs.Common.{◌≡◌, ℕ, ◌<◌, ◌≤◌, Bool, true, false, nat_lt, List, [], ◌∷◌, ◌++◌, Option, Some, Result, Ok, Err, length, map, reverse, refl, ap, ◌∙◌, arith}
+use Rattle.std.proofs.lemmas.List.{length-map, length-reverse, reverse-append}
+use Rattle.std.proofs.lemmas.Bool.{lt-ltb, ltb-true}
+use Rattle.script_grammar.specs.declared.tree.Name.{Name}
+use Rattle.script_grammar.specs.declared.tree.Function.{Function}
+use Rattle.serial_meaning.specs.Exec.{bound}
+use Rattle.serial_meaning.specs.Functions.{function_at}
+use Rattle.serial_meaning.specs.Plan.{PlanView, functions_of}
+use Rattle.serial_meaning.specs.Runs.{◌>>=◌}
+use Rattle.serial_meaning.specs.Values.{Env, values_of}
+use Rattle.serial_meaning.specs.declared.event.FaultKind.{FaultKind}
+use Rattle.serial_meaning.specs.declared.value.Value.{Value}
+use Rattle.script_grammar.specs.declared.tree.Expr.{Expr}
+use Rattle.script_grammar.specs.declared.tree.Param.{Param}
+use Rattle.strand_values.specs.Changes.{called_with}
+use Rattle.strand_moves.specs.declared.frame.Frame.{Frame}
+use Rattle.strand_moves.specs.declared.frame.Level.{Level}
+use Rattle.script_grammar.specs.declared.tree.Stmt.{Stmt}
+use Rattle.strand_moves.specs.declared.running.Running.{Running}
+use Rattle.strand_values.specs.declared.halt.Halt as values
+use Rattle.strand_values.specs.declared.halt.Halt.TheVariants as halt
+use Rattle.strand_moves.specs.Acts.{IsCallee, Stands, Stays}
+use Rattle.strand_moves.specs.Quick.{quiet}
+use Rattle.strand_moves.specs.Cursors.{left_of}
+use Rattle.strand_moves.specs.Running.{frame_of, block_inside, body_in, body_of, levels_of, machine_of, scopes_of}
+use Rattle.strand_moves.proofs.Statements.Equations.{callee}
+
+-- Tests
+
+pub is_below : (a b : ℕ) → a < b → nat_lt a b ≡ true
+is_below a b h = lt-ltb a b h
+
+pub is_not_below : (a b : ℕ) → b ≤ a → nat_lt a b ≡ false
+is_not_below a b h = by_test (nat_lt a b) refl
+  where
+    by_test : (t : Bool) → nat_lt a b ≡ t → nat_lt a b ≡ false
+    by_test true e = let l : a < b = ltb-true a b e in absurd (omega arith)
+    by_test false e = e
+
+-- Machines
+
+pub calls-open : (plan : PlanView) (i : Running) → length (machine_of plan i).below ≡ length i.below.items
+calls-open plan i = length-map (reverse i.below.items) (frame_of plan false) ∙ length-reverse i.below.items
+
+-- the frames below, with one more
+pub below-more : (plan : PlanView) (items : List Frame) (a : Frame) → map (frame_of plan false) (reverse (items ++ a ∷ [])) ≡ frame_of plan false a ∷ map (frame_of plan false) (reverse items)
+below-more plan items a = ap (map (frame_of plan false)) (reverse-append items (a ∷ []))
+
+-- their open scopes
+pub scopes-more : (items : List Frame) (a : Frame) → scopes_of (reverse (items ++ a ∷ [])) ≡ reverse a.levels.items ++ scopes_of (reverse items)
+scopes-more items a = ap (λ (stack : List Frame). scopes_of stack) (reverse-append items (a ∷ []))
+
+module _ (plan : PlanView) (number : ℕ) (f : Function) (vs : List Value) (target : Option Name) where
+  pub callee-begun : (a : Frame) → IsCallee number (bound f.params vs) target a → function_at (functions_of plan) number ≡ Some f → frame_of plan false a ≡ callee target number f vs
+  callee-begun a is h =
+      let text = ap (λ (ls : List Level). block_inside (body_of plan a.function) (reverse ls)) is.levels in
+      let levels = ap (λ (ls : List Level). levels_of (body_of plan a.function) (reverse ls)) is.levels in
+      let left =
+      ap (λ (sts : List Stmt). left_of sts a.cursor) text ∙ ap (λ (n : ℕ). left_of (body_of plan n) a.cursor) is.function ∙ ap (λ (o : Option Function). left_of (body_in o) a.cursor) h ∙ is.left f.body in
+      rw (left, levels, is.function, is.returning, is.env, is.spawned, is.faulted, is.target) refl
+
+  pub machine-begun : (old new : Running) → IsCallee number (bound f.params vs) target new.top → new.below.items ≡ old.below.items ++ old.top ∷ [] → new.rank ≡ old.rank → new.steps ≡ old.steps → new.leaving ≡ old.leaving → old.leaving ≡ false →
+      function_at (functions_of plan) number ≡ Some f →
+      machine_of plan new ≡ record { rank = old.rank; steps = old.steps; top = callee target number f vs; below = frame_of plan old.leaving old.top ∷ map (frame_of plan false) (reverse old.below.items) }
+  machine-begun old new is b r s l e h = rw (l, e, callee-begun new.top is h, b, below-more plan old.below.items old.top, r, s) refl
+
+-- a call that begins opens no scope and leaves none
+pub begun-stays : (number : ℕ) (env : Env) (target : Option Name) (old new : Running) → IsCallee number env target new.top → new.below.items ≡ old.below.items ++ old.top ∷ [] → new.trail ≡ old.trail → new.leaving ≡ old.leaving → Stays old new
+begun-stays number env target old new is b t l =
+    record {
+      trail = t;
+      scopes = ap (λ (ls : List Level). reverse ls ++ scopes_of (reverse new.below.items)) is.levels ∙ ap (λ (stack : List Frame). scopes_of (reverse stack)) b ∙ scopes-more old.below.items old.top;
+      leaving = l;
+    }
+
+-- What the variables of a callee say of its arguments
+
+bound-by : (params : List Param) (r : Result (List Value) FaultKind) (env : Env) → (r >>= λ vs. let x : Result Env FaultKind = Ok (bound params vs) in x) ≡ Ok env → (vs : List Value) × ((r ≡ Ok vs) × (env ≡ bound params vs))
+bound-by params (Ok vs) env h = (vs, (refl, (cc)))
+bound-by params (Err kind) env h = absurd (cc)
+
+pub called-by : (params : List Param) (args : List Expr) (old env : Env) → called_with params args old ≡ Ok env → (vs : List Value) × ((values_of args old ≡ Ok vs) × (env ≡ bound params vs))
+called-by params args old env h = bound-by params (values_of args old) env h
+
+fault-by : (params : List Param) (r : Result (List Value) FaultKind) (kind : FaultKind) → (r >>= λ vs. let x : Result Env FaultKind = Ok (bound params vs) in x) ≡ Err kind → r ≡ Err kind
+fault-by params (Ok vs) kind h = absurd (cc)
+fault-by params (Err k) kind h = let e : k ≡ kind = cc in ap Err e
+
+pub called-fault : (params : List Param) (args : List Expr) (old : Env) (kind : FaultKind) → called_with params args old ≡ Err kind → values_of args old ≡ Err kind
+called-fault params args old kind h = fault-by params (values_of args old) kind h
+
+-- what a call that shows nothing leaves
+pub stands-quiet : (old new : Running) (r : Result (Unit {0}) values.Halt) → Stays old new → Stands old new (quiet r)
+stands-quiet old new (Ok u) s = s
+stands-quiet old new (Err (halt.Fault kind)) s = s
+stands-quiet old new (Err halt.Memory) s = tt

@@ -1,0 +1,88 @@
+-- Frames that end, as changes of an instance.
+use Rattle.std.proofs.Common.{◌≡◌, ℕ, suc, ◌+◌, true, false, List, [], ◌∷◌, ◌++◌, Option, Some, None, Ok, Err, map, reverse, refl, sym, ap, ◌∙◌, arith}
+use Rattle.std.proofs.lemmas.List.{append-nil}
+use Rattle.serial_meaning.specs.Values.{Env}
+use Rattle.serial_meaning.specs.Functions.{function_at}
+use Rattle.serial_meaning.specs.Plan.{PlanView, functions_of}
+use Rattle.serial_meaning.specs.declared.value.Value.{Value}
+use Rattle.serial_meaning.specs.declared.event.Event.TheVariants as event
+use Rattle.serial_meaning.specs.declared.event.FaultKind.{FaultKind}
+use Rattle.strand_meaning.specs.Machine.{Stands, Emitted, back, here_of, spawns_in, sync_effects, with_scalar, return_move, Effect, Machine, Reached}
+use Rattle.strand_moves.specs.declared.frame.Frame.{Frame}
+use Rattle.strand_moves.specs.declared.running.Running.{Running}
+use Rattle.strand_moves.specs.declared.frame.Level.{Level}
+use Rattle.strand_moves.specs.Acts.{Stays, result_of}
+use Rattle.strand_moves.specs.Running.{frame_of, machine_of, path_of, present_of, scopes_of}
+use Rattle.strand_moves.specs.Moves.{effects_of}
+use Rattle.strand_moves.specs.declared.effects.Effects.{Effects}
+use Rattle.strand_moves.proofs.Statements.Equations.{faults, went}
+use Rattle.strand_moves.proofs.Frames.CallLemmas.{below-more, scopes-more}
+use Rattle.script_grammar.specs.declared.tree.Function.{Function}
+use Rattle.serial_meaning.specs.Runs.{Run}
+use Rattle.serial_meaning.specs.declared.event.Fault.{Fault}
+
+-- a run that ends here, in which nothing happens
+abbrev pub reaches : Reached → Run Effect Fault Reached
+reaches r = record { items = []; ending = Ok r }
+
+module _ (plan : PlanView) (path : List ℕ) (m : Machine) where
+  by_function : (found : Option Function) → function_at (functions_of plan) m.top.function ≡ found → (v : Value) → result_of found m.top.env ≡ Ok v →
+      return_move plan path m true ≡ reaches (back m.below m.top.target v m.rank m.steps)
+  by_function (Some f) h v k = rw (h, k) refl
+  by_function None h v k = rw h (ap (λ (x : Value). reaches (back m.below m.top.target x m.rank m.steps)) (cc))
+
+  pub value-known : (v : Value) → result_of (function_at (functions_of plan) m.top.function) m.top.env ≡ Ok v → return_move plan path m true ≡ reaches (back m.below m.top.target v m.rank m.steps)
+  value-known = by_function (function_at (functions_of plan) m.top.function) refl
+
+  by_fault : (found : Option Function) → function_at (functions_of plan) m.top.function ≡ found → (kind : FaultKind) → result_of found m.top.env ≡ Err kind → return_move plan path m true ≡ faults kind (here_of path m ++ m.rank ∷ [])
+  by_fault (Some f) h kind k = rw (h, k) refl
+  by_fault None h kind k = absurd (cc)
+
+  -- the step of a return, and the sync that it implies
+  joined-return : (n : ℕ) → m.steps ≡ suc n → spawns_in (function_at (functions_of plan) m.top.function) ≡ true →
+      return_move plan path m false
+      ≡ went (Emitted (event.Sync (here_of path m ++ m.rank ∷ [])) ∷ sync_effects m.top.spawned) (record m { rank = m.rank + 1; steps = n; top = record m.top { returning = true; spawned = false } })
+  joined-return n h s =
+      rw (h, s)
+      (ap (λ (effects : List Effect). went (Emitted (event.Sync (here_of path m ++ m.rank ∷ [])) ∷ effects) (record m { rank = m.rank + 1; steps = n; top = record m.top { returning = true; spawned = false } })) (append-nil (sync_effects m.top.spawned)))
+
+module _ (plan : PlanView) (i : Running) (here : here_of (path_of i) (machine_of plan i) ≡ present_of i) where
+  pub value-fault : (kind : FaultKind) → result_of (function_at (functions_of plan) i.top.function) i.top.env ≡ Err kind → return_move plan (path_of i) (machine_of plan i) true ≡ faults kind (present_of i ++ i.rank ∷ [])
+  value-fault kind k =
+      by_fault plan (path_of i) (machine_of plan i) (function_at (functions_of plan) i.top.function) refl kind k ∙ ap (λ (p : List ℕ). faults kind (p ++ i.rank ∷ [])) here
+
+  module _ (paid : Running) (n : ℕ) (is-paid : paid ≡ record i { steps = n }) (less : n + 1 ≡ i.steps) where
+    one-more : i.steps ≡ suc n
+    one-more = omega arith
+
+    pub return-joined : (s : Effects) (new : Running) → spawns_in (function_at (functions_of plan) i.top.function) ≡ true → effects_of s ≡ Emitted (event.Sync (present_of paid ++ paid.rank ∷ [])) ∷ sync_effects paid.top.spawned →
+        new ≡ record paid { rank = paid.rank + 1; top = record paid.top { returning = true; spawned = false } } → return_move plan (path_of i) (machine_of plan i) false ≡ went (effects_of s) (machine_of plan new)
+    return-joined s new spawns t p =
+        let effects = rw is-paid at t in
+        let after = rw is-paid at p in
+        let m = machine_of plan i in
+        let next = record m { rank = m.rank + 1; steps = n; top = record m.top { returning = true; spawned = false } } in
+        joined-return plan (path_of i) m n one-more spawns ∙ ap (λ (q : List ℕ). went (Emitted (event.Sync (q ++ i.rank ∷ [])) ∷ sync_effects i.top.spawned) next) here
+        ∙ ap (λ (ts : List Effect). went ts next) (sym effects) ∙ ap (λ (x : Running). went (effects_of s) (machine_of plan x)) (sym after)
+
+module _ (plan : PlanView) (i : Running) (v : Value) (known : result_of (function_at (functions_of plan) i.top.function) i.top.env ≡ Ok v) where
+  pub value-received : (rest : List Frame) (caller : Frame) (env : Env) (new : Running) → i.below.items ≡ rest ++ caller ∷ [] → env ≡ with_scalar i.top.target v caller.env →
+      new.rank ≡ i.rank → new.steps ≡ i.steps → new.leaving ≡ false → new.top ≡ record caller { env = env } → new.below.items ≡ rest →
+      return_move plan (path_of i) (machine_of plan i) true ≡ reaches (Stands (machine_of plan new))
+  value-received rest caller env new b e r s g t l =
+      rw (r, s, g, t, l, e)
+      (value-known plan (path_of i) (machine_of plan i) v known
+      ∙ ap (λ (items : List Frame). reaches (back (map (frame_of plan false) (reverse items)) i.top.target v i.rank i.steps)) b
+      ∙ ap (λ below. reaches (back below i.top.target v i.rank i.steps)) (below-more plan rest caller))
+
+-- the frame below it has the open scopes where it had none
+pub ended-stays : (i new : Running) (rest : List Frame) (caller : Frame) (env : Env) → i.top.levels.items ≡ [] → i.below.items ≡ rest ++ caller ∷ [] → new.top ≡ record caller { env = env } → new.below.items ≡ rest →
+    new.trail ≡ i.trail → new.leaving ≡ i.leaving → Stays i new
+ended-stays i new rest caller env none b t l trail leaving =
+    record {
+      trail = trail;
+      scopes =
+          ap (λ (a : Frame). reverse a.levels.items ++ scopes_of (reverse new.below.items)) t ∙ ap (λ (stack : List Frame). reverse caller.levels.items ++ scopes_of (reverse stack)) l
+          ∙ sym (scopes-more rest caller) ∙ ap (λ (stack : List Frame). scopes_of (reverse stack)) (sym b) ∙ ap (λ (ls : List Level). reverse ls ++ scopes_of (reverse i.below.items)) (sym none);
+      leaving = leaving;
+    }

@@ -1,0 +1,64 @@
+-- Children that are handed out, as changes of an instance.
+use Rattle.std.proofs.Common.{◌≡◌, ℕ, ◌+◌, ◌-◌, ◌<◌, true, List, [], ◌∷◌, ◌++◌, Option, Ok, length, sym, ◌∙◌, arith}
+use Rattle.std.proofs.Common.{ℤ, ◌-ℤ◌}
+use Rattle.dotmix.specs.declared.trail.Trail.{Trail}
+use Rattle.script_grammar.specs.declared.tree.Name.{Name}
+use Rattle.script_grammar.specs.declared.tree.Expr.{Expr}
+use Rattle.script_grammar.specs.declared.tree.CallText.{CallText}
+use Rattle.script_grammar.specs.declared.tree.Stmt.{Stmt}
+use Rattle.script_grammar.specs.declared.tree.Act.TheOpen as act
+use Rattle.serial_meaning.specs.Values.{Env, value_of, values_of, number}
+use Rattle.serial_meaning.specs.Functions.{number_of, function_at}
+use Rattle.serial_meaning.specs.Plan.{PlanView, functions_of}
+use Rattle.serial_meaning.specs.Exec.{count_of, filled}
+use Rattle.serial_meaning.specs.Open.{answer_filler}
+use Rattle.serial_meaning.specs.declared.value.Value.{Value}
+use Rattle.serial_meaning.specs.declared.event.Event.TheVariants as event
+use Rattle.serial_meaning.specs.declared.origin.Origin.TheVariants as origin
+use Rattle.strand_meaning.specs.Machine.{Spawned, Emitted, Handed, with_scalar}
+use Rattle.strand_moves.specs.declared.running.Running.{Running}
+use Rattle.strand_moves.specs.declared.effects.Effects.{Effects}
+use Rattle.strand_moves.specs.declared.effects.Effects.TheVariants as shown
+use Rattle.strand_moves.specs.Acts.{loop_begins}
+use Rattle.strand_moves.specs.Running.{machine_of, present_of}
+use Rattle.strand_moves.specs.Moves.{acted, spawn_to, effects_of}
+use Rattle.strand_moves.proofs.Frames.CallLemmas.{is_below, calls-open}
+use Rattle.strand_moves.proofs.Statements.Equations.{went, spawn}
+use Rattle.strand_moves.proofs.Statements.LoopEquations.{pfor-none, pfor-some}
+
+-- the pedigree of an instance's strand
+abbrev pub strand_at : Running → List ℕ
+strand_at i = present_of i ++ i.rank ∷ []
+
+module _ (plan : PlanView) (i : Running) (st : Stmt) where
+  pub spawned-child : (target : Option Name) (c : CallText) (vs : List Value) (instead : Value) (function height : ℕ) (at path : List ℕ) (to : Option Name) (env : Env) (received : Running) →
+      values_of c.args i.top.env ≡ Ok vs → length (present_of i) + 1 < plan.limits.depth → function ≡ number_of (functions_of plan) c.name.bytes → at ≡ strand_at i → path ≡ strand_at i →
+      instead ≡ answer_filler (function_at (functions_of plan) function) → env ≡ with_scalar target instead i.top.env → received ≡ record i { top = record i.top { env = env } } →
+      height ≡ length i.below.items → to ≡ target →
+      acted plan (present_of i) (machine_of plan i) st (spawn_to target c)
+      ≡ went (Emitted (event.Spawn at) ∷ Handed (origin.Instance function vs path) (Spawned height to) ∷ []) (machine_of plan (record received { rank = received.rank + 1; top = record received.top { spawned = true } }))
+  spawned-child target c vs instead function height at path to env received known room number a p filler e r h t =
+      let deep = is_below (length (present_of i) + 1) plan.limits.depth room in
+      let put = rw (filler, number) at e in
+      rw (number, a, p, r, h ∙ sym (calls-open plan i), t) (spawn plan (present_of i) (machine_of plan i) st target c vs env known deep put)
+
+  module _ (var : Name) (lo hi : Expr) (target : Option Name) (c : CallText) (l h : Value) (vs : List Value) (n steps : ℕ) (begun : Running)
+      (known-lo : value_of lo i.top.env ≡ Ok l) (known-hi : value_of hi i.top.env ≡ Ok h) (known-args : values_of c.args i.top.env ≡ Ok vs)
+      (counted : n ≡ count_of (number h -ℤ number l)) (begins : loop_begins plan (present_of i) n target i.top.env i.steps ≡ Ok tt)
+      (paid : steps + n ≡ i.steps) (is-begun : begun ≡ record i { steps = steps }) where
+    abbrev pub passed_on : Running
+    passed_on = record begun { rank = begun.rank + 1; top = record begun.top { env = filled target [] begun.top.env } }
+
+    left : i.steps - n ≡ steps
+    left = omega arith
+
+    pub looped-none : n ≡ 0 → (s : Effects) (passed : Running) → s ≡ shown.Emitted (event.Loop (strand_at begun)) → passed ≡ passed_on →
+        acted plan (present_of i) (machine_of plan i) st (act.Pfor var lo hi target c) ≡ went (effects_of s) (machine_of plan passed)
+    looped-none none s passed e p =
+        rw (e, p, is-begun, ← left) (pfor-none plan (present_of i) (machine_of plan i) st var lo hi target c l h vs n known-lo known-hi known-args counted none begins)
+
+    pub looped-some : 0 < n → (s : Effects) (passed : Running) (function : ℕ) (first : ℤ) (path : List ℕ) (trail : Trail) → function ≡ number_of (functions_of plan) c.name.bytes → first ≡ number l → path ≡ strand_at begun →
+        s ≡ shown.Looped (event.Loop (strand_at begun)) (record { origin = origin.Loop function vs first path (record { lo = 0; hi = n }); trail = trail }) target → passed ≡ passed_on →
+        acted plan (present_of i) (machine_of plan i) st (act.Pfor var lo hi target c) ≡ went (effects_of s) (machine_of plan passed)
+    looped-some some s passed function first path trail f g a e p =
+        rw (e, p, f, g, a, is-begun, ← left) (pfor-some plan (present_of i) (machine_of plan i) st var lo hi target c l h vs n known-lo known-hi known-args counted some begins)

@@ -1,0 +1,4 @@
+pub mod Blocks
+pub mod Exits
+pub mod Keeping
+pub mod Levels

@@ -1,0 +1,35 @@
+-- What a call shows that is left by a `?`.
+use Rattle.std.proofs.Common.{◌≡◌, ℕ, List, Result, Ok, Err, sym, subst}
+use Rattle.std.specs.Result.{IsErrAnd}
+use Rattle.serial_meaning.specs.Runs.{Run}
+use Rattle.serial_meaning.specs.declared.event.Fault.{Fault}
+use Rattle.serial_meaning.specs.declared.event.FaultKind.{FaultKind}
+use Rattle.strand_meaning.specs.Machine.{Effect, Machine, Reached}
+use Rattle.strand_values.specs.Gives.{Gives}
+use Rattle.strand_values.specs.declared.halt.Halt as values
+use Rattle.strand_values.specs.declared.halt.Halt.TheVariants as halt
+use Rattle.strand_moves.specs.declared.effects.MoveResult.{MoveResult}
+use Rattle.strand_moves.specs.Moves.{Makes}
+use Rattle.strand_moves.specs.Quick.{quiet}
+use Rattle.strand_moves.proofs.Statements.Equations.{faults}
+
+module _ (run : Run Effect Fault Reached) (strand : List ℕ) (m : Machine) where
+  shows-halt : {A : Type 0} (h : values.Halt) (defined : Result A FaultKind) → Gives (Err h) defined → ((kind : FaultKind) → defined ≡ Err kind → run ≡ faults kind strand) → Makes run strand m (Err h)
+  shows-halt (halt.Fault kind) defined g f = f kind g
+  shows-halt halt.Memory defined g f = tt
+
+  -- by what a calculation answered
+  pub shows-exit : {A : Type 0} (r : Result MoveResult values.Halt) (h : values.Halt) (defined : Result A FaultKind) → IsErrAnd r (λ y. y ≡ h) → Gives (Err h) defined →
+      ((kind : FaultKind) → defined ≡ Err kind → run ≡ faults kind strand) → Makes run strand m r
+  shows-exit (Ok s) h defined e g f = absurd e
+  shows-exit (Err y) h defined e g f = let P : values.Halt → Type 0 = λ z. Makes run strand m (Err z) in subst P (sym e) (shows-halt h defined g f)
+
+  pub shows-fault : (r : Result MoveResult values.Halt) (kind : FaultKind) → IsErrAnd r (λ y. y ≡ halt.Fault kind) → run ≡ faults kind strand → Makes run strand m r
+  shows-fault (Ok s) kind e f = absurd e
+  shows-fault (Err y) kind e f = let P : values.Halt → Type 0 = λ z. Makes run strand m (Err z) in subst P (sym e) f
+
+  -- the same of a call that shows nothing
+  pub quiet-exit : {A : Type 0} (r : Result (Unit {0}) values.Halt) (h : values.Halt) (defined : Result A FaultKind) → IsErrAnd r (λ y. y ≡ h) → Gives (Err h) defined →
+      ((kind : FaultKind) → defined ≡ Err kind → run ≡ faults kind strand) → Makes run strand m (quiet r)
+  quiet-exit (Ok u) h defined e g f = absurd e
+  quiet-exit (Err y) h defined e g f = let P : values.Halt → Type 0 = λ z. Makes run strand m (Err z) in subst P (sym e) (shows-halt h defined g f)

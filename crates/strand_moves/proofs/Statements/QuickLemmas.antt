@@ -1,0 +1,108 @@
+-- Moves that show nothing.
+use Rattle.std.proofs.Common.{◌≡◌, ℕ, suc, ◌+◌, Bool, true, false, List, [], ◌∷◌, Result, Ok, Err, IfOk, refl, sym, ap, subst, ◌∙◌, arith}
+use Rattle.script_grammar.specs.declared.tree.Stmt.{Stmt, out-Stmt}
+use Rattle.script_grammar.specs.declared.tree.Act.{Act, out-Act}
+use Rattle.script_grammar.specs.declared.tree.Act.TheOpen.{Act-F}
+use Rattle.serial_meaning.specs.Plan.{PlanView}
+use Rattle.serial_meaning.specs.declared.event.FaultKind.{FaultKind}
+use Rattle.strand_meaning.specs.Machine.{here_of, move}
+use Rattle.strand_values.specs.declared.halt.Halt as values
+use Rattle.strand_values.specs.declared.halt.Halt.TheVariants as halt
+use Rattle.strand_moves.specs.declared.cursor.Cursor.{Cursor}
+use Rattle.strand_moves.specs.declared.running.Running.{Running}
+use Rattle.strand_moves.specs.Acts.{Acts}
+use Rattle.strand_moves.specs.Cursors.{IsBehind, left_of, Passes}
+use Rattle.strand_moves.specs.Running.{IsInstance, machine_of, path_of, present_of, text_of}
+use Rattle.strand_moves.specs.Moves.{acted, MovesTrail, strand_of}
+use Rattle.strand_moves.specs.Quick.{IsDone, IsQuiet, IsWent, is_plain, quiet}
+use Rattle.strand_moves.proofs.Statements.Equations.{paid-move}
+use Rattle.strand_moves.proofs.Statements.Equations as equations
+use Rattle.strand_moves.proofs.Statements.Going.{moves-on}
+
+-- nothing that is shown is no child
+pub quiet-child : (plan : PlanView) (done : Result (Unit {0}) values.Halt) → IfOk (quiet done) (MovesTrail plan)
+quiet-child plan (Ok u) = tt
+quiet-child plan (Err h) = tt
+
+-- what a call did for a statement, by what it answered
+module _ (st : Stmt) (a : Act-F Act Stmt) (old new : Running) (is : out-Act (out-Stmt st).act ≡ a) where
+  quiet-at : (done : Result (Unit {0}) values.Halt) (went : Bool) → ((plan : PlanView) → IsBehind (text_of plan old.top) old.top.cursor st → Acts plan st a old new (quiet done)) →
+      ((kind : FaultKind) → done ≡ Err (halt.Fault kind) → new ≡ old) → IsWent done went → IsQuiet st old new went
+  quiet-at (Ok u) went acts same w =
+      subst (IsQuiet st old new) (sym w) (λ plan behind. ap (λ (b : Act-F Act Stmt). acted plan (present_of old) (machine_of plan old) st b) is ∙ acts plan behind)
+  quiet-at (Err (halt.Fault kind)) went acts same w =
+      subst (IsQuiet st old new) (sym w)
+      (same kind refl, λ plan behind plain. (record { kind = kind; at = strand_of (present_of old) (machine_of plan old) }, ap (λ (b : Act-F Act Stmt). acted plan (present_of old) (machine_of plan old) st b) is ∙ acts plan behind))
+  quiet-at (Err halt.Memory) went acts same w = absurd w
+
+  pub quiet-is : {E : Type 0} (done : Result (Unit {0}) values.Halt) (r : Result Bool E) → ((plan : PlanView) → IsBehind (text_of plan old.top) old.top.cursor st → Acts plan st a old new (quiet done)) →
+      ((kind : FaultKind) → done ≡ Err (halt.Fault kind) → new ≡ old) → IfOk r (IsWent done) → IfOk r (IsQuiet st old new)
+  quiet-is done (Ok went) acts same w = quiet-at done went acts same w
+  quiet-is done (Err e) acts same w = tt
+
+-- the same of a call that did this act, whatever the cursor
+module _ (st : Stmt) (a : Act-F Act Stmt) (old new : Running) where
+  done-at : (done : Result (Unit {0}) values.Halt) (went : Bool) → ((plan : PlanView) → Acts plan st a old new (quiet done)) → ((kind : FaultKind) → done ≡ Err (halt.Fault kind) → new ≡ old) → IsWent done went → IsDone st a old new went
+  done-at (Ok u) went acts same w = subst (IsDone st a old new) (sym w) (λ plan. acts plan)
+  done-at (Err (halt.Fault kind)) went acts same w =
+      subst (IsDone st a old new) (sym w) (same kind refl, λ plan plain. (record { kind = kind; at = strand_of (present_of old) (machine_of plan old) }, acts plan))
+  done-at (Err halt.Memory) went acts same w = absurd w
+
+  pub done-is : {E : Type 0} (done : Result (Unit {0}) values.Halt) (r : Result Bool E) → ((plan : PlanView) → Acts plan st a old new (quiet done)) → ((kind : FaultKind) → done ≡ Err (halt.Fault kind) → new ≡ old) →
+      IfOk r (IsWent done) → IfOk r (IsDone st a old new)
+  done-is done (Ok went) acts same w = done-at done went acts same w
+  done-is done (Err e) acts same w = tt
+
+  -- the act of the statement does the same
+  module _ (same : (plan : PlanView) → acted plan (present_of old) (machine_of plan old) st (out-Act (out-Stmt st).act) ≡ acted plan (present_of old) (machine_of plan old) st a) (kind : is_plain (out-Act (out-Stmt st).act) ≡ is_plain a) where
+    quiet-by : (went : Bool) → IsDone st a old new went → IsQuiet st old new went
+    quiet-by true d = λ plan behind. same plan ∙ d plan
+    quiet-by false d = (d.0, λ plan behind plain. let f = d.1 plan (sym kind ∙ plain) in (f.0, same plan ∙ f.1))
+
+    pub done-quiet : {E : Type 0} (r : Result Bool E) → IfOk r (IsDone st a old new) → IfOk r (IsQuiet st old new)
+    done-quiet (Ok went) d = quiet-by went d
+    done-quiet (Err x) d = tt
+
+pub did-quiet : (st : Stmt) (old new : Running) (went : Bool) → went ≡ true → IsQuiet st old new went → IsQuiet st old new true
+did-quiet st old new went e h = subst (IsQuiet st old new) e h
+
+pub did-nothing : (st : Stmt) (old new : Running) (went : Bool) → went ≡ false → IsQuiet st old new went → IsQuiet st old new false
+did-nothing st old new went e h = subst (IsQuiet st old new) e h
+
+module _ (plan : PlanView) (i : Running) where
+  abbrev text : List Stmt
+  text = text_of plan i.top
+
+  abbrev pub with_cursor : ℕ → Cursor → Running
+  with_cursor n cursor = record i { steps = n; top = record i.top { cursor = cursor } }
+
+  module _ (st : Stmt) (cursor : Cursor) (n : ℕ) (here : here_of (path_of i) (machine_of plan i) ≡ present_of i) (passes : Passes text i.top.cursor cursor st) (steps : n + 1 ≡ i.steps) where
+    passed : move plan (path_of i) (machine_of plan i) ≡ acted plan (present_of i) (machine_of plan (with_cursor n cursor)) st (out-Act (out-Stmt st).act)
+    passed =
+        let m = machine_of plan i in
+        let left = left_of text cursor in
+        let one : m.steps ≡ suc n = omega arith in
+        moves-on plan (path_of i) m st left passes.first ∙ paid-move plan (path_of i) (record m { top = record m.top { left = left } }) st left n one
+        ∙ ap (λ (p : List ℕ). acted plan p (machine_of plan (with_cursor n cursor)) st (out-Act (out-Stmt st).act)) here
+
+    -- a statement that was paid and done
+    pub quick-went : (new : Running) → IsQuiet st (with_cursor n cursor) new true → move plan (path_of i) (machine_of plan i) ≡ equations.went [] (machine_of plan new)
+    quick-went new acts = passed ∙ acts plan passes.behind
+
+  -- a statement is left, so the sync at a scope's end isn't after it
+  pub passed-on : (st : Stmt) (left : List Stmt) → IsInstance plan i → left_of text i.top.cursor ≡ st ∷ left → i.leaving ≡ false
+  passed-on st left h some = by_flag i.leaving refl
+    where
+      by_flag : (b : Bool) → i.leaving ≡ b → i.leaving ≡ false
+      by_flag true e = let none = (h.leaving e).0 in absurd (cc)
+      by_flag false e = e
+
+  -- an instance whose cursor passed
+  pub cursor-sound : (cursor : Cursor) → IsInstance plan i → (i.leaving ≡ true → left_of text cursor ≡ []) → IsInstance plan (with_cursor i.steps cursor)
+  cursor-sound cursor h none =
+      record {
+        strand = record { fits = h.strand.fits; within = h.strand.within; few = h.strand.few };
+        few = h.few;
+        around = h.around;
+        leaving = λ e. (none e, (h.leaving e).1);
+      }
