@@ -23,17 +23,17 @@ take_of_more (suc n) (suc m) [] h = refl
 take_of_more (suc n) (suc m) (x ∷ xs) h = ap (λ l. x ∷ l) (take_of_more n m xs (omega arith))
 
 -- equal names have equal rooms
-pub same_rooms : (f g : ℕ) (r s : List ℕ) (m n : ℕ) → IsNameText f r m → IsNameText g s n → take m r ≡ take n s → r ≡ s
-same_rooms f g r s m n a b e = a.zeros ∙ ap room_of e ∙ sym b.zeros
+pub same_rooms : (r s : List ℕ) (m n : ℕ) → IsNameText r m → IsNameText s n → take m r ≡ take n s → r ≡ s
+same_rooms r s m n a b e = a.zeros ∙ ap room_of e ∙ sym b.zeros
 
 -- and equal numbers in front
-pub same_fronts : (f g : ℕ) (r s : List ℕ) (m n : ℕ) → IsNameText f r m → IsNameText g s n → take m r ≡ take n s → f ≡ g
-same_fronts f g r s m n a b e = a.number ∙ ap (λ l. from_le_bytes w64 (take 8 l)) (same_rooms f g r s m n a b e) ∙ sym b.number
+pub same_fronts : (f g : ℕ) (r s : List ℕ) (m n : ℕ) → f ≡ from_le_bytes w64 (take 8 r) → g ≡ from_le_bytes w64 (take 8 s) → IsNameText r m → IsNameText s n → take m r ≡ take n s → f ≡ g
+same_fronts f g r s m n p q a b e = p ∙ ap (λ l. from_le_bytes w64 (take 8 l)) (same_rooms r s m n a b e) ∙ sym q
 
 -- short names with equal numbers in front are equal
-pub short_names : (f g : ℕ) (r s : List ℕ) (m n : ℕ) → IsNameText f r m → IsNameText g s n → n ≤ 8 → m ≡ n → f ≡ g → take m r ≡ take n s
-short_names f g r s m n a b few same e =
+pub short_names : (f g : ℕ) (r s : List ℕ) (m n : ℕ) → take 8 r ≡ to_le_bytes w64 f → take 8 s ≡ to_le_bytes w64 g → n ≤ 8 → m ≡ n → f ≡ g → take m r ≡ take n s
+short_names f g r s m n p q few same e =
     ap (λ k. take k r) same
     ∙ sym (take_of_more n 8 r few)
-    ∙ ap (λ l. take n l) (a.first ∙ ap (to_le_bytes w64) e ∙ sym b.first)
+    ∙ ap (λ l. take n l) (p ∙ ap (to_le_bytes w64) e ∙ sym q)
     ∙ take_of_more n 8 s few

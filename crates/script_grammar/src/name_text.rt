@@ -16,8 +16,6 @@ const IN_FRONT: u8 = 8;
 /// their list.
 #[derive(Drop)]
 pub struct NameText {
-    /// The first bytes as a number.
-    front: u64,
     /// The bytes, and zeros after them.
     room: [u8; 32],
     length: u8,
@@ -34,7 +32,7 @@ impl Model for NameText {
 
     ghost view = { λ n. name_bytes n.room n.length };
 
-    ghost invariant = { λ n. IsNameText n.front n.room n.length };
+    ghost invariant = { λ n. IsNameText n.room n.length };
 }
 
 impl NameText {
@@ -48,7 +46,6 @@ impl NameText {
             room[i] = bytes[i];
         }
         NameText {
-            front: front(&room),
             room,
             length: bytes.len() as u8,
         }
@@ -60,7 +57,6 @@ impl NameText {
         ensures { result ≡ self.now }
     {
         NameText {
-            front: self.front,
             room: self.room,
             length: self.length,
         }
@@ -79,7 +75,7 @@ impl NameText {
     pub fn same(&self, other: &NameText) -> bool
         ensures { result ≡ bytes_eq self.now other.now }
     {
-        if self.front != other.front || self.length != other.length {
+        if front(&self.room) != front(&other.room) || self.length != other.length {
             return false;
         }
         if self.length <= IN_FRONT {
@@ -106,6 +102,7 @@ fn same_bytes(left: &[u8], right: &[u8]) -> bool
 }
 
 /// The first bytes as a number.
+#[inline(always)]
 fn front(room: &[u8; 32]) -> u64
     ensures number { result ≡ from_le_bytes w64 (take 8 room.now) }
     ensures bytes { take 8 room.now ≡ to_le_bytes w64 result }

@@ -8,13 +8,24 @@ ghost use Rattle.serial_runner.specs.Stacks.{AreBelow, IsAnswerOf, IsStack, Adva
 use crate::beside::beside;
 use crate::open_tasks::{OpenTask, OpenTasks};
 use crate::stack::{Advanced, Stack};
-use script_grammar::Items;
+use script_grammar::{Boxed, Items};
 use serial_meaning::Answer;
 use std::alloc::Global;
 use strand_machine::{Memory, Stop, is_fault};
 
+fn boxed(alloc: Global, answer: Answer) -> Result<Boxed<Answer>, Memory>
+    ensures { IfOk result (λ b. b ≡ answer) }
+{
+    Ok(Boxed(Box::new(alloc, answer)?))
+}
+
 /// The answer of a task that has ended goes to the one below it. The list of the answers that it took is of use again.
-fn answered(answer: Answer, taken: Items<Answer>, mut below: OpenTasks) -> Result<Advanced, Memory>
+fn answered(
+    alloc: Global,
+    answer: Answer,
+    taken: Items<Answer>,
+    mut below: OpenTasks,
+) -> Result<Advanced, Memory>
     ensures parent { (f : OpenTask) (fs : List OpenTask) → below ≡ f ∷ fs → IfOk result (λ advanced. advanced ≡ Advanced.Goes (with_answer answer f fs)) }
     ensures last { below ≡ [] → IfOk result (λ advanced. advanced ≡ Advanced.Ends answer) }
 {
@@ -24,11 +35,13 @@ fn answered(answer: Answer, taken: Items<Answer>, mut below: OpenTasks) -> Resul
             if top.answers.as_slice().is_empty() {
                 // most tasks await one or two answers, and a list would begin with room for four
                 top.answers.0.try_reserve_exact(2)?;
+            } else {
+                top.answers.0.try_reserve(1)?;
             }
-            top.answers.0.push(answer)?;
+            top.answers.0.push_reserved(answer);
             Ok(Advanced::Goes(Stack { top, below }))
         }
-        None => Ok(Advanced::Ends(answer)),
+        None => Ok(Advanced::Ends(boxed(alloc, answer)?)),
     }
 }
 
@@ -77,9 +90,9 @@ pub(crate) fn advance(stack: Stack, alloc: Global) -> Result<Advanced, Memory>
             drop(give);
             if is_fault(&answer) {
                 let last = end_all(alloc, answer, below)?;
-                return Ok(Advanced::Ends(last));
+                return Ok(Advanced::Ends(boxed(alloc, last)?));
             }
-            answered(answer, answers, below)
+            answered(alloc, answer, answers, below)
         }
     }
 }

@@ -62,7 +62,7 @@ pub fn run_serial(alloc: Global, plan: &Arc<Plan>, origin: Origin) -> Result<Ans
     loop {
         match advance(stack, alloc)? {
             Advanced::Goes(next) => stack = next,
-            Advanced::Ends(answer) => return Ok(answer),
+            Advanced::Ends(answer) => return Ok(Box::into_inner(answer.0)),
         }
     }
 }

@@ -1,4 +1,5 @@
 use crate::open_tasks::{OpenTask, OpenTasks};
+use script_grammar::Boxed;
 use serial_meaning::Answer;
 
 /// The task that runs, and below it those that handed out the one above as their last child.
@@ -8,10 +9,10 @@ pub(crate) struct Stack {
     pub below: OpenTasks,
 }
 
-/// What a stop of the topmost task makes of a stack.
+/// What a stop of the topmost task makes of a stack. An answer stands in a box, so that this stays small.
 #[derive(Drop)]
 pub(crate) enum Advanced {
     Goes(Stack),
     /// The task at the bottom has ended.
-    Ends(Answer),
+    Ends(Boxed<Answer>),
 }

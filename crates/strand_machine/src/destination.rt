@@ -5,7 +5,7 @@ use strand_values::Target;
 #[derive(Drop)]
 pub(crate) enum Destination {
     /// Into a variable, if any, of the frame with so many below it, which spawned the child.
-    Spawned(usize, Option<Target>),
+    Spawned(u32, Option<Target>),
     /// Into an array, if any, of the innermost frame, whose loop the child is.
     Looped(Option<Name>),
     /// Among the values of the loop that it is a part of.

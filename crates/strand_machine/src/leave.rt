@@ -21,7 +21,6 @@ use crate::replace::set;
 use crate::stop::Passed;
 use crate::task::Task;
 use crate::work::{InstanceState, Work};
-use script_grammar::Boxed;
 use serial_meaning::{AnswerKey, Fault, Origin, Outcome, Value};
 use std::alloc::Global;
 use strand_family::Family;
@@ -115,7 +114,7 @@ fn hand_out(
 }
 
 /// The task hands out a child, and this remains.
-pub(crate) fn spawn_part(
+pub(crate) fn spawn(
     parts: &mut Parts,
     alloc: Global,
     child: Child,
@@ -140,25 +139,6 @@ pub(crate) fn spawn_part(
             Err(memory)
         }
     }
-}
-
-/// The same of a child that a move showed.
-pub(crate) fn spawn(
-    parts: &mut Parts,
-    alloc: Global,
-    child: Boxed<Child>,
-    place: Destination,
-    work: Work,
-) -> Result<Passed, Memory>
-    requires known { IsOriginOf parts.old.body.family.plan child.origin }
-    requires trail { IsTrailOf parts.old.body.family.plan child.origin child.trail }
-    requires handed { IsHandedFor parts.old.body.family.plan parts.old.body.family.origin child.origin }
-    requires sound { IsSound (with_child parts.old.body child.origin place) work }
-    ensures made { let b = parts.old.body in IfOk result (λ passed. made parts.new passed
-        ≡ step.Stops (stop.Spawn (fresh_with b.family.knows b.family.plan child.origin) (view_of (with_child b child.origin place) work))) }
-    ensures sound { IfOk result (IsSoundMade parts.new) }
-{
-    spawn_part(parts, alloc, Box::into_inner(child.0), place, work)
 }
 
 /// An instance that ended by a value: the task ends too, or else it was the last iteration of a loop.

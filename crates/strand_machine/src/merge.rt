@@ -152,7 +152,7 @@ fn merge_stage(
 {
     match place {
         Destination::Spawned(height, target) => {
-            spawned(stage, height, &target, outcome);
+            spawned(stage, height as usize, &target, outcome);
             Ok(())
         }
         Destination::Looped(target) => { looped(stage, alloc, &target, outcome) }

@@ -15,9 +15,17 @@ use crate::memory::Memory;
 use crate::parts::Parts;
 use crate::stop::Passed;
 use crate::work::{InstanceState, Work};
+use script_grammar::Boxed;
 use std::alloc::Global;
 use strand_meaning::laws;
-use strand_moves::{Effects, Instance, MoveResult};
+use strand_moves::{Effects, Instance, LoopedChild, MoveResult, SpawnedChild};
+
+/// What stands in a box.
+fn unboxed<T>(boxed: Boxed<T>) -> T
+    ensures { result ≡ boxed }
+{
+    Box::into_inner(boxed.0)
+}
 
 /// What a move showed joins the trace; a child is handed out.
 #[inline(always)]
@@ -44,23 +52,20 @@ pub(crate) fn show(
             parts.body.trace.emit(alloc, event)?;
             Ok(pass(parts, Work::Runs(InstanceState::AtSync(instance))))
         }
-        Effects::Spawned {
-            event,
-            child,
-            height,
-            target,
-        } => {
+        Effects::Spawned { event, spawned } => {
             parts.body.trace.emit(alloc, event)?;
+            let SpawnedChild {
+                child,
+                height,
+                target,
+            } = unboxed(spawned);
             let place = Destination::Spawned(height, target);
             let next = Work::Runs(InstanceState::Running(instance));
             spawn(parts, alloc, child, place, next)
         }
-        Effects::Looped {
-            event,
-            child,
-            target,
-        } => {
+        Effects::Looped { event, looped } => {
             parts.body.trace.emit(alloc, event)?;
+            let LoopedChild { child, target } = unboxed(looped);
             let place = Destination::Looped(target);
             let next = Work::Runs(InstanceState::AtLoop(instance));
             spawn(parts, alloc, child, place, next)
@@ -78,16 +83,17 @@ pub(crate) fn go(parts: &mut Parts, alloc: Global, mut instance: Instance) -> Re
     laws::moves_fall();
     loop {
         parts.body.advanced = true;
-        match instance.run(alloc, parts.body.family.plan())? {
-            MoveResult::Went(Effects::Nothing) => {}
-            MoveResult::Went(Effects::Emitted(event)) => parts.body.trace.emit(alloc, event)?,
-            MoveResult::Went(Effects::Synced(event)) => {
+        match instance.run(alloc, parts.body.family.plan()) {
+            Ok(MoveResult::Went(Effects::Nothing)) => {}
+            Ok(MoveResult::Went(Effects::Emitted(event))) => parts.body.trace.emit(alloc, event)?,
+            Ok(MoveResult::Went(Effects::Synced(event))) => {
                 parts.body.trace.emit(alloc, event)?;
                 return Ok(wait(parts, Work::Runs(InstanceState::AtSync(instance))));
             }
-            MoveResult::Went(shown) => return show(parts, alloc, instance, shown),
-            MoveResult::Returned(value) => return Ok(returned(parts, value)),
-            MoveResult::Faulted(own) => return Ok(faulted(parts, own)),
+            Ok(MoveResult::Went(shown)) => return show(parts, alloc, instance, shown),
+            Ok(MoveResult::Returned(value)) => return Ok(returned(parts, value)),
+            Ok(MoveResult::Faulted(own)) => return Ok(faulted(parts, own)),
+            Err(memory) => return Err(memory.into()),
         }
     }
 }

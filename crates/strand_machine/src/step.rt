@@ -8,7 +8,7 @@ ghost use Rattle.strand_machine.specs.declared.work.Work.TheVariants as work;
 
 use crate::body::Body;
 use crate::destination::Destination;
-use crate::leave::{faulted, pass, returned, spawn_part, wait};
+use crate::leave::{faulted, pass, returned, spawn, wait};
 use crate::memory::Memory;
 use crate::parts::Parts;
 use crate::run::go;
@@ -39,7 +39,7 @@ fn split(parts: &mut Parts, alloc: Global, left: Left) -> Result<Passed, Memory>
         };
         let range = halves.1;
         let work = Work::Splits(Left { range, trail });
-        return spawn_part(parts, alloc, child, Destination::Half, work);
+        return spawn(parts, alloc, child, Destination::Half, work);
     }
     if range.len() == 0 {
         let values = parts.body.take_values(alloc);
@@ -129,13 +129,15 @@ fn end(parts: Box<Parts>, outcome: Outcome) -> Stop
     requires { CanEnd parts.value.body outcome }
     ensures { MoveOrStop.Stops result ≡ ended parts.value.body outcome }
 {
-    let Parts { body, work } = Box::into_inner(parts);
-    let Body {
-        family,
-        trace,
-        values,
-        ..
-    } = body;
+    let Parts {
+        body: Body {
+            family,
+            trace,
+            values,
+            ..
+        },
+        work,
+    } = Box::into_inner(parts);
     drop((work, values));
     let (prefix, fault) = trace.prefix();
     let outcome = match fault {

@@ -98,14 +98,17 @@ impl Task {
                 return Err(memory.into());
             }
         };
-        let body = Body {
-            family,
-            trace: Trace::new(alloc),
-            values: Items(Vec::new(alloc)),
-            waiting: false,
-            advanced: false,
+        let parts = Parts {
+            body: Body {
+                family,
+                trace: Trace::new(alloc),
+                values: Items(Vec::new(alloc)),
+                waiting: false,
+                advanced: false,
+            },
+            work,
         };
-        let parts = Box::new(alloc, Parts { body, work })?;
+        let parts = Box::new(alloc, parts)?;
         Ok(Task { parts })
     }
 

@@ -102,7 +102,10 @@ impl Trace {
                 Err(error) => Err(error),
             }
         } else {
-            self.behind.try_reserve(1)
+            match self.awaited.0.try_reserve(1) {
+                Ok(()) => self.behind.try_reserve(1),
+                Err(error) => Err(error),
+            }
         };
         match room {
             Ok(()) => {}
@@ -111,19 +114,11 @@ impl Trace {
                 return Err(error.into());
             }
         }
-        match self.awaited.0.push(child) {
-            Ok(()) => {}
-            Err(failed) => {
-                drop(place);
-                return Err(failed.into());
-            }
-        }
-        self.behind
-            .push(Behind {
-                place,
-                events: Out::new(),
-            })
-            .unwrap();
+        self.awaited.0.push_reserved(child);
+        self.behind.push_reserved(Behind {
+            place,
+            events: Out::new(),
+        });
         Ok(())
     }
 

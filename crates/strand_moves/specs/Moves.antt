@@ -29,9 +29,9 @@ effects_of shown.Nothing = []
 effects_of (shown.Emitted e) = Emitted e ∷ []
 effects_of (shown.Opened path) = Opens path ∷ []
 effects_of (shown.Closed j) = Closes j ∷ []
-effects_of (shown.Spawned e child height target) = Emitted e ∷ Handed child.origin (Spawned height target) ∷ []
+effects_of (shown.Spawned e s) = Emitted e ∷ Handed s.child.origin (Spawned s.height s.target) ∷ []
 effects_of (shown.Synced e) = Emitted e ∷ Syncs ∷ []
-effects_of (shown.Looped e child target) = Emitted e ∷ Handed child.origin (Looped target) ∷ Loops ∷ []
+effects_of (shown.Looped e l) = Emitted e ∷ Handed l.child.origin (Looped l.target) ∷ Loops ∷ []
 
 -- The trail is one of the plan's coefficients, and of the origin's path.
 pub record IsTrailOf (plan : PlanView) (o : Origin) (trail : Trail) : Type 0 where
@@ -44,9 +44,9 @@ ShowsTrail plan shown.Nothing = Unit {0}
 ShowsTrail plan (shown.Emitted e) = Unit {0}
 ShowsTrail plan (shown.Opened path) = Unit {0}
 ShowsTrail plan (shown.Closed j) = Unit {0}
-ShowsTrail plan (shown.Spawned e child height target) = IsTrailOf plan child.origin child.trail
+ShowsTrail plan (shown.Spawned e s) = IsTrailOf plan s.child.origin s.child.trail
 ShowsTrail plan (shown.Synced e) = Unit {0}
-ShowsTrail plan (shown.Looped e child target) = IsTrailOf plan child.origin child.trail
+ShowsTrail plan (shown.Looped e l) = IsTrailOf plan l.child.origin l.child.trail
 
 abbrev pub MovesTrail : PlanView → MoveResult → Type 0
 MovesTrail plan (moved.Went s) = ShowsTrail plan s
@@ -58,6 +58,10 @@ abbrev pub run_of : MoveResult → Machine → Run Effect Fault Reached
 run_of (moved.Went s) m = record { items = effects_of s; ending = Ok (Stands m) }
 run_of (moved.Returned v) m = record { items = []; ending = Ok (Gives v) }
 run_of (moved.Faulted f) m = record { items = []; ending = Err f }
+
+-- a move that shows these effects, and after which the instance goes on
+abbrev pub Shows : List Effect → MoveResult → Type 0
+Shows effects moved = (m : Machine) → run_of moved m ≡ record { items = effects; ending = Ok (Stands m) }
 
 -- A move is the defined one, where a fault is one of this strand. Want of memory may come at any time.
 abbrev pub Makes : Run Effect Fault Reached → List ℕ → Machine → Result MoveResult values.Halt → Type 0

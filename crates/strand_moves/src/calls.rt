@@ -110,11 +110,13 @@ impl Running {
         // most instances have one or two open calls at a time, and a list would begin with room for four
         if self.below.is_empty() {
             self.below.try_reserve_exact(2)?;
+        } else {
+            self.below.try_reserve(1)?;
         }
         let target = target_of(target);
         let callee = Frame::new(alloc, number, env, target);
         let caller = mem::replace(&mut self.top, callee);
-        self.below.push(caller)?;
+        self.below.push_reserved(caller);
         Ok(())
     }
 
@@ -142,7 +144,7 @@ impl Running {
         self.pay()?;
         self.top.returning = true;
         if self.has_spawns(plan) {
-            return Ok(MoveResult::Went(self.sync()?));
+            return self.sync();
         }
         Ok(MoveResult::Went(Effects::Nothing))
     }

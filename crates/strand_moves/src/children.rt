@@ -1,6 +1,6 @@
 // Children: spawns, syncs and parallel loops.
 
-ghost use Rattle.std.specs.Prelude.{◌≡◌, ◌<◌, ◌≤◌, ◌^◌, ◌+◌, ◌++◌, ◌∷◌, [], ℕ, IfOk, OnOk, false, length};
+ghost use Rattle.std.specs.Prelude.{◌≡◌, ◌<◌, ◌≤◌, ◌^◌, ◌+◌, ◌++◌, ◌∷◌, [], ℕ, Err, IfOk, OnErr, OnOk, false, length};
 ghost use Rattle.std.specs.Option.{option_copied};
 ghost use Rattle.dotmix.specs.Trails.{FitsGamma};
 ghost use Rattle.script_grammar.specs.declared.tree.Act.TheOpen as act;
@@ -13,13 +13,15 @@ ghost use Rattle.serial_meaning.specs.declared.event.Event.TheVariants as event;
 ghost use Rattle.strand_meaning.specs.Machine.{Emitted, sync_effects, with_scalar};
 ghost use Rattle.strand_moves.specs.Acts.{Acts, Costs, Stays, loop_begins};
 ghost use Rattle.strand_moves.specs.Running.{IsStrand, present_of};
-ghost use Rattle.strand_moves.specs.Moves.{spawn_to, effects_of, MovesTrail, ShowsTrail};
+ghost use Rattle.strand_values.specs.declared.halt.Halt.TheVariants as halt;
+ghost use Rattle.strand_moves.specs.Moves.{spawn_to, MovesTrail, Shows};
 ghost use Rattle.strand_moves.specs.declared.effects.Effects.TheVariants as shown;
 
 use crate::calls::function_in;
-use crate::effects::{Child, Effects, MoveResult};
+use crate::effects::{Child, Effects, LoopedChild, MoveResult, SpawnedChild};
 use crate::frame::{copy_of, target_of};
 use crate::memory::Memory;
+use crate::narrow::narrowed;
 use crate::running::Running;
 use dotmix::Trail;
 use loop_range::IterRange;
@@ -44,37 +46,40 @@ impl Running {
         ensures stays { Stays self.old self.new }
         ensures few { Costs self.old self.new }
     {
+        let height = narrowed(self.below.len())?;
         let args = self.top.env.values(alloc, call.args.as_slice())?;
         if self.trail.path.len() + 1 >= plan.limits.depth as u64 {
             return Err(Halt::Fault(FaultKind::Depth));
         }
         let function = plan.callee(&call.name);
+        let target = self.receive_filler(alloc, plan, function, target)?;
         let (trail, path) = self.child_place(alloc, plan)?;
         let origin = Origin::Instance {
             function,
             args,
             path,
         };
-        let child = boxed(alloc, origin, trail)?;
-        let target = self.receive_filler(alloc, plan, function, target)?;
+        let spawned = boxed(
+            alloc,
+            SpawnedChild {
+                child: Child { origin, trail },
+                height,
+                target,
+            },
+        )?;
         let event = Event::Spawn(self.pedigree()?);
         self.rank += 1;
         self.top.spawned = true;
-        let height = self.below.len();
-        Ok(MoveResult::Went(Effects::Spawned {
-            event,
-            child,
-            height,
-            target,
-        }))
+        Ok(MoveResult::Went(Effects::Spawned { event, spawned }))
     }
 
     /// A sync, written or implied.
-    pub(crate) fn sync(&mut self) -> Result<Effects, Memory>
+    pub(crate) fn sync(&mut self) -> Result<MoveResult, Halt>
         requires { self.old.rank < 2 ^ 32 }
-        ensures shown { IfOk result (λ s. effects_of s ≡ Emitted (event.Sync (present_of self.old ++ self.old.rank ∷ [])) ∷ sync_effects self.old.top.spawned) }
+        ensures shown { IfOk result (Shows (Emitted (event.Sync (present_of self.old ++ self.old.rank ∷ [])) ∷ sync_effects self.old.top.spawned)) }
         ensures passed { OnOk result (self.new ≡ record self.old { rank = self.old.rank + 1; top = record self.old.top { spawned = false } }) }
-        ensures child { (plan : PlanView) → IfOk result (ShowsTrail plan) }
+        ensures fine { OnErr result (result ≡ Err halt.Memory) }
+        ensures child { (plan : PlanView) → IfOk result (MovesTrail plan) }
         ensures stays { Stays self.old self.new }
         ensures few { Costs self.old self.new }
     {
@@ -82,11 +87,10 @@ impl Running {
         let waits = self.top.spawned;
         self.rank += 1;
         self.top.spawned = false;
-        Ok(if waits {
-            Effects::Synced(event)
-        } else {
-            Effects::Emitted(event)
-        })
+        if waits {
+            return Ok(MoveResult::Went(Effects::Synced(event)));
+        }
+        Ok(MoveResult::Went(Effects::Emitted(event)))
     }
 
     /// A parallel loop.
@@ -124,7 +128,7 @@ impl Running {
             path,
             range,
         };
-        let child = boxed(alloc, origin, trail)?;
+        let child = Child { origin, trail };
         Ok(MoveResult::Went(self.hand_loop(alloc, target, child)?))
     }
 
@@ -172,23 +176,26 @@ impl Running {
         &mut self,
         alloc: Global,
         target: &Option<Name>,
-        child: Boxed<Child>,
+        child: Child,
     ) -> Result<Effects, Memory>
         requires { self.old.rank < 2 ^ 32 }
-        ensures shown { IfOk result (λ s. s ≡ shown.Looped (event.Loop (present_of self.old ++ self.old.rank ∷ [])) child target.now) }
+        ensures shown { IfOk result (λ s. s ≡ shown.Looped (event.Loop (present_of self.old ++ self.old.rank ∷ [])) (record { child = child; target = target.now })) }
         ensures passed { OnOk result (self.new ≡ record self.old { rank = self.old.rank + 1; top = record self.old.top { env = filled target.now [] self.old.top.env } }) }
         ensures stays { Stays self.old self.new }
         ensures few { Costs self.old self.new }
     {
+        let into = copy_of(target.as_ref());
+        let looped = boxed(
+            alloc,
+            LoopedChild {
+                child,
+                target: into,
+            },
+        )?;
         self.top.env.fill(alloc, target.as_ref(), &[])?;
-        let target = copy_of(target.as_ref());
         let event = Event::Loop(self.pedigree()?);
         self.rank += 1;
-        Ok(Effects::Looped {
-            event,
-            child,
-            target,
-        })
+        Ok(Effects::Looped { event, looped })
     }
 
     /// The trail of a child of this strand, and its path, over the same memory.
@@ -224,11 +231,11 @@ impl Running {
     }
 }
 
-/// A child in a box, so that what a move shows stays small.
-fn boxed(alloc: Global, origin: Origin, trail: Trail) -> Result<Boxed<Child>, Memory>
-    ensures { IfOk result (λ child. child ≡ record { origin = origin; trail = trail }) }
+/// It in a box, so that what a move shows stays small.
+fn boxed<T: Drop>(alloc: Global, it: T) -> Result<Boxed<T>, Memory>
+    ensures { IfOk result (λ box. box ≡ it) }
 {
-    Ok(Boxed(Box::new(alloc, Child { origin, trail })?))
+    Ok(Boxed(Box::new(alloc, it)?))
 }
 
 /// What stands for the value of a child of this function.

@@ -8,6 +8,7 @@ ghost use Rattle.strand_moves.specs.Quick.{is_fork};
 ghost use Rattle.strand_moves.specs.Cursors.{part_of, block_in, block_of, left_of, scope_after, scope_of, IsBehind, Passes};
 
 use crate::memory::Memory;
+use crate::narrow::narrowed;
 use script_grammar::{Act, Stmt};
 use smallvec::SmallVec;
 use std::alloc::Global;
@@ -25,7 +26,7 @@ pub(crate) enum Branch {
 #[derive(Clone, Copy, Debug, Default, PartialEq, Eq)]
 pub(crate) struct Entered {
     pub(crate) part: Branch,
-    pub(crate) back: usize,
+    pub(crate) back: u32,
 }
 
 /// A place in a function's body, or in a scope's block: the blocks that were entered, the outermost first, of which two take no memory, and the index in the innermost block.
@@ -78,8 +79,8 @@ fn inner<'a>(block: &'a [Stmt], entered: Entered) -> &'a [Stmt]
     ensures { result.now ≡ block_in block.now entered }
 {
     let place = match entered.part {
-        Branch::Turn => entered.back,
-        Branch::Yes | Branch::No => entered.back.saturating_sub(1),
+        Branch::Turn => entered.back as usize,
+        Branch::Yes | Branch::No => (entered.back as usize).saturating_sub(1),
     };
     match block.get(place) {
         Some(statement) => part_in(statement, entered.part),
@@ -173,7 +174,7 @@ impl Cursor {
                 return Some((statement, block));
             }
             match self.entered.pop() {
-                Some(last) => self.next = last.back,
+                Some(last) => self.next = last.back as usize,
                 None => return None,
             }
             block = innermost(body, self.entered.as_slice());
@@ -203,9 +204,10 @@ impl Cursor {
         ensures { IfOk result (λ _. (body : List Stmt) (st : Stmt) → IsBehind body self.old st →
             left_of body self.new ≡ part_of (out-Act (out-Stmt st).act) (if yes then part.Yes else part.No) ++ left_of body self.old) }
     {
+        let back = narrowed(self.next)?;
         self.entered.push(Entered {
             part: if yes { Branch::Yes } else { Branch::No },
-            back: self.next,
+            back,
         })?;
         self.next = 0;
         Ok(())
@@ -216,9 +218,10 @@ impl Cursor {
         ensures { IfOk result (λ _. (body : List Stmt) (st : Stmt) → IsBehind body self.old st →
             left_of body self.new ≡ part_of (out-Act (out-Stmt st).act) part.Turn ++ (st ∷ left_of body self.old)) }
     {
+        let back = narrowed(self.next.saturating_sub(1))?;
         self.entered.push(Entered {
             part: Branch::Turn,
-            back: self.next.saturating_sub(1),
+            back,
         })?;
         self.next = 0;
         Ok(())

@@ -13,6 +13,21 @@ pub struct Child {
     pub trail: Trail,
 }
 
+/// A child that was spawned. Its value goes to the variable `target`, if any, of the frame with `height` others below it.
+#[derive(Drop)]
+pub struct SpawnedChild {
+    pub child: Child,
+    pub height: u32,
+    pub target: Option<Target>,
+}
+
+/// A loop that was handed out. Its values go to the array `target`, if any, of the innermost frame.
+#[derive(Drop)]
+pub struct LoopedChild {
+    pub child: Child,
+    pub target: Option<Name>,
+}
+
 /// What a move shows, in order: an event, if any, and then a child or a wait; or where a scope begins or has ended.
 #[derive(Drop)]
 pub enum Effects {
@@ -23,21 +38,17 @@ pub enum Effects {
     Opened(Ped),
     /// The scope that this strand began has ended.
     Closed(Pedigree),
-    /// A child was spawned. Its value goes to the variable `target`, if any, of the frame with `height` others below it.
+    /// A child was spawned. It stands in a box with where its value goes, so that what a move shows stays small.
     Spawned {
         event: Event,
-        child: Boxed<Child>,
-        height: usize,
-        target: Option<Target>,
+        spawned: Boxed<SpawnedChild>,
     },
     /// A sync, at which the instance waits for its children.
     Synced(Event),
-    /// A loop of one iteration or more, for which the instance waits. Its values go to the array `target`, if any, of the innermost
-    /// frame.
+    /// A loop of one iteration or more, for which the instance waits.
     Looped {
         event: Event,
-        child: Boxed<Child>,
-        target: Option<Name>,
+        looped: Boxed<LoopedChild>,
     },
 }
 

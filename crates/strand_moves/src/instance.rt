@@ -42,9 +42,7 @@ impl Instance {
         ensures sound { IfOk result (IsInstance plan.now) }
     {
         let running = Running::new(alloc, plan, function, args, trail)?;
-        Ok(Instance {
-            running: Box::new(alloc, running)?,
-        })
+        Ok(Instance { running })
     }
 
     /// One move. Where there was no memory for it the instance is of no more use.

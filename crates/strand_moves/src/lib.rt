@@ -12,13 +12,14 @@ mod effects;
 mod frame;
 mod instance;
 mod memory;
+mod narrow;
 mod quick;
 mod right;
 mod running;
 mod scopes;
 mod statement;
 
-pub use effects::{Child, Effects, MoveResult};
+pub use effects::{Child, Effects, LoopedChild, MoveResult, SpawnedChild};
 pub use instance::Instance;
 pub use memory::Memory;
 

@@ -44,25 +44,26 @@ impl Running {
         function: u32,
         args: &[Value],
         trail: Trail,
-    ) -> Result<Running, Memory>
+    ) -> Result<Box<Running>, Memory>
         requires there { function < length (functions_of plan.now) }
         requires fits { FitsGamma plan.now.gamma trail }
         requires within { length trail.path < plan.now.limits.depth }
-        ensures begins { IfOk result (λ i. begun plan.now function args.now ≡ Stands (machine_of plan.now i)) }
-        ensures path { IfOk result (λ i. path_of i ≡ trail.path) }
-        ensures sound { IfOk result (IsInstance plan.now) }
+        ensures begins { IfOk result (λ i. begun plan.now function args.now ≡ Stands (machine_of plan.now i.value)) }
+        ensures path { IfOk result (λ i. path_of i.value ≡ trail.path) }
+        ensures sound { IfOk result (λ i. IsInstance plan.now i.value) }
     {
         let f = &plan.functions()[function as usize];
         let more = lets(f.body.as_slice());
         let env = Environment::bound(alloc, f.params.as_slice(), args, more)?;
-        Ok(Running {
+        let running = Running {
             trail,
             rank: 0,
             steps: plan.limits.budget as u64,
             leaving: false,
             top: Frame::new(alloc, function, env, None),
             below: Vec::new(alloc),
-        })
+        };
+        Ok(Box::new(alloc, running)?)
     }
 
     /// One move. Where there was no memory for it the instance is of no more use.

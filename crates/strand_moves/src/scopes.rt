@@ -1,6 +1,6 @@
 // Scopes: a block one level further, and the end of a block.
 
-ghost use Rattle.std.specs.Prelude.{◌≡◌, ◌<◌, ◌+◌, ◌^◌, ◌++◌, ◌∷◌, [], false, true, List, Err, IfOk, OnOk};
+ghost use Rattle.std.specs.Prelude.{◌≡◌, ◌<◌, ◌+◌, ◌^◌, ◌++◌, ◌∷◌, [], false, true, List, Err, IfOk, OnErr, OnOk};
 ghost use Rattle.script_grammar.specs.declared.tree.Act.TheOpen as act;
 ghost use Rattle.script_grammar.specs.declared.tree.Act.{out-Act};
 ghost use Rattle.script_grammar.specs.declared.tree.Stmt.{Stmt, out-Stmt};
@@ -8,11 +8,12 @@ ghost use Rattle.serial_meaning.specs.Plan.{PlanView};
 ghost use Rattle.serial_meaning.specs.declared.event.Event.TheVariants as event;
 ghost use Rattle.serial_meaning.specs.declared.event.FaultKind.{FaultKind};
 ghost use Rattle.strand_meaning.specs.Machine.{Emitted, end_move, sync_effects};
+ghost use Rattle.strand_values.specs.declared.halt.Halt.TheVariants as halt;
 ghost use Rattle.strand_values.specs.declared.halt.Halt.TheVariants.{Fault};
 ghost use Rattle.strand_moves.specs.Acts.{Acts, GoesIn, Keeps};
 ghost use Rattle.strand_moves.specs.Cursors.{IsBehind, left_of};
 ghost use Rattle.strand_moves.specs.Running.{IsInstance, IsStrand, machine_of, path_of, present_of, text_of};
-ghost use Rattle.strand_moves.specs.Moves.{Makes, MovesTrail, ShowsTrail, strand_of, effects_of};
+ghost use Rattle.strand_moves.specs.Moves.{Makes, MovesTrail, Shows, strand_of};
 ghost use Rattle.strand_moves.specs.declared.effects.Effects.TheVariants as shown;
 
 use crate::cursor::Cursor;
@@ -76,7 +77,7 @@ impl Running {
             };
         }
         if !self.top.levels.as_slice().is_empty() {
-            return Ok(MoveResult::Went(self.join_scope()?));
+            return self.join_scope();
         }
         if self.top.returning {
             return self.end(plan);
@@ -85,15 +86,15 @@ impl Running {
     }
 
     /// The sync at the end of the innermost scope.
-    fn join_scope(&mut self) -> Result<Effects, Memory>
+    fn join_scope(&mut self) -> Result<MoveResult, Halt>
         requires { self.old.rank < 2 ^ 32 }
-        ensures shown { IfOk result (λ s. effects_of s ≡ Emitted (event.Sync (present_of self.old ++ self.old.rank ∷ [])) ∷ sync_effects self.old.top.spawned) }
+        ensures shown { IfOk result (Shows (Emitted (event.Sync (present_of self.old ++ self.old.rank ∷ [])) ∷ sync_effects self.old.top.spawned)) }
         ensures passed { OnOk result (self.new ≡ record self.old { rank = self.old.rank + 1; leaving = true; top = record self.old.top { spawned = false } }) }
-        ensures child { (plan : PlanView) → IfOk result (ShowsTrail plan) }
+        ensures fine { OnErr result (result ≡ Err halt.Memory) }
+        ensures child { (plan : PlanView) → IfOk result (MovesTrail plan) }
     {
-        let shown = self.sync()?;
         self.leaving = true;
-        Ok(shown)
+        self.sync()
     }
 
     /// Goes on after this scope, at the next rank of the path around it.

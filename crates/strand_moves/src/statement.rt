@@ -97,7 +97,7 @@ impl Running {
         ensures stays { Stays self.old self.new }
         ensures few { Costs self.old self.new }
     {
-        Ok(MoveResult::Went(self.sync()?))
+        self.sync()
     }
 
     fn print(&mut self, e: &Expr) -> Result<MoveResult, Halt>

@@ -1,5 +1,5 @@
 -- The place of a variable, and what stands there.
-use Rattle.std.proofs.Common.{◌≡◌, ℕ, zero, suc, ◌+◌, ◌<◌, ◌≤◌, Bool, true, false, not, cond, List, [], ◌∷◌, ◌++◌, Option, Some, None, IsNone, Result, Ok, Err, OnErr, length, get_or, slice_set, refl, sym, subst, ap, ◌∙◌, arith, if◌then◌else◌, position}
+use Rattle.std.proofs.Common.{◌≡◌, ℕ, zero, suc, ◌+◌, ◌<◌, ◌≤◌, Bool, true, false, not, cond, List, [], ◌∷◌, ◌++◌, Option, Some, None, IsNone, Result, Ok, Err, OnErr, OnOk, length, get_or, slice_set, refl, sym, subst, ap, ◌∙◌, arith, if◌then◌else◌, position}
 use Rattle.std.specs.List.{position_or_len}
 use Rattle.std.specs.Str.{bytes_eq}
 use Rattle.std.proofs.lemmas.List.Quantifiers.{position-Some}
@@ -80,3 +80,12 @@ not_there s e = let P : Option Slot → Type 0 = λ t. IsNone t in subst P (sym 
 pub on_err : {A E : Type 0} (r : Result A E) (P : Type 0) → P → OnErr r P
 on_err (Ok a) P p = tt
 on_err (Err e) P p = p
+
+-- by a call that was made or has failed
+pub on_ok : {X E P Q : Type 0} (r : Result X E) → OnOk r P → (P → Q) → OnOk r Q
+on_ok (Ok x) p f = f p
+on_ok (Err e) p f = tt
+
+pub on_failed : {X E P Q : Type 0} (r : Result X E) → OnErr r P → (P → Q) → OnErr r Q
+on_failed (Ok x) p f = tt
+on_failed (Err e) p f = f p

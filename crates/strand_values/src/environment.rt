@@ -1,4 +1,4 @@
-ghost use Rattle.std.specs.Prelude.{◌≡◌, Ok, Err, IfOk, IfSome, OnOk, OnErr, IsSome, IsNone};
+ghost use Rattle.std.specs.Prelude.{◌≡◌, ◌++◌, ◌∷◌, [], Ok, Err, IfOk, IfSome, OnOk, OnErr, IsSome, IsNone};
 ghost use Rattle.std.specs.Option.{option_copied};
 ghost use Rattle.serial_meaning.specs.declared.environment.Slot.TheVariants.{Scalar, Array};
 ghost use Rattle.serial_meaning.specs.Values.{value_of, values_of, slot_of, items_of, at_index};
@@ -54,7 +54,7 @@ impl Environment {
         let mut variables = Vec::with_capacity(alloc, count.saturating_add(more))?;
         for i in 0..count {
             let slot = Slot::Scalar(args[i].share()?);
-            variables.push(Entry::new(&params[i].name.bytes, slot))?;
+            add(&mut variables, &params[i].name.bytes, slot)?;
         }
         Ok(Environment { variables })
     }
@@ -73,10 +73,10 @@ impl Environment {
         let count = params.len().min(args.len());
         let mut variables = Vec::with_capacity(alloc, count.saturating_add(more))?;
         for i in 0..args.len() {
-            let value = value::value(&self.variables, &args[i])?;
+            let value = value::evaluate(&self.variables, &args[i])?;
             if i < params.len() {
                 let name = &params[i].name.bytes;
-                variables.push(Entry::new(name, Slot::Scalar(value)))?;
+                add(&mut variables, name, Slot::Scalar(value))?;
             }
         }
         Ok(Environment { variables })
@@ -86,7 +86,7 @@ impl Environment {
     pub fn value(&self, e: &Expr) -> Result<Value, Halt>
         ensures { Gives result (value_of e.now self.now) }
     {
-        value::value(&self.variables, e)
+        value::evaluate(&self.variables, e)
     }
 
     /// The number that the value of an expression counts as.
@@ -96,7 +96,8 @@ impl Environment {
         value::integer(&self.variables, e)
     }
 
-    /// The integer that an expression is, if it is a number or a calculation of plain operands and meets no fault.
+    /// The integer that an expression is, if it is a number, a variable that holds one, or a calculation of plain operands, and meets no
+    /// fault.
     pub fn plain(&self, e: &Expr) -> Option<i64>
         ensures { IfSome result (λ n. value_of e.now self.now ≡ Ok (Int n)) }
     {
@@ -156,7 +157,7 @@ impl Environment {
                 self.variables[i].set_number(number);
                 Ok(())
             }
-            None => self.set(name, Slot::Scalar(Value::Int(number))),
+            None => add(&mut self.variables, name, Slot::Scalar(Value::Int(number))),
         }
     }
 
@@ -250,10 +251,24 @@ impl Environment {
                 self.variables[i].set_slot(slot);
                 Ok(())
             }
-            None => {
-                self.variables.push(Entry::new(name, slot))?;
-                Ok(())
-            }
+            None => add(&mut self.variables, name, slot),
+        }
+    }
+}
+
+/// Adds a variable at the end of a list, which mostly has room for it.
+fn add(variables: &mut Vec<Entry>, name: &NameText, slot: Slot) -> Result<(), Memory>
+    ensures ok { OnOk result (variables.new.items ≡ variables.old.items ++ record { name = name.now; slot = slot } ∷ []) }
+    ensures err { OnErr result (variables.new.items ≡ variables.old.items) }
+{
+    match variables.try_reserve(1) {
+        Ok(()) => {
+            variables.push_reserved(Entry::new(name, slot));
+            Ok(())
+        }
+        Err(_) => {
+            drop(slot);
+            Err(Memory)
         }
     }
 }

@@ -10,15 +10,17 @@ ghost use Rattle.strand_values.specs.Nodes as node;
 use crate::arithmetic::{compare, product, sum};
 use crate::entry::Entry;
 use crate::scalar::truth;
-use crate::variables::number_of;
+use crate::variables::{integer_of, number_of};
 use script_grammar::{Expr, ProductPart, SumPart};
 
-/// The integer that the expression is, where it is a number or a calculation of plain operands. Otherwise, and where a fault is met, there is none.
+/// The integer that the expression is, where it is a number, a variable that holds one, or a calculation of plain operands. Otherwise, and where a fault is
+/// met, there is none.
 pub(crate) fn plain(variables: &[Entry], e: &Expr) -> Option<i64>
     ensures { IfSome result (λ n. value_of e.now variables.now ≡ Ok (Int n)) }
 {
     match e {
         Expr::Number(number) => Some(number.value),
+        Expr::Var(name) => integer_of(variables, &name.bytes),
         Expr::Sum(first, rest) => {
             if rest.as_slice().is_empty() {
                 return None;

@@ -9,11 +9,22 @@ ghost use Rattle.strand_values.specs.Nodes as node;
 use crate::arithmetic::{compare, product, sum};
 use crate::entry::Entry;
 use crate::halt::Halt;
+use crate::plain::plain;
 use crate::scalar::{is_older, is_same, truth};
 use crate::variables::{item, number_of, scalar};
 use script_grammar::{Comparison, Expr, Items, Name, ProductPart, SumPart};
 use serial_meaning::{FaultKind, Value};
 use std::alloc::Global;
+
+/// The same as `value`. A number or a calculation of plain operands takes a shorter way.
+pub(crate) fn evaluate(variables: &[Entry], e: &Expr) -> Result<Value, Halt>
+    ensures { Gives result (value_of e.now variables.now) }
+{
+    match plain(variables, e) {
+        Some(number) => Ok(Value::Int(number)),
+        None => value(variables, e),
+    }
+}
 
 #[cycle(value)]
 pub(crate) fn value(variables: &[Entry], e: &Expr) -> Result<Value, Halt>
@@ -194,7 +205,7 @@ pub(crate) fn values(
 {
     let mut values = Vec::with_capacity(alloc, args.len())?;
     for e in args {
-        values.push(value(variables, e)?)?;
+        values.push(evaluate(variables, e)?)?;
     }
     Ok(Items(values))
 }

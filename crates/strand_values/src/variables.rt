@@ -1,9 +1,10 @@
 // Variables by their names.
 
-ghost use Rattle.std.specs.Prelude.{◌≡◌, Ok, position};
+ghost use Rattle.std.specs.Prelude.{◌≡◌, IfSome, Ok, position};
 ghost use Rattle.std.specs.Option.{option_copied};
 ghost use Rattle.std.specs.Str.{bytes_eq};
 ghost use Rattle.serial_meaning.specs.Values.{slot_of, scalar, number, items_of, at_index};
+ghost use Rattle.serial_meaning.specs.declared.value.Value.TheVariants.{Int};
 ghost use Rattle.strand_values.specs.Gives.{Gives};
 
 use crate::entry::Entry;
@@ -57,6 +58,17 @@ pub(crate) fn number_of(variables: &[Entry], name: &NameText) -> i64
     match slot(variables, name) {
         Some(Slot::Scalar(Value::Int(number))) => *number,
         Some(Slot::Scalar(Value::Id(_))) | Some(Slot::Array(_)) | None => 0,
+    }
+}
+
+/// The integer that a scalar holds, if it holds one.
+#[inline(always)]
+pub(crate) fn integer_of(variables: &[Entry], name: &NameText) -> Option<i64>
+    ensures { IfSome result (λ n. scalar (slot_of variables.now name.now) ≡ Int n) }
+{
+    match slot(variables, name) {
+        Some(Slot::Scalar(Value::Int(number))) => Some(*number),
+        Some(Slot::Scalar(Value::Id(_))) | Some(Slot::Array(_)) | None => None,
     }
 }
 

@@ -1,7 +1,6 @@
 -- What a task is after a move of its instance, by what the move showed.
-use Rattle.std.proofs.Common.{◌≡◌, ◌<◌, ℕ, suc, true, false, List, [], ◌∷◌, ◌++◌, Option, None, Result, Ok, Err, length, replicate, refl, sym, ap, ◌∙◌, subst}
+use Rattle.std.proofs.Common.{◌≡◌, ◌<◌, ℕ, suc, true, false, List, [], ◌∷◌, ◌++◌, None, Result, Ok, Err, length, replicate, refl, sym, ap, ◌∙◌, subst}
 use Rattle.std.specs.Prelude.{IfOk}
-use Rattle.script_grammar.specs.declared.tree.Name.{Name}
 use Rattle.serial_meaning.specs.Eval.{path_of}
 use Rattle.serial_meaning.specs.Laws.{IsOriginOf}
 use Rattle.serial_meaning.specs.Plan.{PlanView}
@@ -20,7 +19,8 @@ use Rattle.strand_moves.specs.Moves.{IsTrailOf, MovesTrail, ShowsTrail, effects_
 use Rattle.strand_moves.specs.Rows.{Row, Still, More}
 use Rattle.strand_moves.specs.declared.instance.Instance.{Instance as RawInstance}
 use Rattle.strand_moves.specs.declared.running.Running.{Running}
-use Rattle.strand_moves.specs.declared.effects.Child.{Child}
+use Rattle.strand_moves.specs.declared.effects.LoopedChild.{LoopedChild}
+use Rattle.strand_moves.specs.declared.effects.SpawnedChild.{SpawnedChild}
 use Rattle.strand_moves.specs.declared.effects.MoveResult.{MoveResult}
 use Rattle.strand_moves.specs.declared.effects.MoveResult.TheVariants as moved-in
 use Rattle.strand_moves.specs.declared.effects.Effects.{Effects}
@@ -130,64 +130,64 @@ module _ (b : Body) (i : RawInstance) where
 
   -- a child
 
-  pub spawned-known : (s : Effects) (e : Event) (o : Child) (height : ℕ) (target : Option Name) → s ≡ shown-in.Spawned e o height target → IsSoundShown b i s → IsOriginOf b.family.plan o.origin
-  spawned-known s e o height target is h = let k : IsSoundShown b i (shown-in.Spawned e o height target) = subst (IsSoundShown b i) is h in k.child
+  pub spawned-known : (s : Effects) (e : Event) (o : SpawnedChild) → s ≡ shown-in.Spawned e o → IsSoundShown b i s → IsOriginOf b.family.plan o.child.origin
+  spawned-known s e o is h = let k : IsSoundShown b i (shown-in.Spawned e o) = subst (IsSoundShown b i) is h in k.child
 
-  pub spawned-trail : (s : Effects) (e : Event) (o : Child) (height : ℕ) (target : Option Name) → s ≡ shown-in.Spawned e o height target → IsSoundShown b i s → IsTrailOf b.family.plan o.origin o.trail
-  spawned-trail s e o height target is h = let k : IsSoundShown b i (shown-in.Spawned e o height target) = subst (IsSoundShown b i) is h in k.trail
+  pub spawned-trail : (s : Effects) (e : Event) (o : SpawnedChild) → s ≡ shown-in.Spawned e o → IsSoundShown b i s → IsTrailOf b.family.plan o.child.origin o.child.trail
+  spawned-trail s e o is h = let k : IsSoundShown b i (shown-in.Spawned e o) = subst (IsSoundShown b i) is h in k.trail
 
-  pub spawned-handed : (s : Effects) (e : Event) (o : Child) (height : ℕ) (target : Option Name) → s ≡ shown-in.Spawned e o height target → IsSoundShown b i s → IsHandedFor b.family.plan b.family.origin o.origin
-  spawned-handed s e o height target is h = let k : IsSoundShown b i (shown-in.Spawned e o height target) = subst (IsSoundShown b i) is h in k.handed
+  pub spawned-handed : (s : Effects) (e : Event) (o : SpawnedChild) → s ≡ shown-in.Spawned e o → IsSoundShown b i s → IsHandedFor b.family.plan b.family.origin o.child.origin
+  spawned-handed s e o is h = let k : IsSoundShown b i (shown-in.Spawned e o) = subst (IsSoundShown b i) is h in k.handed
 
-  spawned-at : (e : Event) (o : Child) (height : ℕ) (target : Option Name) → IsSoundShown b i (shown-in.Spawned e o height target) →
-      IsSound (with_child (with_trace b (emit e b.trace)) o.origin (place.Spawned height target)) goes
-  spawned-at e o height target h = record {
+  spawned-at : (e : Event) (o : SpawnedChild) → IsSoundShown b i (shown-in.Spawned e o) →
+      IsSound (with_child (with_trace b (emit e b.trace)) o.child.origin (place.Spawned o.height o.target)) goes
+  spawned-at e o h = record {
     task = h.task;
-    family = awaits-more b.family (emit e b.trace).handed (record { child = o.origin; place = place_of (place.Spawned height target); behind = [] }) (awaits-emitted b.family b.trace e h.family);
+    family = awaits-more b.family (emit e b.trace).handed (record { child = o.child.origin; place = place_of (place.Spawned o.height o.target); behind = [] }) (awaits-emitted b.family b.trace e h.family);
     works = h.runs;
   }
 
-  pub spawned-sound : (s : Effects) (e : Event) (o : Child) (height : ℕ) (target : Option Name) (p : Trace) → s ≡ shown-in.Spawned e o height target → p ≡ emit e b.trace → IsSoundShown b i s →
-      IsSound (with_child (with_trace b p) o.origin (place.Spawned height target)) goes
-  spawned-sound s e o height target p is q h =
-      subst (λ (x : Trace). IsSound (with_child (with_trace b x) o.origin (place.Spawned height target)) goes) (sym q) (spawned-at e o height target (subst (IsSoundShown b i) is h))
+  pub spawned-sound : (s : Effects) (e : Event) (o : SpawnedChild) (p : Trace) → s ≡ shown-in.Spawned e o → p ≡ emit e b.trace → IsSoundShown b i s →
+      IsSound (with_child (with_trace b p) o.child.origin (place.Spawned o.height o.target)) goes
+  spawned-sound s e o p is q h =
+      subst (λ (x : Trace). IsSound (with_child (with_trace b x) o.child.origin (place.Spawned o.height o.target)) goes) (sym q) (spawned-at e o (subst (IsSoundShown b i) is h))
 
-  pub spawned-step : (s : Effects) (e : Event) (o : Child) (height : ℕ) (target : Option Name) (p : Trace) (r : MadeStep) → s ≡ shown-in.Spawned e o height target → p ≡ emit e b.trace →
-      r ≡ step-in.Stops (stop-in.Spawn (fresh_with b.family.knows b.family.plan o.origin) (view_of (with_child (with_trace b p) o.origin (place.Spawned height target)) goes)) →
+  pub spawned-step : (s : Effects) (e : Event) (o : SpawnedChild) (p : Trace) (r : MadeStep) → s ≡ shown-in.Spawned e o → p ≡ emit e b.trace →
+      r ≡ step-in.Stops (stop-in.Spawn (fresh_with b.family.knows b.family.plan o.child.origin) (view_of (with_child (with_trace b p) o.child.origin (place.Spawned o.height o.target)) goes)) →
       step_of r ≡ stops_at (child_in (effects_of s)) (shown_task b i s)
-  spawned-step s e o height target p r is q h = rw (h, q, is) refl
+  spawned-step s e o p r is q h = rw (h, q, is) refl
 
   -- a loop
 
   abbrev at-loop : Work
   at-loop = work.Runs (stage.AtLoop i)
 
-  pub looped-known : (s : Effects) (e : Event) (o : Child) (target : Option Name) → s ≡ shown-in.Looped e o target → IsSoundShown b i s → IsOriginOf b.family.plan o.origin
-  looped-known s e o target is h = let k : IsSoundShown b i (shown-in.Looped e o target) = subst (IsSoundShown b i) is h in k.child
+  pub looped-known : (s : Effects) (e : Event) (o : LoopedChild) → s ≡ shown-in.Looped e o → IsSoundShown b i s → IsOriginOf b.family.plan o.child.origin
+  looped-known s e o is h = let k : IsSoundShown b i (shown-in.Looped e o) = subst (IsSoundShown b i) is h in k.child
 
-  pub looped-trail : (s : Effects) (e : Event) (o : Child) (target : Option Name) → s ≡ shown-in.Looped e o target → IsSoundShown b i s → IsTrailOf b.family.plan o.origin o.trail
-  looped-trail s e o target is h = let k : IsSoundShown b i (shown-in.Looped e o target) = subst (IsSoundShown b i) is h in k.trail
+  pub looped-trail : (s : Effects) (e : Event) (o : LoopedChild) → s ≡ shown-in.Looped e o → IsSoundShown b i s → IsTrailOf b.family.plan o.child.origin o.child.trail
+  looped-trail s e o is h = let k : IsSoundShown b i (shown-in.Looped e o) = subst (IsSoundShown b i) is h in k.trail
 
-  pub looped-handed : (s : Effects) (e : Event) (o : Child) (target : Option Name) → s ≡ shown-in.Looped e o target → IsSoundShown b i s → IsHandedFor b.family.plan b.family.origin o.origin
-  looped-handed s e o target is h = let k : IsSoundShown b i (shown-in.Looped e o target) = subst (IsSoundShown b i) is h in k.handed
+  pub looped-handed : (s : Effects) (e : Event) (o : LoopedChild) → s ≡ shown-in.Looped e o → IsSoundShown b i s → IsHandedFor b.family.plan b.family.origin o.child.origin
+  looped-handed s e o is h = let k : IsSoundShown b i (shown-in.Looped e o) = subst (IsSoundShown b i) is h in k.handed
 
-  looped-at : (e : Event) (o : Child) (target : Option Name) → IsSoundShown b i (shown-in.Looped e o target) →
-      IsSound (with_child (with_trace b (emit e b.trace)) o.origin (place.Looped target)) at-loop
-  looped-at e o target h = record {
+  looped-at : (e : Event) (o : LoopedChild) → IsSoundShown b i (shown-in.Looped e o) →
+      IsSound (with_child (with_trace b (emit e b.trace)) o.child.origin (place.Looped o.target)) at-loop
+  looped-at e o h = record {
     task = h.task;
-    family = awaits-more b.family (emit e b.trace).handed (record { child = o.origin; place = place_of (place.Looped target); behind = [] }) (awaits-emitted b.family b.trace e h.family);
+    family = awaits-more b.family (emit e b.trace).handed (record { child = o.child.origin; place = place_of (place.Looped o.target); behind = [] }) (awaits-emitted b.family b.trace e h.family);
     works = h.runs;
   }
 
-  pub looped-sound : (s : Effects) (e : Event) (o : Child) (target : Option Name) (p : Trace) → s ≡ shown-in.Looped e o target → p ≡ emit e b.trace → IsSoundShown b i s →
-      IsSound (with_child (with_trace b p) o.origin (place.Looped target)) at-loop
-  looped-sound s e o target p is q h =
-      subst (λ (x : Trace). IsSound (with_child (with_trace b x) o.origin (place.Looped target)) at-loop) (sym q) (looped-at e o target (subst (IsSoundShown b i) is h))
+  pub looped-sound : (s : Effects) (e : Event) (o : LoopedChild) (p : Trace) → s ≡ shown-in.Looped e o → p ≡ emit e b.trace → IsSoundShown b i s →
+      IsSound (with_child (with_trace b p) o.child.origin (place.Looped o.target)) at-loop
+  looped-sound s e o p is q h =
+      subst (λ (x : Trace). IsSound (with_child (with_trace b x) o.child.origin (place.Looped o.target)) at-loop) (sym q) (looped-at e o (subst (IsSoundShown b i) is h))
 
-  pub looped-step : (s : Effects) (e : Event) (o : Child) (target : Option Name) (p : Trace) (r : MadeStep) → s ≡ shown-in.Looped e o target → p ≡ emit e b.trace →
-      r ≡ step-in.Stops (stop-in.Spawn (fresh_with b.family.knows b.family.plan o.origin) (view_of (with_child (with_trace b p) o.origin (place.Looped target)) at-loop)) →
+  pub looped-step : (s : Effects) (e : Event) (o : LoopedChild) (p : Trace) (r : MadeStep) → s ≡ shown-in.Looped e o → p ≡ emit e b.trace →
+      r ≡ step-in.Stops (stop-in.Spawn (fresh_with b.family.knows b.family.plan o.child.origin) (view_of (with_child (with_trace b p) o.child.origin (place.Looped o.target)) at-loop)) →
       step_of r ≡ stops_at (child_in (effects_of s)) (shown_task b i s)
-  looped-step s e o target p r is q h = rw (h, q, is) refl
+  looped-step s e o p r is q h = rw (h, q, is) refl
 
 -- What the family keeps
 

@@ -13,8 +13,6 @@ use Rattle.strand_moves.specs.declared.running.Running.{Running}
 use Rattle.strand_moves.specs.declared.frame.Level.{Level}
 use Rattle.strand_moves.specs.Acts.{Stays, result_of}
 use Rattle.strand_moves.specs.Running.{frame_of, machine_of, path_of, present_of, scopes_of}
-use Rattle.strand_moves.specs.Moves.{effects_of}
-use Rattle.strand_moves.specs.declared.effects.Effects.{Effects}
 use Rattle.strand_moves.proofs.Statements.Equations.{faults, went}
 use Rattle.strand_moves.proofs.Frames.CallLemmas.{below-more, scopes-more}
 use Rattle.script_grammar.specs.declared.tree.Function.{Function}
@@ -55,15 +53,17 @@ module _ (plan : PlanView) (i : Running) (here : here_of (path_of i) (machine_of
     one-more : i.steps ≡ suc n
     one-more = omega arith
 
-    pub return-joined : (s : Effects) (new : Running) → spawns_in (function_at (functions_of plan) i.top.function) ≡ true → effects_of s ≡ Emitted (event.Sync (present_of paid ++ paid.rank ∷ [])) ∷ sync_effects paid.top.spawned →
-        new ≡ record paid { rank = paid.rank + 1; top = record paid.top { returning = true; spawned = false } } → return_move plan (path_of i) (machine_of plan i) false ≡ went (effects_of s) (machine_of plan new)
-    return-joined s new spawns t p =
-        let effects = rw is-paid at t in
+    pub return-joined : (new : Running) → spawns_in (function_at (functions_of plan) i.top.function) ≡ true →
+        new ≡ record paid { rank = paid.rank + 1; top = record paid.top { returning = true; spawned = false } } →
+        return_move plan (path_of i) (machine_of plan i) false ≡ went (Emitted (event.Sync (present_of paid ++ paid.rank ∷ [])) ∷ sync_effects paid.top.spawned) (machine_of plan new)
+    return-joined new spawns p =
         let after = rw is-paid at p in
         let m = machine_of plan i in
         let next = record m { rank = m.rank + 1; steps = n; top = record m.top { returning = true; spawned = false } } in
-        joined-return plan (path_of i) m n one-more spawns ∙ ap (λ (q : List ℕ). went (Emitted (event.Sync (q ++ i.rank ∷ [])) ∷ sync_effects i.top.spawned) next) here
-        ∙ ap (λ (ts : List Effect). went ts next) (sym effects) ∙ ap (λ (x : Running). went (effects_of s) (machine_of plan x)) (sym after)
+        let effects = Emitted (event.Sync (present_of i ++ i.rank ∷ [])) ∷ sync_effects i.top.spawned in
+        rw is-paid
+        (joined-return plan (path_of i) m n one-more spawns ∙ ap (λ (q : List ℕ). went (Emitted (event.Sync (q ++ i.rank ∷ [])) ∷ sync_effects i.top.spawned) next) here
+        ∙ ap (λ (x : Running). went effects (machine_of plan x)) (sym after))
 
 module _ (plan : PlanView) (i : Running) (v : Value) (known : result_of (function_at (functions_of plan) i.top.function) i.top.env ≡ Ok v) where
   pub value-received : (rest : List Frame) (caller : Frame) (env : Env) (new : Running) → i.below.items ≡ rest ++ caller ∷ [] → env ≡ with_scalar i.top.target v caller.env →

@@ -58,7 +58,7 @@ module _ (plan : PlanView) (i : Running) (st : Stmt) where
         rw (e, p, is-begun, ← left) (pfor-none plan (present_of i) (machine_of plan i) st var lo hi target c l h vs n known-lo known-hi known-args counted none begins)
 
     pub looped-some : 0 < n → (s : Effects) (passed : Running) (function : ℕ) (first : ℤ) (path : List ℕ) (trail : Trail) → function ≡ number_of (functions_of plan) c.name.bytes → first ≡ number l → path ≡ strand_at begun →
-        s ≡ shown.Looped (event.Loop (strand_at begun)) (record { origin = origin.Loop function vs first path (record { lo = 0; hi = n }); trail = trail }) target → passed ≡ passed_on →
+        s ≡ shown.Looped (event.Loop (strand_at begun)) (record { child = record { origin = origin.Loop function vs first path (record { lo = 0; hi = n }); trail = trail }; target = target }) → passed ≡ passed_on →
         acted plan (present_of i) (machine_of plan i) st (act.Pfor var lo hi target c) ≡ went (effects_of s) (machine_of plan passed)
     looped-some some s passed function first path trail f g a e p =
         rw (e, p, f, g, a, is-begun, ← left) (pfor-some plan (present_of i) (machine_of plan i) st var lo hi target c l h vs n known-lo known-hi known-args counted some begins)

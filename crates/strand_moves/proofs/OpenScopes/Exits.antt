@@ -1,6 +1,8 @@
 -- What a call shows that is left by a `?`.
-use Rattle.std.proofs.Common.{◌≡◌, ℕ, List, Result, Ok, Err, sym, subst}
+use Rattle.std.proofs.Common.{◌≡◌, ℕ, List, Result, Ok, Err, IfOk, sym, subst, ◌∙◌}
+use Rattle.std.specs.Prelude.{OnErr, OnOk}
 use Rattle.std.specs.Result.{IsErrAnd}
+use Rattle.serial_meaning.specs.Plan.{PlanView}
 use Rattle.serial_meaning.specs.Runs.{Run}
 use Rattle.serial_meaning.specs.declared.event.Fault.{Fault}
 use Rattle.serial_meaning.specs.declared.event.FaultKind.{FaultKind}
@@ -9,9 +11,11 @@ use Rattle.strand_values.specs.Gives.{Gives}
 use Rattle.strand_values.specs.declared.halt.Halt as values
 use Rattle.strand_values.specs.declared.halt.Halt.TheVariants as halt
 use Rattle.strand_moves.specs.declared.effects.MoveResult.{MoveResult}
-use Rattle.strand_moves.specs.Moves.{Makes}
+use Rattle.strand_moves.specs.declared.running.Running.{Running}
+use Rattle.strand_moves.specs.Acts.{IsKept, Keeps}
+use Rattle.strand_moves.specs.Moves.{Makes, Shows}
 use Rattle.strand_moves.specs.Quick.{quiet}
-use Rattle.strand_moves.proofs.Statements.Equations.{faults}
+use Rattle.strand_moves.proofs.Statements.Equations.{faults, went}
 
 module _ (run : Run Effect Fault Reached) (strand : List ℕ) (m : Machine) where
   shows-halt : {A : Type 0} (h : values.Halt) (defined : Result A FaultKind) → Gives (Err h) defined → ((kind : FaultKind) → defined ≡ Err kind → run ≡ faults kind strand) → Makes run strand m (Err h)
@@ -33,3 +37,15 @@ module _ (run : Run Effect Fault Reached) (strand : List ℕ) (m : Machine) wher
       ((kind : FaultKind) → defined ≡ Err kind → run ≡ faults kind strand) → Makes run strand m (quiet r)
   quiet-exit (Ok u) h defined e g f = absurd e
   quiet-exit (Err y) h defined e g f = let P : values.Halt → Type 0 = λ z. Makes run strand m (Err z) in subst P (sym e) (shows-halt h defined g f)
+
+  -- by a call that shows these effects
+  pub shows-made : {A : Type 0} (effects : List Effect) (r : Result MoveResult values.Halt) → IfOk r (Shows effects) → OnErr r (r ≡ Err halt.Memory) → OnOk r A → (A → run ≡ went effects m) → Makes run strand m r
+  shows-made effects (Ok moved) s f a g = g a ∙ sym (s m)
+  shows-made effects (Err (halt.Fault kind)) s f a g = absurd (cc)
+  shows-made effects (Err halt.Memory) s f a g = tt
+
+-- and what it keeps
+pub keeps-made : {A : Type 0} (plan : PlanView) (old new : Running) (r : Result MoveResult values.Halt) → OnErr r (r ≡ Err halt.Memory) → OnOk r A → (A → IsKept plan old new) → Keeps plan old new r
+keeps-made plan old new (Ok moved) f a g = g a
+keeps-made plan old new (Err (halt.Fault kind)) f a g = absurd (cc)
+keeps-made plan old new (Err halt.Memory) f a g = tt

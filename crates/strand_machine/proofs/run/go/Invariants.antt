@@ -5,8 +5,8 @@ use Rattle.strand_machine.specs.declared.work.Work.TheVariants as work
 use Rattle.strand_machine.proofs.Moves.Moving.{IsOnRun}
 use Rattle.strand_machine.proofs.run.go.Given as goal
 
-abbrev pub invariant-loop-instance : goal.invariant-loop-instance
-invariant-loop-instance l = IsOnRun (view_of l.initial.parts.body (work.Runs (stage.Running l.fn.instance))) l.parts.body l.instance
+abbrev pub invariant-loop-event : goal.invariant-loop-event
+invariant-loop-event l = IsOnRun (view_of l.initial.parts.body (work.Runs (stage.Running l.fn.instance))) l.parts.body l.instance
 
-abbrev pub decreases-loop-instance : goal.decreases-loop-instance
-decreases-loop-instance l = moves_left (task_of l.parts.body (work.Runs (stage.Running l.instance)))
+abbrev pub decreases-loop-event : goal.decreases-loop-event
+decreases-loop-event l = moves_left (task_of l.parts.body (work.Runs (stage.Running l.instance)))

@@ -14,8 +14,8 @@ use Rattle.strand_machine.proofs.Moves.Making.{made-ok}
 use Rattle.strand_machine.proofs.Moves.Halves.{many, halves, only-one}
 use Rattle.strand_machine.proofs.step.split.Goals as goal
 
-pub spawn_part-requires-clause-known : goal.spawn_part-requires-clause-known
-spawn_part-requires-clause-known c =
+pub spawn-requires-clause-known : goal.spawn-requires-clause-known
+spawn-requires-clause-known c =
     let b = c.args.parts.now.body in
     let l = c.args.left in
     let p = c.in-Some.halves in
@@ -26,22 +26,22 @@ spawn_part-requires-clause-known c =
     (spawn-sound c.steps_are_sound.ensures b (work.Splits l) (work.Splits upper) c.in_ok-origin.origin place.Half c.requires
     (split-many b l upper p.0 c.in_ok-origin.origin two parts.0 parts.1 child) c.requires.works).0
 
-pub spawn_part-requires-clause-trail : goal.spawn_part-requires-clause-trail
-spawn_part-requires-clause-trail c =
+pub spawn-requires-clause-trail : goal.spawn-requires-clause-trail
+spawn-requires-clause-trail c =
     let b = c.args.parts.now.body in
     let p = c.in-Some.halves in
     let child : c.in_ok-origin.origin ≡ only b.family.origin p.0 = c.in_ok-origin.ensures ∙ ap (λ (o : Origin). only o p.0) c.origin.ensures in
     part-trail b.family.plan b.family.origin c.in_ok-origin.origin p.0 c.args.left.trail c.in_ok-shared.shared child c.in_ok-shared.ensures c.requires.works
 
-pub spawn_part-requires-clause-handed : goal.spawn_part-requires-clause-handed
-spawn_part-requires-clause-handed c =
+pub spawn-requires-clause-handed : goal.spawn-requires-clause-handed
+spawn-requires-clause-handed c =
     let b = c.args.parts.now.body in
     let p = c.in-Some.halves in
     let child : c.in_ok-origin.origin ≡ only b.family.origin p.0 = c.in_ok-origin.ensures ∙ ap (λ (o : Origin). only o p.0) c.origin.ensures in
     handed-half b.family.plan b.family.origin c.in_ok-origin.origin c.args.left.range p.0 c.requires.task.work.0 child
 
-pub spawn_part-requires-clause-sound : goal.spawn_part-requires-clause-sound
-spawn_part-requires-clause-sound c =
+pub spawn-requires-clause-sound : goal.spawn-requires-clause-sound
+spawn-requires-clause-sound c =
     let b = c.args.parts.now.body in
     let l = c.args.left in
     let p = c.in-Some.halves in
@@ -61,10 +61,10 @@ returns-in-Some-clause-step c =
     let parts = halves l.range c.split.result p c.in-Some.is c.split.ensures.halves in
     let two = many (l.range.hi - l.range.lo) c.split.result p c.in-Some.is c.split.ensures.too_few in
     let child : c.in_ok-origin.origin ≡ only b.family.origin p.0 = c.in_ok-origin.ensures ∙ ap (λ (o : Origin). only o p.0) c.origin.ensures in
-    made-ok c.spawn_part.new.parts c.spawn_part.result
+    made-ok c.spawn.new.parts c.spawn.result
     (λ s. s ≡ step.Stops (stop.Spawn (fresh_with b.family.knows b.family.plan c.in_ok-origin.origin) (view_of (with_child b c.in_ok-origin.origin place.Half) (work.Splits upper)))) (IsStep (view_of b (work.Splits l)))
     (λ s h. spawn-is b (work.Splits l) (work.Splits upper) c.in_ok-origin.origin place.Half s c.requires.works (split-many b l upper p.0 c.in_ok-origin.origin two parts.0 parts.1 child) h)
-    c.spawn_part.ensures.made
+    c.spawn.ensures.made
 
 pub returns-then-len-eq0-clause-step : goal.returns-then-len-eq0-clause-step
 returns-then-len-eq0-clause-step c =

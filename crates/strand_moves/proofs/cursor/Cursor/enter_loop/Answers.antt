@@ -5,5 +5,6 @@ use Rattle.strand_moves.proofs.cursor.Cursor.enter_loop.Goals as goal
 pub returns : goal.returns
 returns c = λ body st behind.
     let pushed = c.in_ok-push.ensures.ok in
-    let back = c.saturating_sub.ensures in
+    let last = c.saturating_sub.ensures in
+    let back = c.in_ok-back.ensures in
     left-turn body c.args.self.now _ st behind (cc) refl

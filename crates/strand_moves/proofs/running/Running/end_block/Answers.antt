@@ -1,12 +1,14 @@
-use Rattle.std.proofs.Common.{◌≡◌, true, List, [], refl, sym, ap, subst, ◌∙◌, arith}
-use Rattle.strand_meaning.specs.Machine.{Effect}
+use Rattle.std.proofs.Common.{◌≡◌, true, List, [], ◌∷◌, ◌++◌, refl, sym, ap, subst, ◌∙◌, arith}
+use Rattle.serial_meaning.specs.declared.event.Event.TheVariants as event
+use Rattle.strand_meaning.specs.Machine.{Emitted, end_move, sync_effects}
 use Rattle.strand_moves.specs.declared.running.Running.{Running}
 use Rattle.strand_moves.specs.declared.effects.Effects.{Effects}
 use Rattle.strand_moves.specs.Acts.{IsKept}
-use Rattle.strand_moves.specs.Moves.{effects_of}
-use Rattle.strand_moves.specs.Running.{machine_of}
+use Rattle.strand_moves.specs.Moves.{effects_of, strand_of}
+use Rattle.strand_moves.specs.Running.{machine_of, path_of, present_of}
 use Rattle.strand_moves.proofs.Statements.Equations.{went}
 use Rattle.strand_moves.proofs.OpenScopes.Levels.{is-out, join-kept, join-moves, joined, out-kept, out-moves, rank-fits}
+use Rattle.strand_moves.proofs.OpenScopes.Exits.{keeps-made, shows-made}
 use Rattle.strand_moves.proofs.OpenScopes.Keeping.{here-is}
 use Rattle.strand_moves.proofs.running.Running.end_block.Goals as goal
 
@@ -45,27 +47,35 @@ returns-in_ok-go_out-in-Some-clause-keeps c =
 
 -- at the sync at its end
 
-some-open : (c : goal.In_ok-join_scope) → c.args.self.now.top.levels.items ≡ [] → ⊥
-some-open c = λ e.
-    let some = c.if-not-is_empty.true in
-    let none : c.is_empty.result ≡ true = rw (c.as_slice.ensures.value, e) at c.is_empty.ensures in
-    absurd (cc)
-
 pub returns-then-not-is_empty-clause-shows : goal.returns-then-not-is_empty-clause-shows
 returns-then-not-is_empty-clause-shows c =
     let plan = c.args.plan.now in
     let i = c.args.self.now in
-    let s = c.in_ok-join_scope.ensures in
-    join-moves plan i c.requires.instance (some-open c) c.if-self.false
-    ∙ ap (λ (effects : List Effect). went effects (machine_of plan (joined plan i c.requires.instance (some-open c) c.if-self.false))) (sym s.shown)
-    ∙ ap (λ (x : Running). went (effects_of c.in_ok-join_scope.field-0) (machine_of plan x)) (sym s.passed)
+    let s = c.join_scope.ensures in
+    let is-open : i.top.levels.items ≡ [] → ⊥ = λ e.
+    (let some = c.if-not-is_empty.true in
+    let none : c.is_empty.result ≡ true = rw (c.as_slice.ensures.value, e) at c.is_empty.ensures in
+    absurd (cc)) in
+    let m = machine_of plan i in
+    shows-made (end_move plan (path_of i) m m.top.levels) (strand_of (present_of i) m) (machine_of plan c.join_scope.new.self) _ c.join_scope.result s.shown s.fine s.passed
+    (λ passed.
+    join-moves plan i c.requires.instance is-open c.if-self.false
+    ∙ ap (λ (x : Running). went (Emitted (event.Sync (present_of i ++ i.rank ∷ [])) ∷ sync_effects i.top.spawned) (machine_of plan x)) (sym passed))
 
 pub returns-then-not-is_empty-clause-keeps : goal.returns-then-not-is_empty-clause-keeps
 returns-then-not-is_empty-clause-keeps c =
     let plan = c.args.plan.now in
     let i = c.args.self.now in
-    let s = c.in_ok-join_scope.ensures in
-    subst (λ (x : Running). IsKept plan i x) (sym s.passed) (join-kept plan i c.requires.instance (some-open c) c.if-self.false c.requires.none)
+    let s = c.join_scope.ensures in
+    let is-open : i.top.levels.items ≡ [] → ⊥ = λ e.
+    (let some = c.if-not-is_empty.true in
+    let none : c.is_empty.result ≡ true = rw (c.as_slice.ensures.value, e) at c.is_empty.ensures in
+    absurd (cc)) in
+    keeps-made plan i c.join_scope.new.self c.join_scope.result s.fine s.passed
+    (λ passed. subst (λ (x : Running). IsKept plan i x) (sym passed) (join-kept plan i c.requires.instance is-open c.if-self.false c.requires.none))
+
+pub returns-then-not-is_empty-clause-child : goal.returns-then-not-is_empty-clause-child
+returns-then-not-is_empty-clause-child c = c.join_scope.ensures.child c.args.plan.now
 
 -- the end of the function
 

@@ -72,4 +72,4 @@ returns-clause-shows c = λ st var.
     looped-some plan i st var c.args.lo.now c.args.hi.now c.args.target.now c.args.call.now c.in_ok-value.field-0 c.in_ok-value-2.field-0 c.in_ok-rest.rest c.iterations-count.result
     c.begin_loop.new.self.steps c.begin_loop.new.self c.in_ok-value.ensures c.in_ok-value-2.ensures known counted (sym c.begin_loop.ensures.result ∙ c.in_ok-begin_loop.was)
     c.in_ok-begin_loop.ensures.ok c.begin_loop.ensures.others (omega arith) c.in_ok-hand_loop.field-0 c.hand_loop.new.self c.callee-function.result c.number-first.result c.in_ok-trail.path c.in_ok-trail.trail
-    called c.number-first.ensures (c.in_ok-trail.ensures.shared ∙ c.in_ok-trail.ensures.path) (rw (c.in_ok-child.ensures, to_z-of_z w64 c.number-first.result first) at c.in_ok-hand_loop.ensures.shown) c.in_ok-hand_loop.ensures.passed
+    called c.number-first.ensures (c.in_ok-trail.ensures.shared ∙ c.in_ok-trail.ensures.path) (rw (to_z-of_z w64 c.number-first.result first) at c.in_ok-hand_loop.ensures.shown) c.in_ok-hand_loop.ensures.passed

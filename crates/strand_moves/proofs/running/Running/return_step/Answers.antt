@@ -1,13 +1,22 @@
-use Rattle.std.proofs.Common.{◌∙◌, sym, ap}
+use Rattle.std.proofs.Common.{false, ◌∙◌, sym, ap}
 use Rattle.serial_meaning.specs.Functions.{function_at}
 use Rattle.serial_meaning.specs.Plan.{functions_of}
-use Rattle.strand_meaning.specs.Machine.{spawns_in}
+use Rattle.strand_meaning.specs.Machine.{return_move, spawns_in}
 use Rattle.strand_moves.specs.declared.running.Running.{Running}
+use Rattle.strand_moves.specs.Running.{machine_of, path_of, present_of}
+use Rattle.strand_moves.specs.Moves.{strand_of}
 use Rattle.strand_moves.proofs.Frames.Ending.{return-joined}
+use Rattle.strand_moves.proofs.OpenScopes.Exits.{shows-made}
 use Rattle.strand_moves.proofs.running.Running.return_step.Goals as goal
 
 pub returns-then-has_spawns-clause-shows : goal.returns-then-has_spawns-clause-shows
 returns-then-has_spawns-clause-shows c =
-    let s = c.in_ok-sync.ensures in
-    let function = ap (λ (x : Running). spawns_in (function_at (functions_of c.args.plan.now) x.top.function)) c.in_ok-pay.ensures.ok in
-    return-joined c.args.plan.now c.args.self.now c.requires.here c.pay.new.self c.pay.new.self.steps c.in_ok-pay.ensures.ok c.in_ok-pay.ensures.paid c.in_ok-sync.field-0 c.sync.new.self (sym function ∙ sym c.has_spawns.ensures ∙ c.if-has_spawns.true) s.shown s.passed
+    let plan = c.args.plan.now in
+    let i = c.args.self.now in
+    let s = c.sync.ensures in
+    let function = ap (λ (x : Running). spawns_in (function_at (functions_of plan) x.top.function)) c.in_ok-pay.ensures.ok in
+    shows-made (return_move plan (path_of i) (machine_of plan i) false) (strand_of (present_of i) (machine_of plan i)) (machine_of plan c.sync.new.self) _ c.sync.result s.shown s.fine s.passed
+    (λ passed. return-joined plan i c.requires.here c.pay.new.self c.pay.new.self.steps c.in_ok-pay.ensures.ok c.in_ok-pay.ensures.paid c.sync.new.self (sym function ∙ sym c.has_spawns.ensures ∙ c.if-has_spawns.true) passed)
+
+pub returns-then-has_spawns-clause-child : goal.returns-then-has_spawns-clause-child
+returns-then-has_spawns-clause-child c = c.sync.ensures.child c.args.plan.now

@@ -1,4 +1,4 @@
-use Rattle.std.proofs.Common.{◌≡◌, ◌+◌, length, vec_len, refl, sym, ap, ◌∙◌, arith}
+use Rattle.std.proofs.Common.{◌≡◌, ◌+◌, length, refl, sym, ap, ◌∙◌, arith}
 use Rattle.std.specs.Option.{option_copied}
 use Rattle.serial_meaning.specs.Functions.{function_at}
 use Rattle.serial_meaning.specs.Open.{answer_filler}
@@ -19,8 +19,8 @@ returns-in_err-args-clause-shows c = λ st.
     let plan = c.args.plan.now in
     let to = option_copied c.args.target in
     let known = rw c.as_slice.ensures at c.in_err-args.ensures in
-    shows-exit (acted plan (present_of i) (machine_of plan i) st (spawn_to to c.args.call.now)) (strand_of (present_of i) (machine_of plan i)) _ c.from_residual.result c.in_err-args.field-0.0
-    (values_of c.args.call.now.args i.top.env) c.from_residual.ensures.1 known (spawn-args-fault plan (present_of i) (machine_of plan i) st to c.args.call.now)
+    shows-exit (acted plan (present_of i) (machine_of plan i) st (spawn_to to c.args.call.now)) (strand_of (present_of i) (machine_of plan i)) _ c.from_residual-in_err-args.result c.in_err-args.field-0.0
+    (values_of c.args.call.now.args i.top.env) c.from_residual-in_err-args.ensures.1 known (spawn-args-fault plan (present_of i) (machine_of plan i) st to c.args.call.now)
 
 pub returns-then-len-plan-clause-shows : goal.returns-then-len-plan-clause-shows
 returns-then-len-plan-clause-shows c = λ st.
@@ -41,13 +41,14 @@ returns-clause-shows c = λ st.
     let place = c.in_ok-trail.ensures in
     let received = c.in_ok-target.ensures in
     let others = c.receive_filler.ensures.others in
-    let below = ap (λ (x : Running). vec_len x.below) others in
-    let height : c.len-height.result ≡ length i.below.items = omega (arith, below, i.below.ok.0) in
-    let at = c.in_ok-pedigree.ensures ∙ ap (λ (x : Running). strand_at x) others in
-    rw c.in_ok-child.ensures
-    (spawned-child plan i st (option_copied c.args.target) c.args.call.now c.in_ok-args.args (answer_filler (function_at (functions_of plan) c.callee-function.result)) c.callee-function.result c.len-height.result
+    let narrow = c.in_ok-height.ensures in
+    let height : c.in_ok-height.height ≡ length i.below.items = omega (arith, i.below.ok.0, narrow) in
+    let same = ap (λ (x : Running). strand_at x) others in
+    let at = c.in_ok-pedigree.ensures ∙ same in
+    rw c.in_ok-spawned.ensures
+    (spawned-child plan i st (option_copied c.args.target) c.args.call.now c.in_ok-args.args (answer_filler (function_at (functions_of plan) c.callee-function.result)) c.callee-function.result c.in_ok-height.height
     c.in_ok-pedigree.field-0 c.in_ok-trail.path c.in_ok-target.target c.receive_filler.new.self.top.env c.receive_filler.new.self
-    known (omega arith) number at (place.shared ∙ place.path) refl received.env others height received.to)
+    known (omega arith) number at (place.shared ∙ place.path ∙ same) refl received.env others height received.to)
 
 pub returns-clause-child : goal.returns-clause-child
-returns-clause-child c = rw c.in_ok-child.ensures (record { fits = c.in_ok-trail.ensures.fits; path = sym c.in_ok-trail.ensures.shared })
+returns-clause-child c = rw c.in_ok-spawned.ensures (record { fits = c.in_ok-trail.ensures.fits; path = sym c.in_ok-trail.ensures.shared })
