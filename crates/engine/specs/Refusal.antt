@@ -12,33 +12,38 @@ use Rattle.engine.specs.declared.status.Status.{Status}
 use Rattle.engine.specs.declared.status.Status.TheVariants as S
 use Rattle.engine.specs.Promise.{Watched, Failed, HasOutput, ReadWhole, IsUntaken, WroteLine, TellsNone, Wrote, WroteFront, most_bytes}
 
--- The refusal tells this line, or there was no memory for it.
+-- What a refusal means, by what it is that the source is too long, that this line tells why its text isn't taken, and that it wasn't read. Memory
+-- may be wanting anywhere.
+abbrev pub Means : Type 0 → (List ℕ → Type 0) → Type 0 → Refusal → Type 0
+Means is_long is_untaken is_unread TooLong = is_long
+Means is_long is_untaken is_unread (Untaken line) = is_untaken (string_bytes line)
+Means is_long is_untaken is_unread Read = is_unread
+Means is_long is_untaken is_unread Memory = ⊤
+
+-- The refusal tells this line.
 abbrev pub Tells : List ℕ → Refusal → Type 0
-Tells line TooLong = ⊥
-Tells line (Untaken told) = string_bytes told ≡ line
-Tells line Read = ⊥
-Tells line Memory = ⊤
+Tells line = Means ⊥ (λ told. told ≡ line) ⊥
 
 -- Why bytes are no script that is taken.
 abbrev pub IsMisfit : (Script → Type 0) → List ℕ → Refusal → Type 0
-IsMisfit takes bytes TooLong = ⊥
-IsMisfit takes bytes (Untaken line) = IsUntaken takes bytes (string_bytes line)
-IsMisfit takes bytes Read = ⊥
-IsMisfit takes bytes Memory = ⊤
+IsMisfit takes bytes = Means ⊥ (IsUntaken takes bytes) ⊥
+
+-- The source has more bytes than a script may have, of which so many were read.
+abbrev pub IsLong : Watched → Type 0
+IsLong source = ConsumesJust source.before source.after (most_bytes + 1)
 
 -- Why the bytes of the source weren't had.
 abbrev pub IsLate : Watched → Refusal → Type 0
-IsLate source TooLong = ConsumesJust source.before source.after (most_bytes + 1)
-IsLate source (Untaken line) = ⊥
-IsLate source Read = Failed source
-IsLate source Memory = ⊤
+IsLate source = Means (IsLong source) (λ line. ⊥) (Failed source)
+
+-- The bytes of the source are the text of no script that the command takes, and this line tells why.
+abbrev pub HasUntaken : Command → Watched → List ℕ → Type 0
+HasUntaken command source line = (bytes : List ℕ) × ReadWhole source bytes × IsUntaken (Takes command) bytes line
 
 -- Why a command has no report: only one that takes a script is refused for another reason than memory.
 abbrev pub IsCause : Command → Watched → Refusal → Type 0
-IsCause command source TooLong = IsTrue (takes_script command) × ConsumesJust source.before source.after (most_bytes + 1)
-IsCause command source (Untaken line) = IsTrue (takes_script command) × ((bytes : List ℕ) × ReadWhole source bytes × IsUntaken (Takes command) bytes (string_bytes line))
-IsCause command source Read = IsTrue (takes_script command) × Failed source
-IsCause command source Memory = ⊤
+IsCause command source =
+    let takes = IsTrue (takes_script command) in Means (takes × IsLong source) (λ line. takes × HasUntaken command source line) (takes × Failed source)
 
 -- A report was delivered: its output was written and this is its status, or the sink failed; or a line told that there is no strand, unless
 -- memory was wanting for it.

@@ -93,16 +93,21 @@ fn prepare_batch<R: Threads + Wait + Sync, S: Source, G: Gate + Sync>(
     played_batch(rt, alloc, batch, workers, &bytes, gate)
 }
 
-// Writes a line of the error output. A failed write changes nothing else.
-fn write_error_line<E: Sink>(err: &mut E, line: &[u8])
+/// Writes a line of the error output. A failed write changes nothing else.
+pub fn write_error_line<E: Sink>(err: &mut E, line: &[u8])
     ensures { WroteLine (watched E.written E.faults err.old err.new) line.now }
 {
     // What becomes of the line is told by the sink's faults.
     let _ = write_all(err, line);
 }
 
-// Writes an output, and gives this status where it was written whole.
-fn write_output<K: Sink, E: Sink>(output: &[u8], status: Status, out: &mut K, err: &mut E) -> Status
+/// Writes an output, and gives this status where it was written whole.
+pub fn write_output<K: Sink, E: Sink>(
+    output: &[u8],
+    status: Status,
+    out: &mut K,
+    err: &mut E,
+) -> Status
     ensures put { Puts output.now status (watched K.written K.faults out.old out.new) (watched E.written E.faults err.old err.new) result }
     ensures no_line { IsFalse (has_line result) → err.new ≡ err.old }
 {
@@ -115,8 +120,8 @@ fn write_output<K: Sink, E: Sink>(output: &[u8], status: Status, out: &mut K, er
     }
 }
 
-// Tells that there was no memory.
-fn want<E: Sink>(err: &mut E) -> Status
+/// Tells that there was no memory.
+pub fn want<E: Sink>(err: &mut E) -> Status
     ensures status { result ≡ Status.Memory }
     ensures told { WroteLine (watched E.written E.faults err.old err.new) (codes "out of memory\n") }
 {

@@ -7,8 +7,8 @@ use Rattle.meet_block.specs.declared.give.Left.TheVariants as left
 module _ {A K : Type 0} where
   abbrev pub tag_of : End A K → K
   tag_of (end.Tied tied) = tied
-  tag_of (end.Alone snapshot) = snapshot.value
+  tag_of (end.Alone known) = known.value
 
   abbrev pub tag_left : Left A K → K
   tag_left (left.Tied arrived) = arrived
-  tag_left (left.Alone snapshot) = snapshot.value
+  tag_left (left.Alone known) = known.value

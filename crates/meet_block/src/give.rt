@@ -1,9 +1,9 @@
 ghost use Rattle.std.specs.Prelude.{◌≡◌};
 
+use crate::known_tag::KnownTag;
 use crate::tagged::Tagged;
 use crate::tied::{Put, Tied};
 use std::marker::Model;
-use std::snapshot::Snapshot;
 
 /// A child's end of a join: the right to give the parent one value. Contracts see it as its tag.
 ///
@@ -17,7 +17,7 @@ pub struct Give<A: Tagged> {
 #[derive(Drop)]
 enum End<A: Tagged> {
     Tied(Tied<A>),
-    Alone(Snapshot<A::Key>),
+    Alone(KnownTag<A::Key>),
 }
 
 /// What is left of a give that has put its value. Contracts see it as the give's tag.
@@ -32,7 +32,7 @@ pub struct Arrived<A: Tagged> {
 #[derive(Drop)]
 enum Left<A: Tagged> {
     Tied(Put<A>),
-    Alone(Snapshot<A::Key>),
+    Alone(KnownTag<A::Key>),
 }
 
 impl<A: Tagged> Model for Give<A> {
@@ -65,7 +65,7 @@ impl<A: Tagged + Drop> Give<A> {
         ensures { result ≡ tag.now }
     {
         Give {
-            end: End::Alone(Snapshot::of(tag)),
+            end: End::Alone(KnownTag::of(tag)),
         }
     }
 

@@ -34,6 +34,7 @@ mod counters;
 mod give;
 mod idle;
 mod join;
+mod known_tag;
 mod log;
 mod memory;
 mod room;

@@ -1,4 +1,5 @@
 pub mod BlockLemmas
+pub mod FrontLemmas
 pub mod OrderLemmas
 pub mod ParseLemmas
 pub mod Refusals

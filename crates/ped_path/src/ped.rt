@@ -1,9 +1,10 @@
-ghost use Rattle.std.specs.Prelude.{◌≡◌, ◌<◌, ◌^◌, ◌↔◌, ℕ, List, [], ◌∷◌, ◌++◌, length, All, IfOk, IfSome, IsTrue, slice_get, slice_index};
+ghost use Rattle.std.specs.Prelude.{◌≡◌, ◌<◌, ◌^◌, ◌↔◌, ℕ, List, [], ◌∷◌, ◌++◌, length, All, IfOk, IfSome, IsTrue, slice_get, slice_index, take};
+ghost use Rattle.std.specs.Str.{bytes_eq};
 ghost use Rattle.ped_path.specs.Path.{IsRank, IsBefore};
 
 use crate::memory::Memory;
 use crate::path::Path;
-use crate::ranks::{Ranks, compare};
+use crate::ranks::{Ranks, begins, compare};
 use std::alloc::Global;
 use std::marker::Model;
 use std::sync::Arc;
@@ -90,6 +91,13 @@ impl Ped {
         ensures { IsTrue result ↔ IsBefore self.now other.now }
     {
         compare(self, other).is_lt()
+    }
+
+    /// Whether this path begins with all ranks of the other one.
+    pub fn begins_with(&self, front: &Ped) -> bool
+        ensures { result ≡ bytes_eq (take (length front.now) self.now) front.now }
+    {
+        begins(self, front)
     }
 }
 

@@ -1,9 +1,10 @@
-ghost use Rattle.std.specs.Prelude.{◌≡◌, ◌≤◌, ◌^◌, ◌↔◌, ℕ, List, [], ◌∷◌, ◌++◌, length, All, IfOk, IfSome, IsTrue, slice_get, slice_index};
+ghost use Rattle.std.specs.Prelude.{◌≡◌, ◌≤◌, ◌^◌, ◌↔◌, ℕ, List, [], ◌∷◌, ◌++◌, length, All, IfOk, IfSome, IsTrue, slice_get, slice_index, take};
+ghost use Rattle.std.specs.Str.{bytes_eq};
 ghost use Rattle.ped_path.specs.Path.{IsRank, IsBefore};
 
 use crate::memory::Memory;
 use crate::ped::Ped;
-use crate::ranks::{Ranks, compare};
+use crate::ranks::{Ranks, begins, compare};
 use std::marker::Model;
 
 /// The pedigree of a strand: the path of its function's instance, and its rank there. It is seen as the list of the path's ranks
@@ -80,6 +81,20 @@ impl Pedigree {
         ensures { IsTrue result ↔ IsBefore self.now path.now }
     {
         compare(self, path).is_lt()
+    }
+
+    /// Whether this pedigree begins with all ranks of the path.
+    pub fn begins_with(&self, path: &Ped) -> bool
+        ensures { result ≡ bytes_eq (take (length path.now) self.now) path.now }
+    {
+        begins(self, path)
+    }
+
+    /// Whether this pedigree begins with all ranks of the other one: it is the same, or goes on from it.
+    pub fn goes_on_from(&self, front: &Pedigree) -> bool
+        ensures { result ≡ bytes_eq (take (length front.now) self.now) front.now }
+    {
+        begins(self, front)
     }
 }
 

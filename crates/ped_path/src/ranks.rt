@@ -1,6 +1,7 @@
-ghost use Rattle.std.specs.Prelude.{◌≡◌, ◌<◌, ℕ, List, length, slice_index};
+ghost use Rattle.std.specs.Prelude.{◌≡◌, ◌<◌, ℕ, List, length, slice_index, take};
 ghost use Rattle.std.specs.Cmp.Lexicographic.{slice_cmp};
 ghost use Rattle.std.specs.Ordering.{nat_cmp};
+ghost use Rattle.std.specs.Str.{bytes_eq};
 
 use std::cmp::Ordering;
 
@@ -27,4 +28,19 @@ pub(crate) fn compare<A: Ranks, B: Ranks>(left: &A, right: &B) -> Ordering
         }
     }
     left.count().cmp(&right.count())
+}
+
+/// Whether a list begins with all ranks of another.
+pub(crate) fn begins<A: Ranks, B: Ranks>(list: &A, front: &B) -> bool
+    ensures { result ≡ bytes_eq (take (length (B.ranks front.now)) (A.ranks list.now)) (B.ranks front.now) }
+{
+    if list.count() < front.count() {
+        return false;
+    }
+    for i in 0..front.count() {
+        if list.rank(i) != front.rank(i) {
+            return false;
+        }
+    }
+    true
 }

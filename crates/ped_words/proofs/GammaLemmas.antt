@@ -17,7 +17,8 @@ use Rattle.ped_words.specs.Numbers.{are_few}
 use Rattle.ped_words.specs.Table.{kind_of, most_seeds}
 use Rattle.ped_words.specs.Making.{gamma_error, gamma_fits, gamma_from, gamma_of, holds_for, is_gamma, unfit}
 use Rattle.ped_words.specs.Rules.{breaks, IsRefusal}
-use Rattle.ped_words.specs.Values.{HasCount, IsPlacedList, IsWithin, Values, number}
+use Rattle.ped_words.specs.Given.{HasCount, IsPlacedList}
+use Rattle.ped_words.specs.Values.{IsWithin, Values, number}
 use Rattle.ped_words.specs.declared.rule.Rule.TheVariants.{OutOfRange}
 use Rattle.ped_words.specs.declared.rule.WordError.{WordError}
 use Rattle.ped_words.specs.declared.table.Name.TheVariants as name

@@ -11,7 +11,7 @@ use Rattle.std.proofs.lemmas.List.{length-map}
 use Rattle.std.proofs.lemmas.List.Splits.{length-slice_split}
 use Rattle.std.proofs.lemmas.List.Folds.{list_all-map}
 use Rattle.ped_words.specs.Numbers.{AreValues, are_few, is_number, list_rule, number_rule, numbers_of, parts_of, value_of}
-use Rattle.ped_words.specs.Values.{HasCount}
+use Rattle.ped_words.specs.Given.{HasCount}
 use Rattle.ped_words.specs.declared.table.Kind.{Kind}
 use Rattle.ped_words.specs.declared.table.Kind.TheVariants.{Numbers}
 use Rattle.ped_words.specs.declared.rule.Rule.TheVariants.{BadValue, OutOfRange}

@@ -1,13 +1,13 @@
 -- Two neighbouring pairs of words may change places where the words give a command.
 use Rattle.std.proofs.Common.{◌≡◌, ℕ, zero, suc, ◌+◌, ◌-◌, ◌*◌, ◌/◌, ◌<◌, ◌≤◌, Bool, true, false, not, cond, ◌||◌, if◌then◌else◌, eqb, Option, Some, None, Ok, Err, List, [], ◌∷◌, ◌++◌, length, refl, sym, ap, ◌∙◌, subst, ◌⊎◌, inl, inr, arith, length-append}
-use Rattle.std.specs.Prelude.{codes, is_some, nat_eq, nat_le}
+use Rattle.std.specs.Prelude.{codes, is_some, nat_eq, nat_le, option_and_then}
 use Rattle.std.specs.List.{starts_with}
-use Rattle.std.specs.Option.{option_map}
+use Rattle.std.specs.Option.{option_map, option_or}
 use Rattle.std.proofs.lemmas.Bool.{cases_lt, eq-eqb, eqb-true, ne_eqb}
 use Rattle.std.proofs.lemmas.Bool.Decides.{nat_tests}
 use Rattle.std.proofs.lemmas.List.{get_or-append-add}
 use Rattle.std.proofs.lemmas.Option.{none-some}
-use Rattle.ped_words.specs.Judging.{broken_pair, broken_value, first_below, first_broken, judged_name, judged_option, pairs_in, value_rule}
+use Rattle.ped_words.specs.Judging.{broken_name, broken_pair, broken_value, first_below, first_broken, first_of, holds_of, pairs_in, value_rule}
 use Rattle.ped_words.specs.Laws.{as_it_was, exchanged, OrdersGiveOneCommand}
 use Rattle.ped_words.specs.Making.{made}
 use Rattle.ped_words.specs.Reading.{reading, reading_as}
@@ -134,37 +134,48 @@ module _ (verb : Verb) (words : List (List ℕ)) (k : ℕ) where
   abbrev R : Type 0
   R = Right verb given word value is_last
 
+  -- the rules after the first one, by the option that the word names
+  abbrev after : Option Name → List (Rule × Bool)
+  after o = (rule.UnknownOption, not (holds_of (takes verb) o)) ∷ (rule.OptionTwice, holds_of (has given) o) ∷ (rule.MissingValue, is_last) ∷ []
+
+  abbrev value_as : Option Name → Option Rule
+  value_as o = option_and_then (λ n. value_rule n value) o
+
   right_from : broken_pair verb words k ≡ None → R
-  right_from e = by_dashes (starts_with nat_eq word (codes "--")) refl e
+  right_from e =
+      let p = or_none (broken_at (2 * k + 1) (broken_name verb words k)) (broken_at (2 * k + 2) (broken_value words k)) e in
+      by_dashes (starts_with nat_eq word (codes "--")) refl (at_none (2 * k + 1) (broken_name verb words k) p.0) (at_none (2 * k + 2) (broken_value words k) p.1)
     where
-      by_fits : (n : Name) (o : Option Rule) → value_rule n value ≡ o → broken_at (2 * k + 2) o ≡ None → value_rule n value ≡ None
-      by_fits n None f g = f
-      by_fits n (Some r) f g = absurd (none-some _ (sym g))
+      at_none : (i : ℕ) (o : Option Rule) → broken_at i o ≡ None → o ≡ None
+      at_none i None f = refl
+      at_none i (Some r) f = absurd (none-some _ (sym f))
 
       by_tests : (n : Name) → starts_with nat_eq word (codes "--") ≡ true → name_of word ≡ Some n → (x y z : Bool) → takes verb n ≡ x → has given n ≡ y → is_last ≡ z →
-          broken_value words k (if not x then Err rule.UnknownOption else (if y then Err rule.OptionTwice else (if z then Err rule.MissingValue else Ok n))) ≡ None → R
-      by_tests n d f false y z g h i j = absurd (none-some _ (sym j))
-      by_tests n d f true true z g h i j = absurd (none-some _ (sym j))
-      by_tests n d f true false true g h i j = absurd (none-some _ (sym j))
-      by_tests n d f true false false g h i j = record { n = n; dashes = d; named = f; taken = g; fresh = h; more = i; fits = by_fits n (value_rule n value) refl j }
+          first_of ((rule.UnknownOption, not x) ∷ (rule.OptionTwice, y) ∷ (rule.MissingValue, z) ∷ []) ≡ None → value_rule n value ≡ None → R
+      by_tests n d f false y z g h i j v = absurd (none-some _ (sym j))
+      by_tests n d f true true z g h i j v = absurd (none-some _ (sym j))
+      by_tests n d f true false true g h i j v = absurd (none-some _ (sym j))
+      by_tests n d f true false false g h i j v = record { n = n; dashes = d; named = f; taken = g; fresh = h; more = i; fits = v }
 
-      by_name : starts_with nat_eq word (codes "--") ≡ true → (o : Option Name) → name_of word ≡ o → broken_value words k (judged_option verb given is_last o) ≡ None → R
-      by_name d None f g = absurd (none-some _ (sym g))
-      by_name d (Some n) f g = by_tests n d f (takes verb n) (has given n) is_last refl refl refl g
+      by_name : starts_with nat_eq word (codes "--") ≡ true → (o : Option Name) → name_of word ≡ o → first_of (after o) ≡ None → value_as o ≡ None → R
+      by_name d None f g v = absurd (none-some _ (sym g))
+      by_name d (Some n) f g v = by_tests n d f (takes verb n) (has given n) is_last refl refl refl g v
 
-      by_dashes : (b : Bool) → starts_with nat_eq word (codes "--") ≡ b → broken_value words k (if b then judged_option verb given is_last (name_of word) else Err rule.StrayWord) ≡ None → R
-      by_dashes true d g = by_name d (name_of word) refl g
-      by_dashes false d g = absurd (none-some _ (sym g))
+      by_dashes : (b : Bool) → starts_with nat_eq word (codes "--") ≡ b → first_of ((rule.StrayWord, not b) ∷ after (name_of word)) ≡ None → value_as (name_of word) ≡ None → R
+      by_dashes true d g v = by_name d (name_of word) refl g v
+      by_dashes false d g v = absurd (none-some _ (sym g))
 
   right_to : R → broken_pair verb words k ≡ None
   right_to r =
-      let judged : judged_name verb given word is_last ≡ Ok r.n =
-      ap (λ b. if b then judged_option verb given is_last (name_of word) else Err rule.StrayWord) r.dashes
-      ∙ ap (judged_option verb given is_last) r.named
-      ∙ ap (λ b. if not b then Err rule.UnknownOption else (if has given r.n then Err rule.OptionTwice else (if is_last then Err rule.MissingValue else Ok r.n))) r.taken
-      ∙ ap (λ b. if b then Err rule.OptionTwice else (if is_last then Err rule.MissingValue else Ok r.n)) r.fresh
-      ∙ ap (λ b. if b then Err rule.MissingValue else Ok r.n) r.more in
-      ap (broken_value words k) judged ∙ ap (broken_at (2 * k + 2)) r.fits
+      let named : broken_name verb words k ≡ None =
+      ap (λ b. first_of ((rule.StrayWord, not b) ∷ after (name_of word))) r.dashes
+      ∙ ap (λ o. first_of (after o)) r.named
+      ∙ ap (λ b. first_of ((rule.UnknownOption, not b) ∷ (rule.OptionTwice, has given r.n) ∷ (rule.MissingValue, is_last) ∷ [])) r.taken
+      ∙ ap (λ b. first_of ((rule.OptionTwice, b) ∷ (rule.MissingValue, is_last) ∷ [])) r.fresh
+      ∙ ap (λ b. first_of ((rule.MissingValue, b) ∷ [])) r.more in
+      ap (λ o. option_or (broken_at (2 * k + 1) o) (broken_at (2 * k + 2) (broken_value words k))) named
+      ∙ ap (λ o. broken_at (2 * k + 2) (value_as o)) r.named
+      ∙ ap (broken_at (2 * k + 2)) r.fits
 
 carried : (verb : Verb) (given other : Values) (word word' value value' : List ℕ) (last last' : Bool) → word' ≡ word → value' ≡ value → ((n : Name) → is_some (other n) ≡ is_some (given n)) → last' ≡ last →
     Right verb given word value last → Right verb other word' value' last'

@@ -1,10 +1,10 @@
 -- The values that pairs give, one pair more, and how many there are.
-use Rattle.std.proofs.Common.{◌≡◌, ℕ, ◌+◌, ◌*◌, ◌<◌, ◌≤◌, Bool, true, false, cond, ◌||◌, leb, Option, Some, None, Result, List, [], ◌∷◌, length, refl, ap, sym, ◌∙◌, arith, add-one}
+use Rattle.std.proofs.Common.{◌≡◌, ℕ, ◌+◌, ◌*◌, ◌<◌, ◌≤◌, Bool, true, false, cond, ◌||◌, leb, Option, Some, None, List, [], ◌∷◌, length, refl, ap, sym, ◌∙◌, arith, add-one}
 use Rattle.std.specs.Prelude.{is_some}
-use Rattle.ped_words.specs.Judging.{broken_pair, broken_value, judged_name}
+use Rattle.ped_words.specs.Judging.{broken_name, name_rule}
 use Rattle.ped_words.specs.Table.{name_of}
-use Rattle.ped_words.specs.Values.{Values, IsPlace, all_names, count_among, count_of, has, is_name, name_word, one_of, value_word, values_of}
-use Rattle.ped_words.specs.declared.rule.Rule.{Rule}
+use Rattle.ped_words.specs.Given.{IsPlace, all_names, count_among, count_of, one_of}
+use Rattle.ped_words.specs.Values.{Values, has, is_name, name_word, value_word, values_of}
 use Rattle.ped_words.specs.declared.table.Name.{Name}
 use Rattle.ped_words.specs.declared.table.Name.TheVariants as name
 use Rattle.ped_words.specs.declared.table.Verb.{Verb}
@@ -68,7 +68,11 @@ module _ (words : List (List ℕ)) (k : ℕ) (n : Name) where
   place_before word is named None p = here false (ap (λ w. is_name (name_of w) n) (sym is) ∙ named) ∙ p
   place_before word is named (Some at) p = (here false (ap (λ w. is_name (name_of w) n) (sym is) ∙ named) ∙ p.0, p.1)
 
-pub judged_pair : (verb : Verb) (words : List (List ℕ)) (k len last : ℕ) (given : Values) (word : List ℕ) (r : Result Name Rule) → given ≡ values_of words k → word ≡ name_word words k → len ≡ length words → last ≡ 2 * k + 2 → r ≡ judged_name verb given word (leb len last) → broken_pair verb words k ≡ broken_value words k r
-judged_pair verb words k len last given word r values named long behind judged =
-    sym (ap (broken_value words k)
-    (judged ∙ ap (λ v. judged_name verb v word (leb len last)) values ∙ ap (λ w. judged_name verb (values_of words k) w (leb len last)) named ∙ ap (λ n. judged_name verb (values_of words k) (name_word words k) (leb n last)) long ∙ ap (λ n. judged_name verb (values_of words k) (name_word words k) (leb (length words) n)) behind))
+pub same_name : (verb : Verb) (words : List (List ℕ)) (k len last : ℕ) (given : Values) (word : List ℕ) → given ≡ values_of words k → word ≡ name_word words k → len ≡ length words → last ≡ 2 * k + 2 →
+    broken_name verb words k ≡ name_rule verb given word (leb len last)
+same_name verb words k len last given word values named long behind =
+    sym
+    (ap (λ v. name_rule verb v word (leb len last)) values
+    ∙ ap (λ w. name_rule verb (values_of words k) w (leb len last)) named
+    ∙ ap (λ n. name_rule verb (values_of words k) (name_word words k) (leb n last)) long
+    ∙ ap (λ n. name_rule verb (values_of words k) (name_word words k) (leb (length words) n)) behind)

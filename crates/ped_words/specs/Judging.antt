@@ -1,10 +1,10 @@
 -- Which rule the words after the command break first, and where.
-use Rattle.std.specs.Prelude.{ℕ, zero, suc, ◌+◌, ◌*◌, ◌/◌, Bool, not, nat_eq, nat_le, is_some, if◌then◌else◌, Option, Some, None, Result, Ok, Err, List, length, codes}
+use Rattle.std.specs.Prelude.{ℕ, zero, suc, ◌+◌, ◌*◌, ◌/◌, Bool, false, not, nat_eq, nat_le, is_some, if◌then◌else◌, Option, Some, None, option_and_then, List, [], ◌∷◌, length, codes}
 use Rattle.std.specs.List.{starts_with}
 use Rattle.std.specs.Option.{option_or}
 use Rattle.ped_words.specs.Numbers.{list_rule, number_rule}
 use Rattle.ped_words.specs.Pedigrees.{ped_rule}
-use Rattle.ped_words.specs.Rules.{breaks, broken_at}
+use Rattle.ped_words.specs.Rules.{broken_at}
 use Rattle.ped_words.specs.Table.{kind_of, name_of, shape_of, show_of, takes}
 use Rattle.ped_words.specs.Values.{Values, has, name_word, value_word, values_of}
 use Rattle.ped_words.specs.declared.rule.Rule.{Rule}
@@ -15,15 +15,29 @@ use Rattle.ped_words.specs.declared.table.Kind.TheVariants as kind
 use Rattle.ped_words.specs.declared.table.Name.{Name}
 use Rattle.ped_words.specs.declared.table.Verb.{Verb}
 
--- a name that a word may have: the command has such an option, it wasn't given before, and a word follows
-abbrev pub judged_option : Verb → Values → Bool → Option Name → Result Name Rule
-judged_option verb given is_last None = Err rule.UnknownOption
-judged_option verb given is_last (Some n) =
-    if not (takes verb n) then Err rule.UnknownOption else (if has given n then Err rule.OptionTwice else (if is_last then Err rule.MissingValue else Ok n))
+-- the first of these rules that is broken: beside each stands whether it is
+abbrev pub first_of : List (Rule × Bool) → Option Rule
+first_of [] = None
+first_of (here ∷ others) = if here.1 then Some here.0 else first_of others
 
--- the option that a word names where one is due, or the first rule that the word breaks
-abbrev pub judged_name : Verb → Values → List ℕ → Bool → Result Name Rule
-judged_name verb given word is_last = if starts_with nat_eq word (codes "--") then judged_option verb given is_last (name_of word) else Err rule.StrayWord
+-- Whether there is a name, and this holds of it.
+abbrev pub holds_of : (Name → Bool) → Option Name → Bool
+holds_of test None = false
+holds_of test (Some n) = test n
+
+-- The rules for a word where a name is due, in the order in which they are judged: it begins as names do, it is the name of an option that the
+-- command has, that option wasn't given before, and a word follows.
+abbrev pub name_rules : Verb → Values → List ℕ → Bool → List (Rule × Bool)
+name_rules verb given word is_last =
+    (rule.StrayWord, not (starts_with nat_eq word (codes "--"))) ∷
+    (rule.UnknownOption, not (holds_of (takes verb) (name_of word))) ∷
+    (rule.OptionTwice, holds_of (has given) (name_of word)) ∷
+    (rule.MissingValue, is_last) ∷
+    []
+
+-- the first rule that a word breaks where a name is due
+abbrev pub name_rule : Verb → Values → List ℕ → Bool → Option Rule
+name_rule verb given word is_last = first_of (name_rules verb given word is_last)
 
 -- the rule that a word breaks as a value of this kind
 abbrev pub kind_rule : Kind → List ℕ → Option Rule
@@ -37,14 +51,17 @@ kind_rule kind.Shape word = if is_some (shape_of word) then None else Some rule.
 abbrev pub value_rule : Name → List ℕ → Option Rule
 value_rule n word = kind_rule (kind_of n) word
 
--- the rule that the value of pair k breaks, where its name breaks none
-abbrev pub broken_value : List (List ℕ) → ℕ → Result Name Rule → Option WordError
-broken_value words k (Ok n) = broken_at (2 * k + 2) (value_rule n (value_word words k))
-broken_value words k (Err rule) = Some (breaks rule (2 * k + 1))
+-- the first rule that the name of pair k breaks, judged with the pairs before it
+abbrev pub broken_name : Verb → List (List ℕ) → ℕ → Option Rule
+broken_name verb words k = name_rule verb (values_of words k) (name_word words k) (nat_le (length words) (2 * k + 2))
 
--- the first rule that pair k breaks, judged with the pairs before it
+-- the rule that the value of pair k breaks, as the option's that its name names
+abbrev pub broken_value : List (List ℕ) → ℕ → Option Rule
+broken_value words k = option_and_then (λ n. value_rule n (value_word words k)) (name_of (name_word words k))
+
+-- the first rule that pair k breaks
 abbrev pub broken_pair : Verb → List (List ℕ) → ℕ → Option WordError
-broken_pair verb words k = broken_value words k (judged_name verb (values_of words k) (name_word words k) (nat_le (length words) (2 * k + 2)))
+broken_pair verb words k = option_or (broken_at (2 * k + 1) (broken_name verb words k)) (broken_at (2 * k + 2) (broken_value words k))
 
 -- the first of `f 0`, .., `f (n - 1)` that is one
 abbrev pub first_below : {X : Type 0} → (ℕ → Option X) → ℕ → Option X

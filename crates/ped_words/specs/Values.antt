@@ -1,10 +1,10 @@
 -- The values that the options have. After the command stand pairs of a name and a value: pair k, from 0, is the words 2k + 1 and 2k + 2.
-use Rattle.std.specs.Prelude.{◌≡◌, ℕ, zero, suc, ◌+◌, ◌*◌, ◌^◌, ◌<◌, ◌≤◌, length, Bool, true, false, ◌||◌, ◌==◌, if◌then◌else◌, is_some, option_and_then, Option, Some, None, List, [], ◌∷◌}
+use Rattle.std.specs.Prelude.{ℕ, zero, suc, ◌+◌, ◌*◌, ◌≤◌, Bool, false, ◌||◌, ◌==◌, if◌then◌else◌, is_some, option_and_then, Option, Some, None, List, []}
 use Rattle.std.specs.List.{slice_index_or}
 use Rattle.std.specs.Option.{option_map}
 use Rattle.ped_gen.specs.declared.shape.Shape.{Shape}
 use Rattle.serial_meaning.specs.declared.plan.Show.{Show}
-use Rattle.ped_words.specs.Numbers.{are_few, list_rule, number_rule, numbers_of, value_of}
+use Rattle.ped_words.specs.Numbers.{list_rule, number_rule, numbers_of, value_of}
 use Rattle.ped_words.specs.Pedigrees.{ped_of, ped_rule}
 use Rattle.ped_words.specs.Rules.{kept}
 use Rattle.ped_words.specs.Table.{kind_of, name_of, place, shape_of, show_of}
@@ -38,11 +38,6 @@ values_of words (suc k) n = if is_name (name_of (name_word words k)) n then Some
 -- the index of the word that gives an option
 abbrev pub index : Values → Name → Option ℕ
 index values n = option_map (λ w. w.1) (values n)
-
--- At this place stands the word that gives an option among the first k pairs, if one does.
-abbrev pub IsPlace : List (List ℕ) → ℕ → Name → Option ℕ → Type 0
-IsPlace words k n None = values_of words k n ≡ None
-IsPlace words k n (Some at) = (values_of words k n ≡ Some (word_at words at, at)) × (at < length words)
 
 -- Whether an option was given. A seed and coefficients exclude each other, so either counts as the other.
 abbrev pub has : Values → Name → Bool
@@ -87,46 +82,3 @@ shape values = value shape_of values name.Shape
 abbrev pub IsWithin : Kind → ℕ → Type 0
 IsWithin (kind.Number least most) n = (least ≤ n) × (n ≤ most)
 IsWithin _ n = ⊥
-
--- The kind is of numbers below 2^32.
-abbrev pub IsSmall : Kind → Type 0
-IsSmall (kind.Number least most) = most < 2 ^ 32
-IsSmall _ = ⊥
-
--- the words of a command line, and how many of the pairs after the command are looked at
-pub record GivenWords : Type 0 where
-  pub words : List (List ℕ)
-  pub pairs : ℕ
-
-abbrev pub values_in : GivenWords → Values
-values_in given = values_of given.words given.pairs
-
--- This is the number that an option gives, and the index of its word.
-abbrev pub IsPlaced : Values → Name → Option (ℕ × ℕ) → Type 0
-IsPlaced values n None = number values n ≡ None
-IsPlaced values n (Some placed) = (number values n ≡ Some placed.0) × (index values n ≡ Some placed.1) × IsWithin (kind_of n) placed.0
-
--- This is the list that an option gives, and the index of its word.
-abbrev pub IsPlacedList : Values → Name → Option (List ℕ × ℕ) → Type 0
-IsPlacedList values n None = list values n ≡ None
-IsPlacedList values n (Some placed) = (list values n ≡ Some placed.0) × (index values n ≡ Some placed.1)
-
--- The kind takes so many numbers.
-abbrev pub HasCount : Kind → ℕ → Type 0
-HasCount (kind.Numbers most) n = (1 ≤ n) × (are_few most n ≡ true)
-HasCount _ n = ⊥
-
-abbrev pub all_names : List Name
-all_names =
-    name.Seed ∷ name.Gamma ∷ name.Depth ∷ name.Budget ∷ name.Workers ∷ name.Show ∷ name.Number ∷ name.At ∷ name.Shape ∷ name.Size ∷ name.Rounds ∷ name.Count ∷ name.Below ∷ name.Seeds ∷ []
-
-abbrev pub one_of : Bool → ℕ
-one_of b = if b then 1 else 0
-
--- how many of these options were given
-abbrev pub count_among : List Name → Values → ℕ
-count_among [] values = 0
-count_among (n ∷ names) values = one_of (is_some (values n)) + count_among names values
-
-abbrev pub count_of : Values → ℕ
-count_of values = count_among all_names values

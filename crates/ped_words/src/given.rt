@@ -4,7 +4,8 @@ ghost use Rattle.std.specs.Prelude.{◌≡◌, ◌+◌, ◌*◌, ◌<◌, ◌≤
 ghost use Rattle.std.specs.Option.{option_map};
 ghost use Rattle.ped_words.specs.Pedigrees.{most_ranks};
 ghost use Rattle.ped_words.specs.Table.{kind_of, name_of};
-ghost use Rattle.ped_words.specs.Values.{HasCount, IsPlace, IsPlaced, IsPlacedList, IsSmall, IsWithin, has, is_name, list_as, number, number_as, pedigree, shape, show, values_in, word_at};
+ghost use Rattle.ped_words.specs.Given.{HasCount, IsPlace, IsPlaced, IsPlacedList, IsSmall, values_in};
+ghost use Rattle.ped_words.specs.Values.{IsWithin, has, is_name, list_as, number, number_as, pedigree, shape, show, word_at};
 
 use crate::number::{number_in, number_list};
 use crate::rule::WordError;
@@ -25,7 +26,7 @@ pub(crate) struct Given<'a> {
 
 impl<'a> Model for Given<'a> {
     ghost use Rattle.std.specs.Prelude.{◌*◌, ◌<◌, ◌^◌, length, map, string_bytes};
-    ghost use Rattle.ped_words.specs.Values.{GivenWords};
+    ghost use Rattle.ped_words.specs.Given.{GivenWords};
 
     ghost Value = { GivenWords };
 

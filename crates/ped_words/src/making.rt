@@ -5,7 +5,8 @@ ghost use Rattle.ped_words.specs.Commands.{AreLawful, IsLawful, IsWorkers};
 ghost use Rattle.ped_words.specs.Making.{budget_of, depth_of, gamma_error, gamma_fits, gamma_of, limits_of, made, rounds_of, settings_of, unfit, workers_of};
 ghost use Rattle.ped_words.specs.Rules.{IsRefusal, IsUnlessMemory, breaks};
 ghost use Rattle.ped_words.specs.Table.{kind_of};
-ghost use Rattle.ped_words.specs.Values.{IsWithin, values_in};
+ghost use Rattle.ped_words.specs.Given.{values_in};
+ghost use Rattle.ped_words.specs.Values.{IsWithin};
 
 use crate::command::{Command, Settings};
 use crate::given::Given;

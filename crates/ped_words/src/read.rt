@@ -1,9 +1,10 @@
 ghost use Rattle.std.specs.Prelude.{◌≡◌, ◌+◌, ◌*◌, ◌<◌, ◌^◌, OnOk, IfOk, IfErr, None, Some, false, length, map, string_bytes};
 ghost use Rattle.ped_words.specs.Commands.{IsLawful};
-ghost use Rattle.ped_words.specs.Judging.{broken_pair, first_broken, judged_name, pairs_in};
+ghost use Rattle.ped_words.specs.Judging.{broken_pair, first_broken, name_rule, pairs_in};
 ghost use Rattle.ped_words.specs.Reading.{reading};
 ghost use Rattle.ped_words.specs.Rules.{IsRefusal, IsUnlessMemory};
-ghost use Rattle.ped_words.specs.Values.{count_of, has, values_in, values_of};
+ghost use Rattle.ped_words.specs.Given.{count_of, values_in};
+ghost use Rattle.ped_words.specs.Values.{has, values_of};
 ghost use Rattle.ped_words.specs.Table.{name_of};
 
 use crate::command::Command;
@@ -77,10 +78,11 @@ fn judge_pair(alloc: Global, verb: Verb, words: &[String], pair: u32) -> Result<
 
 /// The option that this word names, where the name of one is due. It may be the last word.
 fn judge_name(verb: Verb, given: &Given, word: &str, is_last: bool) -> Result<Name, Rule>
-    ensures value { result ≡ judged_name verb (values_in given.now) word.now is_last }
+    ensures ok { OnOk result (name_rule verb (values_in given.now) word.now is_last ≡ None) }
     ensures named { IfOk result (λ name. name_of word.now ≡ Some name) }
     ensures fresh { IfOk result (λ name. has (values_in given.now) name ≡ false) }
     ensures more { OnOk result (is_last ≡ false) }
+    ensures err { IfErr result (λ rule. name_rule verb (values_in given.now) word.now is_last ≡ Some rule) }
 {
     if !word.as_bytes().starts_with(b"--") {
         return Err(Rule::StrayWord);

@@ -11,10 +11,11 @@ ghost use Rattle.replay.specs.Replays.{IsReplayOf};
 use crate::error::ReplayError;
 use loop_range::iteration_path;
 use ped_path::Pedigree;
-use serial_meaning::{Origin, Plan, Strand, Value};
+use serial_meaning::{Origin, Plan, Strand};
 use serial_runner::{Node, walk_node};
 use std::alloc::Global;
 use std::sync::Arc;
+use strand_family::iteration_args;
 use strand_meaning::laws;
 
 /// Where an instance leads to.
@@ -48,9 +49,7 @@ fn enter(alloc: Global, child: Origin, at: &Pedigree) -> Result<Option<Origin>, 
     if !(k < range.len() && path.len() + 1 < at.len()) {
         return Ok(None);
     }
-    let mut args = rest;
-    args.0
-        .insert(0, Value::Int(first.wrapping_add_unsigned(k)))?;
+    let args = iteration_args(alloc, first, rest.as_slice(), k)?;
     let path = iteration_path(&path, alloc, k)?;
     Ok(Some(Origin::Instance {
         function,

@@ -41,10 +41,10 @@ impl From<serial_meaning::Memory> for ReplayError {
     }
 }
 
-impl<T: Drop> From<std::alloc::AllocFailed<T>> for ReplayError {
+impl From<strand_family::Memory> for ReplayError {
     ghost from_gives = { λ _ e. e ≡ Memory };
 
-    fn from(_: std::alloc::AllocFailed<T>) -> ReplayError {
+    fn from(_: strand_family::Memory) -> ReplayError {
         ReplayError::Memory
     }
 }

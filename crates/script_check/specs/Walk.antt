@@ -79,6 +79,13 @@ keeps_act (act.While e a) = true
 keeps_act (act.Pfor x lo hi target c) = true
 keeps_act (act.Scope a) = false
 
+-- It has blocks.
+abbrev pub IsNested : {S : Type 0} → Act-F Act S → Type 0
+IsNested (act.If e a b) = Unit {0}
+IsNested (act.While e a) = Unit {0}
+IsNested (act.Scope a) = Unit {0}
+IsNested _ = ⊥
+
 abbrev pub keeps : Stmt → Bool
 keeps = fold-Stmt Bool Bool keeps_act (λ s. s.act)
 

@@ -117,12 +117,7 @@ pub(crate) fn see(scope: &Scope, found: &mut Findings, e: &Expr) -> Seen
             want(scope, found, Kind::Int, e.get());
             Seen::int(*at)
         }
-        Expr::Same(at, a, b) => {
-            want(scope, found, Kind::Id, a.get());
-            want(scope, found, Kind::Id, b.get());
-            Seen::int(*at)
-        }
-        Expr::Older(at, a, b) => {
+        Expr::Same(at, a, b) | Expr::Older(at, a, b) => {
             want(scope, found, Kind::Id, a.get());
             want(scope, found, Kind::Id, b.get());
             Seen::int(*at)

@@ -1,7 +1,9 @@
 // The violations in statements.
 
 ghost use Rattle.std.specs.Prelude.{◌≡◌, Bool, true, false, ◌&&◌, ◌||◌, ◌++◌, OnOk, IfOk, is_some};
+ghost use Rattle.script_grammar.specs.declared.tree.Act.{out-Act};
 ghost use Rattle.script_grammar.specs.declared.tree.Kind.TheVariants as kind;
+ghost use Rattle.script_grammar.specs.declared.tree.Stmt.{out-Stmt};
 ghost use Rattle.script_check.specs.declared.variable.Variable.TheVariants.{Scalar, Array};
 ghost use Rattle.script_check.specs.Violations.{noted};
 ghost use Rattle.script_check.specs.Tables.{with_first};
@@ -10,7 +12,7 @@ ghost use Rattle.script_check.specs.Names.{both, after_right};
 ghost use Rattle.script_check.specs.Rules.{declaration, array_length, scalar_use, array_use, kind_of};
 ghost use Rattle.script_check.specs.Expressions.{read, wanted, two_wanted};
 ghost use Rattle.script_check.specs.Statements.{place, judge, judge_all, read_right, wanted_as, kind_or_int, known_each, faults_each, after, target_use, loop_call_of};
-ghost use Rattle.script_check.specs.Walk.{behind, behind_all, keeps, keeps_all, known_in, pending_in, state_of};
+ghost use Rattle.script_check.specs.Walk.{IsNested, behind, behind_all, keeps, keeps_all, known_in, pending_in, state_of};
 
 use crate::call::{judge_call, judge_loop_call, judge_target};
 use crate::condition::Condition;
@@ -241,8 +243,7 @@ fn judge_block(
     Ok(scope.leave(outer))
 }
 
-/// One statement. Both blocks of an `if`, and that of a `scope`, are judged with what is pending before; a `while` is judged once, with
-/// what an earlier turn may have left pending. A `scope` ends with a sync.
+/// One statement.
 #[cycle(statements)]
 #[tactic(auto, using(crate::proofs::LeastViolation::Noted::noted_append))]
 fn judge(
@@ -267,16 +268,43 @@ fn judge(
         }
         Act::Set(x, right) => judge_set(alloc, functions, scope, found, x, right)?,
         Act::Store(x, i, e) => judge_store(scope, found, x, i, e),
-        Act::Spawn(c) => {
-            judge_call(functions, scope, found, c);
-        }
-        Act::Call(c) => {
+        Act::Spawn(c) | Act::Call(c) => {
             judge_call(functions, scope, found, c);
         }
         Act::Sync => scope.sync(alloc)?,
         Act::Print(e) => {
             see(scope, found, e);
         }
+        Act::Pfor {
+            var: _,
+            lo,
+            hi,
+            target,
+            call,
+        } => judge_loop(functions, scope, found, lo, hi, target, call),
+        Act::If(_, _, _) | Act::While(_, _) | Act::Scope(_) => {
+            judge_nested(alloc, functions, scope, found, statement)?;
+        }
+    }
+    Ok(())
+}
+
+/// A statement that has blocks. Both blocks of an `if`, and that of a `scope`, are judged with what is pending before; a `while` is judged
+/// once, with what an earlier turn may have left pending. A `scope` ends with a sync.
+#[cycle(statements)]
+#[tactic(auto, using(crate::proofs::LeastViolation::Noted::noted_append))]
+fn judge_nested(
+    alloc: Global,
+    functions: &Functions,
+    scope: &mut Scope,
+    found: &mut Findings,
+    statement: &Stmt,
+) -> Result<(), Memory>
+    requires { IsNested (out-Act (out-Stmt statement.now).act) }
+    ensures state { OnOk result (state_of scope.new ≡ behind functions.now statement.now (state_of scope.old)) }
+    ensures found { (in_block : Bool) → OnOk result (found.new ≡ noted found.old ((judge statement.now).faults (place functions.now in_block) (known_in scope.old) (pending_in scope.old))) }
+{
+    match &statement.act {
         Act::If(e, a, b) => {
             want(scope, found, Kind::Int, e);
             let first = judge_block(alloc, functions, scope, found, a.as_slice())?;
@@ -288,17 +316,11 @@ fn judge(
             want(scope, found, Kind::Int, e);
             judge_block(alloc, functions, scope, found, a.as_slice())?;
         }
-        Act::Pfor {
-            var: _,
-            lo,
-            hi,
-            target,
-            call,
-        } => judge_loop(functions, scope, found, lo, hi, target, call),
         Act::Scope(a) => {
             judge_block(alloc, functions, scope, found, a.as_slice())?;
             scope.sync(alloc)?;
         }
+        _ => unreachable!(),
     }
     Ok(())
 }

@@ -26,50 +26,70 @@ pub enum Origin {
 }
 
 impl Origin {
+    ghost use Rattle.serial_meaning.specs.declared.origin.Origin.TheVariants.{Instance, Loop};
+
     /// Whether both begin the same: all their fields are equal.
     pub fn same(&self, other: &Origin) -> bool
         ensures { IsTrue result ↔ (self.now ≡ other.now) }
     {
-        match (self, other) {
-            (
-                Origin::Instance {
-                    function,
-                    args,
-                    path,
-                },
-                Origin::Instance {
-                    function: other_function,
-                    args: other_args,
-                    path: other_path,
-                },
-            ) => {
-                function == other_function
-                    && same_values(args.as_slice(), other_args.as_slice())
-                    && path.same(other_path)
+        match self {
+            Origin::Instance {
+                function,
+                args,
+                path,
+            } => other.is_instance(*function, args.as_slice(), path),
+            Origin::Loop {
+                function,
+                rest,
+                first,
+                path,
+                range,
+            } => other.is_loop(*function, rest.as_slice(), *first, path, *range),
+        }
+    }
+
+    fn is_instance(&self, function: u32, args: &[Value], path: &Ped) -> bool
+        ensures { IsTrue result ↔ (Instance function args.now path.now ≡ self.now) }
+    {
+        match self {
+            Origin::Instance {
+                function: own_function,
+                args: own_args,
+                path: own_path,
+            } => {
+                function == *own_function
+                    && same_values(args, own_args.as_slice())
+                    && path.same(own_path)
             }
-            (
-                Origin::Loop {
-                    function,
-                    rest,
-                    first,
-                    path,
-                    range,
-                },
-                Origin::Loop {
-                    function: other_function,
-                    rest: other_rest,
-                    first: other_first,
-                    path: other_path,
-                    range: other_range,
-                },
-            ) => {
-                function == other_function
-                    && first == other_first
-                    && *range == *other_range
-                    && same_values(rest.as_slice(), other_rest.as_slice())
-                    && path.same(other_path)
+            Origin::Loop { .. } => false,
+        }
+    }
+
+    fn is_loop(
+        &self,
+        function: u32,
+        rest: &[Value],
+        first: i64,
+        path: &Ped,
+        range: IterRange,
+    ) -> bool
+        ensures { IsTrue result ↔ (Loop function rest.now first path.now range ≡ self.now) }
+    {
+        match self {
+            Origin::Loop {
+                function: own_function,
+                rest: own_rest,
+                first: own_first,
+                path: own_path,
+                range: own_range,
+            } => {
+                function == *own_function
+                    && first == *own_first
+                    && range == *own_range
+                    && same_values(rest, own_rest.as_slice())
+                    && path.same(own_path)
             }
-            _ => false,
+            Origin::Instance { .. } => false,
         }
     }
 }

@@ -1,9 +1,10 @@
 // Whether two statements are one tree, with all offsets.
 
 ghost use Rattle.std.specs.Prelude.{◌≡◌, ◌↔◌, IsTrue};
+ghost use Rattle.script_grammar.specs.declared.tree.Act.TheVariants.{Pfor};
 
 use crate::same_expression::{same_call, same_expr, same_name};
-use script_grammar::{Act, Name, Right, Stmt};
+use script_grammar::{Act, CallText, Expr, Name, Right, Stmt};
 
 fn same_right(right: &Right, other: &Right) -> bool
     ensures { IsTrue result ↔ (right.now ≡ other.now) }
@@ -32,6 +33,35 @@ fn same_target(target: &Option<Name>, other: &Option<Name>) -> bool
     }
 }
 
+/// Whether an act is the loop of these parts.
+fn is_loop(
+    act: &Act,
+    var: &Name,
+    lo: &Expr,
+    hi: &Expr,
+    target: &Option<Name>,
+    call: &CallText,
+) -> bool
+    ensures { IsTrue result ↔ (Pfor var.now lo.now hi.now target.now call.now ≡ act.now) }
+{
+    match act {
+        Act::Pfor {
+            var: own_var,
+            lo: own_lo,
+            hi: own_hi,
+            target: own_target,
+            call: own_call,
+        } => {
+            same_name(var, own_var)
+                && same_expr(lo, own_lo)
+                && same_expr(hi, own_hi)
+                && same_target(target, own_target)
+                && same_call(call, own_call)
+        }
+        _ => false,
+    }
+}
+
 #[cycle(statements)]
 pub(crate) fn same_stmts(stmts: &[Stmt], others: &[Stmt]) -> bool
     ensures { IsTrue result ↔ (stmts.now ≡ others.now) }
@@ -53,14 +83,12 @@ fn same_act(act: &Act, other: &Act) -> bool
     ensures { IsTrue result ↔ (act.now ≡ other.now) }
 {
     match (act, other) {
-        (Act::Let(name, right), Act::Let(other, other_right)) => {
+        (Act::Let(name, right), Act::Let(other, other_right))
+        | (Act::Set(name, right), Act::Set(other, other_right)) => {
             same_name(name, other) && same_right(right, other_right)
         }
         (Act::Array(name, length), Act::Array(other, other_length)) => {
             same_name(name, other) && *length == *other_length
-        }
-        (Act::Set(name, right), Act::Set(other, other_right)) => {
-            same_name(name, other) && same_right(right, other_right)
         }
         (Act::Store(name, index, value), Act::Store(other, other_index, other_value)) => {
             same_name(name, other) && same_expr(index, other_index) && same_expr(value, other_value)
@@ -85,20 +113,8 @@ fn same_act(act: &Act, other: &Act) -> bool
                 target,
                 call,
             },
-            Act::Pfor {
-                var: other_var,
-                lo: other_lo,
-                hi: other_hi,
-                target: other_target,
-                call: other_call,
-            },
-        ) => {
-            same_name(var, other_var)
-                && same_expr(lo, other_lo)
-                && same_expr(hi, other_hi)
-                && same_target(target, other_target)
-                && same_call(call, other_call)
-        }
+            other,
+        ) => is_loop(other, var, lo, hi, target, call),
         (Act::Scope(block), Act::Scope(other)) => same_stmts(block.as_slice(), other.as_slice()),
         _ => false,
     }

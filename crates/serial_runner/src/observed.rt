@@ -1,7 +1,5 @@
 // What is seen of an instance that runs.
-ghost use Rattle.std.specs.Prelude.{◌≡◌, IfOk, OnOk, length, take};
-ghost use Rattle.std.specs.Str.{bytes_eq};
-ghost use Rattle.serial_meaning.specs.Eval.{path_of};
+ghost use Rattle.std.specs.Prelude.{◌≡◌, IfOk, OnOk};
 ghost use Rattle.strand_meaning.specs.Observation.{newest};
 ghost use Rattle.strand_meaning.specs.Strands.{is_below};
 ghost use Rattle.serial_runner.specs.Observed.{is_over, nothing_seen, with_notes, with_child};
@@ -9,6 +7,7 @@ ghost use Rattle.serial_runner.specs.Observed.{is_over, nothing_seen, with_notes
 use ped_path::{Ped, Pedigree};
 use serial_meaning::{Fault, Origin, Out};
 use std::alloc::Global;
+use strand_family::path;
 use strand_machine::{Eye, Memory, Task};
 
 /// What is seen of an instance up to some moment, with an eye on one pedigree.
@@ -25,39 +24,11 @@ pub(crate) struct ObservedInstance {
     pub joined: Option<Fault>,
 }
 
-/// The path of an origin.
-pub(crate) fn path(origin: &Origin) -> &Ped
-    ensures { result.now ≡ path_of origin.now }
-{
-    match origin {
-        Origin::Instance { path, .. } => path,
-        Origin::Loop { path, .. } => path,
-    }
-}
-
-/// Whether a pedigree begins with all ranks of a path.
-fn begins_with(at: &Pedigree, path: &Ped) -> bool
-    ensures { result ≡ bytes_eq (take (length path.now) at.now) path.now }
-{
-    for i in 0..path.len() {
-        let Some(wanted) = path.rank_at(i) else {
-            return false;
-        };
-        let Some(rank) = at.rank_at(i) else {
-            return false;
-        };
-        if rank != wanted {
-            return false;
-        }
-    }
-    true
-}
-
 /// Whether a pedigree begins with this path, and goes on.
 fn is_below(path: &Ped, at: &Pedigree) -> bool
     ensures { result ≡ is_below path.now at.now }
 {
-    path.len() < at.len() && begins_with(at, path)
+    path.len() < at.len() && at.begins_with(path)
 }
 
 /// The later fault, if there is one.

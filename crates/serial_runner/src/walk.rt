@@ -12,13 +12,14 @@ ghost use Rattle.serial_runner.specs.Nodes.{IsBelow};
 ghost use Rattle.serial_runner.specs.Observed.{AreOriginsOf, IsSeen, IsStopped, IsWalk, WalksOn, begun_walk, origin_of};
 
 use crate::beside::beside;
-use crate::observed::{ObservedInstance, path};
+use crate::observed::ObservedInstance;
 use crate::serial::{begin_task, run_serial};
 use ped_path::Pedigree;
 use script_grammar::Items;
 use serial_meaning::{Answer, Origin, Plan};
 use std::alloc::Global;
 use std::sync::Arc;
+use strand_family::path;
 use strand_machine::{Eye, Memory, Noted, Stop, Task, share_origin};
 use strand_meaning::laws;
 

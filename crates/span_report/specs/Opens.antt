@@ -1,5 +1,6 @@
 -- An open instance: what an event of its own and the end of a child do to the lengths that it keeps.
-use Rattle.std.specs.Prelude.{◌+◌, ◌==◌, cond, Bool, true, false, max, ℕ, List, [], ◌∷◌, ◌++◌, Option, Some, None, length, slice_get}
+use Rattle.std.specs.Prelude.{◌+◌, cond, Bool, max, ℕ, List, [], ◌∷◌, ◌++◌, Option, Some, None, length, slice_get, take}
+use Rattle.std.specs.Str.{bytes_eq}
 use Rattle.serial_meaning.specs.declared.event.Event.{Event}
 use Rattle.serial_meaning.specs.declared.event.Event.TheVariants as event
 use Rattle.span_report.specs.declared.instance.Open.{Open}
@@ -40,9 +41,7 @@ begun path how before = record { path = path; begun = how; before = before; loop
 
 -- whether a path begins with another
 abbrev pub starts : List ℕ → List ℕ → Bool
-starts [] path = true
-starts (x ∷ xs) [] = false
-starts (x ∷ xs) (y ∷ ys) = cond (x == y) (starts xs ys) false
+starts front path = bytes_eq (take (length front) path) front
 
 -- whether a path is the instance's or that of one below it, or goes on from the instance's by the ranks of its open scopes
 abbrev pub leads : Open → List ℕ → Bool

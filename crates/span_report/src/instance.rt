@@ -1,5 +1,5 @@
 ghost use Rattle.std.specs.Prelude.{◌≡◌, IfOk, OnOk};
-ghost use Rattle.span_report.specs.Opens.{begun, joined, leads, noted, starts, turn_on};
+ghost use Rattle.span_report.specs.Opens.{begun, joined, leads, noted, turn_on};
 
 use ped_path::Ped;
 use serial_meaning::{Event, Memory};
@@ -52,7 +52,7 @@ impl Open {
     pub(crate) fn leads_to(&self, path: &Ped) -> bool
         ensures { result ≡ leads self.now path.now }
     {
-        begins_with(path, &self.path)
+        path.begins_with(&self.path)
     }
 
     /// The path of the iteration with which this path begins, where the instance is in a loop and the path is of that. A path in an
@@ -63,7 +63,7 @@ impl Open {
         let Some(by) = &self.looping else {
             return Ok(None);
         };
-        if !begins_with(path, by) {
+        if !path.begins_with(by) {
             return Ok(None);
         }
         match path.rank_at(by.len()) {
@@ -104,22 +104,4 @@ impl Open {
         }
         self.within = self.within.max(child.within);
     }
-}
-
-/// Whether a path begins with all ranks of another.
-fn begins_with(path: &Ped, front: &Ped) -> bool
-    ensures { result ≡ starts front.now path.now }
-{
-    for i in 0..front.len() {
-        let Some(wanted) = front.rank_at(i) else {
-            return false;
-        };
-        let Some(rank) = path.rank_at(i) else {
-            return false;
-        };
-        if rank != wanted {
-            return false;
-        }
-    }
-    true
 }

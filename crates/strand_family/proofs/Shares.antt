@@ -1,12 +1,9 @@
 -- What ties a task to others may go to another thread.
 use denote.Param.Send.{IsSend, view_send}
-use denote.Param.SendFields.{declared_send, variants_send}
-use Rattle.std.proofs.Crossing.{crosses}
+use denote.Param.SendFields.{declared_send}
+use Rattle.meet_block.proofs.give.Give.TheSendSync as give_shared
 use Rattle.meet_block.proofs.join.Join.TheSendSync as join_shared
-use Rattle.meet_block.proofs.tied.Tied.TheSendSync as tied_shared
-use Rattle.meet_block.specs.contracts.give.End as end
 use Rattle.meet_block.specs.contracts.give.Give as give
-use Rattle.meet_block.specs.contracts.give.Give.TheInside as give_inside
 use Rattle.meet_block.specs.contracts.join.Join as join
 use Rattle.serial_meaning.proofs.CodeLemmas.Shares.{shared_plan_sends, answer_sends}
 use Rattle.serial_meaning.proofs.origin.Origin.TheSendSync as origin_shared
@@ -17,14 +14,8 @@ use Rattle.strand_family.proofs.loops.Loops.TheSendSync as loops_shared
 use Rattle.strand_family.specs.contracts.family.Family as family
 use Rattle.strand_family.specs.contracts.family.Family.TheInside as family_inside
 
-end_sends : IsSend (end.the_row answer.the_row key.the_row ghosts)
-end_sends = variants_send (end.enum answer.the_row key.the_row ghosts) ((tied_shared.the_send answer.the_row key.the_row ghosts answer_sends, tt), ((search crosses, tt), tt))
-
-give_inside_sends : IsSend (give_inside.the_row answer.the_row key.the_row ghosts)
-give_inside_sends = declared_send (give_inside.the_type answer.the_row key.the_row ghosts) (end_sends, tt)
-
 pub give_sends : IsSend (give.the_row answer.the_row key.the_row ghosts)
-give_sends = view_send (give_inside.the_row answer.the_row key.the_row ghosts) _ _ _ _ give_inside_sends
+give_sends = give_shared.the_send answer.the_row key.the_row ghosts answer_sends
 
 join_sends : IsSend (join.the_row answer.the_row key.the_row ghosts)
 join_sends = join_shared.the_send answer.the_row key.the_row ghosts answer_sends

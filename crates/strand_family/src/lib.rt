@@ -11,4 +11,4 @@ mod origin;
 pub use family::Family;
 pub use loops::Loops;
 pub use memory::Memory;
-pub use origin::{part_of, path, share_origin, share_values};
+pub use origin::{iteration_args, part_of, path, share_origin, share_values};

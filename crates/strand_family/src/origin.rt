@@ -1,5 +1,7 @@
 // Origins: copies of them, their paths, and the iterations of loops.
-ghost use Rattle.std.specs.Prelude.{◌≡◌, IfOk};
+ghost use Rattle.std.specs.Prelude.{◌≡◌, ◌∷◌, IfOk, pos};
+ghost use Rattle.std.specs.Int.{int_wrapping_add, w64};
+ghost use Rattle.serial_meaning.specs.declared.value.Value.TheVariants.{Int};
 ghost use Rattle.serial_meaning.specs.Eval.{path_of};
 ghost use Rattle.strand_family.specs.Origins.{only};
 
@@ -59,6 +61,21 @@ pub fn path(origin: &Origin) -> &Ped
         Origin::Instance { path, .. } => path,
         Origin::Loop { path, .. } => path,
     }
+}
+
+/// The arguments of iteration `k` of a loop, whose other arguments these are: its number, and then the others, over the same memory.
+pub fn iteration_args(
+    alloc: Global,
+    first: i64,
+    rest: &[Value],
+    k: u64,
+) -> Result<Items<Value>, Memory>
+    ensures { IfOk result (λ args. args ≡ Int (int_wrapping_add w64 first (pos k)) ∷ rest.now) }
+{
+    let mut args = share_values(alloc, rest)?;
+    args.0
+        .insert(0, Value::Int(first.wrapping_add_unsigned(k)))?;
+    Ok(args)
 }
 
 /// A loop's origin with these of its iterations alone.

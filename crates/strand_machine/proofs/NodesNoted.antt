@@ -1,3 +1,2 @@
 pub mod Eyes
-pub mod Fronts
 pub mod Noting

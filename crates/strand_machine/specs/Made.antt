@@ -1,7 +1,14 @@
--- What a move in place, a stop or a look makes of a task.
-use Rattle.std.specs.Prelude.{Bool, true, false}
-use Rattle.strand_machine.specs.Stops.{CanEnd, IsStop, ended}
-use Rattle.strand_machine.specs.Tasks.{TaskView, IsSound, view_of}
+-- What the code makes of a task in place: moves in a row, a stop, or a look.
+use Rattle.std.specs.Prelude.{◌≡◌, ◌≤◌, Bool, true, false, None}
+use Rattle.serial_meaning.specs.Answer.{IsAnswer}
+use Rattle.serial_meaning.specs.declared.answer.Outcome.{Outcome}
+use Rattle.strand_meaning.specs.Left.{moves_left}
+use Rattle.strand_meaning.specs.Task as meaning
+use Rattle.strand_meaning.specs.Task.{IsNext}
+use Rattle.strand_machine.specs.Family.{tag}
+use Rattle.strand_machine.specs.Stops.{IsStep, IsStop}
+use Rattle.strand_machine.specs.Tasks.{TaskView, IsSound, ended_by, view_of}
+use Rattle.strand_machine.specs.declared.body.Body.{Body}
 use Rattle.strand_machine.specs.declared.parts.Parts.{Parts}
 use Rattle.strand_machine.specs.declared.stop.Passed.{Passed}
 use Rattle.strand_machine.specs.declared.stop.Passed.TheVariants as passed
@@ -10,6 +17,46 @@ use Rattle.strand_machine.specs.declared.stop.Resumed.TheVariants as resumed
 use Rattle.strand_machine.specs.declared.stop.MoveOrStop.{MoveOrStop}
 use Rattle.strand_machine.specs.declared.stop.MoveOrStop.TheVariants as step
 use Rattle.strand_machine.specs.declared.stop.Stop.TheVariants as stop
+
+-- Moves in a row lead from the first task to this one: what comes next of it comes next of the first, and it is of the same origin with the
+-- same children.
+pub record LeadsTo (first now : TaskView) : Type 0 where
+  pub next : (stop : meaning.Stop) → IsNext now.task stop → IsNext first.task stop
+  pub fewer : moves_left now.task ≤ moves_left first.task
+  pub plan : now.task.plan ≡ first.task.plan
+  pub origin : now.task.origin ≡ first.task.origin
+  pub children : now.children ≡ first.children
+  pub loads : now.loads ≡ first.loads
+  pub knows : now.knows ≡ first.knows
+  pub cut : now.cut ≡ None
+
+-- Moves of a task in a row, and the next move or stop after them.
+pub record IsRun (t : TaskView) (s : MoveOrStop) : Type 0 where
+  pub before : TaskView
+  pub leads : LeadsTo t before
+  pub step : IsStep before s
+
+-- An instance that goes on makes moves in a row. Else it is one move or stop.
+abbrev pub stage_goes_on : meaning.InstanceState → TaskView → MoveOrStop → Type 0
+stage_goes_on (meaning.Running m) = IsRun
+stage_goes_on _ = IsStep
+
+abbrev pub work_goes_on : meaning.Work → TaskView → MoveOrStop → Type 0
+work_goes_on (meaning.Runs stage) = stage_goes_on stage
+work_goes_on _ = IsStep
+
+abbrev pub GoesOn : TaskView → MoveOrStop → Type 0
+GoesOn t = work_goes_on t.task.work t
+
+-- that a task may end so, and its end: by the fault in its trace, or else so
+abbrev pub CanEnd : Body → Outcome → Type 0
+CanEnd b o = IsAnswer b.family.plan b.family.origin b.trace.prefix (ended_by b.trace.fault o)
+
+abbrev pub ended : Body → Outcome → MoveOrStop
+ended b o =
+    step.Stops
+    (stop.Done (record { plan = b.family.plan; origin = b.family.origin; out = b.trace.prefix; outcome = ended_by b.trace.fault o })
+    (tag b.family.plan b.family.origin))
 
 -- The move or stop that left the task's parts so.
 abbrev pub made : Parts → Passed → MoveOrStop

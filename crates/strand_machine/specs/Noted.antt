@@ -1,7 +1,7 @@
 -- What a call of `advance_noted` gives.
-use Rattle.std.specs.Prelude.{◌≡◌, ℕ, List, ◌++◌, Some}
+use Rattle.std.specs.Prelude.{◌≡◌, ℕ, List, [], ◌++◌, Some, None}
 use Rattle.strand_meaning.specs.Observation as meaning
-use Rattle.strand_meaning.specs.Observation.{Shows, newest, effect_items}
+use Rattle.strand_meaning.specs.Observation.{Shows, effect_items, newest, no_notes}
 use Rattle.strand_meaning.specs.Strands.{own_events, events_at}
 use Rattle.strand_moves.specs.Moves.{effects_of}
 use Rattle.strand_moves.specs.declared.effects.MoveResult.{MoveResult}
@@ -32,8 +32,8 @@ with_step j step notes = record {
   joined = newest notes.joined step.joined;
 }
 
--- and what a move of an instance shows
-abbrev pub with_moved : List ℕ → MoveResult → Observed → Observed
-with_moved j (moved.Went s) notes = record notes { eye = looks j notes.eye (effect_items (effects_of s)); events = notes.events ++ events_at j (own_events (effect_items (effects_of s))) }
-with_moved j (moved.Returned v) notes = notes
-with_moved j (moved.Faulted f) notes = record notes { fault = Some f }
+-- what a move of an instance shows
+abbrev pub moved_notes : MoveResult → meaning.Observation
+moved_notes (moved.Went s) = record { items = effect_items (effects_of s); fault = None; joined = None }
+moved_notes (moved.Returned v) = no_notes
+moved_notes (moved.Faulted f) = record { items = []; fault = Some f; joined = None }

@@ -1,8 +1,10 @@
 -- The children whose answers aren't taken, with what stands after each.
-use Rattle.std.specs.Prelude.{List, [], ◌∷◌}
+use Rattle.std.specs.Prelude.{◌≡◌, List, [], ◌∷◌, Option, length}
+use Rattle.serial_meaning.specs.declared.event.Event.{Event}
+use Rattle.serial_meaning.specs.declared.event.Fault.{Fault}
 use Rattle.serial_meaning.specs.declared.origin.Origin.{Origin}
 use Rattle.strand_meaning.specs.Machine as meaning
-use Rattle.strand_meaning.specs.Trace.{AwaitedChild}
+use Rattle.strand_meaning.specs.Trace.{AwaitedChild, Trace}
 use Rattle.strand_machine.specs.declared.destination.Destination.{Destination}
 use Rattle.strand_machine.specs.declared.destination.Destination.TheVariants as place
 use Rattle.strand_machine.specs.declared.trace.Behind.{Behind}
@@ -23,3 +25,9 @@ parts_of (o ∷ os) (b ∷ bs) = part_of o b ∷ parts_of os bs
 abbrev pub awaited : List AwaitedChild → List Origin
 awaited [] = []
 awaited (p ∷ ps) = p.child ∷ awaited ps
+
+-- A trace has these events before its first child, this fault, and this behind its children.
+pub record IsParted (trace : Trace) (prefix : List Event) (fault : Option Fault) (behind : List Behind) : Type 0 where
+  pub children : List Origin
+  pub many : length children ≡ length behind
+  pub is : ◌≡◌ {A = Trace} (record { prefix = prefix; fault = fault; handed = parts_of children behind }) trace

@@ -1,12 +1,11 @@
 -- What a call on a task gives, by the meaning of tasks.
-use Rattle.std.specs.Prelude.{◌≡◌, ◌≤◌, Bool, true, false, ◌||◌, List, [], ◌∷◌, ◌++◌, Option, Some, None}
-use Rattle.serial_meaning.specs.Answer.{AnswerView, AnswerTag, IsAnswer}
+use Rattle.std.specs.Prelude.{◌≡◌, Bool, true, false, ◌||◌, List, [], ◌∷◌, ◌++◌, Option, Some, None}
+use Rattle.serial_meaning.specs.Answer.{AnswerView, AnswerTag}
 use Rattle.serial_meaning.specs.Eval.{eval}
 use Rattle.serial_meaning.specs.Laws.{IsOriginOf}
 use Rattle.strand_meaning.specs.Laws.{IsFaultOf}
 use Rattle.strand_meaning.specs.Answers.{answer_evaluations}
 use Rattle.strand_meaning.specs.Cuts.{AreAnswersOf, IsByFaultOf, by_fault, ended_after}
-use Rattle.strand_meaning.specs.Left.{moves_left}
 use Rattle.strand_meaning.specs.Trace.{heard_all}
 use Rattle.strand_meaning.specs.Rest.{evaluations}
 use Rattle.strand_meaning.specs.Task as meaning
@@ -15,8 +14,7 @@ use Rattle.strand_machine.specs.Family.{tag, HasPassed, HasStopped}
 use Rattle.serial_meaning.specs.declared.answer.Outcome.{Outcome}
 use Rattle.serial_meaning.specs.declared.answer.Outcome.TheVariants as outcome
 use Rattle.serial_meaning.specs.declared.event.Event.{Event}
-use Rattle.strand_machine.specs.Tasks.{TaskView, fresh_with, ended_by}
-use Rattle.strand_machine.specs.declared.body.Body.{Body}
+use Rattle.strand_machine.specs.Tasks.{TaskView, fresh_with}
 use Rattle.strand_machine.specs.declared.stop.Stop.{Stop}
 use Rattle.strand_machine.specs.declared.stop.Stop.TheVariants as stop
 use Rattle.strand_machine.specs.declared.stop.MoveOrStop.{MoveOrStop}
@@ -50,39 +48,6 @@ KeepsStep t (step.Stops stop) = Keeps t stop
 pub record IsStep (t : TaskView) (s : MoveOrStop) : Type 0 where
   pub is : meaning.step t.task ≡ step_of s
   pub keeps : KeepsStep t s
-
--- Moves in a row lead from the first task to this one: what comes next of it comes next of the first, and it is of the same origin with the
--- same children.
-pub record LeadsTo (first now : TaskView) : Type 0 where
-  pub next : (stop : meaning.Stop) → IsNext now.task stop → IsNext first.task stop
-  pub fewer : moves_left now.task ≤ moves_left first.task
-  pub plan : now.task.plan ≡ first.task.plan
-  pub origin : now.task.origin ≡ first.task.origin
-  pub children : now.children ≡ first.children
-  pub loads : now.loads ≡ first.loads
-  pub knows : now.knows ≡ first.knows
-  pub cut : now.cut ≡ None
-
--- Moves of a task in a row, and the next move or stop after them.
-pub record IsRun (t : TaskView) (s : MoveOrStop) : Type 0 where
-  pub before : TaskView
-  pub leads : LeadsTo t before
-  pub step : IsStep before s
-
--- An instance that goes on makes moves in a row. Else it is one move or stop.
-abbrev pub stage_goes_on : meaning.InstanceState → TaskView → MoveOrStop → Type 0
-stage_goes_on (meaning.Running m) = IsRun
-stage_goes_on (meaning.AtSync m) = IsStep
-stage_goes_on (meaning.AtLoop m) = IsStep
-stage_goes_on (meaning.Ended e) = IsStep
-
-abbrev pub work_goes_on : meaning.Work → TaskView → MoveOrStop → Type 0
-work_goes_on (meaning.Splits left) = IsStep
-work_goes_on (meaning.Runs stage) = stage_goes_on stage
-work_goes_on (meaning.Over v gone_on) = IsStep
-
-abbrev pub GoesOn : TaskView → MoveOrStop → Type 0
-GoesOn t = work_goes_on t.task.work t
 
 -- a child is of an origin of the plan, and a fault by which the task ended is one of the plan's
 abbrev pub IsKnownStop : TaskView → Stop → Type 0
@@ -165,13 +130,3 @@ went true answers t next = IsCutOn answers t next × (next.loads ≡ t.loads)
 -- the task once it went on with these answers of its children
 abbrev pub WentOn : List AnswerView → TaskView → TaskView → Type 0
 WentOn answers t next = went (any_cut answers) answers t next
-
--- that a task may end so, and its end: by the fault in its trace, or else so
-abbrev pub CanEnd : Body → Outcome → Type 0
-CanEnd b o = IsAnswer b.family.plan b.family.origin b.trace.prefix (ended_by b.trace.fault o)
-
-abbrev pub ended : Body → Outcome → MoveOrStop
-ended b o =
-    step.Stops
-    (stop.Done (record { plan = b.family.plan; origin = b.family.origin; out = b.trace.prefix; outcome = ended_by b.trace.fault o })
-    (tag b.family.plan b.family.origin))

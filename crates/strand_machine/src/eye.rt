@@ -1,6 +1,5 @@
 // What is seen of one pedigree in what an instance shows.
-ghost use Rattle.std.specs.Prelude.{◌≡◌, [], ◌∷◌, ◌++◌, length, take};
-ghost use Rattle.std.specs.Str.{bytes_eq};
+ghost use Rattle.std.specs.Prelude.{◌≡◌, [], ◌∷◌, ◌++◌};
 ghost use Rattle.serial_meaning.specs.Open.{Happened, Opened, Closed, risen};
 ghost use Rattle.strand_meaning.specs.Strands.{ended_before, pedigree_of};
 ghost use Rattle.strand_machine.specs.Eyes.{ahead_of, first_look, goes_to, is_none_ahead, less, looks};
@@ -34,29 +33,11 @@ pub(crate) fn pedigree(event: &Event) -> &Pedigree
     }
 }
 
-/// Whether a pedigree begins with all ranks of another one.
-fn goes_on(at: &Pedigree, front: &Pedigree) -> bool
-    ensures { result ≡ bytes_eq (take (length front.now) at.now) front.now }
-{
-    for i in 0..front.len() {
-        let Some(wanted) = front.rank_at(i) else {
-            return false;
-        };
-        let Some(rank) = at.rank_at(i) else {
-            return false;
-        };
-        if rank != wanted {
-            return false;
-        }
-    }
-    true
-}
-
 /// Whether an event of this strand stands before a pedigree that doesn't go on from it.
 fn is_past(strand: &Pedigree, at: &Pedigree) -> bool
     ensures { result ≡ ended_before strand.now at.now }
 {
-    strand.before(at) && !goes_on(at, strand)
+    strand.before(at) && !at.goes_on_from(strand)
 }
 
 impl Eye {

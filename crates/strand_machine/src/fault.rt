@@ -5,7 +5,6 @@ ghost use Rattle.strand_machine.specs.Faults.{is_fault, EndsByFault};
 ghost use Rattle.strand_machine.specs.Parts.{awaited};
 ghost use Rattle.strand_machine.specs.Stops.{answer_tags, any_cut};
 
-use crate::body::Body;
 use crate::memory::Memory;
 use crate::parts::Parts;
 use crate::resume::go_on;
@@ -44,15 +43,7 @@ impl Task {
         answers.0.push(last)?;
         let Task { mut parts } = self;
         drop(go_on(&mut parts, alloc, answers)?);
-        let Parts { body, work } = Box::into_inner(parts);
-        let Body {
-            family,
-            trace,
-            values,
-            ..
-        } = body;
-        drop((work, values));
-        let (prefix, fault) = trace.prefix();
+        let (family, prefix, fault) = Parts::end(parts);
         let Some(fault) = fault else { unreachable!() };
         Ok(family.answer(prefix, Outcome::Fault(fault)))
     }

@@ -5,7 +5,7 @@ ghost use Rattle.strand_meaning.specs.Observation.{step_notes};
 ghost use Rattle.strand_meaning.specs.Strands.{events_at};
 ghost use Rattle.strand_machine.specs.Eyes.{looks};
 ghost use Rattle.strand_machine.specs.Made.{IsSoundMade, made};
-ghost use Rattle.strand_machine.specs.Noted.{with_moved, with_step};
+ghost use Rattle.strand_machine.specs.Noted.{moved_notes, with_step};
 ghost use Rattle.strand_machine.specs.Stops.{IsStep};
 ghost use Rattle.strand_machine.specs.Tasks.{IsSound, view_of, task_of};
 ghost use Rattle.strand_machine.specs.declared.work.InstanceState.TheVariants as stage;
@@ -92,7 +92,7 @@ impl Observed {
 
     /// One more move of the task's instance.
     fn observe(&mut self, alloc: Global, at: &Pedigree, moved: &MoveResult) -> Result<(), Memory>
-        ensures { OnOk result (self.new ≡ with_moved at.now moved.now self.old) }
+        ensures { OnOk result (self.new ≡ with_step at.now (moved_notes moved.now) self.old) }
     {
         match moved {
             MoveResult::Went(Effects::Nothing) => {}

@@ -7,6 +7,7 @@ use crate::memory::Memory;
 use dotmix::Trail;
 use serial_meaning::{Origin, Plan};
 use std::alloc::Global;
+use strand_family::path;
 use strand_meaning::laws;
 
 /// The same origin. Its path shares its memory.
@@ -24,9 +25,5 @@ pub(crate) fn trail_of(plan: &Plan, origin: &Origin) -> Result<Trail, Memory>
     laws::origins_fit();
     // Read for the proof: a plan has as many coefficients as its depth.
     let _depth = plan.limits.depth;
-    let path = match origin {
-        Origin::Instance { path, .. } => path.share()?,
-        Origin::Loop { path, .. } => path.share()?,
-    };
-    Ok(Trail::of(&plan.gamma, path))
+    Ok(Trail::of(&plan.gamma, path(origin).share()?))
 }

@@ -191,13 +191,7 @@ pub(crate) fn go_on(
     let taken = mem::replace(&mut parts.body.trace, Trace::new(alloc));
     let values = mem::replace(&mut parts.body.values, Items(Vec::new(alloc)));
     let work = mem::replace(&mut parts.work, Work::nothing());
-    let Trace {
-        prefix,
-        fault,
-        behind,
-        awaited,
-    } = taken;
-    drop(awaited);
+    let (prefix, fault, behind) = taken.parted();
     let mut merge = Merge {
         prefix,
         fault,

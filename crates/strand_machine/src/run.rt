@@ -2,9 +2,9 @@
 ghost use Rattle.std.specs.Prelude.{◌≡◌, IfOk, OnOk};
 ghost use Rattle.strand_meaning.specs.Task.{stops_at, child_in};
 ghost use Rattle.strand_moves.specs.Moves.{effects_of};
-ghost use Rattle.strand_machine.specs.Made.{IsSoundMade, made};
+ghost use Rattle.strand_machine.specs.Made.{IsSoundMade, made, IsRun};
 ghost use Rattle.strand_machine.specs.Effects.{shown_task, IsSoundShown};
-ghost use Rattle.strand_machine.specs.Stops.{IsRun, KeepsStep, step_of};
+ghost use Rattle.strand_machine.specs.Stops.{KeepsStep, step_of};
 ghost use Rattle.strand_machine.specs.Tasks.{IsSound, view_of};
 ghost use Rattle.strand_machine.specs.declared.work.InstanceState.TheVariants as stage;
 ghost use Rattle.strand_machine.specs.declared.work.Work.TheVariants as work;

@@ -1,8 +1,8 @@
 // Moves of a task, or its stop.
 ghost use Rattle.std.specs.Prelude.{◌≡◌, ◌++◌, ◌∷◌, [], IfOk, OnOk};
 ghost use Rattle.serial_meaning.specs.declared.answer.Outcome.TheVariants as outcome;
-ghost use Rattle.strand_machine.specs.Made.{IsSoundMade, IsStopped, StopsSo, made};
-ghost use Rattle.strand_machine.specs.Stops.{IsStep, GoesOn, CanEnd, ended};
+ghost use Rattle.strand_machine.specs.Made.{IsSoundMade, IsStopped, StopsSo, made, GoesOn, CanEnd, ended};
+ghost use Rattle.strand_machine.specs.Stops.{IsStep};
 ghost use Rattle.strand_machine.specs.Tasks.{IsSound, view_of};
 ghost use Rattle.strand_machine.specs.declared.work.Work.TheVariants as work;
 
@@ -129,17 +129,7 @@ fn end(parts: Box<Parts>, outcome: Outcome) -> Stop
     requires { CanEnd parts.value.body outcome }
     ensures { MoveOrStop.Stops result ≡ ended parts.value.body outcome }
 {
-    let Parts {
-        body: Body {
-            family,
-            trace,
-            values,
-            ..
-        },
-        work,
-    } = Box::into_inner(parts);
-    drop((work, values));
-    let (prefix, fault) = trace.prefix();
+    let (family, prefix, fault) = Parts::end(parts);
     let outcome = match fault {
         Some(fault) => {
             drop(outcome);

@@ -164,14 +164,8 @@ impl Task {
         ensures give { result.1 ≡ tag self.task.plan self.task.origin }
     {
         let Task { parts } = self;
-        let Parts { body, work } = Box::into_inner(parts);
-        let Body {
-            family,
-            trace,
-            values,
-            ..
-        } = body;
-        drop((work, trace, values));
+        let (family, prefix, fault) = Parts::end(parts);
+        drop((prefix, fault));
         family.answer(Out::new(), Outcome::Cut { by })
     }
 

@@ -38,7 +38,7 @@ impl Model for Trace {
 }
 
 impl Trace {
-    ghost use Rattle.strand_machine.specs.Parts.{awaited, place_of};
+    ghost use Rattle.strand_machine.specs.Parts.{IsParted, awaited, place_of};
 
     /// Nothing yet.
     pub fn new(alloc: Global) -> Trace
@@ -127,6 +127,21 @@ impl Trace {
         ensures { IsTrue result ↔ (self.now.handed ≡ []) }
     {
         self.awaited.as_slice().is_empty()
+    }
+
+    /// The events before the first child, the fault that ends them, if there is one, and what stands behind each child.
+    #[inline(always)]
+    pub fn parted(self) -> (Out, Option<Fault>, Vec<Behind>)
+        ensures { IsParted self result.0 result.1 result.2.items }
+    {
+        let Trace {
+            prefix,
+            fault,
+            awaited,
+            behind,
+        } = self;
+        drop(awaited);
+        (prefix, fault, behind)
     }
 
     /// The events before the first child, and the fault that ends them, if there is one.

@@ -15,7 +15,7 @@ use dotmix::Trail;
 use loop_range::IterRange;
 use serial_meaning::{Fault, Origin, Outcome, Plan, Value};
 use std::alloc::Global;
-use strand_family::share_values;
+use strand_family::iteration_args;
 use strand_meaning::laws;
 use strand_moves::Instance;
 
@@ -114,9 +114,7 @@ pub(crate) fn begun_last(
             ..
         } => {
             let k = range.hi.saturating_sub(1);
-            let number = first.wrapping_add_unsigned(k);
-            let mut args = share_values(alloc, rest.as_slice())?;
-            args.0.insert(0, Value::Int(number))?;
+            let args = iteration_args(alloc, *first, rest.as_slice(), k)?;
             let trail = trail.child(alloc, &plan.gamma, k)?;
             Ok(Work::Runs(begun_instance(alloc, plan, *function, args.as_slice(), trail)?))
         }

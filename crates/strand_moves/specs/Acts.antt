@@ -1,5 +1,5 @@
 -- What the call for a statement answers and leaves, where the statement is paid and the cursor stands after it.
-use Rattle.std.specs.Prelude.{◌≡◌, ℕ, zero, suc, ◌+◌, ◌<◌, Bool, true, false, nat_lt, List, [], ◌∷◌, ◌++◌, Option, Some, None, Result, Ok, Err, length}
+use Rattle.std.specs.Prelude.{◌≡◌, ℕ, zero, suc, ◌+◌, ◌<◌, Bool, true, false, not, nat_lt, if◌then◌else◌, List, [], ◌∷◌, ◌++◌, Option, Some, None, Result, Ok, Err, length}
 use Rattle.std.specs.Prelude.{pos}
 use Rattle.dotmix.specs.Trails.{FitsGamma}
 use Rattle.script_grammar.specs.declared.tree.Name.{Name}
@@ -69,21 +69,14 @@ abbrev pub loop_fits : PlanView → List ℕ → ℕ → Bool
 loop_fits plan path zero = true
 loop_fits plan path (suc n) = nat_lt (length path + 2) plan.limits.depth
 
--- whether a loop of so many iterations can begin: its steps, the target's room, the depth
+-- A loop of so many iterations begins where there are steps for them, its target has room, and its pedigrees are within the depth. The first
+-- of these that fails is its fault.
 abbrev pub loop_begins : PlanView → List ℕ → ℕ → Option Name → Env → ℕ → Result (Unit {0}) FaultKind
-loop_begins plan path n target env steps = by_steps (nat_lt n (steps + 1))
-  where
-    by_depth : Bool → Result (Unit {0}) FaultKind
-    by_depth true = Ok tt
-    by_depth false = Err Depth
-
-    by_room : Bool → Result (Unit {0}) FaultKind
-    by_room true = by_depth (loop_fits plan path n)
-    by_room false = Err Index
-
-    by_steps : Bool → Result (Unit {0}) FaultKind
-    by_steps true = by_room (has_room target n env)
-    by_steps false = Err Budget
+loop_begins plan path n target env steps =
+    if not (nat_lt n (steps + 1)) then Err Budget
+    else if not (has_room target n env) then Err Index
+    else if not (loop_fits plan path n) then Err Depth
+    else Ok tt
 
 -- a frame that a call of this function begins with these variables
 pub record IsCallee (number : ℕ) (variables : Env) (to : Option Name) (a : Frame) : Type 0 where

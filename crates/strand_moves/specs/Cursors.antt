@@ -11,22 +11,10 @@ use Rattle.strand_moves.specs.declared.cursor.Cursor.{Cursor}
 
 -- a block of a statement, and no statements where it has no such block
 abbrev pub part_of : Act-F Act Stmt → Branch → List Stmt
-part_of (act.Let x r) p = []
-part_of (act.Array x n) p = []
-part_of (act.Set x r) p = []
-part_of (act.Store x i e) p = []
-part_of (act.Spawn c) p = []
-part_of (act.Call c) p = []
-part_of act.Sync p = []
-part_of (act.Print e) p = []
 part_of (act.If e a b) part.Yes = a
 part_of (act.If e a b) part.No = b
-part_of (act.If e a b) part.Turn = []
-part_of (act.While e a) part.Yes = []
-part_of (act.While e a) part.No = []
 part_of (act.While e a) part.Turn = a
-part_of (act.Pfor x lo hi target c) p = []
-part_of (act.Scope a) p = []
+part_of _ p = []
 
 abbrev pub part_at : Option Stmt → Branch → List Stmt
 part_at None p = []
@@ -57,18 +45,8 @@ left_of body c = drop c.next (block_of body c.entered.items) ++ behind_of body c
 
 -- a scope's block, and no statements where this is no scope
 abbrev pub scope_of : Act-F Act Stmt → List Stmt
-scope_of (act.Let x r) = []
-scope_of (act.Array x n) = []
-scope_of (act.Set x r) = []
-scope_of (act.Store x i e) = []
-scope_of (act.Spawn c) = []
-scope_of (act.Call c) = []
-scope_of act.Sync = []
-scope_of (act.Print e) = []
-scope_of (act.If e a b) = []
-scope_of (act.While e a) = []
-scope_of (act.Pfor x lo hi target c) = []
 scope_of (act.Scope a) = a
+scope_of _ = []
 
 abbrev pub scope_at : Option Stmt → List Stmt
 scope_at None = []

@@ -1,7 +1,9 @@
 -- The open instances: which of them a path leads to, and what the end of the others leaves.
 use Rattle.std.proofs.Common.{◌≡◌, ◌≤◌, ◌<◌, ◌+◌, ◌-◌, ℕ, zero, suc, Bool, true, false, cond, List, [], ◌∷◌, ◌++◌, Option, Some, None, length, take, drop, length-append, append_assoc, refl, sym, ◌∙◌, ap, subst, arith}
-use Rattle.std.proofs.lemmas.Bool.Decides.{nat_tests}
-use Rattle.std.specs.Prelude.{slice_get, ◌==◌}
+use Rattle.std.proofs.lemmas.List.{take-append-drop}
+use Rattle.std.proofs.lemmas.Slice.Eq.{bytes_eq-Decides}
+use Rattle.std.proofs.Math.Seq.{take-append_seam}
+use Rattle.std.specs.Prelude.{slice_get}
 use Rattle.serial_meaning.specs.declared.event.Event.{Event}
 use Rattle.serial_meaning.specs.declared.event.Event.TheVariants as event
 use Rattle.span_report.specs.declared.instance.Open.{Open}
@@ -13,28 +15,14 @@ use Rattle.span_report.specs.Walks.{Opened, left, ended, pushed, pushed_turn, en
 abbrev pub stack : Open → List Open → Opened
 stack o under = record { top = o; under = under }
 
-same-rank : (n : ℕ) → (n == n) ≡ true
-same-rank n = grind (arith, nat_tests)
-
-other-rank : (a b : ℕ) → (a ≡ b → ⊥) → (a == b) ≡ false
-other-rank a b d = grind (arith, nat_tests)
-
-rank-is : (a b : ℕ) → (a == b) ≡ true → a ≡ b
-rank-is a b h = grind (arith, nat_tests)
-
 -- A path begins with each of its fronts, and with nothing else.
 pub starts-front : (front more : List ℕ) → starts front (front ++ more) ≡ true
-starts-front [] more = refl
-starts-front (x ∷ front) more = ap (λ (b : Bool). cond b (starts front (front ++ more)) false) (same-rank x) ∙ starts-front front more
+starts-front front more = (bytes_eq-Decides (take (length front) (front ++ more)) front).1 (take-append_seam front more)
 
 pub starts-begins : (front path : List ℕ) → starts front path ≡ true → Begins front path
-starts-begins [] path h = (path, refl)
-starts-begins (x ∷ xs) [] h = absurd (cc)
-starts-begins (x ∷ xs) (y ∷ ys) h = by (x == y) refl h (starts-begins xs ys)
-  where
-    by : (b : Bool) → (x == y) ≡ b → cond b (starts xs ys) false ≡ true → (starts xs ys ≡ true → Begins xs ys) → Begins (x ∷ xs) (y ∷ ys)
-    by true e g later = let r = later g in (r.0, ap (λ (l : List ℕ). y ∷ l) r.1 ∙ ap (λ (n : ℕ). n ∷ (xs ++ r.0)) (sym (rank-is x y e)))
-    by false e g later = absurd (cc)
+starts-begins front path h =
+    let same : take (length front) path ≡ front = (bytes_eq-Decides (take (length front) path) front).0 h in
+    (drop (length front) path, sym (take-append-drop (length front) path) ∙ ap (λ (l : List ℕ). l ++ drop (length front) path) same)
 
 pub starts-not : (front path : List ℕ) → (Begins front path → ⊥) → starts front path ≡ false
 starts-not front path never = by (starts front path) refl
@@ -42,60 +30,6 @@ starts-not front path never = by (starts front path) refl
     by : (b : Bool) → starts front path ≡ b → starts front path ≡ false
     by true e = absurd (never (starts-begins front path e))
     by false e = e
-
-none-some : (n : ℕ) → None ≡ Some n → ⊥
-none-some n h = absurd (cc)
-
-some-same : (m n : ℕ) → Some m ≡ Some n → m ≡ n
-some-same m n h = ap held h
-  where
-    held : Option ℕ → ℕ
-    held None = m
-    held (Some k) = k
-
-get-in : (i : ℕ) (xs : List ℕ) → i < length xs → (n : ℕ) × (slice_get xs i ≡ Some n)
-get-in i [] l = absurd (omega (arith, l))
-get-in zero (x ∷ xs) l = (x, refl)
-get-in (suc i) (x ∷ xs) l = get-in i xs (omega (arith, l))
-
--- the test, a rank at a time
-pub starts-next : (i : ℕ) (front path : List ℕ) → i < length front → slice_get path i ≡ slice_get front i → starts (drop i front) (drop i path) ≡ starts (drop (i + 1) front) (drop (i + 1) path)
-starts-next i [] path l e = absurd (omega (arith, l))
-starts-next zero (x ∷ xs) [] l e = absurd (none-some x e)
-starts-next zero (x ∷ xs) (y ∷ ys) l e = ap (λ (b : Bool). cond b (starts xs ys) false) (subst (λ (n : ℕ). (x == n) ≡ true) (sym (some-same y x e)) (same-rank x))
-starts-next (suc i) (x ∷ xs) [] l e = let n = get-in i xs (omega (arith, l)) in absurd (none-some n.0 (e ∙ n.1))
-starts-next (suc i) (x ∷ xs) (y ∷ ys) l e =
-    let n : suc (i + 1) ≡ suc i + 1 = omega arith in
-    subst (λ (k : ℕ). starts (drop i xs) (drop i ys) ≡ starts (drop k (x ∷ xs)) (drop k (y ∷ ys))) n (starts-next i xs ys (omega (arith, l)) e)
-
-pub starts-other : (i : ℕ) (front path : List ℕ) → i < length front → (slice_get path i ≡ slice_get front i → ⊥) → starts (drop i front) (drop i path) ≡ false
-starts-other i [] path l d = absurd (omega (arith, l))
-starts-other zero (x ∷ xs) [] l d = refl
-starts-other zero (x ∷ xs) (y ∷ ys) l d = ap (λ (b : Bool). cond b (starts xs ys) false) (other-rank x y (λ e. d (ap (λ (n : ℕ). Some n) (sym e))))
-starts-other (suc i) (x ∷ xs) [] l d = from (drop i xs) (drop-some i xs (omega (arith, l)))
-  where
-    drop-some : (i : ℕ) (xs : List ℕ) → i < length xs → (n : ℕ) × (ns : List ℕ) × (drop i xs ≡ n ∷ ns)
-    drop-some i [] l = absurd (omega (arith, l))
-    drop-some zero (x ∷ xs) l = (x, xs, refl)
-    drop-some (suc i) (x ∷ xs) l = drop-some i xs (omega (arith, l))
-
-    from : (ds : List ℕ) → (n : ℕ) × (ns : List ℕ) × (ds ≡ n ∷ ns) → starts ds [] ≡ false
-    from [] s = absurd (let e = s.2 in cc)
-    from (m ∷ ms) s = refl
-starts-other (suc i) (x ∷ xs) (y ∷ ys) l d = starts-other i xs ys (omega (arith, l)) d
-
--- The same by the ranks there
-pub there : (i : ℕ) (front : List ℕ) → i < length front → slice_get front i ≡ None → ⊥
-there i front l e = let n = get-in i front l in none-some n.0 (sym e ∙ n.1)
-
-pub starts-short : (i : ℕ) (front path : List ℕ) → i < length front → slice_get path i ≡ None → starts (drop i front) (drop i path) ≡ false
-starts-short i front path l e = starts-other i front path l (λ q. there i front l (sym q ∙ e))
-
-pub starts-apart : (i : ℕ) (front path : List ℕ) (x y : ℕ) → i < length front → slice_get front i ≡ Some x → slice_get path i ≡ Some y → (y ≡ x → ⊥) → starts (drop i front) (drop i path) ≡ false
-starts-apart i front path x y l a b d = starts-other i front path l (λ q. d (some-same y x (sym b ∙ q ∙ a)))
-
-pub starts-on : (i : ℕ) (front path : List ℕ) (x y : ℕ) → i < length front → slice_get front i ≡ Some x → slice_get path i ≡ Some y → y ≡ x → starts (drop i front) (drop i path) ≡ starts (drop (i + 1) front) (drop (i + 1) path)
-starts-on i front path x y l a b e = starts-next i front path l (b ∙ ap (λ (n : ℕ). Some n) e ∙ sym a)
 
 -- An instance leads to what begins with its path.
 pub leads-below : (o : Open) (home path : List ℕ) → o.path ≡ home → Begins home path → leads o path ≡ true

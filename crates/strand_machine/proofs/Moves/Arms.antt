@@ -5,7 +5,8 @@ use Rattle.serial_meaning.specs.declared.answer.Outcome.TheVariants as outcome
 use Rattle.serial_meaning.specs.declared.event.Fault.{Fault}
 use Rattle.strand_meaning.specs.Laws.{StepsAreSound}
 use Rattle.strand_moves.specs.declared.instance.Instance.{Instance}
-use Rattle.strand_machine.specs.Stops.{GoesOn, IsStep, CanEnd, ended}
+use Rattle.strand_machine.specs.Made.{GoesOn, CanEnd, ended}
+use Rattle.strand_machine.specs.Stops.{IsStep}
 use Rattle.strand_machine.specs.Tasks.{IsSound, view_of, waiting}
 use Rattle.strand_machine.specs.declared.body.Body.{Body}
 use Rattle.strand_machine.specs.declared.stop.MoveOrStop.{MoveOrStop}

@@ -35,7 +35,8 @@ use Rattle.strand_machine.specs.Family.{FamilyView, handed}
 use Rattle.strand_machine.specs.Parts.{awaited, place_of}
 use Rattle.strand_machine.specs.Loops.{IsHandedFor}
 use Rattle.strand_machine.specs.Effects.{shown_task, IsSoundShown, IsKnownChild, IsHandedChild}
-use Rattle.strand_machine.specs.Stops.{IsStep, ended}
+use Rattle.strand_machine.specs.Made.{ended}
+use Rattle.strand_machine.specs.Stops.{IsStep}
 use Rattle.strand_machine.specs.declared.stop.MoveOrStop.{MoveOrStop as MadeStep}
 use Rattle.strand_machine.specs.declared.stop.MoveOrStop.TheVariants as step-in
 use Rattle.strand_machine.specs.declared.stop.Stop.TheVariants as stop-in

@@ -6,8 +6,8 @@ use Rattle.strand_meaning.specs.Laws.{MovesFall, StopsAreSound}
 use Rattle.strand_meaning.specs.Left.{moves_left}
 use Rattle.strand_meaning.specs.Task as meaning
 use Rattle.strand_meaning.specs.Task.{ends}
-use Rattle.strand_machine.specs.Made.{IsSoundMade, IsStopped, StopsSo, made, resumed_as}
-use Rattle.strand_machine.specs.Stops.{IsStep, IsResumed, CanEnd, GoesOn, LeadsTo}
+use Rattle.strand_machine.specs.Made.{IsSoundMade, IsStopped, StopsSo, made, resumed_as, CanEnd, GoesOn, LeadsTo}
+use Rattle.strand_machine.specs.Stops.{IsStep, IsResumed}
 use Rattle.strand_machine.specs.Tasks.{Holds, IsSound, TaskView, task_of, view_of}
 use Rattle.strand_machine.specs.declared.body.Body.{Body}
 use Rattle.strand_machine.specs.declared.parts.Parts.{Parts}

@@ -29,7 +29,8 @@ use Rattle.strand_machine.specs.Family.{FamilyView}
 use Rattle.strand_machine.specs.Loops.{IsHandedFor}
 use Rattle.strand_machine.specs.Parts.{awaited, place_of}
 use Rattle.strand_machine.specs.Effects.{shown_task, IsSoundShown}
-use Rattle.strand_machine.specs.Stops.{IsStep, IsRun, LeadsTo, KeepsStep, step_of}
+use Rattle.strand_machine.specs.Made.{IsRun, LeadsTo}
+use Rattle.strand_machine.specs.Stops.{IsStep, KeepsStep, step_of}
 use Rattle.strand_machine.specs.Tasks.{TaskView, task_of, view_of, fresh_with, cut_of, AwaitsLast, RunsAt, IsSound, gone, waiting, with_child}
 use Rattle.strand_machine.specs.declared.body.Body.{Body}
 use Rattle.strand_machine.specs.declared.destination.Destination.{Destination}

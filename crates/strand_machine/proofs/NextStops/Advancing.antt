@@ -21,7 +21,8 @@ use Rattle.strand_meaning.specs.Sound.{IsTask}
 use Rattle.strand_meaning.specs.Task as meaning
 use Rattle.strand_meaning.specs.Task.{Task, Stop, IsNext, Now, Later, own_instance, stage_after, child_in, stops_at, passing, moved, ends_unless, faults_behind, gave, stage_step, split_step, over_step, work_step}
 use Rattle.strand_machine.specs.Family.{tag}
-use Rattle.strand_machine.specs.Stops.{IsStep, IsStop, IsRun, LeadsTo, IsKnownStop, Advances, advances, GoesOn, stage_goes_on, work_goes_on, Keeps, stop_of}
+use Rattle.strand_machine.specs.Made.{IsRun, LeadsTo, GoesOn, stage_goes_on, work_goes_on}
+use Rattle.strand_machine.specs.Stops.{IsStep, IsStop, IsKnownStop, Advances, advances, Keeps, stop_of}
 use Rattle.strand_machine.specs.Tasks.{TaskView, Holds, IsCutShort, IsSound, fresh_with, is_cut_short, cut_of, view_of}
 use Rattle.strand_machine.specs.declared.body.Body.{Body}
 use Rattle.strand_machine.specs.declared.work.Work.{Work}

@@ -12,7 +12,8 @@ use Rattle.strand_meaning.proofs.NodesNoted.Noted.{also-assoc}
 use Rattle.strand_meaning.proofs.NodesNoted.NoteWords.{events_at-append}
 use Rattle.strand_machine.specs.Eyes.{looks}
 use Rattle.strand_machine.specs.Noted.{IsNoted, with_step}
-use Rattle.strand_machine.specs.Stops.{IsStep, LeadsTo, stop_of}
+use Rattle.strand_machine.specs.Made.{LeadsTo}
+use Rattle.strand_machine.specs.Stops.{IsStep, stop_of}
 use Rattle.strand_machine.specs.Tasks.{TaskView}
 use Rattle.strand_machine.specs.declared.eye.Eye.{Eye}
 use Rattle.strand_machine.specs.declared.note.Observed.{Observed}

@@ -129,6 +129,57 @@ fn pedigrees_stand_before_a_path(rt: HostRuntime) -> Result<(), Fail> {
     Ok(())
 }
 
+/// Whether the path of the first ranks begins with that of the second.
+fn begins(alloc: Global, first: &[u32], second: &[u32]) -> Result<bool, Memory> {
+    Ok(path(alloc, first)?.begins_with(&path(alloc, second)?))
+}
+
+#[test]
+fn paths_begin_with_their_fronts(rt: HostRuntime) -> Result<(), Fail> {
+    for i in 0..PATHS.len() {
+        for k in 0..PATHS.len() {
+            let begins = begins(rt.alloc(), PATHS[i], PATHS[k])?;
+            same(
+                &rt,
+                format_args!("{i} and {k}"),
+                begins,
+                k <= i && i + k != 5,
+            );
+        }
+    }
+    Ok(())
+}
+
+// Pedigrees with others with which they begin, or don't.
+static FRONTS: [(&str, &str, bool); 5] = [
+    ("1.2", "1", true),
+    ("1.2", "1.2", true),
+    ("1.2", "1.2.0", false),
+    ("1.2", "1.3", false),
+    ("12", "1", false),
+];
+
+fn goes_on(alloc: Global, text: &str, front: &str) -> Result<(bool, bool), PedTextError> {
+    let at = parse_pedigree(alloc, text)?;
+    let front = parse_pedigree(alloc, front)?;
+    let path = front.path.child(alloc, front.rank)?;
+    Ok((at.goes_on_from(&front), at.begins_with(&path)))
+}
+
+#[test]
+fn pedigrees_begin_with_their_fronts(rt: HostRuntime) -> Result<(), Fail> {
+    for &(text, front, wanted) in &FRONTS {
+        let goes_on = goes_on(rt.alloc(), text, front)?;
+        same(
+            &rt,
+            format_args!("{text} and {front}"),
+            goes_on,
+            (wanted, wanted),
+        );
+    }
+    Ok(())
+}
+
 /// The path of so many ranks: 1001, 1002 and so on.
 fn counted(alloc: Global, len: u64) -> Result<Ped, Memory>
     requires { len < 65536 }

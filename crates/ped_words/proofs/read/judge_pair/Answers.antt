@@ -1,21 +1,24 @@
-use Rattle.std.proofs.Common.{◌≡◌, ℕ, ◌+◌, ◌*◌, false, Some, None, Result, Ok, Err, List, length, map, sym, ◌∙◌, ap, refl, arith}
-use Rattle.std.specs.Prelude.{OnOk, IfErr, string_bytes}
+use Rattle.std.proofs.Common.{◌≡◌, ℕ, ◌+◌, ◌*◌, false, Option, Some, None, Result, Ok, Err, List, length, map, sym, ◌∙◌, ap, refl, arith}
+use Rattle.std.specs.Prelude.{OnOk, IfErr, option_and_then, string_bytes}
+use Rattle.std.specs.Option.{option_or}
 use Rattle.std.proofs.lemmas.List.{length-map}
-use Rattle.ped_words.specs.Judging.{broken_pair, broken_value, kind_rule, value_rule}
+use Rattle.ped_words.specs.Judging.{broken_name, broken_pair, broken_value, kind_rule, value_rule}
 use Rattle.ped_words.specs.Rules.{broken_at, IsRefusal}
-use Rattle.ped_words.specs.Values.{has, name_word, value_word, values_in, values_of, word_at}
+use Rattle.ped_words.specs.Given.{values_in}
+use Rattle.ped_words.specs.Values.{has, name_word, value_word, values_of, word_at}
 use Rattle.ped_words.specs.Table.{kind_of, name_of}
+use Rattle.ped_words.specs.declared.rule.Rule.{Rule}
 use Rattle.ped_words.specs.declared.rule.WordError.{WordError}
 use Rattle.ped_words.specs.declared.table.Kind.{Kind}
 use Rattle.ped_words.specs.declared.table.Name.{Name}
 use Rattle.ped_words.specs.declared.table.Verb.{Verb}
 use Rattle.ped_words.proofs.RuleLemmas.{refused_as}
-use Rattle.ped_words.proofs.ValueLemmas.{count_pair, judged_pair}
+use Rattle.ped_words.proofs.ValueLemmas.{count_pair, same_name}
 use Rattle.ped_words.proofs.read.judge_pair.Goals as goal
 
 -- What is known after the name of a pair that breaks no rule.
 record Named (verb : Verb) (words : List (List ℕ)) (k : ℕ) (n : Name) (kind : Kind) (word : List ℕ) (at : ℕ) : Type 0 where
-  judged : broken_pair verb words k ≡ broken_value words k (Ok n)
+  judged : broken_pair verb words k ≡ broken_at (2 * k + 2) (value_rule n (value_word words k))
   kind_is : kind ≡ kind_of n
   value : word ≡ value_word words k
   place : at ≡ 2 * k + 2
@@ -37,10 +40,14 @@ module _ (verb : Verb) (words : List (List ℕ)) (k : ℕ) (n : Name) (kind : Ki
   refused (Ok u) h2 = tt
   refused (Err e) h2 = refused_as _ _ e (broken_same verb words k n kind word at h) h2
 
+-- the first rule that a pair breaks, by that of its name
+by_name : (verb : Verb) (words : List (List ℕ)) (k : ℕ) (o : Option Rule) → broken_name verb words k ≡ o → broken_pair verb words k ≡ option_or (broken_at (2 * k + 1) o) (broken_at (2 * k + 2) (broken_value words k))
+by_name verb words k o is = ap (λ r. option_or (broken_at (2 * k + 1) r) (broken_at (2 * k + 2) (broken_value words k))) is
+
 pub returns-in-Err-clause-err : goal.returns-in-Err-clause-err
 returns-in-Err-clause-err c =
     let words = map string_bytes c.args.words.now in
-    let judged : broken_pair c.args.verb words c.args.pair ≡ broken_value words c.args.pair (Err c.in-Err.rule) = judged_pair
+    let same = same_name
     c.args.verb
     words
     c.args.pair
@@ -48,33 +55,32 @@ returns-in-Err-clause-err c =
     (2 * c.args.pair + 1 + 1)
     (values_in c.new-given.result)
     c.text_at.result.now
-    (Err c.in-Err.rule)
     (ap values_in c.new-given.ensures)
     c.text_at.ensures
     (sym (length-map c.args.words.now string_bytes))
     (omega arith)
-    c.in-Err.ensures.value
-    in refused_as _ _ c.at.result judged (rw c.at.ensures refl)
+    in refused_as _ _ c.at.result (by_name c.args.verb words c.args.pair (Some c.in-Err.rule) (same ∙ c.in-Err.ensures.err)) (rw c.at.ensures refl)
 
 name_known : (c : goal.After-judge_value) → Named c.args.verb (map string_bytes c.args.words.now) c.args.pair c.in-Ok.name c.kind.result c.text_at-2.result.now (2 * c.args.pair + 1 + 1)
 name_known c =
     let words = map string_bytes c.args.words.now in
     let next : 2 * c.args.pair + 1 + 1 ≡ 2 * c.args.pair + 2 = omega arith in
+    let same = same_name
+    c.args.verb
+    words
+    c.args.pair
+    (length c.args.words.now)
+    (2 * c.args.pair + 1 + 1)
+    (values_in c.new-given.result)
+    c.text_at.result.now
+    (ap values_in c.new-given.ensures)
+    c.text_at.ensures
+    (sym (length-map c.args.words.now string_bytes))
+    next
+    in let named : name_of (name_word words c.args.pair) ≡ Some c.in-Ok.name = ap name_of (sym c.text_at.ensures) ∙ c.in-Ok.ensures.named in
     record {
-      judged = judged_pair
-          c.args.verb
-          words
-          c.args.pair
-          (length c.args.words.now)
-          (2 * c.args.pair + 1 + 1)
-          (values_in c.new-given.result)
-          c.text_at.result.now
-          (Ok c.in-Ok.name)
-          (ap values_in c.new-given.ensures)
-          c.text_at.ensures
-          (sym (length-map c.args.words.now string_bytes))
-          next
-          c.in-Ok.ensures.value;
+      judged = by_name c.args.verb words c.args.pair None (same ∙ c.in-Ok.ensures.ok)
+          ∙ ap (λ o. broken_at (2 * c.args.pair + 2) (option_and_then (λ n. value_rule n (value_word words c.args.pair)) o)) named;
       kind_is = c.kind.ensures;
       value = c.text_at-2.ensures ∙ ap (word_at words) next;
       place = next;

@@ -1,7 +1,8 @@
 use Rattle.std.proofs.Common.{◌≡◌, ◌*◌, ◌-◌, ◌<◌, ◌≤◌, None, length, map}
 use Rattle.std.specs.Prelude.{string_bytes}
 use Rattle.ped_words.specs.Judging.{broken_pair, first_below, pairs_in}
-use Rattle.ped_words.specs.Values.{count_of, values_of}
+use Rattle.ped_words.specs.Given.{count_of}
+use Rattle.ped_words.specs.Values.{values_of}
 use Rattle.ped_words.proofs.read.judge_pairs.Given as goal
 
 -- The pairs in front break no rule, have values, and each gave an option that had not been given.

@@ -7,7 +7,8 @@ use Rattle.ped_words.specs.Making.{made}
 use Rattle.ped_words.specs.Reading.{reading, reading_as}
 use Rattle.ped_words.specs.Rules.{IsUnlessMemory, breaks, unless}
 use Rattle.ped_words.specs.Table.{verb_of}
-use Rattle.ped_words.specs.Values.{GivenWords, values_in, values_of, word_at}
+use Rattle.ped_words.specs.Given.{GivenWords, values_in}
+use Rattle.ped_words.specs.Values.{values_of, word_at}
 use Rattle.ped_words.specs.declared.rule.Rule.TheVariants.{NoCommand}
 use Rattle.ped_words.specs.declared.table.Verb.{Verb}
 use Rattle.ped_words.proofs.read.read_words.Goals as goal

@@ -14,13 +14,6 @@ see-returns-in-Same-clause-found t c =
     let p = pending_in c.args.scope.now in
     after_two _ _ _ (wanted Id (read c.get-in-Same.result.now) k p) (wanted Id (read c.get-in-Same-2.result.now) k p) ((read c.args.e.now).faults k p) c.want-in-Same.ensures.found c.want-in-Same-2.ensures.found (search (rules, the_lemmas))
 
-pub see-returns-in-Older-clause-found : goal.see-returns-in-Older-clause-found
-unfolding two_wanted
-see-returns-in-Older-clause-found t c =
-    let k = known_in c.args.scope.now in
-    let p = pending_in c.args.scope.now in
-    after_two _ _ _ (wanted Id (read c.get-in-Older.result.now) k p) (wanted Id (read c.get-in-Older-2.result.now) k p) ((read c.args.e.now).faults k p) c.want-in-Older.ensures.found c.want-in-Older-2.ensures.found (search (rules, the_lemmas))
-
 pub see-returns-in-Compare-clause-found : goal.see-returns-in-Compare-clause-found
 unfolding two_wanted
 see-returns-in-Compare-clause-found t c =

@@ -11,8 +11,8 @@ use Rattle.script_check.proofs.Walk.Behind.{one_behind, one_judged, if_state, if
 use Rattle.script_check.proofs.FewerPending.Induction.{judge_is, keeps_is, judge_if, keeps_if, judge_while, keeps_while, judge_scope, keeps_scope}
 use Rattle.script_check.proofs.statement.+statements.Goals as goal
 
-pub judge-returns-in_ok-end_if-in-If-clause-state : goal.judge-returns-in_ok-end_if-in-If-clause-state
-judge-returns-in_ok-end_if-in-If-clause-state t c =
+pub judge_nested-returns-in_ok-end_if-in-If-clause-state : goal.judge_nested-returns-in_ok-end_if-in-If-clause-state
+judge_nested-returns-in_ok-end_if-in-If-clause-state t c =
     let fs = c.args.functions.now in
     let st = c.args.statement.now in
     let a = c.as_slice.result.now in
@@ -29,8 +29,8 @@ judge-returns-in_ok-end_if-in-If-clause-state t c =
     c.in_ok-first-in-If.ensures.state c.in_ok-second-in-If.ensures.state last kept
     ∙ sym (behind_by fs st _ _ s (judge_is st ∙ ap (λ (w : Act). judge_what w st.at) what ∙ judge_if st.at c.in-If.e a b) (keeps_is st ∙ ap keeps_what what ∙ keeps_if c.in-If.e a b))
 
-pub judge-returns-in_ok-end_if-in-If-clause-found : goal.judge-returns-in_ok-end_if-in-If-clause-found
-judge-returns-in_ok-end_if-in-If-clause-found t c =
+pub judge_nested-returns-in_ok-end_if-in-If-clause-found : goal.judge_nested-returns-in_ok-end_if-in-If-clause-found
+judge_nested-returns-in_ok-end_if-in-If-clause-found t c in_block =
     let fs = c.args.functions.now in
     let st = c.args.statement.now in
     let a = c.as_slice.result.now in
@@ -38,12 +38,12 @@ judge-returns-in_ok-end_if-in-If-clause-found t c =
     let s = state_of c.args.scope.now in
     let condition = wanted Int (read c.in-If.e) s.known s.names in
     let what : st.act ≡ variant.If c.in-If.e a b = search rules in
-    if_faults fs a b c.args.in_block condition s (state_of c.judge_block.new.scope) c.args.found.now c.want.new.found c.judge_block.new.found c.judge_block-in-If.new.found
+    if_faults fs a b in_block condition s (state_of c.judge_block.new.scope) c.args.found.now c.want.new.found c.judge_block.new.found c.judge_block-in-If.new.found
     c.want.ensures.found c.in_ok-first-in-If.ensures.found c.in_ok-first-in-If.ensures.state c.in_ok-second-in-If.ensures.found
-    ∙ ap (λ (j : Judged). noted c.args.found.now (j.faults (place fs c.args.in_block) s.known s.names)) (sym (judge_is st ∙ ap (λ (w : Act). judge_what w st.at) what ∙ judge_if st.at c.in-If.e a b))
+    ∙ ap (λ (j : Judged). noted c.args.found.now (j.faults (place fs in_block) s.known s.names)) (sym (judge_is st ∙ ap (λ (w : Act). judge_what w st.at) what ∙ judge_if st.at c.in-If.e a b))
 
-pub judge-returns-in_ok-judge_block-in-While-clause-state : goal.judge-returns-in_ok-judge_block-in-While-clause-state
-judge-returns-in_ok-judge_block-in-While-clause-state t c =
+pub judge_nested-returns-in_ok-judge_block-in-While-clause-state : goal.judge_nested-returns-in_ok-judge_block-in-While-clause-state
+judge_nested-returns-in_ok-judge_block-in-While-clause-state t c =
     let fs = c.args.functions.now in
     let st = c.args.statement.now in
     let a = c.as_slice-in-While.result.now in
@@ -54,8 +54,8 @@ judge-returns-in_ok-judge_block-in-While-clause-state t c =
     while_state fs a s (state_of c.begin_while.new.scope) (state_of c.judge_block-in-While.new.scope) begun last
     ∙ sym (behind_by fs st _ _ s (judge_is st ∙ ap (λ (w : Act). judge_what w st.at) what ∙ judge_while st.at c.in-While.e a) (keeps_is st ∙ ap keeps_what what ∙ keeps_while c.in-While.e a))
 
-pub judge-returns-in_ok-judge_block-in-While-clause-found : goal.judge-returns-in_ok-judge_block-in-While-clause-found
-judge-returns-in_ok-judge_block-in-While-clause-found t c =
+pub judge_nested-returns-in_ok-judge_block-in-While-clause-found : goal.judge_nested-returns-in_ok-judge_block-in-While-clause-found
+judge_nested-returns-in_ok-judge_block-in-While-clause-found t c in_block =
     let fs = c.args.functions.now in
     let st = c.args.statement.now in
     let a = c.as_slice-in-While.result.now in
@@ -67,29 +67,29 @@ judge-returns-in_ok-judge_block-in-While-clause-found t c =
     let body : c.judge_block-in-While.new.found ≡ noted c.want-in-While.new.found (faults_each (judge_all a) (place fs true) m.known m.names) = search rules in
     while_faults fs a (read c.in-While.e) s.known m.known s.names m.names c.args.found.now c.want-in-While.new.found c.judge_block-in-While.new.found
     known set c.want-in-While.ensures.found body
-    ∙ ap (λ (j : Judged). noted c.args.found.now (j.faults (place fs c.args.in_block) s.known s.names)) (sym (judge_is st ∙ ap (λ (w : Act). judge_what w st.at) what ∙ judge_while st.at c.in-While.e a))
+    ∙ ap (λ (j : Judged). noted c.args.found.now (j.faults (place fs in_block) s.known s.names)) (sym (judge_is st ∙ ap (λ (w : Act). judge_what w st.at) what ∙ judge_while st.at c.in-While.e a))
 
-pub judge-returns-in_ok-sync-in-Scope-clause-state : goal.judge-returns-in_ok-sync-in-Scope-clause-state
-judge-returns-in_ok-sync-in-Scope-clause-state t c =
+pub judge_nested-returns-in_ok-sync-in-Scope-clause-state : goal.judge_nested-returns-in_ok-sync-in-Scope-clause-state
+judge_nested-returns-in_ok-sync-in-Scope-clause-state t c =
     let fs = c.args.functions.now in
     let st = c.args.statement.now in
     let a = c.as_slice-in-Scope.result.now in
     let s = state_of c.args.scope.now in
     let what : st.act ≡ variant.Scope a = search rules in
     let first : state_of c.judge_block-in-Scope.new.scope ≡ with_known fs a s = search rules in
-    let last : state_of c.sync-in-Scope.new.self ≡ record (state_of c.judge_block-in-Scope.new.scope) { names = nobody; keeps = false } = search rules in
-    scope_state fs a s (state_of c.judge_block-in-Scope.new.scope) (state_of c.sync-in-Scope.new.self) first last
+    let last : state_of c.sync.new.self ≡ record (state_of c.judge_block-in-Scope.new.scope) { names = nobody; keeps = false } = search rules in
+    scope_state fs a s (state_of c.judge_block-in-Scope.new.scope) (state_of c.sync.new.self) first last
     ∙ sym (behind_by fs st _ _ s (judge_is st ∙ ap (λ (w : Act). judge_what w st.at) what ∙ judge_scope st.at a) (keeps_is st ∙ ap keeps_what what ∙ keeps_scope a))
 
-pub judge-returns-in_ok-sync-in-Scope-clause-found : goal.judge-returns-in_ok-sync-in-Scope-clause-found
-judge-returns-in_ok-sync-in-Scope-clause-found t c =
+pub judge_nested-returns-in_ok-sync-in-Scope-clause-found : goal.judge_nested-returns-in_ok-sync-in-Scope-clause-found
+judge_nested-returns-in_ok-sync-in-Scope-clause-found t c in_block =
     let fs = c.args.functions.now in
     let st = c.args.statement.now in
     let a = c.as_slice-in-Scope.result.now in
     let s = state_of c.args.scope.now in
     let what : st.act ≡ variant.Scope a = search rules in
     let block : c.judge_block-in-Scope.new.found ≡ noted c.args.found.now (faults_each (judge_all a) (place fs true) s.known s.names) = search rules in
-    block ∙ ap (λ (j : Judged). noted c.args.found.now (j.faults (place fs c.args.in_block) s.known s.names)) (sym (judge_is st ∙ ap (λ (w : Act). judge_what w st.at) what ∙ judge_scope st.at a))
+    block ∙ ap (λ (j : Judged). noted c.args.found.now (j.faults (place fs in_block) s.known s.names)) (sym (judge_is st ∙ ap (λ (w : Act). judge_what w st.at) what ∙ judge_scope st.at a))
 
 pub judge_each-loop-statement-preserved : goal.judge_each-loop-statement-preserved
 judge_each-loop-statement-preserved t c =

@@ -1,6 +1,5 @@
 use Rattle.std.proofs.Common.{IfOk, sym, subst}
-use Rattle.strand_machine.specs.Made.{made}
-use Rattle.strand_machine.specs.Stops.{GoesOn}
+use Rattle.strand_machine.specs.Made.{made, GoesOn}
 use Rattle.strand_machine.specs.Tasks.{view_of}
 use Rattle.strand_machine.specs.declared.work.Work.{Work}
 use Rattle.strand_machine.specs.declared.work.Work.TheVariants as work

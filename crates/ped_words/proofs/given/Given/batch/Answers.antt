@@ -1,6 +1,6 @@
 use Rattle.std.proofs.Common.{length, rules}
 use Rattle.ped_words.specs.Table.{kind_of}
-use Rattle.ped_words.specs.Values.{HasCount}
+use Rattle.ped_words.specs.Given.{HasCount}
 use Rattle.ped_words.specs.declared.table.Name.TheVariants as name
 use Rattle.ped_words.proofs.GammaLemmas.{batch_within}
 use Rattle.ped_words.proofs.given.Given.batch.Goals as goal

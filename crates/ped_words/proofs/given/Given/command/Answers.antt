@@ -1,7 +1,8 @@
 use Rattle.std.proofs.Common.{◌≡◌, ℕ, None, Some, Ok, true, sym, ◌∙◌, ap, subst}
 use Rattle.std.specs.Option.{option_or}
 use Rattle.ped_words.specs.Making.{depth_of, gamma_fits, made, made_of, settings_of, unfit, workers_of}
-use Rattle.ped_words.specs.Values.{Values, values_in}
+use Rattle.ped_words.specs.Given.{values_in}
+use Rattle.ped_words.specs.Values.{Values}
 use Rattle.ped_words.specs.declared.command.Command.TheVariants as command
 use Rattle.ped_words.specs.declared.command.Settings.{Settings}
 use Rattle.ped_words.specs.declared.table.Name.TheVariants as name
