@@ -68,7 +68,7 @@ stream-split gamma p r m n rounds h =
     (range-split (λ i. dotmix gamma (later (p ++ r ∷ []) i) rounds) (λ i. mix ((dot gamma (later (p ++ r ∷ []) m) + i * coefficient gamma (length p + 1)) % modulus) rounds) m n (λ i. ap (λ z. mix z rounds) (dot-later gamma p r m i h)))
 
 -- What a block of a stream is made of: b is where it begins, n how long it is, and e where it ends. Its numbers are the dot products from `next` on.
-pub record IsBlock (gamma j p : List ℕ) (r rounds b n e next step : ℕ) (xs ys : List ℕ) : Type 0 where
+pub record IsStreamBlock (gamma j p : List ℕ) (r rounds b n e next step : ℕ) (xs ys : List ℕ) : Type 0 where
   pub pedigree : p ++ r ∷ [] ≡ j
   pub within : length p < length gamma
   pub step_is : step ≡ coefficient gamma (length p + 1)
@@ -78,22 +78,22 @@ pub record IsBlock (gamma j p : List ℕ) (r rounds b n e next step : ℕ) (xs y
   pub before : take b xs ≡ stream gamma j b rounds
   pub mixed : ys ≡ map (λ z. mix z rounds) (dots next step n)
 
-block_joined : (gamma j p : List ℕ) (r rounds b n e next step : ℕ) (xs ys : List ℕ) → IsBlock gamma j p r rounds b n e next step xs ys → take b xs ++ ys ≡ stream gamma j e rounds
+block_joined : (gamma j p : List ℕ) (r rounds b n e next step : ℕ) (xs ys : List ℕ) → IsStreamBlock gamma j p r rounds b n e next step xs ys → take b xs ++ ys ≡ stream gamma j e rounds
 block_joined gamma j p r rounds b n e next step xs ys is =
     let split : stream gamma j (b + n) rounds ≡ stream gamma j b rounds ++ map (λ z. mix z rounds) (dots (dot gamma (later j b)) (coefficient gamma (length p + 1)) n) = rw (sym is.pedigree) (stream-split gamma p r b n rounds is.within) in
     let made : ys ≡ map (λ z. mix z rounds) (dots (dot gamma (later j b)) (coefficient gamma (length p + 1)) n) = rw (sym is.next_is, sym is.step_is) is.mixed in
     rw (is.before, made, is.ends) (sym split)
 
-pub block_written : (gamma j p : List ℕ) (r rounds b n k e next step : ℕ) (xs ys : List ℕ) → IsBlock gamma j p r rounds b n e next step xs ys → take e (put_mid b k xs ys) ≡ stream gamma j e rounds
+pub block_written : (gamma j p : List ℕ) (r rounds b n k e next step : ℕ) (xs ys : List ℕ) → IsStreamBlock gamma j p r rounds b n e next step xs ys → take e (put_mid b k xs ys) ≡ stream gamma j e rounds
 block_written gamma j p r rounds b n k e next step xs ys is =
     let long : length ys ≡ n = rw is.mixed (length-map (dots next step n) (λ z. mix z rounds) ∙ length-dots next step n) in
     take-put_mid b k xs ys e (omega arith) is.room ∙ block_joined gamma j p r rounds b n e next step xs ys is
 
-pub last_block_written : (gamma j p : List ℕ) (r rounds b n e next step : ℕ) (xs ys : List ℕ) → length xs ≡ e → IsBlock gamma j p r rounds b n e next step xs ys → put_mid b n xs ys ≡ stream gamma j e rounds
+pub last_block_written : (gamma j p : List ℕ) (r rounds b n e next step : ℕ) (xs ys : List ℕ) → length xs ≡ e → IsStreamBlock gamma j p r rounds b n e next step xs ys → put_mid b n xs ys ≡ stream gamma j e rounds
 last_block_written gamma j p r rounds b n e next step xs ys h is =
     rw (drop-drop n b xs, drop_all (b + n) xs (omega arith), append-nil ys) (block_joined gamma j p r rounds b n e next step xs ys is)
 
-pub block_next : (gamma j p : List ℕ) (r rounds b n e next step : ℕ) (xs ys : List ℕ) → IsBlock gamma j p r rounds b n e next step xs ys → (next + n * step) % modulus ≡ dot gamma (later j e)
+pub block_next : (gamma j p : List ℕ) (r rounds b n e next step : ℕ) (xs ys : List ℕ) → IsStreamBlock gamma j p r rounds b n e next step xs ys → (next + n * step) % modulus ≡ dot gamma (later j e)
 block_next gamma j p r rounds b n e next step xs ys is =
     rw (is.next_is, is.step_is, is.ends, sym is.pedigree) (sym (dot-later gamma p r b n is.within))
 

@@ -13,7 +13,7 @@ use Rattle.strand_machine.specs.Tasks.{TaskView}
 use Rattle.strand_machine.specs.declared.stop.Stop.{Stop as Stops}
 use Rattle.strand_machine.specs.declared.stop.Stop.TheVariants as stop
 use Rattle.strand_machine.specs.declared.stop.Resumed.TheVariants as resumed
-use Rattle.crew.specs.Hands.{HandView, IsPut, Runs, Ends, Advances, IsNewest, IsTurnedOver, GoesOn, Seeks, IsTurn, IsTurnFrom, StaysLast, LastGoesOn, LooksNewest}
+use Rattle.crew.specs.Hands.{HandView, IsPut, Runs, EndsTask, Advances, IsNewest, IsTurnedOver, GoesOn, Seeks, IsTurn, IsTurnFrom, StaysLast, LastGoesOn, LooksNewest}
 use Rattle.crew.specs.Ties.{tasks, worker_of, OwnerLeaves, IsEnd, IsNoEnd, RunsTo, EndsByCut, TakesLast, ResumesAt, PassesAt, LooksBefore, IsTied, IsTiedLook}
 use Rattle.crew.specs.declared.hand.Looked.{Looked}
 use Rattle.crew.specs.declared.hand.Looked.TheVariants as looked
@@ -137,7 +137,7 @@ module _ (t : TaskView) (old new : HandView) (now : old.current ≡ Some t) wher
   ended None e answer give at h = inl (ran-to-end answer give at h)
   ended (Some o) e answer give at h = inr (t, now, inr (o, e), h)
 
-  put : (turn : Turn) → Ends t old turn new → RunsTo IsEnd old new ⊎ EndsByCut old new
+  put : (turn : Turn) → EndsTask t old turn new → RunsTo IsEnd old new ⊎ EndsByCut old new
   put turn (inl (answer, give, at), arrived, h) = ended t.cut refl answer give at h
   put turn (inr cut, arrived, h) = inr (t, now, inl cut, h)
 

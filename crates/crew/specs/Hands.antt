@@ -72,13 +72,13 @@ HasEnded t = (answer : AnswerView) × (give : AnswerTag) × AdvancesTo t (stop.D
 abbrev pub MayBeCut : TaskView → Type 0
 MayBeCut t = (by : Fault) × (t.task.advanced ≡ false) × IsCut t.task.plan t.task.origin by
 
-abbrev pub Ends : TaskView → HandView → Turn → HandView → Type 0
-Ends t old turn new = (HasEnded t ⊎ MayBeCut t) × IsAnswered (tag t.task.plan t.task.origin) turn × (new ≡ record old { current = None })
+abbrev pub EndsTask : TaskView → HandView → Turn → HandView → Type 0
+EndsTask t old turn new = (HasEnded t ⊎ MayBeCut t) × IsAnswered (tag t.task.plan t.task.origin) turn × (new ≡ record old { current = None })
 
 -- What a turn does with the current task. One that took a cut for an answer comes to no other stop than its end.
 abbrev pub Advances : TaskView → HandView → Turn → HandView → Type 0
 Advances t old Ran new = (stop : Stop) × AdvancesTo t stop × Runs stop old new
-Advances t old turn new = Ends t old turn new
+Advances t old turn new = EndsTask t old turn new
 
 -- The task is the last of the private list, or else the newest of the deck.
 abbrev pub IsNewest : TaskView → List TaskView → OwnerEnd TaskView → List TaskView → OwnerEnd TaskView → Type 0

@@ -1,9 +1,9 @@
 //! DotMix: random numbers that belong to strands.
 //!
 //! A draw is a hash of the strand's pedigree: the dot product of the ranks with coefficients that a seed gives, modulo a prime, and
-//! then some rounds of mixing, four where no one asks for another number. So it doesn't depend on the schedule. After Leiserson, Schardl and Sukha, "Deterministic Parallel
-//! Random-Number Generation for Dynamic-Multithreading Platforms" (PPoPP 2012); that a rank counts one more than itself, the prime,
-//! the coefficients from SplitMix64 and the exact rounds are this project's own.
+//! then some rounds of mixing, four where no one asks for another number. So it doesn't depend on the schedule. After Leiserson,
+//! Schardl and Sukha, "Deterministic Parallel Random-Number Generation for Dynamic-Multithreading Platforms" (PPoPP 2012); that a rank
+//! counts one more than itself, the prime, the coefficients from SplitMix64 and the exact rounds are this project's own.
 //!
 //! What the strand `0.0` draws by the coefficients 1 and 10, in four rounds. `a_strand_draws_by_its_pedigree` in the tests of `worked_draws`
 //! runs it:

@@ -4,7 +4,7 @@ use Rattle.draw_lines.specs.Lines.{CanDraw, stream_text}
 use Rattle.ped_words.specs.Commands.{IsLawful}
 use Rattle.ped_words.specs.declared.command.Command.{Command}
 use Rattle.ped_words.specs.declared.command.Command.TheVariants.{Stream}
-use Rattle.engine.specs.Commands.{Takes, takes_script}
+use Rattle.engine.specs.Commands.{AcceptsScript, takes_script}
 use Rattle.serial_meaning.specs.declared.event.Fault.{Fault}
 use Rattle.engine.specs.Lines.{blocked_line}
 use Rattle.engine.specs.Promise.{Watched, Answers, HasOutput, HasReport, ReadWhole, TellsNone, WroteLine}
@@ -17,7 +17,7 @@ use Rattle.engine.specs.declared.report.ReportEnd.TheVariants as E
 use Rattle.engine.specs.declared.status.Status.{Status}
 use Rattle.engine.specs.declared.status.Status.TheVariants as S
 
-pub misfit_cause : (command : Command) (source : Watched) (bytes : List ℕ) → IsTrue (takes_script command) → ReadWhole source bytes → {X : Type 0} (result : Result X Refusal) → IfErr result (IsMisfit (Takes command) bytes) → IfErr result (IsCause command source)
+pub misfit_cause : (command : Command) (source : Watched) (bytes : List ℕ) → IsTrue (takes_script command) → ReadWhole source bytes → {X : Type 0} (result : Result X Refusal) → IfErr result (IsMisfit (AcceptsScript command) bytes) → IfErr result (IsCause command source)
 misfit_cause command source bytes takes read {X} (Ok x) is = tt
 misfit_cause command source bytes takes read {X} (Err TooLong) is = absurd is
 misfit_cause command source bytes takes read {X} (Err (Untaken line)) is = (takes, (bytes, read, is))

@@ -6,7 +6,7 @@ use Rattle.serial_meaning.specs.Plan.{PlanView}
 use Rattle.serial_meaning.proofs.RisingPedigrees.Draws.{draws_are_dotmix}
 use Rattle.serial_meaning.proofs.LeastFault.Least.{fault_is_least}
 use Rattle.serial_meaning.proofs.RisingPedigrees.RisingExec.{elision_rises}
-use Rattle.engine.specs.Clauses.{Change, IsCall, IsLawful, seen}
+use Rattle.engine.specs.Clauses.{IsLawful, IsTopCall, ObjectChange, seen}
 use Rattle.engine.specs.Promise.{KeepsPromise, ReadsNone, has_line, has_output}
 use Rattle.engine.specs.Report.{plan_of}
 use Rattle.engine.specs.declared.status.Status.{Status}
@@ -15,8 +15,8 @@ use Rattle.engine.proofs.PromiseLemmas.{words_exactly, read_cause, write_cause, 
 pub lawful : (plan : PlanView) → IsLawful plan
 lawful plan = record { rise = elision_rises plan; draws = draws_are_dotmix plan; least = fault_is_least plan }
 
-pub is_call : {S K E : Type 0} (given : Result Command WordError) (source : Change S) (out : Change K) (err : Change E) (status : Status) → KeepsPromise given (seen source) (seen out) (seen err) status →
-    (ReadsNone given → source.new ≡ source.old) → (IsFalse (has_output status) → out.new ≡ out.old) → (IsFalse (has_line status) → err.new ≡ err.old) → IsCall given source out err status
+pub is_call : {S K E : Type 0} (given : Result Command WordError) (source : ObjectChange S) (out : ObjectChange K) (err : ObjectChange E) (status : Status) → KeepsPromise given (seen source) (seen out) (seen err) status →
+    (ReadsNone given → source.new ≡ source.old) → (IsFalse (has_output status) → out.new ≡ out.old) → (IsFalse (has_line status) → err.new ≡ err.old) → IsTopCall given source out err status
 is_call given source out err status promise untouched no_output no_line = record {
   promise = promise;
   untouched = untouched;

@@ -11,10 +11,10 @@ use Rattle.script_grammar.specs.Text.{Text}
 use Rattle.engine.specs.declared.status.Status.{Status}
 use Rattle.engine.specs.declared.status.Status.TheVariants.{Done, Faulted, Words, Script, Read, Write, Memory, NoStrand}
 use Rattle.engine.specs.Batches.{batch_ending, is_faulted, plan_under}
-use Rattle.engine.specs.Commands.{Reports, Takes, takes_script}
+use Rattle.engine.specs.Commands.{AcceptsScript, Reports, takes_script}
 use Rattle.engine.specs.Report.{Report, ending_of, plan_of, run_report, status_of}
 use Rattle.engine.specs.Promise.{Watched, Failed, ReadWhole, HasNoScript, HasReport, Answers, HasOutput, Refuses, TellsNone, KeepsPromise, most_bytes}
-use Rattle.engine.specs.Clauses.{RefusesWords, IsBad, RefusesScript, WroteReport, WritesReport, IsReplay, FindsNone, TellsNoStrand, IsComplete, Completes}
+use Rattle.engine.specs.Clauses.{RefusesWords, IsBad, RefusesScript, WroteReport, WritesReport, IsReplay, FindsNoStrand, TellsNoStrand, IsComplete, Completes}
 use Rattle.engine.specs.declared.report.ReportEnd.{ReportEnd}
 use Rattle.engine.specs.declared.report.ReportEnd.TheVariants as E
 use Rattle.serial_meaning.specs.declared.value.Value.{Value}
@@ -31,7 +31,7 @@ told_long bytes front (Some rest) taken long =
     let sum : length bytes ≡ length front + length rest = ap length taken ∙ length-append front rest in omega (arith, sum, long)
 
 -- a command that takes a script reports of one
-taken_script : (command : Command) → IsTrue (takes_script command) → (bytes : List ℕ) (report : Report) → Reports command bytes report → (script : Tree) × Text bytes script × Takes command script
+taken_script : (command : Command) → IsTrue (takes_script command) → (bytes : List ℕ) (report : Report) → Reports command bytes report → (script : Tree) × Text bytes script × AcceptsScript command script
 taken_script (command.Run settings workers) takes bytes report r = (r.0, r.1, r.2)
 taken_script (command.Serial settings) takes bytes report r = (r.0, r.1, r.2)
 taken_script (command.Sim settings workers number) takes bytes report r = (r.0, r.1, r.2)
@@ -76,7 +76,7 @@ module _ (source out err : Watched) where
 
       bad_script : HasNoScript command source err → IsBad command bytes
       bad_script (inl q) = let P : Option (List ℕ) → Type 0 = λ before. Consumes before source.after q.0.0 in inl (told_long bytes q.0.0 source.after (subst P told q.0.2) q.0.1)
-      bad_script (inr q) = let P : List ℕ → Type 0 = λ b. (script : Tree) → Text b script → Takes command script → ⊥ in inr (subst P (whole_bytes q.0 q.2) q.3.none)
+      bad_script (inr q) = let P : List ℕ → Type 0 = λ b. (script : Tree) → Text b script → AcceptsScript command script → ⊥ in inr (subst P (whole_bytes q.0 q.2) q.3.none)
 
       no_good : (report : Report) → HasReport command source report → IsBad command bytes → ⊥
       no_good report has (inl long) = let few = few_bytes report has in absurd (omega (arith, few, long))
@@ -217,7 +217,7 @@ module _ (source out err : Watched) where
     reports_told : (report : Report) → HasReport command source report → Reports command bytes report
     reports_told report has = same_report source out err command bytes told report has (takes_script command) refl
 
-    finds_none : Answers command source out err NoStrand → FindsNone command bytes
+    finds_none : Answers command source out err NoStrand → FindsNoStrand command bytes
     finds_none a = record {
       replay = replay_tells command a.1.0 a.0 a.1.2 a.2;
       report = a.0;

@@ -16,7 +16,7 @@ use Rattle.serial_meaning.specs.Laws.{places, EndsByLeast}
 use Rattle.serial_meaning.specs.declared.event.Event.TheVariants.{Draw}
 use Rattle.engine.specs.declared.status.Status.{Status}
 use Rattle.engine.specs.declared.status.Status.TheVariants.{Done, Faulted, Words, Script, Read, Write, Memory, NoStrand}
-use Rattle.engine.specs.Commands.{Reports, Takes, takes_script}
+use Rattle.engine.specs.Commands.{AcceptsScript, Reports, takes_script}
 use Rattle.engine.specs.Report.{Report, plan_of, status_of}
 use Rattle.engine.specs.Promise.{KeepsPromise, ReadsNone, Watched, Failed, has_line, has_output, most_bytes, watched}
 
@@ -31,7 +31,7 @@ RefusesWords given status = (status ≡ Words → SaysNothing given) × (SaysNot
 
 -- The bytes are too many, or the text of no script that the command takes.
 abbrev pub IsBad : Command → List ℕ → Type 0
-IsBad command bytes = (most_bytes < length bytes) ⊎ ((script : Tree) → Text bytes script → Takes command script → ⊥)
+IsBad command bytes = (most_bytes < length bytes) ⊎ ((script : Tree) → Text bytes script → AcceptsScript command script → ⊥)
 
 -- A command that reads no script refuses none. Where a command reads one, and the source tells its bytes, they are refused exactly where they
 -- are bad, unless a read failed or memory is wanting.
@@ -62,7 +62,7 @@ IsReplay (Replay settings at) = ⊤
 IsReplay command = ⊥
 
 -- The command is a replay, and its report of these bytes is that there is no strand.
-pub record FindsNone (command : Command) (bytes : List ℕ) : Type 0 where
+pub record FindsNoStrand (command : Command) (bytes : List ℕ) : Type 0 where
   pub replay : IsReplay command
   pub report : Report
   pub reports : Reports command bytes report
@@ -72,7 +72,7 @@ pub record FindsNone (command : Command) (bytes : List ℕ) : Type 0 where
 -- a read failed or memory is wanting.
 abbrev pub TellsNoStrand : Result Command WordError → Option (List ℕ) → Status → Type 0
 TellsNoStrand (Ok command) (Some bytes) status =
-    (status ≡ NoStrand → FindsNone command bytes)
+    (status ≡ NoStrand → FindsNoStrand command bytes)
     × ((IsBad command bytes → ⊥) → ((report : Report) → Reports command bytes report → status_of report.ending ≡ NoStrand) →
     (status ≡ NoStrand) ⊎ ((status ≡ Read) ⊎ (status ≡ Memory)))
 TellsNoStrand (Ok command) None status = status ≡ NoStrand → IsReplay command
@@ -96,20 +96,20 @@ pub record IsLawful (plan : PlanView) : Type 0 where
   pub least : EndsByLeast (faults plan) (elision plan).ending
 
 -- An object before a call and after it, and how it is seen: what it told, and how often it had failed.
-pub record Change (T : Type 0) : Type 0 where
+pub record ObjectChange (T : Type 0) : Type 0 where
   pub told : T → Option (List ℕ)
   pub faults : T → ℕ
   pub old : T
   pub new : T
 
-abbrev pub change : {T : Type 0} → (T → Option (List ℕ)) → (T → ℕ) → T → T → Change T
+abbrev pub change : {T : Type 0} → (T → Option (List ℕ)) → (T → ℕ) → T → T → ObjectChange T
 change told faults old new = record { told = told; faults = faults; old = old; new = new }
 
-abbrev pub seen : {T : Type 0} → Change T → Watched
+abbrev pub seen : {T : Type 0} → ObjectChange T → Watched
 seen c = watched c.told c.faults c.old c.new
 
 -- A call whose words say this, by what it did to its source and its sinks, and its status.
-pub record IsCall {S K E : Type 0} (given : Result Command WordError) (source : Change S) (out : Change K) (err : Change E) (status : Status) : Type 0 where
+pub record IsTopCall {S K E : Type 0} (given : Result Command WordError) (source : ObjectChange S) (out : ObjectChange K) (err : ObjectChange E) (status : Status) : Type 0 where
   pub promise : KeepsPromise given (seen source) (seen out) (seen err) status
   -- Words that give no command that reads a script leave the source, and an answer without output or without a line leaves that sink.
   pub untouched : ReadsNone given → source.new ≡ source.old

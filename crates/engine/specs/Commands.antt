@@ -49,9 +49,9 @@ is_whole (Span settings) = true
 is_whole (Batch seeds limits show rounds workers) = true
 
 -- A script is taken where it is valid, and by `fmt` always.
-abbrev pub Takes : Command → Script → Type 0
-Takes Fmt script = ⊤
-Takes command script = IsValid script
+abbrev pub AcceptsScript : Command → Script → Type 0
+AcceptsScript Fmt script = ⊤
+AcceptsScript command script = IsValid script
 
 -- what is written for a script that the command takes, where one function says it
 abbrev pub report_of : Command → Script → Report
@@ -69,4 +69,4 @@ Reports (Stream gamma at count rounds below) bytes report = report ≡ said (str
 Reports (Sim settings workers number) bytes report = IsSimOf settings workers number bytes report
 Reports (Span settings) bytes report = IsSpanOf settings bytes report
 Reports (Batch seeds limits show rounds workers) bytes report = IsBatchOf (record { seeds = seeds; limits = limits; show = show; rounds = rounds }) bytes report
-Reports command bytes report = (script : Script) × Text bytes script × Takes command script × (report ≡ report_of command script)
+Reports command bytes report = (script : Script) × Text bytes script × AcceptsScript command script × (report ≡ report_of command script)

@@ -13,7 +13,7 @@ use Rattle.engine.specs.declared.status.Status.{Status}
 use Rattle.engine.specs.declared.status.Status.TheVariants.{Done, Faulted, Words, Script as BadScript, Read, Write, Memory, NoStrand}
 use Rattle.engine.specs.declared.report.ReportEnd.{ReportEnd}
 use Rattle.engine.specs.declared.report.ReportEnd.TheVariants as E
-use Rattle.engine.specs.Commands.{Reports, Takes, takes_script}
+use Rattle.engine.specs.Commands.{AcceptsScript, Reports, takes_script}
 use Rattle.engine.specs.Lines.{blocked_line, check_line, no_strand_line, syntax_line, words_line}
 use Rattle.engine.specs.Report.{Report}
 
@@ -68,7 +68,7 @@ pub record IsUntaken (takes : Script → Type 0) (bytes line : List ℕ) : Type 
 abbrev pub HasNoScript : Command → Watched → Watched → Type 0
 HasNoScript command source err =
     (ConsumesJust source.before source.after (most_bytes + 1) × WroteLine err (codes "script: too long\n"))
-    ⊎ ((bytes : List ℕ) × (line : List ℕ) × ReadWhole source bytes × IsUntaken (Takes command) bytes line × WroteLine err line)
+    ⊎ ((bytes : List ℕ) × (line : List ℕ) × ReadWhole source bytes × IsUntaken (AcceptsScript command) bytes line × WroteLine err line)
 
 -- The command reports this, of the bytes of the source where it takes a script.
 abbrev pub HasReport : Command → Watched → Report → Type 0

@@ -3,7 +3,7 @@ use Rattle.std.specs.Prelude.{◌≡◌, ◌⊎◌, ⊤, ℕ, ◌+◌, List, IsT
 use Rattle.ped_io.specs.Streams.{ConsumesJust}
 use Rattle.ped_words.specs.declared.command.Command.{Command}
 use Rattle.script_grammar.specs.declared.tree.Script.{Script}
-use Rattle.engine.specs.Commands.{Takes, takes_script}
+use Rattle.engine.specs.Commands.{AcceptsScript, takes_script}
 use Rattle.engine.specs.declared.refusal.Refusal.{Refusal}
 use Rattle.engine.specs.declared.refusal.Refusal.TheVariants.{TooLong, Untaken, Read, Memory}
 use Rattle.engine.specs.declared.report.ReportEnd.{ReportEnd}
@@ -38,7 +38,7 @@ IsLate source = Means (IsLong source) (λ line. ⊥) (Failed source)
 
 -- The bytes of the source are the text of no script that the command takes, and this line tells why.
 abbrev pub HasUntaken : Command → Watched → List ℕ → Type 0
-HasUntaken command source line = (bytes : List ℕ) × ReadWhole source bytes × IsUntaken (Takes command) bytes line
+HasUntaken command source line = (bytes : List ℕ) × ReadWhole source bytes × IsUntaken (AcceptsScript command) bytes line
 
 -- Why a command has no report: only one that takes a script is refused for another reason than memory.
 abbrev pub IsCause : Command → Watched → Refusal → Type 0

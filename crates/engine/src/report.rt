@@ -3,7 +3,7 @@
 ghost use Rattle.std.specs.Prelude.{◌≡◌, ℕ, ◌≤◌, List, IsTrue, IsFalse, IfErr, IfOk, length};
 ghost use Rattle.dotmix.specs.Draws.{most_rounds};
 ghost use Rattle.ped_words.specs.Commands.{IsLawful, is_batch};
-ghost use Rattle.engine.specs.Commands.{Reports, Takes, is_whole, takes_script};
+ghost use Rattle.engine.specs.Commands.{AcceptsScript, Reports, is_whole, takes_script};
 ghost use Rattle.engine.specs.Promise.{most_bytes};
 ghost use Rattle.engine.specs.Refusal.{IsMisfit};
 ghost use Rattle.engine.specs.Report.{hash_text, said, shown};
@@ -65,15 +65,15 @@ fn hash_report(alloc: Global, gamma: &Gamma, at: &Pedigree, rounds: u32) -> Resu
     Ok(Report::said(text.into_bytes()))
 }
 
-/// What a command that is no batch writes, on the caller's thread, of the script that these bytes are the text of. It is refused as `Untaken` where they are the
-/// text of no script that the command takes, and as `Memory` where there was none.
+/// What a command that is no batch writes, on the caller's thread, of the script that these bytes are the text of. It is refused as
+/// `Untaken` where they are the text of no script that the command takes, and as `Memory` where there was none.
 pub fn script_report(alloc: Global, command: Command, bytes: &[u8]) -> Result<Report, Refusal>
     requires script { IsTrue (takes_script command) }
     requires alone { IsFalse (is_batch command) }
     requires lawful { IsLawful command }
     requires within { length bytes.now ≤ most_bytes }
     ensures report { IfOk result (λ report. Reports command bytes.now (shown report)) }
-    ensures refused { IfErr result (IsMisfit (Takes command) bytes.now) }
+    ensures refused { IfErr result (IsMisfit (AcceptsScript command) bytes.now) }
 {
     match command {
         Command::Run { settings, .. } => played(alloc, settings, bytes),

@@ -2,7 +2,7 @@
 
 ghost use Rattle.std.specs.Prelude.{◌↔◌, IsTrue, map, string_bytes};
 ghost use Rattle.ped_words.specs.Reading.{reading};
-ghost use Rattle.engine.specs.Clauses.{IsCall, change};
+ghost use Rattle.engine.specs.Clauses.{IsTopCall, change};
 ghost use Rattle.engine.specs.Commands.{IsRun, IsRunWord};
 
 use crate::call::{perform, perform_by_crew};
@@ -32,7 +32,7 @@ pub fn is_run(words: &[String]) -> bool
 
 /// All that the program does, over any source of the script, sink of the output and sink of the error line.
 ///
-/// `words` are those of the command line without the program's name. The clauses are the fields of `IsCall`. What each status means, and
+/// `words` are those of the command line without the program's name. The clauses are the fields of `IsTopCall`. What each status means, and
 /// which bytes were read and written then, is `promise`; `words` to `complete` say its parts. Statuses 2 to 7 come with one line on `err`,
 /// and whether `err` takes it changes no status. `events` says what holds of each run.
 ///
@@ -47,7 +47,7 @@ pub fn pedrun<R: Threads + Wait + Sync, S: Source, K: Sink, E: Sink, G: Gate + S
     err: &mut E,
     gate: &G,
 ) -> Status
-    ensures { IsCall (reading (map string_bytes words.now)) (change S.left S.faults script.old script.new)
+    ensures { IsTopCall (reading (map string_bytes words.now)) (change S.left S.faults script.old script.new)
         (change K.written K.faults out.old out.new) (change E.written E.faults err.old err.new) result }
 {
     if is_run(words) {
@@ -66,7 +66,7 @@ pub fn pedrun_plain<S: Source, K: Sink, E: Sink>(
     err: &mut E,
 ) -> Status
     requires { IsRun (map string_bytes words.now) → ⊥ }
-    ensures { IsCall (reading (map string_bytes words.now)) (change S.left S.faults script.old script.new)
+    ensures { IsTopCall (reading (map string_bytes words.now)) (change S.left S.faults script.old script.new)
         (change K.written K.faults out.old out.new) (change E.written E.faults err.old err.new) result }
 {
     perform(alloc, words, script, out, err)
@@ -83,7 +83,7 @@ pub fn pedrun_run<R: Threads + Wait + Sync, S: Source, K: Sink, E: Sink, G: Gate
     gate: &G,
 ) -> Status
     requires { IsRun (map string_bytes words.now) }
-    ensures { IsCall (reading (map string_bytes words.now)) (change S.left S.faults script.old script.new)
+    ensures { IsTopCall (reading (map string_bytes words.now)) (change S.left S.faults script.old script.new)
         (change K.written K.faults out.old out.new) (change E.written E.faults err.old err.new) result }
 {
     perform_by_crew(rt, alloc, words, script, out, err, gate)

@@ -10,7 +10,7 @@ use Rattle.meet_block.specs.declared.view.SeatState.{SeatState}
 use Rattle.meet_block.specs.declared.view.SeatState.TheVariants.{Open, Waiting, Ready}
 use Rattle.meet_block.specs.Counter.{holds_party}
 use Rattle.meet_block.specs.Joined.{joined}
-use Rattle.meet_block.specs.CounterViews.{CounterView, is_ready, tags_of, taken_of, all_ready, loads_of, known, Numbered, Stands, InOrder, Searched, FindsAll, FindsOwing}
+use Rattle.meet_block.specs.CounterViews.{CounterView, is_ready, tags_of, taken_of, all_ready, loads_of, known, Numbered, StandsInOrder, InOrder, Searched, FindsAll, FindsOwing}
 
 and_false : (b : Bool) → (b && false) ≡ false
 and_false true = refl
@@ -184,19 +184,19 @@ module _ {T : Type 0} where
   long_tags (x ∷ xs) (suc k) p at = omega (arith, long_tags xs k p at, length-append x.tags (tags_of xs))
 
   -- one block of a list in order changes
-  pub order_set : (found found' many many' : ℕ) (ps : List (CounterView T)) (k : ℕ) (q : CounterView T) → InOrder found many ps → found' ≤ length ps → Numbered 0 (set ps k q) → Stands found' many' k q
-      → ((j : ℕ) (u : CounterView T) → get_elem? ps j ≡ some u → j ≢ k → Stands found' many' j u) → InOrder found' many' (set ps k q)
+  pub order_set : (found found' many many' : ℕ) (ps : List (CounterView T)) (k : ℕ) (q : CounterView T) → InOrder found many ps → found' ≤ length ps → Numbered 0 (set ps k q) → StandsInOrder found' many' k q
+      → ((j : ℕ) (u : CounterView T) → get_elem? ps j ≡ some u → j ≢ k → StandsInOrder found' many' j u) → InOrder found' many' (set ps k q)
   order_set found found' many many' ps k q o le n here there = record {
     within = omega (arith, length-set ps k q);
-    each = λ j u at. ⊎_elim {C = Stands found' many' j u}
-        (λ t. subst (λ (y : CounterView T). Stands found' many' j y) t.1 (subst (λ (i : ℕ). Stands found' many' i q) (sym t.0) here))
+    each = λ j u at. ⊎_elim {C = StandsInOrder found' many' j u}
+        (λ t. subst (λ (y : CounterView T). StandsInOrder found' many' j y) t.1 (subst (λ (i : ℕ). StandsInOrder found' many' i q) (sym t.0) here))
         (λ t. there j u t.1 t.0)
         (at_set ps k j q u at);
     numbered = n;
   }
 
   -- no block is open
-  pub none_open : (found many k : ℕ) (p : CounterView T) → Stands found many k p → (k + 1 ≡ many → p.stage ≢ Open) → Stands found 0 k p
+  pub none_open : (found many k : ℕ) (p : CounterView T) → StandsInOrder found many k p → (k + 1 ≡ many → p.stage ≢ Open) → StandsInOrder found 0 k p
   none_open found many k p s ne = record {
     before = s.before;
     behind = λ le. ⊎_elim {C = (p.stage ≡ Waiting) ⊎ ((p.stage ≡ Open) × (k + 1 ≡ 0))} (λ w. inl w) (λ t. absurd (ne t.1 t.0)) (s.behind le);
@@ -205,7 +205,7 @@ module _ {T : Type 0} where
   }
 
   -- some block may be open
-  pub some_open : (found many k : ℕ) (p : CounterView T) → Stands found 0 k p → Stands found many k p
+  pub some_open : (found many k : ℕ) (p : CounterView T) → StandsInOrder found 0 k p → StandsInOrder found many k p
   some_open found many k p s = record {
     before = s.before;
     behind = λ le. ⊎_elim {C = (p.stage ≡ Waiting) ⊎ ((p.stage ≡ Open) × (k + 1 ≡ many))} (λ w. inl w) (λ t. absurd (omega (arith, t.1))) (s.behind le);
@@ -220,7 +220,7 @@ module _ {T : Type 0} where
   order_closed found ps o ne = record { within = o.within; each = λ k p at. none_open found (length ps) k p (o.each k p at) (λ l. ne k p l at); numbered = o.numbered }
 
   -- after the blocks that were found ready
-  pub is_behind : (found many k : ℕ) (p : CounterView T) → Stands found many k p → p.stage ≡ Open → found ≤ k
+  pub is_behind : (found many k : ℕ) (p : CounterView T) → StandsInOrder found many k p → p.stage ≡ Open → found ≤ k
   is_behind found many k p s e = dite (ℕ_discrete (found - k) 0) (λ z. omega arith) (λ ne. let r = s.before (omega arith) in let f : Open ≡ Ready = sym e ∙ r in absurd (cc))
 
   -- the parent gives up its party in the last block

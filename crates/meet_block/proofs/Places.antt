@@ -10,7 +10,7 @@ use Rattle.meet_block.specs.declared.view.SeatState.{SeatState}
 use Rattle.meet_block.specs.declared.view.SeatState.TheVariants.{Open, Waiting}
 use Rattle.meet_block.specs.Counter.{holds_party}
 use Rattle.meet_block.specs.Joined.{joined}
-use Rattle.meet_block.specs.CounterViews.{CounterView, is_ready, stage_given, handed, tags_of, taken_of, all_ready, loads_of, known, offset, Numbered, Stands, InOrder, HandsOut, Holds, ends_open}
+use Rattle.meet_block.specs.CounterViews.{CounterView, is_ready, stage_given, handed, tags_of, taken_of, all_ready, loads_of, known, offset, Numbered, StandsInOrder, InOrder, HandsOut, Holds, ends_open}
 use Rattle.meet_block.proofs.Orders.{not_open, same_known, at_or, below, at_right, at_left, set_left, set_right, tags_last, taken_last, numbered_last, tags_more, taken_more, loads_more, numbered_more, tags_set, loads_set, ready_set, numbered_set, owing_of, order_set, none_open, some_open, is_behind}
 
 given_waits : (b : Bool) → is_ready (if b then Waiting else Open) ≡ false
@@ -44,7 +44,7 @@ module _ {T : Type 0} where
               unseen = λ lt. ap (λ (y : CounterView T). y.loads) is ∙ s.unseen lt;
               even = omega (arith, ap (λ (y : CounterView T). length y.taken) is, ap (λ (y : CounterView T). length y.tags) is, s.even, length-append p.taken (false ∷ []), length-append p.tags (t ∷ []));
             }
-            (λ j u here ne. subst (λ (m : ℕ). Stands found m j u) (sym long) (o.each j u here));
+            (λ j u here ne. subst (λ (m : ℕ). StandsInOrder found m j u) (sym long) (o.each j u here));
       }
 
   ends_closed : (ps : List (CounterView T)) → ends_open ps ≡ false → (k : ℕ) (p : CounterView T) → k + 1 ≡ length ps → get_elem? ps k ≡ some p → p.stage ≢ Open
@@ -69,9 +69,9 @@ module _ {T : Type 0} where
         (owing_of (ps ++ q ∷ []) (length ps) q (at_last ps q (length ps) refl) (ap (λ (y : CounterView T). is_ready y.stage) is)) (loads_more ps q (ap (λ (y : CounterView T). y.loads) is));
     order = λ found o. record {
       within = omega (arith, o.within);
-      each = λ j u at. ⊎_elim {C = Stands found (length (ps ++ q ∷ [])) j u}
+      each = λ j u at. ⊎_elim {C = StandsInOrder found (length (ps ++ q ∷ [])) j u}
           (λ here. some_open found (length (ps ++ q ∷ [])) j u (none_open found (length ps) j u (o.each j u here) (λ l. ne j u l here)))
-          (λ h. subst (λ (y : CounterView T). Stands found (length (ps ++ q ∷ [])) j y) h.1 record {
+          (λ h. subst (λ (y : CounterView T). StandsInOrder found (length (ps ++ q ∷ [])) j y) h.1 record {
             before = λ lt. absurd (omega (arith, h.0, o.within));
             behind = λ _. inr (ap (λ (y : CounterView T). y.stage) is, omega (arith, h.0));
             unseen = λ _. ap (λ (y : CounterView T). y.loads) is;

@@ -76,7 +76,7 @@ module _ {T : Type 0} where
 
   -- The block k. The first `found` were found ready, no look went past the one after them, and only the last block may be open: `many` is the number of
   -- blocks, or 0 where none is open
-  pub record Stands (found many k : ℕ) (p : CounterView T) : Type 0 where
+  pub record StandsInOrder (found many k : ℕ) (p : CounterView T) : Type 0 where
     pub before : k < found → p.stage ≡ Ready
     pub behind : found ≤ k → (p.stage ≡ Waiting) ⊎ ((p.stage ≡ Open) × (k + 1 ≡ many))
     pub unseen : found < k → p.loads ≡ []
@@ -84,7 +84,7 @@ module _ {T : Type 0} where
 
   pub record InOrder (found many : ℕ) (ps : List (CounterView T)) : Type 0 where
     pub within : found ≤ length ps
-    pub each : (k : ℕ) (p : CounterView T) → get_elem? ps k ≡ some p → Stands found many k p
+    pub each : (k : ℕ) (p : CounterView T) → get_elem? ps k ≡ some p → StandsInOrder found many k p
     pub numbered : Numbered 0 ps
 
   abbrev pub ends_open : List (CounterView T) → Bool

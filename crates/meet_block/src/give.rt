@@ -26,11 +26,11 @@ enum End<A: Tagged> {
 /// is.
 #[derive(Drop)]
 pub struct Arrived<A: Tagged> {
-    left: Left<A>,
+    left: ArrivedEnd<A>,
 }
 
 #[derive(Drop)]
-enum Left<A: Tagged> {
+enum ArrivedEnd<A: Tagged> {
     Tied(Put<A>),
     Alone(KnownTag<A::Key>),
 }
@@ -82,12 +82,12 @@ impl<A: Tagged + Drop> Give<A> {
         let Give { end } = self;
         match end {
             End::Tied(tied) => Arrived {
-                left: Left::Tied(tied.put(value)),
+                left: ArrivedEnd::Tied(tied.put(value)),
             },
             End::Alone(tag) => {
                 drop(value);
                 Arrived {
-                    left: Left::Alone(tag),
+                    left: ArrivedEnd::Alone(tag),
                 }
             }
         }

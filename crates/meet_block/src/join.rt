@@ -16,12 +16,12 @@ use std::marker::Model;
 /// were put and not taken are dropped with it. A join is `Send` where the value is.
 #[derive(Drop)]
 pub struct Join<A: Tagged> {
-    ends: Ends<A>,
+    ends: ParentEnds<A>,
 }
 
 /// Whether the children's values come by the join.
 #[derive(Drop)]
-enum Ends<A: Tagged> {
+enum ParentEnds<A: Tagged> {
     Counted(Counters<A>),
     Idle(Idle<A::Key>),
 }
@@ -50,7 +50,7 @@ impl<A: Tagged + Drop> Join<A> {
         ensures { IfOk result (λ join. join ≡ joined [] [] true []) }
     {
         Ok(Join {
-            ends: Ends::Counted(Counters::new(alloc)),
+            ends: ParentEnds::Counted(Counters::new(alloc)),
         })
     }
 
@@ -60,7 +60,7 @@ impl<A: Tagged + Drop> Join<A> {
         ensures { result ≡ joined [] [] true [] }
     {
         Join {
-            ends: Ends::Idle(Idle::new()),
+            ends: ParentEnds::Idle(Idle::new()),
         }
     }
 
@@ -69,8 +69,8 @@ impl<A: Tagged + Drop> Join<A> {
         ensures { result ≡ length self.now.tags }
     {
         match &self.ends {
-            Ends::Counted(counters) => counters.count(),
-            Ends::Idle(idle) => idle.count(),
+            ParentEnds::Counted(counters) => counters.count(),
+            ParentEnds::Idle(idle) => idle.count(),
         }
     }
 
@@ -84,8 +84,8 @@ impl<A: Tagged + Drop> Join<A> {
         ensures err { OnErr result (self.new ≡ self.old) }
     {
         match &mut self.ends {
-            Ends::Counted(counters) => counters.hand(alloc, tag),
-            Ends::Idle(idle) => {
+            ParentEnds::Counted(counters) => counters.hand(alloc, tag),
+            ParentEnds::Idle(idle) => {
                 idle.hand(tag)?;
                 Ok(Give::alone(tag))
             }
@@ -103,8 +103,8 @@ impl<A: Tagged + Drop> Join<A> {
         ensures taken { self.new.taken ≡ self.old.taken }
     {
         match &mut self.ends {
-            Ends::Counted(counters) => counters.look(),
-            Ends::Idle(idle) => idle.look(),
+            ParentEnds::Counted(counters) => counters.look(),
+            ParentEnds::Idle(idle) => idle.look(),
         }
     }
 
@@ -118,8 +118,8 @@ impl<A: Tagged + Drop> Join<A> {
             ≡ joined self.old.tags (slice_set self.old.taken i true) true self.old.loads }
     {
         match &mut self.ends {
-            Ends::Counted(counters) => counters.take(i),
-            Ends::Idle(idle) => idle.take(i),
+            ParentEnds::Counted(counters) => counters.take(i),
+            ParentEnds::Idle(idle) => idle.take(i),
         }
     }
 }

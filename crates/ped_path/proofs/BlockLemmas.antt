@@ -1,7 +1,7 @@
 -- Lists of blocks of 16.
 use Rattle.std.proofs.Common.{◌≡◌, ℕ, zero, suc, ◌<◌, ◌≤◌, ◌+◌, ◌*◌, ◌/◌, ◌%◌, ◌-◌, List, [], ◌∷◌, ◌++◌, All, length, get_or, take, refl, sym, ap, ◌∙◌, arith, append_assoc, add-one, length-append, length-set, subst, ◌^◌}
 use Rattle.std.specs.List.{concat, slice_set}
-use Rattle.ped_path.specs.Blocks.{IsBlock, IsBlocked, joined}
+use Rattle.ped_path.specs.Blocks.{IsBlocked, IsRankBlock, joined}
 use Rattle.ped_path.specs.Path.{IsRank}
 use Rattle.std.proofs.Math.ListN.{get_or-append}
 use Rattle.std.proofs.Math.Seq.{take-suc-set}
@@ -78,8 +78,8 @@ module _ (bs : List (List ℕ)) (last : List ℕ) (count : ℕ) (kept : IsBlocke
       block-whole : take (count + 1) (slice_set last count r) ≡ slice_set last count r
       block-whole = let slots : length last ≡ 16 = kept.slots in take_all (count + 1) (slice_set last count r) (simp length-set (omega arith))
 
-      pub IsBlock-filled : IsBlock (slice_set last count r)
-      IsBlock-filled = record {
+      pub IsRankBlock-filled : IsRankBlock (slice_set last count r)
+      IsRankBlock-filled = record {
         full = length-set last count r ∙ kept.slots;
         bounded = subst (All IsRank) block-whole (All-append_right IsRank (concat bs) (take (count + 1) (slice_set last count r)) (rw joined-more (All-push IsRank (joined bs last count) r kept.bounded rank)));
       }
@@ -90,7 +90,7 @@ module _ (bs : List (List ℕ)) (last : List ℕ) (count : ℕ) (kept : IsBlocke
 
       pub IsBlocked-filled : length bs < 2 ^ 58 → (none : List ℕ) → length none ≡ 16 → IsBlocked (bs ++ slice_set last count r ∷ []) none 0
       IsBlocked-filled lt none slots = record {
-        full = All-push (λ block. length block ≡ 16) bs (slice_set last count r) kept.full IsBlock-filled.full;
+        full = All-push (λ block. length block ≡ 16) bs (slice_set last count r) kept.full IsRankBlock-filled.full;
         few = simp length-append (omega arith);
         slots = slots;
         unfinished = omega arith;

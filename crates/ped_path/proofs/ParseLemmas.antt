@@ -17,7 +17,7 @@ use Rattle.std.proofs.lemmas.Str.{digit_value_digit}
 use Rattle.std.proofs.lemmas.Str.Parse.{IsNumeralModel, digit_at, digit_from_value, numerals_by_value, tells_digits}
 use Rattle.ped_path.specs.Path.{IsRank}
 use Rattle.ped_path.specs.Text.{ped_text, stopped}
-use Rattle.ped_path.specs.Parsing.{begins_with_digit, has_needless_zero, BeginsTooBig, IsBehindRanks, IsRankFault, IsRankThen, IsRefused, LacksStop, StandsAt}
+use Rattle.ped_path.specs.Parsing.{begins_with_digit, has_needless_zero, BeginsTooBig, IsBehindRanks, IsRankFault, IsRankThen, IsRefused, LacksStop, RankDueAt}
 use Rattle.ped_path.specs.declared.parse.PedTextError.{PedTextError}
 use Rattle.ped_path.specs.declared.parse.PedTextError.TheVariants.{Empty, BadByte, Zeros, TooBig, TooLong, Memory}
 use Rattle.ped_path.proofs.TextLemmas.{ped_text-append, stopped-append}
@@ -168,7 +168,7 @@ read_more text path next rest (c ∷ cs) after count at end rank s r n e some st
 moved : (text : List ℕ) (count at k : ℕ) (rest : List ℕ) → k ≡ at → IsBehindRanks text count at rest → IsBehindRanks text count k rest
 moved text count at k rest e f = record { ranks = f.ranks; counted = f.counted; bounded = f.bounded; whole = f.whole; offset = e ∙ f.offset }
 
-stands : (text : List ℕ) (count at k : ℕ) (rest : List ℕ) (P : List ℕ → Type 0) → k ≡ at → count < 512 → IsBehindRanks text count at rest → P rest → StandsAt text k P
+stands : (text : List ℕ) (count at k : ℕ) (rest : List ℕ) (P : List ℕ → Type 0) → k ≡ at → count < 512 → IsBehindRanks text count at rest → P rest → RankDueAt text k P
 stands text count at k rest P e few f here = record { count = count; rest = rest; few = few; front = moved text count at k rest e f; here = here }
 
 -- a rank that isn't one

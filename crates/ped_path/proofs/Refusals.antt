@@ -10,7 +10,7 @@ use Rattle.std.proofs.lemmas.List.Elements.{All-head, All-tail}
 use Rattle.std.proofs.lemmas.Str.Parse.{digit_from_value, digits_value-take-le}
 use Rattle.ped_path.specs.Path.{IsRank}
 use Rattle.ped_path.specs.Text.{stopped}
-use Rattle.ped_path.specs.Parsing.{begins_with_digit, has_needless_zero, BeginsTooBig, IsBehindRanks, IsRankThen, IsRefused, LacksStop, StandsAt}
+use Rattle.ped_path.specs.Parsing.{begins_with_digit, has_needless_zero, BeginsTooBig, IsBehindRanks, IsRankThen, IsRefused, LacksStop, RankDueAt}
 use Rattle.ped_path.specs.Laws.{RefusalsAreUnique, WritesTooBig, Breaks, number_of, place_of, LeastRuleIsTold}
 use Rattle.ped_path.specs.declared.parse.PedTextError.{PedTextError}
 use Rattle.ped_path.specs.declared.parse.PedTextError.TheVariants.{Empty, BadByte, Zeros, TooBig, TooLong, Memory}
@@ -217,7 +217,7 @@ record Found (P : ℕ → List ℕ → Type 0) (text : List ℕ) : Type 0 where
   front : IsBehindRanks text count at rest
   what : P at rest
 
-stand : (P : ℕ → List ℕ → Type 0) (text : List ℕ) (at : ℕ) (Q : List ℕ → Type 0) → StandsAt text at Q → ((x : List ℕ) → Q x → P at x) → Found P text
+stand : (P : ℕ → List ℕ → Type 0) (text : List ℕ) (at : ℕ) (Q : List ℕ → Type 0) → RankDueAt text at Q → ((x : List ℕ) → Q x → P at x) → Found P text
 stand P text at Q s f = record { count = s.count; at = at; rest = s.rest; few = s.few; front = s.front; what = f s.rest s.here }
 
 at_one : (text : List ℕ) (P Q : ℕ → List ℕ → Type 0) → ((at : ℕ) (x : List ℕ) → P at x → Stuck x) → ((at : ℕ) (x : List ℕ) → Q at x → Stuck x) →
@@ -253,7 +253,7 @@ long_some : (p y : List ℕ) → 0 < length p → stopped p ++ y ≡ [] → ⊥
 long_some [] y some e = absurd (omega arith)
 long_some (r ∷ p) y some e = let f = behind_nothing (decimal r) (46 ∷ (stopped p ++ y)) (sym (regroup (decimal r) (stopped p) y) ∙ e) in cc
 
-some_of : (text : List ℕ) (at : ℕ) (Q : List ℕ → Type 0) → StandsAt text at Q → ((x : List ℕ) → Q x → begins_with_digit x ≡ true) → text ≢ []
+some_of : (text : List ℕ) (at : ℕ) (Q : List ℕ → Type 0) → RankDueAt text at Q → ((x : List ℕ) → Q x → begins_with_digit x ≡ true) → text ≢ []
 some_of text at Q s f = λ e.
     let none = behind_nothing (stopped s.front.ranks) s.rest (sym s.front.whole ∙ e) in
     no_both (begins_with_digit s.rest) (f s.rest s.here) (ap begins_with_digit none)
@@ -263,7 +263,7 @@ data View (P : PedTextError → ℕ → List ℕ → Type 0) (text : List ℕ) (
   long : e ≡ TooLong → (at : ℕ) (rest : List ℕ) → IsBehindRanks text 512 at rest → View P text e
   found : text ≢ [] → Found (P e) text → View P text e
 
-bad : (text : List ℕ) (k : ℕ) → StandsAt text k (λ rest. begins_with_digit rest ≡ false) ⊎ ((start : ℕ) × StandsAt text start (LacksStop start k)) → Found (Wrong (BadByte k)) text
+bad : (text : List ℕ) (k : ℕ) → RankDueAt text k (λ rest. begins_with_digit rest ≡ false) ⊎ ((start : ℕ) × RankDueAt text start (LacksStop start k)) → Found (Wrong (BadByte k)) text
 bad text k (inl s) = stand (Wrong (BadByte k)) text k _ s (λ x h. inl (refl, h))
 bad text k (inr s) = stand (Wrong (BadByte k)) text s.0 _ s.1 (λ x h. inr h)
 

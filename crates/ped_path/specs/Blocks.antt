@@ -6,7 +6,7 @@ use Rattle.std.specs.declared.sync.Arc.{Arc}
 use Rattle.std.specs.declared.vec.Vec.{Vec}
 use Rattle.ped_path.specs.Path.{IsRank}
 
-pub record IsBlock (ranks : List ℕ) : Type 0 where
+pub record IsRankBlock (ranks : List ℕ) : Type 0 where
   pub full : length ranks ≡ 16
   pub bounded : All IsRank ranks
 

@@ -1,7 +1,7 @@
 -- Laws of the refusals of texts. Each is the contract of a function of the module `laws`.
 use Rattle.std.specs.Prelude.{◌≡◌, ◌≢◌, ℕ, ◌≤◌, ◌^◌, List, ◌++◌}
 use Rattle.std.specs.Str.Parse.{AllDigits, digits_value}
-use Rattle.ped_path.specs.Parsing.{IsRefused, StandsAt}
+use Rattle.ped_path.specs.Parsing.{IsRefused, RankDueAt}
 use Rattle.ped_path.specs.declared.parse.PedTextError.{PedTextError}
 use Rattle.ped_path.specs.declared.parse.PedTextError.TheVariants.{Empty, BadByte, Zeros, TooBig, TooLong, Memory}
 
@@ -19,7 +19,7 @@ pub record WritesTooBig (rest : List ℕ) : Type 0 where
 
 -- the text breaks this rule, whatever other rule it breaks at that place
 abbrev pub Breaks : List ℕ → PedTextError → Type 0
-Breaks text (TooBig at) = StandsAt text at WritesTooBig
+Breaks text (TooBig at) = RankDueAt text at WritesTooBig
 Breaks text e = IsRefused text e
 
 abbrev pub number_of : PedTextError → ℕ

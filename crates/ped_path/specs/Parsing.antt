@@ -49,7 +49,7 @@ pub record IsBehindRanks (text : List ℕ) (count at : ℕ) (rest : List ℕ) : 
   pub offset : at ≡ length (stopped ranks)
 
 -- One of the first 512 ranks should begin at this offset, and what stands from there on is so.
-pub record StandsAt (text : List ℕ) (start : ℕ) (P : List ℕ → Type 0) : Type 0 where
+pub record RankDueAt (text : List ℕ) (start : ℕ) (P : List ℕ → Type 0) : Type 0 where
   pub count : ℕ
   pub rest : List ℕ
   pub few : count < 512
@@ -68,8 +68,8 @@ pub record LacksStop (start at : ℕ) (rest : List ℕ) : Type 0 where
 -- The text is no pedigree's, and this is the first thing that is wrong with it.
 abbrev pub IsRefused : List ℕ → PedTextError → Type 0
 IsRefused text Empty = text ≡ []
-IsRefused text (BadByte at) = (text ≢ []) × (StandsAt text at (λ rest. begins_with_digit rest ≡ false) ⊎ ((start : ℕ) × StandsAt text start (LacksStop start at)))
-IsRefused text (Zeros at) = StandsAt text at (λ rest. has_needless_zero rest ≡ true)
-IsRefused text (TooBig at) = StandsAt text at BeginsTooBig
+IsRefused text (BadByte at) = (text ≢ []) × (RankDueAt text at (λ rest. begins_with_digit rest ≡ false) ⊎ ((start : ℕ) × RankDueAt text start (LacksStop start at)))
+IsRefused text (Zeros at) = RankDueAt text at (λ rest. has_needless_zero rest ≡ true)
+IsRefused text (TooBig at) = RankDueAt text at BeginsTooBig
 IsRefused text TooLong = (at : ℕ) × (rest : List ℕ) × IsBehindRanks text 512 at rest
 IsRefused text Memory = Unit {0}

@@ -1,5 +1,5 @@
 ghost use Rattle.std.specs.Prelude.{◌≡◌, ◌<◌, ◌^◌, ℕ, [], ◌∷◌, ◌++◌, length, All, IfOk, slice_index};
-ghost use Rattle.ped_path.specs.Blocks.{IsBlock};
+ghost use Rattle.ped_path.specs.Blocks.{IsRankBlock};
 
 use crate::memory::Memory;
 use std::alloc::Global;
@@ -18,18 +18,18 @@ pub(crate) struct RankBlock {
 impl Model for RankBlock {
     ghost use Rattle.std.specs.Prelude.{ℕ, List};
     ghost use Rattle.std.specs.Arc.{arc_value};
-    ghost use Rattle.ped_path.specs.Blocks.{IsBlock};
+    ghost use Rattle.ped_path.specs.Blocks.{IsRankBlock};
 
     ghost Value = { List ℕ };
 
     ghost view = { λ b. arc_value b.ranks };
 
-    ghost invariant = { λ b. IsBlock (arc_value b.ranks) };
+    ghost invariant = { λ b. IsRankBlock (arc_value b.ranks) };
 }
 
 impl RankBlock {
     pub(crate) fn new(alloc: Global, ranks: [u32; BLOCK]) -> Result<RankBlock, Memory>
-        requires { IsBlock ranks }
+        requires { IsRankBlock ranks }
         ensures { IfOk result (λ block. block ≡ ranks) }
     {
         let ranks = Arc::new(alloc, ranks)?;

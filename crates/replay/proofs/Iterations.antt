@@ -4,7 +4,6 @@ use Rattle.std.proofs.Common.{ℤ}
 use Rattle.std.specs.Prelude.{Contains, slice_get}
 use Rattle.std.proofs.Math.Seq.{take-append_seam}
 use Rattle.std.proofs.lemmas.Bool.Decides.{nat_tests}
-use Rattle.loop_range.specs.Range.{Range}
 use Rattle.serial_meaning.specs.Laws.{IsOriginOf, ChildOf}
 use Rattle.serial_meaning.specs.Plan.{PlanView}
 use Rattle.serial_meaning.specs.Eval.{path_of, iteration}
@@ -15,7 +14,7 @@ use Rattle.serial_meaning.specs.declared.origin.Origin.{Origin}
 use Rattle.serial_meaning.specs.declared.origin.Origin.TheVariants.{Instance, Loop}
 use Rattle.strand_meaning.specs.Rest.{children_of}
 use Rattle.strand_meaning.specs.Strands.{is_below, child_on_way, entered, iteration_on_way}
-use Rattle.strand_meaning.proofs.ElisionsStrands.ItemsRise.{IsWhole, ItemsRise, items-rise}
+use Rattle.strand_meaning.proofs.ElisionsStrands.ItemsRise.{IsWholeLoop, ItemsRise, items-rise}
 use Rattle.strand_meaning.proofs.SoundSteps.Loops.{contains-turn}
 use Rattle.serial_runner.specs.Nodes.{IsBelow}
 use Rattle.serial_runner.proofs.Below.{both, below-of}
@@ -35,7 +34,7 @@ below-path path k ranks j e = subst (IsBelow path) (sym e) (record { begins = ta
 record OnWay (j : List ℕ) (is : List Item) (c : Origin) : Type 0 where
   among : Contains is (Child c)
   below : is_below (path_of c) j ≡ true
-  whole : IsWhole c
+  whole : IsWholeLoop c
 
 later-one : (i : Item) (is : List Item) (c : Origin) → Contains is (Child c) → Contains (i ∷ is) (Child c)
 later-one i is c k = (suc k.0, omega (arith, k.1), k.2)

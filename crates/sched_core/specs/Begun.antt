@@ -7,13 +7,13 @@ use Rattle.sched_core.specs.Cores.{plan_of}
 use Rattle.sched_core.specs.Moves.{job}
 use Rattle.sched_core.specs.Nodes.{new_node}
 use Rattle.sched_core.specs.Workers.{WorkerView, only}
-use Rattle.sched_core.specs.declared.state.State.{State}
+use Rattle.sched_core.specs.declared.state.CoreState.{CoreState}
 
 -- so many workers, of which the first has this task
 abbrev pub hired : TaskView → ℕ → List WorkerView
 hired main workers = only (Some (job main 0)) ∷ replicate (workers - 1) (only None)
 
-pub record IsBegun (plan : PlanView) (workers : ℕ) (s : State) : Type 0 where
+pub record IsBegun (plan : PlanView) (workers : ℕ) (s : CoreState) : Type 0 where
   pub plan_is : plan_of s ≡ plan
   pub hired : s.workers.items ≡ hired (fresh plan (main_origin plan)) workers
   pub nodes : s.nodes.items ≡ new_node (main_origin plan) None ∷ []

@@ -16,7 +16,7 @@ use Rattle.sched_core.specs.Workers.{WorkerView}
 use Rattle.sched_core.specs.declared.node.Child.{Child}
 use Rattle.sched_core.specs.declared.node.Link.{Link}
 use Rattle.sched_core.specs.declared.node.SpawnNode.{SpawnNode}
-use Rattle.sched_core.specs.declared.state.State.{State}
+use Rattle.sched_core.specs.declared.state.CoreState.{CoreState}
 use Rattle.sched_core.specs.declared.job.Job.{Job}
 
 abbrev pub Everywhere : {A : Type 0} → (A → Type 0) → List A → Type 0
@@ -98,7 +98,7 @@ AreWorkers nodes ws = Everywhere (AreJobs nodes) ws
 abbrev pub AreNodes : PlanView → List Origin → List SpawnNode → Type 0
 AreNodes plan given nodes = (n : ℕ) (node : SpawnNode) → slice_get nodes n ≡ Some node → IsNode plan given nodes n node
 
-pub record IsConsistent (s : State) : Type 0 where
+pub record IsConsistent (s : CoreState) : Type 0 where
   pub valid : IsValid (plan_of s).script
   pub led : IsLed (plan_of s) (core_of false s)
   pub workers : AreWorkers s.nodes.items s.workers.items
@@ -106,11 +106,11 @@ pub record IsConsistent (s : State) : Type 0 where
   pub root : IsHeard (plan_of s) s.given (main_origin (plan_of s)) s.root
 
 -- One step.
-pub record Goes (e : CoreEvent) (s next : State) : Type 0 where
+pub record Goes (e : CoreEvent) (s next : CoreState) : Type 0 where
   pub step : Step e (core_of false s) (core_of false next)
   pub consistent : IsConsistent next
 
 -- What holds of a core as long as no step wanted memory.
-abbrev pub Holds : Bool → State → Type 0
+abbrev pub Holds : Bool → CoreState → Type 0
 Holds false s = IsConsistent s
 Holds true s = Unit {0}

@@ -8,7 +8,7 @@ use Rattle.serial_meaning.specs.declared.origin.Origin.{Origin}
 use Rattle.strand_meaning.specs.Task.{Task}
 use Rattle.sched_meaning.specs.Core as machine
 use Rattle.sched_core.specs.declared.node.SpawnNode.{SpawnNode}
-use Rattle.sched_core.specs.declared.state.State.{State}
+use Rattle.sched_core.specs.declared.state.CoreState.{CoreState}
 use Rattle.sched_core.specs.Workers.{WorkerView}
 use Rattle.sched_core.specs.declared.job.Job.{Job}
 
@@ -29,10 +29,10 @@ origins_of nodes = map (λ n. n.origin) nodes
 abbrev pub answer_of : PlanView → Origin → AnswerView
 answer_of plan o = record { plan = plan; origin = o; out = (eval plan o).items; outcome = outcome_of o (eval plan o).ending }
 
-abbrev pub plan_of : State → PlanView
+abbrev pub plan_of : CoreState → PlanView
 plan_of s = arc_value s.plan
 
-abbrev pub core_of : Bool → State → machine.Core
+abbrev pub core_of : Bool → CoreState → machine.Core
 core_of spent s = record {
   plan = plan_of s;
   workers = map worker_of s.workers.items;

@@ -12,7 +12,7 @@ use Rattle.sched_core.specs.Workers.{WorkerView}
 use Rattle.sched_core.specs.declared.job.Job.{Job}
 use Rattle.sched_core.specs.declared.node.Link.{Link}
 use Rattle.sched_core.specs.declared.node.SpawnNode.{SpawnNode}
-use Rattle.sched_core.specs.declared.state.State.{State}
+use Rattle.sched_core.specs.declared.state.CoreState.{CoreState}
 
 abbrev pub job : TaskView → ℕ → Job
 job t n = record { task = t; number = n }
@@ -22,8 +22,8 @@ job t n = record { task = t; number = n }
 abbrev pub HandsOut : Job → Job → WorkerView → WorkerView → Type 0
 HandsOut child rest w next = next ≡ record w { current = Some child; deque = w.deque ++ rest ∷ [] }
 
-abbrev pub Parks : Job → WorkerView → WorkerView → Type 0
-Parks rest w next = next ≡ record w { stalled = w.stalled ++ rest ∷ [] }
+abbrev pub Stalls : Job → WorkerView → WorkerView → Type 0
+Stalls rest w next = next ≡ record w { stalled = w.stalled ++ rest ∷ [] }
 
 -- the current task leaves
 abbrev pub Lets : Job → WorkerView → WorkerView → Type 0
@@ -52,12 +52,12 @@ pub record WorkerChanges (n : ℕ) (R : WorkerView → WorkerView → Type 0) (w
 
 -- Stops
 
-abbrev pub goes_to : Option Link → AnswerView → State → State → Type 0
+abbrev pub goes_to : Option Link → AnswerView → CoreState → CoreState → Type 0
 goes_to None answer s next = (next.root ≡ Some answer) × (next.nodes.items ≡ s.nodes.items)
 goes_to (Some l) answer s next = (next.root ≡ s.root) × NodeChanges l.parent (Hears l.place answer) s.nodes.items next.nodes.items
 
 -- An answer goes to the node that this link names, or is main's.
-pub record Delivers (link : Option Link) (answer : AnswerView) (s next : State) : Type 0 where
+pub record Delivers (link : Option Link) (answer : AnswerView) (s next : CoreState) : Type 0 where
   pub goes : goes_to link answer s next
   pub given : next.given ≡ s.given
   pub plan : next.plan ≡ s.plan
@@ -65,7 +65,7 @@ pub record Delivers (link : Option Link) (answer : AnswerView) (s next : State) 
   pub runs : next.runs ≡ s.runs
 
 -- The answer of the origin of this number goes where it belongs.
-pub record PutsAnswer (number : ℕ) (answer : AnswerView) (s next : State) : Type 0 where
+pub record PutsAnswer (number : ℕ) (answer : AnswerView) (s next : CoreState) : Type 0 where
   pub node : SpawnNode
   pub there : slice_get s.nodes.items number ≡ Some node
   pub goes : goes_to node.link answer s next
@@ -75,7 +75,7 @@ pub record PutsAnswer (number : ℕ) (answer : AnswerView) (s next : State) : Ty
   pub runs : next.runs ≡ s.runs
 
 -- The child of the task of this number is begun, and becomes current.
-pub record BeginsTask (w number : ℕ) (child rest : TaskView) (s next : State) : Type 0 where
+pub record BeginsTask (w number : ℕ) (child rest : TaskView) (s next : CoreState) : Type 0 where
   pub begun : ℕ
   pub nodes : BeginsChild number child.task.origin s.nodes.items next.nodes.items
   pub workers : WorkerChanges w (HandsOut (job child begun) (job rest number)) s.workers.items next.workers.items
@@ -85,8 +85,8 @@ pub record BeginsTask (w number : ℕ) (child rest : TaskView) (s next : State) 
   pub root : next.root ≡ s.root
   pub runs : next.runs ≡ s.runs
 
-pub record ParksTask (w : ℕ) (rest : Job) (s next : State) : Type 0 where
-  pub workers : WorkerChanges w (Parks rest) s.workers.items next.workers.items
+pub record StallsTask (w : ℕ) (rest : Job) (s next : CoreState) : Type 0 where
+  pub workers : WorkerChanges w (Stalls rest) s.workers.items next.workers.items
   pub nodes : next.nodes.items ≡ s.nodes.items
   pub plan : next.plan ≡ s.plan
   pub given : next.given ≡ s.given
@@ -94,9 +94,9 @@ pub record ParksTask (w : ℕ) (rest : Job) (s next : State) : Type 0 where
   pub runs : next.runs ≡ s.runs
 
 -- What a stop of a task that left its worker does.
-abbrev pub StopsAt : ℕ → ℕ → Stop → State → State → Type 0
+abbrev pub StopsAt : ℕ → ℕ → Stop → CoreState → CoreState → Type 0
 StopsAt w number (stop.Spawn child rest) s next = BeginsTask w number child rest s next
-StopsAt w number (stop.Wait rest) s next = ParksTask w (job rest number) s next
+StopsAt w number (stop.Wait rest) s next = StallsTask w (job rest number) s next
 StopsAt w number (stop.Done answer give) s next = PutsAnswer number answer s next
 
 -- A task takes the answers of its children, all of which have answered.
@@ -117,7 +117,7 @@ abbrev pub CanHear : List SpawnNode → Option Link → Type 0
 CanHear nodes None = Unit {0}
 CanHear nodes (Some l) = CanHearAt nodes l
 
-pub record CanStop (w number : ℕ) (s : State) : Type 0 where
+pub record CanStop (w number : ℕ) (s : CoreState) : Type 0 where
   pub worker : w < length s.workers.items
   pub node : SpawnNode
   pub there : slice_get s.nodes.items number ≡ Some node

@@ -14,10 +14,10 @@ use Rattle.sched_core.specs.Consistent.{Goes}
 use Rattle.sched_core.specs.declared.simulation.Simulated.{Simulated}
 use Rattle.sched_core.specs.declared.simulation.Went.{Went}
 use Rattle.sched_core.specs.declared.simulation.Went.TheVariants.{On, Over}
-use Rattle.sched_core.specs.declared.state.State.{State}
+use Rattle.sched_core.specs.declared.state.CoreState.{CoreState}
 
 -- The word picks an event, which happens, and main isn't answered yet.
-pub record GoesOn (word : ℕ) (s next : State) : Type 0 where
+pub record GoesOn (word : ℕ) (s next : CoreState) : Type 0 where
   pub event : CoreEvent
   pub picks : picked (core_of false s) word ≡ Some event
   pub goes : Goes event s next
@@ -29,13 +29,13 @@ pub record IsMains (plan : PlanView) (a : AnswerView) : Type 0 where
   pub fault : IsFaultOf plan a.outcome
 
 -- The word picks a run of this worker, by which main is answered.
-pub record Ends (word : ℕ) (s : State) (simulated : Simulated) : Type 0 where
+pub record AnswersMain (word : ℕ) (s : CoreState) (simulated : Simulated) : Type 0 where
   pub next : machine.Core
   pub picks : picked (core_of false s) word ≡ Some (Run simulated.worker)
   pub step : Step (Run simulated.worker) (core_of false s) next
   pub answered : machine.IsRootAnswered next
   pub mains : IsMains (plan_of s) simulated.answer
 
-abbrev pub Plays : ℕ → State → Went → Type 0
+abbrev pub Plays : ℕ → CoreState → Went → Type 0
 Plays word s (On next) = GoesOn word s next
-Plays word s (Over simulated) = Ends word s simulated
+Plays word s (Over simulated) = AnswersMain word s simulated

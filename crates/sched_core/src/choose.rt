@@ -6,7 +6,7 @@ ghost use Rattle.sched_core.specs.Chosen as chosen;
 ghost use Rattle.sched_core.specs.Cores.{core_of, worker_of};
 ghost use Rattle.sched_core.specs.Consistent.{IsConsistent};
 
-use crate::state::State;
+use crate::state::CoreState;
 use sched_meaning::CoreEvent;
 use std::alloc::Global;
 use strand_machine::Memory;
@@ -21,7 +21,7 @@ fn add_if(events: &mut Vec<CoreEvent>, goes_on: bool, event: CoreEvent) -> Resul
     Ok(())
 }
 
-impl State {
+impl CoreState {
     /// How many workers there are.
     fn count(&self) -> u32
         requires { length self.now.workers.items ≤ 64 }
@@ -154,7 +154,7 @@ impl State {
 }
 
 /// The choice that a word names.
-pub(crate) fn pick(state: &State, alloc: Global, word: u64) -> Result<Option<CoreEvent>, Memory>
+pub(crate) fn pick(state: &CoreState, alloc: Global, word: u64) -> Result<Option<CoreEvent>, Memory>
     requires consistent { IsConsistent state.now }
     requires few { length state.now.workers.items ≤ 64 }
     requires root { state.now.root ≡ None }

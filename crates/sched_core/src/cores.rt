@@ -1,6 +1,6 @@
 use crate::error::CoreError;
 use crate::new_state::new_state;
-use crate::state::State;
+use crate::state::CoreState;
 use crate::steps::go;
 use sched_meaning::CoreEvent;
 use serial_meaning::{Answer, Plan};
@@ -13,7 +13,7 @@ use strand_machine::Memory;
 /// core.
 #[derive(Drop)]
 pub struct Core {
-    pub(crate) state: State,
+    pub(crate) state: CoreState,
     pub(crate) spent: bool,
 }
 
@@ -87,7 +87,7 @@ impl Core {
 
     /// What holds of every core, whatever events led to it: no origin was begun twice, one that was begun and isn't answered is that of
     /// one task in one place, answers are evaluations, there are no more runs than segments, and until the root is answered some event
-    /// goes on with the work.
+    /// goes on with the work. It is for who steps a core and rests on that, as to tell that steps can't run out before main's answer is there.
     pub fn is_sound(&self)
         ensures { self.now.spent ≡ false → IsSound self.now }
     {

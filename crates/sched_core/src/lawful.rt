@@ -5,10 +5,10 @@ ghost use Rattle.sched_meaning.specs.declared.event.CoreEvent.TheVariants as eve
 ghost use Rattle.sched_core.specs.Cores.{core_of, worker_of};
 ghost use Rattle.sched_core.specs.Lawful.{has_waiting, may_happen, may_idle};
 
-use crate::state::State;
+use crate::state::CoreState;
 use sched_meaning::CoreEvent;
 
-impl State {
+impl CoreState {
     /// Whether the worker has a current task.
     pub fn may_run(&self, w: u32) -> bool
         ensures { result ≡ may_run (slice_get (map worker_of self.now.workers.items) w) }

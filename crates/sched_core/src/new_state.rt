@@ -8,7 +8,7 @@ ghost use Rattle.sched_core.specs.Consistent.{IsConsistent};
 
 use crate::job::Job;
 use crate::node::SpawnNode;
-use crate::state::State;
+use crate::state::CoreState;
 use crate::worker::Worker;
 use meet_block::Give;
 use script_grammar::Items;
@@ -49,7 +49,7 @@ fn hire(alloc: Global, main: Task, workers: u32) -> Result<Vec<Worker>, Memory>
 }
 
 /// The core before its first step, by its fields.
-fn first_state(alloc: Global, plan: &Arc<Plan>, workers: u32) -> Result<State, Memory>
+fn first_state(alloc: Global, plan: &Arc<Plan>, workers: u32) -> Result<CoreState, Memory>
     requires { 1 ≤ workers }
     ensures { IfOk result (IsBegun (arc_value plan.now) workers) }
 {
@@ -57,7 +57,7 @@ fn first_state(alloc: Global, plan: &Arc<Plan>, workers: u32) -> Result<State, M
     let mut nodes = Vec::with_capacity(alloc, 1)?;
     let origin = main.share_origin(alloc)?;
     nodes.push(SpawnNode::new(alloc, origin, None))?;
-    Ok(State {
+    Ok(CoreState {
         plan: Arc::try_clone(plan)?,
         workers: hire(alloc, main, workers)?,
         nodes,
@@ -68,7 +68,7 @@ fn first_state(alloc: Global, plan: &Arc<Plan>, workers: u32) -> Result<State, M
 }
 
 /// The core before its first step.
-pub(crate) fn new_state(alloc: Global, plan: &Arc<Plan>, workers: u32) -> Result<State, Memory>
+pub(crate) fn new_state(alloc: Global, plan: &Arc<Plan>, workers: u32) -> Result<CoreState, Memory>
     requires { 1 ≤ workers }
     ensures begun { IfOk result (IsBegun (arc_value plan.now) workers) }
     ensures consistent { IfOk result IsConsistent }

@@ -9,7 +9,7 @@ ghost use Rattle.sched_core.specs.Consistent.{IsConsistent};
 
 use crate::choose::pick;
 use crate::new_state::new_state;
-use crate::state::State;
+use crate::state::CoreState;
 use crate::steps::go;
 use rand_core::SeedableRng;
 use rand_core::utils::NextWord;
@@ -30,12 +30,12 @@ pub struct Simulated {
 /// What a step of a simulation came to.
 #[derive(Drop)]
 enum Went {
-    On(State),
+    On(CoreState),
     Over(Simulated),
 }
 
 /// The step that a word picks.
-fn go_on(state: State, alloc: Global, word: u64) -> Result<Went, Memory>
+fn go_on(state: CoreState, alloc: Global, word: u64) -> Result<Went, Memory>
     requires consistent { IsConsistent state }
     requires few { length state.workers.items ≤ 64 }
     requires root { state.root ≡ None }

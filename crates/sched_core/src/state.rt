@@ -6,7 +6,7 @@ use std::sync::Arc;
 
 /// What stands in a core. Each origin that was begun has a number, its place among `nodes`; main's is 0.
 #[derive(Drop)]
-pub(crate) struct State {
+pub(crate) struct CoreState {
     pub plan: Arc<Plan>,
     pub workers: Vec<Worker>,
     pub nodes: Vec<SpawnNode>,

@@ -8,14 +8,14 @@ ghost use Rattle.sched_core.specs.Consistent.{Goes, IsConsistent};
 
 use crate::job::Job;
 use crate::node::SpawnNode;
-use crate::state::State;
+use crate::state::CoreState;
 use crate::stops::stop;
 use sched_meaning::CoreEvent;
 use std::alloc::Global;
 use strand_machine::Memory;
 
 /// The worker's current task comes to its next stop.
-fn run(state: &mut State, alloc: Global, w: u32) -> Result<(), Memory>
+fn run(state: &mut CoreState, alloc: Global, w: u32) -> Result<(), Memory>
     requires consistent { IsConsistent state.old }
     requires root { state.old.root ≡ None }
     requires lawful { may_happen (core_of false state.old) (event.Run w) ≡ true }
@@ -33,7 +33,7 @@ fn run(state: &mut State, alloc: Global, w: u32) -> Result<(), Memory>
 }
 
 /// The task at the back of the worker's deque becomes its current one.
-fn pop(state: &mut State, w: u32)
+fn pop(state: &mut CoreState, w: u32)
     requires consistent { IsConsistent state.old }
     requires root { state.old.root ≡ None }
     requires lawful { may_happen (core_of false state.old) (event.Pop w) ≡ true }
@@ -44,7 +44,7 @@ fn pop(state: &mut State, w: u32)
 }
 
 /// The task at the front of the victim's deque becomes the thief's current one.
-fn steal(state: &mut State, thief: u32, victim: u32)
+fn steal(state: &mut CoreState, thief: u32, victim: u32)
     requires consistent { IsConsistent state.old }
     requires root { state.old.root ≡ None }
     requires lawful { may_happen (core_of false state.old) (event.Steal thief victim) ≡ true }
@@ -66,7 +66,7 @@ fn resume(nodes: &mut Vec<SpawnNode>, alloc: Global, job: Job) -> Result<Job, Me
 }
 
 /// The worker's stalled task at this place goes on, where all of its children have answered. Else it goes to the end of the stalled tasks.
-fn look(state: &mut State, alloc: Global, w: u32, place: u32) -> Result<(), Memory>
+fn look(state: &mut CoreState, alloc: Global, w: u32, place: u32) -> Result<(), Memory>
     requires consistent { IsConsistent state.old }
     requires root { state.old.root ≡ None }
     requires lawful { may_happen (core_of false state.old) (event.Look w place) ≡ true }
@@ -82,7 +82,7 @@ fn look(state: &mut State, alloc: Global, w: u32, place: u32) -> Result<(), Memo
 }
 
 /// The step of an event that may happen.
-pub(crate) fn go(state: &mut State, alloc: Global, event: CoreEvent) -> Result<(), Memory>
+pub(crate) fn go(state: &mut CoreState, alloc: Global, event: CoreEvent) -> Result<(), Memory>
     requires consistent { IsConsistent state.old }
     requires root { state.old.root ≡ None }
     requires lawful { may_happen (core_of false state.old) event ≡ true }

@@ -5,13 +5,13 @@ ghost use Rattle.sched_core.specs.declared.node.SpawnNode.{SpawnNode};
 
 use crate::job::Job;
 use crate::node::{Link, begin_child};
-use crate::state::State;
+use crate::state::CoreState;
 use serial_meaning::Answer;
 use std::alloc::Global;
 use strand_machine::{Memory, Stop, Task, share_origin};
 
 /// The answer goes to the node that the link names, or is main's.
-fn deliver(state: &mut State, link: Option<Link>, answer: Answer)
+fn deliver(state: &mut CoreState, link: Option<Link>, answer: Answer)
     requires { CanHear state.old.nodes.items link }
     ensures { Delivers link answer state.old state.new }
 {
@@ -22,7 +22,12 @@ fn deliver(state: &mut State, link: Option<Link>, answer: Answer)
 }
 
 /// The answer of the origin of this number goes to its parent, or is the root's.
-fn put_answer(state: &mut State, alloc: Global, number: usize, answer: Answer) -> Result<(), Memory>
+fn put_answer(
+    state: &mut CoreState,
+    alloc: Global,
+    number: usize,
+    answer: Answer,
+) -> Result<(), Memory>
     requires number { number < length state.old.nodes.items }
     requires hears { (n : SpawnNode) → slice_get state.old.nodes.items number ≡ Some n → CanHear state.old.nodes.items n.link }
     ensures { OnOk result (PutsAnswer number answer state.old state.new) }
@@ -36,7 +41,7 @@ fn put_answer(state: &mut State, alloc: Global, number: usize, answer: Answer) -
 
 /// The child of the task of this number is begun, and becomes current.
 fn begin_task(
-    state: &mut State,
+    state: &mut CoreState,
     alloc: Global,
     w: usize,
     number: usize,
@@ -57,7 +62,7 @@ fn begin_task(
 
 /// The task of this number, which left its worker, comes to this stop.
 pub(crate) fn stop(
-    state: &mut State,
+    state: &mut CoreState,
     alloc: Global,
     w: usize,
     number: usize,

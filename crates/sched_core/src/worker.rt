@@ -33,7 +33,7 @@ impl Model for Worker {
 
 impl Worker {
     ghost use Rattle.std.specs.Prelude.{◌≡◌, ◌≢◌, ◌<◌, [], Some, None, OnOk, is_some, length, nat_eq, not, slice_get};
-    ghost use Rattle.sched_core.specs.Moves.{HandsOut, Parks, Lets, BacksJob, GivesJob, TakesJob, Leaves};
+    ghost use Rattle.sched_core.specs.Moves.{HandsOut, Stalls, Lets, BacksJob, GivesJob, TakesJob, Leaves};
     ghost use Rattle.sched_core.specs.Workers.{only};
 
     /// A worker with no other task than this.
@@ -90,7 +90,7 @@ impl Worker {
 
     /// The task goes to the end of the stalled tasks. There is no memory for it where as many are stalled as may be.
     pub fn stall(&mut self, rest: Job) -> Result<(), Memory>
-        ensures { OnOk result (Parks rest self.old self.new) }
+        ensures { OnOk result (Stalls rest self.old self.new) }
     {
         if self.stalled.len() >= MOST_WAITING {
             return Err(Memory);

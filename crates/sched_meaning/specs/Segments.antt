@@ -10,12 +10,12 @@ use Rattle.sched_meaning.specs.Core.{gone_on}
 
 -- A task, with the tasks of its children, all the way down, comes to so many stops, where each wait is over with the evaluations of
 -- the children.
-pub data ComesTo : Task → ℕ → Type 0 where
-  Ends : {t : Task} {n : ℕ} (out : List Event) (ended : Outcome) → IsNext t (End out ended) → n ≡ 1 → ComesTo t n
-  Waits : {t : Task} {n : ℕ} (rest : Task) (later : ℕ) → IsNext t (Wait rest) → ComesTo (gone_on rest) later → n ≡ 1 + later → ComesTo t n
-  Spawns : {t : Task} {n : ℕ} (child : Origin) (rest : Task) (below later : ℕ) → IsNext t (Spawn child rest) → ComesTo (start rest.plan child) below →
-      ComesTo rest later → n ≡ 1 + (below + later) → ComesTo t n
+pub data ComesToStops : Task → ℕ → Type 0 where
+  Ends : {t : Task} {n : ℕ} (out : List Event) (ended : Outcome) → IsNext t (End out ended) → n ≡ 1 → ComesToStops t n
+  Waits : {t : Task} {n : ℕ} (rest : Task) (later : ℕ) → IsNext t (Wait rest) → ComesToStops (gone_on rest) later → n ≡ 1 + later → ComesToStops t n
+  Spawns : {t : Task} {n : ℕ} (child : Origin) (rest : Task) (below later : ℕ) → IsNext t (Spawn child rest) → ComesToStops (start rest.plan child) below →
+      ComesToStops rest later → n ≡ 1 + (below + later) → ComesToStops t n
 
 -- main's task comes to so many
 abbrev pub IsSegments : PlanView → ℕ → Type 0
-IsSegments plan n = ComesTo (start plan (main_origin plan)) n
+IsSegments plan n = ComesToStops (start plan (main_origin plan)) n

@@ -91,7 +91,7 @@ pub record Resumes (w place : ℕ) (c next : Core) : Type 0 where
   pub resumes : Changes w (WorkerResumes place task) c next
 
 -- a fruitless look
-pub record Passes (w place : ℕ) (c next : Core) : Type 0 where
+pub record StaysStalled (w place : ℕ) (c next : Core) : Type 0 where
   pub task : Task
   pub waits : IsReady c task → ⊥
   pub passes : Changes w (WorkerPasses place task) c next
@@ -104,7 +104,7 @@ abbrev pub Happens : CoreEvent → Core → Core → Type 0
 Happens (Run w) c next = Runs w c next
 Happens (Pop w) c next = Pops w c next
 Happens (Steal thief victim) c next = Steals thief victim c next
-Happens (Look w place) c next = Resumes w place c next ⊎ Passes w place c next
+Happens (Look w place) c next = Resumes w place c next ⊎ StaysStalled w place c next
 Happens (Idle w) c next = Idles w c next
 
 -- There is no step after the root's answer.

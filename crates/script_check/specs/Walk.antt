@@ -44,7 +44,7 @@ undone (c ∷ cs) p = undo c (undone cs p)
 
 -- What the walk knows before a statement: the variables, the pending set, whether what was pending where the innermost block
 -- began may still be so, and the set that was pending there.
-pub record State : Type 0 where
+pub record WalkState : Type 0 where
   pub known : Declared
   pub names : Names
   pub keeps : Bool
@@ -56,7 +56,7 @@ known_in scope = table_of scope.known.map
 abbrev pub pending_in : Scope → Names
 pending_in scope = names_of (table_of scope.pending.map)
 
-abbrev pub state_of : Scope → State
+abbrev pub state_of : Scope → WalkState
 state_of scope =
     record { known = known_in scope; names = pending_in scope; keeps = scope.block.keeps; before = undone scope.block.changes.items (pending_in scope) }
 
@@ -96,7 +96,7 @@ abbrev pub keeps_all : List Stmt → Bool
 keeps_all ss = keeps_each (map keeps ss)
 
 -- the state after a statement
-abbrev pub behind : List Function → Stmt → State → State
+abbrev pub behind : List Function → Stmt → WalkState → WalkState
 behind functions s state =
     record {
       known = (judge s).known functions state.known;
@@ -105,7 +105,7 @@ behind functions s state =
       before = state.before;
     }
 
-abbrev pub behind_all : List Function → List Stmt → State → State
+abbrev pub behind_all : List Function → List Stmt → WalkState → WalkState
 behind_all functions ss state =
     record {
       known = known_each (judge_all ss) functions state.known;

@@ -25,12 +25,12 @@ use std::sync::Arc;
 /// A valid script, one that a text is of. It is seen as the script. It never changes, so all its copies are one place in memory.
 #[derive(Drop)]
 pub struct Checked {
-    kept: Arc<Kept>,
+    kept: Arc<CheckedScript>,
 }
 
 /// A script with what a check found out of it.
 #[derive(Drop)]
-struct Kept {
+struct CheckedScript {
     script: Script,
     first: NameTable<u32>,
     /// Whether the word `spawn` stands in the text of each function.
@@ -73,7 +73,7 @@ pub fn check(alloc: Global, script: Script) -> Result<Checked, CheckError>
     match found.least() {
         None => Ok(checked_of(
             alloc,
-            Kept {
+            CheckedScript {
                 script,
                 first,
                 spawns,
@@ -85,7 +85,7 @@ pub fn check(alloc: Global, script: Script) -> Result<Checked, CheckError>
 }
 
 /// The checked script of what a check found out.
-fn checked_of(alloc: Global, kept: Kept) -> Result<Checked, Memory>
+fn checked_of(alloc: Global, kept: CheckedScript) -> Result<Checked, Memory>
     requires { IsChecked kept.script (table_of kept.first.map) kept.spawns }
     ensures { IfOk result (λ checked. checked ≡ kept.script) }
 {
@@ -133,7 +133,8 @@ impl Checked {
         })
     }
 
-    /// The index of the first function named `main`.
+    /// The index of the first function named `main`. It is for who shows where a run begins: in `fn f() { return 0; } fn main() { return 0; }`
+    /// it is 1.
     pub fn main(&self) -> u32
         ensures main { Some result ≡ first_named self.now.functions main_name }
         ensures within { result < length self.now.functions }
@@ -147,7 +148,7 @@ impl Checked {
         ensures function { result ≡ first_named self.now.functions name.now.bytes }
         ensures within { IfSome result (λ i. i < length self.now.functions) }
     {
-        let kept: &Kept = &self.kept;
+        let kept: &CheckedScript = &self.kept;
         let guess = guess_at(kept.callees.as_slice(), name.at);
         match kept.script.functions.as_slice().get(guess as usize) {
             // no two functions have one name

@@ -7,7 +7,7 @@ use Rattle.script_tokens.specs.declared.token.Lexeme.{Lexeme}
 use Rattle.script_tokens.specs.declared.lexing.LexEnd.{LexEnd}
 use Rattle.script_tokens.specs.Version.{begins_at}
 use Rattle.script_tokens.specs.Word.{is_scope}
-use Rattle.script_tokens.specs.Lexing.{IsCut, Lexes}
+use Rattle.script_tokens.specs.Lexing.{IsLexed, Lexes}
 use Rattle.script_tokens.proofs.Versions.{one_has_no_scope}
 use Rattle.script_grammar.specs.Grammar.{has_scope, AreOf}
 use Rattle.script_grammar.specs.Text.{tokens_of}
@@ -25,5 +25,5 @@ tokens_are_of : (version : Version) (bytes : List ℕ) (from : ℕ) (left : List
 tokens_are_of One bytes from left ls stop x = tokens_plain bytes ls (one_has_no_scope from left ls stop x)
 tokens_are_of Two bytes from left ls stop x = tt
 
-pub are_of_cut : (bytes : List ℕ) (version : Version) (ls : List Lexeme) (stop : LexEnd) → IsCut bytes version ls stop → AreOf version (tokens_of bytes ls)
+pub are_of_cut : (bytes : List ℕ) (version : Version) (ls : List Lexeme) (stop : LexEnd) → IsLexed bytes version ls stop → AreOf version (tokens_of bytes ls)
 are_of_cut bytes version ls stop x = tokens_are_of version bytes (begins_at version) (drop (begins_at version) bytes) ls stop x.cut

@@ -5,7 +5,7 @@ use Rattle.script_tokens.specs.declared.lexing.TheConstants.{MAX_BYTES}
 use Rattle.script_tokens.specs.declared.lexing.LexEnd.{LexEnd}
 use Rattle.script_tokens.specs.declared.lexing.LexEnd.TheVariants.{End}
 use Rattle.script_tokens.specs.Version.{version_of}
-use Rattle.script_tokens.specs.Lexing.{IsCut, text_of}
+use Rattle.script_tokens.specs.Lexing.{IsLexed, text_of}
 use Rattle.script_grammar.specs.declared.tree.Script.{Script}
 use Rattle.script_grammar.specs.Grammar.{Token, tok}
 use Rattle.script_grammar.specs.Fault.{FaultBehind, IsProgram}
@@ -21,7 +21,7 @@ tokens_of bytes ls = map (token_of bytes) ls
 -- these are the script within the limits. Offsets are those in the bytes.
 pub record Text (bytes : List ℕ) (script : Script) : Type 0 where
   pub lexemes : List Lexeme
-  pub cut : IsCut bytes script.version lexemes End
+  pub cut : IsLexed bytes script.version lexemes End
   pub program : IsProgram script.version (tokens_of bytes lexemes) script.functions
 
 -- a script that a text of at most a mebibyte is of: what a parse can give
@@ -34,7 +34,7 @@ pub record IsOfText (script : Script) : Type 0 where
 pub record SyntaxFault (bytes : List ℕ) (number at : ℕ) : Type 0 where
   pub lexemes : List Lexeme
   pub stop : LexEnd
-  pub cut : IsCut bytes (version_of bytes) lexemes stop
+  pub cut : IsLexed bytes (version_of bytes) lexemes stop
   pub fault : FaultBehind (version_of bytes) (record { end = length bytes; stop = stop }) [] (tokens_of bytes lexemes) number at
 
 abbrev pub FunctionsAreFew : Type 0

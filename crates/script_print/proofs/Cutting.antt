@@ -8,7 +8,7 @@ use Rattle.script_tokens.specs.declared.token.Lexeme.{Lexeme}
 use Rattle.script_tokens.specs.declared.lexing.LexEnd.{LexEnd}
 use Rattle.script_tokens.specs.declared.lexing.LexEnd.TheVariants.{End}
 use Rattle.script_tokens.specs.Word.{word_of}
-use Rattle.script_tokens.specs.Lexing.{is_blank, IsLongest, Stands, the_end, Lexes, stops, lexeme, text_of}
+use Rattle.script_tokens.specs.Lexing.{is_blank, IsLongest, LexemeAt, the_end, Lexes, stops, lexeme, text_of}
 use Rattle.script_tokens.proofs.Building.{one_more_byte, lexes_token, lexes_blank}
 use Rattle.script_grammar.specs.Grammar.{Token, tok, decimal}
 use Rattle.script_grammar.specs.Text.{tokens_of}
@@ -33,7 +33,7 @@ pub record Spells (version : Version) (at : ℕ) (bytes : List ℕ) (ts : List T
 pub spells_end : {version : Version} (at : ℕ) → Spells version at [] []
 spells_end {version = version} at = record {
   lexemes = [];
-  cut = stops (subst (λ n. Stands version n [] (Err End)) (sym (add-zero at)) the_end);
+  cut = stops (subst (λ n. LexemeAt version n [] (Err End)) (sym (add-zero at)) the_end);
   texts = λ front e. refl;
   modest = tt;
 }

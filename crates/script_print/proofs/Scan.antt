@@ -50,13 +50,13 @@ pub data Mode : Type 0 where
   done : Mode
 
 -- how many brackets and minuses are open here, and without the minuses after the last bracket; and both before each open bracket
-pub record State : Type 0 where
+pub record ScanState : Type 0 where
   pub mode : Mode
   pub depth : ℕ
   pub inside : ℕ
   pub outer : List (ℕ × ℕ)
 
-abbrev pub at : Mode → ℕ → ℕ → List (ℕ × ℕ) → State
+abbrev pub at : Mode → ℕ → ℕ → List (ℕ × ℕ) → ScanState
 at q m b o = record { mode = q; depth = m; inside = b; outer = o }
 
 -- after a name, the minuses before it have ended, unless a bracket follows
@@ -69,7 +69,7 @@ abbrev pub before_closer : List (ℕ × ℕ) → ℕ
 before_closer [] = 0
 before_closer (p ∷ o) = p.0
 
-abbrev pub behind_closer : List (ℕ × ℕ) → State
+abbrev pub behind_closer : List (ℕ × ℕ) → ScanState
 behind_closer [] = at done 0 0 []
 behind_closer (p ∷ o) = at done p.1 p.1 o
 
@@ -79,7 +79,7 @@ minus_nested named m b = b
 minus_nested done m b = m
 
 -- the nesting at the token
-abbrev pub nested : Effect → State → ℕ
+abbrev pub nested : Effect → ScanState → ℕ
 nested opens s = suc (settled s.mode s.depth s.inside)
 nested opens_item s = suc s.depth
 nested opens_block s = suc (settled s.mode s.depth s.inside)
@@ -89,7 +89,7 @@ nested names s = settled s.mode s.depth s.inside
 nested ends s = settled s.mode s.depth s.inside
 nested leads s = settled s.mode s.depth s.inside
 
-abbrev pub step : Effect → State → State
+abbrev pub step : Effect → ScanState → ScanState
 step opens s = at due (suc (settled s.mode s.depth s.inside)) (suc (settled s.mode s.depth s.inside)) ((settled s.mode s.depth s.inside, s.inside) ∷ s.outer)
 step opens_item s = at due (suc s.depth) (suc s.depth) ((s.depth, s.inside) ∷ s.outer)
 step opens_block s = at done (suc (settled s.mode s.depth s.inside)) (suc (settled s.mode s.depth s.inside)) ((settled s.mode s.depth s.inside, s.inside) ∷ s.outer)
@@ -99,21 +99,21 @@ step names s = at named (settled s.mode s.depth s.inside) s.inside s.outer
 step ends s = at done s.inside s.inside s.outer
 step leads s = at due (settled s.mode s.depth s.inside) s.inside s.outer
 
-abbrev pub scan : State → List Token → List ℕ
+abbrev pub scan : ScanState → List Token → List ℕ
 scan s [] = []
 scan s (t ∷ ts) = nested (effect t.word) s ∷ scan (step (effect t.word) s) ts
 
 -- from one state the scan comes to the other, by tokens nested so
-pub record Goes (ts : List Token) (s : State) (ns : List ℕ) (rest : List Token) (s' : State) : Type 0 where
+pub record Goes (ts : List Token) (s : ScanState) (ns : List ℕ) (rest : List Token) (s' : ScanState) : Type 0 where
   pub scanned : scan s ts ≡ ns ++ scan s' rest
 
-stay : {rest : List Token} {s : State} → Goes rest s [] rest s
+stay : {rest : List Token} {s : ScanState} → Goes rest s [] rest s
 stay = record { scanned = refl }
 
-next : {ts mid rest : List Token} {s s' s'' : State} {ms ns : List ℕ} → Goes ts s ms mid s' → Goes mid s' ns rest s'' → Goes ts s (ms ++ ns) rest s''
+next : {ts mid rest : List Token} {s s' s'' : ScanState} {ms ns : List ℕ} → Goes ts s ms mid s' → Goes mid s' ns rest s'' → Goes ts s (ms ++ ns) rest s''
 next {rest = rest} {s'' = s''} {ms = ms} {ns = ns} g h = record { scanned = g.scanned ∙ ap (λ z. ms ++ z) h.scanned ∙ sym (append_assoc ms ns (scan s'' rest)) }
 
-take : {t : Token} {ts rest : List Token} {s s' : State} {ns : List ℕ} → Goes ts (step (effect t.word) s) ns rest s' → Goes (t ∷ ts) s (nested (effect t.word) s ∷ ns) rest s'
+take : {t : Token} {ts rest : List Token} {s s' : ScanState} {ns : List ℕ} → Goes ts (step (effect t.word) s) ns rest s' → Goes (t ∷ ts) s (nested (effect t.word) s ∷ ns) rest s'
 take {t = t} {s = s} g = record { scanned = ap (λ z. nested (effect t.word) s ∷ z) g.scanned }
 
 -- no bracket of an item comes
@@ -293,7 +293,7 @@ answer_scanned : {ts rest : List Token} {k : Kind} {c : ℕ} {v : List ℕ} (d :
 answer_scanned int_answer b o = take stay
 answer_scanned id_answer b o = take (take (take stay))
 
-renested : {ts rest : List Token} {s s' : State} {ms ns : List ℕ} → ms ≡ ns → Goes ts s ms rest s' → Goes ts s ns rest s'
+renested : {ts rest : List Token} {s s' : ScanState} {ms ns : List ℕ} → ms ≡ ns → Goes ts s ms rest s' → Goes ts s ns rest s'
 renested {rest = rest} {s' = s'} e g = record { scanned = g.scanned ∙ ap (λ z. z ++ scan s' rest) e }
 
 function_scanned : {ts rest : List Token} {f : Function} (d : IsFunction ts f rest) (b : ℕ) (o : List (ℕ × ℕ)) → Goes ts (at done b b o) (function_nesting d b) rest (at done b b o)
@@ -308,7 +308,7 @@ functions_scanned : {ts rest : List Token} {fs : List Function} (d : IsFunctions
 functions_scanned no_functions b o = stay
 functions_scanned (one_function d e) b o = next (function_scanned d b o) (functions_scanned e b o)
 
-abbrev pub start : State
+abbrev pub start : ScanState
 start = at done 0 0 []
 
 -- of a script the nestings are those of the scan

@@ -10,7 +10,7 @@ use Rattle.script_tokens.specs.declared.token.Lexeme.{Lexeme}
 use Rattle.script_tokens.specs.Word.{word_of}
 use Rattle.script_tokens.specs.Version.{version_of, begins_at}
 use Rattle.script_tokens.specs.declared.lexing.LexEnd.TheVariants.{End}
-use Rattle.script_tokens.specs.Lexing.{text_of, Lexes, IsCut}
+use Rattle.script_tokens.specs.Lexing.{text_of, Lexes, IsLexed}
 use Rattle.script_tokens.proofs.LexingLemmas.{lexemes_tokens}
 use Rattle.script_tokens.proofs.Versions.{begins_in}
 use Rattle.script_grammar.proofs.Versions.{are_of_cut}
@@ -27,19 +27,19 @@ use Rattle.script_print.proofs.Forms.{Forms, any}
 use Rattle.script_print.proofs.Eats.{functions_counted}
 use Rattle.script_print.proofs.Expressions.{Low, IsSound, Sound}
 use Rattle.script_print.proofs.Functions.{FunctionsOf, functions_shown}
-use Rattle.script_print.proofs.Scan.{State, effect, nested, step, scan, start, script_scanned}
+use Rattle.script_print.proofs.Scan.{ScanState, effect, nested, step, scan, start, script_scanned}
 
 -- The state after these tokens.
-abbrev after : State → List Token → State
+abbrev after : ScanState → List Token → ScanState
 after s [] = s
 after s (t ∷ ts) = after (step (effect t.word) s) ts
 
-after-more : (s : State) (before : List Token) (t : Token) → after s (before ++ t ∷ []) ≡ step (effect t.word) (after s before)
+after-more : (s : ScanState) (before : List Token) (t : Token) → after s (before ++ t ∷ []) ≡ step (effect t.word) (after s before)
 after-more s [] t = refl
 after-more s (b ∷ bs) t = after-more (step (effect b.word) s) bs t
 
 -- the nesting at a token is told by those before it
-scan_at : (s : State) (before : List Token) (t : Token) (more : List Token) → slice_get (scan s (before ++ t ∷ more)) (length before) ≡ Some (nested (effect t.word) (after s before))
+scan_at : (s : ScanState) (before : List Token) (t : Token) (more : List Token) → slice_get (scan s (before ++ t ∷ more)) (length before) ≡ Some (nested (effect t.word) (after s before))
 scan_at s [] t more = refl
 scan_at s (b ∷ bs) t more = scan_at (step (effect b.word) s) bs t more
 
@@ -175,7 +175,7 @@ canonical_is_text script o =
     let few : length script.functions ≤ 1024 = omega (arith, functions_counted d, few_functions version [] ts (omega arith) within) in
     let cut = (functions_shown d 0 low sound).cut [] (λ at. []) refl spells_end (begins_at version) in
     let spells : Spells version (begins_at version) text cut.tokens = subst (λ z. Spells version (begins_at version) z cut.tokens) (append-nil text) cut.spells in
-    let is_cut : IsCut (canonical script) version spells.lexemes End =
+    let is_cut : IsLexed (canonical script) version spells.lexemes End =
     record { told = line_told version script.functions; cut = subst (λ z. Lexes version (begins_at version) z spells.lexemes End) (sym (behind_line version text)) spells.cut } in
     let tokens : tokens_of (canonical script) spells.lexemes ≡ cut.tokens = spells.texts (version_text version) (line_ends version) in
     let of : AreOf version cut.tokens = subst (AreOf version) tokens (are_of_cut (canonical script) version spells.lexemes End is_cut) in

@@ -4,7 +4,7 @@ use Rattle.script_tokens.specs.declared.token.Lexeme.{Lexeme}
 use Rattle.script_tokens.specs.declared.lexing.LexEnd.{LexEnd}
 use Rattle.script_tokens.specs.declared.lexing.LexEnd.TheVariants.{End, NoToken}
 use Rattle.script_tokens.specs.Version.{version_of}
-use Rattle.script_tokens.specs.Lexing.{IsCut}
+use Rattle.script_tokens.specs.Lexing.{IsLexed}
 use Rattle.script_grammar.specs.declared.tree.Function.{Function}
 use Rattle.script_grammar.specs.Grammar.{Token, IsScriptOf, IsViable}
 use Rattle.script_grammar.specs.Fault.{IsFault}
@@ -13,7 +13,7 @@ use Rattle.script_grammar.specs.Text.{tokens_of}
 -- the text is cut into these tokens, and they end for this reason
 pub record HasTokens (bytes : List ℕ) (tokens : List Token) (stop : LexEnd) : Type 0 where
   pub lexemes : List Lexeme
-  pub cut : IsCut bytes (version_of bytes) lexemes stop
+  pub cut : IsLexed bytes (version_of bytes) lexemes stop
   pub same : tokens_of bytes lexemes ≡ tokens
 
 -- The text has a fault of this number at this offset, whatever else is wrong with it: a byte from 128 on, also in a comment; a byte at which no

@@ -23,13 +23,13 @@ pub data Sym : Type 0 where
   stmts after_let after_name block otherwise : Sym
   functions param_list params more_params param answer body : Sym
 
-pub record Rule : Type 0 where
+pub record Production : Type 0 where
   pub first : Word
   pub fits : List ℕ → Bool
   pub rest : List ℕ → List Sym
 
 -- that word, whatever its text, and then these symbols
-abbrev pub rule : Word → List Sym → Rule
+abbrev pub rule : Word → List Sym → Production
 rule w r = record { first = w; fits = λ _. true; rest = λ _. r }
 
 abbrev pub code : Word → ℕ
@@ -94,7 +94,7 @@ abbrev pub expr_then : List Sym → List Sym
 expr_then s = factor ∷ more_factors ∷ more_terms ∷ comparison ∷ s
 
 -- the rules of a factor, with what stands after it
-abbrev pub factor_rules : List Sym → List Rule
+abbrev pub factor_rules : List Sym → List Production
 factor_rules s =
     rule word.Name (index ∷ s)
     ∷ rule word.Number s
@@ -104,7 +104,7 @@ factor_rules s =
     ∷ rule word.Older (pair ∷ s)
     ∷ []
 
-abbrev pub rules : Sym → List Rule
+abbrev pub rules : Sym → List Production
 rules (only w) = rule w [] ∷ []
 rules (exactly n) = record { first = word.Name; fits = same_bytes n; rest = λ _. [] } ∷ []
 rules factor = factor_rules []
@@ -187,7 +187,7 @@ is_empty more_params = true
 is_empty answer = true
 is_empty _ = false
 
-abbrev pub find_rule : Word → List ℕ → List Rule → Option (List Sym)
+abbrev pub find_rule : Word → List ℕ → List Production → Option (List Sym)
 find_rule w text [] = None
 find_rule w text (r ∷ rs) = if same_word w r.first && r.fits text then Some (r.rest text) else find_rule w text rs
 

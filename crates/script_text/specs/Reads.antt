@@ -76,9 +76,9 @@ is_plain w = nat_lt 2 (code w)
 abbrev pub IsPlain : Word → Type 0
 IsPlain w = is_plain w ≡ true
 
-abbrev pub Passes : Word → LexedText → ℕ → List Lexeme → Result (Bor (List Lexeme)) SyntaxError → Type 0
-Passes w source d old (Ok rest) = ((at : ℕ) × NextIs w at old rest.now) × Leads (only w ∷ []) [] source d old rest.now
-Passes w source d old (Err e) = Errs (only w ∷ []) source d old e
+abbrev pub PassesWord : Word → LexedText → ℕ → List Lexeme → Result (Bor (List Lexeme)) SyntaxError → Type 0
+PassesWord w source d old (Ok rest) = ((at : ℕ) × NextIs w at old rest.now) × Leads (only w ∷ []) [] source d old rest.now
+PassesWord w source d old (Err e) = Errs (only w ∷ []) source d old e
 
 -- a symbol that has to be a bracket with these after it
 pub record IsBracket (a : Sym) (w : Word) (inside : List Sym) : Type 0 where

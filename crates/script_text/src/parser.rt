@@ -24,9 +24,9 @@ use std::alloc::Global;
 /// The tree of a script.
 ///
 /// The text is at most [`MAX_BYTES`] long. It is of version 2 where it begins with the line `version 2`, and else of version 1
-/// ([`Version`]); offsets count from its first byte in both. The answer is the tree exactly for the texts of the grammar within the limits: names of at most 32
-/// bytes, numbers up to 9223372036854775807, at most 1024 functions, and at most 64 open brackets and unary minuses at a place. There is
-/// never more than one tree.
+/// ([`Version`]); offsets count from its first byte in both. The answer is the tree exactly for the texts of the grammar within the
+/// limits: names of at most 32 bytes, numbers up to 9223372036854775807, at most 1024 functions, and at most 64 open brackets and unary
+/// minuses at a place. There is never more than one tree.
 ///
 /// [`SyntaxError::Bad`] names the first fault, and nothing after it is judged. A token is unexpected where no further tokens of the version
 /// make a script of it and those before it; limits are judged only of a token that may stand where it does. [`SyntaxError::Memory`] is want of memory.

@@ -10,7 +10,7 @@ use Rattle.script_tokens.specs.declared.token.Word.{Word}
 use Rattle.script_tokens.specs.declared.token.Lexeme.{Lexeme}
 use Rattle.script_tokens.specs.declared.lexing.LexEnd.{LexEnd}
 use Rattle.script_tokens.specs.Word.{symbols, is_letter, is_name_byte, word_of}
-use Rattle.script_tokens.specs.Lexing.{is_blank, gap_length, comment_length, IsLongest, Stands, token, Comes, Lexes, stops, goes_on, lexeme}
+use Rattle.script_tokens.specs.Lexing.{is_blank, gap_length, comment_length, IsLongest, LexemeAt, token, Comes, Lexes, stops, goes_on, lexeme}
 use Rattle.script_tokens.specs.Laws.{OneMoreByteDecides}
 use Rattle.script_tokens.proofs.Longest.{word_of-letter, word_of-digit, word_of-other, no_long_symbol, word_spelled-none, first_passes}
 use Rattle.script_tokens.proofs.LexingLemmas.{IsNext, lexeme_is_next}
@@ -98,7 +98,7 @@ module _ (version : Version) where
   comes_blank from b bs r h c =
       let gap : gap_length (b ∷ bs) ≡ suc (gap_length bs) = ap (λ x. if x then suc (gap_length bs) else if nat_eq b 35 then suc (comment_length bs) else 0) h in
       let place : suc from + gap_length bs ≡ from + suc (gap_length bs) = omega arith in
-      subst (λ n. Stands version (from + n) (drop n (b ∷ bs)) r) (sym gap) (subst (λ n. Stands version n (drop (gap_length bs) bs) r) place c)
+      subst (λ n. LexemeAt version (from + n) (drop n (b ∷ bs)) r) (sym gap) (subst (λ n. LexemeAt version n (drop (gap_length bs) bs) r) place c)
 
   -- A token in front is the first lexeme. `rest` is what stands after it.
   pub lexes_token : (from : ℕ) (text rest : List ℕ) (word : Word) (ls : List Lexeme) (stop : LexEnd) →
@@ -106,10 +106,10 @@ module _ (version : Version) where
       Lexes version from (text ++ rest) (lexeme word from (from + length text) ∷ ls) stop
   lexes_token from text rest word ls stop longest x =
       let gap : gap_length (text ++ rest) ≡ 0 = no_gap text rest word longest in
-      let next : Stands version from (text ++ rest) (Ok (lexeme word from (from + length text))) = token longest in
+      let next : LexemeAt version from (text ++ rest) (Ok (lexeme word from (from + length text))) = token longest in
       let here : Comes version from (text ++ rest) (Ok (lexeme word from (from + length text))) =
-      subst (λ n. Stands version (from + n) (drop n (text ++ rest)) (Ok (lexeme word from (from + length text)))) (sym gap)
-      (subst (λ n. Stands version n (text ++ rest) (Ok (lexeme word from (from + length text)))) (sym (add-zero from)) next) in
+      subst (λ n. LexemeAt version (from + n) (drop n (text ++ rest)) (Ok (lexeme word from (from + length text)))) (sym gap)
+      (subst (λ n. LexemeAt version n (text ++ rest) (Ok (lexeme word from (from + length text)))) (sym (add-zero from)) next) in
       let skip : from + length text - from ≡ length text = omega arith in
       let left : drop (from + length text - from) (text ++ rest) ≡ rest =
       ap (λ n. drop n (text ++ rest)) skip ∙ drop-append_seam text rest in

@@ -11,7 +11,7 @@ use Rattle.script_tokens.specs.declared.token.Lexeme.{Lexeme}
 use Rattle.script_tokens.specs.declared.lexing.LexEnd.{LexEnd}
 use Rattle.script_tokens.specs.declared.lexing.LexEnd.TheVariants.{End, NotAscii, NoToken}
 use Rattle.script_tokens.specs.Word.{symbols, word_spelled, is_letter, is_name_byte}
-use Rattle.script_tokens.specs.Lexing.{gap_length, Fronts, Stands, token, the_end, not_ascii, no_token, Comes, Lexes, stops, goes_on, lexeme}
+use Rattle.script_tokens.specs.Lexing.{gap_length, Fronts, LexemeAt, token, the_end, not_ascii, no_token, Comes, Lexes, stops, goes_on, lexeme}
 use Rattle.script_tokens.specs.Laws.{EveryTextIsCut}
 use Rattle.script_tokens.proofs.Longest.{keyword_or_name, letter_longest, digit_longest, long_symbol_at, long_longest, no_long, short_symbol_longest, no_front}
 use Rattle.script_tokens.proofs.LexingLemmas.{IsNext, lexeme_is_next}
@@ -29,17 +29,17 @@ module _ (version : Version) where
       by false false None (Some w) e f g h = (Some (w, 1), short_symbol_longest version b bs w e f (no_long b bs (sym g)) h)
       by false false None None e f g h = (None, no_front version b bs e f (no_long b bs (sym g)) h)
 
-  some_stands : (at : ℕ) (bytes : List ℕ) → (next : Result Lexeme LexEnd) × Stands version at bytes next
+  some_stands : (at : ℕ) (bytes : List ℕ) → (next : Result Lexeme LexEnd) × LexemeAt version at bytes next
   some_stands at [] = (Err End, the_end)
   some_stands at (b ∷ bs) = by (cases_lt b 128) (longest_of b bs)
     where
-      by : (b < 128) ⊎ (128 ≤ b) → ((front : Option (Word × ℕ)) × Fronts version (b ∷ bs) front) → (next : Result Lexeme LexEnd) × Stands version at (b ∷ bs) next
+      by : (b < 128) ⊎ (128 ≤ b) → ((front : Option (Word × ℕ)) × Fronts version (b ∷ bs) front) → (next : Result Lexeme LexEnd) × LexemeAt version at (b ∷ bs) next
       by (inr h) x = (Err (NotAscii at), not_ascii h)
       by (inl h) (Some (w, n), x) = (Ok (lexeme w at (at + n)), token x)
       by (inl h) (None, x) = (Err (NoToken at), no_token h x)
 
   cut : (fuel from : ℕ) (left : List ℕ) → length left ≤ fuel → (ls : List Lexeme) × (stop : LexEnd) × Lexes version from left ls stop
-  cut zero from [] h = ([], End, stops (subst (λ n. Stands version n [] (Err End)) (sym (add-zero from)) the_end))
+  cut zero from [] h = ([], End, stops (subst (λ n. LexemeAt version n [] (Err End)) (sym (add-zero from)) the_end))
   cut zero from (b ∷ bs) h = absurd (omega arith)
   cut (suc fuel) from left h =
       by (some_stands (from + gap_length left) (drop (gap_length left) left)) (λ l shorter. cut fuel l.end (drop (l.end - from) left) shorter)

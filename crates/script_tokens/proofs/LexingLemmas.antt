@@ -11,7 +11,7 @@ use Rattle.script_tokens.specs.declared.token.Lexeme.{Lexeme}
 use Rattle.script_tokens.specs.declared.lexing.LexEnd.{LexEnd}
 use Rattle.script_tokens.specs.declared.lexing.LexEnd.TheVariants.{End, NotAscii, NoToken}
 use Rattle.script_tokens.specs.Word.{word_of}
-use Rattle.script_tokens.specs.Lexing.{is_blank, gap_length, comment_length, IsLongest, BeginsNoToken, Stands, token, the_end, not_ascii, no_token, Comes, Lexes, stops, goes_on, text_of, token_of, lexeme}
+use Rattle.script_tokens.specs.Lexing.{is_blank, gap_length, comment_length, IsLongest, BeginsNoToken, LexemeAt, token, the_end, not_ascii, no_token, Comes, Lexes, stops, goes_on, text_of, token_of, lexeme}
 use Rattle.script_tokens.specs.Laws.{InOrder, LexingIsUnique, NextTokenIsUnique, LexemesStandInOrder, LexemesAreTokens}
 use Rattle.script_tokens.proofs.Longest.{word_of-not_ascii}
 
@@ -63,7 +63,7 @@ module _ (version : Version) where
   nothing_begins bytes n w none a = let no = none n a.within in let some = a.token in cc
 
   -- one thing stands at a place
-  pub stands_same : {at : ℕ} {bytes : List ℕ} {r s : Result Lexeme LexEnd} → Stands version at bytes r → Stands version at bytes s → r ≡ s
+  pub stands_same : {at : ℕ} {bytes : List ℕ} {r s : Result Lexeme LexEnd} → LexemeAt version at bytes r → LexemeAt version at bytes s → r ≡ s
   stands_same {at} {bytes} (token {n = n} {word = w} a) (token {n = m} {word = v} b) =
       ap (λ k. Ok (lexeme w at (at + k))) (longest_same bytes n m w v a b) ∙ ap (λ x. Ok (lexeme x at (at + m))) (longest_word bytes n m w v a b)
   stands_same (token a) the_end = absurd (nothing_at_end _ _ a)
@@ -102,7 +102,7 @@ module _ (version : Version) where
   not_empty bytes zero w a = let some = a.token in cc
   not_empty bytes (suc n) w a = omega arith
 
-  lexeme_is_at : {at : ℕ} {bytes : List ℕ} {l : Lexeme} → Stands version at bytes (Ok l) → IsAt at bytes l
+  lexeme_is_at : {at : ℕ} {bytes : List ℕ} {l : Lexeme} → LexemeAt version at bytes (Ok l) → IsAt at bytes l
   lexeme_is_at {at} {bytes} (token {n = n} {word = w} a) =
       let some : 0 < n = not_empty bytes n w a in
       let length_is : at + n - at ≡ n = omega arith in
@@ -142,15 +142,15 @@ module _ (version : Version) where
       (n.behind, n.below, subst (λ e. InOrder l.end e ls) far (in_order l.end (drop (l.end - from) left) ls stop x))
 
   -- what stands at a place, as the code finds it
-  pub stands_end : (at : ℕ) (bytes : List ℕ) → length bytes ≡ 0 → Stands version at bytes (Err End)
+  pub stands_end : (at : ℕ) (bytes : List ℕ) → length bytes ≡ 0 → LexemeAt version at bytes (Err End)
   stands_end at [] e = the_end
   stands_end at (b ∷ bs) e = absurd (omega arith)
 
-  pub stands_not_ascii : (at : ℕ) (bytes : List ℕ) (b : ℕ) (bs : List ℕ) → bytes ≡ b ∷ bs → 128 ≤ b → Stands version at bytes (Err (NotAscii at))
-  stands_not_ascii at bytes b bs e h = subst (λ z. Stands version at z (Err (NotAscii at))) (sym e) (not_ascii h)
+  pub stands_not_ascii : (at : ℕ) (bytes : List ℕ) (b : ℕ) (bs : List ℕ) → bytes ≡ b ∷ bs → 128 ≤ b → LexemeAt version at bytes (Err (NotAscii at))
+  stands_not_ascii at bytes b bs e h = subst (λ z. LexemeAt version at z (Err (NotAscii at))) (sym e) (not_ascii h)
 
-  pub stands_no_token : (at : ℕ) (bytes : List ℕ) (b : ℕ) (bs : List ℕ) → bytes ≡ b ∷ bs → b < 128 → BeginsNoToken version bytes → Stands version at bytes (Err (NoToken at))
-  stands_no_token at bytes b bs e h none = subst (λ z. Stands version at z (Err (NoToken at))) (sym e) (no_token h (subst (BeginsNoToken version) e none))
+  pub stands_no_token : (at : ℕ) (bytes : List ℕ) (b : ℕ) (bs : List ℕ) → bytes ≡ b ∷ bs → b < 128 → BeginsNoToken version bytes → LexemeAt version at bytes (Err (NoToken at))
+  stands_no_token at bytes b bs e h none = subst (λ z. LexemeAt version at z (Err (NoToken at))) (sym e) (no_token h (subst (BeginsNoToken version) e none))
 
   -- The lexemes so far are `ls`, from the offset `first` on, and `from` is the end of the last. `Begins` says that whatever lexemes come after
   -- them make the text's.

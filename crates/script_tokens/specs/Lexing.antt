@@ -47,15 +47,15 @@ abbrev pub lexeme : Word → ℕ → ℕ → Lexeme
 lexeme word start end = record { word = word; start = start; end = end }
 
 -- What stands at the offset `at` of a text, of which `bytes` is the rest from there on: a lexeme, or else the reason why there is none.
-pub data Stands (version : Version) : (at : ℕ) → (bytes : List ℕ) → Result Lexeme LexEnd → Type 0 where
-  token : {at n : ℕ} {bytes : List ℕ} {word : Word} → IsLongest version bytes n word → Stands version at bytes (Ok (lexeme word at (at + n)))
-  the_end : {at : ℕ} → Stands version at [] (Err End)
-  not_ascii : {at b : ℕ} {bs : List ℕ} → 128 ≤ b → Stands version at (b ∷ bs) (Err (NotAscii at))
-  no_token : {at b : ℕ} {bs : List ℕ} → b < 128 → BeginsNoToken version (b ∷ bs) → Stands version at (b ∷ bs) (Err (NoToken at))
+pub data LexemeAt (version : Version) : (at : ℕ) → (bytes : List ℕ) → Result Lexeme LexEnd → Type 0 where
+  token : {at n : ℕ} {bytes : List ℕ} {word : Word} → IsLongest version bytes n word → LexemeAt version at bytes (Ok (lexeme word at (at + n)))
+  the_end : {at : ℕ} → LexemeAt version at [] (Err End)
+  not_ascii : {at b : ℕ} {bs : List ℕ} → 128 ≤ b → LexemeAt version at (b ∷ bs) (Err (NotAscii at))
+  no_token : {at b : ℕ} {bs : List ℕ} → b < 128 → BeginsNoToken version (b ∷ bs) → LexemeAt version at (b ∷ bs) (Err (NoToken at))
 
 -- What comes next after the offset `from`, of which `left` is the rest of the text: what stands there after the gap.
 abbrev pub Comes : (version : Version) → (from : ℕ) → (left : List ℕ) → Result Lexeme LexEnd → Type 0
-Comes version from left next = Stands version (from + gap_length left) (drop (gap_length left) left) next
+Comes version from left next = LexemeAt version (from + gap_length left) (drop (gap_length left) left) next
 
 -- The rest of a text from the offset `from` on is `left`; it is cut into these lexemes, and they end for this reason.
 pub data Lexes (version : Version) : (from : ℕ) → (left : List ℕ) → List Lexeme → LexEnd → Type 0 where
@@ -64,7 +64,7 @@ pub data Lexes (version : Version) : (from : ℕ) → (left : List ℕ) → List
       Comes version from left (Ok l) → Lexes version l.end (drop (l.end - from) left) ls stop → Lexes version from left (l ∷ ls) stop
 
 -- The text is of this version. From the end of the version's line on it is cut into these lexemes, and they end for this reason.
-pub record IsCut (text : List ℕ) (version : Version) (ls : List Lexeme) (stop : LexEnd) : Type 0 where
+pub record IsLexed (text : List ℕ) (version : Version) (ls : List Lexeme) (stop : LexEnd) : Type 0 where
   pub told : version ≡ version_of text
   pub cut : Lexes version (begins_at version) (drop (begins_at version) text) ls stop
 

@@ -1,7 +1,7 @@
 // How a text is cut into tokens.
 
 ghost use Rattle.std.specs.Prelude.{◌≡◌, ◌≤◌, ◌+◌, length, drop, IfOk};
-ghost use Rattle.script_tokens.specs.Lexing.{Comes, IsCut, NextToken, Stands};
+ghost use Rattle.script_tokens.specs.Lexing.{Comes, IsLexed, LexemeAt, NextToken};
 
 use crate::front::{front, gap_length};
 use crate::memory::Memory;
@@ -47,7 +47,7 @@ pub struct Lexed {
 // The lexeme at the offset `at`, of which `rest` is the text from there on, or why there is none.
 fn lexeme_at(version: Version, at: u32, rest: &[u8]) -> Result<Lexeme, LexEnd>
     requires { at + length rest.now ≤ MAX_BYTES }
-    ensures { Stands version at rest.now result }
+    ensures { LexemeAt version at rest.now result }
 {
     let Some((first, _)) = rest.split_first() else {
         return Err(LexEnd::End);
@@ -83,7 +83,7 @@ fn next_lexeme(version: Version, bytes: &[u8], from: u32) -> Result<Lexeme, LexE
 /// can't be read to its end gives the lexemes before the byte that stopped it, and that byte's offset in `stop`.
 pub fn lexemes(alloc: Global, bytes: &[u8]) -> Result<Lexed, Memory>
     requires { length bytes.now ≤ MAX_BYTES }
-    ensures { IfOk result (λ lexed. IsCut bytes.now lexed.version lexed.lexemes.items lexed.stop) }
+    ensures { IfOk result (λ lexed. IsLexed bytes.now lexed.version lexed.lexemes.items lexed.stop) }
 {
     let version = Version::of(bytes);
     let mut lexemes = Vec::new(alloc);

@@ -8,13 +8,13 @@ use Rattle.strand_machine.specs.declared.stop.Stop.{Stop}
 use Rattle.serial_runner.specs.Beside.{Beside}
 use Rattle.serial_runner.specs.Observed.{IsStopped, with_notes}
 use Rattle.serial_runner.specs.declared.observed.ObservedInstance.{ObservedInstance}
-use Rattle.serial_runner.specs.declared.walk.Walk.{Walk}
+use Rattle.serial_runner.specs.declared.walk.NodeWalk.{NodeWalk}
 
 pub made : {B E : Type 0} (P : B → Type 0) (r : Result B E) (b : B) → r ≡ Ok b → IfOk r P → P b
 made P r b e h = subst (λ z. IfOk z P) e h
 
 -- what was noted, and is seen by then
-pub notes : (j : List ℕ) (w : Walk) (observed : ObservedInstance) (n : Noted) → observed ≡ w.observed → IsNoted w.task j w.observed.eye n → (r : Result ObservedInstance Memory) → IfOk r (λ s. s ≡ with_notes n.eye n.events n.fault n.joined observed)
+pub notes : (j : List ℕ) (w : NodeWalk) (observed : ObservedInstance) (n : Noted) → observed ≡ w.observed → IsNoted w.task j w.observed.eye n → (r : Result ObservedInstance Memory) → IfOk r (λ s. s ≡ with_notes n.eye n.events n.fault n.joined observed)
     → (result : Result (Stop × ObservedInstance) Memory) → Beside n.stop r result → IfOk result (λ p. IsStopped j w p.0 p.1)
 notes j w observed n e is r h (Ok p) b = record {
   noted = n;

@@ -1,5 +1,5 @@
 -- What is seen of an instance, by what is noted of it.
-use Rattle.std.proofs.Common.{◌≡◌, ℕ, ◌+◌, ◌<◌, Bool, true, false, ◌||◌, ◌&&◌, List, [], ◌∷◌, ◌++◌, Option, Some, None, Result, Ok, Err, append-nil, if◌then◌else◌, refl, sym, ap, ◌∙◌, subst, arith}
+use Rattle.std.proofs.Common.{◌≡◌, ℕ, Bool, true, false, ◌||◌, ◌&&◌, List, [], ◌∷◌, ◌++◌, Option, Some, None, Result, Ok, Err, append-nil, if◌then◌else◌, refl, sym, ap, ◌∙◌, subst, arith}
 use Rattle.serial_meaning.specs.Eval.{path_of}
 use Rattle.serial_meaning.specs.Open as open_tree
 use Rattle.serial_meaning.specs.Open.{Item, Happened, Child, Opened, Closed, NodeFault, Own, ChildFaulted, opened, places_of}
@@ -10,7 +10,7 @@ use Rattle.serial_meaning.specs.declared.event.Fault.{Fault}
 use Rattle.serial_meaning.specs.declared.event.Event.{Event}
 use Rattle.serial_meaning.specs.declared.origin.Origin.{Origin}
 use Rattle.serial_meaning.specs.declared.origin.Origin.TheVariants.{Instance, Loop}
-use Rattle.strand_meaning.specs.Observation.{IsInstance, Observation, also, newest, own_fault_of, node_left, IsOnWay, IsWhole}
+use Rattle.strand_meaning.specs.Observation.{IsInstance, Observation, also, newest, own_fault_of, node_left, IsOnWay, IsAllNoted}
 use Rattle.strand_meaning.specs.Task.{Task}
 use Rattle.strand_meaning.specs.Strands.{Strand, is_below, events_at, own_events, own_fault_at, joined_fault, last_place, ended_before, child_on_way, is_one_of, strand_of, blocks}
 use Rattle.strand_meaning.proofs.NodesNoted.NoteWords.{events_at-append}
@@ -19,7 +19,6 @@ use Rattle.strand_machine.specs.declared.eye.Eye.{Eye}
 use Rattle.strand_machine.proofs.NodesNoted.Eyes.{looks-append, own-append, places-seen, places-without, past-seen}
 use Rattle.serial_runner.specs.Nodes.{IsBelow, shown_by, shown_at, fault_at, is_none, came_to, strand_seen, joined_before, node_seen}
 use Rattle.serial_runner.specs.Observed.{with_notes, first_of, with_child, seen, IsSeen, is_some, is_over}
-use Rattle.serial_runner.specs.declared.node.Node.{Node}
 use Rattle.serial_runner.specs.declared.observed.ObservedInstance.{ObservedInstance}
 use Rattle.serial_runner.proofs.Over.{IsOver, stays, comes, none-later, fault-later, not-ended, last-led, came-stays}
 use Rattle.serial_runner.proofs.Places.{stands, came_by, stands-append, by-append, follow-front, follow-rest, NodeFollows, NodeEnds, node-follows}
@@ -249,7 +248,7 @@ by-child j s c e = ap (λ (d : Option Origin). shown_by d (strand_seen j s) (joi
 
 module _ (plan : PlanView) (o : Origin) (j : List ℕ) (i : IsInstance o) (below : IsBelow (path_of o) j) where
   -- what is seen of the whole instance
-  pub whole_seen : (notes : Observation) → IsWhole plan o notes → (s : ObservedInstance) → s ≡ seen (path_of o) j notes → IsSeen plan o j s
+  pub whole_seen : (notes : Observation) → IsAllNoted plan o notes → (s : ObservedInstance) → s ≡ seen (path_of o) j notes → IsSeen plan o j s
   whole_seen notes w s e = ap (node_seen j) (e ∙ same) ∙ from o i j below (opened plan o)
     where
       n : open_tree.Node

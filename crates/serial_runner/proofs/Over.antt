@@ -1,6 +1,6 @@
 -- Once a strand of an instance's own is over, what comes later stands after it: no event of that strand, no child on the way to it, and no
 -- fault there or before.
-use Rattle.std.proofs.Common.{◌≡◌, ℕ, ◌+◌, ◌<◌, Bool, true, false, ◌||◌, ◌&&◌, not, bytes_eq, ◌⊎◌, inl, inr, List, [], ◌∷◌, ◌++◌, Some, None, length, length-append, take, refl, sym, ap, ◌∙◌, subst, append_assoc, if◌then◌else◌, arith}
+use Rattle.std.proofs.Common.{◌≡◌, ℕ, ◌+◌, Bool, true, false, ◌||◌, ◌&&◌, not, bytes_eq, ◌⊎◌, inl, inr, List, [], ◌∷◌, ◌++◌, Some, None, length, length-append, take, refl, sym, ap, ◌∙◌, subst, append_assoc, if◌then◌else◌, arith}
 use Rattle.std.specs.Ordering.{is_lt, nat_cmp}
 use Rattle.std.specs.Cmp.Lexicographic.{slice_cmp}
 use Rattle.std.specs.declared.cmp.Ordering.{Ordering}
@@ -11,7 +11,6 @@ use Rattle.serial_meaning.specs.Open.{Item, Happened, Child, Opened, Closed, ris
 use Rattle.serial_meaning.proofs.RisingPedigrees.Order.{before-by_rank, before-prefix, not_before_itself, not_before-back, before-before}
 use Rattle.serial_meaning.specs.declared.event.Event.{Event}
 use Rattle.serial_meaning.specs.declared.event.Event.TheVariants as event
-use Rattle.serial_meaning.specs.declared.origin.Origin.{Origin}
 use Rattle.strand_meaning.specs.Strands.{pedigree_of, events_at, own_events, last_place, is_below, child_on_way, ended_before, is_one_of}
 use Rattle.strand_meaning.proofs.Unfilled.Variables.{same-name, is-other}
 use Rattle.strand_machine.specs.Eyes.{looks, goes_to, less, ahead_of, is_none_ahead}

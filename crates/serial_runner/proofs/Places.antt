@@ -2,11 +2,10 @@
 -- before it.
 use Rattle.std.proofs.Common.{◌≡◌, ℕ, ◌+◌, Bool, true, false, List, [], ◌∷◌, ◌++◌, Option, Some, None, Result, Ok, Err, refl, sym, ap, ◌∙◌, subst, append-nil, if◌then◌else◌}
 use Rattle.script_grammar.specs.declared.tree.Function.{Function}
-use Rattle.script_grammar.specs.declared.tree.Name.{Name}
 use Rattle.serial_meaning.specs.Runs.{Run, done, behind, goes_on, ◌then◌}
 use Rattle.serial_meaning.specs.Functions.{function_at}
 use Rattle.serial_meaning.specs.Plan.{PlanView, functions_of}
-use Rattle.serial_meaning.specs.Exec.{State, goes_out, frame, exec, instance, filled}
+use Rattle.serial_meaning.specs.Exec.{State, goes_out, frame, exec, filled}
 use Rattle.serial_meaning.specs.Eval.{Evaluation, path_of, eval_below, depth_left}
 use Rattle.serial_meaning.specs.Open.{Item, Happened, Child, Opened, Closed, NodeFault, Own, ChildFaulted, Node, put_off_all, joined, loop_end, is_empty_loop, risen, strand_after, last_of, opened}
 use Rattle.serial_meaning.proofs.RisingPedigrees.Closed.{Closed as Rules, closed-exec, returned-q}

@@ -25,7 +25,7 @@ use Rattle.serial_meaning.specs.declared.event.Fault.{Fault}
 use Rattle.serial_meaning.specs.declared.event.Event.TheVariants as event
 use Rattle.serial_meaning.specs.declared.origin.Origin.{Origin}
 use Rattle.serial_meaning.specs.declared.origin.Origin.TheVariants as origin
-use Rattle.strand_meaning.specs.Machine.{Destination, Spawned, Looped, Effect, Opens, Closes, Emitted, Handed, Syncs, Loops, Exit, Faulted, Inside, loop_effects, sync_effects, handing, inside, place_of, Level, Frame, Machine, Reached, Stands, Gives, present, here_of, state_of, with_left, with_leaving, with_returning, back, entered, reached, gives, spawns_in, return_run, value_run, return_move, level_move, end_move, move_at, move}
+use Rattle.strand_meaning.specs.Machine.{Destination, Spawned, Looped, Effect, Opens, Closes, Emitted, Handed, Syncs, Loops, Exit, Faulted, Inside, loop_effects, sync_effects, handing, inside, place_of, Level, Frame, Machine, Reached, Stands, Gives, here_of, state_of, with_left, with_leaving, with_returning, back, entered, reached, gives, spawns_in, return_run, value_run, return_move, level_move, end_move, move_at, move}
 use Rattle.strand_meaning.proofs.SoundSteps.Own.{here-below}
 
 -- the children among these

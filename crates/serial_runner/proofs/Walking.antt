@@ -1,5 +1,5 @@
 -- A stop further on the walk through an instance keeps all that is to be seen of it.
-use Rattle.std.proofs.Common.{◌≡◌, ◌<◌, ◌≤◌, ℕ, ◌+◌, true, false, ◌⊎◌, inl, inr, List, [], ◌∷◌, ◌++◌, Option, refl, sym, ap, ◌∙◌, subst, arith}
+use Rattle.std.proofs.Common.{◌≡◌, ◌<◌, ◌≤◌, ℕ, true, false, ◌⊎◌, inl, inr, List, [], ◌∷◌, Option, refl, sym, ap, ◌∙◌, subst, arith}
 use Rattle.std.specs.Prelude.{Contains}
 use Rattle.serial_meaning.specs.Answer.{AnswerView, AnswerTag}
 use Rattle.serial_meaning.specs.Eval.{path_of}
@@ -10,7 +10,7 @@ use Rattle.serial_meaning.specs.declared.event.Fault.{Fault}
 use Rattle.serial_meaning.specs.declared.origin.Origin.{Origin}
 use Rattle.strand_meaning.specs.Laws.{IsOf, IsSoundStop, KeepsOrigin, LeavesFewer, NotesBegin, NotesGoOn, AnswersShowNothing}
 use Rattle.strand_meaning.specs.Left.{stops_left}
-use Rattle.strand_meaning.specs.Observation.{IsInstance, no_notes, also, IsOnWay, OnWay, IsWhole}
+use Rattle.strand_meaning.specs.Observation.{IsInstance, no_notes, also, IsOnWay, OnWay, IsAllNoted}
 use Rattle.strand_meaning.specs.Trace.{AwaitedChild}
 use Rattle.strand_meaning.specs.Sound.{AreParts, IsTask}
 use Rattle.strand_meaning.specs.Task.{Task, start}
@@ -30,7 +30,7 @@ use Rattle.strand_machine.specs.declared.eye.Eye.{Eye}
 use Rattle.serial_runner.specs.Nodes.{IsBelow}
 use Rattle.serial_runner.specs.Observed.{with_notes, with_child, seen, begun_walk, origin_of, AreOriginsOf, IsWalk, IsSeen, is_over, WalksOn}
 use Rattle.serial_runner.specs.declared.observed.ObservedInstance.{ObservedInstance}
-use Rattle.serial_runner.specs.declared.walk.Walk.{Walk}
+use Rattle.serial_runner.specs.declared.walk.NodeWalk.{NodeWalk}
 use Rattle.serial_runner.specs.declared.walk.Walked.{Walked}
 use Rattle.serial_runner.specs.declared.walk.Walked.TheVariants.{Goes, Ends}
 use Rattle.serial_runner.proofs.Observing.{seen-with, seen_child, seen_none, whole_seen, over_seen}
@@ -46,7 +46,7 @@ parts-known plan o (p ∷ ps) h c there = from (cons-contained p.child c (awaite
     from (inl e) later = subst (IsOriginOf plan) e h.0.known
     from (inr d) later = later d
 
-module _ (plan : PlanView) (o : Origin) (j : List ℕ) (w : Walk) (is : IsWalk plan o j w) where
+module _ (plan : PlanView) (o : Origin) (j : List ℕ) (w : NodeWalk) (is : IsWalk plan o j w) where
   abbrev t : Task
   t = w.task.task
 
@@ -236,7 +236,7 @@ module _ (plan : PlanView) (o : Origin) (j : List ℕ) (w : Walk) (is : IsWalk p
     -- The whole instance is seen.
     pub walk_ends : IsBelow (path_of o) j → NotesGoOn → (observed : ObservedInstance) → observed ≡ with_notes n.eye n.events n.fault n.joined w.observed → WalksOn plan o j w (Ends observed)
     walk_ends below go observed b = whole_seen plan o j is.instance below (also is.notes noted_end.notes)
-        (subst (λ (q : PlanView). IsWhole q o (also is.notes noted_end.notes)) is.plan_is (subst (λ (d : Origin). IsWhole t.plan d (also is.notes noted_end.notes)) is.origin_is whole)) observed says
+        (subst (λ (q : PlanView). IsAllNoted q o (also is.notes noted_end.notes)) is.plan_is (subst (λ (d : Origin). IsAllNoted t.plan d (also is.notes noted_end.notes)) is.origin_is whole)) observed says
       where
         shows : ShowsStop noted_end.notes.items (stop_of end)
         shows = shown end n.eye n.events n.fault n.joined noted_end
@@ -248,7 +248,7 @@ module _ (plan : PlanView) (o : Origin) (j : List ℕ) (w : Walk) (is : IsWalk p
         whole = goes-on end n.eye n.events n.fault n.joined noted_end go
 
 -- A walk begins with a task of which nothing is done.
-pub walk_begins : NotesBegin → (plan : PlanView) (o : Origin) (j : List ℕ) → IsInstance o → IsTask (start plan o) → (w : Walk) → w ≡ begun_walk plan o j → IsWalk plan o j w
+pub walk_begins : NotesBegin → (plan : PlanView) (o : Origin) (j : List ℕ) → IsInstance o → IsTask (start plan o) → (w : NodeWalk) → w ≡ begun_walk plan o j → IsWalk plan o j w
 walk_begins begin plan o j i is w e =
     subst (IsWalk plan o j) (sym e) (record {
       instance = i;

@@ -19,7 +19,7 @@ use Rattle.strand_machine.specs.Tasks.{fresh}
 use Rattle.strand_machine.specs.declared.eye.Eye.{Eye}
 use Rattle.serial_runner.specs.Nodes.{is_none, node_seen, node_toward}
 use Rattle.serial_runner.specs.declared.observed.ObservedInstance.{ObservedInstance}
-use Rattle.serial_runner.specs.declared.walk.Walk.{Walk}
+use Rattle.serial_runner.specs.declared.walk.NodeWalk.{NodeWalk}
 use Rattle.serial_runner.specs.declared.walk.Walked.{Walked}
 use Rattle.serial_runner.specs.declared.walk.Walked.TheVariants.{Goes, Ends}
 
@@ -52,17 +52,17 @@ seen path j notes = record {
 }
 
 -- a walk of which nothing is done
-abbrev pub begun_walk : PlanView → Origin → List ℕ → Walk
+abbrev pub begun_walk : PlanView → Origin → List ℕ → NodeWalk
 begun_walk plan o j = record { task = fresh plan o; observed = nothing_seen (first_look (path_of o) j) }
 
-abbrev pub origin_of : Walk → Origin
+abbrev pub origin_of : NodeWalk → Origin
 origin_of w = w.task.task.origin
 
 abbrev pub AreOriginsOf : PlanView → List Origin → Type 0
 AreOriginsOf plan os = (o : Origin) → Contains os o → IsOriginOf plan o
 
 -- An instance of the plan that runs, and all that is to be seen of it.
-pub record IsWalk (plan : PlanView) (o : Origin) (j : List ℕ) (w : Walk) : Type 0 where
+pub record IsWalk (plan : PlanView) (o : Origin) (j : List ℕ) (w : NodeWalk) : Type 0 where
   pub instance : IsInstance o
   pub task : IsTask w.task.task
   pub idle : w.task.task.waiting ≡ false
@@ -74,7 +74,7 @@ pub record IsWalk (plan : PlanView) (o : Origin) (j : List ℕ) (w : Walk) : Typ
   pub says : w.observed ≡ seen (path_of o) j notes
 
 -- The task of a walk has come to this stop, and this is what is seen then.
-pub record IsStopped (j : List ℕ) (w : Walk) (stop : Stop) (observed : ObservedInstance) : Type 0 where
+pub record IsStopped (j : List ℕ) (w : NodeWalk) (stop : Stop) (observed : ObservedInstance) : Type 0 where
   pub noted : Noted
   pub is_noted : IsNoted w.task j w.observed.eye noted
   pub stops : stop ≡ noted.stop
@@ -94,6 +94,6 @@ abbrev pub is_over : ObservedInstance → Bool
 is_over s = is_some s.child || (s.eye.came && is_none s.fault)
 
 -- One stop further: a walk with fewer stops left, or all that is to be seen, since the instance has ended or nothing that it does later counts.
-abbrev pub WalksOn : PlanView → Origin → List ℕ → Walk → Walked → Type 0
+abbrev pub WalksOn : PlanView → Origin → List ℕ → NodeWalk → Walked → Type 0
 WalksOn plan o j w (Goes next) = IsWalk plan o j next × (stops_left next.task.task < stops_left w.task.task)
 WalksOn plan o j w (Ends observed) = IsSeen plan o j observed

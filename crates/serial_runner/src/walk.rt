@@ -25,7 +25,7 @@ use strand_meaning::laws;
 
 /// An instance's task, and what is seen of it so far.
 #[derive(Drop)]
-pub(crate) struct Walk {
+pub(crate) struct NodeWalk {
     pub task: Task,
     pub observed: ObservedInstance,
 }
@@ -33,7 +33,7 @@ pub(crate) struct Walk {
 /// What a stop of the task makes of a walk.
 #[derive(Drop)]
 pub(crate) enum Walked {
-    Goes(Walk),
+    Goes(NodeWalk),
     /// The instance has ended, or nothing that it does later counts.
     Ends(ObservedInstance),
 }
@@ -52,12 +52,12 @@ fn answers_of(alloc: Global, plan: &Arc<Plan>, origins: &[Origin]) -> Result<Ite
 }
 
 /// Runs the task to its next stop, and notes what is seen up to there.
-fn stopped(walk: Walk, alloc: Global, at: &Pedigree) -> Result<(Stop, ObservedInstance), Memory>
+fn stopped(walk: NodeWalk, alloc: Global, at: &Pedigree) -> Result<(Stop, ObservedInstance), Memory>
     requires instance { IsInstance (origin_of walk) }
     requires goes_on { walk.task.cut ≡ None }
     ensures { IfOk result (λ p. IsStopped at.now walk p.0 p.1) }
 {
-    let Walk { task, observed } = walk;
+    let NodeWalk { task, observed } = walk;
     let seen = observed.eye;
     let (observed, noted) = beside(observed, task.advance_noted(alloc, at, seen))?;
     let Noted {
@@ -71,7 +71,7 @@ fn stopped(walk: Walk, alloc: Global, at: &Pedigree) -> Result<(Stop, ObservedIn
 }
 
 /// Runs the task to its next stop. Where it waits there, the children that it awaits are run, unless nothing that it does later counts.
-fn walk_on(walk: Walk, alloc: Global, plan: &Arc<Plan>, at: &Pedigree) -> Result<Walked, Memory>
+fn walk_on(walk: NodeWalk, alloc: Global, plan: &Arc<Plan>, at: &Pedigree) -> Result<Walked, Memory>
     requires below { IsBelow (path_of (origin_of walk)) at.now }
     requires walk { IsWalk (arc_value plan.now) (origin_of walk) at.now walk }
     ensures { IfOk result (WalksOn (arc_value plan.now) (origin_of walk) at.now walk) }
@@ -88,7 +88,7 @@ fn walk_on(walk: Walk, alloc: Global, plan: &Arc<Plan>, at: &Pedigree) -> Result
                 drop(rest);
                 return Ok(Walked::Ends(observed));
             }
-            Ok(Walked::Goes(Walk {
+            Ok(Walked::Goes(NodeWalk {
                 task: rest,
                 observed,
             }))
@@ -101,7 +101,7 @@ fn walk_on(walk: Walk, alloc: Global, plan: &Arc<Plan>, at: &Pedigree) -> Result
             let answers = answers_of(alloc, plan, rest.awaited().as_slice());
             let ((rest, observed), answers) = beside((rest, observed), answers)?;
             let (observed, task) = beside(observed, rest.resume_with(alloc, answers))?;
-            Ok(Walked::Goes(Walk { task, observed }))
+            Ok(Walked::Goes(NodeWalk { task, observed }))
         }
         Stop::Done { answer, give } => {
             drop(answer);
@@ -117,7 +117,7 @@ fn begin_walk(
     plan: &Arc<Plan>,
     origin: Origin,
     at: &Pedigree,
-) -> Result<Walk, Memory>
+) -> Result<NodeWalk, Memory>
     requires { IsOriginOf (arc_value plan.now) origin }
     ensures walk { IfOk result (λ walk. walk ≡ begun_walk (arc_value plan.now) origin at.now) }
     ensures sound { IfOk result (λ walk. IsTask (start (arc_value plan.now) origin)) }
@@ -128,7 +128,7 @@ fn begin_walk(
     laws::tasks_begin();
     let eye = Eye::start(path(&origin), at);
     let task = begin_task(alloc, plan, origin)?;
-    Ok(Walk {
+    Ok(NodeWalk {
         task,
         observed: ObservedInstance::new(eye),
     })

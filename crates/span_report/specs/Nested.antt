@@ -8,10 +8,10 @@ use Rattle.serial_meaning.specs.declared.event.Event.{Event}
 use Rattle.serial_meaning.specs.declared.event.Event.TheVariants as event
 
 -- one event that begins no child and raises the rank
-pub data IsStep : List ℕ → Event → Type 0 where
-  Draw : (j : List ℕ) (n : ℕ) → IsStep j (event.Draw j n)
-  New : (j : List ℕ) → IsStep j (event.New j)
-  Sync : (j : List ℕ) → IsStep j (event.Sync j)
+pub data RaisesWithoutChild : List ℕ → Event → Type 0 where
+  Draw : (j : List ℕ) (n : ℕ) → RaisesWithoutChild j (event.Draw j n)
+  New : (j : List ℕ) → RaisesWithoutChild j (event.New j)
+  Sync : (j : List ℕ) → RaisesWithoutChild j (event.Sync j)
 
 -- Whose events a list has: those of the instance with the path `home`, at a present path from this rank on, or those of the iterations of the
 -- loop with this pedigree from this number on. A present path is the instance's and then the ranks of its open scopes.
@@ -23,7 +23,7 @@ pub data Whose : Type 0 where
 pub data IsNested : Whose → List ℕ → ℕ → List Event → Type 0 where
   Ends : (whose : Whose) (path : List ℕ) (rank : ℕ) → IsNested whose path rank []
   Prints : (home path : List ℕ) (rank : ℕ) (v : Value) (es : List Event) → IsNested (Instance home) path rank es → IsNested (Instance home) path rank (event.Print (path ++ rank ∷ []) v ∷ es)
-  Steps : (home path : List ℕ) (rank : ℕ) (e : Event) (es : List Event) → IsStep (path ++ rank ∷ []) e → IsNested (Instance home) path (rank + 1) es → IsNested (Instance home) path rank (e ∷ es)
+  Steps : (home path : List ℕ) (rank : ℕ) (e : Event) (es : List Event) → RaisesWithoutChild (path ++ rank ∷ []) e → IsNested (Instance home) path (rank + 1) es → IsNested (Instance home) path rank (e ∷ es)
   Spawns : (home path : List ℕ) (rank : ℕ) (child es : List Event) → IsNested (Instance (path ++ rank ∷ [])) (path ++ rank ∷ []) 0 child → IsNested (Instance home) path (rank + 1) es →
       IsNested (Instance home) path rank (event.Spawn (path ++ rank ∷ []) ∷ (child ++ es))
   Loops : (home path : List ℕ) (rank : ℕ) (inner es : List Event) → IsNested Iterations (path ++ rank ∷ []) 0 inner → IsNested (Instance home) path (rank + 1) es →

@@ -49,10 +49,10 @@ pub record IsMeet (events : List Event) (a b meet : List ℕ) : Type 0 where
 
 -- An event of instance `a` comes before what instance `b` does from number i on, where they part at `meet`: it is an event of that instance
 -- itself; or it lies in a loop of that instance, and `b` doesn't; or it lies in a child that this instance spawned before a sync of its own.
-pub data IsAwaited (events : List Event) (i : ℕ) (a b meet : List ℕ) : Type 0 where
-  Own : a ≡ meet → IsAwaited events i a b meet
-  Looped : (c : ℕ) (j : List ℕ) → IsOf events meet c (event.Loop j) → BeginsProperly j a → (Begins j b → ⊥) → IsAwaited events i a b meet
-  Synced : (c s : ℕ) (j at : List ℕ) → IsOf events meet c (event.Spawn j) → Begins j a → IsOf events meet s (event.Sync at) → c < s → s < i → IsAwaited events i a b meet
+pub data PrecedesAtMeet (events : List Event) (i : ℕ) (a b meet : List ℕ) : Type 0 where
+  Own : a ≡ meet → PrecedesAtMeet events i a b meet
+  Looped : (c : ℕ) (j : List ℕ) → IsOf events meet c (event.Loop j) → BeginsProperly j a → (Begins j b → ⊥) → PrecedesAtMeet events i a b meet
+  Synced : (c s : ℕ) (j at : List ℕ) → IsOf events meet c (event.Spawn j) → Begins j a → IsOf events meet s (event.Sync at) → c < s → s < i → PrecedesAtMeet events i a b meet
 
 -- Event number i is in series before what an instance does from number n on.
 pub record IsReady (events : List Event) (i n : ℕ) (home : List ℕ) : Type 0 where
@@ -62,7 +62,7 @@ pub record IsReady (events : List Event) (i n : ℕ) (home : List ℕ) : Type 0 
   pub meet : List ℕ
   pub placed : IsOf events own i e
   pub parting : IsMeet events own home meet
-  pub awaited : IsAwaited events n own home meet
+  pub awaited : PrecedesAtMeet events n own home meet
 
 -- Event number i is in series before event number n.
 pub record InSeries (events : List Event) (i n : ℕ) : Type 0 where

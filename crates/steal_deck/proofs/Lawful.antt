@@ -5,7 +5,7 @@ use lib.ListN.{get_elem?}
 use Rattle.crossbeam_deque.proofs.Lists.{at_last}
 use Rattle.steal_deck.specs.declared.rule.Party.{Party}
 use Rattle.steal_deck.specs.Accounts.{one_if, AreOf}
-use Rattle.steal_deck.specs.History.{Event, State, push, pop, steal, make_thief, take_back, owner, thief, retired, with_push, with_entry, with_thief, with_back, Leads, IsHistory}
+use Rattle.steal_deck.specs.History.{Event, DeckState, push, pop, steal, make_thief, take_back, owner, thief, retired, with_push, with_entry, with_thief, with_back, Leads, IsHistory}
 use Rattle.steal_deck.proofs.Weights.{weigh, Rising, IsLawful, Lawful}
 use Rattle.steal_deck.proofs.Entries.{below_more, weigh_more, weigh_both, named_longer, all_named_longer, named_more, named_both, named_front, rising_more, rising_front, taken_set, thieves_set, named_at, named_set, idle_set, taken_more, thieves_more, all_named_more, idle_more}
 
@@ -13,7 +13,7 @@ module _ {T : Type 0} where
   begins : IsLawful {T = T} [] (owner [] [] [] 0 0) []
   begins = record { rising = tt; named = (tt, tt, tt, tt); once = λ h. refl; parties = refl; idle = tt; is_owner = refl }
 
-  pushed_on : (r : State T) (x : T) → Lawful r → IsLawful (r.left ++ (length r.owner.pushed, x) ∷ []) (with_push r.owner x) r.others
+  pushed_on : (r : DeckState T) (x : T) → Lawful r → IsLawful (r.left ++ (length r.owner.pushed, x) ∷ []) (with_push r.owner x) r.others
   pushed_on r x d = let v = r.owner in let n : ℕ = length v.pushed in record {
     rising = rising_more v.pushed r.left x d.rising d.named.0;
     named = (
@@ -28,7 +28,7 @@ module _ {T : Type 0} where
     is_owner = d.is_owner;
   }
 
-  popped_off : (r : State T) (left : List (ℕ × T)) (e : ℕ × T) → r.left ≡ left ++ e ∷ [] → Lawful r → IsLawful left (with_entry r.owner e) r.others
+  popped_off : (r : DeckState T) (left : List (ℕ × T)) (e : ℕ × T) → r.left ≡ left ++ e ∷ [] → Lawful r → IsLawful left (with_entry r.owner e) r.others
   popped_off r left e q d =
       let v = r.owner in
       let named = named_front v.pushed left e (subst (AreOf v.pushed) q d.named.0) in record {
@@ -40,7 +40,7 @@ module _ {T : Type 0} where
         is_owner = d.is_owner;
       }
 
-  stolen_off : (r : State T) (left : List (ℕ × T)) (k : ℕ) (e : ℕ × T) (v : Party T) → get_elem? r.others k ≡ some v → v.is_thief ≡ true → r.left ≡ e ∷ left → Lawful r
+  stolen_off : (r : DeckState T) (left : List (ℕ × T)) (k : ℕ) (e : ℕ × T) (v : Party T) → get_elem? r.others k ≡ some v → v.is_thief ≡ true → r.left ≡ e ∷ left → Lawful r
       → IsLawful left r.owner (set r.others k (with_entry v e))
   stolen_off r left k e v at o q d =
       let boss = r.owner in
@@ -54,7 +54,7 @@ module _ {T : Type 0} where
         is_owner = d.is_owner;
       }
 
-  thief_more : (r : State T) → Lawful r → IsLawful r.left (with_thief r.owner) (r.others ++ thief [] ∷ [])
+  thief_more : (r : DeckState T) → Lawful r → IsLawful r.left (with_thief r.owner) (r.others ++ thief [] ∷ [])
   thief_more r d = record {
     rising = d.rising;
     named = (d.named.0, d.named.1, d.named.2, all_named_more r.owner.pushed r.others (thief []) d.named.3 tt);
@@ -64,7 +64,7 @@ module _ {T : Type 0} where
     is_owner = d.is_owner;
   }
 
-  thief_less : (r : State T) (k : ℕ) (u : Party T) → get_elem? r.others k ≡ some u → u.is_thief ≡ true → Lawful r → IsLawful r.left (with_back r.owner u) (set r.others k retired)
+  thief_less : (r : DeckState T) (k : ℕ) (u : Party T) → get_elem? r.others k ≡ some u → u.is_thief ≡ true → Lawful r → IsLawful r.left (with_back r.owner u) (set r.others k retired)
   thief_less r k u at o d = let v = r.owner in record {
     rising = d.rising;
     named = (d.named.0, d.named.1, named_both v.pushed v.back u.taken d.named.2 (named_at v.pushed r.others k u at d.named.3), named_set v.pushed r.others k retired d.named.3 tt);
@@ -74,13 +74,13 @@ module _ {T : Type 0} where
     is_owner = d.is_owner;
   }
 
-  event_keeps : (e : Event T) (r s : State T) → Leads e r s → Lawful r → Lawful s
+  event_keeps : (e : Event T) (r s : DeckState T) → Leads e r s → Lawful r → Lawful s
   event_keeps (push x) r s q d = subst Lawful (sym q) (pushed_on r x d)
   event_keeps (pop e) r s q d = subst Lawful (sym q.1) (popped_off r s.left e q.0 d)
   event_keeps (steal k e) r s q d = subst Lawful (sym q.3) (stolen_off r s.left k e q.0 q.1.0 q.1.1 q.2 d)
   event_keeps make_thief r s q d = subst Lawful (sym q) (thief_more r d)
   event_keeps (take_back k) r s q d = subst Lawful (sym q.2) (thief_less r k q.0 q.1.0 q.1.1 d)
 
-  pub lawful : (events : List (Event T)) (s : State T) → IsHistory events s → Lawful s
+  pub lawful : (events : List (Event T)) (s : DeckState T) → IsHistory events s → Lawful s
   lawful [] s q = subst Lawful (sym q) begins
   lawful (e ∷ events) s h = event_keeps e h.0 s h.2 (lawful events h.0 h.1)

@@ -5,7 +5,7 @@ use mathlib.Core.Logic.{dite}
 use native.Mathlib.Decide.{ℕ_discrete}
 use lib.ListN.{get_elem?}
 use Rattle.steal_deck.specs.Accounts.{one_if, times, EachOnce, AreOf, unless, left_from, left_of}
-use Rattle.steal_deck.specs.History.{State}
+use Rattle.steal_deck.specs.History.{DeckState}
 use Rattle.steal_deck.specs.Steps.{party_taken}
 use Rattle.steal_deck.proofs.Weights.{only, below, weigh, thieves, Above, Rising, Lawful}
 use Rattle.steal_deck.proofs.Entries.{in_range, weigh_both, weigh_more, named_both, none_out}
@@ -80,27 +80,27 @@ module _ {T : Type 0} where
   times_both n es fs = omega (arith, times_is n (es ++ fs), times_is n es, times_is n fs, weigh_both (only n) es fs)
 
   -- where all thieves came back, each number is left or in the owner's lists, once
-  once_home : (s : State T) → Lawful s → s.owner.made ≡ s.owner.came → (n : ℕ) → n < length s.owner.pushed → times n s.left + times n (party_taken s.owner) ≡ 1
+  once_home : (s : DeckState T) → Lawful s → s.owner.made ≡ s.owner.came → (n : ℕ) → n < length s.owner.pushed → times n s.left + times n (party_taken s.owner) ≡ 1
   once_home s d home n lt =
       let v = s.owner in
       let none : thieves s.others ≡ 0 = omega (arith, d.parties) in
       let o = d.once (only n) in
       omega (arith, times_is n s.left, times_is n (party_taken v), weigh_both (only n) v.taken v.back, none_out (only n) s.others none d.idle, below_in n (length v.pushed) lt)
 
-  pub all_home : (s : State T) → Lawful s → s.owner.made ≡ s.owner.came → s.left ≡ left_of s.owner.pushed (party_taken s.owner)
+  pub all_home : (s : DeckState T) → Lawful s → s.owner.made ≡ s.owner.came → s.left ≡ left_of s.owner.pushed (party_taken s.owner)
   all_home s d home =
       let v = s.owner in
       left_is v.pushed (party_taken v) v.pushed 0 s.left d.rising (from_zero s.left) d.named.0 (omega arith) (λ k. ap (get_elem? v.pushed) (omega arith))
       (λ k le lt. once_home s d home k lt)
 
-  pub each_home : (s : State T) → Lawful s → s.owner.made ≡ s.owner.came → EachOnce (length s.owner.pushed) (s.left ++ party_taken s.owner)
+  pub each_home : (s : DeckState T) → Lawful s → s.owner.made ≡ s.owner.came → EachOnce (length s.owner.pushed) (s.left ++ party_taken s.owner)
   each_home s d home = λ n lt. omega (arith, times_both n s.left (party_taken s.owner), once_home s d home n lt)
 
-  pub all_are : (s : State T) → Lawful s → AreOf s.owner.pushed (s.left ++ party_taken s.owner)
+  pub all_are : (s : DeckState T) → Lawful s → AreOf s.owner.pushed (s.left ++ party_taken s.owner)
   all_are s d = let v = s.owner in named_both v.pushed s.left (party_taken v) d.named.0 (named_both v.pushed v.taken v.back d.named.1 d.named.2)
 
   -- the last entry left is a push that the owner doesn't know to be taken
-  pub last_fresh : (s : State T) (left : List (ℕ × T)) (e : ℕ × T) → s.left ≡ left ++ e ∷ [] → get_elem? s.owner.pushed e.0 ≡ some e.1 → Lawful s
+  pub last_fresh : (s : DeckState T) (left : List (ℕ × T)) (e : ℕ × T) → s.left ≡ left ++ e ∷ [] → get_elem? s.owner.pushed e.0 ≡ some e.1 → Lawful s
       → (get_elem? s.owner.pushed e.0 ≡ some e.1) × (e.0 < length s.owner.pushed) × (times e.0 (party_taken s.owner) ≡ 0)
   last_fresh s left e q at d =
       let v = s.owner in

@@ -6,7 +6,7 @@ use Rattle.std.proofs.lemmas.List.{length-map}
 use Rattle.crossbeam_deque.specs.Tasks.{Pushes, Takes, Pops, Finds, FindsFew, Forks, Merges, Learns}
 use Rattle.steal_deck.specs.declared.rule.Party.{Party}
 use Rattle.steal_deck.specs.Accounts.{EachOnce, AreOf}
-use Rattle.steal_deck.specs.History.{Event, State, push, pop, steal, make_thief, take_back, state, owner, thief, retired, with_push, with_entry, with_thief, with_back, IsHistory, HasHistory, ThiefFindsFew}
+use Rattle.steal_deck.specs.History.{Event, DeckState, push, pop, steal, make_thief, take_back, state, owner, thief, retired, with_push, with_entry, with_thief, with_back, IsHistory, HasHistory, ThiefFindsFew}
 use Rattle.steal_deck.specs.Steps.{One, Pushed, Popped, FoundNone, Stole, Accounted, party_taken}
 use Rattle.steal_deck.proofs.Weights.{Lawful}
 use Rattle.steal_deck.proofs.Entries.{tasks_more, named_front, set_there}
@@ -18,7 +18,7 @@ module _ {T : Type 0} where
   begins = ([], state [] (owner [] [] [] 0 0) [], refl, refl, refl)
 
   -- what holds where the owner's pass is the first holds of the pass at the place 0
-  at_owner : (r : State T) (views : List (Party T)) (v : Party T) (G : List (Party T) → Party T → Type 0) → views ≡ r.owner ∷ r.others → get_elem? views 0 ≡ some v
+  at_owner : (r : DeckState T) (views : List (Party T)) (v : Party T) (G : List (Party T) → Party T → Type 0) → views ≡ r.owner ∷ r.others → get_elem? views 0 ≡ some v
       → G (r.owner ∷ r.others) r.owner → G views v
   at_owner r views v G q at g = subst (G views) (some-injective r.owner v (ap (λ vs. get_elem? vs 0) (sym q) ∙ at)) (subst (λ vs. G vs r.owner) (sym q) g)
 
@@ -26,19 +26,19 @@ module _ {T : Type 0} where
   not_thief v a b = let e : false ≡ true = sym a ∙ b in (cc)
 
   -- a thief's pass is one of the others
-  at_thief : (r : State T) (views : List (Party T)) (port : ℕ) (v : Party T) (G : List (Party T) → ℕ → Type 0) → views ≡ r.owner ∷ r.others → get_elem? views port ≡ some v
+  at_thief : (r : DeckState T) (views : List (Party T)) (port : ℕ) (v : Party T) (G : List (Party T) → ℕ → Type 0) → views ≡ r.owner ∷ r.others → get_elem? views port ≡ some v
       → v.is_thief ≡ true → Lawful r → ((k : ℕ) → get_elem? r.others k ≡ some v → G (r.owner ∷ r.others) (suc k)) → G views port
   at_thief r views zero v G q at o d g =
       let is = some-injective r.owner v (ap (λ vs. get_elem? vs 0) (sym q) ∙ at) in
       absurd (not_thief r.owner d.is_owner (ap (λ (u : Party T). u.is_thief) is ∙ o))
   at_thief r views (suc k) v G q at o d g = subst (λ vs. G vs (suc k)) (sym q) (g k (ap (λ vs. get_elem? vs (suc k)) (sym q) ∙ at))
 
-  pushed_on : (items : List T) (x : T) (events : List (Event T)) (r : State T) → IsHistory events r → items ≡ map (λ e. e.1) r.left
+  pushed_on : (items : List T) (x : T) (events : List (Event T)) (r : DeckState T) → IsHistory events r → items ≡ map (λ e. e.1) r.left
       → (w : Party T) × HasHistory (items ++ x ∷ []) (w ∷ r.others) × Pushed r.owner x w
   pushed_on items x events r h q =
       let e : ℕ × T = (length r.owner.pushed, x) in
       let w : Party T = with_push r.owner x in
-      let s : State T = state (r.left ++ e ∷ []) w r.others in
+      let s : DeckState T = state (r.left ++ e ∷ []) w r.others in
       (w, (push x ∷ events, s, (r, h, refl), ap (λ l. l ++ x ∷ []) q ∙ sym (tasks_more r.left e), refl), (refl, (events, r, s, h, refl, refl, refl)))
 
   pub pushes : (v : Party T) (x : T) → Pushes HasHistory 0 v (x ∷ []) (λ w. One (λ y. Pushed v y w) (x ∷ []))
@@ -59,12 +59,12 @@ module _ {T : Type 0} where
       let t = unsnoc (f ∷ es) ys x (cc) in
       (e ∷ t.0, t.1, ap (λ l. e ∷ l) t.2, (λ k. here k ∷ t.3 k))
 
-  popped_off : (items : List T) (x : T) (events : List (Event T)) (r : State T) (left : List (ℕ × T)) (n : ℕ) → IsHistory events r → r.left ≡ left ++ (n, x) ∷ []
+  popped_off : (items : List T) (x : T) (events : List (Event T)) (r : DeckState T) (left : List (ℕ × T)) (n : ℕ) → IsHistory events r → r.left ≡ left ++ (n, x) ∷ []
       → items ≡ map (λ e. e.1) left → (w : Party T) × HasHistory items (w ∷ r.others) × Popped r.owner x w
   popped_off items x events r left n h q is =
       let e : ℕ × T = (n, x) in
       let w : Party T = with_entry r.owner e in
-      let s : State T = state left w r.others in
+      let s : DeckState T = state left w r.others in
       let hist : IsHistory (pop e ∷ events) s = (r, h, (q, refl)) in
       let d = lawful events r h in
       let at = (named_front r.owner.pushed left e (subst (AreOf r.owner.pushed) q d.named.0)).1 in (
@@ -88,7 +88,7 @@ module _ {T : Type 0} where
   nothing_left [] e = refl
   nothing_left (x ∷ xs) e = absurd (cc)
 
-  found_none : (events : List (Event T)) (r : State T) → IsHistory events r → r.left ≡ [] → FoundNone r.owner
+  found_none : (events : List (Event T)) (r : DeckState T) → IsHistory events r → r.left ≡ [] → FoundNone r.owner
   found_none events r h q =
       let d = lawful events r h in (
         (events, r, h, refl, q),
@@ -105,13 +105,13 @@ module _ {T : Type 0} where
   steal_left [] items x q = absurd (cc)
   steal_left (e ∷ es) items x q = let s : x ≡ e.1 = (cc) in (e.0, es, ap (λ (z : T). (e.0, z) ∷ es) (sym s), (cc))
 
-  stolen_off : (items : List T) (x : T) (events : List (Event T)) (r : State T) (left : List (ℕ × T)) (n k : ℕ) (v : Party T) → IsHistory events r → r.left ≡ (n, x) ∷ left
+  stolen_off : (items : List T) (x : T) (events : List (Event T)) (r : DeckState T) (left : List (ℕ × T)) (n k : ℕ) (v : Party T) → IsHistory events r → r.left ≡ (n, x) ∷ left
       → items ≡ map (λ e. e.1) left → v.is_thief ≡ true → get_elem? r.others k ≡ some v
       → (w : Party T) × HasHistory items (r.owner ∷ set r.others k w) × Stole v x w
   stolen_off items x events r left n k v h q is o at =
       let e : ℕ × T = (n, x) in
       let w : Party T = with_entry v e in
-      let s : State T = state left r.owner (set r.others k w) in (
+      let s : DeckState T = state left r.owner (set r.others k w) in (
         w,
         (steal k e ∷ events, s, (r, h, (v, (at, o), q, refl)), is, refl),
         (n, refl, (events, r, s, k, h, (v, (at, o), q, refl), at, set_there r.others k v w at)),
@@ -138,12 +138,12 @@ module _ {T : Type 0} where
       at_owner r views v (λ vs u. HasHistory items (set vs 0 (with_thief u) ++ thief [] ∷ [])) h.4 at
       (make_thief ∷ h.0, state r.left (with_thief r.owner) (r.others ++ thief [] ∷ []), (r, h.2, refl), h.3, refl)
 
-  come_back : (items : List T) (events : List (Event T)) (r : State T) (k : ℕ) (u : Party T) → IsHistory events r → items ≡ map (λ e. e.1) r.left → get_elem? r.others k ≡ some u
+  come_back : (items : List T) (events : List (Event T)) (r : DeckState T) (k : ℕ) (u : Party T) → IsHistory events r → items ≡ map (λ e. e.1) r.left → get_elem? r.others k ≡ some u
       → u.is_thief ≡ true → HasHistory items (with_back r.owner u ∷ set r.others k retired)
   come_back items events r k u h q at o =
       (take_back k ∷ events, state r.left (with_back r.owner u) (set r.others k retired), (r, h, (u, (at, o), refl)), q, refl)
 
-  merged : (items : List T) (events : List (Event T)) (r : State T) (other : ℕ) (u : Party T) → IsHistory events r → items ≡ map (λ e. e.1) r.left → u.is_thief ≡ true → ¬ (other ≡ 0)
+  merged : (items : List T) (events : List (Event T)) (r : DeckState T) (other : ℕ) (u : Party T) → IsHistory events r → items ≡ map (λ e. e.1) r.left → u.is_thief ≡ true → ¬ (other ≡ 0)
       → get_elem? (with_back r.owner u ∷ r.others) other ≡ some u → HasHistory items (set (with_back r.owner u ∷ r.others) other retired)
   merged items events r zero u h q o two at = absurd (two refl)
   merged items events r (suc k) u h q o two at = come_back items events r k u h q at o
@@ -153,7 +153,7 @@ module _ {T : Type 0} where
       at_owner h.1 views v (λ vs b. get_elem? (set vs 0 (with_back b u)) other ≡ some u → HasHistory items (set (set vs 0 (with_back b u)) other retired)) h.4 at
       (λ there. merged items h.0 h.1 other u h.2 h.3 o two there) at'
 
-  accounts : (events : List (Event T)) (r : State T) → IsHistory events r → Accounted r.owner
+  accounts : (events : List (Event T)) (r : DeckState T) → IsHistory events r → Accounted r.owner
   accounts events r h home =
       let d = lawful events r h in
       let l = all_home r d home in (

@@ -2,7 +2,7 @@
 use Rattle.std.proofs.Common.{◌≡◌, ℕ, zero, suc, ◌+◌, ◌<◌, false, List, [], ◌∷◌, length, nat_eq}
 use Rattle.steal_deck.specs.declared.rule.Party.{Party}
 use Rattle.steal_deck.specs.Accounts.{one_if, AreOf}
-use Rattle.steal_deck.specs.History.{State}
+use Rattle.steal_deck.specs.History.{DeckState}
 
 -- the weights of the numbers below this one
 abbrev pub below : (ℕ → ℕ) → ℕ → ℕ
@@ -54,5 +54,5 @@ module _ {T : Type 0} where
     pub idle : Idle others
     pub is_owner : boss.is_thief ≡ false
 
-  abbrev pub Lawful : State T → Type 0
+  abbrev pub Lawful : DeckState T → Type 0
   Lawful s = IsLawful s.left s.owner s.others

@@ -41,9 +41,9 @@ pub(crate) fn show(
     ensures sound { IfOk result (IsSoundMade parts.new) }
 {
     match shown {
-        Effects::Nothing => Ok(pass(parts, Work::Runs(InstanceState::Running(instance)))),
-        Effects::Opened(_) => Ok(pass(parts, Work::Runs(InstanceState::Running(instance)))),
-        Effects::Closed(_) => Ok(pass(parts, Work::Runs(InstanceState::Running(instance)))),
+        Effects::Nothing | Effects::Opened(_) | Effects::Closed(_) => {
+            Ok(pass(parts, Work::Runs(InstanceState::Running(instance))))
+        }
         Effects::Emitted(event) => {
             parts.body.trace.emit(alloc, event)?;
             Ok(pass(parts, Work::Runs(InstanceState::Running(instance))))
@@ -83,7 +83,7 @@ pub(crate) fn go(parts: &mut Parts, alloc: Global, mut instance: Instance) -> Re
     laws::moves_fall();
     loop {
         parts.body.advanced = true;
-        match instance.run(alloc, parts.body.family.plan()) {
+        match instance.run(alloc, parts.body.family.plan(), &mut parts.body.trace) {
             Ok(MoveResult::Went(Effects::Nothing)) => {}
             Ok(MoveResult::Went(Effects::Emitted(event))) => parts.body.trace.emit(alloc, event)?,
             Ok(MoveResult::Went(Effects::Synced(event))) => {

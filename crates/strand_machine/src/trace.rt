@@ -7,6 +7,7 @@ use script_grammar::Items;
 use serial_meaning::{Event, Fault, Origin, Out};
 use std::alloc::Global;
 use std::marker::Model;
+use strand_moves::EventSink;
 
 /// Where a child's value goes, and the task's own events after it, up to the next child.
 #[derive(Drop)]
@@ -152,5 +153,17 @@ impl Trace {
     {
         let Trace { prefix, fault, .. } = self;
         (prefix, fault)
+    }
+}
+
+impl EventSink for Trace {
+    ghost after = { emit };
+
+    #[inline(always)]
+    fn emit(&mut self, alloc: Global, event: Event) -> Result<(), strand_moves::Memory> {
+        match self.emit(alloc, event) {
+            Ok(()) => Ok(()),
+            Err(_) => Err(strand_moves::Memory),
+        }
     }
 }

@@ -121,7 +121,7 @@ pub record IsOnWay (notes : Observation) (t : Task) : Type 0 where
   pub joined : notes.joined ≡ None
 
 -- All that an instance showed is noted: its node has these items and ends by these faults.
-pub record IsWhole (plan : PlanView) (o : Origin) (notes : Observation) : Type 0 where
+pub record IsAllNoted (plan : PlanView) (o : Origin) (notes : Observation) : Type 0 where
   pub items : (opened plan o).items ≡ notes.items
   pub fault : own_fault_of (opened plan o).ending ≡ notes.fault
   pub joined : joined_fault (opened plan o).ending ≡ notes.joined
@@ -129,4 +129,4 @@ pub record IsWhole (plan : PlanView) (o : Origin) (notes : Observation) : Type 0
 abbrev pub OnWay : Observation → Task → Stop → Type 0
 OnWay notes t (Spawn child rest) = IsOnWay notes rest
 OnWay notes t (Wait rest) = IsOnWay notes rest
-OnWay notes t (End out ended) = IsWhole t.plan t.origin notes
+OnWay notes t (End out ended) = IsAllNoted t.plan t.origin notes

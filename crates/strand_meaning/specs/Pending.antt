@@ -35,10 +35,10 @@ pub data ComesTo : (from : check.Names) → (statements : List Stmt) → (left :
       HasBlock st from block inner again → ComesTo inner block (next ∷ left) now → ComesTo from (st ∷ sts) (next ∷ (left ++ (again ++ sts))) now
 
 -- The same of a function's statements, inside these open scopes, the innermost first. A scope's block is judged from what is pending before it.
-pub data StandsAt (body : List Stmt) : List Level → List Stmt → check.Names → Type 0 where
-  Outside : {left : List Stmt} {now : check.Names} → ComesTo nobody body left now → StandsAt body [] left now
+pub data FrameStandsAt (body : List Stmt) : List Level → List Stmt → check.Names → Type 0 where
+  Outside : {left : List Stmt} {now : check.Names} → ComesTo nobody body left now → FrameStandsAt body [] left now
   InScope : {level : Level} {levels : List Level} {st : Stmt} {block left : List Stmt} {before now : check.Names} →
-      StandsAt body levels (st ∷ level.left) before → act_of st ≡ act.Scope block → ComesTo before block left now → StandsAt body (level ∷ levels) left now
+      FrameStandsAt body levels (st ∷ level.left) before → act_of st ≡ act.Scope block → ComesTo before block left now → FrameStandsAt body (level ∷ levels) left now
 
 -- the set by which a statement is judged: a `while` by all that is pending before one of its turns
 abbrev pub judged_by : Act-F Act Stmt → check.Names → check.Names
@@ -55,7 +55,7 @@ pub record ArePending (plan : PlanView) (names : Names) (a : Frame) (left : List
   pub function : Function
   pub of_plan : function_at (functions_of plan) a.function ≡ Some function
   pub now : check.Names
-  pub stands : StandsAt function.body a.levels left now
+  pub stands : FrameStandsAt function.body a.levels left now
   pub pending : (name : List ℕ) → Contains names name → set_at left now name ≡ true
 
 -- the frame stands still at the statement before those that are left to it

@@ -3,3 +3,4 @@ pub mod Frames
 pub mod OpenScopes
 pub mod HandedChildren
 pub mod Cursors
+pub mod Shares

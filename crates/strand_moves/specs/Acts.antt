@@ -1,5 +1,5 @@
 -- What the call for a statement answers and leaves, where the statement is paid and the cursor stands after it.
-use Rattle.std.specs.Prelude.{◌≡◌, ℕ, zero, suc, ◌+◌, ◌<◌, Bool, true, false, not, nat_lt, if◌then◌else◌, List, [], ◌∷◌, ◌++◌, Option, Some, None, Result, Ok, Err, length}
+use Rattle.std.specs.Prelude.{◌≡◌, ℕ, zero, suc, ◌+◌, ◌<◌, ◌≤◌, Bool, true, false, not, nat_lt, if◌then◌else◌, List, [], ◌∷◌, ◌++◌, Option, Some, None, Result, Ok, Err, length}
 use Rattle.std.specs.Prelude.{pos}
 use Rattle.dotmix.specs.Trails.{FitsGamma}
 use Rattle.script_grammar.specs.declared.tree.Name.{Name}
@@ -37,6 +37,11 @@ pub record Stays (old new : Running) : Type 0 where
   pub trail : new.trail ≡ old.trail
   pub scopes : open_scopes new ≡ open_scopes old
   pub leaving : new.leaving ≡ old.leaving
+
+-- one frame more stands there at most, and no step is paid
+pub record BeginsOne (old new : Running) : Type 0 where
+  pub steps : new.steps ≡ old.steps
+  pub frames : length new.below.items ≤ length old.below.items + 1
 
 -- Where there was memory for it, they stay.
 abbrev pub Stands : Running → Running → Result MoveResult values.Halt → Type 0

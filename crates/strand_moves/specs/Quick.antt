@@ -1,4 +1,4 @@
--- Moves that show nothing.
+-- Moves that show nothing, or an event alone.
 use Rattle.std.specs.Prelude.{◌≡◌, Bool, true, false, [], Result, Ok, Err}
 use Rattle.script_grammar.specs.declared.tree.Right.{Right}
 use Rattle.script_grammar.specs.declared.tree.Right.TheVariants as right
@@ -8,6 +8,7 @@ use Rattle.script_grammar.specs.declared.tree.Act.TheOpen as act
 use Rattle.script_grammar.specs.declared.tree.Act.TheOpen.{Act-F}
 use Rattle.serial_meaning.specs.Runs.{Run}
 use Rattle.serial_meaning.specs.Plan.{PlanView}
+use Rattle.serial_meaning.specs.declared.event.Event.{Event}
 use Rattle.serial_meaning.specs.declared.event.Fault.{Fault}
 use Rattle.strand_meaning.specs.Machine.{Effect, Reached}
 use Rattle.strand_values.specs.declared.halt.Halt as values
@@ -16,6 +17,7 @@ use Rattle.strand_moves.specs.declared.running.Running.{Running}
 use Rattle.strand_moves.specs.declared.effects.MoveResult.{MoveResult}
 use Rattle.strand_moves.specs.declared.effects.MoveResult.TheVariants as moved
 use Rattle.strand_moves.specs.declared.effects.Effects.TheVariants as shown
+use Rattle.strand_moves.specs.Acts.{BeginsOne, Stays}
 use Rattle.strand_moves.specs.Cursors.{IsBehind}
 use Rattle.strand_moves.specs.Running.{machine_of, present_of, text_of}
 use Rattle.strand_moves.specs.Moves.{acted, run_of}
@@ -30,6 +32,17 @@ abbrev pub IsWent : Result (Unit {0}) values.Halt → Bool → Type 0
 IsWent (Ok u) went = went ≡ true
 IsWent (Err (halt.Fault kind)) went = went ≡ false
 IsWent (Err halt.Memory) went = ⊥
+
+-- what showed an event, as a move
+abbrev pub emitted : Result Event values.Halt → Result MoveResult values.Halt
+emitted (Ok e) = Ok (moved.Went (shown.Emitted e))
+emitted (Err h) = Err h
+
+-- whether an event was shown, which the sink then took; want of memory is no answer
+abbrev pub IsEmittedTo : {S : Type 0} → (Event → S → S) → Result Event values.Halt → S → S → Bool → Type 0
+IsEmittedTo after (Ok e) old new sent = (sent ≡ true) × (new ≡ after e old)
+IsEmittedTo after (Err (halt.Fault kind)) old new sent = (sent ≡ false) × (new ≡ old)
+IsEmittedTo after (Err halt.Memory) old new sent = ⊥
 
 -- A plain statement gives a variable the value of an expression, makes an array, stores an item, or is an `if` or a `while`. It shows
 -- nothing, and begins no function.
@@ -73,8 +86,44 @@ IsQuiet st old new false =
     × ((plan : PlanView) → IsBehind (text_of plan old.top) old.top.cursor st → is_plain (out-Act (out-Stmt st).act) ≡ true →
     ByFault (acted plan (present_of old) (machine_of plan old) st (out-Act (out-Stmt st).act)))
 
--- the innermost frame is of the same function, in the same scopes, and no step is paid
+-- An emitting statement draws, makes an object, or prints. It shows an event, and begins no function.
+abbrev pub shows_event : Right → Bool
+shows_event (right.Value e) = false
+shows_event (right.Draw at) = true
+shows_event (right.New at) = true
+shows_event (right.Call at c) = false
+shows_event (right.Spawn at c) = false
+
+abbrev pub is_emitting : Act-F Act Stmt → Bool
+is_emitting (act.Let x r) = shows_event r
+is_emitting (act.Array x n) = false
+is_emitting (act.Set x r) = shows_event r
+is_emitting (act.Store x i e) = false
+is_emitting (act.Spawn c) = false
+is_emitting (act.Call c) = false
+is_emitting act.Sync = false
+is_emitting (act.Print e) = true
+is_emitting (act.If e a b) = false
+is_emitting (act.While e a) = false
+is_emitting (act.Pfor x lo hi target c) = false
+is_emitting (act.Scope a) = false
+
+-- What a statement does was done, and the sink took the event that it showed. Or nothing changed, and an emitting one meets a fault.
+abbrev pub HasEmitted : {S : Type 0} → (Event → S → S) → PlanView → Stmt → Act-F Act Stmt → Running → S → Running → S → Bool → Type 0
+HasEmitted after plan st a old from new to true =
+    (e : Event) × (to ≡ after e from) × (acted plan (present_of old) (machine_of plan old) st a ≡ run_of (moved.Went (shown.Emitted e)) (machine_of plan new))
+HasEmitted after plan st a old from new to false =
+    (new ≡ old) × (to ≡ from) × (is_emitting a ≡ true → ByFault (acted plan (present_of old) (machine_of plan old) st a))
+
+-- A call was begun, or what there isn't was skipped. Or nothing changed.
+abbrev pub HasCalled : PlanView → Stmt → Act-F Act Stmt → Running → Running → Bool → Type 0
+HasCalled plan st a old new true =
+    (acted plan (present_of old) (machine_of plan old) st a ≡ run_of (moved.Went shown.Nothing) (machine_of plan new)) × Stays old new × BeginsOne old new
+HasCalled plan st a old new false = new ≡ old
+
+-- the innermost frame is of the same function, in the same scopes, over the same frames, and no step is paid
 pub record StaysThere (old new : Running) : Type 0 where
+  pub below : new.below.items ≡ old.below.items
   pub function : new.top.function ≡ old.top.function
   pub levels : new.top.levels.items ≡ old.top.levels.items
   pub steps : new.steps ≡ old.steps

@@ -1,7 +1,8 @@
--- Moves in a row that show nothing.
+-- Moves in a row that show nothing, or an event alone.
 use Rattle.std.specs.Prelude.{◌≡◌, false, List, [], ◌∷◌, Option, Some, None}
 use Rattle.script_grammar.specs.declared.tree.Stmt.{Stmt}
 use Rattle.serial_meaning.specs.Plan.{PlanView}
+use Rattle.serial_meaning.specs.declared.event.Event.{Event}
 use Rattle.strand_meaning.specs.Machine.{Machine, move}
 use Rattle.strand_moves.specs.declared.cursor.Cursor.{Cursor}
 use Rattle.strand_moves.specs.declared.running.Running.{Running}
@@ -12,16 +13,18 @@ use Rattle.strand_moves.specs.Cursors.{IsBehind, left_of, Passes}
 use Rattle.strand_moves.specs.Moves.{run_of}
 use Rattle.strand_moves.specs.Running.{IsInstance, machine_of, path_of, text_of}
 
--- They lead from the first of these instances to the other.
-pub data Row (plan : PlanView) (first : Running) : Running → Type 0 where
-  Still : (now : Running) → now ≡ first → Row plan first now
-  More : (before now : Running) → Row plan first before → move plan (path_of before) (machine_of plan before) ≡ run_of (moved.Went shown.Nothing) (machine_of plan now) → path_of now ≡ path_of before → IsInstance plan now →
-      Row plan first now
+-- They lead from the first of these instances to the other. A sink takes the events that they show.
+pub data Row {S : Type 0} (after : Event → S → S) (plan : PlanView) (first : Running) (start : S) : Running → S → Type 0 where
+  Still : (now : Running) (sent : S) → now ≡ first → sent ≡ start → Row after plan first start now sent
+  More : (before now : Running) (sent : S) → Row after plan first start before sent → move plan (path_of before) (machine_of plan before) ≡ run_of (moved.Went shown.Nothing) (machine_of plan now) → path_of now ≡ path_of before →
+      IsInstance plan now → Row after plan first start now sent
+  Emits : (before now : Running) (earlier sent : S) (e : Event) → Row after plan first start before earlier → move plan (path_of before) (machine_of plan before) ≡ run_of (moved.Went (shown.Emitted e)) (machine_of plan now) →
+      sent ≡ after e earlier → path_of now ≡ path_of before → IsInstance plan now → Row after plan first start now sent
 
 -- They lead to an instance that makes one move more, and that one was made.
-pub record RunsOn (plan : PlanView) (first : Running) (m : MoveResult) (now : Running) : Type 0 where
+pub record RunsOn {S : Type 0} (after : Event → S → S) (plan : PlanView) (first : Running) (start : S) (m : MoveResult) (now : Running) (sent : S) : Type 0 where
   pub before : Running
-  pub row : Row plan first before
+  pub row : Row after plan first start before sent
   pub last : move plan (path_of before) (machine_of plan before) ≡ run_of m (machine_of plan now)
 
 -- the statement after which a cursor stands that passed it, where one was left
@@ -43,9 +46,9 @@ abbrev pub unpassed : PlanView → Running → Option Stmt → Machine
 unpassed plan i next = let m = machine_of plan i in record m { top = record m.top { left = with_next next m.top.left } }
 
 -- They lead to an instance whose cursor then passed its next statement, if one was left.
-pub record Comes (plan : PlanView) (first now : Running) (next : Option Stmt) : Type 0 where
+pub record Comes {S : Type 0} (after : Event → S → S) (plan : PlanView) (first : Running) (start : S) (now : Running) (sent : S) (next : Option Stmt) : Type 0 where
   pub before : Running
-  pub row : Row plan first before
+  pub row : Row after plan first start before sent
   pub sound : IsInstance plan before
   pub path : path_of before ≡ path_of first
   pub passed : now ≡ record before { top = record before.top { cursor = now.top.cursor } }

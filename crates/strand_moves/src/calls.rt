@@ -1,13 +1,15 @@
 // Calls, and the end of a frame.
 
-ghost use Rattle.std.specs.Prelude.{◌≡◌, ◌<◌, ◌≤◌, ◌+◌, ◌++◌, ◌∷◌, [], false, true, Some, None, IfOk, OnOk};
+ghost use Rattle.std.specs.Prelude.{◌≡◌, ◌<◌, ◌≤◌, ◌+◌, ◌++◌, ◌∷◌, [], false, true, Some, None, Err, IfOk, OnOk};
 ghost use Rattle.std.specs.Option.{option_copied};
 ghost use Rattle.script_grammar.specs.declared.tree.Stmt.{Stmt};
 ghost use Rattle.serial_meaning.specs.Functions.{function_at, number_of};
 ghost use Rattle.serial_meaning.specs.Plan.{PlanView, functions_of};
+ghost use Rattle.serial_meaning.specs.declared.event.FaultKind.{FaultKind};
+ghost use Rattle.strand_values.specs.declared.halt.Halt.TheVariants.{Fault};
 ghost use Rattle.strand_meaning.specs.Machine.{here_of, return_move, spawns_in, with_scalar};
 ghost use Rattle.strand_values.specs.Gives.{Gives};
-ghost use Rattle.strand_moves.specs.Acts.{Acts, Costs, IsCallee, Stands, result_of};
+ghost use Rattle.strand_moves.specs.Acts.{Acts, BeginsOne, Costs, IsCallee, Stands, result_of};
 ghost use Rattle.strand_moves.specs.Running.{IsStrand, machine_of, path_of, present_of};
 ghost use Rattle.strand_moves.specs.Moves.{Makes, MovesTrail, call_to, strand_of};
 ghost use Rattle.strand_moves.specs.Quick.{quiet};
@@ -15,7 +17,6 @@ ghost use Rattle.strand_moves.specs.Quick.{quiet};
 use crate::effects::{Effects, MoveResult};
 use crate::frame::{Frame, lets, target_of};
 use crate::memory::Memory;
-use crate::quick::quiet;
 use crate::running::Running;
 use script_grammar::{CallText, Function, Name};
 use serial_meaning::{FaultKind, Plan, Value};
@@ -34,17 +35,18 @@ impl Running {
         plan: &Plan,
         target: Option<&Name>,
         call: &CallText,
-    ) -> Result<MoveResult, Halt>
+    ) -> Result<(), Halt>
         requires { self.old.leaving ≡ false }
-        ensures shows { (st : Stmt) → Acts plan.now st (call_to (option_copied target.entry) call.now) self.old self.new result }
-        ensures child { IfOk result (MovesTrail plan.now) }
-        ensures stays { Stands self.old self.new result }
+        ensures shows { (st : Stmt) → Acts plan.now st (call_to (option_copied target.entry) call.now) self.old self.new (quiet result) }
+        ensures same { (kind : FaultKind) → result ≡ Err (Fault kind) → self.new ≡ self.old }
+        ensures stays { Stands self.old self.new (quiet result) }
         ensures few { Costs self.old self.new }
+        ensures begins { OnOk result (BeginsOne self.old self.new) }
     {
         let number = plan.callee(&call.name);
         match function_in(plan, number) {
-            Some(function) => quiet(self.enter(alloc, number, function, target, call)),
-            None => quiet(self.skip(alloc, target, call)),
+            Some(function) => self.enter(alloc, number, function, target, call),
+            None => self.skip(alloc, target, call),
         }
     }
 
@@ -60,8 +62,10 @@ impl Running {
         requires { self.old.leaving ≡ false }
         ensures shows { (plan : PlanView) (st : Stmt) → number ≡ number_of (functions_of plan) call.now.name.bytes → function_at (functions_of plan) number ≡ Some function.now →
             Acts plan st (call_to (option_copied target.entry) call.now) self.old self.new (quiet result) }
+        ensures same { (kind : FaultKind) → result ≡ Err (Fault kind) → self.new ≡ self.old }
         ensures stays { Stands self.old self.new (quiet result) }
         ensures few { Costs self.old self.new }
+        ensures begins { OnOk result (BeginsOne self.old self.new) }
     {
         let more = lets(function.body.as_slice());
         let params = function.params.as_slice();
@@ -80,8 +84,10 @@ impl Running {
     fn skip(&mut self, alloc: Global, target: Option<&Name>, call: &CallText) -> Result<(), Halt>
         ensures shows { (plan : PlanView) (st : Stmt) → function_at (functions_of plan) (number_of (functions_of plan) call.now.name.bytes) ≡ None →
             Acts plan st (call_to (option_copied target.entry) call.now) self.old self.new (quiet result) }
+        ensures same { (kind : FaultKind) → result ≡ Err (Fault kind) → self.new ≡ self.old }
         ensures stays { Stands self.old self.new (quiet result) }
         ensures few { Costs self.old self.new }
+        ensures begins { OnOk result (BeginsOne self.old self.new) }
     {
         drop(self.top.env.values(alloc, call.args.as_slice())?);
         if self.below.len() >= MOST_CALLS {

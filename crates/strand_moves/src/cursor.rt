@@ -29,7 +29,8 @@ pub(crate) struct Entered {
     pub(crate) back: u32,
 }
 
-/// A place in a function's body, or in a scope's block: the blocks that were entered, the outermost first, of which two take no memory, and the index in the innermost block.
+/// A place in a function's body, or in a scope's block: the blocks that were entered, the outermost first, of which two take no memory, and the index in the
+/// innermost block.
 #[derive(Drop)]
 pub(crate) struct Cursor {
     pub(crate) entered: SmallVec<Entered, 2>,

@@ -8,6 +8,7 @@ ghost use Rattle.strand_meaning.specs.Machine.{Stands, begun, move};
 ghost use Rattle.strand_meaning.specs.Task.{answered, changed, with_values};
 
 use crate::effects::MoveResult;
+use crate::event_sink::EventSink;
 use crate::memory::Memory;
 use crate::running::Running;
 use dotmix::Trail;
@@ -56,15 +57,21 @@ impl Instance {
         self.running.make_move(alloc, plan)
     }
 
-    /// Moves in a row that show nothing, and then one more. Where there was no memory for one the instance is of no more use.
-    pub fn run(&mut self, alloc: Global, plan: &Plan) -> Result<MoveResult, Memory>
+    /// Moves in a row that show nothing or an event, which the sink takes, and then one more. Where there was no memory for one the instance
+    /// is of no more use.
+    pub fn run<S: EventSink>(
+        &mut self,
+        alloc: Global,
+        plan: &Plan,
+        sink: &mut S,
+    ) -> Result<MoveResult, Memory>
         requires { IsInstance plan.now self.old }
-        ensures moves { IfOk result (λ moved. RunsOn plan.now self.old moved self.new) }
+        ensures moves { IfOk result (λ moved. RunsOn S.after plan.now self.old sink.old moved self.new sink.new) }
         ensures child { IfOk result (MovesTrail plan.now) }
         ensures path { IfOk result (λ _. path_of self.new ≡ path_of self.old) }
         ensures sound { IfOk result (λ _. IsInstance plan.now self.new) }
     {
-        self.running.run(alloc, plan)
+        self.running.run(alloc, plan, sink)
     }
 
     /// Takes the fault of a child of the frame with `height` others below it.

@@ -9,6 +9,7 @@ mod calls;
 mod children;
 mod cursor;
 mod effects;
+mod event_sink;
 mod frame;
 mod instance;
 mod memory;
@@ -20,6 +21,7 @@ mod scopes;
 mod statement;
 
 pub use effects::{Child, Effects, LoopedChild, MoveResult, SpawnedChild};
+pub use event_sink::EventSink;
 pub use instance::Instance;
 pub use memory::Memory;
 

@@ -10,10 +10,10 @@ ghost use Rattle.strand_values.specs.declared.halt.Halt.TheVariants.{Fault};
 ghost use Rattle.strand_moves.specs.Acts.{Acts, Costs, Stands, Stays};
 ghost use Rattle.strand_moves.specs.Running.{IsStrand};
 ghost use Rattle.strand_moves.specs.Moves.{MovesTrail};
-ghost use Rattle.strand_moves.specs.Quick.{StaysThere, quiet};
+ghost use Rattle.strand_moves.specs.Quick.{StaysThere, emitted, quiet};
 
-use crate::effects::{Effects, MoveResult};
-use crate::quick::quiet;
+use crate::effects::MoveResult;
+use crate::quick::{emitted, quiet};
 use crate::running::Running;
 use script_grammar::{Expr, Name, Right};
 use serial_meaning::{Event, Plan, Value};
@@ -38,9 +38,9 @@ impl Running {
     {
         match r {
             Right::Value(e) => quiet(self.set_value(x, e)),
-            Right::Draw(_) => self.set_draw(plan, x),
-            Right::New(_) => self.set_new(x),
-            Right::Call(_, c) => self.call(alloc, plan, Some(x), c),
+            Right::Draw(_) => emitted(self.draw(plan, x)),
+            Right::New(_) => emitted(self.make_object(x)),
+            Right::Call(_, c) => quiet(self.call(alloc, plan, Some(x), c)),
             Right::Spawn(_, c) => self.spawn(alloc, plan, Some(x), c),
         }
     }
@@ -56,31 +56,37 @@ impl Running {
         self.top.env.assign(x, e)
     }
 
-    fn set_draw(&mut self, plan: &Plan, x: &Name) -> Result<MoveResult, Halt>
+    /// `x` is given the word that is drawn at the strand's pedigree.
+    pub(crate) fn draw(&mut self, plan: &Plan, x: &Name) -> Result<Event, Halt>
         requires { IsStrand plan.now self.old }
-        ensures shows { (st : Stmt) (at : ℕ) → Acts plan.now st (act.Set x.now (right.Draw at)) self.old self.new result }
-        ensures child { (plan : PlanView) → IfOk result (MovesTrail plan) }
+        ensures shows { (st : Stmt) (at : ℕ) → Acts plan.now st (act.Set x.now (right.Draw at)) self.old self.new (emitted result) }
+        ensures same { (kind : FaultKind) → result ≡ Err (Fault kind) → self.new ≡ self.old }
+        ensures there { StaysThere self.old self.new }
+        ensures cursor { self.new.top.cursor ≡ self.old.top.cursor }
         ensures stays { Stays self.old self.new }
         ensures few { Costs self.old self.new }
     {
         let word = self.trail.draw(&plan.gamma, self.rank, plan.rounds);
-        self.top.env.set_scalar(x, Value::Int(word.cast_signed()))?;
-        let event = Event::Draw(self.pedigree()?, word);
+        let at = self.pedigree()?;
+        self.top.env.set_number(&x.bytes, word.cast_signed())?;
         self.rank += 1;
-        Ok(MoveResult::Went(Effects::Emitted(event)))
+        Ok(Event::Draw(at, word))
     }
 
-    fn set_new(&mut self, x: &Name) -> Result<MoveResult, Halt>
+    /// `x` is given the object that is made at the strand's pedigree.
+    pub(crate) fn make_object(&mut self, x: &Name) -> Result<Event, Halt>
         requires { self.old.rank < 2 ^ 32 }
-        ensures shows { (plan : PlanView) (st : Stmt) (at : ℕ) → Acts plan st (act.Set x.now (right.New at)) self.old self.new result }
-        ensures child { (plan : PlanView) → IfOk result (MovesTrail plan) }
+        ensures shows { (plan : PlanView) (st : Stmt) (at : ℕ) → Acts plan st (act.Set x.now (right.New at)) self.old self.new (emitted result) }
+        ensures same { (kind : FaultKind) → result ≡ Err (Fault kind) → self.new ≡ self.old }
+        ensures there { StaysThere self.old self.new }
+        ensures cursor { self.new.top.cursor ≡ self.old.top.cursor }
         ensures stays { Stays self.old self.new }
         ensures few { Costs self.old self.new }
     {
         let object = self.pedigree()?;
         self.top.env.set_scalar(x, Value::Id(object))?;
-        let event = Event::New(self.pedigree()?);
+        let at = self.pedigree()?;
         self.rank += 1;
-        Ok(MoveResult::Went(Effects::Emitted(event)))
+        Ok(Event::New(at))
     }
 }

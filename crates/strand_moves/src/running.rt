@@ -7,6 +7,7 @@ ghost use Rattle.serial_meaning.specs.Plan.{functions_of};
 ghost use Rattle.strand_meaning.specs.Machine.{Stands, begun, move};
 
 use crate::effects::MoveResult;
+use crate::event_sink::EventSink;
 use crate::frame::{Frame, lets};
 use crate::memory::Memory;
 use dotmix::Trail;
@@ -81,15 +82,21 @@ impl Running {
         }
     }
 
-    /// Moves in a row that show nothing, and then one more. Where there was no memory for one the instance is of no more use.
-    pub fn run(&mut self, alloc: Global, plan: &Plan) -> Result<MoveResult, Memory>
+    /// Moves in a row that show nothing or an event, which the sink takes, and then one more. Where there was no memory for one the instance
+    /// is of no more use.
+    pub fn run<S: EventSink>(
+        &mut self,
+        alloc: Global,
+        plan: &Plan,
+        sink: &mut S,
+    ) -> Result<MoveResult, Memory>
         requires { IsInstance plan.now self.old }
-        ensures moves { IfOk result (λ moved. RunsOn plan.now self.old moved self.new) }
+        ensures moves { IfOk result (λ moved. RunsOn S.after plan.now self.old sink.old moved self.new sink.new) }
         ensures child { IfOk result (MovesTrail plan.now) }
         ensures path { IfOk result (λ _. path_of self.new ≡ path_of self.old) }
         ensures sound { IfOk result (λ _. IsInstance plan.now self.new) }
     {
-        let next = self.row(alloc, plan)?;
+        let next = self.row(alloc, plan, sink)?;
         self.make(alloc, plan, next)
     }
 

@@ -12,10 +12,10 @@ ghost use Rattle.strand_moves.specs.Acts.{Acts, Costs, Keeps, Stays};
 ghost use Rattle.strand_moves.specs.Cursors.{IsBehind};
 ghost use Rattle.strand_moves.specs.Running.{IsInstance, machine_of, path_of, present_of, text_of};
 ghost use Rattle.strand_moves.specs.Moves.{Makes, MovesTrail, strand_of};
-ghost use Rattle.strand_moves.specs.Quick.{StaysThere, quiet};
+ghost use Rattle.strand_moves.specs.Quick.{StaysThere, emitted, quiet};
 
-use crate::effects::{Effects, MoveResult};
-use crate::quick::quiet;
+use crate::effects::MoveResult;
+use crate::quick::{emitted, quiet};
 use crate::running::Running;
 use script_grammar::{Act, Expr, Name, Number, Stmt};
 use serial_meaning::{Event, FaultKind, Plan};
@@ -45,9 +45,9 @@ impl Running {
             Act::Set(x, r) => self.assign(alloc, plan, x, r),
             Act::Store(x, i, e) => quiet(self.store(x, i, e)),
             Act::Spawn(c) => self.spawn(alloc, plan, None, c),
-            Act::Call(c) => self.call(alloc, plan, None, c),
+            Act::Call(c) => quiet(self.call(alloc, plan, None, c)),
             Act::Sync => self.wait(),
-            Act::Print(e) => self.print(e),
+            Act::Print(e) => emitted(self.print(e)),
             Act::If(e, _, _) => quiet(self.branch(e)),
             Act::While(e, _) => quiet(self.while_test(e)),
             Act::Pfor {
@@ -100,15 +100,12 @@ impl Running {
         self.sync()
     }
 
-    fn print(&mut self, e: &Expr) -> Result<MoveResult, Halt>
-        requires { self.old.rank < 2 ^ 32 }
-        ensures shows { (plan : PlanView) (st : Stmt) → Acts plan st (act.Print e.now) self.old self.new result }
-        ensures child { (plan : PlanView) → IfOk result (MovesTrail plan) }
-        ensures stays { Stays self.old self.new }
-        ensures few { Costs self.old self.new }
+    pub(crate) fn print(&self, e: &Expr) -> Result<Event, Halt>
+        requires { self.now.rank < 2 ^ 32 }
+        ensures { (plan : PlanView) (st : Stmt) → Acts plan st (act.Print e.now) self.now self.now (emitted result) }
     {
         let value = self.top.env.value(e)?;
-        Ok(MoveResult::Went(Effects::Emitted(Event::Print(self.pedigree()?, value))))
+        Ok(Event::Print(self.pedigree()?, value))
     }
 
     pub(crate) fn branch(&mut self, e: &Expr) -> Result<(), Halt>

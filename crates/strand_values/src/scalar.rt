@@ -17,7 +17,7 @@ pub fn number(value: &Value) -> i64
     }
 }
 
-/// Whether a condition of this value holds: it isn't 0.
+/// Whether a condition of this value holds: it isn't 0. It is for who has a value and no expression: 7 and -1 hold, and 0 and an object don't.
 pub fn is_true(value: &Value) -> bool
     ensures { result ≡ is_true value.now }
 {

@@ -18,10 +18,10 @@ use Rattle.sched_meaning.proofs.SimulationsEnd.Falling.{work_falls, work_left}
 use Rattle.sched_core.specs.Begun.{IsBegun}
 use Rattle.sched_core.specs.Cores.{core_of, plan_of, worker_of}
 use Rattle.sched_core.specs.Lawful.{may_happen}
-use Rattle.sched_core.specs.Played.{Ends, GoesOn, IsMains}
+use Rattle.sched_core.specs.Played.{AnswersMain, GoesOn, IsMains}
 use Rattle.sched_core.specs.Consistent.{Goes, IsConsistent}
 use Rattle.sched_core.specs.declared.simulation.Simulated.{Simulated}
-use Rattle.sched_core.specs.declared.state.State.{State}
+use Rattle.sched_core.specs.declared.state.CoreState.{CoreState}
 use Rattle.sched_core.proofs.KnownOfNodes.Beginning.{core-begun, hired-many}
 use Rattle.sched_core.proofs.KnownOfNodes.Holding.{root-answered, root-is}
 use Rattle.sched_core.proofs.Worked.Lists.{length-map}
@@ -54,7 +54,7 @@ none-picked (f ∷ es) w h e k = get-none (f ∷ es) (w % suc (length es)) h (be
 
 -- One step
 
-module _ (s : State) (t : IsConsistent s) (none : s.root ≡ None) (w : ℕ) where
+module _ (s : CoreState) (t : IsConsistent s) (none : s.root ≡ None) (w : ℕ) where
   -- something is picked
   pub picks-one : picked (core_of false s) w ≡ None → ⊥
   picks-one h =
@@ -68,7 +68,7 @@ module _ (s : State) (t : IsConsistent s) (none : s.root ≡ None) (w : ℕ) whe
     pub lawful : may_happen (core_of false s) e ≡ true
     lawful = may e (core_of false s) advances.0 advances.1.happens
 
-    module _ (next : State) (goes : Goes e s next) where
+    module _ (next : CoreState) (goes : Goes e s next) where
       pub falls : work_left (core_of false next) < work_left (core_of false s)
       falls = work_falls (plan_of s) e (core_of false s) (core_of false next) (cores.kept (plan_of s) t.led.workers t.led.events (core_of false s) t.valid t.led.leads) goes.step advances.2
 
@@ -96,7 +96,7 @@ module _ (s : State) (t : IsConsistent s) (none : s.root ≡ None) (w : ℕ) whe
             (subst (λ (l : List AnswerView). Contains (map (λ (b : AnswerView). b.origin) l) (main_origin (plan_of s))) answers
             (subst (λ (p : PlanView). Contains (map (λ (b : AnswerView). b.origin) (core_of false next).answers) (main_origin p)) plan-stays answered))
 
-        pub ends : (v : ℕ) → e ≡ Run v → Ends w s (record { answer = a; worker = v })
+        pub ends : (v : ℕ) → e ≡ Run v → AnswersMain w s (record { answer = a; worker = v })
         ends v run = record {
           next = core_of false next;
           picks = picks ∙ ap (λ (x : CoreEvent). Some x) run;
@@ -120,7 +120,7 @@ word-is : (seed i x s new : ℕ) → (x, new) ≡ mix_u64 s → s ≡ state_afte
 word-is seed i x s new e h = ap (λ (p : ℕ × ℕ). p.0) e ∙ ap output (sym (ap (λ (p : ℕ × ℕ). p.1) e) ∙ state_after_word seed i x s new e h)
 
 -- So many words of the number led to this state.
-pub record IsPlayed (plan : PlanView) (workers number words : ℕ) (s : State) : Type 0 where
+pub record IsPlayed (plan : PlanView) (workers number words : ℕ) (s : CoreState) : Type 0 where
   pub steps : ℕ
   pub state : words ≡ state_after number steps
   pub so_far : Simulates plan workers number steps (core_of false s)
@@ -132,7 +132,7 @@ pub record IsPlayed (plan : PlanView) (workers number words : ℕ) (s : State) :
 start : (number : ℕ) → number < 2 ^ 64 → number ≡ state_after number 0
 start number small = omega arith
 
-pub starts : (plan : PlanView) (workers number words : ℕ) (s : State) → IsBegun plan workers s → IsConsistent s → 1 ≤ workers → workers ≤ 64 → number < 2 ^ 64 → words ≡ number → IsPlayed plan workers number words s
+pub starts : (plan : PlanView) (workers number words : ℕ) (s : CoreState) → IsBegun plan workers s → IsConsistent s → 1 ≤ workers → workers ≤ 64 → number < 2 ^ 64 → words ≡ number → IsPlayed plan workers number words s
 starts plan workers number words s b t some few small first = record {
   steps = 0;
   state = first ∙ start number small;
@@ -143,11 +143,11 @@ starts plan workers number words s b t some few small first = record {
   few = let e : length s.workers.items ≡ workers = ap length b.hired ∙ hired-many (fresh plan (main_origin plan)) workers some in omega arith;
 }
 
-module _ (plan : PlanView) (workers number words : ℕ) (s : State) (p : IsPlayed plan workers number words s) (x after : ℕ) (mixed : (x, after) ≡ mix_u64 words) where
+module _ (plan : PlanView) (workers number words : ℕ) (s : CoreState) (p : IsPlayed plan workers number words s) (x after : ℕ) (mixed : (x, after) ≡ mix_u64 words) where
   word-named : x ≡ word number (p.steps + 1)
   word-named = word-is number p.steps x words after mixed p.state
 
-  pub plays-on : (next : State) → GoesOn x s next → IsPlayed plan workers number after next
+  pub plays-on : (next : CoreState) → GoesOn x s next → IsPlayed plan workers number after next
   plays-on next g = record {
     steps = suc p.steps;
     state = let e : p.steps + 1 ≡ suc p.steps = omega arith in state_after_word number p.steps x words after mixed p.state ∙ ap (state_after number) e;
@@ -161,10 +161,10 @@ module _ (plan : PlanView) (workers number words : ℕ) (s : State) (p : IsPlaye
       named : picked (core_of false s) (word number (p.steps + 1)) ≡ Some g.event
       named = ap (picked (core_of false s)) (sym word-named) ∙ g.picks
 
-  pub less-left : (next : State) → GoesOn x s next → work_left (core_of false next) < work_left (core_of false s)
+  pub less-left : (next : CoreState) → GoesOn x s next → work_left (core_of false next) < work_left (core_of false s)
   less-left next g = falls s p.consistent p.root x g.event g.picks next g.goes
 
-  pub worker-is : (simulated : Simulated) → Ends x s simulated → IsSimWorker plan workers number simulated.worker
+  pub worker-is : (simulated : Simulated) → AnswersMain x s simulated → IsSimWorker plan workers number simulated.worker
   worker-is simulated g = record {
     steps = p.steps;
     before = core_of false s;
@@ -176,5 +176,5 @@ module _ (plan : PlanView) (workers number words : ℕ) (s : State) (p : IsPlaye
     answers = g.answered;
   }
 
-  pub mains-are : (simulated : Simulated) → Ends x s simulated → IsMains plan simulated.answer
+  pub mains-are : (simulated : Simulated) → AnswersMain x s simulated → IsMains plan simulated.answer
   mains-are simulated g = subst (λ (q : PlanView). IsMains q simulated.answer) p.plan_is g.mains

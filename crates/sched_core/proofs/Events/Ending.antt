@@ -24,14 +24,14 @@ use Rattle.sched_core.specs.declared.job.Job.{Job}
 use Rattle.sched_core.specs.declared.node.Child.{Child}
 use Rattle.sched_core.specs.declared.node.Link.{Link}
 use Rattle.sched_core.specs.declared.node.SpawnNode.{SpawnNode}
-use Rattle.sched_core.specs.declared.state.State.{State}
+use Rattle.sched_core.specs.declared.state.CoreState.{CoreState}
 use Rattle.sched_core.proofs.KnownOfNodes.Hearing.{heard-more, nodes-end, nodes-hear}
 use Rattle.sched_core.proofs.Worked.Lists.{everywhere-set, get-map, get-other, get-set, map-append-one, map-set-same, same-or}
 use Rattle.sched_core.proofs.Events.Running.{going, own-fresh, own-job, run-step, workers-moved}
 use Rattle.sched_core.proofs.Events.Taking.{carry-nodes, carry-root, goes}
 
 -- two numbers of one origin are one
-once : (s : State) → IsConsistent s → (j k : ℕ) (x y : SpawnNode) → slice_get s.nodes.items j ≡ Some x → slice_get s.nodes.items k ≡ Some y → x.origin ≡ y.origin → j ≡ k
+once : (s : CoreState) → IsConsistent s → (j k : ℕ) (x y : SpawnNode) → slice_get s.nodes.items j ≡ Some x → slice_get s.nodes.items k ≡ Some y → x.origin ≡ y.origin → j ≡ k
 once s t j k x y a b e =
     cores.begun-once (plan_of s) t.led.workers t.led.events (core_of false s) t.valid t.led.leads y.origin j k
     (get-map (λ (n : SpawnNode). n.origin) s.nodes.items j x a ∙ ap (λ o. Some o) e) (get-map (λ (n : SpawnNode). n.origin) s.nodes.items k y b)
@@ -84,13 +84,13 @@ job-hears nodes l parent child a at_parent at i is = by_number (same-or i.number
     }
 
 -- what the state is after the end
-pub record HasEnded (w : ℕ) (a : AnswerView) (v : WorkerView) (s next : State) : Type 0 where
+pub record HasEnded (w : ℕ) (a : AnswerView) (v : WorkerView) (s next : CoreState) : Type 0 where
   pub workers : next.workers.items ≡ slice_set s.workers.items w (record v { current = None })
   pub plan : next.plan ≡ s.plan
   pub given : next.given ≡ s.given ++ a.origin ∷ []
   pub runs : next.runs ≡ s.runs + 1
 
-module _ (s next : State) (t : IsConsistent s) (none : s.root ≡ None) (w : ℕ) (v : WorkerView) (there : slice_get s.workers.items w ≡ Some v) (j : Job) (current : v.current ≡ Some j) where
+module _ (s next : CoreState) (t : IsConsistent s) (none : s.root ≡ None) (w : ℕ) (v : WorkerView) (there : slice_get s.workers.items w ≡ Some v) (j : Job) (current : v.current ≡ Some j) where
   module _ (a : AnswerView) (give : _) (stops : IsStop j.task (stop.Done a give)) (p : HasEnded w a v s next) where
     abbrev pub own : IsJob s.nodes.items j
     own = own-job s t w v there j current

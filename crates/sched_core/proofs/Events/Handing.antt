@@ -21,7 +21,7 @@ use Rattle.sched_core.specs.Consistent.{AreJobs, Awaits, Goes, IsJob, IsLed, IsC
 use Rattle.sched_core.specs.Workers.{WorkerView}
 use Rattle.sched_core.specs.declared.job.Job.{Job}
 use Rattle.sched_core.specs.declared.node.SpawnNode.{SpawnNode}
-use Rattle.sched_core.specs.declared.state.State.{State}
+use Rattle.sched_core.specs.declared.state.CoreState.{CoreState}
 use Rattle.sched_core.proofs.Worked.Lists.{everywhere-end, get-end, get-map, get-set, length-map}
 use Rattle.sched_core.proofs.Worked.Others.{get-total, list-stays, not-answered, others-stay}
 use Rattle.sched_core.proofs.Worked.Ready.{awaited-same}
@@ -31,7 +31,7 @@ use Rattle.sched_core.proofs.KnownOfNodes.Spawning as spawning
 use Rattle.sched_core.proofs.Events.Taking.{carry-nodes, carry-root, carry-workers, goes, is-answered, map-end}
 
 -- what the state is after a spawn
-pub record HasSpawned (w : ℕ) (node : SpawnNode) (j child rest : Job) (v : WorkerView) (s next : State) : Type 0 where
+pub record HasSpawned (w : ℕ) (node : SpawnNode) (j child rest : Job) (v : WorkerView) (s next : CoreState) : Type 0 where
   pub workers : next.workers.items ≡ slice_set s.workers.items w (record v { current = Some child; deque = v.deque ++ rest ∷ [] })
   pub nodes : next.nodes.items ≡ slice_set s.nodes.items j.number (awaiting (length s.nodes.items) node)
       ++ new_node (task_in child).origin (Some (record { parent = j.number; place = length node.children })) ∷ []
@@ -40,7 +40,7 @@ pub record HasSpawned (w : ℕ) (node : SpawnNode) (j child rest : Job) (v : Wor
   pub root : next.root ≡ s.root
   pub runs : next.runs ≡ s.runs + 1
 
-module _ (s next : State) (t : IsConsistent s) (none : s.root ≡ None) (w : ℕ) (v : WorkerView) (there : slice_get s.workers.items w ≡ Some v) (j : Job) (current : v.current ≡ Some j) where
+module _ (s next : CoreState) (t : IsConsistent s) (none : s.root ≡ None) (w : ℕ) (v : WorkerView) (there : slice_get s.workers.items w ≡ Some v) (j : Job) (current : v.current ≡ Some j) where
   module _ (child rest : Job) (stops : IsStop j.task (stop.Spawn child.task rest.task)) (begun : child.number ≡ length s.nodes.items) (number : rest.number ≡ j.number) (node : SpawnNode) (found : slice_get s.nodes.items j.number ≡ Some node)
       (p : HasSpawned w node j child rest v s next) where
     abbrev after : List SpawnNode

@@ -9,13 +9,13 @@ use Rattle.sched_meaning.specs.Steps.{Changes, WorkerPasses}
 use Rattle.sched_meaning.specs.declared.event.CoreEvent.TheVariants.{Look}
 use Rattle.sched_meaning.proofs.OneCore.OneStep.{some-one}
 use Rattle.sched_core.specs.Cores.{core_of, origins_of, plan_of, task_in, worker_of}
-use Rattle.sched_core.specs.Moves.{Leaves, Parks, WorkerChanges}
+use Rattle.sched_core.specs.Moves.{Leaves, Stalls, WorkerChanges}
 use Rattle.sched_core.specs.Nodes.{missing}
 use Rattle.sched_core.specs.Consistent.{AreJobs, AreNodes, AreWorkers, Awaits, Goes, IsChild, IsHeard, IsJob, IsConsistent}
 use Rattle.sched_core.specs.Workers.{WorkerView}
 use Rattle.sched_core.specs.declared.job.Job.{Job}
 use Rattle.sched_core.specs.declared.node.SpawnNode.{SpawnNode}
-use Rattle.sched_core.specs.declared.state.State.{State}
+use Rattle.sched_core.specs.declared.state.CoreState.{CoreState}
 use Rattle.sched_core.proofs.Worked.Lists.{get-map, map-remove, everywhere-end, everywhere-remove, everywhere-set}
 use Rattle.sched_core.proofs.Worked.Ready.{AreHeard, awaited-same, not-all}
 use Rattle.sched_core.proofs.Events.Taking.{Both, Keeps, changed, core-keeps, free-none, map-end, moves, was-given}
@@ -36,7 +36,7 @@ not-zero : (k m : ℕ) → k ≡ m → (k ≡ 0 → ⊥) → (n : ℕ) × (m ≡
 not-zero k zero e h = absurd (h e)
 not-zero k (suc m) e h = (m, refl)
 
-module _ (s : State) (t : IsConsistent s) where
+module _ (s : CoreState) (t : IsConsistent s) where
   -- a task of which a child hasn't answered isn't ready
   pub not-ready : (j : Job) → IsJob s.nodes.items j → (node : SpawnNode) → slice_get s.nodes.items j.number ≡ Some node → (node.unanswered ≡ 0 → ⊥) →
       machine.IsReady (core_of false s) (task_in j) → ⊥
@@ -52,8 +52,8 @@ module _ (s : State) (t : IsConsistent s) where
       given : All (Contains s.given) (awaited (task_in j).trace.handed)
       given = subst (All (Contains s.given)) (awaited-same (task_in j).trace.handed) (λ k d lt. was-given false s _ (ready k d lt))
 
-module _ (s next : State) (t : IsConsistent s) (none : s.root ≡ None) (k : Keeps s next) (w place : ℕ) (j : Job) where
-  module _ (b : Both w (Leaves place j) (Parks j) s.workers.items next.workers.items) (free : is_free (slice_get (map worker_of s.workers.items) w) ≡ true) where
+module _ (s next : CoreState) (t : IsConsistent s) (none : s.root ≡ None) (k : Keeps s next) (w place : ℕ) (j : Job) where
+  module _ (b : Both w (Leaves place j) (Stalls j) s.workers.items next.workers.items) (free : is_free (slice_get (map worker_of s.workers.items) w) ≡ true) where
     old : AreJobs s.nodes.items b.worker
     old = t.workers w b.worker b.there
 

@@ -13,7 +13,7 @@ use Rattle.sched_meaning.specs.declared.event.CoreEvent.TheVariants.{Look}
 use Rattle.sched_meaning.proofs.BegunOnce.Begun.{is-it, is_it}
 use Rattle.sched_meaning.proofs.BegunOnce.Changing.{each-get, total, total-remove}
 use Rattle.sched_meaning.proofs.KeptByEvents.Cores as cores
-use Rattle.sched_meaning.proofs.KeptByEvents.Good.{IsGood, IsParked}
+use Rattle.sched_meaning.proofs.KeptByEvents.Good.{IsGood, IsStalled}
 use Rattle.sched_meaning.proofs.KeptByEvents.Kept.{by_origin}
 use Rattle.sched_meaning.proofs.OneCore.OneStep.{some-one}
 use Rattle.sched_core.specs.Cores.{answer_of, core_of, origins_of, plan_of, task_in, worker_of}
@@ -22,7 +22,7 @@ use Rattle.sched_core.specs.Consistent.{AreJobs, Awaits, Goes, IsJob, IsConsiste
 use Rattle.sched_core.specs.Workers.{WorkerView}
 use Rattle.sched_core.specs.declared.job.Job.{Job}
 use Rattle.sched_core.specs.declared.node.SpawnNode.{SpawnNode}
-use Rattle.sched_core.specs.declared.state.State.{State}
+use Rattle.sched_core.specs.declared.state.CoreState.{CoreState}
 use Rattle.sched_core.proofs.Worked.Lists.{everywhere-remove, get-map, get-set, map-remove, map-set}
 use Rattle.sched_core.proofs.Worked.Others.{others-stay, times, times-few, worker-stays}
 use Rattle.sched_core.proofs.Events.Passing.{heard}
@@ -31,14 +31,14 @@ use Rattle.sched_core.proofs.KnownOfNodes.Settling.{job-settles, nodes-settle, o
 use Rattle.sched_core.proofs.Events.Taking.{carry-nodes, carry-root, carry-workers, free-none, goes, is-answered}
 
 -- A stalled task, whose number's node has answers of all its children
-module _ (s : State) (t : IsConsistent s) (w place : ℕ) (v : WorkerView) (there : slice_get s.workers.items w ≡ Some v) (j : Job) (at : slice_get v.stalled place ≡ Some j) where
+module _ (s : CoreState) (t : IsConsistent s) (w place : ℕ) (v : WorkerView) (there : slice_get s.workers.items w ≡ Some v) (j : Job) (at : slice_get v.stalled place ≡ Some j) where
   pub stalled-job : IsJob s.nodes.items j
   stalled-job = (t.workers w v there).stalled place j at
 
-  pub parked : IsParked (plan_of s) (origins_of s.nodes.items) (task_in j)
-  parked =
+  pub is-stalled : IsStalled (plan_of s) (origins_of s.nodes.items) (task_in j)
+  is-stalled =
       let kept = cores.kept (plan_of s) t.led.workers t.led.events (core_of false s) t.valid t.led.leads in
-      each-get (IsParked (plan_of s) (origins_of s.nodes.items)) (map task_in v.stalled) place (task_in j) (get-map task_in v.stalled place j at)
+      each-get (IsStalled (plan_of s) (origins_of s.nodes.items)) (map task_in v.stalled) place (task_in j) (get-map task_in v.stalled place j at)
       (each-get (IsGood (plan_of s) (origins_of s.nodes.items)) (map worker_of s.workers.items) w (worker_of v) (get-map worker_of s.workers.items w v there) kept.workers).stalled
 
   module _ (node : SpawnNode) (found : slice_get s.nodes.items j.number ≡ Some node) (zero_left : node.unanswered ≡ 0) where
@@ -51,7 +51,7 @@ module _ (s : State) (t : IsConsistent s) (w place : ℕ) (v : WorkerView) (ther
     pub tags-right : answer_tags (answers_in node.children) ≡ tags (task_in j).plan (awaited (task_in j).trace.handed)
     tags-right =
         tags-are (plan_of s) s.given (origins_of s.nodes.items) node.children (awaited (task_in j).trace.handed) awaits (heard (plan_of s) s.given s.nodes.items t.nodes j.number node found) whole
-        ∙ ap (λ p. tags p (awaited (task_in j).trace.handed)) (sym parked.0.plan_is)
+        ∙ ap (λ p. tags p (awaited (task_in j).trace.handed)) (sym is-stalled.0.plan_is)
 
     pub ready : machine.IsReady (core_of false s) (task_in j)
     ready =
@@ -66,7 +66,7 @@ module _ (s : State) (t : IsConsistent s) (w place : ℕ) (v : WorkerView) (ther
         (none-cut (plan_of s) s.given (origins_of s.nodes.items) node.children (awaited (task_in j).trace.handed) awaits (heard (plan_of s) s.given s.nodes.items t.nodes j.number node found)) h
 
 -- what the state is after the look
-pub record HasResumed (w place : ℕ) (j next_job : Job) (node : SpawnNode) (v : WorkerView) (s next : State) : Type 0 where
+pub record HasResumed (w place : ℕ) (j next_job : Job) (node : SpawnNode) (v : WorkerView) (s next : CoreState) : Type 0 where
   pub workers : next.workers.items ≡ slice_set s.workers.items w (record v { current = Some next_job; stalled = remove v.stalled place })
   pub nodes : next.nodes.items ≡ slice_set s.nodes.items j.number (settled node)
   pub plan : next.plan ≡ s.plan
@@ -74,7 +74,7 @@ pub record HasResumed (w place : ℕ) (j next_job : Job) (node : SpawnNode) (v :
   pub root : next.root ≡ s.root
   pub runs : next.runs ≡ s.runs
 
-module _ (s next : State) (t : IsConsistent s) (none : s.root ≡ None) (w place : ℕ) (v : WorkerView) (there : slice_get s.workers.items w ≡ Some v) (free : is_free (slice_get (map worker_of s.workers.items) w) ≡ true) (j : Job) (at : slice_get v.stalled place ≡ Some j) where
+module _ (s next : CoreState) (t : IsConsistent s) (none : s.root ≡ None) (w place : ℕ) (v : WorkerView) (there : slice_get s.workers.items w ≡ Some v) (free : is_free (slice_get (map worker_of s.workers.items) w) ≡ true) (j : Job) (at : slice_get v.stalled place ≡ Some j) where
   one-in-stalled : times (task_in j).origin v ≡ 1 + (times (task_in j).origin (record v { stalled = remove v.stalled place }))
   one-in-stalled = sums _ _ _ _ removed (is-it (task_in j).origin)
     where
@@ -101,7 +101,7 @@ module _ (s next : State) (t : IsConsistent s) (none : s.root ≡ None) (w place
     nothing-awaited : awaited (task_in next_job).trace.handed ≡ []
     nothing-awaited =
         ap (λ (x : TaskView). awaited x.task.trace.handed) task-is ∙ sym (awaited-same (gone_on (task_in j)).trace.handed)
-        ∙ ap (λ ps. map (λ q. q.child) ps) (none-handed (task_in j) (parked s t w place v there j at).0.task)
+        ∙ ap (λ ps. map (λ q. q.child) ps) (none-handed (task_in j) (is-stalled s t w place v there j at).0.task)
 
     next-is-job : IsJob (slice_set s.nodes.items j.number (settled node)) next_job
     next-is-job = record {

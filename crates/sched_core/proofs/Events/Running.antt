@@ -21,7 +21,7 @@ use Rattle.sched_core.specs.Cores.{answer_of, core_of, current_in, origins_of, p
 use Rattle.sched_core.specs.Consistent.{AreJobs, Awaits, Goes, IsJob, IsConsistent}
 use Rattle.sched_core.specs.Workers.{WorkerView}
 use Rattle.sched_core.specs.declared.job.Job.{Job}
-use Rattle.sched_core.specs.declared.state.State.{State}
+use Rattle.sched_core.specs.declared.state.CoreState.{CoreState}
 use Rattle.sched_core.proofs.Worked.Lists.{everywhere-end, everywhere-set, get-map, map-set}
 use Rattle.sched_core.proofs.Worked.Others.{not-given, times, times-few}
 use Rattle.sched_core.proofs.Worked.Ready.{awaited-same}
@@ -29,7 +29,7 @@ use Rattle.sched_core.proofs.Events.Taking.{carry-nodes, carry-root, carry-worke
 
 -- The worker, and its current job
 
-module _ (s : State) (t : IsConsistent s) (w : ℕ) (v : WorkerView) (there : slice_get s.workers.items w ≡ Some v) (j : Job) (current : v.current ≡ Some j) where
+module _ (s : CoreState) (t : IsConsistent s) (w : ℕ) (v : WorkerView) (there : slice_get s.workers.items w ≡ Some v) (j : Job) (current : v.current ≡ Some j) where
   pub own-job : IsJob s.nodes.items j
   own-job = subst (λ o. IfSome o (IsJob s.nodes.items)) current (t.workers w v there).current
 
@@ -71,7 +71,7 @@ module _ (s : State) (t : IsConsistent s) (w : ℕ) (v : WorkerView) (there : sl
 
 -- The machine's step
 
-module _ (s next : State) (t : IsConsistent s) (none : s.root ≡ None) (w : ℕ) (v after : WorkerView) (there : slice_get s.workers.items w ≡ Some v) (j : Job) (current : v.current ≡ Some j) (stop : Stop) (comes : IsNext (task_in j) stop) where
+module _ (s next : CoreState) (t : IsConsistent s) (none : s.root ≡ None) (w : ℕ) (v after : WorkerView) (there : slice_get s.workers.items w ≡ Some v) (j : Job) (current : v.current ≡ Some j) (stop : Stop) (comes : IsNext (task_in j) stop) where
   abbrev pub moved : machine.Core
   moved = record (core_of false s) { workers = slice_set (map worker_of s.workers.items) w (after_stop stop (worker_of v)) }
 
@@ -99,7 +99,7 @@ module _ (s next : State) (t : IsConsistent s) (none : s.root ≡ None) (w : ℕ
 -- A wait
 
 -- what the state is after it
-pub record HasParked (w : ℕ) (j rest : Job) (v : WorkerView) (s next : State) : Type 0 where
+pub record HasParked (w : ℕ) (j rest : Job) (v : WorkerView) (s next : CoreState) : Type 0 where
   pub workers : next.workers.items ≡ slice_set s.workers.items w (record v { current = None; stalled = v.stalled ++ rest ∷ [] })
   pub nodes : next.nodes.items ≡ s.nodes.items
   pub plan : next.plan ≡ s.plan
@@ -107,7 +107,7 @@ pub record HasParked (w : ℕ) (j rest : Job) (v : WorkerView) (s next : State) 
   pub root : next.root ≡ s.root
   pub runs : next.runs ≡ s.runs + 1
 
-module _ (s next : State) (t : IsConsistent s) (none : s.root ≡ None) (w : ℕ) (v : WorkerView) (there : slice_get s.workers.items w ≡ Some v) (j : Job) (current : v.current ≡ Some j) (rest : Job) where
+module _ (s next : CoreState) (t : IsConsistent s) (none : s.root ≡ None) (w : ℕ) (v : WorkerView) (there : slice_get s.workers.items w ≡ Some v) (j : Job) (current : v.current ≡ Some j) (rest : Job) where
   module _ (stops : IsStop j.task (stop.Wait rest.task)) (number : rest.number ≡ j.number) (p : HasParked w j rest v s next) where
     own : IsJob s.nodes.items j
     own = own-job s t w v there j current

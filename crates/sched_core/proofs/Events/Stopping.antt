@@ -9,7 +9,7 @@ use Rattle.strand_machine.specs.declared.stop.Stop.TheVariants as stop
 use Rattle.sched_meaning.specs.declared.event.CoreEvent.TheVariants.{Run}
 use Rattle.sched_meaning.proofs.OneCore.OneStep.{some-one}
 use Rattle.sched_core.specs.Cores.{plan_of}
-use Rattle.sched_core.specs.Moves.{BeginsTask, CanHear, CanStop, HandsOut, Lets, Parks, ParksTask, PutsAnswer, StopsAt, WorkerChanges, goes_to, job}
+use Rattle.sched_core.specs.Moves.{BeginsTask, CanHear, CanStop, HandsOut, Lets, PutsAnswer, Stalls, StallsTask, StopsAt, WorkerChanges, goes_to, job}
 use Rattle.sched_core.specs.Nodes.{awaiting, missing, missing_one, new_node}
 use Rattle.sched_core.specs.Consistent.{Goes, IsAwaited, IsChild, IsHeard, IsJob, IsLinked, IsConsistent}
 use Rattle.sched_core.specs.Workers.{WorkerView}
@@ -17,7 +17,7 @@ use Rattle.sched_core.specs.declared.job.Job.{Job}
 use Rattle.sched_core.specs.declared.node.Child.{Child}
 use Rattle.sched_core.specs.declared.node.Link.{Link}
 use Rattle.sched_core.specs.declared.node.SpawnNode.{SpawnNode}
-use Rattle.sched_core.specs.declared.state.State.{State}
+use Rattle.sched_core.specs.declared.state.CoreState.{CoreState}
 use Rattle.sched_core.proofs.Events.Ending.{HasEnded, child-goes, root-goes}
 use Rattle.sched_core.proofs.Events.Handing.{spawn-goes}
 use Rattle.sched_core.proofs.Worked.Lists.{length-set}
@@ -39,7 +39,7 @@ missing-at [] k c h = absurd (cc)
 missing-at (d ∷ cs) zero c h = let e : missing_one d.answer ≡ missing_one c.answer = ap (λ (x : Child). missing_one x.answer) (some-one d c h) in omega arith
 missing-at (d ∷ cs) (suc k) c h = let e : missing_one c.answer ≤ missing cs = missing-at cs k c h in omega arith
 
-module _ (s mid : State) (t : IsConsistent s) (w : ℕ) (j : Job) (lets : WorkerChanges w (Lets j) s.workers.items mid.workers.items) (keeps : Keeps s mid) where
+module _ (s mid : CoreState) (t : IsConsistent s) (w : ℕ) (j : Job) (lets : WorkerChanges w (Lets j) s.workers.items mid.workers.items) (keeps : Keeps s mid) where
   abbrev own : IsJob s.nodes.items j
   own = own-job s t w lets.worker lets.there j lets.does.0
 
@@ -83,9 +83,9 @@ module _ (s mid : State) (t : IsConsistent s) (w : ℕ) (j : Job) (lets : Worker
 
   -- The stop
 
-  module _ (none : s.root ≡ None) (after next : State) (workers : next.workers.items ≡ after.workers.items) (nodes : next.nodes.items ≡ after.nodes.items) (plan : next.plan ≡ after.plan) (given : next.given ≡ after.given) (root : next.root ≡ after.root)
+  module _ (none : s.root ≡ None) (after next : CoreState) (workers : next.workers.items ≡ after.workers.items) (nodes : next.nodes.items ≡ after.nodes.items) (plan : next.plan ≡ after.plan) (given : next.given ≡ after.given) (root : next.root ≡ after.root)
       (runs : next.runs ≡ s.runs + 1) where
-    waits : (rest : TaskView) → IsStop j.task (stop.Wait rest) → ParksTask w (job rest j.number) mid after → Goes (Run w) s next
+    waits : (rest : TaskView) → IsStop j.task (stop.Wait rest) → StallsTask w (job rest j.number) mid after → Goes (Run w) s next
     waits rest stops p = wait-goes s next t none w b.worker b.there j b.first.0 (job rest j.number) stops refl (record {
       workers = workers ∙ b.next_is ∙ ap (slice_set s.workers.items w) after-is;
       nodes = nodes ∙ p.nodes ∙ keeps.nodes;
@@ -95,8 +95,8 @@ module _ (s mid : State) (t : IsConsistent s) (w : ℕ) (j : Job) (lets : Worker
       runs = runs;
     })
       where
-        b : Both w (Lets j) (Parks (job rest j.number)) s.workers.items after.workers.items
-        b = both w (Lets j) (Parks (job rest j.number)) s.workers.items mid.workers.items after.workers.items lets p.workers
+        b : Both w (Lets j) (Stalls (job rest j.number)) s.workers.items after.workers.items
+        b = both w (Lets j) (Stalls (job rest j.number)) s.workers.items mid.workers.items after.workers.items lets p.workers
 
         after-is : b.after ≡ record b.worker { current = None; stalled = b.worker.stalled ++ job rest j.number ∷ [] }
         after-is = b.second ∙ ap (λ (v : WorkerView). record v { stalled = v.stalled ++ job rest j.number ∷ [] }) b.first.1

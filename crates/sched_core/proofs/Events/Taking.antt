@@ -20,7 +20,7 @@ use Rattle.sched_core.specs.Consistent.{AreJobs, AreNodes, AreWorkers, Everywher
 use Rattle.sched_core.specs.Workers.{WorkerView}
 use Rattle.sched_core.specs.declared.job.Job.{Job}
 use Rattle.sched_core.specs.declared.node.SpawnNode.{SpawnNode}
-use Rattle.sched_core.specs.declared.state.State.{State}
+use Rattle.sched_core.specs.declared.state.CoreState.{CoreState}
 use Rattle.sched_core.proofs.Worked.Lists.{everywhere-front, everywhere-last, everywhere-set, get-map, get-other, get-set, map-set, set-set}
 
 -- The origins that were answered
@@ -29,14 +29,14 @@ pub given-origins : (plan : PlanView) (os : List Origin) → map (λ (a : Answer
 given-origins plan [] = refl
 given-origins plan (o ∷ os) = ap (λ l. o ∷ l) (given-origins plan os)
 
-pub is-answered : (spent : Bool) (s : State) (o : Origin) → Contains s.given o → machine.IsAnswered (core_of spent s) o
+pub is-answered : (spent : Bool) (s : CoreState) (o : Origin) → Contains s.given o → machine.IsAnswered (core_of spent s) o
 is-answered spent s o h = subst (λ l. Contains l o) (sym (given-origins (plan_of s) s.given)) h
 
-pub was-given : (spent : Bool) (s : State) (o : Origin) → machine.IsAnswered (core_of spent s) o → Contains s.given o
+pub was-given : (spent : Bool) (s : CoreState) (o : Origin) → machine.IsAnswered (core_of spent s) o → Contains s.given o
 was-given spent s o h = subst (λ l. Contains l o) (given-origins (plan_of s) s.given) h
 
 -- while there is no answer of main's
-pub unanswered : (s : State) → IsConsistent s → s.root ≡ None → machine.IsRootAnswered (core_of false s) → ⊥
+pub unanswered : (s : CoreState) → IsConsistent s → s.root ≡ None → machine.IsRootAnswered (core_of false s) → ⊥
 unanswered s t none a = subst (λ (r : Option AnswerView). IsHeard (plan_of s) s.given (main_origin (plan_of s)) r) none t.root (was-given false s (main_origin (plan_of s)) a)
 
 -- A step
@@ -51,7 +51,7 @@ pub carry-workers : (n m : List SpawnNode) (ws vs : List WorkerView) → n ≡ m
 carry-workers n m ws vs a b x = subst (λ l. AreWorkers n l) (sym b) (subst (λ l. AreWorkers l vs) (sym a) x)
 
 -- The plan stays, and the next core is as it should be.
-pub goes : (e : CoreEvent) (s next : State) → IsConsistent s → s.root ≡ None → plan_of next ≡ plan_of s → Happens e (core_of false s) (core_of false next) →
+pub goes : (e : CoreEvent) (s next : CoreState) → IsConsistent s → s.root ≡ None → plan_of next ≡ plan_of s → Happens e (core_of false s) (core_of false next) →
     AreWorkers next.nodes.items next.workers.items → AreNodes (plan_of next) next.given next.nodes.items → IsHeard (plan_of next) next.given (main_origin (plan_of next)) next.root → Goes e s next
 goes e s next t none plan happens workers nodes root = record { step = step; consistent = consistent }
   where
@@ -95,14 +95,14 @@ both n R S ws mid last p q = record {
 -- Where only workers change
 
 -- the rest stays
-pub record Keeps (s next : State) : Type 0 where
+pub record Keeps (s next : CoreState) : Type 0 where
   pub plan : next.plan ≡ s.plan
   pub nodes : next.nodes.items ≡ s.nodes.items
   pub given : next.given ≡ s.given
   pub root : next.root ≡ s.root
   pub runs : next.runs ≡ s.runs
 
-pub core-keeps : (s next : State) → Keeps s next → core_of false next ≡ record (core_of false s) { workers = map worker_of next.workers.items }
+pub core-keeps : (s next : CoreState) → Keeps s next → core_of false next ≡ record (core_of false s) { workers = map worker_of next.workers.items }
 core-keeps s next k = λ i. record {
   plan = arc_value (k.plan i);
   workers = map worker_of next.workers.items;
@@ -112,7 +112,7 @@ core-keeps s next k = λ i. record {
   spent = false;
 }
 
-pub moves : (e : CoreEvent) (s next : State) → IsConsistent s → s.root ≡ None → Keeps s next → Happens e (core_of false s) (core_of false next) →
+pub moves : (e : CoreEvent) (s next : CoreState) → IsConsistent s → s.root ≡ None → Keeps s next → Happens e (core_of false s) (core_of false next) →
     AreWorkers s.nodes.items next.workers.items → Goes e s next
 moves e s next t none k happens workers =
     goes e s next t none (ap arc_value k.plan) happens (subst (λ l. AreWorkers l next.workers.items) (sym k.nodes) workers) (carry-nodes _ _ _ _ _ _ (ap arc_value k.plan) k.given k.nodes t.nodes) (carry-root _ _ _ _ _ _ (ap arc_value k.plan) k.given k.root t.root)
@@ -153,7 +153,7 @@ takes : (j : Job) (w next : WorkerView) → current_in w.current ≡ None → Ta
 takes j w next free p = record { free = free; after = ap worker_of p }
 
 -- The task at a worker's deque's back becomes current.
-module _ (s next : State) (t : IsConsistent s) (none : s.root ≡ None) (k : Keeps s next) (w : ℕ) (j : Job) (free : is_free (slice_get (map worker_of s.workers.items) w) ≡ true) where
+module _ (s next : CoreState) (t : IsConsistent s) (none : s.root ≡ None) (k : Keeps s next) (w : ℕ) (j : Job) (free : is_free (slice_get (map worker_of s.workers.items) w) ≡ true) where
   module _ (b : Both w (BacksJob j) (TakesJob j) s.workers.items next.workers.items) where
     back-is : b.worker.deque ≡ b.mid.deque ++ j ∷ []
     back-is = b.first.0
@@ -209,7 +209,7 @@ jobs-give nodes j w next p is = (first, rest)
     rest : AreJobs nodes next
     rest = subst (AreJobs nodes) (sym p.1) (record { current = is.current; deque = others; stalled = is.stalled })
 
-module _ (s next : State) (t : IsConsistent s) (none : s.root ≡ None) (k : Keeps s next) (thief victim : ℕ) (j : Job) (mid : List WorkerView) where
+module _ (s next : CoreState) (t : IsConsistent s) (none : s.root ≡ None) (k : Keeps s next) (thief victim : ℕ) (j : Job) (mid : List WorkerView) where
   module _ (two : thief ≡ victim → ⊥) (p : WorkerChanges victim (GivesJob j) s.workers.items mid) (q : WorkerChanges thief (TakesJob j) mid next.workers.items) where
     there : slice_get s.workers.items thief ≡ Some q.worker
     there = sym (get-other s.workers.items victim thief p.after two) ∙ ap (λ l. slice_get l thief) (sym p.next_is) ∙ q.there
@@ -253,9 +253,9 @@ idle-free : (o : Option machine.Worker) → may_idle o ≡ true → o ≡ Some m
 idle-free None h = absurd (cc)
 idle-free (Some w) h = ap (λ v. Some v) (empty-worker w.current w.deque w.stalled h)
 
-idle-goes : (s : State) → IsConsistent s → s.root ≡ None → (w : ℕ) → may_idle (slice_get (map worker_of s.workers.items) w) ≡ true → Goes (Idle w) s s
+idle-goes : (s : CoreState) → IsConsistent s → s.root ≡ None → (w : ℕ) → may_idle (slice_get (map worker_of s.workers.items) w) ≡ true → Goes (Idle w) s s
 idle-goes s t none w idle =
     goes (Idle w) s s t none refl (record { free = idle-free (slice_get (map worker_of s.workers.items) w) idle; next_is = refl }) t.workers t.nodes t.root
 
-pub idle-any : (s : State) → IsConsistent s → s.root ≡ None → (e : CoreEvent) (w : ℕ) → e ≡ Idle w → may_happen (core_of false s) e ≡ true → Goes e s s
+pub idle-any : (s : CoreState) → IsConsistent s → s.root ≡ None → (e : CoreEvent) (w : ℕ) → e ≡ Idle w → may_happen (core_of false s) e ≡ true → Goes e s s
 idle-any s t none e w is lawful = subst (λ (d : CoreEvent). Goes d s s) (sym is) (idle-goes s t none w (subst (λ (d : CoreEvent). may_happen (core_of false s) d ≡ true) is lawful))

@@ -5,31 +5,31 @@ use Rattle.sched_meaning.specs.declared.event.CoreEvent.TheVariants.{Look}
 use Rattle.sched_meaning.proofs.OneCore.OneStep.{some-one}
 use Rattle.strand_machine.specs.Stops.{WentOn}
 use Rattle.sched_core.specs.Cores.{worker_of}
-use Rattle.sched_core.specs.Moves.{CanResume, Leaves, Parks, Resumes, TakesJob, WorkerChanges}
+use Rattle.sched_core.specs.Moves.{CanResume, Leaves, Resumes, Stalls, TakesJob, WorkerChanges}
 use Rattle.sched_core.specs.Nodes.{answers_in, settled}
 use Rattle.sched_core.specs.Consistent.{Goes, IsConsistent}
 use Rattle.sched_core.specs.Workers.{WorkerView}
 use Rattle.sched_core.specs.declared.job.Job.{Job}
 use Rattle.sched_core.specs.declared.node.SpawnNode.{SpawnNode}
-use Rattle.sched_core.specs.declared.state.State.{State}
+use Rattle.sched_core.specs.declared.state.CoreState.{CoreState}
 use Rattle.sched_core.proofs.Events.Passing.{pass-goes}
-use Rattle.sched_core.proofs.Events.Resuming.{parked, resume-goes, tags-right, whole}
+use Rattle.sched_core.proofs.Events.Resuming.{is-stalled, resume-goes, tags-right, whole}
 use Rattle.sched_core.proofs.Events.Taking.{Both, Keeps, both}
 
-module _ (s : State) (t : IsConsistent s) (w place : ℕ) (j : Job) (mid : List WorkerView) (leaves : WorkerChanges w (Leaves place j) s.workers.items mid) where
+module _ (s : CoreState) (t : IsConsistent s) (w place : ℕ) (j : Job) (mid : List WorkerView) (leaves : WorkerChanges w (Leaves place j) s.workers.items mid) where
   module _ (node : SpawnNode) (found : slice_get s.nodes.items j.number ≡ Some node) where
     pub can-resume : node.unanswered ≡ 0 → CanResume s.nodes.items j
     can-resume zero_left = record {
       node = node;
       there = found;
       answered = whole s t w place leaves.worker leaves.there j leaves.does.0 node found zero_left;
-      waits = (parked s t w place leaves.worker leaves.there j leaves.does.0).1;
+      waits = (is-stalled s t w place leaves.worker leaves.there j leaves.does.0).1;
       tags = tags-right s t w place leaves.worker leaves.there j leaves.does.0 node found zero_left;
     }
 
-    module _ (none : s.root ≡ None) (free : is_free (slice_get (map worker_of s.workers.items) w) ≡ true) (next : State) where
-      pub passes-on : (node.unanswered ≡ 0 → ⊥) → WorkerChanges w (Parks j) mid next.workers.items → Keeps s next → Goes (Look w place) s next
-      passes-on some parks keeps = pass-goes s next t none keeps w place j (both w (Leaves place j) (Parks j) s.workers.items mid next.workers.items leaves parks) free node found some
+    module _ (none : s.root ≡ None) (free : is_free (slice_get (map worker_of s.workers.items) w) ≡ true) (next : CoreState) where
+      pub passes-on : (node.unanswered ≡ 0 → ⊥) → WorkerChanges w (Stalls j) mid next.workers.items → Keeps s next → Goes (Look w place) s next
+      passes-on some stalls keeps = pass-goes s next t none keeps w place j (both w (Leaves place j) (Stalls j) s.workers.items mid next.workers.items leaves stalls) free node found some
 
       pub wakes : node.unanswered ≡ 0 → (next_job : Job) → Resumes j next_job s.nodes.items next.nodes.items → WorkerChanges w (TakesJob next_job) mid next.workers.items →
           next.plan ≡ s.plan → next.given ≡ s.given → next.root ≡ s.root → next.runs ≡ s.runs → Goes (Look w place) s next

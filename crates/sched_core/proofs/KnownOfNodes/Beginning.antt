@@ -15,7 +15,7 @@ use Rattle.sched_core.specs.Nodes.{new_node}
 use Rattle.sched_core.specs.Consistent.{AreJobs, AreNodes, AreWorkers, IsHeard, IsNode, IsConsistent}
 use Rattle.sched_core.specs.Workers.{only}
 use Rattle.sched_core.specs.declared.node.SpawnNode.{SpawnNode}
-use Rattle.sched_core.specs.declared.state.State.{State}
+use Rattle.sched_core.specs.declared.state.CoreState.{CoreState}
 use Rattle.sched_core.proofs.Events.Taking.{carry-nodes, carry-root, carry-workers}
 
 free-workers : (n : ℕ) → map worker_of (replicate n (only None)) ≡ replicate n free_worker
@@ -26,7 +26,7 @@ module _ (plan : PlanView) where
   hired-workers : (n : ℕ) → map worker_of (hired (fresh plan (main_origin plan)) n) ≡ (new_core plan n).workers
   hired-workers n = ap (λ l. machine.first_worker plan ∷ l) (free-workers (n - 1))
 
-  pub core-begun : (n : ℕ) (s : State) → IsBegun plan n s → core_of false s ≡ new_core plan n
+  pub core-begun : (n : ℕ) (s : CoreState) → IsBegun plan n s → core_of false s ≡ new_core plan n
   core-begun n s b = λ i. record { plan = b.plan_is i; workers = workers i; begun = begun i; answers = answers i; runs = b.runs i; spent = false }
     where
       workers : map worker_of s.workers.items ≡ (new_core plan n).workers
@@ -65,7 +65,7 @@ module _ (plan : PlanView) where
   none-given : IsHeard plan [] (main_origin plan) None
   none-given = λ h. absurd (omega (arith, h.1))
 
-  pub consistent-begun : (n : ℕ) (s : State) → IsValid plan.script → IsBegun plan n s → IsConsistent s
+  pub consistent-begun : (n : ℕ) (s : CoreState) → IsValid plan.script → IsBegun plan n s → IsConsistent s
   consistent-begun n s valid b = record {
     valid = subst (λ (p : PlanView). IsValid p.script) (sym b.plan_is) valid;
     led = record { workers = n; events = []; leads = core-begun n s b ∙ ap (λ (p : PlanView). new_core p n) (sym b.plan_is) };

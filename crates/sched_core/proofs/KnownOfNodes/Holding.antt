@@ -2,7 +2,7 @@
 use Rattle.sched_core.specs.Cores.{core_of, plan_of}
 use Rattle.sched_core.specs.Sound.{IsSound}
 use Rattle.sched_core.specs.Consistent.{Goes, Holds, IsHeard, IsConsistent}
-use Rattle.sched_core.specs.declared.state.State.{State}
+use Rattle.sched_core.specs.declared.state.CoreState.{CoreState}
 use Rattle.std.proofs.Common.{◌≡◌, Bool, true, false, ◌&&◌, ◌↔◌, Option, Some, None, IfSome, is_none, is_some, refl, sym, ap, ◌∙◌, subst}
 use Rattle.std.proofs.lemmas.Bool.{false≢true}
 use Rattle.serial_meaning.specs.Answer.{AnswerView}
@@ -17,7 +17,7 @@ use Rattle.sched_core.proofs.Events.Taking.{is-answered, unanswered}
 use Rattle.sched_core.proofs.Choices.Unlawful.{unlawful}
 use Rattle.sched_meaning.proofs.KeptByEvents.Cores as cores
 
-pub sound-of : (s : State) → IsConsistent s → IsSound (core_of false s)
+pub sound-of : (s : CoreState) → IsConsistent s → IsSound (core_of false s)
 sound-of s t = record {
   once = cores.begun-once (plan_of s) t.led.workers t.led.events (core_of false s) t.valid t.led.leads;
   placed = cores.stands (plan_of s) t.led.workers t.led.events (core_of false s) t.valid t.led.leads;
@@ -26,13 +26,13 @@ sound-of s t = record {
   lively = cores.goes-further (plan_of s) t.led.workers t.led.events (core_of false s) t.valid t.led.leads;
 }
 
-pub sound-held : (b : Bool) (s : State) → Holds b s → b ≡ false → IsSound (core_of b s)
+pub sound-held : (b : Bool) (s : CoreState) → Holds b s → b ≡ false → IsSound (core_of b s)
 sound-held true s h e = absurd (cc)
 sound-held false s h e = sound-of s h
 
 -- Main's answer
 
-module _ (s : State) (t : IsConsistent s) (a : AnswerView) (root : s.root ≡ Some a) where
+module _ (s : CoreState) (t : IsConsistent s) (a : AnswerView) (root : s.root ≡ Some a) where
   heard : IsHeard (plan_of s) s.given (main_origin (plan_of s)) (Some a)
   heard = subst (IsHeard (plan_of s) s.given (main_origin (plan_of s))) root t.root
 
@@ -44,7 +44,7 @@ module _ (s : State) (t : IsConsistent s) (a : AnswerView) (root : s.root ≡ So
 
 -- What isn't allowed has no step
 
-pub not-allowed : (s : State) → IsConsistent s → (e : CoreEvent) → (is_none s.root && may_happen (core_of false s) e) ≡ false → (next : machine.Core) → Step e (core_of false s) next → ⊥
+pub not-allowed : (s : CoreState) → IsConsistent s → (e : CoreEvent) → (is_none s.root && may_happen (core_of false s) e) ≡ false → (next : machine.Core) → Step e (core_of false s) next → ⊥
 not-allowed s t e not_so next step = by_root s.root refl not_so
   where
     by_root : (o : Option AnswerView) → s.root ≡ o → (is_none o && may_happen (core_of false s) e) ≡ false → ⊥
@@ -61,21 +61,21 @@ may-go (Some a) b h = absurd (cc)
 
 -- A core that isn't spent, by its fields
 
-pub not-spent : (b : Bool) (s : State) (c : machine.Core) → core_of b s ≡ c → c.spent ≡ false → b ≡ false
+pub not-spent : (b : Bool) (s : CoreState) (c : machine.Core) → core_of b s ≡ c → c.spent ≡ false → b ≡ false
 not-spent b s c view spent = ap (λ (d : machine.Core). d.spent) view ∙ spent
 
-pub consistent-open : (b : Bool) (s : State) → Holds b s → b ≡ false → IsConsistent s
+pub consistent-open : (b : Bool) (s : CoreState) → Holds b s → b ≡ false → IsConsistent s
 consistent-open true s h e = absurd (false≢true (sym e))
 consistent-open false s h e = h
 
-pub open-is : (b : Bool) (s : State) (c : machine.Core) → core_of b s ≡ c → b ≡ false → core_of false s ≡ c
+pub open-is : (b : Bool) (s : CoreState) (c : machine.Core) → core_of b s ≡ c → b ≡ false → core_of false s ≡ c
 open-is b s c view e = ap (λ x. core_of x s) (sym e) ∙ view
 
-none-consistent : (s : State) → IsConsistent s → (o : Option AnswerView) → s.root ≡ o → (is_some o ≡ false) ↔ (machine.IsRootAnswered (core_of false s) → ⊥)
+none-consistent : (s : CoreState) → IsConsistent s → (o : Option AnswerView) → s.root ≡ o → (is_some o ≡ false) ↔ (machine.IsRootAnswered (core_of false s) → ⊥)
 none-consistent s t None root = (λ h. unanswered s t root, λ h. refl)
 none-consistent s t (Some a) root = (λ h. absurd (false≢true (sym h)), λ h. absurd (h (root-answered s t a root)))
 
-module _ (b : Bool) (s : State) (c : machine.Core) (view : core_of b s ≡ c) (holds : Holds b s) (spent : c.spent ≡ false) where
+module _ (b : Bool) (s : CoreState) (c : machine.Core) (view : core_of b s ≡ c) (holds : Holds b s) (spent : c.spent ≡ false) where
   consistent : IsConsistent s
   consistent = consistent-open b s holds (not-spent b s c view spent)
 
@@ -92,9 +92,9 @@ module _ (b : Bool) (s : State) (c : machine.Core) (view : core_of b s ≡ c) (h
 
 -- A step of a core, by what its fields do
 
-module _ (b : Bool) (s : State) (c : machine.Core) (view : core_of b s ≡ c) (holds : Holds b s) (open_yet : b ≡ false) (e : CoreEvent) where
+module _ (b : Bool) (s : CoreState) (c : machine.Core) (view : core_of b s ≡ c) (holds : Holds b s) (open_yet : b ≡ false) (e : CoreEvent) where
   pub has-none : false ≡ (is_none s.root && may_happen (core_of false s) e) → (next : machine.Core) → Step e c next → ⊥
   has-none not_so next step = not-allowed s (consistent-open b s holds open_yet) e (sym not_so) next (subst (λ (d : machine.Core). Step e d next) (sym (open-is b s c view open_yet)) step)
 
-  pub is-made : (next : State) → Goes e s next → Step e c (core_of false next)
+  pub is-made : (next : CoreState) → Goes e s next → Step e c (core_of false next)
   is-made next goes = subst (λ (d : machine.Core). Step e d (core_of false next)) (open-is b s c view open_yet) goes.step

@@ -12,7 +12,7 @@ use Rattle.sched_core.specs.Consistent.{IsJob, IsConsistent}
 use Rattle.sched_core.specs.Workers.{WorkerView}
 use Rattle.sched_core.specs.declared.job.Job.{Job}
 use Rattle.sched_core.specs.declared.node.SpawnNode.{SpawnNode}
-use Rattle.sched_core.specs.declared.state.State.{State}
+use Rattle.sched_core.specs.declared.state.CoreState.{CoreState}
 use Rattle.sched_core.proofs.Worked.Lists.{get-map, get-map-none}
 use Rattle.sched_core.proofs.Events.Passing.{not-ready}
 use Rattle.sched_core.proofs.Choices.Picking.{any-in}
@@ -39,7 +39,7 @@ false-or : (b : Bool) → (b ≡ true → ⊥) → b ≡ false
 false-or true h = absurd (h refl)
 false-or false h = refl
 
-module _ (s : State) (t : IsConsistent s) (w place : ℕ) (v : WorkerView) (there : slice_get s.workers.items w ≡ Some v) (j : Job) (at : slice_get v.stalled place ≡ Some j) (node : SpawnNode) (found : slice_get s.nodes.items j.number ≡ Some node) where
+module _ (s : CoreState) (t : IsConsistent s) (w place : ℕ) (v : WorkerView) (there : slice_get s.workers.items w ≡ Some v) (j : Job) (at : slice_get v.stalled place ≡ Some j) (node : SpawnNode) (found : slice_get s.nodes.items j.number ≡ Some node) where
   ready-task : (r : Bool) → (IsTrue r ↔ (node.unanswered ≡ 0)) → r ≡ is_ready (core_of false s) (Some (task_in j))
   ready-task true h = sym (answered-all (core_of false s) (machine.awaited (task_in j)) (ready s t w place v there j at node found (h.0 refl)))
   ready-task false h =
@@ -53,13 +53,13 @@ module _ (s : State) (t : IsConsistent s) (w place : ℕ) (v : WorkerView) (ther
       ∙ ap (may_resume (core_of false s) place) (sym (get-map worker_of s.workers.items w v there))
 
 -- where no such task waits
-pub none-waits : (s : State) (w place : ℕ) (v : WorkerView) → slice_get s.workers.items w ≡ Some v → slice_get v.stalled place ≡ None → false ≡ may_resume (core_of false s) place (slice_get (map worker_of s.workers.items) w)
+pub none-waits : (s : CoreState) (w place : ℕ) (v : WorkerView) → slice_get s.workers.items w ≡ Some v → slice_get v.stalled place ≡ None → false ≡ may_resume (core_of false s) place (slice_get (map worker_of s.workers.items) w)
 none-waits s w place v there none =
     ap (is_ready (core_of false s)) (sym (get-map-none task_in v.stalled place none)) ∙ ap (may_resume (core_of false s) place) (sym (get-map worker_of s.workers.items w v there))
 
 -- The number of a task that waits, as its worker told it
 
-pub record WaitsAt (s : State) (v : WorkerView) (place number : ℕ) : Type 0 where
+pub record WaitsAt (s : CoreState) (v : WorkerView) (place number : ℕ) : Type 0 where
   pub job : Job
   pub at : slice_get v.stalled place ≡ Some job
   pub number_is : job.number ≡ number
@@ -73,7 +73,7 @@ pub none-consistent : (o : Option Job) (r : Option ℕ) → ((j : Job) → o ≡
 none-consistent None r some consistent = refl
 none-consistent (Some j) r some consistent = let one : r ≡ Some j.number = some j refl in absurd (cc)
 
-pub waits-consistent : (s : State) (t : IsConsistent s) (w place : ℕ) (v : WorkerView) → slice_get s.workers.items w ≡ Some v → (r : Option ℕ) (n : ℕ) → ((j : Job) → slice_get v.stalled place ≡ Some j → r ≡ Some j.number) →
+pub waits-consistent : (s : CoreState) (t : IsConsistent s) (w place : ℕ) (v : WorkerView) → slice_get s.workers.items w ≡ Some v → (r : Option ℕ) (n : ℕ) → ((j : Job) → slice_get v.stalled place ≡ Some j → r ≡ Some j.number) →
     (slice_get v.stalled place ≡ None → r ≡ None) → r ≡ Some n → WaitsAt s v place n
 waits-consistent s t w place v there r n some none consistent = record { job = found.0; at = found.1; number_is = found.2; small = subst (λ m. m < length s.nodes.items) found.2 short }
   where

@@ -18,7 +18,7 @@ use Rattle.sched_core.specs.Consistent.{AreJobs, AreWorkers, Everywhere, IsJob, 
 use Rattle.sched_core.specs.Workers.{WorkerView}
 use Rattle.sched_core.specs.declared.job.Job.{Job}
 use Rattle.sched_core.specs.declared.node.SpawnNode.{SpawnNode}
-use Rattle.sched_core.specs.declared.state.State.{State}
+use Rattle.sched_core.specs.declared.state.CoreState.{CoreState}
 use Rattle.sched_core.proofs.Worked.Lists.{get-map, get-other, get-set, same-or}
 use Rattle.sched_core.proofs.Events.Taking.{is-answered}
 
@@ -91,7 +91,7 @@ module _ (plan : PlanView) (c : machine.Core) (valid : IsValid plan.script) (led
       let i : total (is_it o) (answered c) + total (load (by_origin (is_it o))) c.workers ≤ 1 = in-all o in
       let one : 1 ≤ total (is_it o) (answered c) = contains-counts o (answered c) a in absurd (omega arith)
 
-module _ (s : State) (t : IsConsistent s) where
+module _ (s : CoreState) (t : IsConsistent s) where
   pub all-once : (o : Origin) → total (load (by_origin (is_it o))) (map worker_of s.workers.items) ≤ 1
   all-once o = let i : total (is_it o) (answered (core_of false s)) + total (load (by_origin (is_it o))) (map worker_of s.workers.items) ≤ 1 = in-all (plan_of s) (core_of false s) t.valid t.led o in omega arith
 

@@ -7,11 +7,11 @@ use Rattle.sched_meaning.specs.Steps.{after_stop, WorkerPops, WorkerGives, Worke
 use Rattle.sched_meaning.proofs.BegunOnce.Changing.{total, total-end, total-remove}
 
 module _ (f : Task → ℕ) where
-  abbrev parked : Task → ℕ
-  parked t = f (gone_on t)
+  abbrev stalled_load : Task → ℕ
+  stalled_load t = f (gone_on t)
 
   abbrev pub load : Worker → ℕ
-  load w = total f (current_tasks w.current) + (total f w.deque + total parked w.stalled)
+  load w = total f (current_tasks w.current) + (total f w.deque + total stalled_load w.stalled)
 
   -- what a stop leaves
   abbrev pub stop_load : Stop → ℕ
@@ -31,7 +31,7 @@ module _ (f : Task → ℕ) where
       let d : total f (w.deque ++ rest ∷ []) ≡ total f w.deque + f rest = total-end f w.deque rest in omega arith
   load-stop w t (Wait rest) h =
       let e : total f (current_tasks w.current) ≡ f t = current-is w.current t h in
-      let d : total parked (w.stalled ++ rest ∷ []) ≡ total parked w.stalled + f (gone_on rest) = total-end parked w.stalled rest in omega arith
+      let d : total stalled_load (w.stalled ++ rest ∷ []) ≡ total stalled_load w.stalled + f (gone_on rest) = total-end stalled_load w.stalled rest in omega arith
   load-stop w t (End out ended) h = let e : total f (current_tasks w.current) ≡ f t = current-is w.current t h in omega arith
 
   pub load-pops : (t : Task) (w next : Worker) → WorkerPops t w next → load next ≡ load w
@@ -39,13 +39,13 @@ module _ (f : Task → ℕ) where
       let c : total f (current_tasks next.current) ≡ f t = current-is next.current t p.current in
       let n : total f (current_tasks w.current) ≡ 0 = current-none w.current p.free in
       let d : total f w.deque ≡ total f next.deque + f t = ap (λ l. total f l) p.back ∙ total-end f next.deque t in
-      let r : total parked next.stalled ≡ total parked w.stalled = ap (λ l. total parked l) p.stalled in omega arith
+      let r : total stalled_load next.stalled ≡ total stalled_load w.stalled = ap (λ l. total stalled_load l) p.stalled in omega arith
 
   pub load-gives : (t : Task) (w next : Worker) → WorkerGives t w next → load next + f t ≡ load w
   load-gives t w next p =
       let c : total f (current_tasks next.current) ≡ total f (current_tasks w.current) = ap (λ o. total f (current_tasks o)) p.current in
       let d : total f w.deque ≡ f t + total f next.deque = ap (λ l. total f l) p.front in
-      let r : total parked next.stalled ≡ total parked w.stalled = ap (λ l. total parked l) p.stalled in omega arith
+      let r : total stalled_load next.stalled ≡ total stalled_load w.stalled = ap (λ l. total stalled_load l) p.stalled in omega arith
 
   pub load-takes : (t : Task) (w next : Worker) → WorkerTakes t w next → load next ≡ load w + f t
   load-takes t w next p =
@@ -55,11 +55,11 @@ module _ (f : Task → ℕ) where
   pub load-resumes : (k : ℕ) (t : Task) (w next : Worker) → WorkerResumes k t w next → load next ≡ load w
   load-resumes k t w next p =
       let n : total f (current_tasks w.current) ≡ 0 = current-none w.current p.free in
-      let r : total parked (remove w.stalled k) + f (gone_on t) ≡ total parked w.stalled = total-remove parked w.stalled k t p.there in
+      let r : total stalled_load (remove w.stalled k) + f (gone_on t) ≡ total stalled_load w.stalled = total-remove stalled_load w.stalled k t p.there in
       let e : load next ≡ load (record w { current = Some (gone_on t); stalled = remove w.stalled k }) = ap (λ (v : Worker). load v) p.after in omega arith
 
   pub load-passes : (k : ℕ) (t : Task) (w next : Worker) → WorkerPasses k t w next → load next ≡ load w
   load-passes k t w next p =
-      let r : total parked (remove w.stalled k) + f (gone_on t) ≡ total parked w.stalled = total-remove parked w.stalled k t p.there in
-      let d : total parked (remove w.stalled k ++ t ∷ []) ≡ total parked (remove w.stalled k) + f (gone_on t) = total-end parked (remove w.stalled k) t in
+      let r : total stalled_load (remove w.stalled k) + f (gone_on t) ≡ total stalled_load w.stalled = total-remove stalled_load w.stalled k t p.there in
+      let d : total stalled_load (remove w.stalled k ++ t ∷ []) ≡ total stalled_load (remove w.stalled k) + f (gone_on t) = total-end stalled_load (remove w.stalled k) t in
       let e : load next ≡ load (record w { stalled = remove w.stalled k ++ t ∷ [] }) = ap (λ (v : Worker). load v) p.after in omega arith

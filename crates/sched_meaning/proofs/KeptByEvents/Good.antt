@@ -43,8 +43,8 @@ pub record IsTaskOf (plan : PlanView) (begun : List Origin) (t : Task) : Type 0 
 abbrev pub IsGoing : PlanView → List Origin → Task → Type 0
 IsGoing plan begun t = IsTaskOf plan begun t × (t.waiting ≡ false)
 
-abbrev pub IsParked : PlanView → List Origin → Task → Type 0
-IsParked plan begun t = IsTaskOf plan begun t × (t.waiting ≡ true)
+abbrev pub IsStalled : PlanView → List Origin → Task → Type 0
+IsStalled plan begun t = IsTaskOf plan begun t × (t.waiting ≡ true)
 
 module _ (plan : PlanView) where
   grow-task : (begun more : List Origin) (t : Task) → IsTaskOf plan begun t → IsTaskOf plan (begun ++ more) t
@@ -57,7 +57,7 @@ module _ (plan : PlanView) where
   pub begin-going : (begun : List Origin) (t : Task) (child : Origin) → IsTask t → t.plan ≡ plan → IsOriginOf t.plan child → IsGoing plan begun (start t.plan child)
   begin-going begun t child is same known = (record { task = tasks_begin t.plan child known is.clear; plan_is = same; children = tt }, refl)
 
-  pub goes-on : (begun : List Origin) (t : Task) → IsParked plan begun t → IsGoing plan begun (gone_on t)
+  pub goes-on : (begun : List Origin) (t : Task) → IsStalled plan begun t → IsGoing plan begun (gone_on t)
   goes-on begun t is = (
     record {
       task = answers_keep_tasks t is.0.task;
@@ -70,7 +70,7 @@ module _ (plan : PlanView) where
   -- what a stop leaves, with its child begun
   abbrev pub IsLeft : List Origin → Task → Stop → Type 0
   IsLeft begun t (Spawn child rest) = IsGoing plan (begun ++ child ∷ []) (start rest.plan child) × IsGoing plan (begun ++ child ∷ []) rest × (rest.origin ≡ t.origin)
-  IsLeft begun t (Wait rest) = IsParked plan begun rest × (rest.origin ≡ t.origin)
+  IsLeft begun t (Wait rest) = IsStalled plan begun rest × (rest.origin ≡ t.origin)
   IsLeft begun t (End out ended) = (t.plan ≡ plan) × IsEval plan t.origin out ended
 
   pub stop-leaves : (begun : List Origin) (t : Task) (stop : Stop) → IsGoing plan begun t → IsNext t stop → IsLeft begun t stop
@@ -118,14 +118,14 @@ Current P (Some t) = P t
 pub record IsGood (plan : PlanView) (begun : List Origin) (w : Worker) : Type 0 where
   pub current : Current (IsGoing plan begun) w.current
   pub deque : Each (IsGoing plan begun) w.deque
-  pub stalled : Each (IsParked plan begun) w.stalled
+  pub stalled : Each (IsStalled plan begun) w.stalled
 
 module _ (plan : PlanView) where
   pub grow : (begun more : List Origin) (w : Worker) → IsGood plan begun w → IsGood plan (begun ++ more) w
   grow begun more w is = record {
     current = current-grows w.current is.current;
     deque = each-map (IsGoing plan begun) (IsGoing plan (begun ++ more)) (λ t h. (grow-task plan begun more t h.0, h.1)) w.deque is.deque;
-    stalled = each-map (IsParked plan begun) (IsParked plan (begun ++ more)) (λ t h. (grow-task plan begun more t h.0, h.1)) w.stalled is.stalled;
+    stalled = each-map (IsStalled plan begun) (IsStalled plan (begun ++ more)) (λ t h. (grow-task plan begun more t h.0, h.1)) w.stalled is.stalled;
   }
     where
       current-grows : (o : Option Task) → Current (IsGoing plan begun) o → Current (IsGoing plan (begun ++ more)) o
@@ -145,7 +145,7 @@ module _ (plan : PlanView) where
   good-runs begun w t (Spawn child rest) is left =
       let more : IsGood plan (begun ++ child ∷ []) w = grow begun (child ∷ []) w is in
       record { current = left.0; deque = each-append (IsGoing plan (begun ++ child ∷ [])) w.deque (rest ∷ []) more.deque (left.1, tt); stalled = more.stalled }
-  good-runs begun w t (Wait rest) is left = record { current = tt; deque = is.deque; stalled = each-append (IsParked plan begun) w.stalled (rest ∷ []) is.stalled (left.0, tt) }
+  good-runs begun w t (Wait rest) is left = record { current = tt; deque = is.deque; stalled = each-append (IsStalled plan begun) w.stalled (rest ∷ []) is.stalled (left.0, tt) }
   good-runs begun w t (End out ended) is left = record { current = tt; deque = is.deque; stalled = is.stalled }
 
   pub good-pops : (begun : List Origin) (t : Task) (w next : Worker) → WorkerPops t w next → IsGood plan begun w → IsGood plan begun next
@@ -155,7 +155,7 @@ module _ (plan : PlanView) where
       record {
         current = subst (Current (IsGoing plan begun)) (sym p.current) last;
         deque = each-front (IsGoing plan begun) next.deque (t ∷ []) both;
-        stalled = subst (Each (IsParked plan begun)) (sym p.stalled) is.stalled;
+        stalled = subst (Each (IsStalled plan begun)) (sym p.stalled) is.stalled;
       }
 
   pub good-given : (begun : List Origin) (t : Task) (w next : Worker) → WorkerGives t w next → IsGood plan begun w → IsGoing plan begun t
@@ -165,7 +165,7 @@ module _ (plan : PlanView) where
   good-gives begun t w next p is = record {
     current = subst (Current (IsGoing plan begun)) (sym p.current) is.current;
     deque = (subst (Each (IsGoing plan begun)) p.front is.deque).1;
-    stalled = subst (Each (IsParked plan begun)) (sym p.stalled) is.stalled;
+    stalled = subst (Each (IsStalled plan begun)) (sym p.stalled) is.stalled;
   }
 
   pub good-takes : (begun : List Origin) (t : Task) (w next : Worker) → WorkerTakes t w next → IsGoing plan begun t → IsGood plan begun w → IsGood plan begun next
@@ -175,9 +175,9 @@ module _ (plan : PlanView) where
   good-resumes begun k t w next p is =
       subst (IsGood plan begun) (sym p.after)
       (record {
-        current = goes-on plan begun t (each-get (IsParked plan begun) w.stalled k t p.there is.stalled);
+        current = goes-on plan begun t (each-get (IsStalled plan begun) w.stalled k t p.there is.stalled);
         deque = is.deque;
-        stalled = each-remove (IsParked plan begun) w.stalled k is.stalled;
+        stalled = each-remove (IsStalled plan begun) w.stalled k is.stalled;
       })
 
   pub good-passes : (begun : List Origin) (k : ℕ) (t : Task) (w next : Worker) → WorkerPasses k t w next → IsGood plan begun w → IsGood plan begun next
@@ -186,5 +186,5 @@ module _ (plan : PlanView) where
       (record {
         current = is.current;
         deque = is.deque;
-        stalled = each-append (IsParked plan begun) (remove w.stalled k) (t ∷ []) (each-remove (IsParked plan begun) w.stalled k is.stalled) (each-get (IsParked plan begun) w.stalled k t p.there is.stalled, tt);
+        stalled = each-append (IsStalled plan begun) (remove w.stalled k) (t ∷ []) (each-remove (IsStalled plan begun) w.stalled k is.stalled) (each-get (IsStalled plan begun) w.stalled k t p.there is.stalled, tt);
       })

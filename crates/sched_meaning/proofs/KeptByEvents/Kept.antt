@@ -120,7 +120,7 @@ module _ (plan : PlanView) where
       changed-kept w _ c next s.resumes [] [] is (good-resumes plan c.begun k s.task s.resumes.worker s.resumes.after s.resumes.does (worker-good w _ c next s.resumes [] is)) tt
       (λ f. ap (λ x. x + 0) (load-resumes f k s.task s.resumes.worker s.resumes.after s.resumes.does))
 
-  passes-kept : (w k : ℕ) (c next : Core) → steps.Passes w k c next → IsKept plan [] c → IsKept plan [] next
+  passes-kept : (w k : ℕ) (c next : Core) → steps.StaysStalled w k c next → IsKept plan [] c → IsKept plan [] next
   passes-kept w k c next s is =
       changed-kept w _ c next s.passes [] [] is (good-passes plan c.begun k s.task s.passes.worker s.passes.after s.passes.does (worker-good w _ c next s.passes [] is)) tt
       (λ f. ap (λ x. x + 0) (load-passes f k s.task s.passes.worker s.passes.after s.passes.does))

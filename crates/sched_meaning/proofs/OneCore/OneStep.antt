@@ -3,7 +3,7 @@ use Rattle.std.proofs.Common.{◌≡◌, ℕ, List, [], ◌∷◌, ◌++◌, Som
 use Rattle.strand_meaning.specs.Task.{Task, Stop, IsNext}
 use Rattle.strand_meaning.proofs.NextStops.Stops.{stops_are_one}
 use Rattle.sched_meaning.specs.Core.{Worker, Core, gone_on, IsReady}
-use Rattle.sched_meaning.specs.Steps.{after_stop, WorkerRuns, WorkerPops, WorkerGives, WorkerTakes, WorkerResumes, WorkerPasses, Changes, noted, Runs, Steals, Resumes, Passes, Happens, Step}
+use Rattle.sched_meaning.specs.Steps.{after_stop, WorkerRuns, WorkerPops, WorkerGives, WorkerTakes, WorkerResumes, WorkerPasses, Changes, noted, Runs, Steals, Resumes, StaysStalled, Happens, Step}
 use Rattle.sched_meaning.specs.declared.event.CoreEvent.{CoreEvent}
 use Rattle.sched_meaning.specs.declared.event.CoreEvent.TheVariants.{Run, Pop, Steal, Look, Idle}
 
@@ -93,10 +93,10 @@ steal-one thief victim c x y p q =
 resume-one : (w k : ℕ) (c x y : Core) → Resumes w k c x → Resumes w k c y → x ≡ y
 resume-one w k c x y p q = changes-one w _ _ c x y p.resumes q.resumes (resumes-one k p.task q.task)
 
-pass-one : (w k : ℕ) (c x y : Core) → Passes w k c x → Passes w k c y → x ≡ y
+pass-one : (w k : ℕ) (c x y : Core) → StaysStalled w k c x → StaysStalled w k c y → x ≡ y
 pass-one w k c x y p q = changes-one w _ _ c x y p.passes q.passes (passes-one k p.task q.task)
 
-pub not-both : (w k : ℕ) (c x y : Core) → Resumes w k c x → Passes w k c y → ⊥
+pub not-both : (w k : ℕ) (c x y : Core) → Resumes w k c x → StaysStalled w k c y → ⊥
 not-both w k c x y p q = q.waits (subst (IsReady c) (by_worker w _ _ c x y p.resumes q.passes same) p.ready)
   where
     same : (v a b : Worker) → WorkerResumes k p.task v a → WorkerPasses k q.task v b → p.task ≡ q.task

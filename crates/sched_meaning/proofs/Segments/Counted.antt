@@ -11,7 +11,7 @@ use Rattle.strand_meaning.proofs.NextStops.Stops.{stops_are_one}
 use Rattle.strand_meaning.proofs.SoundSteps.Ends.{tasks_begin}
 use Rattle.strand_meaning.proofs.ClearPlans.ClearOfValid.{clear_of_valid}
 use Rattle.sched_meaning.specs.Core.{gone_on}
-use Rattle.sched_meaning.specs.Segments.{ComesTo, Ends, Waits, Spawns, IsSegments}
+use Rattle.sched_meaning.specs.Segments.{ComesToStops, Ends, Waits, Spawns, IsSegments}
 use Rattle.sched_meaning.proofs.Segments.Weights.{next, next-comes, Behind, behind-stop, weight, stop_weight, weight-stop}
 
 -- every child weighs nothing where it is begun
@@ -23,7 +23,7 @@ segments t = weight 1 nothing t
 
 -- a number for each sound task in no wait that weighs at most so much
 abbrev Within : ℕ → Type 0
-Within n = (t : Task) → IsTask t → t.waiting ≡ false → segments t ≤ n → ComesTo t (segments t)
+Within n = (t : Task) → IsTask t → t.waiting ≡ false → segments t ≤ n → ComesToStops t (segments t)
 
 pub at-least-one : (stop : Stop) → 1 ≤ stop_weight 1 nothing stop
 at-least-one (Spawn child rest) = omega arith
@@ -31,7 +31,7 @@ at-least-one (Wait rest) = omega arith
 at-least-one (End out ended) = omega arith
 
 module _ (t : Task) (is : IsTask t) (idle : t.waiting ≡ false) where
-  by-stop : (n k : ℕ) (stop : Stop) → Within n → IsNext t stop → Behind t.plan t.origin k stop → segments t ≡ stop_weight 1 nothing stop → segments t ≤ suc n → ComesTo t (segments t)
+  by-stop : (n k : ℕ) (stop : Stop) → Within n → IsNext t stop → Behind t.plan t.origin k stop → segments t ≡ stop_weight 1 nothing stop → segments t ≤ suc n → ComesToStops t (segments t)
   by-stop n k (End out ended) go i b e s = Ends out ended i e
   by-stop n k (Wait rest) go i b e s = Waits rest (segments (gone_on rest)) i (go (gone_on rest) b.0.task b.0.idle (omega arith)) e
   by-stop n k (Spawn child rest) go i b e s =
@@ -48,7 +48,7 @@ comes-within (suc n) t is idle small =
     by-stop t is idle n _ (next t) (comes-within n) (next-comes t) (behind-stop t.plan t.origin t (next t) (record { task = is; idle = idle; plan_is = refl; origin_is = refl }) (next-comes t))
     (next-weighs t is idle) small
 
-pub segments-come : (t : Task) → IsTask t → t.waiting ≡ false → ComesTo t (segments t)
+pub segments-come : (t : Task) → IsTask t → t.waiting ≡ false → ComesToStops t (segments t)
 segments-come t is idle = comes-within (segments t) t is idle (omega arith)
 
 pub main-comes : (plan : PlanView) → IsValid plan.script → IsSegments plan (segments (start plan (main_origin plan)))
@@ -68,14 +68,14 @@ child-one c d t u h = cc
 rest-one : (c d : Origin) (t u : Task) → Spawn c t ≡ Spawn d u → t ≡ u
 rest-one c d t u h = cc
 
-pub segments_are_one : (t : Task) (n m : ℕ) → ComesTo t n → ComesTo t m → n ≡ m
+pub segments_are_one : (t : Task) (n m : ℕ) → ComesToStops t n → ComesToStops t m → n ≡ m
 segments_are_one t n m (Ends out ended i e) (Ends other over j f) = e ∙ sym f
 segments_are_one t n m (Ends out ended i e) (Waits rest later j d f) = let s : End out ended ≡ Wait rest = stops_are_one t _ _ i j in absurd (cc)
 segments_are_one t n m (Ends out ended i e) (Spawns child rest below later j b d f) = let s : End out ended ≡ Spawn child rest = stops_are_one t _ _ i j in absurd (cc)
 segments_are_one t n m (Waits rest later i d e) (Ends out ended j f) = let s : Wait rest ≡ End out ended = stops_are_one t _ _ i j in absurd (cc)
 segments_are_one t n m (Waits rest later i d e) (Waits other after j g f) =
     let r : rest ≡ other = wait-one rest other (stops_are_one t _ _ i j) in
-    let s : later ≡ after = segments_are_one (gone_on rest) later after d (subst (λ (u : Task). ComesTo (gone_on u) after) (sym r) g) in e ∙ ap (λ k. 1 + k) s ∙ sym f
+    let s : later ≡ after = segments_are_one (gone_on rest) later after d (subst (λ (u : Task). ComesToStops (gone_on u) after) (sym r) g) in e ∙ ap (λ k. 1 + k) s ∙ sym f
 segments_are_one t n m (Waits rest later i d e) (Spawns child other below after j b g f) = let s : Wait rest ≡ Spawn child other = stops_are_one t _ _ i j in absurd (cc)
 segments_are_one t n m (Spawns child rest below later i b d e) (Ends out ended j f) = let s : Spawn child rest ≡ End out ended = stops_are_one t _ _ i j in absurd (cc)
 segments_are_one t n m (Spawns child rest below later i b d e) (Waits other after j g f) = let s : Spawn child rest ≡ Wait other = stops_are_one t _ _ i j in absurd (cc)
@@ -83,8 +83,8 @@ segments_are_one t n m (Spawns child rest below later i b d e) (Spawns kid other
     let same : Spawn child rest ≡ Spawn kid other = stops_are_one t _ _ i j in
     let r : rest ≡ other = rest-one child kid rest other same in
     let o : child ≡ kid = child-one child kid rest other same in
-    let first : ComesTo (start rest.plan child) under = subst (λ (u : Task). ComesTo (start u.plan child) under) (sym r) (subst (λ (c : Origin). ComesTo (start other.plan c) under) (sym o) k) in
-    let second : ComesTo rest after = subst (λ (u : Task). ComesTo u after) (sym r) g in
+    let first : ComesToStops (start rest.plan child) under = subst (λ (u : Task). ComesToStops (start u.plan child) under) (sym r) (subst (λ (c : Origin). ComesToStops (start other.plan c) under) (sym o) k) in
+    let second : ComesToStops rest after = subst (λ (u : Task). ComesToStops u after) (sym r) g in
     sum e f (segments_are_one (start rest.plan child) below under b first) (segments_are_one rest later after d second)
   where
     sum : {x y z w : ℕ} → n ≡ 1 + (x + z) → m ≡ 1 + (y + w) → x ≡ y → z ≡ w → n ≡ m

@@ -13,7 +13,7 @@ use Rattle.sched_meaning.specs.declared.event.CoreEvent.TheVariants.{Run, Pop, L
 use Rattle.sched_meaning.proofs.BegunOnce.Handed.{size_of, IsSmaller}
 use Rattle.sched_meaning.proofs.BegunOnce.Changing.{total, each-get}
 use Rattle.sched_meaning.proofs.BegunOnce.Loads.{load}
-use Rattle.sched_meaning.proofs.KeptByEvents.Good.{IsIn, IsChild, IsParked, IsGood}
+use Rattle.sched_meaning.proofs.KeptByEvents.Good.{IsIn, IsChild, IsStalled, IsGood}
 use Rattle.sched_meaning.proofs.KeptByEvents.Kept.{IsKept, by_origin}
 use Rattle.sched_meaning.proofs.BegunOnce.Begun.{is_it, is-that, Some_at, find-some, in-counts, answered-or, Unanswered, all-or}
 
@@ -85,10 +85,10 @@ module _ (plan : PlanView) (c : Core) (is : IsKept plan [] c) (open_yet : IsRoot
   Smaller o = (child : Origin) → IsOpen child → IsSmaller plan o child → IsLively c
 
   stalled-lively : (o : Origin) (n : ℕ) (w : Worker) → slice_get c.workers n ≡ Some w → w.current ≡ None → Some_at (λ t. is_it o (gone_on t).origin) w.stalled → Smaller o → IsLively c
-  stalled-lively o n w there free s below = by_ready (all-or (IsChild plan c.begun s.value.origin) c (awaited s.value) parked.0.children)
+  stalled-lively o n w there free s below = by_ready (all-or (IsChild plan c.begun s.value.origin) c (awaited s.value) is-stalled.0.children)
     where
-      parked : IsParked plan c.begun s.value
-      parked = each-get (IsParked plan c.begun) w.stalled s.at s.value s.there (each-get (IsGood plan c.begun) c.workers n w there is.workers).stalled
+      is-stalled : IsStalled plan c.begun s.value
+      is-stalled = each-get (IsStalled plan c.begun) w.stalled s.at s.value s.there (each-get (IsGood plan c.begun) c.workers n w there is.workers).stalled
 
       by_ready : IsReady c s.value ⊎ Unanswered (IsChild plan c.begun s.value.origin) c → IsLively c
       by_ready (inl ready) = look-lively n s.at w s.value there free s.there ready

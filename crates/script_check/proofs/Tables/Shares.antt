@@ -8,7 +8,7 @@ use Rattle.std.specs.contracts.impls.GlobalAllocator.TheImpl.{ghosts}
 use Rattle.std.specs.contracts.sync.Arc as arc
 use Rattle.script_check.specs.contracts.checked.Checked as checked
 use Rattle.script_check.specs.contracts.checked.Checked.TheInside as inside
-use Rattle.script_check.specs.contracts.checked.Kept as kept
+use Rattle.script_check.specs.contracts.checked.CheckedScript as kept
 use Rattle.script_check.proofs.names.NameTable.TheSendSync as table_shared
 use Rattle.script_grammar.proofs.Shares.{script_sends, script_syncs}
 use Rattle.script_grammar.proofs.items.Items.TheSendSync as items_shared

@@ -9,7 +9,7 @@ use Rattle.script_grammar.specs.declared.tree.Kind.TheVariants.{Int}
 use Rattle.script_check.specs.Rules.{Declared}
 use Rattle.script_check.specs.Expressions.{Faults, Reading, wanted}
 use Rattle.script_check.specs.Statements.{place, Judged, judge, judge_all, known_each, faults_each, after}
-use Rattle.script_check.specs.Walk.{State, keeps, keeps_all, behind, behind_all}
+use Rattle.script_check.specs.Walk.{WalkState, keeps, keeps_all, behind, behind_all}
 use Rattle.script_check.proofs.LeastViolation.Noted.{noted_append, after_two, after_three}
 use Rattle.script_check.proofs.Walk.Reading.{at_index}
 use Rattle.script_check.proofs.FewerPending.Linear.{linear_all, loop_set}
@@ -20,21 +20,21 @@ turned true false c = refl
 turned false true c = refl
 turned false false c = refl
 
-pub behind_first : (functions : List Function) (s : Stmt) (ss : List Stmt) (state : State) → behind_all functions ss (behind functions s state) ≡ behind_all functions (s ∷ ss) state
+pub behind_first : (functions : List Function) (s : Stmt) (ss : List Stmt) (state : WalkState) → behind_all functions ss (behind functions s state) ≡ behind_all functions (s ∷ ss) state
 behind_first functions s ss state = ap (λ b. record (behind_all functions (s ∷ ss) state) { keeps = b }) (turned (keeps_all ss) (keeps s) state.keeps)
 
-pub one_behind : (functions : List Function) (ss : List Stmt) (i : ℕ) (s : Stmt) (state next : State) → i < length ss → s ≡ get_or ss i s → next ≡ behind functions s state →
+pub one_behind : (functions : List Function) (ss : List Stmt) (i : ℕ) (s : Stmt) (state next : WalkState) → i < length ss → s ≡ get_or ss i s → next ≡ behind functions s state →
     behind_all functions (drop (i + 1) ss) next ≡ behind_all functions (drop i ss) state
 one_behind functions ss i s state next h is e =
     ap (behind_all functions (drop (i + 1) ss)) e ∙ behind_first functions s (drop (i + 1) ss) state ∙ ap (λ l. behind_all functions l state) (sym (at_index ss i s h is))
 
-pub one_judged : (functions : List Function) (in_block : Bool) (ss : List Stmt) (i : ℕ) (s : Stmt) (state next : State) (before now : Option Violation) →
+pub one_judged : (functions : List Function) (in_block : Bool) (ss : List Stmt) (i : ℕ) (s : Stmt) (state next : WalkState) (before now : Option Violation) →
     i < length ss → s ≡ get_or ss i s → next ≡ behind functions s state →
     now ≡ noted before ((judge s).faults (place functions in_block) state.known state.names) →
     noted now (faults_each (judge_all (drop (i + 1) ss)) (place functions in_block) next.known next.names)
     ≡ noted before (faults_each (judge_all (drop i ss)) (place functions in_block) state.known state.names)
 one_judged functions in_block ss i s state next before now h is e n =
-    ap (λ (t : State). noted now (rest t.known t.names)) e
+    ap (λ (t : WalkState). noted now (rest t.known t.names)) e
     ∙ ap (λ o. noted o (rest ((judge s).known functions state.known) ((judge s).after state.names))) n
     ∙ sym (noted_append before ((judge s).faults (place functions in_block) state.known state.names) (rest ((judge s).known functions state.known) ((judge s).after state.names)))
     ∙ ap (λ (l : List Stmt). noted before (faults_each (judge_all l) (place functions in_block) state.known state.names)) (sym (at_index ss i s h is))
@@ -69,11 +69,11 @@ pub while_names : (body : List Stmt) (p : Names) → both (after body nobody) p 
 while_names body p i x = sym (loop_set body p x) i
 
 module _ (functions : List Function) (a : List Stmt) where
-  abbrev pub with_known : State → State
+  abbrev pub with_known : WalkState → WalkState
   with_known state = record state { known = known_each (judge_all a) functions state.known }
 
 module _ (functions : List Function) (a b : List Stmt) where
-  pub if_state : (kept : Bool) (state first second last : State) → first ≡ with_known functions a state → second ≡ with_known functions b first →
+  pub if_state : (kept : Bool) (state first second last : WalkState) → first ≡ with_known functions a state → second ≡ with_known functions b first →
       last ≡ record second { names = both (after a second.names) (after b second.names); keeps = kept && second.keeps } → kept ≡ (keeps_all a || keeps_all b) →
       last ≡ record {
         known = known_each (judge_all b) functions (known_each (judge_all a) functions state.known);
@@ -82,10 +82,10 @@ module _ (functions : List Function) (a b : List Stmt) where
         before = state.before;
       }
   if_state kept state first second last f s l k =
-      l ∙ ap (λ (t : State). record t { names = both (after a t.names) (after b t.names); keeps = kept && t.keeps }) (s ∙ ap (with_known functions b) f)
+      l ∙ ap (λ (t : WalkState). record t { names = both (after a t.names) (after b t.names); keeps = kept && t.keeps }) (s ∙ ap (with_known functions b) f)
       ∙ ap (λ n. record (with_known functions b (with_known functions a state)) { names = both (after a state.names) (after b state.names); keeps = n && state.keeps }) k
 
-  pub if_faults : (in_block : Bool) (condition : List Violation) (state next : State) (found first second third : Option Violation) →
+  pub if_faults : (in_block : Bool) (condition : List Violation) (state next : WalkState) (found first second third : Option Violation) →
       first ≡ noted found condition →
       second ≡ noted first (faults_each (judge_all a) (place functions true) state.known state.names) →
       next ≡ with_known functions a state →
@@ -95,13 +95,13 @@ module _ (functions : List Function) (a b : List Stmt) where
   if_faults in_block condition state next found first second third f s n t =
       after_three found first second third condition (faults_each (judge_all a) (place functions true) state.known state.names)
       (faults_each (judge_all b) (place functions true) (known_each (judge_all a) functions state.known) state.names) _ f s
-      (t ∙ ap (λ (m : State). noted second (faults_each (judge_all b) (place functions true) m.known m.names)) n) refl
+      (t ∙ ap (λ (m : WalkState). noted second (faults_each (judge_all b) (place functions true) m.known m.names)) n) refl
 
 module _ (functions : List Function) (a : List Stmt) where
-  abbrev pub with_loop_set : State → State
+  abbrev pub with_loop_set : WalkState → WalkState
   with_loop_set state = record state { names = both state.names (after a state.names) }
 
-  pub while_state : (state first last : State) → first ≡ with_loop_set state → last ≡ with_known functions a first → last ≡ with_known functions a (with_loop_set state)
+  pub while_state : (state first last : WalkState) → first ≡ with_loop_set state → last ≡ with_known functions a first → last ≡ with_known functions a (with_loop_set state)
   while_state state first last f l = l ∙ ap (with_known functions a) f
 
   -- the sets of the loop as they were found
@@ -115,12 +115,12 @@ module _ (functions : List Function) (a : List Stmt) where
       ∙ ap (λ (r : Names). noted found (wanted Int condition known r ++ faults_each (judge_all a) (place functions true) known r)) e
 
   -- a scope: what its block makes known, and after its sync nothing is pending
-  pub scope_state : (state first last : State) → first ≡ with_known functions a state → last ≡ record first { names = nobody; keeps = false } →
+  pub scope_state : (state first last : WalkState) → first ≡ with_known functions a state → last ≡ record first { names = nobody; keeps = false } →
       last ≡ record (with_known functions a state) { names = nobody; keeps = false }
-  scope_state state first last f l = l ∙ ap (λ (t : State). record t { names = nobody; keeps = false }) f
+  scope_state state first last f l = l ∙ ap (λ (t : WalkState). record t { names = nobody; keeps = false }) f
 
 -- a statement of which this is told
-pub behind_by : (functions : List Function) (s : Stmt) (j : Judged) (kept : Bool) (state : State) → judge s ≡ j → keeps s ≡ kept →
+pub behind_by : (functions : List Function) (s : Stmt) (j : Judged) (kept : Bool) (state : WalkState) → judge s ≡ j → keeps s ≡ kept →
     behind functions s state ≡ record { known = j.known functions state.known; names = j.after state.names; keeps = kept && state.keeps; before = state.before }
 behind_by functions s j kept state e k i =
     record { known = (e i).known functions state.known; names = (e i).after state.names; keeps = k i && state.keeps; before = state.before }

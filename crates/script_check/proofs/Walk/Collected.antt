@@ -10,7 +10,7 @@ use Rattle.script_grammar.specs.declared.tree.Stmt.{Stmt}
 use Rattle.script_check.specs.Tables.{Table, with_first}
 use Rattle.script_check.specs.Names.{Names, nobody, both, with_name}
 use Rattle.script_check.specs.Statements.{judge, after}
-use Rattle.script_check.specs.Walk.{State, names_of, keeps, keeps_all}
+use Rattle.script_check.specs.Walk.{WalkState, names_of, keeps, keeps_all}
 use Rattle.script_check.proofs.Walk.Reading.{at_index}
 use Rattle.script_check.proofs.FewerPending.Linear.{linear_all}
 
@@ -97,14 +97,14 @@ keeps_none (s ∷ ss) (suc j) h = ap (λ b. keeps s && b) (keeps_none ss j h) �
     cases false = refl
 
 -- the same of the walk's state, of which only the pending set changes
-pub one_more : (ss : List Stmt) (i j : ℕ) (s : Stmt) (before now next : State) → i ≡ j + 1 → j < length ss → s ≡ get_or ss j s →
+pub one_more : (ss : List Stmt) (i j : ℕ) (s : Stmt) (before now next : WalkState) → i ≡ j + 1 → j < length ss → s ≡ get_or ss j s →
     keeps_all (drop i ss) ≡ true → now ≡ record before { names = both (after (drop i ss) nobody) before.names } →
     next ≡ record now { names = both ((judge s).after nobody) now.names } →
     next ≡ record before { names = both (after (drop j ss) nobody) before.names }
 one_more ss i j s before now next n h e kept was is =
-    is ∙ ap (λ (t : State). record t { names = both ((judge s).after nobody) t.names }) was
+    is ∙ ap (λ (t : WalkState). record t { names = both ((judge s).after nobody) t.names }) was
     ∙ ap (λ (p : Names). record before { names = p }) (collected_more ss i j s before.names _ _ n h e kept refl refl)
 
-pub all_of_it : (ss : List Stmt) (j : ℕ) (before now : State) → keeps_all (drop j ss) ≡ false →
+pub all_of_it : (ss : List Stmt) (j : ℕ) (before now : WalkState) → keeps_all (drop j ss) ≡ false →
     now ≡ record before { names = both (after (drop j ss) nobody) before.names } → now ≡ record before { names = both (after ss nobody) before.names }
 all_of_it ss j before now h e = e ∙ ap (λ (p : Names). record before { names = p }) (stops_all ss j before.names _ h refl)

@@ -12,11 +12,11 @@ use Rattle.script_check.specs.Statements.{place, judge_all, known_each, faults_e
 use Rattle.script_check.specs.Valid.{known_params, param_faults, function_faults, all_function_faults, functions_twice, main_faults, violations, CheckFault}
 use Rattle.script_check.specs.Functions.{function_named, main_name}
 use Rattle.script_check.proofs.LeastViolation.Least.{least_contained, none_before_least}
-use Rattle.script_check.specs.Walk.{State, behind_all}
+use Rattle.script_check.specs.Walk.{WalkState, behind_all}
 use Rattle.script_check.proofs.LeastViolation.Noted.{noted_append, after_three}
 use Rattle.script_check.proofs.Walk.Reading.{at_index}
 
-pub function_judged : (fs : List Function) (f : Function) (new params body end : State) (found first second third : Option Violation) →
+pub function_judged : (fs : List Function) (f : Function) (new params body end : WalkState) (found first second third : Option Violation) →
     new.known ≡ no_entries → new.names ≡ nobody →
     params ≡ record new { known = known_params f.params new.known } → first ≡ noted found (param_faults f.params new.known) →
     body ≡ behind_all fs f.body params → second ≡ noted first (faults_each (judge_all f.body) (place fs false) params.known params.names) →
@@ -32,16 +32,16 @@ function_judged fs f new params body end found first second third k p s1 f1 s2 f
     refl
   where
     known1 : params.known ≡ known_params f.params no_entries
-    known1 = ap (λ (s : State). s.known) s1 ∙ ap (known_params f.params) k
+    known1 = ap (λ (s : WalkState). s.known) s1 ∙ ap (known_params f.params) k
 
     pending1 : params.names ≡ nobody
-    pending1 = ap (λ (s : State). s.names) s1 ∙ p
+    pending1 = ap (λ (s : WalkState). s.names) s1 ∙ p
 
     known3 : end.known ≡ known_each (judge_all f.body) fs (known_params f.params no_entries)
-    known3 = ap (λ (s : State). s.known) s3 ∙ ap (λ (s : State). s.known) s2 ∙ ap (known_each (judge_all f.body) fs) known1
+    known3 = ap (λ (s : WalkState). s.known) s3 ∙ ap (λ (s : WalkState). s.known) s2 ∙ ap (known_each (judge_all f.body) fs) known1
 
     pending3 : end.names ≡ nobody
-    pending3 = ap (λ (s : State). s.names) s3
+    pending3 = ap (λ (s : WalkState). s.names) s3
 
 pub one_function : (functions fs : List Function) (i : ℕ) (f : Function) (before now : Option Violation) → i < length fs → f ≡ get_or fs i f →
     now ≡ noted before (function_faults functions f) →

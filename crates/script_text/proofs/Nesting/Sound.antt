@@ -22,7 +22,7 @@ use Rattle.script_grammar.specs.declared.tree.Stmt.{Stmt}
 use Rattle.script_grammar.specs.declared.tree.Param.{Param}
 use Rattle.script_grammar.specs.declared.tree.Function.{Function}
 use Rattle.script_grammar.specs.Grammar.{Token, tok, number_at, IsSumSign, a_plus, a_minus, IsProductSign, a_times, an_over, a_modulo, IsComparison, an_eq, a_ne, a_lt, a_le, a_gt, a_ge, IsFactor, a_neg, a_number, a_name, an_item, a_group, a_same, an_older, factors, IsFactors, no_factors, one_factor, IsSum, terms, IsTerms, no_terms, one_term, IsExpr, alone, compared, IsMoreArgs, no_more_args, one_more_arg, IsArgs, no_args, some_args, IsCall, a_call, IsRight, right_value, right_draw, right_new, right_call, right_spawn, IsInto, no_into, an_into, IsStmt, a_let, an_array, a_set, a_store, a_spawn, a_call_stmt, a_sync, a_print, an_if, a_while, a_pfor, a_scope, IsStmts, no_stmts, one_stmt, IsBlock, a_block, IsElse, no_else, an_else, IsParam, int_param, id_param, IsMoreParams, no_more_params, one_more_param, IsParams, no_params, some_params, IsAnswer, int_answer, id_answer, a_function, IsFunctions, no_functions, one_function, IsScript, has_scope, AreOf, IsViable}
-use Rattle.script_text.specs.Machine.{Sym, only, exactly, factor, index, pair, more_factors, more_terms, comparison, minus_end, args, more_args, call_args, right, into, loop_name, loop_args, stmts, after_let, after_name, block, otherwise, functions, param_list, params, more_params, param, answer, body, same_word, same_bytes, Rule, factor_rules, expr_then, rules, is_empty, find_rule, choose, step, run}
+use Rattle.script_text.specs.Machine.{Sym, only, exactly, factor, index, pair, more_factors, more_terms, comparison, minus_end, args, more_args, call_args, right, into, loop_name, loop_args, stmts, after_let, after_name, block, otherwise, functions, param_list, params, more_params, param, answer, body, same_word, same_bytes, Production, factor_rules, expr_then, rules, is_empty, find_rule, choose, step, run}
 use Rattle.script_text.proofs.Parsing.Words.{same_words}
 use Rattle.script_text.proofs.Nesting.Follows.{script_runs}
 
@@ -102,10 +102,10 @@ same_name (a ∷ xs) (b ∷ ys) e = go (nat_eq a b) refl e (same_name xs ys)
     go false f g h = cc
 
 -- a rule may be used
-abbrev pub Holds : Sym → Rule → Type 0
+abbrev pub Holds : Sym → Production → Type 0
 Holds a r = (at : ℕ) (text : List ℕ) (s : List Sym) (ts : List Token) → r.fits text ≡ true → Derives (r.rest text ++ s) ts → Derives (a ∷ s) (tok at r.first text ∷ ts)
 
-abbrev pub AllRules : (Rule → Type 0) → List Rule → Type 0
+abbrev pub AllRules : (Production → Type 0) → List Production → Type 0
 AllRules P [] = Unit {0}
 AllRules P (r ∷ rs) = P r × AllRules P rs
 
@@ -354,7 +354,7 @@ rules_hold answer = ((λ a t s ts f d. (_, answer_from d.1, d.2)), tt)
 rules_hold body = ((λ a t s ts f d. let q = cut (only word.Semicolon ∷ only word.CloseBlock ∷ s) d.2.0 d.2.2 in (_, body_from d.1 d.2.1 q.1 q.2.1 q.2.2.1, q.2.2.2)), tt)
 
 -- what holds of each rule holds of the one that is found
-of_found : (a : Sym) (k : Word) (text : List ℕ) (rs : List Rule) → AllRules (Holds a) rs → (r : List Sym) → find_rule k text rs ≡ Some r
+of_found : (a : Sym) (k : Word) (text : List ℕ) (rs : List Production) → AllRules (Holds a) rs → (r : List Sym) → find_rule k text rs ≡ Some r
     → (at : ℕ) (s : List Sym) (ts : List Token) → Derives (r ++ s) ts → Derives (a ∷ s) (tok at k text ∷ ts)
 of_found a k text [] h r e at s ts d = absurd (none-some _ e)
 of_found a k text (q ∷ qs) h r e at s ts d = go (same_word k q.first) (q.fits text) refl refl (λ f. of_found a k text qs h.1 r f at s ts d)
@@ -452,7 +452,7 @@ abbrev all_plain : List Sym → Bool
 all_plain [] = true
 all_plain (a ∷ s) = sym_plain a && all_plain s
 
-abbrev rules_plain_at : List ℕ → List Rule → Bool
+abbrev rules_plain_at : List ℕ → List Production → Bool
 rules_plain_at text rs = list_all (λ r. all_plain (r.rest text)) rs
 
 rules_plain : (a : Sym) (text : List ℕ) → rules_plain_at text (rules a) ≡ true
@@ -493,7 +493,7 @@ plain-append : (r s : List Sym) → all_plain r ≡ true → all_plain s ≡ tru
 plain-append [] s e f = f
 plain-append (a ∷ r) s e f = let p = two_true (sym_plain a) (all_plain r) e in ap (λ b. b && all_plain (r ++ s)) p.0 ∙ plain-append r s p.1 f
 
-found_plain : (k : Word) (text : List ℕ) (rs : List Rule) (r : List Sym) → rules_plain_at text rs ≡ true → find_rule k text rs ≡ Some r → all_plain r ≡ true
+found_plain : (k : Word) (text : List ℕ) (rs : List Production) (r : List Sym) → rules_plain_at text rs ≡ true → find_rule k text rs ≡ Some r → all_plain r ≡ true
 found_plain k text [] r h e = absurd (none-some _ e)
 found_plain k text (q ∷ qs) r h e = go (same_word k q.first && q.fits text) e (λ f. found_plain k text qs r p.1 f)
   where

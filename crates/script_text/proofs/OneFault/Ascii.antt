@@ -16,7 +16,7 @@ use Rattle.script_tokens.specs.declared.lexing.LexEnd.{LexEnd}
 use Rattle.script_tokens.specs.declared.lexing.LexEnd.TheVariants.{End, NotAscii, NoToken}
 use Rattle.script_tokens.specs.Version.{version_line, version_of, begins_at}
 use Rattle.script_tokens.specs.Word.{symbols, keywords, word_spelled, is_letter, is_name_byte, is_name, is_number, word_of}
-use Rattle.script_tokens.specs.Lexing.{is_blank, gap_length, comment_length, Stands, token, the_end, not_ascii, no_token, Lexes, stops, goes_on, IsCut}
+use Rattle.script_tokens.specs.Lexing.{is_blank, gap_length, comment_length, LexemeAt, token, the_end, not_ascii, no_token, Lexes, stops, goes_on, IsLexed}
 use Rattle.script_tokens.proofs.Longest.{word_spelled-none}
 use Rattle.script_tokens.proofs.LexingLemmas.{IsNext, lexeme_is_next}
 use Rattle.script_tokens.proofs.Versions.{begins_in}
@@ -123,7 +123,7 @@ module _ (version : Version) where
       go false false f g h = symbols_low text w h
 
   -- a lexeme that comes next ends so many bytes further
-  next_low : {from : ℕ} {left : List ℕ} {l : Lexeme} → Stands version from left (Ok l) → (n : ℕ) × (l.end ≡ from + n) × AreLow n left
+  next_low : {from : ℕ} {left : List ℕ} {l : Lexeme} → LexemeAt version from left (Ok l) → (n : ℕ) × (l.end ≡ from + n) × AreLow n left
   next_low {from} {left} (token {n = n} {word = w} a) = (n, refl, low-from n left (words_low (take n left) w a.token))
 
 -- Where the tokens end
@@ -178,7 +178,7 @@ module _ (version : Version) where
   Front at left (NotAscii place) = (place ≡ at) × ((b : ℕ) × (bs : List ℕ) × (left ≡ b ∷ bs) × (128 ≤ b))
   Front at left (NoToken place) = (place ≡ at) × ((b : ℕ) × (bs : List ℕ) × (left ≡ b ∷ bs) × (b < 128))
 
-  front : {at : ℕ} {left : List ℕ} {stop : LexEnd} → Stands version at left (Err stop) → Front at left stop
+  front : {at : ℕ} {left : List ℕ} {stop : LexEnd} → LexemeAt version at left (Err stop) → Front at left stop
   front the_end = refl
   front (not_ascii {b = b} {bs = bs} h) = (refl, (b, bs, refl, h))
   front (no_token {b = b} {bs = bs} h none) = (refl, (b, bs, refl, h))
@@ -214,7 +214,7 @@ line_low Two bytes e = low-from 10 bytes (ap (list_all is_low) ((bytes_eq-Decide
     chosen true h = refl
     chosen false h = cc
 
-module _ (bytes : List ℕ) (version : Version) (ls : List Lexeme) (stop : LexEnd) (cut : IsCut bytes version ls stop) where
+module _ (bytes : List ℕ) (version : Version) (ls : List Lexeme) (stop : LexEnd) (cut : IsLexed bytes version ls stop) where
   pub cut-stops : StopsAt 0 bytes stop
   cut-stops =
       let first = begins_at version in

@@ -8,7 +8,7 @@ use Rattle.script_tokens.specs.declared.token.Lexeme.{Lexeme}
 use Rattle.script_tokens.specs.declared.lexing.LexEnd.{LexEnd}
 use Rattle.script_tokens.specs.declared.lexing.LexEnd.TheVariants.{End, NotAscii, NoToken}
 use Rattle.script_tokens.specs.Version.{version_of, begins_at}
-use Rattle.script_tokens.specs.Lexing.{IsCut}
+use Rattle.script_tokens.specs.Lexing.{IsLexed}
 use Rattle.script_tokens.proofs.Cuts.{every_text}
 use Rattle.script_grammar.specs.declared.tree.Function.{Function}
 use Rattle.script_grammar.specs.Grammar.{Token, IsScript, AreOf, IsScriptOf, IsViable}
@@ -19,7 +19,7 @@ use Rattle.script_text.specs.Faults.{HasTokens, HasFault, not_ascii, no_token, o
 use Rattle.script_text.specs.Laws.{FaultIsFirst}
 use Rattle.script_text.specs.Machine.{Sym, functions, depth, Fault, judge}
 use Rattle.script_text.proofs.Nesting.Sound.{viable, are-append, are-first}
-use Rattle.script_text.proofs.OneFault.Judged.{Stands, Says, judged, of_none, bad_is_fault}
+use Rattle.script_text.proofs.OneFault.Judged.{StandsAfter, Says, judged, of_none, bad_is_fault}
 use Rattle.script_text.proofs.OneFault.Unique.{one_number, taken_low}
 use Rattle.script_text.proofs.OneTree.Whole.{cut_once}
 use Rattle.script_text.proofs.OneFault.Ascii.{StopsAt, place_of, InRow, cut-stops, cut-row}
@@ -47,7 +47,7 @@ row-at (u ∷ b) after t from end r = let l = row-at b after t (suc u.at) end r.
 
 module _ (version : Version) (ending : TextEnd) where
   -- the fault of some tokens isn't after that of one of them
-  first-token : (b before after : List Token) (t : Token) (s : List Sym) → AreOf version before → AreOf version (b ++ t ∷ after) → Stands before s → depth s ≤ 64 → (from end : ℕ) → InRow from (b ++ t ∷ after) end →
+  first-token : (b before after : List Token) (t : Token) (s : List Sym) → AreOf version before → AreOf version (b ++ t ∷ after) → StandsAfter before s → depth s ≤ 64 → (from end : ℕ) → InRow from (b ++ t ∷ after) end →
       (number at n : ℕ) → FaultBehind version ending before (b ++ t ∷ after) number at → IsFault version (before ++ b) t n → NotAfter number at n t.at
   first-token [] before after t s of more st low from end r number at n f g = go f
     where
@@ -69,7 +69,7 @@ module _ (version : Version) (ending : TextEnd) where
       there = subst (λ l. IsFault version l t n) (sym (append_assoc before (u ∷ []) b)) g
 
       go : FaultBehind version ending before (u ∷ (b ++ t ∷ after)) number at →
-          ((x : List Sym) → Stands (before ++ u ∷ []) x → depth x ≤ 64 → (from end : ℕ) → InRow from (b ++ t ∷ after) end → (number at n : ℕ) → FaultBehind version ending (before ++ u ∷ []) (b ++ t ∷ after) number at →
+          ((x : List Sym) → StandsAfter (before ++ u ∷ []) x → depth x ≤ 64 → (from end : ℕ) → InRow from (b ++ t ∷ after) end → (number at n : ℕ) → FaultBehind version ending (before ++ u ∷ []) (b ++ t ∷ after) number at →
           IsFault version ((before ++ u ∷ []) ++ b) t n → NotAfter number at n t.at) → NotAfter number at n t.at
       go (inl x) later = let l = row-at b after t (suc u.at) end r.1 in inl (omega (arith, x.1, l))
       go (inr x) later = let q = taken_low version before u s of' st x.0 in later q.0 q.1 q.2 (suc u.at) end r.1 number at n x.1 there
@@ -91,7 +91,7 @@ module _ (version : Version) (ending : TextEnd) where
   within-at (u ∷ b) before after t n w g = within-at b (before ++ u ∷ []) after t n w.1 (subst (λ l. BreaksLimit version l t n) (sym (append_assoc before (u ∷ []) b)) g)
 
 -- A text has the fault that is told of it.
-module _ (bytes : List ℕ) (ls : List Lexeme) (stop : LexEnd) (cut : IsCut bytes (version_of bytes) ls stop) where
+module _ (bytes : List ℕ) (ls : List Lexeme) (stop : LexEnd) (cut : IsLexed bytes (version_of bytes) ls stop) where
   abbrev version : Version
   version = version_of bytes
 
@@ -107,7 +107,7 @@ module _ (bytes : List ℕ) (ls : List Lexeme) (stop : LexEnd) (cut : IsCut byte
   has-tokens : HasTokens bytes tokens stop
   has-tokens = record { lexemes = ls; cut = cut; same = refl }
 
-  has-stop : (end : LexEnd) → stop ≡ end → (before : List Token) (s : List Sym) → AreOf version before → Stands before s → before ≡ tokens → (number at : ℕ) → FaultAtStop version (length bytes) end before number at → HasFault bytes number at
+  has-stop : (end : LexEnd) → stop ≡ end → (before : List Token) (s : List Sym) → AreOf version before → StandsAfter before s → before ≡ tokens → (number at : ℕ) → FaultAtStop version (length bytes) end before number at → HasFault bytes number at
   has-stop End e before s of st same number at f =
       let here : HasFault bytes 6 (length bytes) =
       unexpected_end (subst (HasTokens bytes tokens) e has-tokens) (subst (IsViable version) same (viable version before s of st)) (subst (λ l. (fs : List Function) → IsScriptOf version l fs → ⊥) same f.2) in
@@ -119,7 +119,7 @@ module _ (bytes : List ℕ) (ls : List Lexeme) (stop : LexEnd) (cut : IsCut byte
   has-stop (NoToken place) e before s of st same number at f =
       subst (λ n. HasFault bytes n at) (sym f.0) (subst (HasFault bytes 2) (sym f.1) (no_token (subst (HasTokens bytes tokens) e has-tokens)))
 
-  has-of : (ts before : List Token) (s : List Sym) → AreOf version before → AreOf version ts → Stands before s → depth s ≤ 64 → before ++ ts ≡ tokens → (number at : ℕ) → FaultBehind version ending before ts number at → HasFault bytes number at
+  has-of : (ts before : List Token) (s : List Sym) → AreOf version before → AreOf version ts → StandsAfter before s → depth s ≤ 64 → before ++ ts ≡ tokens → (number at : ℕ) → FaultBehind version ending before ts number at → HasFault bytes number at
   has-of [] before s of more st low same number at f = has-stop stop refl before s of st (sym (append-nil before) ∙ same) number at f
   has-of (t ∷ ts) before s of more st low same number at f = go f (λ x. has-of ts (before ++ t ∷ []) x of' (are-first version t ts more).1)
     where
@@ -127,7 +127,7 @@ module _ (bytes : List ℕ) (ls : List Lexeme) (stop : LexEnd) (cut : IsCut byte
       of' = are-append version before (t ∷ []) of (are-first version t ts more).0
 
       go : FaultBehind version ending before (t ∷ ts) number at →
-          ((x : List Sym) → Stands (before ++ t ∷ []) x → depth x ≤ 64 → (before ++ t ∷ []) ++ ts ≡ tokens → (number at : ℕ) → FaultBehind version ending (before ++ t ∷ []) ts number at → HasFault bytes number at) → HasFault bytes number at
+          ((x : List Sym) → StandsAfter (before ++ t ∷ []) x → depth x ≤ 64 → (before ++ t ∷ []) ++ ts ≡ tokens → (number at : ℕ) → FaultBehind version ending (before ++ t ∷ []) ts number at → HasFault bytes number at) → HasFault bytes number at
       go (inl x) later = subst (HasFault bytes number) (sym x.1) (of_token ts (subst (λ l. HasTokens bytes l stop) (sym same) has-tokens) x.0)
       go (inr x) later = let q = taken_low version before t s of' st x.0 in later q.0 q.1 q.2 (append_assoc before (t ∷ []) ts ∙ same) number at x.1
 

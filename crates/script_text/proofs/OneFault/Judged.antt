@@ -20,10 +20,10 @@ use Rattle.script_text.proofs.Nesting.Follows.{behind, script_traced, script_run
 use Rattle.script_text.proofs.Nesting.Sound.{Derives, run_sound, run-append, whole, left_out, viable, taken, are-append, are-first}
 
 -- the machine stands here after these tokens
-abbrev pub Stands : List Token → List Sym → Type 0
-Stands before s = run before (functions ∷ []) ≡ Some s
+abbrev pub StandsAfter : List Token → List Sym → Type 0
+StandsAfter before s = run before (functions ∷ []) ≡ Some s
 
-pub one_more : (before : List Token) (t : Token) (s : List Sym) → Stands before s → run (before ++ t ∷ []) (functions ∷ []) ≡ step t.word t.text s
+pub one_more : (before : List Token) (t : Token) (s : List Sym) → StandsAfter before s → run (before ++ t ∷ []) (functions ∷ []) ≡ step t.word t.text s
 one_more before t s e = run-append before (t ∷ []) (functions ∷ []) ∙ ap (option_and_then (run (t ∷ []))) e ∙ unit (step t.word t.text s)
   where
     unit : (o : Option (List Sym)) → option_and_then Some o ≡ o
@@ -77,7 +77,7 @@ none_of Two = tt
 
 module _ (version : Version) where
   -- the depth after a token is its nesting in every script that goes on so
-  pub nested_so : (before : List Token) (t : Token) (s s' : List Sym) → Stands before s → step t.word t.text s ≡ Some s' → (n : ℕ) → IsNested version before t n → n ≡ depth s'
+  pub nested_so : (before : List Token) (t : Token) (s s' : List Sym) → StandsAfter before s → step t.word t.text s ≡ Some s' → (n : ℕ) → IsNested version before t n → n ≡ depth s'
   nested_so before t s s' st e n h =
       let r = steps before (functions ∷ []) s st in
       let split : trace (before ++ t ∷ h.0) (functions ∷ []) ≡ behind r.0 (onward (Some s') (trace h.0)) =
@@ -95,7 +95,7 @@ module _ (version : Version) where
   of_none = none_of version
 
   -- and there is such a script
-  pub is_nested : (before : List Token) (t : Token) (s s' : List Sym) → AreOf version (before ++ t ∷ []) → Stands before s → step t.word t.text s ≡ Some s' → Stands (before ++ t ∷ []) s' → IsNested version before t (depth s')
+  pub is_nested : (before : List Token) (t : Token) (s s' : List Sym) → AreOf version (before ++ t ∷ []) → StandsAfter before s → step t.word t.text s ≡ Some s' → StandsAfter (before ++ t ∷ []) s' → IsNested version before t (depth s')
   is_nested before t s s' of st e st' =
       let v = viable version (before ++ t ∷ []) s' of st' in
       let d : IsScript (before ++ t ∷ v.0) v.1 = subst (λ x. IsScript x v.1) (append_assoc before (t ∷ []) v.0) v.2.1 in
@@ -191,7 +191,7 @@ module _ (version : Version) where
   no_fault before t v h n (unexpected f) = f v
   no_fault before t v h n (breaks_limit v' b) = h n b
 
-  judged_end : (ending : TextEnd) (before : List Token) (s : List Sym) → Stands before s → Says ending before [] (at_stop ending.end ending.stop s)
+  judged_end : (ending : TextEnd) (before : List Token) (s : List Sym) → StandsAfter before s → Says ending before [] (at_stop ending.end ending.stop s)
   judged_end ending before s st = at ending.stop refl
     where
       at_end : (b : Bool) → all_empty s ≡ b → ending.stop ≡ End → Says ending before [] (if b then None else Some (6, ending.end))
@@ -210,14 +210,14 @@ module _ (version : Version) where
       at (NotAscii place) e = subst (λ w. FaultAtStop version ending.end w before 1 place) (sym e) (refl, refl)
       at (NoToken place) e = subst (λ w. FaultAtStop version ending.end w before 2 place) (sym e) (refl, refl)
 
-  pub judged : (ending : TextEnd) (ts before : List Token) (n : ℕ) (s : List Sym) → AreOf version before → AreOf version ts → n ≡ functions_begun before → Stands before s → Says ending before ts (judge ending n s ts)
+  pub judged : (ending : TextEnd) (ts before : List Token) (n : ℕ) (s : List Sym) → AreOf version before → AreOf version ts → n ≡ functions_begun before → StandsAfter before s → Says ending before ts (judge ending n s ts)
   judged ending [] before n s of more e st = judged_end ending before s st
   judged ending (t ∷ ts) before n s of more e st = go (step t.word t.text s) refl (λ x. judged ending ts (before ++ t ∷ []) (begun t n) x of' (are-first version t ts more).1 (ap (begun t) e ∙ sym (begun-more before t)))
     where
       of' : AreOf version (before ++ t ∷ [])
       of' = are-append version before (t ∷ []) of (are-first version t ts more).0
 
-      within : (s' : List Sym) → step t.word t.text s ≡ Some s' → Stands (before ++ t ∷ []) s' → (o : Option ℕ) → broken n t (depth s') ≡ o → Says ending (before ++ t ∷ []) ts (judge ending (begun t n) s' ts)
+      within : (s' : List Sym) → step t.word t.text s ≡ Some s' → StandsAfter (before ++ t ∷ []) s' → (o : Option ℕ) → broken n t (depth s') ≡ o → Says ending (before ++ t ∷ []) ts (judge ending (begun t n) s' ts)
           → Says ending before (t ∷ ts) (unless_broken o t.at (judge ending (begun t n) s' ts))
       within s' f st' (Some k) g r =
           let g' : broken (functions_begun before) t (depth s') ≡ Some k = ap (λ m. broken m t (depth s')) (sym e) ∙ g in
@@ -231,7 +231,7 @@ module _ (version : Version) where
           on_rest None q = (q.0, (fine, q.1), (q.2.0, subst (λ x. IsScript x q.2.0) (append_assoc before (t ∷ []) ts) q.2.1))
           on_rest (Some x) q = inr (no_fault before t (viable version _ s' of' st') fine, q)
 
-      go : (o : Option (List Sym)) → step t.word t.text s ≡ o → ((x : List Sym) → Stands (before ++ t ∷ []) x → Says ending (before ++ t ∷ []) ts (judge ending (begun t n) x ts))
+      go : (o : Option (List Sym)) → step t.word t.text s ≡ o → ((x : List Sym) → StandsAfter (before ++ t ∷ []) x → Says ending (before ++ t ∷ []) ts (judge ending (begun t n) x ts))
           → Says ending before (t ∷ ts) (verdict n t o (λ s'. judge ending (begun t n) s' ts))
       go None f ih = inl (unexpected (λ v. let q = taken version (before ++ t ∷ []) v in none-some _ (sym (one_more before t s st ∙ f) ∙ q.1)), refl)
       go (Some s') f ih = let st' = one_more before t s st ∙ f in within s' f st' (broken n t (depth s')) refl (ih s' st')

@@ -11,10 +11,10 @@ use Rattle.script_tokens.specs.declared.lexing.LexEnd.{LexEnd}
 use Rattle.script_tokens.specs.declared.lexing.LexEnd.TheVariants.{End, NotAscii, NoToken}
 use Rattle.script_grammar.specs.Grammar.{Token, AreOf, IsViable}
 use Rattle.script_grammar.specs.Fault.{IsNested, BreaksLimit, number_out_of_range, name_too_long, nested_too_deep, too_many_functions, IsFault, unexpected, breaks_limit, TextEnd, FaultAtStop, FaultBehind}
-use Rattle.script_text.specs.Machine.{Sym, only, exactly, factor, index, pair, more_factors, more_terms, comparison, minus_end, args, more_args, call_args, right, into, loop_name, loop_args, stmts, after_let, after_name, block, otherwise, functions, param_list, params, more_params, param, answer, body, same_word, Rule, rules, is_empty, find_rule, choose, step, is_closer, depth}
+use Rattle.script_text.specs.Machine.{Sym, only, exactly, factor, index, pair, more_factors, more_terms, comparison, minus_end, args, more_args, call_args, right, into, loop_name, loop_args, stmts, after_let, after_name, block, otherwise, functions, param_list, params, more_params, param, answer, body, same_word, Production, rules, is_empty, find_rule, choose, step, is_closer, depth}
 use Rattle.script_text.proofs.Parsing.Words.{same_words}
 use Rattle.script_text.proofs.Nesting.Sound.{viable, taken, are-append, are-first}
-use Rattle.script_text.proofs.OneFault.Judged.{Stands, one_more, nested_so, is_nested}
+use Rattle.script_text.proofs.OneFault.Judged.{StandsAfter, one_more, nested_so, is_nested}
 
 abbrev is_flat : Word → Bool
 is_flat word.Name = true
@@ -22,7 +22,7 @@ is_flat word.Number = true
 is_flat word.Fn = true
 is_flat _ = false
 
-abbrev rules_flat_at : List ℕ → List Rule → Bool
+abbrev rules_flat_at : List ℕ → List Production → Bool
 rules_flat_at text rs = list_all (λ r. nat_eq (depth (r.rest text)) 0 || not (is_flat r.first)) rs
 
 rules_flat : (a : Sym) (text : List ℕ) → rules_flat_at text (rules a) ≡ true
@@ -64,7 +64,7 @@ first_true true b e f = refl
 first_true false true e f = e
 first_true false false e f = f
 
-found_flat : (k : Word) (text : List ℕ) (rs : List Rule) (r : List Sym) → rules_flat_at text rs ≡ true → is_flat k ≡ true → find_rule k text rs ≡ Some r → depth r ≡ 0
+found_flat : (k : Word) (text : List ℕ) (rs : List Production) (r : List Sym) → rules_flat_at text rs ≡ true → is_flat k ≡ true → find_rule k text rs ≡ Some r → depth r ≡ 0
 found_flat k text [] r h f e = absurd (none-some _ e)
 found_flat k text (q ∷ qs) r h f e = go (same_word k q.first && q.fits text) refl e (λ g. found_flat k text qs r p.1 f g)
   where
@@ -158,7 +158,7 @@ module _ (version : Version) where
   one_broken before t able once m n (breaks_limit v f) (unexpected g) = absurd (g able)
   one_broken before t able once m n (breaks_limit v f) (breaks_limit w g) = once m n f g
 
-  module _ (before : List Token) (t : Token) (s : List Sym) (of : AreOf version (before ++ t ∷ [])) (st : Stands before s) where
+  module _ (before : List Token) (t : Token) (s : List Sym) (of : AreOf version (before ++ t ∷ [])) (st : StandsAfter before s) where
     no_more : step t.word t.text s ≡ None → IsViable version (before ++ t ∷ []) → ⊥
     no_more e v = let q = taken version (before ++ t ∷ []) v in none-some _ (sym (one_more before t s st ∙ e) ∙ q.1)
 
@@ -173,14 +173,14 @@ module _ (version : Version) where
             one_broken before t v (one_limit before t (depth s') (nested_so version before t s s' st e) flat) m n f g
 
     -- where the token is at no fault, the machine takes it, and is nested within the limit
-    pub taken_low : ((n : ℕ) → IsFault version before t n → ⊥) → (s' : List Sym) × Stands (before ++ t ∷ []) s' × (depth s' ≤ 64)
+    pub taken_low : ((n : ℕ) → IsFault version before t n → ⊥) → (s' : List Sym) × StandsAfter (before ++ t ∷ []) s' × (depth s' ≤ 64)
     taken_low fine = go (step t.word t.text s) refl
       where
-        low : (s' : List Sym) → step t.word t.text s ≡ Some s' → Stands (before ++ t ∷ []) s' → (64 < depth s') ⊎ (depth s' ≤ 64) → depth s' ≤ 64
+        low : (s' : List Sym) → step t.word t.text s ≡ Some s' → StandsAfter (before ++ t ∷ []) s' → (64 < depth s') ⊎ (depth s' ≤ 64) → depth s' ≤ 64
         low s' e st' (inl deep) = absurd (fine 5 (breaks_limit (viable version (before ++ t ∷ []) s' of st') (nested_too_deep (is_nested version before t s s' of st e st') deep)))
         low s' e st' (inr shallow) = shallow
 
-        go : (o : Option (List Sym)) → step t.word t.text s ≡ o → (s' : List Sym) × Stands (before ++ t ∷ []) s' × (depth s' ≤ 64)
+        go : (o : Option (List Sym)) → step t.word t.text s ≡ o → (s' : List Sym) × StandsAfter (before ++ t ∷ []) s' × (depth s' ≤ 64)
         go None e = absurd (fine 2 (unexpected (no_more e)))
         go (Some s') e = let st' = one_more before t s st ∙ e in (s', st', low s' e st' (cases_lt 64 (depth s')))
 
@@ -192,9 +192,9 @@ module _ (version : Version) where
   -- what holds of the tokens after some that are at no fault
   abbrev Later : TextEnd → List Token → List Token → Type 0
   Later ending ts before =
-      (x : List Sym) → Stands before x → depth x ≤ 64 → (m at n place : ℕ) → FaultBehind version ending before ts m at → FaultBehind version ending before ts n place → (m ≡ n) × (at ≡ place)
+      (x : List Sym) → StandsAfter before x → depth x ≤ 64 → (m at n place : ℕ) → FaultBehind version ending before ts m at → FaultBehind version ending before ts n place → (m ≡ n) × (at ≡ place)
 
-  pub one_fault : (ending : TextEnd) (ts before : List Token) (s : List Sym) → AreOf version before → AreOf version ts → Stands before s → depth s ≤ 64 → (m at n place : ℕ) →
+  pub one_fault : (ending : TextEnd) (ts before : List Token) (s : List Sym) → AreOf version before → AreOf version ts → StandsAfter before s → depth s ≤ 64 → (m at n place : ℕ) →
       FaultBehind version ending before ts m at → FaultBehind version ending before ts n place → (m ≡ n) × (at ≡ place)
   one_fault ending [] before s of more st low m at n place f g = one_stop ending.end ending.stop before m at n place f g
   one_fault ending (t ∷ ts) before s of more st low m at n place f g = go f g (λ x. one_fault ending ts (before ++ t ∷ []) x of' (are-first version t ts more).1)

@@ -5,7 +5,7 @@ use Rattle.script_tokens.specs.declared.lexing.LexEnd.{LexEnd}
 use Rattle.script_tokens.specs.declared.lexing.LexEnd.TheVariants.{End}
 use Rattle.script_tokens.specs.declared.version.Version.{Version}
 use Rattle.script_tokens.specs.Version.{version_of, begins_at}
-use Rattle.script_tokens.specs.Lexing.{IsCut, Lexes}
+use Rattle.script_tokens.specs.Lexing.{IsLexed, Lexes}
 use Rattle.script_tokens.proofs.LexingLemmas.{lexing_unique}
 use Rattle.script_grammar.proofs.Versions.{are_of_cut}
 use Rattle.script_text.specs.declared.error.SyntaxError.{SyntaxError}
@@ -24,7 +24,7 @@ use Rattle.script_text.proofs.OneTree.Same.{same_functions}
 use Rattle.script_text.proofs.OneFault.Unique.{one_fault}
 
 module _ (source : LexedText) (bytes : List ℕ) (ls : List Lexeme) (stop : LexEnd) (b : source.bytes.now ≡ bytes) (e : source.end ≡ length bytes) (s : source.stop ≡ stop)
-    (cut : IsCut bytes source.version ls stop) where
+    (cut : IsLexed bytes source.version ls stop) where
   of_source : AreOf source.version (seen source ls)
   of_source = subst (λ z. AreOf source.version (tokens_of z ls)) (sym b) (are_of_cut bytes source.version ls stop cut)
 
@@ -34,7 +34,7 @@ module _ (source : LexedText) (bytes : List ℕ) (ls : List Lexeme) (stop : LexE
       let p = none_is_program source.version (ending source) (seen source ls) x.functions of_source j.2 j.1 in
       record {
         lexemes = ls;
-        cut = subst (λ z. IsCut bytes z ls End) (sym j.0) (subst (λ z. IsCut bytes source.version ls z) (sym s ∙ p.0) cut);
+        cut = subst (λ z. IsLexed bytes z ls End) (sym j.0) (subst (λ z. IsLexed bytes source.version ls z) (sym s ∙ p.0) cut);
         program = subst (λ z. IsProgram z (tokens_of bytes ls) x.functions) (sym j.0) (subst (λ z. IsProgram source.version (tokens_of z ls) x.functions) b p.1);
       }
 
@@ -48,12 +48,12 @@ module _ (source : LexedText) (bytes : List ℕ) (ls : List Lexeme) (stop : LexE
       record {
         lexemes = ls;
         stop = stop;
-        cut = subst (λ z. IsCut bytes z ls stop) cut.told cut;
+        cut = subst (λ z. IsLexed bytes z ls stop) cut.told cut;
         fault = subst (λ z. FaultBehind z (record { end = length bytes; stop = stop }) [] (tokens_of bytes ls) number at) cut.told f';
       }
 
 -- two ways to cut a text are one
-pub cut_once : (bytes : List ℕ) (v w : Version) (ls ms : List Lexeme) (stop end : LexEnd) → IsCut bytes v ls stop → IsCut bytes w ms end → (v ≡ w) × (ls ≡ ms) × (stop ≡ end)
+pub cut_once : (bytes : List ℕ) (v w : Version) (ls ms : List Lexeme) (stop end : LexEnd) → IsLexed bytes v ls stop → IsLexed bytes w ms end → (v ≡ w) × (ls ≡ ms) × (stop ≡ end)
 cut_once bytes v w ls ms stop end x y =
     let same : w ≡ v = y.told ∙ sym x.told in
     let y' : Lexes v (begins_at v) (drop (begins_at v) bytes) ms end = subst (λ z. Lexes z (begins_at z) (drop (begins_at z) bytes) ms end) same y.cut in

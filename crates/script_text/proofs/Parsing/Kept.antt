@@ -8,14 +8,14 @@ use Rattle.script_text.specs.declared.parser.source.LexedText.{LexedText}
 use Rattle.script_grammar.specs.Grammar.{Token}
 use Rattle.script_text.specs.Machine.{Sym, only}
 use Rattle.script_text.specs.Beside.{Beside}
-use Rattle.script_text.specs.Reads.{Errs, Reads, Passes}
+use Rattle.script_text.specs.Reads.{Errs, Reads, PassesWord}
 use Rattle.script_text.proofs.Parsing.Steps.{Comes, Passed}
 
-pub passed : (w : Word) (source : LexedText) (d : ℕ) (old : List Lexeme) (r : Result (Bor (List Lexeme)) SyntaxError) (rest : Bor (List Lexeme)) → r ≡ Ok rest → Passes w source d old r → Passed w source d old rest.now
-passed w source d old r rest e f = subst (Passes w source d old) e f
+pub passed : (w : Word) (source : LexedText) (d : ℕ) (old : List Lexeme) (r : Result (Bor (List Lexeme)) SyntaxError) (rest : Bor (List Lexeme)) → r ≡ Ok rest → PassesWord w source d old r → Passed w source d old rest.now
+passed w source d old r rest e f = subst (PassesWord w source d old) e f
 
-pub passed_not : (w : Word) (source : LexedText) (d : ℕ) (old : List Lexeme) (r : Result (Bor (List Lexeme)) SyntaxError) (fault : SyntaxError) → r ≡ Err fault → Passes w source d old r → Errs (only w ∷ []) source d old fault
-passed_not w source d old r fault e f = subst (Passes w source d old) e f
+pub passed_not : (w : Word) (source : LexedText) (d : ℕ) (old : List Lexeme) (r : Result (Bor (List Lexeme)) SyntaxError) (fault : SyntaxError) → r ≡ Err fault → PassesWord w source d old r → Errs (only w ∷ []) source d old fault
+passed_not w source d old r fault e f = subst (PassesWord w source d old) e f
 
 module _ {X : Type 0} (R : List Token → X → List Token → Type 0) (front : List Sym) (source : LexedText) (d : ℕ) (old : List Lexeme) where
   pub came : (r : Result (X × Bor (List Lexeme)) SyntaxError) (p : X × Bor (List Lexeme)) → r ≡ Ok p → Reads R front source d old r → Comes R front source d old p.0 p.1.now
@@ -25,7 +25,7 @@ module _ {X : Type 0} (R : List Token → X → List Token → Type 0) (front : 
   came_not r fault e f = subst (Reads R front source d old) e f
 
   -- what was read, and the word after it
-  pub kept : (w : Word) (d' : ℕ) (mid : List Lexeme) (x : X) (r : Result (Bor (List Lexeme)) SyntaxError) (result : Result (X × Bor (List Lexeme)) SyntaxError) → Passes w source d' mid r → Beside x r result
+  pub kept : (w : Word) (d' : ℕ) (mid : List Lexeme) (x : X) (r : Result (Bor (List Lexeme)) SyntaxError) (result : Result (X × Bor (List Lexeme)) SyntaxError) → PassesWord w source d' mid r → Beside x r result
       → ((last : List Lexeme) → Passed w source d' mid last → Comes R front source d old x last) → ((fault : SyntaxError) → Errs (only w ∷ []) source d' mid fault → Errs front source d old fault) → Reads R front source d old result
-  kept w d' mid x r (Ok p) a b f g = subst (λ z. Comes R front source d old z p.1.now) (sym b.0) (f p.1.now (subst (Passes w source d' mid) b.1 a))
-  kept w d' mid x r (Err e) a b f g = g e (subst (Passes w source d' mid) b a)
+  kept w d' mid x r (Ok p) a b f g = subst (λ z. Comes R front source d old z p.1.now) (sym b.0) (f p.1.now (subst (PassesWord w source d' mid) b.1 a))
+  kept w d' mid x r (Err e) a b f g = g e (subst (PassesWord w source d' mid) b a)

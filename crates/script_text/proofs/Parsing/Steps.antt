@@ -14,7 +14,7 @@ use Rattle.script_grammar.specs.Grammar.{Token, tok, decimal}
 use Rattle.script_grammar.specs.Fault.{TextEnd}
 use Rattle.script_text.specs.Machine.{Sym, only, rule, same_word, rules, is_empty, find_rule, choose, step, depth, all_empty, Fault, broken, unless_broken, verdict, at_stop, begun, judge}
 use Rattle.script_grammar.specs.Text.{token_of}
-use Rattle.script_text.specs.Reads.{seen, ending, Leads, stopped_at, unexpected_in, NextIs, NextIsNot, is_plain, Errs, Passes, IsBracket, Opens, Deepens}
+use Rattle.script_text.specs.Reads.{seen, ending, Leads, stopped_at, unexpected_in, NextIs, NextIsNot, is_plain, Errs, PassesWord, IsBracket, Opens, Deepens}
 use Rattle.script_text.proofs.Parsing.Words.{same_words, same_word-refl}
 
 plain_broken : (w : Word) (n at d : ℕ) (text : List ℕ) → is_plain w ≡ true → broken n (tok at w text) d ≡ (if nat_lt 64 d then Some 5 else None)
@@ -154,7 +154,7 @@ passes w source d at old rest p h x = (
       ∙ taken (ending source) n at w _ (only w ∷ s) s (seen source rest) p (omega arith) (replaced (only w) w [] s _ refl),
 )
 
-pub passes_not : (w : Word) (source : LexedText) (d : ℕ) (old : List Lexeme) (e : SyntaxError) → NextIsNot w old → e ≡ unexpected_in source old → Passes w source d old (Err e)
+pub passes_not : (w : Word) (source : LexedText) (d : ℕ) (old : List Lexeme) (e : SyntaxError) → NextIsNot w old → e ≡ unexpected_in source old → PassesWord w source d old (Err e)
 passes_not w source d old Memory h f = tt
 passes_not w source d old (Bad number at) h f = λ n s g. refused source n (only w) s old refl (has_none (only w) w [] old source.bytes.now refl h) number at f
 

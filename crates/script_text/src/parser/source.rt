@@ -5,7 +5,7 @@ ghost use Rattle.script_tokens.specs.Lexing.{text_of};
 ghost use Rattle.script_tokens.specs.declared.token.Word.TheVariants as word;
 ghost use Rattle.script_text.specs.Beside.{Beside};
 ghost use Rattle.script_text.specs.Machine.{only};
-ghost use Rattle.script_text.specs.Reads.{IsPlain, IsValue, IsName, IsNumber, Names, Numbers, NextIs, NextIsNot, NextLexeme, Passes, Opens, Deepens, Reads, unexpected_in};
+ghost use Rattle.script_text.specs.Reads.{IsPlain, IsValue, IsName, IsNumber, Names, Numbers, NextIs, NextIsNot, NextLexeme, PassesWord, Opens, Deepens, Reads, unexpected_in};
 
 use crate::error::SyntaxError;
 use crate::fault::TextFault;
@@ -134,7 +134,7 @@ pub(crate) fn expect<'t>(
 ) -> Result<&'t [Lexeme], SyntaxError>
     requires plain { IsPlain word }
     requires depth { depth ≤ 64 }
-    ensures { Passes word source.now depth tokens.now result }
+    ensures { PassesWord word source.now depth tokens.now result }
 {
     match after(tokens, word) {
         Some((_, rest)) => Ok(rest),

@@ -90,14 +90,14 @@ abbrev pub Stops : List ℕ → ℕ → List Origin → NodeFault → Type 0
 Stops path lo os (Own f) = StopsAfter path lo os f
 Stops path lo os (ChildFaulted f) = Unit {0}
 
-abbrev Ends : {A : Type 0} → List ℕ → (A → ℕ) → ℕ → ℕ → List Origin → Result A NodeFault → Type 0
-Ends path rank lo hi os (Ok a) = hi ≡ rank a
-Ends path rank lo hi os (Err e) = Stops path lo os e
+abbrev EndsAtRank : {A : Type 0} → List ℕ → (A → ℕ) → ℕ → ℕ → List Origin → Result A NodeFault → Type 0
+EndsAtRank path rank lo hi os (Ok a) = hi ≡ rank a
+EndsAtRank path rank lo hi os (Err e) = Stops path lo os e
 
 record Spread {A : Type 0} (path : List ℕ) (rank : A → ℕ) (lo : ℕ) (r : Run Item NodeFault A) : Type 0 where
   hi : ℕ
   up : lo ≤ hi
-  ends : Ends path rank lo hi (children r.items) r.ending
+  ends : EndsAtRank path rank lo hi (children r.items) r.ending
   spread : ChildrenRise path lo hi (children r.items)
 
 -- more children before a fault
@@ -120,7 +120,7 @@ spread-then : {A B : Type 0} (path : List ℕ) (f-rank : A → ℕ) (g-rank : B 
     Spread path f-rank lo r → ((a : A) → Spread path g-rank (f-rank a) (f a)) → Spread path g-rank lo (r then f)
 spread-then {A = A} {B = B} path f-rank g-rank lo r f h k = from r.items r.ending h.hi h.up h.ends h.spread
   where
-    from : (items : List Item) (e : Result A NodeFault) (hi : ℕ) → lo ≤ hi → Ends path f-rank lo hi (children items) e → ChildrenRise path lo hi (children items) → Spread path g-rank lo (goes_on items e f)
+    from : (items : List Item) (e : Result A NodeFault) (hi : ℕ) → lo ≤ hi → EndsAtRank path f-rank lo hi (children items) e → ChildrenRise path lo hi (children items) → Spread path g-rank lo (goes_on items e f)
     from items (Err e) hi u n c = record { hi = hi; up = u; ends = n; spread = c }
     from items (Ok a) hi u n c = record {
       hi = (k a).hi;
@@ -138,7 +138,7 @@ spread-then {A = A} {B = B} path f-rank g-rank lo r f h k = from r.items r.endin
         within : Each (IsAt path lo (f-rank a)) (children items)
         within = subst (λ z. Each (IsAt path lo z) (children items)) n c.within
 
-        later : (e : Result B NodeFault) → Ends path g-rank (f-rank a) (k a).hi (children (f a).items) e → Ends path g-rank lo (k a).hi (children items ++ children (f a).items) e
+        later : (e : Result B NodeFault) → EndsAtRank path g-rank (f-rank a) (k a).hi (children (f a).items) e → EndsAtRank path g-rank lo (k a).hi (children items ++ children (f a).items) e
         later (Ok b) x = x
         later (Err e) x = stops-later path lo (f-rank a) (children items) (children (f a).items) e (higher (omega arith)) within x
 
@@ -155,7 +155,7 @@ pub record NodeSpread (path : List ℕ) (node : Node) : Type 0 where
 node-from_spread : {A : Type 0} (path : List ℕ) (rank : A → ℕ) (r : Run Item NodeFault A) (g : A → List Value) → Spread path rank 0 r → NodeSpread path (r then λ a. done (g a))
 node-from_spread {A} path rank r g h = from r.items r.ending h.hi h.ends h.spread
   where
-    from : (items : List Item) (e : Result A NodeFault) (hi : ℕ) → Ends path rank 0 hi (children items) e → ChildrenRise path 0 hi (children items) → NodeSpread path (goes_on items e (λ a. done (g a)))
+    from : (items : List Item) (e : Result A NodeFault) (hi : ℕ) → EndsAtRank path rank 0 hi (children items) e → ChildrenRise path 0 hi (children items) → NodeSpread path (goes_on items e (λ a. done (g a)))
     from items (Err e) hi n c = record { hi = hi; stops = n; spread = c }
     from items (Ok a) hi n c = record { hi = hi; stops = tt; spread = rw append-nil c }
 
@@ -221,7 +221,7 @@ module _ (plan : PlanView) (child : Origin → Evaluation) where
       out : (items : List Item) → children (items ++ Closed here ∷ []) ≡ children items
       out items = children-append items (Closed here ∷ []) ∙ append-nil (children items)
 
-      from : (items : List Item) (e : Result S NodeFault) (hi : ℕ) → Ends here rank_of 0 hi (children items) e → ChildrenRise here 0 hi (children items) →
+      from : (items : List Item) (e : Result S NodeFault) (hi : ℕ) → EndsAtRank here rank_of 0 hi (children items) e → ChildrenRise here 0 hi (children items) →
           P path s.rank (goes_on (Opened here ∷ items) e (goes_out (put_off_all plan child) plan path s.rank))
       from items (Ok a) hi n c = record { hi = s.rank + 1; up = omega arith; ends = refl; spread = rw (out items) (up hi (children items) c) }
       from items (Err e) hi n c = record { hi = s.rank + 1; up = omega arith; ends = stops-under path s.rank (children items) e n; spread = up hi (children items) c }

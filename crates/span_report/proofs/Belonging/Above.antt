@@ -6,7 +6,7 @@ use Rattle.serial_meaning.specs.Laws.{places}
 use Rattle.serial_meaning.proofs.RisingPedigrees.Rising.{Rise}
 use Rattle.serial_meaning.specs.declared.event.Event.{Event}
 use Rattle.serial_meaning.specs.declared.event.Event.TheVariants as event
-use Rattle.span_report.specs.Series.{Begins, BeginsProperly, IsOf, IsAwaited, Own, Looped, Synced}
+use Rattle.span_report.specs.Series.{Begins, BeginsProperly, IsOf, PrecedesAtMeet, Own, Looped, Synced}
 use Rattle.span_report.specs.Nested.{Instance}
 use Rattle.span_report.proofs.Nested.Clear.{Raises, raises-at, IsClear}
 use Rattle.span_report.proofs.Belonging.Homes.{of-unique, same-front, begins-length, fronts, get-contained, IsPresent}
@@ -63,7 +63,7 @@ module _ (all : List Event) (nested : IsClear all (Instance []) [] 0 all) (rise 
 
   -- Below a child that was spawned, and since which its parent made no sync.
   pub not-awaited-child : (n : ℕ) (home path : List ℕ) (r : ℕ) (rest : List ℕ) → IsPresent all home path → Contains all (event.Spawn (path ++ r ∷ [])) →
-      ((c s : ℕ) (at : List ℕ) → IsOf all home c (event.Spawn (path ++ r ∷ [])) → IsOf all home s (event.Sync at) → c < s → s < n → ⊥) → IsAwaited all n (path ++ r ∷ rest) home home → ⊥
+      ((c s : ℕ) (at : List ℕ) → IsOf all home c (event.Spawn (path ++ r ∷ [])) → IsOf all home s (event.Sync at) → c < s → s < n → ⊥) → PrecedesAtMeet all n (path ++ r ∷ rest) home home → ⊥
   not-awaited-child n home path r rest here child quiet (Own z) =
       let l : length (path ++ r ∷ rest) ≡ length home = ap (λ (p : List ℕ). length p) z in let m = begins-length home path here.begins in omega (arith, l, m, length-append path (r ∷ rest))
   not-awaited-child n home path r rest here child quiet (Looped c j h p out) =
@@ -73,7 +73,7 @@ module _ (all : List Event) (nested : IsClear all (Instance []) [] 0 all) (rise 
       quiet c s at (subst (λ (p : List ℕ). IsOf all home c (event.Spawn p)) (begins-child home path j r rest c (event.Spawn j) (event.Spawn (path ++ r ∷ [])) here h refl child refl b) h) k l m
 
   -- In a loop, for an iteration of it.
-  pub not-awaited-turn : (n : ℕ) (home path : List ℕ) (r t k : ℕ) (rest : List ℕ) → IsPresent all home path → Contains all (event.Loop (path ++ r ∷ [])) → IsAwaited all n (path ++ r ∷ t ∷ rest) (path ++ r ∷ k ∷ []) home → ⊥
+  pub not-awaited-turn : (n : ℕ) (home path : List ℕ) (r t k : ℕ) (rest : List ℕ) → IsPresent all home path → Contains all (event.Loop (path ++ r ∷ [])) → PrecedesAtMeet all n (path ++ r ∷ t ∷ rest) (path ++ r ∷ k ∷ []) home → ⊥
   not-awaited-turn n home path r t k rest here loop (Own z) =
       let l : length (path ++ r ∷ t ∷ rest) ≡ length home = ap (λ (p : List ℕ). length p) z in let m = begins-length home path here.begins in omega (arith, l, m, length-append path (r ∷ t ∷ rest))
   not-awaited-turn n home path r t k rest here loop (Looped c j h p out) =

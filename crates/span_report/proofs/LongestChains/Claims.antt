@@ -14,7 +14,7 @@ use Rattle.span_report.specs.declared.instance.Begun.{Begun}
 use Rattle.span_report.specs.declared.instance.Begun.TheVariants.{Spawned, Iterated}
 use Rattle.span_report.specs.Series.{pedigree_of, Begins, BeginsProperly, IsEvent, IsInstance, Main, Child, Iteration, IsHome, IsOf, IsReady, IsSpan}
 use Rattle.span_report.proofs.LongestChains.Chains.{IsMost}
-use Rattle.span_report.specs.Nested.{IsStep, Draw, New, Sync, Whose, Instance, Iterations}
+use Rattle.span_report.specs.Nested.{RaisesWithoutChild, Draw, New, Sync, Whose, Instance, Iterations}
 use Rattle.span_report.specs.Opens.{begun, joined, went_on, synced, turning}
 use Rattle.span_report.specs.Walks.{Opened, start, left, ended, went, entered, path_of, walked, walked_all, walked_span}
 use Rattle.span_report.proofs.Nested.Clear.{NotAt, IsClear, Ends, Prints, Steps, Spawns, Loops, Iterates, Scopes, all-clear}
@@ -86,7 +86,7 @@ module _ (all : List Event) (nested : IsClear all (Instance []) [] 0 all) (rise 
   fresh-past path rank n e p g f =
       fresh-on all n (n + 1) path rank f (λ i x l u h. ([], subst (λ (y : Event). pedigree_of y ≡ path ++ rank ∷ []) (event-unique all n e x g (subst (λ (k : ℕ). IsEvent all k x) (omega (arith, l, u)) h)) p))
 
-  claim-steps : (home path : List ℕ) (rank : ℕ) (j : List ℕ) (e : Event) (es : List Event) → j ≡ path ++ rank ∷ [] → IsStep j e → Claim (Instance home) path (rank + 1) es → Claim (Instance home) path rank (e ∷ es)
+  claim-steps : (home path : List ℕ) (rank : ℕ) (j : List ℕ) (e : Event) (es : List Event) → j ≡ path ++ rank ∷ [] → RaisesWithoutChild j e → Claim (Instance home) path (rank + 1) es → Claim (Instance home) path rank (e ∷ es)
   claim-steps home path rank j e es z (Draw i d) later from n to m w o under inst l t f a h q s =
       let g = own home path rank n (event.Draw i d) inst z a.0 in
       claim-own home path rank (rank + 1) m (event.Draw i d) es from n to m w o (went_on o) under z inst l t a.1 h q s (quiet-none (went_on o) refl) refl refl (fresh-past path rank n (event.Draw i d) z a.0 f)

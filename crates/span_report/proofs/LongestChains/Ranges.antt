@@ -6,7 +6,7 @@ use Rattle.serial_meaning.proofs.RisingPedigrees.Rising.{Rise}
 use Rattle.serial_meaning.proofs.LeastFault.Left.{rank-same}
 use Rattle.serial_meaning.specs.declared.event.Event.{Event}
 use Rattle.serial_meaning.specs.declared.event.Event.TheVariants as event
-use Rattle.span_report.specs.Series.{pedigree_of, Begins, IsEvent, IsOf, IsMeet, IsAwaited, Own, Looped, Synced, IsReady}
+use Rattle.span_report.specs.Series.{pedigree_of, Begins, IsEvent, IsOf, IsMeet, PrecedesAtMeet, Own, Looped, Synced, IsReady}
 use Rattle.span_report.proofs.LongestChains.Chains.{IsPending, HasSynced}
 use Rattle.span_report.specs.Nested.{Instance}
 use Rattle.span_report.proofs.Nested.Clear.{IsClear}
@@ -21,7 +21,7 @@ abbrev pub Between : List Event → ℕ → ℕ → ℕ → Type 0
 Between all m n i = (m ≤ i) × (i < n) × (i < length all)
 
 module _ (all : List Event) where
-  awaited-on : (n m : ℕ) (a b meet : List ℕ) → n ≤ m → IsAwaited all n a b meet → IsAwaited all m a b meet
+  awaited-on : (n m : ℕ) (a b meet : List ℕ) → n ≤ m → PrecedesAtMeet all n a b meet → PrecedesAtMeet all m a b meet
   awaited-on n m a b meet l (Own e) = Own e
   awaited-on n m a b meet l (Looped c j h p out) = Looped c j h p out
   awaited-on n m a b meet l (Synced c s j at h p k d q) = Synced c s j at h p k d (omega (arith, l, q))
@@ -30,12 +30,12 @@ module _ (all : List Event) where
   pub ready-on : (i n m : ℕ) (to : List ℕ) → n ≤ m → IsReady all i n to → IsReady all i m to
   ready-on i n m to l r = record { earlier = (let h = r.earlier in omega (arith, l, h)); e = r.e; own = r.own; meet = r.meet; placed = r.placed; parting = r.parting; awaited = awaited-on n m r.own to r.meet l r.awaited }
 
-  awaited-back : (n m : ℕ) (a b meet : List ℕ) → ((s : ℕ) (at : List ℕ) → n ≤ s → s < m → IsOf all meet s (event.Sync at) → ⊥) → IsAwaited all m a b meet → IsAwaited all n a b meet
+  awaited-back : (n m : ℕ) (a b meet : List ℕ) → ((s : ℕ) (at : List ℕ) → n ≤ s → s < m → IsOf all meet s (event.Sync at) → ⊥) → PrecedesAtMeet all m a b meet → PrecedesAtMeet all n a b meet
   awaited-back n m a b meet never (Own e) = Own e
   awaited-back n m a b meet never (Looped c j h p out) = Looped c j h p out
   awaited-back n m a b meet never (Synced c s j at h p k l q) = from (split-at s n)
     where
-      from : (s < n) ⊎ (n ≤ s) → IsAwaited all n a b meet
+      from : (s < n) ⊎ (n ≤ s) → PrecedesAtMeet all n a b meet
       from (inl d) = Synced c s j at h p k l d
       from (inr d) = absurd (never s at d q k)
 
@@ -44,9 +44,9 @@ module _ (all : List Event) where
   ready-back i n m to quiet h r = record { earlier = h; e = r.e; own = r.own; meet = r.meet; placed = r.placed; parting = r.parting; awaited = awaited-back n m r.own to r.meet (λ s at l q k. quiet s r.meet (event.Sync at) l q k r.parting.second) r.awaited }
 
   -- where two instances are known to part
-  awaited-at : (i m : ℕ) (own to meet : List ℕ) (e : Event) → IsOf all own i e → IsMeet all own to meet → IsReady all i m to → IsAwaited all m own to meet
+  awaited-at : (i m : ℕ) (own to meet : List ℕ) (e : Event) → IsOf all own i e → IsMeet all own to meet → IsReady all i m to → PrecedesAtMeet all m own to meet
   awaited-at i m own to meet e h p r =
-      subst (λ (k : List ℕ). IsAwaited all m own to k) (meet-unique all own to r.meet meet (subst (λ (k : List ℕ). IsMeet all k to r.meet) same r.parting) p) (subst (λ (k : List ℕ). IsAwaited all m k to r.meet) same r.awaited)
+      subst (λ (k : List ℕ). PrecedesAtMeet all m own to k) (meet-unique all own to r.meet meet (subst (λ (k : List ℕ). IsMeet all k to r.meet) same r.parting) p) (subst (λ (k : List ℕ). PrecedesAtMeet all m k to r.meet) same r.awaited)
     where
       same : r.own ≡ own
       same = of-unique all i r.own own r.e e r.placed h

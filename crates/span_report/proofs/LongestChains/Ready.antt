@@ -3,7 +3,7 @@ use Rattle.std.proofs.Common.{◌≡◌, ◌≤◌, ◌<◌, ◌+◌, ◌⊎◌,
 use Rattle.std.proofs.lemmas.Bool.Decides.{nat_tests}
 use Rattle.serial_meaning.specs.declared.event.Event.{Event}
 use Rattle.serial_meaning.specs.declared.event.Event.TheVariants as event
-use Rattle.span_report.specs.Series.{Begins, BeginsProperly, IsInstance, IsOf, IsMeet, IsAwaited, Own, Looped, Synced, IsReady}
+use Rattle.span_report.specs.Series.{Begins, BeginsProperly, IsInstance, IsOf, IsMeet, PrecedesAtMeet, Own, Looped, Synced, IsReady}
 use Rattle.span_report.proofs.LongestChains.Chains.{IsPending, HasSynced}
 use Rattle.span_report.proofs.Belonging.Homes.{begins-begins, fronts, get-contained, event-unique, of-unique, meet-below, IsPresent}
 
@@ -33,7 +33,7 @@ short-front front home r more own b c never = by (nat_lt (length home) (length f
 
 module _ (all : List Event) where
   -- What is so at a number is so later.
-  awaited-later : (n : ℕ) (a b meet : List ℕ) → IsAwaited all n a b meet → IsAwaited all (n + 1) a b meet
+  awaited-later : (n : ℕ) (a b meet : List ℕ) → PrecedesAtMeet all n a b meet → PrecedesAtMeet all (n + 1) a b meet
   awaited-later n a b meet (Own e) = Own e
   awaited-later n a b meet (Looped c j h p out) = Looped c j h p out
   awaited-later n a b meet (Synced c s j at h p k l m) = Synced c s j at h p k l (omega (arith, m))
@@ -54,12 +54,12 @@ module _ (all : List Event) where
   }
 
   -- The same as before number n, unless that is the number of a sync of the instance where the two part.
-  pub earlier-awaited : (n : ℕ) (a b meet : List ℕ) → ((at : List ℕ) → IsOf all meet n (event.Sync at) → ⊥) → IsAwaited all (n + 1) a b meet → IsAwaited all n a b meet
+  pub earlier-awaited : (n : ℕ) (a b meet : List ℕ) → ((at : List ℕ) → IsOf all meet n (event.Sync at) → ⊥) → PrecedesAtMeet all (n + 1) a b meet → PrecedesAtMeet all n a b meet
   earlier-awaited n a b meet never (Own e) = Own e
   earlier-awaited n a b meet never (Looped c j h p out) = Looped c j h p out
   earlier-awaited n a b meet never (Synced c s j at h p k l m) = from (below-or s n m)
     where
-      from : (s < n) ⊎ (s ≡ n) → IsAwaited all n a b meet
+      from : (s < n) ⊎ (s ≡ n) → PrecedesAtMeet all n a b meet
       from (inl g) = Synced c s j at h p k l g
       from (inr g) = absurd (never at (subst (λ (i : ℕ). IsOf all meet i (event.Sync at)) g k))
 
@@ -99,7 +99,7 @@ module _ (all : List Event) where
       IsReady all i n home ⊎ (IsPending all m n home i ⊎ (i ≡ n))
   ready-synced i m n home at h past r = from (below-or i n r.earlier)
     where
-      known : IsAwaited all n r.own home r.meet → i < n → IsReady all i n home
+      known : PrecedesAtMeet all n r.own home r.meet → i < n → IsReady all i n home
       known a g = record { earlier = g; e = r.e; own = r.own; meet = r.meet; placed = r.placed; parting = r.parting; awaited = a }
 
       -- a child that was spawned before the last sync
@@ -117,7 +117,7 @@ module _ (all : List Event) where
       by_sync c j k b e l g false q = let s : m ≤ c = grind (arith, nat_tests) in
           inr (inl (record { earlier = g; e = r.e; own = r.own; placed = r.placed; by = c; child = j; spawn = subst (λ (p : List ℕ). IsOf all p c (event.Spawn j)) e k; since = s; before = l; below = b }))
 
-      old : i < n → IsAwaited all (n + 1) r.own home r.meet → IsReady all i n home ⊎ (IsPending all m n home i ⊎ (i ≡ n))
+      old : i < n → PrecedesAtMeet all (n + 1) r.own home r.meet → IsReady all i n home ⊎ (IsPending all m n home i ⊎ (i ≡ n))
       old g (Own e) = inl (known (Own e) g)
       old g (Looped c j k p out) = inl (known (Looped c j k p out) g)
       old g (Synced c s j to k b f l q) = at_sync (below-or s n q)
@@ -154,7 +154,7 @@ module _ (all : List Event) where
           longest = λ other k b c. x.parting.longest other k b (begins-begins other home (path ++ r ∷ more) c home-below);
         }
 
-        waits : IsAwaited all n x.own (path ++ r ∷ more) x.meet → IsAwaited all n x.own home x.meet
+        waits : PrecedesAtMeet all n x.own (path ++ r ∷ more) x.meet → PrecedesAtMeet all n x.own home x.meet
         waits (Own e) = Own e
         waits (Looped c j h p out) = Looped c j h p (λ b. out (begins-begins j home (path ++ r ∷ more) b home-below))
         waits (Synced c s j at h p k l m) = Synced c s j at h p k l m
@@ -170,7 +170,7 @@ module _ (all : List Event) where
           longest = λ other k b c. (let d = front-path x.own x.e x.placed other b c in x.parting.longest other k b (front-home other d (longest other k d)));
         }
 
-        waits : IsAwaited all n x.own home x.meet → IsAwaited all n x.own (path ++ r ∷ more) x.meet
+        waits : PrecedesAtMeet all n x.own home x.meet → PrecedesAtMeet all n x.own (path ++ r ∷ more) x.meet
         waits (Own e) = Own e
         waits (Looped c j h p out) =
             Looped c j h p (λ b. (let d = front-path x.own x.e x.placed j (properly-begins j x.own x.own p ([], sym (append-nil x.own))) b in out (front-home j d (here.clear (event.Loop j) j (get-contained all c (event.Loop j) h.numbered) refl d))))

@@ -7,7 +7,7 @@ use Rattle.serial_meaning.specs.declared.event.Event.{Event}
 use Rattle.serial_meaning.specs.declared.event.Event.TheVariants as event
 use Rattle.serial_meaning.specs.declared.value.Value.{Value}
 use Rattle.span_report.specs.Series.{pedigree_of}
-use Rattle.span_report.specs.Nested.{IsStep, Draw, New, Sync, Whose, Instance, Iterations, IsNested}
+use Rattle.span_report.specs.Nested.{RaisesWithoutChild, Draw, New, Sync, Whose, Instance, Iterations, IsNested}
 use Rattle.span_report.specs.Nested as of
 
 -- an event that raises the rank of the strand with this pedigree
@@ -21,7 +21,7 @@ NotAt j e = Raises e j → ⊥
 pub data IsClear (all : List Event) : Whose → List ℕ → ℕ → List Event → Type 0 where
   Ends : (whose : Whose) (path : List ℕ) (rank : ℕ) → IsClear all whose path rank []
   Prints : (home path : List ℕ) (rank : ℕ) (v : Value) (es : List Event) → IsClear all (Instance home) path rank es → IsClear all (Instance home) path rank (event.Print (path ++ rank ∷ []) v ∷ es)
-  Steps : (home path : List ℕ) (rank : ℕ) (e : Event) (es : List Event) → IsStep (path ++ rank ∷ []) e → IsClear all (Instance home) path (rank + 1) es → IsClear all (Instance home) path rank (e ∷ es)
+  Steps : (home path : List ℕ) (rank : ℕ) (e : Event) (es : List Event) → RaisesWithoutChild (path ++ rank ∷ []) e → IsClear all (Instance home) path (rank + 1) es → IsClear all (Instance home) path rank (e ∷ es)
   Spawns : (home path : List ℕ) (rank : ℕ) (child es : List Event) → IsClear all (Instance (path ++ rank ∷ [])) (path ++ rank ∷ []) 0 child → IsClear all (Instance home) path (rank + 1) es →
       IsClear all (Instance home) path rank (event.Spawn (path ++ rank ∷ []) ∷ (child ++ es))
   Loops : (home path : List ℕ) (rank : ℕ) (inner es : List Event) → IsClear all Iterations (path ++ rank ∷ []) 0 inner → IsClear all (Instance home) path (rank + 1) es →
@@ -52,7 +52,7 @@ raises-at e j = by e
 pub too-long : (path : List ℕ) (r : ℕ) (more : List ℕ) → path ≡ path ++ r ∷ more → ⊥
 too-long path r more e = let l : length path ≡ length (path ++ r ∷ more) = ap (λ (p : List ℕ). length p) e in absurd (omega (arith, l, length-append path (r ∷ more)))
 
-pub step-at : (j : List ℕ) (e : Event) → IsStep j e → pedigree_of e ≡ j
+pub step-at : (j : List ℕ) (e : Event) → RaisesWithoutChild j e → pedigree_of e ≡ j
 step-at j e (Draw i n) = refl
 step-at j e (New i) = refl
 step-at j e (Sync i) = refl

@@ -2,25 +2,64 @@
 use denote.Param.Send.{IsSend, view_send, sendable}
 use denote.Param.SendFields.{declared_send, variants_send}
 use Rattle.script_grammar.proofs.items.Items.TheSendSync as items_shared
+use Rattle.script_grammar.proofs.tree.Name.TheSendSync as name_shared
+use Rattle.script_grammar.specs.contracts.tree.Name as name
 use Rattle.serial_meaning.proofs.CodeLemmas.Shares.{answer_sends}
+use Rattle.serial_meaning.proofs.answer.Outcome.TheSendSync as outcome_shared
+use Rattle.serial_meaning.proofs.event.Fault.TheSendSync as fault_shared
+use Rattle.serial_meaning.proofs.origin.Origin.TheSendSync as origin_shared
+use Rattle.serial_meaning.proofs.out.Out.TheSendSync as out_shared
 use Rattle.serial_meaning.proofs.value.Value.TheSendSync as value_shared
+use Rattle.serial_meaning.specs.contracts.event.Fault as fault
+use Rattle.serial_meaning.specs.contracts.origin.Origin as origin
 use Rattle.serial_meaning.specs.contracts.value.Value as value
-use Rattle.std.proofs.Crossing.{Box-send}
+use Rattle.std.proofs.Crossing.{Box-send, Vec-send}
+use Rattle.std.specs.contracts.option.Option as option
 use Rattle.strand_family.proofs.Shares.{family_sends, give_sends}
-use Rattle.strand_machine.proofs.trace.Trace.TheSendSync as trace_shared
-use Rattle.strand_machine.proofs.work.Work.TheSendSync as work_shared
+use Rattle.strand_machine.proofs.work.Left.TheSendSync as left_shared
 use Rattle.strand_machine.specs.contracts.body.Body as body
+use Rattle.strand_machine.specs.contracts.destination.Destination as place
 use Rattle.strand_machine.specs.contracts.parts.Parts as parts
 use Rattle.strand_machine.specs.contracts.stop.Resumed as resumed
 use Rattle.strand_machine.specs.contracts.stop.Stop as stop
 use Rattle.strand_machine.specs.contracts.task.Task as task
 use Rattle.strand_machine.specs.contracts.task.Task.TheInside as task_inside
+use Rattle.strand_machine.specs.contracts.trace.Behind as behind
+use Rattle.strand_machine.specs.contracts.trace.Trace as trace
+use Rattle.strand_machine.specs.contracts.trace.Trace.TheInside as trace_inside
+use Rattle.strand_machine.specs.contracts.work.InstanceState as stage
+use Rattle.strand_machine.specs.contracts.work.Work as work
+use Rattle.strand_moves.proofs.Shares.{instance_sends, maybe_target_sends}
+
+place_sends : IsSend place.the_row
+place_sends = variants_send place.enum
+    ((search sendable, (maybe_target_sends, tt)), ((variants_send (option.enum name.the_row) (tt, ((name_shared.the_send, tt), tt)), tt), (tt, tt)))
+
+behind_sends : IsSend behind.the_row
+behind_sends = declared_send behind.the_type (place_sends, (out_shared.the_send, tt))
+
+fault_sends : IsSend (option.the_row fault.the_row)
+fault_sends = variants_send (option.enum fault.the_row) (tt, ((fault_shared.the_send, tt), tt))
+
+trace_inside_sends : IsSend trace_inside.the_row
+trace_inside_sends = declared_send trace_inside.the_type
+    (out_shared.the_send, (fault_sends, (items_shared.the_send origin.the_row origin_shared.the_send, (Vec-send behind.the_row behind_sends, tt))))
+
+trace_sends : IsSend trace.the_row
+trace_sends = view_send trace_inside.the_row _ _ _ _ trace_inside_sends
+
+stage_sends : IsSend stage.the_row
+stage_sends = variants_send stage.enum
+    ((instance_sends, tt), ((instance_sends, tt), ((instance_sends, tt), ((value_shared.the_send, tt), ((fault_shared.the_send, tt), ((fault_shared.the_send, tt), tt))))))
+
+work_sends : IsSend work.the_row
+work_sends = variants_send work.enum ((left_shared.the_send, tt), ((stage_sends, tt), ((value_shared.the_send, (search sendable, tt)), ((outcome_shared.the_send, tt), tt))))
 
 body_sends : IsSend body.the_row
-body_sends = declared_send body.the_type (family_sends, (trace_shared.the_send, (items_shared.the_send value.the_row value_shared.the_send, (search sendable, (search sendable, tt)))))
+body_sends = declared_send body.the_type (family_sends, (trace_sends, (items_shared.the_send value.the_row value_shared.the_send, (search sendable, (search sendable, tt)))))
 
 parts_sends : IsSend parts.the_row
-parts_sends = declared_send parts.the_type (body_sends, (work_shared.the_send, tt))
+parts_sends = declared_send parts.the_type (body_sends, (work_sends, tt))
 
 task_inside_sends : IsSend task_inside.the_row
 task_inside_sends = declared_send task_inside.the_type (Box-send parts.the_row parts_sends, tt)

@@ -1,5 +1,5 @@
 -- What a task is after a move of its instance, by what the move showed.
-use Rattle.std.proofs.Common.{◌≡◌, ◌<◌, ℕ, suc, true, false, List, [], ◌∷◌, ◌++◌, None, Result, Ok, Err, length, replicate, refl, sym, ap, ◌∙◌, subst}
+use Rattle.std.proofs.Common.{◌≡◌, ◌⊎◌, inl, inr, ◌<◌, ℕ, suc, true, false, List, [], ◌∷◌, ◌++◌, None, Result, Ok, Err, length, replicate, refl, sym, ap, ◌∙◌, subst}
 use Rattle.std.specs.Prelude.{IfOk}
 use Rattle.serial_meaning.specs.Eval.{path_of}
 use Rattle.serial_meaning.specs.Laws.{IsOriginOf}
@@ -16,7 +16,7 @@ use Rattle.strand_meaning.specs.Task as meaning
 use Rattle.strand_meaning.specs.Task.{IsNext, Now, Later, own_instance, stops_at, child_in}
 use Rattle.strand_moves.specs.Machines as moves
 use Rattle.strand_moves.specs.Moves.{IsTrailOf, MovesTrail, ShowsTrail, effects_of, run_of}
-use Rattle.strand_moves.specs.Rows.{Row, Still, More}
+use Rattle.strand_moves.specs.Rows.{Row, Still, More, Emits}
 use Rattle.strand_moves.specs.declared.instance.Instance.{Instance as RawInstance}
 use Rattle.strand_moves.specs.declared.running.Running.{Running}
 use Rattle.strand_moves.specs.declared.effects.LoopedChild.{LoopedChild}
@@ -79,7 +79,10 @@ module _ (b : Body) (i : RawInstance) where
   abbrev goes : Work
   goes = work.Runs (stage.Running i)
 
-  -- nothing
+  -- nothing, or where a scope begins or has ended
+
+  abbrev pub IsQuiet : Effects → Type 0
+  IsQuiet s = (s ≡ shown-in.Nothing) ⊎ (((j : List ℕ) × s ≡ shown-in.Opened j) ⊎ ((j : List ℕ) × s ≡ shown-in.Closed j))
 
   pub nothing-sound : (s : Effects) → s ≡ shown-in.Nothing → IsSoundShown b i s → IsSound (gone b) goes
   nothing-sound s is h = let k : IsSoundShown b i shown-in.Nothing = subst (IsSoundShown b i) is h in record { task = k.task; family = k.family; works = k.runs }
@@ -88,19 +91,15 @@ module _ (b : Body) (i : RawInstance) where
       step_of r ≡ stops_at (child_in (effects_of s)) (shown_task b i s)
   nothing-step s r is h = rw (h, is) refl
 
-  -- where a scope begins or has ended
+  pub quiet-sound : (s : Effects) → IsQuiet s → IsSoundShown b i s → IsSound (gone b) goes
+  quiet-sound s (inl is) h = nothing-sound s is h
+  quiet-sound s (inr (inl (j, is))) h = let k : IsSoundShown b i (shown-in.Opened j) = subst (IsSoundShown b i) is h in record { task = k.task; family = k.family; works = k.runs }
+  quiet-sound s (inr (inr (j, is))) h = let k : IsSoundShown b i (shown-in.Closed j) = subst (IsSoundShown b i) is h in record { task = k.task; family = k.family; works = k.runs }
 
-  pub opened-sound : (s : Effects) (j : List ℕ) → s ≡ shown-in.Opened j → IsSoundShown b i s → IsSound (gone b) goes
-  opened-sound s j is h = let k : IsSoundShown b i (shown-in.Opened j) = subst (IsSoundShown b i) is h in record { task = k.task; family = k.family; works = k.runs }
-
-  pub opened-step : (s : Effects) (j : List ℕ) (r : MadeStep) → s ≡ shown-in.Opened j → r ≡ step-in.Passes (view_of (gone b) goes) → step_of r ≡ stops_at (child_in (effects_of s)) (shown_task b i s)
-  opened-step s j r is h = rw (h, is) refl
-
-  pub closed-sound : (s : Effects) (j : List ℕ) → s ≡ shown-in.Closed j → IsSoundShown b i s → IsSound (gone b) goes
-  closed-sound s j is h = let k : IsSoundShown b i (shown-in.Closed j) = subst (IsSoundShown b i) is h in record { task = k.task; family = k.family; works = k.runs }
-
-  pub closed-step : (s : Effects) (j : List ℕ) (r : MadeStep) → s ≡ shown-in.Closed j → r ≡ step-in.Passes (view_of (gone b) goes) → step_of r ≡ stops_at (child_in (effects_of s)) (shown_task b i s)
-  closed-step s j r is h = rw (h, is) refl
+  pub quiet-step : (s : Effects) (r : MadeStep) → IsQuiet s → r ≡ step-in.Passes (view_of (gone b) goes) → step_of r ≡ stops_at (child_in (effects_of s)) (shown_task b i s)
+  quiet-step s r (inl is) h = nothing-step s r is h
+  quiet-step s r (inr (inl (j, is))) h = rw (h, is) refl
+  quiet-step s r (inr (inr (j, is))) h = rw (h, is) refl
 
   -- an event
 
@@ -321,7 +320,7 @@ module _ (first : TaskView) (b : Body) (i : RawInstance) (h : IsOnRun first b i)
   run-is-ok f (Ok x) k = run-is (f x) k
   run-is-ok f (Err x) k = tt
 
--- Moves in a row that show nothing
+-- Moves in a row that show nothing, or an event alone
 
 -- the instance with this in its box
 abbrev pub holding : RawInstance → Running → RawInstance
@@ -367,19 +366,26 @@ module _ (b : Body) (i : RawInstance) where
         };
       }
 
-module _ (law : StepsAreSound) (fall : MovesFall) (plan : PlanView) (first : TaskView) (b : Body) (i : RawInstance) (p : plan ≡ b.family.plan) (h : IsOnRun first (gone b) i) where
-  row-on : (now : Running) → Row plan i.running.value now → IsOnRun first (gone b) (holding i now)
-  row-on now (Still _ e) = subst (λ (r : Running). IsOnRun first (gone b) (holding i r)) (sym e) h
-  row-on now (More before _ row e path sound) =
-      let k = row-on before row in
-      still-on (gone b) (holding i before) (holding i now) plan (moved-in.Went shown-in.Nothing) p e k.sound law fall first k.leads shown-in.Nothing refl refl path sound tt
+abbrev after : Event → Trace → Trace
+after e trace = emit e trace
 
--- where the moves in a row that show nothing came to, before the last one
-pub row-run : StepsAreSound → MovesFall → (plan : PlanView) (b : Body) (i : RawInstance) → plan ≡ b.family.plan → IsSound b (work.Runs (stage.Running i)) → (now : Running) → Row plan i.running.value now →
-    IsOnRun (view_of b (work.Runs (stage.Running i))) (gone b) (holding i now)
-row-run law fall plan b i p sound now row =
+module _ (law : StepsAreSound) (fall : MovesFall) (plan : PlanView) (first : TaskView) (b : Body) (i : RawInstance) (p : plan ≡ b.family.plan) (h : IsOnRun first (gone b) i) where
+  row-on : (now : Running) (trace : Trace) → Row after plan i.running.value b.trace now trace → IsOnRun first (gone (with_trace b trace)) (holding i now)
+  row-on now trace (Still _ _ e q) =
+      subst (λ (x : Trace). IsOnRun first (gone (with_trace b x)) (holding i now)) (sym q) (subst (λ (r : Running). IsOnRun first (gone b) (holding i r)) (sym e) h)
+  row-on now trace (More before _ _ row e path sound) =
+      let k = row-on before trace row in
+      still-on (gone (with_trace b trace)) (holding i before) (holding i now) plan (moved-in.Went shown-in.Nothing) p e k.sound law fall first k.leads shown-in.Nothing refl refl path sound tt
+  row-on now trace (Emits before _ heard _ t row e q path sound) =
+      let k = row-on before heard row in
+      tells-on (gone (with_trace b heard)) (holding i before) (holding i now) plan (moved-in.Went (shown-in.Emitted t)) p e k.sound law fall first k.leads (shown-in.Emitted t) t trace refl refl q path sound tt
+
+-- where the moves in a row came to, before the last one
+pub row-run : StepsAreSound → MovesFall → (plan : PlanView) (b : Body) (i : RawInstance) → plan ≡ b.family.plan → IsSound b (work.Runs (stage.Running i)) → (now : Running) (trace : Trace) → Row after plan i.running.value b.trace now trace →
+    IsOnRun (view_of b (work.Runs (stage.Running i))) (gone (with_trace b trace)) (holding i now)
+row-run law fall plan b i p sound now trace row =
     let first = view_of b (work.Runs (stage.Running i)) in
-    row-on law fall plan first b i p (gone-run b i first (record { sound = sound; leads = leads-start first refl })) now row
+    row-on law fall plan first b i p (gone-run b i first (record { sound = sound; leads = leads-start first refl })) now trace row
 
 pub on-run-over : (first : TaskView) (b c : Body) (i j : RawInstance) → IsOnRun first b i → IsOnRun (view_of b (work.Runs (stage.Running i))) c j → IsOnRun first c j
 on-run-over first b c i j h k = record { sound = k.sound; leads = leads-over first _ _ h.leads k.leads }

@@ -22,7 +22,7 @@ use Rattle.strand_meaning.specs.StrandLaws.{IsWholeUpTo, fault_at, strand_in}
 use Rattle.strand_meaning.proofs.SoundSteps.Depth.{loop-of-plan, same-answer}
 use Rattle.strand_meaning.proofs.SoundSteps.Loops.{contains-turn}
 use Rattle.strand_meaning.proofs.Unfilled.Variables.{same-name, is-itself}
-use Rattle.strand_meaning.proofs.ElisionsStrands.ItemsRise.{NotBelow, IsWhole, ItemsRise, items-rise}
+use Rattle.strand_meaning.proofs.ElisionsStrands.ItemsRise.{NotBelow, IsWholeLoop, ItemsRise, items-rise}
 use Rattle.strand_meaning.proofs.ElisionsStrands.Passing.{Agree, agree, own-strand}
 use Rattle.strand_meaning.proofs.ElisionsStrands.Under.{children-under}
 
@@ -72,7 +72,7 @@ none-below j (Closed k ∷ is) e = none-below j is e
 record OnWay (j : List ℕ) (is : List Item) (c : Origin) : Type 0 where
   among : Contains is (Child c)
   below : is_below (path_of c) j ≡ true
-  whole : IsWhole c
+  whole : IsWholeLoop c
 
 later-one : (i : Item) (is : List Item) (c : Origin) → Contains is (Child c) → Contains (i ∷ is) (Child c)
 later-one i is c k = (suc k.0, omega (arith, k.1), k.2)

@@ -24,9 +24,9 @@ use Rattle.serial_meaning.specs.declared.origin.Origin.TheVariants as origin
 use Rattle.strand_meaning.specs.Strands.{pedigree_of}
 
 -- a loop that is handed out from its first iteration on
-abbrev pub IsWhole : Origin → Type 0
-IsWhole (origin.Instance function args path) = Unit {0}
-IsWhole (origin.Loop function rest first path range) = range.lo ≡ 0
+abbrev pub IsWholeLoop : Origin → Type 0
+IsWholeLoop (origin.Instance function args path) = Unit {0}
+IsWholeLoop (origin.Loop function rest first path range) = range.lo ≡ 0
 
 -- it doesn't go on from the path
 abbrev pub NotBelow : List ℕ → List ℕ → Type 0
@@ -51,7 +51,7 @@ ClearOf j (Closed k ∷ is) = ClearOf j is
 abbrev pub ItemsRise : List Item → Type 0
 ItemsRise [] = Unit {0}
 ItemsRise (Happened e ∷ is) = ClearOf (pedigree_of e) is × ItemsRise is
-ItemsRise (Child o ∷ is) = RightOf (path_of o) is × IsWhole o × ItemsRise is
+ItemsRise (Child o ∷ is) = RightOf (path_of o) is × IsWholeLoop o × ItemsRise is
 ItemsRise (Opened k ∷ is) = ItemsRise is
 ItemsRise (Closed k ∷ is) = ItemsRise is
 
@@ -135,14 +135,14 @@ rise-append path lo mid hi (Child o ∷ xs) ys p q r t =
 rise-append path lo mid hi (Opened k ∷ xs) ys p q r t = rise-append path lo mid hi xs ys p q r t
 rise-append path lo mid hi (Closed k ∷ xs) ys p q r t = rise-append path lo mid hi xs ys p q r t
 
-abbrev Ends : {A : Type 0} → (A → ℕ) → ℕ → Result A NodeFault → Type 0
-Ends rank hi (Ok a) = hi ≡ rank a
-Ends rank hi (Err e) = Unit {0}
+abbrev EndsAtRank : {A : Type 0} → (A → ℕ) → ℕ → Result A NodeFault → Type 0
+EndsAtRank rank hi (Ok a) = hi ≡ rank a
+EndsAtRank rank hi (Err e) = Unit {0}
 
 record Spread {A : Type 0} (path : List ℕ) (rank : A → ℕ) (lo : ℕ) (r : Run Item NodeFault A) : Type 0 where
   hi : ℕ
   up : lo ≤ hi
-  ends : Ends rank hi r.ending
+  ends : EndsAtRank rank hi r.ending
   placed : Placed path lo hi r.items
   rise : ItemsRise r.items
 
@@ -150,7 +150,7 @@ spread-then : {A B : Type 0} (path : List ℕ) (f-rank : A → ℕ) (g-rank : B 
     Spread path f-rank lo r → ((a : A) → Spread path g-rank (f-rank a) (f a)) → Spread path g-rank lo (r then f)
 spread-then {A = A} {B = B} path f-rank g-rank lo r f h k = from r.items r.ending h.hi h.up h.ends h.placed h.rise
   where
-    from : (items : List Item) (e : Result A NodeFault) (hi : ℕ) → lo ≤ hi → Ends f-rank hi e → Placed path lo hi items → ItemsRise items → Spread path g-rank lo (goes_on items e f)
+    from : (items : List Item) (e : Result A NodeFault) (hi : ℕ) → lo ≤ hi → EndsAtRank f-rank hi e → Placed path lo hi items → ItemsRise items → Spread path g-rank lo (goes_on items e f)
     from items (Err e) hi u n p s = record { hi = hi; up = u; ends = tt; placed = p; rise = s }
     from items (Ok a) hi u n p s = record {
       hi = (k a).hi;
@@ -202,11 +202,11 @@ module _ (plan : PlanView) (child : Origin → Evaluation) where
   quiet : {A : Type 0} (path : List ℕ) (rank : A → ℕ) (lo : ℕ) (a : A) → lo ≡ rank a → Spread path rank lo (done a)
   quiet path rank lo a e = record { hi = lo; up = omega arith; ends = e; placed = tt; rise = tt }
 
-  prefix : {A : Type 0} (path : List ℕ) (rank : A → ℕ) (lo hi : ℕ) (e : Event) (q : Result A NodeFault) → pedigree_of e ≡ path ++ lo ∷ [] → lo ≤ hi → Ends rank hi q → Spread path rank lo (record { items = Happened e ∷ []; ending = q })
+  prefix : {A : Type 0} (path : List ℕ) (rank : A → ℕ) (lo hi : ℕ) (e : Event) (q : Result A NodeFault) → pedigree_of e ≡ path ++ lo ∷ [] → lo ≤ hi → EndsAtRank rank hi q → Spread path rank lo (record { items = Happened e ∷ []; ending = q })
   prefix path rank lo hi e q h up ends = record { hi = hi; up = up; ends = ends; placed = (subst (EventAt path lo hi) (sym h) (event-at path lo hi up), tt); rise = (tt, tt) }
 
   -- an event and the child that it begins
-  begins_child : {A : Type 0} (path : List ℕ) (rank : A → ℕ) (lo : ℕ) (e : Event) (o : Origin) (q : Result A NodeFault) → pedigree_of e ≡ path ++ lo ∷ [] → path_of o ≡ path ++ lo ∷ [] → IsWhole o → Ends rank (lo + 1) q →
+  begins_child : {A : Type 0} (path : List ℕ) (rank : A → ℕ) (lo : ℕ) (e : Event) (o : Origin) (q : Result A NodeFault) → pedigree_of e ≡ path ++ lo ∷ [] → path_of o ≡ path ++ lo ∷ [] → IsWholeLoop o → EndsAtRank rank (lo + 1) q →
       Spread path rank lo (record { items = Happened e ∷ Child o ∷ []; ending = q })
   begins_child path rank lo e o q h g w ends = record {
     hi = lo + 1;
@@ -220,7 +220,7 @@ module _ (plan : PlanView) (child : Origin → Evaluation) where
   sync-spread path s None = prefix path rank_of s.rank (s.rank + 1) (event.Sync (strand path s)) (Ok (record s { rank = s.rank + 1; spawned = None })) refl (omega arith) refl
   sync-spread path s (Some f) = record { hi = s.rank; up = omega arith; ends = tt; placed = (event-at path s.rank s.rank (omega arith), tt); rise = (tt, tt) }
 
-  loop-spread : (path : List ℕ) (b : Bool) (q : Result (List Value) Fault) (o : Origin) (s : S) (target : List Value → Env) → path_of o ≡ path ++ s.rank ∷ [] → IsWhole o →
+  loop-spread : (path : List ℕ) (b : Bool) (q : Result (List Value) Fault) (o : Origin) (s : S) (target : List Value → Env) → path_of o ≡ path ++ s.rank ∷ [] → IsWholeLoop o →
       P path s.rank (behind (Happened (event.Loop (strand path s)) ∷ []) ((if b then done [] else record { items = Child o ∷ []; ending = loop_end q }) then λ ws. done (record s { rank = s.rank + 1; env = target ws })))
   loop-spread path true q o s target h w = prefix path rank_of s.rank (s.rank + 1) (event.Loop (strand path s)) (Ok (record s { rank = s.rank + 1; env = target [] })) refl (omega arith) refl
   loop-spread path false (Ok ws) o s target h w = begins_child path rank_of s.rank (event.Loop (strand path s)) o (Ok (record s { rank = s.rank + 1; env = target ws })) refl h w refl

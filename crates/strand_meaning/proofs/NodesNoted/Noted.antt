@@ -18,7 +18,7 @@ use Rattle.strand_meaning.specs.Rest.{children_of, rest_of_stage, rest_open}
 use Rattle.strand_meaning.specs.Laws.{IsSoundStep, IsOf}
 use Rattle.strand_meaning.specs.Sound.{ArePlaces, AreHalves, IsSoundStage, IsTask}
 use Rattle.strand_meaning.specs.Strands.{joined_fault}
-use Rattle.strand_meaning.specs.Observation.{IsInstance, work_left, Observation, no_notes, newest, also, effect_items, move_fault, stage_notes, step_notes, Shows, Now as ShownNow, Later as ShownLater, own_fault_of, stage_fault, IsOnWay, IsWhole, OnWay}
+use Rattle.strand_meaning.specs.Observation.{IsInstance, work_left, Observation, no_notes, newest, also, effect_items, move_fault, stage_notes, step_notes, Shows, Now as ShownNow, Later as ShownLater, own_fault_of, stage_fault, IsOnWay, IsAllNoted, OnWay}
 use Rattle.strand_meaning.proofs.UnfilledPending.Alike.{alike-effects, alike-takes}
 use Rattle.strand_meaning.proofs.SoundSteps.Closing.{behind-then}
 use Rattle.strand_meaning.proofs.SoundSteps.Ends.{steps_are_sound}
@@ -139,10 +139,10 @@ module _ (plan : PlanView) (o : Origin) (ps : List AwaitedChild) (height : ℕ) 
       by_end (Err x) = refl
 
   -- an end shows no more than the fault of a child
-  whole-ended : (notes : Observation) (e : Result Value NodeFault) → Way plan o ps (Ended e) notes → IsWhole plan o (also notes (stage_notes plan (path_of o) (Ended e)))
+  whole-ended : (notes : Observation) (e : Result Value NodeFault) → Way plan o ps (Ended e) notes → IsAllNoted plan o (also notes (stage_notes plan (path_of o) (Ended e)))
   whole-ended notes e w = by_end e (w.node ∙ ap (behind notes.items) (ended-node e)) w.fault
     where
-      by_end : (e : Result Value NodeFault) → opened plan o ≡ record { items = notes.items ++ []; ending = all_ended e } → notes.fault ≡ own_fault_of e → IsWhole plan o (also notes (stage_notes plan (path_of o) (Ended e)))
+      by_end : (e : Result Value NodeFault) → opened plan o ≡ record { items = notes.items ++ []; ending = all_ended e } → notes.fault ≡ own_fault_of e → IsAllNoted plan o (also notes (stage_notes plan (path_of o) (Ended e)))
       by_end (Ok v) same fault = record {
         items = ap (λ (n : Node). n.items) same;
         fault = ap (λ (n : Node). own_fault_of n.ending) same ∙ sym fault;
@@ -166,7 +166,7 @@ abbrev OnStep : Observation → Task → MoveOrStop → Type 0
 OnStep notes t (Passes next) = IsOnWay notes next
 OnStep notes t (Stops stop) = OnWay notes t stop
 
-ends-whole : (notes : Observation) (t : Task) → IsWhole t.plan t.origin notes → (f : Option Fault) (ended : Outcome) → OnStep notes t (ends_unless f t ended)
+ends-whole : (notes : Observation) (t : Task) → IsAllNoted t.plan t.origin notes → (f : Option Fault) (ended : Outcome) → OnStep notes t (ends_unless f t ended)
 ends-whole notes t h None ended = h
 ends-whole notes t h (Some f) ended = h
 
@@ -226,7 +226,7 @@ module _ (t : Task) (function : ℕ) (args : List Value) (at : List ℕ) where
   waits-on : (stage : InstanceState) (notes : Observation) → IsOnWay notes (with_stage stage) → IsOnWay (also notes no_notes) (record t { origin = own; work = Runs stage; waiting = true; advanced = true })
   waits-on stage notes h = on-way t.trace true stage (also notes no_notes) (subst (Going stage) (sym (also-nothing notes)) (way-of stage notes h))
 
-  ends-so : (e : Result Value NodeFault) (height : ℕ) → ArePlaces height t.trace.handed → (notes : Observation) → IsOnWay notes (with_stage (Ended e)) → IsWhole t.plan own (also notes (stage_notes t.plan at (Ended e)))
+  ends-so : (e : Result Value NodeFault) (height : ℕ) → ArePlaces height t.trace.handed → (notes : Observation) → IsOnWay notes (with_stage (Ended e)) → IsAllNoted t.plan own (also notes (stage_notes t.plan at (Ended e)))
   ends-so e height places notes h = whole-ended t.plan own t.trace.handed height places notes e (way-of (Ended e) notes h)
 
   stage-on : (stage : InstanceState) → IsTask (with_stage stage) → (notes : Observation) → IsOnWay notes (with_stage stage) → OnStep (also notes (step_notes (with_stage stage))) (with_stage stage) (step (with_stage stage))
@@ -261,7 +261,7 @@ on-further : (notes : Observation) (t next : Task) (stop : Stop) → IsOf t next
 on-further notes t next (Spawn child rest) of h = h
 on-further notes t next (Wait rest) of h = h
 on-further notes t next (End out ended) of h =
-    subst (λ (p : PlanView). IsWhole p t.origin notes) of.0 (subst (λ (o : Origin). IsWhole next.plan o notes) of.1 h)
+    subst (λ (p : PlanView). IsAllNoted p t.origin notes) of.0 (subst (λ (o : Origin). IsAllNoted next.plan o notes) of.1 h)
 
 pub notes_go_on : (t : Task) (notes later : Observation) (stop : Stop) → IsTask t → IsInstance t.origin → IsOnWay notes t → Shows t later stop → OnWay (also notes later) t stop
 notes_go_on t notes later stop is inst h (ShownNow e same) =

@@ -37,7 +37,7 @@ use Rattle.strand_meaning.specs.Clear.{pending_right, target_names}
 use Rattle.strand_meaning.specs.Machine.{Destination, Spawned, Looped, Effect, Emitted, Exit, loop_effects, sync_effects, handing, inside, place_of, Level, Frame, Machine, Reached, Stands, Gives, state_of, here_of, with_left, into_level, with_leaving, out_of_level, with_returning, with_scalar, back, spawns_in, calling, entered, reached, gives, value_run, statement_move, return_move, level_move, end_move, move_at, move}
 use Rattle.strand_meaning.specs.Trace.{AwaitedChild}
 use Rattle.strand_meaning.specs.Task.{Running, AtSync, stage_after}
-use Rattle.strand_meaning.specs.Pending.{act_of, Then, Else, Turn, Here, StandsAt, Outside, InScope, judged_by, ArePending, ArePendingStill, IsCall, IsSync, IsPfor}
+use Rattle.strand_meaning.specs.Pending.{act_of, Then, Else, Turn, Here, FrameStandsAt, Outside, InScope, judged_by, ArePending, ArePendingStill, IsCall, IsSync, IsPfor}
 use Rattle.strand_meaning.specs.Sound.{unfilled, any_by, IsSoundStage, ArePendingBelow, ArePendingAtSync, UnfilledArePending}
 use Rattle.strand_meaning.proofs.Unfilled.Shown.{effect_parts, same-number}
 use Rattle.strand_meaning.proofs.Unfilled.Clears.{none-contained, unfilled-append, none-unfilled, none-above}
@@ -482,7 +482,7 @@ module _ (plan : PlanView) (path : List ℕ) (parts : List AwaitedChild) where
     function = p.function;
     of_plan = ap (function_at (functions_of plan)) f ∙ p.of_plan;
     now = p.now;
-    stands = subst (λ (ls : List Level). StandsAt p.function.body ls [] p.now) (sym l) p.stands;
+    stands = subst (λ (ls : List Level). FrameStandsAt p.function.body ls [] p.now) (sym l) p.stands;
     pending = p.pending;
   }
 
@@ -587,7 +587,7 @@ module _ (plan : PlanView) (path : List ℕ) (parts : List AwaitedChild) where
 
       out : m.top.spawned ≡ false → UnfilledArePending plan (parts ++ []) (Running (out_of_level m l ls (record (state_of m) { rank = l.rank + 1 })))
       out g =
-          let s = stands-out (subst (λ (k : List Level). StandsAt top.function.body k [] top.now) open_so top.stands) in
+          let s = stands-out (subst (λ (k : List Level). FrameStandsAt top.function.body k [] top.now) open_so top.stands) in
           no-more (λ ps. UnfilledArePending plan ps (Running (out_of_level m l ls (record (state_of m) { rank = l.rank + 1 })))) (
             record { function = top.function; of_plan = top.of_plan; now = s.0; stands = s.1; pending = λ name h. absurd (none-contained name (subst (λ (names : Names). Contains names name) (none g) h)) },
             pends.1,

@@ -9,7 +9,7 @@ use Rattle.script_check.specs.Names.{nobody, both}
 use Rattle.script_check.specs.Statements.{Judged, judge_act, judge, judge_what, after}
 use Rattle.script_check.proofs.FewerPending.Linear.{loop_closed}
 use Rattle.strand_meaning.specs.Machine.{Level}
-use Rattle.strand_meaning.specs.Pending.{act_of, HasBlock, Then, Else, Turn, ComesTo, Here, Past, Within, StandsAt, Outside, InScope, judged_by, set_at}
+use Rattle.strand_meaning.specs.Pending.{act_of, HasBlock, Then, Else, Turn, ComesTo, Here, Past, Within, FrameStandsAt, Outside, InScope, judged_by, set_at}
 
 or-left : (a b : Bool) → a ≡ true → (a || b) ≡ true
 or-left a b h = ap (λ c. c || b) h
@@ -114,17 +114,17 @@ goes-in {inner = inner} {left = left} {again = again} c (x ∷ xs) b = record { 
 
 pub record StandsOn (body : List Stmt) (levels : List Level) (left : List Stmt) (set : check.Names) : Type 0 where
   pub now : check.Names
-  pub stands : StandsAt body levels left now
+  pub stands : FrameStandsAt body levels left now
   pub all : check.IsWithin set (set_at left now)
 
-pub stands-on : {body left : List Stmt} {levels : List Level} {st : Stmt} {now : check.Names} → StandsAt body levels (st ∷ left) now → StandsOn body levels left ((judge st).after now)
+pub stands-on : {body left : List Stmt} {levels : List Level} {st : Stmt} {now : check.Names} → FrameStandsAt body levels (st ∷ left) now → StandsOn body levels left ((judge st).after now)
 stands-on (Outside c) = let o = goes-on c in record { now = o.now; stands = Outside o.comes; all = o.all }
 stands-on (InScope s e c) = let o = goes-on c in record { now = o.now; stands = InScope s e o.comes; all = o.all }
 
-pub stands-in : {body left again : List Stmt} {levels : List Level} {st : Stmt} {now inner : check.Names} → StandsAt body levels (st ∷ left) now → (block : List Stmt) → HasBlock st now block inner again → StandsOn body levels (block ++ (again ++ left)) inner
+pub stands-in : {body left again : List Stmt} {levels : List Level} {st : Stmt} {now inner : check.Names} → FrameStandsAt body levels (st ∷ left) now → (block : List Stmt) → HasBlock st now block inner again → StandsOn body levels (block ++ (again ++ left)) inner
 stands-in (Outside c) block b = let o = goes-in c block b in record { now = o.now; stands = Outside o.comes; all = o.all }
 stands-in (InScope s e c) block b = let o = goes-in c block b in record { now = o.now; stands = InScope s e o.comes; all = o.all }
 
 -- out of the innermost scope
-pub stands-out : {body left : List Stmt} {level : Level} {levels : List Level} {now : check.Names} → StandsAt body (level ∷ levels) left now → (set : check.Names) × StandsAt body levels level.left set
+pub stands-out : {body left : List Stmt} {level : Level} {levels : List Level} {now : check.Names} → FrameStandsAt body (level ∷ levels) left now → (set : check.Names) × FrameStandsAt body levels level.left set
 stands-out (InScope s e c) = let o = stands-on s in (o.now, o.stands)

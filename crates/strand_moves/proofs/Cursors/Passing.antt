@@ -1,18 +1,24 @@
 -- A cursor that passes a statement, and the move that is then made.
-use Rattle.std.proofs.Common.{◌≡◌, ℕ, ◌+◌, List, [], Option, Some, None, Result, Ok, Err, IfOk, reverse, refl, sym, ap, subst, ◌∙◌}
-use Rattle.script_grammar.specs.declared.tree.Stmt.{Stmt}
+use Rattle.std.proofs.Common.{◌≡◌, ℕ, ◌+◌, List, [], ◌∷◌, Option, Some, None, Result, Ok, Err, IfOk, reverse, refl, sym, ap, subst, ◌∙◌, arith}
+use Rattle.script_grammar.specs.declared.tree.Stmt.{Stmt, out-Stmt}
+use Rattle.script_grammar.specs.declared.tree.Act.{out-Act}
 use Rattle.serial_meaning.specs.Plan.{PlanView}
-use Rattle.strand_meaning.specs.Machine.{Machine, end_move, move, statement_move}
+use Rattle.serial_meaning.specs.declared.event.Event.{Event}
+use Rattle.strand_meaning.specs.Machine.{Emitted, Machine, end_move, move, statement_move}
 use Rattle.strand_moves.specs.declared.frame.Level.{Level}
 use Rattle.strand_moves.specs.declared.cursor.Cursor.{Cursor}
 use Rattle.strand_moves.specs.declared.running.Running.{Running}
 use Rattle.strand_moves.specs.declared.effects.MoveResult.{MoveResult}
+use Rattle.strand_moves.specs.declared.effects.MoveResult.TheVariants as moved
+use Rattle.strand_moves.specs.declared.effects.Effects.TheVariants as shown
+use Rattle.strand_moves.specs.Acts.{Costs, Stays}
 use Rattle.strand_moves.specs.Cursors.{left_of, Passes}
-use Rattle.strand_moves.specs.Moves.{run_of}
-use Rattle.strand_moves.specs.Rows.{Comes, HasPassed, IsNext, Row, RunsOn, unpassed}
-use Rattle.strand_moves.specs.Running.{IsInstance, block_inside, body_of, machine_of, path_of, text_of}
+use Rattle.strand_moves.specs.Moves.{acted, run_of}
+use Rattle.strand_moves.specs.Rows.{Comes, HasPassed, IsNext, More, Row, RunsOn, Emits, unpassed}
+use Rattle.strand_moves.specs.Running.{IsInstance, block_inside, body_of, machine_of, path_of, present_of, text_of}
 use Rattle.strand_moves.proofs.Statements.Going.{moves-on}
-use Rattle.strand_moves.proofs.Statements.QuickLemmas.{cursor-sound, passed-on, with_cursor}
+use Rattle.strand_moves.proofs.Statements.QuickLemmas.{cursor-sound, passed-on, quick-showed, with_cursor}
+use Rattle.strand_moves.proofs.OpenScopes.Keeping.{here-is, same-path, stays-instance}
 
 module _ (plan : PlanView) (i : Running) where
   abbrev with_left : List Stmt → Machine
@@ -49,7 +55,7 @@ module _ (plan : PlanView) (i : Running) where
     passed-has (Some st) sound h = (passed-on plan i _ _ sound h.first, h.behind)
 
 -- where moves in a row came to
-module _ (plan : PlanView) (first now : Running) (next : Option Stmt) (h : Comes plan first now next) where
+module _ {S : Type 0} (after : Event → S → S) (plan : PlanView) (first : Running) (start : S) (now : Running) (sent : S) (next : Option Stmt) (h : Comes after plan first start now sent next) where
   pub comes-sound : IsInstance plan now
   comes-sound = subst (λ (x : Running). IsInstance plan x) (sym h.passed) (passed-sound plan h.before now.top.cursor next h.sound h.at)
 
@@ -59,7 +65,7 @@ module _ (plan : PlanView) (first now : Running) (next : Option Stmt) (h : Comes
   pub comes-path : path_of now ≡ path_of first
   comes-path = ap (λ (x : Running). path_of x) h.passed ∙ h.path
 
-  comes-runs : (m : MoveResult) (new : Running) → move plan (path_of now) (unpassed plan now next) ≡ run_of m (machine_of plan new) → RunsOn plan first m new
+  comes-runs : (m : MoveResult) (new : Running) → move plan (path_of now) (unpassed plan now next) ≡ run_of m (machine_of plan new) → RunsOn after plan first start m new sent
   comes-runs m new e =
       let same : unpassed plan now next ≡ machine_of plan h.before = ap (λ (x : Running). unpassed plan x next) h.passed ∙ passed-machine plan h.before now.top.cursor next h.at in
       let path : path_of now ≡ path_of h.before = ap (λ (x : Running). path_of x) h.passed in
@@ -69,7 +75,7 @@ module _ (plan : PlanView) (first now : Running) (next : Option Stmt) (h : Comes
         last = ap (λ (n : Machine). move plan (path_of h.before) n) (sym same) ∙ ap (λ (p : List ℕ). move plan p (unpassed plan now next)) (sym path) ∙ e;
       }
 
-  pub comes-moved : {E : Type 0} (r : Result MoveResult E) (new : Running) → IfOk r (λ m. move plan (path_of now) (unpassed plan now next) ≡ run_of m (machine_of plan new)) → IfOk r (λ m. RunsOn plan first m new)
+  pub comes-moved : {E : Type 0} (r : Result MoveResult E) (new : Running) → IfOk r (λ m. move plan (path_of now) (unpassed plan now next) ≡ run_of m (machine_of plan new)) → IfOk r (λ m. RunsOn after plan first start m new sent)
   comes-moved (Ok m) new e = comes-runs m new e
   comes-moved (Err e) new h = tt
 
@@ -79,13 +85,61 @@ text-same plan old new function levels =
     ap (λ (ls : List Level). block_inside (body_of plan new.top.function) (reverse ls)) levels ∙ ap (λ (f : ℕ). block_inside (body_of plan f) (reverse old.top.levels.items)) function
 
 -- a statement that was taken back after moves in a row, and that the cursor still stands after
-pub comes-undone : (plan : PlanView) (first i : Running) → Row plan first i → IsInstance plan i → path_of i ≡ path_of first → (st : Stmt) (cursor : Cursor) (n : ℕ) → Passes (text_of plan i.top) i.top.cursor cursor st → n + 1 ≡ i.steps →
-    (last : Running) → last ≡ with_cursor plan i n cursor → Comes plan first (record last { steps = last.steps + 1 }) (Some st)
-comes-undone plan first i row sound path st cursor n passes less last same = subst (λ (x : Running). Comes plan first (record x { steps = x.steps + 1 }) (Some st)) (sym same) (record {
+pub comes-undone : {S : Type 0} (after : Event → S → S) (plan : PlanView) (first : Running) (start : S) (i : Running) (sent : S) → Row after plan first start i sent → IsInstance plan i → path_of i ≡ path_of first → (st : Stmt) (cursor : Cursor) (n : ℕ) → Passes (text_of plan i.top) i.top.cursor cursor st → n + 1 ≡ i.steps →
+    (last : Running) → last ≡ with_cursor plan i n cursor → (heard : S) → heard ≡ sent → Comes after plan first start (record last { steps = last.steps + 1 }) heard (Some st)
+comes-undone {S = S} after plan first start i sent row sound path st cursor n passes less last same heard is = subst (λ (x : Running). Comes after plan first start (record x { steps = x.steps + 1 }) heard (Some st)) (sym same) (record {
   before = i;
-  row = row;
+  row = subst (λ (x : S). Row after plan first start i x) (sym is) row;
   sound = sound;
   path = path;
   passed = ap (λ (k : ℕ). record i { steps = k; top = record i.top { cursor = cursor } }) less;
   at = passes;
 })
+
+-- moves in a row and one more, after which the instance is sound and on its path
+pub record RowOn {S : Type 0} (after : Event → S → S) (plan : PlanView) (first : Running) (start : S) (i new : Running) (heard : S) : Type 0 where
+  pub row : Row after plan first start new heard
+  pub sound : IsInstance plan new
+  pub path : path_of new ≡ path_of i
+
+module _ {S : Type 0} (after : Event → S → S) (plan : PlanView) (first : Running) (start : S) (i : Running) (sent : S) (row : Row after plan first start i sent) (sound : IsInstance plan i) (st : Stmt) (cursor : Cursor) (n : ℕ) (passes : Passes (text_of plan i.top) i.top.cursor cursor st) (less : n + 1 ≡ i.steps) where
+  abbrev paid : Running
+  paid = with_cursor plan i n cursor
+
+  sent-on : (new : Running) (heard : S) (e : Event) → heard ≡ after e sent → acted plan (present_of paid) (machine_of plan paid) st (out-Act (out-Stmt st).act) ≡ run_of (moved.Went (shown.Emitted e)) (machine_of plan new) →
+      Stays paid new → Costs paid new → RowOn after plan first start i new heard
+  sent-on new heard e is acts stays few =
+      let alike : Stays i new = record { trail = stays.trail; scopes = stays.scopes; leaving = stays.leaving } in
+      let path = same-path i new alike in
+      let kept = stays-instance plan i new sound (passed-on plan i _ _ sound passes.first) alike (omega (arith, few, less)) in
+      record {
+        row = Emits i new sent heard e row (quick-showed plan i st cursor n (here-is plan i sound) passes less (Emitted e ∷ []) new acts) is path kept;
+        sound = kept;
+        path = path;
+      }
+
+  pub row-sent : (before : Running) → before ≡ paid → (new : Running) (heard : S) (e : Event) → heard ≡ after e sent → acted plan (present_of before) (machine_of plan before) st (out-Act (out-Stmt st).act) ≡ run_of (moved.Went (shown.Emitted e)) (machine_of plan new) →
+      Stays before new → Costs before new → RowOn after plan first start i new heard
+  row-sent before same new heard e is acts stays few =
+      sent-on new heard e is
+      (subst (λ (x : Running). acted plan (present_of x) (machine_of plan x) st (out-Act (out-Stmt st).act) ≡ run_of (moved.Went (shown.Emitted e)) (machine_of plan new)) same acts)
+      (subst (λ (x : Running). Stays x new) same stays) (subst (λ (x : Running). Costs x new) same few)
+
+  called-on : (new : Running) (heard : S) → heard ≡ sent → acted plan (present_of paid) (machine_of plan paid) st (out-Act (out-Stmt st).act) ≡ run_of (moved.Went shown.Nothing) (machine_of plan new) → Stays paid new → Costs paid new →
+      RowOn after plan first start i new heard
+  called-on new heard is acts stays few =
+      let alike : Stays i new = record { trail = stays.trail; scopes = stays.scopes; leaving = stays.leaving } in
+      let path = same-path i new alike in
+      let kept = stays-instance plan i new sound (passed-on plan i _ _ sound passes.first) alike (omega (arith, few, less)) in
+      record {
+        row = More i new heard (subst (λ (x : S). Row after plan first start i x) (sym is) row) (quick-showed plan i st cursor n (here-is plan i sound) passes less [] new acts) path kept;
+        sound = kept;
+        path = path;
+      }
+
+  pub row-called : (before : Running) → before ≡ paid → (new : Running) (heard : S) → heard ≡ sent → acted plan (present_of before) (machine_of plan before) st (out-Act (out-Stmt st).act) ≡ run_of (moved.Went shown.Nothing) (machine_of plan new) →
+      Stays before new → Costs before new → RowOn after plan first start i new heard
+  row-called before same new heard is acts stays few =
+      called-on new heard is
+      (subst (λ (x : Running). acted plan (present_of x) (machine_of plan x) st (out-Act (out-Stmt st).act) ≡ run_of (moved.Went shown.Nothing) (machine_of plan new)) same acts)
+      (subst (λ (x : Running). Stays x new) same stays) (subst (λ (x : Running). Costs x new) same few)

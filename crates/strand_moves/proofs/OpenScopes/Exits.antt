@@ -4,6 +4,7 @@ use Rattle.std.specs.Prelude.{OnErr, OnOk}
 use Rattle.std.specs.Result.{IsErrAnd}
 use Rattle.serial_meaning.specs.Plan.{PlanView}
 use Rattle.serial_meaning.specs.Runs.{Run}
+use Rattle.serial_meaning.specs.declared.event.Event.{Event}
 use Rattle.serial_meaning.specs.declared.event.Fault.{Fault}
 use Rattle.serial_meaning.specs.declared.event.FaultKind.{FaultKind}
 use Rattle.strand_meaning.specs.Machine.{Effect, Machine, Reached}
@@ -14,7 +15,7 @@ use Rattle.strand_moves.specs.declared.effects.MoveResult.{MoveResult}
 use Rattle.strand_moves.specs.declared.running.Running.{Running}
 use Rattle.strand_moves.specs.Acts.{IsKept, Keeps}
 use Rattle.strand_moves.specs.Moves.{Makes, Shows}
-use Rattle.strand_moves.specs.Quick.{quiet}
+use Rattle.strand_moves.specs.Quick.{emitted, quiet}
 use Rattle.strand_moves.proofs.Statements.Equations.{faults, went}
 
 module _ (run : Run Effect Fault Reached) (strand : List ℕ) (m : Machine) where
@@ -37,6 +38,12 @@ module _ (run : Run Effect Fault Reached) (strand : List ℕ) (m : Machine) wher
       ((kind : FaultKind) → defined ≡ Err kind → run ≡ faults kind strand) → Makes run strand m (quiet r)
   quiet-exit (Ok u) h defined e g f = absurd e
   quiet-exit (Err y) h defined e g f = let P : values.Halt → Type 0 = λ z. Makes run strand m (Err z) in subst P (sym e) (shows-halt h defined g f)
+
+  -- the same of a call that shows an event
+  pub emitted-exit : {A : Type 0} (r : Result Event values.Halt) (h : values.Halt) (defined : Result A FaultKind) → IsErrAnd r (λ y. y ≡ h) → Gives (Err h) defined →
+      ((kind : FaultKind) → defined ≡ Err kind → run ≡ faults kind strand) → Makes run strand m (emitted r)
+  emitted-exit (Ok e) h defined x g f = absurd x
+  emitted-exit (Err y) h defined x g f = let P : values.Halt → Type 0 = λ z. Makes run strand m (Err z) in subst P (sym x) (shows-halt h defined g f)
 
   -- by a call that shows these effects
   pub shows-made : {A : Type 0} (effects : List Effect) (r : Result MoveResult values.Halt) → IfOk r (Shows effects) → OnErr r (r ≡ Err halt.Memory) → OnOk r A → (A → run ≡ went effects m) → Makes run strand m r

@@ -1,20 +1,22 @@
--- Moves that show nothing.
+-- Moves that show nothing, or an event alone.
 use Rattle.std.proofs.Common.{◌≡◌, ℕ, suc, ◌+◌, Bool, true, false, List, [], ◌∷◌, Result, Ok, Err, IfOk, refl, sym, ap, subst, ◌∙◌, arith}
+use Rattle.std.specs.Prelude.{OnOk}
 use Rattle.script_grammar.specs.declared.tree.Stmt.{Stmt, out-Stmt}
 use Rattle.script_grammar.specs.declared.tree.Act.{Act, out-Act}
 use Rattle.script_grammar.specs.declared.tree.Act.TheOpen.{Act-F}
 use Rattle.serial_meaning.specs.Plan.{PlanView}
+use Rattle.serial_meaning.specs.declared.event.Event.{Event}
 use Rattle.serial_meaning.specs.declared.event.FaultKind.{FaultKind}
-use Rattle.strand_meaning.specs.Machine.{here_of, move}
+use Rattle.strand_meaning.specs.Machine.{Effect, here_of, move}
 use Rattle.strand_values.specs.declared.halt.Halt as values
 use Rattle.strand_values.specs.declared.halt.Halt.TheVariants as halt
 use Rattle.strand_moves.specs.declared.cursor.Cursor.{Cursor}
 use Rattle.strand_moves.specs.declared.running.Running.{Running}
-use Rattle.strand_moves.specs.Acts.{Acts}
+use Rattle.strand_moves.specs.Acts.{Acts, BeginsOne, Stands}
 use Rattle.strand_moves.specs.Cursors.{IsBehind, left_of, Passes}
 use Rattle.strand_moves.specs.Running.{IsInstance, machine_of, path_of, present_of, text_of}
 use Rattle.strand_moves.specs.Moves.{acted, MovesTrail, strand_of}
-use Rattle.strand_moves.specs.Quick.{IsDone, IsQuiet, IsWent, is_plain, quiet}
+use Rattle.strand_moves.specs.Quick.{HasCalled, HasEmitted, IsDone, IsQuiet, IsEmittedTo, IsWent, emitted, is_plain, is_emitting, quiet}
 use Rattle.strand_moves.proofs.Statements.Equations.{paid-move}
 use Rattle.strand_moves.proofs.Statements.Equations as equations
 use Rattle.strand_moves.proofs.Statements.Going.{moves-on}
@@ -23,6 +25,11 @@ use Rattle.strand_moves.proofs.Statements.Going.{moves-on}
 pub quiet-child : (plan : PlanView) (done : Result (Unit {0}) values.Halt) → IfOk (quiet done) (MovesTrail plan)
 quiet-child plan (Ok u) = tt
 quiet-child plan (Err h) = tt
+
+-- an event is no child
+pub emitted-child : (plan : PlanView) (done : Result Event values.Halt) → IfOk (emitted done) (MovesTrail plan)
+emitted-child plan (Ok e) = tt
+emitted-child plan (Err h) = tt
 
 -- what a call did for a statement, by what it answered
 module _ (st : Stmt) (a : Act-F Act Stmt) (old new : Running) (is : out-Act (out-Stmt st).act ≡ a) where
@@ -63,6 +70,64 @@ module _ (st : Stmt) (a : Act-F Act Stmt) (old new : Running) where
     done-quiet (Ok went) d = quiet-by went d
     done-quiet (Err x) d = tt
 
+-- the same of a call that showed an event, which the sink took
+module _ {S : Type 0} (after : Event → S → S) (plan : PlanView) (st : Stmt) (a : Act-F Act Stmt) (old new : Running) (from to : S) where
+  sent-at : (done : Result Event values.Halt) (sent : Bool) → Acts plan st a old new (emitted done) → ((kind : FaultKind) → done ≡ Err (halt.Fault kind) → new ≡ old) → IsEmittedTo after done from to sent → HasEmitted after plan st a old from new to sent
+  sent-at (Ok e) sent acts same w = subst (HasEmitted after plan st a old from new to) (sym w.0) (e, w.1, acts)
+  sent-at (Err (halt.Fault kind)) sent acts same w =
+      subst (HasEmitted after plan st a old from new to) (sym w.0) (same kind refl, w.1, λ emitting. (record { kind = kind; at = strand_of (present_of old) (machine_of plan old) }, acts))
+  sent-at (Err halt.Memory) sent acts same w = absurd w
+
+  pub sent-is : {E : Type 0} (done : Result Event values.Halt) (r : Result Bool E) → Acts plan st a old new (emitted done) → ((kind : FaultKind) → done ≡ Err (halt.Fault kind) → new ≡ old) → IfOk r (IsEmittedTo after done from to) →
+      IfOk r (HasEmitted after plan st a old from new to)
+  sent-is done (Ok sent) acts same w = sent-at done sent acts same w
+  sent-is done (Err e) acts same w = tt
+
+  -- another act does the same
+  module _ (b : Act-F Act Stmt) (same : acted plan (present_of old) (machine_of plan old) st b ≡ acted plan (present_of old) (machine_of plan old) st a) (kind : is_emitting b ≡ is_emitting a) where
+    alike-by : (sent : Bool) → HasEmitted after plan st a old from new to sent → HasEmitted after plan st b old from new to sent
+    alike-by true h = (h.0, h.1, same ∙ h.2)
+    alike-by false h = (h.0, h.1, λ emitting. let f = h.2 (sym kind ∙ emitting) in (f.0, same ∙ f.1))
+
+    pub sent-alike : {E : Type 0} (r : Result Bool E) → IfOk r (HasEmitted after plan st a old from new to) → IfOk r (HasEmitted after plan st b old from new to)
+    sent-alike (Ok sent) h = alike-by sent h
+    sent-alike (Err e) h = tt
+
+  pub did-emit : (sent : Bool) → sent ≡ true → HasEmitted after plan st a old from new to sent → HasEmitted after plan st a old from new to true
+  did-emit sent e h = subst (HasEmitted after plan st a old from new to) e h
+
+  pub did-not-emit : (sent : Bool) → sent ≡ false → HasEmitted after plan st a old from new to sent → HasEmitted after plan st a old from new to false
+  did-not-emit sent e h = subst (HasEmitted after plan st a old from new to) e h
+
+-- the same of a call
+module _ (plan : PlanView) (st : Stmt) (a : Act-F Act Stmt) (old new : Running) where
+  called-at : (done : Result (Unit {0}) values.Halt) (called : Bool) → Acts plan st a old new (quiet done) → ((kind : FaultKind) → done ≡ Err (halt.Fault kind) → new ≡ old) → Stands old new (quiet done) → OnOk done (BeginsOne old new) →
+      IsWent done called → HasCalled plan st a old new called
+  called-at (Ok u) called acts same stays begins w = subst (HasCalled plan st a old new) (sym w) (acts, stays, begins)
+  called-at (Err (halt.Fault kind)) called acts same stays begins w = subst (HasCalled plan st a old new) (sym w) (same kind refl)
+  called-at (Err halt.Memory) called acts same stays begins w = absurd w
+
+  pub called-is : {E : Type 0} (done : Result (Unit {0}) values.Halt) (r : Result Bool E) → Acts plan st a old new (quiet done) → ((kind : FaultKind) → done ≡ Err (halt.Fault kind) → new ≡ old) → Stands old new (quiet done) → OnOk done (BeginsOne old new) →
+      IfOk r (IsWent done) → IfOk r (HasCalled plan st a old new)
+  called-is done (Ok called) acts same stays begins w = called-at done called acts same stays begins w
+  called-is done (Err e) acts same stays begins w = tt
+
+  -- another act does the same
+  module _ (b : Act-F Act Stmt) (alike : acted plan (present_of old) (machine_of plan old) st b ≡ acted plan (present_of old) (machine_of plan old) st a) where
+    called-by : (called : Bool) → HasCalled plan st a old new called → HasCalled plan st b old new called
+    called-by true h = (alike ∙ h.0, h.1, h.2)
+    called-by false h = h
+
+    pub called-alike : {E : Type 0} (r : Result Bool E) → IfOk r (HasCalled plan st a old new) → IfOk r (HasCalled plan st b old new)
+    called-alike (Ok called) h = called-by called h
+    called-alike (Err e) h = tt
+
+  pub did-call : (called : Bool) → called ≡ true → HasCalled plan st a old new called → HasCalled plan st a old new true
+  did-call called e h = subst (HasCalled plan st a old new) e h
+
+  pub did-not-call : (called : Bool) → called ≡ false → HasCalled plan st a old new called → HasCalled plan st a old new false
+  did-not-call called e h = subst (HasCalled plan st a old new) e h
+
 pub did-quiet : (st : Stmt) (old new : Running) (went : Bool) → went ≡ true → IsQuiet st old new went → IsQuiet st old new true
 did-quiet st old new went e h = subst (IsQuiet st old new) e h
 
@@ -88,6 +153,12 @@ module _ (plan : PlanView) (i : Running) where
     -- a statement that was paid and done
     pub quick-went : (new : Running) → IsQuiet st (with_cursor n cursor) new true → move plan (path_of i) (machine_of plan i) ≡ equations.went [] (machine_of plan new)
     quick-went new acts = passed ∙ acts plan passes.behind
+
+    -- one that showed these effects
+    pub quick-showed : (effects : List Effect) (new : Running) →
+        acted plan (present_of (with_cursor n cursor)) (machine_of plan (with_cursor n cursor)) st (out-Act (out-Stmt st).act) ≡ equations.went effects (machine_of plan new) →
+        move plan (path_of i) (machine_of plan i) ≡ equations.went effects (machine_of plan new)
+    quick-showed effects new acts = passed ∙ acts
 
   -- a statement is left, so the sync at a scope's end isn't after it
   pub passed-on : (st : Stmt) (left : List Stmt) → IsInstance plan i → left_of text i.top.cursor ≡ st ∷ left → i.leaving ≡ false

@@ -100,6 +100,7 @@ fn take_64(rt: &impl Abort, join: &mut Join<Square>)
     }
 }
 
+// Contracts see a give as its tag, so no clause says which gives are alone.
 #[test]
 fn nobody_looks_for_a_give_that_is_alone(rt: HostRuntime) -> Result<(), Memory> {
     let alloc = rt.alloc();
@@ -116,7 +117,9 @@ fn nobody_looks_for_a_give_that_is_alone(rt: HostRuntime) -> Result<(), Memory> 
         Look::NotYet(1),
     );
     assert!(rt; !Join::<Square>::new(alloc)?.hand(alloc, &6)?.is_alone());
-    Give::<Square>::alone(&7).put(square_of(7));
+    let alone = Give::<Square>::alone(&7);
+    assert!(rt; alone.is_alone());
+    alone.put(square_of(7));
     Ok(())
 }
 

@@ -1,7 +1,7 @@
 use Rattle.std.proofs.Common.{◌≡◌, ◌≤◌, ◌+◌, ◌*◌, ◌-◌, ◌/◌, ◌∙◌, length, map, take, drop, ap, refl, subst, sym, arith, length-take, length-drop}
 use Rattle.dotmix.specs.Draws.{dot, mix}
 use Rattle.bulk_draw.specs.Streams.{dots, later, stream}
-use Rattle.bulk_draw.proofs.StreamLemmas.{block_next, block_written, dot-IsResidue, last_block_written, later-none, length-behind, IsBlock}
+use Rattle.bulk_draw.proofs.StreamLemmas.{block_next, block_written, dot-IsResidue, last_block_written, later-none, length-behind, IsStreamBlock}
 use Rattle.bulk_draw.proofs.run.draw_run.Goals as goal
 
 pub loop-block-init : goal.loop-block-init
@@ -15,7 +15,7 @@ pub loop-block-preserved : goal.loop-block-preserved
 loop-block-preserved c =
     let start = c.loop-block.block * 8 in
     let long = length-behind _ _ _ c.at.view_is in
-    let is : IsBlock c.args.gamma.now c.args.at.now c.at.inside.path c.at.inside.rank c.args.rounds start 8 ((c.loop-block.block + 1) * 8) c.loop-block.next c.coeff-step.result c.loop-block.out c.mix_each.new.z = record {
+    let is : IsStreamBlock c.args.gamma.now c.args.at.now c.at.inside.path c.at.inside.rank c.args.rounds start 8 ((c.loop-block.block + 1) * 8) c.loop-block.next c.coeff-step.result c.loop-block.out c.mix_each.new.z = record {
       pedigree = c.at.view_is;
       within = omega arith;
       step_is = rw (sym c.len-2.ensures.length) c.coeff-step.ensures.value;
@@ -39,7 +39,7 @@ returns c =
     let long = length-behind _ _ _ c.at.view_is in
     let room : start ≤ length c.loop-block.out = omega arith in
     let counted : length (take many (drop start c.loop-block.out)) ≡ many = simp (length-take, length-drop) (omega arith) in
-    let is : IsBlock c.args.gamma.now c.args.at.now c.at.inside.path c.at.inside.rank c.args.rounds start many (length c.args.out.now) c.loop-block.next c.coeff-step.result c.loop-block.out c.mix_each-2.new.z = record {
+    let is : IsStreamBlock c.args.gamma.now c.args.at.now c.at.inside.path c.at.inside.rank c.args.rounds start many (length c.args.out.now) c.loop-block.next c.coeff-step.result c.loop-block.out c.mix_each-2.new.z = record {
       pedigree = c.at.view_is;
       within = omega arith;
       step_is = rw (sym c.len-2.ensures.length) c.coeff-step.ensures.value;

@@ -2,7 +2,7 @@ use Rattle.std.proofs.Common.{◌≡◌, ◌<◌, true, false, Some, slice_get, 
 use Rattle.sched_meaning.specs.Simulation.{is_free}
 use Rattle.sched_core.specs.Cores.{worker_of}
 use Rattle.sched_core.specs.Lawful.{has_waiting}
-use Rattle.sched_core.specs.Moves.{Leaves, Parks, TakesJob, WorkerChanges}
+use Rattle.sched_core.specs.Moves.{Leaves, Stalls, TakesJob, WorkerChanges}
 use Rattle.sched_core.proofs.Worked.Lists.{length-set}
 use Rattle.sched_core.proofs.Worked.Placing.{change-at, first-true, get-at, is-below, on-ok}
 use Rattle.sched_core.proofs.Events.Resuming.{stalled-job}
@@ -89,5 +89,5 @@ returns c =
     let still : w < length mid = let l : length mid ≡ length ws = length-set ws w c.leave-job.new.self in let k : w < length ws = is-below is_free refl ws w free in omega arith in
     on-ok c.stall.result
     (λ h. passes-on s c.requires.consistent w c.args.place j mid leaves node found c.requires.root free _ (λ z. (let both : false ≡ true = sym c.if-is_ready.false ∙ c.is_ready.ensures.1 z in absurd (cc)))
-    (change-at w (Parks j) mid c.index_mut-2.result.now c.stall.new.self c.index_mut-2.ensures.value still h) (record { plan = refl; nodes = refl; given = refl; root = refl; runs = refl }))
+    (change-at w (Stalls j) mid c.index_mut-2.result.now c.stall.new.self c.index_mut-2.ensures.value still h) (record { plan = refl; nodes = refl; given = refl; root = refl; runs = refl }))
     c.stall.ensures

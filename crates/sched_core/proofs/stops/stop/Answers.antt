@@ -4,7 +4,7 @@ use Rattle.strand_machine.specs.declared.stop.Stop.TheVariants as stop
 use Rattle.sched_meaning.proofs.OneCore.OneStep.{some-one}
 use Rattle.sched_core.specs.Moves.{CanHear, job}
 use Rattle.sched_core.specs.declared.node.SpawnNode.{SpawnNode}
-use Rattle.sched_core.proofs.Events.Arms.{by-kind, parks-at}
+use Rattle.sched_core.proofs.Events.Arms.{by-kind, stalls-at}
 use Rattle.sched_core.proofs.Worked.Placing.{on-ok}
 use Rattle.sched_core.proofs.stops.stop.Goals as goal
 
@@ -21,7 +21,7 @@ pub returns-in-Wait : goal.returns-in-Wait
 returns-in-Wait c =
     by-kind c.stall.result c.args.w c.args.number c.args.stop (stop.Wait c.in-Wait.rest) c.args.state.now _ c.in-Wait.is
     (on-ok c.stall.result
-    (parks-at c.args.w (job c.in-Wait.rest c.args.number) c.args.state.now _ c.index_mut.result.now c.stall.new.self c.index_mut.ensures.value c.requires.worker refl refl refl refl refl refl)
+    (stalls-at c.args.w (job c.in-Wait.rest c.args.number) c.args.state.now _ c.index_mut.result.now c.stall.new.self c.index_mut.ensures.value c.requires.worker refl refl refl refl refl refl)
     c.stall.ensures)
 
 pub put_answer-requires-clause-number : goal.put_answer-requires-clause-number

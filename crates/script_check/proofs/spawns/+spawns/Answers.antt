@@ -2,7 +2,7 @@ use Rattle.std.proofs.Common.{◌≡◌, ◌-◌, ◌&&◌, false, true, drop, s
 use Rattle.script_grammar.specs.declared.tree.Act.{the_lemmas}
 use Rattle.script_check.specs.Names.{Names, nobody, both, with_name}
 use Rattle.script_check.specs.Statements.{judge, after}
-use Rattle.script_check.specs.Walk.{State, keeps, keeps_all, state_of}
+use Rattle.script_check.specs.Walk.{WalkState, keeps, keeps_all, state_of}
 use Rattle.script_check.proofs.Walk.Collected.{alone, two_sets, kept_more, one_more, all_of_it, keeps_none}
 use Rattle.script_check.proofs.spawns.+spawns.Goals as goal
 
@@ -43,7 +43,7 @@ collect_one-returns-then-first-clause-state t c =
     let b = after c.as_slice-in-If.result.now nobody in
     let s = state_of c.args.scope.now in
     let e : (judge c.args.statement.now).after nobody ≡ both a b = search (rules, the_lemmas) in
-    c.in_ok-second-in-If.ensures.state ∙ ap (λ (t : State). record t { names = both b t.names }) c.in_ok-first-in-If.ensures.state
+    c.in_ok-second-in-If.ensures.state ∙ ap (λ (t : WalkState). record t { names = both b t.names }) c.in_ok-first-in-If.ensures.state
     ∙ ap (λ (p : Names). record s { names = p }) (two_sets a b s.names ∙ ap (λ (f : Names). both f s.names) (sym e))
 
 pub collect_one-returns-else-first-clause-state : goal.collect_one-returns-else-first-clause-state
@@ -52,7 +52,7 @@ collect_one-returns-else-first-clause-state t c =
     let b = after c.as_slice-in-If.result.now nobody in
     let s = state_of c.args.scope.now in
     let e : (judge c.args.statement.now).after nobody ≡ both a b = search (rules, the_lemmas) in
-    c.in_ok-second-in-If.ensures.state ∙ ap (λ (t : State). record t { names = both b t.names }) c.in_ok-first-in-If.ensures.state
+    c.in_ok-second-in-If.ensures.state ∙ ap (λ (t : WalkState). record t { names = both b t.names }) c.in_ok-first-in-If.ensures.state
     ∙ ap (λ (p : Names). record s { names = p }) (two_sets a b s.names ∙ ap (λ (f : Names). both f s.names) (sym e))
 
 pub collect_one-returns-in_ok-spawn_to-in-Let-default-Spawn-clause-state : goal.collect_one-returns-in_ok-spawn_to-in-Let-default-Spawn-clause-state

@@ -6,7 +6,7 @@ use Rattle.script_check.specs.Violations.{noted}
 use Rattle.script_check.specs.Names.{nobody, both}
 use Rattle.script_check.specs.Expressions.{read, wanted}
 use Rattle.script_check.specs.Statements.{place, Judged, judge_what, judge_all, faults_each, after}
-use Rattle.script_check.specs.Walk.{State, keeps_what, keeps_all, state_of}
+use Rattle.script_check.specs.Walk.{WalkState, keeps_what, keeps_all, state_of}
 use Rattle.script_check.proofs.Walk.Behind.{one_behind, one_judged, if_state, if_faults, while_state, while_faults, scope_state, with_known, with_loop_set, behind_by}
 use Rattle.script_check.proofs.FewerPending.Induction.{judge_is, keeps_is, judge_if, keeps_if, judge_while, keeps_while, judge_scope, keeps_scope}
 use Rattle.script_check.proofs.statement.+statements.Goals as goal
@@ -62,8 +62,8 @@ judge_nested-returns-in_ok-judge_block-in-While-clause-found t c in_block =
     let s = state_of c.args.scope.now in
     let m = state_of c.begin_while.new.scope in
     let what : st.act ≡ variant.While c.in-While.e a = search rules in
-    let known : m.known ≡ s.known = ap (λ (t : State). t.known) c.in_ok-begin_while-in-While.ensures in
-    let set : m.names ≡ both s.names (after a s.names) = ap (λ (t : State). t.names) c.in_ok-begin_while-in-While.ensures in
+    let known : m.known ≡ s.known = ap (λ (t : WalkState). t.known) c.in_ok-begin_while-in-While.ensures in
+    let set : m.names ≡ both s.names (after a s.names) = ap (λ (t : WalkState). t.names) c.in_ok-begin_while-in-While.ensures in
     let body : c.judge_block-in-While.new.found ≡ noted c.want-in-While.new.found (faults_each (judge_all a) (place fs true) m.known m.names) = search rules in
     while_faults fs a (read c.in-While.e) s.known m.known s.names m.names c.args.found.now c.want-in-While.new.found c.judge_block-in-While.new.found
     known set c.want-in-While.ensures.found body

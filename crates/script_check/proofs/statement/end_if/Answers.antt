@@ -1,7 +1,7 @@
 use Rattle.std.proofs.Common.{ap, ◌∙◌, ◌&&◌}
 use Rattle.script_check.specs.Names.{Names, nobody, both}
 use Rattle.script_check.specs.Statements.{after}
-use Rattle.script_check.specs.Walk.{State, state_of}
+use Rattle.script_check.specs.Walk.{state_of, WalkState}
 use Rattle.script_check.proofs.Walk.Behind.{if_names}
 use Rattle.script_check.proofs.statement.end_if.Goals as goal
 
@@ -11,6 +11,6 @@ returns c =
     let b = after c.args.b.now nobody in
     let s = state_of c.args.scope.now in
     c.in_ok-collect-2.ensures.state
-    ∙ ap (λ (t : State). record t { names = both b t.names })
-    (c.in_ok-collect.ensures.state ∙ ap (λ (t : State). record t { names = both a t.names }) c.in_ok-keep_if.ensures)
+    ∙ ap (λ (t : WalkState). record t { names = both b t.names })
+    (c.in_ok-collect.ensures.state ∙ ap (λ (t : WalkState). record t { names = both a t.names }) c.in_ok-keep_if.ensures)
     ∙ ap (λ (n : Names). record s { names = n; keeps = c.args.keeps && s.keeps }) (if_names c.args.a.now c.args.b.now c.args.keeps s.names c.requires)

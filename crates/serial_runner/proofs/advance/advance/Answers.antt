@@ -1,4 +1,5 @@
-use Rattle.std.proofs.Common.{◌≡◌, ◌∙◌, [], ◌∷◌, ap}
+use Rattle.std.proofs.Common.{◌≡◌, ◌∙◌, [], ◌∷◌, sym, ap, subst}
+use Rattle.serial_runner.specs.Stacks.{Closes}
 use Rattle.serial_runner.proofs.Noting.{made}
 use Rattle.serial_runner.proofs.Advancing.{stopped, went_whole, spawned, waits, has_answers, went_up, known_fault, answer_below, all_ended, ended}
 use Rattle.serial_runner.proofs.advance.advance.Goals as goal
@@ -27,7 +28,9 @@ pub end_all-requires-clause-below : goal.end_all-requires-clause-below
 end_all-requires-clause-below c = answer_below c.args.stack c.requires c.in-Done.answer c.in-Done.give (stopped _ _ c.requires.top.goes_on (rw c.in-Done.is at c.in_ok-stop.ensures))
 
 pub returns-then-is_fault : goal.returns-then-is_fault
-returns-then-is_fault c = all_ended c.args.stack c.requires c.in-Done.answer c.in-Done.give (stopped _ _ c.requires.top.goes_on (rw c.in-Done.is at c.in_ok-stop.ensures)) _ c.in_ok-last-in-Done.ensures
+returns-then-is_fault c =
+    subst (Closes c.args.stack) (sym c.in_ok-boxed-in-Done.ensures)
+    (all_ended c.args.stack c.requires c.in-Done.answer c.in-Done.give (stopped _ _ c.requires.top.goes_on (rw c.in-Done.is at c.in_ok-stop.ensures)) _ c.in_ok-last-in-Done.ensures)
 
 pub returns-else-is_fault : goal.returns-else-is_fault
 returns-else-is_fault c = ended c.args.stack c.requires c.in-Done.answer c.in-Done.give (stopped _ _ c.requires.top.goes_on (rw c.in-Done.is at c.in_ok-stop.ensures)) c.answered.result c.answered.ensures.parent c.answered.ensures.last

@@ -14,45 +14,21 @@ use Rattle.strand_machine.specs.declared.stop.Stop.TheVariants as stop
 use Rattle.strand_machine.specs.declared.work.InstanceState.TheVariants as stage
 use Rattle.strand_machine.specs.declared.work.Work.TheVariants as work
 use Rattle.strand_machine.proofs.Moves.Making.{made-ok}
-use Rattle.strand_machine.proofs.Moves.Moving.{nothing-sound, nothing-step, opened-sound, opened-step, closed-sound, closed-step, emitted-sound, emitted-step, synced-sound, synced-step, spawned-known, spawned-trail, spawned-handed, spawned-sound, spawned-step, looped-known, looped-trail, looped-handed, looped-sound, looped-step, passes-keep, spawns-keep, with_trace}
+use Rattle.strand_machine.proofs.Moves.Moving.{quiet-sound, quiet-step, emitted-sound, emitted-step, synced-sound, synced-step, spawned-known, spawned-trail, spawned-handed, spawned-sound, spawned-step, looped-known, looped-trail, looped-handed, looped-sound, looped-step, passes-keep, spawns-keep, with_trace}
 use Rattle.strand_machine.proofs.run.show.Goals as goal
 
--- nothing
+-- nothing, or where a scope begins or has ended
 
 pub pass-requires : goal.pass-requires
-pass-requires c = nothing-sound c.args.parts.now.body c.args.instance c.args.shown c.in-Nothing.is c.requires
+pass-requires c = quiet-sound c.args.parts.now.body c.args.instance c.args.shown c.in-Nothing.is c.requires
 
 pub returns-in-Nothing-clause-step : goal.returns-in-Nothing-clause-step
-returns-in-Nothing-clause-step c = nothing-step c.args.parts.now.body c.args.instance c.args.shown _ c.in-Nothing.is c.pass.ensures.made
+returns-in-Nothing-clause-step c = quiet-step c.args.parts.now.body c.args.instance c.args.shown _ c.in-Nothing.is c.pass.ensures.made
 
 pub returns-in-Nothing-clause-keeps : goal.returns-in-Nothing-clause-keeps
 returns-in-Nothing-clause-keeps c =
     let w = work.Runs (stage.Running c.args.instance) in
     passes-keep c.args.parts.now.body c.args.parts.now.body.trace w w _ refl c.pass.ensures.made
-
--- where a scope begins or has ended
-
-pub pass-requires-in-Opened : goal.pass-requires-in-Opened
-pass-requires-in-Opened c = opened-sound c.args.parts.now.body c.args.instance c.args.shown c.in-Opened.field-0 c.in-Opened.is c.requires
-
-pub returns-in-Opened-clause-step : goal.returns-in-Opened-clause-step
-returns-in-Opened-clause-step c = opened-step c.args.parts.now.body c.args.instance c.args.shown c.in-Opened.field-0 _ c.in-Opened.is c.pass-in-Opened.ensures.made
-
-pub returns-in-Opened-clause-keeps : goal.returns-in-Opened-clause-keeps
-returns-in-Opened-clause-keeps c =
-    let w = work.Runs (stage.Running c.args.instance) in
-    passes-keep c.args.parts.now.body c.args.parts.now.body.trace w w _ refl c.pass-in-Opened.ensures.made
-
-pub pass-requires-in-Closed : goal.pass-requires-in-Closed
-pass-requires-in-Closed c = closed-sound c.args.parts.now.body c.args.instance c.args.shown c.in-Closed.field-0 c.in-Closed.is c.requires
-
-pub returns-in-Closed-clause-step : goal.returns-in-Closed-clause-step
-returns-in-Closed-clause-step c = closed-step c.args.parts.now.body c.args.instance c.args.shown c.in-Closed.field-0 _ c.in-Closed.is c.pass-in-Closed.ensures.made
-
-pub returns-in-Closed-clause-keeps : goal.returns-in-Closed-clause-keeps
-returns-in-Closed-clause-keeps c =
-    let w = work.Runs (stage.Running c.args.instance) in
-    passes-keep c.args.parts.now.body c.args.parts.now.body.trace w w _ refl c.pass-in-Closed.ensures.made
 
 -- an event
 

@@ -1,6 +1,6 @@
 use Rattle.std.proofs.Common.{◌≡◌, ◌∷◌, ◌++◌, [], ap, ◌∙◌, arith, refl, length}
 use Rattle.std.specs.List.{slice_set}
-use Rattle.ped_path.proofs.BlockLemmas.{IsBlocked-more, IsBlocked-filled, IsBlock-filled, concat-filled}
+use Rattle.ped_path.proofs.BlockLemmas.{IsBlocked-more, IsBlocked-filled, IsRankBlock-filled, concat-filled}
 use Rattle.ped_path.proofs.path.Path.child.Goals as goal
 
 pub invariant_of-result : goal.invariant_of-result
@@ -9,7 +9,7 @@ invariant_of-result c =
     rw same (IsBlocked-more _ c.self.inside.last c.self.inside.count c.self.invariant c.args.rank c.requires (omega arith))
 
 pub new-requires : goal.new-requires
-new-requires c = IsBlock-filled _ c.self.inside.last c.self.inside.count c.self.invariant c.args.rank c.requires (omega arith)
+new-requires c = IsRankBlock-filled _ c.self.inside.last c.self.inside.count c.self.invariant c.args.rank c.requires (omega arith)
 
 pub invariant_of-result-2 : goal.invariant_of-result-2
 invariant_of-result-2 c =

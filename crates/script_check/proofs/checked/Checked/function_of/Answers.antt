@@ -2,7 +2,7 @@ use Rattle.std.proofs.Common.{◌≡◌, [], ◌<◌, List, length, get_or, sym,
 use Rattle.std.proofs.lemmas.Bool.{ltb-true}
 use Rattle.script_grammar.specs.declared.tree.Script.{Script}
 use Rattle.script_grammar.specs.declared.tree.Function.{Function}
-use Rattle.script_check.specs.declared.checked.Kept.{Kept}
+use Rattle.script_check.specs.declared.checked.CheckedScript.{CheckedScript}
 use Rattle.script_check.specs.Valid.{functions_twice}
 use Rattle.script_check.proofs.Tables.Distinct.{is_first}
 use Rattle.script_check.proofs.FewerPending.Fewer.{nothing_left}
@@ -13,7 +13,7 @@ pub returns-in-Some-clause-function : goal.returns-in-Some-clause-function
 returns-in-Some-clause-function c =
     let twice : functions_twice [] c.self.inside.kept.value.script.functions ≡ [] = nothing_left _ _ c.self.invariant.valid in
     let fs : c.as_slice-2.result.now ≡ c.args.self.now.functions =
-    c.as_slice-2.ensures ∙ ap (λ (k : Kept). k.script.functions) c.deref-kept.ensures ∙ ap (λ (s : Script). s.functions) c.self.view_is in
+    c.as_slice-2.ensures ∙ ap (λ (k : CheckedScript). k.script.functions) c.deref-kept.ensures ∙ ap (λ (s : Script). s.functions) c.self.view_is in
     let none : functions_twice [] c.args.self.now.functions ≡ [] = rw (sym c.self.view_is) twice in
     let found = c.in-Some.ensures.lookup in
     let inside : c.guess_at-guess.result < length c.as_slice-2.result.now = ltb-true _ _ (sym found.0) in

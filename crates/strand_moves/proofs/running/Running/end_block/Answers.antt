@@ -1,4 +1,4 @@
-use Rattle.std.proofs.Common.{◌≡◌, true, List, [], ◌∷◌, ◌++◌, refl, sym, ap, subst, ◌∙◌, arith}
+use Rattle.std.proofs.Common.{◌≡◌, true, [], ◌∷◌, ◌++◌, refl, sym, ap, subst, ◌∙◌, arith}
 use Rattle.serial_meaning.specs.declared.event.Event.TheVariants as event
 use Rattle.strand_meaning.specs.Machine.{Emitted, end_move, sync_effects}
 use Rattle.strand_moves.specs.declared.running.Running.{Running}
@@ -7,7 +7,7 @@ use Rattle.strand_moves.specs.Acts.{IsKept}
 use Rattle.strand_moves.specs.Moves.{effects_of, strand_of}
 use Rattle.strand_moves.specs.Running.{machine_of, path_of, present_of}
 use Rattle.strand_moves.proofs.Statements.Equations.{went}
-use Rattle.strand_moves.proofs.OpenScopes.Levels.{is-out, join-kept, join-moves, joined, out-kept, out-moves, rank-fits}
+use Rattle.strand_moves.proofs.OpenScopes.Levels.{is-out, join-kept, join-moves, out-kept, out-moves, rank-fits}
 use Rattle.strand_moves.proofs.OpenScopes.Exits.{keeps-made, shows-made}
 use Rattle.strand_moves.proofs.OpenScopes.Keeping.{here-is}
 use Rattle.strand_moves.proofs.running.Running.end_block.Goals as goal

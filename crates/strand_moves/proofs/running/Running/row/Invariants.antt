@@ -1,12 +1,12 @@
-use Rattle.std.proofs.Common.{◌≡◌}
+use Rattle.std.proofs.Common.{◌≡◌, ◌+◌, ◌*◌, length}
 use Rattle.strand_moves.specs.Cursors.{block_of}
 use Rattle.strand_moves.specs.Rows.{Row}
 use Rattle.strand_moves.specs.Running.{IsInstance, path_of, text_of}
 use Rattle.strand_moves.proofs.running.Running.row.Given as goal
 
 abbrev pub invariant-loop-passed : goal.invariant-loop-passed
-invariant-loop-passed l = record {
-  row : Row l.plan l.initial.self l.self;
+invariant-loop-passed g l = record {
+  row : Row g.S.EventSink.after l.plan l.initial.self l.initial.sink l.self l.sink;
   sound : IsInstance l.plan l.self;
   path : path_of l.self ≡ path_of l.initial.self;
   text : l.text ≡ text_of l.plan l.self.top;
@@ -14,4 +14,4 @@ invariant-loop-passed l = record {
 }
 
 abbrev pub decreases-loop-passed : goal.decreases-loop-passed
-decreases-loop-passed l = l.self.steps
+decreases-loop-passed g l = 2 * l.self.steps + length l.self.below.items

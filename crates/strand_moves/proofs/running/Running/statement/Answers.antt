@@ -1,4 +1,4 @@
-use Rattle.std.proofs.Common.{◌∙◌, [], ◌∷◌, ◌++◌, ap, arith, sym}
+use Rattle.std.proofs.Common.{◌∙◌, [], ◌∷◌, ◌++◌, ap, arith, refl, sym}
 use Rattle.script_grammar.specs.declared.tree.Act.TheOpen as act
 use Rattle.serial_meaning.specs.declared.event.FaultKind.{FaultKind}
 use Rattle.script_grammar.specs.declared.tree.Act.TheVariants as variant
@@ -8,7 +8,7 @@ use Rattle.strand_meaning.specs.Machine.{statement_move}
 use Rattle.strand_moves.proofs.Statements.Equations.{faults, let-is-set}
 use Rattle.strand_moves.proofs.OpenScopes.Exits.{shows-fault}
 use Rattle.strand_moves.proofs.Statements.Paying.{act-is, shows-same, statement-paid, statement-unpaid, paid-behind}
-use Rattle.strand_moves.proofs.Statements.QuickLemmas.{quiet-child}
+use Rattle.strand_moves.proofs.Statements.QuickLemmas.{emitted-child, quiet-child}
 use Rattle.strand_moves.proofs.OpenScopes.Keeping.{here-is, keeps-into, keeps-paid, keeps-unless}
 use Rattle.strand_moves.proofs.running.Running.statement.Goals as goal
 
@@ -61,7 +61,7 @@ returns-in-Call-clause-shows c =
     let p = c.pay.new.self in
     let st = c.args.statement.now in
     let is = act-is (act.Call c.in-Call.c) st.act (variant.Call c.in-Call.c) c.in-Call.is (variant.rolls-Call c.in-Call.c) in
-    statement-paid plan c.args.self.now p p.steps c.in_ok-pay.ensures.ok c.in_ok-pay.ensures.paid (here-is plan c.args.self.now c.requires.instance) st (act.Call c.in-Call.c) c.call.new.self c.call.result is (c.call.ensures.shows st)
+    statement-paid plan c.args.self.now p p.steps c.in_ok-pay.ensures.ok c.in_ok-pay.ensures.paid (here-is plan c.args.self.now c.requires.instance) st (act.Call c.in-Call.c) c.call.new.self c.quiet-in-Call.result is (rw c.quiet-in-Call.ensures (c.call.ensures.shows st))
 
 pub returns-in-Sync-clause-shows : goal.returns-in-Sync-clause-shows
 returns-in-Sync-clause-shows c =
@@ -80,7 +80,7 @@ returns-in-Print-clause-shows c =
     let p = c.pay.new.self in
     let st = c.args.statement.now in
     let is = act-is (act.Print c.in-Print.e) st.act (variant.Print c.in-Print.e) c.in-Print.is (variant.rolls-Print c.in-Print.e) in
-    statement-paid plan c.args.self.now p p.steps c.in_ok-pay.ensures.ok c.in_ok-pay.ensures.paid (here-is plan c.args.self.now c.requires.instance) st (act.Print c.in-Print.e) c.print.new.self c.print.result is (c.print.ensures.shows plan st)
+    statement-paid plan c.args.self.now p p.steps c.in_ok-pay.ensures.ok c.in_ok-pay.ensures.paid (here-is plan c.args.self.now c.requires.instance) st (act.Print c.in-Print.e) p c.emitted.result is (rw c.emitted.ensures (c.print.ensures plan st))
 
 pub returns-in-If-clause-shows : goal.returns-in-If-clause-shows
 returns-in-If-clause-shows c =
@@ -117,8 +117,11 @@ returns-in-Array-clause-child c = rw c.quiet.ensures (quiet-child c.args.plan.no
 pub returns-in-Store-clause-child : goal.returns-in-Store-clause-child
 returns-in-Store-clause-child c = rw c.quiet-in-Store.ensures (quiet-child c.args.plan.now c.store.result)
 
+pub returns-in-Call-clause-child : goal.returns-in-Call-clause-child
+returns-in-Call-clause-child c = rw c.quiet-in-Call.ensures (quiet-child c.args.plan.now c.call.result)
+
 pub returns-in-Print-clause-child : goal.returns-in-Print-clause-child
-returns-in-Print-clause-child c = c.print.ensures.child c.args.plan.now
+returns-in-Print-clause-child c = rw c.emitted.ensures (emitted-child c.args.plan.now c.print.result)
 
 pub returns-in-If-clause-child : goal.returns-in-If-clause-child
 returns-in-If-clause-child c = rw c.quiet-in-If.ensures (quiet-child c.args.plan.now c.branch-self.result)
@@ -148,7 +151,7 @@ returns-in-Spawn-clause-keeps c =
 
 pub returns-in-Call-clause-keeps : goal.returns-in-Call-clause-keeps
 returns-in-Call-clause-keeps c =
-    keeps-unless c.args.plan.now c.args.self.now c.pay.new.self c.pay.new.self.steps c.requires.instance c.requires.goes_on c.in_ok-pay.ensures.ok c.in_ok-pay.ensures.paid c.call.new.self c.call.ensures.few c.call.result c.call.ensures.stays
+    keeps-unless c.args.plan.now c.args.self.now c.pay.new.self c.pay.new.self.steps c.requires.instance c.requires.goes_on c.in_ok-pay.ensures.ok c.in_ok-pay.ensures.paid c.call.new.self c.call.ensures.few c.quiet-in-Call.result (rw c.quiet-in-Call.ensures c.call.ensures.stays)
 
 pub returns-in-Sync-clause-keeps : goal.returns-in-Sync-clause-keeps
 returns-in-Sync-clause-keeps c =
@@ -156,7 +159,7 @@ returns-in-Sync-clause-keeps c =
 
 pub returns-in-Print-clause-keeps : goal.returns-in-Print-clause-keeps
 returns-in-Print-clause-keeps c =
-    keeps-paid c.args.plan.now c.args.self.now c.pay.new.self c.pay.new.self.steps c.requires.instance c.requires.goes_on c.in_ok-pay.ensures.ok c.in_ok-pay.ensures.paid c.print.new.self c.print.ensures.stays c.print.ensures.few c.print.result
+    keeps-paid c.args.plan.now c.args.self.now c.pay.new.self c.pay.new.self.steps c.requires.instance c.requires.goes_on c.in_ok-pay.ensures.ok c.in_ok-pay.ensures.paid c.pay.new.self (record { trail = refl; scopes = refl; leaving = refl }) (omega arith) c.emitted.result
 
 pub returns-in-If-clause-keeps : goal.returns-in-If-clause-keeps
 returns-in-If-clause-keeps c =

@@ -1,8 +1,0 @@
-use Rattle.strand_moves.specs.Running.{machine_of, present_of}
-use Rattle.strand_moves.proofs.Statements.Equations.{set-new}
-use Rattle.strand_moves.proofs.running.Running.set_new.Goals as goal
-
-pub returns-clause-shows : goal.returns-clause-shows
-returns-clause-shows c = λ plan st at.
-    let i = c.args.self.now in
-    rw c.in_ok-pedigree.ensures (set-new plan (present_of i) (machine_of plan i) st c.args.x.now at c.set_scalar.new.self (rw c.in_ok-object.ensures at c.in_ok-set_scalar.ensures.ok))
