@@ -121,6 +121,7 @@ impl Running {
         Ok(())
     }
 
+    #[inline(always)]
     pub(crate) fn while_test(&mut self, e: &Expr) -> Result<(), Halt>
         ensures shows { (plan : PlanView) (st : Stmt) (body : List Stmt) → IsBehind (text_of plan self.old.top) self.old.top.cursor st →
             out-Act (out-Stmt st).act ≡ act.While e.now body → Acts plan st (act.While e.now body) self.old self.new (quiet result) }
