@@ -6,13 +6,13 @@ use Rattle.serial_meaning.specs.Plan.{PlanView}
 use Rattle.serial_meaning.proofs.RisingPedigrees.Draws.{draws_are_dotmix}
 use Rattle.serial_meaning.proofs.LeastFault.Least.{fault_is_least}
 use Rattle.serial_meaning.proofs.RisingPedigrees.RisingExec.{elision_rises}
-use Rattle.engine.specs.Clauses.{IsLawful, IsTopCall, ObjectChange, seen}
+use Rattle.engine.specs.Clauses.{FollowsPedigrees, IsTopCall, ObjectChange, seen}
 use Rattle.engine.specs.Promise.{KeepsPromise, ReadsNone, has_line, has_output}
 use Rattle.engine.specs.Report.{plan_of}
 use Rattle.engine.specs.declared.status.Status.{Status}
 use Rattle.engine.proofs.PromiseLemmas.{words_exactly, read_cause, write_cause, script_refused, report_written, strand_told, completes}
 
-pub lawful : (plan : PlanView) → IsLawful plan
+pub lawful : (plan : PlanView) → FollowsPedigrees plan
 lawful plan = record { rise = elision_rises plan; draws = draws_are_dotmix plan; least = fault_is_least plan }
 
 pub is_call : {S K E : Type 0} (given : Result Command WordError) (source : ObjectChange S) (out : ObjectChange K) (err : ObjectChange E) (status : Status) → KeepsPromise given (seen source) (seen out) (seen err) status →

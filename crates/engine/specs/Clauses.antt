@@ -90,7 +90,7 @@ Completes given source told out status = ⊤
 
 -- What holds of a plan's run: the pedigrees of its events but printing rise strictly, so that no two are the same; each draw is DotMix of
 -- its pedigree; and its fault is the least of the open tree's.
-pub record IsLawful (plan : PlanView) : Type 0 where
+pub record FollowsPedigrees (plan : PlanView) : Type 0 where
   pub rise : AllPairs IsBefore (places (elision plan).items)
   pub draws : (j : List ℕ) (n : ℕ) → Contains (elision plan).items (Draw j n) → n ≡ drawn plan j
   pub least : EndsByLeast (faults plan) (elision plan).ending
@@ -124,4 +124,4 @@ pub record IsTopCall {S K E : Type 0} (given : Result Command WordError) (source
   pub write : status ≡ Write → Failed (seen out)
   pub complete : Completes given (seen source) (seen source).before (seen out) status
   -- What holds of each run that is written.
-  pub events : (settings : Settings) (tree : Tree) → IsLawful (plan_of settings tree)
+  pub events : (settings : Settings) (tree : Tree) → FollowsPedigrees (plan_of settings tree)

@@ -16,9 +16,9 @@ abbrev pub IsRunWord : List ℕ → Type 0
 IsRunWord word = (word ≡ codes "run") ⊎ (word ≡ codes "batch")
 
 -- The first word says such a command.
-abbrev pub IsRun : List (List ℕ) → Type 0
-IsRun [] = ⊥
-IsRun (word ∷ words) = IsRunWord word
+abbrev pub RunsOnWorkers : List (List ℕ) → Type 0
+RunsOnWorkers [] = ⊥
+RunsOnWorkers (word ∷ words) = IsRunWord word
 
 -- The command reads a script from the source.
 abbrev pub takes_script : Command → Bool

@@ -33,8 +33,8 @@ abbrev pub IsLong : Watched → Type 0
 IsLong source = ConsumesJust source.before source.after (most_bytes + 1)
 
 -- Why the bytes of the source weren't had.
-abbrev pub IsLate : Watched → Refusal → Type 0
-IsLate source = Means (IsLong source) (λ line. ⊥) (Failed source)
+abbrev pub IsFetchRefusal : Watched → Refusal → Type 0
+IsFetchRefusal source = Means (IsLong source) (λ line. ⊥) (Failed source)
 
 -- The bytes of the source are the text of no script that the command takes, and this line tells why.
 abbrev pub HasUntaken : Command → Watched → List ℕ → Type 0

@@ -5,9 +5,9 @@ ghost use Rattle.draw_lines.specs.Lines.{CanDraw, lines_of};
 ghost use Rattle.ped_words.specs.Reading.{reading};
 ghost use Rattle.ped_words.specs.Commands.{AreLawful, IsLawful, IsWorkers, is_batch};
 ghost use Rattle.engine.specs.Batches.{IsReady, batch_command};
-ghost use Rattle.engine.specs.Commands.{IsRun, is_whole, takes_script};
+ghost use Rattle.engine.specs.Commands.{RunsOnWorkers, is_whole, takes_script};
 ghost use Rattle.engine.specs.Promise.{Answers, HasReport, KeepsPromise, ReadWhole, ReadsNone, Refuses, WroteLine, Watched, has_line, has_output, watched};
-ghost use Rattle.engine.specs.Refusal.{Delivers, IsCause, IsLate, Puts, Refused};
+ghost use Rattle.engine.specs.Refusal.{Delivers, IsCause, IsFetchRefusal, Puts, Refused};
 ghost use Rattle.engine.specs.Report.{shown};
 
 use crate::batch::{Batch, played_batch};
@@ -30,7 +30,7 @@ const MOST_BYTES: u64 = 1048576;
 // All the bytes of the source.
 fn fetch<S: Source>(alloc: Global, source: &mut S) -> Result<Vec<u8>, Refusal>
     ensures whole { IfOk result (λ bytes. ReadWhole (watched S.left S.faults source.old source.new) bytes.items) }
-    ensures refused { IfErr result (IsLate (watched S.left S.faults source.old source.new)) }
+    ensures refused { IfErr result (IsFetchRefusal (watched S.left S.faults source.old source.new)) }
 {
     match read_all(alloc, source, MOST_BYTES) {
         Ok(bytes) => Ok(bytes),
@@ -396,7 +396,7 @@ pub(crate) fn perform<S: Source, K: Sink, E: Sink>(
     out: &mut K,
     err: &mut E,
 ) -> Status
-    requires { IsRun (map string_bytes words.now) → ⊥ }
+    requires { RunsOnWorkers (map string_bytes words.now) → ⊥ }
     ensures promise { KeepsPromise (reading (map string_bytes words.now)) (watched S.left S.faults script.old script.new)
         (watched K.written K.faults out.old out.new) (watched E.written E.faults err.old err.new) result }
     ensures untouched { ReadsNone (reading (map string_bytes words.now)) → script.new ≡ script.old }

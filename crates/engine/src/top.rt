@@ -3,7 +3,7 @@
 ghost use Rattle.std.specs.Prelude.{◌↔◌, IsTrue, map, string_bytes};
 ghost use Rattle.ped_words.specs.Reading.{reading};
 ghost use Rattle.engine.specs.Clauses.{IsTopCall, change};
-ghost use Rattle.engine.specs.Commands.{IsRun, IsRunWord};
+ghost use Rattle.engine.specs.Commands.{RunsOnWorkers, IsRunWord};
 
 use crate::call::{perform, perform_by_crew};
 use crate::status::Status;
@@ -22,7 +22,7 @@ fn is_run_word(word: &str) -> bool
 
 /// Whether the words say a command that runs on workers: the first one is `run` or `batch`.
 pub fn is_run(words: &[String]) -> bool
-    ensures { IsTrue result ↔ IsRun (map string_bytes words.now) }
+    ensures { IsTrue result ↔ RunsOnWorkers (map string_bytes words.now) }
 {
     match words {
         [word, ..] => is_run_word(word.as_str()),
@@ -65,7 +65,7 @@ pub fn pedrun_plain<S: Source, K: Sink, E: Sink>(
     out: &mut K,
     err: &mut E,
 ) -> Status
-    requires { IsRun (map string_bytes words.now) → ⊥ }
+    requires { RunsOnWorkers (map string_bytes words.now) → ⊥ }
     ensures { IsTopCall (reading (map string_bytes words.now)) (change S.left S.faults script.old script.new)
         (change K.written K.faults out.old out.new) (change E.written E.faults err.old err.new) result }
 {
@@ -82,7 +82,7 @@ pub fn pedrun_run<R: Threads + Wait + Sync, S: Source, K: Sink, E: Sink, G: Gate
     err: &mut E,
     gate: &G,
 ) -> Status
-    requires { IsRun (map string_bytes words.now) }
+    requires { RunsOnWorkers (map string_bytes words.now) }
     ensures { IsTopCall (reading (map string_bytes words.now)) (change S.left S.faults script.old script.new)
         (change K.written K.faults out.old out.new) (change E.written E.faults err.old err.new) result }
 {

@@ -5,7 +5,7 @@ use lib.ListN.{get_elem?}
 use Rattle.atomic_table.specs.Table.{Me}
 use Rattle.meet_block.specs.declared.view.SeatState.TheVariants.{Open, Ready}
 use Rattle.meet_block.specs.declared.view.View.{View}
-use Rattle.meet_block.specs.Counter.{Slot, parent, untaken, holds_party, closed}
+use Rattle.meet_block.specs.Counter.{SlotContent, parent, untaken, holds_party, closed}
 use Rattle.meet_block.specs.CounterViews.{Keeps}
 
 untaken_more : (bs : List Bool) → untaken (bs ++ false ∷ []) ≡ untaken bs + 1
@@ -22,10 +22,10 @@ untaken_set (false ∷ bs) (suc k) at = omega (arith, untaken_set bs k at)
 
 module _ {A T : Type 0} where
   -- a place more
-  abbrev more : Me (Slot A) (View T) → T → Me (Slot A) (View T)
+  abbrev more : Me (SlotContent A) (View T) → T → Me (SlotContent A) (View T)
   more m t = (parent m.0.own Open (m.0.tags ++ t ∷ []) (m.0.taken ++ false ∷ []) m.0.loads, m.1)
 
-  hands_on : (given left : ℕ) (party : Bool) (m : Me (Slot A) (View T)) (t : T) → Keeps false given left party m → m.0.stage ≡ Open → given + 1 ≢ 16 → Keeps false (given + 1) (left + 1) party (more m t)
+  hands_on : (given left : ℕ) (party : Bool) (m : Me (SlotContent A) (View T)) (t : T) → Keeps false given left party m → m.0.stage ≡ Open → given + 1 ≢ 16 → Keeps false (given + 1) (left + 1) party (more m t)
   hands_on given left party m t k opens ne = let room = k.room opens in let bare = k.bare (λ e. let f = sym opens ∙ e in (cc)) in record {
     let_go = λ e. absurd (cc);
     placed = omega (arith, k.placed, length-append m.0.tags (t ∷ []));
@@ -37,13 +37,13 @@ module _ {A T : Type 0} where
     bare = λ _. bare;
   }
 
-  pub hands : (gone : Bool) (given left : ℕ) (party : Bool) (m n : Me (Slot A) (View T)) (t : T) → gone ≡ false → n ≡ more m t → Keeps gone given left party m → m.0.stage ≡ Open → given + 1 ≢ 16 → Keeps gone (given + 1) (left + 1) party n
+  pub hands : (gone : Bool) (given left : ℕ) (party : Bool) (m n : Me (SlotContent A) (View T)) (t : T) → gone ≡ false → n ≡ more m t → Keeps gone given left party m → m.0.stage ≡ Open → given + 1 ≢ 16 → Keeps gone (given + 1) (left + 1) party n
   hands gone given left party m n t e is k opens ne =
-      subst (λ (b : Bool). Keeps b (given + 1) (left + 1) party n) (sym e) (subst (λ (x : Me (Slot A) (View T)). Keeps false (given + 1) (left + 1) party x) (sym is)
+      subst (λ (b : Bool). Keeps b (given + 1) (left + 1) party n) (sym e) (subst (λ (x : Me (SlotContent A) (View T)). Keeps false (given + 1) (left + 1) party x) (sym is)
       (hands_on given left party m t (subst (λ (b : Bool). Keeps b given left party m) e k) opens ne))
 
   -- the 16th place
-  last_on : (given left : ℕ) (party : Bool) (m : Me (Slot A) (View T)) (t : T) → Keeps false given left party m → given + 1 ≡ 16 → Keeps false (given + 1) (left + 1) false (closed (more m t))
+  last_on : (given left : ℕ) (party : Bool) (m : Me (SlotContent A) (View T)) (t : T) → Keeps false given left party m → given + 1 ≡ 16 → Keeps false (given + 1) (left + 1) false (closed (more m t))
   last_on given left party m t k full = record {
     let_go = λ e. absurd (cc);
     placed = omega (arith, k.placed, length-append m.0.tags (t ∷ []));
@@ -55,13 +55,13 @@ module _ {A T : Type 0} where
     bare = λ _. refl;
   }
 
-  pub last : (gone : Bool) (given left : ℕ) (party : Bool) (m n : Me (Slot A) (View T)) (t : T) → gone ≡ false → n ≡ closed (more m t) → Keeps gone given left party m → given + 1 ≡ 16 → Keeps gone (given + 1) (left + 1) false n
+  pub last : (gone : Bool) (given left : ℕ) (party : Bool) (m n : Me (SlotContent A) (View T)) (t : T) → gone ≡ false → n ≡ closed (more m t) → Keeps gone given left party m → given + 1 ≡ 16 → Keeps gone (given + 1) (left + 1) false n
   last gone given left party m n t e is k full =
-      subst (λ (b : Bool). Keeps b (given + 1) (left + 1) false n) (sym e) (subst (λ (x : Me (Slot A) (View T)). Keeps false (given + 1) (left + 1) false x) (sym is)
+      subst (λ (b : Bool). Keeps b (given + 1) (left + 1) false n) (sym e) (subst (λ (x : Me (SlotContent A) (View T)). Keeps false (given + 1) (left + 1) false x) (sym is)
       (last_on given left party m t (subst (λ (b : Bool). Keeps b given left party m) e k) full))
 
   -- a value is taken: the counter is kept, or let go where it was the last
-  pub takes : (gone gone' : Bool) (given left : ℕ) (party : Bool) (m n : Me (Slot A) (View T)) (place : ℕ) → Keeps gone given left party m → m.0.stage ≡ Ready → get_elem? m.0.taken place ≡ some false
+  pub takes : (gone gone' : Bool) (given left : ℕ) (party : Bool) (m n : Me (SlotContent A) (View T)) (place : ℕ) → Keeps gone given left party m → m.0.stage ≡ Ready → get_elem? m.0.taken place ≡ some false
       → n.0 ≡ parent m.0.own Ready m.0.tags (set m.0.taken place true) m.0.loads → (gone' ≡ true → left ≡ 1) → Keeps gone' given (left - 1) party n
   takes gone gone' given left party m n place k ready free is go = let fewer = untaken_set m.0.taken place free in let rest = k.remaining in record {
     let_go = λ e. (ap (λ (v : View T). v.stage) is, (let one = go e in omega arith));

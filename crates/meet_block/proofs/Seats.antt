@@ -5,7 +5,7 @@ use lib.ListN.{get_elem?}
 use Rattle.meet_block.specs.declared.view.SeatState.{SeatState}
 use Rattle.meet_block.specs.declared.view.SeatState.TheVariants.{Owes, Arrived}
 use Rattle.meet_block.specs.declared.view.View.{View}
-use Rattle.meet_block.specs.Counter.{Slot, child, has_arrived, arrivals, SlotHolds, Places}
+use Rattle.meet_block.specs.Counter.{SlotContent, child, has_arrived, arrivals, SlotHolds, Places}
 
 pub stage_arrived : (s : SeatState) → has_arrived s ≡ 1 → s ≡ Arrived
 stage_arrived Arrived e = refl
@@ -36,11 +36,11 @@ module _ {T : Type 0} where
 
 module _ {A T : Type 0} (tag : A → T) where
   -- what is at the place of a seat
-  pub record Spot (before ts : List T) (bs : List Bool) (cs : List (View T)) (hs : List (Maybe (Slot A))) (j : ℕ) (v : View T) : Type 0 where
+  pub record Spot (before ts : List T) (bs : List Bool) (cs : List (View T)) (hs : List (Maybe (SlotContent A))) (j : ℕ) (v : View T) : Type 0 where
     pub pre : List T
     pub t : T
     pub b : Bool
-    pub h : Maybe (Slot A)
+    pub h : Maybe (SlotContent A)
     pub own : v.own ≡ t
     pub tags : v.tags ≡ pre ++ t ∷ []
     pub many : length pre ≡ length before + j
@@ -49,7 +49,7 @@ module _ {A T : Type 0} (tag : A → T) where
     pub home_at : get_elem? hs j ≡ some h
     pub place : SlotHolds tag t b v.stage h
 
-  pub spot : (before ts : List T) (bs : List Bool) (cs : List (View T)) (hs : List (Maybe (Slot A))) (j : ℕ) (v : View T) → Places tag before ts bs cs hs → get_elem? cs j ≡ some v → Spot before ts bs cs hs j v
+  pub spot : (before ts : List T) (bs : List Bool) (cs : List (View T)) (hs : List (Maybe (SlotContent A))) (j : ℕ) (v : View T) → Places tag before ts bs cs hs → get_elem? cs j ≡ some v → Spot before ts bs cs hs j v
   spot before [] [] [] hs j v p at = absurd (some-ne-none v (sym at))
   spot before (t ∷ ts) (b ∷ bs) (c ∷ cs) (h ∷ hs) zero v p at = let e = some-injective c v at in record {
     pre = before;
@@ -80,8 +80,8 @@ module _ {A T : Type 0} (tag : A → T) where
   spot before _ _ _ _ j v p at = absurd p
 
   -- a child's step
-  pub places_set : (before ts : List T) (bs : List Bool) (cs : List (View T)) (hs : List (Maybe (Slot A))) (j : ℕ) (v w : View T) (g : Maybe (Slot A)) → Places tag before ts bs cs hs → get_elem? cs j ≡ some v → w.own ≡ v.own → w.tags ≡ v.tags
-      → ((t : T) (b : Bool) (h : Maybe (Slot A)) → v.own ≡ t → SlotHolds tag t b v.stage h → SlotHolds tag t b w.stage g) → Places tag before ts bs (set cs j w) (set hs j g)
+  pub places_set : (before ts : List T) (bs : List Bool) (cs : List (View T)) (hs : List (Maybe (SlotContent A))) (j : ℕ) (v w : View T) (g : Maybe (SlotContent A)) → Places tag before ts bs cs hs → get_elem? cs j ≡ some v → w.own ≡ v.own → w.tags ≡ v.tags
+      → ((t : T) (b : Bool) (h : Maybe (SlotContent A)) → v.own ≡ t → SlotHolds tag t b v.stage h → SlotHolds tag t b w.stage g) → Places tag before ts bs (set cs j w) (set hs j g)
   places_set before [] [] [] hs j v w g p at o e k = absurd (some-ne-none v (sym at))
   places_set before (t ∷ ts) (b ∷ bs) (c ∷ cs) (h ∷ hs) zero v w g p at o e k =
       let same = some-injective c v at in
@@ -91,7 +91,7 @@ module _ {A T : Type 0} (tag : A → T) where
   places_set before _ _ _ _ j v w g p at o e k = absurd p
 
   -- the parent takes a value
-  pub places_take : (before ts : List T) (bs : List Bool) (cs : List (View T)) (hs : List (Maybe (Slot A))) (j : ℕ) (b : Bool) → Places tag before ts bs cs hs → get_elem? bs j ≡ some b → ((k : ℕ) (v : View T) → get_elem? cs k ≡ some v → v.stage ≡ Arrived)
+  pub places_take : (before ts : List T) (bs : List Bool) (cs : List (View T)) (hs : List (Maybe (SlotContent A))) (j : ℕ) (b : Bool) → Places tag before ts bs cs hs → get_elem? bs j ≡ some b → ((k : ℕ) (v : View T) → get_elem? cs k ≡ some v → v.stage ≡ Arrived)
       → Places tag before ts (set bs j true) cs (set hs j none)
   places_take before [] [] [] hs j b p at all = absurd (some-ne-none b (sym at))
   places_take before (t ∷ ts) (b' ∷ bs) (c ∷ cs) (h ∷ hs) zero b p at all =
@@ -100,7 +100,7 @@ module _ {A T : Type 0} (tag : A → T) where
   places_take before _ _ _ _ j b p at all = absurd p
 
   -- a place more
-  pub places_more : (before ts : List T) (bs : List Bool) (cs : List (View T)) (hs : List (Maybe (Slot A))) (t : T) → Places tag before ts bs cs hs → length cs < length hs
+  pub places_more : (before ts : List T) (bs : List Bool) (cs : List (View T)) (hs : List (Maybe (SlotContent A))) (t : T) → Places tag before ts bs cs hs → length cs < length hs
       → Places tag before (ts ++ t ∷ []) (bs ++ false ∷ []) (cs ++ child t Owes ((before ++ ts) ++ t ∷ []) ∷ []) hs
   places_more before [] [] [] [] t p lt = absurd (omega arith)
   places_more before [] [] [] (h ∷ hs) t p lt = (refl, ap (λ l. l ++ t ∷ []) (append-nil before), p.0, p.1)
@@ -113,13 +113,13 @@ module _ {A T : Type 0} (tag : A → T) where
   )
   places_more before _ _ _ _ t p lt = absurd p
 
-  pub as_many : (before ts : List T) (bs : List Bool) (cs : List (View T)) (hs : List (Maybe (Slot A))) → Places tag before ts bs cs hs → length ts ≡ length cs
+  pub as_many : (before ts : List T) (bs : List Bool) (cs : List (View T)) (hs : List (Maybe (SlotContent A))) → Places tag before ts bs cs hs → length ts ≡ length cs
   as_many before [] [] [] hs p = refl
   as_many before (t ∷ ts) (b ∷ bs) (c ∷ cs) (h ∷ hs) p = ap suc (as_many (before ++ t ∷ []) ts bs cs hs p.3)
   as_many before _ _ _ _ p = absurd p
 
   -- at the place of a flag there is a seat
-  pub seat_at : (before ts : List T) (bs : List Bool) (cs : List (View T)) (hs : List (Maybe (Slot A))) (j : ℕ) (b : Bool) → Places tag before ts bs cs hs → get_elem? bs j ≡ some b → (v : View T) × (get_elem? cs j ≡ some v)
+  pub seat_at : (before ts : List T) (bs : List Bool) (cs : List (View T)) (hs : List (Maybe (SlotContent A))) (j : ℕ) (b : Bool) → Places tag before ts bs cs hs → get_elem? bs j ≡ some b → (v : View T) × (get_elem? cs j ≡ some v)
   seat_at before [] [] [] hs j b p at = absurd (some-ne-none b (sym at))
   seat_at before (t ∷ ts) (b' ∷ bs) (c ∷ cs) (h ∷ hs) zero b p at = (c, refl)
   seat_at before (t ∷ ts) (b' ∷ bs) (c ∷ cs) (h ∷ hs) (suc j) b p at = seat_at (before ++ t ∷ []) ts bs cs hs j b p.3 at

@@ -8,7 +8,7 @@ use Rattle.atomic_table.specs.Table.{Me, Act, keeps, takes, gives, Valid, Allows
 use Rattle.meet_block.specs.declared.view.SeatState.{SeatState}
 use Rattle.meet_block.specs.declared.view.SeatState.TheVariants.{Open, Waiting, Ready, Owes, Claimed, Arrived}
 use Rattle.meet_block.specs.declared.view.View.{View}
-use Rattle.meet_block.specs.Counter.{Slot, parent, child, has_arrived, arrivals, Counts, IsFull, SlotHolds, Places, Fits, Obeys, opened, given, claimed, arrived, closed, Looked, Took}
+use Rattle.meet_block.specs.Counter.{SlotContent, parent, child, has_arrived, arrivals, Counts, IsFull, SlotHolds, Places, Fits, Obeys, opened, given, claimed, arrived, closed, Looked, Took}
 use Rattle.meet_block.proofs.Seats.{stage_arrived, arrived_one, arrivals_set, arrivals_more, arrivals_most, arrivals_less, spot, places_set, places_take, places_more, as_many, seat_at}
 
 abbrev IsChild : SeatState → Type 0
@@ -55,7 +55,7 @@ arrived_at : {T : Type 0} (cs : List (View T)) (k : ℕ) (v : View T) → arriva
 arrived_at cs k v e at le = dite (ℕ_discrete (has_arrived v.stage) 0) (λ z. let less = arrivals_less cs k v at z in absurd (omega arith)) (λ ne. omega arith)
 
 module _ {A T : Type 0} (tag : A → T) where
-  place_child : (t : T) (b : Bool) (s : SeatState) (h : Maybe (Slot A)) → SlotHolds tag t b s h → IsChild s
+  place_child : (t : T) (b : Bool) (s : SeatState) (h : Maybe (SlotContent A)) → SlotHolds tag t b s h → IsChild s
   place_child t false Owes h p = tt
   place_child t false Claimed h p = tt
   place_child t false Arrived h p = tt
@@ -63,12 +63,12 @@ module _ {A T : Type 0} (tag : A → T) where
   place_child t _ _ h p = absurd p
 
   -- no value was taken before its child arrived
-  not_taken : (t : T) (b : Bool) (s : SeatState) (h : Maybe (Slot A)) → s ≢ Arrived → SlotHolds tag t b s h → b ≡ false
+  not_taken : (t : T) (b : Bool) (s : SeatState) (h : Maybe (SlotContent A)) → s ≢ Arrived → SlotHolds tag t b s h → b ≡ false
   not_taken t false s h ne p = refl
   not_taken t true Arrived h ne p = absurd (ne refl)
   not_taken t true _ h ne p = absurd p
 
-  child_case : (v : View T) → IsChild v.stage → (G : List ℕ → List (View T) → ℕ → Type 0) → (homes : List (Maybe (Slot A)))
+  child_case : (v : View T) → IsChild v.stage → (G : List ℕ → List (View T) → ℕ → Type 0) → (homes : List (Maybe (SlotContent A)))
       → ((w j : ℕ) (p : View T) (cs : List (View T)) → length homes ≡ 16 → Counts p.stage w (arrivals cs) (length cs) → Places tag [] p.tags p.taken cs homes → get_elem? cs j ≡ some v → G (w ∷ []) (p ∷ cs) (suc j))
       → (words : List ℕ) (views : List (View T)) (id : ℕ) → Fits tag words homes views → get_elem? views id ≡ some v → G words views id
   child_case v i G homes k (w ∷ []) (p ∷ cs) zero f at =
@@ -76,7 +76,7 @@ module _ {A T : Type 0} (tag : A → T) where
   child_case v i G homes k (w ∷ []) (p ∷ cs) (suc j) f at = k w j p cs f.0 f.1 f.2 at
   child_case v i G homes k _ _ id f at = absurd f
 
-  parent_case : (v : View T) → IsParent v.stage → (G : List ℕ → List (View T) → ℕ → Type 0) → (homes : List (Maybe (Slot A)))
+  parent_case : (v : View T) → IsParent v.stage → (G : List ℕ → List (View T) → ℕ → Type 0) → (homes : List (Maybe (SlotContent A)))
       → ((w : ℕ) (cs : List (View T)) → length homes ≡ 16 → Counts v.stage w (arrivals cs) (length cs) → Places tag [] v.tags v.taken cs homes → G (w ∷ []) (v ∷ cs) 0)
       → (words : List ℕ) (views : List (View T)) (id : ℕ) → Fits tag words homes views → get_elem? views id ≡ some v → G words views id
   parent_case v i G homes k (w ∷ []) (p ∷ cs) zero f at =
@@ -86,13 +86,13 @@ module _ {A T : Type 0} (tag : A → T) where
   parent_case v i G homes k (w ∷ []) (p ∷ cs) (suc j) f at = let s = spot tag [] p.tags p.taken cs homes j v f.2 at in absurd (not_both v.stage i (place_child s.t s.b v.stage s.h s.place))
   parent_case v i G homes k _ _ id f at = absurd f
 
-  few : (before ts : List T) (bs : List Bool) (cs : List (View T)) (homes : List (Maybe (Slot A))) → Places tag before ts bs cs homes → length cs ≤ length homes
+  few : (before ts : List T) (bs : List Bool) (cs : List (View T)) (homes : List (Maybe (SlotContent A))) → Places tag before ts bs cs homes → length cs ≤ length homes
   few before [] [] [] homes p = omega arith
   few before (t ∷ ts) (b ∷ bs) (c ∷ cs) (h ∷ hs) p = omega (arith, few (before ++ t ∷ []) ts bs cs hs p.3)
   few before _ _ _ _ p = absurd p
 
   -- the split
-  splits_on : (id : ℕ) (v : View T) (t : T) → v.stage ≡ Open → length v.tags < 16 → (homes : List (Maybe (Slot A))) (words : List ℕ) (views : List (View T)) → Fits tag words homes views → get_elem? views id ≡ some v
+  splits_on : (id : ℕ) (v : View T) (t : T) → v.stage ≡ Open → length v.tags < 16 → (homes : List (Maybe (SlotContent A))) (words : List ℕ) (views : List (View T)) → Fits tag words homes views → get_elem? views id ≡ some v
       → Fits tag words homes (slice_set views id (opened (Some t) v) ++ given (Some t) v ∷ [])
   splits_on id v t o lt homes words views f at =
       parent_case v (subst IsParent (sym o) tt) (λ words views k. Fits tag words homes (slice_set views k (opened (Some t) v) ++ given (Some t) v ∷ [])) homes
@@ -109,7 +109,7 @@ module _ {A T : Type 0} (tag : A → T) where
   at_place : (v : View T) (j : ℕ) (pre : List T) (t : T) → v.tags ≡ pre ++ t ∷ [] → length pre ≡ 0 + j → length v.tags - 1 ≡ j
   at_place v j pre t e m = omega (arith, ap length e, length-append pre (t ∷ []))
 
-  claim_place : (t : T) (b : Bool) (s : SeatState) (h : Maybe (Slot A)) → s ≡ Owes → SlotHolds tag t b s h → h ≡ some None
+  claim_place : (t : T) (b : Bool) (s : SeatState) (h : Maybe (SlotContent A)) → s ≡ Owes → SlotHolds tag t b s h → h ≡ some None
   claim_place t false Owes h e p = p
   claim_place t false Claimed h e p = absurd (cc)
   claim_place t false Arrived h e p = absurd (cc)
@@ -120,7 +120,7 @@ module _ {A T : Type 0} (tag : A → T) where
   claims_on n id v o s holds wide at small =
       let homes = s.homes in
       child_case v (subst IsChild (sym o) tt)
-      (λ words views k. (w : View T) × (a : Act (Slot A)) × Valid homes [] a × Fits tag (slice_set words 0 (slice_index words 0)) (homes_after homes [] a) (slice_set views k w) × ((w, carried_after [] a) ≡ claimed (v, [])))
+      (λ words views k. (w : View T) × (a : Act (SlotContent A)) × Valid homes [] a × Fits tag (slice_set words 0 (slice_index words 0)) (homes_after homes [] a) (slice_set views k w) × ((w, carried_after [] a) ≡ claimed (v, [])))
       homes
       (λ w j p cs len c pl here.
       let x = spot tag [] p.tags p.taken cs homes j v pl here in
@@ -140,15 +140,15 @@ module _ {A T : Type 0} (tag : A → T) where
       ))
       s.words s.views id holds at
 
-  pub claims : (n id : ℕ) (m : Me (Slot A) (View T)) → m.0.stage ≡ Owes → m.1 ≡ [] → Allows (Obeys tag) n id m 0 (λ w. w) (λ _ k. k ≡ claimed m)
-  claims n id m o e = subst (λ (c : List (ℕ × Slot A)). Allows (Obeys tag) n id (m.0, c) 0 (λ w. w) (λ _ k. k ≡ claimed (m.0, c))) (sym e) (claims_on n id m.0 o)
+  pub claims : (n id : ℕ) (m : Me (SlotContent A) (View T)) → m.0.stage ≡ Owes → m.1 ≡ [] → Allows (Obeys tag) n id m 0 (λ w. w) (λ _ k. k ≡ claimed m)
+  claims n id m o e = subst (λ (c : List (ℕ × SlotContent A)). Allows (Obeys tag) n id (m.0, c) 0 (λ w. w) (λ _ k. k ≡ claimed (m.0, c))) (sym e) (claims_on n id m.0 o)
 
   arrives_on : (n id : ℕ) (v : View T) (value : A) → v.stage ≡ Claimed → tag value ≡ v.own
       → Allows (Obeys tag) n id (v, (length v.tags - 1, Some (Some value)) ∷ []) 0 (λ w. (w + (2 ^ 64 - 1)) % 2 ^ 64) (λ _ k. k ≡ arrived (v, (length v.tags - 1, Some (Some value)) ∷ []))
   arrives_on n id v value o mine s holds wide at small =
-      let homes = s.homes in let held : List (ℕ × Slot A) = (length v.tags - 1, Some (Some value)) ∷ [] in
+      let homes = s.homes in let held : List (ℕ × SlotContent A) = (length v.tags - 1, Some (Some value)) ∷ [] in
       child_case v (subst IsChild (sym o) tt)
-      (λ words views k. slice_index words 0 < 18446744073709551616 → (w : View T) × (a : Act (Slot A)) × Valid homes held a
+      (λ words views k. slice_index words 0 < 18446744073709551616 → (w : View T) × (a : Act (SlotContent A)) × Valid homes held a
       × Fits tag (slice_set words 0 ((slice_index words 0 + (2 ^ 64 - 1)) % 2 ^ 64)) (homes_after homes held a) (slice_set views k w) × ((w, carried_after held a) ≡ arrived (v, held)))
       homes
       (λ w j p cs len c pl here lt.
@@ -176,7 +176,7 @@ module _ {A T : Type 0} (tag : A → T) where
   gives_up_on n id v o most s holds wide at small =
       let homes = s.homes in
       parent_case v (subst IsParent (sym o) tt)
-      (λ words views k. slice_index words 0 < 18446744073709551616 → (w : View T) × (a : Act (Slot A)) × Valid homes [] a
+      (λ words views k. slice_index words 0 < 18446744073709551616 → (w : View T) × (a : Act (SlotContent A)) × Valid homes [] a
       × Fits tag (slice_set words 0 ((slice_index words 0 + (2 ^ 64 - (17 - length v.tags))) % 2 ^ 64)) (homes_after homes [] a) (slice_set views k w) × ((w, carried_after [] a) ≡ closed (v, [])))
       homes
       (λ w cs len c pl lt.
@@ -190,7 +190,7 @@ module _ {A T : Type 0} (tag : A → T) where
   looks_on n id v o s holds wide at small =
       let homes = s.homes in
       parent_case v (subst IsParent (sym o) tt)
-      (λ words views k. (w : View T) × (a : Act (Slot A)) × Valid homes [] a × Fits tag (slice_set words 0 (slice_index words 0)) (homes_after homes [] a) (slice_set views k w) × Looked (v, []) (slice_index words 0) (w, carried_after [] a))
+      (λ words views k. (w : View T) × (a : Act (SlotContent A)) × Valid homes [] a × Fits tag (slice_set words 0 (slice_index words 0)) (homes_after homes [] a) (slice_set views k w) × Looked (v, []) (slice_index words 0) (w, carried_after [] a))
       homes
       (λ w cs len c pl.
       let q : Counts Waiting w (arrivals cs) (length cs) = subst (λ (s : SeatState). Counts s w (arrivals cs) (length cs)) o c in
@@ -200,7 +200,7 @@ module _ {A T : Type 0} (tag : A → T) where
       (λ ne. (parent v.own Waiting v.tags v.taken (v.loads ++ w ∷ []), keeps, tt, (len, q, pl), (most, (λ z. absurd (ne z)), (λ _. refl)))))
       s.words s.views id holds at
 
-  take_place : (t : T) (s : SeatState) (h : Maybe (Slot A)) → s ≡ Arrived → SlotHolds tag t false s h → IsFull tag t h
+  take_place : (t : T) (s : SeatState) (h : Maybe (SlotContent A)) → s ≡ Arrived → SlotHolds tag t false s h → IsFull tag t h
   take_place t Owes h e p = absurd (cc)
   take_place t Claimed h e p = absurd (cc)
   take_place t Arrived h e p = p
@@ -209,11 +209,11 @@ module _ {A T : Type 0} (tag : A → T) where
   all_arrived : (cs : List (View T)) (k : ℕ) (v : View T) → arrivals cs ≡ length cs → get_elem? cs k ≡ some v → v.stage ≡ Arrived
   all_arrived cs k v e at = stage_arrived v.stage (arrived_at cs k v e at (arrived_one v.stage))
 
-  took_on : (n id place : ℕ) (v : View T) (l : List (ℕ × Slot A)) → v.stage ≡ Ready → get_elem? v.taken place ≡ some false → Allows (Obeys tag) n id (v, l) 0 (λ w. w) (λ _ k. Took tag place (v, l) k)
+  took_on : (n id place : ℕ) (v : View T) (l : List (ℕ × SlotContent A)) → v.stage ≡ Ready → get_elem? v.taken place ≡ some false → Allows (Obeys tag) n id (v, l) 0 (λ w. w) (λ _ k. Took tag place (v, l) k)
   took_on n id place v l o left s holds wide at small =
       let homes = s.homes in
       parent_case v (subst IsParent (sym o) tt)
-      (λ words views k. (w : View T) × (a : Act (Slot A)) × Valid homes l a × Fits tag (slice_set words 0 (slice_index words 0)) (homes_after homes l a) (slice_set views k w) × Took tag place (v, l) (w, carried_after l a))
+      (λ words views k. (w : View T) × (a : Act (SlotContent A)) × Valid homes l a × Fits tag (slice_set words 0 (slice_index words 0)) (homes_after homes l a) (slice_set views k w) × Took tag place (v, l) (w, carried_after l a))
       homes
       (λ w cs len c pl.
       let q : Counts Ready w (arrivals cs) (length cs) = subst (λ (s : SeatState). Counts s w (arrivals cs) (length cs)) o c in
@@ -228,21 +228,21 @@ module _ {A T : Type 0} (tag : A → T) where
       ))
       s.words s.views id holds at
 
-  pub arrives : (n id place : ℕ) (m : Me (Slot A) (View T)) (v : View T) (value : A) → m ≡ (v, (place, Some (Some value)) ∷ []) → place + 1 ≡ length v.tags → v.stage ≡ Claimed → tag value ≡ v.own
+  pub arrives : (n id place : ℕ) (m : Me (SlotContent A) (View T)) (v : View T) (value : A) → m ≡ (v, (place, Some (Some value)) ∷ []) → place + 1 ≡ length v.tags → v.stage ≡ Claimed → tag value ≡ v.own
       → Allows (Obeys tag) n id m 0 (λ w. (w + (2 ^ 64 - 1)) % 2 ^ 64) (λ _ k. k ≡ arrived m)
   arrives n id place m v value e here o mine =
       let at : length v.tags - 1 ≡ place = omega arith in
-      subst (λ (c : Me (Slot A) (View T)). Allows (Obeys tag) n id c 0 (λ w. (w + (2 ^ 64 - 1)) % 2 ^ 64) (λ _ k. k ≡ arrived c)) (sym e)
+      subst (λ (c : Me (SlotContent A) (View T)). Allows (Obeys tag) n id c 0 (λ w. (w + (2 ^ 64 - 1)) % 2 ^ 64) (λ _ k. k ≡ arrived c)) (sym e)
       (subst (λ (i : ℕ). Allows (Obeys tag) n id (v, (i, Some (Some value)) ∷ []) 0 (λ w. (w + (2 ^ 64 - 1)) % 2 ^ 64) (λ _ k. k ≡ arrived (v, (i, Some (Some value)) ∷ []))) at (arrives_on n id v value o mine))
 
-  pub gives_up : (n id k : ℕ) (m : Me (Slot A) (View T)) → m.0.stage ≡ Open → m.1 ≡ [] → k ≡ 17 - length m.0.tags → length m.0.tags ≤ 16
+  pub gives_up : (n id k : ℕ) (m : Me (SlotContent A) (View T)) → m.0.stage ≡ Open → m.1 ≡ [] → k ≡ 17 - length m.0.tags → length m.0.tags ≤ 16
       → Allows (Obeys tag) n id m 0 (λ w. (w + (2 ^ 64 - k)) % 2 ^ 64) (λ _ x. x ≡ closed m)
   gives_up n id k m o e is most =
-      subst (λ (c : List (ℕ × Slot A)). Allows (Obeys tag) n id (m.0, c) 0 (λ w. (w + (2 ^ 64 - k)) % 2 ^ 64) (λ _ x. x ≡ closed (m.0, c))) (sym e)
+      subst (λ (c : List (ℕ × SlotContent A)). Allows (Obeys tag) n id (m.0, c) 0 (λ w. (w + (2 ^ 64 - k)) % 2 ^ 64) (λ _ x. x ≡ closed (m.0, c))) (sym e)
       (subst (λ (i : ℕ). Allows (Obeys tag) n id (m.0, []) 0 (λ w. (w + (2 ^ 64 - i)) % 2 ^ 64) (λ _ x. x ≡ closed (m.0, []))) (sym is) (gives_up_on n id m.0 o most))
 
-  pub looks : (n id : ℕ) (m : Me (Slot A) (View T)) → m.0.stage ≡ Waiting → m.1 ≡ [] → Allows (Obeys tag) n id m 0 (λ w. w) (λ r k. Looked m r k)
-  looks n id m o e = subst (λ (c : List (ℕ × Slot A)). Allows (Obeys tag) n id (m.0, c) 0 (λ w. w) (λ r k. Looked (m.0, c) r k)) (sym e) (looks_on n id m.0 o)
+  pub looks : (n id : ℕ) (m : Me (SlotContent A) (View T)) → m.0.stage ≡ Waiting → m.1 ≡ [] → Allows (Obeys tag) n id m 0 (λ w. w) (λ r k. Looked m r k)
+  looks n id m o e = subst (λ (c : List (ℕ × SlotContent A)). Allows (Obeys tag) n id (m.0, c) 0 (λ w. w) (λ r k. Looked (m.0, c) r k)) (sym e) (looks_on n id m.0 o)
 
-  pub took : (n id place : ℕ) (m : Me (Slot A) (View T)) → m.0.stage ≡ Ready → get_elem? m.0.taken place ≡ some false → Allows (Obeys tag) n id m 0 (λ w. w) (λ _ k. Took tag place m k)
+  pub took : (n id place : ℕ) (m : Me (SlotContent A) (View T)) → m.0.stage ≡ Ready → get_elem? m.0.taken place ≡ some false → Allows (Obeys tag) n id m 0 (λ w. w) (λ _ k. Took tag place m k)
   took n id place m o left = took_on n id place m.0 m.1 o left

@@ -8,8 +8,8 @@ use Rattle.meet_block.specs.declared.view.SeatState.TheVariants.{Open, Waiting, 
 use Rattle.meet_block.specs.declared.view.View.{View}
 
 -- what stands in a slot: nothing, or a box, which is empty or has a value
-abbrev pub Slot : Type 0 → Type 0
-Slot A = Option (Option A)
+abbrev pub SlotContent : Type 0 → Type 0
+SlotContent A = Option (Option A)
 
 abbrev pub parent : {T : Type 0} → T → SeatState → List T → List Bool → List ℕ → View T
 parent t at ts bs ls = record { stage = at; own = t; tags = ts; taken = bs; loads = ls }
@@ -46,12 +46,12 @@ Counts _ word arrived given = ⊥
 
 module _ {A T : Type 0} (tag : A → T) where
   -- the slot is at home, with a value of this tag
-  abbrev pub IsFull : T → Maybe (Slot A) → Type 0
+  abbrev pub IsFull : T → Maybe (SlotContent A) → Type 0
   IsFull t home = (value : A) × (home ≡ some (Some (Some value))) × (tag value ≡ t)
 
   -- A given place: its tag, whether its value was taken, the stage of its child, and its slot. The slot is home and empty until the child claims it, out
   -- with the child until that arrives, then home with a value of the tag, and out with the parent from the take on
-  abbrev pub SlotHolds : T → Bool → SeatState → Maybe (Slot A) → Type 0
+  abbrev pub SlotHolds : T → Bool → SeatState → Maybe (SlotContent A) → Type 0
   SlotHolds t false Owes home = home ≡ some None
   SlotHolds t false Claimed home = home ≡ none
   SlotHolds t false Arrived home = IsFull t home
@@ -59,21 +59,21 @@ module _ {A T : Type 0} (tag : A → T) where
   SlotHolds t _ _ home = ⊥
 
   -- the places that were not given
-  abbrev pub Vacant : List (Maybe (Slot A)) → Type 0
+  abbrev pub Vacant : List (Maybe (SlotContent A)) → Type 0
   Vacant [] = Unit {0}
   Vacant (h ∷ hs) = (h ≡ some None) × Vacant hs
 
   -- the places from the one after `before` on, each with one seat
-  abbrev pub Places : List T → List T → List Bool → List (View T) → List (Maybe (Slot A)) → Type 0
+  abbrev pub Places : List T → List T → List Bool → List (View T) → List (Maybe (SlotContent A)) → Type 0
   Places before [] [] [] homes = Vacant homes
   Places before (t ∷ ts) (b ∷ bs) (c ∷ cs) (h ∷ hs) = (c.own ≡ t) × (c.tags ≡ before ++ t ∷ []) × SlotHolds t b c.stage h × Places (before ++ t ∷ []) ts bs cs hs
   Places before _ _ _ _ = ⊥
 
-  abbrev pub Fits : List ℕ → List (Maybe (Slot A)) → List (View T) → Type 0
+  abbrev pub Fits : List ℕ → List (Maybe (SlotContent A)) → List (View T) → Type 0
   Fits (w ∷ []) homes (p ∷ cs) = (length homes ≡ 16) × Counts p.stage w (arrivals cs) (length cs) × Places [] p.tags p.taken cs homes
   Fits _ homes views = ⊥
 
-  abbrev pub Obeys : State (Slot A) (View T) → Type 0
+  abbrev pub Obeys : State (SlotContent A) (View T) → Type 0
   Obeys s = Fits s.words s.homes s.views
 
 -- What each step makes of the seat that steps: its view, and the slots that it has out
@@ -89,23 +89,23 @@ module _ {T : Type 0} where
   given (Some t) v = child t Owes (v.tags ++ t ∷ [])
 
 module _ {A T : Type 0} where
-  abbrev pub claimed : Me (Slot A) (View T) → Me (Slot A) (View T)
+  abbrev pub claimed : Me (SlotContent A) (View T) → Me (SlotContent A) (View T)
   claimed m = (child m.0.own Claimed m.0.tags, (length m.0.tags - 1, None) ∷ [])
 
-  abbrev pub arrived : Me (Slot A) (View T) → Me (Slot A) (View T)
+  abbrev pub arrived : Me (SlotContent A) (View T) → Me (SlotContent A) (View T)
   arrived m = (child m.0.own Arrived m.0.tags, [])
 
   -- the parent gave up its party
-  abbrev pub closed : Me (Slot A) (View T) → Me (Slot A) (View T)
+  abbrev pub closed : Me (SlotContent A) (View T) → Me (SlotContent A) (View T)
   closed m = (parent m.0.own Waiting m.0.tags m.0.taken m.0.loads, [])
 
   -- a look read n, which joins the list: n of the given places owe
-  abbrev pub Looked : Me (Slot A) (View T) → ℕ → Me (Slot A) (View T) → Type 0
+  abbrev pub Looked : Me (SlotContent A) (View T) → ℕ → Me (SlotContent A) (View T) → Type 0
   Looked m n after = (n ≤ length m.0.tags)
       × (n ≡ 0 → after ≡ (parent m.0.own Ready m.0.tags m.0.taken (m.0.loads ++ n ∷ []), []))
       × (n ≢ 0 → after ≡ (parent m.0.own Waiting m.0.tags m.0.taken (m.0.loads ++ n ∷ []), []))
 
   -- the slot of the place is out with the parent, and has a value of the place's tag
-  abbrev pub Took : (A → T) → ℕ → Me (Slot A) (View T) → Me (Slot A) (View T) → Type 0
+  abbrev pub Took : (A → T) → ℕ → Me (SlotContent A) (View T) → Me (SlotContent A) (View T) → Type 0
   Took tag k m after = (value : A) × (get_elem? m.0.tags k ≡ some (tag value))
       × (after ≡ (parent m.0.own Ready m.0.tags (slice_set m.0.taken k true) m.0.loads, (k, Some (Some value)) ∷ m.1))

@@ -6,7 +6,7 @@ use Rattle.atomic_table.specs.Table.{Me}
 use Rattle.meet_block.specs.declared.view.SeatState.{SeatState}
 use Rattle.meet_block.specs.declared.view.SeatState.TheVariants.{Open, Waiting, Ready}
 use Rattle.meet_block.specs.declared.view.View.{View}
-use Rattle.meet_block.specs.Counter.{Slot, untaken, holds_party}
+use Rattle.meet_block.specs.Counter.{SlotContent, untaken, holds_party}
 use Rattle.meet_block.specs.Joined.{Joined, joined}
 
 -- the number of a block's first child, and what the parent's seat has seen
@@ -22,7 +22,7 @@ part n v = record { first = n; stage = v.stage; tags = v.tags; taken = v.taken; 
 
 -- What a block keeps of its counter, where `gone` says that it let the counter go: the places given, the values that are left, whether the parent holds
 -- its own party, and the parent's seat
-pub record Keeps {A T : Type 0} (gone : Bool) (given left : ℕ) (own_party : Bool) (me : Me (Slot A) (View T)) : Type 0 where
+pub record Keeps {A T : Type 0} (gone : Bool) (given left : ℕ) (own_party : Bool) (me : Me (SlotContent A) (View T)) : Type 0 where
   pub let_go : gone ≡ true → (me.0.stage ≡ Ready) × (left ≡ 0)
   pub placed : given ≡ length me.0.tags
   pub most : given ≤ 16

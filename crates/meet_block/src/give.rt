@@ -10,12 +10,12 @@ use std::marker::Model;
 /// A give that is dropped never arrives, so its join isn't ready before the parent drops it. A give is `Send` where the value is.
 #[derive(Drop)]
 pub struct Give<A: Tagged> {
-    end: End<A>,
+    end: GiveEnd<A>,
 }
 
 /// Whether the value goes to a counter, or nobody looks for it.
 #[derive(Drop)]
-enum End<A: Tagged> {
+enum GiveEnd<A: Tagged> {
     Tied(Tied<A>),
     Alone(KnownTag<A::Key>),
 }
@@ -56,7 +56,7 @@ impl<A: Tagged + Drop> Give<A> {
         ensures { result ≡ tied }
     {
         Give {
-            end: End::Tied(tied),
+            end: GiveEnd::Tied(tied),
         }
     }
 
@@ -65,13 +65,13 @@ impl<A: Tagged + Drop> Give<A> {
         ensures { result ≡ tag.now }
     {
         Give {
-            end: End::Alone(KnownTag::of(tag)),
+            end: GiveEnd::Alone(KnownTag::of(tag)),
         }
     }
 
     /// Whether nobody looks for its value.
     pub fn is_alone(&self) -> bool {
-        matches!(self.end, End::Alone(_))
+        matches!(self.end, GiveEnd::Alone(_))
     }
 
     /// Puts the value, whose tag has to be the give's, and arrives. It takes no memory and doesn't wait.
@@ -81,10 +81,10 @@ impl<A: Tagged + Drop> Give<A> {
     {
         let Give { end } = self;
         match end {
-            End::Tied(tied) => Arrived {
+            GiveEnd::Tied(tied) => Arrived {
                 left: ArrivedEnd::Tied(tied.put(value)),
             },
-            End::Alone(tag) => {
+            GiveEnd::Alone(tag) => {
                 drop(value);
                 Arrived {
                     left: ArrivedEnd::Alone(tag),

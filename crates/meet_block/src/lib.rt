@@ -45,5 +45,6 @@ mod view;
 
 pub use give::{Arrived, Give};
 pub use join::{Join, Look};
+pub use log::Log;
 pub use memory::Memory;
 pub use tagged::Tagged;

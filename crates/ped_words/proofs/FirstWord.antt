@@ -10,10 +10,10 @@ use Rattle.ped_words.specs.Making.{command_of, made_of}
 use Rattle.ped_words.specs.Reading.{reading, reading_as}
 use Rattle.ped_words.specs.Rules.{unless}
 use Rattle.ped_words.specs.Table.{entry, verb_of}
-use Rattle.ped_words.specs.Values.{Values, number, pedigree, shape, word_at}
+use Rattle.ped_words.specs.Values.{OptionValues, number, pedigree, shape, word_at}
 use Rattle.ped_words.specs.declared.command.Command.{Command}
 use Rattle.ped_words.specs.declared.rule.WordError.{WordError}
-use Rattle.ped_words.specs.declared.table.Name.TheVariants as name
+use Rattle.ped_words.specs.declared.table.OptionName.TheVariants as name
 use Rattle.ped_words.specs.declared.table.Verb.{Verb}
 use Rattle.ped_words.specs.declared.table.Verb.TheVariants as verb
 
@@ -33,7 +33,7 @@ at_then {X} f none None c e = absurd (cc)
 at_then {X} f none (Some x) c e = none x c e
 
 -- Of the commands one alone makes a batch.
-other_verbs : (v : Verb) (values : Values) → (v ≡ verb.Batch → ⊥) → NoBatch (command_of v values)
+other_verbs : (v : Verb) (values : OptionValues) → (v ≡ verb.Batch → ⊥) → NoBatch (command_of v values)
 other_verbs verb.Run values other = at_some _ refl
 other_verbs verb.Serial values other = at_some _ refl
 other_verbs verb.Sim values other = at_map _ (λ n. refl) (number values name.Number)

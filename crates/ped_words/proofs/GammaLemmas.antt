@@ -14,14 +14,14 @@ use Rattle.serial_meaning.specs.Plan.{IsPlan}
 use Rattle.serial_meaning.specs.declared.plan.Limits.{Limits}
 use Rattle.ped_words.specs.Commands.{IsBatch}
 use Rattle.ped_words.specs.Numbers.{are_few}
-use Rattle.ped_words.specs.Table.{kind_of, most_seeds}
+use Rattle.ped_words.specs.Table.{value_type_of, most_seeds}
 use Rattle.ped_words.specs.Making.{gamma_error, gamma_fits, gamma_from, gamma_of, holds_for, is_gamma, unfit}
 use Rattle.ped_words.specs.Rules.{breaks, IsRefusal}
 use Rattle.ped_words.specs.Given.{HasCount, IsPlacedList}
-use Rattle.ped_words.specs.Values.{IsWithin, Values, number}
+use Rattle.ped_words.specs.Values.{IsInRange, OptionValues, number}
 use Rattle.ped_words.specs.declared.rule.Rule.TheVariants.{OutOfRange}
 use Rattle.ped_words.specs.declared.rule.WordError.{WordError}
-use Rattle.ped_words.specs.declared.table.Name.TheVariants as name
+use Rattle.ped_words.specs.declared.table.OptionName.TheVariants as name
 
 leb_true : (m n : ℕ) → (n < m → ⊥) → leb m n ≡ true
 leb_true m n le = grind (arith, nat_tests)
@@ -59,7 +59,7 @@ is_gamma_err list depth (TooBig i) other j =
 is_gamma_err list depth Memory other j = absurd (other refl)
 
 -- what the list that is given for coefficients shows
-module _ (values : Values) (given : List ℕ) (at depth : ℕ) (placed : IsPlacedList values name.Gamma (Some (given, at))) where
+module _ (values : OptionValues) (given : List ℕ) (at depth : ℕ) (placed : IsPlacedList values name.Gamma (Some (given, at))) where
   fits_by : (b : Bool) → is_gamma given depth ≡ b → gamma_fits values depth ≡ b
   fits_by b fits = ap (holds_for (λ g. is_gamma g depth)) placed.0 ∙ fits
 
@@ -78,7 +78,7 @@ module _ (values : Values) (given : List ℕ) (at depth : ℕ) (placed : IsPlace
       at_error Memory j = tt
 
 -- Without a list the seed's coefficients fit.
-pub seed_ok : (values : Values) (depth seed : ℕ) (gamma : List ℕ) → IsPlacedList values name.Gamma None → seed ≡ unwrap_or (number values name.Seed) 0 → gamma ≡ coefficients seed depth → (gamma ≡ gamma_of values depth) × (gamma_fits values depth ≡ true)
+pub seed_ok : (values : OptionValues) (depth seed : ℕ) (gamma : List ℕ) → IsPlacedList values name.Gamma None → seed ≡ unwrap_or (number values name.Seed) 0 → gamma ≡ coefficients seed depth → (gamma ≡ gamma_of values depth) × (gamma_fits values depth ≡ true)
 seed_ok values depth seed gamma none is made =
     (made ∙ ap (λ s. coefficients s depth) is ∙ sym (ap (λ g. gamma_from g (unwrap_or (number values name.Seed) 0) depth) none), ap (holds_for (λ g. is_gamma g depth)) none)
 
@@ -93,7 +93,7 @@ pub seed_long : (seed depth : ℕ) → length (coefficients seed depth) ≡ dept
 seed_long seed depth = length-map-range_with_len (λ i. word seed i % modulus) 1 depth
 
 -- Each seed gives coefficients for a plan.
-seeds_plan : (limits : Limits) (rounds : ℕ) → IsWithin (kind_of name.Depth) limits.depth → IsWithin (kind_of name.Budget) limits.budget → IsWithin (kind_of name.Rounds) rounds → (seed : ℕ) → IsPlan (coefficients seed limits.depth) limits rounds
+seeds_plan : (limits : Limits) (rounds : ℕ) → IsInRange (value_type_of name.Depth) limits.depth → IsInRange (value_type_of name.Budget) limits.budget → IsInRange (value_type_of name.Rounds) rounds → (seed : ℕ) → IsPlan (coefficients seed limits.depth) limits rounds
 seeds_plan limits rounds depth budget few seed =
     record { coefficients = seed_long seed limits.depth; some_depth = depth.0; depth_limit = depth.1; some_step = budget.0; rounds_limit = few.1 }
 
@@ -101,5 +101,5 @@ few_seeds : (n : ℕ) → are_few (Some most_seeds) n ≡ true → n ≤ most_se
 few_seeds n few = grind (arith, nat_tests)
 
 -- Seeds that aren't too many, and what their runs have in common, make a batch.
-pub batch_within : (seeds : List ℕ) (limits : Limits) (rounds : ℕ) → HasCount (kind_of name.Seeds) (length seeds) → IsWithin (kind_of name.Depth) limits.depth → IsWithin (kind_of name.Budget) limits.budget → IsWithin (kind_of name.Rounds) rounds → IsBatch seeds limits rounds
+pub batch_within : (seeds : List ℕ) (limits : Limits) (rounds : ℕ) → HasCount (value_type_of name.Seeds) (length seeds) → IsInRange (value_type_of name.Depth) limits.depth → IsInRange (value_type_of name.Budget) limits.budget → IsInRange (value_type_of name.Rounds) rounds → IsBatch seeds limits rounds
 batch_within seeds limits rounds count depth budget mixed = record { some = count.0; few = few_seeds (length seeds) count.1; plans = seeds_plan limits rounds depth budget mixed }

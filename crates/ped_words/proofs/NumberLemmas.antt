@@ -12,8 +12,8 @@ use Rattle.std.proofs.lemmas.List.Splits.{length-slice_split}
 use Rattle.std.proofs.lemmas.List.Folds.{list_all-map}
 use Rattle.ped_words.specs.Numbers.{AreValues, are_few, is_number, list_rule, number_rule, numbers_of, parts_of, value_of}
 use Rattle.ped_words.specs.Given.{HasCount}
-use Rattle.ped_words.specs.declared.table.Kind.{Kind}
-use Rattle.ped_words.specs.declared.table.Kind.TheVariants.{Numbers}
+use Rattle.ped_words.specs.declared.table.ValueType.{ValueType}
+use Rattle.ped_words.specs.declared.table.ValueType.TheVariants.{Numbers}
 use Rattle.ped_words.specs.declared.rule.Rule.TheVariants.{BadValue, OutOfRange}
 
 pub all_digits_same : (bytes : List ℕ) → list_all is_ascii_digit bytes ≡ all_ascii_digits bytes
@@ -82,7 +82,7 @@ module _ (word : List ℕ) (parts : List (Bor (List ℕ))) (split : map (λ (x :
     pub list_good : (values : List ℕ) → list_all (λ x. is_number x.now) parts ≡ true → are_few most (length parts) ≡ true → AreValues parts (Some values) → (list_rule most word ≡ None) × (values ≡ numbers_of word)
     list_good values good few are = (judged true true good few are.0, are.1 ∙ sym (map-seen value_of parts) ∙ ap (map value_of) split)
 
--- A list that breaks no rule has at least one number, and no more than its kind takes.
+-- A list that breaks no rule has at least one number, and no more than its type takes.
 pub counted : (most : Option ℕ) (word : List ℕ) → list_rule most word ≡ None → HasCount (Numbers most) (length (numbers_of word))
 counted most word none =
     let long : length (numbers_of word) ≡ length (parts_of word) = length-map (parts_of word) value_of in

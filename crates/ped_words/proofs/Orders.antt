@@ -13,19 +13,19 @@ use Rattle.ped_words.specs.Making.{made}
 use Rattle.ped_words.specs.Reading.{reading, reading_as}
 use Rattle.ped_words.specs.Rules.{breaks, broken_at, unless}
 use Rattle.ped_words.specs.Table.{name_of, place, takes, verb_of}
-use Rattle.ped_words.specs.Values.{Values, has, is_name, name_word, value_word, values_of, word_at}
+use Rattle.ped_words.specs.Values.{OptionValues, has, is_name, name_word, value_word, option_values, word_at}
 use Rattle.ped_words.specs.declared.command.Command.{Command}
 use Rattle.ped_words.specs.declared.rule.Rule.{Rule}
 use Rattle.ped_words.specs.declared.rule.Rule.TheVariants as rule
 use Rattle.ped_words.specs.declared.rule.WordError.{WordError}
-use Rattle.ped_words.specs.declared.table.Name.{Name}
-use Rattle.ped_words.specs.declared.table.Name.TheVariants as name
+use Rattle.ped_words.specs.declared.table.OptionName.{OptionName}
+use Rattle.ped_words.specs.declared.table.OptionName.TheVariants as name
 use Rattle.ped_words.specs.declared.table.Verb.{Verb}
 use Rattle.ped_words.proofs.OrdersMade.{word_of, some-word, or_none, none_or, made-same}
 
 -- Names
 
-abbrev name_at : ℕ → Name
+abbrev name_at : ℕ → OptionName
 name_at k =
     if nat_eq k 0 then name.Seed
     else if nat_eq k 1 then name.Gamma
@@ -42,7 +42,7 @@ name_at k =
     else if nat_eq k 12 then name.Below
     else name.Seeds
 
-name_at-place : (n : Name) → name_at (place n) ≡ n
+name_at-place : (n : OptionName) → name_at (place n) ≡ n
 name_at-place name.Seed = refl
 name_at-place name.Gamma = refl
 name_at-place name.Depth = refl
@@ -59,12 +59,12 @@ name_at-place name.Below = refl
 name_at-place name.Seeds = refl
 
 -- the option that also counts as this one
-abbrev twin : Name → Name
+abbrev twin : OptionName → OptionName
 twin name.Seed = name.Gamma
 twin name.Gamma = name.Seed
 twin n = n
 
-twin-twin : (n : Name) → twin (twin n) ≡ n
+twin-twin : (n : OptionName) → twin (twin n) ≡ n
 twin-twin name.Seed = refl
 twin-twin name.Gamma = refl
 twin-twin _ = refl
@@ -76,7 +76,7 @@ not_true : (b : Bool) → (b ≡ true → ⊥) → b ≡ false
 not_true true h = absurd (h refl)
 not_true false h = refl
 
-twin-apart : (a c : Name) → eqb (place a) (place (twin c)) ≡ false → eqb (place c) (place (twin a)) ≡ false
+twin-apart : (a c : OptionName) → eqb (place a) (place (twin c)) ≡ false → eqb (place c) (place (twin a)) ≡ false
 twin-apart a c e = not_true (eqb (place c) (place (twin a))) (λ f.
     let places : place c ≡ place (twin a) = eqb-true (place c) (place (twin a)) f in
     let same : c ≡ twin a = sym (name_at-place c) ∙ ap name_at places ∙ name_at-place (twin a) in
@@ -94,23 +94,23 @@ none-or : (a b : Bool) → a ≡ false → b ≡ false → (a || b) ≡ false
 none-or a b e f = ap (λ z. z || b) e ∙ f
 
 -- neither the option nor its twin was given
-has-parts : (values : Values) (n : Name) → has values n ≡ false → (is_some (values n) ≡ false) × (is_some (values (twin n)) ≡ false)
+has-parts : (values : OptionValues) (n : OptionName) → has values n ≡ false → (is_some (values n) ≡ false) × (is_some (values (twin n)) ≡ false)
 has-parts values name.Seed e = or-none _ _ e
 has-parts values name.Gamma e = let p = or-none _ _ e in (p.1, p.0)
 has-parts values _ e = (e, e)
 
-has-none : (values : Values) (n : Name) → is_some (values n) ≡ false → is_some (values (twin n)) ≡ false → has values n ≡ false
+has-none : (values : OptionValues) (n : OptionName) → is_some (values n) ≡ false → is_some (values (twin n)) ≡ false → has values n ≡ false
 has-none values name.Seed e f = none-or _ _ e f
 has-none values name.Gamma e f = none-or _ _ f e
 has-none values _ e f = e
 
-has-same : (values others : Values) → ((n : Name) → is_some (others n) ≡ is_some (values n)) → (n : Name) → has values n ≡ false → has others n ≡ false
+has-same : (values others : OptionValues) → ((n : OptionName) → is_some (others n) ≡ is_some (values n)) → (n : OptionName) → has values n ≡ false → has others n ≡ false
 has-same values others same n e = let p = has-parts values n e in has-none others n (same n ∙ p.0) (same (twin n) ∙ p.1)
 
 -- A pair that breaks no rule
 
-record Right (verb : Verb) (given : Values) (word value : List ℕ) (is_last : Bool) : Type 0 where
-  n : Name
+record Right (verb : Verb) (given : OptionValues) (word value : List ℕ) (is_last : Bool) : Type 0 where
+  n : OptionName
   dashes : starts_with nat_eq word (codes "--") ≡ true
   named : name_of word ≡ Some n
   taken : takes verb n ≡ true
@@ -119,8 +119,8 @@ record Right (verb : Verb) (given : Values) (word value : List ℕ) (is_last : B
   fits : value_rule n value ≡ None
 
 module _ (verb : Verb) (words : List (List ℕ)) (k : ℕ) where
-  abbrev given : Values
-  given = values_of words k
+  abbrev given : OptionValues
+  given = option_values words k
 
   abbrev word : List ℕ
   word = name_word words k
@@ -135,10 +135,10 @@ module _ (verb : Verb) (words : List (List ℕ)) (k : ℕ) where
   R = Right verb given word value is_last
 
   -- the rules after the first one, by the option that the word names
-  abbrev after : Option Name → List (Rule × Bool)
+  abbrev after : Option OptionName → List (Rule × Bool)
   after o = (rule.UnknownOption, not (holds_of (takes verb) o)) ∷ (rule.OptionTwice, holds_of (has given) o) ∷ (rule.MissingValue, is_last) ∷ []
 
-  abbrev value_as : Option Name → Option Rule
+  abbrev value_as : Option OptionName → Option Rule
   value_as o = option_and_then (λ n. value_rule n value) o
 
   right_from : broken_pair verb words k ≡ None → R
@@ -150,14 +150,14 @@ module _ (verb : Verb) (words : List (List ℕ)) (k : ℕ) where
       at_none i None f = refl
       at_none i (Some r) f = absurd (none-some _ (sym f))
 
-      by_tests : (n : Name) → starts_with nat_eq word (codes "--") ≡ true → name_of word ≡ Some n → (x y z : Bool) → takes verb n ≡ x → has given n ≡ y → is_last ≡ z →
+      by_tests : (n : OptionName) → starts_with nat_eq word (codes "--") ≡ true → name_of word ≡ Some n → (x y z : Bool) → takes verb n ≡ x → has given n ≡ y → is_last ≡ z →
           first_of ((rule.UnknownOption, not x) ∷ (rule.OptionTwice, y) ∷ (rule.MissingValue, z) ∷ []) ≡ None → value_rule n value ≡ None → R
       by_tests n d f false y z g h i j v = absurd (none-some _ (sym j))
       by_tests n d f true true z g h i j v = absurd (none-some _ (sym j))
       by_tests n d f true false true g h i j v = absurd (none-some _ (sym j))
       by_tests n d f true false false g h i j v = record { n = n; dashes = d; named = f; taken = g; fresh = h; more = i; fits = v }
 
-      by_name : starts_with nat_eq word (codes "--") ≡ true → (o : Option Name) → name_of word ≡ o → first_of (after o) ≡ None → value_as o ≡ None → R
+      by_name : starts_with nat_eq word (codes "--") ≡ true → (o : Option OptionName) → name_of word ≡ o → first_of (after o) ≡ None → value_as o ≡ None → R
       by_name d None f g v = absurd (none-some _ (sym g))
       by_name d (Some n) f g v = by_tests n d f (takes verb n) (has given n) is_last refl refl refl g v
 
@@ -177,7 +177,7 @@ module _ (verb : Verb) (words : List (List ℕ)) (k : ℕ) where
       ∙ ap (λ o. broken_at (2 * k + 2) (value_as o)) r.named
       ∙ ap (broken_at (2 * k + 2)) r.fits
 
-carried : (verb : Verb) (given other : Values) (word word' value value' : List ℕ) (last last' : Bool) → word' ≡ word → value' ≡ value → ((n : Name) → is_some (other n) ≡ is_some (given n)) → last' ≡ last →
+carried : (verb : Verb) (given other : OptionValues) (word word' value value' : List ℕ) (last last' : Bool) → word' ≡ word → value' ≡ value → ((n : OptionName) → is_some (other n) ≡ is_some (given n)) → last' ≡ last →
     Right verb given word value last → Right verb other word' value' last'
 carried verb given other word word' value value' last last' e f same g r = record {
   n = r.n;
@@ -241,13 +241,13 @@ swapped front behind n v m w k e =
           back_at front ys i (suc (suc (suc (suc (i - (length front + 4)))))) at ∙ sym (back_at front xs i (suc (suc (suc (suc (i - (length front + 4)))))) at);
     }
 
-abbrev next_word : List ℕ → List ℕ → Option (List ℕ) → Name → Option (List ℕ)
+abbrev next_word : List ℕ → List ℕ → Option (List ℕ) → OptionName → Option (List ℕ)
 next_word word given o n = cond (is_name (name_of word) n) (Some given) o
 
-word_of-next : (words : List (List ℕ)) (j : ℕ) (n : Name) → word_of (values_of words (suc j)) n ≡ next_word (name_word words j) (value_word words j) (word_of (values_of words j) n) n
+word_of-next : (words : List (List ℕ)) (j : ℕ) (n : OptionName) → word_of (option_values words (suc j)) n ≡ next_word (name_word words j) (value_word words j) (word_of (option_values words j) n) n
 word_of-next words j n = go (is_name (name_of (name_word words j)) n)
   where
-    go : (b : Bool) → option_map (λ (w : List ℕ × ℕ). w.0) (cond b (Some (value_word words j, 2 * j + 2)) (values_of words j n)) ≡ cond b (Some (value_word words j)) (word_of (values_of words j) n)
+    go : (b : Bool) → option_map (λ (w : List ℕ × ℕ). w.0) (cond b (Some (value_word words j, 2 * j + 2)) (option_values words j n)) ≡ cond b (Some (value_word words j)) (word_of (option_values words j) n)
     go true = refl
     go false = refl
 
@@ -277,95 +277,95 @@ module _ (words others : List (List ℕ)) (k : ℕ) (s : Swapped words others k)
   behind-value : (j : ℕ) → suc k < j → value_word others j ≡ value_word words j
   behind-value j h = s.behind (2 * j + 2) (omega arith)
 
-  next-same : (j : ℕ) → name_word others j ≡ name_word words j → value_word others j ≡ value_word words j → (n : Name) → word_of (values_of others j) n ≡ word_of (values_of words j) n →
-      word_of (values_of others (suc j)) n ≡ word_of (values_of words (suc j)) n
+  next-same : (j : ℕ) → name_word others j ≡ name_word words j → value_word others j ≡ value_word words j → (n : OptionName) → word_of (option_values others j) n ≡ word_of (option_values words j) n →
+      word_of (option_values others (suc j)) n ≡ word_of (option_values words (suc j)) n
   next-same j e f n g =
       word_of-next others j n
-      ∙ ap (λ z. next_word z (value_word others j) (word_of (values_of others j) n) n) e
-      ∙ ap (λ z. next_word (name_word words j) z (word_of (values_of others j) n) n) f
+      ∙ ap (λ z. next_word z (value_word others j) (word_of (option_values others j) n) n) e
+      ∙ ap (λ z. next_word (name_word words j) z (word_of (option_values others j) n) n) f
       ∙ ap (λ z. next_word (name_word words j) (value_word words j) z n) g
       ∙ sym (word_of-next words j n)
 
-  values-front : (j : ℕ) → j ≤ k → (n : Name) → word_of (values_of others j) n ≡ word_of (values_of words j) n
+  values-front : (j : ℕ) → j ≤ k → (n : OptionName) → word_of (option_values others j) n ≡ word_of (option_values words j) n
   values-front zero h n = refl
   values-front (suc j) h n = next-same j (front-word j (omega arith)) (front-value j (omega arith)) n (values-front j (omega arith) n)
 
-  module _ (apart : (n : Name) → is_name (name_of (name_word words k)) n ≡ true → is_name (name_of (name_word words (suc k))) n ≡ true → ⊥) where
-    values-two : (n : Name) → word_of (values_of others (suc (suc k))) n ≡ word_of (values_of words (suc (suc k))) n
+  module _ (apart : (n : OptionName) → is_name (name_of (name_word words k)) n ≡ true → is_name (name_of (name_word words (suc k))) n ≡ true → ⊥) where
+    values-two : (n : OptionName) → word_of (option_values others (suc (suc k))) n ≡ word_of (option_values words (suc (suc k))) n
     values-two n =
         word_of-next others (suc k) n
-        ∙ ap (λ z. next_word z (value_word others (suc k)) (word_of (values_of others (suc k)) n) n) s.second_name
-        ∙ ap (λ z. next_word (name_word words k) z (word_of (values_of others (suc k)) n) n) s.second_value
+        ∙ ap (λ z. next_word z (value_word others (suc k)) (word_of (option_values others (suc k)) n) n) s.second_name
+        ∙ ap (λ z. next_word (name_word words k) z (word_of (option_values others (suc k)) n) n) s.second_value
         ∙ ap (λ z. next_word (name_word words k) (value_word words k) z n) (word_of-next others k n
-        ∙ ap (λ z. next_word z (value_word others k) (word_of (values_of others k) n) n) s.first_name
-        ∙ ap (λ z. next_word (name_word words (suc k)) z (word_of (values_of others k) n) n) s.first_value
+        ∙ ap (λ z. next_word z (value_word others k) (word_of (option_values others k) n) n) s.first_name
+        ∙ ap (λ z. next_word (name_word words (suc k)) z (word_of (option_values others k) n) n) s.first_value
         ∙ ap (λ z. next_word (name_word words (suc k)) (value_word words (suc k)) z n) (values-front k (omega arith) n))
-        ∙ crossing (is_name (name_of (name_word words k)) n) (is_name (name_of (name_word words (suc k))) n) (Some (value_word words k)) (Some (value_word words (suc k))) (word_of (values_of words k) n) (apart n)
+        ∙ crossing (is_name (name_of (name_word words k)) n) (is_name (name_of (name_word words (suc k))) n) (Some (value_word words k)) (Some (value_word words (suc k))) (word_of (option_values words k) n) (apart n)
         ∙ ap (λ z. next_word (name_word words (suc k)) (value_word words (suc k)) z n) (sym (word_of-next words k n))
         ∙ sym (word_of-next words (suc k) n)
 
-    values-behind : (j : ℕ) → suc k < j → (n : Name) → word_of (values_of others j) n ≡ word_of (values_of words j) n
+    values-behind : (j : ℕ) → suc k < j → (n : OptionName) → word_of (option_values others j) n ≡ word_of (option_values words j) n
     values-behind zero h n = absurd (omega arith)
     values-behind (suc j) h n = go (cases_lt (suc k) j) (λ l. values-behind j l n)
       where
-        go : (suc k < j) ⊎ (j ≤ suc k) → (suc k < j → word_of (values_of others j) n ≡ word_of (values_of words j) n) → word_of (values_of others (suc j)) n ≡ word_of (values_of words (suc j)) n
+        go : (suc k < j) ⊎ (j ≤ suc k) → (suc k < j → word_of (option_values others j) n ≡ word_of (option_values words j) n) → word_of (option_values others (suc j)) n ≡ word_of (option_values words (suc j)) n
         go (inl l) before = next-same j (behind-word j l) (behind-value j l) n (before l)
-        go (inr l) before = let same : suc k ≡ j = omega (arith, l, h) in subst (λ z. word_of (values_of others (suc z)) n ≡ word_of (values_of words (suc z)) n) same (values-two n)
+        go (inr l) before = let same : suc k ≡ j = omega (arith, l, h) in subst (λ z. word_of (option_values others (suc z)) n ≡ word_of (option_values words (suc z)) n) same (values-two n)
 
-  module _ (verb : Verb) (a : Right verb (values_of words k) (name_word words k) (value_word words k) (nat_le (length words) (2 * k + 2)))
-      (c : Right verb (values_of words (suc k)) (name_word words (suc k)) (value_word words (suc k)) (nat_le (length words) (2 * suc k + 2))) where
+  module _ (verb : Verb) (a : Right verb (option_values words k) (name_word words k) (value_word words k) (nat_le (length words) (2 * k + 2)))
+      (c : Right verb (option_values words (suc k)) (name_word words (suc k)) (value_word words (suc k)) (nat_le (length words) (2 * suc k + 2))) where
     -- the second name is neither the first nor its twin
-    fresh-at : (n : Name) → is_some (values_of words (suc k) n) ≡ false → (eqb (place a.n) (place n) ≡ false) × (is_some (values_of words k n) ≡ false)
+    fresh-at : (n : OptionName) → is_some (option_values words (suc k) n) ≡ false → (eqb (place a.n) (place n) ≡ false) × (is_some (option_values words k n) ≡ false)
     fresh-at n e =
-        let f = free (is_name (name_of (name_word words k)) n) (value_word words k, 2 * k + 2) (values_of words k n) e in (ap (λ o. is_name o n) (sym a.named) ∙ f.0, f.1)
+        let f = free (is_name (name_of (name_word words k)) n) (value_word words k, 2 * k + 2) (option_values words k n) e in (ap (λ o. is_name o n) (sym a.named) ∙ f.0, f.1)
 
-    here : (eqb (place a.n) (place c.n) ≡ false) × (is_some (values_of words k c.n) ≡ false)
-    here = fresh-at c.n (has-parts (values_of words (suc k)) c.n c.fresh).0
+    here : (eqb (place a.n) (place c.n) ≡ false) × (is_some (option_values words k c.n) ≡ false)
+    here = fresh-at c.n (has-parts (option_values words (suc k)) c.n c.fresh).0
 
-    there : (eqb (place a.n) (place (twin c.n)) ≡ false) × (is_some (values_of words k (twin c.n)) ≡ false)
-    there = fresh-at (twin c.n) (has-parts (values_of words (suc k)) c.n c.fresh).1
+    there : (eqb (place a.n) (place (twin c.n)) ≡ false) × (is_some (option_values words k (twin c.n)) ≡ false)
+    there = fresh-at (twin c.n) (has-parts (option_values words (suc k)) c.n c.fresh).1
 
-    apart : (n : Name) → is_name (name_of (name_word words k)) n ≡ true → is_name (name_of (name_word words (suc k))) n ≡ true → ⊥
+    apart : (n : OptionName) → is_name (name_of (name_word words k)) n ≡ true → is_name (name_of (name_word words (suc k))) n ≡ true → ⊥
     apart n e f =
         let e' : eqb (place a.n) (place n) ≡ true = ap (λ o. is_name o n) (sym a.named) ∙ e in
         let f' : eqb (place c.n) (place n) ≡ true = ap (λ o. is_name o n) (sym c.named) ∙ f in
         let same : place a.n ≡ place c.n = eqb-true (place a.n) (place n) e' ∙ sym (eqb-true (place c.n) (place n) f') in
         no_both (eqb (place a.n) (place c.n)) (eq-eqb (place a.n) (place c.n) same) here.0
 
-    some-front : (j : ℕ) → j ≤ k → (n : Name) → is_some (values_of others j n) ≡ is_some (values_of words j n)
-    some-front j h n = sym (some-word (values_of others j) n) ∙ ap is_some (values-front j h n) ∙ some-word (values_of words j) n
+    some-front : (j : ℕ) → j ≤ k → (n : OptionName) → is_some (option_values others j n) ≡ is_some (option_values words j n)
+    some-front j h n = sym (some-word (option_values others j) n) ∙ ap is_some (values-front j h n) ∙ some-word (option_values words j) n
 
-    some-behind : (j : ℕ) → suc k < j → (n : Name) → is_some (values_of others j n) ≡ is_some (values_of words j n)
-    some-behind j h n = sym (some-word (values_of others j) n) ∙ ap is_some (values-behind apart j h n) ∙ some-word (values_of words j) n
+    some-behind : (j : ℕ) → suc k < j → (n : OptionName) → is_some (option_values others j n) ≡ is_some (option_values words j n)
+    some-behind j h n = sym (some-word (option_values others j) n) ∙ ap is_some (values-behind apart j h n) ∙ some-word (option_values words j) n
 
     not_last : (i : ℕ) → i < length words → nat_le (length others) i ≡ false
     not_last i h = let l = s.long in above (length others) i (omega (arith, l, h))
 
-    first_right : Right verb (values_of others k) (name_word others k) (value_word others k) (nat_le (length others) (2 * k + 2))
+    first_right : Right verb (option_values others k) (name_word others k) (value_word others k) (nat_le (length others) (2 * k + 2))
     first_right = record {
       n = c.n;
       dashes = ap (λ z. starts_with nat_eq z (codes "--")) s.first_name ∙ c.dashes;
       named = ap name_of s.first_name ∙ c.named;
       taken = c.taken;
-      fresh = has-none (values_of others k) c.n (some-front k (omega arith) c.n ∙ here.1) (some-front k (omega arith) (twin c.n) ∙ there.1);
+      fresh = has-none (option_values others k) c.n (some-front k (omega arith) c.n ∙ here.1) (some-front k (omega arith) (twin c.n) ∙ there.1);
       more = let l = s.enough in not_last (2 * k + 2) (omega (arith, l));
       fits = ap (value_rule c.n) s.first_value ∙ c.fits;
     }
 
     -- what stands for the first name in the exchanged words
-    free-then : (n : Name) → eqb (place c.n) (place n) ≡ false → is_some (values_of words k n) ≡ false → is_some (values_of others (suc k) n) ≡ false
+    free-then : (n : OptionName) → eqb (place c.n) (place n) ≡ false → is_some (option_values words k n) ≡ false → is_some (option_values others (suc k) n) ≡ false
     free-then n e f =
-        still_free (is_name (name_of (name_word others k)) n) (value_word others k, 2 * k + 2) (values_of others k n) (ap (λ z. is_name (name_of z) n) s.first_name ∙ ap (λ o. is_name o n) c.named ∙ e) (some-front k (omega arith) n ∙ f)
+        still_free (is_name (name_of (name_word others k)) n) (value_word others k, 2 * k + 2) (option_values others k n) (ap (λ z. is_name (name_of z) n) s.first_name ∙ ap (λ o. is_name o n) c.named ∙ e) (some-front k (omega arith) n ∙ f)
 
-    second_right : Right verb (values_of others (suc k)) (name_word others (suc k)) (value_word others (suc k)) (nat_le (length others) (2 * suc k + 2))
+    second_right : Right verb (option_values others (suc k)) (name_word others (suc k)) (value_word others (suc k)) (nat_le (length others) (2 * suc k + 2))
     second_right =
-        let p = has-parts (values_of words k) a.n a.fresh in
+        let p = has-parts (option_values words k) a.n a.fresh in
         record {
           n = a.n;
           dashes = ap (λ z. starts_with nat_eq z (codes "--")) s.second_name ∙ a.dashes;
           named = ap name_of s.second_name ∙ a.named;
           taken = a.taken;
-          fresh = has-none (values_of others (suc k)) a.n (free-then a.n (eqb-back (place a.n) (place c.n) here.0) p.0) (free-then (twin a.n) (twin-apart a.n c.n there.0) p.1);
+          fresh = has-none (option_values others (suc k)) a.n (free-then a.n (eqb-back (place a.n) (place c.n) here.0) p.0) (free-then (twin a.n) (twin-apart a.n c.n there.0) p.1);
           more = let l = s.enough in not_last (2 * suc k + 2) (omega (arith, l));
           fits = ap (value_rule a.n) s.second_value ∙ a.fits;
         }
@@ -379,25 +379,25 @@ module _ (words others : List (List ℕ)) (k : ℕ) (s : Swapped words others k)
       two : suc k < pairs_in words
       two = let l = s.enough in omega (arith, l)
 
-      right : (j : ℕ) → j < pairs_in words → Right verb (values_of words j) (name_word words j) (value_word words j) (nat_le (length words) (2 * j + 2))
+      right : (j : ℕ) → j < pairs_in words → Right verb (option_values words j) (name_word words j) (value_word words j) (nat_le (length words) (2 * j + 2))
       right j h = right_from verb words j (all_none (broken_pair verb words) (pairs_in words) e j h)
 
-      a : Right verb (values_of words k) (name_word words k) (value_word words k) (nat_le (length words) (2 * k + 2))
+      a : Right verb (option_values words k) (name_word words k) (value_word words k) (nat_le (length words) (2 * k + 2))
       a = right k (omega (arith, two))
 
-      c : Right verb (values_of words (suc k)) (name_word words (suc k)) (value_word words (suc k)) (nat_le (length words) (2 * suc k + 2))
+      c : Right verb (option_values words (suc k)) (name_word words (suc k)) (value_word words (suc k)) (nat_le (length words) (2 * suc k + 2))
       c = right (suc k) two
 
       last : (j : ℕ) → nat_le (length others) (2 * j + 2) ≡ nat_le (length words) (2 * j + 2)
       last j = ap (λ l. nat_le l (2 * j + 2)) s.long
 
-      at_front : (j : ℕ) → j < k → Right verb (values_of others j) (name_word others j) (value_word others j) (nat_le (length others) (2 * j + 2))
+      at_front : (j : ℕ) → j < k → Right verb (option_values others j) (name_word others j) (value_word others j) (nat_le (length others) (2 * j + 2))
       at_front j h =
-          carried verb (values_of words j) (values_of others j) (name_word words j) (name_word others j) (value_word words j) (value_word others j) _ _ (front-word j h) (front-value j h) (some-front verb a c j (omega arith)) (last j) (right j (omega (arith, two)))
+          carried verb (option_values words j) (option_values others j) (name_word words j) (name_word others j) (value_word words j) (value_word others j) _ _ (front-word j h) (front-value j h) (some-front verb a c j (omega arith)) (last j) (right j (omega (arith, two)))
 
-      at_back : (j : ℕ) → j < pairs_in words → suc k < j → Right verb (values_of others j) (name_word others j) (value_word others j) (nat_le (length others) (2 * j + 2))
+      at_back : (j : ℕ) → j < pairs_in words → suc k < j → Right verb (option_values others j) (name_word others j) (value_word others j) (nat_le (length others) (2 * j + 2))
       at_back j l h =
-          carried verb (values_of words j) (values_of others j) (name_word words j) (name_word others j) (value_word words j) (value_word others j) _ _ (behind-word j h) (behind-value j h) (some-behind verb a c j h) (last j) (right j l)
+          carried verb (option_values words j) (option_values others j) (name_word words j) (name_word others j) (value_word words j) (value_word others j) _ _ (behind-word j h) (behind-value j h) (some-behind verb a c j h) (last j) (right j l)
 
       go : (j : ℕ) → j < pairs_in words → (j < k) ⊎ (k ≤ j) → (suc k < j) ⊎ (j ≤ suc k) → (k < j) ⊎ (j ≤ k) → broken_pair verb others j ≡ None
       go j l (inl low) y z = right_to verb others j (at_front j low)
@@ -408,27 +408,27 @@ module _ (words others : List (List ℕ)) (k : ℕ) (s : Swapped words others k)
       each : (j : ℕ) → j < pairs_in others → broken_pair verb others j ≡ None
       each j h = go j (omega (arith, h, pairs)) (cases_lt j k) (cases_lt (suc k) j) (cases_lt k j)
 
-  exchanged-made : (verb : Verb) (command : Command) → first_broken verb words ≡ None → made verb (values_of words (pairs_in words)) (length words) ≡ Ok command →
-      made verb (values_of others (pairs_in others)) (length others) ≡ Ok command
+  exchanged-made : (verb : Verb) (command : Command) → first_broken verb words ≡ None → made verb (option_values words (pairs_in words)) (length words) ≡ Ok command →
+      made verb (option_values others (pairs_in others)) (length others) ≡ Ok command
   exchanged-made verb command e f =
-      ap (λ l. made verb (values_of others (l / 2)) l) s.long ∙ made-same (values_of words (pairs_in words)) (values_of others (pairs_in words)) (values-behind (apart verb a c) (pairs_in words) two) verb (length words) command f
+      ap (λ l. made verb (option_values others (l / 2)) l) s.long ∙ made-same (option_values words (pairs_in words)) (option_values others (pairs_in words)) (values-behind (apart verb a c) (pairs_in words) two) verb (length words) command f
     where
       two : suc k < pairs_in words
       two = let l = s.enough in omega (arith, l)
 
-      a : Right verb (values_of words k) (name_word words k) (value_word words k) (nat_le (length words) (2 * k + 2))
+      a : Right verb (option_values words k) (name_word words k) (value_word words k) (nat_le (length words) (2 * k + 2))
       a = right_from verb words k (all_none (broken_pair verb words) (pairs_in words) e k (omega (arith, two)))
 
-      c : Right verb (values_of words (suc k)) (name_word words (suc k)) (value_word words (suc k)) (nat_le (length words) (2 * suc k + 2))
+      c : Right verb (option_values words (suc k)) (name_word words (suc k)) (value_word words (suc k)) (nat_le (length words) (2 * suc k + 2))
       c = right_from verb words (suc k) (all_none (broken_pair verb words) (pairs_in words) e (suc k) two)
 
   as-same : (o : Option Verb) (command : Command) → reading_as o words ≡ Ok command → reading_as o others ≡ Ok command
   as-same None command e = cc
   as-same (Some verb) command e = go (first_broken verb words) refl e
     where
-      go : (o : Option WordError) → first_broken verb words ≡ o → unless o (made verb (values_of words (pairs_in words)) (length words)) ≡ Ok command → reading_as (Some verb) others ≡ Ok command
+      go : (o : Option WordError) → first_broken verb words ≡ o → unless o (made verb (option_values words (pairs_in words)) (length words)) ≡ Ok command → reading_as (Some verb) others ≡ Ok command
       go (Some x) f g = cc
-      go None f g = ap (λ o. unless o (made verb (values_of others (pairs_in others)) (length others))) (exchanged-right verb f) ∙ exchanged-made verb command f g
+      go None f g = ap (λ o. unless o (made verb (option_values others (pairs_in others)) (length others))) (exchanged-right verb f) ∙ exchanged-made verb command f g
 
   exchange : (command : Command) → reading words ≡ Ok command → reading others ≡ Ok command
   unfolding reading

@@ -6,15 +6,15 @@ use Rattle.std.proofs.lemmas.Option.{none-some}
 use Rattle.ped_words.specs.Making.{budget_of, command_of, count_fits, default_depth, depth_for, depth_of, first_late, gamma_fits, gamma_from, gamma_of, hash_depth, holds_for, is_gamma, is_size, late_rules, limits_of, made, made_of, rounds_of, settings_of, size_fits, unfit, workers_of}
 use Rattle.ped_words.specs.Pedigrees.{last_rank}
 use Rattle.ped_words.specs.Rules.{breaks}
-use Rattle.ped_words.specs.Table.{kind_of, show_of, shape_of, takes}
-use Rattle.ped_words.specs.Values.{Values, list, list_as, number, number_as, pedigree, pedigree_in, shape, show, value}
+use Rattle.ped_words.specs.Table.{value_type_of, show_of, shape_of, takes}
+use Rattle.ped_words.specs.Values.{OptionValues, list, list_as, number, number_as, pedigree, pedigree_in, shape, show, value}
 use Rattle.ped_words.specs.declared.command.Command.{Command}
 use Rattle.ped_words.specs.declared.command.Command.TheVariants as command
 use Rattle.ped_words.specs.declared.command.Settings.{Settings}
 use Rattle.ped_words.specs.declared.rule.Rule.TheVariants as rule
 use Rattle.ped_words.specs.declared.rule.WordError.{WordError}
-use Rattle.ped_words.specs.declared.table.Name.{Name}
-use Rattle.ped_words.specs.declared.table.Name.TheVariants as name
+use Rattle.ped_words.specs.declared.table.OptionName.{OptionName}
+use Rattle.ped_words.specs.declared.table.OptionName.TheVariants as name
 use Rattle.ped_words.specs.declared.table.Verb.{Verb}
 use Rattle.ped_words.specs.declared.table.Verb.TheVariants as verb
 use Rattle.serial_meaning.specs.declared.plan.Limits.{Limits}
@@ -22,17 +22,17 @@ use Rattle.serial_meaning.specs.declared.plan.Show.{Show}
 use Rattle.serial_meaning.specs.declared.plan.Show.TheVariants.{Plain}
 
 -- the word that gives an option
-abbrev pub word_of : Values → Name → Option (List ℕ)
+abbrev pub word_of : OptionValues → OptionName → Option (List ℕ)
 word_of values n = option_map (λ w. w.0) (values n)
 
-pub some-word : (values : Values) (n : Name) → is_some (word_of values n) ≡ is_some (values n)
+pub some-word : (values : OptionValues) (n : OptionName) → is_some (word_of values n) ≡ is_some (values n)
 some-word values n = go (values n)
   where
     go : (o : Option (List ℕ × ℕ)) → is_some (option_map (λ (w : List ℕ × ℕ). w.0) o) ≡ is_some o
     go None = refl
     go (Some w) = refl
 
-value-word : {X : Type 0} (read : List ℕ → Option X) (values : Values) (n : Name) → value read values n ≡ option_and_then read (word_of values n)
+value-word : {X : Type 0} (read : List ℕ → Option X) (values : OptionValues) (n : OptionName) → value read values n ≡ option_and_then read (word_of values n)
 value-word {X} read values n = go (values n)
   where
     go : (o : Option (List ℕ × ℕ)) → option_and_then (λ (w : List ℕ × ℕ). read w.0) o ≡ option_and_then read (option_map (λ (w : List ℕ × ℕ). w.0) o)
@@ -52,21 +52,21 @@ made_ok (Some x) n None c e = cc
 made_ok None n (Some d) c e = let same : d ≡ c = cc in (refl, ap Some same)
 made_ok (Some x) n (Some d) c e = cc
 
-abbrev shown : Values → Show
+abbrev shown : OptionValues → Show
 shown values = unwrap_or (show values) Plain
 
 abbrev settings_with : List ℕ → Limits → Show → ℕ → Settings
 settings_with g l s r = record { gamma = g; limits = l; show = s; rounds = r }
 
-module _ (values others : Values) (same : (n : Name) → word_of others n ≡ word_of values n) where
-  value-same : {X : Type 0} (read : List ℕ → Option X) (n : Name) → value read others n ≡ value read values n
+module _ (values others : OptionValues) (same : (n : OptionName) → word_of others n ≡ word_of values n) where
+  value-same : {X : Type 0} (read : List ℕ → Option X) (n : OptionName) → value read others n ≡ value read values n
   value-same read n = value-word read others n ∙ ap (option_and_then read) (same n) ∙ sym (value-word read values n)
 
-  number-same : (n : Name) → number others n ≡ number values n
-  number-same n = value-same (number_as (kind_of n)) n
+  number-same : (n : OptionName) → number others n ≡ number values n
+  number-same n = value-same (number_as (value_type_of n)) n
 
-  list-same : (n : Name) → list others n ≡ list values n
-  list-same n = value-same (list_as (kind_of n)) n
+  list-same : (n : OptionName) → list others n ≡ list values n
+  list-same n = value-same (list_as (value_type_of n)) n
 
   pedigree-same : pedigree others ≡ pedigree values
   pedigree-same = value-same pedigree_in name.At
@@ -157,7 +157,7 @@ module _ (values others : Values) (same : (n : Name) → word_of others n ≡ wo
       ∙ ap (λ z. holds_for (λ j. holds_for (λ n. nat_le (last_rank j + n) (2 ^ 32)) (number values name.Count)) z) pedigree-same
 
   -- what is in range stays so
-  late-one : (v : Verb) (n : Name) (fits other : Bool) → other ≡ fits → (if takes v n then unfit values n fits else None) ≡ None → (if takes v n then unfit others n other else None) ≡ None
+  late-one : (v : Verb) (n : OptionName) (fits other : Bool) → other ≡ fits → (if takes v n then unfit values n fits else None) ≡ None → (if takes v n then unfit others n other else None) ≡ None
   late-one v n fits other e f = by_takes (takes v n) f
     where
       absent : (o p : Option (List ℕ × ℕ)) → option_map (λ (w : List ℕ × ℕ). w.0) p ≡ option_map (λ (w : List ℕ × ℕ). w.0) o →

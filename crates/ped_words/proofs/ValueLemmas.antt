@@ -4,9 +4,9 @@ use Rattle.std.specs.Prelude.{is_some}
 use Rattle.ped_words.specs.Judging.{broken_name, name_rule}
 use Rattle.ped_words.specs.Table.{name_of}
 use Rattle.ped_words.specs.Given.{IsPlace, all_names, count_among, count_of, one_of}
-use Rattle.ped_words.specs.Values.{Values, has, is_name, name_word, value_word, values_of}
-use Rattle.ped_words.specs.declared.table.Name.{Name}
-use Rattle.ped_words.specs.declared.table.Name.TheVariants as name
+use Rattle.ped_words.specs.Values.{OptionValues, has, is_name, name_word, value_word, option_values}
+use Rattle.ped_words.specs.declared.table.OptionName.{OptionName}
+use Rattle.ped_words.specs.declared.table.OptionName.TheVariants as name
 use Rattle.ped_words.specs.declared.table.Verb.{Verb}
 
 or_left : (a b : Bool) → (a || b) ≡ false → a ≡ false
@@ -21,18 +21,18 @@ one_le : (b : Bool) → one_of b ≤ 1
 one_le true = omega arith
 one_le false = omega arith
 
-count_among_le : (names : List Name) (values : Values) → count_among names values ≤ length names
+count_among_le : (names : List OptionName) (values : OptionValues) → count_among names values ≤ length names
 count_among_le [] values = omega arith
 count_among_le (n ∷ names) values = let one = one_le (is_some (values n)) in let more = count_among_le names values in omega (arith, one, more)
 
-pub count_le : (values : Values) → count_of values ≤ 14
+pub count_le : (values : OptionValues) → count_of values ≤ 14
 count_le values = count_among_le all_names values
 
 -- the values with one that an option gives
-abbrev with_value : Name → (List ℕ × ℕ) → Values → Values
+abbrev with_value : OptionName → (List ℕ × ℕ) → OptionValues → OptionValues
 with_value n w values m = cond (is_name (Some n) m) (Some w) (values m)
 
-count_more : (n : Name) (w : List ℕ × ℕ) (values : Values) → has values n ≡ false → count_of (with_value n w values) ≡ count_of values + 1
+count_more : (n : OptionName) (w : List ℕ × ℕ) (values : OptionValues) → has values n ≡ false → count_of (with_value n w values) ≡ count_of values + 1
 count_more name.Seed w values fresh = let b : one_of (is_some (values name.Seed)) ≡ 0 = ap one_of (or_left _ _ fresh) in omega (arith, b)
 count_more name.Gamma w values fresh = let b : one_of (is_some (values name.Gamma)) ≡ 0 = ap one_of (or_right _ _ fresh) in omega (arith, b)
 count_more name.Depth w values fresh = let b : one_of (is_some (values name.Depth)) ≡ 0 = ap one_of fresh in omega (arith, b)
@@ -49,17 +49,17 @@ count_more name.Below w values fresh = let b : one_of (is_some (values name.Belo
 count_more name.Seeds w values fresh = let b : one_of (is_some (values name.Seeds)) ≡ 0 = ap one_of fresh in omega (arith, b)
 
 -- the values with pair k, whose name is this one
-abbrev next_values : List (List ℕ) → ℕ → Option Name → Values
-next_values words k o m = cond (is_name o m) (Some (value_word words k, 2 * k + 2)) (values_of words k m)
+abbrev next_values : List (List ℕ) → ℕ → Option OptionName → OptionValues
+next_values words k o m = cond (is_name o m) (Some (value_word words k, 2 * k + 2)) (option_values words k m)
 
-pub count_pair : (words : List (List ℕ)) (k : ℕ) (n : Name) → name_of (name_word words k) ≡ Some n → has (values_of words k) n ≡ false → count_of (values_of words (k + 1)) ≡ count_of (values_of words k) + 1
-count_pair words k n named fresh = rw add-one (ap (λ o. count_of (next_values words k o)) named ∙ count_more n (value_word words k, 2 * k + 2) (values_of words k) fresh)
+pub count_pair : (words : List (List ℕ)) (k : ℕ) (n : OptionName) → name_of (name_word words k) ≡ Some n → has (option_values words k) n ≡ false → count_of (option_values words (k + 1)) ≡ count_of (option_values words k) + 1
+count_pair words k n named fresh = rw add-one (ap (λ o. count_of (next_values words k o)) named ∙ count_more n (value_word words k, 2 * k + 2) (option_values words k) fresh)
 
 -- where the value of an option stands, one pair more
 
-module _ (words : List (List ℕ)) (k : ℕ) (n : Name) where
-  here : (b : Bool) → is_name (name_of (name_word words k)) n ≡ b → values_of words (k + 1) n ≡ cond b (Some (value_word words k, 2 * k + 2)) (values_of words k n)
-  here b named = rw add-one (ap (λ t. cond t (Some (value_word words k, 2 * k + 2)) (values_of words k n)) named)
+module _ (words : List (List ℕ)) (k : ℕ) (n : OptionName) where
+  here : (b : Bool) → is_name (name_of (name_word words k)) n ≡ b → option_values words (k + 1) n ≡ cond b (Some (value_word words k, 2 * k + 2)) (option_values words k n)
+  here b named = rw add-one (ap (λ t. cond t (Some (value_word words k, 2 * k + 2)) (option_values words k n)) named)
 
   pub place_here : (word : List ℕ) → word ≡ name_word words k → is_name (name_of word) n ≡ true → 2 * k + 2 < length words → IsPlace words (k + 1) n (Some (2 * k + 2))
   place_here word is named within = (here true (ap (λ w. is_name (name_of w) n) (sym is) ∙ named), within)
@@ -68,11 +68,11 @@ module _ (words : List (List ℕ)) (k : ℕ) (n : Name) where
   place_before word is named None p = here false (ap (λ w. is_name (name_of w) n) (sym is) ∙ named) ∙ p
   place_before word is named (Some at) p = (here false (ap (λ w. is_name (name_of w) n) (sym is) ∙ named) ∙ p.0, p.1)
 
-pub same_name : (verb : Verb) (words : List (List ℕ)) (k len last : ℕ) (given : Values) (word : List ℕ) → given ≡ values_of words k → word ≡ name_word words k → len ≡ length words → last ≡ 2 * k + 2 →
+pub same_name : (verb : Verb) (words : List (List ℕ)) (k len last : ℕ) (given : OptionValues) (word : List ℕ) → given ≡ option_values words k → word ≡ name_word words k → len ≡ length words → last ≡ 2 * k + 2 →
     broken_name verb words k ≡ name_rule verb given word (leb len last)
 same_name verb words k len last given word values named long behind =
     sym
     (ap (λ v. name_rule verb v word (leb len last)) values
-    ∙ ap (λ w. name_rule verb (values_of words k) w (leb len last)) named
-    ∙ ap (λ n. name_rule verb (values_of words k) (name_word words k) (leb n last)) long
-    ∙ ap (λ n. name_rule verb (values_of words k) (name_word words k) (leb (length words) n)) behind)
+    ∙ ap (λ w. name_rule verb (option_values words k) w (leb len last)) named
+    ∙ ap (λ n. name_rule verb (option_values words k) (name_word words k) (leb n last)) long
+    ∙ ap (λ n. name_rule verb (option_values words k) (name_word words k) (leb (length words) n)) behind)

@@ -2,47 +2,47 @@
 -- options were given.
 use Rattle.std.specs.Prelude.{◌≡◌, ℕ, ◌+◌, ◌^◌, ◌<◌, ◌≤◌, Bool, true, if◌then◌else◌, is_some, Option, Some, None, List, [], ◌∷◌, length}
 use Rattle.ped_words.specs.Numbers.{are_few}
-use Rattle.ped_words.specs.Table.{kind_of}
-use Rattle.ped_words.specs.Values.{Values, IsWithin, index, list, number, values_of, word_at}
-use Rattle.ped_words.specs.declared.table.Kind.{Kind}
-use Rattle.ped_words.specs.declared.table.Kind.TheVariants as kind
-use Rattle.ped_words.specs.declared.table.Name.{Name}
-use Rattle.ped_words.specs.declared.table.Name.TheVariants as name
+use Rattle.ped_words.specs.Table.{value_type_of}
+use Rattle.ped_words.specs.Values.{OptionValues, IsInRange, index, list, number, option_values, word_at}
+use Rattle.ped_words.specs.declared.table.ValueType.{ValueType}
+use Rattle.ped_words.specs.declared.table.ValueType.TheVariants as value_type
+use Rattle.ped_words.specs.declared.table.OptionName.{OptionName}
+use Rattle.ped_words.specs.declared.table.OptionName.TheVariants as name
 
 -- the words of a command line, and how many of the pairs after the command are looked at
 pub record GivenWords : Type 0 where
   pub words : List (List ℕ)
   pub pairs : ℕ
 
-abbrev pub values_in : GivenWords → Values
-values_in given = values_of given.words given.pairs
+abbrev pub values_in : GivenWords → OptionValues
+values_in given = option_values given.words given.pairs
 
 -- At this place stands the word that gives an option among the first k pairs, if one does.
-abbrev pub IsPlace : List (List ℕ) → ℕ → Name → Option ℕ → Type 0
-IsPlace words k n None = values_of words k n ≡ None
-IsPlace words k n (Some at) = (values_of words k n ≡ Some (word_at words at, at)) × (at < length words)
+abbrev pub IsPlace : List (List ℕ) → ℕ → OptionName → Option ℕ → Type 0
+IsPlace words k n None = option_values words k n ≡ None
+IsPlace words k n (Some at) = (option_values words k n ≡ Some (word_at words at, at)) × (at < length words)
 
--- The kind is of numbers below 2^32.
-abbrev pub IsSmall : Kind → Type 0
-IsSmall (kind.Number least most) = most < 2 ^ 32
+-- The type is of numbers below 2^32.
+abbrev pub IsSmall : ValueType → Type 0
+IsSmall (value_type.Number least most) = most < 2 ^ 32
 IsSmall _ = ⊥
 
 -- This is the number that an option gives, and the index of its word.
-abbrev pub IsPlaced : Values → Name → Option (ℕ × ℕ) → Type 0
+abbrev pub IsPlaced : OptionValues → OptionName → Option (ℕ × ℕ) → Type 0
 IsPlaced values n None = number values n ≡ None
-IsPlaced values n (Some placed) = (number values n ≡ Some placed.0) × (index values n ≡ Some placed.1) × IsWithin (kind_of n) placed.0
+IsPlaced values n (Some placed) = (number values n ≡ Some placed.0) × (index values n ≡ Some placed.1) × IsInRange (value_type_of n) placed.0
 
 -- This is the list that an option gives, and the index of its word.
-abbrev pub IsPlacedList : Values → Name → Option (List ℕ × ℕ) → Type 0
+abbrev pub IsPlacedList : OptionValues → OptionName → Option (List ℕ × ℕ) → Type 0
 IsPlacedList values n None = list values n ≡ None
 IsPlacedList values n (Some placed) = (list values n ≡ Some placed.0) × (index values n ≡ Some placed.1)
 
--- The kind takes so many numbers.
-abbrev pub HasCount : Kind → ℕ → Type 0
-HasCount (kind.Numbers most) n = (1 ≤ n) × (are_few most n ≡ true)
+-- The type takes so many numbers.
+abbrev pub HasCount : ValueType → ℕ → Type 0
+HasCount (value_type.Numbers most) n = (1 ≤ n) × (are_few most n ≡ true)
 HasCount _ n = ⊥
 
-abbrev pub all_names : List Name
+abbrev pub all_names : List OptionName
 all_names =
     name.Seed ∷ name.Gamma ∷ name.Depth ∷ name.Budget ∷ name.Workers ∷ name.Show ∷ name.Number ∷ name.At ∷ name.Shape ∷ name.Size ∷ name.Rounds ∷ name.Count ∷ name.Below ∷ name.Seeds ∷ []
 
@@ -50,9 +50,9 @@ abbrev pub one_of : Bool → ℕ
 one_of b = if b then 1 else 0
 
 -- how many of these options were given
-abbrev pub count_among : List Name → Values → ℕ
+abbrev pub count_among : List OptionName → OptionValues → ℕ
 count_among [] values = 0
 count_among (n ∷ names) values = one_of (is_some (values n)) + count_among names values
 
-abbrev pub count_of : Values → ℕ
+abbrev pub count_of : OptionValues → ℕ
 count_of values = count_among all_names values

@@ -5,14 +5,14 @@ use Rattle.std.specs.Option.{option_or}
 use Rattle.ped_words.specs.Numbers.{list_rule, number_rule}
 use Rattle.ped_words.specs.Pedigrees.{ped_rule}
 use Rattle.ped_words.specs.Rules.{broken_at}
-use Rattle.ped_words.specs.Table.{kind_of, name_of, shape_of, show_of, takes}
-use Rattle.ped_words.specs.Values.{Values, has, name_word, value_word, values_of}
+use Rattle.ped_words.specs.Table.{value_type_of, name_of, shape_of, show_of, takes}
+use Rattle.ped_words.specs.Values.{OptionValues, has, name_word, value_word, option_values}
 use Rattle.ped_words.specs.declared.rule.Rule.{Rule}
 use Rattle.ped_words.specs.declared.rule.Rule.TheVariants as rule
 use Rattle.ped_words.specs.declared.rule.WordError.{WordError}
-use Rattle.ped_words.specs.declared.table.Kind.{Kind}
-use Rattle.ped_words.specs.declared.table.Kind.TheVariants as kind
-use Rattle.ped_words.specs.declared.table.Name.{Name}
+use Rattle.ped_words.specs.declared.table.ValueType.{ValueType}
+use Rattle.ped_words.specs.declared.table.ValueType.TheVariants as value_type
+use Rattle.ped_words.specs.declared.table.OptionName.{OptionName}
 use Rattle.ped_words.specs.declared.table.Verb.{Verb}
 
 -- the first of these rules that is broken: beside each stands whether it is
@@ -21,13 +21,13 @@ first_of [] = None
 first_of (here ∷ others) = if here.1 then Some here.0 else first_of others
 
 -- Whether there is a name, and this holds of it.
-abbrev pub holds_of : (Name → Bool) → Option Name → Bool
+abbrev pub holds_of : (OptionName → Bool) → Option OptionName → Bool
 holds_of test None = false
 holds_of test (Some n) = test n
 
 -- The rules for a word where a name is due, in the order in which they are judged: it begins as names do, it is the name of an option that the
 -- command has, that option wasn't given before, and a word follows.
-abbrev pub name_rules : Verb → Values → List ℕ → Bool → List (Rule × Bool)
+abbrev pub name_rules : Verb → OptionValues → List ℕ → Bool → List (Rule × Bool)
 name_rules verb given word is_last =
     (rule.StrayWord, not (starts_with nat_eq word (codes "--"))) ∷
     (rule.UnknownOption, not (holds_of (takes verb) (name_of word))) ∷
@@ -36,24 +36,24 @@ name_rules verb given word is_last =
     []
 
 -- the first rule that a word breaks where a name is due
-abbrev pub name_rule : Verb → Values → List ℕ → Bool → Option Rule
+abbrev pub name_rule : Verb → OptionValues → List ℕ → Bool → Option Rule
 name_rule verb given word is_last = first_of (name_rules verb given word is_last)
 
--- the rule that a word breaks as a value of this kind
-abbrev pub kind_rule : Kind → List ℕ → Option Rule
-kind_rule (kind.Number least most) word = number_rule least most word
-kind_rule (kind.Numbers most) word = list_rule most word
-kind_rule kind.Pedigree word = ped_rule word
-kind_rule kind.Show word = if is_some (show_of word) then None else Some rule.BadValue
-kind_rule kind.Shape word = if is_some (shape_of word) then None else Some rule.BadValue
+-- the rule that a word breaks as a value of this type
+abbrev pub type_rule : ValueType → List ℕ → Option Rule
+type_rule (value_type.Number least most) word = number_rule least most word
+type_rule (value_type.Numbers most) word = list_rule most word
+type_rule value_type.Pedigree word = ped_rule word
+type_rule value_type.Show word = if is_some (show_of word) then None else Some rule.BadValue
+type_rule value_type.Shape word = if is_some (shape_of word) then None else Some rule.BadValue
 
 -- the rule that a word breaks as the value of this option
-abbrev pub value_rule : Name → List ℕ → Option Rule
-value_rule n word = kind_rule (kind_of n) word
+abbrev pub value_rule : OptionName → List ℕ → Option Rule
+value_rule n word = type_rule (value_type_of n) word
 
 -- the first rule that the name of pair k breaks, judged with the pairs before it
 abbrev pub broken_name : Verb → List (List ℕ) → ℕ → Option Rule
-broken_name verb words k = name_rule verb (values_of words k) (name_word words k) (nat_le (length words) (2 * k + 2))
+broken_name verb words k = name_rule verb (option_values words k) (name_word words k) (nat_le (length words) (2 * k + 2))
 
 -- the rule that the value of pair k breaks, as the option's that its name names
 abbrev pub broken_value : List (List ℕ) → ℕ → Option Rule

@@ -12,15 +12,15 @@ use Rattle.serial_meaning.specs.declared.plan.Show.TheVariants.{Plain}
 use Rattle.ped_words.specs.Pedigrees.{last_rank}
 use Rattle.ped_words.specs.Rules.{breaks, unless}
 use Rattle.ped_words.specs.Table.{takes}
-use Rattle.ped_words.specs.Values.{Values, index, list, number, pedigree, shape, show}
+use Rattle.ped_words.specs.Values.{OptionValues, index, list, number, pedigree, shape, show}
 use Rattle.ped_words.specs.declared.command.Command.{Command}
 use Rattle.ped_words.specs.declared.command.Command.TheVariants as command
 use Rattle.ped_words.specs.declared.command.Settings.{Settings}
 use Rattle.ped_words.specs.declared.rule.Rule.TheVariants as rule
 use Rattle.ped_words.specs.declared.rule.WordError.{WordError}
 use Rattle.ped_words.specs.declared.rule.WordError.TheVariants as word_error
-use Rattle.ped_words.specs.declared.table.Name.{Name}
-use Rattle.ped_words.specs.declared.table.Name.TheVariants as name
+use Rattle.ped_words.specs.declared.table.OptionName.{OptionName}
+use Rattle.ped_words.specs.declared.table.OptionName.TheVariants as name
 use Rattle.ped_words.specs.declared.table.Verb.{Verb}
 use Rattle.ped_words.specs.declared.table.Verb.TheVariants as verb
 
@@ -32,19 +32,19 @@ default_depth = 256
 abbrev pub hash_depth : ℕ
 hash_depth = 512
 
-abbrev pub depth_of : Values → ℕ
+abbrev pub depth_of : OptionValues → ℕ
 depth_of values = unwrap_or (number values name.Depth) default_depth
 
-abbrev pub budget_of : Values → ℕ
+abbrev pub budget_of : OptionValues → ℕ
 budget_of values = unwrap_or (number values name.Budget) 1000000
 
-abbrev pub limits_of : Values → Limits
+abbrev pub limits_of : OptionValues → Limits
 limits_of values = record { depth = depth_of values; budget = budget_of values }
 
-abbrev pub workers_of : Values → ℕ
+abbrev pub workers_of : OptionValues → ℕ
 workers_of values = unwrap_or (number values name.Workers) 4
 
-abbrev pub rounds_of : Values → ℕ
+abbrev pub rounds_of : OptionValues → ℕ
 rounds_of values = unwrap_or (number values name.Rounds) 4
 
 -- a list with zeros after it, or else the coefficients of a seed
@@ -53,10 +53,10 @@ gamma_from None seed depth = coefficients seed depth
 gamma_from (Some given) seed depth = padded given depth
 
 -- by default the coefficients of seed 0
-abbrev pub gamma_of : Values → ℕ → List ℕ
+abbrev pub gamma_of : OptionValues → ℕ → List ℕ
 gamma_of values depth = gamma_from (list values name.Gamma) (unwrap_or (number values name.Seed) 0) depth
 
-abbrev pub settings_of : Values → Settings
+abbrev pub settings_of : OptionValues → Settings
 settings_of values = record {
   gamma = gamma_of values (depth_of values);
   limits = limits_of values;
@@ -65,7 +65,7 @@ settings_of values = record {
 }
 
 -- There is none where an option is missing that the command needs.
-abbrev pub command_of : Verb → Values → Option Command
+abbrev pub command_of : Verb → OptionValues → Option Command
 command_of verb.Run values = Some (command.Run (settings_of values) (workers_of values))
 command_of verb.Serial values = Some (command.Serial (settings_of values))
 command_of verb.Sim values = option_map (λ n. command.Sim (settings_of values) (workers_of values) n) (number values name.Number)
@@ -89,11 +89,11 @@ holds_for test (Some x) = test x
 abbrev pub is_gamma : List ℕ → ℕ → Bool
 is_gamma given depth = nat_le (length given) depth && not (is_some (position is_too_big given))
 
-abbrev pub gamma_fits : Values → ℕ → Bool
+abbrev pub gamma_fits : OptionValues → ℕ → Bool
 gamma_fits values depth = holds_for (λ given. is_gamma given depth) (list values name.Gamma)
 
 -- how many coefficients the command has
-abbrev pub depth_for : Verb → Values → ℕ
+abbrev pub depth_for : Verb → OptionValues → ℕ
 depth_for verb.Hash values = hash_depth
 depth_for verb.Stream values = hash_depth
 depth_for _ values = depth_of values
@@ -109,23 +109,23 @@ is_size Fib n = nat_le n 30
 is_size Tree n = nat_le n 20
 is_size Loop n = nat_le 1 n && nat_le n 4096
 
-abbrev pub size_fits : Values → Bool
+abbrev pub size_fits : OptionValues → Bool
 size_fits values = holds_for (λ s. holds_for (λ n. is_size s n) (number values name.Size)) (shape values)
 
 -- The ranks from the pedigree's last one on are enough for the count.
-abbrev pub count_fits : Values → Bool
+abbrev pub count_fits : OptionValues → Bool
 count_fits values = holds_for (λ j. holds_for (λ n. nat_le (last_rank j + n) (2 ^ 32)) (number values name.Count)) (pedigree values)
 
 -- What only all words together show, in the order in which it is judged: of each of these options, whether its value is in range.
-abbrev pub late_rules : Verb → Values → List (Name × Bool)
+abbrev pub late_rules : Verb → OptionValues → List (OptionName × Bool)
 late_rules verb values = (name.Gamma, gamma_fits values (depth_for verb values)) ∷ (name.Size, size_fits values) ∷ (name.Count, count_fits values) ∷ []
 
 -- out of range at the word that gives this option, unless its value fits
-abbrev pub unfit : Values → Name → Bool → Option WordError
+abbrev pub unfit : OptionValues → OptionName → Bool → Option WordError
 unfit values n fits = if fits then None else option_map (λ i. breaks rule.OutOfRange i) (index values n)
 
 -- the first of these rules that is broken, of the options that the command has
-abbrev pub first_late : Verb → Values → List (Name × Bool) → Option WordError
+abbrev pub first_late : Verb → OptionValues → List (OptionName × Bool) → Option WordError
 first_late verb values [] = None
 first_late verb values (late ∷ others) = option_or (if takes verb late.0 then unfit values late.0 late.1 else None) (first_late verb values others)
 
@@ -134,5 +134,5 @@ made_of broken words None = Err (breaks rule.MissingOption words)
 made_of broken words (Some c) = unless broken (Ok c)
 
 -- the command that these values make after so many words, or the first rule that they break there
-abbrev pub made : Verb → Values → ℕ → Result Command WordError
+abbrev pub made : Verb → OptionValues → ℕ → Result Command WordError
 made verb values words = made_of (first_late verb values (late_rules verb values)) words (command_of verb values)

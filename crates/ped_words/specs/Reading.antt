@@ -4,7 +4,7 @@ use Rattle.ped_words.specs.Judging.{first_broken, pairs_in}
 use Rattle.ped_words.specs.Making.{made}
 use Rattle.ped_words.specs.Rules.{breaks, unless}
 use Rattle.ped_words.specs.Table.{verb_of}
-use Rattle.ped_words.specs.Values.{values_of, word_at}
+use Rattle.ped_words.specs.Values.{option_values, word_at}
 use Rattle.ped_words.specs.declared.command.Command.{Command}
 use Rattle.ped_words.specs.declared.rule.Rule.TheVariants.{NoCommand, UnknownCommand}
 use Rattle.ped_words.specs.declared.rule.WordError.{WordError}
@@ -13,7 +13,7 @@ use Rattle.ped_words.specs.declared.table.Verb.{Verb}
 -- The words in front are judged before what all of them show together.
 abbrev pub reading_as : Option Verb → List (List ℕ) → Result Command WordError
 reading_as None words = Err (breaks UnknownCommand 0)
-reading_as (Some verb) words = unless (first_broken verb words) (made verb (values_of words (pairs_in words)) (length words))
+reading_as (Some verb) words = unless (first_broken verb words) (made verb (option_values words (pairs_in words)) (length words))
 
 -- Words that give a command break no rule, and others break one rule first: so a list of words has one reading.
 unfoldable pub reading : List (List ℕ) → Result Command WordError

@@ -8,12 +8,12 @@ use Rattle.ped_gen.specs.declared.shape.Shape.TheVariants as shape
 use Rattle.serial_meaning.specs.Plan.{most_depth}
 use Rattle.serial_meaning.specs.declared.plan.Show.{Show}
 use Rattle.serial_meaning.specs.declared.plan.Show.TheVariants as show
-use Rattle.ped_words.specs.declared.table.Kind.{Kind}
-use Rattle.ped_words.specs.declared.table.Kind.TheVariants as kind
+use Rattle.ped_words.specs.declared.table.ValueType.{ValueType}
+use Rattle.ped_words.specs.declared.table.ValueType.TheVariants as value_type
 use Rattle.ped_words.specs.declared.table.Verb.{Verb}
 use Rattle.ped_words.specs.declared.table.Verb.TheVariants as verb
-use Rattle.ped_words.specs.declared.table.Name.{Name}
-use Rattle.ped_words.specs.declared.table.Name.TheVariants as name
+use Rattle.ped_words.specs.declared.table.OptionName.{OptionName}
+use Rattle.ped_words.specs.declared.table.OptionName.TheVariants as name
 
 -- what stands beside a word in a table
 abbrev pub entry : {X : Type 0} → List (List ℕ × X) → List ℕ → Option X
@@ -37,7 +37,7 @@ verb_of word =
     [])
     word
 
-abbrev pub name_of : List ℕ → Option Name
+abbrev pub name_of : List ℕ → Option OptionName
 name_of word =
     entry
     ((codes "--seed", name.Seed) ∷
@@ -57,7 +57,7 @@ name_of word =
     [])
     word
 
-abbrev pub options : Verb → List Name
+abbrev pub options : Verb → List OptionName
 options verb.Run = name.Seed ∷ name.Gamma ∷ name.Depth ∷ name.Budget ∷ name.Workers ∷ name.Show ∷ name.Rounds ∷ []
 options verb.Serial = name.Seed ∷ name.Gamma ∷ name.Depth ∷ name.Budget ∷ name.Show ∷ name.Rounds ∷ []
 options verb.Sim = name.Number ∷ name.Seed ∷ name.Gamma ∷ name.Depth ∷ name.Budget ∷ name.Workers ∷ name.Show ∷ name.Rounds ∷ []
@@ -71,7 +71,7 @@ options verb.Span = name.Seed ∷ name.Gamma ∷ name.Depth ∷ name.Budget ∷ 
 options verb.Batch = name.Seeds ∷ name.Depth ∷ name.Budget ∷ name.Workers ∷ name.Show ∷ name.Rounds ∷ []
 
 -- a number for each name, so that names can be compared
-abbrev pub place : Name → ℕ
+abbrev pub place : OptionName → ℕ
 place name.Seed = 0
 place name.Gamma = 1
 place name.Depth = 2
@@ -87,7 +87,7 @@ place name.Count = 11
 place name.Below = 12
 place name.Seeds = 13
 
-abbrev pub takes : Verb → Name → Bool
+abbrev pub takes : Verb → OptionName → Bool
 takes v n = list_any (λ m. place m == place n) (options v)
 
 -- a stream has at most so many numbers
@@ -99,21 +99,21 @@ abbrev pub most_seeds : ℕ
 most_seeds = 256
 
 -- what the value of an option is, and its range
-abbrev pub kind_of : Name → Kind
-kind_of name.Seed = kind.Number 0 (2 ^ 64 - 1)
-kind_of name.Gamma = kind.Numbers None
-kind_of name.Depth = kind.Number 1 most_depth
-kind_of name.Budget = kind.Number 1 4294967295
-kind_of name.Workers = kind.Number 1 64
-kind_of name.Show = kind.Show
-kind_of name.Number = kind.Number 0 (2 ^ 64 - 1)
-kind_of name.At = kind.Pedigree
-kind_of name.Shape = kind.Shape
-kind_of name.Size = kind.Number 0 (2 ^ 64 - 1)
-kind_of name.Rounds = kind.Number 0 most_rounds
-kind_of name.Count = kind.Number 1 most_count
-kind_of name.Below = kind.Number 1 (2 ^ 64 - 1)
-kind_of name.Seeds = kind.Numbers (Some most_seeds)
+abbrev pub value_type_of : OptionName → ValueType
+value_type_of name.Seed = value_type.Number 0 (2 ^ 64 - 1)
+value_type_of name.Gamma = value_type.Numbers None
+value_type_of name.Depth = value_type.Number 1 most_depth
+value_type_of name.Budget = value_type.Number 1 4294967295
+value_type_of name.Workers = value_type.Number 1 64
+value_type_of name.Show = value_type.Show
+value_type_of name.Number = value_type.Number 0 (2 ^ 64 - 1)
+value_type_of name.At = value_type.Pedigree
+value_type_of name.Shape = value_type.Shape
+value_type_of name.Size = value_type.Number 0 (2 ^ 64 - 1)
+value_type_of name.Rounds = value_type.Number 0 most_rounds
+value_type_of name.Count = value_type.Number 1 most_count
+value_type_of name.Below = value_type.Number 1 (2 ^ 64 - 1)
+value_type_of name.Seeds = value_type.Numbers (Some most_seeds)
 
 abbrev pub show_of : List ℕ → Option Show
 show_of word = entry ((codes "plain", show.Plain) ∷ (codes "log", show.Log) ∷ []) word

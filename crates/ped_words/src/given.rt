@@ -3,13 +3,13 @@
 ghost use Rattle.std.specs.Prelude.{◌≡◌, ◌+◌, ◌*◌, ◌<◌, ◌≤◌, ◌^◌, IfErr, IfOk, IfSome, length, map, string_bytes, unwrap_or};
 ghost use Rattle.std.specs.Option.{option_map};
 ghost use Rattle.ped_words.specs.Pedigrees.{most_ranks};
-ghost use Rattle.ped_words.specs.Table.{kind_of, name_of};
+ghost use Rattle.ped_words.specs.Table.{value_type_of, name_of};
 ghost use Rattle.ped_words.specs.Given.{HasCount, IsPlace, IsPlaced, IsPlacedList, IsSmall, values_in};
-ghost use Rattle.ped_words.specs.Values.{IsWithin, has, is_name, list_as, number, number_as, pedigree, shape, show, word_at};
+ghost use Rattle.ped_words.specs.Values.{IsInRange, has, is_name, list_as, number, number_as, pedigree, shape, show, word_at};
 
 use crate::number::{number_in, number_list};
 use crate::rule::WordError;
-use crate::table::{Kind, Name};
+use crate::table::{OptionName, ValueType};
 use crate::value::{pedigree_in, shape_of, show_of};
 use ped_gen::Shape;
 use ped_path::Pedigree;
@@ -44,17 +44,17 @@ pub(crate) fn text_at(words: &[String], index: usize) -> &str
 }
 
 /// Whether a word names this option.
-fn is_name(word: &str, name: Name) -> bool
+fn is_name(word: &str, name: OptionName) -> bool
     ensures { result ≡ is_name (name_of word.now) name }
 {
-    match Name::of_word(word) {
+    match OptionName::of_word(word) {
         Some(other) => other.is(name),
         None => false,
     }
 }
 
 /// The index of the word that gives an option among the first pairs.
-fn place_of(words: &[String], pairs: u32, name: Name) -> Option<u32>
+fn place_of(words: &[String], pairs: u32, name: OptionName) -> Option<u32>
     requires within { 2 * pairs < length words.now }
     requires small { 2 * pairs < 2 ^ 32 }
     ensures { IsPlace (map string_bytes words.now) pairs name result }
@@ -67,7 +67,7 @@ fn place_of(words: &[String], pairs: u32, name: Name) -> Option<u32>
 }
 
 /// The index of the word that gives an option among the pairs with this one, from that among those before it.
-fn next_place(words: &[String], pair: u32, name: Name, before: Option<u32>) -> Option<u32>
+fn next_place(words: &[String], pair: u32, name: OptionName, before: Option<u32>) -> Option<u32>
     requires within { 2 * pair + 2 < length words.now }
     requires small { 2 * pair + 2 < 2 ^ 32 }
     requires before { IsPlace (map string_bytes words.now) pair name before }
@@ -98,7 +98,7 @@ impl<'a> Given<'a> {
     }
 
     /// The index of the word that gives an option.
-    pub(crate) fn place(&self, name: Name) -> Option<u32>
+    pub(crate) fn place(&self, name: OptionName) -> Option<u32>
         ensures { IsPlace self.now.words self.now.pairs name result }
     {
         place_of(self.words, self.pairs, name)
@@ -113,34 +113,34 @@ impl<'a> Given<'a> {
     }
 
     /// Whether an option was given. A seed and coefficients exclude each other, so either counts as the other.
-    pub(crate) fn has(&self, name: Name) -> bool
+    pub(crate) fn has(&self, name: OptionName) -> bool
         ensures { result ≡ has (values_in self.now) name }
     {
         match name {
-            Name::Seed | Name::Gamma => {
-                self.place(Name::Seed).is_some() || self.place(Name::Gamma).is_some()
+            OptionName::Seed | OptionName::Gamma => {
+                self.place(OptionName::Seed).is_some() || self.place(OptionName::Gamma).is_some()
             }
             _ => self.place(name).is_some(),
         }
     }
 
     /// The number that an option gives, and the index of its word.
-    pub(crate) fn placed(&self, name: Name) -> Option<(u64, u32)>
+    pub(crate) fn placed(&self, name: OptionName) -> Option<(u64, u32)>
         ensures { IsPlaced (values_in self.now) name result }
     {
         let Some(at) = self.place(name) else {
             return None;
         };
-        match number_as(name.kind(), self.text(at)) {
+        match number_as(name.value_type(), self.text(at)) {
             Some(number) => Some((number, at)),
             None => None,
         }
     }
 
     /// The number that an option gives.
-    pub(crate) fn number(&self, name: Name) -> Option<u64>
+    pub(crate) fn number(&self, name: OptionName) -> Option<u64>
         ensures value { result ≡ number (values_in self.now) name }
-        ensures range { IfSome result (IsWithin (kind_of name)) }
+        ensures range { IfSome result (IsInRange (value_type_of name)) }
     {
         match self.placed(name) {
             Some((number, _)) => Some(number),
@@ -149,11 +149,11 @@ impl<'a> Given<'a> {
     }
 
     /// The number below 2^32 that an option gives, or this one where it isn't given.
-    pub(crate) fn small_number(&self, name: Name, default: u32) -> u32
-        requires small { IsSmall (kind_of name) }
-        requires within { IsWithin (kind_of name) default }
+    pub(crate) fn small_number(&self, name: OptionName, default: u32) -> u32
+        requires small { IsSmall (value_type_of name) }
+        requires within { IsInRange (value_type_of name) default }
         ensures value { result ≡ unwrap_or (number (values_in self.now) name) default }
-        ensures range { IsWithin (kind_of name) result }
+        ensures range { IsInRange (value_type_of name) result }
     {
         match self.number(name) {
             Some(number) => number as u32,
@@ -165,15 +165,15 @@ impl<'a> Given<'a> {
     pub(crate) fn list(
         &self,
         alloc: Global,
-        name: Name,
+        name: OptionName,
     ) -> Result<Option<(Vec<u64>, u32)>, AllocError>
         ensures value { IfOk result (λ placed. IsPlacedList (values_in self.now) name (option_map (λ p. (p.0.items, p.1)) placed)) }
-        ensures count { IfOk result (λ placed. IfSome placed (λ p. HasCount (kind_of name) (length p.0.items))) }
+        ensures count { IfOk result (λ placed. IfSome placed (λ p. HasCount (value_type_of name) (length p.0.items))) }
     {
         let Some(at) = self.place(name) else {
             return Ok(None);
         };
-        match list_as(alloc, name.kind(), self.text(at))? {
+        match list_as(alloc, name.value_type(), self.text(at))? {
             Some(list) => Ok(Some((list, at))),
             None => Ok(None),
         }
@@ -185,7 +185,7 @@ impl<'a> Given<'a> {
         ensures few { IfOk result (λ j. IfSome j (λ ranks. length ranks ≤ most_ranks)) }
         ensures memory { IfErr result (λ e. e ≡ WordError.Memory) }
     {
-        let Some(at) = self.place(Name::At) else {
+        let Some(at) = self.place(OptionName::At) else {
             return Ok(None);
         };
         match pedigree_in(alloc, self.text(at))? {
@@ -198,7 +198,7 @@ impl<'a> Given<'a> {
     pub(crate) fn show(&self) -> Option<Show>
         ensures { result ≡ show (values_in self.now) }
     {
-        match self.place(Name::Show) {
+        match self.place(OptionName::Show) {
             Some(at) => show_of(self.text(at)),
             None => None,
         }
@@ -208,19 +208,19 @@ impl<'a> Given<'a> {
     pub(crate) fn shape(&self) -> Option<Shape>
         ensures { result ≡ shape (values_in self.now) }
     {
-        match self.place(Name::Shape) {
+        match self.place(OptionName::Shape) {
             Some(at) => shape_of(self.text(at)),
             None => None,
         }
     }
 }
 
-/// The number that a word is, as a value of this kind.
-fn number_as(kind: Kind, word: &str) -> Option<u64>
-    ensures value { result ≡ number_as kind word.now }
-    ensures range { IfSome result (IsWithin kind) }
+/// The number that a word is, as a value of this type.
+fn number_as(value_type: ValueType, word: &str) -> Option<u64>
+    ensures value { result ≡ number_as value_type word.now }
+    ensures range { IfSome result (IsInRange value_type) }
 {
-    let Kind::Number { least, most } = kind else {
+    let ValueType::Number { least, most } = value_type else {
         return None;
     };
     match number_in(word, least, most) {
@@ -229,13 +229,13 @@ fn number_as(kind: Kind, word: &str) -> Option<u64>
     }
 }
 
-/// The numbers that a word is, as a value of this kind.
+/// The numbers that a word is, as a value of this type.
 #[tactic(auto, using(crate::proofs::NumberLemmas::counted))]
-fn list_as(alloc: Global, kind: Kind, word: &str) -> Result<Option<Vec<u64>>, AllocError>
-    ensures value { IfOk result (λ list. option_map (λ l. l.items) list ≡ list_as kind word.now) }
-    ensures count { IfOk result (λ list. IfSome list (λ l. HasCount kind (length l.items))) }
+fn list_as(alloc: Global, value_type: ValueType, word: &str) -> Result<Option<Vec<u64>>, AllocError>
+    ensures value { IfOk result (λ list. option_map (λ l. l.items) list ≡ list_as value_type word.now) }
+    ensures count { IfOk result (λ list. IfSome list (λ l. HasCount value_type (length l.items))) }
 {
-    let Kind::Numbers { most } = kind else {
+    let ValueType::Numbers { most } = value_type else {
         return Ok(None);
     };
     match number_list(alloc, word, most)? {

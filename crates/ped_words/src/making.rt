@@ -4,14 +4,14 @@ ghost use Rattle.std.specs.Prelude.{◌≡◌, ◌<◌, ◌^◌, IfErr, IfOk, No
 ghost use Rattle.ped_words.specs.Commands.{AreLawful, IsLawful, IsWorkers};
 ghost use Rattle.ped_words.specs.Making.{budget_of, depth_of, gamma_error, gamma_fits, gamma_of, limits_of, made, rounds_of, settings_of, unfit, workers_of};
 ghost use Rattle.ped_words.specs.Rules.{IsRefusal, IsUnlessMemory, breaks};
-ghost use Rattle.ped_words.specs.Table.{kind_of};
+ghost use Rattle.ped_words.specs.Table.{value_type_of};
 ghost use Rattle.ped_words.specs.Given.{values_in};
-ghost use Rattle.ped_words.specs.Values.{IsWithin};
+ghost use Rattle.ped_words.specs.Values.{IsInRange};
 
 use crate::command::{Command, Settings};
 use crate::given::Given;
 use crate::rule::{Rule, WordError};
-use crate::table::{Name, Verb};
+use crate::table::{OptionName, Verb};
 use dotmix::{Gamma, GammaError};
 use script_grammar::Items;
 use serial_meaning::{Limits, Show};
@@ -75,7 +75,7 @@ impl<'a> Given<'a> {
         ensures value { IsUnlessMemory (made Verb.Sim (values_in self.now) (length self.now.words)) result }
         ensures lawful { IfOk result IsLawful }
     {
-        let Some(number) = self.number(Name::Number) else {
+        let Some(number) = self.number(OptionName::Number) else {
             return Err(self.lacks());
         };
         Ok(Command::Sim {
@@ -120,7 +120,7 @@ impl<'a> Given<'a> {
         ensures value { IsUnlessMemory (made Verb.Gen (values_in self.now) (length self.now.words)) result }
         ensures lawful { IfOk result IsLawful }
     {
-        let (Some(shape), Some((size, at))) = (self.shape(), self.placed(Name::Size)) else {
+        let (Some(shape), Some((size, at))) = (self.shape(), self.placed(OptionName::Size)) else {
             return Err(self.lacks());
         };
         if !shape.fits(size) {
@@ -138,7 +138,7 @@ impl<'a> Given<'a> {
         let Some(at) = self.pedigree(alloc)? else {
             return Err(self.lacks());
         };
-        let Some((count, count_at)) = self.placed(Name::Count) else {
+        let Some((count, count_at)) = self.placed(OptionName::Count) else {
             return Err(self.lacks());
         };
         let gamma = self.coefficients(alloc, HASH_DEPTH)?;
@@ -150,7 +150,7 @@ impl<'a> Given<'a> {
             at,
             count: count as u32,
             rounds: self.rounds(),
-            below: self.number(Name::Below),
+            below: self.number(OptionName::Below),
         })
     }
 
@@ -160,7 +160,7 @@ impl<'a> Given<'a> {
         ensures value { IsUnlessMemory (made Verb.Batch (values_in self.now) (length self.now.words)) result }
         ensures lawful { IfOk result IsLawful }
     {
-        let Some((seeds, _)) = self.list(alloc, Name::Seeds)? else {
+        let Some((seeds, _)) = self.list(alloc, OptionName::Seeds)? else {
             return Err(self.lacks());
         };
         Ok(Command::Batch {
@@ -175,7 +175,7 @@ impl<'a> Given<'a> {
     fn settings(&self, alloc: Global) -> Result<Settings, WordError>
         ensures ok { IfOk result (λ settings. settings ≡ settings_of (values_in self.now)) }
         ensures fits { IfOk result (λ settings. gamma_fits (values_in self.now) (depth_of (values_in self.now)) ≡ true) }
-        ensures err { IfErr result (IsRefusal (unfit (values_in self.now) Name.Gamma (gamma_fits (values_in self.now) (depth_of (values_in self.now))))) }
+        ensures err { IfErr result (IsRefusal (unfit (values_in self.now) OptionName.Gamma (gamma_fits (values_in self.now) (depth_of (values_in self.now))))) }
         ensures lawful { IfOk result AreLawful }
     {
         let limits = self.limits();
@@ -189,8 +189,8 @@ impl<'a> Given<'a> {
 
     fn limits(&self) -> Limits
         ensures value { result ≡ limits_of (values_in self.now) }
-        ensures depth { IsWithin (kind_of Name.Depth) result.depth }
-        ensures budget { IsWithin (kind_of Name.Budget) result.budget }
+        ensures depth { IsInRange (value_type_of OptionName.Depth) result.depth }
+        ensures budget { IsInRange (value_type_of OptionName.Budget) result.budget }
     {
         Limits {
             depth: self.depth(),
@@ -200,46 +200,46 @@ impl<'a> Given<'a> {
 
     fn depth(&self) -> u32
         ensures value { result ≡ depth_of (values_in self.now) }
-        ensures range { IsWithin (kind_of Name.Depth) result }
+        ensures range { IsInRange (value_type_of OptionName.Depth) result }
     {
-        self.small_number(Name::Depth, DEFAULT_DEPTH)
+        self.small_number(OptionName::Depth, DEFAULT_DEPTH)
     }
 
     fn budget(&self) -> u32
         ensures value { result ≡ budget_of (values_in self.now) }
-        ensures range { IsWithin (kind_of Name.Budget) result }
+        ensures range { IsInRange (value_type_of OptionName.Budget) result }
     {
-        self.small_number(Name::Budget, DEFAULT_BUDGET)
+        self.small_number(OptionName::Budget, DEFAULT_BUDGET)
     }
 
     fn workers(&self) -> u32
         ensures value { result ≡ workers_of (values_in self.now) }
         ensures range { IsWorkers result }
     {
-        self.small_number(Name::Workers, DEFAULT_WORKERS)
+        self.small_number(OptionName::Workers, DEFAULT_WORKERS)
     }
 
     fn rounds(&self) -> u32
         ensures value { result ≡ rounds_of (values_in self.now) }
-        ensures range { IsWithin (kind_of Name.Rounds) result }
+        ensures range { IsInRange (value_type_of OptionName.Rounds) result }
     {
-        self.small_number(Name::Rounds, DEFAULT_ROUNDS)
+        self.small_number(OptionName::Rounds, DEFAULT_ROUNDS)
     }
 
     /// The coefficients of this depth, of the list that is given or else of the seed.
     fn coefficients(&self, alloc: Global, depth: u32) -> Result<Gamma, WordError>
         ensures ok { IfOk result (λ gamma. gamma ≡ gamma_of (values_in self.now) depth) }
         ensures fits { IfOk result (λ gamma. gamma_fits (values_in self.now) depth ≡ true) }
-        ensures err { IfErr result (IsRefusal (unfit (values_in self.now) Name.Gamma (gamma_fits (values_in self.now) depth))) }
+        ensures err { IfErr result (IsRefusal (unfit (values_in self.now) OptionName.Gamma (gamma_fits (values_in self.now) depth))) }
         ensures long { IfOk result (λ gamma. length gamma ≡ depth) }
     {
-        match self.list(alloc, Name::Gamma)? {
+        match self.list(alloc, OptionName::Gamma)? {
             Some((list, at)) => match Gamma::of_list(alloc, &list, depth) {
                 Ok(gamma) => Ok(gamma),
                 Err(error) => Err(gamma_error(error, at)),
             },
             None => {
-                let seed = self.number(Name::Seed).unwrap_or(0);
+                let seed = self.number(OptionName::Seed).unwrap_or(0);
                 Ok(Gamma::of_seed(alloc, seed, depth)?)
             }
         }

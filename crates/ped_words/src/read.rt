@@ -4,13 +4,13 @@ ghost use Rattle.ped_words.specs.Judging.{broken_pair, first_broken, name_rule, 
 ghost use Rattle.ped_words.specs.Reading.{reading};
 ghost use Rattle.ped_words.specs.Rules.{IsRefusal, IsUnlessMemory};
 ghost use Rattle.ped_words.specs.Given.{count_of, values_in};
-ghost use Rattle.ped_words.specs.Values.{has, values_of};
+ghost use Rattle.ped_words.specs.Values.{has, option_values};
 ghost use Rattle.ped_words.specs.Table.{name_of};
 
 use crate::command::Command;
 use crate::given::{Given, text_at};
 use crate::rule::{Rule, WordError};
-use crate::table::{Name, Verb};
+use crate::table::{OptionName, Verb};
 use crate::value::judge_value;
 use std::alloc::Global;
 
@@ -56,7 +56,7 @@ fn judge_pair(alloc: Global, verb: Verb, words: &[String], pair: u32) -> Result<
     requires within { pair < pairs_in (map string_bytes words.now) }
     requires small { 2 * pair + 2 < 2 ^ 32 }
     ensures broken { OnOk result (broken_pair verb (map string_bytes words.now) pair ≡ None) }
-    ensures counted { OnOk result (count_of (values_of (map string_bytes words.now) (pair + 1)) ≡ count_of (values_of (map string_bytes words.now) pair) + 1) }
+    ensures counted { OnOk result (count_of (option_values (map string_bytes words.now) (pair + 1)) ≡ count_of (option_values (map string_bytes words.now) pair) + 1) }
     ensures valued { OnOk result (2 * pair + 2 < length words.now) }
     ensures err { IfErr result (IsRefusal (broken_pair verb (map string_bytes words.now) pair)) }
 {
@@ -70,14 +70,14 @@ fn judge_pair(alloc: Global, verb: Verb, words: &[String], pair: u32) -> Result<
     };
     judge_value(
         alloc,
-        name.kind(),
+        name.value_type(),
         text_at(words, value_at as usize),
         value_at,
     )
 }
 
 /// The option that this word names, where the name of one is due. It may be the last word.
-fn judge_name(verb: Verb, given: &Given, word: &str, is_last: bool) -> Result<Name, Rule>
+fn judge_name(verb: Verb, given: &Given, word: &str, is_last: bool) -> Result<OptionName, Rule>
     ensures ok { OnOk result (name_rule verb (values_in given.now) word.now is_last ≡ None) }
     ensures named { IfOk result (λ name. name_of word.now ≡ Some name) }
     ensures fresh { IfOk result (λ name. has (values_in given.now) name ≡ false) }
@@ -87,7 +87,7 @@ fn judge_name(verb: Verb, given: &Given, word: &str, is_last: bool) -> Result<Na
     if !word.as_bytes().starts_with(b"--") {
         return Err(Rule::StrayWord);
     }
-    let name = match Name::of_word(word) {
+    let name = match OptionName::of_word(word) {
         Some(name) => name,
         None => return Err(Rule::UnknownOption),
     };

@@ -1,6 +1,6 @@
 ghost use Rattle.std.specs.Prelude.{◌≡◌, ◌==◌};
-ghost use Rattle.ped_words.specs.declared.table.Kind.TheVariants as kind;
-ghost use Rattle.ped_words.specs.Table.{verb_of, name_of, place, takes, kind_of};
+ghost use Rattle.ped_words.specs.declared.table.ValueType.TheVariants as value_type;
+ghost use Rattle.ped_words.specs.Table.{verb_of, name_of, place, takes, value_type_of};
 
 use dotmix::MOST_ROUNDS;
 use serial_meaning::MOST_DEPTH;
@@ -33,7 +33,7 @@ pub(crate) enum Verb {
 
 /// The options of all commands.
 #[derive(Clone, Copy, Debug, PartialEq, Eq)]
-pub(crate) enum Name {
+pub(crate) enum OptionName {
     Seed,
     Gamma,
     Depth,
@@ -52,7 +52,7 @@ pub(crate) enum Name {
 
 /// What the value of an option is.
 #[derive(Clone, Copy, Debug, PartialEq, Eq)]
-pub(crate) enum Kind {
+pub(crate) enum ValueType {
     /// A number of this range.
     Number { least: u64, most: u64 },
     /// Numbers joined by commas, at most so many where there is a greatest count.
@@ -84,49 +84,49 @@ impl Verb {
     }
 
     /// Whether this command has the option.
-    pub(crate) fn takes(self, name: Name) -> bool
+    pub(crate) fn takes(self, name: OptionName) -> bool
         ensures { result ≡ takes self name }
     {
         match name {
-            Name::Seed | Name::Gamma => {
+            OptionName::Seed | OptionName::Gamma => {
                 !matches!(self, Verb::Check | Verb::Fmt | Verb::Gen | Verb::Batch)
             }
-            Name::Depth | Name::Budget => matches!(
+            OptionName::Depth | OptionName::Budget => matches!(
                 self,
                 Verb::Run | Verb::Serial | Verb::Sim | Verb::Replay | Verb::Span | Verb::Batch
             ),
-            Name::Rounds => !matches!(self, Verb::Check | Verb::Fmt | Verb::Gen),
-            Name::Workers => matches!(self, Verb::Run | Verb::Sim | Verb::Batch),
-            Name::Show => matches!(self, Verb::Run | Verb::Serial | Verb::Sim | Verb::Batch),
-            Name::Number => matches!(self, Verb::Sim),
-            Name::At => matches!(self, Verb::Replay | Verb::Hash | Verb::Stream),
-            Name::Shape | Name::Size => matches!(self, Verb::Gen),
-            Name::Count | Name::Below => matches!(self, Verb::Stream),
-            Name::Seeds => matches!(self, Verb::Batch),
+            OptionName::Rounds => !matches!(self, Verb::Check | Verb::Fmt | Verb::Gen),
+            OptionName::Workers => matches!(self, Verb::Run | Verb::Sim | Verb::Batch),
+            OptionName::Show => matches!(self, Verb::Run | Verb::Serial | Verb::Sim | Verb::Batch),
+            OptionName::Number => matches!(self, Verb::Sim),
+            OptionName::At => matches!(self, Verb::Replay | Verb::Hash | Verb::Stream),
+            OptionName::Shape | OptionName::Size => matches!(self, Verb::Gen),
+            OptionName::Count | OptionName::Below => matches!(self, Verb::Stream),
+            OptionName::Seeds => matches!(self, Verb::Batch),
         }
     }
 }
 
-impl Name {
+impl OptionName {
     /// The option that this word names.
-    pub(crate) fn of_word(word: &str) -> Option<Name>
+    pub(crate) fn of_word(word: &str) -> Option<OptionName>
         ensures { result ≡ name_of word.now }
     {
         match word {
-            "--seed" => Some(Name::Seed),
-            "--gamma" => Some(Name::Gamma),
-            "--depth" => Some(Name::Depth),
-            "--budget" => Some(Name::Budget),
-            "--workers" => Some(Name::Workers),
-            "--show" => Some(Name::Show),
-            "--number" => Some(Name::Number),
-            "--at" => Some(Name::At),
-            "--shape" => Some(Name::Shape),
-            "--size" => Some(Name::Size),
-            "--rounds" => Some(Name::Rounds),
-            "--count" => Some(Name::Count),
-            "--below" => Some(Name::Below),
-            "--seeds" => Some(Name::Seeds),
+            "--seed" => Some(OptionName::Seed),
+            "--gamma" => Some(OptionName::Gamma),
+            "--depth" => Some(OptionName::Depth),
+            "--budget" => Some(OptionName::Budget),
+            "--workers" => Some(OptionName::Workers),
+            "--show" => Some(OptionName::Show),
+            "--number" => Some(OptionName::Number),
+            "--at" => Some(OptionName::At),
+            "--shape" => Some(OptionName::Shape),
+            "--size" => Some(OptionName::Size),
+            "--rounds" => Some(OptionName::Rounds),
+            "--count" => Some(OptionName::Count),
+            "--below" => Some(OptionName::Below),
+            "--seeds" => Some(OptionName::Seeds),
             _ => None,
         }
     }
@@ -138,29 +138,29 @@ impl Name {
     }
 
     /// Whether both are the same option.
-    pub(crate) fn is(self, other: Name) -> bool
+    pub(crate) fn is(self, other: OptionName) -> bool
         ensures { result ≡ (place self == place other) }
     {
         self.place() == other.place()
     }
 
     /// What the option's value is, and its range.
-    pub(crate) fn kind(self) -> Kind
-        ensures { result ≡ kind_of self }
+    pub(crate) fn value_type(self) -> ValueType
+        ensures { result ≡ value_type_of self }
     {
         match self {
-            Name::Seed | Name::Number | Name::Size => number(0, u64::MAX),
-            Name::Gamma => Kind::Numbers { most: None },
-            Name::Depth => number(1, MOST_DEPTH as u64),
-            Name::Budget => number(1, MOST_BUDGET),
-            Name::Workers => number(1, MOST_WORKERS),
-            Name::Show => Kind::Show,
-            Name::At => Kind::Pedigree,
-            Name::Shape => Kind::Shape,
-            Name::Rounds => number(0, MOST_ROUNDS as u64),
-            Name::Count => number(1, MOST_COUNT),
-            Name::Below => number(1, u64::MAX),
-            Name::Seeds => Kind::Numbers {
+            OptionName::Seed | OptionName::Number | OptionName::Size => number(0, u64::MAX),
+            OptionName::Gamma => ValueType::Numbers { most: None },
+            OptionName::Depth => number(1, MOST_DEPTH as u64),
+            OptionName::Budget => number(1, MOST_BUDGET),
+            OptionName::Workers => number(1, MOST_WORKERS),
+            OptionName::Show => ValueType::Show,
+            OptionName::At => ValueType::Pedigree,
+            OptionName::Shape => ValueType::Shape,
+            OptionName::Rounds => number(0, MOST_ROUNDS as u64),
+            OptionName::Count => number(1, MOST_COUNT),
+            OptionName::Below => number(1, u64::MAX),
+            OptionName::Seeds => ValueType::Numbers {
                 most: Some(MOST_SEEDS),
             },
         }
@@ -168,8 +168,8 @@ impl Name {
 }
 
 /// Numbers in this range.
-fn number(least: u64, most: u64) -> Kind
-    ensures { result ≡ kind.Number least most }
+fn number(least: u64, most: u64) -> ValueType
+    ensures { result ≡ value_type.Number least most }
 {
-    Kind::Number { least, most }
+    ValueType::Number { least, most }
 }

@@ -2,41 +2,46 @@
 
 ghost use Rattle.std.specs.Prelude.{◌≡◌, ◌<◌, ◌≤◌, if◌then◌else◌, None, Some, All, IfErr, IfOk, OnOk, length};
 ghost use Rattle.ped_path.specs.Path.{IsRank};
-ghost use Rattle.ped_words.specs.Judging.{kind_rule};
+ghost use Rattle.ped_words.specs.Judging.{type_rule};
 ghost use Rattle.ped_words.specs.Pedigrees.{IsRead, most_ranks};
 ghost use Rattle.ped_words.specs.Rules.{IsRefusal, broken_at};
 ghost use Rattle.ped_words.specs.Table.{shape_of, show_of};
 
 use crate::number::{number_in, number_list};
 use crate::rule::{Rule, WordError};
-use crate::table::Kind;
+use crate::table::ValueType;
 use ped_gen::Shape;
 use ped_path::{Pedigree, parse_pedigree};
 use serial_meaning::Show;
 use std::alloc::Global;
 
-/// Judges the word at this index as a value of this kind.
-pub(crate) fn judge_value(alloc: Global, kind: Kind, word: &str, at: u32) -> Result<(), WordError>
-    ensures ok { OnOk result (kind_rule kind word.now ≡ None) }
-    ensures err { IfErr result (IsRefusal (broken_at at (kind_rule kind word.now))) }
+/// Judges the word at this index as a value of this type.
+pub(crate) fn judge_value(
+    alloc: Global,
+    value_type: ValueType,
+    word: &str,
+    at: u32,
+) -> Result<(), WordError>
+    ensures ok { OnOk result (type_rule value_type word.now ≡ None) }
+    ensures err { IfErr result (IsRefusal (broken_at at (type_rule value_type word.now))) }
 {
-    match broken_rule(alloc, kind, word)? {
+    match broken_rule(alloc, value_type, word)? {
         Some(rule) => Err(rule.at(at)),
         None => Ok(()),
     }
 }
 
-/// The rule that a word breaks as a value of this kind.
-fn broken_rule(alloc: Global, kind: Kind, word: &str) -> Result<Option<Rule>, WordError>
-    ensures rule { IfOk result (λ rule. rule ≡ kind_rule kind word.now) }
+/// The rule that a word breaks as a value of this type.
+fn broken_rule(alloc: Global, value_type: ValueType, word: &str) -> Result<Option<Rule>, WordError>
+    ensures rule { IfOk result (λ rule. rule ≡ type_rule value_type word.now) }
     ensures memory { IfErr result (λ e. e ≡ WordError.Memory) }
 {
-    match kind {
-        Kind::Number { least, most } => Ok(number_in(word, least, most).err()),
-        Kind::Numbers { most } => Ok(number_list(alloc, word, most)?.err()),
-        Kind::Pedigree => Ok(pedigree_in(alloc, word)?.err()),
-        Kind::Show => Ok(unnamed(show_of(word).is_some())),
-        Kind::Shape => Ok(unnamed(shape_of(word).is_some())),
+    match value_type {
+        ValueType::Number { least, most } => Ok(number_in(word, least, most).err()),
+        ValueType::Numbers { most } => Ok(number_list(alloc, word, most)?.err()),
+        ValueType::Pedigree => Ok(pedigree_in(alloc, word)?.err()),
+        ValueType::Show => Ok(unnamed(show_of(word).is_some())),
+        ValueType::Shape => Ok(unnamed(shape_of(word).is_some())),
     }
 }
 

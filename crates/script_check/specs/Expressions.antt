@@ -13,26 +13,26 @@ use Rattle.script_check.specs.Names.{Names}
 use Rattle.script_check.specs.Rules.{Declared, wrong_kind, scalar_use, array_use, kind_of}
 
 -- the violations of a part of a script where these variables are known and those names are pending
-abbrev pub Faults : Type 0
-Faults = Declared → Names → List Violation
+abbrev pub Violations : Type 0
+Violations = Declared → Names → List Violation
 
 -- what is read of an expression or a right side: its place, its kind, and the violations in it
 pub record Reading : Type 0 where
   pub at : ℕ
   pub kind : Declared → Option Kind
-  pub faults : Faults
+  pub faults : Violations
 
-abbrev pub int_at : ℕ → Faults → Reading
+abbrev pub int_at : ℕ → Violations → Reading
 int_at at faults = record { at = at; kind = λ known. Some Int; faults = faults }
 
 -- it has to have this kind
-unfoldable pub wanted : Kind → Reading → Faults
+unfoldable pub wanted : Kind → Reading → Violations
 wanted kind r known p = r.faults known p ++ wrong_kind kind (r.kind known) r.at
 
-unfoldable pub two_wanted : Kind → Reading → Reading → Faults
+unfoldable pub two_wanted : Kind → Reading → Reading → Violations
 two_wanted kind a b known p = wanted kind a known p ++ wanted kind b known p
 
-abbrev pub all_wanted : Kind → List Reading → Faults
+abbrev pub all_wanted : Kind → List Reading → Violations
 all_wanted kind [] known p = []
 all_wanted kind (r ∷ rs) known p = wanted kind r known p ++ all_wanted kind rs known p
 

@@ -19,27 +19,27 @@ use Rattle.script_check.specs.Tables.{with_first}
 use Rattle.script_check.specs.Functions.{function_named}
 use Rattle.script_check.specs.Names.{Names, both, after_each, after_act}
 use Rattle.script_check.specs.Rules.{Declared, unknown_function, wrong_number_of_arguments, wrong_kind, let_in_a_block, array_length, kind_of, scalar_use, array_use, declaration}
-use Rattle.script_check.specs.Expressions.{Faults, Reading, wanted, two_wanted, read}
+use Rattle.script_check.specs.Expressions.{Violations, Reading, wanted, two_wanted, read}
 
 -- Calls
 
 -- arguments, each of its parameter's kind
-abbrev pub arguments : List Param → List Expr → Faults
+abbrev pub arguments : List Param → List Expr → Violations
 arguments params [] known p = []
 arguments [] (e ∷ es) known p = (read e).faults known p ++ arguments [] es known p
 arguments (q ∷ params) (e ∷ es) known p = wanted q.kind (read e) known p ++ arguments params es known p
 
-abbrev pub call_of : Option Function → CallText → Faults
+abbrev pub call_of : Option Function → CallText → Violations
 call_of None c known p = unknown_function c.name ++ arguments [] c.args known p
 call_of (Some f) c known p =
     wrong_number_of_arguments (nat_eq (length f.params) (length c.args)) c.name ++ arguments f.params c.args known p
 
-abbrev pub answer_of : Option Function → Option Kind
-answer_of None = None
-answer_of (Some f) = Some f.answer
+abbrev pub answer_kind_of : Option Function → Option Kind
+answer_kind_of None = None
+answer_kind_of (Some f) = Some f.answer
 
 -- The call of a parallel loop: the loop's number is the first argument, and a target takes the values.
-abbrev pub loop_arguments : List Param → CallText → Faults
+abbrev pub loop_arguments : List Param → CallText → Violations
 loop_arguments [] c known p = wrong_number_of_arguments false c.name ++ arguments [] c.args known p
 loop_arguments (q ∷ params) c known p =
     wrong_number_of_arguments (nat_eq (length params) (length c.args)) c.name
@@ -49,30 +49,30 @@ abbrev pub taken_kind : Bool → Kind → Option Kind
 taken_kind true kind = Some kind
 taken_kind false kind = None
 
-abbrev pub loop_call_of : Option Function → Bool → CallText → Faults
+abbrev pub loop_call_of : Option Function → Bool → CallText → Violations
 loop_call_of None has_target c known p = unknown_function c.name ++ arguments [] c.args known p
 loop_call_of (Some f) has_target c known p =
     wrong_kind Int (taken_kind has_target f.answer) c.name.at ++ loop_arguments f.params c known p
 
-abbrev pub target_use : Option Name → Faults
+abbrev pub target_use : Option Name → Violations
 target_use None known p = []
 target_use (Some x) known p = array_use (known.what x.bytes) p x
 
 -- Statements
 
 module _ (functions : List Function) where
-  abbrev pub call : CallText → Faults
+  abbrev pub call : CallText → Violations
   call c = call_of (function_named functions c.name.bytes) c
 
   abbrev pub read_right : Right → Reading
   read_right (right.Value e) = read e
   read_right (right.Draw at) = record { at = at; kind = λ known. Some Int; faults = λ known p. [] }
   read_right (right.New at) = record { at = at; kind = λ known. Some Id; faults = λ known p. [] }
-  read_right (right.Call at c) = record { at = at; kind = λ known. answer_of (function_named functions c.name.bytes); faults = call c }
-  read_right (right.Spawn at c) = record { at = at; kind = λ known. answer_of (function_named functions c.name.bytes); faults = call c }
+  read_right (right.Call at c) = record { at = at; kind = λ known. answer_kind_of (function_named functions c.name.bytes); faults = call c }
+  read_right (right.Spawn at c) = record { at = at; kind = λ known. answer_kind_of (function_named functions c.name.bytes); faults = call c }
 
 -- a right side that is set: where the variable has a kind, that kind
-abbrev pub wanted_as : Option Kind → Reading → Faults
+abbrev pub wanted_as : Option Kind → Reading → Violations
 wanted_as None r = r.faults
 wanted_as (Some kind) r = wanted kind r
 
@@ -93,13 +93,13 @@ place functions in_block = record { functions = functions; in_block = in_block }
 pub record Judged : Type 0 where
   pub after : Names → Names
   pub known : List Function → Declared → Declared
-  pub faults : Context → Faults
+  pub faults : Context → Violations
 
 abbrev pub known_each : List Judged → List Function → Declared → Declared
 known_each [] functions known = known
 known_each (j ∷ js) functions known = known_each js functions (j.known functions known)
 
-abbrev pub faults_each : List Judged → Context → Faults
+abbrev pub faults_each : List Judged → Context → Violations
 faults_each [] place known p = []
 faults_each (j ∷ js) place known p = j.faults place known p ++ faults_each js place (j.known place.functions known) (j.after p)
 
@@ -119,11 +119,11 @@ known_act (act.Pfor x lo hi target c) functions known = known
 known_act (act.Scope a) functions known = known_each a functions known
 
 -- the violations of a block
-abbrev pub block_faults : List Judged → Context → Faults
+abbrev pub block_faults : List Judged → Context → Violations
 block_faults js place = faults_each js (record place { in_block = true })
 
 -- the violations of a statement at an offset
-abbrev pub faults_act : {A : Type 0} → Act-F A Judged → ℕ → Context → Faults
+abbrev pub faults_act : {A : Type 0} → Act-F A Judged → ℕ → Context → Violations
 faults_act (act.Let x r) at place known p =
     let_in_a_block place.in_block at ++ (read_right place.functions r).faults known p ++ declaration known x
 faults_act (act.Array x n) at place known p = let_in_a_block place.in_block at ++ declaration known x ++ array_length n

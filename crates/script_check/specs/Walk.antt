@@ -80,11 +80,11 @@ keeps_act (act.Pfor x lo hi target c) = true
 keeps_act (act.Scope a) = false
 
 -- It has blocks.
-abbrev pub IsNested : {S : Type 0} → Act-F Act S → Type 0
-IsNested (act.If e a b) = Unit {0}
-IsNested (act.While e a) = Unit {0}
-IsNested (act.Scope a) = Unit {0}
-IsNested _ = ⊥
+abbrev pub HasBlocks : {S : Type 0} → Act-F Act S → Type 0
+HasBlocks (act.If e a b) = Unit {0}
+HasBlocks (act.While e a) = Unit {0}
+HasBlocks (act.Scope a) = Unit {0}
+HasBlocks _ = ⊥
 
 abbrev pub keeps : Stmt → Bool
 keeps = fold-Stmt Bool Bool keeps_act (λ s. s.act)
@@ -96,8 +96,8 @@ abbrev pub keeps_all : List Stmt → Bool
 keeps_all ss = keeps_each (map keeps ss)
 
 -- the state after a statement
-abbrev pub behind : List Function → Stmt → WalkState → WalkState
-behind functions s state =
+abbrev pub state_after : List Function → Stmt → WalkState → WalkState
+state_after functions s state =
     record {
       known = (judge s).known functions state.known;
       names = (judge s).after state.names;
@@ -105,8 +105,8 @@ behind functions s state =
       before = state.before;
     }
 
-abbrev pub behind_all : List Function → List Stmt → WalkState → WalkState
-behind_all functions ss state =
+abbrev pub state_after_all : List Function → List Stmt → WalkState → WalkState
+state_after_all functions ss state =
     record {
       known = known_each (judge_all ss) functions state.known;
       names = after ss state.names;

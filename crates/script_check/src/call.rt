@@ -4,7 +4,7 @@ ghost use Rattle.std.specs.Prelude.{◌≡◌, [], Some};
 ghost use Rattle.script_check.specs.Violations.{noted};
 ghost use Rattle.script_check.specs.Functions.{function_named};
 ghost use Rattle.script_check.specs.Rules.{array_use};
-ghost use Rattle.script_check.specs.Statements.{arguments, call, answer_of, loop_call_of, target_use};
+ghost use Rattle.script_check.specs.Statements.{arguments, call, answer_kind_of, loop_call_of, target_use};
 ghost use Rattle.script_check.specs.Walk.{known_in, pending_in};
 
 use crate::condition::Condition;
@@ -37,7 +37,7 @@ pub(crate) fn judge_call(
     found: &mut Findings,
     c: &CallText,
 ) -> Option<Kind>
-    ensures kind { result ≡ answer_of (function_named functions.now c.now.name.bytes) }
+    ensures kind { result ≡ answer_kind_of (function_named functions.now c.now.name.bytes) }
     ensures found { found.new ≡ noted found.old (call functions.now c.now (known_in scope.now) (pending_in scope.now)) }
 {
     let name = &c.name;

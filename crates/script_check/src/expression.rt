@@ -1,6 +1,6 @@
 // The violations in expressions.
 
-ghost use Rattle.std.specs.Prelude.{◌≡◌, ◌∷◌, map, Some, None};
+ghost use Rattle.std.specs.Prelude.{◌≡◌, ◌∷◌, ◌++◌, map, Some, None};
 ghost use Rattle.script_check.specs.Violations.{noted};
 ghost use Rattle.script_check.specs.Rules.{scalar_use, array_use, kind_of, is_other_kind, wrong_kind};
 ghost use Rattle.script_check.specs.Expressions.{read, read_sum_part, read_product_part, wanted, all_wanted};
@@ -108,11 +108,7 @@ pub(crate) fn see(scope: &Scope, found: &mut Findings, e: &Expr) -> Seen
             let kind = use_scalar(scope, found, x);
             Seen { at: x.at, kind }
         }
-        Expr::Item(x, i) => {
-            use_array(scope, found, x);
-            want(scope, found, Kind::Int, i.get());
-            Seen::int(x.at)
-        }
+        Expr::Item(x, i) => see_item(scope, found, x, i.get()),
         Expr::Neg(at, e) => {
             want(scope, found, Kind::Int, e.get());
             Seen::int(*at)
@@ -138,6 +134,20 @@ pub(crate) fn see(scope: &Scope, found: &mut Findings, e: &Expr) -> Seen
             Seen::int(at)
         }
     }
+}
+
+/// An item of an array.
+#[cycle(expressions)]
+#[tactic(auto, using(crate::proofs::LeastViolation::Noted::noted_append))]
+fn see_item(scope: &Scope, found: &mut Findings, x: &Name, i: &Expr) -> Seen
+    ensures at { result.at ≡ x.now.at }
+    ensures kind { result.kind ≡ Some kind.Int }
+    ensures found { found.new ≡ noted found.old (array_use ((known_in scope.now).what x.now.bytes) (pending_in scope.now) x.now
+        ++ wanted kind.Int (read i.now) (known_in scope.now) (pending_in scope.now)) }
+{
+    use_array(scope, found, x);
+    want(scope, found, Kind::Int, i);
+    Seen::int(x.at)
 }
 
 /// An expression that has to be of this kind. The answer is its place.

@@ -12,7 +12,7 @@ ghost use Rattle.script_check.specs.Names.{both, after_right};
 ghost use Rattle.script_check.specs.Rules.{declaration, array_length, scalar_use, array_use, kind_of};
 ghost use Rattle.script_check.specs.Expressions.{read, wanted, two_wanted};
 ghost use Rattle.script_check.specs.Statements.{place, judge, judge_all, read_right, wanted_as, kind_or_int, known_each, faults_each, after, target_use, loop_call_of};
-ghost use Rattle.script_check.specs.Walk.{IsNested, behind, behind_all, keeps, keeps_all, known_in, pending_in, state_of};
+ghost use Rattle.script_check.specs.Walk.{HasBlocks, state_after, state_after_all, keeps, keeps_all, known_in, pending_in, state_of};
 
 use crate::call::{judge_call, judge_loop_call, judge_target};
 use crate::condition::Condition;
@@ -216,7 +216,7 @@ pub(crate) fn judge_each(
     in_block: bool,
     statements: &[Stmt],
 ) -> Result<(), Memory>
-    ensures state { OnOk result (state_of scope.new ≡ behind_all functions.now statements.now (state_of scope.old)) }
+    ensures state { OnOk result (state_of scope.new ≡ state_after_all functions.now statements.now (state_of scope.old)) }
     ensures found { OnOk result (found.new ≡ noted found.old (faults_each (judge_all statements.now) (place functions.now in_block) (known_in scope.old) (pending_in scope.old))) }
 {
     for statement in statements {
@@ -254,7 +254,7 @@ fn judge(
     in_block: bool,
     statement: &Stmt,
 ) -> Result<(), Memory>
-    ensures state { OnOk result (state_of scope.new ≡ behind functions.now statement.now (state_of scope.old)) }
+    ensures state { OnOk result (state_of scope.new ≡ state_after functions.now statement.now (state_of scope.old)) }
     ensures found { OnOk result (found.new ≡ noted found.old ((judge statement.now).faults (place functions.now in_block) (known_in scope.old) (pending_in scope.old))) }
 {
     match &statement.act {
@@ -282,9 +282,7 @@ fn judge(
             target,
             call,
         } => judge_loop(functions, scope, found, lo, hi, target, call),
-        Act::If(_, _, _) | Act::While(_, _) | Act::Scope(_) => {
-            judge_nested(alloc, functions, scope, found, statement)?;
-        }
+        _ => judge_nested(alloc, functions, scope, found, statement)?,
     }
     Ok(())
 }
@@ -300,8 +298,8 @@ fn judge_nested(
     found: &mut Findings,
     statement: &Stmt,
 ) -> Result<(), Memory>
-    requires { IsNested (out-Act (out-Stmt statement.now).act) }
-    ensures state { OnOk result (state_of scope.new ≡ behind functions.now statement.now (state_of scope.old)) }
+    requires { HasBlocks (out-Act (out-Stmt statement.now).act) }
+    ensures state { OnOk result (state_of scope.new ≡ state_after functions.now statement.now (state_of scope.old)) }
     ensures found { (in_block : Bool) → OnOk result (found.new ≡ noted found.old ((judge statement.now).faults (place functions.now in_block) (known_in scope.old) (pending_in scope.old))) }
 {
     match &statement.act {

@@ -20,7 +20,7 @@ use Rattle.script_grammar.specs.Grammar.{Token, tok, IsSumSign, a_plus, a_minus,
 use Rattle.script_grammar.specs.Grammar.{IsFactor, a_neg, a_number, a_name, an_item, a_group, a_same, an_older, IsTerm, factors, IsFactors, no_factors, one_factor, IsSum, terms, IsTerms, no_terms, one_term, IsExpr, alone, compared}
 use Rattle.script_grammar.specs.Grammar.{IsMoreArgs, no_more_args, one_more_arg, IsArgs, no_args, some_args, IsCall, a_call, IsRight, right_value, right_draw, right_new, right_call, right_spawn, IsInto, no_into, an_into}
 use Rattle.script_grammar.specs.Grammar.{IsStmt, a_let, an_array, a_set, a_store, a_spawn, a_call_stmt, a_sync, a_print, an_if, a_while, a_pfor, a_scope, IsStmts, no_stmts, one_stmt, IsBlock, a_block, IsElse, no_else, an_else}
-use Rattle.script_grammar.specs.Grammar.{IsParam, int_param, id_param, IsMoreParams, no_more_params, one_more_param, IsParams, no_params, some_params, IsAnswer, int_answer, id_answer, IsFunction, a_function, IsFunctions, no_functions, one_function}
+use Rattle.script_grammar.specs.Grammar.{IsParam, int_param, id_param, IsMoreParams, no_more_params, one_more_param, IsParams, no_params, some_params, IsAnswerKind, int_answer, id_answer, IsFunction, a_function, IsFunctions, no_functions, one_function}
 use Rattle.script_grammar.specs.Fault.{is_fn, functions_begun, too_many_functions, WithinBehind}
 use Rattle.script_grammar.specs.Text.{FunctionsAreFew}
 
@@ -131,7 +131,7 @@ in_params : {ts rest : List Token} {xs : List Param} → IsParams ts xs rest →
 in_params no_params = omega arith
 in_params (some_params d e) = omega (arith, in_param d, in_more_params e)
 
-in_answer : {ts rest : List Token} {k : Kind} → IsAnswer ts k rest → functions_begun rest ≤ functions_begun ts
+in_answer : {ts rest : List Token} {k : Kind} → IsAnswerKind ts k rest → functions_begun rest ≤ functions_begun ts
 in_answer int_answer = omega arith
 in_answer id_answer = omega arith
 

@@ -22,8 +22,8 @@ functions_begun [] = 0
 functions_begun (t ∷ ts) = if is_fn t.word then suc (functions_begun ts) else functions_begun ts
 
 -- in a script of the version that goes on with the token after these, the nesting at the token is n
-abbrev pub IsNested : Version → List Token → Token → ℕ → Type 0
-IsNested version before t n =
+abbrev pub NestsAt : Version → List Token → Token → ℕ → Type 0
+NestsAt version before t n =
     (more : List Token) × (functions : List Function) × AreOf version (before ++ t ∷ more) × (d : IsScript (before ++ t ∷ more) functions)
     × (slice_get (functions_nesting d 0) (length before) ≡ Some n)
 
@@ -31,7 +31,7 @@ IsNested version before t n =
 pub data BreaksLimit (version : Version) (before : List Token) (t : Token) : ℕ → Type 0 where
   number_out_of_range : t.word ≡ word.Number → 9223372036854775807 < decimal 0 t.text → BreaksLimit version before t 3
   name_too_long : t.word ≡ word.Name → 32 < length t.text → BreaksLimit version before t 4
-  nested_too_deep : {n : ℕ} → IsNested version before t n → 64 < n → BreaksLimit version before t 5
+  nested_too_deep : {n : ℕ} → NestsAt version before t n → 64 < n → BreaksLimit version before t 5
   too_many_functions : t.word ≡ word.Fn → 1024 ≤ functions_begun before → BreaksLimit version before t 7
 
 -- the token after these is at fault: it is unexpected, or breaks a limit

@@ -258,16 +258,16 @@ pub data IsParams : List Token → List Param → List Token → Type 0 where
       → IsParams ts (x ∷ xs) rest
 
 -- [ "->" "id" ]
-pub data IsAnswer : List Token → Kind → List Token → Type 0 where
-  int_answer : {rest : List Token} → IsAnswer rest Int rest
-  id_answer : {a b : ℕ} {t u : List ℕ} {rest : List Token} → IsAnswer (tok a word.Arrow t ∷ tok b word.Id u ∷ rest) Id rest
+pub data IsAnswerKind : List Token → Kind → List Token → Type 0 where
+  int_answer : {rest : List Token} → IsAnswerKind rest Int rest
+  id_answer : {a b : ℕ} {t u : List ℕ} {rest : List Token} → IsAnswerKind (tok a word.Arrow t ∷ tok b word.Id u ∷ rest) Id rest
 
 -- "fn" name "(" params ")" [ "->" "id" ] "{" { stmt } "return" expr ";" "}"
 pub data IsFunction : List Token → Function → List Token → Type 0 where
   a_function : {a b c d e f g h : ℕ} {t n u v w x y z : List ℕ} {ts us vs ws rest : List Token}
       {ps : List Param} {k : Kind} {body : List Stmt} {r : Expr}
       → IsParams ts ps (tok d word.Close v ∷ us)
-      → IsAnswer us k (tok e word.OpenBlock w ∷ vs)
+      → IsAnswerKind us k (tok e word.OpenBlock w ∷ vs)
       → IsStmts vs body (tok f word.Return x ∷ ws)
       → IsExpr ws r (tok g word.Semicolon y ∷ tok h word.CloseBlock z ∷ rest)
       → IsFunction (tok a word.Fn t ∷ tok b word.Name n ∷ tok c word.Open u ∷ ts)

@@ -19,41 +19,41 @@ use Rattle.script_grammar.specs.declared.tree.Act.{Act, map-Act, roll-Act, fold-
 use Rattle.script_grammar.specs.declared.tree.Act.TheOpen as act_node
 use Rattle.script_grammar.specs.declared.tree.Act.TheOpen.{Act-F}
 use Rattle.script_grammar.specs.declared.tree.Act.TheVariants as act
-use Rattle.script_print.specs.Canonical.{Printed, at_level, operand, comparison_text, sum_sign_text, product_sign_text, spaced, expr_at, product_part_at, sum_part_at, printed, product_part_text, sum_part_text, expr_text, behind_commas, call_text, right_text, into_text, range_text, loop_call_text, Indented, block_text, else_text, act_at, line_at, act_text, stmt_text, stmts_text}
+use Rattle.script_print.specs.Canonical.{Printed, at_precedence, operand, comparison_text, sum_sign_text, product_sign_text, spaced, expr_at, product_part_at, sum_part_at, printed, product_part_text, sum_part_text, expr_text, behind_commas, call_text, right_text, into_text, range_text, loop_call_text, Indented, block_text, else_text, act_at, line_at, act_text, stmt_text, stmts_text}
 
 printed-roll : (d : Expr-F Expr ProductPart SumPart) → printed (roll-Expr d) ≡ expr_at (map-Expr Expr ProductPart SumPart Printed (List ℕ) (List ℕ) printed product_part_text sum_part_text d)
 printed-roll d = fold-roll-Expr Printed (List ℕ) (List ℕ) expr_at product_part_at sum_part_at d
 
-pub printed-number : (n : Number) → printed (expr.Number n) ≡ at_level 5 (signed_decimal n.value)
+pub printed-number : (n : Number) → printed (expr.Number n) ≡ at_precedence 5 (signed_decimal n.value)
 printed-number n = ap printed (sym (expr.rolls-Number n)) ∙ printed-roll (node.Number n)
 
-pub printed-variable : (x : Name) → printed (expr.Var x) ≡ at_level 5 x.bytes
+pub printed-variable : (x : Name) → printed (expr.Var x) ≡ at_precedence 5 x.bytes
 printed-variable x = ap printed (sym (expr.rolls-Var x)) ∙ printed-roll (node.Var x)
 
-pub printed-item : (x : Name) (i : Expr) → printed (expr.Item x i) ≡ at_level 5 (x.bytes ++ codes "[" ++ expr_text i ++ codes "]")
+pub printed-item : (x : Name) (i : Expr) → printed (expr.Item x i) ≡ at_precedence 5 (x.bytes ++ codes "[" ++ expr_text i ++ codes "]")
 printed-item x i = ap printed (sym (expr.rolls-Item x i)) ∙ printed-roll (node.Item x i)
 
-pub printed-negation : (at : ℕ) (x : Expr) → printed (expr.Neg at x) ≡ at_level 4 (codes "-" ++ operand 4 (printed x))
+pub printed-negation : (at : ℕ) (x : Expr) → printed (expr.Neg at x) ≡ at_precedence 4 (codes "-" ++ operand 4 (printed x))
 printed-negation at x = ap printed (sym (expr.rolls-Neg at x)) ∙ printed-roll (node.Neg at x)
 
-pub printed-same : (at : ℕ) (x y : Expr) → printed (expr.Same at x y) ≡ at_level 5 (codes "same(" ++ expr_text x ++ codes ", " ++ expr_text y ++ codes ")")
+pub printed-same : (at : ℕ) (x y : Expr) → printed (expr.Same at x y) ≡ at_precedence 5 (codes "same(" ++ expr_text x ++ codes ", " ++ expr_text y ++ codes ")")
 printed-same at x y = ap printed (sym (expr.rolls-Same at x y)) ∙ printed-roll (node.Same at x y)
 
-pub printed-older : (at : ℕ) (x y : Expr) → printed (expr.Older at x y) ≡ at_level 5 (codes "older(" ++ expr_text x ++ codes ", " ++ expr_text y ++ codes ")")
+pub printed-older : (at : ℕ) (x y : Expr) → printed (expr.Older at x y) ≡ at_precedence 5 (codes "older(" ++ expr_text x ++ codes ", " ++ expr_text y ++ codes ")")
 printed-older at x y = ap printed (sym (expr.rolls-Older at x y)) ∙ printed-roll (node.Older at x y)
 
-pub printed-comparison : (x : Expr) (how : Comparison) (y : Expr) → printed (expr.Compare x how y) ≡ at_level 1 (operand 2 (printed x) ++ spaced (comparison_text how) ++ operand 2 (printed y))
+pub printed-comparison : (x : Expr) (how : Comparison) (y : Expr) → printed (expr.Compare x how y) ≡ at_precedence 1 (operand 2 (printed x) ++ spaced (comparison_text how) ++ operand 2 (printed y))
 printed-comparison x how y = ap printed (sym (expr.rolls-Compare x how y)) ∙ printed-roll (node.Compare x how y)
 
-pub printed-sum : (x : Expr) (parts : List SumPart) → printed (expr.Sum x parts) ≡ at_level 2 (operand 3 (printed x) ++ flat_map sum_part_text parts)
+pub printed-sum : (x : Expr) (parts : List SumPart) → printed (expr.Sum x parts) ≡ at_precedence 2 (operand 3 (printed x) ++ flat_map sum_part_text parts)
 printed-sum x parts =
     ap printed (sym (expr.rolls-Sum x parts)) ∙ printed-roll (node.Sum x parts)
-    ∙ ap (λ z. at_level 2 (operand 3 (printed x) ++ z)) (flat_map-map (λ part. part) sum_part_text parts)
+    ∙ ap (λ z. at_precedence 2 (operand 3 (printed x) ++ z)) (flat_map-map (λ part. part) sum_part_text parts)
 
-pub printed-product : (x : Expr) (parts : List ProductPart) → printed (expr.Product x parts) ≡ at_level 3 (operand 4 (printed x) ++ flat_map product_part_text parts)
+pub printed-product : (x : Expr) (parts : List ProductPart) → printed (expr.Product x parts) ≡ at_precedence 3 (operand 4 (printed x) ++ flat_map product_part_text parts)
 printed-product x parts =
     ap printed (sym (expr.rolls-Product x parts)) ∙ printed-roll (node.Product x parts)
-    ∙ ap (λ z. at_level 3 (operand 4 (printed x) ++ z)) (flat_map-map (λ part. part) product_part_text parts)
+    ∙ ap (λ z. at_precedence 3 (operand 4 (printed x) ++ z)) (flat_map-map (λ part. part) product_part_text parts)
 
 pub sum_part_text-part : (minus : Bool) (x : Expr) → sum_part_text (record { minus = minus; operand = x }) ≡ spaced (sum_sign_text minus) ++ operand 3 (printed x)
 sum_part_text-part minus x = fold_out-SumPart Printed (List ℕ) (List ℕ) expr_at product_part_at sum_part_at (record { minus = minus; operand = x })

@@ -18,7 +18,7 @@ use Rattle.script_grammar.specs.declared.tree.Comparison.{Comparison}
 use Rattle.script_grammar.specs.declared.tree.Comparison.TheVariants.{Eq, Ne, Lt, Le, Gt, Ge}
 use Rattle.script_grammar.specs.Grammar.{Token, tok, name_at, number_at, decimal, sum_of, product_of, IsSumSign, a_plus, a_minus, IsProductSign, a_times, an_over, a_modulo, IsComparison, an_eq, a_ne, a_lt, a_le, a_gt, a_ge, IsFactor, a_neg, a_number, a_name, an_item, a_group, a_same, an_older, IsTerm, factors, IsFactors, no_factors, one_factor, IsSum, terms, IsTerms, no_terms, one_term, IsExpr, alone, compared}
 use Rattle.script_grammar.specs.Nesting.{factor_nesting, term_nesting, factors_nesting, sum_nesting, terms_nesting, expr_nesting}
-use Rattle.script_print.specs.Canonical.{Printed, at_level, operand, comparison_text, sum_sign_text, product_sign_text, spaced, printed, product_part_text, sum_part_text, expr_text}
+use Rattle.script_print.specs.Canonical.{Printed, at_precedence, operand, comparison_text, sum_sign_text, product_sign_text, spaced, printed, product_part_text, sum_part_text, expr_text}
 use Rattle.script_print.specs.Unplaced.{unplaced_name, unplaced_number, unplaced_expr, unplaced_product_part, unplaced_sum_part}
 use Rattle.script_print.proofs.Computing.{printed-number, printed-variable, printed-item, printed-negation, printed-same, printed-older, printed-comparison, printed-sum, printed-product, sum_part_text-part, product_part_text-part}
 use Rattle.script_print.proofs.Placing.{same_item, same_number, same_variable, same_negation, same_same, same_older, same_comparison, same_sum_part, same_product_part, same_sum, same_product, cons_same}
@@ -116,14 +116,14 @@ term_lower x m n h us ts d = record { tree = d.tree; derived = d.derived; same =
 factor_lower : (x : Expr) (m n : ℕ) → m ≤ n → (us ts : List Token) → FactorOf x n us ts → FactorOf x m us ts
 factor_lower x m n h us ts d = record { tree = d.tree; derived = d.derived; same = d.same; low = λ k l. d.low k (omega arith) }
 
--- A printed text is of the expression x: as an expression always, and, by its level, as a sum, a term, a factor. There is room for n round it.
+-- A printed text is of the expression x: as an expression always, and, by its precedence, as a sum, a term, a factor. There is room for n round it.
 pub record Shown (version : Version) (p : Printed) (x : Expr) (n : ℕ) : Type 0 where
   pub low : n ≤ 64
   pub front : (rest : List ℕ) → starts no_arrow (p.text ++ rest) ≡ true
   pub expr : Forms version p.text calm (ExprOf x n)
-  pub sum_too : nat_lt p.level 2 ≡ false → Forms version p.text calm (SumOf x n)
-  pub term : nat_lt p.level 3 ≡ false → Forms version p.text calm (TermOf x n)
-  pub factor : nat_lt p.level 4 ≡ false → Forms version p.text calm (FactorOf x n)
+  pub sum_too : nat_lt p.precedence 2 ≡ false → Forms version p.text calm (SumOf x n)
+  pub term : nat_lt p.precedence 3 ≡ false → Forms version p.text calm (TermOf x n)
+  pub factor : nat_lt p.precedence 4 ≡ false → Forms version p.text calm (FactorOf x n)
 
 lower : {version : Version} (p : Printed) (x : Expr) (m n : ℕ) → m ≤ n → Shown version p x n → Shown version p x m
 lower p x m n h s = record {
@@ -135,7 +135,7 @@ lower p x m n h s = record {
   factor = λ e. weaken (s.factor e) (factor_lower x m n h);
 }
 
-from_sum : {version : Version} (p : Printed) (x : Expr) (n : ℕ) → n ≤ 64 → ((rest : List ℕ) → starts no_arrow (p.text ++ rest) ≡ true) → nat_lt p.level 3 ≡ true → nat_lt p.level 4 ≡ true → Forms version p.text calm (SumOf x n) → Shown version p x n
+from_sum : {version : Version} (p : Printed) (x : Expr) (n : ℕ) → n ≤ 64 → ((rest : List ℕ) → starts no_arrow (p.text ++ rest) ≡ true) → nat_lt p.precedence 3 ≡ true → nat_lt p.precedence 4 ≡ true → Forms version p.text calm (SumOf x n) → Shown version p x n
 from_sum p x n l front e f d = record {
   low = l;
   front = front;
@@ -145,7 +145,7 @@ from_sum p x n l front e f d = record {
   factor = λ g. absurd cc;
 }
 
-from_term : {version : Version} (p : Printed) (x : Expr) (n : ℕ) → n ≤ 64 → ((rest : List ℕ) → starts no_arrow (p.text ++ rest) ≡ true) → nat_lt p.level 4 ≡ true → Forms version p.text calm (TermOf x n) → Shown version p x n
+from_term : {version : Version} (p : Printed) (x : Expr) (n : ℕ) → n ≤ 64 → ((rest : List ℕ) → starts no_arrow (p.text ++ rest) ≡ true) → nat_lt p.precedence 4 ≡ true → Forms version p.text calm (TermOf x n) → Shown version p x n
 from_term p x n l front e d = record {
   low = l;
   front = front;
@@ -165,19 +165,19 @@ from_factor p x n l front d = record {
   factor = λ g. d;
 }
 
--- The expression's text stands there, and where its level is below the need there is room for parentheses.
+-- The expression's text stands there, and where its precedence is below the need there is room for parentheses.
 pub record Room (version : Version) (need : ℕ) (x : Expr) (n : ℕ) : Type 0 where
   pub here : Shown version (printed x) x n
-  pub room : nat_lt (printed x).level need ≡ true → Shown version (printed x) x (suc n)
+  pub room : nat_lt (printed x).precedence need ≡ true → Shown version (printed x) x (suc n)
 
-settled : {version : Version} (need : ℕ) (p : Printed) (x : Expr) (n : ℕ) → printed x ≡ p → nat_lt p.level need ≡ false → Shown version p x n → Room version need x n
+settled : {version : Version} (need : ℕ) (p : Printed) (x : Expr) (n : ℕ) → printed x ≡ p → nat_lt p.precedence need ≡ false → Shown version p x n → Room version need x n
 settled {version = version} need p x n e h s = record {
   here = subst (λ q. Shown version q x n) (sym e) s;
-  room = λ g. let f = sym (ap (λ q. nat_lt q.level need) e) ∙ g in absurd cc;
+  room = λ g. let f = sym (ap (λ q. nat_lt q.precedence need) e) ∙ g in absurd cc;
 }
 
 looser : {version : Version} (k : ℕ) (x : Expr) (n : ℕ) → Room version (suc k) x n → Room version k x n
-looser k x n r = record { here = r.here; room = λ e. r.room (more (printed x).level e) }
+looser k x n r = record { here = r.here; room = λ e. r.room (more (printed x).precedence e) }
   where
     more : (l : ℕ) → nat_lt l k ≡ true → nat_lt l (suc k) ≡ true
     more l e = grind (arith, nat_tests)
@@ -203,28 +203,28 @@ grouped : {version : Version} (p : Printed) (x : Expr) (n : ℕ) → Shown versi
 grouped p x n s = calmly (weaken (then_ (then_ opened s.expr (λ r h. anything (p.text ++ r))) closed (λ r h. refl)) (group_made x n s.low))
 
 at_factor : {version : Version} (x : Expr) (n : ℕ) → Room version 4 x n → Forms version (operand 4 (printed x)) calm (FactorOf x n)
-at_factor {version = version} x n r = go (nat_lt (printed x).level 4) refl
+at_factor {version = version} x n r = go (nat_lt (printed x).precedence 4) refl
   where
-    go : (b : Bool) → nat_lt (printed x).level 4 ≡ b → Forms version (if b then codes "(" ++ (printed x).text ++ codes ")" else (printed x).text) calm (FactorOf x n)
+    go : (b : Bool) → nat_lt (printed x).precedence 4 ≡ b → Forms version (if b then codes "(" ++ (printed x).text ++ codes ")" else (printed x).text) calm (FactorOf x n)
     go true e = grouped (printed x) x n (r.room e)
     go false e = r.here.factor e
 
 at_term : {version : Version} (x : Expr) (n : ℕ) → Room version 3 x n → Forms version (operand 3 (printed x)) calm (TermOf x n)
-at_term {version = version} x n r = go (nat_lt (printed x).level 3) refl
+at_term {version = version} x n r = go (nat_lt (printed x).precedence 3) refl
   where
-    go : (b : Bool) → nat_lt (printed x).level 3 ≡ b → Forms version (if b then codes "(" ++ (printed x).text ++ codes ")" else (printed x).text) calm (TermOf x n)
+    go : (b : Bool) → nat_lt (printed x).precedence 3 ≡ b → Forms version (if b then codes "(" ++ (printed x).text ++ codes ")" else (printed x).text) calm (TermOf x n)
     go true e = weaken (grouped (printed x) x n (r.room e)) (as_term x n)
     go false e = r.here.term e
 
 at_sum : {version : Version} (x : Expr) (n : ℕ) → Room version 2 x n → Forms version (operand 2 (printed x)) calm (SumOf x n)
-at_sum {version = version} x n r = go (nat_lt (printed x).level 2) refl
+at_sum {version = version} x n r = go (nat_lt (printed x).precedence 2) refl
   where
-    go : (b : Bool) → nat_lt (printed x).level 2 ≡ b → Forms version (if b then codes "(" ++ (printed x).text ++ codes ")" else (printed x).text) calm (SumOf x n)
+    go : (b : Bool) → nat_lt (printed x).precedence 2 ≡ b → Forms version (if b then codes "(" ++ (printed x).text ++ codes ")" else (printed x).text) calm (SumOf x n)
     go true e = weaken (weaken (grouped (printed x) x n (r.room e)) (as_term x n)) (as_sum x n)
     go false e = r.here.sum_too e
 
 operand_front : {version : Version} (need : ℕ) (x : Expr) (n : ℕ) → Shown version (printed x) x n → (rest : List ℕ) → starts no_arrow (operand need (printed x) ++ rest) ≡ true
-operand_front need x n s rest = go (nat_lt (printed x).level need)
+operand_front need x n s rest = go (nat_lt (printed x).precedence need)
   where
     go : (b : Bool) → starts no_arrow ((if b then codes "(" ++ (printed x).text ++ codes ")" else (printed x).text) ++ rest) ≡ true
     go true = refl
@@ -304,19 +304,19 @@ older_made a x y n h us ts (and_then (and_then (and_then (and_then (and_then (a_
 number_shown : {version : Version} (a : ℕ) (t : List ℕ) (n : ℕ) → n ≤ 64 → IsModest (tok a word.Number t) → Room version 4 (expr.Number (number_at a t)) n
 number_shown a t n l m =
     let small : decimal 0 t ≤ 9223372036854775807 = m.number refl in
-    let p : Printed = at_level 5 (fmt.decimal (decimal 0 t)) in
+    let p : Printed = at_precedence 5 (fmt.decimal (decimal 0 t)) in
     settled 4 p (expr.Number (number_at a t)) n (printed-number (number_at a t)) refl
     (from_factor p (expr.Number (number_at a t)) n l (λ r. number_starts (decimal 0 t) r small) (weaken (number_form (decimal 0 t) small) (number_made a t n l small)))
 
 variable_shown : {version : Version} (a : ℕ) (t : List ℕ) (n : ℕ) → n ≤ 64 → IsSound version (tok a word.Name t) → Room version 4 (expr.Var (name_at a t)) n
 variable_shown {version = version} a t n l s =
-    let p : Printed = at_level 5 t in
+    let p : Printed = at_precedence 5 t in
     settled 4 p (expr.Var (name_at a t)) n (printed-variable (name_at a t)) refl
     (from_factor p (expr.Var (name_at a t)) n l (λ r. name_starts version t r s.word_is) (weaken (name_form t s.word_is (s.modest.name refl)) (variable_made a t n l)))
 
 item_shown : {version : Version} (a : ℕ) (t : List ℕ) (x : Expr) (n : ℕ) → IsSound version (tok a word.Name t) → Shown version (printed x) x (suc n) → Room version 4 (expr.Item (name_at a t) x) n
 item_shown {version = version} a t x n s d =
-    let p : Printed = at_level 5 (t ++ codes "[" ++ expr_text x ++ codes "]") in
+    let p : Printed = at_precedence 5 (t ++ codes "[" ++ expr_text x ++ codes "]") in
     settled 4 p (expr.Item (name_at a t) x) n (printed-item (name_at a t) x) refl
     (from_factor p (expr.Item (name_at a t) x) n (omega (arith, d.low))
     (front_first (t ++ codes "[" ++ expr_text x) (codes "]") (front_first (t ++ codes "[") (expr_text x) (front_first t (codes "[") (λ r. name_starts version t r s.word_is))))
@@ -324,21 +324,21 @@ item_shown {version = version} a t x n s d =
 
 neg_shown : {version : Version} (a : ℕ) (x : Expr) (n : ℕ) → Room version 4 x (suc n) → Room version 4 (expr.Neg a x) n
 neg_shown a x n d =
-    let p : Printed = at_level 4 (codes "-" ++ operand 4 (printed x)) in
+    let p : Printed = at_precedence 4 (codes "-" ++ operand 4 (printed x)) in
     settled 4 p (expr.Neg a x) n (printed-negation a x) refl
     (from_factor p (expr.Neg a x) n (omega (arith, d.here.low)) (λ r. refl)
     (weaken (then_ minus (at_factor x (suc n) d) (λ r h. operand_front 4 x (suc n) d.here r)) (neg_made a x n d.here.low)))
 
 same_shown : {version : Version} (a : ℕ) (x y : Expr) (n : ℕ) → Shown version (printed x) x (suc n) → Shown version (printed y) y (suc n) → Room version 4 (expr.Same a x y) n
 same_shown a x y n d e =
-    let p : Printed = at_level 5 (codes "same(" ++ expr_text x ++ codes ", " ++ expr_text y ++ codes ")") in
+    let p : Printed = at_precedence 5 (codes "same(" ++ expr_text x ++ codes ", " ++ expr_text y ++ codes ")") in
     settled 4 p (expr.Same a x y) n (printed-same a x y) refl
     (from_factor p (expr.Same a x y) n (omega (arith, d.low)) (λ r. refl)
     (calmly (weaken (then_ (then_ (then_ (then_ same_open d.expr (λ r h. anything (expr_text x ++ r))) comma (λ r h. refl)) e.expr (λ r h. anything (expr_text y ++ r))) closed (λ r h. refl)) (same_made a x y n d.low))))
 
 older_shown : {version : Version} (a : ℕ) (x y : Expr) (n : ℕ) → Shown version (printed x) x (suc n) → Shown version (printed y) y (suc n) → Room version 4 (expr.Older a x y) n
 older_shown a x y n d e =
-    let p : Printed = at_level 5 (codes "older(" ++ expr_text x ++ codes ", " ++ expr_text y ++ codes ")") in
+    let p : Printed = at_precedence 5 (codes "older(" ++ expr_text x ++ codes ", " ++ expr_text y ++ codes ")") in
     settled 4 p (expr.Older a x y) n (printed-older a x y) refl
     (from_factor p (expr.Older a x y) n (omega (arith, d.low)) (λ r. refl)
     (calmly (weaken (then_ (then_ (then_ (then_ older_open d.expr (λ r h. anything (expr_text x ++ r))) comma (λ r h. refl)) e.expr (λ r h. anything (expr_text y ++ r))) closed (λ r h. refl)) (older_made a x y n d.low))))
@@ -451,14 +451,14 @@ sum_made x p ps n us ts (and_then d e) =
 
 product_shown : {version : Version} (x : Expr) (p : ProductPart) (ps : List ProductPart) (n : ℕ) → Room version 4 x n → Tail version (flat_map product_part_text (p ∷ ps)) (FactorsOf (p ∷ ps) n) → Room version 3 (expr.Product x (p ∷ ps)) n
 product_shown x p ps n r tail =
-    let q : Printed = at_level 3 (operand 4 (printed x) ++ flat_map product_part_text (p ∷ ps)) in
+    let q : Printed = at_precedence 3 (operand 4 (printed x) ++ flat_map product_part_text (p ∷ ps)) in
     settled 3 q (expr.Product x (p ∷ ps)) n (printed-product x (p ∷ ps)) refl
     (from_term q (expr.Product x (p ∷ ps)) n r.here.low (front_first (operand 4 (printed x)) (flat_map product_part_text (p ∷ ps)) (operand_front 4 x n r.here)) refl
     (weaken (then_ (at_factor x n r) tail.form tail.front) (product_made x p ps n)))
 
 sum_shown : {version : Version} (x : Expr) (p : SumPart) (ps : List SumPart) (n : ℕ) → Room version 3 x n → Tail version (flat_map sum_part_text (p ∷ ps)) (TermsOf (p ∷ ps) n) → Room version 2 (expr.Sum x (p ∷ ps)) n
 sum_shown x p ps n r tail =
-    let q : Printed = at_level 2 (operand 3 (printed x) ++ flat_map sum_part_text (p ∷ ps)) in
+    let q : Printed = at_precedence 2 (operand 3 (printed x) ++ flat_map sum_part_text (p ∷ ps)) in
     settled 2 q (expr.Sum x (p ∷ ps)) n (printed-sum x (p ∷ ps)) refl
     (from_sum q (expr.Sum x (p ∷ ps)) n r.here.low (front_first (operand 3 (printed x)) (flat_map sum_part_text (p ∷ ps)) (operand_front 3 x n r.here)) refl refl
     (weaken (then_ (at_term x n r) tail.form tail.front) (sum_made x p ps n)))
@@ -475,7 +475,7 @@ comparison_made x s y n h us ts (and_then (and_then d (a_comparison k)) e) =
 comparison_shown : {version : Version} (x : Expr) (s : Comparison) (y : Expr) (n : ℕ) → Room version 2 x n → Room version 2 y n → Shown version (printed (expr.Compare x s y)) (expr.Compare x s y) n
 comparison_shown {version = version} x s y n d e =
     let text : List ℕ = operand 2 (printed x) ++ spaced (comparison_text s) ++ operand 2 (printed y) in
-    let made : Shown version (at_level 1 text) (expr.Compare x s y) n = record {
+    let made : Shown version (at_precedence 1 text) (expr.Compare x s y) n = record {
       low = d.here.low;
       front = front_first (operand 2 (printed x) ++ spaced (comparison_text s)) (operand 2 (printed y)) (front_first (operand 2 (printed x)) (spaced (comparison_text s)) (operand_front 2 x n d.here));
       expr = weaken (then_ (then_ (at_sum x n d) (comparison_form s) (λ r h. refl)) (at_sum y n e) (λ r h. anything (operand 2 (printed y) ++ r))) (comparison_made x s y n d.here.low);

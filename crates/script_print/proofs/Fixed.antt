@@ -24,7 +24,7 @@ use Rattle.script_grammar.specs.declared.tree.Act.TheVariants as act
 use Rattle.script_grammar.specs.declared.tree.Param.{Param}
 use Rattle.script_grammar.specs.declared.tree.Function.{Function}
 use Rattle.script_grammar.specs.declared.tree.Script.{Script}
-use Rattle.script_print.specs.Canonical.{Printed, at_level, operand, spaced, comparison_text, sum_sign_text, product_sign_text, printed, product_part_text, sum_part_text, expr_text, behind_commas, listed, call_text, right_text, range_text, loop_call_text, into_text, block_text, else_text, act_text, stmt_text, stmts_text, param_text, answer_text, head_text, function_text, version_text, canonical}
+use Rattle.script_print.specs.Canonical.{Printed, at_precedence, operand, spaced, comparison_text, sum_sign_text, product_sign_text, printed, product_part_text, sum_part_text, expr_text, behind_commas, listed, call_text, right_text, range_text, loop_call_text, into_text, block_text, else_text, act_text, stmt_text, stmts_text, param_text, answer_kind_text, head_text, function_text, version_text, canonical}
 use Rattle.script_print.specs.Unplaced.{unplaced_name, unplaced_number, unplaced_expr, unplaced_product_part, unplaced_sum_part, unplaced_call, unplaced_right, unplaced_target, unplaced_act, unplaced_stmt, unplaced_param, unplaced_function, unplaced}
 use Rattle.script_print.proofs.Computing.{printed-number, printed-variable, printed-item, printed-negation, printed-same, printed-older, printed-comparison, printed-sum, printed-product, sum_part_text-part, product_part_text-part, act_text-let, act_text-array, act_text-set, act_text-store, act_text-spawn, act_text-call, act_text-sync, act_text-print, act_text-if, act_text-while, act_text-pfor, act_text-scope, stmt_text-line, block_text-stmts}
 use Rattle.script_print.proofs.Placing.{unplaced-number, unplaced-variable, unplaced-item, unplaced-negation, unplaced-same, unplaced-older, unplaced-comparison, unplaced-sum, unplaced-product, unplaced-sum_part, unplaced-product_part, unplaced-stmt, sync_is, let_is, set_is, array_is, store_is, spawn_is, call_is, print_is, if_is, while_is, pfor_is, scope_is}
@@ -55,40 +55,40 @@ sum_parts_fixed (p ∷ ps) =
 
 item_fixed : (x : Name) (i : Expr) → Fixed i → Fixed (expr.Item x i)
 item_fixed x i h =
-    ap printed (unplaced-item x i) ∙ printed-item (unplaced_name x) (unplaced_expr i) ∙ ap (λ z. at_level 5 (x.bytes ++ codes "[" ++ z ++ codes "]")) (text_of i h) ∙ sym (printed-item x i)
+    ap printed (unplaced-item x i) ∙ printed-item (unplaced_name x) (unplaced_expr i) ∙ ap (λ z. at_precedence 5 (x.bytes ++ codes "[" ++ z ++ codes "]")) (text_of i h) ∙ sym (printed-item x i)
 
 negation_fixed : (at : ℕ) (x : Expr) → Fixed x → Fixed (expr.Neg at x)
-negation_fixed at x h = ap printed (unplaced-negation at x) ∙ printed-negation 0 (unplaced_expr x) ∙ ap (λ z. at_level 4 (codes "-" ++ operand 4 z)) h ∙ sym (printed-negation at x)
+negation_fixed at x h = ap printed (unplaced-negation at x) ∙ printed-negation 0 (unplaced_expr x) ∙ ap (λ z. at_precedence 4 (codes "-" ++ operand 4 z)) h ∙ sym (printed-negation at x)
 
 same_fixed : (at : ℕ) (x y : Expr) → Fixed x → Fixed y → Fixed (expr.Same at x y)
 same_fixed at x y h k =
     ap printed (unplaced-same at x y) ∙ printed-same 0 (unplaced_expr x) (unplaced_expr y)
-    ∙ ap (λ z. at_level 5 (codes "same(" ++ z ++ codes ", " ++ expr_text (unplaced_expr y) ++ codes ")")) (text_of x h)
-    ∙ ap (λ z. at_level 5 (codes "same(" ++ expr_text x ++ codes ", " ++ z ++ codes ")")) (text_of y k) ∙ sym (printed-same at x y)
+    ∙ ap (λ z. at_precedence 5 (codes "same(" ++ z ++ codes ", " ++ expr_text (unplaced_expr y) ++ codes ")")) (text_of x h)
+    ∙ ap (λ z. at_precedence 5 (codes "same(" ++ expr_text x ++ codes ", " ++ z ++ codes ")")) (text_of y k) ∙ sym (printed-same at x y)
 
 older_fixed : (at : ℕ) (x y : Expr) → Fixed x → Fixed y → Fixed (expr.Older at x y)
 older_fixed at x y h k =
     ap printed (unplaced-older at x y) ∙ printed-older 0 (unplaced_expr x) (unplaced_expr y)
-    ∙ ap (λ z. at_level 5 (codes "older(" ++ z ++ codes ", " ++ expr_text (unplaced_expr y) ++ codes ")")) (text_of x h)
-    ∙ ap (λ z. at_level 5 (codes "older(" ++ expr_text x ++ codes ", " ++ z ++ codes ")")) (text_of y k) ∙ sym (printed-older at x y)
+    ∙ ap (λ z. at_precedence 5 (codes "older(" ++ z ++ codes ", " ++ expr_text (unplaced_expr y) ++ codes ")")) (text_of x h)
+    ∙ ap (λ z. at_precedence 5 (codes "older(" ++ expr_text x ++ codes ", " ++ z ++ codes ")")) (text_of y k) ∙ sym (printed-older at x y)
 
 comparison_fixed : (x : Expr) (how : Comparison) (y : Expr) → Fixed x → Fixed y → Fixed (expr.Compare x how y)
 comparison_fixed x how y h k =
     ap printed (unplaced-comparison x how y) ∙ printed-comparison (unplaced_expr x) how (unplaced_expr y)
-    ∙ ap (λ z. at_level 1 (operand 2 z ++ spaced (comparison_text how) ++ operand 2 (printed (unplaced_expr y)))) h
-    ∙ ap (λ z. at_level 1 (operand 2 (printed x) ++ spaced (comparison_text how) ++ operand 2 z)) k ∙ sym (printed-comparison x how y)
+    ∙ ap (λ z. at_precedence 1 (operand 2 z ++ spaced (comparison_text how) ++ operand 2 (printed (unplaced_expr y)))) h
+    ∙ ap (λ z. at_precedence 1 (operand 2 (printed x) ++ spaced (comparison_text how) ++ operand 2 z)) k ∙ sym (printed-comparison x how y)
 
 sum_fixed : (x : Expr) (ps : List ((p : SumPart) × SumFixed p)) → Fixed x → Fixed (expr.Sum x (map (λ p. p.0) ps))
 sum_fixed x ps h =
     ap printed (unplaced-sum x (map (λ p. p.0) ps)) ∙ printed-sum (unplaced_expr x) (map unplaced_sum_part (map (λ p. p.0) ps))
-    ∙ ap (λ z. at_level 2 (operand 3 z ++ flat_map sum_part_text (map unplaced_sum_part (map (λ p. p.0) ps)))) h
-    ∙ ap (λ z. at_level 2 (operand 3 (printed x) ++ z)) (sum_parts_fixed ps) ∙ sym (printed-sum x (map (λ p. p.0) ps))
+    ∙ ap (λ z. at_precedence 2 (operand 3 z ++ flat_map sum_part_text (map unplaced_sum_part (map (λ p. p.0) ps)))) h
+    ∙ ap (λ z. at_precedence 2 (operand 3 (printed x) ++ z)) (sum_parts_fixed ps) ∙ sym (printed-sum x (map (λ p. p.0) ps))
 
 product_fixed : (x : Expr) (ps : List ((p : ProductPart) × ProductFixed p)) → Fixed x → Fixed (expr.Product x (map (λ p. p.0) ps))
 product_fixed x ps h =
     ap printed (unplaced-product x (map (λ p. p.0) ps)) ∙ printed-product (unplaced_expr x) (map unplaced_product_part (map (λ p. p.0) ps))
-    ∙ ap (λ z. at_level 3 (operand 4 z ++ flat_map product_part_text (map unplaced_product_part (map (λ p. p.0) ps)))) h
-    ∙ ap (λ z. at_level 3 (operand 4 (printed x) ++ z)) (product_parts_fixed ps) ∙ sym (printed-product x (map (λ p. p.0) ps))
+    ∙ ap (λ z. at_precedence 3 (operand 4 z ++ flat_map product_part_text (map unplaced_product_part (map (λ p. p.0) ps)))) h
+    ∙ ap (λ z. at_precedence 3 (operand 4 (printed x) ++ z)) (product_parts_fixed ps) ∙ sym (printed-product x (map (λ p. p.0) ps))
 
 product_part_fixed : (sign : ProductSign) (x : Expr) → Fixed x → ProductFixed (record { sign = sign; operand = x })
 product_part_fixed sign x h =
@@ -275,7 +275,7 @@ body_fixed (s ∷ ss) margin = ap (λ z. z ++ stmts_text (map unplaced_stmt ss) 
 function_fixed : (f : Function) → function_text (unplaced_function f) ≡ function_text f
 function_fixed f =
     let params = listed_fixed param_text unplaced_param (λ p. refl) f.params in
-    ap (λ z. codes "fn " ++ f.name.bytes ++ codes "(" ++ z ++ codes ")" ++ answer_text f.answer ++ codes " {\n"
+    ap (λ z. codes "fn " ++ f.name.bytes ++ codes "(" ++ z ++ codes ")" ++ answer_kind_text f.answer ++ codes " {\n"
     ++ stmts_text (map unplaced_stmt f.body) (codes "  ") ++ codes "  return " ++ expr_text (unplaced_expr f.result) ++ codes ";\n}\n") params
     ∙ ap (λ z. head_text f ++ z ++ codes "  return " ++ expr_text (unplaced_expr f.result) ++ codes ";\n}\n") (body_fixed f.body (codes "  "))
     ∙ ap (λ z. head_text f ++ stmts_text f.body (codes "  ") ++ codes "  return " ++ z ++ codes ";\n}\n") (expr_text_fixed f.result)

@@ -9,9 +9,9 @@ use Rattle.script_grammar.specs.declared.tree.Kind.{Kind}
 use Rattle.script_grammar.specs.declared.tree.Kind.TheVariants.{Int, Id}
 use Rattle.script_grammar.specs.declared.tree.Param.{Param}
 use Rattle.script_grammar.specs.declared.tree.Function.{Function}
-use Rattle.script_grammar.specs.Grammar.{Token, tok, name_at, IsExpr, IsStmts, IsParam, int_param, id_param, IsMoreParams, no_more_params, one_more_param, IsParams, no_params, some_params, IsAnswer, int_answer, id_answer, IsFunction, a_function, IsFunctions, no_functions, one_function}
+use Rattle.script_grammar.specs.Grammar.{Token, tok, name_at, IsExpr, IsStmts, IsParam, int_param, id_param, IsMoreParams, no_more_params, one_more_param, IsParams, no_params, some_params, IsAnswerKind, int_answer, id_answer, IsFunction, a_function, IsFunctions, no_functions, one_function}
 use Rattle.script_grammar.specs.Nesting.{expr_nesting, stmts_nesting, param_nesting, more_params_nesting, params_nesting, answer_nesting, function_nesting, functions_nesting}
-use Rattle.script_print.specs.Canonical.{expr_text, behind_commas, listed, stmts_text, param_text, answer_text, head_text, function_text}
+use Rattle.script_print.specs.Canonical.{expr_text, behind_commas, listed, stmts_text, param_text, answer_kind_text, head_text, function_text}
 use Rattle.script_print.specs.Unplaced.{unplaced_name, unplaced_expr, unplaced_stmt, unplaced_param, unplaced_function}
 use Rattle.script_print.proofs.Placing.{cons_same}
 use Rattle.script_print.proofs.Cutting.{starts}
@@ -43,7 +43,7 @@ pub record ParamsOf (ps : List Param) (n : ℕ) (us ts : List Token) : Type 0 wh
   pub low : Low (params_nesting derived n)
 
 pub record AnswerOf (k : Kind) (n : ℕ) (us ts : List Token) : Type 0 where
-  pub derived : IsAnswer us k ts
+  pub derived : IsAnswerKind us k ts
   pub low : Low (answer_nesting derived n)
 
 int_param_made : (a : ℕ) (t : List ℕ) (n : ℕ) → n ≤ 64 → (us ts : List Token) → IsToken word.Name t us ts → ParamOf (record { kind = Int; name = name_at a t }) n us ts
@@ -105,7 +105,7 @@ int_answer_made n us ts nothing = record { derived = int_answer; low = tt }
 id_answer_made : (n : ℕ) → n ≤ 64 → (us ts : List Token) → Then (IsToken word.Arrow (codes "->")) (IsToken word.Id (codes "id")) us ts → AnswerOf Id n us ts
 id_answer_made n h us ts (and_then a_token a_token) = record { derived = id_answer; low = (h, (h, tt)) }
 
-answer_shown : {version : Version} {ts rest : List Token} {k : Kind} (d : IsAnswer ts k rest) (n : ℕ) → Low (answer_nesting d n) → Tail version (answer_text k) (AnswerOf k n)
+answer_shown : {version : Version} {ts rest : List Token} {k : Kind} (d : IsAnswerKind ts k rest) (n : ℕ) → Low (answer_nesting d n) → Tail version (answer_kind_text k) (AnswerOf k n)
 answer_shown int_answer n l = record { form = weaken empty (int_answer_made n); front = λ r h. h }
 answer_shown {version = version} id_answer n l = record {
   form = weaken (then_ (spaced_word word.Arrow (codes "->") refl refl refl) (keyword word.Id (codes "id") refl (in_each version word.Id (codes "id") refl refl) refl) (λ r h. refl)) (id_answer_made n l.0);
@@ -169,11 +169,11 @@ function_made a b t ps k body x n h j us ts
       );
     }
 
-head_form : {version : Version} (t : List ℕ) (ps : List Param) (k : Kind) (n : ℕ) → Forms version t calm (IsToken word.Name t) → Forms version (listed param_text ps) calm (ParamsOf ps (suc n)) → Tail version (answer_text k) (AnswerOf k n) →
-    Forms version (codes "fn " ++ t ++ codes "(" ++ listed param_text ps ++ codes ")" ++ answer_text k ++ codes " {\n") any (HeadOf t ps k n)
+head_form : {version : Version} (t : List ℕ) (ps : List Param) (k : Kind) (n : ℕ) → Forms version t calm (IsToken word.Name t) → Forms version (listed param_text ps) calm (ParamsOf ps (suc n)) → Tail version (answer_kind_text k) (AnswerOf k n) →
+    Forms version (codes "fn " ++ t ++ codes "(" ++ listed param_text ps ++ codes ")" ++ answer_kind_text k ++ codes " {\n") any (HeadOf t ps k n)
 head_form {version = version} t ps k n name params answer =
     then_ (then_ (then_ (then_ (then_ (then_ (word_space word.Fn (codes "fn") refl (in_each version word.Fn (codes "fn") refl refl) refl) name (λ r h. anything (t ++ r))) opened (λ r h. refl)) params (λ r h. anything (listed param_text ps ++ r)))
-    closed (λ r h. refl)) answer.form (λ r h. anything (answer_text k ++ r)))
+    closed (λ r h. refl)) answer.form (λ r h. anything (answer_kind_text k ++ r)))
     (weaken (then_ (a_blank 32 refl) open_block (λ r h. refl)) nothing_in_front) (λ r h. refl)
 
 return_word : {version : Version} → Forms version (codes "  return ") any (IsToken word.Return (codes "return"))

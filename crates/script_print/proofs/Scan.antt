@@ -14,7 +14,7 @@ use Rattle.script_grammar.specs.declared.tree.Stmt.{Stmt}
 use Rattle.script_grammar.specs.declared.tree.Kind.{Kind}
 use Rattle.script_grammar.specs.declared.tree.Param.{Param}
 use Rattle.script_grammar.specs.declared.tree.Function.{Function}
-use Rattle.script_grammar.specs.Grammar.{Token, tok, IsSumSign, a_plus, a_minus, IsProductSign, a_times, an_over, a_modulo, IsComparison, an_eq, a_ne, a_lt, a_le, a_gt, a_ge, IsFactor, a_neg, a_number, a_name, an_item, a_group, a_same, an_older, IsTerm, factors, IsFactors, no_factors, one_factor, IsSum, terms, IsTerms, no_terms, one_term, IsExpr, alone, compared, IsMoreArgs, no_more_args, one_more_arg, IsArgs, no_args, some_args, IsCall, a_call, IsRight, right_value, right_draw, right_new, right_call, right_spawn, IsInto, no_into, an_into, IsStmt, a_let, an_array, a_set, a_store, a_spawn, a_call_stmt, a_sync, a_print, an_if, a_while, a_pfor, a_scope, IsStmts, no_stmts, one_stmt, IsBlock, a_block, IsElse, no_else, an_else, IsParam, int_param, id_param, IsMoreParams, no_more_params, one_more_param, IsParams, no_params, some_params, IsAnswer, int_answer, id_answer, IsFunction, a_function, IsFunctions, no_functions, one_function}
+use Rattle.script_grammar.specs.Grammar.{Token, tok, IsSumSign, a_plus, a_minus, IsProductSign, a_times, an_over, a_modulo, IsComparison, an_eq, a_ne, a_lt, a_le, a_gt, a_ge, IsFactor, a_neg, a_number, a_name, an_item, a_group, a_same, an_older, IsTerm, factors, IsFactors, no_factors, one_factor, IsSum, terms, IsTerms, no_terms, one_term, IsExpr, alone, compared, IsMoreArgs, no_more_args, one_more_arg, IsArgs, no_args, some_args, IsCall, a_call, IsRight, right_value, right_draw, right_new, right_call, right_spawn, IsInto, no_into, an_into, IsStmt, a_let, an_array, a_set, a_store, a_spawn, a_call_stmt, a_sync, a_print, an_if, a_while, a_pfor, a_scope, IsStmts, no_stmts, one_stmt, IsBlock, a_block, IsElse, no_else, an_else, IsParam, int_param, id_param, IsMoreParams, no_more_params, one_more_param, IsParams, no_params, some_params, IsAnswerKind, int_answer, id_answer, IsFunction, a_function, IsFunctions, no_functions, one_function}
 use Rattle.script_grammar.specs.Nesting.{factor_nesting, term_nesting, factors_nesting, sum_nesting, terms_nesting, expr_nesting, more_args_nesting, args_nesting, call_nesting, right_nesting, into_nesting, stmt_nesting, stmts_nesting, block_nesting, else_nesting, param_nesting, more_params_nesting, params_nesting, answer_nesting, function_nesting, functions_nesting}
 
 -- what a word does to the nesting
@@ -288,7 +288,7 @@ params_scanned no_params b p o = take stay
 params_scanned (some_params d e) b p o = next (next (param_scanned d b (p ∷ o) (more_params_no_item e refl)) (more_params_scanned e b (p ∷ o) refl)) (take stay)
 
 -- the answer and `{`
-answer_scanned : {ts rest : List Token} {k : Kind} {c : ℕ} {v : List ℕ} (d : IsAnswer ts k (tok c word.OpenBlock v ∷ rest)) (b : ℕ) (o : List (ℕ × ℕ)) →
+answer_scanned : {ts rest : List Token} {k : Kind} {c : ℕ} {v : List ℕ} (d : IsAnswerKind ts k (tok c word.OpenBlock v ∷ rest)) (b : ℕ) (o : List (ℕ × ℕ)) →
     Goes ts (at done b b o) (answer_nesting d b ++ suc b ∷ []) rest (at done (suc b) (suc b) ((b, b) ∷ o))
 answer_scanned int_answer b o = take stay
 answer_scanned id_answer b o = take (take (take stay))

@@ -18,7 +18,7 @@ use Rattle.script_grammar.specs.declared.tree.Function.{Function}
 use Rattle.script_grammar.specs.declared.tree.Script.{Script}
 use Rattle.script_grammar.specs.Grammar.{Token, tok, decimal, IsFunctions, IsScript, AreOf}
 use Rattle.script_grammar.specs.Nesting.{functions_nesting}
-use Rattle.script_grammar.specs.Fault.{is_fn, functions_begun, IsNested, BreaksLimit, number_out_of_range, name_too_long, nested_too_deep, too_many_functions, WithinBehind, IsProgram}
+use Rattle.script_grammar.specs.Fault.{is_fn, functions_begun, NestsAt, BreaksLimit, number_out_of_range, name_too_long, nested_too_deep, too_many_functions, WithinBehind, IsProgram}
 use Rattle.script_grammar.specs.Text.{token_of, tokens_of, Text, IsOfText}
 use Rattle.script_print.specs.Canonical.{function_text, version_text, canonical}
 use Rattle.script_print.specs.Unplaced.{unplaced_function, unplaced, IsTextOf}
@@ -53,12 +53,12 @@ low_behind : (version : Version) (before ts : List Token) (fs : List Function) �
 low_behind version before [] fs of d w = tt
 low_behind version before (t ∷ ts) fs of d w =
     let n : ℕ = nested (effect t.word) (after start before) in
-    let is : IsNested version before t n = (ts, fs, of, d, nested_there before t ts fs d) in
+    let is : NestsAt version before t n = (ts, fs, of, d, nested_there before t ts fs d) in
     let here : n ≤ 64 = go (cases_lt 64 n) is in
     let others : Low (scan (after start (before ++ t ∷ [])) ts) = low_behind version (before ++ t ∷ []) ts fs (subst (AreOf version) (sym (append_assoc before (t ∷ []) ts)) of) (subst (λ z. IsScript z fs) (sym (append_assoc before (t ∷ []) ts)) d) w.1 in
     (here, subst (λ z. Low (scan z ts)) (after-more start before t) others)
   where
-    go : {n : ℕ} → (64 < n) ⊎ (n ≤ 64) → IsNested version before t n → n ≤ 64
+    go : {n : ℕ} → (64 < n) ⊎ (n ≤ 64) → NestsAt version before t n → n ≤ 64
     go (inl h) is = absurd (w.0 5 (nested_too_deep is h))
     go (inr h) is = h
 

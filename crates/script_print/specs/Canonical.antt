@@ -37,15 +37,15 @@ use Rattle.script_grammar.specs.declared.tree.Script.{Script}
 
 -- An expression's text, and how strongly it holds together: a comparison by 1, a sum by 2, a product by 3, a unary minus by 4, all else by 5.
 pub record Printed : Type 0 where
-  pub level : ℕ
+  pub precedence : ℕ
   pub text : List ℕ
 
-abbrev pub at_level : ℕ → List ℕ → Printed
-at_level level text = record { level = level; text = text }
+abbrev pub at_precedence : ℕ → List ℕ → Printed
+at_precedence precedence text = record { precedence = precedence; text = text }
 
--- an operand, which stands in parentheses exactly where its level is below the need
+-- an operand, which stands in parentheses exactly where its precedence is below the need
 abbrev pub operand : ℕ → Printed → List ℕ
-operand need x = if nat_lt x.level need then codes "(" ++ x.text ++ codes ")" else x.text
+operand need x = if nat_lt x.precedence need then codes "(" ++ x.text ++ codes ")" else x.text
 
 abbrev pub comparison_text : Comparison → List ℕ
 comparison_text Eq = codes "=="
@@ -70,15 +70,15 @@ spaced sign = codes " " ++ sign ++ codes " "
 
 -- one node, with what its parts give in their places
 abbrev pub expr_at : Expr-F Printed (List ℕ) (List ℕ) → Printed
-expr_at (node.Number n) = at_level 5 (signed_decimal n.value)
-expr_at (node.Var x) = at_level 5 x.bytes
-expr_at (node.Item x i) = at_level 5 (x.bytes ++ codes "[" ++ i.text ++ codes "]")
-expr_at (node.Same at x y) = at_level 5 (codes "same(" ++ x.text ++ codes ", " ++ y.text ++ codes ")")
-expr_at (node.Older at x y) = at_level 5 (codes "older(" ++ x.text ++ codes ", " ++ y.text ++ codes ")")
-expr_at (node.Neg at x) = at_level 4 (codes "-" ++ operand 4 x)
-expr_at (node.Product x parts) = at_level 3 (operand 4 x ++ flat_map (λ part. part) parts)
-expr_at (node.Sum x parts) = at_level 2 (operand 3 x ++ flat_map (λ part. part) parts)
-expr_at (node.Compare x how y) = at_level 1 (operand 2 x ++ spaced (comparison_text how) ++ operand 2 y)
+expr_at (node.Number n) = at_precedence 5 (signed_decimal n.value)
+expr_at (node.Var x) = at_precedence 5 x.bytes
+expr_at (node.Item x i) = at_precedence 5 (x.bytes ++ codes "[" ++ i.text ++ codes "]")
+expr_at (node.Same at x y) = at_precedence 5 (codes "same(" ++ x.text ++ codes ", " ++ y.text ++ codes ")")
+expr_at (node.Older at x y) = at_precedence 5 (codes "older(" ++ x.text ++ codes ", " ++ y.text ++ codes ")")
+expr_at (node.Neg at x) = at_precedence 4 (codes "-" ++ operand 4 x)
+expr_at (node.Product x parts) = at_precedence 3 (operand 4 x ++ flat_map (λ part. part) parts)
+expr_at (node.Sum x parts) = at_precedence 2 (operand 3 x ++ flat_map (λ part. part) parts)
+expr_at (node.Compare x how y) = at_precedence 1 (operand 2 x ++ spaced (comparison_text how) ++ operand 2 y)
 
 abbrev pub product_part_at : ProductPart-F Printed (List ℕ) (List ℕ) → List ℕ
 product_part_at part = spaced (product_sign_text part.sign) ++ operand 4 part.operand
@@ -180,12 +180,12 @@ kind_text Id = codes "id "
 abbrev pub param_text : Param → List ℕ
 param_text param = kind_text param.kind ++ param.name.bytes
 
-abbrev pub answer_text : Kind → List ℕ
-answer_text Int = []
-answer_text Id = codes " -> id"
+abbrev pub answer_kind_text : Kind → List ℕ
+answer_kind_text Int = []
+answer_kind_text Id = codes " -> id"
 
 abbrev pub head_text : Function → List ℕ
-head_text f = codes "fn " ++ f.name.bytes ++ codes "(" ++ listed param_text f.params ++ codes ")" ++ answer_text f.answer ++ codes " {\n"
+head_text f = codes "fn " ++ f.name.bytes ++ codes "(" ++ listed param_text f.params ++ codes ")" ++ answer_kind_text f.answer ++ codes " {\n"
 
 abbrev pub function_text : Function → List ℕ
 function_text f = head_text f ++ stmts_text f.body (codes "  ") ++ codes "  return " ++ expr_text f.result ++ codes ";\n}\n"

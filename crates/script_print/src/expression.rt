@@ -18,8 +18,8 @@ const NEGATION: u8 = 4;
 const ATOM: u8 = 5;
 
 // How strongly an expression holds together.
-fn level(e: &Expr) -> u8
-    ensures { result ≡ (printed e.now).level }
+fn precedence(e: &Expr) -> u8
+    ensures { result ≡ (printed e.now).precedence }
 {
     match e {
         Expr::Compare(_, _, _) => COMPARISON,
@@ -74,12 +74,12 @@ pub(crate) fn write_expr(e: &Expr, text: &mut Vec<u8>) -> Result<(), Memory>
     }
 }
 
-// An operand where one of at least the level `need` may stand bare.
+// An operand where one of at least the precedence `need` may stand bare.
 #[cycle(expressions)]
 fn write_operand(need: u8, x: &Expr, text: &mut Vec<u8>) -> Result<(), Memory>
     ensures { OnOk result (text.new.items ≡ text.old.items ++ operand need (printed x.now)) }
 {
-    if level(x) < need {
+    if precedence(x) < need {
         write_between(b"(", x, b")", text)
     } else {
         write_expr(x, text)

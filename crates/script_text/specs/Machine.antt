@@ -213,27 +213,27 @@ abbrev pub is_closer : Word → Bool
 is_closer w = same_word w word.Close || (same_word w word.CloseBlock || same_word w word.CloseItem)
 
 -- the nesting: closing brackets that are expected, and unary minuses whose operand hasn't ended
-abbrev pub depth : List Sym → ℕ
-depth [] = 0
-depth (only w ∷ s) = if is_closer w then suc (depth s) else depth s
-depth (minus_end ∷ s) = suc (depth s)
-depth (_ ∷ s) = depth s
+abbrev pub nesting : List Sym → ℕ
+nesting [] = 0
+nesting (only w ∷ s) = if is_closer w then suc (nesting s) else nesting s
+nesting (minus_end ∷ s) = suc (nesting s)
+nesting (_ ∷ s) = nesting s
 
-abbrev pub Trace : Type 0
-Trace = Option (List ℕ × List Sym)
+abbrev pub Nestings : Type 0
+Nestings = Option (List ℕ × List Sym)
 
-abbrev pub onward : Option (List Sym) → (List Sym → Trace) → Trace
+abbrev pub onward : Option (List Sym) → (List Sym → Nestings) → Nestings
 onward None go = None
-onward (Some s) go = option_and_then (λ p. Some (depth s ∷ p.0, p.1)) (go s)
+onward (Some s) go = option_and_then (λ p. Some (nesting s ∷ p.0, p.1)) (go s)
 
 -- the nesting after each token, and the stack in the end
-abbrev pub trace : List Token → List Sym → Trace
-trace [] s = Some ([], s)
-trace (t ∷ ts) s = onward (step t.word t.text s) (trace ts)
+abbrev pub nestings : List Token → List Sym → Nestings
+nestings [] s = Some ([], s)
+nestings (t ∷ ts) s = onward (step t.word t.text s) (nestings ts)
 
 -- a fault: its number and its place
-abbrev pub Fault : Type 0
-Fault = ℕ × ℕ
+abbrev pub PlacedFault : Type 0
+PlacedFault = ℕ × ℕ
 
 -- the limit that a token breaks where it may come, with n functions in front, and nested d deep
 abbrev pub broken : ℕ → Token → ℕ → Option ℕ
@@ -244,15 +244,15 @@ broken n t d =
     else if nat_lt 64 d then Some 5
     else None
 
-abbrev pub unless_broken : Option ℕ → ℕ → Option Fault → Option Fault
+abbrev pub unless_broken : Option ℕ → ℕ → Option PlacedFault → Option PlacedFault
 unless_broken None at o = o
 unless_broken (Some k) at o = Some (k, at)
 
-abbrev pub verdict : ℕ → Token → Option (List Sym) → (List Sym → Option Fault) → Option Fault
+abbrev pub verdict : ℕ → Token → Option (List Sym) → (List Sym → Option PlacedFault) → Option PlacedFault
 verdict n t None go = Some (2, t.at)
-verdict n t (Some s) go = unless_broken (broken n t (depth s)) t.at (go s)
+verdict n t (Some s) go = unless_broken (broken n t (nesting s)) t.at (go s)
 
-abbrev pub at_stop : ℕ → LexEnd → List Sym → Option Fault
+abbrev pub at_stop : ℕ → LexEnd → List Sym → Option PlacedFault
 at_stop end End s = if all_empty s then None else Some (6, end)
 at_stop end (NotAscii place) s = Some (1, place)
 at_stop end (NoToken place) s = Some (2, place)
@@ -262,6 +262,6 @@ abbrev pub begun : Token → ℕ → ℕ
 begun t n = if is_fn t.word then suc n else n
 
 -- the first fault of these tokens, where these symbols are expected and n functions have begun
-abbrev pub judge : TextEnd → ℕ → List Sym → List Token → Option Fault
+abbrev pub judge : TextEnd → ℕ → List Sym → List Token → Option PlacedFault
 judge e n s [] = at_stop e.end e.stop s
 judge e n s (t ∷ ts) = verdict n t (step t.word t.text s) (λ s'. judge e (begun t n) s' ts)

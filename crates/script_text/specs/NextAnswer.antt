@@ -13,10 +13,10 @@ abbrev pub error_of : Misfit → SyntaxError
 error_of (NotAscii at) = Bad 1 at
 error_of (NoToken at) = Bad 2 at
 
-abbrev pub answer_of : Result token.Token Misfit → Result token.Token SyntaxError
-answer_of (Ok t) = Ok t
-answer_of (Err misfit) = Err (error_of misfit)
+abbrev pub next_answer : Result token.Token Misfit → Result token.Token SyntaxError
+next_answer (Ok t) = Ok t
+next_answer (Err misfit) = Err (error_of misfit)
 
 -- the token of a version that comes next from an offset on, or the error
 abbrev pub NextAnswer : Version → List ℕ → ℕ → Result token.Token SyntaxError → Type 0
-NextAnswer version bytes from result = (next : Result token.Token Misfit) × NextToken version bytes from next × (result ≡ answer_of next)
+NextAnswer version bytes from result = (next : Result token.Token Misfit) × NextToken version bytes from next × (result ≡ next_answer next)

@@ -23,7 +23,7 @@ use Rattle.script_text.specs.declared.parser.source.LexedText.{LexedText}
 use Rattle.script_grammar.specs.Grammar.{Token, tok, name_at, number_at, decimal, IsExpr, IsMoreArgs, IsArgs, IsCall, IsRight, stmt_at, IsStmt, IsStmts, IsMoreParams, IsParams, IsFunction, IsFunctions, IsScript}
 use Rattle.script_grammar.specs.Fault.{TextEnd}
 use Rattle.script_grammar.specs.Text.{tokens_of}
-use Rattle.script_text.specs.Machine.{Sym, only, exactly, pair, stmts, after_name, functions, body, expr_then, rules, rule, find_rule, is_empty, depth, judge, code}
+use Rattle.script_text.specs.Machine.{Sym, only, exactly, pair, stmts, after_name, functions, body, expr_then, rules, rule, find_rule, is_empty, nesting, judge, code}
 
 abbrev pub seen : LexedText → List Lexeme → List Token
 seen source ls = tokens_of source.bytes.now ls
@@ -34,12 +34,12 @@ ending source = record { end = source.end; stop = source.stop }
 -- the machine comes from the symbols in front to those after, by the lexemes between
 abbrev pub Leads : List Sym → List Sym → LexedText → ℕ → List Lexeme → List Lexeme → Type 0
 Leads front back source d old rest =
-    (n : ℕ) (s : List Sym) → depth s ≡ d → judge (ending source) n (front ++ s) (seen source old) ≡ judge (ending source) n (back ++ s) (seen source rest)
+    (n : ℕ) (s : List Sym) → nesting s ≡ d → judge (ending source) n (front ++ s) (seen source old) ≡ judge (ending source) n (back ++ s) (seen source rest)
 
 -- the machine finds that fault
 abbrev pub Finds : List Sym → LexedText → ℕ → List Lexeme → ℕ → ℕ → Type 0
 Finds front source d old number at =
-    (n : ℕ) (s : List Sym) → depth s ≡ d → judge (ending source) n (front ++ s) (seen source old) ≡ Some (number, at)
+    (n : ℕ) (s : List Sym) → nesting s ≡ d → judge (ending source) n (front ++ s) (seen source old) ≡ Some (number, at)
 
 -- the same of an error
 abbrev pub Errs : List Sym → LexedText → ℕ → List Lexeme → SyntaxError → Type 0
@@ -70,11 +70,11 @@ NextIsNot w [] = Unit {0}
 NextIsNot w (l ∷ ls) = l.word ≡ w → ⊥
 
 -- a word that no limit but the nesting is about
-abbrev pub is_plain : Word → Bool
-is_plain w = nat_lt 2 (code w)
+abbrev pub is_unlimited : Word → Bool
+is_unlimited w = nat_lt 2 (code w)
 
-abbrev pub IsPlain : Word → Type 0
-IsPlain w = is_plain w ≡ true
+abbrev pub IsUnlimited : Word → Type 0
+IsUnlimited w = is_unlimited w ≡ true
 
 abbrev pub PassesWord : Word → LexedText → ℕ → List Lexeme → Result (Bor (List Lexeme)) SyntaxError → Type 0
 PassesWord w source d old (Ok rest) = ((at : ℕ) × NextIs w at old rest.now) × Leads (only w ∷ []) [] source d old rest.now
@@ -84,7 +84,7 @@ PassesWord w source d old (Err e) = Errs (only w ∷ []) source d old e
 pub record IsBracket (a : Sym) (w : Word) (inside : List Sym) : Type 0 where
   pub needed : is_empty a ≡ false
   pub only_rule : rules a ≡ rule w inside ∷ []
-  pub one_level : (s : List Sym) → depth (inside ++ s) ≡ suc (depth s)
+  pub one_level : (s : List Sym) → nesting (inside ++ s) ≡ suc (nesting s)
 
 abbrev pub Opens : Word → LexedText → ℕ → List Lexeme → Result (Bor (List Lexeme)) SyntaxError → Type 0
 Opens w source d old (Ok rest) =
@@ -96,19 +96,19 @@ Deepens d at (Ok inner) = (inner ≡ d + 1) × (d < 64)
 Deepens d at (Err Memory) = ⊥
 Deepens d at (Err (Bad number place)) = (d ≡ 64) × (number ≡ 5) × (place ≡ at)
 
-abbrev pub Names : LexedText → Lexeme → Result Name SyntaxError → Type 0
-Names source l (Ok name) = (name ≡ name_at l.start (text_of source.bytes.now l)) × (length (text_of source.bytes.now l) ≤ 32)
-Names source l (Err Memory) = Unit {0}
-Names source l (Err (Bad number at)) = (32 < length (text_of source.bytes.now l)) × (number ≡ 4) × (at ≡ l.start)
+abbrev pub ReadsName : LexedText → Lexeme → Result Name SyntaxError → Type 0
+ReadsName source l (Ok name) = (name ≡ name_at l.start (text_of source.bytes.now l)) × (length (text_of source.bytes.now l) ≤ 32)
+ReadsName source l (Err Memory) = Unit {0}
+ReadsName source l (Err (Bad number at)) = (32 < length (text_of source.bytes.now l)) × (number ≡ 4) × (at ≡ l.start)
 
 abbrev pub IsValue : List ℕ → Option ℕ → Type 0
 IsValue digits None = 9223372036854775807 < decimal 0 digits
 IsValue digits (Some value) = (value ≡ decimal 0 digits) × (decimal 0 digits ≤ 9223372036854775807)
 
-abbrev pub Numbers : LexedText → Lexeme → Result Number SyntaxError → Type 0
-Numbers source l (Ok number) = (number ≡ number_at l.start (text_of source.bytes.now l)) × (decimal 0 (text_of source.bytes.now l) ≤ 9223372036854775807)
-Numbers source l (Err Memory) = ⊥
-Numbers source l (Err (Bad number at)) = (9223372036854775807 < decimal 0 (text_of source.bytes.now l)) × (number ≡ 3) × (at ≡ l.start)
+abbrev pub ReadsNumber : LexedText → Lexeme → Result Number SyntaxError → Type 0
+ReadsNumber source l (Ok number) = (number ≡ number_at l.start (text_of source.bytes.now l)) × (decimal 0 (text_of source.bytes.now l) ≤ 9223372036854775807)
+ReadsNumber source l (Err Memory) = ⊥
+ReadsNumber source l (Err (Bad number at)) = (9223372036854775807 < decimal 0 (text_of source.bytes.now l)) × (number ≡ 3) × (at ≡ l.start)
 
 -- the sign that a word is, or the symbol has no rule for the word
 abbrev pub Signs : {X : Type 0} → Sym → (Word → X → Type 0) → Word → Option X → Type 0

@@ -23,7 +23,7 @@ use Rattle.strand_machine.specs.Family.{tag, tags}
 use Rattle.strand_machine.specs.Faults.{is_fault, EndsByFault}
 use Rattle.strand_machine.specs.Loops.{is_root}
 use Rattle.strand_machine.specs.Parts.{awaited}
-use Rattle.strand_machine.specs.Stops.{IsStop, Advances, WentOn, advances, answer_tags, any_cut, is_cut, went, went_on, view_on}
+use Rattle.strand_machine.specs.Stops.{IsStop, WentOn, answer_tags, any_cut, is_cut, went, went_on, view_on}
 use Rattle.strand_machine.specs.Tasks.{TaskView, fresh, fresh_with}
 use Rattle.strand_machine.specs.declared.stop.Stop as stops
 use Rattle.strand_machine.specs.declared.stop.Stop.TheVariants as stop
@@ -70,10 +70,6 @@ more-uncut (x ∷ answers) a whole h =
     let cut = is_cut x.outcome in
     neither cut (any_cut (answers ++ a ∷ [])) (or-first cut (any_cut answers) whole) (more-uncut answers a (or-second cut (any_cut answers) whole) h)
 
--- A task that took no cut comes to its next stop.
-pub stopped : (t : TaskView) (s : stops.Stop) → t.cut ≡ None → Advances t s → IsStop t s
-stopped t s uncut at = subst (λ (c : Option Outcome). advances c t s) uncut at
-
 -- By answers of which none is a cut it goes on.
 pub went_whole : (answers : List AnswerView) (t next : TaskView) → any_cut answers ≡ false → WentOn answers t next → next ≡ view_on t
 went_whole answers t next whole h = subst (λ (b : Bool). went b answers t next) whole h
@@ -85,7 +81,7 @@ heard-none (Some f) prefix p events ending = refl
 heard-none None prefix p events (Ok vs) = refl
 heard-none None prefix p events (Err f) = refl
 
-none-heard : (ps : List AwaitedChild) (answers : List Evaluation) (trace : Trace) → trace.handed ≡ [] → (heard_all ps answers trace).handed ≡ []
+pub none-heard : (ps : List AwaitedChild) (answers : List Evaluation) (trace : Trace) → trace.handed ≡ [] → (heard_all ps answers trace).handed ≡ []
 none-heard [] answers trace h = h
 none-heard (p ∷ ps) [] trace h = h
 none-heard (p ∷ ps) (a ∷ answers) trace h = none-heard ps answers (heard p a trace) (heard-none trace.fault trace.prefix p a.items a.ending)

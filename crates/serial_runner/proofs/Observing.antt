@@ -14,7 +14,7 @@ use Rattle.strand_meaning.specs.Observation.{IsInstance, Observation, also, newe
 use Rattle.strand_meaning.specs.Task.{Task}
 use Rattle.strand_meaning.specs.Strands.{Strand, is_below, events_at, own_events, own_fault_at, joined_fault, last_place, ended_before, child_on_way, is_one_of, strand_of, blocks}
 use Rattle.strand_meaning.proofs.NodesNoted.NoteWords.{events_at-append}
-use Rattle.strand_machine.specs.Eyes.{first_look, looks, is_none_ahead}
+use Rattle.strand_machine.specs.Eyes.{new_eye, eye_after, is_none_ahead}
 use Rattle.strand_machine.specs.declared.eye.Eye.{Eye}
 use Rattle.strand_machine.proofs.NodesNoted.Eyes.{looks-append, own-append, places-seen, places-without, past-seen}
 use Rattle.serial_runner.specs.Nodes.{IsBelow, shown_by, shown_at, fault_at, is_none, came_to, strand_seen, joined_before, node_seen}
@@ -73,7 +73,7 @@ first-only (Some o) = refl
 module _ (path j : List ℕ) (notes later : Observation) where
   abbrev noted : Option Origin → ObservedInstance
   noted child = record {
-    eye = looks j (first_look path j) (notes.items ++ later.items);
+    eye = eye_after j (new_eye path j) (notes.items ++ later.items);
     events = events_at j (own_events (notes.items ++ later.items));
     fault = newest notes.fault later.fault;
     child = child;
@@ -85,11 +85,11 @@ module _ (path j : List ℕ) (notes later : Observation) where
       ap (λ (l : List Event). l ++ events) e ∙ ap (λ (l : List Event). events_at j (own_events notes.items) ++ l) h ∙ sym (events_at-append j (own_events notes.items) (own_events later.items))
       ∙ ap (events_at j) (sym (own-append notes.items later.items))
 
-  pub seen-with : (s : ObservedInstance) (eye : Eye) (events : List Event) (fault joined : Option Fault) → s ≡ seen path j notes → eye ≡ looks j s.eye later.items → events ≡ events_at j (own_events later.items) →
+  pub seen-with : (s : ObservedInstance) (eye : Eye) (events : List Event) (fault joined : Option Fault) → s ≡ seen path j notes → eye ≡ eye_after j s.eye later.items → events ≡ events_at j (own_events later.items) →
       fault ≡ later.fault → joined ≡ later.joined → with_notes eye events fault joined s ≡ noted (child_on_way j notes.items)
   seen-with s eye events fault joined e r v f g =
       ap (with_notes eye events fault joined) e
-      ∙ ap (λ (b : Eye). record (with_notes eye events fault joined (seen path j notes)) { eye = b }) (r ∙ ap (λ (t : ObservedInstance). looks j t.eye later.items) e ∙ sym (looks-append j (first_look path j) notes.items later.items))
+      ∙ ap (λ (b : Eye). record (with_notes eye events fault joined (seen path j notes)) { eye = b }) (r ∙ ap (λ (t : ObservedInstance). eye_after j t.eye later.items) e ∙ sym (looks-append j (new_eye path j) notes.items later.items))
       ∙ ap (λ (l : List Event). record (noted (child_on_way j notes.items)) { events = l; fault = newest notes.fault fault; joined = newest notes.joined joined }) (with-events (events_at j (own_events notes.items)) events refl v)
       ∙ ap (λ (x : Option Fault). record (noted (child_on_way j notes.items)) { fault = newest notes.fault x; joined = newest notes.joined joined }) f
       ∙ ap (λ (x : Option Fault). record (noted (child_on_way j notes.items)) { joined = newest notes.joined x }) g
@@ -147,18 +147,18 @@ module _ (function : ℕ) (args : List Value) (path : List ℕ) (r : ℕ) (more 
   start = path ++ 0 ∷ []
 
   abbrev observed_of : List Item → Result (List Value) NodeFault → ObservedInstance
-  observed_of items e = an_observed (looks j (first_look path j) items) (events_at j (own_events items)) (own_fault_of e) (child_on_way j items) (joined_fault e)
+  observed_of items e = an_observed (eye_after j (new_eye path j) items) (events_at j (own_events items)) (own_fault_of e) (child_on_way j items) (joined_fault e)
 
   -- whether the instance came to the strand
   came-is : (e : Result (List Value) NodeFault) → came_to (observed_of n.items e) ≡ is_one_of j (places_of o (record n { ending = e }))
-  came-is (Ok vs) = let eye = looks j (first_look path j) n.items in and-true eye.came (is_none_ahead eye.ahead) ∙ sym (places-seen r more start (first_look path j) n.items refl)
-  came-is (Err (Own f)) = let eye = looks j (first_look path j) n.items in and-true eye.came (is_none_ahead eye.ahead) ∙ sym (places-seen r more start (first_look path j) n.items refl)
-  came-is (Err (ChildFaulted f)) = let eye = looks j (first_look path j) n.items in and-false eye.came (is_none_ahead eye.ahead) ∙ sym (places-without r more start (first_look path j) n.items refl)
+  came-is (Ok vs) = let eye = eye_after j (new_eye path j) n.items in and-true eye.came (is_none_ahead eye.ahead) ∙ sym (places-seen r more start (new_eye path j) n.items refl)
+  came-is (Err (Own f)) = let eye = eye_after j (new_eye path j) n.items in and-true eye.came (is_none_ahead eye.ahead) ∙ sym (places-seen r more start (new_eye path j) n.items refl)
+  came-is (Err (ChildFaulted f)) = let eye = eye_after j (new_eye path j) n.items in and-false eye.came (is_none_ahead eye.ahead) ∙ sym (places-without r more start (new_eye path j) n.items refl)
 
   joined-is : (e : Result (List Value) NodeFault) → joined_before (observed_of n.items e) ≡ blocks (record n { ending = e }) j
-  joined-is (Ok vs) = if-none (looks j (first_look path j) n.items).past
-  joined-is (Err (Own f)) = if-none (looks j (first_look path j) n.items).past
-  joined-is (Err (ChildFaulted f)) = ap (λ (b : Bool). if b then Some f else None) (past-seen j [] (first_look path j) n.items refl)
+  joined-is (Ok vs) = if-none (eye_after j (new_eye path j) n.items).past
+  joined-is (Err (Own f)) = if-none (eye_after j (new_eye path j) n.items).past
+  joined-is (Err (ChildFaulted f)) = ap (λ (b : Bool). if b then Some f else None) (past-seen j [] (new_eye path j) n.items refl)
 
   strand-is : strand_seen j (observed_of n.items n.ending) ≡ strand_of o n j
   strand-is =
@@ -169,7 +169,7 @@ module _ (function : ℕ) (args : List Value) (path : List ℕ) (r : ℕ) (more 
   node-is = ap (λ (t : Option Strand). shown_by (child_on_way j n.items) t (joined_before (observed_of n.items n.ending))) strand-is ∙ ap (λ (f : Option Fault). shown_by (child_on_way j n.items) (strand_of o n j) f) (joined-is n.ending)
 
   -- Where a strand of its own was over before some of its items, the others tell no more.
-  module _ (follows : NodeFollows path n) (xs ys : List Item) (parts : n.items ≡ xs ++ ys) (came : (looks j (first_look path j) xs).came ≡ true) where
+  module _ (follows : NodeFollows path n) (xs ys : List Item) (parts : n.items ≡ xs ++ ys) (came : (eye_after j (new_eye path j) xs).came ≡ true) where
     whole : NodeFollows path (record n { items = xs ++ ys })
     whole = subst (λ (l : List Item). NodeFollows path (record n { items = l })) parts follows
 
@@ -180,7 +180,7 @@ module _ (function : ℕ) (args : List Value) (path : List ℕ) (r : ℕ) (more 
     by = came_by [] (xs ++ ys)
 
     over : IsOver j (stands start xs) (came_by [] xs)
-    over = comes j start [] xs (follow-front start [] xs ys (whole.follow [])) (places-without r more start (first_look path j) xs refl ∙ came)
+    over = comes j start [] xs (follow-front start [] xs ys (whole.follow [])) (places-without r more start (new_eye path j) xs refl ∙ came)
 
     at-end : IsOver j here by
     at-end =
@@ -198,8 +198,8 @@ module _ (function : ℕ) (args : List Value) (path : List ℕ) (r : ℕ) (more 
         ap (λ (l : List Item). events_at j (own_events l)) parts ∙ ap (events_at j) (own-append xs ys) ∙ events_at-append j (own_events xs) (own_events ys)
         ∙ ap (λ (l : List Event). events_at j (own_events xs) ++ l) later.0 ∙ append-nil (events_at j (own_events xs))
 
-    still : (looks j (first_look path j) n.items).came ≡ true
-    still = ap (λ (l : List Item). (looks j (first_look path j) l).came) parts ∙ ap (λ (e : Eye). e.came) (looks-append j (first_look path j) xs ys) ∙ came-stays j (looks j (first_look path j) xs) ys came
+    still : (eye_after j (new_eye path j) n.items).came ≡ true
+    still = ap (λ (l : List Item). (eye_after j (new_eye path j) l).came) parts ∙ ap (λ (e : Eye). e.came) (looks-append j (new_eye path j) xs ys) ∙ came-stays j (eye_after j (new_eye path j) xs) ys came
 
     no-fault : (e : Result (List Value) NodeFault) → NodeEnds here by e → fault_at j (own_fault_of e) ≡ None
     no-fault (Ok vs) h = refl
@@ -207,11 +207,11 @@ module _ (function : ℕ) (args : List Value) (path : List ℕ) (r : ℕ) (more 
     no-fault (Err (ChildFaulted f)) h = refl
 
     no-block : (e : Result (List Value) NodeFault) → NodeEnds here by e → joined_before (observed_of n.items e) ≡ None
-    no-block (Ok vs) h = if-none (looks j (first_look path j) n.items).past
-    no-block (Err (Own f)) h = if-none (looks j (first_look path j) n.items).past
+    no-block (Ok vs) h = if-none (eye_after j (new_eye path j) n.items).past
+    no-block (Err (Own f)) h = if-none (eye_after j (new_eye path j) n.items).past
     no-block (Err (ChildFaulted f)) h =
         ap (λ (b : Bool). if b then Some f else None)
-        (past-seen j [] (first_look path j) n.items refl
+        (past-seen j [] (new_eye path j) n.items refl
         ∙ ap (λ (l : List ℕ). ended_before l j) (ap (λ (l : List Item). last_place [] (own_events l)) parts ∙ last-led [] [] (xs ++ ys) (λ q. refl) h.1)
         ∙ not-ended j by (at-end.after h.1))
 
@@ -221,11 +221,11 @@ module _ (function : ℕ) (args : List Value) (path : List ℕ) (r : ℕ) (more 
     strand-there : strand_of o n j ≡ strand None
     strand-there =
         sym strand-is
-        ∙ ap (λ (b : Bool). if b || (is_none_ahead (looks j (first_look path j) n.items).ahead && is_none (joined_fault n.ending)) then Some (a_strand (events_at j (own_events n.items)) (fault_at j (own_fault_of n.ending))) else None) still
+        ∙ ap (λ (b : Bool). if b || (is_none_ahead (eye_after j (new_eye path j) n.items).ahead && is_none (joined_fault n.ending)) then Some (a_strand (events_at j (own_events n.items)) (fault_at j (own_fault_of n.ending))) else None) still
         ∙ ap (λ (l : List Event). Some (a_strand l (fault_at j (own_fault_of n.ending)))) same-events
         ∙ ap strand (no-fault n.ending (whole.ends []))
 
-    pub over-is : (s : ObservedInstance) → s.eye ≡ looks j (first_look path j) xs → s.events ≡ events_at j (own_events xs) → s.fault ≡ None → s.child ≡ child_on_way j xs → s.joined ≡ None → node_seen j s ≡ shown_at o n j
+    pub over-is : (s : ObservedInstance) → s.eye ≡ eye_after j (new_eye path j) xs → s.events ≡ events_at j (own_events xs) → s.fault ≡ None → s.child ≡ child_on_way j xs → s.joined ≡ None → node_seen j s ≡ shown_at o n j
     over-is s eye events fault child joined =
         ap (λ (c : Option Origin). shown_by c (strand_seen j s) (joined_before s)) (child ∙ sym same-child)
         ∙ ap (λ (t : Option Strand). shown_by (child_on_way j n.items) t (joined_before s)) (here-strand ∙ sym strand-there)
@@ -254,14 +254,14 @@ module _ (plan : PlanView) (o : Origin) (j : List ℕ) (i : IsInstance o) (below
       n : open_tree.Node
       n = opened plan o
 
-      same : seen (path_of o) j notes ≡ an_observed (looks j (first_look (path_of o) j) n.items) (events_at j (own_events n.items)) (own_fault_of n.ending) (child_on_way j n.items) (joined_fault n.ending)
+      same : seen (path_of o) j notes ≡ an_observed (eye_after j (new_eye (path_of o) j) n.items) (events_at j (own_events n.items)) (own_fault_of n.ending) (child_on_way j n.items) (joined_fault n.ending)
       same =
-          ap (λ (l : List Item). an_observed (looks j (first_look (path_of o) j) l) (events_at j (own_events l)) notes.fault (child_on_way j l) notes.joined) (sym w.items)
-          ∙ ap (λ (f : Option Fault). an_observed (looks j (first_look (path_of o) j) n.items) (events_at j (own_events n.items)) f (child_on_way j n.items) notes.joined) (sym w.fault)
-          ∙ ap (λ (f : Option Fault). an_observed (looks j (first_look (path_of o) j) n.items) (events_at j (own_events n.items)) (own_fault_of n.ending) (child_on_way j n.items) f) (sym w.joined)
+          ap (λ (l : List Item). an_observed (eye_after j (new_eye (path_of o) j) l) (events_at j (own_events l)) notes.fault (child_on_way j l) notes.joined) (sym w.items)
+          ∙ ap (λ (f : Option Fault). an_observed (eye_after j (new_eye (path_of o) j) n.items) (events_at j (own_events n.items)) f (child_on_way j n.items) notes.joined) (sym w.fault)
+          ∙ ap (λ (f : Option Fault). an_observed (eye_after j (new_eye (path_of o) j) n.items) (events_at j (own_events n.items)) (own_fault_of n.ending) (child_on_way j n.items) f) (sym w.joined)
 
       from : (o : Origin) → IsInstance o → (j : List ℕ) → IsBelow (path_of o) j → (n : open_tree.Node) →
-          node_seen j (an_observed (looks j (first_look (path_of o) j) n.items) (events_at j (own_events n.items)) (own_fault_of n.ending) (child_on_way j n.items) (joined_fault n.ending)) ≡ shown_at o n j
+          node_seen j (an_observed (eye_after j (new_eye (path_of o) j) n.items) (events_at j (own_events n.items)) (own_fault_of n.ending) (child_on_way j n.items) (joined_fault n.ending)) ≡ shown_at o n j
       from (Instance function args path) i [] b n = absurd (let l = b.longer in omega (arith, l))
       from (Instance function args path) i (r ∷ more) b n = node-is function args path r more n
       from (Loop function rest first path range) i j b n = absurd i
@@ -293,8 +293,8 @@ module _ (plan : PlanView) (o : Origin) (j : List ℕ) (i : IsInstance o) (below
           split true (Some f) k = absurd (cc)
           split false f k = absurd (cc)
 
-      from : (o : Origin) → IsInstance o → (j : List ℕ) → IsBelow (path_of o) j → (n : open_tree.Node) → NodeFollows (path_of o) n → n.items ≡ notes.items ++ (node_left u).items → (looks j (first_look (path_of o) j) notes.items).came ≡ true →
-          s.eye ≡ looks j (first_look (path_of o) j) notes.items → s.events ≡ events_at j (own_events notes.items) → s.fault ≡ None → s.child ≡ child_on_way j notes.items → s.joined ≡ None → node_seen j s ≡ shown_at o n j
+      from : (o : Origin) → IsInstance o → (j : List ℕ) → IsBelow (path_of o) j → (n : open_tree.Node) → NodeFollows (path_of o) n → n.items ≡ notes.items ++ (node_left u).items → (eye_after j (new_eye (path_of o) j) notes.items).came ≡ true →
+          s.eye ≡ eye_after j (new_eye (path_of o) j) notes.items → s.events ≡ events_at j (own_events notes.items) → s.fault ≡ None → s.child ≡ child_on_way j notes.items → s.joined ≡ None → node_seen j s ≡ shown_at o n j
       from (Instance function args path) i [] b n follows p c eye events fault one joined = absurd (let l = b.longer in omega (arith, l))
       from (Instance function args path) i (r ∷ more) b n follows p c eye events fault one joined = over-is function args path r more n follows notes.items (node_left u).items p c s eye events fault one joined
       from (Loop function rest first path range) i j b n follows p c eye events fault one joined = absurd i
@@ -303,5 +303,5 @@ module _ (plan : PlanView) (o : Origin) (j : List ℕ) (i : IsInstance o) (below
       by_child (Some c) g = found c g
       by_child None g =
           let k = came g in
-          let eye : s.eye ≡ looks j (first_look (path_of o) j) notes.items = ap (λ (t : ObservedInstance). t.eye) e in
+          let eye : s.eye ≡ eye_after j (new_eye (path_of o) j) notes.items = ap (λ (t : ObservedInstance). t.eye) e in
           from o i j below (opened plan o) (node-follows plan o i) parts (sym (ap (λ (y : Eye). y.came) eye) ∙ k.0) eye (ap (λ (t : ObservedInstance). t.events) e) k.1 child (ap (λ (t : ObservedInstance). t.joined) e ∙ way.joined)

@@ -13,7 +13,7 @@ use Rattle.serial_meaning.specs.declared.event.Event.{Event}
 use Rattle.serial_meaning.specs.declared.event.Event.TheVariants as event
 use Rattle.strand_meaning.specs.Strands.{pedigree_of, events_at, own_events, last_place, is_below, child_on_way, ended_before, is_one_of}
 use Rattle.strand_meaning.proofs.Unfilled.Variables.{same-name, is-other}
-use Rattle.strand_machine.specs.Eyes.{looks, goes_to, less, ahead_of, is_none_ahead}
+use Rattle.strand_machine.specs.Eyes.{eye_after, goes_to, less, ahead_of, is_none_ahead}
 use Rattle.strand_machine.specs.declared.eye.Eye.{Eye}
 use Rattle.strand_machine.proofs.NodesNoted.Eyes.{risen-last}
 use Rattle.serial_runner.proofs.Below.{below-of}
@@ -156,7 +156,7 @@ last-led last by (Opened k ∷ items) h s = last-led last [] items (λ q. absurd
 last-led last by (Closed k ∷ items) h s = last-led last [] items (λ q. absurd (no-strand q)) s
 
 -- A strand that was over is over.
-pub came-stays : (j : List ℕ) (eye : Eye) (items : List Item) → eye.came ≡ true → (looks j eye items).came ≡ true
+pub came-stays : (j : List ℕ) (eye : Eye) (items : List Item) → eye.came ≡ true → (eye_after j eye items).came ≡ true
 came-stays j eye [] h = h
 came-stays j eye (Happened (event.Print k v) ∷ items) h = came-stays j (record eye { past = ended_before k j }) items h
 came-stays j eye (Happened (event.Draw k n) ∷ items) h = came-stays j (goes_to (less eye.ahead) (record eye { past = ended_before k j })) items (ap (λ (b : Bool). b || is_none_ahead eye.ahead) h)

@@ -25,7 +25,7 @@ use Rattle.serial_meaning.specs.declared.event.Fault.{Fault}
 use Rattle.serial_meaning.specs.declared.event.Event.TheVariants as event
 use Rattle.serial_meaning.specs.declared.origin.Origin.{Origin}
 use Rattle.serial_meaning.specs.declared.origin.Origin.TheVariants as origin
-use Rattle.strand_meaning.specs.Machine.{Destination, Spawned, Looped, Effect, Opens, Closes, Emitted, Handed, Syncs, Loops, Exit, Faulted, Inside, loop_effects, sync_effects, handing, inside, place_of, Level, Frame, Machine, Reached, Stands, Gives, here_of, state_of, with_left, with_leaving, with_returning, back, entered, reached, gives, spawns_in, return_run, value_run, return_move, level_move, end_move, move_at, move}
+use Rattle.strand_meaning.specs.Machine.{Destination, Spawned, Looped, Effect, Opens, Closes, Emitted, Handed, Syncs, Loops, Exit, Faulted, Inside, loop_effects, sync_effects, handing, inside, destination_of, Level, Frame, Machine, Reached, Stands, Gives, here_of, state_of, with_left, with_leaving, with_returning, back, entered, reached, gives, spawns_in, return_run, value_run, return_move, level_move, end_move, move_at, move}
 use Rattle.strand_meaning.proofs.SoundSteps.Own.{here-below}
 
 -- the children among these
@@ -145,7 +145,7 @@ module _ (plan : PlanView) (path : List ℕ) where
       by_size : (n : ℕ) → fits_depth (what place) plan path n ≡ true → AtMostOne plan path (children (loop_effects (is_zero (n - 0)) (loop_of n) place ++ []))
       by_size n h = by_empty n (is_zero (n - 0)) refl h
 
-  hands-does : (height : ℕ) (st : Stmt) (a : Act-F Act Stmt) (s : State Bool) → HandsOut (does (what (place_of height a)) plan path inside height st a s)
+  hands-does : (height : ℕ) (st : Stmt) (a : Act-F Act Stmt) (s : State Bool) → HandsOut (does (what (destination_of height a)) plan path inside height st a s)
   hands-does height st (act.Let x r) s = hands-then (right_side (what (Spawned height (Some x))) plan path inside height r s) _ (hands-right height (Some x) height r s)
   hands-does height st (act.Array x n) s = tt
   hands-does height st (act.Set x r) s = hands-then (right_side (what (Spawned height (Some x))) plan path inside height r s) _ (hands-right height (Some x) height r s)
@@ -239,7 +239,7 @@ module _ (plan : PlanView) (path : List ℕ) (m : Machine) where
   by_left [] = by_levels m.top.levels
   by_left (st ∷ left) =
       let a = out-Act (out-Stmt st).act in
-      let r = hands-paid plan here (place_of (length m.below) a) m.steps (state_of m) _ (λ s. hands-does plan here (length m.below) st a s) in hands-reached plan here _ (with_left m left) (entered plan st a left m) _ r
+      let r = hands-paid plan here (destination_of (length m.below) a) m.steps (state_of m) _ (λ s. hands-does plan here (length m.below) st a s) in hands-reached plan here _ (with_left m left) (entered plan st a left m) _ r
 
   pub move_hands : MoveHands plan path (children (move plan path m).items) (move plan path m).ending
   move_hands = hands-less-deep plan here path no-shorter (children (move plan path m).items) (move plan path m).ending (by_left m.top.left)

@@ -11,7 +11,7 @@ use Rattle.strand_meaning.specs.Left.{stops_left}
 use Rattle.strand_meaning.specs.Observation.{Observation, newest, IsInstance, IsOnWay}
 use Rattle.strand_meaning.specs.Sound.{IsTask}
 use Rattle.strand_meaning.specs.Strands.{own_events, events_at, child_on_way}
-use Rattle.strand_machine.specs.Eyes.{first_look, looks}
+use Rattle.strand_machine.specs.Eyes.{new_eye, eye_after}
 use Rattle.strand_machine.specs.Noted.{IsNoted}
 use Rattle.strand_machine.specs.declared.note.Noted.{Noted}
 use Rattle.strand_machine.specs.declared.stop.Stop.{Stop}
@@ -44,7 +44,7 @@ with_child j o s = record s { child = first_of s.child (child_on_way j (Child o 
 -- what notes say of a pedigree, of an instance with this path
 abbrev pub seen : List ℕ → List ℕ → Observation → ObservedInstance
 seen path j notes = record {
-  eye = looks j (first_look path j) notes.items;
+  eye = eye_after j (new_eye path j) notes.items;
   events = events_at j (own_events notes.items);
   fault = notes.fault;
   child = child_on_way j notes.items;
@@ -53,7 +53,7 @@ seen path j notes = record {
 
 -- a walk of which nothing is done
 abbrev pub begun_walk : PlanView → Origin → List ℕ → NodeWalk
-begun_walk plan o j = record { task = fresh plan o; observed = nothing_seen (first_look (path_of o) j) }
+begun_walk plan o j = record { task = fresh plan o; observed = nothing_seen (new_eye (path_of o) j) }
 
 abbrev pub origin_of : NodeWalk → Origin
 origin_of w = w.task.task.origin

@@ -11,7 +11,7 @@ use crate::stack::{Advanced, Stack};
 use script_grammar::{Boxed, Items};
 use serial_meaning::Answer;
 use std::alloc::Global;
-use strand_machine::{Memory, Stop, is_fault};
+use strand_machine::{Memory, Paused, is_fault};
 
 fn boxed(alloc: Global, answer: Answer) -> Result<Boxed<Answer>, Memory>
     ensures { IfOk result (λ b. b ≡ answer) }
@@ -70,9 +70,9 @@ pub(crate) fn advance(stack: Stack, alloc: Global) -> Result<Advanced, Memory>
 {
     let Stack { top, mut below } = stack;
     let OpenTask { task, answers } = top;
-    let stop = task.advance(alloc)?;
-    match stop {
-        Stop::Spawn { child, rest } => {
+    let paused = task.run(alloc)?;
+    match paused {
+        Paused::Spawn { child, rest } => {
             let parent = OpenTask {
                 task: rest,
                 answers,
@@ -81,12 +81,13 @@ pub(crate) fn advance(stack: Stack, alloc: Global) -> Result<Advanced, Memory>
             let top = below.open_task(alloc, child);
             Ok(Advanced::Goes(Stack { top, below }))
         }
-        Stop::Wait { rest } => {
+        Paused::Wait { rest } => {
             let (task, answers) = rest.resume_by(alloc, answers)?;
             let top = OpenTask { task, answers };
             Ok(Advanced::Goes(Stack { top, below }))
         }
-        Stop::Done { answer, give } => {
+        Paused::Ended { rest } => {
+            let (answer, give) = rest.finish();
             drop(give);
             if is_fault(&answer) {
                 let last = end_all(alloc, answer, below)?;

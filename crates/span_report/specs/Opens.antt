@@ -3,27 +3,27 @@ use Rattle.std.specs.Prelude.{◌+◌, cond, Bool, max, ℕ, List, [], ◌∷◌
 use Rattle.std.specs.Str.{bytes_eq}
 use Rattle.serial_meaning.specs.declared.event.Event.{Event}
 use Rattle.serial_meaning.specs.declared.event.Event.TheVariants as event
-use Rattle.span_report.specs.declared.instance.Open.{Open}
+use Rattle.span_report.specs.declared.instance.OpenInstance.{OpenInstance}
 use Rattle.span_report.specs.declared.instance.Begun.{Begun}
 use Rattle.span_report.specs.declared.instance.Begun.TheVariants.{Spawned, Iterated}
 
 -- how long the longest chain is that ends in the instance's next event
-abbrev pub next_length : Open → ℕ
+abbrev pub next_length : OpenInstance → ℕ
 next_length o = max o.before o.looped + 1
 
 -- after an event of its own that is no sync and begins no loop
-abbrev pub went_on : Open → Open
+abbrev pub went_on : OpenInstance → OpenInstance
 went_on o = record o { before = next_length o; looping = None; looped = 0; within = max o.within (next_length o) }
 
 -- After a sync. What it waits for comes before what follows, and not before the sync.
-abbrev pub synced : Open → Open
+abbrev pub synced : OpenInstance → OpenInstance
 synced o = record o { before = max (next_length o) o.spawned; looping = None; looped = 0; spawned = 0; within = max o.within (next_length o) }
 
 -- in the loop with this pedigree
-abbrev pub turning : List ℕ → Open → Open
+abbrev pub turning : List ℕ → OpenInstance → OpenInstance
 turning j o = record o { looping = Some j }
 
-abbrev pub noted : Open → Event → Open
+abbrev pub noted : OpenInstance → Event → OpenInstance
 noted o (event.Print j v) = went_on o
 noted o (event.Draw j n) = went_on o
 noted o (event.New j) = went_on o
@@ -31,12 +31,12 @@ noted o (event.Spawn j) = went_on o
 noted o (event.Sync j) = synced o
 noted o (event.Loop j) = turning j (went_on o)
 
-abbrev pub joined : Open → Begun → ℕ → Open
+abbrev pub joined : OpenInstance → Begun → ℕ → OpenInstance
 joined o Spawned within = record o { spawned = max o.spawned within; within = max o.within within }
 joined o Iterated within = record o { looped = max o.looped within; within = max o.within within }
 
 -- an instance that has begun
-abbrev pub begun : List ℕ → Begun → ℕ → Open
+abbrev pub begun : List ℕ → Begun → ℕ → OpenInstance
 begun path how before = record { path = path; begun = how; before = before; looping = None; looped = 0; spawned = 0; within = 0 }
 
 -- whether a path begins with another
@@ -44,7 +44,7 @@ abbrev pub starts : List ℕ → List ℕ → Bool
 starts front path = bytes_eq (take (length front) path) front
 
 -- whether a path is the instance's or that of one below it, or goes on from the instance's by the ranks of its open scopes
-abbrev pub leads : Open → List ℕ → Bool
+abbrev pub leads : OpenInstance → List ℕ → Bool
 leads o path = starts o.path path
 
 abbrev pub turn_at : List ℕ → Option ℕ → Option (List ℕ)

@@ -4,46 +4,46 @@ use Rattle.serial_meaning.specs.Plan.{PlanView}
 use Rattle.serial_meaning.specs.Eval.{elision}
 use Rattle.serial_meaning.specs.declared.event.Event.{Event}
 use Rattle.serial_meaning.specs.declared.event.Event.TheVariants as event
-use Rattle.span_report.specs.declared.instance.Open.{Open}
+use Rattle.span_report.specs.declared.instance.OpenInstance.{OpenInstance}
 use Rattle.span_report.specs.declared.instance.Begun.TheVariants.{Spawned, Iterated}
 use Rattle.span_report.specs.declared.walk.Walk.{Walk}
 use Rattle.span_report.specs.Series.{IsSpan, pedigree_of}
 use Rattle.span_report.specs.Opens.{begun, joined, leads, noted, turn_on}
 
 -- The current instance, and those that it stands below, from its parent on.
-pub record Opened : Type 0 where
-  pub top : Open
-  pub under : List Open
+pub record OpenInstances : Type 0 where
+  pub top : OpenInstance
+  pub under : List OpenInstance
 
-abbrev pub opened : Walk → Opened
-opened w = record { top = w.top; under = reverse w.below.items }
+abbrev pub open_instances : Walk → OpenInstances
+open_instances w = record { top = w.top; under = reverse w.below.items }
 
 -- at the start main alone
-abbrev pub start : Opened
+abbrev pub start : OpenInstances
 start = record { top = begun [] Spawned 0; under = [] }
 
 -- after the end of the instances that don't lead to a path
-abbrev pub left : List ℕ → Open → List Open → Opened
+abbrev pub left : List ℕ → OpenInstance → List OpenInstance → OpenInstances
 left path o [] = record { top = o; under = [] }
 left path o (p ∷ ps) = cond (leads o path) (record { top = o; under = p ∷ ps }) (left path (joined p o.begun o.within) ps)
 
 -- after the end of all but main
-abbrev pub ended : Open → List Open → Open
+abbrev pub ended : OpenInstance → List OpenInstance → OpenInstance
 ended o [] = o
 ended o (p ∷ ps) = ended (joined p o.begun o.within) ps
 
-abbrev pub pushed : Opened → Open → Opened
+abbrev pub pushed : OpenInstances → OpenInstance → OpenInstances
 pushed w o = record { top = o; under = w.top ∷ w.under }
 
-abbrev pub pushed_turn : Option (List ℕ) → Opened → Opened
+abbrev pub pushed_turn : Option (List ℕ) → OpenInstances → OpenInstances
 pushed_turn None w = w
 pushed_turn (Some turn) w = pushed w (begun turn Iterated w.top.before)
 
 -- where the instance of a path goes on, of which at most an iteration isn't open yet
-abbrev pub entered : List ℕ → Opened → Opened
+abbrev pub entered : List ℕ → OpenInstances → OpenInstances
 entered path w = pushed_turn (turn_on w.top.looping path) w
 
-abbrev pub went : Opened → Event → Opened
+abbrev pub went : OpenInstances → Event → OpenInstances
 went w (event.Print j v) = record w { top = noted w.top (event.Print j v) }
 went w (event.Draw j n) = record w { top = noted w.top (event.Draw j n) }
 went w (event.New j) = record w { top = noted w.top (event.New j) }
@@ -55,10 +55,10 @@ went w (event.Loop j) = record w { top = noted w.top (event.Loop j) }
 abbrev pub path_of : Event → List ℕ
 path_of e = take (length (pedigree_of e) - 1) (pedigree_of e)
 
-abbrev pub walked : Opened → Event → Opened
+abbrev pub walked : OpenInstances → Event → OpenInstances
 walked w e = went (entered (path_of e) (left (path_of e) w.top w.under)) e
 
-abbrev pub walked_all : Opened → List Event → Opened
+abbrev pub walked_all : OpenInstances → List Event → OpenInstances
 walked_all w [] = w
 walked_all w (e ∷ es) = walked_all (walked w e) es
 

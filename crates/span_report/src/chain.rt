@@ -3,7 +3,7 @@ ghost use Rattle.serial_meaning.specs.Eval.{main_origin};
 ghost use Rattle.serial_meaning.specs.Render.{IsWhole};
 ghost use Rattle.serial_meaning.specs.Chunks.{joined};
 ghost use Rattle.span_report.specs.Series.{IsSpan};
-ghost use Rattle.span_report.specs.Walks.{opened, walked_all, walked_span};
+ghost use Rattle.span_report.specs.Walks.{open_instances, walked_all, walked_span};
 
 use crate::laws::spans_are_walked;
 use crate::measure::Span;
@@ -41,7 +41,7 @@ fn longest_chain(alloc: Global, events: &Out) -> Result<u64, Memory>
 }
 
 fn note_chunks(alloc: Global, walk: &mut Walk, chunks: &[Vec<Event>]) -> Result<(), Memory>
-    ensures { OnOk result (opened walk.new ≡ walked_all (opened walk.old) (joined chunks.now)) }
+    ensures { OnOk result (open_instances walk.new ≡ walked_all (open_instances walk.old) (joined chunks.now)) }
 {
     for chunk in chunks {
         note_chunk(alloc, walk, chunk)?;
@@ -50,7 +50,7 @@ fn note_chunks(alloc: Global, walk: &mut Walk, chunks: &[Vec<Event>]) -> Result<
 }
 
 fn note_chunk(alloc: Global, walk: &mut Walk, events: &[Event]) -> Result<(), Memory>
-    ensures { OnOk result (opened walk.new ≡ walked_all (opened walk.old) events.now) }
+    ensures { OnOk result (open_instances walk.new ≡ walked_all (open_instances walk.old) events.now) }
 {
     for event in events {
         walk.add_event(alloc, event)?;

@@ -17,7 +17,7 @@ pub(crate) enum Begun {
 /// An instance that has begun and may go on. All but its place are lengths of chains: each is that of the longest chain that ends
 /// in such an event, and 0 where there is none. What belongs to a child that is open too is left out.
 #[derive(Drop)]
-pub(crate) struct Open {
+pub(crate) struct OpenInstance {
     pub path: Ped,
     pub begun: Begun,
     /// Before what the instance does next. Where it is in a loop, before each iteration.
@@ -32,12 +32,12 @@ pub(crate) struct Open {
     pub within: u64,
 }
 
-impl Open {
+impl OpenInstance {
     /// An instance that has just begun, of which a chain of this length ends before the first event.
-    pub(crate) fn begin(path: Ped, how: Begun, before: u64) -> Open
+    pub(crate) fn begin(path: Ped, how: Begun, before: u64) -> OpenInstance
         ensures { result ≡ begun path how before }
     {
-        Open {
+        OpenInstance {
             path,
             begun: how,
             before,
@@ -95,7 +95,7 @@ impl Open {
     }
 
     /// Takes in what a child did, which has ended.
-    pub(crate) fn take_in(&mut self, child: &Open)
+    pub(crate) fn take_in(&mut self, child: &OpenInstance)
         ensures { self.new ≡ joined self.old child.now.begun child.now.within }
     {
         match child.begun {

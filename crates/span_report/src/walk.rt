@@ -1,9 +1,9 @@
 ghost use Rattle.std.specs.Prelude.{◌≡◌, IfOk, OnOk, reverse};
 ghost use Rattle.span_report.specs.Series.{pedigree_of};
 ghost use Rattle.span_report.specs.Opens.{joined};
-ghost use Rattle.span_report.specs.Walks.{ended, entered, left, opened, path_of, pushed, start, walked};
+ghost use Rattle.span_report.specs.Walks.{ended, entered, left, open_instances, path_of, pushed, start, walked};
 
-use crate::instance::{Begun, Open};
+use crate::instance::{Begun, OpenInstance};
 use ped_path::{Ped, Pedigree};
 use serial_meaning::{Event, Memory};
 use std::alloc::Global;
@@ -13,24 +13,24 @@ use std::mem;
 /// and those that this one stands below.
 #[derive(Drop)]
 pub(crate) struct Walk {
-    top: Open,
+    top: OpenInstance,
     /// From main's on.
-    below: Vec<Open>,
+    below: Vec<OpenInstance>,
 }
 
 impl Walk {
     pub(crate) fn new(alloc: Global) -> Result<Walk, Memory>
-        ensures { IfOk result (λ walk. opened walk ≡ start) }
+        ensures { IfOk result (λ walk. open_instances walk ≡ start) }
     {
         Ok(Walk {
-            top: Open::begin(Ped::root(alloc)?, Begun::Spawned, 0),
+            top: OpenInstance::begin(Ped::root(alloc)?, Begun::Spawned, 0),
             below: Vec::new(alloc),
         })
     }
 
     /// Goes on by the run's next event.
     pub(crate) fn add_event(&mut self, alloc: Global, event: &Event) -> Result<(), Memory>
-        ensures { OnOk result (opened self.new ≡ walked (opened self.old) event.now) }
+        ensures { OnOk result (open_instances self.new ≡ walked (open_instances self.old) event.now) }
     {
         let path = &pedigree_of(event).path;
         self.leave(path);
@@ -38,7 +38,7 @@ impl Walk {
         self.top.add_event(alloc, event)?;
         if let Event::Spawn(at) = event {
             let path = at.path.child(alloc, at.rank)?;
-            let child = Open::begin(path, Begun::Spawned, self.top.before);
+            let child = OpenInstance::begin(path, Begun::Spawned, self.top.before);
             self.push(child)?;
         }
         Ok(())
@@ -46,7 +46,7 @@ impl Walk {
 
     /// Ends the instances that this path's instance neither is nor stands below.
     fn leave(&mut self, path: &Ped)
-        ensures { opened self.new ≡ left path.now self.old.top (reverse self.old.below.items) }
+        ensures { open_instances self.new ≡ left path.now self.old.top (reverse self.old.below.items) }
     {
         while !self.top.leads_to(path) {
             match self.below.pop() {
@@ -58,17 +58,17 @@ impl Walk {
 
     /// Goes to the instance of this path: the current one, or the next iteration of the loop that this one is in.
     fn enter(&mut self, alloc: Global, path: &Ped) -> Result<(), Memory>
-        ensures { OnOk result (opened self.new ≡ entered path.now (opened self.old)) }
+        ensures { OnOk result (open_instances self.new ≡ entered path.now (open_instances self.old)) }
     {
         if let Some(turn) = self.top.iteration(alloc, path)? {
-            let child = Open::begin(turn, Begun::Iterated, self.top.before);
+            let child = OpenInstance::begin(turn, Begun::Iterated, self.top.before);
             self.push(child)?;
         }
         Ok(())
     }
 
     /// Ends the current instance, whose parent this is.
-    fn end_in(&mut self, parent: Open)
+    fn end_in(&mut self, parent: OpenInstance)
         ensures top { self.new.top ≡ joined parent self.old.top.begun self.old.top.within }
         ensures below { self.new.below ≡ self.old.below }
     {
@@ -76,8 +76,8 @@ impl Walk {
         self.top.take_in(&child);
     }
 
-    fn push(&mut self, child: Open) -> Result<(), Memory>
-        ensures { OnOk result (opened self.new ≡ pushed (opened self.old) child) }
+    fn push(&mut self, child: OpenInstance) -> Result<(), Memory>
+        ensures { OnOk result (open_instances self.new ≡ pushed (open_instances self.old) child) }
     {
         let parent = mem::replace(&mut self.top, child);
         self.below.push(parent)?;

@@ -6,7 +6,7 @@ use Rattle.std.proofs.lemmas.List.{length-map}
 use Rattle.crossbeam_deque.specs.Tasks.{Pushes, Takes, Pops, Finds, FindsFew, Forks, Merges, Learns}
 use Rattle.steal_deck.specs.declared.rule.Party.{Party}
 use Rattle.steal_deck.specs.Accounts.{EachOnce, AreOf}
-use Rattle.steal_deck.specs.History.{Event, DeckState, push, pop, steal, make_thief, take_back, state, owner, thief, retired, with_push, with_entry, with_thief, with_back, IsHistory, HasHistory, ThiefFindsFew}
+use Rattle.steal_deck.specs.History.{DeckEvent, DeckState, push, pop, steal, make_thief, take_back, state, owner, thief, retired, with_push, with_entry, with_thief, with_back, IsHistory, HasHistory, ThiefFindsFew}
 use Rattle.steal_deck.specs.Steps.{One, Pushed, Popped, FoundNone, Stole, Accounted, party_taken}
 use Rattle.steal_deck.proofs.Weights.{Lawful}
 use Rattle.steal_deck.proofs.Entries.{tasks_more, named_front, set_there}
@@ -33,7 +33,7 @@ module _ {T : Type 0} where
       absurd (not_thief r.owner d.is_owner (ap (λ (u : Party T). u.is_thief) is ∙ o))
   at_thief r views (suc k) v G q at o d g = subst (λ vs. G vs (suc k)) (sym q) (g k (ap (λ vs. get_elem? vs (suc k)) (sym q) ∙ at))
 
-  pushed_on : (items : List T) (x : T) (events : List (Event T)) (r : DeckState T) → IsHistory events r → items ≡ map (λ e. e.1) r.left
+  pushed_on : (items : List T) (x : T) (events : List (DeckEvent T)) (r : DeckState T) → IsHistory events r → items ≡ map (λ e. e.1) r.left
       → (w : Party T) × HasHistory (items ++ x ∷ []) (w ∷ r.others) × Pushed r.owner x w
   pushed_on items x events r h q =
       let e : ℕ × T = (length r.owner.pushed, x) in
@@ -59,7 +59,7 @@ module _ {T : Type 0} where
       let t = unsnoc (f ∷ es) ys x (cc) in
       (e ∷ t.0, t.1, ap (λ l. e ∷ l) t.2, (λ k. here k ∷ t.3 k))
 
-  popped_off : (items : List T) (x : T) (events : List (Event T)) (r : DeckState T) (left : List (ℕ × T)) (n : ℕ) → IsHistory events r → r.left ≡ left ++ (n, x) ∷ []
+  popped_off : (items : List T) (x : T) (events : List (DeckEvent T)) (r : DeckState T) (left : List (ℕ × T)) (n : ℕ) → IsHistory events r → r.left ≡ left ++ (n, x) ∷ []
       → items ≡ map (λ e. e.1) left → (w : Party T) × HasHistory items (w ∷ r.others) × Popped r.owner x w
   popped_off items x events r left n h q is =
       let e : ℕ × T = (n, x) in
@@ -88,7 +88,7 @@ module _ {T : Type 0} where
   nothing_left [] e = refl
   nothing_left (x ∷ xs) e = absurd (cc)
 
-  found_none : (events : List (Event T)) (r : DeckState T) → IsHistory events r → r.left ≡ [] → FoundNone r.owner
+  found_none : (events : List (DeckEvent T)) (r : DeckState T) → IsHistory events r → r.left ≡ [] → FoundNone r.owner
   found_none events r h q =
       let d = lawful events r h in (
         (events, r, h, refl, q),
@@ -105,7 +105,7 @@ module _ {T : Type 0} where
   steal_left [] items x q = absurd (cc)
   steal_left (e ∷ es) items x q = let s : x ≡ e.1 = (cc) in (e.0, es, ap (λ (z : T). (e.0, z) ∷ es) (sym s), (cc))
 
-  stolen_off : (items : List T) (x : T) (events : List (Event T)) (r : DeckState T) (left : List (ℕ × T)) (n k : ℕ) (v : Party T) → IsHistory events r → r.left ≡ (n, x) ∷ left
+  stolen_off : (items : List T) (x : T) (events : List (DeckEvent T)) (r : DeckState T) (left : List (ℕ × T)) (n k : ℕ) (v : Party T) → IsHistory events r → r.left ≡ (n, x) ∷ left
       → items ≡ map (λ e. e.1) left → v.is_thief ≡ true → get_elem? r.others k ≡ some v
       → (w : Party T) × HasHistory items (r.owner ∷ set r.others k w) × Stole v x w
   stolen_off items x events r left n k v h q is o at =
@@ -138,12 +138,12 @@ module _ {T : Type 0} where
       at_owner r views v (λ vs u. HasHistory items (set vs 0 (with_thief u) ++ thief [] ∷ [])) h.4 at
       (make_thief ∷ h.0, state r.left (with_thief r.owner) (r.others ++ thief [] ∷ []), (r, h.2, refl), h.3, refl)
 
-  come_back : (items : List T) (events : List (Event T)) (r : DeckState T) (k : ℕ) (u : Party T) → IsHistory events r → items ≡ map (λ e. e.1) r.left → get_elem? r.others k ≡ some u
+  come_back : (items : List T) (events : List (DeckEvent T)) (r : DeckState T) (k : ℕ) (u : Party T) → IsHistory events r → items ≡ map (λ e. e.1) r.left → get_elem? r.others k ≡ some u
       → u.is_thief ≡ true → HasHistory items (with_back r.owner u ∷ set r.others k retired)
   come_back items events r k u h q at o =
       (take_back k ∷ events, state r.left (with_back r.owner u) (set r.others k retired), (r, h, (u, (at, o), refl)), q, refl)
 
-  merged : (items : List T) (events : List (Event T)) (r : DeckState T) (other : ℕ) (u : Party T) → IsHistory events r → items ≡ map (λ e. e.1) r.left → u.is_thief ≡ true → ¬ (other ≡ 0)
+  merged : (items : List T) (events : List (DeckEvent T)) (r : DeckState T) (other : ℕ) (u : Party T) → IsHistory events r → items ≡ map (λ e. e.1) r.left → u.is_thief ≡ true → ¬ (other ≡ 0)
       → get_elem? (with_back r.owner u ∷ r.others) other ≡ some u → HasHistory items (set (with_back r.owner u ∷ r.others) other retired)
   merged items events r zero u h q o two at = absurd (two refl)
   merged items events r (suc k) u h q o two at = come_back items events r k u h q at o
@@ -153,7 +153,7 @@ module _ {T : Type 0} where
       at_owner h.1 views v (λ vs b. get_elem? (set vs 0 (with_back b u)) other ≡ some u → HasHistory items (set (set vs 0 (with_back b u)) other retired)) h.4 at
       (λ there. merged items h.0 h.1 other u h.2 h.3 o two there) at'
 
-  accounts : (events : List (Event T)) (r : DeckState T) → IsHistory events r → Accounted r.owner
+  accounts : (events : List (DeckEvent T)) (r : DeckState T) → IsHistory events r → Accounted r.owner
   accounts events r h home =
       let d = lawful events r h in
       let l = all_home r d home in (

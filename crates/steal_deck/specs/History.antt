@@ -5,13 +5,13 @@ use mathlib.Core.Option.{some}
 use lib.ListN.{get_elem?}
 use Rattle.steal_deck.specs.declared.rule.Party.{Party}
 
-pub data Event (T : Type 0) : Type 0 where
-  push : T → Event T
-  pop : ℕ × T → Event T
+pub data DeckEvent (T : Type 0) : Type 0 where
+  push : T → DeckEvent T
+  pop : ℕ × T → DeckEvent T
   -- by the thief at this place among the others, as `take_back`
-  steal : ℕ → ℕ × T → Event T
-  make_thief : Event T
-  take_back : ℕ → Event T
+  steal : ℕ → ℕ × T → DeckEvent T
+  make_thief : DeckEvent T
+  take_back : ℕ → DeckEvent T
 
 -- the entries left, the oldest first, and what the owner and each other party know
 pub record DeckState (T : Type 0) : Type 0 where
@@ -52,7 +52,7 @@ module _ {T : Type 0} where
   IsThiefAt s k v = (get_elem? s.others k ≡ some v) × (v.is_thief ≡ true)
 
   -- what an event makes of a state: a push appends the next number, a pop removes the last entry left, and a steal the first
-  abbrev pub Leads : Event T → DeckState T → DeckState T → Type 0
+  abbrev pub Leads : DeckEvent T → DeckState T → DeckState T → Type 0
   Leads (push x) r s = s ≡ state (r.left ++ (length r.owner.pushed, x) ∷ []) (with_push r.owner x) r.others
   Leads (pop e) r s = (r.left ≡ s.left ++ e ∷ []) × (s ≡ state s.left (with_entry r.owner e) r.others)
   Leads (steal k e) r s = (v : Party T) × IsThiefAt r k v × (r.left ≡ e ∷ s.left) × (s ≡ state s.left r.owner (set r.others k (with_entry v e)))
@@ -60,27 +60,27 @@ module _ {T : Type 0} where
   Leads (take_back k) r s = (v : Party T) × IsThiefAt r k v × (s ≡ state r.left (with_back r.owner v) (set r.others k retired))
 
   -- these events, the newest first, lead from the new deck to this state
-  abbrev pub IsHistory : List (Event T) → DeckState T → Type 0
+  abbrev pub IsHistory : List (DeckEvent T) → DeckState T → Type 0
   IsHistory [] s = s ≡ state [] (owner [] [] [] 0 0) []
   IsHistory (e ∷ events) s = (r : DeckState T) × IsHistory events r × Leads e r s
 
   -- the deck holds these tasks, and its parties know these things, in a state of a history
   abbrev pub HasHistory : List T → List (Party T) → Type 0
-  HasHistory items views = (events : List (Event T)) × (s : DeckState T) × IsHistory events s × (items ≡ map (λ e. e.1) s.left) × (views ≡ s.owner ∷ s.others)
+  HasHistory items views = (events : List (DeckEvent T)) × (s : DeckState T) × IsHistory events s × (items ≡ map (λ e. e.1) s.left) × (views ≡ s.owner ∷ s.others)
 
   -- one event of the history, which made of what the owner knew, v, what it knows now, w
-  abbrev pub OwnerDoes : Event T → Party T → Party T → Type 0
-  OwnerDoes e v w = (events : List (Event T)) × (r : DeckState T) × (s : DeckState T) × IsHistory events r × Leads e r s × (r.owner ≡ v) × (s.owner ≡ w)
+  abbrev pub OwnerDoes : DeckEvent T → Party T → Party T → Type 0
+  OwnerDoes e v w = (events : List (DeckEvent T)) × (r : DeckState T) × (s : DeckState T) × IsHistory events r × Leads e r s × (r.owner ≡ v) × (s.owner ≡ w)
 
   -- the same of a thief, which took the first entry left
   abbrev pub ThiefTakes : ℕ × T → Party T → Party T → Type 0
-  ThiefTakes e v w = (events : List (Event T)) × (r : DeckState T) × (s : DeckState T) × (k : ℕ) × IsHistory events r × Leads (steal k e) r s
+  ThiefTakes e v w = (events : List (DeckEvent T)) × (r : DeckState T) × (s : DeckState T) × (k : ℕ) × IsHistory events r × Leads (steal k e) r s
       × (get_elem? r.others k ≡ some v) × (get_elem? s.others k ≡ some w)
 
   -- in a state of the history no entry was left, while the owner knew v
   abbrev pub OwnerFindsNone : Party T → Type 0
-  OwnerFindsNone v = (events : List (Event T)) × (s : DeckState T) × IsHistory events s × (s.owner ≡ v) × (s.left ≡ [])
+  OwnerFindsNone v = (events : List (DeckEvent T)) × (s : DeckState T) × IsHistory events s × (s.owner ≡ v) × (s.left ≡ [])
 
   -- in a state of the history at most one entry was left, while a thief knew v
   abbrev pub ThiefFindsFew : Party T → Type 0
-  ThiefFindsFew v = (events : List (Event T)) × (s : DeckState T) × (k : ℕ) × IsHistory events s × (get_elem? s.others k ≡ some v) × (length s.left ≤ 1)
+  ThiefFindsFew v = (events : List (DeckEvent T)) × (s : DeckState T) × (k : ℕ) × IsHistory events s × (get_elem? s.others k ≡ some v) × (length s.left ≤ 1)

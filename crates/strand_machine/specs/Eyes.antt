@@ -31,8 +31,8 @@ is_none_ahead (Some zero) = true
 is_none_ahead (Some (suc n)) = false
 
 -- an instance with this path that shows its first item next
-abbrev pub first_look : List ℕ → List ℕ → Eye
-first_look path j = record { came = false; ahead = ahead_of (path ++ 0 ∷ []) j; past = false }
+abbrev pub new_eye : List ℕ → List ℕ → Eye
+new_eye path j = record { came = false; ahead = ahead_of (path ++ 0 ∷ []) j; past = false }
 
 -- at the next strand
 abbrev pub goes_to : Option ℕ → Eye → Eye
@@ -47,9 +47,9 @@ rises (event.Spawn j) eye = goes_to (less eye.ahead) eye
 rises (event.Sync j) eye = goes_to (less eye.ahead) eye
 rises (event.Loop j) eye = goes_to (less eye.ahead) eye
 
-abbrev pub looks : List ℕ → Eye → List Item → Eye
-looks j eye [] = eye
-looks j eye (Happened e ∷ items) = looks j (rises e (record eye { past = ended_before (pedigree_of e) j })) items
-looks j eye (Child o ∷ items) = looks j eye items
-looks j eye (Opened k ∷ items) = looks j (goes_to (ahead_of (k ++ 0 ∷ []) j) eye) items
-looks j eye (Closed k ∷ items) = looks j (goes_to (ahead_of (risen k) j) eye) items
+abbrev pub eye_after : List ℕ → Eye → List Item → Eye
+eye_after j eye [] = eye
+eye_after j eye (Happened e ∷ items) = eye_after j (rises e (record eye { past = ended_before (pedigree_of e) j })) items
+eye_after j eye (Child o ∷ items) = eye_after j eye items
+eye_after j eye (Opened k ∷ items) = eye_after j (goes_to (ahead_of (k ++ 0 ∷ []) j) eye) items
+eye_after j eye (Closed k ∷ items) = eye_after j (goes_to (ahead_of (risen k) j) eye) items

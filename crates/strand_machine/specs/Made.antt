@@ -1,7 +1,8 @@
 -- What the code makes of a task in place: moves in a row, a stop, or a look.
-use Rattle.std.specs.Prelude.{◌≡◌, ◌≤◌, Bool, true, false, None}
-use Rattle.serial_meaning.specs.Answer.{IsAnswer}
+use Rattle.std.specs.Prelude.{◌≡◌, ◌≤◌, Bool, true, false, Some, None}
+use Rattle.serial_meaning.specs.Answer.{AnswerView, IsAnswer}
 use Rattle.serial_meaning.specs.declared.answer.Outcome.{Outcome}
+use Rattle.strand_meaning.specs.Cuts.{IsByFaultOf}
 use Rattle.strand_meaning.specs.Left.{moves_left}
 use Rattle.strand_meaning.specs.Task as meaning
 use Rattle.strand_meaning.specs.Task.{IsNext}
@@ -12,6 +13,8 @@ use Rattle.strand_machine.specs.declared.body.Body.{Body}
 use Rattle.strand_machine.specs.declared.parts.Parts.{Parts}
 use Rattle.strand_machine.specs.declared.stop.Passed.{Passed}
 use Rattle.strand_machine.specs.declared.stop.Passed.TheVariants as passed
+use Rattle.strand_machine.specs.declared.stop.Paused.{Paused}
+use Rattle.strand_machine.specs.declared.stop.Paused.TheVariants as paused
 use Rattle.strand_machine.specs.declared.stop.Resumed.{Resumed}
 use Rattle.strand_machine.specs.declared.stop.Resumed.TheVariants as resumed
 use Rattle.strand_machine.specs.declared.stop.MoveOrStop.{MoveOrStop}
@@ -78,6 +81,27 @@ IsStopped passed.Goes = ⊥
 IsStopped passed.Waits = Unit {0}
 IsStopped (passed.Spawned child) = Unit {0}
 IsStopped (passed.Ends outcome) = Unit {0}
+
+-- A fault by which the task ended is one of its plan's.
+abbrev pub KnowsEnd : Parts → Passed → Type 0
+KnowsEnd p passed.Goes = Unit {0}
+KnowsEnd p passed.Waits = Unit {0}
+KnowsEnd p (passed.Spawned child) = Unit {0}
+KnowsEnd p (passed.Ends outcome) = IsByFaultOf p.body.family.plan (ended_by p.body.trace.fault outcome)
+
+-- The task has ended, and still has this answer.
+abbrev pub KeepsAnswer : AnswerView → Paused → Type 0
+KeepsAnswer answer (paused.Spawn child rest) = ⊥
+KeepsAnswer answer (paused.Wait rest) = ⊥
+KeepsAnswer answer (paused.Ended rest) =
+    (rest.task.plan ≡ answer.plan) × (rest.task.origin ≡ answer.origin) × (rest.task.trace.prefix ≡ answer.out) × (rest.cut ≡ Some answer.outcome)
+
+-- It is this stop.
+abbrev pub PausesAs : MoveOrStop → Paused → Type 0
+PausesAs (step.Passes next) p = ⊥
+PausesAs (step.Stops (stop.Spawn child rest)) p = p ≡ paused.Spawn child rest
+PausesAs (step.Stops (stop.Wait rest)) p = p ≡ paused.Wait rest
+PausesAs (step.Stops (stop.Done answer give)) p = KeepsAnswer answer p
 
 -- It is a stop, the task's next one.
 abbrev pub StopsSo : TaskView → MoveOrStop → Type 0

@@ -5,21 +5,21 @@ use Rattle.serial_meaning.specs.Eval.{Evaluation, eval}
 use Rattle.serial_meaning.specs.Plan.{PlanView}
 use Rattle.serial_meaning.specs.declared.answer.Outcome.{Outcome}
 use Rattle.serial_meaning.specs.declared.answer.Outcome.TheVariants as outcome
+use Rattle.serial_meaning.specs.declared.event.Event.{Event}
 use Rattle.serial_meaning.specs.declared.event.Fault.{Fault}
 use Rattle.serial_meaning.specs.declared.origin.Origin.{Origin}
 use Rattle.serial_meaning.specs.declared.value.Value.{Value}
 use Rattle.strand_meaning.specs.Answers.{answer_evaluations}
 use Rattle.strand_meaning.specs.Cuts.{IsByFaultOf, ended_after}
-use Rattle.strand_meaning.specs.Machine.{Destination}
 use Rattle.strand_meaning.specs.Trace.{AwaitedChild, Trace, heard_all}
 use Rattle.strand_meaning.specs.Sound.{IsTask}
 use Rattle.strand_meaning.specs.Task as meaning
-use Rattle.strand_meaning.specs.Task.{Splits, Runs, Over, takes, takes_all, more_values, all_values, resumed_work}
+use Rattle.strand_meaning.specs.Task.{Splits, Runs, Over, takes_all, all_values}
 use Rattle.strand_machine.specs.Family.{FamilyView}
 use Rattle.strand_machine.specs.Stops.{any_cut}
 use Rattle.strand_machine.specs.Tasks.{TaskView, stage_of, work_of, task_of, StandsAt, WorksAt}
 use Rattle.strand_machine.specs.declared.body.Body.{Body}
-use Rattle.strand_machine.specs.declared.merge.Merge.{Merge}
+use Rattle.strand_machine.specs.declared.merge.Heard.{Heard}
 use Rattle.strand_machine.specs.declared.parts.Parts.{Parts}
 use Rattle.strand_machine.specs.declared.work.InstanceState.{InstanceState}
 use Rattle.strand_machine.specs.declared.work.Work.{Work}
@@ -47,6 +47,24 @@ pub record BecomesWork (change : meaning.Work → meaning.Work) (before after : 
   pub is : (plan : PlanView) → work_of plan after ≡ change (work_of plan before)
   pub works : (plan : PlanView) (o : Origin) → WorksAt plan o before → WorksAt plan o after
 
+-- A task that takes its children's answers: what it told, its values, what remains, and of the answers whether one is a cut, and whether the
+-- fault is one by which a child was cut.
+pub record Merge : Type 0 where
+  pub prefix : List Event
+  pub fault : Option Fault
+  pub values : List Value
+  pub work : Work
+  pub cut : Bool
+  pub by_cut : Bool
+
+abbrev pub merge_of : Parts → Heard → Merge
+merge_of p h = record { prefix = p.body.trace.prefix; fault = p.body.trace.fault; values = p.body.values; work = p.work; cut = h.cut; by_cut = h.by_cut }
+
+-- An answer changes nothing else, and none is awaited.
+pub record KeepsRest (before after : Parts) : Type 0 where
+  pub body : after.body ≡ record before.body { trace = after.body.trace; values = after.body.values }
+  pub handed : after.body.trace.handed ≡ []
+
 abbrev pub trace_of : Merge → Trace
 trace_of g = record { prefix = g.prefix; fault = g.fault; handed = [] }
 
@@ -64,14 +82,6 @@ end_of (Some f) true = Some (outcome.Cut f)
 
 abbrev pub ended_of : Merge → Option Outcome
 ended_of g = end_of g.fault g.by_cut
-
--- what an answer that was heard changes besides
-pub record Puts (at : Destination) (ending : Result (List Value) Fault) (before after : Merge) : Type 0 where
-  pub trace : trace_of after ≡ trace_of before
-  pub ended : ended_of after ≡ ended_of before
-  pub cut : after.cut ≡ before.cut
-  pub values : after.values ≡ more_values at ending before.values
-  pub work : BecomesWork (with_stage (takes at ending)) before.work after.work
 
 -- these are answers
 abbrev pub AreSaid : List AnswerView → Type 0
@@ -105,18 +115,13 @@ pub record IsShort (family : FamilyView) (g : Merge) (was_advanced : Bool) (next
   pub loads : next.loads ≡ family.loads
   pub knows : next.knows ≡ family.knows
 
--- What is left of a task that took no cut.
-pub record IsWhole (g : Merge) (before : Body) (after : Parts) : Type 0 where
-  pub body : after.body ≡ record before { trace = trace_of g; values = g.values; waiting = false }
-  pub work : BecomesWork (resumed_work [] []) g.work after.work
-
 -- what origins give by the serial meaning
 abbrev pub meanings : List AnswerTag → List Evaluation
 meanings [] = []
 meanings (t ∷ ts) = eval t.plan t.origin ∷ meanings ts
 
 -- What holds of a task whose children's answers are at hand: those of all children that it handed out were taken from its join.
-pub record IsAnswered (b : Body) (w : Work) : Type 0 where
+pub record HasTakenAnswers (b : Body) (w : Work) : Type 0 where
   pub task : IsTask (task_of b w)
   pub taken : length b.family.taken ≡ length b.family.children
   pub works : WorksAt b.family.plan b.family.origin w

@@ -6,7 +6,7 @@ use Rattle.strand_meaning.specs.Strands.{own_events, events_at}
 use Rattle.strand_moves.specs.Moves.{effects_of}
 use Rattle.strand_moves.specs.declared.effects.MoveResult.{MoveResult}
 use Rattle.strand_moves.specs.declared.effects.MoveResult.TheVariants as moved
-use Rattle.strand_machine.specs.Eyes.{looks}
+use Rattle.strand_machine.specs.Eyes.{eye_after}
 use Rattle.strand_machine.specs.Stops.{IsStop, stop_of}
 use Rattle.strand_machine.specs.Tasks.{TaskView}
 use Rattle.strand_machine.specs.declared.eye.Eye.{Eye}
@@ -18,7 +18,7 @@ pub record IsNoted (t : TaskView) (j : List ℕ) (before : Eye) (n : Noted) : Ty
   pub stop : IsStop t n.stop
   pub notes : meaning.Observation
   pub shows : Shows t.task notes (stop_of n.stop)
-  pub eye : n.eye ≡ looks j before notes.items
+  pub eye : n.eye ≡ eye_after j before notes.items
   pub events : n.events ≡ events_at j (own_events notes.items)
   pub fault : n.fault ≡ notes.fault
   pub joined : n.joined ≡ notes.joined
@@ -26,7 +26,7 @@ pub record IsNoted (t : TaskView) (j : List ℕ) (before : Eye) (n : Noted) : Ty
 -- these notes, and what a step shows of this pedigree
 abbrev pub with_step : List ℕ → meaning.Observation → Observed → Observed
 with_step j step notes = record {
-  eye = looks j notes.eye step.items;
+  eye = eye_after j notes.eye step.items;
   events = notes.events ++ events_at j (own_events step.items);
   fault = newest notes.fault step.fault;
   joined = newest notes.joined step.joined;

@@ -9,18 +9,18 @@ use Rattle.strand_machine.specs.declared.destination.Destination.{Destination}
 use Rattle.strand_machine.specs.declared.destination.Destination.TheVariants as place
 use Rattle.strand_machine.specs.declared.trace.Behind.{Behind}
 
-abbrev pub place_of : Destination → meaning.Destination
-place_of (place.Spawned height target) = meaning.Spawned height target
-place_of (place.Looped target) = meaning.Looped target
-place_of place.Half = meaning.Half
+abbrev pub destination_of : Destination → meaning.Destination
+destination_of (place.Spawned height target) = meaning.Spawned height target
+destination_of (place.Looped target) = meaning.Looped target
+destination_of place.Half = meaning.Half
 
-abbrev pub part_of : Origin → Behind → AwaitedChild
-part_of child b = record { child = child; place = place_of b.place; behind = b.events }
+abbrev pub awaited_child : Origin → Behind → AwaitedChild
+awaited_child child b = record { child = child; place = destination_of b.place; behind = b.events }
 
-abbrev pub parts_of : List Origin → List Behind → List AwaitedChild
-parts_of [] bs = []
-parts_of (o ∷ os) [] = []
-parts_of (o ∷ os) (b ∷ bs) = part_of o b ∷ parts_of os bs
+abbrev pub awaited_children : List Origin → List Behind → List AwaitedChild
+awaited_children [] bs = []
+awaited_children (o ∷ os) [] = []
+awaited_children (o ∷ os) (b ∷ bs) = awaited_child o b ∷ awaited_children os bs
 
 abbrev pub awaited : List AwaitedChild → List Origin
 awaited [] = []
@@ -30,4 +30,4 @@ awaited (p ∷ ps) = p.child ∷ awaited ps
 pub record IsParted (trace : Trace) (prefix : List Event) (fault : Option Fault) (behind : List Behind) : Type 0 where
   pub children : List Origin
   pub many : length children ≡ length behind
-  pub is : ◌≡◌ {A = Trace} (record { prefix = prefix; fault = fault; handed = parts_of children behind }) trace
+  pub is : ◌≡◌ {A = Trace} (record { prefix = prefix; fault = fault; handed = awaited_children children behind }) trace

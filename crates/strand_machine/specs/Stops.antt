@@ -16,6 +16,8 @@ use Rattle.serial_meaning.specs.declared.answer.Outcome.TheVariants as outcome
 use Rattle.serial_meaning.specs.declared.event.Event.{Event}
 use Rattle.strand_machine.specs.Tasks.{TaskView, fresh_with}
 use Rattle.strand_machine.specs.declared.stop.Stop.{Stop}
+use Rattle.strand_machine.specs.declared.stop.Paused.{Paused}
+use Rattle.strand_machine.specs.declared.stop.Paused.TheVariants as paused
 use Rattle.strand_machine.specs.declared.stop.Stop.TheVariants as stop
 use Rattle.strand_machine.specs.declared.stop.MoveOrStop.{MoveOrStop}
 use Rattle.strand_machine.specs.declared.stop.MoveOrStop.TheVariants as step
@@ -61,16 +63,28 @@ pub record IsStop (t : TaskView) (s : Stop) : Type 0 where
   pub keeps : Keeps t s
   pub known : IsKnownStop t s
 
--- The end of a task that took a cut.
+-- The end of a task that took a cut, or that has ended and still has its answer.
 pub record IsCutEnd (t : TaskView) (ended : Outcome) (s : Stop) : Type 0 where
   pub is : s ≡ stop.Done (record { plan = t.task.plan; origin = t.task.origin; out = t.task.trace.prefix; outcome = ended }) (tag t.task.plan t.task.origin)
   pub known : IsByFaultOf t.task.plan ended
+
+-- A task has ended, and what is left of it answers so.
+pub record HasEnded (t rest : TaskView) : Type 0 where
+  pub outcome : Outcome
+  pub cut : rest.cut ≡ Some outcome
+  pub stop : IsStop t (stop.Done (record { plan = rest.task.plan; origin = rest.task.origin; out = rest.task.trace.prefix; outcome = outcome }) (tag rest.task.plan rest.task.origin))
+
+-- The next stop of a task. One that has ended still has its answer.
+abbrev pub Pauses : TaskView → Paused → Type 0
+Pauses t (paused.Spawn child rest) = IsStop t (stop.Spawn child rest)
+Pauses t (paused.Wait rest) = IsStop t (stop.Wait rest)
+Pauses t (paused.Ended rest) = HasEnded t rest
 
 abbrev pub advances : Option Outcome → TaskView → Stop → Type 0
 advances None t s = IsStop t s
 advances (Some ended) t s = IsCutEnd t ended s
 
--- The next stop of a task that took no cut, and else its end.
+-- The next stop of a task that goes on, and else its end.
 abbrev pub Advances : TaskView → Stop → Type 0
 Advances t s = advances t.cut t s
 

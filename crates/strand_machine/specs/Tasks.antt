@@ -20,7 +20,7 @@ use Rattle.strand_moves.specs.Moves.{IsTrailOf}
 use Rattle.strand_moves.specs.declared.instance.Instance.{Instance}
 use Rattle.strand_machine.specs.Family.{FamilyView, handed}
 use Rattle.strand_machine.specs.Loops.{is_root}
-use Rattle.strand_machine.specs.Parts.{awaited, place_of}
+use Rattle.strand_machine.specs.Parts.{awaited, destination_of}
 use Rattle.strand_machine.specs.declared.body.Body.{Body}
 use Rattle.strand_machine.specs.declared.destination.Destination.{Destination}
 use Rattle.strand_machine.specs.declared.work.InstanceState.{InstanceState}
@@ -29,8 +29,8 @@ use Rattle.strand_machine.specs.declared.work.Work.{Work}
 use Rattle.strand_machine.specs.declared.work.Work.TheVariants as work
 
 -- A task as contracts see it: what it is by its meaning, the origins of all children that it handed out, in order, and the numbers that
--- looks at their join have loaded; whether it knows of the loops on its path; and of a task that took a cut for an answer, how it ends. Such
--- a task isn't finished: of its meaning its plan and origin count, and what it told.
+-- looks at their join have loaded; whether it knows of the loops on its path; and of a task that took a cut for an answer, or that has ended and
+-- still has its answer, how it ends. Such a task isn't finished: of its meaning its plan and origin count, and what it told.
 pub record TaskView : Type 0 where
   pub task : Task
   pub children : List Origin
@@ -58,13 +58,13 @@ abbrev pub work_of : PlanView → Work → meaning.Work
 work_of plan (work.Splits left) = meaning.Splits left.range
 work_of plan (work.Runs s) = meaning.Runs (stage_of plan s)
 work_of plan (work.Over v gone_on) = meaning.Over v gone_on
-work_of plan (work.Cut o) = meaning.Over (Int (pos 0)) true
+work_of plan (work.Ends o) = meaning.Over (Int (pos 0)) true
 
 abbrev pub cut_of : Work → Option Outcome
 cut_of (work.Splits left) = None
 cut_of (work.Runs s) = None
 cut_of (work.Over v gone_on) = None
-cut_of (work.Cut o) = Some o
+cut_of (work.Ends o) = Some o
 
 abbrev pub is_cut_short : Option Outcome → Bool
 is_cut_short None = false
@@ -113,15 +113,15 @@ abbrev pub WorksAt : PlanView → Origin → Work → Type 0
 WorksAt plan o (work.Splits left) = IsTrailOf plan o left.trail
 WorksAt plan o (work.Runs s) = StandsAt plan (path_of (own_instance o)) s
 WorksAt plan o (work.Over v gone_on) = Unit {0}
-WorksAt plan o (work.Cut ended) = ⊥
+WorksAt plan o (work.Ends ended) = ⊥
 
--- What holds of a task that took no cut.
+-- What holds of a task that goes on: it hasn't ended, and took no cut.
 pub record IsSound (b : Body) (w : Work) : Type 0 where
   pub task : IsTask (task_of b w)
   pub family : AwaitsLast b.family b.trace.handed
   pub works : WorksAt b.family.plan b.family.origin w
 
--- What holds of a task that took a cut: it ends so.
+-- What holds of a task that has ended, or that took a cut: it ends so.
 pub record IsCutShort (b : Body) (ended : Outcome) : Type 0 where
   pub answers : IsAnswer b.family.plan b.family.origin b.trace.prefix ended
   pub known : IsByFaultOf b.family.plan ended
@@ -132,7 +132,7 @@ abbrev pub Holds : Body → Work → Type 0
 Holds b (work.Splits left) = IsSound b (work.Splits left)
 Holds b (work.Runs s) = IsSound b (work.Runs s)
 Holds b (work.Over v gone_on) = IsSound b (work.Over v gone_on)
-Holds b (work.Cut ended) = IsCutShort b ended
+Holds b (work.Ends ended) = IsCutShort b ended
 
 -- after a step; where it waits; where it handed out a child
 abbrev pub gone : Body → Body
@@ -142,7 +142,7 @@ abbrev pub waiting : Body → Body
 waiting b = record b { waiting = true; advanced = true }
 
 abbrev pub with_child : Body → Origin → Destination → Body
-with_child b o p = record b { family = handed b.family o; trace = add_child o (place_of p) b.trace; advanced = true }
+with_child b o p = record b { family = handed b.family o; trace = add_child o (destination_of p) b.trace; advanced = true }
 
 -- the fault in the trace, or else so
 abbrev pub ended_by : Option Fault → Outcome → Outcome

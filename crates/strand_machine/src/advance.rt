@@ -1,51 +1,120 @@
-ghost use Rattle.std.specs.Prelude.{◌≡◌, ◌<◌, [], IfOk, IsTrue, ◌↔◌, true};
+// Runs to the next stop, and ends.
+ghost use Rattle.std.specs.Prelude.{◌≡◌, IfOk, None, true};
+ghost use Rattle.strand_meaning.specs.Cuts.{IsByFaultOf};
+ghost use Rattle.strand_machine.specs.Made.{CanEnd, IsSoundMade, IsStopped, KnowsEnd, PausesAs, made};
+ghost use Rattle.strand_machine.specs.Stops.{Advances, Pauses};
+ghost use Rattle.strand_machine.specs.Tasks.{Holds, ended_by, is_cut_short};
+ghost use Rattle.strand_machine.specs.declared.stop.Stop.TheVariants as stop;
+ghost use Rattle.strand_machine.specs.declared.work.Work.TheVariants as work;
 
 use crate::body::Body;
 use crate::memory::Memory;
 use crate::parts::Parts;
-use crate::step::{run_on, stopped};
-use crate::stop::Stop;
+use crate::replace::set;
+use crate::step::run_on;
+use crate::stop::{Passed, Paused, Stop};
 use crate::task::Task;
 use crate::work::Work;
+use meet_block::Give;
+use serial_meaning::{Answer, Outcome};
 use std::alloc::Global;
 
-impl Task {
-    ghost use Rattle.strand_machine.specs.Stops.{Advances};
-    ghost use Rattle.strand_machine.specs.Tasks.{is_cut_short};
+/// The task has ended so, but for a fault in its trace.
+fn keep_end(parts: &mut Parts, outcome: Outcome)
+    requires can { CanEnd parts.old.body outcome }
+    requires known { IsByFaultOf parts.old.body.family.plan (ended_by parts.old.body.trace.fault outcome) }
+    ensures work { parts.new.work ≡ work.Ends (ended_by parts.old.body.trace.fault outcome) }
+    ensures family { parts.new.body.family ≡ parts.old.body.family }
+    ensures prefix { parts.new.body.trace.prefix ≡ parts.old.body.trace.prefix }
+    ensures holds { Holds parts.new.body parts.new.work }
+{
+    let ended = parts.body.trace.end(outcome);
+    parts.body.waiting = false;
+    set(&mut parts.work, Work::Ends(ended));
+}
 
-    /// Whether it took an answer that is a cut, so that it ends by its next advance.
+/// The task that came to a stop.
+#[inline(always)]
+fn paused(mut parts: Box<Parts>, passed: Passed) -> Paused
+    requires sound { IsSoundMade parts.value passed }
+    requires stops { IsStopped passed }
+    requires known { KnowsEnd parts.value passed }
+    ensures { PausesAs (made parts.value passed) result }
+{
+    match passed {
+        Passed::Goes => unreachable!(),
+        Passed::Waits => Paused::Wait {
+            rest: Task { parts },
+        },
+        Passed::Spawned(child) => Paused::Spawn {
+            child,
+            rest: Task { parts },
+        },
+        Passed::Ends(outcome) => {
+            keep_end(&mut parts, outcome);
+            Paused::Ended {
+                rest: Task { parts },
+            }
+        }
+    }
+}
+
+impl Task {
+    /// Whether it has ended, or took an answer that is a cut, so that it ends by its next advance.
     fn is_cut_short(&self) -> bool
         ensures { result ≡ is_cut_short self.now.cut }
     {
-        matches!(self.parts.work, Work::Cut(_))
+        matches!(self.parts.work, Work::Ends(_))
     }
 
-    /// The end of a task that took an answer that is a cut.
-    fn end_short(self) -> Stop
+    /// What it answers, of a task that has ended or took an answer that is a cut, and the give for it.
+    pub fn finish(self) -> (Answer, Give<Answer>)
         requires { is_cut_short self.cut ≡ true }
-        ensures { Advances self result }
+        ensures { Advances self (stop.Done result.0 result.1) }
     {
         let Task { parts } = self;
         let Parts { body, work } = Box::into_inner(parts);
-        let Work::Cut(ended) = work else {
+        let Work::Ends(ended) = work else {
             unreachable!()
         };
         let Body { family, trace, .. } = body;
         let (prefix, _) = trace.prefix();
-        let (answer, give) = family.answer(prefix, ended);
-        Stop::Done { answer, give }
+        family.answer(prefix, ended)
     }
 
-    /// Runs to the next stop: a child that is handed out, a wait, or the end. A task that waits stops at its wait again. One that took an
-    /// answer that is a cut ends by the first fault or cut in the order of its trace. On `Memory` it is dropped.
+    /// Runs to the next stop: a child that is handed out, a wait, or the end. A task that waits stops at its wait again. On `Memory` it is
+    /// dropped.
+    pub fn run(self, alloc: Global) -> Result<Paused, Memory>
+        requires { self.cut ≡ None }
+        ensures { IfOk result (Pauses self) }
+    {
+        let Task { mut parts } = self;
+        let passed = run_on(&mut parts, alloc)?;
+        Ok(paused(parts, passed))
+    }
+
+    /// The same, by which a task that has ended is left. One that took an answer that is a cut ends by the first fault or cut in the order of
+    /// its trace.
     pub fn advance(self, alloc: Global) -> Result<Stop, Memory>
         ensures { IfOk result (Advances self) }
     {
         if self.is_cut_short() {
-            return Ok(self.end_short());
+            return Ok(done(self));
         }
-        let Task { mut parts } = self;
-        let passed = run_on(&mut parts, alloc)?;
-        Ok(stopped(parts, passed))
+        let paused = self.run(alloc)?;
+        match paused {
+            Paused::Spawn { child, rest } => Ok(Stop::Spawn { child, rest }),
+            Paused::Wait { rest } => Ok(Stop::Wait { rest }),
+            Paused::Ended { rest } => Ok(done(rest)),
+        }
     }
+}
+
+/// The end of a task that has ended or took an answer that is a cut.
+fn done(task: Task) -> Stop
+    requires { is_cut_short task.cut ≡ true }
+    ensures { Advances task result }
+{
+    let (answer, give) = task.finish();
+    Stop::Done { answer, give }
 }

@@ -1,4 +1,4 @@
-ghost use Rattle.std.specs.Prelude.{◌≡◌, ◌<◌, [], IsTrue, ◌↔◌};
+ghost use Rattle.std.specs.Prelude.{◌≡◌, [], false};
 
 use crate::trace::Trace;
 use script_grammar::Items;
@@ -19,7 +19,22 @@ pub(crate) struct Body {
 }
 
 impl Body {
+    ghost use Rattle.strand_meaning.specs.Trace.{no_trace};
     ghost use Rattle.strand_machine.specs.Bodies.{is_long};
+
+    /// That of a task of which nothing is done.
+    #[inline(always)]
+    pub fn new(alloc: Global, family: Family) -> Body
+        ensures { result ≡ record { family = family; trace = no_trace; values = []; waiting = false; advanced = false } }
+    {
+        Body {
+            family,
+            trace: Trace::new(alloc),
+            values: Items(Vec::new(alloc)),
+            waiting: false,
+            advanced: false,
+        }
+    }
 
     /// Takes the values out.
     pub fn take_values(&mut self, alloc: Global) -> Items<Value>

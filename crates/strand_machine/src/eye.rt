@@ -2,7 +2,7 @@
 ghost use Rattle.std.specs.Prelude.{◌≡◌, [], ◌∷◌, ◌++◌};
 ghost use Rattle.serial_meaning.specs.Open.{Happened, Opened, Closed, risen};
 ghost use Rattle.strand_meaning.specs.Strands.{ended_before, pedigree_of};
-ghost use Rattle.strand_machine.specs.Eyes.{ahead_of, first_look, goes_to, is_none_ahead, less, looks};
+ghost use Rattle.strand_machine.specs.Eyes.{ahead_of, new_eye, goes_to, is_none_ahead, less, eye_after};
 
 use ped_path::{Ped, Pedigree};
 use serial_meaning::Event;
@@ -43,7 +43,7 @@ fn is_past(strand: &Pedigree, at: &Pedigree) -> bool
 impl Eye {
     /// An instance with this path, of which nothing was shown yet.
     pub fn start(path: &Ped, at: &Pedigree) -> Eye
-        ensures { result ≡ first_look path.now at.now }
+        ensures { result ≡ new_eye path.now at.now }
     {
         Eye {
             came: false,
@@ -80,7 +80,7 @@ impl Eye {
 
     /// An event of the instance's own.
     pub(crate) fn emit(&mut self, at: &Pedigree, event: &Event)
-        ensures { self.new ≡ looks at.now self.old (Happened event.now ∷ []) }
+        ensures { self.new ≡ eye_after at.now self.old (Happened event.now ∷ []) }
     {
         self.past = is_past(pedigree(event), at);
         match event {
@@ -95,14 +95,14 @@ impl Eye {
 
     /// A scope with this path begins.
     pub(crate) fn enter_scope(&mut self, at: &Pedigree, path: &Ped)
-        ensures { self.new ≡ looks at.now self.old (Opened path.now ∷ []) }
+        ensures { self.new ≡ eye_after at.now self.old (Opened path.now ∷ []) }
     {
         self.go_to(first_of(path, at));
     }
 
     /// The scope has ended that this strand began.
     pub(crate) fn leave_scope(&mut self, at: &Pedigree, scope: &Pedigree)
-        ensures { self.new ≡ looks at.now self.old (Closed scope.now ∷ []) }
+        ensures { self.new ≡ eye_after at.now self.old (Closed scope.now ∷ []) }
     {
         self.go_to(after(scope, at));
     }

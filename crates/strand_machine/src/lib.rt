@@ -28,7 +28,7 @@ pub use fault::is_fault;
 pub use memory::Memory;
 pub use note::Noted;
 pub use origin::share_origin;
-pub use stop::{Resumed, Stop};
+pub use stop::{Paused, Resumed, Stop};
 pub use task::Task;
 
 fn is_sent<T: Send>() {}
@@ -39,4 +39,5 @@ fn all_are_sent() {
     is_sent::<Task>();
     is_sent::<Stop>();
     is_sent::<Resumed>();
+    is_sent::<Paused>();
 }

@@ -7,14 +7,15 @@ ghost use Rattle.strand_meaning.specs.Machine.{Spawned, Looped, Half};
 ghost use Rattle.strand_meaning.specs.Trace.{AwaitedChild, heard};
 ghost use Rattle.strand_meaning.specs.Task.{takes, changed, answered, more_values};
 ghost use Rattle.strand_moves.specs.Machines.{IsInstance, machine_of, path_of};
-ghost use Rattle.strand_machine.specs.Merge.{BecomesStage, BecomesWork, Puts, TakesAnswers, ended_of, ending_of, trace_of, with_stage};
-ghost use Rattle.strand_machine.specs.Parts.{place_of, part_of};
+ghost use Rattle.strand_machine.specs.Merge.{BecomesStage, BecomesWork, KeepsRest, TakesAnswers, end_of, ending_of, merge_of, with_stage};
+ghost use Rattle.strand_machine.specs.Parts.{destination_of, awaited_child};
 ghost use Rattle.strand_machine.specs.Stops.{is_cut};
 
 use crate::destination::Destination;
 use crate::memory::Memory;
+use crate::parts::Parts;
 use crate::replace::set;
-use crate::trace::Behind;
+use crate::trace::{Behind, Trace};
 use crate::work::{InstanceState, Work};
 use script_grammar::{Items, Name};
 use serial_meaning::{Answer, Fault, Out, Outcome, Value};
@@ -22,16 +23,12 @@ use std::alloc::Global;
 use strand_moves::Instance;
 use strand_values::Target;
 
-/// A task that takes its children's answers.
+/// What is known of the answers that a task took so far.
 #[derive(Drop)]
-pub(crate) struct Merge {
-    pub prefix: Out,
-    pub fault: Option<Fault>,
-    pub values: Items<Value>,
-    pub work: Work,
-    /// Whether one of the answers is a cut.
+pub(crate) struct Heard {
+    /// Whether one of them is a cut.
     pub cut: bool,
-    /// Whether the fault is one by which a child was cut.
+    /// Whether the fault in the trace is one by which a child was cut.
     pub by_cut: bool,
 }
 
@@ -148,7 +145,7 @@ fn merge_stage(
     place: Destination,
     outcome: Outcome,
 ) -> Result<(), Memory>
-    ensures { OnOk result (BecomesStage (takes (place_of place) (ending_of outcome)) stage.old stage.new) }
+    ensures { OnOk result (BecomesStage (takes (destination_of place) (ending_of outcome)) stage.old stage.new) }
 {
     match place {
         Destination::Spawned(height, target) => {
@@ -170,7 +167,7 @@ fn merge_work(
     place: Destination,
     outcome: Outcome,
 ) -> Result<(), Memory>
-    ensures { OnOk result (BecomesWork (with_stage (takes (place_of place) (ending_of outcome))) work.old work.new) }
+    ensures { OnOk result (BecomesWork (with_stage (takes (destination_of place) (ending_of outcome))) work.old work.new) }
 {
     match work {
         Work::Runs(stage) => {
@@ -185,28 +182,34 @@ fn merge_work(
             drop((place, outcome));
             Ok(())
         }
-        Work::Cut(_) => {
+        Work::Ends(_) => {
             drop((place, outcome));
             Ok(())
         }
     }
 }
 
-impl Merge {
-    /// The events of an answer, and where it is neither a fault nor a cut then those after the child.
-    fn hear(&mut self, events: Out, behind: Out, outcome: &Outcome) -> Result<(), Memory>
+impl Heard {
+    /// The events of an answer join the trace, and where it is neither a fault nor a cut then those after the child.
+    fn hear(
+        &mut self,
+        trace: &mut Trace,
+        events: Out,
+        behind: Out,
+        outcome: &Outcome,
+    ) -> Result<(), Memory>
+        requires { trace.old.handed ≡ [] }
         ensures trace { OnOk result ((p : AwaitedChild) → p.behind ≡ behind
-            → trace_of self.new ≡ heard p (record { items = events; ending = ending_of outcome.now }) (trace_of self.old)) }
-        ensures ended { OnOk result (ended_of self.new ≡ or_ends (ended_of self.old) outcome.now) }
+            → trace.new ≡ heard p (record { items = events; ending = ending_of outcome.now }) trace.old) }
+        ensures ended { OnOk result (end_of trace.new.fault self.new.by_cut ≡ or_ends (end_of trace.old.fault self.old.by_cut) outcome.now) }
         ensures cut { OnOk result (self.new.cut ≡ (self.old.cut || is_cut outcome.now)) }
-        ensures rest { OnOk result ((self.new.values ≡ self.old.values) × (self.new.work ≡ self.old.work)) }
     {
         self.cut |= is_cut(outcome);
-        if self.fault.is_some() {
+        if trace.fault.is_some() {
             drop((events, behind));
             return Ok(());
         }
-        match self.prefix.append(events) {
+        match trace.prefix.append(events) {
             Ok(()) => {}
             Err(memory) => {
                 drop(behind);
@@ -214,87 +217,92 @@ impl Merge {
             }
         }
         match outcome {
-            Outcome::Value(_) => self.prefix.append(behind)?,
-            Outcome::Values(_) => self.prefix.append(behind)?,
+            Outcome::Value(_) | Outcome::Values(_) => trace.prefix.append(behind)?,
             Outcome::Fault(fault) => {
                 drop(behind);
-                set(&mut self.fault, Some(fault.share()?));
+                set(&mut trace.fault, Some(fault.share()?));
                 self.by_cut = false;
             }
             Outcome::Cut { by } => {
                 drop(behind);
-                set(&mut self.fault, Some(by.share()?));
+                set(&mut trace.fault, Some(by.share()?));
                 self.by_cut = true;
             }
         }
         Ok(())
     }
+}
 
-    /// More values of the task's loop.
-    fn add_values(&mut self, values: Items<Value>) -> Result<(), Memory>
-        ensures { OnOk result (self.new ≡ record self.old { values = self.old.values ++ values }) }
-    {
-        let mut values = values;
-        self.values.0.append(&mut values.0)?;
-        Ok(())
-    }
+/// More values of a loop.
+fn add_values(values: &mut Items<Value>, more: Items<Value>) -> Result<(), Memory>
+    ensures { OnOk result (values.new ≡ values.old ++ more) }
+{
+    let mut more = more;
+    values.0.append(&mut more.0)?;
+    Ok(())
+}
 
-    /// The values of a part of the task's loop.
-    fn add(&mut self, outcome: Outcome) -> Result<(), Memory>
-        ensures { OnOk result (self.new ≡ record self.old { values = more_values Half (ending_of outcome) self.old.values }) }
-    {
-        match outcome {
-            Outcome::Value(value) => Ok(self.values.0.push(value)?),
-            Outcome::Values(values) => self.add_values(values),
-            Outcome::Fault(_) => {
-                drop(outcome);
-                Ok(())
-            }
-            Outcome::Cut { .. } => {
-                drop(outcome);
-                Ok(())
-            }
+/// The values of a part of a loop.
+fn add(values: &mut Items<Value>, outcome: Outcome) -> Result<(), Memory>
+    ensures { OnOk result (values.new ≡ more_values Half (ending_of outcome) values.old) }
+{
+    match outcome {
+        Outcome::Value(value) => Ok(values.0.push(value)?),
+        Outcome::Values(more) => add_values(values, more),
+        Outcome::Fault(_) => {
+            drop(outcome);
+            Ok(())
+        }
+        Outcome::Cut { .. } => {
+            drop(outcome);
+            Ok(())
         }
     }
+}
 
-    /// What an answer that was heard changes of the values, or of what remains.
-    fn merge_value(
-        &mut self,
-        alloc: Global,
-        place: Destination,
-        outcome: Outcome,
-    ) -> Result<(), Memory>
-        ensures { OnOk result (Puts (place_of place) (ending_of outcome) self.old self.new) }
-    {
-        if let Destination::Half = place {
-            return self.add(outcome);
-        }
-        merge_work(&mut self.work, alloc, place, outcome)
+/// What an answer that was heard changes of the values, or of what remains.
+fn merge_value(
+    values: &mut Items<Value>,
+    work: &mut Work,
+    alloc: Global,
+    place: Destination,
+    outcome: Outcome,
+) -> Result<(), Memory>
+    ensures values { OnOk result (values.new ≡ more_values (destination_of place) (ending_of outcome) values.old) }
+    ensures work { OnOk result (BecomesWork (with_stage (takes (destination_of place) (ending_of outcome))) work.old work.new) }
+{
+    if let Destination::Half = place {
+        return add(values, outcome);
     }
+    merge_work(work, alloc, place, outcome)
+}
 
-    /// A child's answer.
-    pub fn merge_answer(
-        &mut self,
-        alloc: Global,
-        behind: Behind,
-        answer: Answer,
-    ) -> Result<(), Memory>
-        ensures { OnOk result (TakesAnswers (part_of answer.origin behind ∷ []) (answer ∷ []) self.old self.new) }
-    {
-        let Answer {
-            out,
-            outcome,
-            plan,
-            origin,
-        } = answer;
-        drop((plan, origin));
-        let Behind { place, events } = behind;
-        match self.hear(out, events, &outcome) {
-            Ok(()) => self.merge_value(alloc, place, outcome),
-            Err(memory) => {
-                drop((place, outcome));
-                Err(memory)
-            }
+/// A task that awaits no child any more takes a child's answer.
+pub(crate) fn merge_answer(
+    parts: &mut Parts,
+    heard: &mut Heard,
+    alloc: Global,
+    behind: Behind,
+    answer: Answer,
+) -> Result<(), Memory>
+    requires { parts.old.body.trace.handed ≡ [] }
+    ensures takes { OnOk result (TakesAnswers (awaited_child answer.origin behind ∷ []) (answer ∷ []) (merge_of parts.old heard.old) (merge_of parts.new heard.new)) }
+    ensures rest { OnOk result (KeepsRest parts.old parts.new) }
+{
+    let Answer {
+        out,
+        outcome,
+        plan,
+        origin,
+    } = answer;
+    drop((plan, origin));
+    let Behind { place, events } = behind;
+    let Parts { body, work } = parts;
+    match heard.hear(&mut body.trace, out, events, &outcome) {
+        Ok(()) => merge_value(&mut body.values, work, alloc, place, outcome),
+        Err(memory) => {
+            drop((place, outcome));
+            Err(memory)
         }
     }
 }

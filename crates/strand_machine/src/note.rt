@@ -3,7 +3,7 @@ ghost use Rattle.std.specs.Prelude.{◌≡◌, ◌++◌, ◌∷◌, [], None, If
 ghost use Rattle.serial_meaning.specs.Open.{Happened};
 ghost use Rattle.strand_meaning.specs.Observation.{step_notes};
 ghost use Rattle.strand_meaning.specs.Strands.{events_at};
-ghost use Rattle.strand_machine.specs.Eyes.{looks};
+ghost use Rattle.strand_machine.specs.Eyes.{eye_after};
 ghost use Rattle.strand_machine.specs.Made.{IsSoundMade, made};
 ghost use Rattle.strand_machine.specs.Noted.{moved_notes, with_step};
 ghost use Rattle.strand_machine.specs.Stops.{IsStep};
@@ -81,7 +81,7 @@ impl Observed {
 
     /// One more event of the task's own, which is kept where it is of this pedigree.
     fn emit(&mut self, alloc: Global, at: &Pedigree, event: &Event) -> Result<(), Memory>
-        ensures { OnOk result (self.new ≡ record self.old { eye = looks at.now self.old.eye (Happened event.now ∷ []); events = self.old.events ++ events_at at.now (event.now ∷ []) }) }
+        ensures { OnOk result (self.new ≡ record self.old { eye = eye_after at.now self.old.eye (Happened event.now ∷ []); events = self.old.events ++ events_at at.now (event.now ∷ []) }) }
     {
         self.eye.emit(at, event);
         if pedigree(event).same(at) {

@@ -1,8 +1,12 @@
-ghost use Rattle.std.specs.Prelude.{◌≡◌};
+ghost use Rattle.std.specs.Prelude.{◌≡◌, IfOk};
+ghost use Rattle.strand_machine.specs.Tasks.{Holds, view_of};
 
 use crate::body::Body;
+use crate::memory::Memory;
+use crate::task::Task;
 use crate::work::Work;
 use serial_meaning::{Fault, Out};
+use std::alloc::Global;
 use strand_family::Family;
 
 /// What stands in a task's box, where its moves change it in place.
@@ -13,6 +17,21 @@ pub(crate) struct Parts {
 }
 
 impl Parts {
+    /// The task of these.
+    #[inline(always)]
+    pub fn boxed(alloc: Global, parts: Parts) -> Result<Task, Memory>
+        requires { Holds parts.body parts.work }
+        ensures { IfOk result (λ task. task ≡ view_of parts.body parts.work) }
+    {
+        match Box::new(alloc, parts) {
+            Ok(parts) => Ok(Task { parts }),
+            Err(failed) => {
+                drop(failed);
+                Err(Memory)
+            }
+        }
+    }
+
     /// What is left of a task that ends: its family, its events before the first child, and the fault in its trace, if there is one. Its
     /// box is given back.
     #[inline(always)]

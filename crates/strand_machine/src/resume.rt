@@ -1,10 +1,10 @@
 // How a task goes on from a wait.
-ghost use Rattle.std.specs.Prelude.{◌≡◌, ◌-◌, List, [], true, length, drop, IfOk, OnOk};
+ghost use Rattle.std.specs.Prelude.{◌≡◌, ◌-◌, List, [], true, false, length, drop, IfOk, OnOk};
 ghost use Rattle.serial_meaning.specs.Plan.{PlanView};
 ghost use Rattle.strand_meaning.specs.Task.{resumed, resumed_work};
 ghost use Rattle.strand_machine.specs.Family.{tags, origins, AwaitsCount};
-ghost use Rattle.strand_machine.specs.Merge.{BecomesStage, BecomesWork, EndsShort, IsAnswered, IsShort, IsWhole, TakesAnswers, end_of};
-ghost use Rattle.strand_machine.specs.Parts.{awaited, parts_of};
+ghost use Rattle.strand_machine.specs.Merge.{BecomesStage, BecomesWork, EndsShort, HasTakenAnswers, IsShort, KeepsRest, TakesAnswers, end_of, merge_of};
+ghost use Rattle.strand_machine.specs.Parts.{awaited, awaited_children};
 ghost use Rattle.strand_meaning.specs.Cuts.{AreAnswersOf};
 ghost use Rattle.strand_machine.specs.Made.{resumed_as};
 ghost use Rattle.strand_machine.specs.Stops.{IsResumed, WentOn, answer_tags};
@@ -12,16 +12,16 @@ ghost use Rattle.strand_machine.specs.Tasks.{Holds, IsSound, view_of};
 ghost use Rattle.strand_machine.specs.declared.work.InstanceState.TheVariants as stage;
 
 use crate::memory::Memory;
-use crate::merge::Merge;
+use crate::merge::{Heard, merge_answer};
 use crate::parts::Parts;
 use crate::replace::set;
 use crate::stop::Resumed;
 use crate::task::Task;
-use crate::trace::{Behind, Trace};
+use crate::trace::Behind;
 use crate::work::{InstanceState, Work};
 use meet_block::Look;
 use script_grammar::Items;
-use serial_meaning::{Answer, Fault, Outcome};
+use serial_meaning::{Answer, Fault, Outcome, Value};
 use std::alloc::Global;
 use std::mem;
 use strand_family::Family;
@@ -61,38 +61,41 @@ fn go_on_stage(stage: InstanceState) -> Result<InstanceState, Memory>
 {
     match stage {
         InstanceState::AtSync(instance) => join(instance),
-        InstanceState::Running(instance) => Ok(InstanceState::Running(instance)),
         InstanceState::AtLoop(instance) => Ok(InstanceState::Running(instance)),
-        InstanceState::Returned(value) => Ok(InstanceState::Returned(value)),
-        InstanceState::Faulted(fault) => Ok(InstanceState::Faulted(fault)),
-        InstanceState::ChildFaulted(fault) => Ok(InstanceState::ChildFaulted(fault)),
+        stage => Ok(stage),
     }
 }
 
 /// What remains once a wait is over.
-fn go_on_work(work: Work) -> Result<Work, Memory>
-    ensures { IfOk result (BecomesWork (resumed_work [] []) work) }
+fn go_on_work(work: &mut Work) -> Result<(), Memory>
+    ensures { OnOk result (BecomesWork (resumed_work [] []) work.old work.new) }
 {
     match work {
-        Work::Splits(left) => Ok(Work::Splits(left)),
+        Work::Splits(_) | Work::Ends(_) => Ok(()),
         Work::Runs(stage) => {
-            let stage = go_on_stage(stage)?;
-            Ok(Work::Runs(stage))
+            let was = mem::replace(stage, InstanceState::Returned(Value::Int(0)));
+            set(stage, go_on_stage(was)?);
+            Ok(())
         }
-        Work::Over(value, _) => Ok(Work::Over(value, true)),
-        Work::Cut(ended) => Ok(Work::Cut(ended)),
+        Work::Over(_, gone_on) => {
+            *gone_on = true;
+            Ok(())
+        }
     }
 }
 
 /// Takes the answers of all awaited children, in order. Their list comes back, and keeps its room.
 fn merge_all(
-    merge: &mut Merge,
+    parts: &mut Parts,
+    heard: &mut Heard,
     alloc: Global,
     behind: Vec<Behind>,
     answers: Items<Answer>,
 ) -> Result<Items<Answer>, Memory>
-    requires { length answers ≡ length behind.items }
-    ensures takes { let heard = answer_tags answers in OnOk result (TakesAnswers (parts_of (origins heard) behind.items) answers merge.old merge.new) }
+    requires many { length answers ≡ length behind.items }
+    requires handed { parts.old.body.trace.handed ≡ [] }
+    ensures takes { OnOk result (TakesAnswers (awaited_children (origins (answer_tags answers)) behind.items) answers (merge_of parts.old heard.old) (merge_of parts.new heard.new)) }
+    ensures rest { OnOk result (KeepsRest parts.old parts.new) }
     ensures none { IfOk result (λ left. left ≡ []) }
 {
     let mut left = answers.0;
@@ -101,7 +104,7 @@ fn merge_all(
         let Some(answer) = left.pop() else {
             unreachable!()
         };
-        merge.merge_answer(alloc, part, answer)?;
+        merge_answer(parts, heard, alloc, part, answer)?;
     }
     Ok(Items(left))
 }
@@ -118,58 +121,26 @@ fn end_of(fault: Option<Fault>, by_cut: bool) -> Option<Outcome>
 }
 
 /// What is left of a task that took a cut: it ends by the first fault or cut.
-fn cut_short(parts: &mut Parts, alloc: Global, merge: Merge)
-    requires { EndsShort parts.old.body.family merge }
-    ensures short { IsShort parts.old.body.family merge parts.old.body.advanced (view_of parts.new.body parts.new.work) }
+fn cut_short(parts: &mut Parts, heard: &Heard)
+    requires ends { EndsShort parts.old.body.family (merge_of parts.old heard.now) }
+    requires handed { parts.old.body.trace.handed ≡ [] }
+    ensures short { IsShort parts.old.body.family (merge_of parts.old heard.now) parts.old.body.advanced (view_of parts.new.body parts.new.work) }
     ensures holds { Holds parts.new.body parts.new.work }
 {
-    let Merge {
-        prefix,
-        fault,
-        by_cut,
-        values,
-        work,
-        ..
-    } = merge;
-    drop((values, work));
-    let Some(outcome) = end_of(fault, by_cut) else {
+    let Some(outcome) = end_of(parts.body.trace.take_fault(), heard.by_cut) else {
         unreachable!()
     };
-    set(&mut parts.body.trace, Trace::of(alloc, prefix));
     parts.body.waiting = false;
-    set(&mut parts.work, Work::Cut(outcome));
+    set(&mut parts.work, Work::Ends(outcome));
 }
 
 /// What is left of a task that took answers, none of them a cut: it goes on.
-fn goes_on(parts: &mut Parts, alloc: Global, merge: Merge) -> Result<(), Memory>
-    ensures { OnOk result (IsWhole merge parts.old.body parts.new) }
+fn goes_on(parts: &mut Parts) -> Result<(), Memory>
+    ensures body { OnOk result (parts.new.body ≡ record parts.old.body { waiting = false }) }
+    ensures work { OnOk result (BecomesWork (resumed_work [] []) parts.old.work parts.new.work) }
 {
-    let Merge {
-        prefix,
-        fault,
-        values,
-        work,
-        ..
-    } = merge;
-    let trace = Trace {
-        prefix,
-        fault,
-        awaited: Items(Vec::new(alloc)),
-        behind: Vec::new(alloc),
-    };
-    match go_on_work(work) {
-        Ok(work) => {
-            set(&mut parts.body.trace, trace);
-            set(&mut parts.body.values, values);
-            parts.body.waiting = false;
-            set(&mut parts.work, work);
-            Ok(())
-        }
-        Err(memory) => {
-            drop((trace, values));
-            Err(memory)
-        }
-    }
+    parts.body.waiting = false;
+    go_on_work(&mut parts.work)
 }
 
 /// The task with its children's answers, whose list comes back.
@@ -178,7 +149,7 @@ pub(crate) fn go_on(
     alloc: Global,
     answers: Items<Answer>,
 ) -> Result<Items<Answer>, Memory>
-    requires sound { IsAnswered parts.old.body parts.old.work }
+    requires sound { HasTakenAnswers parts.old.body parts.old.work }
     requires tags { answer_tags answers ≡ tags parts.old.body.family.plan (awaited parts.old.body.trace.handed) }
     ensures went { OnOk result (WentOn answers (view_of parts.old.body parts.old.work) (view_of parts.new.body parts.new.work)) }
     ensures answers { OnOk result (AreAnswersOf parts.old.body.family.plan parts.old.body.trace.handed answers) }
@@ -188,36 +159,18 @@ pub(crate) fn go_on(
     laws::answers_keep_tasks();
     laws::answers_are_evaluations();
     laws::answers_end();
-    let taken = mem::replace(&mut parts.body.trace, Trace::new(alloc));
-    let values = mem::replace(&mut parts.body.values, Items(Vec::new(alloc)));
-    let work = mem::replace(&mut parts.work, Work::nothing());
-    let (prefix, fault, behind) = taken.parted();
-    let mut merge = Merge {
-        prefix,
-        fault,
-        values,
-        work,
+    let behind = parts.body.trace.take_children(alloc);
+    let mut heard = Heard {
         cut: false,
         by_cut: false,
     };
-    let left = match merge_all(&mut merge, alloc, behind, answers) {
-        Ok(left) => left,
-        Err(memory) => {
-            drop(merge);
-            return Err(memory);
-        }
-    };
-    if merge.cut {
-        cut_short(parts, alloc, merge);
+    let left = merge_all(parts, &mut heard, alloc, behind, answers)?;
+    if heard.cut {
+        cut_short(parts, &heard);
         return Ok(left);
     }
-    match goes_on(parts, alloc, merge) {
-        Ok(()) => Ok(left),
-        Err(memory) => {
-            drop(left);
-            Err(memory)
-        }
-    }
+    goes_on(parts)?;
+    Ok(left)
 }
 
 /// Looks once. Where all children have answered, the task goes on with their answers, and it is said so.
@@ -229,7 +182,7 @@ fn look_on(parts: &mut Parts, alloc: Global) -> Result<bool, Memory>
     match parts.body.family.look() {
         Look::NotYet(_) => Ok(false),
         Look::Ready => {
-            let awaited = parts.body.trace.awaited().as_slice().len() as u64;
+            let awaited = parts.body.trace.count();
             let answers = take_answers(&mut parts.body.family, alloc, awaited)?;
             drop(go_on(parts, alloc, answers)?);
             Ok(true)

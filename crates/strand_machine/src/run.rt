@@ -2,6 +2,7 @@
 ghost use Rattle.std.specs.Prelude.{◌≡◌, IfOk, OnOk};
 ghost use Rattle.strand_meaning.specs.Task.{stops_at, child_in};
 ghost use Rattle.strand_moves.specs.Moves.{effects_of};
+ghost use Rattle.strand_moves.specs.declared.effects.Effects.TheVariants as shown;
 ghost use Rattle.strand_machine.specs.Made.{IsSoundMade, made, IsRun};
 ghost use Rattle.strand_machine.specs.Effects.{shown_task, IsSoundShown};
 ghost use Rattle.strand_machine.specs.Stops.{KeepsStep, step_of};
@@ -18,7 +19,7 @@ use crate::work::{InstanceState, Work};
 use script_grammar::Boxed;
 use std::alloc::Global;
 use strand_meaning::laws;
-use strand_moves::{Effects, Instance, LoopedChild, MoveResult, SpawnedChild};
+use strand_moves::{Effects, Instance, LoopedChild, MoveResult, SpawnedChild, Spawning};
 
 /// What stands in a box.
 fn unboxed<T>(boxed: Boxed<T>) -> T
@@ -27,8 +28,32 @@ fn unboxed<T>(boxed: Boxed<T>) -> T
     Box::into_inner(boxed.0)
 }
 
+/// The spawn of a child joins the trace, and the child is handed out.
+fn show_spawn(
+    parts: &mut Parts,
+    alloc: Global,
+    instance: Instance,
+    spawning: Spawning,
+) -> Result<Passed, Memory>
+    requires { IsSoundShown parts.old.body instance (shown.Spawned spawning.event spawning.spawned) }
+    ensures step { let s = shown.Spawned spawning.event spawning.spawned in
+        IfOk result (λ passed. step_of (made parts.new passed) ≡ stops_at (child_in (effects_of s)) (shown_task parts.old.body instance s)) }
+    ensures keeps { IfOk result (λ passed. KeepsStep (view_of parts.old.body (work.Runs (stage.Running instance))) (made parts.new passed)) }
+    ensures sound { IfOk result (IsSoundMade parts.new) }
+{
+    let Spawning { event, spawned } = spawning;
+    parts.body.trace.emit(alloc, event)?;
+    let SpawnedChild {
+        child,
+        height,
+        target,
+    } = spawned;
+    let place = Destination::Spawned(height, target);
+    let next = Work::Runs(InstanceState::Running(instance));
+    spawn(parts, alloc, child, place, next)
+}
+
 /// What a move showed joins the trace; a child is handed out.
-#[inline(always)]
 pub(crate) fn show(
     parts: &mut Parts,
     alloc: Global,
@@ -53,15 +78,8 @@ pub(crate) fn show(
             Ok(pass(parts, Work::Runs(InstanceState::AtSync(instance))))
         }
         Effects::Spawned { event, spawned } => {
-            parts.body.trace.emit(alloc, event)?;
-            let SpawnedChild {
-                child,
-                height,
-                target,
-            } = unboxed(spawned);
-            let place = Destination::Spawned(height, target);
-            let next = Work::Runs(InstanceState::Running(instance));
-            spawn(parts, alloc, child, place, next)
+            let spawned = unboxed(spawned);
+            show_spawn(parts, alloc, instance, Spawning { event, spawned })
         }
         Effects::Looped { event, looped } => {
             parts.body.trace.emit(alloc, event)?;
@@ -83,7 +101,19 @@ pub(crate) fn go(parts: &mut Parts, alloc: Global, mut instance: Instance) -> Re
     laws::moves_fall();
     loop {
         parts.body.advanced = true;
-        match instance.run(alloc, parts.body.family.plan(), &mut parts.body.trace) {
+        let plan = parts.body.family.plan();
+        let next = match instance.row(alloc, plan, &mut parts.body.trace) {
+            Ok(next) => next,
+            Err(memory) => return Err(memory.into()),
+        };
+        if let Some(statement) = next {
+            match instance.spawn(alloc, plan, statement) {
+                Ok(Some(spawning)) => return show_spawn(parts, alloc, instance, spawning),
+                Ok(None) => {}
+                Err(memory) => return Err(memory.into()),
+            }
+        }
+        match instance.make(alloc, plan, next) {
             Ok(MoveResult::Went(Effects::Nothing)) => {}
             Ok(MoveResult::Went(Effects::Emitted(event))) => parts.body.trace.emit(alloc, event)?,
             Ok(MoveResult::Went(Effects::Synced(event))) => {

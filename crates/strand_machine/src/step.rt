@@ -100,7 +100,6 @@ pub(crate) fn run(parts: &mut Parts, alloc: Global, stage: InstanceState) -> Res
 }
 
 /// A move of the task in place, or its stop, by what remains.
-#[inline(always)]
 pub(crate) fn pass_with(parts: &mut Parts, alloc: Global, work: Work) -> Result<Passed, Memory>
     requires { IsSound parts.old.body work }
     ensures step { IfOk result (λ passed. GoesOn (view_of parts.old.body work) (made parts.new passed)) }
@@ -110,7 +109,7 @@ pub(crate) fn pass_with(parts: &mut Parts, alloc: Global, work: Work) -> Result<
         Work::Splits(left) => split(parts, alloc, left),
         Work::Runs(stage) => run(parts, alloc, stage),
         Work::Over(value, gone_on) => end_loop(parts, alloc, value, gone_on),
-        Work::Cut(_) => unreachable!(),
+        Work::Ends(_) => unreachable!(),
     }
 }
 
@@ -120,6 +119,10 @@ fn pass_on(parts: &mut Parts, alloc: Global) -> Result<Passed, Memory>
     ensures step { IfOk result (λ passed. GoesOn (view_of parts.old.body parts.old.work) (made parts.new passed)) }
     ensures sound { IfOk result (IsSoundMade parts.new) }
 {
+    // most moves are those of an instance
+    if let Some(instance) = parts.work.take_running() {
+        return go(parts, alloc, instance);
+    }
     let work = mem::replace(&mut parts.work, Work::nothing());
     pass_with(parts, alloc, work)
 }

@@ -13,6 +13,17 @@ pub enum Stop {
     Done { answer: Answer, give: Give<Answer> },
 }
 
+/// Where a task stopped. One that has ended keeps what it answers until it is asked for it, so that this stays small.
+#[derive(Drop)]
+pub enum Paused {
+    /// It handed out a child, which may run before, after or beside the rest.
+    Spawn { child: Task, rest: Task },
+    /// It waits for its children.
+    Wait { rest: Task },
+    /// It has ended.
+    Ended { rest: Task },
+}
+
 /// A move, or a stop.
 #[derive(Drop)]
 pub(crate) enum MoveOrStop {

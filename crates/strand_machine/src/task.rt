@@ -1,4 +1,4 @@
-ghost use Rattle.std.specs.Prelude.{◌≡◌, ◌<◌, IfOk, not, length};
+ghost use Rattle.std.specs.Prelude.{◌≡◌, ◌<◌, IfOk, not};
 ghost use Rattle.std.specs.Arc.{arc_value};
 ghost use Rattle.serial_meaning.specs.Laws.{IsOriginOf};
 ghost use Rattle.strand_moves.specs.Moves.{IsTrailOf};
@@ -9,7 +9,6 @@ use crate::body::Body;
 use crate::memory::Memory;
 use crate::origin::{share_origin, trail_of};
 use crate::parts::Parts;
-use crate::trace::Trace;
 use crate::work::begun_work;
 use meet_block::Give;
 use script_grammar::Items;
@@ -98,18 +97,8 @@ impl Task {
                 return Err(memory.into());
             }
         };
-        let parts = Parts {
-            body: Body {
-                family,
-                trace: Trace::new(alloc),
-                values: Items(Vec::new(alloc)),
-                waiting: false,
-                advanced: false,
-            },
-            work,
-        };
-        let parts = Box::new(alloc, parts)?;
-        Ok(Task { parts })
+        let body = Body::new(alloc, family);
+        Parts::boxed(alloc, Parts { body, work })
     }
 
     /// What the task was begun as.

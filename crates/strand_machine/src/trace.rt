@@ -1,12 +1,14 @@
-ghost use Rattle.std.specs.Prelude.{◌≡◌, ◌∷◌, ◌++◌, [], None, IfOk, OnOk, IsTrue, ◌↔◌};
+ghost use Rattle.std.specs.Prelude.{◌≡◌, ◌∷◌, ◌++◌, [], None, IfOk, OnOk, IsTrue, ◌↔◌, length};
 ghost use Rattle.strand_meaning.specs.Trace.{emit, add_child, no_trace};
 
 use crate::destination::Destination;
 use crate::memory::Memory;
+use crate::replace::set;
 use script_grammar::Items;
-use serial_meaning::{Event, Fault, Origin, Out};
+use serial_meaning::{Event, Fault, Origin, Out, Outcome};
 use std::alloc::Global;
 use std::marker::Model;
+use std::mem;
 use strand_moves::EventSink;
 
 /// Where a child's value goes, and the task's own events after it, up to the next child.
@@ -29,17 +31,18 @@ pub(crate) struct Trace {
 impl Model for Trace {
     ghost use Rattle.std.specs.Prelude.{◌≡◌, length};
     ghost use Rattle.strand_meaning.specs.Trace.{Trace as TraceView};
-    ghost use Rattle.strand_machine.specs.Parts.{parts_of};
+    ghost use Rattle.strand_machine.specs.Parts.{awaited_children};
 
     ghost Value = { TraceView };
 
-    ghost view = { λ p. record { prefix = p.prefix; fault = p.fault; handed = parts_of p.awaited p.behind.items } };
+    ghost view = { λ p. record { prefix = p.prefix; fault = p.fault; handed = awaited_children p.awaited p.behind.items } };
 
     ghost invariant = { λ p. length p.awaited ≡ length p.behind.items };
 }
 
 impl Trace {
-    ghost use Rattle.strand_machine.specs.Parts.{IsParted, awaited, place_of};
+    ghost use Rattle.strand_machine.specs.Parts.{IsParted, awaited, destination_of};
+    ghost use Rattle.strand_machine.specs.Tasks.{ended_by};
 
     /// Nothing yet.
     pub fn new(alloc: Global) -> Trace
@@ -53,24 +56,20 @@ impl Trace {
         }
     }
 
-    /// These events alone.
-    pub fn of(alloc: Global, prefix: Out) -> Trace
-        ensures { result ≡ record { prefix = prefix; fault = None; handed = [] } }
-    {
-        Trace {
-            prefix,
-            fault: None,
-            awaited: Items(Vec::new(alloc)),
-            behind: Vec::new(alloc),
-        }
-    }
-
     /// The children whose answers aren't taken, in order.
     #[tactic(auto, using(crate::proofs::Moves::Handed::awaited_parts))]
     pub fn awaited(&self) -> &Items<Origin>
         ensures { result.now ≡ awaited self.now.handed }
     {
         &self.awaited
+    }
+
+    /// How many children there are whose answers aren't taken.
+    #[tactic(auto, using(crate::proofs::Moves::Handed::awaited_parts))]
+    pub fn count(&self) -> u64
+        ensures { result ≡ length (awaited self.now.handed) }
+    {
+        self.behind.len() as u64
     }
 
     /// One more event of the task's own.
@@ -94,7 +93,7 @@ impl Trace {
     /// One more child.
     #[tactic(auto, using(crate::proofs::Moves::Handed::parts_more))]
     pub fn add_child(&mut self, child: Origin, place: Destination) -> Result<(), Memory>
-        ensures { OnOk result (self.new ≡ add_child child (place_of place) self.old) }
+        ensures { OnOk result (self.new ≡ add_child child (destination_of place) self.old) }
     {
         let room = if self.behind.is_empty() {
             // most tasks hand out one or two children before they wait, and a list would begin with room for four
@@ -123,26 +122,44 @@ impl Trace {
         Ok(())
     }
 
+    /// How a task with this trace ends, which else would end so: by the fault in it, if there is one.
+    pub fn end(&mut self, outcome: Outcome) -> Outcome
+        ensures ended { result ≡ ended_by self.old.fault outcome }
+        ensures prefix { self.new.prefix ≡ self.old.prefix }
+    {
+        match self.fault.take() {
+            None => outcome,
+            Some(fault) => {
+                drop(outcome);
+                Outcome::Fault(fault)
+            }
+        }
+    }
+
     /// Whether no answer is awaited.
     pub fn is_alone(&self) -> bool
         ensures { IsTrue result ↔ (self.now.handed ≡ []) }
     {
-        self.awaited.as_slice().is_empty()
+        self.behind.is_empty()
     }
 
-    /// The events before the first child, the fault that ends them, if there is one, and what stands behind each child.
+    /// Takes the children out, with what stands behind each.
     #[inline(always)]
-    pub fn parted(self) -> (Out, Option<Fault>, Vec<Behind>)
-        ensures { IsParted self result.0 result.1 result.2.items }
+    pub fn take_children(&mut self, alloc: Global) -> Vec<Behind>
+        ensures parted { IsParted self.old self.old.prefix self.old.fault result.items }
+        ensures rest { self.new ≡ record self.old { handed = [] } }
     {
-        let Trace {
-            prefix,
-            fault,
-            awaited,
-            behind,
-        } = self;
-        drop(awaited);
-        (prefix, fault, behind)
+        set(&mut self.awaited, Items(Vec::new(alloc)));
+        mem::replace(&mut self.behind, Vec::new(alloc))
+    }
+
+    /// Takes the fault out, if there is one.
+    #[inline(always)]
+    pub fn take_fault(&mut self) -> Option<Fault>
+        ensures fault { result ≡ self.old.fault }
+        ensures rest { self.new ≡ record self.old { fault = None } }
+    {
+        self.fault.take()
     }
 
     /// The events before the first child, and the fault that ends them, if there is one.

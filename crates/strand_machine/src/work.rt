@@ -1,5 +1,5 @@
 // What remains of a task.
-ghost use Rattle.std.specs.Prelude.{◌≡◌, ◌∷◌, ◌++◌, ◌<◌, [], IfOk, length, pos, ◌+ℤ◌};
+ghost use Rattle.std.specs.Prelude.{◌≡◌, ◌∷◌, ◌++◌, ◌<◌, [], IfNone, IfOk, IfSome, length, pos, ◌+ℤ◌};
 ghost use Rattle.dotmix.specs.Trails.{FitsGamma};
 ghost use Rattle.serial_meaning.specs.declared.origin.Origin.{Origin};
 ghost use Rattle.serial_meaning.specs.declared.value.Value.TheVariants.{Int};
@@ -9,12 +9,15 @@ ghost use Rattle.strand_meaning.specs.Machine.{begun};
 ghost use Rattle.strand_meaning.specs.Task.{begun_stage, begun_work, begins_last};
 ghost use Rattle.strand_moves.specs.Moves.{IsTrailOf};
 ghost use Rattle.strand_machine.specs.Tasks.{stage_of, work_of, StandsAt, WorksAt};
+ghost use Rattle.strand_machine.specs.declared.work.InstanceState.TheVariants as stage;
+ghost use Rattle.strand_machine.specs.declared.work.Work.TheVariants as work;
 
 use crate::memory::Memory;
 use dotmix::Trail;
 use loop_range::IterRange;
 use serial_meaning::{Fault, Origin, Outcome, Plan, Value};
 use std::alloc::Global;
+use std::mem;
 use strand_family::iteration_args;
 use strand_meaning::laws;
 use strand_moves::Instance;
@@ -52,14 +55,29 @@ pub(crate) enum Work {
     Runs(InstanceState),
     /// Nothing of a loop whose last iteration gave this value. It is known whether the task has gone on from the wait at its end.
     Over(Value, bool),
-    /// Nothing of a task that took a cut for an answer. It ends so.
-    Cut(Outcome),
+    /// Nothing of a task that has ended, or that took a cut for an answer. It ends so.
+    Ends(Outcome),
 }
 
 impl Work {
     /// What stands in a task's parts while what remains is taken out of them.
     pub fn nothing() -> Work {
         Work::Over(Value::Int(0), true)
+    }
+
+    /// Takes out an instance that goes on, where one remains.
+    #[inline(always)]
+    pub fn take_running(&mut self) -> Option<Instance>
+        ensures some { IfSome result (λ i. self.old ≡ work.Runs (stage.Running i)) }
+        ensures none { IfNone result (self.new ≡ self.old) }
+    {
+        if !matches!(self, Work::Runs(InstanceState::Running(_))) {
+            return None;
+        }
+        match mem::replace(self, Work::nothing()) {
+            Work::Runs(InstanceState::Running(instance)) => Some(instance),
+            _ => unreachable!(),
+        }
     }
 }
 

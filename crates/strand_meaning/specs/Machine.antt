@@ -75,19 +75,19 @@ handing plan place = record {
 abbrev pub inside : BlockMeaning Effect Exit Bool
 inside here calls sts s = stopped (Inside here calls sts s)
 
-abbrev pub place_of : ℕ → Act-F Act Stmt → Destination
-place_of height (act.Let x r) = Spawned height (Some x)
-place_of height (act.Array x n) = Spawned height None
-place_of height (act.Set x r) = Spawned height (Some x)
-place_of height (act.Store x i e) = Spawned height None
-place_of height (act.Spawn c) = Spawned height None
-place_of height (act.Call c) = Spawned height None
-place_of height act.Sync = Spawned height None
-place_of height (act.Print e) = Spawned height None
-place_of height (act.If e a b) = Spawned height None
-place_of height (act.While e a) = Spawned height None
-place_of height (act.Pfor x lo hi target c) = Looped target
-place_of height (act.Scope a) = Spawned height None
+abbrev pub destination_of : ℕ → Act-F Act Stmt → Destination
+destination_of height (act.Let x r) = Spawned height (Some x)
+destination_of height (act.Array x n) = Spawned height None
+destination_of height (act.Set x r) = Spawned height (Some x)
+destination_of height (act.Store x i e) = Spawned height None
+destination_of height (act.Spawn c) = Spawned height None
+destination_of height (act.Call c) = Spawned height None
+destination_of height act.Sync = Spawned height None
+destination_of height (act.Print e) = Spawned height None
+destination_of height (act.If e a b) = Spawned height None
+destination_of height (act.While e a) = Spawned height None
+destination_of height (act.Pfor x lo hi target c) = Looped target
+destination_of height (act.Scope a) = Spawned height None
 
 -- The stack
 
@@ -210,7 +210,7 @@ module _ (plan : PlanView) where
 
   module _ (path : List ℕ) where
     abbrev pub act_run : Machine → Stmt → Act-F Act Stmt → Run Effect Exit (State Bool)
-    act_run m st a = statement (handing plan (place_of (length m.below) a)) plan (here_of path m) inside (length m.below) st (state_of m)
+    act_run m st a = statement (handing plan (destination_of (length m.below) a)) plan (here_of path m) inside (length m.below) st (state_of m)
 
     -- the step of a return and the sync that it implies
     abbrev pub return_run : Machine → Run Effect Exit (State Bool)

@@ -24,7 +24,7 @@ act_of st = out-Act (out-Stmt st).act
 pub data HasBlock (st : Stmt) (before : check.Names) : List Stmt → check.Names → List Stmt → Type 0 where
   Then : (e : Expr) (yes no : List Stmt) → act_of st ≡ act.If e yes no → HasBlock st before yes before []
   Else : (e : Expr) (yes no : List Stmt) → act_of st ≡ act.If e yes no → HasBlock st before no before []
-  Turn : (e : Expr) (body : List Stmt) → act_of st ≡ act.While e body → HasBlock st before body (both before (after body before)) (st ∷ [])
+  LoopBody : (e : Expr) (body : List Stmt) → act_of st ≡ act.While e body → HasBlock st before body (both before (after body before)) (st ∷ [])
 
 -- Validity judges these statements from a set, and comes to those that are left, with what comes after the blocks that they stand in; `now` is
 -- pending before them.

@@ -70,14 +70,14 @@ AreSound plan parts target (caller ∷ below) =
 -- Stages
 
 -- a child that was spawned by a frame that there is, or a part of a loop
-abbrev pub IsPlace : ℕ → Destination → Type 0
-IsPlace height (Spawned owner target) = owner ≤ height
-IsPlace height (Looped target) = ⊥
-IsPlace height Half = Unit {0}
+abbrev pub IsDestination : ℕ → Destination → Type 0
+IsDestination height (Spawned owner target) = owner ≤ height
+IsDestination height (Looped target) = ⊥
+IsDestination height Half = Unit {0}
 
-abbrev pub ArePlaces : ℕ → List AwaitedChild → Type 0
-ArePlaces height [] = Unit {0}
-ArePlaces height (p ∷ ps) = IsPlace height p.place × ArePlaces height ps
+abbrev pub AreDestinations : ℕ → List AwaitedChild → Type 0
+AreDestinations height [] = Unit {0}
+AreDestinations height (p ∷ ps) = IsDestination height p.place × AreDestinations height ps
 
 abbrev pub IsHalf : Destination → Type 0
 IsHalf (Spawned owner target) = ⊥
@@ -93,11 +93,11 @@ abbrev pub behind_sync : Frame → Frame
 behind_sync a = record a { faulted = None }
 
 abbrev pub IsSoundStage : PlanView → List AwaitedChild → InstanceState → Type 0
-IsSoundStage plan parts (Running m) = ArePlaces (length m.below) parts × IsSound plan parts (length m.below) m.top × AreSound plan parts m.top.target m.below
-IsSoundStage plan parts (AtSync m) = ArePlaces (length m.below) parts × IsSound plan [] (length m.below) (behind_sync m.top) × AreSound plan parts m.top.target m.below
+IsSoundStage plan parts (Running m) = AreDestinations (length m.below) parts × IsSound plan parts (length m.below) m.top × AreSound plan parts m.top.target m.below
+IsSoundStage plan parts (AtSync m) = AreDestinations (length m.below) parts × IsSound plan [] (length m.below) (behind_sync m.top) × AreSound plan parts m.top.target m.below
 IsSoundStage plan parts (AtLoop m) = IsSound plan parts (length m.below) m.top × AreSound plan parts m.top.target m.below
 IsSoundStage plan parts (Ended (Ok v)) = AreHalves parts
-IsSoundStage plan parts (Ended (Err (Own f))) = (height : ℕ) × ArePlaces height parts
+IsSoundStage plan parts (Ended (Err (Own f))) = (height : ℕ) × AreDestinations height parts
 IsSoundStage plan parts (Ended (Err (ChildFaulted f))) = parts ≡ []
 
 -- What an instance passed in the open tree, and what remains of it.

@@ -1,4 +1,5 @@
 pub mod BelowLemmas
 pub mod CallLemmas
+pub mod EndMoves
 pub mod Ending
 pub mod ReplacedLemmas

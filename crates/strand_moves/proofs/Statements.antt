@@ -5,3 +5,4 @@ pub mod LoopEquations
 pub mod Paying
 pub mod QuickLemmas
 pub mod Going
+pub mod Handing

@@ -21,12 +21,12 @@ use Rattle.strand_moves.specs.declared.running.Running.{Running}
 use Rattle.strand_moves.specs.declared.effects.MoveResult.{MoveResult}
 use Rattle.strand_moves.specs.Cursors.{left_of}
 use Rattle.strand_moves.specs.Running.{IsInstance, machine_of, open_scopes, path_of, present_of}
-use Rattle.strand_moves.specs.Moves.{acted, Makes, strand_of}
+use Rattle.strand_moves.specs.Moves.{acted, Makes, present_pedigree}
 
 -- the call shows and leaves what this act does, and a fault is one of this strand
 abbrev pub Acts : PlanView → Stmt → Act-F Act Stmt → Running → Running → Result MoveResult values.Halt → Type 0
 Acts plan st a old new result =
-    Makes (acted plan (present_of old) (machine_of plan old) st a) (strand_of (present_of old) (machine_of plan old)) (machine_of plan new) result
+    Makes (acted plan (present_of old) (machine_of plan old) st a) (present_pedigree (present_of old) (machine_of plan old)) (machine_of plan new) result
 
 -- the step, the rank, and whether it may still be a rank
 abbrev pub Costs : Running → Running → Type 0
@@ -44,10 +44,10 @@ pub record BeginsOne (old new : Running) : Type 0 where
   pub frames : length new.below.items ≤ length old.below.items + 1
 
 -- Where there was memory for it, they stay.
-abbrev pub Stands : Running → Running → Result MoveResult values.Halt → Type 0
-Stands old new (Ok moved) = Stays old new
-Stands old new (Err (halt.Fault kind)) = Stays old new
-Stands old new (Err halt.Memory) = Unit {0}
+abbrev pub StaysUnlessMemory : Running → Running → Result MoveResult values.Halt → Type 0
+StaysUnlessMemory old new (Ok moved) = Stays old new
+StaysUnlessMemory old new (Err (halt.Fault kind)) = Stays old new
+StaysUnlessMemory old new (Err halt.Memory) = Unit {0}
 
 -- one scope more is open, in which it goes on
 pub record GoesIn (plan : PlanView) (old new : Running) : Type 0 where

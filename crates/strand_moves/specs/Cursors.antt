@@ -5,29 +5,29 @@ use Rattle.script_grammar.specs.declared.tree.Act.{Act, out-Act}
 use Rattle.script_grammar.specs.declared.tree.Act.TheOpen as act
 use Rattle.script_grammar.specs.declared.tree.Act.TheOpen.{Act-F}
 use Rattle.strand_moves.specs.declared.cursor.Branch.{Branch}
-use Rattle.strand_moves.specs.declared.cursor.Branch.TheVariants as part
+use Rattle.strand_moves.specs.declared.cursor.Branch.TheVariants as branch
 use Rattle.strand_moves.specs.declared.cursor.Entered.{Entered}
 use Rattle.strand_moves.specs.declared.cursor.Cursor.{Cursor}
 
 -- a block of a statement, and no statements where it has no such block
-abbrev pub part_of : Act-F Act Stmt → Branch → List Stmt
-part_of (act.If e a b) part.Yes = a
-part_of (act.If e a b) part.No = b
-part_of (act.While e a) part.Turn = a
-part_of _ p = []
+abbrev pub branch_of : Act-F Act Stmt → Branch → List Stmt
+branch_of (act.If e a b) branch.Yes = a
+branch_of (act.If e a b) branch.No = b
+branch_of (act.While e a) branch.LoopBody = a
+branch_of _ p = []
 
-abbrev pub part_at : Option Stmt → Branch → List Stmt
-part_at None p = []
-part_at (Some st) p = part_of (out-Act (out-Stmt st).act) p
+abbrev pub branch_at : Option Stmt → Branch → List Stmt
+branch_at None p = []
+branch_at (Some st) p = branch_of (out-Act (out-Stmt st).act) p
 
 -- where the statement stands that was entered: the enclosing block goes on at a loop itself, and after an `if`
 abbrev pub place_before : Branch → ℕ → ℕ
-place_before part.Yes back = back - 1
-place_before part.No back = back - 1
-place_before part.Turn back = back
+place_before branch.Yes back = back - 1
+place_before branch.No back = back - 1
+place_before branch.LoopBody back = back
 
 abbrev pub block_in : List Stmt → Entered → List Stmt
-block_in block e = part_at (slice_get block (place_before e.part e.back)) e.part
+block_in block e = branch_at (slice_get block (place_before e.branch e.back)) e.branch
 
 -- the innermost block
 abbrev pub block_of : List Stmt → List Entered → List Stmt
@@ -62,6 +62,6 @@ pub record IsBehind (body : List Stmt) (c : Cursor) (st : Stmt) : Type 0 where
   pub there : slice_get (block_of body c.entered.items) (c.next - 1) ≡ Some st
 
 -- the next statement and those after it
-pub record Passes (body : List Stmt) (old new : Cursor) (st : Stmt) : Type 0 where
+pub record PassesStatement (body : List Stmt) (old new : Cursor) (st : Stmt) : Type 0 where
   pub first : left_of body old ≡ st ∷ left_of body new
   pub behind : IsBehind body new st

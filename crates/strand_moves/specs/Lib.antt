@@ -5,3 +5,4 @@ pub mod Moves
 pub mod Quick
 pub mod Rows
 pub mod Running
+pub mod Spawns

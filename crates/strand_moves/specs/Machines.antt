@@ -1,11 +1,14 @@
 -- What an instance is in the words of the strand's meaning: what stands in its box.
-use Rattle.std.specs.Prelude.{ℕ, List}
+use Rattle.std.specs.Prelude.{ℕ, List, Option}
+use Rattle.script_grammar.specs.declared.tree.Stmt.{Stmt}
 use Rattle.serial_meaning.specs.Plan.{PlanView}
 use Rattle.serial_meaning.specs.declared.event.Event.{Event}
 use Rattle.strand_meaning.specs.Machine as meaning
 use Rattle.strand_moves.specs.declared.instance.Instance.{Instance}
 use Rattle.strand_moves.specs.Rows as rows
 use Rattle.strand_moves.specs.Running as running
+use Rattle.strand_moves.specs.Spawns as spawns
+use Rattle.strand_moves.specs.declared.effects.Spawning.{Spawning}
 use Rattle.strand_moves.specs.declared.effects.MoveResult.{MoveResult}
 
 abbrev pub machine_of : PlanView → Instance → meaning.Machine
@@ -17,6 +20,19 @@ path_of i = running.path_of i.running.value
 -- An instance of this plan.
 abbrev pub IsInstance : PlanView → Instance → Type 0
 IsInstance plan i = running.IsInstance plan i.running.value
+
+-- Moves in a row that showed nothing, or an event, which the sink took; the cursor then passed its next statement, if one was left.
+abbrev pub Comes : {S : Type 0} → (Event → S → S) → PlanView → Instance → S → Instance → S → Option Stmt → Type 0
+Comes after plan i start now sent next = rows.Comes after plan i.running.value start now.running.value sent next
+
+abbrev pub HasPassedStatement : PlanView → Instance → Option Stmt → Type 0
+HasPassedStatement plan i next = rows.HasPassedStatement plan i.running.value next
+
+abbrev pub unpassed : PlanView → Instance → Option Stmt → meaning.Machine
+unpassed plan i next = rows.unpassed plan i.running.value next
+
+abbrev pub HasSpawned : PlanView → Instance → Option Stmt → Instance → Option Spawning → Type 0
+HasSpawned plan old next new done = spawns.HasSpawned plan old.running.value next new.running.value done
 
 -- Moves in a row that showed nothing, or an event, which the sink took; and one more.
 abbrev pub RunsOn : {S : Type 0} → (Event → S → S) → PlanView → Instance → S → MoveResult → Instance → S → Type 0

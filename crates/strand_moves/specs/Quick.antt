@@ -1,5 +1,5 @@
 -- Moves that show nothing, or an event alone.
-use Rattle.std.specs.Prelude.{◌≡◌, Bool, true, false, [], Result, Ok, Err}
+use Rattle.std.specs.Prelude.{◌≡◌, ◌+◌, ◌*◌, ◌<◌, ◌⊎◌, Bool, true, false, [], Option, Some, None, Result, Ok, Err, length}
 use Rattle.script_grammar.specs.declared.tree.Right.{Right}
 use Rattle.script_grammar.specs.declared.tree.Right.TheVariants as right
 use Rattle.script_grammar.specs.declared.tree.Stmt.{Stmt, out-Stmt}
@@ -10,16 +10,18 @@ use Rattle.serial_meaning.specs.Runs.{Run}
 use Rattle.serial_meaning.specs.Plan.{PlanView}
 use Rattle.serial_meaning.specs.declared.event.Event.{Event}
 use Rattle.serial_meaning.specs.declared.event.Fault.{Fault}
-use Rattle.strand_meaning.specs.Machine.{Effect, Reached}
+use Rattle.strand_meaning.specs.Machine.{Effect, Reached, move}
 use Rattle.strand_values.specs.declared.halt.Halt as values
 use Rattle.strand_values.specs.declared.halt.Halt.TheVariants as halt
 use Rattle.strand_moves.specs.declared.running.Running.{Running}
 use Rattle.strand_moves.specs.declared.effects.MoveResult.{MoveResult}
 use Rattle.strand_moves.specs.declared.effects.MoveResult.TheVariants as moved
 use Rattle.strand_moves.specs.declared.effects.Effects.TheVariants as shown
-use Rattle.strand_moves.specs.Acts.{BeginsOne, Stays}
+use Rattle.strand_moves.specs.declared.quick.Form.{Form}
+use Rattle.strand_moves.specs.declared.quick.Form.TheVariants as form
+use Rattle.strand_moves.specs.Acts.{BeginsOne, Costs, Stays}
 use Rattle.strand_moves.specs.Cursors.{IsBehind}
-use Rattle.strand_moves.specs.Running.{machine_of, present_of, text_of}
+use Rattle.strand_moves.specs.Running.{IsInstance, machine_of, path_of, present_of, statements_of}
 use Rattle.strand_moves.specs.Moves.{acted, run_of}
 
 -- what was done without showing anything, as a move
@@ -37,6 +39,12 @@ IsWent (Err halt.Memory) went = ⊥
 abbrev pub emitted : Result Event values.Halt → Result MoveResult values.Halt
 emitted (Ok e) = Ok (moved.Went (shown.Emitted e))
 emitted (Err h) = Err h
+
+-- what showed an event or nothing, as a move
+abbrev pub told : Result (Option Event) values.Halt → Result MoveResult values.Halt
+told (Ok None) = Ok (moved.Went shown.Nothing)
+told (Ok (Some e)) = Ok (moved.Went (shown.Emitted e))
+told (Err h) = Err h
 
 -- whether an event was shown, which the sink then took; want of memory is no answer
 abbrev pub IsEmittedTo : {S : Type 0} → (Event → S → S) → Result Event values.Halt → S → S → Bool → Type 0
@@ -79,11 +87,11 @@ IsDone st a old new false = (new ≡ old) × ((plan : PlanView) → is_plain a �
 -- The same of the statement after which the cursor stands, and whose step is paid.
 abbrev pub IsQuiet : Stmt → Running → Running → Bool → Type 0
 IsQuiet st old new true =
-    (plan : PlanView) → IsBehind (text_of plan old.top) old.top.cursor st →
+    (plan : PlanView) → IsBehind (statements_of plan old.top) old.top.cursor st →
     acted plan (present_of old) (machine_of plan old) st (out-Act (out-Stmt st).act) ≡ run_of (moved.Went shown.Nothing) (machine_of plan new)
 IsQuiet st old new false =
     (new ≡ old)
-    × ((plan : PlanView) → IsBehind (text_of plan old.top) old.top.cursor st → is_plain (out-Act (out-Stmt st).act) ≡ true →
+    × ((plan : PlanView) → IsBehind (statements_of plan old.top) old.top.cursor st → is_plain (out-Act (out-Stmt st).act) ≡ true →
     ByFault (acted plan (present_of old) (machine_of plan old) st (out-Act (out-Stmt st).act)))
 
 -- An emitting statement draws, makes an object, or prints. It shows an event, and begins no function.
@@ -127,6 +135,34 @@ pub record StaysThere (old new : Running) : Type 0 where
   pub function : new.top.function ≡ old.top.function
   pub levels : new.top.levels.items ≡ old.top.levels.items
   pub steps : new.steps ≡ old.steps
+
+-- the innermost frame stands where it stood, and no step is paid
+pub record IsThere (old new : Running) : Type 0 where
+  pub there : StaysThere old new
+  pub cursor : new.top.cursor ≡ old.top.cursor
+  pub stays : Stays old new
+  pub few : Costs old new
+
+-- A statement whose step is paid was done by the call of this form. Or its step was taken back, and nothing else changed.
+abbrev pub HasGone : {S : Type 0} → (Event → S → S) → PlanView → Stmt → Running → S → Running → S → Form → Type 0
+HasGone after plan st old from new to form.Emitting = HasEmitted after plan st (out-Act (out-Stmt st).act) old from new to true × IsThere old new
+HasGone after plan st old from new to form.Calling = HasCalled plan st (out-Act (out-Stmt st).act) old new true × (to ≡ from) × Costs old new
+HasGone after plan st old from new to form.Other = (new ≡ record old { steps = old.steps + 1 }) × (to ≡ from)
+
+-- A move that showed nothing, or an event, which the sink took.
+abbrev pub IsSentMove : {S : Type 0} → (Event → S → S) → PlanView → Running → S → Running → S → Type 0
+IsSentMove after plan old from new to =
+    ((move plan (path_of old) (machine_of plan old) ≡ run_of (moved.Went shown.Nothing) (machine_of plan new)) × (to ≡ from))
+    ⊎ ((e : Event) × (move plan (path_of old) (machine_of plan old) ≡ run_of (moved.Went (shown.Emitted e)) (machine_of plan new)) × (to ≡ after e from))
+
+-- One step less is left at least, or one frame.
+abbrev pub Shortens : Running → Running → Type 0
+Shortens old new = 2 * new.steps + length new.below.items < 2 * old.steps + length old.below.items
+
+-- A frame made a move of its end, after which the instance goes on. Or nothing changed.
+abbrev pub EndsFrame : {S : Type 0} → (Event → S → S) → PlanView → Running → S → Running → S → Bool → Type 0
+EndsFrame after plan old from new to true = IsSentMove after plan old from new to × IsInstance plan new × (path_of new ≡ path_of old) × Shortens old new
+EndsFrame after plan old from new to false = (new ≡ old) × (to ≡ from)
 
 -- an `if` or a `while`
 abbrev pub is_fork : Act-F Act Stmt → Bool

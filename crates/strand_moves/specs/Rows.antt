@@ -9,9 +9,9 @@ use Rattle.strand_moves.specs.declared.running.Running.{Running}
 use Rattle.strand_moves.specs.declared.effects.MoveResult.{MoveResult}
 use Rattle.strand_moves.specs.declared.effects.MoveResult.TheVariants as moved
 use Rattle.strand_moves.specs.declared.effects.Effects.TheVariants as shown
-use Rattle.strand_moves.specs.Cursors.{IsBehind, left_of, Passes}
+use Rattle.strand_moves.specs.Cursors.{IsBehind, left_of, PassesStatement}
 use Rattle.strand_moves.specs.Moves.{run_of}
-use Rattle.strand_moves.specs.Running.{IsInstance, machine_of, path_of, text_of}
+use Rattle.strand_moves.specs.Running.{IsInstance, machine_of, path_of, statements_of}
 
 -- They lead from the first of these instances to the other. A sink takes the events that they show.
 pub data Row {S : Type 0} (after : Event → S → S) (plan : PlanView) (first : Running) (start : S) : Running → S → Type 0 where
@@ -28,14 +28,14 @@ pub record RunsOn {S : Type 0} (after : Event → S → S) (plan : PlanView) (fi
   pub last : move plan (path_of before) (machine_of plan before) ≡ run_of m (machine_of plan now)
 
 -- the statement after which a cursor stands that passed it, where one was left
-abbrev pub IsNext : List Stmt → Cursor → Cursor → Option Stmt → Type 0
-IsNext body old new None = (left_of body old ≡ []) × (left_of body new ≡ [])
-IsNext body old new (Some st) = Passes body old new st
+abbrev pub IsNextStatement : List Stmt → Cursor → Cursor → Option Stmt → Type 0
+IsNextStatement body old new None = (left_of body old ≡ []) × (left_of body new ≡ [])
+IsNextStatement body old new (Some st) = PassesStatement body old new st
 
 -- What holds where the cursor has just passed this statement, or where none was left.
-abbrev pub HasPassed : PlanView → Running → Option Stmt → Type 0
-HasPassed plan i None = left_of (text_of plan i.top) i.top.cursor ≡ []
-HasPassed plan i (Some st) = (i.leaving ≡ false) × IsBehind (text_of plan i.top) i.top.cursor st
+abbrev pub HasPassedStatement : PlanView → Running → Option Stmt → Type 0
+HasPassedStatement plan i None = left_of (statements_of plan i.top) i.top.cursor ≡ []
+HasPassedStatement plan i (Some st) = (i.leaving ≡ false) × IsBehind (statements_of plan i.top) i.top.cursor st
 
 abbrev pub with_next : Option Stmt → List Stmt → List Stmt
 with_next None left = []
@@ -52,4 +52,4 @@ pub record Comes {S : Type 0} (after : Event → S → S) (plan : PlanView) (fir
   pub sound : IsInstance plan before
   pub path : path_of before ≡ path_of first
   pub passed : now ≡ record before { top = record before.top { cursor = now.top.cursor } }
-  pub at : IsNext (text_of plan before.top) before.top.cursor now.top.cursor next
+  pub at : IsNextStatement (statements_of plan before.top) before.top.cursor now.top.cursor next

@@ -31,14 +31,14 @@ levels_of body [] = []
 levels_of body (l ∷ ls) = record { rank = l.rank; left = left_of (block_inside body ls) l.cursor } ∷ levels_of body ls
 
 -- the statements among which a frame's cursor stands
-abbrev pub text_of : PlanView → Frame → List Stmt
-text_of plan a = block_inside (body_of plan a.function) (reverse a.levels.items)
+abbrev pub statements_of : PlanView → Frame → List Stmt
+statements_of plan a = block_inside (body_of plan a.function) (reverse a.levels.items)
 
 -- a frame that is, or isn't, after the sync at the end of its innermost scope
 abbrev pub frame_of : PlanView → Bool → Frame → meaning.Frame
 frame_of plan leaving a = record {
   function = a.function;
-  left = left_of (text_of plan a) a.cursor;
+  left = left_of (statements_of plan a) a.cursor;
   levels = levels_of (body_of plan a.function) (reverse a.levels.items);
   leaving = leaving;
   returning = a.returning;
@@ -89,8 +89,8 @@ ranks_after (l ∷ ls) = l.rank + 1 + ranks_after ls
 
 -- What an instance's rank may come to, at most, with those from which it goes on after its scopes: a rank costs a step, and the step of a scope
 -- pays for the sync at its end. After that sync the rank in it doesn't count any more.
-abbrev pub most_ranks : Running → ℕ
-most_ranks i = (if i.leaving then 0 else i.rank) + i.steps + ranks_after (open_scopes i)
+abbrev pub rank_bound : Running → ℕ
+rank_bound i = (if i.leaving then 0 else i.rank) + i.steps + ranks_after (open_scopes i)
 
 -- The strand of an instance: its trail is one of the plan's coefficients, it is in the depth, and its rank in 32 bits.
 pub record IsStrand (plan : PlanView) (i : Running) : Type 0 where
@@ -101,6 +101,6 @@ pub record IsStrand (plan : PlanView) (i : Running) : Type 0 where
 -- An instance of this plan: its strand, and its open scopes. Where the sync at the end of a scope is after it, no statement is left in that scope.
 pub record IsInstance (plan : PlanView) (i : Running) : Type 0 where
   pub strand : IsStrand plan i
-  pub few : most_ranks i < 2 ^ 32
+  pub few : rank_bound i < 2 ^ 32
   pub around : AreAround plan (open_scopes i) i.trail.path
-  pub leaving : i.leaving ≡ true → (left_of (text_of plan i.top) i.top.cursor ≡ []) × (i.top.levels.items ≡ [] → ⊥)
+  pub leaving : i.leaving ≡ true → (left_of (statements_of plan i.top) i.top.cursor ≡ []) × (i.top.levels.items ≡ [] → ⊥)

@@ -1,6 +1,6 @@
 // Calls, and the end of a frame.
 
-ghost use Rattle.std.specs.Prelude.{◌≡◌, ◌<◌, ◌≤◌, ◌+◌, ◌++◌, ◌∷◌, [], false, true, Some, None, Err, IfOk, OnOk};
+ghost use Rattle.std.specs.Prelude.{◌≡◌, ◌<◌, ◌≤◌, ◌+◌, ◌++◌, ◌∷◌, [], false, true, Some, None, Err, IfOk, OnOk, length};
 ghost use Rattle.std.specs.Option.{option_copied};
 ghost use Rattle.script_grammar.specs.declared.tree.Stmt.{Stmt};
 ghost use Rattle.serial_meaning.specs.Functions.{function_at, number_of};
@@ -9,17 +9,18 @@ ghost use Rattle.serial_meaning.specs.declared.event.FaultKind.{FaultKind};
 ghost use Rattle.strand_values.specs.declared.halt.Halt.TheVariants.{Fault};
 ghost use Rattle.strand_meaning.specs.Machine.{here_of, return_move, spawns_in, with_scalar};
 ghost use Rattle.strand_values.specs.Gives.{Gives};
-ghost use Rattle.strand_moves.specs.Acts.{Acts, BeginsOne, Costs, IsCallee, Stands, result_of};
+ghost use Rattle.strand_moves.specs.Acts.{Acts, BeginsOne, Costs, IsCallee, StaysUnlessMemory, result_of};
 ghost use Rattle.strand_moves.specs.Running.{IsStrand, machine_of, path_of, present_of};
-ghost use Rattle.strand_moves.specs.Moves.{Makes, MovesTrail, call_to, strand_of};
-ghost use Rattle.strand_moves.specs.Quick.{quiet};
+ghost use Rattle.strand_moves.specs.Moves.{Makes, MovesTrail, call_to, present_pedigree};
+ghost use Rattle.strand_moves.specs.Quick.{quiet, told};
 
 use crate::effects::{Effects, MoveResult};
 use crate::frame::{Frame, lets, target_of};
 use crate::memory::Memory;
+use crate::quick::{quiet, told};
 use crate::running::Running;
 use script_grammar::{CallText, Function, Name};
-use serial_meaning::{FaultKind, Plan, Value};
+use serial_meaning::{Event, FaultKind, Plan, Value};
 use std::alloc::Global;
 use std::mem;
 use strand_values::{Environment, Halt, Target};
@@ -39,7 +40,7 @@ impl Running {
         requires { self.old.leaving ≡ false }
         ensures shows { (st : Stmt) → Acts plan.now st (call_to (option_copied target.entry) call.now) self.old self.new (quiet result) }
         ensures same { (kind : FaultKind) → result ≡ Err (Fault kind) → self.new ≡ self.old }
-        ensures stays { Stands self.old self.new (quiet result) }
+        ensures stays { StaysUnlessMemory self.old self.new (quiet result) }
         ensures few { Costs self.old self.new }
         ensures begins { OnOk result (BeginsOne self.old self.new) }
     {
@@ -63,7 +64,7 @@ impl Running {
         ensures shows { (plan : PlanView) (st : Stmt) → number ≡ number_of (functions_of plan) call.now.name.bytes → function_at (functions_of plan) number ≡ Some function.now →
             Acts plan st (call_to (option_copied target.entry) call.now) self.old self.new (quiet result) }
         ensures same { (kind : FaultKind) → result ≡ Err (Fault kind) → self.new ≡ self.old }
-        ensures stays { Stands self.old self.new (quiet result) }
+        ensures stays { StaysUnlessMemory self.old self.new (quiet result) }
         ensures few { Costs self.old self.new }
         ensures begins { OnOk result (BeginsOne self.old self.new) }
     {
@@ -85,7 +86,7 @@ impl Running {
         ensures shows { (plan : PlanView) (st : Stmt) → function_at (functions_of plan) (number_of (functions_of plan) call.now.name.bytes) ≡ None →
             Acts plan st (call_to (option_copied target.entry) call.now) self.old self.new (quiet result) }
         ensures same { (kind : FaultKind) → result ≡ Err (Fault kind) → self.new ≡ self.old }
-        ensures stays { Stands self.old self.new (quiet result) }
+        ensures stays { StaysUnlessMemory self.old self.new (quiet result) }
         ensures few { Costs self.old self.new }
         ensures begins { OnOk result (BeginsOne self.old self.new) }
     {
@@ -137,16 +138,41 @@ impl Running {
         Ok(())
     }
 
+    /// The step of a return of a frame that spawned nothing since its last sync, and the event of the sync that it implies, if it does.
+    pub(crate) fn return_alone(&mut self, plan: &Plan) -> Result<Option<Event>, Halt>
+        requires strand { IsStrand plan.now self.old }
+        requires here { here_of (path_of self.old) (machine_of plan.now self.old) ≡ present_of self.old }
+        requires alone { self.old.top.spawned ≡ false }
+        ensures shows { let m = machine_of plan.now self.old in
+            Makes (return_move plan.now (path_of self.old) m false) (present_pedigree (present_of self.old) m) (machine_of plan.now self.new) (told result) }
+        ensures same { (kind : FaultKind) → result ≡ Err (Fault kind) → self.new ≡ self.old }
+        ensures paid { OnOk result (self.new.steps + 1 ≡ self.old.steps) }
+        ensures rest { OnOk result (self.new ≡ record self.old { steps = self.new.steps; rank = self.new.rank; top = record self.old.top { returning = true } }) }
+        ensures few { self.new.rank + self.new.steps ≤ self.old.rank + self.old.steps }
+    {
+        self.pay()?;
+        self.top.returning = true;
+        if !self.has_spawns(plan) {
+            return Ok(None);
+        }
+        let event = Event::Sync(self.pedigree()?);
+        self.rank += 1;
+        Ok(Some(event))
+    }
+
     /// The step of a return and the sync that it implies.
     pub(crate) fn return_step(&mut self, plan: &Plan) -> Result<MoveResult, Halt>
         requires strand { IsStrand plan.now self.old }
         requires here { here_of (path_of self.old) (machine_of plan.now self.old) ≡ present_of self.old }
         ensures shows { let m = machine_of plan.now self.old in
-            Makes (return_move plan.now (path_of self.old) m false) (strand_of (present_of self.old) m) (machine_of plan.now self.new) result }
+            Makes (return_move plan.now (path_of self.old) m false) (present_pedigree (present_of self.old) m) (machine_of plan.now self.new) result }
         ensures child { IfOk result (MovesTrail plan.now) }
-        ensures stays { Stands self.old self.new result }
+        ensures stays { StaysUnlessMemory self.old self.new result }
         ensures few { self.new.rank + self.new.steps ≤ self.old.rank + self.old.steps }
     {
+        if !self.top.spawned {
+            return told(self.return_alone(plan));
+        }
         self.pay()?;
         self.top.returning = true;
         if self.has_spawns(plan) {
@@ -178,24 +204,42 @@ impl Running {
         requires goes_on { self.old.leaving ≡ false }
         requires here { here_of (path_of self.old) (machine_of plan.now self.old) ≡ present_of self.old }
         ensures shows { let m = machine_of plan.now self.old in
-            Makes (return_move plan.now (path_of self.old) m true) (strand_of (present_of self.old) m) (machine_of plan.now self.new) result }
+            Makes (return_move plan.now (path_of self.old) m true) (present_pedigree (present_of self.old) m) (machine_of plan.now self.new) result }
         ensures child { IfOk result (MovesTrail plan.now) }
-        ensures stays { Stands self.old self.new result }
+        ensures stays { StaysUnlessMemory self.old self.new result }
         ensures few { self.new.rank + self.new.steps ≤ self.old.rank + self.old.steps }
     {
-        let value = self.result(plan)?;
-        match self.below.pop() {
-            None => Ok(MoveResult::Returned(value)),
-            Some(caller) => {
-                // the callee is dropped at one place, whatever was received
-                let received = {
-                    let callee = mem::replace(&mut self.top, caller);
-                    self.receive(callee.target.as_ref(), value)
-                };
-                received?;
-                Ok(MoveResult::Went(Effects::Nothing))
-            }
+        if self.below.is_empty() {
+            return Ok(MoveResult::Returned(self.result(plan)?));
         }
+        quiet(self.give_back(plan))
+    }
+
+    /// The value of a frame that ends goes to the one below it.
+    pub(crate) fn give_back(&mut self, plan: &Plan) -> Result<(), Halt>
+        requires outside { self.old.top.levels.items ≡ [] }
+        requires goes_on { self.old.leaving ≡ false }
+        requires below { self.old.below.items ≡ [] → ⊥ }
+        requires here { here_of (path_of self.old) (machine_of plan.now self.old) ≡ present_of self.old }
+        ensures shows { let m = machine_of plan.now self.old in
+            Makes (return_move plan.now (path_of self.old) m true) (present_pedigree (present_of self.old) m) (machine_of plan.now self.new) (quiet result) }
+        ensures same { (kind : FaultKind) → result ≡ Err (Fault kind) → self.new ≡ self.old }
+        ensures stays { StaysUnlessMemory self.old self.new (quiet result) }
+        ensures steps { self.new.steps ≡ self.old.steps }
+        ensures rank { self.new.rank ≡ self.old.rank }
+        ensures fewer { OnOk result (length self.new.below.items < length self.old.below.items) }
+    {
+        let value = self.result(plan)?;
+        let Some(caller) = self.below.pop() else {
+            unreachable!()
+        };
+        // the callee is dropped at one place, whatever was received
+        let received = {
+            let callee = mem::replace(&mut self.top, caller);
+            self.receive(callee.target.as_ref(), value)
+        };
+        received?;
+        Ok(())
     }
 }
 

@@ -1,6 +1,6 @@
 // Children: spawns, syncs and parallel loops.
 
-ghost use Rattle.std.specs.Prelude.{◌≡◌, ◌<◌, ◌≤◌, ◌^◌, ◌+◌, ◌++◌, ◌∷◌, [], ℕ, Err, IfOk, OnErr, OnOk, false, length};
+ghost use Rattle.std.specs.Prelude.{◌≡◌, ◌<◌, ◌≤◌, ◌^◌, ◌+◌, ◌++◌, ◌∷◌, [], ℕ, Some, Err, IfOk, IfSome, OnErr, OnOk, false, length};
 ghost use Rattle.std.specs.Option.{option_copied};
 ghost use Rattle.dotmix.specs.Trails.{FitsGamma};
 ghost use Rattle.script_grammar.specs.declared.tree.Act.TheOpen as act;
@@ -12,13 +12,17 @@ ghost use Rattle.serial_meaning.specs.Plan.{PlanView, functions_of};
 ghost use Rattle.serial_meaning.specs.declared.event.Event.TheVariants as event;
 ghost use Rattle.strand_meaning.specs.Machine.{Emitted, sync_effects, with_scalar};
 ghost use Rattle.strand_moves.specs.Acts.{Acts, Costs, Stays, loop_begins};
-ghost use Rattle.strand_moves.specs.Running.{IsStrand, present_of};
+ghost use Rattle.strand_moves.specs.Running.{IsInstance, IsStrand, path_of, present_of};
 ghost use Rattle.strand_values.specs.declared.halt.Halt.TheVariants as halt;
-ghost use Rattle.strand_moves.specs.Moves.{spawn_to, MovesTrail, Shows};
+ghost use Rattle.serial_meaning.specs.declared.event.FaultKind.{FaultKind};
+ghost use Rattle.strand_values.specs.declared.halt.Halt.TheVariants.{Fault};
+ghost use Rattle.strand_moves.specs.Moves.{IsTrailOf, MovesTrail, Shows, spawn_to};
+ghost use Rattle.strand_moves.specs.Rows.{HasPassedStatement};
+ghost use Rattle.strand_moves.specs.Spawns.{DoesAs, HasSpawned, IsHanded, SpawnsTrail, handed};
 ghost use Rattle.strand_moves.specs.declared.effects.Effects.TheVariants as shown;
 
 use crate::calls::function_in;
-use crate::effects::{Child, Effects, LoopedChild, MoveResult, SpawnedChild};
+use crate::effects::{Child, Effects, LoopedChild, MoveResult, SpawnedChild, Spawning};
 use crate::frame::{copy_of, target_of};
 use crate::memory::Memory;
 use crate::narrow::narrowed;
@@ -26,7 +30,7 @@ use crate::running::Running;
 use dotmix::Trail;
 use loop_range::IterRange;
 use ped_path::{Ped, Pedigree};
-use script_grammar::{Boxed, CallText, Expr, Items, Kind, Name};
+use script_grammar::{Act, Boxed, CallText, Expr, Items, Kind, Name, Right, Stmt};
 use serial_meaning::{Event, FaultKind, Origin, Plan, Value};
 use std::alloc::Global;
 use strand_values::{Halt, Target, iterations, number};
@@ -39,10 +43,11 @@ impl Running {
         plan: &Plan,
         target: Option<&Name>,
         call: &CallText,
-    ) -> Result<MoveResult, Halt>
+    ) -> Result<Spawning, Halt>
         requires { IsStrand plan.now self.old }
-        ensures shows { (st : Stmt) → Acts plan.now st (spawn_to (option_copied target.entry) call.now) self.old self.new result }
-        ensures child { IfOk result (MovesTrail plan.now) }
+        ensures shows { (st : Stmt) → Acts plan.now st (spawn_to (option_copied target.entry) call.now) self.old self.new (handed result) }
+        ensures same { (kind : FaultKind) → result ≡ Err (Fault kind) → self.new ≡ self.old }
+        ensures child { IfOk result (λ s. IsTrailOf plan.now s.spawned.child.origin s.spawned.child.trail) }
         ensures stays { Stays self.old self.new }
         ensures few { Costs self.old self.new }
     {
@@ -59,18 +64,48 @@ impl Running {
             args,
             path,
         };
-        let spawned = boxed(
-            alloc,
-            SpawnedChild {
+        let event = Event::Spawn(self.pedigree()?);
+        self.rank += 1;
+        self.top.spawned = true;
+        Ok(Spawning {
+            event,
+            spawned: SpawnedChild {
                 child: Child { origin, trail },
                 height,
                 target,
             },
-        )?;
-        let event = Event::Spawn(self.pedigree()?);
-        self.rank += 1;
-        self.top.spawned = true;
-        Ok(MoveResult::Went(Effects::Spawned { event, spawned }))
+        })
+    }
+
+    /// The spawn that the statement is which the cursor has just passed. Where it is none, or meets a fault, nothing changes.
+    pub(crate) fn spawn_statement(
+        &mut self,
+        alloc: Global,
+        plan: &Plan,
+        statement: &Stmt,
+    ) -> Result<Option<Spawning>, Memory>
+        requires sound { IsInstance plan.now self.old }
+        requires passed { HasPassedStatement plan.now self.old (Some statement.now) }
+        ensures did { IfOk result (HasSpawned plan.now self.old (Some statement.now) self.new) }
+        ensures child { IfOk result (SpawnsTrail plan.now) }
+        ensures path { IfOk result (λ _. path_of self.new ≡ path_of self.old) }
+        ensures sound { IfOk result (λ _. IsInstance plan.now self.new) }
+    {
+        let Some(text) = spawn_in(statement) else {
+            return Ok(None);
+        };
+        if self.steps == 0 {
+            return Ok(None);
+        }
+        self.steps -= 1;
+        match self.spawn(alloc, plan, text.0, text.1) {
+            Ok(spawning) => Ok(Some(spawning)),
+            Err(Halt::Fault(_)) => {
+                self.steps += 1;
+                Ok(None)
+            }
+            Err(Halt::Memory) => Err(Memory),
+        }
     }
 
     /// A sync, written or implied.
@@ -231,11 +266,51 @@ impl Running {
     }
 }
 
+/// The variable and the call of a spawn, and nothing of another statement.
+fn spawn_in<'a>(statement: &'a Stmt) -> Option<(Option<&'a Name>, &'a CallText)>
+    ensures { IfSome result (λ text. DoesAs statement.now (option_copied text.0) text.1.now) }
+{
+    match &statement.act {
+        Act::Spawn(c) => Some((None, c)),
+        Act::Let(x, r) => match r {
+            Right::Spawn(_, c) => Some((Some(x), c)),
+            _ => None,
+        },
+        Act::Set(x, r) => match r {
+            Right::Spawn(_, c) => Some((Some(x), c)),
+            _ => None,
+        },
+        _ => None,
+    }
+}
+
+/// A spawn, as a move.
+pub(crate) fn handed(alloc: Global, done: Result<Spawning, Halt>) -> Result<MoveResult, Halt>
+    ensures { IsHanded done result }
+{
+    match done {
+        Ok(Spawning { event, spawned }) => {
+            let (event, spawned) = match boxed(alloc, spawned) {
+                Ok(spawned) => (event, spawned),
+                Err(_) => return Err(Halt::Memory),
+            };
+            Ok(MoveResult::Went(Effects::Spawned { event, spawned }))
+        }
+        Err(halt) => Err(halt),
+    }
+}
+
 /// It in a box, so that what a move shows stays small.
 fn boxed<T: Drop>(alloc: Global, it: T) -> Result<Boxed<T>, Memory>
     ensures { IfOk result (λ box. box ≡ it) }
 {
-    Ok(Boxed(Box::new(alloc, it)?))
+    match Box::new(alloc, it) {
+        Ok(it) => Ok(Boxed(it)),
+        Err(failed) => {
+            drop(failed);
+            Err(Memory)
+        }
+    }
 }
 
 /// What stands for the value of a child of this function.

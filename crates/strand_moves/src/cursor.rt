@@ -3,9 +3,9 @@
 ghost use Rattle.std.specs.Prelude.{◌≡◌, false, List, [], ◌∷◌, ◌++◌, IfOk, MatchOption, if◌then◌else◌};
 ghost use Rattle.script_grammar.specs.declared.tree.Stmt.{Stmt, out-Stmt};
 ghost use Rattle.script_grammar.specs.declared.tree.Act.{out-Act};
-ghost use Rattle.strand_moves.specs.declared.cursor.Branch.TheVariants as part;
+ghost use Rattle.strand_moves.specs.declared.cursor.Branch.TheVariants as branch;
 ghost use Rattle.strand_moves.specs.Quick.{is_fork};
-ghost use Rattle.strand_moves.specs.Cursors.{part_of, block_in, block_of, left_of, scope_after, scope_of, IsBehind, Passes};
+ghost use Rattle.strand_moves.specs.Cursors.{branch_of, block_in, block_of, left_of, scope_after, scope_of, IsBehind, PassesStatement};
 
 use crate::memory::Memory;
 use crate::narrow::narrowed;
@@ -19,13 +19,13 @@ pub(crate) enum Branch {
     #[default]
     Yes,
     No,
-    Turn,
+    LoopBody,
 }
 
 /// A block that was entered, and the index at which the enclosing block goes on: at a loop itself, and after an `if`.
 #[derive(Clone, Copy, Debug, Default, PartialEq, Eq)]
 pub(crate) struct Entered {
-    pub(crate) part: Branch,
+    pub(crate) branch: Branch,
     pub(crate) back: u32,
 }
 
@@ -38,17 +38,17 @@ pub(crate) struct Cursor {
 }
 
 /// A block of a statement, and no statements where it has no such block.
-fn part_in<'a>(statement: &'a Stmt, part: Branch) -> &'a [Stmt]
-    ensures { result.now ≡ part_of (out-Act (out-Stmt statement.now).act) part }
+fn branch_in<'a>(statement: &'a Stmt, branch: Branch) -> &'a [Stmt]
+    ensures { result.now ≡ branch_of (out-Act (out-Stmt statement.now).act) branch }
 {
     match &statement.act {
-        Act::If(_, yes, no) => match part {
+        Act::If(_, yes, no) => match branch {
             Branch::Yes => yes.as_slice(),
             Branch::No => no.as_slice(),
-            Branch::Turn => &[],
+            Branch::LoopBody => &[],
         },
-        Act::While(_, body) => match part {
-            Branch::Turn => body.as_slice(),
+        Act::While(_, body) => match branch {
+            Branch::LoopBody => body.as_slice(),
             Branch::Yes | Branch::No => &[],
         },
         _ => &[],
@@ -79,12 +79,12 @@ fn scope_in<'a>(statement: &'a Stmt) -> &'a [Stmt]
 fn inner<'a>(block: &'a [Stmt], entered: Entered) -> &'a [Stmt]
     ensures { result.now ≡ block_in block.now entered }
 {
-    let place = match entered.part {
-        Branch::Turn => entered.back as usize,
+    let place = match entered.branch {
+        Branch::LoopBody => entered.back as usize,
         Branch::Yes | Branch::No => (entered.back as usize).saturating_sub(1),
     };
     match block.get(place) {
-        Some(statement) => part_in(statement, entered.part),
+        Some(statement) => branch_in(statement, entered.branch),
         None => &[],
     }
 }
@@ -137,7 +137,7 @@ impl Cursor {
 
     /// Goes after the next statement of this body, and gives it.
     pub(crate) fn pass<'a>(&mut self, body: &'a [Stmt]) -> Option<&'a Stmt>
-        ensures { MatchOption result ((left_of body.now self.old ≡ []) × (left_of body.now self.new ≡ [])) (λ st. Passes body.now self.old self.new st.now) }
+        ensures { MatchOption result ((left_of body.now self.old ≡ []) × (left_of body.now self.new ≡ [])) (λ st. PassesStatement body.now self.old self.new st.now) }
     {
         let block = self.block(body);
         match self.pass_on(body, block) {
@@ -154,11 +154,14 @@ impl Cursor {
         block: &'a [Stmt],
     ) -> Option<(&'a Stmt, &'a [Stmt])>
         requires { block.now ≡ block_of body.now self.old.entered.items }
-        ensures { MatchOption result ((left_of body.now self.old ≡ []) × (left_of body.now self.new ≡ [])) (λ r. Passes body.now self.old self.new r.0.now × (r.1.now ≡ block_of body.now self.new.entered.items)) }
+        ensures { MatchOption result ((left_of body.now self.old ≡ []) × (left_of body.now self.new ≡ [])) (λ r. PassesStatement body.now self.old self.new r.0.now × (r.1.now ≡ block_of body.now self.new.entered.items)) }
     {
         if let Some(statement) = block.get(self.next) {
             self.next += 1;
             return Some((statement, block));
+        }
+        if self.entered.as_slice().is_empty() {
+            return None;
         }
         self.pass_on(body, block)
     }
@@ -166,7 +169,7 @@ impl Cursor {
     /// The same, also where no statement of that block is left.
     fn pass_on<'a>(&mut self, body: &'a [Stmt], block: &'a [Stmt]) -> Option<(&'a Stmt, &'a [Stmt])>
         requires { block.now ≡ block_of body.now self.old.entered.items }
-        ensures { MatchOption result ((left_of body.now self.old ≡ []) × (left_of body.now self.new ≡ [])) (λ r. Passes body.now self.old self.new r.0.now × (r.1.now ≡ block_of body.now self.new.entered.items)) }
+        ensures { MatchOption result ((left_of body.now self.old ≡ []) × (left_of body.now self.new ≡ [])) (λ r. PassesStatement body.now self.old self.new r.0.now × (r.1.now ≡ block_of body.now self.new.entered.items)) }
     {
         let mut block = block;
         loop {
@@ -203,11 +206,11 @@ impl Cursor {
     /// Enters a block of the `if` after which the cursor stands.
     pub(crate) fn enter(&mut self, yes: bool) -> Result<(), Memory>
         ensures { IfOk result (λ _. (body : List Stmt) (st : Stmt) → IsBehind body self.old st →
-            left_of body self.new ≡ part_of (out-Act (out-Stmt st).act) (if yes then part.Yes else part.No) ++ left_of body self.old) }
+            left_of body self.new ≡ branch_of (out-Act (out-Stmt st).act) (if yes then branch.Yes else branch.No) ++ left_of body self.old) }
     {
         let back = narrowed(self.next)?;
         self.entered.push(Entered {
-            part: if yes { Branch::Yes } else { Branch::No },
+            branch: if yes { Branch::Yes } else { Branch::No },
             back,
         })?;
         self.next = 0;
@@ -217,11 +220,11 @@ impl Cursor {
     /// Enters the body of the loop after which the cursor stands. The loop is left again after it.
     pub(crate) fn enter_loop(&mut self) -> Result<(), Memory>
         ensures { IfOk result (λ _. (body : List Stmt) (st : Stmt) → IsBehind body self.old st →
-            left_of body self.new ≡ part_of (out-Act (out-Stmt st).act) part.Turn ++ (st ∷ left_of body self.old)) }
+            left_of body self.new ≡ branch_of (out-Act (out-Stmt st).act) branch.LoopBody ++ (st ∷ left_of body self.old)) }
     {
         let back = narrowed(self.next.saturating_sub(1))?;
         self.entered.push(Entered {
-            part: Branch::Turn,
+            branch: Branch::LoopBody,
             back,
         })?;
         self.next = 0;

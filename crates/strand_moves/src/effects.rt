@@ -21,6 +21,13 @@ pub struct SpawnedChild {
     pub target: Option<Target>,
 }
 
+/// The spawn of a child: its event, and then the child.
+#[derive(Drop)]
+pub struct Spawning {
+    pub event: Event,
+    pub spawned: SpawnedChild,
+}
+
 /// A loop that was handed out. Its values go to the array `target`, if any, of the innermost frame.
 #[derive(Drop)]
 pub struct LoopedChild {

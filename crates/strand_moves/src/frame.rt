@@ -3,7 +3,7 @@
 ghost use Rattle.std.specs.Prelude.{◌≡◌, [], List, false, None, reverse};
 ghost use Rattle.std.specs.Option.{option_copied};
 ghost use Rattle.script_grammar.specs.declared.tree.Stmt.{Stmt};
-ghost use Rattle.strand_moves.specs.Running.{block_inside, body_of, text_of};
+ghost use Rattle.strand_moves.specs.Running.{block_inside, body_of, statements_of};
 
 use crate::cursor::Cursor;
 use dotmix::Trail;
@@ -71,8 +71,8 @@ impl Frame {
 
     /// The statements among which its cursor stands: its function's body, or the block of its innermost open scope.
     #[inline(always)]
-    pub(crate) fn text<'a>(&self, plan: &'a Plan) -> &'a [Stmt]
-        ensures { result.now ≡ text_of plan.now self.now }
+    pub(crate) fn statements<'a>(&self, plan: &'a Plan) -> &'a [Stmt]
+        ensures { result.now ≡ statements_of plan.now self.now }
     {
         inside(body(plan, self.function), self.levels.as_slice())
     }

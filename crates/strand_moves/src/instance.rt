@@ -1,18 +1,18 @@
 // Instances.
 
-ghost use Rattle.std.specs.Prelude.{◌≡◌, ◌<◌, [], ◌∷◌, Ok, Err, IfOk, OnOk, length};
+ghost use Rattle.std.specs.Prelude.{◌≡◌, ◌<◌, [], ◌∷◌, Some, Ok, Err, IfOk, OnOk, length};
 ghost use Rattle.std.specs.Option.{option_copied};
 ghost use Rattle.dotmix.specs.Trails.{FitsGamma};
 ghost use Rattle.serial_meaning.specs.Plan.{PlanView, functions_of};
 ghost use Rattle.strand_meaning.specs.Machine.{Stands, begun, move};
 ghost use Rattle.strand_meaning.specs.Task.{answered, changed, with_values};
 
-use crate::effects::MoveResult;
+use crate::effects::{MoveResult, Spawning};
 use crate::event_sink::EventSink;
 use crate::memory::Memory;
 use crate::running::Running;
 use dotmix::Trail;
-use script_grammar::Name;
+use script_grammar::{Name, Stmt};
 use serial_meaning::{Fault, Plan, Value};
 use std::alloc::Global;
 use strand_values::Target;
@@ -24,8 +24,9 @@ pub struct Instance {
 }
 
 impl Instance {
-    ghost use Rattle.strand_moves.specs.Machines.{IsInstance, RunsOn, machine_of, path_of};
+    ghost use Rattle.strand_moves.specs.Machines.{Comes, HasPassedStatement, HasSpawned, IsInstance, machine_of, path_of, unpassed};
     ghost use Rattle.strand_moves.specs.Moves.{run_of, MovesTrail};
+    ghost use Rattle.strand_moves.specs.Spawns.{SpawnsTrail};
 
     /// An instance of the function at this place in the script, before its first move.
     pub fn new(
@@ -57,21 +58,52 @@ impl Instance {
         self.running.make_move(alloc, plan)
     }
 
-    /// Moves in a row that show nothing or an event, which the sink takes, and then one more. Where there was no memory for one the instance
-    /// is of no more use.
-    pub fn run<S: EventSink>(
+    /// Moves in a row that show nothing or an event, which the sink takes. The answer is the statement whose move is next, if one is left, for
+    /// `spawn` or `make`. Where there was no memory for one the instance is of no more use.
+    pub fn row<'a, S: EventSink>(
+        &mut self,
+        alloc: Global,
+        plan: &'a Plan,
+        sink: &mut S,
+    ) -> Result<Option<&'a Stmt>, Memory>
+        requires { IsInstance plan.now self.old }
+        ensures { IfOk result (λ next. Comes S.after plan.now self.old sink.old self.new sink.new (option_copied next)) }
+    {
+        self.running.row(alloc, plan, sink)
+    }
+
+    /// The move that is next, where it is the spawn of a child. Otherwise, or where it meets a fault, nothing changes.
+    pub fn spawn(
         &mut self,
         alloc: Global,
         plan: &Plan,
-        sink: &mut S,
+        statement: &Stmt,
+    ) -> Result<Option<Spawning>, Memory>
+        requires sound { IsInstance plan.now self.old }
+        requires passed { HasPassedStatement plan.now self.old (Some statement.now) }
+        ensures did { IfOk result (HasSpawned plan.now self.old (Some statement.now) self.new) }
+        ensures child { IfOk result (SpawnsTrail plan.now) }
+        ensures path { IfOk result (λ _. path_of self.new ≡ path_of self.old) }
+        ensures sound { IfOk result (λ _. IsInstance plan.now self.new) }
+    {
+        self.running.spawn_statement(alloc, plan, statement)
+    }
+
+    /// The move that is next. Where there was no memory for it the instance is of no more use.
+    pub fn make(
+        &mut self,
+        alloc: Global,
+        plan: &Plan,
+        next: Option<&Stmt>,
     ) -> Result<MoveResult, Memory>
-        requires { IsInstance plan.now self.old }
-        ensures moves { IfOk result (λ moved. RunsOn S.after plan.now self.old sink.old moved self.new sink.new) }
+        requires sound { IsInstance plan.now self.old }
+        requires passed { HasPassedStatement plan.now self.old (option_copied next) }
+        ensures moves { IfOk result (λ moved. move plan.now (path_of self.old) (unpassed plan.now self.old (option_copied next.entry)) ≡ run_of moved (machine_of plan.now self.new)) }
         ensures child { IfOk result (MovesTrail plan.now) }
         ensures path { IfOk result (λ _. path_of self.new ≡ path_of self.old) }
         ensures sound { IfOk result (λ _. IsInstance plan.now self.new) }
     {
-        self.running.run(alloc, plan, sink)
+        self.running.make(alloc, plan, next)
     }
 
     /// Takes the fault of a child of the frame with `height` others below it.

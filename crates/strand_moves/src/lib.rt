@@ -20,7 +20,7 @@ mod running;
 mod scopes;
 mod statement;
 
-pub use effects::{Child, Effects, LoopedChild, MoveResult, SpawnedChild};
+pub use effects::{Child, Effects, LoopedChild, MoveResult, SpawnedChild, Spawning};
 pub use event_sink::EventSink;
 pub use instance::Instance;
 pub use memory::Memory;

@@ -1,13 +1,14 @@
 // Moves in a row that show nothing, or an event alone: most moves are of this kind.
 
-ghost use Rattle.std.specs.Prelude.{◌≡◌, false, IfOk};
+ghost use Rattle.std.specs.Prelude.{◌≡◌, ◌<◌, ◌+◌, ◌^◌, [], false, IfOk};
 ghost use Rattle.std.specs.Option.{option_copied};
 ghost use Rattle.script_grammar.specs.declared.tree.Act.{out-Act};
 ghost use Rattle.script_grammar.specs.declared.tree.Act.TheOpen as act;
 ghost use Rattle.script_grammar.specs.declared.tree.Stmt.{Stmt, out-Stmt};
 ghost use Rattle.strand_moves.specs.Acts.{Costs, Stays};
-ghost use Rattle.strand_moves.specs.Running.{IsInstance, IsStrand};
-ghost use Rattle.strand_moves.specs.Quick.{HasCalled, HasEmitted, IsDone, IsQuiet, IsEmittedTo, IsWent, StaysThere, emitted, is_fork, quiet};
+ghost use Rattle.strand_moves.specs.Cursors.{left_of};
+ghost use Rattle.strand_moves.specs.Running.{IsInstance, IsStrand, statements_of};
+ghost use Rattle.strand_moves.specs.Quick.{HasCalled, HasEmitted, EndsFrame, HasGone, IsDone, IsQuiet, IsEmittedTo, IsWent, StaysThere, emitted, is_fork, quiet, told};
 ghost use Rattle.strand_moves.specs.Rows.{Comes};
 
 use crate::effects::{Effects, MoveResult};
@@ -68,10 +69,51 @@ fn sent<S: EventSink>(
     }
 }
 
+/// What showed an event or nothing, as a move.
+pub(crate) fn told(done: Result<Option<Event>, Halt>) -> Result<MoveResult, Halt>
+    ensures { result ≡ told done }
+{
+    match done {
+        Ok(Some(event)) => Ok(MoveResult::Went(Effects::Emitted(event))),
+        Ok(None) => Ok(MoveResult::Went(Effects::Nothing)),
+        Err(halt) => Err(halt),
+    }
+}
+
+/// By which call a statement that isn't plain is done in a row, if by any.
+#[derive(Clone, Copy, Debug, PartialEq, Eq)]
+pub(crate) enum Form {
+    Emitting,
+    Calling,
+    Other,
+}
+
+/// A hint alone: each of these calls says itself whether it did the statement.
+#[inline(always)]
+fn form_of(statement: &Stmt) -> Form {
+    match &statement.act {
+        Act::Let(_, r) => form_of_right(r),
+        Act::Set(_, r) => form_of_right(r),
+        Act::Print(_) => Form::Emitting,
+        Act::Call(_) => Form::Calling,
+        _ => Form::Other,
+    }
+}
+
+#[inline(always)]
+fn form_of_right(r: &Right) -> Form {
+    match r {
+        Right::Draw(_) | Right::New(_) => Form::Emitting,
+        Right::Call(_, _) => Form::Calling,
+        Right::Value(_) | Right::Spawn(_, _) => Form::Other,
+    }
+}
+
 impl Running {
-    /// Moves in a row, as far as they are plain or emitting statements or calls: the first two give a variable a value, make an array, store
-    /// an item, print, or are an `if` or a `while`. The text is found once and after a call, and a block again only where one is entered or
-    /// left. The cursor passes the first statement that is none of these, or that meets a fault, if there is one.
+    /// Moves in a row, as far as they are plain or emitting statements, calls, or ends of frames after which the instance goes on: the first
+    /// two give a variable a value, make an array, store an item, print, or are an `if` or a `while`. The text is found once and where another
+    /// frame goes on, and a block again only where one is entered or left. The cursor passes the first statement that is none of these, or
+    /// that meets a fault, if there is one.
     pub(crate) fn row<'a, S: EventSink>(
         &mut self,
         alloc: Global,
@@ -81,11 +123,16 @@ impl Running {
         requires { IsInstance plan.now self.old }
         ensures { IfOk result (λ next. Comes S.after plan.now self.old sink.old self.new sink.new (option_copied next)) }
     {
-        let mut text = self.top.text(plan);
+        let mut text = self.top.statements(plan);
         let mut block = self.top.cursor.block(text);
         loop {
             let Some(passed) = self.top.cursor.pass_in(text, block) else {
-                return Ok(None);
+                if !self.frame_end(alloc, plan, sink)? {
+                    return Ok(None);
+                }
+                text = self.top.statements(plan);
+                block = self.top.cursor.block(text);
+                continue;
             };
             let statement = passed.0;
             if self.steps == 0 {
@@ -94,15 +141,76 @@ impl Running {
             self.steps -= 1;
             if self.quiet_statement(alloc, statement)? {
                 block = self.top.cursor.block_after(text, statement, passed.1);
-            } else if self.emitting_statement(alloc, plan, statement, sink)? {
-                block = passed.1;
-            } else if self.calling_statement(alloc, plan, statement)? {
-                text = self.top.text(plan);
-                block = self.top.cursor.block(text);
-            } else {
-                self.steps += 1;
-                return Ok(Some(statement));
+                continue;
             }
+            match self.other_statement(alloc, plan, statement, sink)? {
+                Form::Emitting => block = passed.1,
+                Form::Calling => {
+                    text = self.top.statements(plan);
+                    block = self.top.cursor.block(text);
+                }
+                Form::Other => return Ok(Some(statement)),
+            }
+        }
+    }
+
+    /// What a statement does that isn't plain and whose step is paid, where it is one of a row, and of which form it is. Otherwise its step is
+    /// taken back.
+    #[inline(always)]
+    fn other_statement<S: EventSink>(
+        &mut self,
+        alloc: Global,
+        plan: &Plan,
+        statement: &Stmt,
+        sink: &mut S,
+    ) -> Result<Form, Memory>
+        requires strand { IsStrand plan.now self.old }
+        requires goes_on { self.old.leaving ≡ false }
+        requires paid { self.old.steps + 1 < 2 ^ 64 }
+        ensures { IfOk result (λ form. HasGone S.after plan.now statement.now self.old sink.old self.new sink.new form) }
+    {
+        let form = form_of(statement);
+        let done = match form {
+            Form::Emitting => self.emitting_statement(alloc, plan, statement, sink)?,
+            Form::Calling => self.calling_statement(alloc, plan, statement)?,
+            Form::Other => false,
+        };
+        if done {
+            return Ok(form);
+        }
+        self.steps += 1;
+        Ok(Form::Other)
+    }
+
+    /// What comes where no statement of a frame is left: the step of its return, where no sync follows at which it waits, or its value for the
+    /// frame below. Otherwise nothing changes, and the answer is no.
+    fn frame_end<S: EventSink>(
+        &mut self,
+        alloc: Global,
+        plan: &Plan,
+        sink: &mut S,
+    ) -> Result<bool, Memory>
+        requires instance { IsInstance plan.now self.old }
+        requires none { left_of (statements_of plan.now self.old.top) self.old.top.cursor ≡ [] }
+        ensures did { IfOk result (EndsFrame S.after plan.now self.old sink.old self.new sink.new) }
+    {
+        if self.leaving || !self.top.levels.as_slice().is_empty() {
+            return Ok(false);
+        }
+        if self.top.returning {
+            if self.below.is_empty() {
+                return Ok(false);
+            }
+            return went(self.give_back(plan));
+        }
+        if self.top.spawned {
+            return Ok(false);
+        }
+        match self.return_alone(plan) {
+            Ok(Some(event)) => sent(alloc, Ok(event), sink),
+            Ok(None) => Ok(true),
+            Err(Halt::Fault(_)) => Ok(false),
+            Err(Halt::Memory) => Err(Memory),
         }
     }
 

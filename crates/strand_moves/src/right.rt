@@ -7,11 +7,12 @@ ghost use Rattle.script_grammar.specs.declared.tree.Stmt.{Stmt};
 ghost use Rattle.serial_meaning.specs.Plan.{PlanView};
 ghost use Rattle.serial_meaning.specs.declared.event.FaultKind.{FaultKind};
 ghost use Rattle.strand_values.specs.declared.halt.Halt.TheVariants.{Fault};
-ghost use Rattle.strand_moves.specs.Acts.{Acts, Costs, Stands, Stays};
+ghost use Rattle.strand_moves.specs.Acts.{Acts, Costs, StaysUnlessMemory, Stays};
 ghost use Rattle.strand_moves.specs.Running.{IsStrand};
 ghost use Rattle.strand_moves.specs.Moves.{MovesTrail};
 ghost use Rattle.strand_moves.specs.Quick.{StaysThere, emitted, quiet};
 
+use crate::children::handed;
 use crate::effects::MoveResult;
 use crate::quick::{emitted, quiet};
 use crate::running::Running;
@@ -33,7 +34,7 @@ impl Running {
         requires goes_on { self.old.leaving ≡ false }
         ensures shows { (st : Stmt) → Acts plan.now st (act.Set x.now r.now) self.old self.new result }
         ensures child { IfOk result (MovesTrail plan.now) }
-        ensures stays { Stands self.old self.new result }
+        ensures stays { StaysUnlessMemory self.old self.new result }
         ensures few { Costs self.old self.new }
     {
         match r {
@@ -41,7 +42,7 @@ impl Running {
             Right::Draw(_) => emitted(self.draw(plan, x)),
             Right::New(_) => emitted(self.make_object(x)),
             Right::Call(_, c) => quiet(self.call(alloc, plan, Some(x), c)),
-            Right::Spawn(_, c) => self.spawn(alloc, plan, Some(x), c),
+            Right::Spawn(_, c) => handed(alloc, self.spawn(alloc, plan, Some(x), c)),
         }
     }
 

@@ -7,7 +7,6 @@ ghost use Rattle.serial_meaning.specs.Plan.{functions_of};
 ghost use Rattle.strand_meaning.specs.Machine.{Stands, begun, move};
 
 use crate::effects::MoveResult;
-use crate::event_sink::EventSink;
 use crate::frame::{Frame, lets};
 use crate::memory::Memory;
 use dotmix::Trail;
@@ -35,8 +34,8 @@ pub(crate) struct Running {
 impl Running {
     ghost use Rattle.strand_moves.specs.Acts.{Keeps};
     ghost use Rattle.strand_moves.specs.Running.{IsInstance, machine_of, path_of, present_of};
-    ghost use Rattle.strand_moves.specs.Moves.{run_of, Makes, MovesTrail, strand_of};
-    ghost use Rattle.strand_moves.specs.Rows.{HasPassed, RunsOn, unpassed};
+    ghost use Rattle.strand_moves.specs.Moves.{run_of, Makes, MovesTrail, present_pedigree};
+    ghost use Rattle.strand_moves.specs.Rows.{HasPassedStatement, unpassed};
 
     /// An instance of the function at this place in the script, before its first move.
     pub fn new(
@@ -64,7 +63,13 @@ impl Running {
             top: Frame::new(alloc, function, env, None),
             below: Vec::new(alloc),
         };
-        Ok(Box::new(alloc, running)?)
+        match Box::new(alloc, running) {
+            Ok(running) => Ok(running),
+            Err(failed) => {
+                drop(failed);
+                Err(Memory)
+            }
+        }
     }
 
     /// One move. Where there was no memory for it the instance is of no more use.
@@ -75,40 +80,22 @@ impl Running {
         ensures path { IfOk result (λ _. path_of self.new ≡ path_of self.old) }
         ensures sound { IfOk result (λ _. IsInstance plan.now self.new) }
     {
-        let text = self.top.text(plan);
+        let text = self.top.statements(plan);
         match self.top.cursor.pass(text) {
             Some(statement) => self.make(alloc, plan, Some(statement)),
             None => self.make(alloc, plan, None),
         }
     }
 
-    /// Moves in a row that show nothing or an event, which the sink takes, and then one more. Where there was no memory for one the instance
-    /// is of no more use.
-    pub fn run<S: EventSink>(
-        &mut self,
-        alloc: Global,
-        plan: &Plan,
-        sink: &mut S,
-    ) -> Result<MoveResult, Memory>
-        requires { IsInstance plan.now self.old }
-        ensures moves { IfOk result (λ moved. RunsOn S.after plan.now self.old sink.old moved self.new sink.new) }
-        ensures child { IfOk result (MovesTrail plan.now) }
-        ensures path { IfOk result (λ _. path_of self.new ≡ path_of self.old) }
-        ensures sound { IfOk result (λ _. IsInstance plan.now self.new) }
-    {
-        let next = self.row(alloc, plan, sink)?;
-        self.make(alloc, plan, next)
-    }
-
     /// The move of a statement that the cursor has just passed, or where none was left.
-    fn make(
+    pub(crate) fn make(
         &mut self,
         alloc: Global,
         plan: &Plan,
         next: Option<&Stmt>,
     ) -> Result<MoveResult, Memory>
         requires sound { IsInstance plan.now self.old }
-        requires passed { HasPassed plan.now self.old (option_copied next) }
+        requires passed { HasPassedStatement plan.now self.old (option_copied next) }
         ensures moves { IfOk result (λ moved. move plan.now (path_of self.old) (unpassed plan.now self.old (option_copied next.entry)) ≡ run_of moved (machine_of plan.now self.new)) }
         ensures child { IfOk result (MovesTrail plan.now) }
         ensures path { IfOk result (λ _. path_of self.new ≡ path_of self.old) }
@@ -129,8 +116,8 @@ impl Running {
     /// The same, or the kind of the fault by which it ends.
     fn act(&mut self, alloc: Global, plan: &Plan, next: Option<&Stmt>) -> Result<MoveResult, Halt>
         requires sound { IsInstance plan.now self.old }
-        requires passed { HasPassed plan.now self.old (option_copied next) }
-        ensures moves { Makes (move plan.now (path_of self.old) (unpassed plan.now self.old (option_copied next.entry))) (strand_of (present_of self.old) (machine_of plan.now self.old)) (machine_of plan.now self.new) result }
+        requires passed { HasPassedStatement plan.now self.old (option_copied next) }
+        ensures moves { Makes (move plan.now (path_of self.old) (unpassed plan.now self.old (option_copied next.entry))) (present_pedigree (present_of self.old) (machine_of plan.now self.old)) (machine_of plan.now self.new) result }
         ensures child { IfOk result (MovesTrail plan.now) }
         ensures keeps { Keeps plan.now self.old self.new result }
     {

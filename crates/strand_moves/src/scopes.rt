@@ -12,8 +12,8 @@ ghost use Rattle.strand_values.specs.declared.halt.Halt.TheVariants as halt;
 ghost use Rattle.strand_values.specs.declared.halt.Halt.TheVariants.{Fault};
 ghost use Rattle.strand_moves.specs.Acts.{Acts, GoesIn, Keeps};
 ghost use Rattle.strand_moves.specs.Cursors.{IsBehind, left_of};
-ghost use Rattle.strand_moves.specs.Running.{IsInstance, IsStrand, machine_of, path_of, present_of, text_of};
-ghost use Rattle.strand_moves.specs.Moves.{Makes, MovesTrail, Shows, strand_of};
+ghost use Rattle.strand_moves.specs.Running.{IsInstance, IsStrand, machine_of, path_of, present_of, statements_of};
+ghost use Rattle.strand_moves.specs.Moves.{Makes, MovesTrail, Shows, present_pedigree};
 ghost use Rattle.strand_moves.specs.declared.effects.Effects.TheVariants as shown;
 
 use crate::cursor::Cursor;
@@ -32,7 +32,7 @@ impl Running {
     /// A scope, after which the cursor stands: its block stands one level further, at rank 0.
     pub(crate) fn scope(&mut self, alloc: Global, plan: &Plan) -> Result<MoveResult, Halt>
         requires { IsStrand plan.now self.old }
-        ensures shows { (st : Stmt) (block : List Stmt) → IsBehind (text_of plan.now self.old.top) self.old.top.cursor st →
+        ensures shows { (st : Stmt) (block : List Stmt) → IsBehind (statements_of plan.now self.old.top) self.old.top.cursor st →
             out-Act (out-Stmt st).act ≡ act.Scope block → Acts plan.now st (act.Scope block) self.old self.new result }
         ensures child { IfOk result (MovesTrail plan.now) }
         ensures same { (kind : FaultKind) → result ≡ Err (Fault kind) → self.new ≡ self.old }
@@ -64,9 +64,9 @@ impl Running {
     /// Where no statement is left in the innermost block: the end of a scope, or of the frame.
     pub(crate) fn end_block(&mut self, plan: &Plan) -> Result<MoveResult, Halt>
         requires instance { IsInstance plan.now self.old }
-        requires none { left_of (text_of plan.now self.old.top) self.old.top.cursor ≡ [] }
+        requires none { left_of (statements_of plan.now self.old.top) self.old.top.cursor ≡ [] }
         ensures shows { let m = machine_of plan.now self.old in
-            Makes (end_move plan.now (path_of self.old) m m.top.levels) (strand_of (present_of self.old) m) (machine_of plan.now self.new) result }
+            Makes (end_move plan.now (path_of self.old) m m.top.levels) (present_pedigree (present_of self.old) m) (machine_of plan.now self.new) result }
         ensures child { IfOk result (MovesTrail plan.now) }
         ensures keeps { Keeps plan.now self.old self.new result }
     {

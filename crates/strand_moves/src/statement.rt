@@ -10,10 +10,11 @@ ghost use Rattle.strand_meaning.specs.Machine.{statement_move};
 ghost use Rattle.strand_values.specs.declared.halt.Halt.TheVariants.{Fault};
 ghost use Rattle.strand_moves.specs.Acts.{Acts, Costs, Keeps, Stays};
 ghost use Rattle.strand_moves.specs.Cursors.{IsBehind};
-ghost use Rattle.strand_moves.specs.Running.{IsInstance, machine_of, path_of, present_of, text_of};
-ghost use Rattle.strand_moves.specs.Moves.{Makes, MovesTrail, strand_of};
+ghost use Rattle.strand_moves.specs.Running.{IsInstance, machine_of, path_of, present_of, statements_of};
+ghost use Rattle.strand_moves.specs.Moves.{Makes, MovesTrail, present_pedigree};
 ghost use Rattle.strand_moves.specs.Quick.{StaysThere, emitted, quiet};
 
+use crate::children::handed;
 use crate::effects::MoveResult;
 use crate::quick::{emitted, quiet};
 use crate::running::Running;
@@ -32,9 +33,9 @@ impl Running {
     ) -> Result<MoveResult, Halt>
         requires instance { IsInstance plan.now self.old }
         requires goes_on { self.old.leaving ≡ false }
-        requires behind { IsBehind (text_of plan.now self.old.top) self.old.top.cursor statement.now }
+        requires behind { IsBehind (statements_of plan.now self.old.top) self.old.top.cursor statement.now }
         ensures shows { let m = machine_of plan.now self.old in
-            Makes (statement_move plan.now (path_of self.old) m statement.now m.top.left) (strand_of (present_of self.old) m) (machine_of plan.now self.new) result }
+            Makes (statement_move plan.now (path_of self.old) m statement.now m.top.left) (present_pedigree (present_of self.old) m) (machine_of plan.now self.new) result }
         ensures child { IfOk result (MovesTrail plan.now) }
         ensures keeps { Keeps plan.now self.old self.new result }
     {
@@ -44,7 +45,7 @@ impl Running {
             Act::Array(x, n) => quiet(self.array(alloc, x, *n)),
             Act::Set(x, r) => self.assign(alloc, plan, x, r),
             Act::Store(x, i, e) => quiet(self.store(x, i, e)),
-            Act::Spawn(c) => self.spawn(alloc, plan, None, c),
+            Act::Spawn(c) => handed(alloc, self.spawn(alloc, plan, None, c)),
             Act::Call(c) => quiet(self.call(alloc, plan, None, c)),
             Act::Sync => self.wait(),
             Act::Print(e) => emitted(self.print(e)),
@@ -109,7 +110,7 @@ impl Running {
     }
 
     pub(crate) fn branch(&mut self, e: &Expr) -> Result<(), Halt>
-        ensures shows { (plan : PlanView) (st : Stmt) (yes no : List Stmt) → IsBehind (text_of plan self.old.top) self.old.top.cursor st →
+        ensures shows { (plan : PlanView) (st : Stmt) (yes no : List Stmt) → IsBehind (statements_of plan self.old.top) self.old.top.cursor st →
             out-Act (out-Stmt st).act ≡ act.If e.now yes no → Acts plan st (act.If e.now yes no) self.old self.new (quiet result) }
         ensures same { (kind : FaultKind) → result ≡ Err (Fault kind) → self.new ≡ self.old }
         ensures there { StaysThere self.old self.new }
@@ -123,7 +124,7 @@ impl Running {
 
     #[inline(always)]
     pub(crate) fn while_test(&mut self, e: &Expr) -> Result<(), Halt>
-        ensures shows { (plan : PlanView) (st : Stmt) (body : List Stmt) → IsBehind (text_of plan self.old.top) self.old.top.cursor st →
+        ensures shows { (plan : PlanView) (st : Stmt) (body : List Stmt) → IsBehind (statements_of plan self.old.top) self.old.top.cursor st →
             out-Act (out-Stmt st).act ≡ act.While e.now body → Acts plan st (act.While e.now body) self.old self.new (quiet result) }
         ensures same { (kind : FaultKind) → result ≡ Err (Fault kind) → self.new ≡ self.old }
         ensures there { StaysThere self.old self.new }

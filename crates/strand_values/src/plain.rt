@@ -55,6 +55,7 @@ fn operand(variables: &[Entry], e: &Expr) -> Option<i64>
 }
 
 /// The same of an operand that is seldom a number.
+#[inline(always)]
 fn first_operand(variables: &[Entry], e: &Expr) -> Option<i64>
     ensures { IfSome result (λ n. numbered (value_of e.now variables.now) ≡ Ok n) }
 {

@@ -25,7 +25,7 @@ use Rattle.serial_meaning.specs.declared.event.Fault.{Fault}
 use Rattle.serial_meaning.specs.declared.event.Event.TheVariants as event
 use Rattle.serial_meaning.specs.declared.origin.Origin.{Origin}
 use Rattle.serial_meaning.specs.declared.origin.Origin.TheVariants as origin
-use Rattle.strand_meaning.specs.Machine.{Destination, Spawned, Looped, Effect, Opens, Closes, Emitted, Handed, Syncs, Loops, Exit, Faulted, Inside, loop_effects, sync_effects, handing, inside, place_of, Level, Frame, Machine, Reached, Stands, Gives, inside_of, present, here_of, state_of, with_left, with_leaving, with_returning, back, spawns_in, entered, reached, gives, act_run, return_run, value_run, statement_move, return_move, level_move, end_move, move_at, move}
+use Rattle.strand_meaning.specs.Machine.{Destination, Spawned, Looped, Effect, Opens, Closes, Emitted, Handed, Syncs, Loops, Exit, Faulted, Inside, loop_effects, sync_effects, handing, inside, destination_of, Level, Frame, Machine, Reached, Stands, Gives, inside_of, present, here_of, state_of, with_left, with_leaving, with_returning, back, spawns_in, entered, reached, gives, act_run, return_run, value_run, statement_move, return_move, level_move, end_move, move_at, move}
 use Rattle.strand_meaning.specs.Task.{child_in}
 use Rattle.strand_meaning.proofs.SoundSteps.Own.{present-below}
 
@@ -277,7 +277,7 @@ module _ (plan : PlanView) (path : List ℕ) (k : ℕ) where
   value_rank p = p.1.rank
 
   rises-does : (height : ℕ) (st : Stmt) (a : Act-F Act Stmt) (s : State Bool) → s.rank ≡ k →
-      Rises plan path k (Enters k a) (enters-here k a) state_rank (does (handing plan (place_of height a)) plan path inside height st a s)
+      Rises plan path k (Enters k a) (enters-here k a) state_rank (does (handing plan (destination_of height a)) plan path inside height st a s)
   rises-does height st (act.Let x r) s e =
       let place = Spawned height (Some x) in rises-then plan path k Same refl value_rank state_rank (right_side (handing plan place) plan path inside height r s) _ (λ p. refl) (rises-right plan path k Same refl place height r s e)
   rises-does height st (act.Array x n) s e = omega arith
@@ -387,7 +387,7 @@ module _ (plan : PlanView) (path : List ℕ) (m : Machine) where
       let a = out-Act (out-Stmt st).act in
       let r = act_run plan path m st a in
       reached-on (Enters m.rank a) (enters-here m.rank a) (with_left m left) (entered plan st a left m) rises-on (λ sts s e. entered-on st a left sts s e) r.items r.ending
-      (rises-paid plan (here_of path m) m.rank (Enters m.rank a) (enters-here m.rank a) (λ s. s.rank) (place_of (length m.below) a) m.steps (state_of m) refl _
+      (rises-paid plan (here_of path m) m.rank (Enters m.rank a) (enters-here m.rank a) (λ s. s.rank) (destination_of (length m.below) a) m.steps (state_of m) refl _
       (λ s e. rises-does plan (here_of path m) m.rank (length m.below) st a s e))
 
   abbrev Here : ℕ → Type 0

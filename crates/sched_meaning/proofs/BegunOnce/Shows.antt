@@ -25,7 +25,7 @@ use Rattle.serial_meaning.specs.declared.event.Fault.{Fault}
 use Rattle.serial_meaning.specs.declared.event.Event.TheVariants as event
 use Rattle.serial_meaning.specs.declared.origin.Origin.{Origin}
 use Rattle.serial_meaning.specs.declared.origin.Origin.TheVariants as origin
-use Rattle.strand_meaning.specs.Machine.{Destination, Spawned, Looped, Effect, Opens, Closes, Emitted, Handed, Syncs, Loops, Exit, Faulted, Inside, loop_effects, sync_effects, handing, inside, place_of, Level, Frame, Machine, Reached, Stands, Gives, here_of, state_of, with_left, with_leaving, with_returning, back, entered, reached, gives, spawns_in, return_run, value_run, return_move, level_move, end_move, move_at, move}
+use Rattle.strand_meaning.specs.Machine.{Destination, Spawned, Looped, Effect, Opens, Closes, Emitted, Handed, Syncs, Loops, Exit, Faulted, Inside, loop_effects, sync_effects, handing, inside, destination_of, Level, Frame, Machine, Reached, Stands, Gives, here_of, state_of, with_left, with_leaving, with_returning, back, entered, reached, gives, spawns_in, return_run, value_run, return_move, level_move, end_move, move_at, move}
 use Rattle.strand_meaning.proofs.SoundSteps.Own.{here-below}
 
 -- the children among these
@@ -150,7 +150,7 @@ module _ (plan : PlanView) (path : List ℕ) (k : ℕ) where
       by_size : (n : ℕ) → fits_depth (what place) plan path n ≡ true → AtMostOne plan path pedigree (children (loop_effects (is_zero (n - 0)) (loop_of n) place ++ []))
       by_size n h = by_empty n (is_zero (n - 0)) refl h
 
-  hands-does : (height : ℕ) (st : Stmt) (a : Act-F Act Stmt) (s : State Bool) → s.rank ≡ k → HandsOut (does (what (place_of height a)) plan path inside height st a s)
+  hands-does : (height : ℕ) (st : Stmt) (a : Act-F Act Stmt) (s : State Bool) → s.rank ≡ k → HandsOut (does (what (destination_of height a)) plan path inside height st a s)
   hands-does height st (act.Let x r) s at_rank = hands-then (right_side (what (Spawned height (Some x))) plan path inside height r s) _ (hands-right height (Some x) height r s at_rank)
   hands-does height st (act.Array x n) s at_rank = tt
   hands-does height st (act.Set x r) s at_rank = hands-then (right_side (what (Spawned height (Some x))) plan path inside height r s) _ (hands-right height (Some x) height r s at_rank)
@@ -249,7 +249,7 @@ module _ (plan : PlanView) (path : List ℕ) (m : Machine) where
   by_left [] = by_levels m.top.levels
   by_left (st ∷ left) =
       let a = out-Act (out-Stmt st).act in
-      let r = hands-paid plan here m.rank (place_of (length m.below) a) m.steps (state_of m) _ (λ s same. hands-does plan here m.rank (length m.below) st a s same) in
+      let r = hands-paid plan here m.rank (destination_of (length m.below) a) m.steps (state_of m) _ (λ s same. hands-does plan here m.rank (length m.below) st a s same) in
       hands-reached plan here m.rank _ (with_left m left) (entered plan st a left m) _ r
 
   pub move_hands : MoveHands plan path (strand_at path m) (children (move plan path m).items) (move plan path m).ending

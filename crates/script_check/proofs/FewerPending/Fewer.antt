@@ -21,10 +21,10 @@ use Rattle.script_check.specs.Functions.{function_named}
 use Rattle.script_check.specs.Violations.{broken}
 use Rattle.script_check.specs.Names.{Names, IsWithin}
 use Rattle.script_check.specs.Rules.{Declared, wrong_kind, wrong_use, unknown_function, wrong_number_of_arguments, pending_variable, scalar_use, array_use}
-use Rattle.script_check.specs.Expressions.{Faults, Reading, wanted, two_wanted, all_wanted, read_at, read, read_sum_part, read_product_part}
+use Rattle.script_check.specs.Expressions.{Violations, Reading, wanted, two_wanted, all_wanted, read_at, read, read_sum_part, read_product_part}
 use Rattle.script_check.specs.Statements.{arguments, call_of, read_right, wanted_as, loop_arguments, loop_call_of, taken_kind, target_use}
 
-abbrev pub Fine : Faults → Type 0
+abbrev pub Fine : Violations → Type 0
 Fine f = (known : Declared) (fewer p : Names) → IsWithin fewer p → f known p ≡ [] → f known fewer ≡ []
 
 pub nothing_left : {A : Type 0} (xs ys : List A) → xs ++ ys ≡ [] → xs ≡ []
@@ -44,7 +44,7 @@ none_fine known fewer p w h = refl
 pub same_fine : (vs : Declared → List Violation) → Fine (λ known p. vs known)
 same_fine vs known fewer p w h = h
 
-pub append_fine : (f g : Faults) → Fine f → Fine g → Fine (λ known p. f known p ++ g known p)
+pub append_fine : (f g : Violations) → Fine f → Fine g → Fine (λ known p. f known p ++ g known p)
 append_fine f g hf hg known fewer p w h =
     both_nothing (f known fewer) (g known fewer) (hf known fewer p w (nothing_left (f known p) (g known p) h)) (hg known fewer p w (nothing_right (f known p) (g known p) h))
 

@@ -7,9 +7,9 @@ use Rattle.script_check.specs.Violations.{noted}
 use Rattle.script_check.specs.Names.{Names, nobody, only, both}
 use Rattle.script_grammar.specs.declared.tree.Kind.TheVariants.{Int}
 use Rattle.script_check.specs.Rules.{Declared}
-use Rattle.script_check.specs.Expressions.{Faults, Reading, wanted}
+use Rattle.script_check.specs.Expressions.{Violations, Reading, wanted}
 use Rattle.script_check.specs.Statements.{place, Judged, judge, judge_all, known_each, faults_each, after}
-use Rattle.script_check.specs.Walk.{WalkState, keeps, keeps_all, behind, behind_all}
+use Rattle.script_check.specs.Walk.{WalkState, keeps, keeps_all, state_after, state_after_all}
 use Rattle.script_check.proofs.LeastViolation.Noted.{noted_append, after_two, after_three}
 use Rattle.script_check.proofs.Walk.Reading.{at_index}
 use Rattle.script_check.proofs.FewerPending.Linear.{linear_all, loop_set}
@@ -20,16 +20,16 @@ turned true false c = refl
 turned false true c = refl
 turned false false c = refl
 
-pub behind_first : (functions : List Function) (s : Stmt) (ss : List Stmt) (state : WalkState) → behind_all functions ss (behind functions s state) ≡ behind_all functions (s ∷ ss) state
-behind_first functions s ss state = ap (λ b. record (behind_all functions (s ∷ ss) state) { keeps = b }) (turned (keeps_all ss) (keeps s) state.keeps)
+pub behind_first : (functions : List Function) (s : Stmt) (ss : List Stmt) (state : WalkState) → state_after_all functions ss (state_after functions s state) ≡ state_after_all functions (s ∷ ss) state
+behind_first functions s ss state = ap (λ b. record (state_after_all functions (s ∷ ss) state) { keeps = b }) (turned (keeps_all ss) (keeps s) state.keeps)
 
-pub one_behind : (functions : List Function) (ss : List Stmt) (i : ℕ) (s : Stmt) (state next : WalkState) → i < length ss → s ≡ get_or ss i s → next ≡ behind functions s state →
-    behind_all functions (drop (i + 1) ss) next ≡ behind_all functions (drop i ss) state
+pub one_behind : (functions : List Function) (ss : List Stmt) (i : ℕ) (s : Stmt) (state next : WalkState) → i < length ss → s ≡ get_or ss i s → next ≡ state_after functions s state →
+    state_after_all functions (drop (i + 1) ss) next ≡ state_after_all functions (drop i ss) state
 one_behind functions ss i s state next h is e =
-    ap (behind_all functions (drop (i + 1) ss)) e ∙ behind_first functions s (drop (i + 1) ss) state ∙ ap (λ l. behind_all functions l state) (sym (at_index ss i s h is))
+    ap (state_after_all functions (drop (i + 1) ss)) e ∙ behind_first functions s (drop (i + 1) ss) state ∙ ap (λ l. state_after_all functions l state) (sym (at_index ss i s h is))
 
 pub one_judged : (functions : List Function) (in_block : Bool) (ss : List Stmt) (i : ℕ) (s : Stmt) (state next : WalkState) (before now : Option Violation) →
-    i < length ss → s ≡ get_or ss i s → next ≡ behind functions s state →
+    i < length ss → s ≡ get_or ss i s → next ≡ state_after functions s state →
     now ≡ noted before ((judge s).faults (place functions in_block) state.known state.names) →
     noted now (faults_each (judge_all (drop (i + 1) ss)) (place functions in_block) next.known next.names)
     ≡ noted before (faults_each (judge_all (drop i ss)) (place functions in_block) state.known state.names)
@@ -39,7 +39,7 @@ one_judged functions in_block ss i s state next before now h is e n =
     ∙ sym (noted_append before ((judge s).faults (place functions in_block) state.known state.names) (rest ((judge s).known functions state.known) ((judge s).after state.names)))
     ∙ ap (λ (l : List Stmt). noted before (faults_each (judge_all l) (place functions in_block) state.known state.names)) (sym (at_index ss i s h is))
   where
-    rest : Faults
+    rest : Violations
     rest = faults_each (judge_all (drop (i + 1) ss)) (place functions in_block)
 
 -- the sets at the end of an `if` and at the beginning of a `while`
@@ -121,6 +121,6 @@ module _ (functions : List Function) (a : List Stmt) where
 
 -- a statement of which this is told
 pub behind_by : (functions : List Function) (s : Stmt) (j : Judged) (kept : Bool) (state : WalkState) → judge s ≡ j → keeps s ≡ kept →
-    behind functions s state ≡ record { known = j.known functions state.known; names = j.after state.names; keeps = kept && state.keeps; before = state.before }
+    state_after functions s state ≡ record { known = j.known functions state.known; names = j.after state.names; keeps = kept && state.keeps; before = state.before }
 behind_by functions s j kept state e k i =
     record { known = (e i).known functions state.known; names = (e i).after state.names; keeps = k i && state.keeps; before = state.before }

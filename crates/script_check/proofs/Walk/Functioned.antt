@@ -12,14 +12,14 @@ use Rattle.script_check.specs.Statements.{place, judge_all, known_each, faults_e
 use Rattle.script_check.specs.Valid.{known_params, param_faults, function_faults, all_function_faults, functions_twice, main_faults, violations, CheckFault}
 use Rattle.script_check.specs.Functions.{function_named, main_name}
 use Rattle.script_check.proofs.LeastViolation.Least.{least_contained, none_before_least}
-use Rattle.script_check.specs.Walk.{WalkState, behind_all}
+use Rattle.script_check.specs.Walk.{WalkState, state_after_all}
 use Rattle.script_check.proofs.LeastViolation.Noted.{noted_append, after_three}
 use Rattle.script_check.proofs.Walk.Reading.{at_index}
 
 pub function_judged : (fs : List Function) (f : Function) (new params body end : WalkState) (found first second third : Option Violation) →
     new.known ≡ no_entries → new.names ≡ nobody →
     params ≡ record new { known = known_params f.params new.known } → first ≡ noted found (param_faults f.params new.known) →
-    body ≡ behind_all fs f.body params → second ≡ noted first (faults_each (judge_all f.body) (place fs false) params.known params.names) →
+    body ≡ state_after_all fs f.body params → second ≡ noted first (faults_each (judge_all f.body) (place fs false) params.known params.names) →
     end ≡ record body { names = nobody; keeps = false } → third ≡ noted second (wanted f.answer (read f.result) end.known end.names) →
     third ≡ noted found (function_faults fs f)
 function_judged fs f new params body end found first second third k p s1 f1 s2 f2 s3 f3 =

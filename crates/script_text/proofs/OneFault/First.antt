@@ -17,7 +17,7 @@ use Rattle.script_grammar.specs.Text.{tokens_of, SyntaxFault}
 use Rattle.script_grammar.proofs.Versions.{are_of_cut}
 use Rattle.script_text.specs.Faults.{HasTokens, HasFault, not_ascii, no_token, of_token, unexpected_end, IsFirstFault}
 use Rattle.script_text.specs.Laws.{FaultIsFirst}
-use Rattle.script_text.specs.Machine.{Sym, functions, depth, Fault, judge}
+use Rattle.script_text.specs.Machine.{Sym, functions, nesting, PlacedFault, judge}
 use Rattle.script_text.proofs.Nesting.Sound.{viable, are-append, are-first}
 use Rattle.script_text.proofs.OneFault.Judged.{StandsAfter, Says, judged, of_none, bad_is_fault}
 use Rattle.script_text.proofs.OneFault.Unique.{one_number, taken_low}
@@ -47,7 +47,7 @@ row-at (u ∷ b) after t from end r = let l = row-at b after t (suc u.at) end r.
 
 module _ (version : Version) (ending : TextEnd) where
   -- the fault of some tokens isn't after that of one of them
-  first-token : (b before after : List Token) (t : Token) (s : List Sym) → AreOf version before → AreOf version (b ++ t ∷ after) → StandsAfter before s → depth s ≤ 64 → (from end : ℕ) → InRow from (b ++ t ∷ after) end →
+  first-token : (b before after : List Token) (t : Token) (s : List Sym) → AreOf version before → AreOf version (b ++ t ∷ after) → StandsAfter before s → nesting s ≤ 64 → (from end : ℕ) → InRow from (b ++ t ∷ after) end →
       (number at n : ℕ) → FaultBehind version ending before (b ++ t ∷ after) number at → IsFault version (before ++ b) t n → NotAfter number at n t.at
   first-token [] before after t s of more st low from end r number at n f g = go f
     where
@@ -69,7 +69,7 @@ module _ (version : Version) (ending : TextEnd) where
       there = subst (λ l. IsFault version l t n) (sym (append_assoc before (u ∷ []) b)) g
 
       go : FaultBehind version ending before (u ∷ (b ++ t ∷ after)) number at →
-          ((x : List Sym) → StandsAfter (before ++ u ∷ []) x → depth x ≤ 64 → (from end : ℕ) → InRow from (b ++ t ∷ after) end → (number at n : ℕ) → FaultBehind version ending (before ++ u ∷ []) (b ++ t ∷ after) number at →
+          ((x : List Sym) → StandsAfter (before ++ u ∷ []) x → nesting x ≤ 64 → (from end : ℕ) → InRow from (b ++ t ∷ after) end → (number at n : ℕ) → FaultBehind version ending (before ++ u ∷ []) (b ++ t ∷ after) number at →
           IsFault version ((before ++ u ∷ []) ++ b) t n → NotAfter number at n t.at) → NotAfter number at n t.at
       go (inl x) later = let l = row-at b after t (suc u.at) end r.1 in inl (omega (arith, x.1, l))
       go (inr x) later = let q = taken_low version before u s of' st x.0 in later q.0 q.1 q.2 (suc u.at) end r.1 number at n x.1 there
@@ -119,7 +119,7 @@ module _ (bytes : List ℕ) (ls : List Lexeme) (stop : LexEnd) (cut : IsLexed by
   has-stop (NoToken place) e before s of st same number at f =
       subst (λ n. HasFault bytes n at) (sym f.0) (subst (HasFault bytes 2) (sym f.1) (no_token (subst (HasTokens bytes tokens) e has-tokens)))
 
-  has-of : (ts before : List Token) (s : List Sym) → AreOf version before → AreOf version ts → StandsAfter before s → depth s ≤ 64 → before ++ ts ≡ tokens → (number at : ℕ) → FaultBehind version ending before ts number at → HasFault bytes number at
+  has-of : (ts before : List Token) (s : List Sym) → AreOf version before → AreOf version ts → StandsAfter before s → nesting s ≤ 64 → before ++ ts ≡ tokens → (number at : ℕ) → FaultBehind version ending before ts number at → HasFault bytes number at
   has-of [] before s of more st low same number at f = has-stop stop refl before s of st (sym (append-nil before) ∙ same) number at f
   has-of (t ∷ ts) before s of more st low same number at f = go f (λ x. has-of ts (before ++ t ∷ []) x of' (are-first version t ts more).1)
     where
@@ -127,7 +127,7 @@ module _ (bytes : List ℕ) (ls : List Lexeme) (stop : LexEnd) (cut : IsLexed by
       of' = are-append version before (t ∷ []) of (are-first version t ts more).0
 
       go : FaultBehind version ending before (t ∷ ts) number at →
-          ((x : List Sym) → StandsAfter (before ++ t ∷ []) x → depth x ≤ 64 → (before ++ t ∷ []) ++ ts ≡ tokens → (number at : ℕ) → FaultBehind version ending (before ++ t ∷ []) ts number at → HasFault bytes number at) → HasFault bytes number at
+          ((x : List Sym) → StandsAfter (before ++ t ∷ []) x → nesting x ≤ 64 → (before ++ t ∷ []) ++ ts ≡ tokens → (number at : ℕ) → FaultBehind version ending (before ++ t ∷ []) ts number at → HasFault bytes number at) → HasFault bytes number at
       go (inl x) later = subst (HasFault bytes number) (sym x.1) (of_token ts (subst (λ l. HasTokens bytes l stop) (sym same) has-tokens) x.0)
       go (inr x) later = let q = taken_low version before t s of' st x.0 in later q.0 q.1 q.2 (append_assoc before (t ∷ []) ts ∙ same) number at x.1
 
@@ -214,7 +214,7 @@ module _ (bytes : List ℕ) (ls : List Lexeme) (stop : LexEnd) (cut : IsLexed by
   told : (number at : ℕ) → HasFault bytes number at → (n place : ℕ) × SyntaxFault bytes n place
   told number at h = by_answer (judge ending 0 (functions ∷ []) tokens) refl
     where
-      by_answer : (o : Option Fault) → judge ending 0 (functions ∷ []) tokens ≡ o → (n place : ℕ) × SyntaxFault bytes n place
+      by_answer : (o : Option PlacedFault) → judge ending 0 (functions ∷ []) tokens ≡ o → (n place : ℕ) × SyntaxFault bytes n place
       by_answer (Some x) e = (x.0, x.1, record { lexemes = ls; stop = stop; cut = cut; fault = bad_is_fault version ending tokens x.0 x.1 tokens-of e })
       by_answer None e =
           let w = subst (Says version ending [] tokens) e (judged version ending tokens [] 0 (functions ∷ []) none-of tokens-of refl refl) in absurd (no-fault w.0 w.1 w.2.0 w.2.1 number at h)

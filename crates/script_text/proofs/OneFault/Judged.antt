@@ -13,8 +13,8 @@ use Rattle.script_tokens.specs.declared.lexing.LexEnd.TheVariants.{End, NotAscii
 use Rattle.script_grammar.specs.declared.tree.Function.{Function}
 use Rattle.script_grammar.specs.Grammar.{Token, tok, decimal, IsScript, AreOf, IsViable}
 use Rattle.script_grammar.specs.Nesting.{functions_nesting}
-use Rattle.script_grammar.specs.Fault.{is_fn, functions_begun, IsNested, BreaksLimit, number_out_of_range, name_too_long, nested_too_deep, too_many_functions, IsFault, unexpected, breaks_limit, TextEnd, FaultAtStop, FaultBehind, WithinBehind, IsProgram}
-use Rattle.script_text.specs.Machine.{Sym, functions, same_word, is_empty, step, run, depth, Trace, onward, trace, all_empty, Fault, broken, unless_broken, verdict, at_stop, begun, judge}
+use Rattle.script_grammar.specs.Fault.{is_fn, functions_begun, NestsAt, BreaksLimit, number_out_of_range, name_too_long, nested_too_deep, too_many_functions, IsFault, unexpected, breaks_limit, TextEnd, FaultAtStop, FaultBehind, WithinBehind, IsProgram}
+use Rattle.script_text.specs.Machine.{Sym, functions, same_word, is_empty, step, run, nesting, Nestings, onward, nestings, all_empty, PlacedFault, broken, unless_broken, verdict, at_stop, begun, judge}
 use Rattle.script_text.proofs.Parsing.Words.{same_words}
 use Rattle.script_text.proofs.Nesting.Follows.{behind, script_traced, script_runs}
 use Rattle.script_text.proofs.Nesting.Sound.{Derives, run_sound, run-append, whole, left_out, viable, taken, are-append, are-first}
@@ -44,29 +44,29 @@ slice_get-seam : (ns : List ℕ) (n : ℕ) (more : List ℕ) → slice_get (ns +
 slice_get-seam [] n more = refl
 slice_get-seam (m ∷ ns) n more = slice_get-seam ns n more
 
--- a run, step by step, with the depth after each token
+-- a run, step by step, with the nesting after each token
 data Steps : List Token → List Sym → List ℕ → List Sym → Type 0 where
   stopped : {s : List Sym} → Steps [] s [] s
-  stepped : {t : Token} {ts : List Token} {s x s' : List Sym} {ns : List ℕ} → step t.word t.text s ≡ Some x → Steps ts x ns s' → Steps (t ∷ ts) s (depth x ∷ ns) s'
+  stepped : {t : Token} {ts : List Token} {s x s' : List Sym} {ns : List ℕ} → step t.word t.text s ≡ Some x → Steps ts x ns s' → Steps (t ∷ ts) s (nesting x ∷ ns) s'
 
 steps : (ts : List Token) (s s' : List Sym) → run ts s ≡ Some s' → (ns : List ℕ) × Steps ts s ns s'
 steps [] s s' e = ([], subst (λ x. Steps [] s [] x) (same_Some _ _ e) stopped)
-steps (t ∷ ts) s s' e = option_and_then_some (run ts) (step t.word t.text s) s' e (λ x f g. let r = steps ts x s' g in (depth x ∷ r.0, stepped f r.1))
+steps (t ∷ ts) s s' e = option_and_then_some (run ts) (step t.word t.text s) s' e (λ x f g. let r = steps ts x s' g in (nesting x ∷ r.0, stepped f r.1))
 
 length-steps : {ts : List Token} {s s' : List Sym} {ns : List ℕ} → Steps ts s ns s' → length ns ≡ length ts
 length-steps stopped = refl
 length-steps (stepped e r) = ap suc (length-steps r)
 
-trace-append : {ts : List Token} {s s' : List Sym} {ns : List ℕ} (us : List Token) → Steps ts s ns s' → trace (ts ++ us) s ≡ behind ns (trace us s')
-trace-append {s = s} us stopped = none (trace us s)
+trace-append : {ts : List Token} {s s' : List Sym} {ns : List ℕ} (us : List Token) → Steps ts s ns s' → nestings (ts ++ us) s ≡ behind ns (nestings us s')
+trace-append {s = s} us stopped = none (nestings us s)
   where
-    none : (o : Trace) → o ≡ behind [] o
+    none : (o : Nestings) → o ≡ behind [] o
     none None = refl
     none (Some p) = refl
 trace-append {s' = s'} us (stepped {t = t} {ts = ts} {x = x} {ns = ns} e r) =
-    ap (λ o. onward o (trace (ts ++ us))) e ∙ ap (option_and_then (λ p. Some (depth x ∷ p.0, p.1))) (trace-append us r) ∙ longer (depth x) ns (trace us s')
+    ap (λ o. onward o (nestings (ts ++ us))) e ∙ ap (option_and_then (λ p. Some (nesting x ∷ p.0, p.1))) (trace-append us r) ∙ longer (nesting x) ns (nestings us s')
   where
-    longer : (n : ℕ) (ns : List ℕ) (o : Trace) → option_and_then (λ p. Some (n ∷ p.0, p.1)) (behind ns o) ≡ behind (n ∷ ns) o
+    longer : (n : ℕ) (ns : List ℕ) (o : Nestings) → option_and_then (λ p. Some (n ∷ p.0, p.1)) (behind ns o) ≡ behind (n ∷ ns) o
     longer n ns None = refl
     longer n ns (Some p) = refl
 
@@ -76,40 +76,40 @@ none_of One = refl
 none_of Two = tt
 
 module _ (version : Version) where
-  -- the depth after a token is its nesting in every script that goes on so
-  pub nested_so : (before : List Token) (t : Token) (s s' : List Sym) → StandsAfter before s → step t.word t.text s ≡ Some s' → (n : ℕ) → IsNested version before t n → n ≡ depth s'
+  -- the nesting after a token is its nesting in every script that goes on so
+  pub nested_so : (before : List Token) (t : Token) (s s' : List Sym) → StandsAfter before s → step t.word t.text s ≡ Some s' → (n : ℕ) → NestsAt version before t n → n ≡ nesting s'
   nested_so before t s s' st e n h =
       let r = steps before (functions ∷ []) s st in
-      let split : trace (before ++ t ∷ h.0) (functions ∷ []) ≡ behind r.0 (onward (Some s') (trace h.0)) =
-      trace-append (t ∷ h.0) r.1 ∙ ap (λ o. behind r.0 (onward o (trace h.0))) e in
-      go (functions_nesting h.3 0) r.0 (trace h.0 s') (length-steps r.1) (sym (script_traced h.3) ∙ split) h.4
+      let split : nestings (before ++ t ∷ h.0) (functions ∷ []) ≡ behind r.0 (onward (Some s') (nestings h.0)) =
+      trace-append (t ∷ h.0) r.1 ∙ ap (λ o. behind r.0 (onward o (nestings h.0))) e in
+      go (functions_nesting h.3 0) r.0 (nestings h.0 s') (length-steps r.1) (sym (script_traced h.3) ∙ split) h.4
     where
-      go : (levels ns : List ℕ) (o : Trace) → length ns ≡ length before → Some (levels, functions ∷ []) ≡ behind ns (option_and_then (λ p. Some (depth s' ∷ p.0, p.1)) o) → slice_get levels (length before) ≡ Some n → n ≡ depth s'
+      go : (levels ns : List ℕ) (o : Nestings) → length ns ≡ length before → Some (levels, functions ∷ []) ≡ behind ns (option_and_then (λ p. Some (nesting s' ∷ p.0, p.1)) o) → slice_get levels (length before) ≡ Some n → n ≡ nesting s'
       go levels ns None f g k = absurd (none-some _ (sym g))
       go levels ns (Some p) f g k =
-          let whole : levels ≡ ns ++ depth s' ∷ p.0 = ap (λ q. q.0) (same_Some _ _ g) in
-          let there : slice_get levels (length before) ≡ Some (depth s') = ap (λ q. slice_get q (length before)) whole ∙ ap (slice_get (ns ++ depth s' ∷ p.0)) (sym f) ∙ slice_get-seam ns (depth s') p.0 in
+          let whole : levels ≡ ns ++ nesting s' ∷ p.0 = ap (λ q. q.0) (same_Some _ _ g) in
+          let there : slice_get levels (length before) ≡ Some (nesting s') = ap (λ q. slice_get q (length before)) whole ∙ ap (slice_get (ns ++ nesting s' ∷ p.0)) (sym f) ∙ slice_get-seam ns (nesting s') p.0 in
           same_Some _ _ (sym k ∙ there)
 
   pub of_none : AreOf version []
   of_none = none_of version
 
   -- and there is such a script
-  pub is_nested : (before : List Token) (t : Token) (s s' : List Sym) → AreOf version (before ++ t ∷ []) → StandsAfter before s → step t.word t.text s ≡ Some s' → StandsAfter (before ++ t ∷ []) s' → IsNested version before t (depth s')
+  pub is_nested : (before : List Token) (t : Token) (s s' : List Sym) → AreOf version (before ++ t ∷ []) → StandsAfter before s → step t.word t.text s ≡ Some s' → StandsAfter (before ++ t ∷ []) s' → NestsAt version before t (nesting s')
   is_nested before t s s' of st e st' =
       let v = viable version (before ++ t ∷ []) s' of st' in
       let d : IsScript (before ++ t ∷ v.0) v.1 = subst (λ x. IsScript x v.1) (append_assoc before (t ∷ []) v.0) v.2.1 in
       let of' : AreOf version (before ++ t ∷ v.0) = subst (AreOf version) (append_assoc before (t ∷ []) v.0) v.2.0 in
       let r = steps before (functions ∷ []) s st in
-      let split : trace (before ++ t ∷ v.0) (functions ∷ []) ≡ behind r.0 (onward (Some s') (trace v.0)) =
-      trace-append (t ∷ v.0) r.1 ∙ ap (λ o. behind r.0 (onward o (trace v.0))) e in
-      (v.0, v.1, of', d, go (functions_nesting d 0) r.0 (trace v.0 s') (length-steps r.1) (sym (script_traced d) ∙ split))
+      let split : nestings (before ++ t ∷ v.0) (functions ∷ []) ≡ behind r.0 (onward (Some s') (nestings v.0)) =
+      trace-append (t ∷ v.0) r.1 ∙ ap (λ o. behind r.0 (onward o (nestings v.0))) e in
+      (v.0, v.1, of', d, go (functions_nesting d 0) r.0 (nestings v.0 s') (length-steps r.1) (sym (script_traced d) ∙ split))
     where
-      go : (levels ns : List ℕ) (o : Trace) → length ns ≡ length before → Some (levels, functions ∷ []) ≡ behind ns (option_and_then (λ p. Some (depth s' ∷ p.0, p.1)) o) → slice_get levels (length before) ≡ Some (depth s')
+      go : (levels ns : List ℕ) (o : Nestings) → length ns ≡ length before → Some (levels, functions ∷ []) ≡ behind ns (option_and_then (λ p. Some (nesting s' ∷ p.0, p.1)) o) → slice_get levels (length before) ≡ Some (nesting s')
       go levels ns None f g = absurd (none-some _ (sym g))
       go levels ns (Some p) f g =
-          let whole : levels ≡ ns ++ depth s' ∷ p.0 = ap (λ q. q.0) (same_Some _ _ g) in
-          ap (λ q. slice_get q (length before)) whole ∙ ap (slice_get (ns ++ depth s' ∷ p.0)) (sym f) ∙ slice_get-seam ns (depth s') p.0
+          let whole : levels ≡ ns ++ nesting s' ∷ p.0 = ap (λ q. q.0) (same_Some _ _ g) in
+          ap (λ q. slice_get q (length before)) whole ∙ ap (slice_get (ns ++ nesting s' ∷ p.0)) (sym f) ∙ slice_get-seam ns (nesting s') p.0
 
   -- Limits
 
@@ -132,7 +132,7 @@ module _ (version : Version) where
   both false b e = cc
 
   -- a broken limit, and none
-  is_broken : (before : List Token) (t : Token) (d k : ℕ) → IsNested version before t d → broken (functions_begun before) t d ≡ Some k → BreaksLimit version before t k
+  is_broken : (before : List Token) (t : Token) (d k : ℕ) → NestsAt version before t d → broken (functions_begun before) t d ≡ Some k → BreaksLimit version before t k
   is_broken before t d k nest e =
       go (same_word t.word word.Number && nat_lt 9223372036854775807 (decimal 0 t.text)) (same_word t.word word.Name && nat_lt 32 (length t.text))
       (is_fn t.word && nat_lt 1023 (functions_begun before)) (nat_lt 64 d) refl refl refl refl e
@@ -159,7 +159,7 @@ module _ (version : Version) where
   never_some : (k d : ℕ) (b : Bool) → b ≡ true → or_deep k d b ≡ None → ⊥
   never_some k d b e f = none-some k (sym f ∙ ap (or_deep k d) e)
 
-  not_broken : (before : List Token) (t : Token) (d : ℕ) → ((n : ℕ) → IsNested version before t n → n ≡ d) → broken (functions_begun before) t d ≡ None → (k : ℕ) → BreaksLimit version before t k → ⊥
+  not_broken : (before : List Token) (t : Token) (d : ℕ) → ((n : ℕ) → NestsAt version before t n → n ≡ d) → broken (functions_begun before) t d ≡ None → (k : ℕ) → BreaksLimit version before t k → ⊥
   not_broken before t d nest e k (number_out_of_range w h) =
       let f : broken (functions_begun before) (tok t.at word.Number t.text) d ≡ None = subst (λ v. broken (functions_begun before) (tok t.at v t.text) d ≡ None) w e in
       never_some 3 d _ (lt-ltb 9223372036854775807 (decimal 0 t.text) h) f
@@ -183,7 +183,7 @@ module _ (version : Version) where
       last false false false false e = refl
 
   -- what an answer says of the tokens after these
-  abbrev pub Says : TextEnd → List Token → List Token → Option Fault → Type 0
+  abbrev pub Says : TextEnd → List Token → List Token → Option PlacedFault → Type 0
   Says ending before ts (Some f) = FaultBehind version ending before ts f.0 f.1
   Says ending before ts None = (ending.stop ≡ End) × WithinBehind version before ts × ((fs : List Function) × IsScript (before ++ ts) fs)
 
@@ -217,24 +217,24 @@ module _ (version : Version) where
       of' : AreOf version (before ++ t ∷ [])
       of' = are-append version before (t ∷ []) of (are-first version t ts more).0
 
-      within : (s' : List Sym) → step t.word t.text s ≡ Some s' → StandsAfter (before ++ t ∷ []) s' → (o : Option ℕ) → broken n t (depth s') ≡ o → Says ending (before ++ t ∷ []) ts (judge ending (begun t n) s' ts)
+      within : (s' : List Sym) → step t.word t.text s ≡ Some s' → StandsAfter (before ++ t ∷ []) s' → (o : Option ℕ) → broken n t (nesting s') ≡ o → Says ending (before ++ t ∷ []) ts (judge ending (begun t n) s' ts)
           → Says ending before (t ∷ ts) (unless_broken o t.at (judge ending (begun t n) s' ts))
       within s' f st' (Some k) g r =
-          let g' : broken (functions_begun before) t (depth s') ≡ Some k = ap (λ m. broken m t (depth s')) (sym e) ∙ g in
-          inl (breaks_limit (viable version _ s' of' st') (is_broken before t (depth s') k (is_nested before t s s' of' st f st') g'), refl)
+          let g' : broken (functions_begun before) t (nesting s') ≡ Some k = ap (λ m. broken m t (nesting s')) (sym e) ∙ g in
+          inl (breaks_limit (viable version _ s' of' st') (is_broken before t (nesting s') k (is_nested before t s s' of' st f st') g'), refl)
       within s' f st' None g r = on_rest (judge ending (begun t n) s' ts) r
         where
           fine : (k : ℕ) → BreaksLimit version before t k → ⊥
-          fine = not_broken before t (depth s') (nested_so before t s s' st f) (ap (λ m. broken m t (depth s')) (sym e) ∙ g)
+          fine = not_broken before t (nesting s') (nested_so before t s s' st f) (ap (λ m. broken m t (nesting s')) (sym e) ∙ g)
 
-          on_rest : (o : Option Fault) → Says ending (before ++ t ∷ []) ts o → Says ending before (t ∷ ts) o
+          on_rest : (o : Option PlacedFault) → Says ending (before ++ t ∷ []) ts o → Says ending before (t ∷ ts) o
           on_rest None q = (q.0, (fine, q.1), (q.2.0, subst (λ x. IsScript x q.2.0) (append_assoc before (t ∷ []) ts) q.2.1))
           on_rest (Some x) q = inr (no_fault before t (viable version _ s' of' st') fine, q)
 
       go : (o : Option (List Sym)) → step t.word t.text s ≡ o → ((x : List Sym) → StandsAfter (before ++ t ∷ []) x → Says ending (before ++ t ∷ []) ts (judge ending (begun t n) x ts))
           → Says ending before (t ∷ ts) (verdict n t o (λ s'. judge ending (begun t n) s' ts))
       go None f ih = inl (unexpected (λ v. let q = taken version (before ++ t ∷ []) v in none-some _ (sym (one_more before t s st ∙ f) ∙ q.1)), refl)
-      go (Some s') f ih = let st' = one_more before t s st ∙ f in within s' f st' (broken n t (depth s')) refl (ih s' st')
+      go (Some s') f ih = let st' = one_more before t s st ∙ f in within s' f st' (broken n t (nesting s')) refl (ih s' st')
 
   -- a script within the limits has no fault
   no_fault_in_script : (ending : TextEnd) (ts before : List Token) (fs : List Function) (number at : ℕ) → ending.stop ≡ End → AreOf version (before ++ ts) → IsScript (before ++ ts) fs → WithinBehind version before ts → FaultBehind version ending before ts number at → ⊥

@@ -10,8 +10,8 @@ use Rattle.script_tokens.specs.declared.token.Word.TheVariants as word
 use Rattle.script_tokens.specs.declared.lexing.LexEnd.{LexEnd}
 use Rattle.script_tokens.specs.declared.lexing.LexEnd.TheVariants.{End, NotAscii, NoToken}
 use Rattle.script_grammar.specs.Grammar.{Token, AreOf, IsViable}
-use Rattle.script_grammar.specs.Fault.{IsNested, BreaksLimit, number_out_of_range, name_too_long, nested_too_deep, too_many_functions, IsFault, unexpected, breaks_limit, TextEnd, FaultAtStop, FaultBehind}
-use Rattle.script_text.specs.Machine.{Sym, only, exactly, factor, index, pair, more_factors, more_terms, comparison, minus_end, args, more_args, call_args, right, into, loop_name, loop_args, stmts, after_let, after_name, block, otherwise, functions, param_list, params, more_params, param, answer, body, same_word, Production, rules, is_empty, find_rule, choose, step, is_closer, depth}
+use Rattle.script_grammar.specs.Fault.{NestsAt, BreaksLimit, number_out_of_range, name_too_long, nested_too_deep, too_many_functions, IsFault, unexpected, breaks_limit, TextEnd, FaultAtStop, FaultBehind}
+use Rattle.script_text.specs.Machine.{Sym, only, exactly, factor, index, pair, more_factors, more_terms, comparison, minus_end, args, more_args, call_args, right, into, loop_name, loop_args, stmts, after_let, after_name, block, otherwise, functions, param_list, params, more_params, param, answer, body, same_word, Production, rules, is_empty, find_rule, choose, step, is_closer, nesting}
 use Rattle.script_text.proofs.Parsing.Words.{same_words}
 use Rattle.script_text.proofs.Nesting.Sound.{viable, taken, are-append, are-first}
 use Rattle.script_text.proofs.OneFault.Judged.{StandsAfter, one_more, nested_so, is_nested}
@@ -23,7 +23,7 @@ is_flat word.Fn = true
 is_flat _ = false
 
 abbrev rules_flat_at : List ℕ → List Production → Bool
-rules_flat_at text rs = list_all (λ r. nat_eq (depth (r.rest text)) 0 || not (is_flat r.first)) rs
+rules_flat_at text rs = list_all (λ r. nat_eq (nesting (r.rest text)) 0 || not (is_flat r.first)) rs
 
 rules_flat : (a : Sym) (text : List ℕ) → rules_flat_at text (rules a) ≡ true
 rules_flat (only k) text = refl
@@ -64,51 +64,51 @@ first_true true b e f = refl
 first_true false true e f = e
 first_true false false e f = f
 
-found_flat : (k : Word) (text : List ℕ) (rs : List Production) (r : List Sym) → rules_flat_at text rs ≡ true → is_flat k ≡ true → find_rule k text rs ≡ Some r → depth r ≡ 0
+found_flat : (k : Word) (text : List ℕ) (rs : List Production) (r : List Sym) → rules_flat_at text rs ≡ true → is_flat k ≡ true → find_rule k text rs ≡ Some r → nesting r ≡ 0
 found_flat k text [] r h f e = absurd (none-some _ e)
 found_flat k text (q ∷ qs) r h f e = go (same_word k q.first && q.fits text) refl e (λ g. found_flat k text qs r p.1 f g)
   where
-    p : ((nat_eq (depth (q.rest text)) 0 || not (is_flat q.first)) ≡ true) × (rules_flat_at text qs ≡ true)
+    p : ((nat_eq (nesting (q.rest text)) 0 || not (is_flat q.first)) ≡ true) × (rules_flat_at text qs ≡ true)
     p = two_true _ _ h
 
-    go : (b : Bool) → (same_word k q.first && q.fits text) ≡ b → (if b then Some (q.rest text) else find_rule k text qs) ≡ Some r → (find_rule k text qs ≡ Some r → depth r ≡ 0) → depth r ≡ 0
+    go : (b : Bool) → (same_word k q.first && q.fits text) ≡ b → (if b then Some (q.rest text) else find_rule k text qs) ≡ Some r → (find_rule k text qs ≡ Some r → nesting r ≡ 0) → nesting r ≡ 0
     go true g i behind =
         let same : k ≡ q.first = same_words k q.first (two_true (same_word k q.first) (q.fits text) g).0 in
         let flat : is_flat q.first ≡ true = ap is_flat (sym same) ∙ f in
-        let none : depth (q.rest text) ≡ 0 = eqb-true (depth (q.rest text)) 0 (first_true (nat_eq (depth (q.rest text)) 0) (is_flat q.first) p.0 flat) in
-        subst (λ z. depth z ≡ 0) (same_Some _ _ i) none
+        let none : nesting (q.rest text) ≡ 0 = eqb-true (nesting (q.rest text)) 0 (first_true (nat_eq (nesting (q.rest text)) 0) (is_flat q.first) p.0 flat) in
+        subst (λ z. nesting z ≡ 0) (same_Some _ _ i) none
     go false g i behind = behind i
 
-flat-append : (r s : List Sym) → depth r ≡ 0 → depth (r ++ s) ≡ depth s
+flat-append : (r s : List Sym) → nesting r ≡ 0 → nesting (r ++ s) ≡ nesting s
 flat-append [] s e = refl
 flat-append (only w ∷ r) s e = go (is_closer w) e (flat-append r s)
   where
-    go : (b : Bool) → (if b then suc (depth r) else depth r) ≡ 0 → (depth r ≡ 0 → depth (r ++ s) ≡ depth s) → (if b then suc (depth (r ++ s)) else depth (r ++ s)) ≡ depth s
+    go : (b : Bool) → (if b then suc (nesting r) else nesting r) ≡ 0 → (nesting r ≡ 0 → nesting (r ++ s) ≡ nesting s) → (if b then suc (nesting (r ++ s)) else nesting (r ++ s)) ≡ nesting s
     go true f behind = absurd (omega (arith, f))
     go false f behind = behind f
 flat-append (minus_end ∷ r) s e = absurd (omega (arith, e))
 flat-append (_ ∷ r) s e = flat-append r s e
 
-no_higher : (a : Sym) (s : List Sym) → depth s ≤ depth (a ∷ s)
+no_higher : (a : Sym) (s : List Sym) → nesting s ≤ nesting (a ∷ s)
 no_higher (only w) s = go (is_closer w)
   where
-    go : (b : Bool) → depth s ≤ (if b then suc (depth s) else depth s)
+    go : (b : Bool) → nesting s ≤ (if b then suc (nesting s) else nesting s)
     go true = omega arith
     go false = omega arith
 no_higher minus_end s = omega arith
 no_higher _ s = omega arith
 
-step_flat : (k : Word) (text : List ℕ) (s s' : List Sym) → is_flat k ≡ true → step k text s ≡ Some s' → depth s' ≤ depth s
+step_flat : (k : Word) (text : List ℕ) (s s' : List Sym) → is_flat k ≡ true → step k text s ≡ Some s' → nesting s' ≤ nesting s
 step_flat k text [] s' f e = absurd (none-some _ e)
 step_flat k text (a ∷ s) s' f e = go (find_rule k text (rules a)) (is_empty a) refl e (λ g. step_flat k text s s' f g)
   where
-    above : depth s ≤ depth (a ∷ s)
+    above : nesting s ≤ nesting (a ∷ s)
     above = no_higher a s
 
-    go : (o : Option (List Sym)) (b : Bool) → find_rule k text (rules a) ≡ o → choose o b s (step k text s) ≡ Some s' → (step k text s ≡ Some s' → depth s' ≤ depth s) → depth s' ≤ depth (a ∷ s)
+    go : (o : Option (List Sym)) (b : Bool) → find_rule k text (rules a) ≡ o → choose o b s (step k text s) ≡ Some s' → (step k text s ≡ Some s' → nesting s' ≤ nesting s) → nesting s' ≤ nesting (a ∷ s)
     go (Some r) b g h behind =
-        let whole : depth s' ≡ depth (r ++ s) = ap depth (sym (same_Some _ _ h)) in
-        let flat : depth (r ++ s) ≡ depth s = flat-append r s (found_flat k text (rules a) r (rules_flat a text) f g) in omega (arith, whole, flat, above)
+        let whole : nesting s' ≡ nesting (r ++ s) = ap nesting (sym (same_Some _ _ h)) in
+        let flat : nesting (r ++ s) ≡ nesting s = flat-append r s (found_flat k text (rules a) r (rules_flat a text) f g) in omega (arith, whole, flat, above)
     go None true g h behind = let low = behind h in omega (arith, low, above)
     go None false g h behind = absurd (none-some _ h)
 
@@ -125,8 +125,8 @@ module _ (version : Version) where
   abbrev Limit : List Token → Token → ℕ → Type 0
   Limit before t n = BreaksLimit version before t n
 
-  module _ (before : List Token) (t : Token) (d : ℕ) (nest : (n : ℕ) → IsNested version before t n → n ≡ d) (flat : is_flat t.word ≡ true → d ≤ 64) where
-    deep_flat : (n : ℕ) → IsNested version before t n → 64 < n → is_flat t.word ≡ true → ⊥
+  module _ (before : List Token) (t : Token) (d : ℕ) (nest : (n : ℕ) → NestsAt version before t n → n ≡ d) (flat : is_flat t.word ≡ true → d ≤ 64) where
+    deep_flat : (n : ℕ) → NestsAt version before t n → 64 < n → is_flat t.word ≡ true → ⊥
     deep_flat n h deep f = let same = nest n h in let low = flat f in omega (arith, same, low, deep)
 
     one_limit : (m n : ℕ) → Limit before t m → Limit before t n → m ≡ n
@@ -162,27 +162,27 @@ module _ (version : Version) where
     no_more : step t.word t.text s ≡ None → IsViable version (before ++ t ∷ []) → ⊥
     no_more e v = let q = taken version (before ++ t ∷ []) v in none-some _ (sym (one_more before t s st ∙ e) ∙ q.1)
 
-    pub one_number : depth s ≤ 64 → (m n : ℕ) → IsFault version before t m → IsFault version before t n → m ≡ n
+    pub one_number : nesting s ≤ 64 → (m n : ℕ) → IsFault version before t m → IsFault version before t n → m ≡ n
     one_number low m n f g = go (step t.word t.text s) refl
       where
         go : (o : Option (List Sym)) → step t.word t.text s ≡ o → m ≡ n
         go None e = one_unexpected before t (no_more e) m n f g
         go (Some s') e =
             let v = viable version (before ++ t ∷ []) s' of (one_more before t s st ∙ e) in
-            let flat : is_flat t.word ≡ true → depth s' ≤ 64 = λ h. let l = step_flat t.word t.text s s' h e in omega (arith, l, low) in
-            one_broken before t v (one_limit before t (depth s') (nested_so version before t s s' st e) flat) m n f g
+            let flat : is_flat t.word ≡ true → nesting s' ≤ 64 = λ h. let l = step_flat t.word t.text s s' h e in omega (arith, l, low) in
+            one_broken before t v (one_limit before t (nesting s') (nested_so version before t s s' st e) flat) m n f g
 
     -- where the token is at no fault, the machine takes it, and is nested within the limit
-    pub taken_low : ((n : ℕ) → IsFault version before t n → ⊥) → (s' : List Sym) × StandsAfter (before ++ t ∷ []) s' × (depth s' ≤ 64)
+    pub taken_low : ((n : ℕ) → IsFault version before t n → ⊥) → (s' : List Sym) × StandsAfter (before ++ t ∷ []) s' × (nesting s' ≤ 64)
     taken_low fine = go (step t.word t.text s) refl
       where
-        low : (s' : List Sym) → step t.word t.text s ≡ Some s' → StandsAfter (before ++ t ∷ []) s' → (64 < depth s') ⊎ (depth s' ≤ 64) → depth s' ≤ 64
+        low : (s' : List Sym) → step t.word t.text s ≡ Some s' → StandsAfter (before ++ t ∷ []) s' → (64 < nesting s') ⊎ (nesting s' ≤ 64) → nesting s' ≤ 64
         low s' e st' (inl deep) = absurd (fine 5 (breaks_limit (viable version (before ++ t ∷ []) s' of st') (nested_too_deep (is_nested version before t s s' of st e st') deep)))
         low s' e st' (inr shallow) = shallow
 
-        go : (o : Option (List Sym)) → step t.word t.text s ≡ o → (s' : List Sym) × StandsAfter (before ++ t ∷ []) s' × (depth s' ≤ 64)
+        go : (o : Option (List Sym)) → step t.word t.text s ≡ o → (s' : List Sym) × StandsAfter (before ++ t ∷ []) s' × (nesting s' ≤ 64)
         go None e = absurd (fine 2 (unexpected (no_more e)))
-        go (Some s') e = let st' = one_more before t s st ∙ e in (s', st', low s' e st' (cases_lt 64 (depth s')))
+        go (Some s') e = let st' = one_more before t s st ∙ e in (s', st', low s' e st' (cases_lt 64 (nesting s')))
 
   one_stop : (end : ℕ) (stop : LexEnd) (before : List Token) (m at n place : ℕ) → FaultAtStop version end stop before m at → FaultAtStop version end stop before n place → (m ≡ n) × (at ≡ place)
   one_stop end End before m at n place f g = (f.0 ∙ sym g.0, f.1 ∙ sym g.1)
@@ -192,9 +192,9 @@ module _ (version : Version) where
   -- what holds of the tokens after some that are at no fault
   abbrev Later : TextEnd → List Token → List Token → Type 0
   Later ending ts before =
-      (x : List Sym) → StandsAfter before x → depth x ≤ 64 → (m at n place : ℕ) → FaultBehind version ending before ts m at → FaultBehind version ending before ts n place → (m ≡ n) × (at ≡ place)
+      (x : List Sym) → StandsAfter before x → nesting x ≤ 64 → (m at n place : ℕ) → FaultBehind version ending before ts m at → FaultBehind version ending before ts n place → (m ≡ n) × (at ≡ place)
 
-  pub one_fault : (ending : TextEnd) (ts before : List Token) (s : List Sym) → AreOf version before → AreOf version ts → StandsAfter before s → depth s ≤ 64 → (m at n place : ℕ) →
+  pub one_fault : (ending : TextEnd) (ts before : List Token) (s : List Sym) → AreOf version before → AreOf version ts → StandsAfter before s → nesting s ≤ 64 → (m at n place : ℕ) →
       FaultBehind version ending before ts m at → FaultBehind version ending before ts n place → (m ≡ n) × (at ≡ place)
   one_fault ending [] before s of more st low m at n place f g = one_stop ending.end ending.stop before m at n place f g
   one_fault ending (t ∷ ts) before s of more st low m at n place f g = go f g (λ x. one_fault ending ts (before ++ t ∷ []) x of' (are-first version t ts more).1)

@@ -17,7 +17,7 @@ use Rattle.script_grammar.specs.declared.tree.Right.{Right}
 use Rattle.script_grammar.specs.declared.tree.Stmt.{Stmt}
 use Rattle.script_grammar.specs.declared.tree.Param.{Param}
 use Rattle.script_grammar.specs.declared.tree.Function.{Function}
-use Rattle.script_grammar.specs.Grammar.{Token, tok, name_at, sum_of, product_of, IsSumSign, a_plus, a_minus, IsProductSign, a_times, an_over, a_modulo, IsComparison, an_eq, a_ne, a_lt, a_le, a_gt, a_ge, IsFactor, a_neg, a_number, a_name, an_item, a_group, a_same, an_older, IsTerm, factors, IsFactors, no_factors, one_factor, IsSum, terms, IsTerms, no_terms, one_term, IsExpr, alone, compared, IsMoreArgs, no_more_args, one_more_arg, IsArgs, no_args, some_args, IsCall, a_call, IsRight, right_value, right_draw, right_new, right_call, right_spawn, IsInto, no_into, an_into, stmt_at, IsStmt, a_let, an_array, a_set, a_store, a_spawn, a_call_stmt, a_sync, a_print, an_if, a_while, a_pfor, a_scope, IsStmts, no_stmts, one_stmt, IsBlock, a_block, IsElse, no_else, an_else, IsParam, int_param, id_param, IsMoreParams, no_more_params, one_more_param, IsParams, no_params, some_params, IsAnswer, int_answer, id_answer, IsFunction, a_function, IsFunctions, no_functions, one_function}
+use Rattle.script_grammar.specs.Grammar.{Token, tok, name_at, sum_of, product_of, IsSumSign, a_plus, a_minus, IsProductSign, a_times, an_over, a_modulo, IsComparison, an_eq, a_ne, a_lt, a_le, a_gt, a_ge, IsFactor, a_neg, a_number, a_name, an_item, a_group, a_same, an_older, IsTerm, factors, IsFactors, no_factors, one_factor, IsSum, terms, IsTerms, no_terms, one_term, IsExpr, alone, compared, IsMoreArgs, no_more_args, one_more_arg, IsArgs, no_args, some_args, IsCall, a_call, IsRight, right_value, right_draw, right_new, right_call, right_spawn, IsInto, no_into, an_into, stmt_at, IsStmt, a_let, an_array, a_set, a_store, a_spawn, a_call_stmt, a_sync, a_print, an_if, a_while, a_pfor, a_scope, IsStmts, no_stmts, one_stmt, IsBlock, a_block, IsElse, no_else, an_else, IsParam, int_param, id_param, IsMoreParams, no_more_params, one_more_param, IsParams, no_params, some_params, IsAnswerKind, int_answer, id_answer, IsFunction, a_function, IsFunctions, no_functions, one_function}
 use Rattle.script_text.specs.Machine.{same_word}
 use Rattle.script_text.specs.Machine as machine
 use Rattle.script_text.proofs.Parsing.Words.{same_words}
@@ -67,8 +67,8 @@ from_into {rest = rest} {x = x} e d = subst (λ q. IsInto q x rest) (sym e) d
 from_more_params : {ts us rest : List Token} {x : List Param} → ts ≡ us → IsMoreParams us x rest → IsMoreParams ts x rest
 from_more_params {rest = rest} {x = x} e d = subst (λ q. IsMoreParams q x rest) (sym e) d
 
-from_answer : {ts us rest : List Token} {x : Kind} → ts ≡ us → IsAnswer us x rest → IsAnswer ts x rest
-from_answer {rest = rest} {x = x} e d = subst (λ q. IsAnswer q x rest) (sym e) d
+from_answer : {ts us rest : List Token} {x : Kind} → ts ≡ us → IsAnswerKind us x rest → IsAnswerKind ts x rest
+from_answer {rest = rest} {x = x} e d = subst (λ q. IsAnswerKind q x rest) (sym e) d
 
 from_functions : {ts us rest : List Token} {x : List Function} → ts ≡ us → IsFunctions us x rest → IsFunctions ts x rest
 from_functions {rest = rest} {x = x} e d = subst (λ q. IsFunctions q x rest) (sym e) d
@@ -373,7 +373,7 @@ abbrev EndsAnswer : List Token → Type 0
 EndsAnswer [] = ⊥
 EndsAnswer (t ∷ ts) = same_word t.word word.OpenBlock ≡ true
 
-same_answer : {ts rest rest' : List Token} {k j : Kind} → IsAnswer ts k rest → IsAnswer ts j rest' → EndsAnswer rest → EndsAnswer rest' → Both k j rest rest'
+same_answer : {ts rest rest' : List Token} {k j : Kind} → IsAnswerKind ts k rest → IsAnswerKind ts j rest' → EndsAnswer rest → EndsAnswer rest' → Both k j rest rest'
 same_answer int_answer int_answer e f = record { tree = refl; rest = refl }
 same_answer int_answer id_answer e f = cc
 same_answer id_answer int_answer e f = cc

@@ -15,35 +15,35 @@ use Rattle.script_grammar.specs.declared.tree.Expr.{Expr}
 use Rattle.script_grammar.specs.Grammar.{Token, tok, name_at, number_at, IsExpr, IsMoreArgs, no_more_args, one_more_arg, no_args, some_args, IsCall, a_call}
 use Rattle.script_text.specs.Machine.{Sym, only, args, more_args, call_args, expr_then, step, at_stop, verdict, begun, judge}
 use Rattle.script_grammar.specs.Text.{token_of}
-use Rattle.script_text.specs.Reads.{seen, ending, Leads, Errs, NextIs, NextIsNot, IsBracket, Names, Numbers, unexpected_in, IsName, a_name_token, IsNumber, a_number_token, IsArguments, arguments, AddsArgs}
+use Rattle.script_text.specs.Reads.{seen, ending, Leads, Errs, NextIs, NextIsNot, IsBracket, ReadsName, ReadsNumber, unexpected_in, IsName, a_name_token, IsNumber, a_number_token, IsArguments, arguments, AddsArgs}
 use Rattle.script_text.proofs.Parsing.Steps.{taken, name_taken, name_long, number_taken, number_big, skipped, has_none, seen-next, err_behind, unexpected_err, Comes, Passed, Opened}
 use Rattle.script_text.proofs.Parsing.Expressions.{first_is, expr_shorter, length-seen}
 
--- Names and numbers
+-- ReadsName and numbers
 
 module _ (source : LexedText) (d : ℕ) (old rest : List Lexeme) (l : Lexeme) where
-  pub name_read : (x : Name) → old ≡ l ∷ rest → l.word ≡ word.Name → d ≤ 64 → Names source l (Ok x) → Comes IsName (only word.Name ∷ []) source d old x rest
+  pub name_read : (x : Name) → old ≡ l ∷ rest → l.word ≡ word.Name → d ≤ 64 → ReadsName source l (Ok x) → Comes IsName (only word.Name ∷ []) source d old x rest
   name_read x e w h k =
       let t = seen-next word.Name source l.start old rest (first_is l old rest e w) in (
         subst (λ z. IsName (seen source old) z (seen source rest)) (sym k.0) (subst (λ q. IsName q (name_at l.start (text_of source.bytes.now l)) (seen source rest)) (sym t) a_name_token),
         λ n s f. ap (judge (ending source) n (only word.Name ∷ s)) t ∙ name_taken (ending source) n l.start (text_of source.bytes.now l) (only word.Name ∷ s) s (seen source rest) k.1 (omega arith) refl,
       )
 
-  pub name_read_err : (e : SyntaxError) → old ≡ l ∷ rest → l.word ≡ word.Name → Names source l (Err e) → Errs (only word.Name ∷ []) source d old e
+  pub name_read_err : (e : SyntaxError) → old ≡ l ∷ rest → l.word ≡ word.Name → ReadsName source l (Err e) → Errs (only word.Name ∷ []) source d old e
   name_read_err Memory e w k = tt
   name_read_err (Bad number at) e w k = λ n s f.
       let fault : ◌≡◌ {A = Option (ℕ × ℕ)} (Some (4, l.start)) (Some (number, at)) = cc in
       ap (judge (ending source) n (only word.Name ∷ s)) (seen-next word.Name source l.start old rest (first_is l old rest e w))
       ∙ name_long (ending source) n l.start (text_of source.bytes.now l) (only word.Name ∷ s) s (seen source rest) k.0 refl ∙ fault
 
-  pub number_read : (x : Number) → old ≡ l ∷ rest → l.word ≡ word.Number → d ≤ 64 → Numbers source l (Ok x) → Comes IsNumber (only word.Number ∷ []) source d old x rest
+  pub number_read : (x : Number) → old ≡ l ∷ rest → l.word ≡ word.Number → d ≤ 64 → ReadsNumber source l (Ok x) → Comes IsNumber (only word.Number ∷ []) source d old x rest
   number_read x e w h k =
       let t = seen-next word.Number source l.start old rest (first_is l old rest e w) in (
         subst (λ z. IsNumber (seen source old) z (seen source rest)) (sym k.0) (subst (λ q. IsNumber q (number_at l.start (text_of source.bytes.now l)) (seen source rest)) (sym t) a_number_token),
         λ n s f. ap (judge (ending source) n (only word.Number ∷ s)) t ∙ number_taken (ending source) n l.start (text_of source.bytes.now l) (only word.Number ∷ s) s (seen source rest) k.1 (omega arith) refl,
       )
 
-  pub number_read_err : (e : SyntaxError) → old ≡ l ∷ rest → l.word ≡ word.Number → Numbers source l (Err e) → Errs (only word.Number ∷ []) source d old e
+  pub number_read_err : (e : SyntaxError) → old ≡ l ∷ rest → l.word ≡ word.Number → ReadsNumber source l (Err e) → Errs (only word.Number ∷ []) source d old e
   number_read_err Memory e w k = tt
   number_read_err (Bad number at) e w k = λ n s f.
       let fault : ◌≡◌ {A = Option (ℕ × ℕ)} (Some (3, l.start)) (Some (number, at)) = cc in

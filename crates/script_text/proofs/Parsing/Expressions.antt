@@ -16,8 +16,8 @@ use Rattle.script_grammar.specs.declared.tree.ProductPart.{ProductPart}
 use Rattle.script_grammar.specs.declared.tree.ProductSign.{ProductSign}
 use Rattle.script_grammar.specs.declared.tree.Comparison.{Comparison}
 use Rattle.script_grammar.specs.Grammar.{Token, tok, name_at, number_at, sum_of, product_of, IsSumSign, a_plus, a_minus, IsProductSign, a_times, an_over, a_modulo, IsComparison, an_eq, a_ne, a_lt, a_le, a_gt, a_ge, IsFactor, a_neg, a_number, a_name, an_item, a_group, a_same, an_older, IsTerm, factors, IsFactors, no_factors, one_factor, IsSum, terms, IsTerms, no_terms, one_term, IsExpr, alone, compared}
-use Rattle.script_text.specs.Machine.{Sym, only, factor, index, pair, more_factors, more_terms, comparison, minus_end, sum_then, expr_then, step, depth, judge}
-use Rattle.script_text.specs.Reads.{seen, ending, Leads, Errs, NextIs, NextIsNot, is_plain, SignNext, Deepens, IsBracket, Names, Numbers, IsOperands, an_operands}
+use Rattle.script_text.specs.Machine.{Sym, only, factor, index, pair, more_factors, more_terms, comparison, minus_end, sum_then, expr_then, step, nesting, judge}
+use Rattle.script_text.specs.Reads.{seen, ending, Leads, Errs, NextIs, NextIsNot, is_unlimited, SignNext, Deepens, IsBracket, ReadsName, ReadsNumber, IsOperands, an_operands}
 use Rattle.script_text.proofs.Nesting.Follows.{comparison_step, factors_step, terms_step}
 use Rattle.script_text.proofs.Parsing.Steps.{taken, deep, name_taken, name_long, number_taken, number_big, HasNone, skipped, has_none, seen-next, err_behind, Comes, Passed, Opened}
 
@@ -25,7 +25,7 @@ none_has : {X : Type 0} (a : Sym) (R : Word → X → Type 0) (source : LexedTex
 none_has a R source [] h = tt
 none_has a R source (l ∷ ls) h = h (text_of source.bytes.now l)
 
-comparison_plain : {w : Word} {s : Comparison} → IsComparison w s → is_plain w ≡ true
+comparison_plain : {w : Word} {s : Comparison} → IsComparison w s → is_unlimited w ≡ true
 comparison_plain an_eq = refl
 comparison_plain a_ne = refl
 comparison_plain a_lt = refl
@@ -33,11 +33,11 @@ comparison_plain a_le = refl
 comparison_plain a_gt = refl
 comparison_plain a_ge = refl
 
-sum_plain : {w : Word} {s : Bool} → IsSumSign w s → is_plain w ≡ true
+sum_plain : {w : Word} {s : Bool} → IsSumSign w s → is_unlimited w ≡ true
 sum_plain a_plus = refl
 sum_plain a_minus = refl
 
-product_plain : {w : Word} {s : ProductSign} → IsProductSign w s → is_plain w ≡ true
+product_plain : {w : Word} {s : ProductSign} → IsProductSign w s → is_unlimited w ≡ true
 product_plain a_times = refl
 product_plain an_over = refl
 product_plain a_modulo = refl
@@ -136,7 +136,7 @@ one_more_factor source d old left inner rest xs ys g x p h i k a = record {
 abbrev pub first_is : {w : Word} (l : Lexeme) (old rest : List Lexeme) → old ≡ l ∷ rest → l.word ≡ w → NextIs w l.start old rest
 first_is l old rest e f = (l, e, f, refl)
 
-pub factor_number : (source : LexedText) (d : ℕ) (rest : List Lexeme) (l : Lexeme) (x : Number) → l.word ≡ word.Number → d ≤ 64 → Numbers source l (Ok x) → Comes IsFactor (factor ∷ []) source d (l ∷ rest) (expr.Number x) rest
+pub factor_number : (source : LexedText) (d : ℕ) (rest : List Lexeme) (l : Lexeme) (x : Number) → l.word ≡ word.Number → d ≤ 64 → ReadsNumber source l (Ok x) → Comes IsFactor (factor ∷ []) source d (l ∷ rest) (expr.Number x) rest
 factor_number source d rest l x e h k =
     let t = seen-next word.Number source l.start (l ∷ rest) rest (first_is l (l ∷ rest) rest refl e) in (
       subst (λ z. IsFactor (seen source (l ∷ rest)) (expr.Number z) (seen source rest)) (sym k.0)
@@ -144,7 +144,7 @@ factor_number source d rest l x e h k =
       λ n s f. ap (judge (ending source) n (factor ∷ s)) t ∙ number_taken (ending source) n l.start (text_of source.bytes.now l) (factor ∷ s) s (seen source rest) k.1 (omega arith) refl,
     )
 
-pub factor_number_err : (source : LexedText) (d : ℕ) (rest : List Lexeme) (l : Lexeme) (e : SyntaxError) → l.word ≡ word.Number → Numbers source l (Err e) → Errs (factor ∷ []) source d (l ∷ rest) e
+pub factor_number_err : (source : LexedText) (d : ℕ) (rest : List Lexeme) (l : Lexeme) (e : SyntaxError) → l.word ≡ word.Number → ReadsNumber source l (Err e) → Errs (factor ∷ []) source d (l ∷ rest) e
 factor_number_err source d rest l Memory e k = tt
 factor_number_err source d rest l (Bad number at) e k = λ n s f.
     let t = seen-next word.Number source l.start (l ∷ rest) rest (first_is l (l ∷ rest) rest refl e) in
@@ -152,12 +152,12 @@ factor_number_err source d rest l (Bad number at) e k = λ n s f.
     ap (judge (ending source) n (factor ∷ s)) t ∙ number_big (ending source) n l.start (text_of source.bytes.now l) (factor ∷ s) s (seen source rest) k.0 refl ∙ fault
 
 -- the machine after a factor's name
-pub names : (source : LexedText) (d : ℕ) (rest : List Lexeme) (l : Lexeme) (x : Name) → l.word ≡ word.Name → d ≤ 64 → Names source l (Ok x) → Leads (factor ∷ []) (index ∷ []) source d (l ∷ rest) rest
+pub names : (source : LexedText) (d : ℕ) (rest : List Lexeme) (l : Lexeme) (x : Name) → l.word ≡ word.Name → d ≤ 64 → ReadsName source l (Ok x) → Leads (factor ∷ []) (index ∷ []) source d (l ∷ rest) rest
 names source d rest l x e h k = λ n s f.
     ap (judge (ending source) n (factor ∷ s)) (seen-next word.Name source l.start (l ∷ rest) rest (first_is l (l ∷ rest) rest refl e))
     ∙ name_taken (ending source) n l.start (text_of source.bytes.now l) (factor ∷ s) (index ∷ s) (seen source rest) k.1 (omega arith) refl
 
-pub factor_name : (source : LexedText) (d : ℕ) (rest : List Lexeme) (l : Lexeme) (x : Name) → l.word ≡ word.Name → d ≤ 64 → Names source l (Ok x) → NextIsNot word.OpenItem rest → Comes IsFactor (factor ∷ []) source d (l ∷ rest) (expr.Var x) rest
+pub factor_name : (source : LexedText) (d : ℕ) (rest : List Lexeme) (l : Lexeme) (x : Name) → l.word ≡ word.Name → d ≤ 64 → ReadsName source l (Ok x) → NextIsNot word.OpenItem rest → Comes IsFactor (factor ∷ []) source d (l ∷ rest) (expr.Var x) rest
 factor_name source d rest l x e h k g =
     let t = seen-next word.Name source l.start (l ∷ rest) rest (first_is l (l ∷ rest) rest refl e) in (
       subst (λ z. IsFactor (seen source (l ∷ rest)) (expr.Var z) (seen source rest)) (sym k.0)
@@ -165,7 +165,7 @@ factor_name source d rest l x e h k g =
       λ n s f. names source d rest l x e h k n s f ∙ skipped source n index s rest refl (has_none index word.OpenItem _ rest source.bytes.now refl g),
     )
 
-pub factor_name_err : (source : LexedText) (d : ℕ) (rest : List Lexeme) (l : Lexeme) (e : SyntaxError) → l.word ≡ word.Name → Names source l (Err e) → Errs (factor ∷ []) source d (l ∷ rest) e
+pub factor_name_err : (source : LexedText) (d : ℕ) (rest : List Lexeme) (l : Lexeme) (e : SyntaxError) → l.word ≡ word.Name → ReadsName source l (Err e) → Errs (factor ∷ []) source d (l ∷ rest) e
 factor_name_err source d rest l Memory e k = tt
 factor_name_err source d rest l (Bad number at) e k = λ n s f.
     let t = seen-next word.Name source l.start (l ∷ rest) rest (first_is l (l ∷ rest) rest refl e) in
@@ -173,13 +173,13 @@ factor_name_err source d rest l (Bad number at) e k = λ n s f.
     ap (judge (ending source) n (factor ∷ s)) t ∙ name_long (ending source) n l.start (text_of source.bytes.now l) (factor ∷ s) (index ∷ s) (seen source rest) k.0 refl ∙ fault
 
 -- the machine after the bracket of an item
-pub item_enters : (source : LexedText) (d at : ℕ) (rest behind : List Lexeme) (l : Lexeme) (x : Name) → l.word ≡ word.Name → d < 64 → Names source l (Ok x) → NextIs word.OpenItem at rest behind
+pub item_enters : (source : LexedText) (d at : ℕ) (rest behind : List Lexeme) (l : Lexeme) (x : Name) → l.word ≡ word.Name → d < 64 → ReadsName source l (Ok x) → NextIs word.OpenItem at rest behind
     → Leads (factor ∷ []) (expr_then (only word.CloseItem ∷ [])) source d (l ∷ rest) behind
 item_enters source d at rest behind l x e h k g = λ n s f.
     names source d rest l x e (omega arith) k n s f ∙ ap (judge (ending source) n (index ∷ s)) (seen-next word.OpenItem source at rest behind g)
     ∙ taken (ending source) n at word.OpenItem (text_of source.bytes.now g.0) (index ∷ s) (expr_then (only word.CloseItem ∷ s)) (seen source behind) refl (omega arith) refl
 
-pub item_deep : (source : LexedText) (d at : ℕ) (rest behind : List Lexeme) (l : Lexeme) (x : Name) (e : SyntaxError) → l.word ≡ word.Name → d ≤ 64 → Names source l (Ok x) → NextIs word.OpenItem at rest behind → Deepens d at (Err e)
+pub item_deep : (source : LexedText) (d at : ℕ) (rest behind : List Lexeme) (l : Lexeme) (x : Name) (e : SyntaxError) → l.word ≡ word.Name → d ≤ 64 → ReadsName source l (Ok x) → NextIs word.OpenItem at rest behind → Deepens d at (Err e)
     → Errs (factor ∷ []) source d (l ∷ rest) e
 item_deep source d at rest behind l x Memory e h k g q = tt
 item_deep source d at rest behind l x (Bad number place) e h k g q = λ n s f.
@@ -187,7 +187,7 @@ item_deep source d at rest behind l x (Bad number place) e h k g q = λ n s f.
     names source d rest l x e h k n s f ∙ ap (judge (ending source) n (index ∷ s)) (seen-next word.OpenItem source at rest behind g)
     ∙ deep (ending source) n at word.OpenItem (text_of source.bytes.now g.0) (index ∷ s) (expr_then (only word.CloseItem ∷ s)) (seen source behind) refl (omega arith) refl ∙ fault
 
-pub factor_item : (source : LexedText) (d inside at : ℕ) (rest behind mid last : List Lexeme) (l : Lexeme) (x : Name) (y z : Expr) → l.word ≡ word.Name → Deepens d at (Ok inside) → Names source l (Ok x) → NextIs word.OpenItem at rest behind
+pub factor_item : (source : LexedText) (d inside at : ℕ) (rest behind mid last : List Lexeme) (l : Lexeme) (x : Name) (y z : Expr) → l.word ≡ word.Name → Deepens d at (Ok inside) → ReadsName source l (Ok x) → NextIs word.OpenItem at rest behind
     → Comes IsExpr (expr_then []) source inside behind y mid → Passed word.CloseItem source d mid last → z ≡ expr.Item x y → Comes IsFactor (factor ∷ []) source d (l ∷ rest) z last
 factor_item source d inside at rest behind mid last l x y z e h k g a b p =
     let t = seen-next word.Name source l.start (l ∷ rest) rest (first_is l (l ∷ rest) rest refl e) in
@@ -254,7 +254,7 @@ factor_group source d inside rest mid last l x e h a b =
 
 -- same and older
 
-pub word_enters : (source : LexedText) (d : ℕ) (rest : List Lexeme) (l : Lexeme) (w : Word) → l.word ≡ w → is_plain w ≡ true → ((text : List ℕ) (s : List Sym) → step w text (factor ∷ s) ≡ Some (pair ∷ s)) → d ≤ 64
+pub word_enters : (source : LexedText) (d : ℕ) (rest : List Lexeme) (l : Lexeme) (w : Word) → l.word ≡ w → is_unlimited w ≡ true → ((text : List ℕ) (s : List Sym) → step w text (factor ∷ s) ≡ Some (pair ∷ s)) → d ≤ 64
     → Leads (factor ∷ []) (pair ∷ []) source d (l ∷ rest) rest
 word_enters source d rest l w e p g h = λ n s f.
     ap (judge (ending source) n (factor ∷ s)) (seen-next w source l.start (l ∷ rest) rest (first_is l (l ∷ rest) rest refl e))
@@ -292,7 +292,7 @@ operands_read source d old t1 t2 t3 t4 last x y o a c b k x' y' p q =
     let made : IsOperands (seen source old) x y (seen source last) =
     subst (λ z. IsOperands z x y (seen source last)) (sym t) (an_operands (subst (IsExpr (seen source t1) x) u a.0) (subst (IsExpr (seen source t3) y) v b.0)) in (
       subst (λ z. IsOperands (seen source old) z y' (seen source last)) (sym p) (subst (λ z. IsOperands (seen source old) x z (seen source last)) (sym q) made),
-      λ n s f. let g : suc (depth s) ≡ d + 1 = omega (arith, f) in
+      λ n s f. let g : suc (nesting s) ≡ d + 1 = omega (arith, f) in
           o.2 pair _ pair_bracket n s f ∙ a.1 n (only word.Comma ∷ expr_then (only word.Close ∷ s)) g ∙ c.1 n (expr_then (only word.Close ∷ s)) g ∙ b.1 n (only word.Close ∷ s) g ∙ k.1 n s f,
     )
 
@@ -370,16 +370,16 @@ module _ (source : LexedText) (d : ℕ) where
       → Errs (more_factors ∷ []) source d old e
   more_factors_err old left inner xs g e h i k f = err_behind (more_factors ∷ []) (factor ∷ []) (more_factors ∷ []) source d d old inner e (factors_enter source d old left inner g h i.goes k) (λ s h. h) f
 
-  pub factor_err_pair : (rest : List Lexeme) (l : Lexeme) (w : Word) (e : SyntaxError) → l.word ≡ w → is_plain w ≡ true → ((text : List ℕ) (s : List Sym) → step w text (factor ∷ s) ≡ Some (pair ∷ s)) → d ≤ 64 → Errs (pair ∷ []) source d rest e
+  pub factor_err_pair : (rest : List Lexeme) (l : Lexeme) (w : Word) (e : SyntaxError) → l.word ≡ w → is_unlimited w ≡ true → ((text : List ℕ) (s : List Sym) → step w text (factor ∷ s) ≡ Some (pair ∷ s)) → d ≤ 64 → Errs (pair ∷ []) source d rest e
       → Errs (factor ∷ []) source d (l ∷ rest) e
   factor_err_pair rest l w e q p g h f = err_behind (factor ∷ []) (pair ∷ []) [] source d d (l ∷ rest) rest e (word_enters source d rest l w q p g h) (λ s h. h) f
 
-  pub item_err_place : (inside at : ℕ) (rest behind : List Lexeme) (l : Lexeme) (x : Name) (e : SyntaxError) → l.word ≡ word.Name → Deepens d at (Ok inside) → Names source l (Ok x) → NextIs word.OpenItem at rest behind
+  pub item_err_place : (inside at : ℕ) (rest behind : List Lexeme) (l : Lexeme) (x : Name) (e : SyntaxError) → l.word ≡ word.Name → Deepens d at (Ok inside) → ReadsName source l (Ok x) → NextIs word.OpenItem at rest behind
       → Errs (expr_then []) source inside behind e → Errs (factor ∷ []) source d (l ∷ rest) e
   item_err_place inside at rest behind l x e q h k g f =
       err_behind (factor ∷ []) (expr_then []) (only word.CloseItem ∷ []) source d inside (l ∷ rest) behind e (item_enters source d at rest behind l x q h.1 k g) (λ s r. omega (arith, h.0, r)) f
 
-  pub item_err_rest : (inside at : ℕ) (rest behind mid : List Lexeme) (l : Lexeme) (x : Name) (y : Expr) (e : SyntaxError) → l.word ≡ word.Name → Deepens d at (Ok inside) → Names source l (Ok x) → NextIs word.OpenItem at rest behind
+  pub item_err_rest : (inside at : ℕ) (rest behind mid : List Lexeme) (l : Lexeme) (x : Name) (y : Expr) (e : SyntaxError) → l.word ≡ word.Name → Deepens d at (Ok inside) → ReadsName source l (Ok x) → NextIs word.OpenItem at rest behind
       → Comes IsExpr (expr_then []) source inside behind y mid → Errs (only word.CloseItem ∷ []) source d mid e → Errs (factor ∷ []) source d (l ∷ rest) e
   item_err_rest inside at rest behind mid l x y e q h k g a f =
       err_behind (factor ∷ []) (only word.CloseItem ∷ []) [] source d d (l ∷ rest) mid e

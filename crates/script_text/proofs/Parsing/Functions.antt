@@ -17,9 +17,9 @@ use Rattle.script_grammar.specs.declared.tree.Param.{Param}
 use Rattle.script_grammar.specs.declared.tree.Expr.{Expr}
 use Rattle.script_grammar.specs.declared.tree.Stmt.{Stmt}
 use Rattle.script_grammar.specs.declared.tree.Function.{Function}
-use Rattle.script_grammar.specs.Grammar.{Token, tok, name_at, IsExpr, IsStmts, IsParam, int_param, id_param, IsMoreParams, no_more_params, one_more_param, IsParams, no_params, some_params, IsAnswer, int_answer, id_answer, IsFunction, a_function, IsFunctions, no_functions, one_function, IsScript}
+use Rattle.script_grammar.specs.Grammar.{Token, tok, name_at, IsExpr, IsStmts, IsParam, int_param, id_param, IsMoreParams, no_more_params, one_more_param, IsParams, no_params, some_params, IsAnswerKind, int_answer, id_answer, IsFunction, a_function, IsFunctions, no_functions, one_function, IsScript}
 use Rattle.script_grammar.specs.Fault.{TextEnd}
-use Rattle.script_text.specs.Machine.{Sym, only, param, params, more_params, param_list, answer, body, stmts, functions, expr_then, step, depth, at_stop, unless_broken, verdict, begun, judge}
+use Rattle.script_text.specs.Machine.{Sym, only, param, params, more_params, param_list, answer, body, stmts, functions, expr_then, step, nesting, at_stop, unless_broken, verdict, begun, judge}
 use Rattle.script_grammar.specs.Text.{token_of}
 use Rattle.script_text.specs.Reads.{seen, ending, Leads, Errs, NextIs, NextIsNot, IsBracket, stopped_at, unexpected_in, IsName, a_name_token, IsEnded, ended, AddsParams, IsParamList, parameters, IsBody, a_body, IsRestOfFunction, ReadsFunctions, Judges}
 use Rattle.script_text.proofs.Parsing.Steps.{taken, skipped, has_none, seen-next, err_behind, unexpected_err, Comes, Passed, Opened}
@@ -160,7 +160,7 @@ parameters_err_close source d old mid mid' found ys x e k a b f = err_behind (pa
 -- Answers
 
 module _ (source : LexedText) (d : ℕ) (old : List Lexeme) where
-  pub int_answer_read : NextIsNot word.Arrow old → Comes IsAnswer (answer ∷ []) source d old Int old
+  pub int_answer_read : NextIsNot word.Arrow old → Comes IsAnswerKind (answer ∷ []) source d old Int old
   int_answer_read k = (int_answer, λ n s f. skipped source n answer s old refl (has_none answer word.Arrow _ old source.bytes.now refl k))
 
   arrow_enters : (at : ℕ) (t1 : List Lexeme) → d ≤ 64 → NextIs word.Arrow at old t1 → Leads (answer ∷ []) (only word.Id ∷ []) source d old t1
@@ -168,9 +168,9 @@ module _ (source : LexedText) (d : ℕ) (old : List Lexeme) where
       ap (judge (ending source) n (answer ∷ s)) (seen-next word.Arrow source at old t1 k)
       ∙ taken (ending source) n at word.Arrow (text_of source.bytes.now k.0) (answer ∷ s) (only word.Id ∷ s) (seen source t1) refl (omega arith) refl
 
-  pub id_answer_read : (at : ℕ) (t1 rest : List Lexeme) → d ≤ 64 → NextIs word.Arrow at old t1 → Passed word.Id source d t1 rest → Comes IsAnswer (answer ∷ []) source d old Id rest
+  pub id_answer_read : (at : ℕ) (t1 rest : List Lexeme) → d ≤ 64 → NextIs word.Arrow at old t1 → Passed word.Id source d t1 rest → Comes IsAnswerKind (answer ∷ []) source d old Id rest
   id_answer_read at t1 rest h k a = (
-    subst (λ z. IsAnswer z Id (seen source rest)) (sym (seen-next word.Arrow source at old t1 k ∙ ap (λ z. tok at word.Arrow (text_of source.bytes.now k.0) ∷ z) (seen-next word.Id source a.0.0 t1 rest a.0.1))) id_answer,
+    subst (λ z. IsAnswerKind z Id (seen source rest)) (sym (seen-next word.Arrow source at old t1 k ∙ ap (λ z. tok at word.Arrow (text_of source.bytes.now k.0) ∷ z) (seen-next word.Id source a.0.0 t1 rest a.0.1))) id_answer,
     λ n s f. arrow_enters at t1 h k n s f ∙ a.1 n s f,
   )
 
@@ -190,7 +190,7 @@ module _ (source : LexedText) (d : ℕ) (old t1 : List Lexeme) (o : Opened word.
   body_err_stmts e f = err_behind (body ∷ []) (stmts ∷ []) (only word.Return ∷ expr_then (only word.Semicolon ∷ only word.CloseBlock ∷ [])) source d (d + 1) old t1 e body_opened (λ s r. omega (arith, r)) f
 
   module _ (t2 : List Lexeme) (xs : List Stmt) (a : Comes IsStmts (stmts ∷ []) source (d + 1) t1 xs t2) where
-    body_acts : (n : ℕ) (s : List Sym) → depth s ≡ d → judge (ending source) n (body ∷ s) (seen source old) ≡ judge (ending source) n (only word.Return ∷ expr_then (only word.Semicolon ∷ only word.CloseBlock ∷ s)) (seen source t2)
+    body_acts : (n : ℕ) (s : List Sym) → nesting s ≡ d → judge (ending source) n (body ∷ s) (seen source old) ≡ judge (ending source) n (only word.Return ∷ expr_then (only word.Semicolon ∷ only word.CloseBlock ∷ s)) (seen source t2)
     body_acts n s r = body_opened n s r ∙ a.1 n (only word.Return ∷ expr_then (only word.Semicolon ∷ only word.CloseBlock ∷ s)) (omega (arith, r))
 
     pub body_err_return : (e : SyntaxError) → NextIsNot word.Return t2 → e ≡ unexpected_in source t2 → Errs (body ∷ []) source d old e
@@ -198,7 +198,7 @@ module _ (source : LexedText) (d : ℕ) (old t1 : List Lexeme) (o : Opened word.
         (unexpected_err (only word.Return) [] source (d + 1) t2 e refl (has_none (only word.Return) word.Return [] t2 source.bytes.now refl k) f)
 
     module _ (at : ℕ) (t3 : List Lexeme) (h : d < 64) (k : NextIs word.Return at t2 t3) where
-      body_returns : (n : ℕ) (s : List Sym) → depth s ≡ d → judge (ending source) n (body ∷ s) (seen source old) ≡ judge (ending source) n (expr_then (only word.Semicolon ∷ only word.CloseBlock ∷ s)) (seen source t3)
+      body_returns : (n : ℕ) (s : List Sym) → nesting s ≡ d → judge (ending source) n (body ∷ s) (seen source old) ≡ judge (ending source) n (expr_then (only word.Semicolon ∷ only word.CloseBlock ∷ s)) (seen source t3)
       body_returns n s r =
           body_acts n s r ∙ ap (judge (ending source) n (only word.Return ∷ expr_then (only word.Semicolon ∷ only word.CloseBlock ∷ s))) (seen-next word.Return source at t2 t3 k)
           ∙ taken (ending source) n at word.Return (text_of source.bytes.now k.0) (only word.Return ∷ expr_then (only word.Semicolon ∷ only word.CloseBlock ∷ s)) (expr_then (only word.Semicolon ∷ only word.CloseBlock ∷ s)) (seen source t3) refl (omega (arith, r, h)) refl
@@ -246,7 +246,7 @@ module _ (source : LexedText) (d : ℕ) (old : List Lexeme) where
         pub function_err_answer : (e : SyntaxError) → Errs (answer ∷ []) source d t3 e → Errs function_front source d old e
         function_err_answer e f = err_behind function_front (answer ∷ []) (body ∷ []) source d d old t3 e (λ n s r. function_opened n s r ∙ b.1 n (answer ∷ body ∷ s) r) (λ s r. r) f
 
-        module _ (t4 : List Lexeme) (k : Kind) (c : Comes IsAnswer (answer ∷ []) source d t3 k t4) where
+        module _ (t4 : List Lexeme) (k : Kind) (c : Comes IsAnswerKind (answer ∷ []) source d t3 k t4) where
           pub function_err_body : (e : SyntaxError) → Errs (body ∷ []) source d t4 e → Errs function_front source d old e
           function_err_body e f = err_behind function_front (body ∷ []) [] source d d old t4 e (λ n s r. function_opened n s r ∙ b.1 n (answer ∷ body ∷ s) r ∙ c.1 n (body ∷ s) r) (λ s r. r) f
 
@@ -257,7 +257,7 @@ module _ (source : LexedText) (d : ℕ) (old : List Lexeme) where
             λ n s r. function_opened n s r ∙ b.1 n (answer ∷ body ∷ s) r ∙ c.1 n (body ∷ s) r ∙ h n s r,
           )
             where
-              made : {s0 s1 s2 s3 s4 to : List Token} {x : Name} {ps : List Param} {k : Kind} {xs : List Stmt} {at : ℕ} {z : Expr} {i c : ℕ} {t u : List ℕ} → IsName s0 x s1 → s1 ≡ tok c word.Open u ∷ s2 → IsParamList s2 ps s3 → IsAnswer s3 k s4 → IsBody s4 xs at z to
+              made : {s0 s1 s2 s3 s4 to : List Token} {x : Name} {ps : List Param} {k : Kind} {xs : List Stmt} {at : ℕ} {z : Expr} {i c : ℕ} {t u : List ℕ} → IsName s0 x s1 → s1 ≡ tok c word.Open u ∷ s2 → IsParamList s2 ps s3 → IsAnswerKind s3 k s4 → IsBody s4 xs at z to
                   → IsFunction (tok i word.Fn t ∷ s0) (record { name = x; params = ps; answer = k; body = xs; return_at = at; result = z }) to
               made {to = to} {ps = ps} {k = k} {xs = xs} {at = at} {z = z} {i = i} {t = t} (a_name_token {a = b} {t = n}) e (parameters p) q (a_body m r) =
                   subst (λ g. IsFunction (tok i word.Fn t ∷ tok b word.Name n ∷ g) (record { name = name_at b n; params = ps; answer = k; body = xs; return_at = at; result = z }) to) (sym e) (a_function p q m r)
@@ -323,7 +323,7 @@ module _ (source : LexedText) (old : List Lexeme) (found : List Function) (left 
         params_shorter no_params = omega arith
         params_shorter (some_params d e) = omega (arith, param_shorter d, more_params_shorter e)
 
-        answer_shorter : {ts rest : List Token} {k : Kind} → IsAnswer ts k rest → length rest ≤ length ts
+        answer_shorter : {ts rest : List Token} {k : Kind} → IsAnswerKind ts k rest → length rest ≤ length ts
         answer_shorter int_answer = omega arith
         answer_shorter id_answer = omega arith
 

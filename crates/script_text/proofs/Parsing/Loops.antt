@@ -11,8 +11,8 @@ use Rattle.script_grammar.specs.declared.tree.Expr.{Expr}
 use Rattle.script_grammar.specs.declared.tree.CallText.{CallText}
 use Rattle.script_grammar.specs.declared.tree.Act.TheVariants as act
 use Rattle.script_grammar.specs.Grammar.{Token, tok, name_at, IsExpr, IsMoreArgs, IsInto, no_into, an_into, stmt_at, IsStmt, a_pfor}
-use Rattle.script_text.specs.Machine.{Sym, only, exactly, loop_args, more_args, into, loop_name, stmts, expr_then, same_bytes, rules, find_rule, depth, judge}
-use Rattle.script_text.specs.Reads.{seen, ending, Leads, Errs, NextIs, NextIsNot, NextLexeme, IsBracket, Names, unexpected_in, IsName, a_name_token, AddsArgs, IsBounds, bounds, IsLoopCall, loop_call}
+use Rattle.script_text.specs.Machine.{Sym, only, exactly, loop_args, more_args, into, loop_name, stmts, expr_then, same_bytes, rules, find_rule, nesting, judge}
+use Rattle.script_text.specs.Reads.{seen, ending, Leads, Errs, NextIs, NextIsNot, NextLexeme, IsBracket, ReadsName, unexpected_in, IsName, a_name_token, AddsArgs, IsBounds, bounds, IsLoopCall, loop_call}
 use Rattle.script_text.proofs.Nesting.Sound.{same_name}
 use Rattle.script_text.proofs.Nesting.Follows.{exact_step}
 use Rattle.script_text.proofs.Parsing.Steps.{taken, name_taken, name_long, HasNone, skipped, has_none, other_word, seen-next, err_behind, unexpected_err, Comes, Passed, Opened}
@@ -134,7 +134,7 @@ module _ (source : LexedText) (d : ℕ) (n : List ℕ) (old t1 : List Lexeme) wh
       loop_err_again e f = err_behind (loop_front n) (exactly n ∷ []) (more_args ∷ only word.Close ∷ only word.Semicolon ∷ []) source d (d + 1) old t3 e loop_opened (λ s r. omega (arith, r)) f
 
       module _ (t4 : List Lexeme) (g : Repeated source (d + 1) n t3 t4) where
-        loop_again : (m : ℕ) (s : List Sym) → depth s ≡ d → judge (ending source) m (loop_front n ++ s) (seen source old) ≡ judge (ending source) m (more_args ∷ only word.Close ∷ only word.Semicolon ∷ s) (seen source t4)
+        loop_again : (m : ℕ) (s : List Sym) → nesting s ≡ d → judge (ending source) m (loop_front n ++ s) (seen source old) ≡ judge (ending source) m (more_args ∷ only word.Close ∷ only word.Semicolon ∷ s) (seen source t4)
         loop_again m s r = loop_opened m s r ∙ g.1 m (more_args ∷ only word.Close ∷ only word.Semicolon ∷ s) (omega (arith, r))
 
         pub loop_err_args : (e : SyntaxError) → Errs (more_args ∷ []) source (d + 1) t4 e → Errs (loop_front n) source d old e
@@ -181,18 +181,18 @@ module _ (source : LexedText) (d : ℕ) (l : Lexeme) (rest : List Lexeme) where
       none (v ∷ ls) k = ap (λ b. cond (b && true) (Some (loop_rest (text_of source.bytes.now v) [])) None) (other_word v.word word.Name k)
 
   module _ (v : Lexeme) (behind : List Lexeme) (k : NextLexeme word.Name v rest behind) where
-    pub pfor_err_name : (e : SyntaxError) → l.word ≡ word.Pfor → d ≤ 64 → Names source v (Err e) → Errs (stmts ∷ []) source d (l ∷ rest) e
+    pub pfor_err_name : (e : SyntaxError) → l.word ≡ word.Pfor → d ≤ 64 → ReadsName source v (Err e) → Errs (stmts ∷ []) source d (l ∷ rest) e
     pfor_err_name e p h q = err_behind (stmts ∷ []) (loop_name ∷ []) (stmts ∷ []) source d d (l ∷ rest) rest e (loop_enters p h) (λ s r. r) (go e q)
       where
-        go : (e : SyntaxError) → Names source v (Err e) → Errs (loop_name ∷ []) source d rest e
+        go : (e : SyntaxError) → ReadsName source v (Err e) → Errs (loop_name ∷ []) source d rest e
         go Memory q = tt
         go (Bad number at) q = λ m s f.
             let fault : ◌≡◌ {A = Option (ℕ × ℕ)} (Some (4, v.start)) (Some (number, at)) = cc in
             ap (judge (ending source) m (loop_name ∷ s)) (seen-next word.Name source v.start rest behind (first_is v rest behind k.0 k.1))
             ∙ name_long (ending source) m v.start (text_of source.bytes.now v) (loop_name ∷ s) (loop_rest (text_of source.bytes.now v) s) (seen source behind) q.0 refl ∙ fault
 
-    module _ (x : Name) (p : l.word ≡ word.Pfor) (h : d ≤ 64) (q : Names source v (Ok x)) where
-      loop_begun : (m : ℕ) (s : List Sym) → depth s ≡ d → judge (ending source) m (stmts ∷ s) (seen source (l ∷ rest)) ≡ judge (ending source) m (loop_rest x.bytes (stmts ∷ s)) (seen source behind)
+    module _ (x : Name) (p : l.word ≡ word.Pfor) (h : d ≤ 64) (q : ReadsName source v (Ok x)) where
+      loop_begun : (m : ℕ) (s : List Sym) → nesting s ≡ d → judge (ending source) m (stmts ∷ s) (seen source (l ∷ rest)) ≡ judge (ending source) m (loop_rest x.bytes (stmts ∷ s)) (seen source behind)
       loop_begun m s f =
           loop_enters p h m s f ∙ ap (judge (ending source) m (loop_name ∷ stmts ∷ s)) (seen-next word.Name source v.start rest behind (first_is v rest behind k.0 k.1))
           ∙ name_taken (ending source) m v.start (text_of source.bytes.now v) (loop_name ∷ stmts ∷ s) (loop_rest (text_of source.bytes.now v) (stmts ∷ s)) (seen source behind) q.1 (omega arith) refl

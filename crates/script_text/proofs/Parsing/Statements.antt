@@ -18,9 +18,9 @@ use Rattle.script_grammar.specs.declared.tree.Act.TheVariants as act
 use Rattle.script_grammar.specs.declared.tree.Stmt.{Stmt}
 use Rattle.script_grammar.specs.Grammar.{Token, tok, name_at, number_at, IsExpr, IsMoreArgs, no_more_args, one_more_arg, IsArgs, no_args, some_args, IsCall, a_call, IsRight, right_value, right_draw, right_new, right_call, right_spawn, IsInto, no_into, an_into, stmt_at, IsStmt, a_let, an_array, a_set, a_store, a_spawn, a_call_stmt, a_sync, a_print, an_if, a_while, a_pfor, a_scope, IsStmts, no_stmts, one_stmt, IsBlock, a_block, IsElse, no_else, an_else}
 use Rattle.script_text.specs.Machine as machine
-use Rattle.script_text.specs.Machine.{Sym, only, exactly, loop_args, call_args, more_args, into, loop_name, stmts, after_let, after_name, block, otherwise, expr_then, rules, rule, is_empty, find_rule, step, depth, at_stop, verdict, begun, judge}
+use Rattle.script_text.specs.Machine.{Sym, only, exactly, loop_args, call_args, more_args, into, loop_name, stmts, after_let, after_name, block, otherwise, expr_then, rules, rule, is_empty, find_rule, step, nesting, at_stop, verdict, begun, judge}
 use Rattle.script_grammar.specs.Text.{token_of}
-use Rattle.script_text.specs.Reads.{seen, ending, Leads, Errs, NextIs, NextIsNot, IsBracket, Deepens, Names, is_plain, unexpected_in, IsName, a_name_token, IsNumber, a_number_token, IsValueOf, value_of, IsEnded, ended, IsCallOf, call_of, IsSize, a_size, IsElement, an_element, begins_stmt, NoStmt}
+use Rattle.script_text.specs.Reads.{seen, ending, Leads, Errs, NextIs, NextIsNot, IsBracket, Deepens, ReadsName, is_unlimited, unexpected_in, IsName, a_name_token, IsNumber, a_number_token, IsValueOf, value_of, IsEnded, ended, IsCallOf, call_of, IsSize, a_size, IsElement, an_element, begins_stmt, NoStmt}
 use Rattle.script_text.proofs.Parsing.Steps.{taken, deep, name_taken, name_long, HasNone, skipped, has_none, other_word, seen-next, err_behind, unexpected_err, Comes, Passed, Opened}
 use Rattle.script_text.proofs.Parsing.Expressions.{first_is, expr_shorter, length-seen}
 
@@ -28,7 +28,7 @@ use Rattle.script_text.proofs.Parsing.Expressions.{first_is, expr_shorter, lengt
 
 module _ (source : LexedText) (d : ℕ) where
   pub err_first : (front next tail : List Sym) (d' : ℕ) (old : List Lexeme) (e : SyntaxError) → ((n : ℕ) (s : List Sym) → judge (ending source) n (front ++ s) (seen source old) ≡ judge (ending source) n ((next ++ tail) ++ s) (seen source old))
-      → ((s : List Sym) → depth s ≡ d → depth (tail ++ s) ≡ d') → Errs next source d' old e → Errs front source d old e
+      → ((s : List Sym) → nesting s ≡ d → nesting (tail ++ s) ≡ d') → Errs next source d' old e → Errs front source d old e
   err_first front next tail d' old e g h f = err_behind front next tail source d d' old old e (λ n s r. g n s) h f
 
 -- Right sides
@@ -57,7 +57,7 @@ module _ (source : LexedText) (d : ℕ) (old rest : List Lexeme) (l : Lexeme) (e
   right_value_err g p q r u f = err_first source d (machine.right ∷ []) (expr_then []) [] d old g (right_same p q r u) (λ s h. h) f
 
   -- the machine after a word that a right side may begin with
-  right_enters : (w : Word) (next : List Sym) → l.word ≡ w → is_plain w ≡ true → ((text : List ℕ) (s : List Sym) → step w text (machine.right ∷ s) ≡ Some (next ++ s)) → ((s : List Sym) → depth (next ++ s) ≡ depth s) → d ≤ 64
+  right_enters : (w : Word) (next : List Sym) → l.word ≡ w → is_unlimited w ≡ true → ((text : List ℕ) (s : List Sym) → step w text (machine.right ∷ s) ≡ Some (next ++ s)) → ((s : List Sym) → nesting (next ++ s) ≡ nesting s) → d ≤ 64
       → Leads (machine.right ∷ []) next source d old rest
   right_enters w next p q g k h = λ n s f.
       let same = k s in
@@ -144,7 +144,7 @@ module _ (source : LexedText) (d : ℕ) (old : List Lexeme) (e : SyntaxError) wh
   element_missing h k f = unexpected_err after_name [] source d old e refl (none_of_two after_name word.Assign word.OpenItem _ _ old source.bytes.now refl h k) f
 
 -- a bracket that a symbol's second rule begins with
-module _ (source : LexedText) (d at : ℕ) (old rest : List Lexeme) (a : Sym) (inside : List Sym) (g : (text : List ℕ) (s : List Sym) → step word.OpenItem text (a ∷ s) ≡ Some (inside ++ s)) (one : (s : List Sym) → depth (inside ++ s) ≡ suc (depth s)) (k : NextIs word.OpenItem at old rest) where
+module _ (source : LexedText) (d at : ℕ) (old rest : List Lexeme) (a : Sym) (inside : List Sym) (g : (text : List ℕ) (s : List Sym) → step word.OpenItem text (a ∷ s) ≡ Some (inside ++ s)) (one : (s : List Sym) → nesting (inside ++ s) ≡ suc (nesting s)) (k : NextIs word.OpenItem at old rest) where
   pub bracket_enters : d < 64 → Leads (a ∷ []) inside source d old rest
   bracket_enters h = λ n s f.
       let level = one s in
@@ -256,8 +256,8 @@ module _ (source : LexedText) (d : ℕ) (l : Lexeme) (rest : List Lexeme) where
   pub stmt_token : (w : Word) → l.word ≡ w → seen source (l ∷ rest) ≡ tok l.start w (text_of source.bytes.now l) ∷ seen source rest
   stmt_token w p = seen-next w source l.start (l ∷ rest) rest (first_is l (l ∷ rest) rest refl p)
 
-  pub stmt_enters : (w : Word) (next : List Sym) → l.word ≡ w → is_plain w ≡ true → ((text : List ℕ) (s : List Sym) → step w text (stmts ∷ s) ≡ Some (next ++ stmts ∷ s)) → ((s : List Sym) → depth (next ++ stmts ∷ s) ≡ depth s) → d ≤ 64
-      → (n : ℕ) (s : List Sym) → depth s ≡ d → judge (ending source) n (stmts ∷ s) (seen source (l ∷ rest)) ≡ judge (ending source) n (next ++ stmts ∷ s) (seen source rest)
+  pub stmt_enters : (w : Word) (next : List Sym) → l.word ≡ w → is_unlimited w ≡ true → ((text : List ℕ) (s : List Sym) → step w text (stmts ∷ s) ≡ Some (next ++ stmts ∷ s)) → ((s : List Sym) → nesting (next ++ stmts ∷ s) ≡ nesting s) → d ≤ 64
+      → (n : ℕ) (s : List Sym) → nesting s ≡ d → judge (ending source) n (stmts ∷ s) (seen source (l ∷ rest)) ≡ judge (ending source) n (next ++ stmts ∷ s) (seen source rest)
   stmt_enters w next p q g k h = λ n s f.
       let same = k s in
       ap (judge (ending source) n (stmts ∷ s)) (stmt_token w p)
@@ -306,19 +306,19 @@ module _ (source : LexedText) (d : ℕ) (l : Lexeme) (rest : List Lexeme) where
 
   -- a name
 
-  named : (x : Name) → l.word ≡ word.Name → d ≤ 64 → Names source l (Ok x) → Leads (stmts ∷ []) (after_name ∷ stmts ∷ []) source d (l ∷ rest) rest
+  named : (x : Name) → l.word ≡ word.Name → d ≤ 64 → ReadsName source l (Ok x) → Leads (stmts ∷ []) (after_name ∷ stmts ∷ []) source d (l ∷ rest) rest
   named x p h k = λ n s f.
       ap (judge (ending source) n (stmts ∷ s)) (stmt_token word.Name p)
       ∙ name_taken (ending source) n l.start (text_of source.bytes.now l) (stmts ∷ s) (after_name ∷ stmts ∷ s) (seen source rest) k.1 (omega arith) refl
 
-  pub stmt_name_err : (e : SyntaxError) → l.word ≡ word.Name → Names source l (Err e) → Errs (stmts ∷ []) source d (l ∷ rest) e
+  pub stmt_name_err : (e : SyntaxError) → l.word ≡ word.Name → ReadsName source l (Err e) → Errs (stmts ∷ []) source d (l ∷ rest) e
   stmt_name_err Memory p k = tt
   stmt_name_err (Bad number at) p k = λ n s f.
       let fault : ◌≡◌ {A = Option (ℕ × ℕ)} (Some (4, l.start)) (Some (number, at)) = cc in
       ap (judge (ending source) n (stmts ∷ s)) (stmt_token word.Name p)
       ∙ name_long (ending source) n l.start (text_of source.bytes.now l) (stmts ∷ s) (after_name ∷ stmts ∷ s) (seen source rest) k.0 refl ∙ fault
 
-  pub set_read : (at : ℕ) (t1 last : List Lexeme) (x : Name) (r : Right) → l.word ≡ word.Name → d ≤ 64 → Names source l (Ok x) → NextIs word.Assign at rest t1 → Comes IsValueOf (machine.right ∷ only word.Semicolon ∷ []) source d t1 r last
+  pub set_read : (at : ℕ) (t1 last : List Lexeme) (x : Name) (r : Right) → l.word ≡ word.Name → d ≤ 64 → ReadsName source l (Ok x) → NextIs word.Assign at rest t1 → Comes IsValueOf (machine.right ∷ only word.Semicolon ∷ []) source d t1 r last
       → ComesAct source d l rest (act.Set x r) last
   set_read at t1 last x r p h k g b = (
     subst (λ z. IsStmt z (stmt_at l.start (act.Set x r)) (seen source last)) (sym (stmt_token word.Name p))
@@ -329,7 +329,7 @@ module _ (source : LexedText) (d : ℕ) (l : Lexeme) (rest : List Lexeme) where
       made : {o s1 to : List Token} {r : Right} {a c : ℕ} {t v : List ℕ} → o ≡ tok c word.Assign v ∷ s1 → IsValueOf s1 r to → IsStmt (tok a word.Name t ∷ o) (stmt_at a (act.Set (name_at a t) r)) to
       made {to = to} {r = r} {a = a} {t = t} e (value_of d) = subst (λ z. IsStmt (tok a word.Name t ∷ z) (stmt_at a (act.Set (name_at a t) r)) to) (sym e) (a_set d)
 
-  pub store_read : (last : List Lexeme) (x : Name) (y z : Expr) → l.word ≡ word.Name → d ≤ 64 → Names source l (Ok x) → IsElement (seen source rest) y z (seen source last) → Leads (after_name ∷ []) [] source d rest last
+  pub store_read : (last : List Lexeme) (x : Name) (y z : Expr) → l.word ≡ word.Name → d ≤ 64 → ReadsName source l (Ok x) → IsElement (seen source rest) y z (seen source last) → Leads (after_name ∷ []) [] source d rest last
       → ComesAct source d l rest (act.Store x y z) last
   store_read last x y z p h k a b = (
     subst (λ q. IsStmt q (stmt_at l.start (act.Store x y z)) (seen source last)) (sym (stmt_token word.Name p))
@@ -340,11 +340,11 @@ module _ (source : LexedText) (d : ℕ) (l : Lexeme) (rest : List Lexeme) where
       made : {o to : List Token} {y z : Expr} {a : ℕ} {t : List ℕ} → IsElement o y z to → IsStmt (tok a word.Name t ∷ o) (stmt_at a (act.Store (name_at a t) y z)) to
       made (an_element p q) = a_store p q
 
-  pub set_err : (at : ℕ) (t1 : List Lexeme) (x : Name) (e : SyntaxError) → l.word ≡ word.Name → d ≤ 64 → Names source l (Ok x) → NextIs word.Assign at rest t1 → Errs (machine.right ∷ only word.Semicolon ∷ []) source d t1 e → Errs (stmts ∷ []) source d (l ∷ rest) e
+  pub set_err : (at : ℕ) (t1 : List Lexeme) (x : Name) (e : SyntaxError) → l.word ≡ word.Name → d ≤ 64 → ReadsName source l (Ok x) → NextIs word.Assign at rest t1 → Errs (machine.right ∷ only word.Semicolon ∷ []) source d t1 e → Errs (stmts ∷ []) source d (l ∷ rest) e
   set_err at t1 x e p h k g f = err_behind (stmts ∷ []) (machine.right ∷ only word.Semicolon ∷ []) (stmts ∷ []) source d d (l ∷ rest) t1 e
       (λ n s r. named x p h k n s r ∙ assign_enters after_name at rest t1 (λ t s. refl) h g n (stmts ∷ s) r) (λ s r. r) f
 
-  pub store_err : (x : Name) (e : SyntaxError) → l.word ≡ word.Name → d ≤ 64 → Names source l (Ok x) → Errs (after_name ∷ []) source d rest e → Errs (stmts ∷ []) source d (l ∷ rest) e
+  pub store_err : (x : Name) (e : SyntaxError) → l.word ≡ word.Name → d ≤ 64 → ReadsName source l (Ok x) → Errs (after_name ∷ []) source d rest e → Errs (stmts ∷ []) source d (l ∷ rest) e
   store_err x e p h k f = err_behind (stmts ∷ []) (after_name ∷ []) (stmts ∷ []) source d d (l ∷ rest) rest e (named x p h k) (λ s r. r) f
 
   -- spawn, call, sync, print
@@ -382,7 +382,7 @@ module _ (source : LexedText) (d : ℕ) (l : Lexeme) (rest : List Lexeme) where
       made : {o to : List Token} {x : Expr} {a : ℕ} {t : List ℕ} → IsEnded o x to → IsStmt (tok a word.Print t ∷ o) (stmt_at a (act.Print x)) to
       made (ended d) = a_print d
 
-  pub stmt_err : (w : Word) (next : List Sym) (e : SyntaxError) → l.word ≡ w → is_plain w ≡ true → ((text : List ℕ) (s : List Sym) → step w text (stmts ∷ s) ≡ Some (next ++ stmts ∷ s)) → ((s : List Sym) → depth (next ++ stmts ∷ s) ≡ depth s) → d ≤ 64
+  pub stmt_err : (w : Word) (next : List Sym) (e : SyntaxError) → l.word ≡ w → is_unlimited w ≡ true → ((text : List ℕ) (s : List Sym) → step w text (stmts ∷ s) ≡ Some (next ++ stmts ∷ s)) → ((s : List Sym) → nesting (next ++ stmts ∷ s) ≡ nesting s) → d ≤ 64
       → Errs next source d rest e → Errs (stmts ∷ []) source d (l ∷ rest) e
   stmt_err w next e p q g k h f = err_behind (stmts ∷ []) next (stmts ∷ []) source d d (l ∷ rest) rest e
       (λ n s r. stmt_enters w next p q g k h n s r ∙ ap (λ z. judge (ending source) n z (seen source rest)) (sym (append_assoc next (stmts ∷ []) s))) (λ s r. r) f

@@ -12,18 +12,18 @@ use Rattle.script_text.specs.declared.error.SyntaxError.TheVariants.{Bad, Memory
 use Rattle.script_text.specs.declared.parser.source.LexedText.{LexedText}
 use Rattle.script_grammar.specs.Grammar.{Token, tok, decimal}
 use Rattle.script_grammar.specs.Fault.{TextEnd}
-use Rattle.script_text.specs.Machine.{Sym, only, rule, same_word, rules, is_empty, find_rule, choose, step, depth, all_empty, Fault, broken, unless_broken, verdict, at_stop, begun, judge}
+use Rattle.script_text.specs.Machine.{Sym, only, rule, same_word, rules, is_empty, find_rule, choose, step, nesting, all_empty, PlacedFault, broken, unless_broken, verdict, at_stop, begun, judge}
 use Rattle.script_grammar.specs.Text.{token_of}
-use Rattle.script_text.specs.Reads.{seen, ending, Leads, stopped_at, unexpected_in, NextIs, NextIsNot, is_plain, Errs, PassesWord, IsBracket, Opens, Deepens}
+use Rattle.script_text.specs.Reads.{seen, ending, Leads, stopped_at, unexpected_in, NextIs, NextIsNot, is_unlimited, Errs, PassesWord, IsBracket, Opens, Deepens}
 use Rattle.script_text.proofs.Parsing.Words.{same_words, same_word-refl}
 
-plain_broken : (w : Word) (n at d : ℕ) (text : List ℕ) → is_plain w ≡ true → broken n (tok at w text) d ≡ (if nat_lt 64 d then Some 5 else None)
+plain_broken : (w : Word) (n at d : ℕ) (text : List ℕ) → is_unlimited w ≡ true → broken n (tok at w text) d ≡ (if nat_lt 64 d then Some 5 else None)
 plain_broken word.Name n at d text p = cc
 plain_broken word.Number n at d text p = cc
 plain_broken word.Fn n at d text p = cc
 plain_broken _ n at d text p = refl
 
-plain_begun : (w : Word) (n at : ℕ) (text : List ℕ) → is_plain w ≡ true → begun (tok at w text) n ≡ n
+plain_begun : (w : Word) (n at : ℕ) (text : List ℕ) → is_unlimited w ≡ true → begun (tok at w text) n ≡ n
 plain_begun word.Name n at text p = cc
 plain_begun word.Number n at text p = cc
 plain_begun word.Fn n at text p = cc
@@ -33,40 +33,40 @@ shallow : (d : ℕ) → d ≤ 64 → ◌≡◌ {A = Option ℕ} (if nat_lt 64 d 
 shallow d h = ap (λ b. if b then Some 5 else None) (le-ltb 64 d h)
 
 -- the machine takes a token that breaks no limit
-pub taken : (e : TextEnd) (n at : ℕ) (w : Word) (text : List ℕ) (s s' : List Sym) (ts : List Token) → is_plain w ≡ true → depth s' ≤ 64 → step w text s ≡ Some s' → judge e n s (tok at w text ∷ ts) ≡ judge e n s' ts
+pub taken : (e : TextEnd) (n at : ℕ) (w : Word) (text : List ℕ) (s s' : List Sym) (ts : List Token) → is_unlimited w ≡ true → nesting s' ≤ 64 → step w text s ≡ Some s' → judge e n s (tok at w text ∷ ts) ≡ judge e n s' ts
 taken e n at w text s s' ts p h f =
     ap (λ o. verdict n (tok at w text) o (λ x. judge e (begun (tok at w text) n) x ts)) f
-    ∙ ap (λ o. unless_broken o at (judge e (begun (tok at w text) n) s' ts)) (plain_broken w n at (depth s') text p ∙ shallow (depth s') h)
+    ∙ ap (λ o. unless_broken o at (judge e (begun (tok at w text) n) s' ts)) (plain_broken w n at (nesting s') text p ∙ shallow (nesting s') h)
     ∙ ap (λ m. judge e m s' ts) (plain_begun w n at text p)
 
 -- and finds the fault at one that is nested too deep
-pub deep : (e : TextEnd) (n at : ℕ) (w : Word) (text : List ℕ) (s s' : List Sym) (ts : List Token) → is_plain w ≡ true → 64 < depth s' → step w text s ≡ Some s' → judge e n s (tok at w text ∷ ts) ≡ Some (5, at)
+pub deep : (e : TextEnd) (n at : ℕ) (w : Word) (text : List ℕ) (s s' : List Sym) (ts : List Token) → is_unlimited w ≡ true → 64 < nesting s' → step w text s ≡ Some s' → judge e n s (tok at w text ∷ ts) ≡ Some (5, at)
 deep e n at w text s s' ts p h f =
     ap (λ o. verdict n (tok at w text) o (λ x. judge e (begun (tok at w text) n) x ts)) f
-    ∙ ap (λ o. unless_broken o at (judge e (begun (tok at w text) n) s' ts)) (plain_broken w n at (depth s') text p ∙ ap (λ b. if b then Some 5 else None) (lt-ltb 64 (depth s') h))
+    ∙ ap (λ o. unless_broken o at (judge e (begun (tok at w text) n) s' ts)) (plain_broken w n at (nesting s') text p ∙ ap (λ b. if b then Some 5 else None) (lt-ltb 64 (nesting s') h))
 
-pub name_taken : (e : TextEnd) (n at : ℕ) (text : List ℕ) (s s' : List Sym) (ts : List Token) → length text ≤ 32 → depth s' ≤ 64 → step word.Name text s ≡ Some s' → judge e n s (tok at word.Name text ∷ ts) ≡ judge e n s' ts
+pub name_taken : (e : TextEnd) (n at : ℕ) (text : List ℕ) (s s' : List Sym) (ts : List Token) → length text ≤ 32 → nesting s' ≤ 64 → step word.Name text s ≡ Some s' → judge e n s (tok at word.Name text ∷ ts) ≡ judge e n s' ts
 name_taken e n at text s s' ts l h f =
     ap (λ o. verdict n (tok at word.Name text) o (λ x. judge e n x ts)) f
-    ∙ ap (λ b. unless_broken (if b then Some 4 else if nat_lt 64 (depth s') then Some 5 else None) at (judge e n s' ts)) (le-ltb 32 (length text) l)
-    ∙ ap (λ o. unless_broken o at (judge e n s' ts)) (shallow (depth s') h)
+    ∙ ap (λ b. unless_broken (if b then Some 4 else if nat_lt 64 (nesting s') then Some 5 else None) at (judge e n s' ts)) (le-ltb 32 (length text) l)
+    ∙ ap (λ o. unless_broken o at (judge e n s' ts)) (shallow (nesting s') h)
 
 pub name_long : (e : TextEnd) (n at : ℕ) (text : List ℕ) (s s' : List Sym) (ts : List Token) → 32 < length text → step word.Name text s ≡ Some s' → judge e n s (tok at word.Name text ∷ ts) ≡ Some (4, at)
 name_long e n at text s s' ts l f =
     ap (λ o. verdict n (tok at word.Name text) o (λ x. judge e n x ts)) f
-    ∙ ap (λ b. unless_broken (if b then Some 4 else if nat_lt 64 (depth s') then Some 5 else None) at (judge e n s' ts)) (lt-ltb 32 (length text) l)
+    ∙ ap (λ b. unless_broken (if b then Some 4 else if nat_lt 64 (nesting s') then Some 5 else None) at (judge e n s' ts)) (lt-ltb 32 (length text) l)
 
-pub number_taken : (e : TextEnd) (n at : ℕ) (text : List ℕ) (s s' : List Sym) (ts : List Token) → decimal 0 text ≤ 9223372036854775807 → depth s' ≤ 64 → step word.Number text s ≡ Some s'
+pub number_taken : (e : TextEnd) (n at : ℕ) (text : List ℕ) (s s' : List Sym) (ts : List Token) → decimal 0 text ≤ 9223372036854775807 → nesting s' ≤ 64 → step word.Number text s ≡ Some s'
     → judge e n s (tok at word.Number text ∷ ts) ≡ judge e n s' ts
 number_taken e n at text s s' ts l h f =
     ap (λ o. verdict n (tok at word.Number text) o (λ x. judge e n x ts)) f
-    ∙ ap (λ b. unless_broken (if b then Some 3 else if nat_lt 64 (depth s') then Some 5 else None) at (judge e n s' ts)) (le-ltb 9223372036854775807 (decimal 0 text) l)
-    ∙ ap (λ o. unless_broken o at (judge e n s' ts)) (shallow (depth s') h)
+    ∙ ap (λ b. unless_broken (if b then Some 3 else if nat_lt 64 (nesting s') then Some 5 else None) at (judge e n s' ts)) (le-ltb 9223372036854775807 (decimal 0 text) l)
+    ∙ ap (λ o. unless_broken o at (judge e n s' ts)) (shallow (nesting s') h)
 
 pub number_big : (e : TextEnd) (n at : ℕ) (text : List ℕ) (s s' : List Sym) (ts : List Token) → 9223372036854775807 < decimal 0 text → step word.Number text s ≡ Some s' → judge e n s (tok at word.Number text ∷ ts) ≡ Some (3, at)
 number_big e n at text s s' ts l f =
     ap (λ o. verdict n (tok at word.Number text) o (λ x. judge e n x ts)) f
-    ∙ ap (λ b. unless_broken (if b then Some 3 else if nat_lt 64 (depth s') then Some 5 else None) at (judge e n s' ts)) (lt-ltb 9223372036854775807 (decimal 0 text) l)
+    ∙ ap (λ b. unless_broken (if b then Some 3 else if nat_lt 64 (nesting s') then Some 5 else None) at (judge e n s' ts)) (lt-ltb 9223372036854775807 (decimal 0 text) l)
 
 -- the symbol has no rule for the token that comes next
 abbrev pub HasNone : Sym → List Lexeme → List ℕ → Type 0
@@ -133,7 +133,7 @@ Opened w source d old rest =
     ((at : ℕ) × NextIs w at old rest) × (d < 64) × ((a : Sym) (inside : List Sym) → IsBracket a w inside → Leads (a ∷ []) inside source d old rest)
 
 -- a fault that is found after what was read, where these symbols are still expected
-pub err_behind : (front next tail : List Sym) (source : LexedText) (d d' : ℕ) (old mid : List Lexeme) (e : SyntaxError) → Leads front (next ++ tail) source d old mid → ((s : List Sym) → depth s ≡ d → depth (tail ++ s) ≡ d')
+pub err_behind : (front next tail : List Sym) (source : LexedText) (d d' : ℕ) (old mid : List Lexeme) (e : SyntaxError) → Leads front (next ++ tail) source d old mid → ((s : List Sym) → nesting s ≡ d → nesting (tail ++ s) ≡ d')
     → Errs next source d' mid e → Errs front source d old e
 err_behind front next tail source d d' old mid Memory g h f = tt
 err_behind front next tail source d d' old mid (Bad number at) g h f = λ n s k.
@@ -146,7 +146,7 @@ unexpected_err a tail source d old (Bad number at) f h g = λ n s k. refused sou
 
 -- the expected word
 
-pub passes : (w : Word) (source : LexedText) (d at : ℕ) (old rest : List Lexeme) → is_plain w ≡ true → d ≤ 64 → NextIs w at old rest → ((at : ℕ) × NextIs w at old rest) × Leads (only w ∷ []) [] source d old rest
+pub passes : (w : Word) (source : LexedText) (d at : ℕ) (old rest : List Lexeme) → is_unlimited w ≡ true → d ≤ 64 → NextIs w at old rest → ((at : ℕ) × NextIs w at old rest) × Leads (only w ∷ []) [] source d old rest
 passes w source d at old rest p h x = (
   (at, x),
   λ n s f.
@@ -160,7 +160,7 @@ passes_not w source d old (Bad number at) h f = λ n s g. refused source n (only
 
 -- an opening bracket
 
-pub opens : (w : Word) (source : LexedText) (d at : ℕ) (old rest : List Lexeme) → is_plain w ≡ true → d < 64 → NextIs w at old rest
+pub opens : (w : Word) (source : LexedText) (d at : ℕ) (old rest : List Lexeme) → is_unlimited w ≡ true → d < 64 → NextIs w at old rest
     → ((at : ℕ) × NextIs w at old rest) × (d < 64) × ((a : Sym) (inside : List Sym) → IsBracket a w inside → Leads (a ∷ []) inside source d old rest)
 opens w source d at old rest p h x = (
   (at, x),
@@ -175,10 +175,10 @@ pub opens_not : (w : Word) (source : LexedText) (d : ℕ) (old : List Lexeme) (e
 opens_not w source d old Memory h f = λ a inside b. tt
 opens_not w source d old (Bad number at) h f = λ a inside b n s g. refused source n a s old b.needed (has_none a w inside old source.bytes.now b.only_rule h) number at f
 
-pub opens_deep : (w : Word) (source : LexedText) (d at : ℕ) (old rest : List Lexeme) (e : SyntaxError) → is_plain w ≡ true → NextIs w at old rest → Deepens d at (Err e) → Opens w source d old (Err e)
+pub opens_deep : (w : Word) (source : LexedText) (d at : ℕ) (old rest : List Lexeme) (e : SyntaxError) → is_unlimited w ≡ true → NextIs w at old rest → Deepens d at (Err e) → Opens w source d old (Err e)
 opens_deep w source d at old rest Memory p x h = λ a inside b. tt
 opens_deep w source d at old rest (Bad number place) p x h = λ a inside b n s f.
     let one = b.one_level s in
-    let fault : ◌≡◌ {A = Option Fault} (Some (5, at)) (Some (number, place)) = cc in
+    let fault : ◌≡◌ {A = Option PlacedFault} (Some (5, at)) (Some (number, place)) = cc in
     ap (judge (ending source) n (a ∷ s)) (seen-next w source at old rest x)
     ∙ deep (ending source) n at w _ (a ∷ s) (inside ++ s) (seen source rest) p (omega (arith, one)) (replaced a w inside s _ b.only_rule) ∙ fault

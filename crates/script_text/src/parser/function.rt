@@ -2,7 +2,7 @@
 
 ghost use Rattle.std.specs.Prelude.{◌≡◌, ℕ, ◌≤◌, ◌<◌, [], ◌∷◌};
 ghost use Rattle.script_tokens.specs.declared.token.Word.TheVariants as word;
-ghost use Rattle.script_grammar.specs.Grammar.{IsParam, IsAnswer};
+ghost use Rattle.script_grammar.specs.Grammar.{IsParam, IsAnswerKind};
 ghost use Rattle.script_text.specs.Machine.{only, param, params, more_params, param_list, answer, body};
 ghost use Rattle.script_text.specs.Reads.{Reads, ReadsBody, ReadsFunctions, AddsParams, IsParamList, IsRestOfFunction, Judges};
 
@@ -89,7 +89,7 @@ fn answer<'t>(
     depth: u8,
 ) -> Result<(Kind, &'t [Lexeme]), SyntaxError>
     requires { depth ≤ 64 }
-    ensures { Reads IsAnswer (answer ∷ []) source.now depth tokens.now result }
+    ensures { Reads IsAnswerKind (answer ∷ []) source.now depth tokens.now result }
 {
     if let Some((_, rest)) = after(tokens, Word::Arrow) {
         let rest = expect(source, rest, Word::Id, depth)?;

@@ -5,7 +5,7 @@ ghost use Rattle.script_tokens.specs.Lexing.{text_of};
 ghost use Rattle.script_tokens.specs.declared.token.Word.TheVariants as word;
 ghost use Rattle.script_text.specs.Beside.{Beside};
 ghost use Rattle.script_text.specs.Machine.{only};
-ghost use Rattle.script_text.specs.Reads.{IsPlain, IsValue, IsName, IsNumber, Names, Numbers, NextIs, NextIsNot, NextLexeme, PassesWord, Opens, Deepens, Reads, unexpected_in};
+ghost use Rattle.script_text.specs.Reads.{IsUnlimited, IsValue, IsName, IsNumber, ReadsName, ReadsNumber, NextIs, NextIsNot, NextLexeme, PassesWord, Opens, Deepens, Reads, unexpected_in};
 
 use crate::error::SyntaxError;
 use crate::fault::TextFault;
@@ -42,7 +42,7 @@ pub(crate) fn text<'a>(source: &LexedText<'a>, lexeme: Lexeme) -> &'a [u8]
 }
 
 pub(crate) fn name_of(source: &LexedText<'_>, lexeme: Lexeme) -> Result<Name, SyntaxError>
-    ensures { Names source.now lexeme result }
+    ensures { ReadsName source.now lexeme result }
 {
     let text = text(source, lexeme);
     if text.len() > LONGEST_NAME {
@@ -55,7 +55,7 @@ pub(crate) fn name_of(source: &LexedText<'_>, lexeme: Lexeme) -> Result<Name, Sy
 }
 
 pub(crate) fn number_of(source: &LexedText<'_>, lexeme: Lexeme) -> Result<Number, SyntaxError>
-    ensures { Numbers source.now lexeme result }
+    ensures { ReadsNumber source.now lexeme result }
 {
     match value_of(text(source, lexeme)) {
         Some(value) => Ok(Number {
@@ -132,7 +132,7 @@ pub(crate) fn expect<'t>(
     word: Word,
     depth: u8,
 ) -> Result<&'t [Lexeme], SyntaxError>
-    requires plain { IsPlain word }
+    requires plain { IsUnlimited word }
     requires depth { depth ≤ 64 }
     ensures { PassesWord word source.now depth tokens.now result }
 {
@@ -149,7 +149,7 @@ pub(crate) fn open<'t>(
     word: Word,
     depth: u8,
 ) -> Result<&'t [Lexeme], SyntaxError>
-    requires plain { IsPlain word }
+    requires plain { IsUnlimited word }
     requires depth { depth ≤ 64 }
     ensures { Opens word source.now depth tokens.now result }
 {

@@ -9,14 +9,14 @@ use Rattle.serial_meaning.proofs.RisingPedigrees.Rising.{Rise}
 use Rattle.serial_meaning.specs.declared.event.Event.{Event}
 use Rattle.serial_meaning.specs.declared.event.Event.TheVariants as event
 use Rattle.serial_meaning.specs.declared.value.Value.{Value}
-use Rattle.span_report.specs.declared.instance.Open.{Open}
+use Rattle.span_report.specs.declared.instance.OpenInstance.{OpenInstance}
 use Rattle.span_report.specs.declared.instance.Begun.{Begun}
 use Rattle.span_report.specs.declared.instance.Begun.TheVariants.{Spawned, Iterated}
 use Rattle.span_report.specs.Series.{pedigree_of, Begins, BeginsProperly, IsEvent, IsInstance, Main, Child, Iteration, IsHome, IsOf, IsReady, IsSpan}
 use Rattle.span_report.proofs.LongestChains.Chains.{IsMost}
 use Rattle.span_report.specs.Nested.{RaisesWithoutChild, Draw, New, Sync, Whose, Instance, Iterations}
 use Rattle.span_report.specs.Opens.{begun, joined, went_on, synced, turning}
-use Rattle.span_report.specs.Walks.{Opened, start, left, ended, went, entered, path_of, walked, walked_all, walked_span}
+use Rattle.span_report.specs.Walks.{OpenInstances, start, left, ended, went, entered, path_of, walked, walked_all, walked_span}
 use Rattle.span_report.proofs.Nested.Clear.{NotAt, IsClear, Ends, Prints, Steps, Spawns, Loops, Iterates, Scopes, all-clear}
 use Rattle.span_report.proofs.Nested.Coming.{Past, Coming, coming-here, coming-next, coming-in, past-rank, past-apart}
 use Rattle.span_report.proofs.Belonging.Homes.{begins-begins, event-unique, get-contained, IsPresent}
@@ -35,8 +35,8 @@ module _ (all : List Event) (nested : IsClear all (Instance []) [] 0 all) (rise 
   own home path rank n e i p g = record { numbered = g; belongs = subst (λ (j : List ℕ). IsHome all j home) (sym p) (home-is all nested rise home path rank i) }
 
   -- what stands after some events of an instance at a present path and below it
-  record After (from n : ℕ) (home path : List ℕ) (w : Opened) (under : List Open) (how : Begun) : Type 0 where
-    o : Open
+  record After (from n : ℕ) (home path : List ℕ) (w : OpenInstances) (under : List OpenInstance) (how : Begun) : Type 0 where
+    o : OpenInstance
     m : ℕ
     holds : Holds all from n m o home
     began : o.begun ≡ how
@@ -44,8 +44,8 @@ module _ (all : List Event) (nested : IsClear all (Instance []) [] 0 all) (rise 
     same : Same (Past path) w (stack o under)
 
   -- what stands after some iterations of a loop that event number c began
-  record AfterTurns (from c n : ℕ) (home path : List ℕ) (rank : ℕ) (here : IsPresent all home path) (f : Fresh all c path rank) (m : ℕ) (w : Opened) (under : List Open) (how : Begun) : Type 0 where
-    o : Open
+  record AfterTurns (from c n : ℕ) (home path : List ℕ) (rank : ℕ) (here : IsPresent all home path) (f : Fresh all c path rank) (m : ℕ) (w : OpenInstances) (under : List OpenInstance) (how : Begun) : Type 0 where
+    o : OpenInstance
     k : ℕ
     holds : HoldsLoop all from (c + 1) n m o home (path ++ rank ∷ [])
     turns : AreTurns all nested rise c n home path rank here f k
@@ -53,9 +53,9 @@ module _ (all : List Event) (nested : IsClear all (Instance []) [] 0 all) (rise 
     same : Same (Past (path ++ rank ∷ [])) w (stack o under)
 
   abbrev Claim : Whose → List ℕ → ℕ → List Event → Type 0
-  Claim (Instance home) path rank es = (from n to m : ℕ) (w : Opened) (o : Open) (under : List Open) → IsPresent all home path → from ≤ n → to ≡ n + length es → Fresh all n path rank → At all n es → Holds all from n m o home →
+  Claim (Instance home) path rank es = (from n to m : ℕ) (w : OpenInstances) (o : OpenInstance) (under : List OpenInstance) → IsPresent all home path → from ≤ n → to ≡ n + length es → Fresh all n path rank → At all n es → Holds all from n m o home →
       ((p : List ℕ) → Coming path rank p → IsQuiet o p) → Same (Coming path rank) w (stack o under) → After from to home path (walked_all w es) under o.begun
-  Claim Iterations j k es = (home path : List ℕ) (rank from c n to m : ℕ) (w : Opened) (o : Open) (under : List Open) (here : IsPresent all home path) (f : Fresh all c path rank) → j ≡ path ++ rank ∷ [] →
+  Claim Iterations j k es = (home path : List ℕ) (rank from c n to m : ℕ) (w : OpenInstances) (o : OpenInstance) (under : List OpenInstance) (here : IsPresent all home path) (f : Fresh all c path rank) → j ≡ path ++ rank ∷ [] →
       IsOf all home c (event.Loop (path ++ rank ∷ [])) → from ≤ c → c + 1 ≤ n → to ≡ n + length es → Fresh all n j k → At all n es → HoldsLoop all from (c + 1) n m o home (path ++ rank ∷ []) →
       AreTurns all nested rise c n home path rank here f k → Same (Coming j k) w (stack o under) → AfterTurns from c to home path rank here f m (walked_all w es) under o.begun
 
@@ -64,12 +64,12 @@ module _ (all : List Event) (nested : IsClear all (Instance []) [] 0 all) (rise 
       record { o = o; m = m; holds = subst (λ (k : ℕ). Holds all from k m o home) (let q : n ≡ to = omega (arith, t) in q) h; began = refl; quiet = λ p z. q p (inl z); same = λ p z. s p (inl z) }
 
   -- an event that begins nothing
-  claim-own : (home path : List ℕ) (rank next m2 : ℕ) (e : Event) (es : List Event) (from n to m : ℕ) (w : Opened) (o o2 : Open) (under : List Open) → pedigree_of e ≡ path ++ rank ∷ [] → IsPresent all home path → from ≤ n →
+  claim-own : (home path : List ℕ) (rank next m2 : ℕ) (e : Event) (es : List Event) (from n to m : ℕ) (w : OpenInstances) (o o2 : OpenInstance) (under : List OpenInstance) → pedigree_of e ≡ path ++ rank ∷ [] → IsPresent all home path → from ≤ n →
       to ≡ n + length (e ∷ es) → At all (n + 1) es → Holds all from n m o home → ((p : List ℕ) → Coming path rank p → IsQuiet o p) → Same (Coming path rank) w (stack o under) → ((p : List ℕ) → IsQuiet o2 p) →
       went (stack o under) e ≡ stack o2 under → o2.begun ≡ o.begun → Fresh all (n + 1) path next → Holds all from (n + 1) m2 o2 home → Claim (Instance home) path next es → After from to home path (walked_all w (e ∷ es)) under o.begun
   claim-own home path rank next m2 e es from n to m w o o2 under p i l t a h q s still g b f h2 later =
       subst (λ (k : Begun). After from to home path (walked_all w (e ∷ es)) under k) b
-      (later from (n + 1) to m2 (walked w e) o2 under i (omega (arith, l)) (omega (arith, t)) f a h2 (λ p z. still p) (λ p z. ap (λ (v : Opened). left p v.top v.under) (goes ∙ g)))
+      (later from (n + 1) to m2 (walked w e) o2 under i (omega (arith, l)) (omega (arith, t)) f a h2 (λ p z. still p) (λ p z. ap (λ (v : OpenInstances). left p v.top v.under) (goes ∙ g)))
     where
       goes : walked w e ≡ went (stack o under) e
       goes = walked-own (Coming path rank) w o under home path e (path-is e path rank p) h.at i.begins (coming-here path rank) (q path (coming-here path rank)) s
@@ -125,7 +125,7 @@ module _ (all : List Event) (nested : IsClear all (Instance []) [] 0 all) (rise 
   claim-spawns : (home path : List ℕ) (rank : ℕ) (child es : List Event) → IsClear all (Instance (path ++ rank ∷ [])) (path ++ rank ∷ []) 0 child → Claim (Instance (path ++ rank ∷ [])) (path ++ rank ∷ []) 0 child →
       Claim (Instance home) path (rank + 1) es → Claim (Instance home) path rank (event.Spawn (path ++ rank ∷ []) ∷ (child ++ es))
   claim-spawns home path rank child es d inner later from n to m w o under i l t f a h q s =
-      subst (λ (v : Opened). After from to home path v under o.begun) (sym (walked_append (walked w e) child es))
+      subst (λ (v : OpenInstances). After from to home path v under o.begun) (sym (walked_append (walked w e) child es))
       (later from mid to m (walked_all (walked w e) child) o2 under i (omega (arith, l)) (let z = length-append child es in omega (arith, t, z)) f2 (at-back all (n + 1) mid child es a.1 refl) held (λ p z. quiet-none o2 refl p) same)
     where
       j : List ℕ
@@ -140,10 +140,10 @@ module _ (all : List Event) (nested : IsClear all (Instance []) [] 0 all) (rise 
       g : IsOf all home n e
       g = own home path rank n e i refl a.0
 
-      o1 : Open
+      o1 : OpenInstance
       o1 = went_on o
 
-      c0 : Open
+      c0 : OpenInstance
       c0 = begun j Spawned o1.before
 
       w1 : walked w e ≡ stack c0 (o1 ∷ under)
@@ -168,9 +168,9 @@ module _ (all : List Event) (nested : IsClear all (Instance []) [] 0 all) (rise 
 
       c : After (n + 1) mid j j (walked_all (walked w e) child) (o1 ∷ under) Spawned
       c = inner (n + 1) (n + 1) mid 0 (walked w e) c0 (o1 ∷ under) (own-present all j child-is) (omega arith) refl fresh-j at-child (holds-begun all (n + 1) o1.before j Spawned fresh-j b)
-          (λ p z. quiet-none c0 refl p) (λ p z. ap (λ (v : Opened). left p v.top v.under) w1)
+          (λ p z. quiet-none c0 refl p) (λ p z. ap (λ (v : OpenInstances). left p v.top v.under) w1)
 
-      o2 : Open
+      o2 : OpenInstance
       o2 = joined o1 Spawned c.o.within
 
       below : AreBelow all (n + 1) mid j
@@ -188,7 +188,7 @@ module _ (all : List Event) (nested : IsClear all (Instance []) [] 0 all) (rise 
   claim-loops : (home path : List ℕ) (rank : ℕ) (inner es : List Event) → IsClear all Iterations (path ++ rank ∷ []) 0 inner → Claim Iterations (path ++ rank ∷ []) 0 inner → Claim (Instance home) path (rank + 1) es →
       Claim (Instance home) path rank (event.Loop (path ++ rank ∷ []) ∷ (inner ++ es))
   claim-loops home path rank inner es d turns later from n to m w o under i l t f a h q s =
-      subst (λ (v : Opened). After from to home path v under o.begun) (sym (walked_append (walked w e) inner es))
+      subst (λ (v : OpenInstances). After from to home path v under o.begun) (sym (walked_append (walked w e) inner es))
       (subst (λ (k : Begun). After from to home path (walked_all (walked_all (walked w e) inner) es) under k) c.began
       (later from mid to m (walked_all (walked w e) inner) c.o under i (omega (arith, l)) (let z = length-append inner es in omega (arith, t, z)) f2 (at-back all (n + 1) mid inner es a.1 refl) held
       (λ p z. quiet-loop c.o j p c.holds.looping (past-apart path rank p z)) (λ p z. c.same p (past-rank path rank p z))))
@@ -205,7 +205,7 @@ module _ (all : List Event) (nested : IsClear all (Instance []) [] 0 all) (rise 
       g : IsOf all home n e
       g = own home path rank n e i refl a.0
 
-      o1 : Open
+      o1 : OpenInstance
       o1 = turning j (went_on o)
 
       w1 : walked w e ≡ stack o1 under
@@ -219,7 +219,7 @@ module _ (all : List Event) (nested : IsClear all (Instance []) [] 0 all) (rise 
 
       c : AfterTurns from n mid home path rank i f m (walked_all (walked w e) inner) under o1.begun
       c = turns home path rank from n (n + 1) mid m (walked w e) o1 under i f refl g l (omega arith) refl (fresh-child all n home path rank e i.begins f g refl) at-inner (loop-begun all from (n + 1) m (went_on o) home j refl h1)
-          (λ k x y u v z. absurd (omega (arith, u, v))) (λ p z. ap (λ (v : Opened). left p v.top v.under) w1)
+          (λ k x y u v z. absurd (omega (arith, u, v))) (λ p z. ap (λ (v : OpenInstances). left p v.top v.under) w1)
 
       held : Holds all from mid m c.o home
       held = loop-ended all nested rise from n mid m home path rank i f l (omega arith) c.k c.o g c.turns c.holds
@@ -231,7 +231,7 @@ module _ (all : List Event) (nested : IsClear all (Instance []) [] 0 all) (rise 
   claim-scopes : (home path : List ℕ) (rank : ℕ) (inner es : List Event) → Each (NotAt (path ++ rank ∷ [])) all → IsClear all (Instance home) (path ++ rank ∷ []) 0 inner → Claim (Instance home) (path ++ rank ∷ []) 0 inner →
       Claim (Instance home) path (rank + 1) es → Claim (Instance home) path rank (inner ++ es)
   claim-scopes home path rank inner es free d inside later from n to m w o under i l t f a h q s =
-      subst (λ (v : Opened). After from to home path v under o.begun) (sym (walked_append w inner es))
+      subst (λ (v : OpenInstances). After from to home path v under o.begun) (sym (walked_append w inner es))
       (subst (λ (k : Begun). After from to home path (walked_all (walked_all w inner) es) under k) c.began
       (later from mid to c.m (walked_all w inner) c.o under i (omega (arith, l)) (let z = length-append inner es in omega (arith, t, z)) (fresh-under path rank n mid (Instance home) 0 inner d at-inner refl f) (at-back all n mid inner es a refl) c.holds
       (λ p z. c.quiet p (past-rank path rank p z)) (λ p z. c.same p (past-rank path rank p z))))
@@ -258,7 +258,7 @@ module _ (all : List Event) (nested : IsClear all (Instance []) [] 0 all) (rise 
   claim-turn : (j : List ℕ) (k : ℕ) (e : Event) (rest es : List Event) → IsClear all (Instance (j ++ k ∷ [])) (j ++ k ∷ []) 0 (e ∷ rest) → Claim (Instance (j ++ k ∷ [])) (j ++ k ∷ []) 0 (e ∷ rest) → Claim Iterations j (k + 1) es →
       Claim Iterations j k (e ∷ rest ++ es)
   claim-turn j k e rest es d inner later home path rank from c n to m w o under here f q g l u t fr a h turns same =
-      subst (λ (v : Opened). AfterTurns from c to home path rank here f m v under o.begun) (sym (ap (λ (v : Opened). walked_all v (rest ++ es)) first ∙ walked_append (walked v0 e) rest es))
+      subst (λ (v : OpenInstances). AfterTurns from c to home path rank here f m v under o.begun) (sym (ap (λ (v : OpenInstances). walked_all v (rest ++ es)) first ∙ walked_append (walked v0 e) rest es))
       (later home path rank from c mid to m (walked_all v0 (e ∷ rest)) o2 under here f q g l (omega (arith, u)) (let z = length-append rest es in omega (arith, t, z)) f2 (at-back all n mid (e ∷ rest) es a refl) held turns2 same2)
     where
       turn : List ℕ
@@ -270,10 +270,10 @@ module _ (all : List Event) (nested : IsClear all (Instance []) [] 0 all) (rise 
       mid : ℕ
       mid = n + length (e ∷ rest)
 
-      t0 : Open
+      t0 : OpenInstance
       t0 = begun turn Iterated o.before
 
-      v0 : Opened
+      v0 : OpenInstances
       v0 = stack t0 (o ∷ under)
 
       -- The iteration's first event may be in a scope.
@@ -288,8 +288,8 @@ module _ (all : List Event) (nested : IsClear all (Instance []) [] 0 all) (rise 
 
       first : walked w e ≡ walked v0 e
       first =
-          ap (λ (v : Opened). went (entered (path_of e) v) e) (same (path_of e) comes ∙ left-here (path_of e) o under (leads-below o home (path_of e) h.at home-there))
-          ∙ ap (λ (v : Opened). went v e) (entered-turn j k (path_of e) o under (h.looping ∙ ap (λ (l : List ℕ). Some l) (sym q)) there)
+          ap (λ (v : OpenInstances). went (entered (path_of e) v) e) (same (path_of e) comes ∙ left-here (path_of e) o under (leads-below o home (path_of e) h.at home-there))
+          ∙ ap (λ (v : OpenInstances). went v e) (entered-turn j k (path_of e) o under (h.looping ∙ ap (λ (l : List ℕ). Some l) (sym q)) there)
           ∙ sym (walked-own (λ p. Unit {0}) v0 t0 (o ∷ under) turn (path_of e) e refl refl there tt (quiet-none t0 refl (path_of e)) (λ p z. refl))
 
       loop : Contains all (event.Loop j)
@@ -310,7 +310,7 @@ module _ (all : List Event) (nested : IsClear all (Instance []) [] 0 all) (rise 
       ct : After n mid turn turn (walked_all v0 (e ∷ rest)) (o ∷ under) Iterated
       ct = inner n n mid 0 v0 t0 (o ∷ under) (own-present all turn turn-is) (omega arith) refl fresh-turn at-turn (holds-begun all n o.before turn Iterated fresh-turn b) (λ p z. quiet-none t0 refl p) (λ p z. refl)
 
-      o2 : Open
+      o2 : OpenInstance
       o2 = joined o Iterated ct.o.within
 
       tails : (i : ℕ) (x : Event) → n ≤ i → i < mid → IsEvent all i x → BeginsProperly turn (pedigree_of x)
@@ -348,12 +348,12 @@ module _ (all : List Event) (nested : IsClear all (Instance []) [] 0 all) (rise 
 
   -- What the walk comes to is the span.
   pub walk-spans : IsSpan all (walked_span all)
-  walk-spans = subst (λ (o : Open). IsSpan all o.within) (sym last) (most-span all a.o.within (most-as all (λ i. Between all 0 (length all) i) (λ i. i < length all) a.o.within a.holds.within (λ i b. b.2) (λ i l. (omega arith, l, l))))
+  walk-spans = subst (λ (o : OpenInstance). IsSpan all o.within) (sym last) (most-span all a.o.within (most-as all (λ i. Between all 0 (length all) i) (λ i. i < length all) a.o.within a.holds.within (λ i b. b.2) (λ i l. (omega arith, l, l))))
     where
-      w : Opened
+      w : OpenInstances
       w = walked_all start all
 
-      main : Open
+      main : OpenInstance
       main = begun [] Spawned 0
 
       a : After 0 (length all) [] [] w [] Spawned
@@ -361,7 +361,7 @@ module _ (all : List Event) (nested : IsClear all (Instance []) [] 0 all) (rise 
           (holds-begun all 0 0 [] Spawned (fresh-start all) (most-none all (λ i. IsReady all i 0 []) (λ i r. (let l = r.earlier in absurd (omega (arith, l)))))) (λ p z. quiet-none main refl p) (λ p z. refl)
 
       last : ended w.top w.under ≡ a.o
-      last = sym (ended-left [] w.top w.under) ∙ ap (λ (v : Opened). ended v.top v.under) (a.same [] (inl ([], refl)))
+      last = sym (ended-left [] w.top w.under) ∙ ap (λ (v : OpenInstances). ended v.top v.under) (a.same [] (inl ([], refl)))
 
 pub spans_are_walked : (plan : PlanView) → IsSpan (elision plan).items (walked_span (elision plan).items)
 spans_are_walked plan = let es = (elision plan).items in walk-spans es (all-clear es (elision_is_nested plan)) (elision-rise plan)

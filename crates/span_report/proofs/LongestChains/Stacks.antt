@@ -6,13 +6,13 @@ use Rattle.std.proofs.Math.Seq.{take-append_seam}
 use Rattle.std.specs.Prelude.{slice_get}
 use Rattle.serial_meaning.specs.declared.event.Event.{Event}
 use Rattle.serial_meaning.specs.declared.event.Event.TheVariants as event
-use Rattle.span_report.specs.declared.instance.Open.{Open}
+use Rattle.span_report.specs.declared.instance.OpenInstance.{OpenInstance}
 use Rattle.span_report.specs.Series.{pedigree_of, Begins, BeginsProperly}
 use Rattle.span_report.specs.declared.instance.Begun.TheVariants.{Spawned, Iterated}
 use Rattle.span_report.specs.Opens.{begun, joined, starts, leads, noted, turn_at, turn_on}
-use Rattle.span_report.specs.Walks.{Opened, left, ended, pushed, pushed_turn, entered, went, path_of, walked, walked_all}
+use Rattle.span_report.specs.Walks.{OpenInstances, left, ended, pushed, pushed_turn, entered, went, path_of, walked, walked_all}
 
-abbrev pub stack : Open → List Open → Opened
+abbrev pub stack : OpenInstance → List OpenInstance → OpenInstances
 stack o under = record { top = o; under = under }
 
 -- A path begins with each of its fronts, and with nothing else.
@@ -32,24 +32,24 @@ starts-not front path never = by (starts front path) refl
     by false e = e
 
 -- An instance leads to what begins with its path.
-pub leads-below : (o : Open) (home path : List ℕ) → o.path ≡ home → Begins home path → leads o path ≡ true
+pub leads-below : (o : OpenInstance) (home path : List ℕ) → o.path ≡ home → Begins home path → leads o path ≡ true
 leads-below o home path e b = ap (λ (l : List ℕ). starts l path) e ∙ ap (λ (l : List ℕ). starts home l) b.1 ∙ starts-front home b.0
 
-pub leads-not : (o : Open) (home path : List ℕ) → o.path ≡ home → (Begins home path → ⊥) → leads o path ≡ false
+pub leads-not : (o : OpenInstance) (home path : List ℕ) → o.path ≡ home → (Begins home path → ⊥) → leads o path ≡ false
 leads-not o home path e d = ap (λ (l : List ℕ). starts l path) e ∙ starts-not home path d
 
-pub left-here : (p : List ℕ) (o : Open) (ps : List Open) → leads o p ≡ true → left p o ps ≡ stack o ps
+pub left-here : (p : List ℕ) (o : OpenInstance) (ps : List OpenInstance) → leads o p ≡ true → left p o ps ≡ stack o ps
 left-here p o [] e = refl
 left-here p o (x ∷ ps) e = ap (λ (b : Bool). cond b (stack o (x ∷ ps)) (left p (joined x o.begun o.within) ps)) e
 
-pub left-up : (p : List ℕ) (o x : Open) (ps : List Open) → leads o p ≡ false → left p o (x ∷ ps) ≡ left p (joined x o.begun o.within) ps
+pub left-up : (p : List ℕ) (o x : OpenInstance) (ps : List OpenInstance) → leads o p ≡ false → left p o (x ∷ ps) ≡ left p (joined x o.begun o.within) ps
 left-up p o x ps e = ap (λ (b : Bool). cond b (stack o (x ∷ ps)) (left p (joined x o.begun o.within) ps)) e
 
-pub ended-left : (p : List ℕ) (o : Open) (ps : List Open) → ended (left p o ps).top (left p o ps).under ≡ ended o ps
+pub ended-left : (p : List ℕ) (o : OpenInstance) (ps : List OpenInstance) → ended (left p o ps).top (left p o ps).under ≡ ended o ps
 ended-left p o [] = refl
 ended-left p o (x ∷ ps) = by (leads o p) (ended-left p (joined x o.begun o.within) ps)
   where
-    w : Opened
+    w : OpenInstances
     w = left p (joined x o.begun o.within) ps
 
     by : (b : Bool) → ended w.top w.under ≡ ended (joined x o.begun o.within) ps → ended (cond b (stack o (x ∷ ps)) w).top (cond b (stack o (x ∷ ps)) w).under ≡ ended o (x ∷ ps)
@@ -57,7 +57,7 @@ ended-left p o (x ∷ ps) = by (leads o p) (ended-left p (joined x o.begun o.wit
     by false h = h
 
 -- Two stands that come to the same for these paths.
-abbrev pub Same : (List ℕ → Type 0) → Opened → Opened → Type 0
+abbrev pub Same : (List ℕ → Type 0) → OpenInstances → OpenInstances → Type 0
 Same T w v = (p : List ℕ) → T p → left p w.top w.under ≡ left p v.top v.under
 
 take-front : (n : ℕ) (xs ys : List ℕ) → n ≡ length xs → take n (xs ++ ys) ≡ xs
@@ -79,14 +79,14 @@ path-below e path b = let l = last-of b.0 b.1 in (l.0, path-is e (path ++ l.0) l
     last-of x (y ∷ ys) = let l = last-of y ys in (x ∷ l.0, l.1, ap (λ (k : List ℕ). x ∷ k) l.2)
 
 -- The instance is in no loop that a path begins with.
-abbrev pub IsQuiet : Open → List ℕ → Type 0
+abbrev pub IsQuiet : OpenInstance → List ℕ → Type 0
 IsQuiet o path = (j : List ℕ) → o.looping ≡ Some j → starts j path ≡ false
 
-pub quiet-none : (o : Open) → o.looping ≡ None → (path : List ℕ) → IsQuiet o path
+pub quiet-none : (o : OpenInstance) → o.looping ≡ None → (path : List ℕ) → IsQuiet o path
 quiet-none o e path j h = let q : None ≡ Some j = sym e ∙ h in absurd (cc)
 
 -- in a loop that a path doesn't begin with
-pub quiet-loop : (o : Open) (loop path : List ℕ) → o.looping ≡ Some loop → (Begins loop path → ⊥) → IsQuiet o path
+pub quiet-loop : (o : OpenInstance) (loop path : List ℕ) → o.looping ≡ Some loop → (Begins loop path → ⊥) → IsQuiet o path
 quiet-loop o loop path e d j h = subst (λ (l : List ℕ). starts l path ≡ false) (held (sym e ∙ h)) (starts-not loop path d)
   where
     held : Some loop ≡ Some j → loop ≡ j
@@ -96,24 +96,24 @@ quiet-loop o loop path e d j h = subst (λ (l : List ℕ). starts l path ≡ fal
         path_in None = loop
         path_in (Some l) = l
 
-pub entered-open : (path : List ℕ) (o : Open) (under : List Open) → IsQuiet o path → entered path (stack o under) ≡ stack o under
+pub entered-open : (path : List ℕ) (o : OpenInstance) (under : List OpenInstance) → IsQuiet o path → entered path (stack o under) ≡ stack o under
 entered-open path o under q = ap (λ (t : Option (List ℕ)). pushed_turn t (stack o under)) (by o.looping q)
   where
     by : (l : Option (List ℕ)) → ((j : List ℕ) → l ≡ Some j → starts j path ≡ false) → turn_on l path ≡ None
     by None h = refl
     by (Some j) h = ap (λ (b : Bool). cond b (turn_at j (slice_get path (length j))) None) (h j refl)
 
-pub walked_append : (w : Opened) (xs ys : List Event) → walked_all w (xs ++ ys) ≡ walked_all (walked_all w xs) ys
+pub walked_append : (w : OpenInstances) (xs ys : List Event) → walked_all w (xs ++ ys) ≡ walked_all (walked_all w xs) ys
 walked_append w [] ys = refl
 walked_append w (x ∷ xs) ys = walked_append (walked w x) xs ys
 
 -- An event of the instance on top, once those that ended are left.
-pub walked-own : (T : List ℕ → Type 0) (w : Opened) (o : Open) (under : List Open) (home path : List ℕ) (e : Event) → path_of e ≡ path → o.path ≡ home → Begins home path → T path → IsQuiet o path → Same T w (stack o under) →
+pub walked-own : (T : List ℕ → Type 0) (w : OpenInstances) (o : OpenInstance) (under : List OpenInstance) (home path : List ℕ) (e : Event) → path_of e ≡ path → o.path ≡ home → Begins home path → T path → IsQuiet o path → Same T w (stack o under) →
     walked w e ≡ went (stack o under) e
 walked-own T w o under home path e h r b t q s =
     ap (λ (p : List ℕ). went (entered p (left p w.top w.under)) e) h
-    ∙ ap (λ (v : Opened). went (entered path v) e) (s path t ∙ left-here path o under (leads-below o home path r b))
-    ∙ ap (λ (v : Opened). went v e) (entered-open path o under q)
+    ∙ ap (λ (v : OpenInstances). went (entered path v) e) (s path t ∙ left-here path o under (leads-below o home path r b))
+    ∙ ap (λ (v : OpenInstances). went v e) (entered-open path o under q)
 
 get-after : (n : ℕ) (xs : List ℕ) (y : ℕ) (ys : List ℕ) → n ≡ length xs → slice_get (xs ++ y ∷ ys) n ≡ Some y
 get-after zero [] y ys l = refl
@@ -122,7 +122,7 @@ get-after zero (x ∷ xs) y ys l = absurd (omega (arith, l))
 get-after (suc n) (x ∷ xs) y ys l = get-after n xs y ys (omega (arith, l))
 
 -- where an iteration begins
-pub entered-turn : (j : List ℕ) (k : ℕ) (path : List ℕ) (o : Open) (under : List Open) → o.looping ≡ Some j → Begins (j ++ k ∷ []) path → entered path (stack o under) ≡ stack (begun (j ++ k ∷ []) Iterated o.before) (o ∷ under)
+pub entered-turn : (j : List ℕ) (k : ℕ) (path : List ℕ) (o : OpenInstance) (under : List OpenInstance) → o.looping ≡ Some j → Begins (j ++ k ∷ []) path → entered path (stack o under) ≡ stack (begun (j ++ k ∷ []) Iterated o.before) (o ∷ under)
 entered-turn j k path o under e b =
     ap (λ (l : Option (List ℕ)). pushed_turn (turn_on l path) (stack o under)) e
     ∙ ap (λ (t : Bool). pushed_turn (cond t (turn_at j (slice_get path (length j))) None) (stack o under)) (ap (λ (p : List ℕ). starts j p) q ∙ starts-front j (k ∷ b.0))
@@ -132,12 +132,12 @@ entered-turn j k path o under e b =
     q = b.1 ∙ append_assoc j (k ∷ []) b.0
 
 -- the steps of the walk at a Spawn
-pub walked-spawn : (old v new : Opened) (e : Event) (j path : List ℕ) (rank : ℕ) (top child : Open) → e ≡ event.Spawn j → pedigree_of e ≡ path ++ rank ∷ [] →
+pub walked-spawn : (old v new : OpenInstances) (e : Event) (j path : List ℕ) (rank : ℕ) (top child : OpenInstance) → e ≡ event.Spawn j → pedigree_of e ≡ path ++ rank ∷ [] →
     v ≡ entered path (left path old.top old.under) → top ≡ noted v.top e → child ≡ begun j Spawned top.before → new ≡ pushed (stack top v.under) child → new ≡ walked old e
 walked-spawn old v new e j path rank top child s p hv ht hc hn =
     hn
-    ∙ ap (λ (c : Open). pushed (stack top v.under) c) hc
-    ∙ ap (λ (t : Open). pushed (stack t v.under) (begun j Spawned t.before)) (ht ∙ ap (λ (x : Event). noted v.top x) s)
+    ∙ ap (λ (c : OpenInstance). pushed (stack top v.under) c) hc
+    ∙ ap (λ (t : OpenInstance). pushed (stack t v.under) (begun j Spawned t.before)) (ht ∙ ap (λ (x : Event). noted v.top x) s)
     ∙ ap (λ (x : Event). went v x) (sym s)
-    ∙ ap (λ (u : Opened). went u e) hv
+    ∙ ap (λ (u : OpenInstances). went u e) hv
     ∙ ap (λ (l : List ℕ). went (entered l (left l old.top old.under)) e) (sym (path-is e path rank p))

@@ -4,7 +4,7 @@ use Rattle.serial_meaning.specs.Laws.{places}
 use Rattle.serial_meaning.proofs.RisingPedigrees.Rising.{Rise}
 use Rattle.serial_meaning.specs.declared.event.Event.{Event}
 use Rattle.serial_meaning.specs.declared.event.Event.TheVariants as event
-use Rattle.span_report.specs.declared.instance.Open.{Open}
+use Rattle.span_report.specs.declared.instance.OpenInstance.{OpenInstance}
 use Rattle.span_report.specs.declared.instance.Begun.{Begun}
 use Rattle.span_report.specs.declared.instance.Begun.TheVariants.{Spawned, Iterated}
 use Rattle.span_report.specs.Series.{pedigree_of, Begins, IsOf, IsReady, InSeries}
@@ -21,7 +21,7 @@ use Rattle.span_report.proofs.LongestChains.Ranges.{Between, AreBelow, AreTurns,
 module _ (all : List Event) where
   -- The instance of a path began before event number `from`, and its last sync is before number m (0 if there is none). All below it that
   -- stands before number n has ended.
-  pub record Holds (from n m : ℕ) (o : Open) (path : List ℕ) : Type 0 where
+  pub record Holds (from n m : ℕ) (o : OpenInstance) (path : List ℕ) : Type 0 where
     pub at : o.path ≡ path
     pub ready : IsMost all (λ i. IsReady all i n path) (max o.before o.looped)
     pub spawned : IsMost all (λ i. IsPending all m n path i) o.spawned
@@ -29,7 +29,7 @@ module _ (all : List Event) where
     pub within : IsMost all (λ i. Between all from n i) o.within
 
   -- The same where the instance is in the loop with this pedigree, whose first event would be number `first`.
-  pub record HoldsLoop (from first n m : ℕ) (o : Open) (path loop : List ℕ) : Type 0 where
+  pub record HoldsLoop (from first n m : ℕ) (o : OpenInstance) (path loop : List ℕ) : Type 0 where
     pub at : o.path ≡ path
     pub looping : o.looping ≡ Some loop
     pub before : IsMost all (λ i. IsReady all i first path) o.before
@@ -78,7 +78,7 @@ module _ (all : List Event) where
   between-none : (n : ℕ) → IsMost all (λ i. Between all n n i) 0
   between-none n = most-none all (λ i. Between all n n i) (λ i b. (let x = b.0 in let y = b.1 in absurd (omega (arith, x, y))))
 
-  module _ (from n m : ℕ) (o : Open) (path there : List ℕ) (rank : ℕ) (e : Event) (b : Begins path there) (h : IsOf all path n e) (p : pedigree_of e ≡ there ++ rank ∷ []) (f : Fresh all n there rank) (l : from ≤ n) (s : Holds from n m o path) where
+  module _ (from n m : ℕ) (o : OpenInstance) (path there : List ℕ) (rank : ℕ) (e : Event) (b : Begins path there) (h : IsOf all path n e) (p : pedigree_of e ≡ there ++ rank ∷ []) (f : Fresh all n there rank) (l : from ≤ n) (s : Holds from n m o path) where
     abbrev x : ℕ
     x = max o.before o.looped
 
@@ -138,7 +138,7 @@ module _ (all : List Event) where
   }
 
   -- where a loop begins
-  pub loop-begun : (from n m : ℕ) (o : Open) (path loop : List ℕ) → o.looped ≡ 0 → Holds from n m o path → HoldsLoop from n n m (turning loop o) path loop
+  pub loop-begun : (from n m : ℕ) (o : OpenInstance) (path loop : List ℕ) → o.looped ≡ 0 → Holds from n m o path → HoldsLoop from n n m (turning loop o) path loop
   loop-begun from n m o path loop z s = record {
     at = s.at;
     looping = refl;
@@ -150,7 +150,7 @@ module _ (all : List Event) where
   }
 
   -- after an iteration of it
-  pub loop-turned : (from first n to m : ℕ) (o : Open) (path loop : List ℕ) (within : ℕ) → from ≤ n → first ≤ n → n ≤ to → HoldsLoop from first n m o path loop → IsMost all (λ i. Between all n to i) within →
+  pub loop-turned : (from first n to m : ℕ) (o : OpenInstance) (path loop : List ℕ) (within : ℕ) → from ≤ n → first ≤ n → n ≤ to → HoldsLoop from first n m o path loop → IsMost all (λ i. Between all n to i) within →
       HoldsLoop from first to m (joined o Iterated within) path loop
   loop-turned from first n to m o path loop within l u q s w = record {
     at = s.at;
@@ -164,7 +164,7 @@ module _ (all : List Event) where
 
   -- Event number n is the one by which an instance began a child or a loop at a present path, whose events go on up to number `to`.
   module _ (nested : IsClear all (Instance []) [] 0 all) (rise : Rise (places all)) (from n to m : ℕ) (home path : List ℕ) (rank : ℕ) (here : IsPresent all home path) (f : Fresh all n path rank) (l : from ≤ n) (u : n + 1 ≤ to) where
-    pub child-ended : (o : Open) (within : ℕ) → m ≤ n → IsOf all home n (event.Spawn (path ++ rank ∷ [])) → AreBelow all (n + 1) to (path ++ rank ∷ []) → Holds from (n + 1) m o home →
+    pub child-ended : (o : OpenInstance) (within : ℕ) → m ≤ n → IsOf all home n (event.Spawn (path ++ rank ∷ [])) → AreBelow all (n + 1) to (path ++ rank ∷ []) → Holds from (n + 1) m o home →
         IsMost all (λ i. Between all (n + 1) to i) within → Holds from to m (joined o Spawned within) home
     child-ended o within q h below s w = record {
       at = s.at;
@@ -178,7 +178,7 @@ module _ (all : List Event) where
     pub turn-before : (k b : ℕ) → IsOf all home n (event.Loop (path ++ rank ∷ [])) → AreTurns all nested rise n to home path rank here f k → IsMost all (λ i. IsReady all i (n + 1) home) b → IsMost all (λ i. IsReady all i to (path ++ rank ∷ k ∷ [])) b
     turn-before k b h turns s = most-as all (λ i. IsReady all i (n + 1) home) (λ i. IsReady all i to (path ++ rank ∷ k ∷ [])) b s (λ i r. turn-inside all nested rise n to home path rank here f k i u h r) (λ i r. turn-outside all nested rise n to home path rank here f k i h turns r)
 
-    pub loop-ended : (k : ℕ) (o : Open) → IsOf all home n (event.Loop (path ++ rank ∷ [])) → AreTurns all nested rise n to home path rank here f k → HoldsLoop from (n + 1) to m o home (path ++ rank ∷ []) → Holds from to m o home
+    pub loop-ended : (k : ℕ) (o : OpenInstance) → IsOf all home n (event.Loop (path ++ rank ∷ [])) → AreTurns all nested rise n to home path rank here f k → HoldsLoop from (n + 1) to m o home (path ++ rank ∷ []) → Holds from to m o home
     loop-ended k o h turns s = record {
       at = s.at;
       ready = most-either all (λ i. IsReady all i (n + 1) home) (λ i. Between all (n + 1) to i) (λ i. IsReady all i to home) o.before o.looped s.before s.looped (λ i r. ready-on all i (n + 1) to home u r) (λ i b. ready-loop all nested rise n to home path rank here f k i h turns b) (λ i r. loop-ready all nested rise n to home path rank here f i below r);

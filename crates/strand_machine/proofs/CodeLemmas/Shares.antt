@@ -20,6 +20,7 @@ use Rattle.strand_machine.proofs.work.Left.TheSendSync as left_shared
 use Rattle.strand_machine.specs.contracts.body.Body as body
 use Rattle.strand_machine.specs.contracts.destination.Destination as place
 use Rattle.strand_machine.specs.contracts.parts.Parts as parts
+use Rattle.strand_machine.specs.contracts.stop.Paused as paused
 use Rattle.strand_machine.specs.contracts.stop.Resumed as resumed
 use Rattle.strand_machine.specs.contracts.stop.Stop as stop
 use Rattle.strand_machine.specs.contracts.task.Task as task
@@ -72,3 +73,6 @@ stop_sends = variants_send stop.enum ((task_sends, (task_sends, tt)), ((task_sen
 
 pub resumed_sends : IsSend resumed.the_row
 resumed_sends = variants_send resumed.enum ((task_sends, tt), ((task_sends, tt), tt))
+
+pub paused_sends : IsSend paused.the_row
+paused_sends = variants_send paused.enum ((task_sends, (task_sends, tt)), ((task_sends, tt), ((task_sends, tt), tt)))

@@ -60,4 +60,4 @@ pub work-once : {X E : Type 0} (f : X → MoveOrStop) (b : Body) (w : Work) (r :
 work-once f b (work.Splits left) r other h = h
 work-once f b (work.Runs s) r other h = absurd (other s refl)
 work-once f b (work.Over v gone_on) r other h = h
-work-once f b (work.Cut ended) r other h = h
+work-once f b (work.Ends ended) r other h = h

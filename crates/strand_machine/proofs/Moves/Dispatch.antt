@@ -32,7 +32,7 @@ use Rattle.strand_moves.specs.declared.effects.MoveResult.TheVariants as moved-i
 use Rattle.strand_family.specs.Origins.{only}
 use Rattle.strand_machine.specs.Bodies.{is_long}
 use Rattle.strand_machine.specs.Family.{FamilyView, handed}
-use Rattle.strand_machine.specs.Parts.{awaited, place_of}
+use Rattle.strand_machine.specs.Parts.{awaited, destination_of}
 use Rattle.strand_machine.specs.Loops.{IsHandedFor}
 use Rattle.strand_machine.specs.Effects.{shown_task, IsSoundShown, IsKnownChild, IsHandedChild}
 use Rattle.strand_machine.specs.Made.{ended}
@@ -85,7 +85,7 @@ pub spawn-sound : StepsAreSound → (b : Body) (w next : Work) (child : Origin) 
     WorksAt b.family.plan b.family.origin next → IsOriginOf b.family.plan child × IsSound (with_child b child p) next
 spawn-sound law b w next child p h e works =
     let s = sound-step law b w (meaning.Stops (meaning.Spawn child (task_of (with_child b child p) next))) h e in
-    (s.0, record { task = s.1; family = awaits-more b.family b.trace.handed (record { child = child; place = place_of p; behind = [] }) h.family; works = works })
+    (s.0, record { task = s.1; family = awaits-more b.family b.trace.handed (record { child = child; place = destination_of p; behind = [] }) h.family; works = works })
 
 -- Ends
 
@@ -117,7 +117,7 @@ pub works-on : (plan : PlanView) (o : Origin) (w : Work) → WorksAt plan o w �
 works-on plan o (work.Splits left) h = refl
 works-on plan o (work.Runs s) h = refl
 works-on plan o (work.Over v gone_on) h = refl
-works-on plan o (work.Cut ended) h = absurd h
+works-on plan o (work.Ends ended) h = absurd h
 
 pub pass-is : (b : Body) (w next : Work) (s : MadeStep) → WorksAt b.family.plan b.family.origin next → meaning.step (task_of b w) ≡ meaning.Passes (task_of (gone b) next) → s ≡ step-in.Passes (view_of (gone b) next) → IsStep (view_of b w) s
 pass-is b w next s works e h = rw h (record { is = e; keeps = (refl, refl, refl, works-on b.family.plan b.family.origin next works) })

@@ -1,6 +1,7 @@
 -- What a task is after a move of its instance, by what the move showed.
-use Rattle.std.proofs.Common.{◌≡◌, ◌⊎◌, inl, inr, ◌<◌, ℕ, suc, true, false, List, [], ◌∷◌, ◌++◌, None, Result, Ok, Err, length, replicate, refl, sym, ap, ◌∙◌, subst}
+use Rattle.std.proofs.Common.{◌≡◌, ◌⊎◌, inl, inr, ◌<◌, ◌≤◌, ℕ, suc, true, false, List, [], ◌∷◌, ◌++◌, Option, None, Result, Ok, Err, length, replicate, refl, sym, ap, ◌∙◌, subst}
 use Rattle.std.specs.Prelude.{IfOk}
+use Rattle.script_grammar.specs.declared.tree.Stmt.{Stmt}
 use Rattle.serial_meaning.specs.Eval.{path_of}
 use Rattle.serial_meaning.specs.Laws.{IsOriginOf}
 use Rattle.serial_meaning.specs.Plan.{PlanView}
@@ -16,9 +17,12 @@ use Rattle.strand_meaning.specs.Task as meaning
 use Rattle.strand_meaning.specs.Task.{IsNext, Now, Later, own_instance, stops_at, child_in}
 use Rattle.strand_moves.specs.Machines as moves
 use Rattle.strand_moves.specs.Moves.{IsTrailOf, MovesTrail, ShowsTrail, effects_of, run_of}
+use Rattle.strand_moves.specs.Rows as rows
 use Rattle.strand_moves.specs.Rows.{Row, Still, More, Emits}
+use Rattle.strand_moves.specs.Running as running
 use Rattle.strand_moves.specs.declared.instance.Instance.{Instance as RawInstance}
 use Rattle.strand_moves.specs.declared.running.Running.{Running}
+use Rattle.strand_moves.proofs.Cursors.Passing.{comes-has, comes-moved, comes-path, comes-sound}
 use Rattle.strand_moves.specs.declared.effects.LoopedChild.{LoopedChild}
 use Rattle.strand_moves.specs.declared.effects.SpawnedChild.{SpawnedChild}
 use Rattle.strand_moves.specs.declared.effects.MoveResult.{MoveResult}
@@ -27,7 +31,7 @@ use Rattle.strand_moves.specs.declared.effects.Effects.{Effects}
 use Rattle.strand_moves.specs.declared.effects.Effects.TheVariants as shown-in
 use Rattle.strand_machine.specs.Family.{FamilyView}
 use Rattle.strand_machine.specs.Loops.{IsHandedFor}
-use Rattle.strand_machine.specs.Parts.{awaited, place_of}
+use Rattle.strand_machine.specs.Parts.{awaited, destination_of}
 use Rattle.strand_machine.specs.Effects.{shown_task, IsSoundShown}
 use Rattle.strand_machine.specs.Made.{IsRun, LeadsTo}
 use Rattle.strand_machine.specs.Stops.{IsStep, KeepsStep, step_of}
@@ -143,7 +147,7 @@ module _ (b : Body) (i : RawInstance) where
       IsSound (with_child (with_trace b (emit e b.trace)) o.child.origin (place.Spawned o.height o.target)) goes
   spawned-at e o h = record {
     task = h.task;
-    family = awaits-more b.family (emit e b.trace).handed (record { child = o.child.origin; place = place_of (place.Spawned o.height o.target); behind = [] }) (awaits-emitted b.family b.trace e h.family);
+    family = awaits-more b.family (emit e b.trace).handed (record { child = o.child.origin; place = destination_of (place.Spawned o.height o.target); behind = [] }) (awaits-emitted b.family b.trace e h.family);
     works = h.runs;
   }
 
@@ -175,7 +179,7 @@ module _ (b : Body) (i : RawInstance) where
       IsSound (with_child (with_trace b (emit e b.trace)) o.child.origin (place.Looped o.target)) at-loop
   looped-at e o h = record {
     task = h.task;
-    family = awaits-more b.family (emit e b.trace).handed (record { child = o.child.origin; place = place_of (place.Looped o.target); behind = [] }) (awaits-emitted b.family b.trace e h.family);
+    family = awaits-more b.family (emit e b.trace).handed (record { child = o.child.origin; place = destination_of (place.Looped o.target); behind = [] }) (awaits-emitted b.family b.trace e h.family);
     works = h.runs;
   }
 
@@ -389,3 +393,39 @@ row-run law fall plan b i p sound now trace row =
 
 pub on-run-over : (first : TaskView) (b c : Body) (i j : RawInstance) → IsOnRun first b i → IsOnRun (view_of b (work.Runs (stage.Running i))) c j → IsOnRun first c j
 on-run-over first b c i j h k = record { sound = k.sound; leads = leads-over first _ _ h.leads k.leads }
+
+-- A move of an instance to which moves in a row have led. This much was left before them.
+pub record IsLast (first : TaskView) (b : Body) (left : ℕ) (plan : PlanView) (m : MoveResult) (new : RawInstance) : Type 0 where
+  pub before : RawInstance
+  pub runs : IsOnRun first b before
+  pub fewer : moves_left (task_of b (work.Runs (stage.Running before))) ≤ left
+  pub last : move plan (moves.path_of before) (moves.machine_of plan before) ≡ run_of m (moves.machine_of plan new)
+  pub path : moves.path_of new ≡ moves.path_of before
+  pub sound : moves.IsInstance plan new
+
+-- The instance to which moves in a row came, which a spawn may have looked at since, and one move more of it.
+module _ (law : StepsAreSound) (fall : MovesFall) (plan : PlanView) (first : TaskView) (b : Body) (i : RawInstance) (p : plan ≡ b.family.plan) (h : IsOnRun first b i) (now : RawInstance) (sent : Trace) (next : Option Stmt) (came : moves.Comes after plan i b.trace now sent next) (from : RawInstance) (same : from.running.value ≡ now.running.value) where
+  pub came-sound : moves.IsInstance plan from
+  came-sound = subst (λ (r : Running). running.IsInstance plan r) (sym same) (comes-sound after plan i.running.value b.trace now.running.value sent next came)
+
+  pub came-has : (at : Option Stmt) → next ≡ at → moves.HasPassedStatement plan from at
+  came-has at is =
+      subst (λ (o : Option Stmt). rows.HasPassedStatement plan from.running.value o) is
+      (subst (λ (r : Running). rows.HasPassedStatement plan r next) (sym same) (comes-has after plan i.running.value b.trace now.running.value sent next came))
+
+  pub one-more : (at : Option Stmt) → next ≡ at → (new : RawInstance) (m : MoveResult) → move plan (moves.path_of from) (moves.unpassed plan from at) ≡ run_of m (moves.machine_of plan new) → moves.path_of new ≡ moves.path_of from → moves.IsInstance plan new →
+      IsLast first (gone (with_trace b sent)) (moves_left (task_of b (work.Runs (stage.Running i)))) plan m new
+  one-more at is new m e path sound =
+      let k : move plan (running.path_of now.running.value) (rows.unpassed plan now.running.value next) ≡ run_of m (moves.machine_of plan new) =
+      subst (λ (o : Option Stmt). move plan (running.path_of now.running.value) (rows.unpassed plan now.running.value o) ≡ run_of m (moves.machine_of plan new)) (sym is)
+      (subst (λ (r : Running). move plan (running.path_of r) (rows.unpassed plan r at) ≡ run_of m (moves.machine_of plan new)) same e) in
+      let r : moves.RunsOn after plan i b.trace m new sent = comes-moved after plan i.running.value b.trace now.running.value sent next came {E = Unit {0}} (Ok m) new.running.value k in
+      let q = row-run law fall plan b i p h.sound r.before sent r.row in
+      record {
+        before = holding i r.before;
+        runs = on-run-over first b (gone (with_trace b sent)) i (holding i r.before) h q;
+        fewer = q.leads.fewer;
+        last = r.last;
+        path = path ∙ ap (λ (r : Running). running.path_of r) same ∙ comes-path after plan i.running.value b.trace now.running.value sent next came ∙ h.sound.works.at ∙ sym q.sound.works.at;
+        sound = sound;
+      }

@@ -190,13 +190,13 @@ pub holds-sound : (b : Body) (w : Work) → cut_of w ≡ None → Holds b w → 
 holds-sound b (work.Splits left) e h = h
 holds-sound b (work.Runs s) e h = h
 holds-sound b (work.Over v gone_on) e h = h
-holds-sound b (work.Cut ended) e h = absurd (cc)
+holds-sound b (work.Ends ended) e h = absurd (cc)
 
 pub sound_holds : (b : Body) (w : Work) → IsSound b w → Holds b w
 sound_holds b (work.Splits left) h = h
 sound_holds b (work.Runs s) h = h
 sound_holds b (work.Over v gone_on) h = h
-sound_holds b (work.Cut ended) h = absurd h.works
+sound_holds b (work.Ends ended) h = absurd h.works
 
 pub is-sound : (b : Body) (w : Work) (t : TaskView) → view_of b w ≡ t → t.cut ≡ None → Holds b w → IsSound b w
 is-sound b w t view goes h = holds-sound b w (ap (λ (v : TaskView). v.cut) view ∙ goes) h
@@ -209,7 +209,7 @@ pub waits-sound : (b : Body) (w : Work) (t : TaskView) → view_of b w ≡ t →
 waits-sound b (work.Splits left) t view waits h = h
 waits-sound b (work.Runs s) t view waits h = h
 waits-sound b (work.Over v gone_on) t view waits h = h
-waits-sound b (work.Cut ended) t view waits h = absurd (true≢false (sym waits ∙ ap (λ (v : TaskView). v.task.waiting) (sym view) ∙ h.waits))
+waits-sound b (work.Ends ended) t view waits h = absurd (true≢false (sym waits ∙ ap (λ (v : TaskView). v.task.waiting) (sym view) ∙ h.waits))
 
 -- one that took none, and one that did
 not-cut : (o : Option Outcome) → is_cut_short o ≡ false → o ≡ None
@@ -224,22 +224,22 @@ advances-uncut t stop e h = subst (λ (o : Option Outcome). advances o t stop) (
 
 -- one that took a cut ends so
 
-pub is-short : (b : Body) (w : Work) (t : TaskView) → view_of b w ≡ t → is_cut_short t.cut ≡ true → ((o : Outcome) → w ≡ work.Cut o → ⊥) → ⊥
+pub is-short : (b : Body) (w : Work) (t : TaskView) → view_of b w ≡ t → is_cut_short t.cut ≡ true → ((o : Outcome) → w ≡ work.Ends o → ⊥) → ⊥
 is-short b w t view short other = by_work w (ap (λ (v : TaskView). is_cut_short v.cut) view ∙ short) other
   where
-    by_work : (x : Work) → is_cut_short (cut_of x) ≡ true → ((o : Outcome) → x ≡ work.Cut o → ⊥) → ⊥
+    by_work : (x : Work) → is_cut_short (cut_of x) ≡ true → ((o : Outcome) → x ≡ work.Ends o → ⊥) → ⊥
     by_work (work.Splits left) e h = true≢false (sym e)
     by_work (work.Runs s) e h = true≢false (sym e)
     by_work (work.Over v gone_on) e h = true≢false (sym e)
-    by_work (work.Cut o) e h = h o refl
+    by_work (work.Ends o) e h = h o refl
 
-held-short : (b : Body) (w : Work) (o : Outcome) → w ≡ work.Cut o → Holds b w → IsCutShort b o
+held-short : (b : Body) (w : Work) (o : Outcome) → w ≡ work.Ends o → Holds b w → IsCutShort b o
 held-short b w o is h = subst (Holds b) is h
 
-pub short-answers : (b : Body) (w : Work) (o : Outcome) (prefix : List Event) → w ≡ work.Cut o → prefix ≡ b.trace.prefix → Holds b w → IsAnswer b.family.plan b.family.origin prefix o
+pub short-answers : (b : Body) (w : Work) (o : Outcome) (prefix : List Event) → w ≡ work.Ends o → prefix ≡ b.trace.prefix → Holds b w → IsAnswer b.family.plan b.family.origin prefix o
 short-answers b w o prefix is same h = subst (λ (es : List Event). IsAnswer b.family.plan b.family.origin es o) (sym same) (held-short b w o is h).answers
 
-pub short-ends : (b : Body) (w : Work) (o : Outcome) (t : TaskView) → view_of b w ≡ t → w ≡ work.Cut o → Holds b w → (prefix : List Event) (answer : AnswerView) (give : AnswerTag) → prefix ≡ b.trace.prefix →
+pub short-ends : (b : Body) (w : Work) (o : Outcome) (t : TaskView) → view_of b w ≡ t → w ≡ work.Ends o → Holds b w → (prefix : List Event) (answer : AnswerView) (give : AnswerTag) → prefix ≡ b.trace.prefix →
     answer ≡ record { plan = b.family.plan; origin = b.family.origin; out = prefix; outcome = o } → give ≡ tag b.family.plan b.family.origin → Advances t (stop-in.Done answer give)
 short-ends b w o t view is h prefix answer give same e g = subst (λ (v : TaskView). Advances v (stop-in.Done answer give)) view (subst (λ (x : Work). Advances (view_of b x) (stop-in.Done answer give)) (sym is) (record {
   is = ap (λ (a : AnswerView). stop-in.Done a give) (e ∙ ap (λ (es : List Event). record { plan = b.family.plan; origin = b.family.origin; out = es; outcome = o }) same)

@@ -6,10 +6,10 @@ use Rattle.serial_meaning.specs.declared.event.Event.TheVariants as event
 use Rattle.serial_meaning.specs.declared.event.Event.{Event}
 use Rattle.strand_meaning.specs.Strands.{ended_before, is_one_of, last_place, own_events, pedigree_of}
 use Rattle.strand_meaning.proofs.Unfilled.Clears.{or-assoc}
-use Rattle.strand_machine.specs.Eyes.{ahead_of, goes_to, is_none_ahead, less, looks, rises, rises_to}
+use Rattle.strand_machine.specs.Eyes.{ahead_of, goes_to, is_none_ahead, less, eye_after, rises, rises_to}
 use Rattle.strand_machine.specs.declared.eye.Eye.{Eye}
 
-pub looks-append : (j : List ℕ) (eye : Eye) (xs ys : List Item) → looks j eye (xs ++ ys) ≡ looks j (looks j eye xs) ys
+pub looks-append : (j : List ℕ) (eye : Eye) (xs ys : List Item) → eye_after j eye (xs ++ ys) ≡ eye_after j (eye_after j eye xs) ys
 looks-append j eye [] ys = refl
 looks-append j eye (Happened e ∷ xs) ys = looks-append j (rises e (record eye { past = ended_before (pedigree_of e) j })) xs ys
 looks-append j eye (Child o ∷ xs) ys = looks-append j eye xs ys
@@ -184,7 +184,7 @@ module _ (s : ℕ) (js : List ℕ) where
 
   -- whether one of the places is the pedigree
   pub places-seen : (place : List ℕ) (eye : Eye) (items : List Item) → eye.ahead ≡ ahead_of place j →
-      (eye.came || is_one_of j (place ∷ led_to place items)) ≡ ((looks j eye items).came || is_none_ahead (looks j eye items).ahead)
+      (eye.came || is_one_of j (place ∷ led_to place items)) ≡ ((eye_after j eye items).came || is_none_ahead (eye_after j eye items).ahead)
   places-seen place eye [] e = ap (λ (b : Bool). eye.came || b) (or-false (bytes_eq place j) ∙ sym (ap is_none_ahead e ∙ ahead-none place s js))
   places-seen place eye (Child o ∷ items) e = places-seen place eye items e
   places-seen place eye (Opened k ∷ items) e =
@@ -209,7 +209,7 @@ module _ (s : ℕ) (js : List ℕ) where
       ∙ places-seen (risen place) (goes_to (less eye.ahead) (record eye { past = ended_before k j })) items (next-ahead place eye e)
 
   -- and whether one of them without the last one is
-  pub places-without : (place : List ℕ) (eye : Eye) (items : List Item) → eye.ahead ≡ ahead_of place j → (eye.came || is_one_of j (without_last (place ∷ led_to place items))) ≡ (looks j eye items).came
+  pub places-without : (place : List ℕ) (eye : Eye) (items : List Item) → eye.ahead ≡ ahead_of place j → (eye.came || is_one_of j (without_last (place ∷ led_to place items))) ≡ (eye_after j eye items).came
   places-without place eye [] e = or-false eye.came
   places-without place eye (Child o ∷ items) e = places-without place eye items e
   places-without place eye (Opened k ∷ items) e =
@@ -234,7 +234,7 @@ module _ (s : ℕ) (js : List ℕ) where
       ∙ places-without (risen place) (goes_to (less eye.ahead) (record eye { past = ended_before k j })) items (next-ahead place eye e)
 
 -- whether the last event is before the pedigree
-pub past-seen : (j last : List ℕ) (eye : Eye) (items : List Item) → eye.past ≡ ended_before last j → (looks j eye items).past ≡ ended_before (last_place last (own_events items)) j
+pub past-seen : (j last : List ℕ) (eye : Eye) (items : List Item) → eye.past ≡ ended_before last j → (eye_after j eye items).past ≡ ended_before (last_place last (own_events items)) j
 past-seen j last eye [] e = e
 past-seen j last eye (Child o ∷ items) e = past-seen j last eye items e
 past-seen j last eye (Opened k ∷ items) e = past-seen j last (goes_to (ahead_of (k ++ 0 ∷ []) j) eye) items e

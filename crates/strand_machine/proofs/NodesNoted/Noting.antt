@@ -10,7 +10,7 @@ use Rattle.strand_meaning.specs.Strands.{own_events, events_at}
 use Rattle.strand_meaning.specs.Task.{Stop}
 use Rattle.strand_meaning.proofs.NodesNoted.Noted.{also-assoc}
 use Rattle.strand_meaning.proofs.NodesNoted.NoteWords.{events_at-append}
-use Rattle.strand_machine.specs.Eyes.{looks}
+use Rattle.strand_machine.specs.Eyes.{eye_after}
 use Rattle.strand_machine.specs.Noted.{IsNoted, with_step}
 use Rattle.strand_machine.specs.Made.{LeadsTo}
 use Rattle.strand_machine.specs.Stops.{IsStep, stop_of}
@@ -36,7 +36,7 @@ pub record LeadsNoted (first : TaskView) (j : List ℕ) (before : Eye) (now : Ta
   pub leads : LeadsTo first now
   pub front : meaning.Observation
   pub shows : (later : meaning.Observation) (stop : Stop) → Shows now.task later stop → Shows first.task (also front later) stop
-  pub eye : notes.eye ≡ looks j before front.items
+  pub eye : notes.eye ≡ eye_after j before front.items
   pub events : notes.events ≡ events_at j (own_events front.items)
   pub fault : notes.fault ≡ front.fault
   pub joined : notes.joined ≡ front.joined
@@ -56,8 +56,8 @@ module _ (first : TaskView) (j : List ℕ) (eye : Eye) (now : TaskView) (notes a
   abbrev step-shows : meaning.Observation
   step-shows = step_notes now.task
 
-  more-seen : after.eye ≡ looks j eye (h.front.items ++ step-shows.items)
-  more-seen = ap (λ (n : Observed). n.eye) same ∙ ap (λ (e : Eye). looks j e step-shows.items) h.eye ∙ sym (looks-append j eye h.front.items step-shows.items)
+  more-seen : after.eye ≡ eye_after j eye (h.front.items ++ step-shows.items)
+  more-seen = ap (λ (n : Observed). n.eye) same ∙ ap (λ (e : Eye). eye_after j e step-shows.items) h.eye ∙ sym (looks-append j eye h.front.items step-shows.items)
 
   more-events : after.events ≡ events_at j (own_events (h.front.items ++ step-shows.items))
   more-events =

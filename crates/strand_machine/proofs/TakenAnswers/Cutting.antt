@@ -1,5 +1,5 @@
 -- A task that takes its children's answers, of which some may be cuts.
-use Rattle.std.proofs.Common.{◌≡◌, Bool, true, false, ◌||◌, List, [], ◌∷◌, Option, Some, None, Result, length, refl, sym, ap, ◌∙◌, subst, arith}
+use Rattle.std.proofs.Common.{◌≡◌, Bool, true, false, ◌||◌, List, [], ◌∷◌, Option, Some, None, Result, Ok, Err, length, refl, sym, ap, ◌∙◌, subst, arith}
 use Rattle.std.proofs.lemmas.Bool.{true≢false}
 use Rattle.serial_meaning.specs.Answer.{AnswerView, AnswerTag, IsAnswer}
 use Rattle.serial_meaning.specs.Eval.{Evaluation, eval}
@@ -14,24 +14,24 @@ use Rattle.strand_meaning.specs.Answers.{evaluation_of, answer_evaluations}
 use Rattle.strand_meaning.specs.Cuts.{AreAnswersOf, AnswersEnd, IsByFaultOf, by_fault, ended_after, or_ends}
 use Rattle.strand_meaning.specs.Laws.{AnswersAreEvaluations}
 use Rattle.strand_meaning.specs.Machine.{Half}
-use Rattle.strand_meaning.specs.Trace.{AwaitedChild, Trace, heard, heard_all}
+use Rattle.strand_meaning.specs.Trace.{AwaitedChild, Trace, heard, heard_all, heard_unless}
 use Rattle.strand_meaning.specs.Sound.{IsTask}
 use Rattle.strand_meaning.specs.Task.{takes, more_values}
 use Rattle.strand_machine.specs.Family.{FamilyView, tag, tags, origins}
-use Rattle.strand_machine.specs.Merge.{AreSaid, BecomesWork, EndsShort, IsShort, Puts, Takes, TakesAnswers, end_of, ended_of, ending_of, meanings, trace_of, with_stage}
-use Rattle.strand_machine.specs.Parts.{awaited, part_of, parts_of, place_of}
+use Rattle.strand_machine.specs.Merge.{AreSaid, BecomesWork, EndsShort, IsShort, KeepsRest, Merge, Takes, TakesAnswers, end_of, ended_of, ending_of, meanings, trace_of, with_stage}
+use Rattle.strand_machine.specs.Parts.{awaited, awaited_child, awaited_children, destination_of}
 use Rattle.strand_machine.specs.declared.destination.Destination.{Destination}
 use Rattle.strand_machine.specs.declared.destination.Destination.TheVariants as place
 use Rattle.strand_machine.specs.Stops.{IsCutOn, WentOn, answer_tags, any_cut, is_cut, prefix_with, view_on, went}
 use Rattle.strand_machine.specs.Tasks.{TaskView, IsCutShort, task_of, view_of, work_of}
 use Rattle.strand_machine.specs.declared.body.Body.{Body}
-use Rattle.strand_machine.specs.declared.merge.Merge.{Merge}
+use Rattle.strand_machine.specs.declared.parts.Parts.{Parts}
 use Rattle.strand_machine.specs.declared.trace.Behind.{Behind}
 use Rattle.strand_machine.specs.declared.work.Work.{Work}
 use Rattle.strand_machine.specs.declared.work.Work.TheVariants as work
 use Rattle.strand_machine.proofs.TakenAnswers.Answering.{eval-of, origins-tags}
 use Rattle.strand_machine.proofs.Moves.Handed.{awaited_parts}
-use Rattle.strand_machine.proofs.TakenAnswers.Taking.{other-values, same-stage, takes-then, takes-none}
+use Rattle.strand_machine.proofs.TakenAnswers.Taking.{begins, same-stage, takes-then, takes-none}
 
 -- One child
 
@@ -45,34 +45,38 @@ or-false : (b : Bool) → (b || false) ≡ b
 or-false true = refl
 or-false false = refl
 
-pub takes-answer : (p : AwaitedChild) (a : AnswerView) (before heard-it after : Merge) → trace_of heard-it ≡ heard p (record { items = a.out; ending = ending_of a.outcome }) (trace_of before) →
-    ended_of heard-it ≡ or_ends (ended_of before) a.outcome → heard-it.cut ≡ (before.cut || is_cut a.outcome) → heard-it.values ≡ before.values → heard-it.work ≡ before.work →
-    Puts p.place (ending_of a.outcome) heard-it after → IsAnswer a.plan a.origin a.out a.outcome → TakesAnswers (p ∷ []) (a ∷ []) before after
-takes-answer p a before heard-it after trace ended cut values work h said = record {
-  takes = subst (λ (e : Evaluation). Takes (p ∷ []) (e ∷ []) before after) (sym (says a.out a.outcome)) (record {
-    trace = h.trace ∙ trace;
-    values = h.values ∙ ap (λ vs. more_values p.place (ending_of a.outcome) vs) values;
-    work = subst (λ w. BecomesWork (with_stage (takes p.place (ending_of a.outcome))) w after.work) work h.work;
-  });
-  ended = h.ended ∙ ended;
-  cut = h.cut ∙ cut ∙ ap (λ (b : Bool). before.cut || b) (sym (or-false (is_cut a.outcome)));
+-- what was heard leaves no child, whichever there were
+heard-none : (f : Option Fault) (prefix : List Event) (p : AwaitedChild) (events : List Event) (ending : Result (List Value) Fault) → (heard_unless f prefix p events ending).handed ≡ []
+heard-none (Some f) prefix p events ending = refl
+heard-none None prefix p events (Ok vs) = refl
+heard-none None prefix p events (Err f) = refl
+
+pub heard-alone : (p : AwaitedChild) (e : Evaluation) (before after : Trace) → after ≡ heard p e before → after.handed ≡ []
+heard-alone p e before after h = ap (λ (t : Trace). t.handed) h ∙ heard-none before.fault before.prefix p e.items e.ending
+
+pub told : (p : AwaitedChild) (e : Evaluation) (before after : Trace) → after ≡ heard p e before → record after { handed = [] } ≡ heard p e (record before { handed = [] })
+told p e before after h =
+    ap (λ (t : Trace). record t { handed = [] }) h
+    ∙ ap (λ (ps : List AwaitedChild). record (heard p e before) { handed = ps }) (sym (heard-none before.fault before.prefix p e.items e.ending))
+
+pub takes-answer : (p : AwaitedChild) (a : AnswerView) (before after : Merge) → trace_of after ≡ heard p (record { items = a.out; ending = ending_of a.outcome }) (trace_of before) →
+    ended_of after ≡ or_ends (ended_of before) a.outcome → after.cut ≡ (before.cut || is_cut a.outcome) → after.values ≡ more_values p.place (ending_of a.outcome) before.values →
+    BecomesWork (with_stage (takes p.place (ending_of a.outcome))) before.work after.work → IsAnswer a.plan a.origin a.out a.outcome → TakesAnswers (p ∷ []) (a ∷ []) before after
+takes-answer p a before after trace ended cut values work said = record {
+  takes = subst (λ (e : Evaluation). Takes (p ∷ []) (e ∷ []) before after) (sym (says a.out a.outcome)) (record { trace = trace; values = values; work = work });
+  ended = ended;
+  cut = cut ∙ ap (λ (b : Bool). before.cut || b) (sym (or-false (is_cut a.outcome)));
   said = (said, tt);
 }
 
-pub puts-half : (p : Destination) (ending : Result (List Value) Fault) (before after : Merge) → p ≡ place.Half → after ≡ record before { values = more_values Half ending before.values } → Puts (place_of p) ending before after
-puts-half p ending before after at is =
-    let there : Puts Half ending before (record before { values = more_values Half ending before.values }) = record {
-      trace = refl;
-      ended = refl;
-      cut = refl;
-      values = refl;
-      work = record { is = λ plan. sym (same-stage (work_of plan before.work)); works = λ plan o h. h };
-    } in
-    subst (λ (g : Merge). Puts (place_of p) ending before g) (sym is) (subst (λ (q : Destination). Puts (place_of q) ending before (record before { values = more_values Half ending before.values })) (sym at) there)
+-- a part of a loop changes the values alone
+pub half-values : (p : Destination) (ending : Result (List Value) Fault) (values after : List Value) → p ≡ place.Half → after ≡ more_values Half ending values → after ≡ more_values (destination_of p) ending values
+half-values p ending values after at is = subst (λ (q : Destination). after ≡ more_values (destination_of q) ending values) (sym at) is
 
-pub puts-other : (p : Destination) (ending : Result (List Value) Fault) (before : Merge) (w : Work) → (p ≡ place.Half → ⊥) → BecomesWork (with_stage (takes (place_of p) ending)) before.work w →
-    Puts (place_of p) ending before (record before { work = w })
-puts-other p ending before w other h = record { trace = refl; ended = refl; cut = refl; values = sym (other-values p other ending before.values); work = h }
+pub half-work : (p : Destination) (ending : Result (List Value) Fault) (w : Work) → p ≡ place.Half → BecomesWork (with_stage (takes (destination_of p) ending)) w w
+half-work p ending w at =
+    let stays : BecomesWork (with_stage (takes Half ending)) w w = record { is = λ plan. sym (same-stage (work_of plan w)); works = λ plan o h. h } in
+    subst (λ (q : Destination). BecomesWork (with_stage (takes (destination_of q) ending)) w w) (sym at) stays
 
 -- One child, and then the others
 
@@ -90,15 +94,15 @@ answers-then p ps a answers before between after h k = record {
 }
 
 pub answers-next : (xs ys : List AnswerView) (bs cs : List Behind) (a : AnswerView) (b : Behind) (before between after : Merge) → xs ≡ a ∷ ys → bs ≡ b ∷ cs →
-    TakesAnswers (part_of a.origin b ∷ []) (a ∷ []) before between → TakesAnswers (parts_of (origins (answer_tags ys)) cs) ys between after →
-    TakesAnswers (parts_of (origins (answer_tags xs)) bs) xs before after
+    TakesAnswers (awaited_child a.origin b ∷ []) (a ∷ []) before between → TakesAnswers (awaited_children (origins (answer_tags ys)) cs) ys between after →
+    TakesAnswers (awaited_children (origins (answer_tags xs)) bs) xs before after
 answers-next xs ys bs cs a b before between after e k h more =
-    let all : TakesAnswers (parts_of (origins (answer_tags (a ∷ ys))) (b ∷ cs)) (a ∷ ys) before after =
-    answers-then (part_of a.origin b) (parts_of (origins (answer_tags ys)) cs) a ys before between after h more in
-    subst (λ (ds : List Behind). TakesAnswers (parts_of (origins (answer_tags xs)) ds) xs before after) (sym k)
-    (subst (λ (zs : List AnswerView). TakesAnswers (parts_of (origins (answer_tags zs)) (b ∷ cs)) zs before after) (sym e) all)
+    let all : TakesAnswers (awaited_children (origins (answer_tags (a ∷ ys))) (b ∷ cs)) (a ∷ ys) before after =
+    answers-then (awaited_child a.origin b) (awaited_children (origins (answer_tags ys)) cs) a ys before between after h more in
+    subst (λ (ds : List Behind). TakesAnswers (awaited_children (origins (answer_tags xs)) ds) xs before after) (sym k)
+    (subst (λ (zs : List AnswerView). TakesAnswers (awaited_children (origins (answer_tags zs)) (b ∷ cs)) zs before after) (sym e) all)
 
-pub answers-no-more : (xs : List AnswerView) (bs : List Behind) (g : Merge) → length xs ≡ 0 → length bs ≡ 0 → TakesAnswers (parts_of (origins (answer_tags xs)) bs) xs g g
+pub answers-no-more : (xs : List AnswerView) (bs : List Behind) (g : Merge) → length xs ≡ 0 → length bs ≡ 0 → TakesAnswers (awaited_children (origins (answer_tags xs)) bs) xs g g
 answers-no-more [] bs g h k = record { takes = takes-none g; ended = refl; cut = sym (or-false g.cut); said = tt }
 answers-no-more (x ∷ xs) bs g h k = absurd (omega arith)
 
@@ -152,10 +156,8 @@ fault-first : (f : Option Fault) → end_of f false ≡ by_fault f
 fault-first None = refl
 fault-first (Some f) = refl
 
-pub own-children : (b : Body) (prefix : List Event) (fault : Option Fault) (os : List Origin) (bs : List Behind) (ts : List AnswerTag) → ◌≡◌ {A = Trace} (record { prefix = prefix; fault = fault; handed = parts_of os bs }) b.trace →
-    length os ≡ length bs → ts ≡ tags b.family.plan (awaited b.trace.handed) → origins ts ≡ os
-own-children b prefix fault os bs ts view same e =
-    ap origins e ∙ origins-tags b.family.plan (awaited b.trace.handed) ∙ ap (λ (p : Trace). awaited p.handed) (sym view) ∙ awaited_parts os bs same
+pub own-children : (b : Body) (os : List Origin) (bs : List Behind) (ts : List AnswerTag) → awaited_children os bs ≡ b.trace.handed → length os ≡ length bs → ts ≡ tags b.family.plan (awaited b.trace.handed) → origins ts ≡ os
+own-children b os bs ts parts same e = ap origins e ∙ origins-tags b.family.plan (awaited b.trace.handed) ∙ ap awaited (sym parts) ∙ awaited_parts os bs same
 
 pub went-whole : (answers : List AnswerView) (t next : TaskView) → any_cut answers ≡ false → next ≡ view_on t → WentOn answers t next
 went-whole answers t next whole h = subst (λ (cut : Bool). went cut answers t next) (sym whole) h
@@ -163,40 +165,36 @@ went-whole answers t next whole h = subst (λ (cut : Bool). went cut answers t n
 pub went-short : (answers : List AnswerView) (t next : TaskView) → any_cut answers ≡ true → IsCutOn answers t next × (next.loads ≡ t.loads) → WentOn answers t next
 went-short answers t next cut h = subst (λ (c : Bool). went c answers t next) (sym cut) h
 
--- what the parts gave out is what the task had
-pub taken-from : (b : Body) (w : Work) (prefix : List Event) (fault : Option Fault) (values : List Value) (left : Work) (ps : List AwaitedChild) (answers : List AnswerView) (after : Merge) → values ≡ b.values → left ≡ w →
-    TakesAnswers ps answers (record { prefix = prefix; fault = fault; values = values; work = left; cut = false; by_cut = false }) after →
-    TakesAnswers ps answers (record { prefix = prefix; fault = fault; values = b.values; work = w; cut = false; by_cut = false }) after
-taken-from b w prefix fault values left ps answers after vs ws h =
-    subst (λ (x : Work). TakesAnswers ps answers (record { prefix = prefix; fault = fault; values = b.values; work = x; cut = false; by_cut = false }) after) ws
-    (subst (λ (xs : List Value). TakesAnswers ps answers (record { prefix = prefix; fault = fault; values = xs; work = left; cut = false; by_cut = false }) after) vs h)
+-- Answers change the trace and the values of a body, and what remains.
+
+pub keeps-then : (p q r : Parts) → KeepsRest p q → KeepsRest q r → KeepsRest p r
+keeps-then p q r h k = record { body = k.body ∙ ap (λ (b : Body). record b { trace = r.body.trace; values = r.body.values }) h.body; handed = k.handed }
+
+pub kept-body : (p q : Parts) → KeepsRest p q → q.body ≡ record p.body { trace = record q.body.trace { handed = [] }; values = q.body.values }
+kept-body p q k = k.body ∙ ap (λ (ps : List AwaitedChild). record p.body { trace = record q.body.trace { handed = ps }; values = q.body.values }) k.handed
+
+-- the task as it was before its children were taken out of the trace
+pub taken-from : (b : Body) (w : Work) (trace : Trace) (ps : List AwaitedChild) (answers : List AnswerView) (after : Merge) → trace ≡ record b.trace { handed = [] } →
+    TakesAnswers ps answers (begins (record b { trace = trace }) w) after → TakesAnswers ps answers (begins b w) after
+taken-from b w trace ps answers after e h = subst (λ (t : Trace). TakesAnswers ps answers (begins (record b { trace = t }) w) after) e h
 
 -- What is left of a task that took a cut
 
-module _ (b : Body) (w : Work) (prefix : List Event) (fault : Option Fault) (os : List Origin) (bs : List Behind) (answers : List AnswerView) (after : Merge) where
-  abbrev begun : Merge
-  begun = record { prefix = prefix; fault = fault; values = b.values; work = w; cut = false; by_cut = false }
-
+module _ (b : Body) (w : Work) (os : List Origin) (bs : List Behind) (answers : List AnswerView) (after : Merge) where
   -- where none is a cut they are the children's evaluations
-  pub takes-whole : AnswersAreEvaluations → TakesAnswers (parts_of (origins (answer_tags answers)) bs) answers begun after → any_cut answers ≡ false →
-      Takes (parts_of (origins (answer_tags answers)) bs) (meanings (answer_tags answers)) begun after
-  takes-whole law h whole = subst (λ (es : List Evaluation). Takes (parts_of (origins (answer_tags answers)) bs) es begun after) (whole-answers law answers h.said whole) h.takes
+  pub takes-whole : AnswersAreEvaluations → TakesAnswers (awaited_children (origins (answer_tags answers)) bs) answers (begins b w) after → any_cut answers ≡ false →
+      Takes (awaited_children (origins (answer_tags answers)) bs) (meanings (answer_tags answers)) (begins b w) after
+  takes-whole law h whole = subst (λ (es : List Evaluation). Takes (awaited_children (origins (answer_tags answers)) bs) es (begins b w) after) (whole-answers law answers h.said whole) h.takes
 
-  module _ (view : ◌≡◌ {A = Trace} (record { prefix = prefix; fault = fault; handed = parts_of os bs }) b.trace) (children : origins (answer_tags answers) ≡ os)
-      (h : TakesAnswers (parts_of (origins (answer_tags answers)) bs) answers begun after) where
-    handed : parts_of (origins (answer_tags answers)) bs ≡ b.trace.handed
-    handed = ap (λ (cs : List Origin). parts_of cs bs) children ∙ ap (λ (p : Trace). p.handed) view
-
-    front : trace_of begun ≡ record b.trace { handed = [] }
-    front = ap (λ (p : Trace). record p { handed = [] }) view
+  module _ (parts : awaited_children os bs ≡ b.trace.handed) (children : origins (answer_tags answers) ≡ os) (h : TakesAnswers (awaited_children (origins (answer_tags answers)) bs) answers (begins b w) after) where
+    handed : awaited_children (origins (answer_tags answers)) bs ≡ b.trace.handed
+    handed = ap (λ (cs : List Origin). awaited_children cs bs) children ∙ parts
 
     prefix-same : after.prefix ≡ prefix_with answers (task_of b w)
-    prefix-same =
-        ap (λ (p : Trace). p.prefix) h.takes.trace ∙ ap (λ (ps : List AwaitedChild). (heard_all ps (answer_evaluations answers) (trace_of begun)).prefix) handed
-        ∙ ap (λ (p : Trace). (heard_all b.trace.handed (answer_evaluations answers) p).prefix) front
+    prefix-same = ap (λ (p : Trace). p.prefix) h.takes.trace ∙ ap (λ (ps : List AwaitedChild). (heard_all ps (answer_evaluations answers) (record b.trace { handed = [] })).prefix) handed
 
     ended-same : ended_of after ≡ ended_after (by_fault b.trace.fault) answers
-    ended-same = h.ended ∙ ap (λ (o : Option Outcome). ended_after o answers) (fault-first fault ∙ ap (λ (p : Trace). by_fault p.fault) view)
+    ended-same = h.ended ∙ ap (λ (o : Option Outcome). ended_after o answers) (fault-first b.trace.fault)
 
     pub ends-short : AnswersEnd → IsTask (task_of b w) → AreAnswersOf b.family.plan b.trace.handed answers → any_cut answers ≡ true → EndsShort b.family after
     ends-short law is are cut =
@@ -241,7 +239,7 @@ short-holds family g h o r e is b same trace waits =
     }
 
 pub short-view : (family : FamilyView) (g : Merge) (advanced : Bool) (o : Outcome) (r : Option Outcome) → r ≡ ended_of g → r ≡ Some o →
-    (b : Body) → b.family ≡ family → b.trace ≡ record { prefix = g.prefix; fault = None; handed = [] } → b.waiting ≡ false → b.advanced ≡ advanced → IsShort family g advanced (view_of b (work.Cut o))
+    (b : Body) → b.family ≡ family → b.trace ≡ record { prefix = g.prefix; fault = None; handed = [] } → b.waiting ≡ false → b.advanced ≡ advanced → IsShort family g advanced (view_of b (work.Ends o))
 short-view family g advanced o r e is b same trace waits was = record {
   plan = ap (λ (f : FamilyView). f.plan) same;
   origin = ap (λ (f : FamilyView). f.origin) same;

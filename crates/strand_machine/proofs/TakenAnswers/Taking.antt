@@ -22,15 +22,14 @@ use Rattle.strand_meaning.specs.Sound.{IsTask}
 use Rattle.strand_meaning.specs.Task as meaning
 use Rattle.strand_meaning.specs.Task.{Splits, Runs, Over, Task, changed, answered, with_values, joins, resumed, takes, takes_all, more_values, all_values, resumed_work, on, own_instance}
 use Rattle.strand_machine.specs.Family.{FamilyView, HasPassed, HasStopped, tags, origins}
-use Rattle.strand_machine.specs.Merge.{BecomesStage, BecomesWork, Takes, IsAnswered, with_stage, trace_of, meanings}
-use Rattle.strand_machine.specs.Parts.{awaited, parts_of, place_of}
+use Rattle.strand_machine.specs.Merge.{BecomesStage, BecomesWork, Merge, Takes, HasTakenAnswers, with_stage, trace_of, meanings}
+use Rattle.strand_machine.specs.Parts.{awaited, awaited_children, destination_of}
 use Rattle.strand_meaning.specs.Cuts.{AreAnswersOf}
 use Rattle.strand_machine.specs.Stops.{WentOn, any_cut, resumes, view_on, went}
 use Rattle.strand_moves.specs.Machines.{IsInstance, machine_of, path_of}
 use Rattle.strand_moves.specs.declared.instance.Instance.{Instance}
 use Rattle.strand_machine.specs.Tasks.{TaskView, cut_of, work_of, task_of, view_of, AwaitsLast, IsSound}
 use Rattle.strand_machine.specs.declared.body.Body.{Body}
-use Rattle.strand_machine.specs.declared.merge.Merge.{Merge}
 use Rattle.strand_machine.specs.declared.trace.Behind.{Behind}
 use Rattle.strand_machine.specs.declared.destination.Destination.{Destination}
 use Rattle.strand_machine.specs.declared.destination.Destination.TheVariants as place
@@ -133,7 +132,7 @@ runs-on w before after is h = subst (λ (x : Work). BecomesWork (resumed_work []
 })
 
 -- the stage after an answer, by the child's place
-pub placed : (p : Destination) (q : machine.Destination) (ending : Result (List Value) Fault) (before after : InstanceState) → place_of p ≡ q → BecomesStage (takes q ending) before after → BecomesStage (takes (place_of p) ending) before after
+pub placed : (p : Destination) (q : machine.Destination) (ending : Result (List Value) Fault) (before after : InstanceState) → destination_of p ≡ q → BecomesStage (takes q ending) before after → BecomesStage (takes (destination_of p) ending) before after
 placed p q ending before after at h = subst (λ (x : machine.Destination). BecomesStage (takes x ending) before after) (sym at) h
 
 -- what remains is an instance, whose stage changed
@@ -150,9 +149,17 @@ pub on-ok : {A E : Type 0} (r : Result A E) (P Q : Type 0) → (P → Q) → OnO
 on-ok (Ok x) P Q f h = f h
 on-ok (Err x) P Q f h = tt
 
+pub ok-of : {A E : Type 0} (r : Result A E) (P : Type 0) → P → OnOk r P
+ok-of (Ok x) P h = h
+ok-of (Err x) P h = tt
+
+pub on-both : {A E : Type 0} (r : Result A E) (P Q R : Type 0) → (P → Q → R) → OnOk r P → OnOk r Q → OnOk r R
+on-both (Ok x) P Q R f h k = f h k
+on-both (Err x) P Q R f h k = tt
+
 -- One child
 
-pub other-values : (p : Destination) → (p ≡ place.Half → ⊥) → (ending : Result (List Value) Fault) (values : List Value) → more_values (place_of p) ending values ≡ values
+pub other-values : (p : Destination) → (p ≡ place.Half → ⊥) → (ending : Result (List Value) Fault) (values : List Value) → more_values (destination_of p) ending values ≡ values
 other-values (place.Spawned height target) h ending values = refl
 other-values (place.Looped target) h ending values = refl
 other-values place.Half h ending values = absurd (h refl)
@@ -179,19 +186,19 @@ takes-none g = record {
 
 -- All children
 
-meanings-tags : (plan : PlanView) (os : List Origin) (bs : List Behind) → length os ≡ length bs → meanings (tags plan os) ≡ evaluations (eval plan) (parts_of os bs)
+meanings-tags : (plan : PlanView) (os : List Origin) (bs : List Behind) → length os ≡ length bs → meanings (tags plan os) ≡ evaluations (eval plan) (awaited_children os bs)
 meanings-tags plan [] bs h = refl
 meanings-tags plan (o ∷ os) [] h = absurd (omega arith)
 meanings-tags plan (o ∷ os) (b ∷ bs) h = ap (λ es. eval plan o ∷ es) (meanings-tags plan os bs (omega arith))
 
 -- answers with the children's tags are the children's evaluations
-pub takes-awaited : (plan : PlanView) (os : List Origin) (bs : List Behind) (ts : List AnswerTag) (before after : Merge) → length os ≡ length bs → ts ≡ tags plan (awaited (parts_of os bs)) →
-    Takes (parts_of (origins ts) bs) (meanings ts) before after → Takes (parts_of os bs) (evaluations (eval plan) (parts_of os bs)) before after
+pub takes-awaited : (plan : PlanView) (os : List Origin) (bs : List Behind) (ts : List AnswerTag) (before after : Merge) → length os ≡ length bs → ts ≡ tags plan (awaited (awaited_children os bs)) →
+    Takes (awaited_children (origins ts) bs) (meanings ts) before after → Takes (awaited_children os bs) (evaluations (eval plan) (awaited_children os bs)) before after
 takes-awaited plan os bs ts before after same are h =
     let all : ts ≡ tags plan os = are ∙ ap (tags plan) (awaited_parts os bs same) in
     let children : origins ts ≡ os = ap origins all ∙ origins-tags plan os in
-    let answers : meanings ts ≡ evaluations (eval plan) (parts_of os bs) = ap meanings all ∙ meanings-tags plan os bs same in
-    subst (λ es. Takes (parts_of os bs) es before after) answers (subst (λ cs. Takes (parts_of cs bs) (meanings ts) before after) children h)
+    let answers : meanings ts ≡ evaluations (eval plan) (awaited_children os bs) = ap meanings all ∙ meanings-tags plan os bs same in
+    subst (λ es. Takes (awaited_children os bs) es before after) answers (subst (λ cs. Takes (awaited_children cs bs) (meanings ts) before after) children h)
 
 -- the task with the answers of its children, once its wait is over
 pub goes-on : (t : Task) (before after : Merge) (rest : Work) → trace_of before ≡ record t.trace { handed = [] } → before.values ≡ t.values → work_of t.plan before.work ≡ t.work →
@@ -210,45 +217,40 @@ goes-on t before after rest trace values work h over =
 
 -- The task after its wait
 
-module _ (b : Body) (w : Work) (prefix : List Event) (fault : Option Fault) (os : List Origin) (bs : List Behind) (ts : List AnswerTag) (after : Merge) (new-os : List Origin) (new-bs : List Behind) (rest : Work) where
+abbrev pub begins : Body → Work → Merge
+begins b w = record { prefix = b.trace.prefix; fault = b.trace.fault; values = b.values; work = w; cut = false; by_cut = false }
+
+module _ (b : Body) (w : Work) (os : List Origin) (bs : List Behind) (ts : List AnswerTag) (after : Merge) (rest : Work) where
   abbrev next-body : Body
-  next-body = record { family = b.family; trace = record { prefix = after.prefix; fault = after.fault; handed = parts_of new-os new-bs }; values = after.values; waiting = false; advanced = b.advanced }
+  next-body = record b { trace = trace_of after; values = after.values; waiting = false }
 
-  abbrev begins : Merge
-  begins = record { prefix = prefix; fault = fault; values = b.values; work = w; cut = false; by_cut = false }
-
-  task-on : ◌≡◌ {A = Trace} (record { prefix = prefix; fault = fault; handed = parts_of os bs }) b.trace → length os ≡ length bs → ts ≡ tags b.family.plan (awaited b.trace.handed) → new-os ≡ [] →
-      Takes (parts_of (origins ts) bs) (meanings ts) begins after → BecomesWork (resumed_work [] []) after.work rest →
-      task_of next-body rest ≡ on (evaluations (eval b.family.plan) b.trace.handed) (task_of b w)
-  task-on view same are none h over =
+  task-on : awaited_children os bs ≡ b.trace.handed → length os ≡ length bs → ts ≡ tags b.family.plan (awaited b.trace.handed) → Takes (awaited_children (origins ts) bs) (meanings ts) (begins b w) after →
+      BecomesWork (resumed_work [] []) after.work rest → task_of next-body rest ≡ on (evaluations (eval b.family.plan) b.trace.handed) (task_of b w)
+  task-on parts same are h over =
       let plan = b.family.plan in
-      let handed : parts_of os bs ≡ b.trace.handed = ap (λ (p : Trace). p.handed) view in
-      let tagged : ts ≡ tags plan (awaited (parts_of os bs)) = are ∙ ap (λ (ps : List AwaitedChild). tags plan (awaited ps)) (sym handed) in
-      let taken : Takes b.trace.handed (evaluations (eval plan) b.trace.handed) begins after =
-      subst (λ (ps : List AwaitedChild). Takes ps (evaluations (eval plan) ps) begins after) handed (takes-awaited plan os bs ts begins after same tagged h) in
-      ap (λ (no : List Origin). task_of (record { family = b.family; trace = record { prefix = after.prefix; fault = after.fault; handed = parts_of no new-bs }; values = after.values; waiting = false; advanced = b.advanced }) rest) none
-      ∙ goes-on (task_of b w) begins after rest (ap (λ (p : Trace). record p { handed = [] }) view) refl refl taken over
+      let tagged : ts ≡ tags plan (awaited (awaited_children os bs)) = are ∙ ap (λ (ps : List AwaitedChild). tags plan (awaited ps)) (sym parts) in
+      let taken : Takes b.trace.handed (evaluations (eval plan) b.trace.handed) (begins b w) after =
+      subst (λ (ps : List AwaitedChild). Takes ps (evaluations (eval plan) ps) (begins b w) after) parts (takes-awaited plan os bs ts (begins b w) after same tagged h) in
+      goes-on (task_of b w) (begins b w) after rest refl refl refl taken over
 
-  pub goes-on-view : ◌≡◌ {A = Trace} (record { prefix = prefix; fault = fault; handed = parts_of os bs }) b.trace → length os ≡ length bs → ts ≡ tags b.family.plan (awaited b.trace.handed) → new-os ≡ [] →
-      Takes (parts_of (origins ts) bs) (meanings ts) begins after → BecomesWork (resumed_work [] []) after.work rest → IsAnswered b w →
-      view_of next-body rest ≡ view_on (view_of b w)
-  goes-on-view view same are none h over sound =
+  pub goes-on-view : awaited_children os bs ≡ b.trace.handed → length os ≡ length bs → ts ≡ tags b.family.plan (awaited b.trace.handed) → Takes (awaited_children (origins ts) bs) (meanings ts) (begins b w) after →
+      BecomesWork (resumed_work [] []) after.work rest → HasTakenAnswers b w → view_of next-body rest ≡ view_on (view_of b w)
+  goes-on-view parts same are h over sound =
       let plan = b.family.plan in
       let uncut : cut_of rest ≡ cut_of w = works-on plan b.family.origin rest (over.works plan _ (h.work.works plan _ sound.works)) ∙ sym (works-on plan b.family.origin w sound.works) in
-      ap (λ (t : Task). record (view_of b w) { task = t; cut = cut_of rest }) (task-on view same are none h over) ∙ ap (λ (o : Option Outcome). record (view_on (view_of b w)) { cut = o }) uncut
+      ap (λ (t : Task). record (view_of b w) { task = t; cut = cut_of rest }) (task-on parts same are h over) ∙ ap (λ (o : Option Outcome). record (view_on (view_of b w)) { cut = o }) uncut
 
-  pub goes-on-sound : ◌≡◌ {A = Trace} (record { prefix = prefix; fault = fault; handed = parts_of os bs }) b.trace → length os ≡ length bs → ts ≡ tags b.family.plan (awaited b.trace.handed) → new-os ≡ [] →
-      Takes (parts_of (origins ts) bs) (meanings ts) begins after → BecomesWork (resumed_work [] []) after.work rest → AnswersKeepTasks → IsAnswered b w → IsSound next-body rest
-  goes-on-sound view same are none h over law sound =
+  pub goes-on-sound : awaited_children os bs ≡ b.trace.handed → length os ≡ length bs → ts ≡ tags b.family.plan (awaited b.trace.handed) → Takes (awaited_children (origins ts) bs) (meanings ts) (begins b w) after →
+      BecomesWork (resumed_work [] []) after.work rest → AnswersKeepTasks → HasTakenAnswers b w → IsSound next-body rest
+  goes-on-sound parts same are h over law sound =
       let plan = b.family.plan in
-      let nobody : AwaitsLast b.family [] = record { before = b.family.children; passed = b.family.taken; same = sound.taken; children = sym (append-nil b.family.children); taken = sym (append-nil b.family.taken) } in
       record {
-        task = subst IsTask (sym (task-on view same are none h over)) (law (task_of b w) sound.task);
-        family = subst (λ (no : List Origin). AwaitsLast b.family (parts_of no new-bs)) (sym none) nobody;
+        task = subst IsTask (sym (task-on parts same are h over)) (law (task_of b w) sound.task);
+        family = record { before = b.family.children; passed = b.family.taken; same = sound.taken; children = sym (append-nil b.family.children); taken = sym (append-nil b.family.taken) };
         works = over.works plan _ (h.work.works plan _ sound.works);
       }
 
-pub answered-sound : (b : Body) (w : Work) → IsSound b w → IsAnswered b w
+pub answered-sound : (b : Body) (w : Work) → IsSound b w → HasTakenAnswers b w
 answered-sound b w h = record { task = h.task; taken = taken-length b.family _ (awaits-count b.family b.trace.handed h.family); works = h.works }
 
 -- Looks
@@ -267,12 +269,12 @@ looked-sound b w g ready loads e h =
 
 -- a look that finds all answers, and the answers taken
 pub taken-answered : (b : Body) (w : Work) (g k : FamilyView) (ready : Bool) (loads : List ℕ) → g ≡ record b.family { ready = ready; loads = loads } → k ≡ record g { taken = k.taken } →
-    length k.taken ≡ length g.taken → IsSound b w → IsAnswered (record b { family = k }) w
+    length k.taken ≡ length g.taken → IsSound b w → HasTakenAnswers (record b { family = k }) w
 taken-answered b w g k ready loads e d same h =
     let looked = looked-sound b w g ready loads e h in
     let whole = answered-sound (record b { family = g }) w looked in
-    let there : IsAnswered (record b { family = record g { taken = k.taken } }) w = record { task = whole.task; taken = same ∙ whole.taken; works = whole.works } in
-    subst (λ (x : FamilyView). IsAnswered (record b { family = x }) w) (sym d) there
+    let there : HasTakenAnswers (record b { family = record g { taken = k.taken } }) w = record { task = whole.task; taken = same ∙ whole.taken; works = whole.works } in
+    subst (λ (x : FamilyView). HasTakenAnswers (record b { family = x }) w) (sym d) there
 
 pub looked-same : (b : Body) (w : Work) (g : FamilyView) (ready : Bool) (loads : List ℕ) → g ≡ record b.family { ready = ready; loads = loads } → (t : TaskView) → view_of b w ≡ t → HasStopped b.family.loads g.loads →
     (task_of (record b { family = g }) w ≡ t.task) × (g.children ≡ t.children) × HasStopped t.loads g.loads × (g.knows ≡ t.knows) × (cut_of w ≡ t.cut)

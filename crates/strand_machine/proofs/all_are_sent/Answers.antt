@@ -1,6 +1,6 @@
 use denote.Param.Send.{IsSend, param_send}
 use contract.Lifetimes.{Lfts}
-use Rattle.strand_machine.proofs.CodeLemmas.Shares.{task_sends, stop_sends, resumed_sends}
+use Rattle.strand_machine.proofs.CodeLemmas.Shares.{task_sends, stop_sends, resumed_sends, paused_sends}
 use Rattle.strand_machine.proofs.all_are_sent.Lts as types
 use Rattle.strand_machine.proofs.all_are_sent.Goals as goal
 
@@ -14,6 +14,9 @@ stop_goes κs = record { owned = stop_sends.owned; leaving = stop_sends.leaving 
 resumed_goes : (κs : Lfts 1) → IsSend (types.arg-2-0 κs)
 resumed_goes κs = record { owned = resumed_sends.owned; leaving = resumed_sends.leaving }
 
+paused_goes : (κs : Lfts 1) → IsSend (types.arg-3-0 κs)
+paused_goes κs = record { owned = paused_sends.owned; leaving = paused_sends.leaving }
+
 pub is_sent-requires-send-T : goal.is_sent-requires-send-T
 is_sent-requires-send-T c κs = param_send 0 (types.arg-0-0 κs) (task_goes κs)
 
@@ -22,3 +25,6 @@ is_sent-requires-2-send-T c κs = param_send 0 (types.arg-1-0 κs) (stop_goes κ
 
 pub is_sent-requires-3-send-T : goal.is_sent-requires-3-send-T
 is_sent-requires-3-send-T c κs = param_send 0 (types.arg-2-0 κs) (resumed_goes κs)
+
+pub is_sent-requires-4-send-T : goal.is_sent-requires-4-send-T
+is_sent-requires-4-send-T c κs = param_send 0 (types.arg-3-0 κs) (paused_goes κs)

@@ -20,7 +20,7 @@ use Rattle.serial_meaning.specs.declared.value.Value.TheVariants.{Int}
 use Rattle.serial_meaning.specs.declared.event.FaultKind.{FaultKind}
 use Rattle.serial_meaning.specs.declared.event.FaultKind.TheVariants.{Index, Depth, Calls, Budget}
 use Rattle.serial_meaning.specs.declared.event.Fault.{Fault}
-use Rattle.strand_meaning.specs.Machine.{Destination, Spawned, Looped, Effect, Exit, Faulted, Inside, handing, inside, place_of, Level, Frame, Machine, Reached, Stands, Gives, state_of, here_of, with_left, with_returning, back, spawns_in, entered, reached, gives, value_run, statement_move, return_move, level_move, end_move, move_at, move}
+use Rattle.strand_meaning.specs.Machine.{Destination, Spawned, Looped, Effect, Exit, Faulted, Inside, handing, inside, destination_of, Level, Frame, Machine, Reached, Stands, Gives, state_of, here_of, with_left, with_returning, back, spawns_in, entered, reached, gives, value_run, statement_move, return_move, level_move, end_move, move_at, move}
 use Rattle.strand_meaning.specs.Left.{ways_out, all_ways_out, moves_of}
 
 -- no more than these steps are left, where it goes on or inside
@@ -90,7 +90,7 @@ module _ (plan : PlanView) (path : List ℕ) where
         fewer : s.steps - hi ≤ n
         fewer = omega arith
 
-    does-within : (height : ℕ) (st : Stmt) (a : Act-F Act Stmt) (s : State Bool) → s.steps ≤ n → Within steps_of n (does (what (place_of height a)) plan path inside height st a s).ending
+    does-within : (height : ℕ) (st : Stmt) (a : Act-F Act Stmt) (s : State Bool) → s.steps ≤ n → Within steps_of n (does (what (destination_of height a)) plan path inside height st a s).ending
     does-within height st (act.Let x r) s h = within-then pair_steps steps_of n (right_side (what (Spawned height (Some x))) plan path inside height r s) _ (right-within (Spawned height (Some x)) height r s h) (λ p g. g)
     does-within height st (act.Array x k) s h = h
     does-within height st (act.Set x r) s h = within-then pair_steps steps_of n (right_side (what (Spawned height (Some x))) plan path inside height r s) _ (right-within (Spawned height (Some x)) height r s h) (λ p g. g)
@@ -168,11 +168,11 @@ module _ (plan : PlanView) (path : List ℕ) where
           fewer : (k : Machine) → k.steps ≡ s.steps → open_in k ≤ open_in m + 2 → moves_of k < moves_of m
           fewer k x y = omega arith
 
-      by_steps : (n : ℕ) → m.steps ≡ n → Falls m (reached plan (with_left m left) (entered plan st a left m) (paid_from (handing plan (place_of (length m.below) a)) plan (here_of path m) n (state_of m) (λ s. does (handing plan (place_of (length m.below) a)) plan (here_of path m) inside (length m.below) st a s)).ending)
+      by_steps : (n : ℕ) → m.steps ≡ n → Falls m (reached plan (with_left m left) (entered plan st a left m) (paid_from (handing plan (destination_of (length m.below) a)) plan (here_of path m) n (state_of m) (λ s. does (handing plan (destination_of (length m.below) a)) plan (here_of path m) inside (length m.below) st a s)).ending)
       by_steps zero h = tt
       by_steps (suc n) h =
           let s : State Bool = record (state_of m) { steps = n } in
-          by_end n h (does (handing plan (place_of (length m.below) a)) plan (here_of path m) inside (length m.below) st a s).ending (does-within plan (here_of path m) n (length m.below) st a s (omega arith))
+          by_end n h (does (handing plan (destination_of (length m.below) a)) plan (here_of path m) inside (length m.below) st a s).ending (does-within plan (here_of path m) n (length m.below) st a s (omega arith))
 
   return-falls : (m : Machine) (returning : Bool) → Falls m (return_move plan path m returning).ending
   return-falls m false = by_steps m.steps refl

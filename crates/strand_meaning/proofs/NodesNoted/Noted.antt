@@ -16,7 +16,7 @@ use Rattle.strand_meaning.specs.Trace.{AwaitedChild, Trace, with_effects}
 use Rattle.strand_meaning.specs.Task.{InstanceState, Running, AtSync, AtLoop, Ended, Work, Splits, Runs, Over, Task, MoveOrStop, Passes, Stops, Stop, Spawn, Wait, End, IsNext, Now, Later, stage_after, child_in, stops_at, passing, moved, ends_unless, faults_behind, resumed, begun_stage, start, step}
 use Rattle.strand_meaning.specs.Rest.{children_of, rest_of_stage, rest_open}
 use Rattle.strand_meaning.specs.Laws.{IsSoundStep, IsOf}
-use Rattle.strand_meaning.specs.Sound.{ArePlaces, AreHalves, IsSoundStage, IsTask}
+use Rattle.strand_meaning.specs.Sound.{AreDestinations, AreHalves, IsSoundStage, IsTask}
 use Rattle.strand_meaning.specs.Strands.{joined_fault}
 use Rattle.strand_meaning.specs.Observation.{IsInstance, work_left, Observation, no_notes, newest, also, effect_items, move_fault, stage_notes, step_notes, Shows, Now as ShownNow, Later as ShownLater, own_fault_of, stage_fault, IsOnWay, IsAllNoted, OnWay}
 use Rattle.strand_meaning.proofs.UnfilledPending.Alike.{alike-effects, alike-takes}
@@ -99,7 +99,7 @@ module _ (plan : PlanView) (o : Origin) where
         by_end (Ok (Stands k)) fits = to-after (stage_after ts k)
         by_end (Ok (Gives v)) fits =
             sym (ended-rest plan kids path 0 (ps ++ effect_parts ts) (halves-places (ps ++ effect_parts ts) (subst AreHalves (no-more fits.0) fits.1)) (Ok v)) ∙ to-after (Ended (Ok v))
-        by_end (Err f) fits = sym (ended-rest plan kids path fits.1 (ps ++ effect_parts ts) (subst (ArePlaces fits.1) (no-more fits.0) fits.2) (Err (Own f))) ∙ to-after (Ended (Err (Own f)))
+        by_end (Err f) fits = sym (ended-rest plan kids path fits.1 (ps ++ effect_parts ts) (subst (AreDestinations fits.1) (no-more fits.0) fits.2) (Err (Own f))) ∙ to-after (Ended (Err (Own f)))
 
     way-moved : (m : Machine) (notes : Observation) (ts : List Effect) (e : Result Reached Fault) → SoundEnd plan ps ts e →
         rest_open plan kids path ps (Running m) ≡ behind (effect_items ts) (shown_with plan kids path ps ts e) → Way plan o ps (Running m) notes →
@@ -127,7 +127,7 @@ abbrev all_ended : Result Value NodeFault → Result (List Value) NodeFault
 all_ended (Ok v) = Ok (v ∷ [])
 all_ended (Err e) = Err e
 
-module _ (plan : PlanView) (o : Origin) (ps : List AwaitedChild) (height : ℕ) (places : ArePlaces height ps) where
+module _ (plan : PlanView) (o : Origin) (ps : List AwaitedChild) (height : ℕ) (places : AreDestinations height ps) where
   ended-node : (e : Result Value NodeFault) → work_left plan o ps (Runs (Ended e)) ≡ record { items = []; ending = all_ended e }
   ended-node e = ap (λ (r : Run Item NodeFault Value). r then λ v. done (v ∷ [])) (ended-rest plan (children_of plan o) (path_of o) height ps places e) ∙ by_end e
     where
@@ -226,7 +226,7 @@ module _ (t : Task) (function : ℕ) (args : List Value) (at : List ℕ) where
   waits-on : (stage : InstanceState) (notes : Observation) → IsOnWay notes (with_stage stage) → IsOnWay (also notes no_notes) (record t { origin = own; work = Runs stage; waiting = true; advanced = true })
   waits-on stage notes h = on-way t.trace true stage (also notes no_notes) (subst (Going stage) (sym (also-nothing notes)) (way-of stage notes h))
 
-  ends-so : (e : Result Value NodeFault) (height : ℕ) → ArePlaces height t.trace.handed → (notes : Observation) → IsOnWay notes (with_stage (Ended e)) → IsAllNoted t.plan own (also notes (stage_notes t.plan at (Ended e)))
+  ends-so : (e : Result Value NodeFault) (height : ℕ) → AreDestinations height t.trace.handed → (notes : Observation) → IsOnWay notes (with_stage (Ended e)) → IsAllNoted t.plan own (also notes (stage_notes t.plan at (Ended e)))
   ends-so e height places notes h = whole-ended t.plan own t.trace.handed height places notes e (way-of (Ended e) notes h)
 
   stage-on : (stage : InstanceState) → IsTask (with_stage stage) → (notes : Observation) → IsOnWay notes (with_stage stage) → OnStep (also notes (step_notes (with_stage stage))) (with_stage stage) (step (with_stage stage))
@@ -239,7 +239,7 @@ module _ (t : Task) (function : ℕ) (args : List Value) (at : List ℕ) where
       by_parts : (qs : List AwaitedChild) → OnStep (also notes no_notes) (with_stage (Ended (Err (Own f)))) (faults_behind qs (with_stage (Ended (Err (Own f)))) f)
       by_parts [] = ends-whole _ (with_stage (Ended (Err (Own f)))) (ends-so (Err (Own f)) is.work.2.0 is.work.2.1 notes h) t.trace.fault _
       by_parts (q ∷ qs) = waits-on (Ended (Err (Own f))) notes h
-  stage-on (Ended (Err (ChildFaulted f))) is notes h = ends-whole _ (with_stage (Ended (Err (ChildFaulted f)))) (ends-so (Err (ChildFaulted f)) 0 (subst (ArePlaces 0) (sym is.work.2) tt) notes h) t.trace.fault _
+  stage-on (Ended (Err (ChildFaulted f))) is notes h = ends-whole _ (with_stage (Ended (Err (ChildFaulted f)))) (ends-so (Err (ChildFaulted f)) 0 (subst (AreDestinations 0) (sym is.work.2) tt) notes h) t.trace.fault _
 
 step-on : (t : Task) → IsTask t → IsInstance t.origin → (notes : Observation) → IsOnWay notes t → OnStep (also notes (step_notes t)) t (step t)
 step-on t is inst notes h = by_origin t.origin is inst h

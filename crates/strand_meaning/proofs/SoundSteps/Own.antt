@@ -26,7 +26,7 @@ use Rattle.serial_meaning.specs.declared.event.Event.{Event}
 use Rattle.serial_meaning.specs.declared.event.Event.TheVariants as event
 use Rattle.serial_meaning.specs.declared.origin.Origin.{Origin}
 use Rattle.serial_meaning.specs.declared.origin.Origin.TheVariants as origin
-use Rattle.strand_meaning.specs.Machine.{Destination, Spawned, Looped, Effect, Opens, Closes, Emitted, Handed, Exit, loop_effects, sync_effects, handing, inside, place_of, Level, Frame, Machine, inside_of, present, here_of, state_of, spawns_in, value_run, return_move, level_move, end_move, move_at, move}
+use Rattle.strand_meaning.specs.Machine.{Destination, Spawned, Looped, Effect, Opens, Closes, Emitted, Handed, Exit, loop_effects, sync_effects, handing, inside, destination_of, Level, Frame, Machine, inside_of, present, here_of, state_of, spawns_in, value_run, return_move, level_move, end_move, move_at, move}
 use Rattle.strand_meaning.proofs.SoundSteps.Finishing.{NotHalf}
 
 -- an event by which a child of an instance is spawned or begun
@@ -135,7 +135,7 @@ module _ (P : List Effect → Type 0) (plan : PlanView) (whole : List ℕ) (rule
       e : Event
       e = event.Loop (path ++ s.rank ∷ [])
 
-  owns-does : (height : ℕ) (st : Stmt) (a : Act-F Act Stmt) (s : State Bool) → Owns (does (what (place_of height a)) plan path inside height st a s)
+  owns-does : (height : ℕ) (st : Stmt) (a : Act-F Act Stmt) (s : State Bool) → Owns (does (what (destination_of height a)) plan path inside height st a s)
   owns-does height st (act.Let x r) s = owns-then (right_side (what (Spawned height (Some x))) plan path inside height r s) _ (owns-right height (Some x) height r s) (λ p. rules.none)
   owns-does height st (act.Array x n) s = rules.none
   owns-does height st (act.Set x r) s = owns-then (right_side (what (Spawned height (Some x))) plan path inside height r s) _ (owns-right height (Some x) height r s) (λ p. rules.none)
@@ -191,7 +191,7 @@ module _ (P : List Effect → Type 0) (plan : PlanView) (path : List ℕ) (rules
       by_left : (left : List Stmt) → P (move_at plan path m left).items
       by_left [] = by_levels m.top.levels
       by_left (st ∷ left) =
-          owns-paid P plan path rules below.0 (here_of path m) below.1 (place_of (length m.below) (out-Act (out-Stmt st).act)) m.steps (state_of m) _
+          owns-paid P plan path rules below.0 (here_of path m) below.1 (destination_of (length m.below) (out-Act (out-Stmt st).act)) m.steps (state_of m) _
           (λ s. owns-does P plan path rules below.0 (here_of path m) below.1 (length m.below) st (out-Act (out-Stmt st).act) s)
 
 -- The children that a move hands out are an instance's.

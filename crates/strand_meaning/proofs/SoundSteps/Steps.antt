@@ -18,7 +18,7 @@ use Rattle.strand_meaning.specs.Machine.{Destination, Spawned, Looped, Half, Eff
 use Rattle.strand_meaning.specs.Trace.{AwaitedChild, Trace, with_effects}
 use Rattle.strand_meaning.specs.Task.{InstanceState, Running, Ended, Work, Runs, Task, own_instance, stage_after, child_in, stops_at, passing, moved, resumed}
 use Rattle.strand_meaning.specs.Rest.{children_of, rest_of_stage, rest_open, closed, parts_run, prefix_run, work_run, all_with, finish}
-use Rattle.strand_meaning.specs.Sound.{IsPlace, ArePlaces, IsHalf, AreHalves, IsSoundStage, IsSoFar, AreParts, IsInstanceOrLoop, UnfilledArePending, IsTask}
+use Rattle.strand_meaning.specs.Sound.{IsDestination, AreDestinations, IsHalf, AreHalves, IsSoundStage, IsSoFar, AreParts, IsInstanceOrLoop, UnfilledArePending, IsTask}
 use Rattle.serial_meaning.specs.Loops.{IsHandedFor}
 use Rattle.strand_meaning.specs.Laws.{IsSoundStep}
 use Rattle.strand_meaning.specs.Observation.{effect_items}
@@ -99,15 +99,15 @@ module _ (plan : PlanView) (o : Origin) where
   child-known (Loops ∷ ts) c h e = child-known ts c h e
 
 -- Where a stage has ended answers change nothing
-pub ended-rest : (plan : PlanView) (child : Origin → Evaluation) (path : List ℕ) (height : ℕ) (ps : List AwaitedChild) → ArePlaces height ps → (e : Result Value NodeFault) →
+pub ended-rest : (plan : PlanView) (child : Origin → Evaluation) (path : List ℕ) (height : ℕ) (ps : List AwaitedChild) → AreDestinations height ps → (e : Result Value NodeFault) →
     rest_open plan child path ps (Ended e) ≡ record { items = []; ending = e }
 ended-rest plan child path height ps h e = ap (λ stage. rest_of_stage plan child path (resumed stage)) (takes-taken child height ps h (Ended e))
 
-pub halves-places : (ps : List AwaitedChild) → AreHalves ps → ArePlaces 0 ps
+pub halves-places : (ps : List AwaitedChild) → AreHalves ps → AreDestinations 0 ps
 halves-places [] h = tt
 halves-places (p ∷ ps) h = (from p.place h.0, halves-places ps h.1)
   where
-    from : (place : Destination) → IsHalf place → IsPlace 0 place
+    from : (place : Destination) → IsHalf place → IsDestination 0 place
     from (Spawned owner target) g = absurd g
     from (Looped target) g = absurd g
     from Half g = tt
@@ -206,8 +206,8 @@ module _ (t : Task) (is : IsTask t) (m : Machine) (own-known : IsOriginOf t.plan
   sound-moved ts (Err f) own-effects shows leaves fits stands =
       next-task ts own-effects shows (stopped (Own f)) leaves (Ended (Err (Own f))) (sym (ended-rest t.plan kids path fits.1 (ps ++ effect_parts ts) places (Err (Own f)))) (fits.1, places) tt
     where
-      places : ArePlaces fits.1 (ps ++ effect_parts ts)
-      places = subst (ArePlaces fits.1) (sym (ap (λ (l : List AwaitedChild). ps ++ l) fits.0 ∙ append-nil ps)) fits.2
+      places : AreDestinations fits.1 (ps ++ effect_parts ts)
+      places = subst (AreDestinations fits.1) (sym (ap (λ (l : List AwaitedChild). ps ++ l) fits.0 ∙ append-nil ps)) fits.2
 
   pub sound-going : IsSoundStep t (moved t (move t.plan path m).items (move t.plan path m).ending)
   sound-going =

@@ -15,7 +15,7 @@ use Rattle.strand_meaning.specs.Machine.{Destination, Spawned, Looped, Half, Fra
 use Rattle.strand_meaning.specs.Trace.{AwaitedChild, Trace, heard_unless, heard, heard_all}
 use Rattle.strand_meaning.specs.Task.{InstanceState, Running, AtSync, AtLoop, Ended, Work, Splits, Runs, Over, Task, own_instance, changed, changed_at, answered, takes, takes_all, joins, resumed, resumed_work, more_values, all_values, on}
 use Rattle.strand_meaning.specs.Rest.{children_of, evaluations, rest_of_stage, rest_open, closed, prefix_end, prefix_run, parts_run, all_with, work_run, finish}
-use Rattle.strand_meaning.specs.Sound.{unfilled_by, unfilled, is_by, any_by, IsSound, AreSound, IsPlace, ArePlaces, IsHalf, behind_sync, IsSoundStage, AreParts, IsSoundWork, AreShownBy, UnfilledArePendingIn, IsTask}
+use Rattle.strand_meaning.specs.Sound.{unfilled_by, unfilled, is_by, any_by, IsSound, AreSound, IsDestination, AreDestinations, IsHalf, behind_sync, IsSoundStage, AreParts, IsSoundWork, AreShownBy, UnfilledArePendingIn, IsTask}
 use Rattle.strand_meaning.proofs.SoundSteps.Closing.{behind-then}
 use Rattle.strand_meaning.proofs.Unfilled.Changed.{length-changed}
 use Rattle.strand_meaning.proofs.Unfilled.Clears.{clear-within}
@@ -185,8 +185,8 @@ faulted-takes (Looped target) (Ok vs) e = (e, refl)
 faulted-takes (Looped target) (Err f) e = (ChildFaulted f, refl)
 faulted-takes Half q e = (e, refl)
 
-places-owner : (height : ℕ) (ps : List AwaitedChild) (n : ℕ) → height ≡ n → ArePlaces height ps → ArePlaces n ps
-places-owner height ps n e h = subst (λ k. ArePlaces k ps) e h
+places-owner : (height : ℕ) (ps : List AwaitedChild) (n : ℕ) → height ≡ n → AreDestinations height ps → AreDestinations n ps
+places-owner height ps n e h = subst (λ k. AreDestinations k ps) e h
 
 module _ (plan : PlanView) (p : AwaitedChild) (ps : List AwaitedChild) (q : Result (List Value) Fault) where
   same-height : (owner : ℕ) (to : Option Name) (m : Machine) → length m.below ≡ length (changed owner (answered to q) m).below
@@ -233,8 +233,8 @@ module _ (plan : PlanView) (p : AwaitedChild) (ps : List AwaitedChild) (q : Resu
 
   takes-looped : (to : Option Name) → p.place ≡ Looped to → (q : Result (List Value) Fault) (stage : InstanceState) → IsSoundStage plan (p ∷ ps) stage → Taking plan ps (takes (Looped to) q stage)
   takes-looped to e (Err f) stage s = inr (ChildFaulted f, refl)
-  takes-looped to e (Ok vs) (Running m) s = let no : IsPlace (length m.below) (Looped to) = subst (IsPlace (length m.below)) e s.0.0 in absurd no
-  takes-looped to e (Ok vs) (AtSync m) s = let no : IsPlace (length m.below) (Looped to) = subst (IsPlace (length m.below)) e s.0.0 in absurd no
+  takes-looped to e (Ok vs) (Running m) s = let no : IsDestination (length m.below) (Looped to) = subst (IsDestination (length m.below)) e s.0.0 in absurd no
+  takes-looped to e (Ok vs) (AtSync m) s = let no : IsDestination (length m.below) (Looped to) = subst (IsDestination (length m.below)) e s.0.0 in absurd no
   takes-looped to e (Ok vs) (AtLoop m) s =
       let l = less-sound plan p ps (length m.below) m.top s.0 in
       inl (record { clear = l.clear; spawned = l.spawned; faulted = l.faulted; in_text = l.in_text; left_in_text = l.left_in_text; levels = l.levels; leaving = l.leaving; returning = l.returning }, less-below plan p ps m.top.target m.below s.1)

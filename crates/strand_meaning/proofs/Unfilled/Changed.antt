@@ -29,7 +29,7 @@ use Rattle.serial_meaning.specs.declared.event.Event.TheVariants as event
 use Rattle.serial_meaning.specs.declared.origin.Origin.{Origin}
 use Rattle.serial_meaning.specs.declared.origin.Origin.TheVariants as origin
 use Rattle.strand_meaning.specs.Clear.{names_in_all, names_in_right, target_names, touched}
-use Rattle.strand_meaning.specs.Machine.{Destination, Spawned, Looped, Effect, Opens, Closes, Emitted, Handed, Exit, Faulted, Inside, loop_effects, sync_effects, handing, inside, place_of, Level, Frame, Machine, Reached, Stands, state_of, inside_of, present, here_of, with_left, into_level, with_leaving, out_of_level, with_returning, with_scalar, back, spawns_in, calling, entered, reached, gives, value_run, statement_move, return_move, level_move, end_move, move_at, move}
+use Rattle.strand_meaning.specs.Machine.{Destination, Spawned, Looped, Effect, Opens, Closes, Emitted, Handed, Exit, Faulted, Inside, loop_effects, sync_effects, handing, inside, destination_of, Level, Frame, Machine, Reached, Stands, state_of, inside_of, present, here_of, with_left, into_level, with_leaving, out_of_level, with_returning, with_scalar, back, spawns_in, calling, entered, reached, gives, value_run, statement_move, return_move, level_move, end_move, move_at, move}
 use Rattle.strand_meaning.specs.Task.{changed, changed_at}
 use Rattle.strand_meaning.specs.Laws.{on_reached, changed_run}
 use Rattle.strand_meaning.proofs.Unfilled.Shown.{changed-top, same-number}
@@ -282,7 +282,7 @@ module _ (plan : PlanView) (path : List ℕ) (fix : Env → Env) (mark : Option 
     enters-set into' into x (right.Spawn at c) h g = tt
 
     so-does : (a : Act-F Act Stmt) (n : ℕ) → Keeps fix (touched a) →
-        Alike (with_left other left) (with_left m left) (entered plan st a left other) (entered plan st a left m) (does (what (place_of height a)) plan now inside height st a (there n)) (does (what (place_of height a)) plan now inside height st a (here n))
+        Alike (with_left other left) (with_left m left) (entered plan st a left other) (entered plan st a left m) (does (what (destination_of height a)) plan now inside height st a (there n)) (does (what (destination_of height a)) plan now inside height st a (here n))
     so-does (act.Let x r) n k = so-right (entered plan st (act.Let x r) left other) (entered plan st (act.Let x r) left m) (Spawned height (Some x)) x r n (enters-let _ _ x r refl refl) k
     so-does (act.Array x number) n k = so-array (entered plan st (act.Array x number) left other) (entered plan st (act.Array x number) left m) x _ _ n refl k.0
     so-does (act.Set x r) n k = so-right (entered plan st (act.Set x r) left other) (entered plan st (act.Set x r) left m) (Spawned height (Some x)) x r n (enters-set _ _ x r refl refl) k
@@ -327,7 +327,7 @@ module _ (plan : PlanView) (path : List ℕ) (fix : Env → Env) (mark : Option 
   top-statement m st left levels leaving returning k =
       let b : Machine = rebuilt m (st ∷ left) levels leaving returning in
       let a = out-Act (out-Stmt st).act in
-      so-paid b left st (entered plan st a left (record b { top = change b.top })) (entered plan st a left b) (place_of (length m.below) a) m.steps (state_of b) _ _ (λ n. so-does b left st a n k)
+      so-paid b left st (entered plan st a left (record b { top = change b.top })) (entered plan st a left b) (destination_of (length m.below) a) m.steps (state_of b) _ _ (λ n. so-does b left st a n k)
 
   top-return : (m : Machine) (leaving : Bool) → TopMoves (rebuilt m [] [] leaving false)
   top-return m leaving = by_steps m.steps
@@ -429,7 +429,7 @@ module _ (plan : PlanView) (path : List ℕ) (fix : Env → Env) (mark : Option 
         a = out-Act (out-Stmt st).act
 
         run : List ℕ → ℕ → Run Effect Exit (State Bool)
-        run p n = paid_from (what (place_of n a)) plan p m.steps (state_of m) (λ s. does (what (place_of n a)) plan p inside n st a s)
+        run p n = paid_from (what (destination_of n a)) plan p m.steps (state_of m) (λ s. does (what (destination_of n a)) plan p inside n st a s)
 
         finished : Machine → Run Effect Exit (State Bool) → Run Effect Fault Reached
         finished b r = record { items = r.items; ending = reached plan (with_left b left) (entered plan st a left b) r.ending }

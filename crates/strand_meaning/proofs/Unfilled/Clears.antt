@@ -13,7 +13,7 @@ use Rattle.serial_meaning.specs.Names.{Names}
 use Rattle.strand_meaning.specs.Clear.{IsWithin, IsApart, IsClear, Nothing, Simple, Branches, Turns, Levels, touched, pending_right, pending_after, target_names}
 use Rattle.strand_meaning.specs.Machine.{Destination, Spawned, Looped, Half}
 use Rattle.strand_meaning.specs.Trace.{AwaitedChild}
-use Rattle.strand_meaning.specs.Sound.{unfilled_by, unfilled, is_by, any_by, IsPlace, ArePlaces}
+use Rattle.strand_meaning.specs.Sound.{unfilled_by, unfilled, is_by, any_by, IsDestination, AreDestinations}
 use Rattle.strand_meaning.proofs.Unfilled.Keeps.{later-contained}
 use Rattle.strand_meaning.proofs.Unfilled.Shown.{same-number}
 use Rattle.strand_meaning.proofs.Unfilled.Changed.{other-number}
@@ -118,11 +118,11 @@ none-unfilled height (p ∷ ps) h =
     let n = neither (is_by height p.place) (any_by height ps) h in ap (λ l. l ++ unfilled height ps) (unfilled-none height p.place n.0) ∙ none-unfilled height ps n.1
 
 -- no child of a frame that there isn't
-pub none-above : (height : ℕ) (ps : List AwaitedChild) → ArePlaces height ps → any_by (suc height) ps ≡ false
+pub none-above : (height : ℕ) (ps : List AwaitedChild) → AreDestinations height ps → any_by (suc height) ps ≡ false
 none-above height [] h = refl
 none-above height (p ∷ ps) h = rw (first p.place h.0) (none-above height ps h.1)
   where
-    first : (place : Destination) → IsPlace height place → is_by (suc height) place ≡ false
+    first : (place : Destination) → IsDestination height place → is_by (suc height) place ≡ false
     first (Spawned owner target) g = other-number owner (suc height) (omega arith)
     first (Looped target) g = absurd g
     first Half g = refl

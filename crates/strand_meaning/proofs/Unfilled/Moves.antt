@@ -32,7 +32,7 @@ use Rattle.serial_meaning.specs.declared.event.Event.{Event}
 use Rattle.serial_meaning.specs.declared.event.Event.TheVariants as event
 use Rattle.serial_meaning.specs.declared.origin.Origin.{Origin}
 use Rattle.serial_meaning.specs.declared.origin.Origin.TheVariants as origin
-use Rattle.strand_meaning.specs.Machine.{Destination, Spawned, Looped, Effect, Emitted, Exit, loop_effects, sync_effects, handing, inside, place_of, Level, Frame, Machine, state_of, inside_of, present, here_of, with_left, into_level, with_leaving, out_of_level, with_returning, with_scalar, back, spawns_in, calling, entered, reached, gives, act_run, value_run, level_move, move}
+use Rattle.strand_meaning.specs.Machine.{Destination, Spawned, Looped, Effect, Emitted, Exit, loop_effects, sync_effects, handing, inside, destination_of, Level, Frame, Machine, state_of, inside_of, present, here_of, with_left, into_level, with_leaving, out_of_level, with_returning, with_scalar, back, spawns_in, calling, entered, reached, gives, act_run, value_run, level_move, move}
 use Rattle.strand_meaning.specs.Task.{Running, AtLoop, stage_after, answered, takes, resumed, joins, with_answer}
 use Rattle.strand_meaning.specs.Rest.{valued, closes, level_end, outwards, afterwards, remains, caller_state, remains_below, open_state, rest_of_machine, rest_of_stage, rest_open}
 use Rattle.strand_meaning.specs.Observation.{effect_items}
@@ -401,11 +401,11 @@ module _ (plan : PlanView) (child : Origin → Evaluation) (path : List ℕ) whe
           by_test false = refl
 
     does-shows : (a : Act-F Act Stmt) → m.top.leaving ≡ false → (m.top.spawned ≡ false → m.top.faulted ≡ None) → (n : ℕ) →
-        Moves (entered plan st a left m) (does (what (place_of height a)) plan now inside height st a (here n)) (does tree plan now (exec tree plan) height st a (there n))
+        Moves (entered plan st a left m) (does (what (destination_of height a)) plan now inside height st a (here n)) (does tree plan now (exec tree plan) height st a (there n))
     does-shows (act.Let x r) open_ended none n = right-shows (entered plan st (act.Let x r) left m) (Some x) r (enters-let x r) n
     does-shows (act.Array x k) open_ended none n = refl
     does-shows (act.Set x r) open_ended none n = right-shows (entered plan st (act.Set x r) left m) (Some x) r (enters-set x r) n
-    does-shows (act.Store x i e) open_ended none n = store-shows (place_of height (act.Store x i e)) (entered plan st (act.Store x i e) left m) x i e n
+    does-shows (act.Store x i e) open_ended none n = store-shows (destination_of height (act.Store x i e)) (entered plan st (act.Store x i e) left m) x i e n
     does-shows (act.Spawn c) open_ended none n = spawned-shows (entered plan st (act.Spawn c) left m) None c n
     does-shows (act.Call c) open_ended none n = called-shows (entered plan st (act.Call c) left m) None c (λ inner s. refl) n
     does-shows act.Sync open_ended none n = at-sync now m on (entered plan st act.Sync left m) go (λ s. refl) (Spawned height None) (here n) (λ s. refl) none
@@ -441,7 +441,7 @@ module _ (plan : PlanView) (child : Origin → Evaluation) (path : List ℕ) whe
 
       paid-shows : Shows (here_of path k) k (with_left k left) (entered plan st a left k) (later k left) (λ s. refl) (act_run plan path k st a) (statement tree plan (here_of path k) (exec tree plan) (length m.below) st (open_state plan child path k))
       paid-shows =
-          at-paid (here_of path k) k (with_left k left) (entered plan st a left k) (later k left) (λ s. refl) (place_of (length m.below) a) m.steps (state_of k) _ _ (does-shows k left st a refl none)
+          at-paid (here_of path k) k (with_left k left) (entered plan st a left k) (later k left) (λ s. refl) (destination_of (length m.below) a) m.steps (state_of k) _ _ (does-shows k left st a refl none)
 
   -- the value of a return goes to the frame below
   value-is : (m : Machine) (f : Option Function) →

@@ -32,10 +32,10 @@ use Rattle.serial_meaning.specs.declared.event.Event.TheVariants as event
 use Rattle.serial_meaning.specs.declared.origin.Origin.{Origin}
 use Rattle.serial_meaning.specs.declared.origin.Origin.TheVariants as origin
 use Rattle.strand_meaning.specs.Clear.{IsWithin, IsApart, IsClear, Simple, Branches, Turns, Levels, IsSimple, touched, pending_right, pending_after, target_names, IsClearPlan}
-use Rattle.strand_meaning.specs.Machine.{Destination, Spawned, Looped, Half, Effect, Emitted, Exit, loop_effects, sync_effects, handing, inside, place_of, Level, Frame, Machine, Reached, Stands, Gives, state_of, here_of, with_left, into_level, with_leaving, out_of_level, with_returning, with_scalar, back, spawns_in, calling, entered, reached, gives, value_run, statement_move, return_move, level_move, end_move, move_at, move}
+use Rattle.strand_meaning.specs.Machine.{Destination, Spawned, Looped, Half, Effect, Emitted, Exit, loop_effects, sync_effects, handing, inside, destination_of, Level, Frame, Machine, Reached, Stands, Gives, state_of, here_of, with_left, into_level, with_leaving, out_of_level, with_returning, with_scalar, back, spawns_in, calling, entered, reached, gives, value_run, statement_move, return_move, level_move, end_move, move_at, move}
 use Rattle.strand_meaning.specs.Trace.{AwaitedChild}
 use Rattle.strand_meaning.specs.Task.{changed, answered, Running, AtSync, stage_after}
-use Rattle.strand_meaning.specs.Sound.{unfilled, is_by, any_by, AreSoundLevels, IsSound, AreSound, IsPlace, ArePlaces, IsHalf, AreHalves, behind_sync, IsSoundStage}
+use Rattle.strand_meaning.specs.Sound.{unfilled, is_by, any_by, AreSoundLevels, IsSound, AreSound, IsDestination, AreDestinations, IsHalf, AreHalves, behind_sync, IsSoundStage}
 use Rattle.strand_meaning.proofs.Unfilled.Shown.{effect_parts, same-number}
 use Rattle.strand_meaning.proofs.Unfilled.Keeps.{first-contained, later-contained}
 use Rattle.strand_meaning.specs.Laws.{changed_run}
@@ -49,11 +49,11 @@ clash h = absurd (cc)
 pub sound-free : (plan : PlanView) (parts : List AwaitedChild) (m : Machine) → IsSoundStage plan parts (Running m) → AreFree parts (shape_of m)
 sound-free plan parts m sound = from parts (λ p c. c) sound.0
   where
-    from : (ps : List AwaitedChild) → ((p : AwaitedChild) → Contains ps p → Contains parts p) → ArePlaces (length m.below) ps → AreFree ps (shape_of m)
+    from : (ps : List AwaitedChild) → ((p : AwaitedChild) → Contains ps p → Contains parts p) → AreDestinations (length m.below) ps → AreFree ps (shape_of m)
     from [] h places = tt
     from (p ∷ ps) h places = (by_place p.place refl places.0, from ps (λ q c. h q (later-contained p q ps c)) places.1)
       where
-        by_place : (place : Destination) → p.place ≡ place → IsPlace (length m.below) place → IsFreePlace (shape_of m) place
+        by_place : (place : Destination) → p.place ≡ place → IsDestination (length m.below) place → IsFreePlace (shape_of m) place
         by_place (Looped target) e inside = tt
         by_place Half e inside = tt
         by_place (Spawned owner target) e inside = (inside, touches, closes, comes m.top.target m.below sound.2)
@@ -123,33 +123,33 @@ sound-more plan ps qs height none target (caller ∷ below) h s =
       sound-more plan ps qs height none caller.target below (omega arith) s.2,
     )
 
-places-more : (height : ℕ) (ps qs : List AwaitedChild) → ArePlaces height ps → ArePlaces height qs → ArePlaces height (ps ++ qs)
+places-more : (height : ℕ) (ps qs : List AwaitedChild) → AreDestinations height ps → AreDestinations height qs → AreDestinations height (ps ++ qs)
 places-more height [] qs h k = k
 places-more height (p ∷ ps) qs h k = (h.0, places-more height ps qs h.1 k)
 
-places-higher : (height : ℕ) (ps : List AwaitedChild) → ArePlaces height ps → ArePlaces (suc height) ps
+places-higher : (height : ℕ) (ps : List AwaitedChild) → AreDestinations height ps → AreDestinations (suc height) ps
 places-higher height [] h = tt
 places-higher height (p ∷ ps) h = (first p.place h.0, places-higher height ps h.1)
   where
-    first : (place : Destination) → IsPlace height place → IsPlace (suc height) place
+    first : (place : Destination) → IsDestination height place → IsDestination (suc height) place
     first (Spawned owner target) g = omega arith
     first (Looped target) g = g
     first Half g = g
 
-places-lower : (height : ℕ) (ps : List AwaitedChild) → any_by (suc height) ps ≡ false → ArePlaces (suc height) ps → ArePlaces height ps
+places-lower : (height : ℕ) (ps : List AwaitedChild) → any_by (suc height) ps ≡ false → AreDestinations (suc height) ps → AreDestinations height ps
 places-lower height [] n h = tt
 places-lower height (p ∷ ps) n h = let k = neither (is_by (suc height) p.place) (any_by (suc height) ps) n in (first p.place k.0 h.0, places-lower height ps k.1 h.1)
   where
-    first : (place : Destination) → is_by (suc height) place ≡ false → IsPlace (suc height) place → IsPlace height place
+    first : (place : Destination) → is_by (suc height) place ≡ false → IsDestination (suc height) place → IsDestination height place
     first (Spawned owner target) e g = grind (arith, e, g, eq-eqb owner (suc height))
     first (Looped target) e g = g
     first Half e g = g
 
-only-halves : (ps : List AwaitedChild) → any_by 0 ps ≡ false → ArePlaces 0 ps → AreHalves ps
+only-halves : (ps : List AwaitedChild) → any_by 0 ps ≡ false → AreDestinations 0 ps → AreHalves ps
 only-halves [] n h = tt
 only-halves (p ∷ ps) n h = let k = neither (is_by 0 p.place) (any_by 0 ps) n in (first p.place k.0 h.0, only-halves ps k.1 h.1)
   where
-    first : (place : Destination) → is_by 0 place ≡ false → IsPlace 0 place → IsHalf place
+    first : (place : Destination) → is_by 0 place ≡ false → IsDestination 0 place → IsHalf place
     first (Spawned owner target) e g = absurd (clash (sym (eq-eqb owner 0 (omega arith)) ∙ e))
     first (Looped target) e g = absurd g
     first Half e g = tt
@@ -175,7 +175,7 @@ or-right false = refl
 abbrev pub SoundEnd : PlanView → List AwaitedChild → List Effect → Result Reached Fault → Type 0
 SoundEnd plan parts ts (Ok (Stands k)) = IsSoundStage plan (parts ++ effect_parts ts) (stage_after ts k)
 SoundEnd plan parts ts (Ok (Gives v)) = (effect_parts ts ≡ []) × AreHalves parts
-SoundEnd plan parts ts (Err f) = (effect_parts ts ≡ []) × (height : ℕ) × ArePlaces height parts
+SoundEnd plan parts ts (Err f) = (effect_parts ts ≡ []) × (height : ℕ) × AreDestinations height parts
 
 module _ (plan : PlanView) (path : List ℕ) (clear-plan : IsClearPlan plan) (parts : List AwaitedChild) (m : Machine) (st : Stmt) (left : List Stmt) (top-left : m.top.left ≡ st ∷ left) (sound : IsSoundStage plan parts (Running m)) where
   abbrev height : ℕ
@@ -452,7 +452,7 @@ module _ (plan : PlanView) (path : List ℕ) (clear-plan : IsClearPlan plan) (pa
   first-within x names apart name h g = apart name (Contains-append_left (x ∷ []) names name h) g
 
   abbrev run_of : (a : Act-F Act Stmt) → ℕ → Run Effect Exit (State Bool)
-  run_of a n = does (what (place_of height a)) plan now inside height st a (record (state_of m) { steps = n })
+  run_of a n = does (what (destination_of height a)) plan now inside height st a (record (state_of m) { steps = n })
 
   abbrev FineAct : Act-F Act Stmt → ℕ → Type 0
   FineAct a n = SoundEnd plan parts (run_of a n).items (reached plan (with_left m left) (entered plan st a left m) (run_of a n).ending)
@@ -569,7 +569,7 @@ module _ (plan : PlanView) (path : List ℕ) (clear-plan : IsClearPlan plan) (pa
   statement-sound =
       let a = out-Act (out-Stmt st).act in
       let clear : IsClear pending (st ∷ left) sound.1.clear.0 = subst (λ (l : List Stmt). IsClear pending l sound.1.clear.0) top-left sound.1.clear.1 in
-      fine-paid (entered plan st a left m) sound.1.clear.0 (place_of height a) m.steps (state_of m) _ (λ n. act-fine a refl sound.1.clear.0 clear n)
+      fine-paid (entered plan st a left m) sound.1.clear.0 (destination_of height a) m.steps (state_of m) _ (λ n. act-fine a refl sound.1.clear.0 clear n)
 
 module _ (plan : PlanView) (path : List ℕ) (clear-plan : IsClearPlan plan) (parts : List AwaitedChild) where
   abbrev SoundMove : Machine → Type 0
@@ -650,7 +650,7 @@ module _ (plan : PlanView) (path : List ℕ) (clear-plan : IsClearPlan plan) (pa
       none : any_by (length m.below) parts ≡ false
       none = nothing-of m sound.1 (sound.1.returning returning).0
 
-      to_caller : (v : Value) (below : List Frame) → any_by (length below) parts ≡ false → ArePlaces (length below) parts → AreSound plan parts m.top.target below →
+      to_caller : (v : Value) (below : List Frame) → any_by (length below) parts ≡ false → AreDestinations (length below) parts → AreSound plan parts m.top.target below →
           SoundEnd plan parts [] (Ok (back below m.top.target v m.rank m.steps))
       to_caller v [] n places s = (refl, only-halves parts n places)
       to_caller v (caller ∷ below) n places s =

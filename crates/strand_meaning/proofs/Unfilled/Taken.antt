@@ -16,7 +16,7 @@ use Rattle.strand_meaning.specs.Machine.{Destination, Spawned, Looped, Half, Eff
 use Rattle.strand_meaning.specs.Trace.{AwaitedChild}
 use Rattle.strand_meaning.specs.Task.{InstanceState, Running, AtSync, AtLoop, Ended, stage_after, changed, changed_at, answered, in_machine, takes, takes_all, resumed, with_answer}
 use Rattle.strand_meaning.specs.Rest.{evaluations, rest_of_stage, rest_open}
-use Rattle.strand_meaning.specs.Sound.{IsPlace, ArePlaces, is_by, any_by}
+use Rattle.strand_meaning.specs.Sound.{IsDestination, AreDestinations, is_by, any_by}
 use Rattle.strand_meaning.specs.Observation.{effect_items}
 use Rattle.strand_meaning.proofs.Unfilled.Shown.{effect_parts, shown}
 use Rattle.strand_meaning.proofs.Unfilled.Keeps.{keeps-answer, keeps-nothing, first-contained}
@@ -138,12 +138,12 @@ in-both f g (AtSync m) = refl
 in-both f g (AtLoop m) = refl
 in-both f g (Ended e) = refl
 
-takes-place : (height : ℕ) (place : Destination) (ended : Result (List Value) Fault) → IsPlace height place → (stage : InstanceState) → takes place ended stage ≡ in_machine (take place ended) stage
+takes-place : (height : ℕ) (place : Destination) (ended : Result (List Value) Fault) → IsDestination height place → (stage : InstanceState) → takes place ended stage ≡ in_machine (take place ended) stage
 takes-place height (Spawned owner target) ended h stage = refl
 takes-place height (Looped target) ended h stage = absurd h
 takes-place height Half ended h stage = sym (in-nothing stage)
 
-pub takes-taken : (child : Origin → Evaluation) (height : ℕ) (ps : List AwaitedChild) → ArePlaces height ps → (stage : InstanceState) → takes_all ps (evaluations child ps) stage ≡ in_machine (taken child ps) stage
+pub takes-taken : (child : Origin → Evaluation) (height : ℕ) (ps : List AwaitedChild) → AreDestinations height ps → (stage : InstanceState) → takes_all ps (evaluations child ps) stage ≡ in_machine (taken child ps) stage
 takes-taken child height [] h stage = sym (in-nothing stage)
 takes-taken child height (p ∷ ps) h stage =
     takes-taken child height ps h.1 (takes p.place (child p.child).ending stage)
@@ -169,7 +169,7 @@ shown_with plan child path ps ts (Ok (Stands m)) = rest_open plan child path (ps
 shown_with plan child path ps ts (Ok (Gives v)) = done v
 shown_with plan child path ps ts (Err f) = stopped (Own f)
 
-module _ (plan : PlanView) (child : Origin → Evaluation) (path : List ℕ) (height : ℕ) (ps : List AwaitedChild) (places : ArePlaces height ps) where
+module _ (plan : PlanView) (child : Origin → Evaluation) (path : List ℕ) (height : ℕ) (ps : List AwaitedChild) (places : AreDestinations height ps) where
   shown-taken : (ts : List Effect) (e : Result Reached Fault) → shown plan child path ts (on_reached (taken child ps) e) ≡ shown_with plan child path ps ts e
   shown-taken ts (Ok (Stands m)) =
       ap (λ stage. rest_of_stage plan child path (resumed (takes_all (effect_parts ts) (evaluations child (effect_parts ts)) stage))) (stage-in (taken child ps) ts m ∙ sym (takes-taken child height ps places (stage_after ts m)))

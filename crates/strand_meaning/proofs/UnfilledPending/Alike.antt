@@ -12,7 +12,7 @@ use Rattle.strand_meaning.specs.Machine.{Destination, Effect, Opens, Closes, Emi
 use Rattle.strand_meaning.specs.Trace.{AwaitedChild, Trace, behind_last, emit, emit_at, add_child, with_effects}
 use Rattle.strand_meaning.specs.Task.{InstanceState, Running, AtSync, AtLoop, Ended, takes, takes_all}
 use Rattle.strand_meaning.specs.Rest.{evaluations}
-use Rattle.strand_meaning.specs.Sound.{unfilled_by, unfilled, is_by, any_by, AreSound, ArePlaces, AreHalves, IsSoundStage, AreParts}
+use Rattle.strand_meaning.specs.Sound.{unfilled_by, unfilled, is_by, any_by, AreSound, AreDestinations, AreHalves, IsSoundStage, AreParts}
 use Rattle.strand_meaning.proofs.Unfilled.Shown.{effect_parts}
 use Rattle.strand_meaning.proofs.Unfilled.SoundMoves.{sound-as}
 
@@ -67,7 +67,7 @@ alike-any : (height : ℕ) {ps qs : List AwaitedChild} → Alike ps qs → any_b
 alike-any height End = refl
 alike-any height (Next o place before after a) = ap (λ b. is_by height place || b) (alike-any height a)
 
-alike-places : (height : ℕ) {ps qs : List AwaitedChild} → Alike ps qs → ArePlaces height ps → ArePlaces height qs
+alike-places : (height : ℕ) {ps qs : List AwaitedChild} → Alike ps qs → AreDestinations height ps → AreDestinations height qs
 alike-places height End h = tt
 alike-places height (Next o place before after a) h = (h.0, alike-places height a h.1)
 

@@ -34,10 +34,10 @@ use Rattle.serial_meaning.specs.declared.event.Event.TheVariants as event
 use Rattle.serial_meaning.specs.declared.origin.Origin.{Origin}
 use Rattle.serial_meaning.specs.declared.origin.Origin.TheVariants as origin
 use Rattle.strand_meaning.specs.Clear.{pending_right, target_names}
-use Rattle.strand_meaning.specs.Machine.{Destination, Spawned, Looped, Effect, Emitted, Exit, loop_effects, sync_effects, handing, inside, place_of, Level, Frame, Machine, Reached, Stands, Gives, state_of, here_of, with_left, into_level, with_leaving, out_of_level, with_returning, with_scalar, back, spawns_in, calling, entered, reached, gives, value_run, statement_move, return_move, level_move, end_move, move_at, move}
+use Rattle.strand_meaning.specs.Machine.{Destination, Spawned, Looped, Effect, Emitted, Exit, loop_effects, sync_effects, handing, inside, destination_of, Level, Frame, Machine, Reached, Stands, Gives, state_of, here_of, with_left, into_level, with_leaving, out_of_level, with_returning, with_scalar, back, spawns_in, calling, entered, reached, gives, value_run, statement_move, return_move, level_move, end_move, move_at, move}
 use Rattle.strand_meaning.specs.Trace.{AwaitedChild}
 use Rattle.strand_meaning.specs.Task.{Running, AtSync, stage_after}
-use Rattle.strand_meaning.specs.Pending.{act_of, Then, Else, Turn, Here, FrameStandsAt, Outside, InScope, judged_by, ArePending, ArePendingStill, IsCall, IsSync, IsPfor}
+use Rattle.strand_meaning.specs.Pending.{act_of, Then, Else, LoopBody, Here, FrameStandsAt, Outside, InScope, judged_by, ArePending, ArePendingStill, IsCall, IsSync, IsPfor}
 use Rattle.strand_meaning.specs.Sound.{unfilled, any_by, IsSoundStage, ArePendingBelow, ArePendingAtSync, UnfilledArePending}
 use Rattle.strand_meaning.proofs.Unfilled.Shown.{effect_parts, same-number}
 use Rattle.strand_meaning.proofs.Unfilled.Clears.{none-contained, unfilled-append, none-unfilled, none-above}
@@ -364,7 +364,7 @@ module _ (plan : PlanView) (path : List ℕ) (parts : List AwaitedChild) (m : Ma
         )
 
   abbrev run_of : (a : Act-F Act Stmt) → ℕ → Run Effect Exit (State Bool)
-  run_of a n = does (what (place_of height a)) plan now inside height st a (record (state_of m) { steps = n })
+  run_of a n = does (what (destination_of height a)) plan now inside height st a (record (state_of m) { steps = n })
 
   abbrev PendingAct : Act-F Act Stmt → ℕ → Type 0
   PendingAct a n = PendingEnd plan parts (run_of a n).items (reached plan (with_left m left) (entered plan st a left m) (run_of a n).ending)
@@ -440,7 +440,7 @@ module _ (plan : PlanView) (path : List ℕ) (parts : List AwaitedChild) (m : Ma
 
       turn : UnfilledArePending plan (parts ++ []) (Running (with_left m (a ++ st ∷ left) s))
       turn =
-          let o = stands-in top.stands a (Turn e a same) in
+          let o = stands-in top.stands a (LoopBody e a same) in
           no-parts (λ ps. UnfilledArePending plan ps (Running (with_left m (a ++ st ∷ left) s))) (
             record { function = top.function; of_plan = top.of_plan; now = o.now; stands = o.stands; pending = λ name h. o.all name (judged (act.While e a) same name h) },
             pends.1,
@@ -470,7 +470,7 @@ module _ (plan : PlanView) (path : List ℕ) (parts : List AwaitedChild) (m : Ma
       s = record (state_of m) { rank = 0; steps = n }
 
   statement-pending : PendingEnd plan parts (statement_move plan path m st left).items (statement_move plan path m st left).ending
-  statement-pending = fine-paid (entered plan st (act_of st) left m) (place_of height (act_of st)) m.steps (state_of m) _ (λ n. by_act (act_of st) refl n)
+  statement-pending = fine-paid (entered plan st (act_of st) left m) (destination_of height (act_of st)) m.steps (state_of m) _ (λ n. by_act (act_of st) refl n)
 
 module _ (plan : PlanView) (path : List ℕ) (parts : List AwaitedChild) where
   no-more : (T : List AwaitedChild → Type 0) → T parts → T (parts ++ [])

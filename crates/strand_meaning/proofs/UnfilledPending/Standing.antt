@@ -9,7 +9,7 @@ use Rattle.script_check.specs.Names.{nobody, both}
 use Rattle.script_check.specs.Statements.{Judged, judge_act, judge, judge_what, after}
 use Rattle.script_check.proofs.FewerPending.Linear.{loop_closed}
 use Rattle.strand_meaning.specs.Machine.{Level}
-use Rattle.strand_meaning.specs.Pending.{act_of, HasBlock, Then, Else, Turn, ComesTo, Here, Past, Within, FrameStandsAt, Outside, InScope, judged_by, set_at}
+use Rattle.strand_meaning.specs.Pending.{act_of, HasBlock, Then, Else, LoopBody, ComesTo, Here, Past, Within, FrameStandsAt, Outside, InScope, judged_by, set_at}
 
 or-left : (a b : Bool) → a ≡ true → (a || b) ≡ true
 or-left a b h = ap (λ c. c || b) h
@@ -77,7 +77,7 @@ after-block {now = now} {st = st} c o (Else e a b h) set w = record {
   comes = o.comes;
   all = λ name k. o.all name (set-within (after b now) ((judge st).after now) (both (after a now) (after b now)) (after-as st (act.If e a b) h now) (λ x l. or-right (after a now x) (after b now x) l) name (w name k));
 }
-after-block {now = now} {st = st} c o (Turn e body h) set w = record {
+after-block {now = now} {st = st} c o (LoopBody e body h) set w = record {
   now = now;
   comes = c;
   all = λ name k. set-within (both now (after body now)) (judged_by (act_of st) now) (both now (after body now)) (ap (λ (d : Act-F Act Stmt). judged_by d now) h) (λ x l. l) name (loop_closed body now name (w name k));

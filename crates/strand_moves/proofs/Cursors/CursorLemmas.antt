@@ -1,18 +1,27 @@
 -- Blocks that are entered and left.
-use Rattle.std.proofs.Common.{◌≡◌, ℕ, ◌+◌, ◌-◌, ◌<◌, ◌≤◌, Bool, true, false, List, [], ◌∷◌, ◌++◌, Option, Some, None, IsSome, length, drop, slice_get, refl, sym, ap, ◌∙◌, arith, if◌then◌else◌}
-use Rattle.std.proofs.lemmas.List.{append-nil, append_assoc, drop_all, drop_more}
+use Rattle.std.proofs.Common.{◌≡◌, ℕ, ◌+◌, ◌-◌, ◌<◌, ◌≤◌, Bool, true, false, List, [], ◌∷◌, ◌++◌, Option, Some, None, IsSome, length, nat_eq, drop, slice_get, refl, sym, ap, ◌∙◌, arith, if◌then◌else◌}
+use Rattle.std.proofs.lemmas.Bool.{eqb-true, eq-eqb}
+use Rattle.std.proofs.lemmas.List.{append-nil, append_assoc, drop_all, drop_more, nil_from_length}
 use Rattle.std.proofs.lemmas.Option.{slice_get_within, get_or_from_slice_get}
 use Rattle.script_grammar.specs.declared.tree.Stmt.{Stmt, out-Stmt}
 use Rattle.script_grammar.specs.declared.tree.Act.{out-Act}
-use Rattle.strand_moves.specs.declared.cursor.Branch.TheVariants as part
+use Rattle.strand_moves.specs.declared.cursor.Branch.TheVariants as branch
 use Rattle.strand_moves.specs.declared.cursor.Entered.{Entered}
 use Rattle.strand_moves.specs.declared.cursor.Cursor.{Cursor}
-use Rattle.strand_moves.specs.Cursors.{part_of, part_at, place_before, block_in, block_of, behind_of, left_of, IsBehind, Passes}
+use Rattle.strand_moves.specs.Cursors.{branch_of, branch_at, place_before, block_in, block_of, behind_of, left_of, IsBehind, PassesStatement}
 
 -- where no block is entered, none can be left
 pub nothing-there : (es : List Entered) → (0 < length es → IsSome {T = Entered} None) → es ≡ []
 nothing-there [] f = refl
 nothing-there (e ∷ es) f = let some : false ≡ true = f (omega arith) in absurd (cc)
+
+-- by what a list's `is_empty` answered
+module _ {A : Type 0} (items : List A) (len : ℕ) (there : len ≡ length items) (empty : Bool) (is : empty ≡ nat_eq len 0) where
+  pub nothing-in : empty ≡ true → items ≡ []
+  nothing-in e = nil_from_length items (sym there ∙ eqb-true len 0 (sym is ∙ e))
+
+  pub something-in : empty ≡ false → items ≡ [] → ⊥
+  something-in e none = let yes : empty ≡ true = is ∙ eq-eqb len 0 (there ∙ ap length none) in absurd (cc)
 
 -- what is left where these blocks are entered, from this place in the innermost one on
 abbrev pub rest_of : List Stmt → List Entered → ℕ → List Stmt
@@ -39,8 +48,8 @@ pub rest-entered : (body : List Stmt) (es : List Entered) (e : Entered) → rest
 rest-entered body es e =
     ap (λ (l : List Stmt). l ++ behind_of body (es ++ e ∷ [])) (block_of-more body es e) ∙ ap (λ (l : List Stmt). block_in (block_of body es) e ++ l) (behind_of-more body es e)
 
-pub part-there : (block : List Stmt) (e : Entered) (st : Stmt) → slice_get block (place_before e.part e.back) ≡ Some st → block_in block e ≡ part_of (out-Act (out-Stmt st).act) e.part
-part-there block e st h = ap (λ (s : Option Stmt). part_at s e.part) h
+pub branch-there : (block : List Stmt) (e : Entered) (st : Stmt) → slice_get block (place_before e.branch e.back) ≡ Some st → block_in block e ≡ branch_of (out-Act (out-Stmt st).act) e.branch
+branch-there block e st h = ap (λ (s : Option Stmt). branch_at s e.branch) h
 
 drop-next : (block : List Stmt) (n : ℕ) (st : Stmt) → slice_get block n ≡ Some st → drop n block ≡ st ∷ drop (n + 1) block
 drop-next block n st h =
@@ -56,35 +65,35 @@ rest-back body es n st l h =
     rest-next body es (n - 1) st h ∙ ap (λ (k : ℕ). st ∷ rest_of body es k) next
 
 -- the cursor as it was, and with a block of the statement before it entered
-pub left-entered : (body : List Stmt) (c d : Cursor) (e : Entered) (st : Stmt) → d.entered.items ≡ c.entered.items ++ e ∷ [] → d.next ≡ 0 → slice_get (block_of body c.entered.items) (place_before e.part e.back) ≡ Some st →
-    left_of body d ≡ part_of (out-Act (out-Stmt st).act) e.part ++ rest_of body c.entered.items e.back
+pub left-entered : (body : List Stmt) (c d : Cursor) (e : Entered) (st : Stmt) → d.entered.items ≡ c.entered.items ++ e ∷ [] → d.next ≡ 0 → slice_get (block_of body c.entered.items) (place_before e.branch e.back) ≡ Some st →
+    left_of body d ≡ branch_of (out-Act (out-Stmt st).act) e.branch ++ rest_of body c.entered.items e.back
 unfolding left_of
 left-entered body c d e st h k there =
-    rw (h, k) (rest-entered body c.entered.items e) ∙ ap (λ (l : List Stmt). l ++ rest_of body c.entered.items e.back) (part-there (block_of body c.entered.items) e st there)
+    rw (h, k) (rest-entered body c.entered.items e) ∙ ap (λ (l : List Stmt). l ++ rest_of body c.entered.items e.back) (branch-there (block_of body c.entered.items) e st there)
 
 pub left-is : (body : List Stmt) (c : Cursor) → rest_of body c.entered.items c.next ≡ left_of body c
 unfolding left_of
 left-is body c = refl
 
-pub left-branch : (body : List Stmt) (c d : Cursor) (st : Stmt) (yes : Bool) → IsBehind body c st → d.entered.items ≡ c.entered.items ++ record { part = if yes then part.Yes else part.No; back = c.next } ∷ [] → d.next ≡ 0 →
-    left_of body d ≡ part_of (out-Act (out-Stmt st).act) (if yes then part.Yes else part.No) ++ left_of body c
+pub left-branch : (body : List Stmt) (c d : Cursor) (st : Stmt) (yes : Bool) → IsBehind body c st → d.entered.items ≡ c.entered.items ++ record { branch = if yes then branch.Yes else branch.No; back = c.next } ∷ [] → d.next ≡ 0 →
+    left_of body d ≡ branch_of (out-Act (out-Stmt st).act) (if yes then branch.Yes else branch.No) ++ left_of body c
 left-branch body c d st true behind h k =
-    left-entered body c d (record { part = part.Yes; back = c.next }) st h k behind.there ∙ ap (λ (l : List Stmt). part_of (out-Act (out-Stmt st).act) part.Yes ++ l) (left-is body c)
+    left-entered body c d (record { branch = branch.Yes; back = c.next }) st h k behind.there ∙ ap (λ (l : List Stmt). branch_of (out-Act (out-Stmt st).act) branch.Yes ++ l) (left-is body c)
 left-branch body c d st false behind h k =
-    left-entered body c d (record { part = part.No; back = c.next }) st h k behind.there ∙ ap (λ (l : List Stmt). part_of (out-Act (out-Stmt st).act) part.No ++ l) (left-is body c)
+    left-entered body c d (record { branch = branch.No; back = c.next }) st h k behind.there ∙ ap (λ (l : List Stmt). branch_of (out-Act (out-Stmt st).act) branch.No ++ l) (left-is body c)
 
-pub left-turn : (body : List Stmt) (c d : Cursor) (st : Stmt) → IsBehind body c st → d.entered.items ≡ c.entered.items ++ record { part = part.Turn; back = c.next - 1 } ∷ [] → d.next ≡ 0 →
-    left_of body d ≡ part_of (out-Act (out-Stmt st).act) part.Turn ++ (st ∷ left_of body c)
+pub left-turn : (body : List Stmt) (c d : Cursor) (st : Stmt) → IsBehind body c st → d.entered.items ≡ c.entered.items ++ record { branch = branch.LoopBody; back = c.next - 1 } ∷ [] → d.next ≡ 0 →
+    left_of body d ≡ branch_of (out-Act (out-Stmt st).act) branch.LoopBody ++ (st ∷ left_of body c)
 left-turn body c d st behind h k =
-    left-entered body c d (record { part = part.Turn; back = c.next - 1 }) st h k behind.there
-    ∙ ap (λ (l : List Stmt). part_of (out-Act (out-Stmt st).act) part.Turn ++ l) (rest-back body c.entered.items c.next st behind.some behind.there ∙ ap (λ (l : List Stmt). st ∷ l) (left-is body c))
+    left-entered body c d (record { branch = branch.LoopBody; back = c.next - 1 }) st h k behind.there
+    ∙ ap (λ (l : List Stmt). branch_of (out-Act (out-Stmt st).act) branch.LoopBody ++ l) (rest-back body c.entered.items c.next st behind.some behind.there ∙ ap (λ (l : List Stmt). st ∷ l) (left-is body c))
 
 pub left-back : (body : List Stmt) (c d : Cursor) (st : Stmt) → IsBehind body c st → d.entered.items ≡ c.entered.items → d.next ≡ c.next - 1 → left_of body d ≡ st ∷ left_of body c
 unfolding left_of
 left-back body c d st behind h k = rw (h, k) (rest-back body c.entered.items c.next st behind.some behind.there)
 
 -- after the next statement
-pub passes : (body : List Stmt) (c d : Cursor) (st : Stmt) → slice_get (block_of body c.entered.items) c.next ≡ Some st → d.entered.items ≡ c.entered.items → d.next ≡ c.next + 1 → Passes body c d st
+pub passes : (body : List Stmt) (c d : Cursor) (st : Stmt) → slice_get (block_of body c.entered.items) c.next ≡ Some st → d.entered.items ≡ c.entered.items → d.next ≡ c.next + 1 → PassesStatement body c d st
 unfolding left_of
 passes body c d st there h k =
     let back : c.next + 1 - 1 ≡ c.next = omega arith in

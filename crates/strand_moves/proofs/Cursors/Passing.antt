@@ -1,5 +1,5 @@
 -- A cursor that passes a statement, and the move that is then made.
-use Rattle.std.proofs.Common.{◌≡◌, ℕ, ◌+◌, List, [], ◌∷◌, Option, Some, None, Result, Ok, Err, IfOk, reverse, refl, sym, ap, subst, ◌∙◌, arith}
+use Rattle.std.proofs.Common.{◌≡◌, ℕ, ◌+◌, true, false, inl, inr, List, [], ◌∷◌, Option, Some, None, Result, Ok, Err, IfOk, reverse, refl, sym, ap, subst, ◌∙◌, arith}
 use Rattle.script_grammar.specs.declared.tree.Stmt.{Stmt, out-Stmt}
 use Rattle.script_grammar.specs.declared.tree.Act.{out-Act}
 use Rattle.serial_meaning.specs.Plan.{PlanView}
@@ -12,10 +12,11 @@ use Rattle.strand_moves.specs.declared.effects.MoveResult.{MoveResult}
 use Rattle.strand_moves.specs.declared.effects.MoveResult.TheVariants as moved
 use Rattle.strand_moves.specs.declared.effects.Effects.TheVariants as shown
 use Rattle.strand_moves.specs.Acts.{Costs, Stays}
-use Rattle.strand_moves.specs.Cursors.{left_of, Passes}
+use Rattle.strand_moves.specs.Cursors.{left_of, PassesStatement}
 use Rattle.strand_moves.specs.Moves.{acted, run_of}
-use Rattle.strand_moves.specs.Rows.{Comes, HasPassed, IsNext, More, Row, RunsOn, Emits, unpassed}
-use Rattle.strand_moves.specs.Running.{IsInstance, block_inside, body_of, machine_of, path_of, present_of, text_of}
+use Rattle.strand_moves.specs.Quick.{EndsFrame, IsSentMove}
+use Rattle.strand_moves.specs.Rows.{Comes, HasPassedStatement, IsNextStatement, More, Row, RunsOn, Emits, unpassed}
+use Rattle.strand_moves.specs.Running.{IsInstance, block_inside, body_of, machine_of, path_of, present_of, statements_of}
 use Rattle.strand_moves.proofs.Statements.Going.{moves-on}
 use Rattle.strand_moves.proofs.Statements.QuickLemmas.{cursor-sound, passed-on, quick-showed, with_cursor}
 use Rattle.strand_moves.proofs.OpenScopes.Keeping.{here-is, same-path, stays-instance}
@@ -26,13 +27,13 @@ module _ (plan : PlanView) (i : Running) where
 
   -- the move of a statement that was passed
   pub next-moves : (next : Option Stmt) (st : Stmt) → next ≡ Some st →
-      move plan (path_of i) (unpassed plan i next) ≡ statement_move plan (path_of i) (machine_of plan i) st (left_of (text_of plan i.top) i.top.cursor)
+      move plan (path_of i) (unpassed plan i next) ≡ statement_move plan (path_of i) (machine_of plan i) st (left_of (statements_of plan i.top) i.top.cursor)
   next-moves next st e =
       ap (λ (n : Option Stmt). move plan (path_of i) (unpassed plan i n)) e
-      ∙ moves-on plan (path_of i) (unpassed plan i (Some st)) st (left_of (text_of plan i.top) i.top.cursor) refl
+      ∙ moves-on plan (path_of i) (unpassed plan i (Some st)) st (left_of (statements_of plan i.top) i.top.cursor) refl
 
   -- and where none was left
-  pub end-moves : (next : Option Stmt) → next ≡ None → left_of (text_of plan i.top) i.top.cursor ≡ [] →
+  pub end-moves : (next : Option Stmt) → next ≡ None → left_of (statements_of plan i.top) i.top.cursor ≡ [] →
       move plan (path_of i) (unpassed plan i next) ≡ end_move plan (path_of i) (machine_of plan i) (machine_of plan i).top.levels
   end-moves next e none =
       ap (λ (n : Option Stmt). move plan (path_of i) (unpassed plan i n)) e
@@ -42,15 +43,15 @@ module _ (plan : PlanView) (i : Running) where
     abbrev pub passed_by : Running
     passed_by = record i { top = record i.top { cursor = cursor } }
 
-    pub passed-machine : (next : Option Stmt) → IsNext (text_of plan i.top) i.top.cursor cursor next → unpassed plan passed_by next ≡ machine_of plan i
+    pub passed-machine : (next : Option Stmt) → IsNextStatement (statements_of plan i.top) i.top.cursor cursor next → unpassed plan passed_by next ≡ machine_of plan i
     passed-machine None h = ap with_left (sym h.0)
     passed-machine (Some st) h = ap with_left (sym h.first)
 
-    pub passed-sound : (next : Option Stmt) → IsInstance plan i → IsNext (text_of plan i.top) i.top.cursor cursor next → IsInstance plan passed_by
+    pub passed-sound : (next : Option Stmt) → IsInstance plan i → IsNextStatement (statements_of plan i.top) i.top.cursor cursor next → IsInstance plan passed_by
     passed-sound None sound h = cursor-sound plan i cursor sound (λ e. h.1)
     passed-sound (Some st) sound h = let on = passed-on plan i _ _ sound h.first in cursor-sound plan i cursor sound (λ e. absurd (cc))
 
-    pub passed-has : (next : Option Stmt) → IsInstance plan i → IsNext (text_of plan i.top) i.top.cursor cursor next → HasPassed plan passed_by next
+    pub passed-has : (next : Option Stmt) → IsInstance plan i → IsNextStatement (statements_of plan i.top) i.top.cursor cursor next → HasPassedStatement plan passed_by next
     passed-has None sound h = h.1
     passed-has (Some st) sound h = (passed-on plan i _ _ sound h.first, h.behind)
 
@@ -59,8 +60,8 @@ module _ {S : Type 0} (after : Event → S → S) (plan : PlanView) (first : Run
   pub comes-sound : IsInstance plan now
   comes-sound = subst (λ (x : Running). IsInstance plan x) (sym h.passed) (passed-sound plan h.before now.top.cursor next h.sound h.at)
 
-  pub comes-has : HasPassed plan now next
-  comes-has = subst (λ (x : Running). HasPassed plan x next) (sym h.passed) (passed-has plan h.before now.top.cursor next h.sound h.at)
+  pub comes-has : HasPassedStatement plan now next
+  comes-has = subst (λ (x : Running). HasPassedStatement plan x next) (sym h.passed) (passed-has plan h.before now.top.cursor next h.sound h.at)
 
   pub comes-path : path_of now ≡ path_of first
   comes-path = ap (λ (x : Running). path_of x) h.passed ∙ h.path
@@ -80,21 +81,24 @@ module _ {S : Type 0} (after : Event → S → S) (plan : PlanView) (first : Run
   comes-moved (Err e) new h = tt
 
 -- the same text
-pub text-same : (plan : PlanView) (old new : Running) → new.top.function ≡ old.top.function → new.top.levels.items ≡ old.top.levels.items → text_of plan new.top ≡ text_of plan old.top
+pub text-same : (plan : PlanView) (old new : Running) → new.top.function ≡ old.top.function → new.top.levels.items ≡ old.top.levels.items → statements_of plan new.top ≡ statements_of plan old.top
 text-same plan old new function levels =
     ap (λ (ls : List Level). block_inside (body_of plan new.top.function) (reverse ls)) levels ∙ ap (λ (f : ℕ). block_inside (body_of plan f) (reverse old.top.levels.items)) function
 
--- a statement that was taken back after moves in a row, and that the cursor still stands after
-pub comes-undone : {S : Type 0} (after : Event → S → S) (plan : PlanView) (first : Running) (start : S) (i : Running) (sent : S) → Row after plan first start i sent → IsInstance plan i → path_of i ≡ path_of first → (st : Stmt) (cursor : Cursor) (n : ℕ) → Passes (text_of plan i.top) i.top.cursor cursor st → n + 1 ≡ i.steps →
-    (last : Running) → last ≡ with_cursor plan i n cursor → (heard : S) → heard ≡ sent → Comes after plan first start (record last { steps = last.steps + 1 }) heard (Some st)
-comes-undone {S = S} after plan first start i sent row sound path st cursor n passes less last same heard is = subst (λ (x : Running). Comes after plan first start (record x { steps = x.steps + 1 }) heard (Some st)) (sym same) (record {
-  before = i;
-  row = subst (λ (x : S). Row after plan first start i x) (sym is) row;
-  sound = sound;
-  path = path;
-  passed = ap (λ (k : ℕ). record i { steps = k; top = record i.top { cursor = cursor } }) less;
-  at = passes;
-})
+-- a statement whose step was taken back after moves in a row, and that the cursor still stands after
+pub comes-undone : {S : Type 0} (after : Event → S → S) (plan : PlanView) (first : Running) (start : S) (i : Running) (sent : S) → Row after plan first start i sent → IsInstance plan i → path_of i ≡ path_of first → (st : Stmt) (cursor : Cursor) (n : ℕ) → PassesStatement (statements_of plan i.top) i.top.cursor cursor st → n + 1 ≡ i.steps →
+    (paid : Running) → paid ≡ with_cursor plan i n cursor → (last : Running) → last ≡ record paid { steps = paid.steps + 1 } → (heard : S) → heard ≡ sent → Comes after plan first start last heard (Some st)
+comes-undone {S = S} after plan first start i sent row sound path st cursor n passes less paid same last back heard is =
+    let undone : last ≡ record i { top = record i.top { cursor = cursor } } =
+    back ∙ ap (λ (x : Running). let y : Running = record x { steps = x.steps + 1 } in y) same ∙ ap (λ (k : ℕ). let y : Running = record i { steps = k; top = record i.top { cursor = cursor } } in y) less in
+    subst (λ (x : Running). Comes after plan first start x heard (Some st)) (sym undone) (record {
+      before = i;
+      row = subst (λ (x : S). Row after plan first start i x) (sym is) row;
+      sound = sound;
+      path = path;
+      passed = refl;
+      at = passes;
+    })
 
 -- moves in a row and one more, after which the instance is sound and on its path
 pub record RowOn {S : Type 0} (after : Event → S → S) (plan : PlanView) (first : Running) (start : S) (i new : Running) (heard : S) : Type 0 where
@@ -102,7 +106,27 @@ pub record RowOn {S : Type 0} (after : Event → S → S) (plan : PlanView) (fir
   pub sound : IsInstance plan new
   pub path : path_of new ≡ path_of i
 
-module _ {S : Type 0} (after : Event → S → S) (plan : PlanView) (first : Running) (start : S) (i : Running) (sent : S) (row : Row after plan first start i sent) (sound : IsInstance plan i) (st : Stmt) (cursor : Cursor) (n : ℕ) (passes : Passes (text_of plan i.top) i.top.cursor cursor st) (less : n + 1 ≡ i.steps) where
+-- where no statement of a frame is left
+module _ {S : Type 0} (after : Event → S → S) (plan : PlanView) (first : Running) (start : S) (i : Running) (sent : S) (row : Row after plan first start i sent) (sound : IsInstance plan i) (cursor : Cursor) (none : IsNextStatement (statements_of plan i.top) i.top.cursor cursor None) where
+  same-end : move plan (path_of i) (machine_of plan i) ≡ move plan (path_of i) (machine_of plan (passed_by plan i cursor))
+  same-end = ap (λ (left : List Stmt). move plan (path_of i) (with_left plan i left)) (none.0 ∙ sym none.1)
+
+  ended-on : (new : Running) (heard : S) → IsSentMove after plan (passed_by plan i cursor) sent new heard → IsInstance plan new → path_of new ≡ path_of i → RowOn after plan first start i new heard
+  ended-on new heard (inl h) kept path =
+      record { row = More i new heard (subst (λ (x : S). Row after plan first start i x) (sym h.1) row) (same-end ∙ h.0) path kept; sound = kept; path = path }
+  ended-on new heard (inr h) kept path = record { row = Emits i new sent heard h.0 row (same-end ∙ h.1) h.2 path kept; sound = kept; path = path }
+
+  -- a move of its end
+  pub row-ended : (new : Running) (heard : S) → EndsFrame after plan (passed_by plan i cursor) sent new heard true → RowOn after plan first start i new heard
+  row-ended new heard h = ended-on new heard h.0 h.1 h.2
+
+  -- and where the row ends there
+  pub comes-ended : path_of i ≡ path_of first → (last : Running) (heard : S) → EndsFrame after plan (passed_by plan i cursor) sent last heard false → Comes after plan first start last heard None
+  comes-ended path last heard h =
+      subst (λ (x : Running). Comes after plan first start x heard None) (sym h.0)
+      (record { before = i; row = subst (λ (x : S). Row after plan first start i x) (sym h.1) row; sound = sound; path = path; passed = refl; at = none })
+
+module _ {S : Type 0} (after : Event → S → S) (plan : PlanView) (first : Running) (start : S) (i : Running) (sent : S) (row : Row after plan first start i sent) (sound : IsInstance plan i) (st : Stmt) (cursor : Cursor) (n : ℕ) (passes : PassesStatement (statements_of plan i.top) i.top.cursor cursor st) (less : n + 1 ≡ i.steps) where
   abbrev paid : Running
   paid = with_cursor plan i n cursor
 

@@ -20,7 +20,7 @@ use Rattle.script_grammar.specs.declared.tree.Stmt.{Stmt}
 use Rattle.strand_moves.specs.declared.running.Running.{Running}
 use Rattle.strand_values.specs.declared.halt.Halt as values
 use Rattle.strand_values.specs.declared.halt.Halt.TheVariants as halt
-use Rattle.strand_moves.specs.Acts.{IsCallee, Stands, Stays}
+use Rattle.strand_moves.specs.Acts.{IsCallee, StaysUnlessMemory, Stays}
 use Rattle.strand_moves.specs.Quick.{quiet}
 use Rattle.strand_moves.specs.Cursors.{left_of}
 use Rattle.strand_moves.specs.Running.{frame_of, block_inside, body_in, body_of, levels_of, machine_of, scopes_of}
@@ -91,7 +91,7 @@ pub called-fault : (params : List Param) (args : List Expr) (old : Env) (kind : 
 called-fault params args old kind h = fault-by params (values_of args old) kind h
 
 -- what a call that shows nothing leaves
-pub stands-quiet : (old new : Running) (r : Result (Unit {0}) values.Halt) → Stays old new → Stands old new (quiet r)
+pub stands-quiet : (old new : Running) (r : Result (Unit {0}) values.Halt) → Stays old new → StaysUnlessMemory old new (quiet r)
 stands-quiet old new (Ok u) s = s
 stands-quiet old new (Err (halt.Fault kind)) s = s
 stands-quiet old new (Err halt.Memory) s = tt

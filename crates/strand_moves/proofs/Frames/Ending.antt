@@ -7,7 +7,7 @@ use Rattle.serial_meaning.specs.Plan.{PlanView, functions_of}
 use Rattle.serial_meaning.specs.declared.value.Value.{Value}
 use Rattle.serial_meaning.specs.declared.event.Event.TheVariants as event
 use Rattle.serial_meaning.specs.declared.event.FaultKind.{FaultKind}
-use Rattle.strand_meaning.specs.Machine.{Stands, Emitted, back, here_of, spawns_in, sync_effects, with_scalar, return_move, Effect, Machine, Reached}
+use Rattle.strand_meaning.specs.Machine.{Stands, Gives, Emitted, back, here_of, spawns_in, sync_effects, with_scalar, return_move, Effect, Machine, Reached}
 use Rattle.strand_moves.specs.declared.frame.Frame.{Frame}
 use Rattle.strand_moves.specs.declared.running.Running.{Running}
 use Rattle.strand_moves.specs.declared.frame.Level.{Level}
@@ -74,6 +74,12 @@ module _ (plan : PlanView) (i : Running) (v : Value) (known : result_of (functio
       (value-known plan (path_of i) (machine_of plan i) v known
       ∙ ap (λ (items : List Frame). reaches (back (map (frame_of plan false) (reverse items)) i.top.target v i.rank i.steps)) b
       ∙ ap (λ below. reaches (back below i.top.target v i.rank i.steps)) (below-more plan rest caller))
+
+  -- there is no frame below it
+  pub value-returned : i.below.items ≡ [] → return_move plan (path_of i) (machine_of plan i) true ≡ reaches (Gives v)
+  value-returned none =
+      value-known plan (path_of i) (machine_of plan i) v known
+      ∙ ap (λ (items : List Frame). reaches (back (map (frame_of plan false) (reverse items)) i.top.target v i.rank i.steps)) none
 
 -- the frame below it has the open scopes where it had none
 pub ended-stays : (i new : Running) (rest : List Frame) (caller : Frame) (env : Env) → i.top.levels.items ≡ [] → i.below.items ≡ rest ++ caller ∷ [] → new.top ≡ record caller { env = env } → new.below.items ≡ rest →

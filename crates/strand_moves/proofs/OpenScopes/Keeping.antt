@@ -13,8 +13,8 @@ use Rattle.strand_moves.specs.declared.frame.Frame.{Frame}
 use Rattle.strand_moves.specs.declared.frame.Level.{Level}
 use Rattle.strand_moves.specs.declared.running.Running.{Running}
 use Rattle.strand_moves.specs.declared.effects.MoveResult.{MoveResult}
-use Rattle.strand_moves.specs.Acts.{Costs, GoesIn, Keeps, Stands, Stays}
-use Rattle.strand_moves.specs.Running.{AreAround, IsInstance, IsStrand, frame_of, body_of, levels_of, machine_of, most_ranks, open_scopes, path_around, path_of, present_of, ranks_after, scopes_of}
+use Rattle.strand_moves.specs.Acts.{Costs, GoesIn, Keeps, StaysUnlessMemory, Stays}
+use Rattle.strand_moves.specs.Running.{AreAround, IsInstance, IsStrand, frame_of, body_of, levels_of, machine_of, rank_bound, open_scopes, path_around, path_of, present_of, ranks_after, scopes_of}
 
 -- Paths
 
@@ -69,7 +69,7 @@ going-on : (b : Bool) (n : ℕ) → b ≡ false → (if b then 0 else n) ≡ n
 going-on b n e = ap (λ (t : Bool). if t then 0 else n) e
 
 module _ (plan : PlanView) (old new : Running) (h : IsInstance plan old) (on : old.leaving ≡ false) (s : Stays old new) (less : new.rank + new.steps ≤ old.rank + old.steps) where
-  stays-few : most_ranks new < 2 ^ 32
+  stays-few : rank_bound new < 2 ^ 32
   stays-few =
       let few = h.few in
       let before = going-on old.leaving old.rank on in
@@ -101,12 +101,12 @@ module _ (plan : PlanView) (old new : Running) (h : IsInstance plan old) (on : o
   keeps-stays (Err (halt.Fault kind)) = (record { instance = stays-instance; path = same-path old new s }, s.trail)
   keeps-stays (Err halt.Memory) = tt
 
-pub stands-still : (old new : Running) → Stays old new → (result : Result MoveResult values.Halt) → Stands old new result
+pub stands-still : (old new : Running) → Stays old new → (result : Result MoveResult values.Halt) → StaysUnlessMemory old new result
 stands-still old new s (Ok moved) = s
 stands-still old new s (Err (halt.Fault kind)) = s
 stands-still old new s (Err halt.Memory) = tt
 
-pub stands-same : (old : Running) (result : Result MoveResult values.Halt) → Stands old old result
+pub stands-same : (old : Running) (result : Result MoveResult values.Halt) → StaysUnlessMemory old old result
 stands-same old result = stands-still old old (record { trail = refl; scopes = refl; leaving = refl }) result
 
 -- after the step of a statement
@@ -123,7 +123,7 @@ module _ (plan : PlanView) (old paid : Running) (n : ℕ) (h : IsInstance plan o
   pub keeps-paid : (new : Running) → Stays paid new → Costs paid new → (result : Result MoveResult values.Halt) → Keeps plan old new result
   keeps-paid new s c result = keeps-stays plan old new h on (paid-stays new s) (paid-costs new c) result
 
-  pub keeps-unless : (new : Running) → Costs paid new → (result : Result MoveResult values.Halt) → Stands paid new result → Keeps plan old new result
+  pub keeps-unless : (new : Running) → Costs paid new → (result : Result MoveResult values.Halt) → StaysUnlessMemory paid new result → Keeps plan old new result
   keeps-unless new c (Ok moved) s = keeps-paid new s c (Ok moved)
   keeps-unless new c (Err (halt.Fault kind)) s = keeps-paid new s c (Err (halt.Fault kind))
   keeps-unless new c (Err halt.Memory) s = tt
@@ -166,7 +166,7 @@ module _ (i : Running) (below : List Frame) (same : scopes_of (reverse below) �
   pub changed-path : path_around (scopes_of (i.top ∷ reverse below)) i.trail.path ≡ path_of i
   changed-path = ap (λ (ls : List Level). path_around ls i.trail.path) changed-scopes
 
-  pub changed-few : most_ranks i < 2 ^ 32 → (if i.leaving then 0 else i.rank) + i.steps + ranks_after (scopes_of (i.top ∷ reverse below)) < 2 ^ 32
+  pub changed-few : rank_bound i < 2 ^ 32 → (if i.leaving then 0 else i.rank) + i.steps + ranks_after (scopes_of (i.top ∷ reverse below)) < 2 ^ 32
   changed-few few = let ranks = ap (λ (ls : List Level). ranks_after ls) changed-scopes in omega (arith, few, ranks)
 
   pub changed-around : (plan : PlanView) → AreAround plan (open_scopes i) i.trail.path → AreAround plan (scopes_of (i.top ∷ reverse below)) i.trail.path

@@ -19,7 +19,7 @@ use Rattle.strand_moves.specs.Acts.{GoesIn, IsKept}
 use Rattle.strand_moves.specs.Cursors.{IsBehind, left_of, scope_after, scope_at, scope_of}
 use Rattle.strand_moves.specs.Moves.{acted}
 use Rattle.strand_moves.proofs.Frames.CallLemmas.{is_below}
-use Rattle.strand_moves.specs.Running.{AreAround, IsInstance, body_of, block_inside, levels_of, machine_of, open_scopes, path_around, path_of, present_of, ranks_after, scopes_of, text_of}
+use Rattle.strand_moves.specs.Running.{AreAround, IsInstance, body_of, block_inside, levels_of, machine_of, open_scopes, path_around, path_of, present_of, ranks_after, scopes_of, statements_of}
 use Rattle.strand_moves.proofs.Statements.Equations.{scope, went}
 use Rattle.strand_moves.proofs.OpenScopes.Keeping.{here-is}
 
@@ -141,7 +141,7 @@ module _ (plan : PlanView) (i : Running) (h : IsInstance plan i) where
         joins plan (path_of i) m _ _ (ap (λ (ls : List Level). levels_of body ls) first.1.1) on
         ∙ ap (λ (p : List ℕ). went (Emitted (event.Sync (p ++ i.rank ∷ [])) ∷ sync_effects i.top.spawned) (machine_of plan joined)) (here-is plan i h)
 
-    pub join-kept : left_of (text_of plan i.top) i.top.cursor ≡ [] → IsKept plan i joined
+    pub join-kept : left_of (statements_of plan i.top) i.top.cursor ≡ [] → IsKept plan i joined
     join-kept none =
         let few = h.few in
         let before : (if i.leaving then 0 else i.rank) ≡ i.rank = ap (λ (b : Bool). if b then 0 else i.rank) on in
@@ -192,13 +192,13 @@ module _ (i new : Running) (inner : Trail) where
         leaving = ap (λ (x : Running). x.leaving) b.2;
       }
 
-  pub in-moves : (plan : PlanView) (st : Stmt) (block : List Stmt) → Begins → IsBehind (text_of plan i.top) i.top.cursor st → out-Act (out-Stmt st).act ≡ act.Scope block → length (present_of i) + 1 < plan.limits.depth →
+  pub in-moves : (plan : PlanView) (st : Stmt) (block : List Stmt) → Begins → IsBehind (statements_of plan i.top) i.top.cursor st → out-Act (out-Stmt st).act ≡ act.Scope block → length (present_of i) + 1 < plan.limits.depth →
       acted plan (present_of i) (machine_of plan i) st (act.Scope block) ≡ went (Opens (present_of i ++ i.rank ∷ []) ∷ []) (machine_of plan new)
   in-moves plan st block b behind is deep =
       let m = machine_of plan i in
       let body = body_of plan i.top.function in
       let starts = b.1 (block_inside body (reverse new.top.levels.items)) in
-      let text = ap (λ (ls : List Level). block_inside body ls) (in-turned b) ∙ scope-there (text_of plan i.top) i.top.cursor st block behind is in
+      let text = ap (λ (ls : List Level). block_inside body ls) (in-turned b) ∙ scope-there (statements_of plan i.top) i.top.cursor st block behind is in
       let levels = ap (λ (ls : List Level). levels_of body ls) (in-turned b) in
       let machine : machine_of plan new ≡ record m { rank = 0; top = record m.top { left = block; levels = record { rank = m.rank; left = m.top.left } ∷ m.top.levels } } =
       ap (λ (x : Running). machine_of plan x) b.2

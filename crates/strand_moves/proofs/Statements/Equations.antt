@@ -29,7 +29,7 @@ use Rattle.serial_meaning.specs.declared.event.Fault.{Fault}
 use Rattle.serial_meaning.specs.declared.event.Event.TheVariants as event
 use Rattle.serial_meaning.specs.declared.origin.Origin.{Origin}
 use Rattle.serial_meaning.specs.declared.origin.Origin.TheVariants as origin
-use Rattle.strand_meaning.specs.Machine.{Spawned, Effect, Emitted, Handed, Opens, handing, here_of, inside, place_of, Frame, Machine, Reached, Stands, state_of, with_left, with_scalar, entered, reached, statement_move, sync_effects}
+use Rattle.strand_meaning.specs.Machine.{Spawned, Effect, Emitted, Handed, Opens, handing, here_of, inside, destination_of, Frame, Machine, Reached, Stands, state_of, with_left, with_scalar, entered, reached, statement_move, sync_effects}
 use Rattle.strand_moves.specs.Moves.{acted, call_to, spawn_to}
 
 abbrev pub with_env : Machine → Env → Machine
@@ -50,7 +50,7 @@ behind_statement m n left = record m { steps = n; top = record m.top { left = le
 
 module _ (plan : PlanView) (here : List ℕ) (m : Machine) (st : Stmt) (left : List Stmt) where
   by_act : (n : ℕ) (a : Act-F Act Stmt) →
-      (let r = does (handing plan (place_of (length m.below) a)) plan here inside (length m.below) st a (record (state_of m) { steps = n }) in
+      (let r = does (handing plan (destination_of (length m.below) a)) plan here inside (length m.below) st a (record (state_of m) { steps = n }) in
       let run : Run Effect Fault Reached = record { items = r.items; ending = reached plan (with_left m left) (entered plan st a left m) r.ending } in run)
       ≡ acted plan here (behind_statement m n left) st a
   unfolding acted
@@ -80,7 +80,7 @@ module _ (plan : PlanView) (path : List ℕ) (m : Machine) (st : Stmt) (left : L
   paid-move n h =
       let a = out-Act (out-Stmt st).act in
       ap (λ (k : ℕ).
-      let r = paid_from (handing plan (place_of (length m.below) a)) plan (here_of path m) k (state_of m) (λ s. does (handing plan (place_of (length m.below) a)) plan (here_of path m) inside (length m.below) st a s) in
+      let r = paid_from (handing plan (destination_of (length m.below) a)) plan (here_of path m) k (state_of m) (λ s. does (handing plan (destination_of (length m.below) a)) plan (here_of path m) inside (length m.below) st a s) in
       let run : Run Effect Fault Reached = record { items = r.items; ending = reached plan (with_left m left) (entered plan st a left m) r.ending } in run) h
       ∙ by_act plan (here_of path m) m st left n a
 

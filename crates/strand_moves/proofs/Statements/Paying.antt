@@ -17,8 +17,8 @@ use Rattle.strand_moves.specs.declared.running.Running.{Running}
 use Rattle.strand_moves.specs.declared.effects.MoveResult.{MoveResult}
 use Rattle.strand_moves.specs.Acts.{Acts}
 use Rattle.strand_moves.specs.Cursors.{IsBehind}
-use Rattle.strand_moves.specs.Running.{machine_of, path_of, present_of, text_of}
-use Rattle.strand_moves.specs.Moves.{acted, Makes, strand_of}
+use Rattle.strand_moves.specs.Running.{machine_of, path_of, present_of, statements_of}
+use Rattle.strand_moves.specs.Moves.{acted, Makes, present_pedigree}
 use Rattle.strand_moves.proofs.Statements.Equations.{behind_statement, faults, paid-move, unpaid-move}
 
 pub shows-same : (run other : Run Effect Fault Reached) (strand : List ℕ) (m : Machine) (result : Result MoveResult values.Halt) → run ≡ other → Makes other strand m result → Makes run strand m result
@@ -40,17 +40,17 @@ module _ (plan : PlanView) (path : List ℕ) (m : Machine) (st : Stmt) (x : Name
 
 module _ (plan : PlanView) (i paid : Running) (n : ℕ) (is-paid : paid ≡ record i { steps = n }) (less : n + 1 ≡ i.steps) where
   pub statement-paid : here_of (path_of i) (machine_of plan i) ≡ present_of i → (st : Stmt) (a : Act-F Act Stmt) (new : Running) (result : Result MoveResult values.Halt) → out-Act (out-Stmt st).act ≡ a → Acts plan st a paid new result →
-      Makes (statement_move plan (path_of i) (machine_of plan i) st (machine_of plan i).top.left) (strand_of (present_of i) (machine_of plan i)) (machine_of plan new) result
+      Makes (statement_move plan (path_of i) (machine_of plan i) st (machine_of plan i).top.left) (present_pedigree (present_of i) (machine_of plan i)) (machine_of plan new) result
   statement-paid here st a new result e h =
       let m = machine_of plan i in
       let one : m.steps ≡ suc n = omega arith in
       let acts = rw is-paid at h in
-      shows-same (statement_move plan (path_of i) m st m.top.left) (acted plan (present_of i) (record m { steps = n }) st a) (strand_of (present_of i) m) (machine_of plan new) result
+      shows-same (statement_move plan (path_of i) m st m.top.left) (acted plan (present_of i) (record m { steps = n }) st a) (present_pedigree (present_of i) m) (machine_of plan new) result
       (paid-move plan (path_of i) m st m.top.left n one ∙ ap (λ (b : Act-F Act Stmt). acted plan (here_of (path_of i) m) (behind_statement m n m.top.left) st b) e
       ∙ ap (λ (p : List ℕ). acted plan p (record m { steps = n }) st a) here) acts
 
-  pub paid-behind : (st : Stmt) → IsBehind (text_of plan i.top) i.top.cursor st → IsBehind (text_of plan paid.top) paid.top.cursor st
-  paid-behind st h = let P : Running → Type 0 = λ x. IsBehind (text_of plan x.top) x.top.cursor st in subst P (sym is-paid) h
+  pub paid-behind : (st : Stmt) → IsBehind (statements_of plan i.top) i.top.cursor st → IsBehind (statements_of plan paid.top) paid.top.cursor st
+  paid-behind st h = let P : Running → Type 0 = λ x. IsBehind (statements_of plan x.top) x.top.cursor st in subst P (sym is-paid) h
 
 -- a statement for which no step is left
 pub statement-unpaid : (plan : PlanView) (i : Running) (st : Stmt) (left : List Stmt) → i.steps ≡ 0 → here_of (path_of i) (machine_of plan i) ≡ present_of i →

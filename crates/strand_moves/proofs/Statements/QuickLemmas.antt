@@ -12,10 +12,10 @@ use Rattle.strand_values.specs.declared.halt.Halt as values
 use Rattle.strand_values.specs.declared.halt.Halt.TheVariants as halt
 use Rattle.strand_moves.specs.declared.cursor.Cursor.{Cursor}
 use Rattle.strand_moves.specs.declared.running.Running.{Running}
-use Rattle.strand_moves.specs.Acts.{Acts, BeginsOne, Stands}
-use Rattle.strand_moves.specs.Cursors.{IsBehind, left_of, Passes}
-use Rattle.strand_moves.specs.Running.{IsInstance, machine_of, path_of, present_of, text_of}
-use Rattle.strand_moves.specs.Moves.{acted, MovesTrail, strand_of}
+use Rattle.strand_moves.specs.Acts.{Acts, BeginsOne, StaysUnlessMemory}
+use Rattle.strand_moves.specs.Cursors.{IsBehind, left_of, PassesStatement}
+use Rattle.strand_moves.specs.Running.{IsInstance, machine_of, path_of, present_of, statements_of}
+use Rattle.strand_moves.specs.Moves.{acted, MovesTrail, present_pedigree}
 use Rattle.strand_moves.specs.Quick.{HasCalled, HasEmitted, IsDone, IsQuiet, IsEmittedTo, IsWent, emitted, is_plain, is_emitting, quiet}
 use Rattle.strand_moves.proofs.Statements.Equations.{paid-move}
 use Rattle.strand_moves.proofs.Statements.Equations as equations
@@ -33,16 +33,16 @@ emitted-child plan (Err h) = tt
 
 -- what a call did for a statement, by what it answered
 module _ (st : Stmt) (a : Act-F Act Stmt) (old new : Running) (is : out-Act (out-Stmt st).act ≡ a) where
-  quiet-at : (done : Result (Unit {0}) values.Halt) (went : Bool) → ((plan : PlanView) → IsBehind (text_of plan old.top) old.top.cursor st → Acts plan st a old new (quiet done)) →
+  quiet-at : (done : Result (Unit {0}) values.Halt) (went : Bool) → ((plan : PlanView) → IsBehind (statements_of plan old.top) old.top.cursor st → Acts plan st a old new (quiet done)) →
       ((kind : FaultKind) → done ≡ Err (halt.Fault kind) → new ≡ old) → IsWent done went → IsQuiet st old new went
   quiet-at (Ok u) went acts same w =
       subst (IsQuiet st old new) (sym w) (λ plan behind. ap (λ (b : Act-F Act Stmt). acted plan (present_of old) (machine_of plan old) st b) is ∙ acts plan behind)
   quiet-at (Err (halt.Fault kind)) went acts same w =
       subst (IsQuiet st old new) (sym w)
-      (same kind refl, λ plan behind plain. (record { kind = kind; at = strand_of (present_of old) (machine_of plan old) }, ap (λ (b : Act-F Act Stmt). acted plan (present_of old) (machine_of plan old) st b) is ∙ acts plan behind))
+      (same kind refl, λ plan behind plain. (record { kind = kind; at = present_pedigree (present_of old) (machine_of plan old) }, ap (λ (b : Act-F Act Stmt). acted plan (present_of old) (machine_of plan old) st b) is ∙ acts plan behind))
   quiet-at (Err halt.Memory) went acts same w = absurd w
 
-  pub quiet-is : {E : Type 0} (done : Result (Unit {0}) values.Halt) (r : Result Bool E) → ((plan : PlanView) → IsBehind (text_of plan old.top) old.top.cursor st → Acts plan st a old new (quiet done)) →
+  pub quiet-is : {E : Type 0} (done : Result (Unit {0}) values.Halt) (r : Result Bool E) → ((plan : PlanView) → IsBehind (statements_of plan old.top) old.top.cursor st → Acts plan st a old new (quiet done)) →
       ((kind : FaultKind) → done ≡ Err (halt.Fault kind) → new ≡ old) → IfOk r (IsWent done) → IfOk r (IsQuiet st old new)
   quiet-is done (Ok went) acts same w = quiet-at done went acts same w
   quiet-is done (Err e) acts same w = tt
@@ -52,7 +52,7 @@ module _ (st : Stmt) (a : Act-F Act Stmt) (old new : Running) where
   done-at : (done : Result (Unit {0}) values.Halt) (went : Bool) → ((plan : PlanView) → Acts plan st a old new (quiet done)) → ((kind : FaultKind) → done ≡ Err (halt.Fault kind) → new ≡ old) → IsWent done went → IsDone st a old new went
   done-at (Ok u) went acts same w = subst (IsDone st a old new) (sym w) (λ plan. acts plan)
   done-at (Err (halt.Fault kind)) went acts same w =
-      subst (IsDone st a old new) (sym w) (same kind refl, λ plan plain. (record { kind = kind; at = strand_of (present_of old) (machine_of plan old) }, acts plan))
+      subst (IsDone st a old new) (sym w) (same kind refl, λ plan plain. (record { kind = kind; at = present_pedigree (present_of old) (machine_of plan old) }, acts plan))
   done-at (Err halt.Memory) went acts same w = absurd w
 
   pub done-is : {E : Type 0} (done : Result (Unit {0}) values.Halt) (r : Result Bool E) → ((plan : PlanView) → Acts plan st a old new (quiet done)) → ((kind : FaultKind) → done ≡ Err (halt.Fault kind) → new ≡ old) →
@@ -75,7 +75,7 @@ module _ {S : Type 0} (after : Event → S → S) (plan : PlanView) (st : Stmt) 
   sent-at : (done : Result Event values.Halt) (sent : Bool) → Acts plan st a old new (emitted done) → ((kind : FaultKind) → done ≡ Err (halt.Fault kind) → new ≡ old) → IsEmittedTo after done from to sent → HasEmitted after plan st a old from new to sent
   sent-at (Ok e) sent acts same w = subst (HasEmitted after plan st a old from new to) (sym w.0) (e, w.1, acts)
   sent-at (Err (halt.Fault kind)) sent acts same w =
-      subst (HasEmitted after plan st a old from new to) (sym w.0) (same kind refl, w.1, λ emitting. (record { kind = kind; at = strand_of (present_of old) (machine_of plan old) }, acts))
+      subst (HasEmitted after plan st a old from new to) (sym w.0) (same kind refl, w.1, λ emitting. (record { kind = kind; at = present_pedigree (present_of old) (machine_of plan old) }, acts))
   sent-at (Err halt.Memory) sent acts same w = absurd w
 
   pub sent-is : {E : Type 0} (done : Result Event values.Halt) (r : Result Bool E) → Acts plan st a old new (emitted done) → ((kind : FaultKind) → done ≡ Err (halt.Fault kind) → new ≡ old) → IfOk r (IsEmittedTo after done from to) →
@@ -101,13 +101,13 @@ module _ {S : Type 0} (after : Event → S → S) (plan : PlanView) (st : Stmt) 
 
 -- the same of a call
 module _ (plan : PlanView) (st : Stmt) (a : Act-F Act Stmt) (old new : Running) where
-  called-at : (done : Result (Unit {0}) values.Halt) (called : Bool) → Acts plan st a old new (quiet done) → ((kind : FaultKind) → done ≡ Err (halt.Fault kind) → new ≡ old) → Stands old new (quiet done) → OnOk done (BeginsOne old new) →
+  called-at : (done : Result (Unit {0}) values.Halt) (called : Bool) → Acts plan st a old new (quiet done) → ((kind : FaultKind) → done ≡ Err (halt.Fault kind) → new ≡ old) → StaysUnlessMemory old new (quiet done) → OnOk done (BeginsOne old new) →
       IsWent done called → HasCalled plan st a old new called
   called-at (Ok u) called acts same stays begins w = subst (HasCalled plan st a old new) (sym w) (acts, stays, begins)
   called-at (Err (halt.Fault kind)) called acts same stays begins w = subst (HasCalled plan st a old new) (sym w) (same kind refl)
   called-at (Err halt.Memory) called acts same stays begins w = absurd w
 
-  pub called-is : {E : Type 0} (done : Result (Unit {0}) values.Halt) (r : Result Bool E) → Acts plan st a old new (quiet done) → ((kind : FaultKind) → done ≡ Err (halt.Fault kind) → new ≡ old) → Stands old new (quiet done) → OnOk done (BeginsOne old new) →
+  pub called-is : {E : Type 0} (done : Result (Unit {0}) values.Halt) (r : Result Bool E) → Acts plan st a old new (quiet done) → ((kind : FaultKind) → done ≡ Err (halt.Fault kind) → new ≡ old) → StaysUnlessMemory old new (quiet done) → OnOk done (BeginsOne old new) →
       IfOk r (IsWent done) → IfOk r (HasCalled plan st a old new)
   called-is done (Ok called) acts same stays begins w = called-at done called acts same stays begins w
   called-is done (Err e) acts same stays begins w = tt
@@ -136,12 +136,12 @@ did-nothing st old new went e h = subst (IsQuiet st old new) e h
 
 module _ (plan : PlanView) (i : Running) where
   abbrev text : List Stmt
-  text = text_of plan i.top
+  text = statements_of plan i.top
 
   abbrev pub with_cursor : ℕ → Cursor → Running
   with_cursor n cursor = record i { steps = n; top = record i.top { cursor = cursor } }
 
-  module _ (st : Stmt) (cursor : Cursor) (n : ℕ) (here : here_of (path_of i) (machine_of plan i) ≡ present_of i) (passes : Passes text i.top.cursor cursor st) (steps : n + 1 ≡ i.steps) where
+  module _ (st : Stmt) (cursor : Cursor) (n : ℕ) (here : here_of (path_of i) (machine_of plan i) ≡ present_of i) (passes : PassesStatement text i.top.cursor cursor st) (steps : n + 1 ≡ i.steps) where
     passed : move plan (path_of i) (machine_of plan i) ≡ acted plan (present_of i) (machine_of plan (with_cursor n cursor)) st (out-Act (out-Stmt st).act)
     passed =
         let m = machine_of plan i in

@@ -2,43 +2,43 @@ use Rattle.std.proofs.Common.{◌≡◌, ℕ, ◌+◌, ◌*◌, false, Option, S
 use Rattle.std.specs.Prelude.{OnOk, IfErr, option_and_then, string_bytes}
 use Rattle.std.specs.Option.{option_or}
 use Rattle.std.proofs.lemmas.List.{length-map}
-use Rattle.ped_words.specs.Judging.{broken_name, broken_pair, broken_value, kind_rule, value_rule}
+use Rattle.ped_words.specs.Judging.{broken_name, broken_pair, broken_value, type_rule, value_rule}
 use Rattle.ped_words.specs.Rules.{broken_at, IsRefusal}
 use Rattle.ped_words.specs.Given.{values_in}
-use Rattle.ped_words.specs.Values.{has, name_word, value_word, values_of, word_at}
-use Rattle.ped_words.specs.Table.{kind_of, name_of}
+use Rattle.ped_words.specs.Values.{has, name_word, value_word, option_values, word_at}
+use Rattle.ped_words.specs.Table.{value_type_of, name_of}
 use Rattle.ped_words.specs.declared.rule.Rule.{Rule}
 use Rattle.ped_words.specs.declared.rule.WordError.{WordError}
-use Rattle.ped_words.specs.declared.table.Kind.{Kind}
-use Rattle.ped_words.specs.declared.table.Name.{Name}
+use Rattle.ped_words.specs.declared.table.ValueType.{ValueType}
+use Rattle.ped_words.specs.declared.table.OptionName.{OptionName}
 use Rattle.ped_words.specs.declared.table.Verb.{Verb}
 use Rattle.ped_words.proofs.RuleLemmas.{refused_as}
 use Rattle.ped_words.proofs.ValueLemmas.{count_pair, same_name}
 use Rattle.ped_words.proofs.read.judge_pair.Goals as goal
 
 -- What is known after the name of a pair that breaks no rule.
-record Named (verb : Verb) (words : List (List ℕ)) (k : ℕ) (n : Name) (kind : Kind) (word : List ℕ) (at : ℕ) : Type 0 where
+record Named (verb : Verb) (words : List (List ℕ)) (k : ℕ) (n : OptionName) (value_type : ValueType) (word : List ℕ) (at : ℕ) : Type 0 where
   judged : broken_pair verb words k ≡ broken_at (2 * k + 2) (value_rule n (value_word words k))
-  kind_is : kind ≡ kind_of n
+  kind_is : value_type ≡ value_type_of n
   value : word ≡ value_word words k
   place : at ≡ 2 * k + 2
 
-broken_same : (verb : Verb) (words : List (List ℕ)) (k : ℕ) (n : Name) (kind : Kind) (word : List ℕ) (at : ℕ) → Named verb words k n kind word at → broken_pair verb words k ≡ broken_at at (kind_rule kind word)
-broken_same verb words k n kind word at h =
-    h.judged ∙ ap (λ w. broken_at (2 * k + 2) (value_rule n w)) (sym h.value) ∙ ap (λ i. broken_at i (value_rule n word)) (sym h.place) ∙ ap (λ q. broken_at at (kind_rule q word)) (sym h.kind_is)
+broken_same : (verb : Verb) (words : List (List ℕ)) (k : ℕ) (n : OptionName) (value_type : ValueType) (word : List ℕ) (at : ℕ) → Named verb words k n value_type word at → broken_pair verb words k ≡ broken_at at (type_rule value_type word)
+broken_same verb words k n value_type word at h =
+    h.judged ∙ ap (λ w. broken_at (2 * k + 2) (value_rule n w)) (sym h.value) ∙ ap (λ i. broken_at i (value_rule n word)) (sym h.place) ∙ ap (λ q. broken_at at (type_rule q word)) (sym h.kind_is)
 
 on_ok : (P : Type 0) (r : Result (Unit {0}) WordError) → P → OnOk r P
 on_ok P (Ok u) p = p
 on_ok P (Err e) p = tt
 
-module _ (verb : Verb) (words : List (List ℕ)) (k : ℕ) (n : Name) (kind : Kind) (word : List ℕ) (at : ℕ) (h : Named verb words k n kind word at) where
-  no_rule : (r : Result (Unit {0}) WordError) → OnOk r (kind_rule kind word ≡ None) → OnOk r (broken_pair verb words k ≡ None)
-  no_rule (Ok u) none = broken_same verb words k n kind word at h ∙ ap (broken_at at) none
+module _ (verb : Verb) (words : List (List ℕ)) (k : ℕ) (n : OptionName) (value_type : ValueType) (word : List ℕ) (at : ℕ) (h : Named verb words k n value_type word at) where
+  no_rule : (r : Result (Unit {0}) WordError) → OnOk r (type_rule value_type word ≡ None) → OnOk r (broken_pair verb words k ≡ None)
+  no_rule (Ok u) none = broken_same verb words k n value_type word at h ∙ ap (broken_at at) none
   no_rule (Err e) none = tt
 
-  refused : (r : Result (Unit {0}) WordError) → IfErr r (IsRefusal (broken_at at (kind_rule kind word))) → IfErr r (IsRefusal (broken_pair verb words k))
+  refused : (r : Result (Unit {0}) WordError) → IfErr r (IsRefusal (broken_at at (type_rule value_type word))) → IfErr r (IsRefusal (broken_pair verb words k))
   refused (Ok u) h2 = tt
-  refused (Err e) h2 = refused_as _ _ e (broken_same verb words k n kind word at h) h2
+  refused (Err e) h2 = refused_as _ _ e (broken_same verb words k n value_type word at h) h2
 
 -- the first rule that a pair breaks, by that of its name
 by_name : (verb : Verb) (words : List (List ℕ)) (k : ℕ) (o : Option Rule) → broken_name verb words k ≡ o → broken_pair verb words k ≡ option_or (broken_at (2 * k + 1) o) (broken_at (2 * k + 2) (broken_value words k))
@@ -61,7 +61,7 @@ returns-in-Err-clause-err c =
     (omega arith)
     in refused_as _ _ c.at.result (by_name c.args.verb words c.args.pair (Some c.in-Err.rule) (same ∙ c.in-Err.ensures.err)) (rw c.at.ensures refl)
 
-name_known : (c : goal.After-judge_value) → Named c.args.verb (map string_bytes c.args.words.now) c.args.pair c.in-Ok.name c.kind.result c.text_at-2.result.now (2 * c.args.pair + 1 + 1)
+name_known : (c : goal.After-judge_value) → Named c.args.verb (map string_bytes c.args.words.now) c.args.pair c.in-Ok.name c.value_type.result c.text_at-2.result.now (2 * c.args.pair + 1 + 1)
 name_known c =
     let words = map string_bytes c.args.words.now in
     let next : 2 * c.args.pair + 1 + 1 ≡ 2 * c.args.pair + 2 = omega arith in
@@ -81,7 +81,7 @@ name_known c =
     record {
       judged = by_name c.args.verb words c.args.pair None (same ∙ c.in-Ok.ensures.ok)
           ∙ ap (λ o. broken_at (2 * c.args.pair + 2) (option_and_then (λ n. value_rule n (value_word words c.args.pair)) o)) named;
-      kind_is = c.kind.ensures;
+      kind_is = c.value_type.ensures;
       value = c.text_at-2.ensures ∙ ap (word_at words) next;
       place = next;
     }
@@ -93,7 +93,7 @@ pub returns-clause-counted : goal.returns-clause-counted
 returns-clause-counted c =
     let words = map string_bytes c.args.words.now in
     let named : name_of (name_word words c.args.pair) ≡ Some c.in-Ok.name = ap name_of (sym c.text_at.ensures) ∙ c.in-Ok.ensures.named in
-    let fresh : has (values_of words c.args.pair) c.in-Ok.name ≡ false = ap (λ g. has (values_in g) c.in-Ok.name) (sym c.new-given.ensures) ∙ c.in-Ok.ensures.fresh in
+    let fresh : has (option_values words c.args.pair) c.in-Ok.name ≡ false = ap (λ g. has (values_in g) c.in-Ok.name) (sym c.new-given.ensures) ∙ c.in-Ok.ensures.fresh in
     on_ok _ c.judge_value.result (count_pair words c.args.pair c.in-Ok.name named fresh)
 
 pub returns-clause-err : goal.returns-clause-err

@@ -3,16 +3,16 @@ use Rattle.std.specs.Prelude.{string_bytes}
 use Rattle.std.proofs.lemmas.List.{length-map}
 use Rattle.std.proofs.lemmas.Result.{err_from_is_err_and}
 use Rattle.ped_words.specs.Judging.{broken_pair, pairs_in}
-use Rattle.ped_words.specs.Values.{values_of}
+use Rattle.ped_words.specs.Values.{option_values}
 use Rattle.ped_words.proofs.RuleLemmas.{none_more, refused_first}
 use Rattle.ped_words.proofs.ValueLemmas.{count_le}
 use Rattle.ped_words.proofs.read.judge_pairs.Goals as goal
 
 pub judge_pair-requires-clause-small : goal.judge_pair-requires-clause-small
-judge_pair-requires-clause-small c = let few = count_le (values_of (map string_bytes c.args.words.now) c.loop-pair.pair) in omega (arith, few, c.loop-pair.invariant.counted)
+judge_pair-requires-clause-small c = let few = count_le (option_values (map string_bytes c.args.words.now) c.loop-pair.pair) in omega (arith, few, c.loop-pair.invariant.counted)
 
 pub overflow_add-pair : goal.overflow_add-pair
-overflow_add-pair c = let few = count_le (values_of (map string_bytes c.args.words.now) c.loop-pair.pair) in omega (arith, few, c.loop-pair.invariant.counted)
+overflow_add-pair c = let few = count_le (option_values (map string_bytes c.args.words.now) c.loop-pair.pair) in omega (arith, few, c.loop-pair.invariant.counted)
 
 pub loop-pair-preserved : goal.loop-pair-preserved
 loop-pair-preserved c = record {
@@ -32,6 +32,6 @@ returns-in_err-judge_pair-clause-err c =
 
 pub returns-clause-few : goal.returns-clause-few
 returns-clause-few c =
-    let few = count_le (values_of (map string_bytes c.args.words.now) c.loop-pair.pair) in
+    let few = count_le (option_values (map string_bytes c.args.words.now) c.loop-pair.pair) in
     let long = length-map c.args.words.now string_bytes in
     omega (arith, few, long, c.loop-pair.invariant.counted)

@@ -8,7 +8,7 @@ use Rattle.ped_words.specs.Reading.{reading, reading_as}
 use Rattle.ped_words.specs.Rules.{IsUnlessMemory, breaks, unless}
 use Rattle.ped_words.specs.Table.{verb_of}
 use Rattle.ped_words.specs.Given.{GivenWords, values_in}
-use Rattle.ped_words.specs.Values.{values_of, word_at}
+use Rattle.ped_words.specs.Values.{option_values, word_at}
 use Rattle.ped_words.specs.declared.rule.Rule.TheVariants.{NoCommand}
 use Rattle.ped_words.specs.declared.table.Verb.{Verb}
 use Rattle.ped_words.proofs.read.read_words.Goals as goal
@@ -16,10 +16,10 @@ use Rattle.ped_words.proofs.read.read_words.Goals as goal
 some_words : (n : ℕ) → 0 < n → eqb n 0 ≡ false
 some_words n some = grind (arith, nat_tests)
 
-reading_made : (words : List (List ℕ)) (verb : Verb) → 0 < length words → verb_of (word_at words 0) ≡ Some verb → first_broken verb words ≡ None → reading words ≡ made verb (values_of words (pairs_in words)) (length words)
+reading_made : (words : List (List ℕ)) (verb : Verb) → 0 < length words → verb_of (word_at words 0) ≡ Some verb → first_broken verb words ≡ None → reading words ≡ made verb (option_values words (pairs_in words)) (length words)
 unfolding reading
 reading_made words verb some named whole =
-    ap (λ b. cond b (Err (breaks NoCommand 0)) (reading_as (verb_of (word_at words 0)) words)) (some_words (length words) some) ∙ ap (λ o. reading_as o words) named ∙ ap (λ b. unless b (made verb (values_of words (pairs_in words)) (length words))) whole
+    ap (λ b. cond b (Err (breaks NoCommand 0)) (reading_as (verb_of (word_at words 0)) words)) (some_words (length words) some) ∙ ap (λ o. reading_as o words) named ∙ ap (λ b. unless b (made verb (option_values words (pairs_in words)) (length words))) whole
 
 pub returns-clause-value : goal.returns-clause-value
 returns-clause-value c =

@@ -1,14 +1,14 @@
 use Rattle.std.proofs.Common.{ap}
 use Rattle.strand_machine.specs.Merge.{ending_of}
-use Rattle.strand_machine.specs.Parts.{place_of}
+use Rattle.strand_machine.specs.Parts.{destination_of}
 use Rattle.strand_machine.proofs.TakenAnswers.Taking.{on-ok, placed, stage-stays}
 use Rattle.strand_machine.proofs.merge.merge_stage.Goals as goal
 
 pub returns-in-Spawned : goal.returns-in-Spawned
-returns-in-Spawned c = placed c.args.place _ (ending_of c.args.outcome) _ _ (ap place_of c.in-Spawned.is) c.spawned.ensures
+returns-in-Spawned c = placed c.args.place _ (ending_of c.args.outcome) _ _ (ap destination_of c.in-Spawned.is) c.spawned.ensures
 
 pub returns-in-Looped : goal.returns-in-Looped
-returns-in-Looped c = on-ok c.looped.result _ _ (placed c.args.place _ (ending_of c.args.outcome) _ _ (ap place_of c.in-Looped.is)) c.looped.ensures
+returns-in-Looped c = on-ok c.looped.result _ _ (placed c.args.place _ (ending_of c.args.outcome) _ _ (ap destination_of c.in-Looped.is)) c.looped.ensures
 
 pub returns-in-Half : goal.returns-in-Half
-returns-in-Half c = placed c.args.place _ (ending_of c.args.outcome) _ _ (ap place_of c.in-Half.is) (stage-stays (ending_of c.args.outcome) _)
+returns-in-Half c = placed c.args.place _ (ending_of c.args.outcome) _ _ (ap destination_of c.in-Half.is) (stage-stays (ending_of c.args.outcome) _)

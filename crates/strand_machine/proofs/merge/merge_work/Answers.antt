@@ -1,8 +1,8 @@
 use Rattle.strand_meaning.specs.Task.{takes}
 use Rattle.strand_machine.specs.Merge.{ending_of}
-use Rattle.strand_machine.specs.Parts.{place_of}
+use Rattle.strand_machine.specs.Parts.{destination_of}
 use Rattle.strand_machine.proofs.TakenAnswers.Taking.{runs-taken}
 use Rattle.strand_machine.proofs.merge.merge_work.Goals as goal
 
 pub returns-in_ok-merge_stage-in-Runs : goal.returns-in_ok-merge_stage-in-Runs
-returns-in_ok-merge_stage-in-Runs c = runs-taken (takes (place_of c.args.place) (ending_of c.args.outcome)) c.args.work.now _ _ c.in-Runs.is c.in_ok-merge_stage-in-Runs.ensures
+returns-in_ok-merge_stage-in-Runs c = runs-taken (takes (destination_of c.args.place) (ending_of c.args.outcome)) c.args.work.now _ _ c.in-Runs.is c.in_ok-merge_stage-in-Runs.ensures

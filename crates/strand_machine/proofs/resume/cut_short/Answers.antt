@@ -1,18 +1,27 @@
-use Rattle.std.proofs.Common.{false, refl, ◌∙◌}
+use Rattle.std.proofs.Common.{List, None, Option, false, refl, ap, ◌∙◌}
+use Rattle.serial_meaning.specs.declared.event.Fault.{Fault}
+use Rattle.strand_meaning.specs.Trace.{AwaitedChild}
+use Rattle.strand_machine.specs.Merge.{end_of, merge_of}
 use Rattle.strand_machine.proofs.TakenAnswers.Cutting.{short-holds, short-some, short-view}
 use Rattle.strand_machine.proofs.resume.cut_short.Goals as goal
 
 pub unreachable-requires : goal.unreachable-requires
-unreachable-requires c = short-some c.args.parts.now.body.family c.args.merge c.end_of.result c.requires c.end_of.ensures c.in_default.is
+unreachable-requires c =
+    let ended = c.end_of.ensures ∙ ap (λ (f : Option Fault). end_of f c.args.heard.now.by_cut) c.take_fault.ensures.fault in
+    short-some c.args.parts.now.body.family (merge_of c.args.parts.now c.args.heard.now) c.end_of.result c.requires.ends ended c.in_default.is
 
 pub returns-clause-short : goal.returns-clause-short
 returns-clause-short c =
     let b = c.args.parts.now.body in
-    let after = record b { trace = c.set.new.place; waiting = false } in
-    rw c.set-2.ensures (short-view b.family c.args.merge b.advanced c.in-Some.outcome c.end_of.result c.end_of.ensures c.in-Some.is after refl (c.set.ensures ∙ c.of.ensures) refl refl)
+    let after = record b { trace = c.take_fault.new.self; waiting = false } in
+    let ended = c.end_of.ensures ∙ ap (λ (f : Option Fault). end_of f c.args.heard.now.by_cut) c.take_fault.ensures.fault in
+    let trace = c.take_fault.ensures.rest ∙ ap (λ (ps : List AwaitedChild). record { prefix = b.trace.prefix; fault = None; handed = ps }) c.requires.handed in
+    rw c.set.ensures (short-view b.family (merge_of c.args.parts.now c.args.heard.now) b.advanced c.in-Some.outcome c.end_of.result ended c.in-Some.is after refl trace refl refl)
 
 pub returns-clause-holds : goal.returns-clause-holds
 returns-clause-holds c =
     let b = c.args.parts.now.body in
-    let after = record b { trace = c.set.new.place; waiting = false } in
-    rw c.set-2.ensures (short-holds b.family c.args.merge c.requires c.in-Some.outcome c.end_of.result c.end_of.ensures c.in-Some.is after refl (c.set.ensures ∙ c.of.ensures) refl)
+    let after = record b { trace = c.take_fault.new.self; waiting = false } in
+    let ended = c.end_of.ensures ∙ ap (λ (f : Option Fault). end_of f c.args.heard.now.by_cut) c.take_fault.ensures.fault in
+    let trace = c.take_fault.ensures.rest ∙ ap (λ (ps : List AwaitedChild). record { prefix = b.trace.prefix; fault = None; handed = ps }) c.requires.handed in
+    rw c.set.ensures (short-holds b.family (merge_of c.args.parts.now c.args.heard.now) c.requires.ends c.in-Some.outcome c.end_of.result ended c.in-Some.is after refl trace refl)

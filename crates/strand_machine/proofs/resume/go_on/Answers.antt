@@ -1,84 +1,95 @@
-use Rattle.std.proofs.Common.{[], length, refl, sym, ap, ◌∙◌, subst}
+use Rattle.std.proofs.Common.{◌≡◌, [], false, length, refl, sym, ap, ◌∙◌, subst}
 use Rattle.strand_meaning.specs.Trace.{Trace}
-use Rattle.strand_machine.specs.Merge.{IsWhole}
+use Rattle.strand_machine.specs.Family.{FamilyView}
+use Rattle.strand_machine.specs.Merge.{EndsShort, IsShort, merge_of, trace_of}
 use Rattle.strand_machine.specs.Parts.{awaited}
 use Rattle.strand_machine.specs.Stops.{answer_tags}
 use Rattle.strand_machine.specs.Tasks.{IsSound, view_of}
 use Rattle.strand_machine.specs.declared.body.Body.{Body}
 use Rattle.strand_machine.proofs.NextStops.Advancing.{sound_holds}
 use Rattle.strand_machine.proofs.TakenAnswers.Answering.{length-answer-tags, length-tags}
-use Rattle.strand_machine.proofs.TakenAnswers.Cutting.{answers-of, ends-short, own-children, short-on, taken-from, takes-whole, went-short, went-whole}
+use Rattle.strand_machine.proofs.TakenAnswers.Cutting.{answers-of, ends-short, kept-body, own-children, short-on, taken-from, takes-whole, went-short, went-whole}
 use Rattle.strand_machine.proofs.Moves.Handed.{awaited_parts}
 use Rattle.strand_machine.proofs.TakenAnswers.Taking.{goes-on-sound, goes-on-view}
 use Rattle.strand_machine.proofs.resume.go_on.Goals as goal
 
-pub merge_all-requires : goal.merge_all-requires
-merge_all-requires c =
+pub merge_all-requires-clause-many : goal.merge_all-requires-clause-many
+merge_all-requires-clause-many c =
     let b = c.args.parts.now.body in
-    let p = c.parted-prefix.result in
-    let q = c.parted-prefix.ensures in
-    let view = q.is ∙ c.replace-taken.ensures.value in
+    let q = c.take_children-behind.ensures.parted in
     sym (length-answer-tags c.args.answers) ∙ ap length c.requires.tags ∙ length-tags b.family.plan (awaited b.trace.handed)
-    ∙ ap (λ (x : Trace). length (awaited x.handed)) (sym view) ∙ ap length (awaited_parts q.children p.2.items q.many) ∙ q.many
+    ∙ ap (λ (x : Trace). length (awaited x.handed)) (sym q.is) ∙ ap length (awaited_parts q.children c.take_children-behind.result.items q.many) ∙ q.many
 
-pub cut_short-requires : goal.cut_short-requires
-cut_short-requires c =
+pub merge_all-requires-clause-handed : goal.merge_all-requires-clause-handed
+merge_all-requires-clause-handed c = ap (λ (x : Trace). x.handed) c.take_children-behind.ensures.rest
+
+pub cut_short-requires-clause-ends : goal.cut_short-requires-clause-ends
+cut_short-requires-clause-ends c =
     let b = c.args.parts.now.body in
     let w = c.args.parts.now.work in
-    let p = c.parted-prefix.result in
-    let q = c.parted-prefix.ensures in
-    let view = q.is ∙ c.replace-taken.ensures.value in
-    let h = taken-from b w p.0 p.1 _ _ _ c.args.answers c.merge_all.new.merge c.replace-values.ensures.value c.replace-work.ensures.value c.in-Ok.ensures.takes in
-    ends-short b w p.0 p.1 q.children p.2.items c.args.answers c.merge_all.new.merge view
-    (own-children b p.0 p.1 q.children p.2.items (answer_tags c.args.answers) view q.many c.requires.tags) h c.answers_end.ensures c.requires.sound.task
-    (answers-of b.family.plan b.trace.handed c.args.answers h.said c.requires.tags) (sym h.cut ∙ c.if-merge.true)
+    let q = c.take_children-behind.ensures.parted in
+    let bs = c.take_children-behind.result.items in
+    let after = merge_of c.merge_all.new.parts c.merge_all.new.heard in
+    let parts = ap (λ (x : Trace). x.handed) q.is in
+    let h = taken-from b w _ _ c.args.answers after c.take_children-behind.ensures.rest c.in_ok-left.ensures.takes in
+    subst (λ (f : FamilyView). EndsShort f after) (sym (ap (λ (x : Body). x.family) c.in_ok-left.ensures.rest.body))
+    (ends-short b w q.children bs c.args.answers after parts (own-children b q.children bs (answer_tags c.args.answers) parts q.many c.requires.tags) h c.answers_end.ensures c.requires.sound.task
+    (answers-of b.family.plan b.trace.handed c.args.answers h.said c.requires.tags) (sym h.cut ∙ c.if-heard.true))
 
-pub returns-then-merge-clause-went : goal.returns-then-merge-clause-went
-returns-then-merge-clause-went c =
+pub cut_short-requires-clause-handed : goal.cut_short-requires-clause-handed
+cut_short-requires-clause-handed c = c.in_ok-left.ensures.rest.handed
+
+pub returns-then-heard-clause-went : goal.returns-then-heard-clause-went
+returns-then-heard-clause-went c =
     let b = c.args.parts.now.body in
     let w = c.args.parts.now.work in
-    let p = c.parted-prefix.result in
-    let q = c.parted-prefix.ensures in
+    let q = c.take_children-behind.ensures.parted in
+    let bs = c.take_children-behind.result.items in
+    let after = merge_of c.merge_all.new.parts c.merge_all.new.heard in
     let next = view_of c.cut_short.new.parts.body c.cut_short.new.parts.work in
-    let view = q.is ∙ c.replace-taken.ensures.value in
-    let h = taken-from b w p.0 p.1 _ _ _ c.args.answers c.merge_all.new.merge c.replace-values.ensures.value c.replace-work.ensures.value c.in-Ok.ensures.takes in
-    went-short c.args.answers (view_of b w) next (sym h.cut ∙ c.if-merge.true)
-    (short-on b w p.0 p.1 q.children p.2.items c.args.answers c.merge_all.new.merge view
-    (own-children b p.0 p.1 q.children p.2.items (answer_tags c.args.answers) view q.many c.requires.tags) h next c.cut_short.ensures.short)
+    let parts = ap (λ (x : Trace). x.handed) q.is in
+    let h = taken-from b w _ _ c.args.answers after c.take_children-behind.ensures.rest c.in_ok-left.ensures.takes in
+    went-short c.args.answers (view_of b w) next (sym h.cut ∙ c.if-heard.true)
+    (short-on b w q.children bs c.args.answers after parts (own-children b q.children bs (answer_tags c.args.answers) parts q.many c.requires.tags) h next
+    (subst (λ (x : Body). IsShort x.family after x.advanced next) c.in_ok-left.ensures.rest.body c.cut_short.ensures.short))
 
-pub returns-then-merge-clause-answers : goal.returns-then-merge-clause-answers
-returns-then-merge-clause-answers c = let b = c.args.parts.now.body in answers-of b.family.plan b.trace.handed c.args.answers c.in-Ok.ensures.takes.said c.requires.tags
+pub returns-then-heard-clause-answers : goal.returns-then-heard-clause-answers
+returns-then-heard-clause-answers c = let b = c.args.parts.now.body in answers-of b.family.plan b.trace.handed c.args.answers c.in_ok-left.ensures.takes.said c.requires.tags
 
-pub returns-in-Ok-goes_on-clause-went : goal.returns-in-Ok-goes_on-clause-went
-returns-in-Ok-goes_on-clause-went c =
+pub returns-clause-went : goal.returns-clause-went
+returns-clause-went c =
     let b = c.args.parts.now.body in
     let w = c.args.parts.now.work in
-    let p = c.parted-prefix.result in
-    let q = c.parted-prefix.ensures in
-    let view = q.is ∙ c.replace-taken.ensures.value in
-    let h = taken-from b w p.0 p.1 _ _ _ c.args.answers c.merge_all.new.merge c.replace-values.ensures.value c.replace-work.ensures.value c.in-Ok.ensures.takes in
-    let whole = sym h.cut ∙ c.if-merge.false in
-    let takes = takes-whole b w p.0 p.1 q.children p.2.items c.args.answers c.merge_all.new.merge c.answers_are_evaluations.ensures h whole in
+    let q = c.take_children-behind.ensures.parted in
+    let bs = c.take_children-behind.result.items in
+    let kept = c.merge_all.new.parts in
+    let after = merge_of kept c.merge_all.new.heard in
     let next = c.goes_on.new.parts in
-    let after : IsWhole c.merge_all.new.merge (record b { trace = c.replace-taken.new.dest; values = c.replace-values.new.dest }) next = c.in-Ok-goes_on.ensures in
-    went-whole c.args.answers (view_of b w) _ whole (ap (λ (x : Body). view_of x next.work) after.body
-    ∙ goes-on-view b w p.0 p.1 q.children p.2.items (answer_tags c.args.answers) c.merge_all.new.merge [] [] next.work
-    view q.many c.requires.tags refl takes after.work c.requires.sound)
+    let parts = ap (λ (x : Trace). x.handed) q.is in
+    let h = taken-from b w _ _ c.args.answers after c.take_children-behind.ensures.rest c.in_ok-left.ensures.takes in
+    let whole = sym h.cut ∙ c.if-heard.false in
+    let takes = takes-whole b w q.children bs c.args.answers after c.answers_are_evaluations.ensures h whole in
+    let body : next.body ≡ record b { trace = trace_of after; values = after.values; waiting = false } =
+    c.in_ok-goes_on.ensures.body ∙ ap (λ (x : Body). record x { waiting = false }) (kept-body _ kept c.in_ok-left.ensures.rest) in
+    went-whole c.args.answers (view_of b w) _ whole
+    (ap (λ (x : Body). view_of x next.work) body ∙ goes-on-view b w q.children bs (answer_tags c.args.answers) after next.work parts q.many c.requires.tags takes c.in_ok-goes_on.ensures.work c.requires.sound)
 
-pub returns-in-Ok-goes_on-clause-answers : goal.returns-in-Ok-goes_on-clause-answers
-returns-in-Ok-goes_on-clause-answers c = let b = c.args.parts.now.body in answers-of b.family.plan b.trace.handed c.args.answers c.in-Ok.ensures.takes.said c.requires.tags
+pub returns-clause-answers : goal.returns-clause-answers
+returns-clause-answers c = let b = c.args.parts.now.body in answers-of b.family.plan b.trace.handed c.args.answers c.in_ok-left.ensures.takes.said c.requires.tags
 
-pub returns-in-Ok-goes_on-clause-holds : goal.returns-in-Ok-goes_on-clause-holds
-returns-in-Ok-goes_on-clause-holds c =
+pub returns-clause-holds : goal.returns-clause-holds
+returns-clause-holds c =
     let b = c.args.parts.now.body in
     let w = c.args.parts.now.work in
-    let p = c.parted-prefix.result in
-    let q = c.parted-prefix.ensures in
-    let view = q.is ∙ c.replace-taken.ensures.value in
-    let h = taken-from b w p.0 p.1 _ _ _ c.args.answers c.merge_all.new.merge c.replace-values.ensures.value c.replace-work.ensures.value c.in-Ok.ensures.takes in
-    let takes = takes-whole b w p.0 p.1 q.children p.2.items c.args.answers c.merge_all.new.merge c.answers_are_evaluations.ensures h (sym h.cut ∙ c.if-merge.false) in
+    let q = c.take_children-behind.ensures.parted in
+    let bs = c.take_children-behind.result.items in
+    let kept = c.merge_all.new.parts in
+    let after = merge_of kept c.merge_all.new.heard in
     let next = c.goes_on.new.parts in
-    let after : IsWhole c.merge_all.new.merge (record b { trace = c.replace-taken.new.dest; values = c.replace-values.new.dest }) next = c.in-Ok-goes_on.ensures in
-    sound_holds _ next.work (subst (λ (x : Body). IsSound x next.work) (sym after.body)
-    (goes-on-sound b w p.0 p.1 q.children p.2.items (answer_tags c.args.answers) c.merge_all.new.merge [] [] next.work
-    view q.many c.requires.tags refl takes after.work c.answers_keep_tasks.ensures c.requires.sound))
+    let parts = ap (λ (x : Trace). x.handed) q.is in
+    let h = taken-from b w _ _ c.args.answers after c.take_children-behind.ensures.rest c.in_ok-left.ensures.takes in
+    let takes = takes-whole b w q.children bs c.args.answers after c.answers_are_evaluations.ensures h (sym h.cut ∙ c.if-heard.false) in
+    let body : next.body ≡ record b { trace = trace_of after; values = after.values; waiting = false } =
+    c.in_ok-goes_on.ensures.body ∙ ap (λ (x : Body). record x { waiting = false }) (kept-body _ kept c.in_ok-left.ensures.rest) in
+    sound_holds _ next.work (subst (λ (x : Body). IsSound x next.work) (sym body)
+    (goes-on-sound b w q.children bs (answer_tags c.args.answers) after next.work parts q.many c.requires.tags takes c.in_ok-goes_on.ensures.work c.answers_keep_tasks.ensures c.requires.sound))

@@ -1,13 +1,13 @@
-use Rattle.std.proofs.Common.{◌≡◌, ◌++◌, ◌∷◌, [], List, length, reverse, sym, ap, ◌∙◌, subst, arith, length-append}
+use Rattle.std.proofs.Common.{◌≡◌, ◌++◌, ◌∷◌, [], List, length, reverse, refl, sym, ap, ◌∙◌, subst, arith, length-append}
 use Rattle.std.proofs.lemmas.List.{reverse-append, reverse-reverse, length-reverse, nil_from_length}
 use Rattle.std.specs.Vec.Iter.{into_iter_items}
 use Rattle.serial_meaning.specs.Answer.{AnswerView}
 use Rattle.strand_machine.specs.Family.{origins}
-use Rattle.strand_machine.specs.Merge.{TakesAnswers}
-use Rattle.strand_machine.specs.Parts.{parts_of}
+use Rattle.strand_machine.specs.Merge.{TakesAnswers, merge_of}
+use Rattle.strand_machine.specs.Parts.{awaited_children}
 use Rattle.strand_machine.specs.Stops.{answer_tags}
 use Rattle.strand_machine.specs.declared.trace.Behind.{Behind}
-use Rattle.strand_machine.proofs.TakenAnswers.Cutting.{answers-next, answers-no-more}
+use Rattle.strand_machine.proofs.TakenAnswers.Cutting.{answers-next, answers-no-more, keeps-then}
 use Rattle.strand_machine.proofs.resume.merge_all.Goals as goal
 
 pub loop-part-init : goal.loop-part-init
@@ -15,12 +15,17 @@ loop-part-init c =
     let gives = c.into_iter-part-iterator.ensures.into_iter_gives in
     let parts : into_iter_items c.into_iter-part-iterator.result ≡ c.args.behind.items = gives.0 in
     let back : reverse c.reverse.new.self.items ≡ c.args.answers = ap reverse c.reverse.ensures.items ∙ reverse-reverse _ ∙ c.answers.view_is in
+    let before = merge_of c.args.parts.now c.args.heard.now in
     record {
       parts = gives.1 ∙ c.args.behind.ok.0 ∙ ap length (sym parts);
-      same = sym (length-reverse c.reverse.new.self.items) ∙ ap length back ∙ c.requires ∙ ap length (sym parts);
-      takes = λ after h. subst (λ (xs : List AnswerView). TakesAnswers (parts_of (origins (answer_tags xs)) c.args.behind.items) xs c.args.merge.now after) back
-          (subst (λ (bs : List Behind). TakesAnswers (parts_of (origins (answer_tags (reverse c.reverse.new.self.items))) bs) (reverse c.reverse.new.self.items) c.args.merge.now after) parts h);
+      same = sym (length-reverse c.reverse.new.self.items) ∙ ap length back ∙ c.requires.many ∙ ap length (sym parts);
+      takes = λ after h. subst (λ (xs : List AnswerView). TakesAnswers (awaited_children (origins (answer_tags xs)) c.args.behind.items) xs before after) back
+          (subst (λ (bs : List Behind). TakesAnswers (awaited_children (origins (answer_tags (reverse c.reverse.new.self.items))) bs) (reverse c.reverse.new.self.items) before after) parts h);
+      rest = record { body = refl; handed = c.requires.handed };
     }
+
+pub merge_answer-requires : goal.merge_answer-requires
+merge_answer-requires c = c.loop-part.invariant.rest.handed
 
 pub unreachable-requires : goal.unreachable-requires
 unreachable-requires c =
@@ -39,7 +44,8 @@ loop-part-preserved c =
     record {
       parts = omega (arith, was.parts, parts.1, shorter);
       same = omega (arith, was.same, ap length popped, length-append c.pop.new.self.items (c.in-Some-pop.answer ∷ []), shorter);
-      takes = λ after h. was.takes after (answers-next _ _ _ _ c.in-Some-pop.answer c.in-Some.part c.loop-part.merge c.merge_answer.new.self after front parts.0 c.in_ok-merge_answer.ensures h);
+      takes = λ after h. was.takes after (answers-next _ _ _ _ c.in-Some-pop.answer c.in-Some.part (merge_of c.loop-part.parts c.loop-part.heard) (merge_of c.merge_answer.new.parts c.merge_answer.new.heard) after front parts.0 c.in_ok-merge_answer.ensures.takes h);
+      rest = keeps-then _ _ _ was.rest c.in_ok-merge_answer.ensures.rest;
     }
 
 pub returns-clause-takes : goal.returns-clause-takes
@@ -47,7 +53,8 @@ returns-clause-takes c =
     let was = c.loop-part.invariant in
     let none = c.in-None.ensures.steps in
     let left : length (into_iter_items c.loop-part.part-iterator) ≡ 0 = sym was.parts ∙ none.0 in
-    was.takes c.loop-part.merge (answers-no-more _ _ c.loop-part.merge (length-reverse c.loop-part.left.items ∙ was.same ∙ left) left)
+    let now = merge_of c.loop-part.parts c.loop-part.heard in
+    was.takes now (answers-no-more _ _ now (length-reverse c.loop-part.left.items ∙ was.same ∙ left) left)
 
 pub returns-clause-none : goal.returns-clause-none
 returns-clause-none c =

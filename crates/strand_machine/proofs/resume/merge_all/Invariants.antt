@@ -1,10 +1,9 @@
 use Rattle.std.proofs.Common.{◌≡◌, length, reverse}
 use Rattle.std.specs.Vec.Iter.{into_iter_items, into_iter_len}
 use Rattle.strand_machine.specs.Family.{origins}
-use Rattle.strand_machine.specs.Merge.{TakesAnswers}
-use Rattle.strand_machine.specs.Parts.{parts_of}
+use Rattle.strand_machine.specs.Merge.{KeepsRest, Merge, TakesAnswers, merge_of}
+use Rattle.strand_machine.specs.Parts.{awaited_children}
 use Rattle.strand_machine.specs.Stops.{answer_tags}
-use Rattle.strand_machine.specs.declared.merge.Merge.{Merge}
 use Rattle.strand_machine.proofs.resume.merge_all.Given as goal
 
 -- whoever takes the answers that are left, the last one first, has taken all
@@ -15,5 +14,7 @@ invariant-loop-part l =
     record {
       parts : into_iter_len l.part-iterator ≡ length (into_iter_items l.part-iterator);
       same : length l.left.items ≡ length (into_iter_items l.part-iterator);
-      takes : (after : Merge) → TakesAnswers (parts_of (origins (answer_tags rest)) (into_iter_items l.part-iterator)) rest l.merge after → TakesAnswers (parts_of (origins all) l.fn.behind.items) l.fn.answers l.initial.merge after;
+      takes : (after : Merge) → TakesAnswers (awaited_children (origins (answer_tags rest)) (into_iter_items l.part-iterator)) rest (merge_of l.parts l.heard) after →
+          TakesAnswers (awaited_children (origins all) l.fn.behind.items) l.fn.answers (merge_of l.initial.parts l.initial.heard) after;
+      rest : KeepsRest l.initial.parts l.parts;
     }

@@ -1,10 +1,12 @@
-use Rattle.std.proofs.Common.{◌≡◌, ◌∙◌, ap, refl, sym}
+use Rattle.std.proofs.Common.{◌≡◌, ◌∙◌, IfOk, ap, refl, subst, sym}
 use Rattle.strand_meaning.specs.Task.{stops_at, child_in}
 use Rattle.strand_moves.specs.Moves.{effects_of}
+use Rattle.strand_moves.specs.declared.effects.Effects.{Effects}
 use Rattle.strand_moves.specs.declared.effects.Effects.TheVariants as shown
 use Rattle.strand_moves.specs.declared.effects.LoopedChild.{LoopedChild}
 use Rattle.strand_moves.specs.declared.effects.SpawnedChild.{SpawnedChild}
-use Rattle.strand_machine.specs.Effects.{shown_task}
+use Rattle.strand_machine.specs.Effects.{IsSoundShown, shown_task}
+use Rattle.strand_machine.specs.Made.{made}
 use Rattle.strand_machine.specs.Stops.{KeepsStep, step_of}
 use Rattle.strand_machine.specs.Tasks.{view_of, fresh_with, with_child}
 use Rattle.strand_machine.specs.declared.destination.Destination.TheVariants as place
@@ -14,7 +16,7 @@ use Rattle.strand_machine.specs.declared.stop.Stop.TheVariants as stop
 use Rattle.strand_machine.specs.declared.work.InstanceState.TheVariants as stage
 use Rattle.strand_machine.specs.declared.work.Work.TheVariants as work
 use Rattle.strand_machine.proofs.Moves.Making.{made-ok}
-use Rattle.strand_machine.proofs.Moves.Moving.{quiet-sound, quiet-step, emitted-sound, emitted-step, synced-sound, synced-step, spawned-known, spawned-trail, spawned-handed, spawned-sound, spawned-step, looped-known, looped-trail, looped-handed, looped-sound, looped-step, passes-keep, spawns-keep, with_trace}
+use Rattle.strand_machine.proofs.Moves.Moving.{quiet-sound, quiet-step, emitted-sound, emitted-step, synced-sound, synced-step, looped-known, looped-trail, looped-handed, looped-sound, looped-step, passes-keep, spawns-keep, with_trace}
 use Rattle.strand_machine.proofs.run.show.Goals as goal
 
 -- nothing, or where a scope begins or has ended
@@ -60,80 +62,53 @@ returns-in-Synced-clause-keeps c =
 
 -- a child
 
-pub spawn-requires-clause-known : goal.spawn-requires-clause-known
-spawn-requires-clause-known c =
-    spawned-known c.args.parts.now.body c.args.instance c.args.shown c.in-Spawned.event c.unboxed-child.result (c.in-Spawned.is ∙ ap (λ (o : SpawnedChild). shown.Spawned c.in-Spawned.event o) (sym c.unboxed-child.ensures)) c.requires
-
-pub spawn-requires-clause-trail : goal.spawn-requires-clause-trail
-spawn-requires-clause-trail c =
-    spawned-trail c.args.parts.now.body c.args.instance c.args.shown c.in-Spawned.event c.unboxed-child.result (c.in-Spawned.is ∙ ap (λ (o : SpawnedChild). shown.Spawned c.in-Spawned.event o) (sym c.unboxed-child.ensures)) c.requires
-
-pub spawn-requires-clause-handed : goal.spawn-requires-clause-handed
-spawn-requires-clause-handed c =
-    spawned-handed c.args.parts.now.body c.args.instance c.args.shown c.in-Spawned.event c.unboxed-child.result (c.in-Spawned.is ∙ ap (λ (o : SpawnedChild). shown.Spawned c.in-Spawned.event o) (sym c.unboxed-child.ensures)) c.requires
-
-pub spawn-requires-clause-sound : goal.spawn-requires-clause-sound
-spawn-requires-clause-sound c =
-    spawned-sound c.args.parts.now.body c.args.instance c.args.shown c.in-Spawned.event c.unboxed-child.result c.emit-in-Spawned.new.self (c.in-Spawned.is ∙ ap (λ (o : SpawnedChild). shown.Spawned c.in-Spawned.event o) (sym c.unboxed-child.ensures)) c.in_ok-emit-in-Spawned.ensures c.requires
+pub show_spawn-requires : goal.show_spawn-requires
+show_spawn-requires c =
+    let is = c.in-Spawned.is ∙ ap (λ (o : SpawnedChild). shown.Spawned c.in-Spawned.event o) (sym c.unboxed-spawned.ensures) in subst (IsSoundShown c.args.parts.now.body c.args.instance) is c.requires
 
 pub returns-in-Spawned-clause-step : goal.returns-in-Spawned-clause-step
 returns-in-Spawned-clause-step c =
     let b = c.args.parts.now.body in
     let i = c.args.instance in
-    let o = c.unboxed-child.result in
-    let p = c.emit-in-Spawned.new.self in
-    made-ok c.spawn.new.parts c.spawn.result
-    (λ (r : MoveOrStop). r ≡ step.Stops (stop.Spawn (fresh_with b.family.knows b.family.plan o.child.origin) (view_of (with_child (with_trace b p) o.child.origin (place.Spawned o.height o.target)) (work.Runs (stage.Running i)))))
-    (λ (r : MoveOrStop). step_of r ≡ stops_at (child_in (effects_of c.args.shown)) (shown_task b i c.args.shown))
-    (λ r h. spawned-step b i c.args.shown c.in-Spawned.event o p r (c.in-Spawned.is ∙ ap (λ (o : SpawnedChild). shown.Spawned c.in-Spawned.event o) (sym c.unboxed-child.ensures)) c.in_ok-emit-in-Spawned.ensures h) c.spawn.ensures.made
-
-pub returns-in-Spawned-clause-keeps : goal.returns-in-Spawned-clause-keeps
-returns-in-Spawned-clause-keeps c =
-    let b = c.args.parts.now.body in
-    let w = work.Runs (stage.Running c.args.instance) in
-    let o = c.unboxed-child.result in
-    let p = c.emit-in-Spawned.new.self in
-    let at = place.Spawned o.height o.target in
-    made-ok c.spawn.new.parts c.spawn.result
-    (λ (r : MoveOrStop). r ≡ step.Stops (stop.Spawn (fresh_with b.family.knows b.family.plan o.child.origin) (view_of (with_child (with_trace b p) o.child.origin at) w)))
-    (KeepsStep (view_of b w)) (λ r h. spawns-keep b p w w o.child.origin at r refl h) c.spawn.ensures.made
+    let is = c.in-Spawned.is ∙ ap (λ (o : SpawnedChild). shown.Spawned c.in-Spawned.event o) (sym c.unboxed-spawned.ensures) in
+    subst (λ (s : Effects). IfOk c.show_spawn.result (λ passed. step_of (made c.show_spawn.new.parts passed) ≡ stops_at (child_in (effects_of s)) (shown_task b i s))) (sym is) c.show_spawn.ensures.step
 
 -- a loop
 
-pub spawn-requires-in-Looped-clause-known : goal.spawn-requires-in-Looped-clause-known
-spawn-requires-in-Looped-clause-known c =
-    looped-known c.args.parts.now.body c.args.instance c.args.shown c.in-Looped.event c.unboxed-child-in-Looped.result (c.in-Looped.is ∙ ap (λ (o : LoopedChild). shown.Looped c.in-Looped.event o) (sym c.unboxed-child-in-Looped.ensures)) c.requires
+pub spawn-requires-clause-known : goal.spawn-requires-clause-known
+spawn-requires-clause-known c =
+    looped-known c.args.parts.now.body c.args.instance c.args.shown c.in-Looped.event c.unboxed-child.result (c.in-Looped.is ∙ ap (λ (o : LoopedChild). shown.Looped c.in-Looped.event o) (sym c.unboxed-child.ensures)) c.requires
 
-pub spawn-requires-in-Looped-clause-trail : goal.spawn-requires-in-Looped-clause-trail
-spawn-requires-in-Looped-clause-trail c =
-    looped-trail c.args.parts.now.body c.args.instance c.args.shown c.in-Looped.event c.unboxed-child-in-Looped.result (c.in-Looped.is ∙ ap (λ (o : LoopedChild). shown.Looped c.in-Looped.event o) (sym c.unboxed-child-in-Looped.ensures)) c.requires
+pub spawn-requires-clause-trail : goal.spawn-requires-clause-trail
+spawn-requires-clause-trail c =
+    looped-trail c.args.parts.now.body c.args.instance c.args.shown c.in-Looped.event c.unboxed-child.result (c.in-Looped.is ∙ ap (λ (o : LoopedChild). shown.Looped c.in-Looped.event o) (sym c.unboxed-child.ensures)) c.requires
 
-pub spawn-requires-in-Looped-clause-handed : goal.spawn-requires-in-Looped-clause-handed
-spawn-requires-in-Looped-clause-handed c =
-    looped-handed c.args.parts.now.body c.args.instance c.args.shown c.in-Looped.event c.unboxed-child-in-Looped.result (c.in-Looped.is ∙ ap (λ (o : LoopedChild). shown.Looped c.in-Looped.event o) (sym c.unboxed-child-in-Looped.ensures)) c.requires
+pub spawn-requires-clause-handed : goal.spawn-requires-clause-handed
+spawn-requires-clause-handed c =
+    looped-handed c.args.parts.now.body c.args.instance c.args.shown c.in-Looped.event c.unboxed-child.result (c.in-Looped.is ∙ ap (λ (o : LoopedChild). shown.Looped c.in-Looped.event o) (sym c.unboxed-child.ensures)) c.requires
 
-pub spawn-requires-in-Looped-clause-sound : goal.spawn-requires-in-Looped-clause-sound
-spawn-requires-in-Looped-clause-sound c =
-    looped-sound c.args.parts.now.body c.args.instance c.args.shown c.in-Looped.event c.unboxed-child-in-Looped.result c.emit-in-Looped.new.self (c.in-Looped.is ∙ ap (λ (o : LoopedChild). shown.Looped c.in-Looped.event o) (sym c.unboxed-child-in-Looped.ensures)) c.in_ok-emit-in-Looped.ensures c.requires
+pub spawn-requires-clause-sound : goal.spawn-requires-clause-sound
+spawn-requires-clause-sound c =
+    looped-sound c.args.parts.now.body c.args.instance c.args.shown c.in-Looped.event c.unboxed-child.result c.emit-in-Looped.new.self (c.in-Looped.is ∙ ap (λ (o : LoopedChild). shown.Looped c.in-Looped.event o) (sym c.unboxed-child.ensures)) c.in_ok-emit-in-Looped.ensures c.requires
 
 pub returns-clause-step : goal.returns-clause-step
 returns-clause-step c =
     let b = c.args.parts.now.body in
     let i = c.args.instance in
-    let o = c.unboxed-child-in-Looped.result in
+    let o = c.unboxed-child.result in
     let p = c.emit-in-Looped.new.self in
-    made-ok c.spawn-in-Looped.new.parts c.spawn-in-Looped.result
+    made-ok c.spawn.new.parts c.spawn.result
     (λ (r : MoveOrStop). r ≡ step.Stops (stop.Spawn (fresh_with b.family.knows b.family.plan o.child.origin) (view_of (with_child (with_trace b p) o.child.origin (place.Looped o.target)) (work.Runs (stage.AtLoop i)))))
     (λ (r : MoveOrStop). step_of r ≡ stops_at (child_in (effects_of c.args.shown)) (shown_task b i c.args.shown))
-    (λ r h. looped-step b i c.args.shown c.in-Looped.event o p r (c.in-Looped.is ∙ ap (λ (o : LoopedChild). shown.Looped c.in-Looped.event o) (sym c.unboxed-child-in-Looped.ensures)) c.in_ok-emit-in-Looped.ensures h) c.spawn-in-Looped.ensures.made
+    (λ r h. looped-step b i c.args.shown c.in-Looped.event o p r (c.in-Looped.is ∙ ap (λ (o : LoopedChild). shown.Looped c.in-Looped.event o) (sym c.unboxed-child.ensures)) c.in_ok-emit-in-Looped.ensures h) c.spawn.ensures.made
 
 pub returns-clause-keeps : goal.returns-clause-keeps
 returns-clause-keeps c =
     let b = c.args.parts.now.body in
     let i = c.args.instance in
-    let o = c.unboxed-child-in-Looped.result in
+    let o = c.unboxed-child.result in
     let p = c.emit-in-Looped.new.self in
     let at = place.Looped o.target in
-    made-ok c.spawn-in-Looped.new.parts c.spawn-in-Looped.result
+    made-ok c.spawn.new.parts c.spawn.result
     (λ (r : MoveOrStop). r ≡ step.Stops (stop.Spawn (fresh_with b.family.knows b.family.plan o.child.origin) (view_of (with_child (with_trace b p) o.child.origin at) (work.Runs (stage.AtLoop i)))))
-    (KeepsStep (view_of b (work.Runs (stage.Running i)))) (λ r h. spawns-keep b p (work.Runs (stage.Running i)) (work.Runs (stage.AtLoop i)) o.child.origin at r refl h) c.spawn-in-Looped.ensures.made
+    (KeepsStep (view_of b (work.Runs (stage.Running i)))) (λ r h. spawns-keep b p (work.Runs (stage.Running i)) (work.Runs (stage.AtLoop i)) o.child.origin at r refl h) c.spawn.ensures.made

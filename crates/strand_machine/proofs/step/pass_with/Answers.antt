@@ -28,4 +28,4 @@ returns-in-Over-clause-step c =
     subst (λ (x : Work). IfOk c.end_loop.result (λ passed. GoesOn (view_of c.args.parts.now.body x) (made c.end_loop.new.parts passed))) (sym c.in-Over.is) c.end_loop.ensures.step
 
 pub unreachable-requires : goal.unreachable-requires
-unreachable-requires c = (sound-at c.args.parts.now.body c.args.work (work.Cut _) c.in-Cut.is c.requires).works
+unreachable-requires c = (sound-at c.args.parts.now.body c.args.work (work.Ends _) c.in-Ends.is c.requires).works

@@ -1,6 +1,6 @@
 use Rattle.std.proofs.Common.{Some, length, ◌∙◌, ap, rules}
 use Rattle.ped_words.specs.Given.{IsPlacedList, values_in}
-use Rattle.ped_words.specs.declared.table.Name.TheVariants as name
+use Rattle.ped_words.specs.declared.table.OptionName.TheVariants as name
 use Rattle.ped_words.proofs.GammaLemmas.{gamma_err, gamma_ok, seed_long}
 use Rattle.ped_words.proofs.given.Given.coefficients.Goals as goal
 

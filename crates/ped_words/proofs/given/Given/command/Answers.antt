@@ -2,15 +2,15 @@ use Rattle.std.proofs.Common.{◌≡◌, ℕ, None, Some, Ok, true, sym, ◌∙�
 use Rattle.std.specs.Option.{option_or}
 use Rattle.ped_words.specs.Making.{depth_of, gamma_fits, made, made_of, settings_of, unfit, workers_of}
 use Rattle.ped_words.specs.Given.{values_in}
-use Rattle.ped_words.specs.Values.{Values}
+use Rattle.ped_words.specs.Values.{OptionValues}
 use Rattle.ped_words.specs.declared.command.Command.TheVariants as command
 use Rattle.ped_words.specs.declared.command.Settings.{Settings}
-use Rattle.ped_words.specs.declared.table.Name.TheVariants as name
+use Rattle.ped_words.specs.declared.table.OptionName.TheVariants as name
 use Rattle.ped_words.specs.declared.table.Verb.{Verb}
 use Rattle.ped_words.specs.declared.table.Verb.TheVariants as verb
 use Rattle.ped_words.proofs.given.Given.command.Goals as goal
 
-module _ (v : Verb) (values : Values) (words : ℕ) (s : Settings) (fits : gamma_fits values (depth_of values) ≡ true) (same : s ≡ settings_of values) where
+module _ (v : Verb) (values : OptionValues) (words : ℕ) (s : Settings) (fits : gamma_fits values (depth_of values) ≡ true) (same : s ≡ settings_of values) where
   run_made : (w : ℕ) → v ≡ verb.Run → w ≡ workers_of values → made v values words ≡ Ok (command.Run s w)
   run_made w is workers =
       subst (λ (x : Verb). made x values words ≡ Ok (command.Run s w)) (sym is)

@@ -1,22 +1,19 @@
-use Rattle.std.proofs.Common.{sym, ap, ◌∙◌, subst}
-use Rattle.strand_machine.specs.Made.{StopsSo}
-use Rattle.strand_machine.specs.Stops.{IsStop}
-use Rattle.strand_machine.specs.Tasks.{IsSound, TaskView, view_of}
-use Rattle.strand_machine.specs.declared.parts.Parts.{Parts}
-use Rattle.strand_machine.specs.declared.stop.MoveOrStop.{MoveOrStop}
-use Rattle.strand_machine.proofs.NextStops.Advancing.{advances-uncut, goes-on-uncut, is-sound}
+use Rattle.std.proofs.Common.{sym, ◌∙◌}
+use Rattle.strand_machine.proofs.NextStops.Advancing.{goes-on-uncut}
+use Rattle.strand_machine.proofs.NextStops.Pausing.{ended-short, ends-so, spawns-so, waits-so}
 use Rattle.strand_machine.proofs.task.Task.advance.Goals as goal
 
-pub run_on-requires : goal.run_on-requires
-run_on-requires c =
-    let p = c.self.inside.parts.value in
-    let goes = goes-on-uncut _ _ c.is_cut_short.ensures c.if-is_cut_short.false in
-    subst (λ (q : Parts). IsSound q.body q.work) (sym c.deref_mut.ensures.value) (is-sound p.body p.work c.args.self c.self.view_is goes c.self.invariant)
+pub run-requires : goal.run-requires
+run-requires c = goes-on-uncut _ _ c.is_cut_short.ensures c.if-is_cut_short.false
 
-pub returns : goal.returns
-returns c =
-    let goes = goes-on-uncut _ _ c.is_cut_short.ensures c.if-is_cut_short.false in
-    let same = ap (λ (q : Parts). view_of q.body q.work) c.deref_mut.ensures.value ∙ c.self.view_is in
-    let p = c.deref_mut.result.now in
-    advances-uncut c.args.self c.stopped.result goes
-    (subst (λ (t : TaskView). IsStop t c.stopped.result) same (subst (λ (s : MoveOrStop). StopsSo (view_of p.body p.work) s) (sym c.stopped.ensures) c.in_ok-passed.ensures.stop))
+pub done-requires-in-Ended : goal.done-requires-in-Ended
+done-requires-in-Ended c = ended-short c.args.self _ c.in_ok-paused.ensures c.in-Ended.rest c.in-Ended.is
+
+pub returns-in-Spawn : goal.returns-in-Spawn
+returns-in-Spawn c = spawns-so c.args.self _ c.in_ok-paused.ensures c.in-Spawn.child c.in-Spawn.rest (goes-on-uncut _ _ c.is_cut_short.ensures c.if-is_cut_short.false) c.in-Spawn.is
+
+pub returns-in-Wait : goal.returns-in-Wait
+returns-in-Wait c = waits-so c.args.self _ c.in_ok-paused.ensures c.in-Wait.rest (goes-on-uncut _ _ c.is_cut_short.ensures c.if-is_cut_short.false) c.in-Wait.is
+
+pub returns-in-Ended : goal.returns-in-Ended
+returns-in-Ended c = ends-so c.args.self _ c.in_ok-paused.ensures c.in-Ended.rest _ (goes-on-uncut _ _ c.is_cut_short.ensures c.if-is_cut_short.false) c.in-Ended.is c.done-in-Ended.ensures

@@ -3,7 +3,7 @@ use Rattle.std.proofs.Common.{◌≡◌, refl, sym, ap, ◌∙◌, subst}
 use Rattle.serial_meaning.specs.Answer.{IsAnswer}
 use Rattle.serial_meaning.specs.declared.answer.Outcome.TheVariants as outcome
 use Rattle.strand_machine.specs.Family.{FamilyView, tag, tags}
-use Rattle.strand_machine.specs.Merge.{IsAnswered}
+use Rattle.strand_machine.specs.Merge.{HasTakenAnswers}
 use Rattle.strand_machine.specs.Parts.{awaited}
 use Rattle.strand_machine.specs.Stops.{answer_tags}
 use Rattle.strand_machine.specs.Tasks.{TaskView, view_of}
@@ -16,7 +16,7 @@ use Rattle.strand_machine.proofs.task.Task.end_by.Goals as goal
 pub go_on-requires-clause-sound : goal.go_on-requires-clause-sound
 go_on-requires-clause-sound c =
     let p = c.self.inside.parts.value in
-    subst (λ (q : Parts). IsAnswered q.body q.work) (sym c.deref_mut.ensures.value)
+    subst (λ (q : Parts). HasTakenAnswers q.body q.work) (sym c.deref_mut.ensures.value)
     (answered-sound p.body p.work (is-sound p.body p.work c.args.self c.self.view_is c.requires.goes_on c.self.invariant))
 
 pub go_on-requires-clause-tags : goal.go_on-requires-clause-tags

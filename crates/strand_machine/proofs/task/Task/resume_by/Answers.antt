@@ -1,6 +1,6 @@
 use Rattle.std.proofs.Common.{◌≡◌, sym, ap, ◌∙◌, subst}
 use Rattle.strand_machine.specs.Family.{tags}
-use Rattle.strand_machine.specs.Merge.{IsAnswered}
+use Rattle.strand_machine.specs.Merge.{HasTakenAnswers}
 use Rattle.strand_machine.specs.Parts.{awaited}
 use Rattle.strand_machine.specs.Stops.{WentOn, answer_tags}
 use Rattle.strand_machine.specs.Tasks.{TaskView, view_of}
@@ -12,7 +12,7 @@ use Rattle.strand_machine.proofs.task.Task.resume_by.Goals as goal
 pub go_on-requires-clause-sound : goal.go_on-requires-clause-sound
 go_on-requires-clause-sound c =
     let p = c.self.inside.parts.value in
-    subst (λ (q : Parts). IsAnswered q.body q.work) (sym c.deref_mut.ensures.value)
+    subst (λ (q : Parts). HasTakenAnswers q.body q.work) (sym c.deref_mut.ensures.value)
     (answered-sound p.body p.work (waits-sound p.body p.work c.args.self c.self.view_is c.requires.waits c.self.invariant))
 
 pub go_on-requires-clause-tags : goal.go_on-requires-clause-tags

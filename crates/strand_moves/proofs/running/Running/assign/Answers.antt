@@ -1,5 +1,6 @@
 use Rattle.strand_moves.specs.Running.{machine_of, present_of}
 use Rattle.strand_moves.proofs.Statements.Paying.{call-at, spawn-at}
+use Rattle.strand_moves.proofs.Statements.Handing.{handed-acts, handed-child}
 use Rattle.strand_moves.proofs.Statements.QuickLemmas.{emitted-child, quiet-child}
 use Rattle.strand_moves.proofs.running.Running.assign.Goals as goal
 
@@ -22,7 +23,8 @@ pub returns-in-Spawn-clause-shows : goal.returns-in-Spawn-clause-shows
 returns-in-Spawn-clause-shows c = λ st.
     let i = c.args.self.now in
     let m = machine_of c.args.plan.now i in
-    rw (c.in-Spawn.is, spawn-at c.args.plan.now (present_of i) m st c.args.x.now c.in-Spawn.field-0 c.in-Spawn.c) (c.spawn.ensures.shows st)
+    handed-acts c.args.plan.now st _ i c.spawn.new.self c.spawn.result c.handed.result c.handed.ensures
+    (rw (c.in-Spawn.is, spawn-at c.args.plan.now (present_of i) m st c.args.x.now c.in-Spawn.field-0 c.in-Spawn.c) (c.spawn.ensures.shows st))
 
 pub returns-in-Value-clause-child : goal.returns-in-Value-clause-child
 returns-in-Value-clause-child c = rw c.quiet.ensures (quiet-child c.args.plan.now c.set_value.result)
@@ -38,3 +40,6 @@ returns-in-Call-clause-child c = rw c.quiet-in-Call.ensures (quiet-child c.args.
 
 pub returns-in-Call-clause-stays : goal.returns-in-Call-clause-stays
 returns-in-Call-clause-stays c = rw c.quiet-in-Call.ensures c.call.ensures.stays
+
+pub returns-in-Spawn-clause-child : goal.returns-in-Spawn-clause-child
+returns-in-Spawn-clause-child c = handed-child c.args.plan.now c.spawn.result c.handed.result c.handed.ensures c.spawn.ensures.child

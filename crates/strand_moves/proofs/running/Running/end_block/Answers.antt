@@ -4,7 +4,7 @@ use Rattle.strand_meaning.specs.Machine.{Emitted, end_move, sync_effects}
 use Rattle.strand_moves.specs.declared.running.Running.{Running}
 use Rattle.strand_moves.specs.declared.effects.Effects.{Effects}
 use Rattle.strand_moves.specs.Acts.{IsKept}
-use Rattle.strand_moves.specs.Moves.{effects_of, strand_of}
+use Rattle.strand_moves.specs.Moves.{effects_of, present_pedigree}
 use Rattle.strand_moves.specs.Running.{machine_of, path_of, present_of}
 use Rattle.strand_moves.proofs.Statements.Equations.{went}
 use Rattle.strand_moves.proofs.OpenScopes.Levels.{is-out, join-kept, join-moves, out-kept, out-moves, rank-fits}
@@ -57,7 +57,7 @@ returns-then-not-is_empty-clause-shows c =
     let none : c.is_empty.result ≡ true = rw (c.as_slice.ensures.value, e) at c.is_empty.ensures in
     absurd (cc)) in
     let m = machine_of plan i in
-    shows-made (end_move plan (path_of i) m m.top.levels) (strand_of (present_of i) m) (machine_of plan c.join_scope.new.self) _ c.join_scope.result s.shown s.fine s.passed
+    shows-made (end_move plan (path_of i) m m.top.levels) (present_pedigree (present_of i) m) (machine_of plan c.join_scope.new.self) _ c.join_scope.result s.shown s.fine s.passed
     (λ passed.
     join-moves plan i c.requires.instance is-open c.if-self.false
     ∙ ap (λ (x : Running). went (Emitted (event.Sync (present_of i ++ i.rank ∷ [])) ∷ sync_effects i.top.spawned) (machine_of plan x)) (sym passed))

@@ -8,7 +8,7 @@ use Rattle.strand_values.specs.Changes.{called_with}
 use Rattle.strand_meaning.specs.Machine.{Machine}
 use Rattle.strand_moves.specs.Acts.{IsCallee}
 use Rattle.strand_moves.specs.Running.{machine_of, present_of}
-use Rattle.strand_moves.specs.Moves.{acted, call_to, strand_of}
+use Rattle.strand_moves.specs.Moves.{acted, call_to, present_pedigree}
 use Rattle.strand_moves.proofs.Frames.CallLemmas.{begun-stays, called-by, called-fault, is_below, is_not_below, calls-open, machine-begun, stands-quiet}
 use Rattle.strand_moves.proofs.Statements.Equations.{call, callee, call-args-fault, calls-fault, went}
 use Rattle.strand_moves.proofs.OpenScopes.Exits.{quiet-exit}
@@ -21,7 +21,7 @@ returns-in_err-env-clause-shows c = λ plan st same there.
     let f = c.args.function.now in
     let text = c.args.call.now in
     let known = rw (c.as_slice-params.ensures, c.as_slice-2.ensures) at c.in_err-env.ensures in
-    quiet-exit (acted plan (present_of i) (machine_of plan i) st (call_to to text)) (strand_of (present_of i) (machine_of plan i)) _ c.from_residual.result c.in_err-env.field-0.0
+    quiet-exit (acted plan (present_of i) (machine_of plan i) st (call_to to text)) (present_pedigree (present_of i) (machine_of plan i)) _ c.from_residual.result c.in_err-env.field-0.0
     (called_with f.params text.args i.top.env) c.from_residual.ensures.1 known
     (λ kind e. call-args-fault plan (present_of i) (machine_of plan i) st to text kind (called-fault f.params text.args i.top.env kind e))
 

@@ -3,7 +3,7 @@ use Rattle.std.proofs.lemmas.Int.{to_z-of_z}
 use Rattle.script_grammar.specs.declared.tree.Act.TheOpen as act
 use Rattle.serial_meaning.specs.Values.{value_of, values_of}
 use Rattle.strand_moves.specs.Running.{machine_of, present_of}
-use Rattle.strand_moves.specs.Moves.{acted, strand_of}
+use Rattle.strand_moves.specs.Moves.{acted, present_pedigree}
 use Rattle.strand_moves.proofs.HandedChildren.ChildLemmas.{looped-none, looped-some}
 use Rattle.strand_moves.proofs.OpenScopes.Exits.{shows-exit, shows-fault}
 use Rattle.strand_moves.proofs.Statements.LoopEquations.{pfor-lo-fault, pfor-hi-fault, pfor-args-fault, pfor-fault}
@@ -13,7 +13,7 @@ pub returns-in_err-value-clause-shows : goal.returns-in_err-value-clause-shows
 returns-in_err-value-clause-shows c = λ st var.
     let i = c.args.self.now in
     let plan = c.args.plan.now in
-    shows-exit (acted plan (present_of i) (machine_of plan i) st (act.Pfor var c.args.lo.now c.args.hi.now c.args.target.now c.args.call.now)) (strand_of (present_of i) (machine_of plan i)) _ c.from_residual.result
+    shows-exit (acted plan (present_of i) (machine_of plan i) st (act.Pfor var c.args.lo.now c.args.hi.now c.args.target.now c.args.call.now)) (present_pedigree (present_of i) (machine_of plan i)) _ c.from_residual.result
     c.in_err-value.field-0.0 (value_of c.args.lo.now i.top.env) c.from_residual.ensures.1 c.in_err-value.ensures
     (pfor-lo-fault plan (present_of i) (machine_of plan i) st var c.args.lo.now c.args.hi.now c.args.target.now c.args.call.now)
 
@@ -21,7 +21,7 @@ pub returns-in_err-value-2-clause-shows : goal.returns-in_err-value-2-clause-sho
 returns-in_err-value-2-clause-shows c = λ st var.
     let i = c.args.self.now in
     let plan = c.args.plan.now in
-    shows-exit (acted plan (present_of i) (machine_of plan i) st (act.Pfor var c.args.lo.now c.args.hi.now c.args.target.now c.args.call.now)) (strand_of (present_of i) (machine_of plan i)) _ c.from_residual-in_err-value-2.result
+    shows-exit (acted plan (present_of i) (machine_of plan i) st (act.Pfor var c.args.lo.now c.args.hi.now c.args.target.now c.args.call.now)) (present_pedigree (present_of i) (machine_of plan i)) _ c.from_residual-in_err-value-2.result
     c.in_err-value-2.field-0.0 (value_of c.args.hi.now i.top.env) c.from_residual-in_err-value-2.ensures.1 c.in_err-value-2.ensures
     (λ kind. pfor-hi-fault plan (present_of i) (machine_of plan i) st var c.args.lo.now c.args.hi.now c.args.target.now c.args.call.now c.in_ok-value.field-0 kind c.in_ok-value.ensures)
 
@@ -30,7 +30,7 @@ returns-in_err-rest-clause-shows c = λ st var.
     let i = c.args.self.now in
     let plan = c.args.plan.now in
     let known = rw c.as_slice.ensures at c.in_err-rest.ensures in
-    shows-exit (acted plan (present_of i) (machine_of plan i) st (act.Pfor var c.args.lo.now c.args.hi.now c.args.target.now c.args.call.now)) (strand_of (present_of i) (machine_of plan i)) _ c.from_residual-in_err-rest.result
+    shows-exit (acted plan (present_of i) (machine_of plan i) st (act.Pfor var c.args.lo.now c.args.hi.now c.args.target.now c.args.call.now)) (present_pedigree (present_of i) (machine_of plan i)) _ c.from_residual-in_err-rest.result
     c.in_err-rest.field-0.0 (values_of c.args.call.now.args i.top.env) c.from_residual-in_err-rest.ensures.1 known
     (λ kind. pfor-args-fault plan (present_of i) (machine_of plan i) st var c.args.lo.now c.args.hi.now c.args.target.now c.args.call.now c.in_ok-value.field-0 c.in_ok-value-2.field-0 kind
     c.in_ok-value.ensures c.in_ok-value-2.ensures)
@@ -43,7 +43,7 @@ returns-in_err-begin_loop-clause-shows c = λ st var.
     let first : SFits w64 c.number-first.result = search rules in
     let end : SFits w64 c.number-end.result = search rules in
     let counted = rw (to_z-of_z w64 c.number-first.result first, to_z-of_z w64 c.number-end.result end, c.number-first.ensures, c.number-end.ensures) at c.iterations-count.ensures in
-    shows-fault (acted plan (present_of i) (machine_of plan i) st (act.Pfor var c.args.lo.now c.args.hi.now c.args.target.now c.args.call.now)) (strand_of (present_of i) (machine_of plan i)) _
+    shows-fault (acted plan (present_of i) (machine_of plan i) st (act.Pfor var c.args.lo.now c.args.hi.now c.args.target.now c.args.call.now)) (present_pedigree (present_of i) (machine_of plan i)) _
     c.from_residual-in_err-begin_loop.result c.in_err-begin_loop.field-0.0 c.from_residual-in_err-begin_loop.ensures.1
     (pfor-fault plan (present_of i) (machine_of plan i) st var c.args.lo.now c.args.hi.now c.args.target.now c.args.call.now c.in_ok-value.field-0 c.in_ok-value-2.field-0 c.in_ok-rest.rest c.iterations-count.result
     c.in_ok-value.ensures c.in_ok-value-2.ensures known counted c.in_err-begin_loop.field-0.0 (sym c.begin_loop.ensures.result ∙ c.in_err-begin_loop.was))

@@ -4,10 +4,22 @@ use Rattle.serial_meaning.specs.Plan.{functions_of}
 use Rattle.strand_meaning.specs.Machine.{return_move, spawns_in}
 use Rattle.strand_moves.specs.declared.running.Running.{Running}
 use Rattle.strand_moves.specs.Running.{machine_of, path_of, present_of}
-use Rattle.strand_moves.specs.Moves.{strand_of}
+use Rattle.strand_moves.specs.Moves.{present_pedigree}
+use Rattle.strand_moves.proofs.Frames.EndMoves.{told-stands}
 use Rattle.strand_moves.proofs.Frames.Ending.{return-joined}
 use Rattle.strand_moves.proofs.OpenScopes.Exits.{shows-made}
+use Rattle.strand_moves.proofs.Statements.Handing.{told-child}
 use Rattle.strand_moves.proofs.running.Running.return_step.Goals as goal
+
+pub returns-then-not-self-clause-shows : goal.returns-then-not-self-clause-shows
+returns-then-not-self-clause-shows c = rw c.told.ensures c.return_alone.ensures.shows
+
+pub returns-then-not-self-clause-child : goal.returns-then-not-self-clause-child
+returns-then-not-self-clause-child c = rw c.told.ensures (told-child c.args.plan.now c.return_alone.result)
+
+pub returns-then-not-self-clause-stays : goal.returns-then-not-self-clause-stays
+returns-then-not-self-clause-stays c =
+    rw c.told.ensures (told-stands c.args.self.now c.return_alone.new.self c.return_alone.result c.return_alone.ensures.rest c.return_alone.ensures.same)
 
 pub returns-then-has_spawns-clause-shows : goal.returns-then-has_spawns-clause-shows
 returns-then-has_spawns-clause-shows c =
@@ -15,7 +27,7 @@ returns-then-has_spawns-clause-shows c =
     let i = c.args.self.now in
     let s = c.sync.ensures in
     let function = ap (λ (x : Running). spawns_in (function_at (functions_of plan) x.top.function)) c.in_ok-pay.ensures.ok in
-    shows-made (return_move plan (path_of i) (machine_of plan i) false) (strand_of (present_of i) (machine_of plan i)) (machine_of plan c.sync.new.self) _ c.sync.result s.shown s.fine s.passed
+    shows-made (return_move plan (path_of i) (machine_of plan i) false) (present_pedigree (present_of i) (machine_of plan i)) (machine_of plan c.sync.new.self) _ c.sync.result s.shown s.fine s.passed
     (λ passed. return-joined plan i c.requires.here c.pay.new.self c.pay.new.self.steps c.in_ok-pay.ensures.ok c.in_ok-pay.ensures.paid c.sync.new.self (sym function ∙ sym c.has_spawns.ensures ∙ c.if-has_spawns.true) passed)
 
 pub returns-then-has_spawns-clause-child : goal.returns-then-has_spawns-clause-child

@@ -1,18 +1,19 @@
-use Rattle.std.proofs.Common.{◌≡◌, ◌+◌, ◌-◌, List, length, refl, sym, ap, ◌∙◌, arith}
-use Rattle.script_grammar.specs.declared.tree.Stmt.{out-Stmt}
-use Rattle.script_grammar.specs.declared.tree.Act.{out-Act}
+use Rattle.std.proofs.Common.{◌≡◌, ◌+◌, ◌-◌, List, None, length, refl, sym, ap, subst, ◌∙◌, arith}
 use Rattle.strand_moves.specs.declared.cursor.Cursor.{Cursor}
 use Rattle.strand_moves.specs.declared.frame.Frame.{Frame}
 use Rattle.strand_moves.specs.declared.running.Running.{Running}
 use Rattle.strand_moves.specs.Cursors.{block_of}
+use Rattle.strand_moves.specs.Quick.{HasGone}
 use Rattle.strand_moves.specs.Rows.{Still, More}
+use Rattle.strand_moves.specs.Running.{IsStrand}
 use Rattle.strand_moves.proofs.OpenScopes.Keeping.{here-is, stays-instance, same-path}
-use Rattle.strand_moves.proofs.Cursors.Passing.{comes-undone, row-called, row-sent, text-same}
-use Rattle.strand_moves.proofs.Statements.QuickLemmas.{did-call, did-not-call, did-nothing, did-not-emit, did-quiet, did-emit, passed-on, quick-went}
+use Rattle.strand_moves.proofs.Cursors.Passing.{comes-ended, comes-undone, passed-sound, row-called, row-ended, row-sent, text-same}
+use Rattle.strand_moves.proofs.Frames.EndMoves.{did-end, did-not-end}
+use Rattle.strand_moves.proofs.Statements.QuickLemmas.{did-nothing, did-quiet, passed-on, quick-went}
 use Rattle.strand_moves.proofs.running.Running.row.Goals as goal
 
 pub loop-passed-init : goal.loop-passed-init
-loop-passed-init g c = record { row = Still c.args.self.now c.args.sink.now refl refl; sound = c.requires; path = refl; text = c.text-text.ensures; block = c.block-block.ensures }
+loop-passed-init g c = record { row = Still c.args.self.now c.args.sink.now refl refl; sound = c.requires; path = refl; text = c.statements-text.ensures; block = c.block-block.ensures }
 
 -- by each arm: a step is paid, and a call's frame counts less
 
@@ -22,21 +23,27 @@ loop-passed-smaller-then-branch g c =
     let frames = ap (λ (bs : List Frame). length bs) there.below in
     omega (arith, there.steps, frames)
 
-pub loop-passed-smaller-then-branch-2 : goal.loop-passed-smaller-then-branch-2
-loop-passed-smaller-then-branch-2 g c =
+pub loop-passed-smaller-in-Emitting : goal.loop-passed-smaller-in-Emitting
+loop-passed-smaller-in-Emitting g c =
     let q = c.quiet_statement.ensures.there in
-    let t = c.emitting_statement.ensures.there in
+    let gone = subst (HasGone g.S.EventSink.after c.args.plan.now c.in-Some.passed.0.now c.quiet_statement.new.self c.loop-passed.sink c.other_statement.new.self c.other_statement.new.sink) c.in-Emitting.is c.in_ok-other_statement.ensures in
+    let t = gone.1.there in
     let frames = ap (λ (bs : List Frame). length bs) (t.below ∙ q.below) in
     omega (arith, q.steps, t.steps, frames)
 
 pub loop-passed-smaller : goal.loop-passed-smaller
 loop-passed-smaller g c =
     let q = c.quiet_statement.ensures.there in
-    let t = c.emitting_statement.ensures.there in
-    let frames = ap (λ (bs : List Frame). length bs) (t.below ∙ q.below) in
-    let did = did-call c.args.plan.now c.in-Some.passed.0.now (out-Act (out-Stmt c.in-Some.passed.0.now).act) c.emitting_statement.new.self c.calling_statement.new.self _ c.if-branch-3.true c.in_ok-calling_statement.ensures.did in
-    let begins = did.2 in
-    omega (arith, q.steps, t.steps, frames, begins.steps, begins.frames)
+    let gone = subst (HasGone g.S.EventSink.after c.args.plan.now c.in-Some.passed.0.now c.quiet_statement.new.self c.loop-passed.sink c.other_statement.new.self c.other_statement.new.sink) c.in-Calling.is c.in_ok-other_statement.ensures in
+    let begins = gone.0.2 in
+    let frames = ap (λ (bs : List Frame). length bs) q.below in
+    omega (arith, q.steps, frames, begins.steps, begins.frames)
+
+pub loop-passed-smaller-in_default : goal.loop-passed-smaller-in_default
+loop-passed-smaller-in_default g c =
+    let ended = did-end g.S.EventSink.after c.args.plan.now _ c.frame_end.new.self c.loop-passed.sink c.frame_end.new.sink _ c.if-not-branch.false c.in_ok-frame_end.ensures.did in
+    let shorter = ended.3 in
+    omega (arith, shorter)
 
 pub loop-passed-preserved-then-branch : goal.loop-passed-preserved-then-branch
 loop-passed-preserved-then-branch g c =
@@ -64,31 +71,31 @@ loop-passed-preserved-then-branch g c =
       block = c.block_after-block.ensures;
     }
 
--- a emitting statement, before which it was found that it is no plain one
+-- a statement that was found to be no plain one
 
-pub loop-passed-preserved-then-branch-2 : goal.loop-passed-preserved-then-branch-2
-loop-passed-preserved-then-branch-2 g c =
+pub loop-passed-preserved-in-Emitting : goal.loop-passed-preserved-in-Emitting
+loop-passed-preserved-in-Emitting g c =
     let l = c.loop-passed in
     let was = l.invariant in
     let plan = c.args.plan.now in
     let i = l.self in
     let st = c.in-Some.passed.0.now in
     let q = c.quiet_statement in
-    let t = c.emitting_statement in
+    let o = c.other_statement in
     let passes = rw was.text at c.in-Some.ensures.0 in
     let left = did-nothing st _ q.new.self _ c.if-branch.false c.in_ok-quiet_statement.ensures.did in
-    let did = did-emit g.S.EventSink.after plan st (out-Act (out-Stmt st).act) q.new.self t.new.self l.sink t.new.sink _ c.if-branch-2.true c.in_ok-emitting_statement.ensures.did in
+    let gone = subst (HasGone g.S.EventSink.after plan st q.new.self l.sink o.new.self o.new.sink) c.in-Emitting.is c.in_ok-other_statement.ensures in
+    let did = gone.0 in
+    let there = gone.1 in
     let less : i.steps - 1 + 1 ≡ i.steps = omega arith in
-    let went = row-sent g.S.EventSink.after plan c.args.self.now c.args.sink.now i l.sink was.row was.sound st c.pass_in.new.self (i.steps - 1) passes less q.new.self left.0 t.new.self t.new.sink did.0 did.1 did.2 t.ensures.stays t.ensures.few in
+    let went = row-sent g.S.EventSink.after plan c.args.self.now c.args.sink.now i l.sink was.row was.sound st c.pass_in.new.self (i.steps - 1) passes less q.new.self left.0 o.new.self o.new.sink did.0 did.1 did.2 there.stays there.few in
     record {
       row = went.row;
       sound = went.sound;
       path = went.path ∙ was.path;
-      text = was.text ∙ sym (text-same plan i t.new.self (t.ensures.there.function ∙ q.ensures.there.function) (t.ensures.there.levels ∙ q.ensures.there.levels));
-      block = c.in-Some.ensures.1 ∙ ap (λ (k : Cursor). block_of c.loop-passed.text.now k.entered.items) (sym (t.ensures.cursor ∙ ap (λ (x : Running). x.top.cursor) left.0));
+      text = was.text ∙ sym (text-same plan i o.new.self (there.there.function ∙ q.ensures.there.function) (there.there.levels ∙ q.ensures.there.levels));
+      block = c.in-Some.ensures.1 ∙ ap (λ (k : Cursor). block_of c.loop-passed.text.now k.entered.items) (sym (there.cursor ∙ ap (λ (x : Running). x.top.cursor) left.0));
     }
-
--- a call, before which it was found that it is neither
 
 pub loop-passed-preserved : goal.loop-passed-preserved
 loop-passed-preserved g c =
@@ -98,36 +105,62 @@ loop-passed-preserved g c =
     let i = l.self in
     let st = c.in-Some.passed.0.now in
     let q = c.quiet_statement in
-    let t = c.emitting_statement in
-    let k = c.calling_statement in
+    let o = c.other_statement in
     let passes = rw was.text at c.in-Some.ensures.0 in
     let left = did-nothing st _ q.new.self _ c.if-branch.false c.in_ok-quiet_statement.ensures.did in
-    let not = did-not-emit g.S.EventSink.after plan st (out-Act (out-Stmt st).act) q.new.self t.new.self l.sink t.new.sink _ c.if-branch-2.false c.in_ok-emitting_statement.ensures.did in
-    let did = did-call plan st (out-Act (out-Stmt st).act) t.new.self k.new.self _ c.if-branch-3.true c.in_ok-calling_statement.ensures.did in
+    let gone = subst (HasGone g.S.EventSink.after plan st q.new.self l.sink o.new.self o.new.sink) c.in-Calling.is c.in_ok-other_statement.ensures in
+    let did = gone.0 in
     let less : i.steps - 1 + 1 ≡ i.steps = omega arith in
-    let went = row-called g.S.EventSink.after plan c.args.self.now c.args.sink.now i l.sink was.row was.sound st c.pass_in.new.self (i.steps - 1) passes less t.new.self (not.0 ∙ left.0) k.new.self t.new.sink not.1 did.0 did.1 k.ensures.few in
-    record { row = went.row; sound = went.sound; path = went.path ∙ was.path; text = c.text-text-then-branch-3.ensures; block = c.block-block-then-branch-3.ensures }
+    let went = row-called g.S.EventSink.after plan c.args.self.now c.args.sink.now i l.sink was.row was.sound st c.pass_in.new.self (i.steps - 1) passes less q.new.self left.0 o.new.self o.new.sink gone.1 did.0 did.1 gone.2 in
+    record { row = went.row; sound = went.sound; path = went.path ∙ was.path; text = c.statements-text-in-Calling.ensures; block = c.block-block-in-Calling.ensures }
 
-pub calling_statement-requires : goal.calling_statement-requires
-calling_statement-requires g c =
+pub other_statement-requires-clause-strand : goal.other_statement-requires-clause-strand
+other_statement-requires-clause-strand g c =
+    let was = c.loop-passed.invariant in
+    let left = did-nothing c.in-Some.passed.0.now _ c.quiet_statement.new.self _ c.if-branch.false c.in_ok-quiet_statement.ensures.did in
+    let strand = was.sound.strand in
+    subst (IsStrand c.args.plan.now) (sym left.0) (record { fits = strand.fits; within = strand.within; few = strand.few })
+
+pub other_statement-requires-clause-goes_on : goal.other_statement-requires-clause-goes_on
+other_statement-requires-clause-goes_on g c =
+    let was = c.loop-passed.invariant in
+    let passes = rw was.text at c.in-Some.ensures.0 in
+    c.quiet_statement.ensures.stays.leaving ∙ passed-on c.args.plan.now c.loop-passed.self c.in-Some.passed.0.now _ was.sound passes.first
+
+-- where no statement of a frame is left
+
+pub frame_end-requires-clause-instance : goal.frame_end-requires-clause-instance
+frame_end-requires-clause-instance g c =
+    let was = c.loop-passed.invariant in
+    passed-sound c.args.plan.now c.loop-passed.self c.pass_in.new.self None was.sound (rw was.text at c.in_default.ensures)
+
+pub frame_end-requires-clause-none : goal.frame_end-requires-clause-none
+frame_end-requires-clause-none g c = let none = rw c.loop-passed.invariant.text at c.in_default.ensures in none.1
+
+pub loop-passed-preserved-in_default : goal.loop-passed-preserved-in_default
+loop-passed-preserved-in_default g c =
     let l = c.loop-passed in
     let was = l.invariant in
     let plan = c.args.plan.now in
-    let st = c.in-Some.passed.0.now in
-    let q = c.quiet_statement in
-    let t = c.emitting_statement in
-    let passes = rw was.text at c.in-Some.ensures.0 in
-    t.ensures.stays.leaving ∙ q.ensures.stays.leaving ∙ passed-on plan l.self st _ was.sound passes.first
+    let e = c.frame_end in
+    let none = rw was.text at c.in_default.ensures in
+    let ended = did-end g.S.EventSink.after plan _ e.new.self l.sink e.new.sink _ c.if-not-branch.false c.in_ok-frame_end.ensures.did in
+    let went = row-ended g.S.EventSink.after plan c.args.self.now c.args.sink.now l.self l.sink was.row was.sound c.pass_in.new.self none e.new.self e.new.sink ended in
+    record { row = went.row; sound = went.sound; path = went.path ∙ was.path; text = c.statements-text-in_default.ensures; block = c.block-block-in_default.ensures }
+
+pub returns-then-not-branch : goal.returns-then-not-branch
+returns-then-not-branch g c =
+    let l = c.loop-passed in
+    let was = l.invariant in
+    let plan = c.args.plan.now in
+    let e = c.frame_end in
+    let none = rw was.text at c.in_default.ensures in
+    let still = did-not-end g.S.EventSink.after plan _ e.new.self l.sink e.new.sink _ c.if-not-branch.true c.in_ok-frame_end.ensures.did in
+    comes-ended g.S.EventSink.after plan c.args.self.now c.args.sink.now l.self l.sink was.row was.sound c.pass_in.new.self none was.path e.new.self e.new.sink still
 
 pub block_after-block-requires : goal.block_after-block-requires
 block_after-block-requires g c = λ no.
     c.in-Some.ensures.1 ∙ ap (λ (k : Cursor). block_of c.loop-passed.text.now k.entered.items) (sym (c.quiet_statement.ensures.cursor no))
-
-pub returns-in_default : goal.returns-in_default
-returns-in_default g c =
-    let l = c.loop-passed in
-    let was = l.invariant in
-    record { before = l.self; row = was.row; sound = was.sound; path = was.path; passed = refl; at = rw was.text at c.in_default.ensures }
 
 pub returns-then-self-eq0 : goal.returns-then-self-eq0
 returns-then-self-eq0 g c =
@@ -135,18 +168,17 @@ returns-then-self-eq0 g c =
     let was = l.invariant in
     record { before = l.self; row = was.row; sound = was.sound; path = was.path; passed = refl; at = rw was.text at c.in-Some.ensures.0 }
 
-pub returns-else-branch-3 : goal.returns-else-branch-3
-returns-else-branch-3 g c =
+pub returns-in-Other : goal.returns-in-Other
+returns-in-Other g c =
     let l = c.loop-passed in
     let was = l.invariant in
     let plan = c.args.plan.now in
     let i = l.self in
     let st = c.in-Some.passed.0.now in
     let q = c.quiet_statement in
-    let t = c.emitting_statement in
+    let o = c.other_statement in
     let passes = rw was.text at c.in-Some.ensures.0 in
     let left = did-nothing st _ q.new.self _ c.if-branch.false c.in_ok-quiet_statement.ensures.did in
-    let not = did-not-emit g.S.EventSink.after plan st (out-Act (out-Stmt st).act) q.new.self t.new.self l.sink t.new.sink _ c.if-branch-2.false c.in_ok-emitting_statement.ensures.did in
+    let gone = subst (HasGone g.S.EventSink.after plan st q.new.self l.sink o.new.self o.new.sink) c.in-Other.is c.in_ok-other_statement.ensures in
     let less : i.steps - 1 + 1 ≡ i.steps = omega arith in
-    let never = did-not-call plan st (out-Act (out-Stmt st).act) t.new.self c.calling_statement.new.self _ c.if-branch-3.false c.in_ok-calling_statement.ensures.did in
-    comes-undone g.S.EventSink.after plan c.args.self.now c.args.sink.now i l.sink was.row was.sound was.path st c.pass_in.new.self (i.steps - 1) passes less c.calling_statement.new.self (never ∙ not.0 ∙ left.0) t.new.sink not.1
+    comes-undone g.S.EventSink.after plan c.args.self.now c.args.sink.now i l.sink was.row was.sound was.path st c.pass_in.new.self (i.steps - 1) passes less q.new.self left.0 o.new.self gone.0 o.new.sink gone.1

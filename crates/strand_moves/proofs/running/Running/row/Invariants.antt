@@ -1,7 +1,7 @@
 use Rattle.std.proofs.Common.{◌≡◌, ◌+◌, ◌*◌, length}
 use Rattle.strand_moves.specs.Cursors.{block_of}
 use Rattle.strand_moves.specs.Rows.{Row}
-use Rattle.strand_moves.specs.Running.{IsInstance, path_of, text_of}
+use Rattle.strand_moves.specs.Running.{IsInstance, path_of, statements_of}
 use Rattle.strand_moves.proofs.running.Running.row.Given as goal
 
 abbrev pub invariant-loop-passed : goal.invariant-loop-passed
@@ -9,7 +9,7 @@ invariant-loop-passed g l = record {
   row : Row g.S.EventSink.after l.plan l.initial.self l.initial.sink l.self l.sink;
   sound : IsInstance l.plan l.self;
   path : path_of l.self ≡ path_of l.initial.self;
-  text : l.text ≡ text_of l.plan l.self.top;
+  text : l.text ≡ statements_of l.plan l.self.top;
   block : l.block ≡ block_of l.text l.self.top.cursor.entered.items;
 }
 

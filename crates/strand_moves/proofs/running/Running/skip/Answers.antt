@@ -4,7 +4,7 @@ use Rattle.serial_meaning.specs.Values.{values_of}
 use Rattle.strand_moves.specs.declared.running.Running.{Running}
 use Rattle.strand_moves.specs.Acts.{Stays}
 use Rattle.strand_moves.specs.Running.{machine_of, present_of}
-use Rattle.strand_moves.specs.Moves.{acted, call_to, strand_of}
+use Rattle.strand_moves.specs.Moves.{acted, call_to, present_pedigree}
 use Rattle.strand_moves.proofs.Frames.CallLemmas.{is_below, is_not_below, calls-open}
 use Rattle.strand_moves.proofs.Statements.Equations.{call-none, call-args-fault, calls-fault, went}
 use Rattle.strand_moves.proofs.OpenScopes.Exits.{quiet-exit}
@@ -15,7 +15,7 @@ returns-in_err-values-clause-shows c = λ plan st there.
     let i = c.args.self.now in
     let to = option_copied c.args.target in
     let known = rw c.as_slice.ensures at c.in_err-values.ensures in
-    quiet-exit (acted plan (present_of i) (machine_of plan i) st (call_to to c.args.call.now)) (strand_of (present_of i) (machine_of plan i)) _ c.from_residual.result c.in_err-values.field-0.0
+    quiet-exit (acted plan (present_of i) (machine_of plan i) st (call_to to c.args.call.now)) (present_pedigree (present_of i) (machine_of plan i)) _ c.from_residual.result c.in_err-values.field-0.0
     (values_of c.args.call.now.args i.top.env) c.from_residual.ensures.1 known (call-args-fault plan (present_of i) (machine_of plan i) st to c.args.call.now)
 
 pub returns-then-len-ge-MOST_CALLS-clause-shows : goal.returns-then-len-ge-MOST_CALLS-clause-shows

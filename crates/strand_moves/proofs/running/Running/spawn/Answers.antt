@@ -6,11 +6,11 @@ use Rattle.serial_meaning.specs.Plan.{PlanView, functions_of}
 use Rattle.serial_meaning.specs.Values.{values_of}
 use Rattle.strand_moves.specs.declared.running.Running.{Running}
 use Rattle.strand_moves.specs.Running.{machine_of, present_of}
-use Rattle.strand_moves.specs.Moves.{acted, spawn_to, strand_of}
+use Rattle.strand_moves.specs.Moves.{acted, spawn_to, present_pedigree}
 use Rattle.strand_moves.proofs.Frames.CallLemmas.{is_not_below}
 use Rattle.strand_moves.proofs.HandedChildren.ChildLemmas.{spawned-child, strand_at}
 use Rattle.strand_moves.proofs.Statements.Equations.{spawn-args-fault, spawn-depth-fault}
-use Rattle.strand_moves.proofs.OpenScopes.Exits.{shows-exit}
+use Rattle.strand_moves.proofs.HandedChildren.Spawning.{handed-exit}
 use Rattle.strand_moves.proofs.running.Running.spawn.Goals as goal
 
 pub returns-in_err-args-clause-shows : goal.returns-in_err-args-clause-shows
@@ -19,7 +19,7 @@ returns-in_err-args-clause-shows c = λ st.
     let plan = c.args.plan.now in
     let to = option_copied c.args.target in
     let known = rw c.as_slice.ensures at c.in_err-args.ensures in
-    shows-exit (acted plan (present_of i) (machine_of plan i) st (spawn_to to c.args.call.now)) (strand_of (present_of i) (machine_of plan i)) _ c.from_residual-in_err-args.result c.in_err-args.field-0.0
+    handed-exit (acted plan (present_of i) (machine_of plan i) st (spawn_to to c.args.call.now)) (present_pedigree (present_of i) (machine_of plan i)) _ c.from_residual-in_err-args.result c.in_err-args.field-0.0
     (values_of c.args.call.now.args i.top.env) c.from_residual-in_err-args.ensures.1 known (spawn-args-fault plan (present_of i) (machine_of plan i) st to c.args.call.now)
 
 pub returns-then-len-plan-clause-shows : goal.returns-then-len-plan-clause-shows
@@ -45,10 +45,9 @@ returns-clause-shows c = λ st.
     let height : c.in_ok-height.height ≡ length i.below.items = omega (arith, i.below.ok.0, narrow) in
     let same = ap (λ (x : Running). strand_at x) others in
     let at = c.in_ok-pedigree.ensures ∙ same in
-    rw c.in_ok-spawned.ensures
-    (spawned-child plan i st (option_copied c.args.target) c.args.call.now c.in_ok-args.args (answer_filler (function_at (functions_of plan) c.callee-function.result)) c.callee-function.result c.in_ok-height.height
+    spawned-child plan i st (option_copied c.args.target) c.args.call.now c.in_ok-args.args (answer_filler (function_at (functions_of plan) c.callee-function.result)) c.callee-function.result c.in_ok-height.height
     c.in_ok-pedigree.field-0 c.in_ok-trail.path c.in_ok-target.target c.receive_filler.new.self.top.env c.receive_filler.new.self
-    known (omega arith) number at (place.shared ∙ place.path ∙ same) refl received.env others height received.to)
+    known (omega arith) number at (place.shared ∙ place.path ∙ same) refl received.env others height received.to
 
 pub returns-clause-child : goal.returns-clause-child
-returns-clause-child c = rw c.in_ok-spawned.ensures (record { fits = c.in_ok-trail.ensures.fits; path = sym c.in_ok-trail.ensures.shared })
+returns-clause-child c = record { fits = c.in_ok-trail.ensures.fits; path = sym c.in_ok-trail.ensures.shared }

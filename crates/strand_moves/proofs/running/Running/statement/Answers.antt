@@ -3,11 +3,12 @@ use Rattle.script_grammar.specs.declared.tree.Act.TheOpen as act
 use Rattle.serial_meaning.specs.declared.event.FaultKind.{FaultKind}
 use Rattle.script_grammar.specs.declared.tree.Act.TheVariants as variant
 use Rattle.strand_moves.specs.Running.{machine_of, path_of, present_of}
-use Rattle.strand_moves.specs.Moves.{acted, strand_of}
+use Rattle.strand_moves.specs.Moves.{acted, present_pedigree}
 use Rattle.strand_meaning.specs.Machine.{statement_move}
 use Rattle.strand_moves.proofs.Statements.Equations.{faults, let-is-set}
 use Rattle.strand_moves.proofs.OpenScopes.Exits.{shows-fault}
 use Rattle.strand_moves.proofs.Statements.Paying.{act-is, shows-same, statement-paid, statement-unpaid, paid-behind}
+use Rattle.strand_moves.proofs.Statements.Handing.{handed-acts, handed-child}
 use Rattle.strand_moves.proofs.Statements.QuickLemmas.{emitted-child, quiet-child}
 use Rattle.strand_moves.proofs.OpenScopes.Keeping.{here-is, keeps-into, keeps-paid, keeps-unless}
 use Rattle.strand_moves.proofs.running.Running.statement.Goals as goal
@@ -19,7 +20,7 @@ returns-in-Let-clause-shows c =
     let st = c.args.statement.now in
     let is = act-is (act.Let c.in-Let.x c.in-Let.r) st.act (variant.Let c.in-Let.x c.in-Let.r) c.in-Let.is (variant.rolls-Let c.in-Let.x c.in-Let.r) in
     let m = machine_of plan p in
-    let acts = shows-same (acted plan (present_of p) m st (act.Let c.in-Let.x c.in-Let.r)) (acted plan (present_of p) m st (act.Set c.in-Let.x c.in-Let.r)) (strand_of (present_of p) m) (machine_of plan c.assign.new.self) c.assign.result
+    let acts = shows-same (acted plan (present_of p) m st (act.Let c.in-Let.x c.in-Let.r)) (acted plan (present_of p) m st (act.Set c.in-Let.x c.in-Let.r)) (present_pedigree (present_of p) m) (machine_of plan c.assign.new.self) c.assign.result
     (let-is-set plan (present_of p) m st c.in-Let.x c.in-Let.r) (c.assign.ensures.shows st) in
     statement-paid plan c.args.self.now p p.steps c.in_ok-pay.ensures.ok c.in_ok-pay.ensures.paid (here-is plan c.args.self.now c.requires.instance) st (act.Let c.in-Let.x c.in-Let.r) c.assign.new.self c.assign.result is acts
 
@@ -53,7 +54,8 @@ returns-in-Spawn-clause-shows c =
     let p = c.pay.new.self in
     let st = c.args.statement.now in
     let is = act-is (act.Spawn c.in-Spawn.c) st.act (variant.Spawn c.in-Spawn.c) c.in-Spawn.is (variant.rolls-Spawn c.in-Spawn.c) in
-    statement-paid plan c.args.self.now p p.steps c.in_ok-pay.ensures.ok c.in_ok-pay.ensures.paid (here-is plan c.args.self.now c.requires.instance) st (act.Spawn c.in-Spawn.c) c.spawn.new.self c.spawn.result is (c.spawn.ensures.shows st)
+    statement-paid plan c.args.self.now p p.steps c.in_ok-pay.ensures.ok c.in_ok-pay.ensures.paid (here-is plan c.args.self.now c.requires.instance) st (act.Spawn c.in-Spawn.c) c.spawn.new.self c.handed.result is
+    (handed-acts plan st (act.Spawn c.in-Spawn.c) p c.spawn.new.self c.spawn.result c.handed.result c.handed.ensures (c.spawn.ensures.shows st))
 
 pub returns-in-Call-clause-shows : goal.returns-in-Call-clause-shows
 returns-in-Call-clause-shows c =
@@ -147,7 +149,7 @@ returns-in-Store-clause-keeps c =
 
 pub returns-in-Spawn-clause-keeps : goal.returns-in-Spawn-clause-keeps
 returns-in-Spawn-clause-keeps c =
-    keeps-paid c.args.plan.now c.args.self.now c.pay.new.self c.pay.new.self.steps c.requires.instance c.requires.goes_on c.in_ok-pay.ensures.ok c.in_ok-pay.ensures.paid c.spawn.new.self c.spawn.ensures.stays c.spawn.ensures.few c.spawn.result
+    keeps-paid c.args.plan.now c.args.self.now c.pay.new.self c.pay.new.self.steps c.requires.instance c.requires.goes_on c.in_ok-pay.ensures.ok c.in_ok-pay.ensures.paid c.spawn.new.self c.spawn.ensures.stays c.spawn.ensures.few c.handed.result
 
 pub returns-in-Call-clause-keeps : goal.returns-in-Call-clause-keeps
 returns-in-Call-clause-keeps c =
@@ -199,5 +201,8 @@ returns-in_err-pay-clause-shows c =
     let i = c.args.self.now in
     let m = machine_of plan i in
     let unpaid = c.pay.ensures.err c.in_err-pay.field-0.0 c.in_err-pay.was in
-    shows-fault (statement_move plan (path_of i) m c.args.statement.now m.top.left) (strand_of (present_of i) m) _ c.from_residual.result c.in_err-pay.field-0.0 c.from_residual.ensures.1
+    shows-fault (statement_move plan (path_of i) m c.args.statement.now m.top.left) (present_pedigree (present_of i) m) _ c.from_residual.result c.in_err-pay.field-0.0 c.from_residual.ensures.1
     (statement-unpaid plan i c.args.statement.now m.top.left unpaid.1 (here-is plan i c.requires.instance) ∙ ap (λ (kind : FaultKind). faults kind (present_of i ++ i.rank ∷ [])) (sym unpaid.2))
+
+pub returns-in-Spawn-clause-child : goal.returns-in-Spawn-clause-child
+returns-in-Spawn-clause-child c = handed-child c.args.plan.now c.spawn.result c.handed.result c.handed.ensures c.spawn.ensures.child

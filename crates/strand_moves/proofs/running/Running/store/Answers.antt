@@ -3,7 +3,7 @@ use Rattle.std.proofs.lemmas.Int.{to_z-of_z}
 use Rattle.script_grammar.specs.declared.tree.Act.TheOpen as act
 use Rattle.serial_meaning.specs.Values.{value_of}
 use Rattle.strand_moves.specs.Running.{machine_of, present_of}
-use Rattle.strand_moves.specs.Moves.{acted, strand_of}
+use Rattle.strand_moves.specs.Moves.{acted, present_pedigree}
 use Rattle.strand_values.specs.Gives.{numbered}
 use Rattle.strand_moves.proofs.Statements.Conditions.{number-known, number-fault}
 use Rattle.strand_moves.proofs.Statements.Equations.{store, store-fault, store-index-fault, store-value-fault}
@@ -15,7 +15,7 @@ pub returns-in_err-index-clause-shows : goal.returns-in_err-index-clause-shows
 returns-in_err-index-clause-shows c = λ plan st.
     let i = c.args.self.now in
     let d = value_of c.args.i.now i.top.env in
-    quiet-exit (acted plan (present_of i) (machine_of plan i) st (act.Store c.args.x.now c.args.i.now c.args.e.now)) (strand_of (present_of i) (machine_of plan i)) _ c.from_residual.result c.in_err-index.field-0.0
+    quiet-exit (acted plan (present_of i) (machine_of plan i) st (act.Store c.args.x.now c.args.i.now c.args.e.now)) (present_pedigree (present_of i) (machine_of plan i)) _ c.from_residual.result c.in_err-index.field-0.0
     (numbered d) c.from_residual.ensures.1 c.in_err-index.ensures (λ kind h. store-index-fault plan (present_of i) (machine_of plan i) st c.args.x.now c.args.i.now c.args.e.now kind (number-fault d kind h))
 
 pub returns-then-is_none-clause-shows : goal.returns-then-is_none-clause-shows
@@ -35,7 +35,7 @@ returns-in_err-value-clause-shows c = λ plan st.
     let known = number-known (value_of c.args.i.now i.top.env) n c.in_ok-index.ensures in
     let at = rw (to_z-of_z w64 n fits, sym known.1.1) at c.item.ensures in
     let old = there c.item.result c.if-is_none.ensures in
-    quiet-exit (acted plan (present_of i) (machine_of plan i) st (act.Store c.args.x.now c.args.i.now c.args.e.now)) (strand_of (present_of i) (machine_of plan i)) _ c.from_residual-in_err-value.result
+    quiet-exit (acted plan (present_of i) (machine_of plan i) st (act.Store c.args.x.now c.args.i.now c.args.e.now)) (present_pedigree (present_of i) (machine_of plan i)) _ c.from_residual-in_err-value.result
     c.in_err-value.field-0.0 (value_of c.args.e.now i.top.env) c.from_residual-in_err-value.ensures.1 c.in_err-value.ensures
     (λ kind. store-value-fault plan (present_of i) (machine_of plan i) st c.args.x.now c.args.i.now c.args.e.now known.0 old.0 kind known.1.0 (sym at ∙ old.1))
 

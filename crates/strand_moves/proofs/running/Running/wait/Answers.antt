@@ -4,7 +4,7 @@ use Rattle.serial_meaning.specs.declared.event.Event.TheVariants as event
 use Rattle.strand_meaning.specs.Machine.{Emitted, sync_effects}
 use Rattle.strand_moves.specs.declared.running.Running.{Running}
 use Rattle.strand_moves.specs.Running.{machine_of, present_of}
-use Rattle.strand_moves.specs.Moves.{acted, strand_of}
+use Rattle.strand_moves.specs.Moves.{acted, present_pedigree}
 use Rattle.strand_moves.proofs.OpenScopes.Exits.{shows-made}
 use Rattle.strand_moves.proofs.Statements.Equations.{sync, went}
 use Rattle.strand_moves.proofs.running.Running.wait.Goals as goal
@@ -14,5 +14,5 @@ returns-clause-shows c = λ plan st.
     let i = c.args.self.now in
     let s = c.sync.ensures in
     let effects = Emitted (event.Sync (present_of i ++ i.rank ∷ [])) ∷ sync_effects i.top.spawned in
-    shows-made (acted plan (present_of i) (machine_of plan i) st act.Sync) (strand_of (present_of i) (machine_of plan i)) (machine_of plan c.sync.new.self) effects c.sync.result s.shown s.fine s.passed
+    shows-made (acted plan (present_of i) (machine_of plan i) st act.Sync) (present_pedigree (present_of i) (machine_of plan i)) (machine_of plan c.sync.new.self) effects c.sync.result s.shown s.fine s.passed
     (λ passed. sync plan (present_of i) (machine_of plan i) st ∙ ap (λ (x : Running). went effects (machine_of plan x)) (sym passed))

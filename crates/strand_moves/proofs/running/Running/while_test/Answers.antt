@@ -1,8 +1,8 @@
 use Rattle.std.proofs.Common.{◌∙◌}
 use Rattle.script_grammar.specs.declared.tree.Act.TheOpen as act
 use Rattle.serial_meaning.specs.Values.{value_of}
-use Rattle.strand_moves.specs.Running.{machine_of, present_of, text_of}
-use Rattle.strand_moves.specs.Moves.{acted, strand_of}
+use Rattle.strand_moves.specs.Running.{machine_of, present_of, statements_of}
+use Rattle.strand_moves.specs.Moves.{acted, present_pedigree}
 use Rattle.strand_values.specs.Gives.{holding}
 use Rattle.strand_moves.proofs.Statements.Conditions.{holding-known, holding-fault}
 use Rattle.strand_moves.proofs.Cursors.Entering.{turn-into}
@@ -14,14 +14,14 @@ pub returns-in_err-holds-clause-shows : goal.returns-in_err-holds-clause-shows
 returns-in_err-holds-clause-shows c = λ plan st body behind a.
     let i = c.args.self.now in
     let d = value_of c.args.e.now i.top.env in
-    quiet-exit (acted plan (present_of i) (machine_of plan i) st (act.While c.args.e.now body)) (strand_of (present_of i) (machine_of plan i)) _ c.from_residual.result c.in_err-holds.field-0.0
+    quiet-exit (acted plan (present_of i) (machine_of plan i) st (act.While c.args.e.now body)) (present_pedigree (present_of i) (machine_of plan i)) _ c.from_residual.result c.in_err-holds.field-0.0
     (holding d) c.from_residual.ensures.1 c.in_err-holds.ensures (λ kind h. turn-fault plan (present_of i) (machine_of plan i) st c.args.e.now body kind (holding-fault d kind h))
 
 pub returns-in_ok-enter_loop-clause-shows : goal.returns-in_ok-enter_loop-clause-shows
 returns-in_ok-enter_loop-clause-shows c = λ plan st body behind a.
     let i = c.args.self.now in
     let known = holding-known (value_of c.args.e.now i.top.env) c.in_ok-holds.holds c.in_ok-holds.ensures in
-    turn-into plan i st c.args.e.now known.0 c.enter_loop.new.self known.1.0 body (known.1.1 ∙ c.if-holds.true) a (c.in_ok-enter_loop.ensures (text_of plan i.top) st behind)
+    turn-into plan i st c.args.e.now known.0 c.enter_loop.new.self known.1.0 body (known.1.1 ∙ c.if-holds.true) a (c.in_ok-enter_loop.ensures (statements_of plan i.top) st behind)
 
 pub returns-else-holds-clause-shows : goal.returns-else-holds-clause-shows
 returns-else-holds-clause-shows c = λ plan st body behind a.

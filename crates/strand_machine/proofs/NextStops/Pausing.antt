@@ -1,0 +1,100 @@
+-- A task that comes to a stop and still has what it answers.
+use Rattle.std.proofs.Common.{◌≡◌, true, false, Option, Some, None, refl, sym, ap, ◌∙◌, subst}
+use Rattle.serial_meaning.specs.Answer.{AnswerView, AnswerTag, IsAnswer}
+use Rattle.serial_meaning.specs.Plan.{PlanView}
+use Rattle.serial_meaning.specs.declared.answer.Outcome.{Outcome}
+use Rattle.serial_meaning.specs.declared.answer.Outcome.TheVariants as outcome
+use Rattle.strand_meaning.specs.Cuts.{IsByFaultOf}
+use Rattle.strand_meaning.specs.Laws.{IsFaultOf}
+use Rattle.strand_machine.specs.Family.{FamilyView, tag}
+use Rattle.strand_machine.specs.Made.{KeepsAnswer, KnowsEnd, PausesAs, StopsSo, made}
+use Rattle.strand_machine.specs.Stops.{Advances, HasEnded, IsCutEnd, IsStop, Pauses, advances}
+use Rattle.strand_machine.specs.Tasks.{Holds, TaskView, cut_of, ended_by, is_cut_short, view_of}
+use Rattle.strand_machine.specs.declared.body.Body.{Body}
+use Rattle.strand_machine.specs.declared.parts.Parts.{Parts}
+use Rattle.strand_machine.specs.declared.stop.MoveOrStop.{MoveOrStop}
+use Rattle.strand_machine.specs.declared.stop.MoveOrStop.TheVariants as step-in
+use Rattle.strand_machine.specs.declared.stop.Passed.{Passed}
+use Rattle.strand_machine.specs.declared.stop.Passed.TheVariants as passed-in
+use Rattle.strand_machine.specs.declared.stop.Paused.{Paused}
+use Rattle.strand_machine.specs.declared.stop.Paused.TheVariants as paused-in
+use Rattle.strand_machine.specs.declared.stop.Stop.{Stop}
+use Rattle.strand_machine.specs.declared.stop.Stop.TheVariants as stop-in
+use Rattle.strand_machine.specs.declared.work.Work.{Work}
+use Rattle.strand_machine.specs.declared.work.Work.TheVariants as work
+use Rattle.strand_machine.proofs.NextStops.Advancing.{advances-uncut}
+
+by-fault : (plan : PlanView) (o : Outcome) → IsFaultOf plan o → IsByFaultOf plan o
+by-fault plan (outcome.Value v) h = h
+by-fault plan (outcome.Values vs) h = h
+by-fault plan (outcome.Fault f) h = h
+by-fault plan (outcome.Cut f) h = absurd h
+
+-- The fault by which it ended is known.
+pub knows-end : (t : TaskView) (p : Parts) (passed : Passed) → StopsSo t (made p passed) → KnowsEnd p passed
+knows-end t p passed-in.Goes h = tt
+knows-end t p passed-in.Waits h = tt
+knows-end t p (passed-in.Spawned child) h = tt
+knows-end t p (passed-in.Ends o) h =
+    let ended = ended_by p.body.trace.fault o in by-fault p.body.family.plan ended (subst (λ (plan : PlanView). IsFaultOf plan ended) (sym h.keeps.0) h.known)
+
+kept-end : (t rest : TaskView) (a : AnswerView) (give : AnswerTag) → IsStop t (stop-in.Done a give) → KeepsAnswer a (paused-in.Ended rest) → HasEnded t rest
+kept-end t rest a give h k =
+    let answer : record { plan = rest.task.plan; origin = rest.task.origin; out = rest.task.trace.prefix; outcome = a.outcome } ≡ a = rw (k.0, k.1, k.2) refl in
+    let give-is : tag rest.task.plan rest.task.origin ≡ give = rw (k.0, k.1, h.keeps.0, h.keeps.1) (sym h.keeps.2) in
+    record {
+      outcome = a.outcome;
+      cut = k.3;
+      stop = subst (λ (x : AnswerView). IsStop t (stop-in.Done x (tag rest.task.plan rest.task.origin))) (sym answer) (subst (λ (y : AnswerTag). IsStop t (stop-in.Done a y)) (sym give-is) h);
+    }
+
+-- What a task answers that has ended is its next stop.
+pub ended-stop : (t rest : TaskView) (s : Stop) → HasEnded t rest → Advances rest s → IsStop t s
+ended-stop t rest s h a =
+    let end : IsCutEnd rest h.outcome s = subst (λ (o : Option Outcome). advances o rest s) h.cut a in
+    subst (IsStop t) (sym end.is) h.stop
+
+-- What the code makes of a stop.
+pub waits-as : (p : Parts) (passed : Passed) → passed ≡ passed-in.Waits → PausesAs (made p passed) (paused-in.Wait (view_of p.body p.work))
+waits-as p passed is = subst (λ (x : Passed). PausesAs (made p x) (paused-in.Wait (view_of p.body p.work))) (sym is) refl
+
+pub spawns-as : (p : Parts) (passed : Passed) (child : TaskView) → passed ≡ passed-in.Spawned child → PausesAs (made p passed) (paused-in.Spawn child (view_of p.body p.work))
+spawns-as p passed child is = subst (λ (x : Passed). PausesAs (made p x) (paused-in.Spawn child (view_of p.body p.work))) (sym is) refl
+
+pub knows-at : (p : Parts) (passed : Passed) (o : Outcome) → passed ≡ passed-in.Ends o → KnowsEnd p passed → IsByFaultOf p.body.family.plan (ended_by p.body.trace.fault o)
+knows-at p passed o is h = subst (KnowsEnd p) is h
+
+pub keeps-end : (p new : Parts) (passed : Passed) (o : Outcome) → passed ≡ passed-in.Ends o → new.work ≡ work.Ends (ended_by p.body.trace.fault o) → new.body.family ≡ p.body.family → new.body.trace.prefix ≡ p.body.trace.prefix →
+    PausesAs (made p passed) (paused-in.Ended (view_of new.body new.work))
+keeps-end p new passed o is ends family prefix =
+    subst (λ (x : Passed). PausesAs (made p x) (paused-in.Ended (view_of new.body new.work))) (sym is)
+    (ap (λ (f : FamilyView). f.plan) family, ap (λ (f : FamilyView). f.origin) family, prefix, ap cut_of ends)
+
+pub holds-end : (b : Body) (ended : Outcome) (w : Work) → w ≡ work.Ends ended → IsAnswer b.family.plan b.family.origin b.trace.prefix ended → IsByFaultOf b.family.plan ended → b.waiting ≡ false → Holds b w
+holds-end b ended w is answers known waits = subst (Holds b) (sym is) (record { answers = answers; known = known; waits = waits })
+
+-- What the code makes of it is its pause.
+pub pauses : (t : TaskView) (m : MoveOrStop) (p : Paused) → StopsSo t m → PausesAs m p → Pauses t p
+pauses t (step-in.Passes next) p h k = absurd k
+pauses t (step-in.Stops (stop-in.Spawn child rest)) p h k = subst (Pauses t) (sym k) h
+pauses t (step-in.Stops (stop-in.Wait rest)) p h k = subst (Pauses t) (sym k) h
+pauses t (step-in.Stops (stop-in.Done a give)) (paused-in.Spawn child rest) h k = absurd k
+pauses t (step-in.Stops (stop-in.Done a give)) (paused-in.Wait rest) h k = absurd k
+pauses t (step-in.Stops (stop-in.Done a give)) (paused-in.Ended rest) h k = kept-end t rest a give h k
+
+-- The stop that a pause comes to.
+module _ (t : TaskView) (p : Paused) (h : Pauses t p) where
+  pub spawns-so : (child rest : TaskView) → t.cut ≡ None → p ≡ paused-in.Spawn child rest → Advances t (stop-in.Spawn child rest)
+  spawns-so child rest goes is = advances-uncut t (stop-in.Spawn child rest) goes (subst (Pauses t) is h)
+
+  pub waits-so : (rest : TaskView) → t.cut ≡ None → p ≡ paused-in.Wait rest → Advances t (stop-in.Wait rest)
+  waits-so rest goes is = advances-uncut t (stop-in.Wait rest) goes (subst (Pauses t) is h)
+
+  has-ended : (rest : TaskView) → p ≡ paused-in.Ended rest → HasEnded t rest
+  has-ended rest is = subst (Pauses t) is h
+
+  pub ended-short : (rest : TaskView) → p ≡ paused-in.Ended rest → is_cut_short rest.cut ≡ true
+  ended-short rest is = ap is_cut_short (has-ended rest is).cut
+
+  pub ends-so : (rest : TaskView) (s : Stop) → t.cut ≡ None → p ≡ paused-in.Ended rest → Advances rest s → Advances t s
+  ends-so rest s goes is a = advances-uncut t s goes (ended-stop t rest s (has-ended rest is) a)

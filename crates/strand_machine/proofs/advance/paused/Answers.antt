@@ -1,0 +1,42 @@
+use Rattle.std.proofs.Common.{sym, subst}
+use Rattle.strand_meaning.specs.Cuts.{IsByFaultOf}
+use Rattle.strand_machine.specs.Made.{CanEnd, KnowsEnd, PausesAs, made}
+use Rattle.strand_machine.specs.Tasks.{ended_by, view_of}
+use Rattle.strand_machine.specs.declared.parts.Parts.{Parts}
+use Rattle.strand_machine.specs.declared.stop.Paused.TheVariants as paused-in
+use Rattle.strand_machine.proofs.Moves.Making.{ends-can, never-goes, spawned-holds, waits-holds}
+use Rattle.strand_machine.proofs.NextStops.Pausing.{keeps-end, knows-at, spawns-as, waits-as}
+use Rattle.strand_machine.proofs.advance.paused.Goals as goal
+
+pub unreachable-requires : goal.unreachable-requires
+unreachable-requires c = never-goes c.args.passed c.in-Goes.is c.requires.stops
+
+pub invariant_of-result : goal.invariant_of-result
+invariant_of-result c = waits-holds c.args.parts.value c.args.passed c.in-Waits.is c.requires.sound
+
+pub returns-in-Waits : goal.returns-in-Waits
+returns-in-Waits c = waits-as c.args.parts.value c.args.passed c.in-Waits.is
+
+pub invariant_of-result-in-Spawned : goal.invariant_of-result-in-Spawned
+invariant_of-result-in-Spawned c = spawned-holds c.args.parts.value c.args.passed c.in-Spawned.child c.in-Spawned.is c.requires.sound
+
+pub returns-in-Spawned : goal.returns-in-Spawned
+returns-in-Spawned c = spawns-as c.args.parts.value c.args.passed c.in-Spawned.child c.in-Spawned.is
+
+pub keep_end-requires-clause-can : goal.keep_end-requires-clause-can
+keep_end-requires-clause-can c =
+    subst (λ (p : Parts). CanEnd p.body c.in-Ends.outcome) (sym c.deref_mut.ensures.value) (ends-can c.args.parts.value c.args.passed c.in-Ends.outcome c.in-Ends.is c.requires.sound)
+
+pub keep_end-requires-clause-known : goal.keep_end-requires-clause-known
+keep_end-requires-clause-known c =
+    subst (λ (p : Parts). IsByFaultOf p.body.family.plan (ended_by p.body.trace.fault c.in-Ends.outcome)) (sym c.deref_mut.ensures.value)
+    (knows-at c.args.parts.value c.args.passed c.in-Ends.outcome c.in-Ends.is c.requires.known)
+
+pub invariant_of-result-in-Ends : goal.invariant_of-result-in-Ends
+invariant_of-result-in-Ends c = c.keep_end.ensures.holds
+
+pub returns-in-Ends : goal.returns-in-Ends
+returns-in-Ends c =
+    let k = c.keep_end.ensures in
+    let left = c.keep_end.new.parts in
+    subst (λ (p : Parts). PausesAs (made p c.args.passed) (paused-in.Ended (view_of left.body left.work))) c.deref_mut.ensures.value (keeps-end c.deref_mut.result.now c.keep_end.new.parts c.args.passed c.in-Ends.outcome c.in-Ends.is k.work k.family k.prefix)

@@ -1,0 +1,25 @@
+use Rattle.std.proofs.Common.{◌≡◌, ℕ, ◌+◌, Bool, true, false, List, [], ◌∷◌, ◌++◌, sym, ap, ◌∙◌}
+use Rattle.serial_meaning.specs.Functions.{function_at}
+use Rattle.serial_meaning.specs.Plan.{functions_of}
+use Rattle.serial_meaning.specs.declared.event.Event.TheVariants as event
+use Rattle.strand_meaning.specs.Machine.{Emitted, spawns_in, sync_effects}
+use Rattle.strand_moves.specs.declared.running.Running.{Running}
+use Rattle.strand_moves.specs.Running.{machine_of, present_of}
+use Rattle.strand_moves.proofs.Statements.Equations.{went}
+use Rattle.strand_moves.proofs.Frames.Ending.{return-joined}
+use Rattle.strand_moves.proofs.running.Running.return_alone.Goals as goal
+
+pub returns-clause-shows : goal.returns-clause-shows
+returns-clause-shows c =
+    let plan = c.args.plan.now in
+    let i = c.args.self.now in
+    let paid = c.pay.new.self in
+    let pays = c.in_ok-pay.ensures in
+    let new : Running = record paid { rank = paid.rank + 1; top = record paid.top { returning = true } } in
+    let alone : paid.top.spawned ≡ false = ap (λ (x : Running). x.top.spawned) pays.ok ∙ c.requires.alone in
+    let is : new ≡ record paid { rank = paid.rank + 1; top = record paid.top { returning = true; spawned = false } } =
+    ap (λ (b : Bool). let x : Running = record paid { rank = paid.rank + 1; top = record paid.top { returning = true; spawned = b } } in x) alone in
+    let spawns = ap (λ (x : Running). spawns_in (function_at (functions_of plan) x.top.function)) pays.ok in
+    return-joined plan i c.requires.here paid paid.steps pays.ok pays.paid new (sym spawns ∙ sym c.has_spawns.ensures ∙ c.if-not-has_spawns.false) is
+    ∙ ap (λ (b : Bool). went (Emitted (event.Sync (present_of paid ++ paid.rank ∷ [])) ∷ sync_effects b) (machine_of plan new)) alone
+    ∙ ap (λ (j : List ℕ). went (Emitted (event.Sync j) ∷ []) (machine_of plan new)) (sym c.in_ok-pedigree.ensures)
