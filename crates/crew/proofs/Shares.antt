@@ -6,7 +6,9 @@ use Rattle.once_cell.specs.contracts.race.once_box.OnceBox as cell
 use Rattle.std.proofs.Crossing.{Arc-send, Box-send, Vec-send, Vec-sync, Deque-send}
 use Rattle.std.proofs.option.Option.TheSendSync as option_shared
 use Rattle.crossbeam_utils.proofs.cache_padded.CachePadded.TheSendSync as padded_shared
-use Rattle.serial_meaning.proofs.CodeLemmas.Shares.{known_sends, known_syncs}
+use Rattle.script_grammar.proofs.items.Items.TheSendSync as items_shared
+use Rattle.serial_meaning.proofs.CodeLemmas.Shares.{answer_sends, known_sends, known_syncs}
+use Rattle.serial_meaning.specs.contracts.answer.Answer as answer
 use Rattle.serial_meaning.specs.contracts.known.Known as known
 use Rattle.steal_deck.proofs.deck.Deck.TheSendSync as deck_shared
 use Rattle.steal_deck.proofs.thief.Thief.TheSendSync as thief_shared
@@ -47,7 +49,7 @@ held_sends = declared_send held.the_type (
       deck_shared.the_send task.the_row task_sends,
       (
         Deque-send stalled.the_row stalled_sends,
-        (Vec-send (thief.the_row task.the_row) (thief_shared.the_send task.the_row task_sends), (faults_sends, tt)),
+        (Vec-send (thief.the_row task.the_row) (thief_shared.the_send task.the_row task_sends), (items_shared.the_send answer.the_row answer_sends, (faults_sends, tt))),
       ),
     ),
   ),

@@ -1,5 +1,5 @@
 -- Where a task stops at a wait, it stands in it; what it gives at its end is its give's; and a fault by which it ends is one of its plan's.
-use Rattle.std.proofs.Common.{◌≡◌, ℕ, zero, suc, ◌-◌, true, false, List, [], ◌∷◌, Option, Some, None, Result, Ok, Err, refl, sym, ap, ◌∙◌, subst}
+use Rattle.std.proofs.Common.{◌≡◌, inl, ℕ, zero, suc, ◌-◌, true, false, List, [], ◌∷◌, Option, Some, None, Result, Ok, Err, IfOk, refl, sym, ap, ◌∙◌, subst}
 use Rattle.loop_range.specs.Range.{Range}
 use Rattle.serial_meaning.specs.Answer.{AnswerView, AnswerTag}
 use Rattle.serial_meaning.specs.Eval.{path_of}
@@ -17,10 +17,15 @@ use Rattle.strand_meaning.specs.Task.{InstanceState, Running, AtSync, AtLoop, En
 use Rattle.strand_machine.specs.Family.{tag}
 use Rattle.strand_meaning.specs.Cuts.{IsByFaultOf}
 use Rattle.strand_meaning.specs.Laws.{IsFaultOf}
-use Rattle.strand_machine.specs.Stops.{IsCutEnd, IsResumed, advances, Advances}
+use Rattle.strand_machine.specs.Stops.{IsCutEnd, IsResumed, Pauses, advances, Advances}
 use Rattle.strand_machine.specs.Tasks.{TaskView}
+use Rattle.strand_machine.specs.declared.stop.Paused.TheVariants as paused
 use Rattle.strand_machine.specs.declared.stop.Stop.TheVariants as stop
 use Rattle.strand_machine.specs.declared.stop.Resumed.TheVariants as resumed
+use Rattle.strand_machine.proofs.NextStops.Pausing.{ends-so}
+use Rattle.crew.specs.Hands.{HandView, HasPut, IsAnswered, Advances as AdvancesHand}
+use Rattle.crew.specs.declared.hand.Turn.{Turn}
+use Rattle.crew.specs.declared.hand.Turn.TheVariants.{Ran, Answered, Ended as EndedRoot, Popped, Resumed, Waiting, Stole, Idle}
 
 abbrev StandsIn : Stop → Type 0
 StandsIn (Spawn child rest) = Unit {0}
@@ -133,3 +138,38 @@ gives_its_own t answer give at =
 
 pub ends_by_its_plans : (t : TaskView) (answer : AnswerView) (give : AnswerTag) → Advances t (stop.Done answer give) → IsByFaultOf answer.plan answer.outcome
 ends_by_its_plans t answer give at = let g = gives t answer give at in subst (λ (p : PlanView). IsByFaultOf p answer.outcome) (sym g.plan) g.known
+
+-- What was put
+
+pub has_put : (t : TaskView) (answer : AnswerView) (give : AnswerTag) (turn : Turn) → Advances t (stop.Done answer give) → IsAnswered give turn → HasPut t turn
+has_put t answer give turn at put = ((answer, give, at), subst (λ (g : AnswerTag). IsAnswered g turn) (gives t answer give at).given put)
+
+-- what is left of a task that has ended answers for it
+put-for : (t rest : TaskView) (turn : Turn) → t.cut ≡ None → Pauses t (paused.Ended rest) → HasPut rest turn → HasPut t turn
+put-for t rest turn goes h put =
+    let a = put.0 in (
+      (a.0, a.1, ends-so t (paused.Ended rest) h rest (stop.Done a.0 a.1) goes refl a.2),
+      subst (λ (o : Origin). IsAnswered (tag t.task.plan o) turn) h.stop.keeps.1 (subst (λ (p : PlanView). IsAnswered (tag p rest.task.origin) turn) h.stop.keeps.0 put.1),
+    )
+
+module _ (t : TaskView) (old new : HandView) (none : old.current ≡ None) (same : new ≡ old) where
+  still : new ≡ record old { current = None }
+  still = same ∙ ap (λ (o : Option TaskView). record old { current = o }) none
+
+  advances-by : (turn : Turn) → HasPut t turn → AdvancesHand t old turn new
+  advances-by Ran put = absurd put.1
+  advances-by (Answered arrived) put = (inl put.0, put.1, still)
+  advances-by (EndedRoot arrived) put = (inl put.0, put.1, still)
+  advances-by Popped put = absurd put.1
+  advances-by Resumed put = absurd put.1
+  advances-by Waiting put = absurd put.1
+  advances-by Stole put = absurd put.1
+  advances-by Idle put = absurd put.1
+
+  pub put_advances : {E : Type 0} (r : Result Turn E) → IfOk r (HasPut t) → IfOk r (λ turn. AdvancesHand t old turn new)
+  put_advances (Ok turn) put = advances-by turn put
+  put_advances (Err e) put = tt
+
+  pub end_advances : {E : Type 0} (rest : TaskView) (r : Result Turn E) → t.cut ≡ None → Pauses t (paused.Ended rest) → IfOk r (HasPut rest) → IfOk r (λ turn. AdvancesHand t old turn new)
+  end_advances rest (Ok turn) goes h put = advances-by turn (put-for t rest turn goes h put)
+  end_advances rest (Err e) goes h put = tt

@@ -67,6 +67,10 @@ IsAnswered asked _ = ⊥
 abbrev pub HasEnded : TaskView → Type 0
 HasEnded t = (answer : AnswerView) × (give : AnswerTag) × AdvancesTo t (stop.Done answer give)
 
+-- It did, and its answer was put.
+abbrev pub HasPut : TaskView → Turn → Type 0
+HasPut t turn = HasEnded t × IsAnswered (tag t.task.plan t.task.origin) turn
+
 -- The task is cut, and nothing of it was done: a fault of its plan stands before its path, and before that of each loop that it is a part of
 -- or below.
 abbrev pub MayBeCut : TaskView → Type 0

@@ -125,6 +125,7 @@ impl Faults {
     }
 
     /// The fault of a cell, if it was set.
+    #[inline(always)]
     fn at(&self, place: usize) -> Option<&Known> {
         self.cells.get(place)?.get()
     }
@@ -155,6 +156,7 @@ impl Faults {
     }
 
     /// Reads on. Where no memory is found for one plan more, nothing of that plan is cut.
+    #[inline(always)]
     fn read_on(&mut self) {
         for i in self.read..self.cells.len() {
             let Some(known) = self.at(i) else {
@@ -208,6 +210,7 @@ impl Faults {
     }
 
     /// The fault that the hand knows by which it may cut the task, if there is one.
+    #[inline(always)]
     fn cutting(&self, task: &Task) -> Option<Fault>
         ensures { IfSome result (λ by. IsCut task.now.task.plan task.now.task.origin by) }
     {
@@ -227,6 +230,7 @@ impl Faults {
     }
 
     /// The fault by which the task is cut, if the hand knows one that may cut it.
+    #[inline(always)]
     pub fn cut(&mut self, task: &Task) -> Option<Fault>
         ensures { IfSome result (λ by. IsCut task.now.task.plan task.now.task.origin by) }
     {

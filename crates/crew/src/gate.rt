@@ -8,6 +8,11 @@ pub trait Gate {
 
     /// Called once the answer of a task of this origin was put that was advanced.
     fn leave(&self, origin: &Origin);
+
+    /// Whether `leave` is called. Where it isn't, no origin is copied for it.
+    fn hears_ends(&self) -> bool {
+        true
+    }
 }
 
 /// The gate that holds nothing up.
@@ -17,4 +22,8 @@ impl Gate for OpenGate {
     fn enter(&self, _origin: &Origin) {}
 
     fn leave(&self, _origin: &Origin) {}
+
+    fn hears_ends(&self) -> bool {
+        false
+    }
 }

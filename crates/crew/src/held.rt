@@ -1,5 +1,7 @@
 use crate::faults::Faults;
 use crate::stalled::Stalled;
+use script_grammar::Items;
+use serial_meaning::Answer;
 use std::collections::VecDeque;
 use steal_deck::{Deck, Thief};
 use strand_machine::Task;
@@ -14,6 +16,8 @@ pub(crate) struct Held {
     pub stalled: VecDeque<Stalled>,
     /// Those of the other hands' decks, from the next number upwards and round.
     pub thieves: Vec<Thief<Task>>,
+    /// Room for the answers that a task takes.
+    pub answers: Items<Answer>,
     /// What it knows of the faults that the hands of its crew met.
     pub faults: Faults,
 }

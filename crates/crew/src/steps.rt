@@ -4,9 +4,10 @@ ghost use Rattle.serial_meaning.specs.Answer.{IsCut};
 ghost use Rattle.serial_meaning.specs.Eval.{main_origin};
 ghost use Rattle.strand_meaning.specs.Cuts.{IsByFaultOf};
 ghost use Rattle.strand_machine.specs.Family.{tag};
+ghost use Rattle.strand_machine.specs.Tasks.{is_cut_short};
 ghost use Rattle.strand_machine.specs.declared.stop.Stop.TheVariants as stop;
 ghost use Rattle.steal_deck.specs.Ends.{FindsNone};
-ghost use Rattle.crew.specs.Hands.{view_of, IsPut, Runs, IsAnswered, Advances, IsNewest, FindsNoTask, TakesUp, Looks, LooksNewest, AllMiss, FirstSteals, StealsOr, Seeks, IsTurn, IsLate, KeepsLate};
+ghost use Rattle.crew.specs.Hands.{view_of, IsPut, Runs, IsAnswered, HasPut, Advances, IsNewest, FindsNoTask, TakesUp, Looks, LooksNewest, AllMiss, FirstSteals, StealsOr, Seeks, IsTurn, IsLate, KeepsLate};
 
 use crate::faults::Faults;
 use crate::gate::Gate;
@@ -15,12 +16,14 @@ use crate::held::Held;
 use crate::memory::Memory;
 use crate::stalled::Stalled;
 use meet_block::Give;
+use script_grammar::Items;
 use serial_meaning::plan::function_number;
 use serial_meaning::{Answer, Fault, Origin, Outcome, Plan};
 use std::alloc::Global;
 use std::collections::VecDeque;
+use std::mem;
 use steal_deck::{Deck, Steal, Thief};
-use strand_machine::{Resumed, Stop, Task, share_origin};
+use strand_machine::{Paused, Resumed, Task, share_origin};
 
 /// What a look at a stalled task found.
 #[derive(Drop)]
@@ -115,6 +118,7 @@ fn is_main(plan: &Plan, origin: &Origin) -> bool
 }
 
 /// Puts the answer of a task that has ended or was cut.
+#[inline(always)]
 fn put_answer(answer: Answer, give: Give<Answer>) -> Turn
     requires { give ≡ tag answer.plan answer.origin }
     ensures { IsAnswered give result }
@@ -129,6 +133,7 @@ fn put_answer(answer: Answer, give: Give<Answer>) -> Turn
 }
 
 /// Tells the hands of the fault by which a task ended, if it did.
+#[inline(always)]
 fn publish_fault(alloc: Global, faults: &mut Faults, answer: &Answer)
     requires { IsByFaultOf answer.now.plan answer.now.outcome }
 {
@@ -137,51 +142,46 @@ fn publish_fault(alloc: Global, faults: &mut Faults, answer: &Answer)
     }
 }
 
-/// Puts the answer of a task that has ended, whatever memory is left, and tells the gate. Also answers whether there was memory for that.
-fn end<G: Gate>(
-    held: &mut Held,
-    alloc: Global,
-    answer: Answer,
-    give: Give<Answer>,
-    gate: &G,
-) -> (Turn, Result<(), Memory>)
-    requires known { IsByFaultOf answer.plan answer.outcome }
-    requires give { give ≡ tag answer.plan answer.origin }
-    ensures put { IsAnswered give result.0 }
+/// Puts the answer of a task that has ended or took a cut for an answer, whatever memory is left, and tells the gate.
+#[tactic(auto, using(crate::proofs::Stopping::gives_its_own, crate::proofs::Stopping::has_put))]
+#[inline(always)]
+fn end<G: Gate>(held: &mut Held, task: Task, alloc: Global, gate: &G) -> Result<Turn, Memory>
+    requires { is_cut_short task.cut ≡ true }
+    ensures put { IfOk result (HasPut task) }
     ensures held { view_of held.new ≡ view_of held.old }
 {
+    let (answer, give) = task.finish();
     publish_fault(alloc, &mut held.faults, &answer);
+    if !gate.hears_ends() {
+        return Ok(put_answer(answer, give));
+    }
     let origin = share_origin(alloc, &answer.origin);
     let turn = put_answer(answer, give);
-    if let Ok(origin) = &origin {
-        gate.leave(origin);
-    }
-    (turn, origin.map(drop))
+    gate.leave(&origin?);
+    Ok(turn)
 }
 
 /// Runs this task, which was the current one, to its next stop.
-#[tactic(auto, using(crate::proofs::Stopping::waits_there, crate::proofs::Stopping::gives_its_own))]
 fn advance<G: Gate>(held: &mut Held, task: Task, alloc: Global, gate: &G) -> Result<Turn, Memory>
     requires { held.old.current ≡ None }
     ensures ok { IfOk result (λ turn. Advances task (view_of held.old) turn (view_of held.new)) }
     ensures err { OnErr result (held.new.current ≡ None) }
     ensures late { KeepsLate (view_of held.old) (view_of held.new) }
 {
-    let stop = task.advance(alloc)?;
-    match stop {
-        Stop::Spawn { child, rest } => {
+    if task.is_cut_short() {
+        return end(held, task, alloc, gate);
+    }
+    let paused = task.run(alloc)?;
+    match paused {
+        Paused::Spawn { child, rest } => {
             hand_out(held, child, rest)?;
             Ok(Turn::Ran)
         }
-        Stop::Wait { rest } => {
+        Paused::Wait { rest } => {
             stall(&mut held.stalled, rest)?;
             Ok(Turn::Ran)
         }
-        Stop::Done { answer, give } => {
-            let (turn, told) = end(held, alloc, answer, give, gate);
-            told?;
-            Ok(turn)
-        }
+        Paused::Ended { rest } => end(held, rest, alloc, gate),
     }
 }
 
@@ -247,7 +247,10 @@ fn take_up(held: &mut Held, task: Task, alloc: Global) -> Result<TakeUp, Memory>
     ensures err { OnErr result (held.new.current ≡ None) }
     ensures late { KeepsLate (view_of held.old) (view_of held.new) }
 {
-    let resumed = task.resume(alloc)?;
+    let mut room = mem::replace(&mut held.answers, Items(Vec::new(alloc)));
+    room.0.clear();
+    let (resumed, room) = task.resume_in(alloc, room)?;
+    held.answers = room;
     match resumed {
         Resumed::On(task) => {
             held.current = Some(task);

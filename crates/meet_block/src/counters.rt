@@ -55,7 +55,7 @@ fn first_owing<A: Tagged + Drop>(blocks: &mut [CounterEnd<A>], from: usize) -> O
 }
 
 // The block in which the child i has its place.
-fn block_of<A: Tagged + Drop>(blocks: &[CounterEnd<A>], i: u64) -> usize
+fn block_holding<A: Tagged + Drop>(blocks: &[CounterEnd<A>], i: u64) -> usize
     requires numbered { Numbered 0 blocks.now }
     requires within { i < length (tags_of blocks.now) }
     ensures { (block : CounterView A.Key) × Holds blocks.now i result block }
@@ -183,7 +183,7 @@ impl<A: Tagged + Drop> Counters<A> {
         ensures taken { self.new
             ≡ joined self.old.tags (slice_set self.old.taken i true) true self.old.loads }
     {
-        let at = block_of(self.blocks.as_slice(), i);
+        let at = block_holding(self.blocks.as_slice(), i);
         let block = &mut self.blocks.as_mut_slice()[at];
         let place = (i - block.first()) as usize;
         block.take(place)

@@ -2,3 +2,4 @@ pub mod Distinct
 pub mod Entries
 pub mod Indexed
 pub mod Shares
+pub mod PlaceIndex

@@ -20,14 +20,14 @@ Violations = Declared → Names → List Violation
 pub record Reading : Type 0 where
   pub at : ℕ
   pub kind : Declared → Option Kind
-  pub faults : Violations
+  pub violations : Violations
 
 abbrev pub int_at : ℕ → Violations → Reading
-int_at at faults = record { at = at; kind = λ known. Some Int; faults = faults }
+int_at at violations = record { at = at; kind = λ known. Some Int; violations = violations }
 
 -- it has to have this kind
 unfoldable pub wanted : Kind → Reading → Violations
-wanted kind r known p = r.faults known p ++ wrong_kind kind (r.kind known) r.at
+wanted kind r known p = r.violations known p ++ wrong_kind kind (r.kind known) r.at
 
 unfoldable pub two_wanted : Kind → Reading → Reading → Violations
 two_wanted kind a b known p = wanted kind a known p ++ wanted kind b known p
@@ -39,7 +39,7 @@ all_wanted kind (r ∷ rs) known p = wanted kind r known p ++ all_wanted kind rs
 -- one node, with what is read of its parts in their places
 abbrev pub read_at : Expr-F Reading Reading Reading → Reading
 read_at (node.Number n) = int_at n.at (λ known p. [])
-read_at (node.Var x) = record { at = x.at; kind = λ known. kind_of (known.what x.bytes); faults = λ known p. scalar_use (known.what x.bytes) p x }
+read_at (node.Var x) = record { at = x.at; kind = λ known. kind_of (known.what x.bytes); violations = λ known p. scalar_use (known.what x.bytes) p x }
 read_at (node.Item x i) = int_at x.at (λ known p. array_use (known.what x.bytes) p x ++ wanted Int i known p)
 read_at (node.Neg at e) = int_at at (wanted Int e)
 read_at (node.Same at a b) = int_at at (two_wanted Id a b)

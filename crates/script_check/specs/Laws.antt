@@ -1,18 +1,20 @@
--- Laws of the pending sets, and of the fault that is told. Each is the contract of a function of the module `laws`.
-use Rattle.std.specs.Prelude.{◌≡◌, ℕ, ◌<◌, ◌≤◌, ◌⊎◌, List, [], All}
+-- Laws of the pending sets, of the fault that is told, and of the table of places. Each is the contract of a function of the module `laws`.
+use Rattle.std.specs.Prelude.{◌≡◌, ℕ, ◌<◌, ◌≤◌, ◌⊎◌, true, List, [], length, All}
 use Rattle.script_grammar.specs.declared.tree.Stmt.{Stmt}
 use Rattle.script_grammar.specs.declared.tree.Script.{Script}
 use Rattle.script_check.specs.Names.{Names, IsWithin, both}
-use Rattle.script_check.specs.Rules.{Declared}
-use Rattle.script_check.specs.Statements.{Context, judge_all, faults_each, after}
-use Rattle.script_check.specs.Valid.{violations, CheckFault}
+use Rattle.script_check.specs.Rules.{Declared, most_variables}
+use Rattle.script_check.specs.Statements.{Context, judge_all, violations_each, after}
+use Rattle.script_grammar.specs.Text.{IsOfText}
+use Rattle.script_check.specs.Places.{finds_all, places_of, variable_names}
+use Rattle.script_check.specs.Valid.{violations, CheckFault, IsValid}
 
 -- Statements that are valid from a set are valid from each subset of it, with no more pending after them.
 abbrev pub FewerPendingStaysValid : Type 0
 FewerPendingStaysValid =
-    (statements : List Stmt) (place : Context) (known : Declared) (fewer p : Names) → IsWithin fewer p →
-    faults_each (judge_all statements) place known p ≡ [] →
-    (faults_each (judge_all statements) place known fewer ≡ []) × IsWithin (after statements fewer) (after statements p)
+    (statements : List Stmt) (context : Context) (known : Declared) (fewer p : Names) → IsWithin fewer p →
+    violations_each (judge_all statements) context known p ≡ [] →
+    (violations_each (judge_all statements) context known fewer ≡ []) × IsWithin (after statements fewer) (after statements p)
 
 -- The set that a `while` is judged with has all that its body leaves pending from that set.
 abbrev pub LoopSetIsClosed : Type 0
@@ -26,3 +28,11 @@ FaultIsUnique = (script : Script) (number at other place : ℕ) → CheckFault s
 abbrev pub FaultIsFirst : Type 0
 FaultIsFirst =
     (script : Script) (number at : ℕ) → CheckFault script number at → All (λ v. (at < v.at) ⊎ ((at ≡ v.at) × (number ≤ v.number))) (violations script)
+
+-- The table that is made of a valid script of a text has the place of each variable that the script names.
+abbrev pub PlacesAreFound : Type 0
+PlacesAreFound = (script : Script) → IsOfText script → IsValid script → finds_all (places_of script.functions) script.functions ≡ true
+
+-- A function of a valid script has at most 256 variables.
+abbrev pub VariablesAreFew : Type 0
+VariablesAreFew = (script : Script) → IsValid script → All (λ f. length (variable_names f) ≤ most_variables) script.functions

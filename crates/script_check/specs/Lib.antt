@@ -10,3 +10,4 @@ pub mod Valid
 pub mod Walk
 pub mod Laws
 pub mod Spawns
+pub mod Places

@@ -26,7 +26,7 @@ use Rattle.script_check.specs.Expressions.{Violations, Reading, wanted, two_want
 -- arguments, each of its parameter's kind
 abbrev pub arguments : List Param → List Expr → Violations
 arguments params [] known p = []
-arguments [] (e ∷ es) known p = (read e).faults known p ++ arguments [] es known p
+arguments [] (e ∷ es) known p = (read e).violations known p ++ arguments [] es known p
 arguments (q ∷ params) (e ∷ es) known p = wanted q.kind (read e) known p ++ arguments params es known p
 
 abbrev pub call_of : Option Function → CallText → Violations
@@ -66,14 +66,14 @@ module _ (functions : List Function) where
 
   abbrev pub read_right : Right → Reading
   read_right (right.Value e) = read e
-  read_right (right.Draw at) = record { at = at; kind = λ known. Some Int; faults = λ known p. [] }
-  read_right (right.New at) = record { at = at; kind = λ known. Some Id; faults = λ known p. [] }
-  read_right (right.Call at c) = record { at = at; kind = λ known. answer_kind_of (function_named functions c.name.bytes); faults = call c }
-  read_right (right.Spawn at c) = record { at = at; kind = λ known. answer_kind_of (function_named functions c.name.bytes); faults = call c }
+  read_right (right.Draw at) = record { at = at; kind = λ known. Some Int; violations = λ known p. [] }
+  read_right (right.New at) = record { at = at; kind = λ known. Some Id; violations = λ known p. [] }
+  read_right (right.Call at c) = record { at = at; kind = λ known. answer_kind_of (function_named functions c.name.bytes); violations = call c }
+  read_right (right.Spawn at c) = record { at = at; kind = λ known. answer_kind_of (function_named functions c.name.bytes); violations = call c }
 
 -- a right side that is set: where the variable has a kind, that kind
 abbrev pub wanted_as : Option Kind → Reading → Violations
-wanted_as None r = r.faults
+wanted_as None r = r.violations
 wanted_as (Some kind) r = wanted kind r
 
 -- what stands for the kind where there is none
@@ -86,22 +86,22 @@ pub record Context : Type 0 where
   pub functions : List Function
   pub in_block : Bool
 
-abbrev pub place : List Function → Bool → Context
-place functions in_block = record { functions = functions; in_block = in_block }
+abbrev pub context : List Function → Bool → Context
+context functions in_block = record { functions = functions; in_block = in_block }
 
 -- what a statement is to those after it, and its violations
 pub record Judged : Type 0 where
   pub after : Names → Names
   pub known : List Function → Declared → Declared
-  pub faults : Context → Violations
+  pub violations : Context → Violations
 
 abbrev pub known_each : List Judged → List Function → Declared → Declared
 known_each [] functions known = known
 known_each (j ∷ js) functions known = known_each js functions (j.known functions known)
 
-abbrev pub faults_each : List Judged → Context → Violations
-faults_each [] place known p = []
-faults_each (j ∷ js) place known p = j.faults place known p ++ faults_each js place (j.known place.functions known) (j.after p)
+abbrev pub violations_each : List Judged → Context → Violations
+violations_each [] context known p = []
+violations_each (j ∷ js) context known p = j.violations context known p ++ violations_each js context (j.known context.functions known) (j.after p)
 
 -- what a statement makes known; the first of a name stays
 abbrev pub known_act : {A : Type 0} → Act-F A Judged → List Function → Declared → Declared
@@ -119,34 +119,34 @@ known_act (act.Pfor x lo hi target c) functions known = known
 known_act (act.Scope a) functions known = known_each a functions known
 
 -- the violations of a block
-abbrev pub block_faults : List Judged → Context → Violations
-block_faults js place = faults_each js (record place { in_block = true })
+abbrev pub block_violations : List Judged → Context → Violations
+block_violations js context = violations_each js (record context { in_block = true })
 
 -- the violations of a statement at an offset
-abbrev pub faults_act : {A : Type 0} → Act-F A Judged → ℕ → Context → Violations
-faults_act (act.Let x r) at place known p =
-    let_in_a_block place.in_block at ++ (read_right place.functions r).faults known p ++ declaration known x
-faults_act (act.Array x n) at place known p = let_in_a_block place.in_block at ++ declaration known x ++ array_length n
-faults_act (act.Set x r) at place known p =
-    scalar_use (known.what x.bytes) p x ++ wanted_as (kind_of (known.what x.bytes)) (read_right place.functions r) known p
-faults_act (act.Store x i e) at place known p = array_use (known.what x.bytes) p x ++ two_wanted Int (read i) (read e) known p
-faults_act (act.Spawn c) at place known p = call place.functions c known p
-faults_act (act.Call c) at place known p = call place.functions c known p
-faults_act act.Sync at place known p = []
-faults_act (act.Print e) at place known p = (read e).faults known p
-faults_act (act.If e a b) at place known p =
-    wanted Int (read e) known p ++ block_faults a place known p ++ block_faults b place (known_each a place.functions known) p
-faults_act (act.While e a) at place known p =
+abbrev pub violations_act : {A : Type 0} → Act-F A Judged → ℕ → Context → Violations
+violations_act (act.Let x r) at context known p =
+    let_in_a_block context.in_block at ++ (read_right context.functions r).violations known p ++ declaration known x
+violations_act (act.Array x n) at context known p = let_in_a_block context.in_block at ++ declaration known x ++ array_length n
+violations_act (act.Set x r) at context known p =
+    scalar_use (known.what x.bytes) p x ++ wanted_as (kind_of (known.what x.bytes)) (read_right context.functions r) known p
+violations_act (act.Store x i e) at context known p = array_use (known.what x.bytes) p x ++ two_wanted Int (read i) (read e) known p
+violations_act (act.Spawn c) at context known p = call context.functions c known p
+violations_act (act.Call c) at context known p = call context.functions c known p
+violations_act act.Sync at context known p = []
+violations_act (act.Print e) at context known p = (read e).violations known p
+violations_act (act.If e a b) at context known p =
+    wanted Int (read e) known p ++ block_violations a context known p ++ block_violations b context (known_each a context.functions known) p
+violations_act (act.While e a) at context known p =
     let q = both p (after_each (λ (j : Judged). j.after) a p) in
-    wanted Int (read e) known q ++ block_faults a place known q
-faults_act (act.Pfor x lo hi target c) at place known p =
+    wanted Int (read e) known q ++ block_violations a context known q
+violations_act (act.Pfor x lo hi target c) at context known p =
     two_wanted Int (read lo) (read hi) known p ++ target_use target known p
-    ++ loop_call_of (function_named place.functions c.name.bytes) (is_some target) c known p
-faults_act (act.Scope a) at place known p = block_faults a place known p
+    ++ loop_call_of (function_named context.functions c.name.bytes) (is_some target) c known p
+violations_act (act.Scope a) at context known p = block_violations a context known p
 
 -- one statement, with what is told of those inside it in their places
 abbrev pub judge_act : Act-F (ℕ → Judged) Judged → ℕ → Judged
-judge_act d at = record { after = after_act (λ (j : Judged). j.after) d; known = known_act d; faults = faults_act d at }
+judge_act d at = record { after = after_act (λ (j : Judged). j.after) d; known = known_act d; violations = violations_act d at }
 
 abbrev pub judge : Stmt → Judged
 judge = fold-Stmt (ℕ → Judged) Judged judge_act (λ s. s.act s.at)

@@ -13,27 +13,27 @@ use Rattle.script_check.specs.Functions.{first_named, function_named, main_name}
 use Rattle.script_check.specs.Names.{nobody}
 use Rattle.script_check.specs.Rules.{Declared, declaration}
 use Rattle.script_check.specs.Expressions.{wanted, read}
-use Rattle.script_check.specs.Statements.{place, judge_all, known_each, faults_each}
+use Rattle.script_check.specs.Statements.{context, judge_all, known_each, violations_each}
 
 abbrev pub known_params : List Param → Declared → Declared
 known_params [] known = known
 known_params (q ∷ params) known = known_params params (with_first known q.name.bytes (Scalar q.kind))
 
-abbrev pub param_faults : List Param → Declared → List Violation
-param_faults [] known = []
-param_faults (q ∷ params) known = declaration known q.name ++ param_faults params (with_first known q.name.bytes (Scalar q.kind))
+abbrev pub param_violations : List Param → Declared → List Violation
+param_violations [] known = []
+param_violations (q ∷ params) known = declaration known q.name ++ param_violations params (with_first known q.name.bytes (Scalar q.kind))
 
 -- The violations in a function: of its parameters, its body, and the result, which is read after a sync of all that was spawned.
-abbrev pub function_faults : List Function → Function → List Violation
-function_faults functions f =
+abbrev pub function_violations : List Function → Function → List Violation
+function_violations functions f =
     let known = known_params f.params no_entries in
-    param_faults f.params no_entries
-    ++ faults_each (judge_all f.body) (place functions false) known nobody
+    param_violations f.params no_entries
+    ++ violations_each (judge_all f.body) (context functions false) known nobody
     ++ wanted f.answer (read f.result) (known_each (judge_all f.body) functions known) nobody
 
-abbrev pub all_function_faults : List Function → List Function → List Violation
-all_function_faults functions [] = []
-all_function_faults functions (f ∷ fs) = function_faults functions f ++ all_function_faults functions fs
+abbrev pub all_function_violations : List Function → List Function → List Violation
+all_function_violations functions [] = []
+all_function_violations functions (f ∷ fs) = function_violations functions f ++ all_function_violations functions fs
 
 -- the functions whose name one before them has
 abbrev pub functions_twice : List Function → List Function → List Violation
@@ -45,15 +45,15 @@ abbrev pub main_with_parameters : List Param → List Violation
 main_with_parameters [] = []
 main_with_parameters (q ∷ params) = broken true (number_of MainHasParameters) q.name.at
 
-abbrev pub main_faults : Option Function → List Violation
-main_faults None = broken true (number_of NoMain) 0
-main_faults (Some main) = main_with_parameters main.params
+abbrev pub main_violations : Option Function → List Violation
+main_violations None = broken true (number_of NoMain) 0
+main_violations (Some main) = main_with_parameters main.params
 
 -- all violated conditions of a script
 abbrev pub violations : Script → List Violation
 violations script =
     functions_twice [] script.functions
-    ++ (main_faults (function_named script.functions main_name) ++ all_function_faults script.functions script.functions)
+    ++ (main_violations (function_named script.functions main_name) ++ all_function_violations script.functions script.functions)
 
 abbrev pub IsValid : Script → Type 0
 IsValid script = violations script ≡ []

@@ -10,19 +10,33 @@ use Rattle.script_grammar.specs.declared.tree.Act.TheFolds.{fold-Stmt, fold-Act}
 use Rattle.script_grammar.specs.declared.tree.Script.{Script}
 use Rattle.script_grammar.specs.Text.{IsOfText}
 use Rattle.script_check.specs.Valid.{IsValid}
-use Rattle.script_check.specs.declared.scope.Change.{Change}
-use Rattle.script_check.specs.declared.scope.Change.TheVariants.{Added, Cleared}
-use Rattle.script_check.specs.declared.scope.Scope.{Scope}
+use Rattle.script_check.specs.declared.symbols.Change.{Change}
+use Rattle.script_check.specs.declared.symbols.Change.TheVariants.{Added, Cleared}
+use Rattle.script_check.specs.declared.symbols.SymbolTable.{SymbolTable}
 use Rattle.script_check.specs.Spawns.{each_spawns}
 use Rattle.script_check.specs.Tables.{Table, table_of}
 use Rattle.script_check.specs.Functions.{first_named}
 use Rattle.script_check.specs.Names.{Names}
 use Rattle.script_check.specs.Rules.{Declared}
 use Rattle.script_check.specs.Statements.{judge, judge_all, known_each, after}
+use Rattle.script_check.specs.Places.{each_names, finds_all, has_place, place_in}
+use Rattle.script_grammar.specs.declared.tree.Name.{Name}
 
 -- the table has the index of the first function of each name
 abbrev pub IsIndex : List Function → Table ℕ → Type 0
 IsIndex functions table = (name : List ℕ) → table.what name ≡ first_named functions name
+
+-- the table has the first place of each of these names
+abbrev pub IsPlaceIndex : List (List ℕ) → Table ℕ → Type 0
+IsPlaceIndex names table = (name : List ℕ) → table.what name ≡ place_in names name
+
+-- a table of places by offset, and the names of a function's variables
+pub record FindingView : Type 0 where
+  pub table : List ℕ
+  pub names : List (List ℕ)
+
+abbrev pub finds : FindingView → Name → Bool
+finds f = has_place f.table f.names
 
 -- the names of a table
 abbrev pub names_of : {A : Type 0} → Table A → Names
@@ -50,15 +64,15 @@ pub record WalkState : Type 0 where
   pub keeps : Bool
   pub before : Names
 
-abbrev pub known_in : Scope → Declared
-known_in scope = table_of scope.known.map
+abbrev pub known_in : SymbolTable → Declared
+known_in symbols = table_of symbols.known.map
 
-abbrev pub pending_in : Scope → Names
-pending_in scope = names_of (table_of scope.pending.map)
+abbrev pub pending_in : SymbolTable → Names
+pending_in symbols = names_of (table_of symbols.pending.map)
 
-abbrev pub state_of : Scope → WalkState
-state_of scope =
-    record { known = known_in scope; names = pending_in scope; keeps = scope.block.keeps; before = undone scope.block.changes.items (pending_in scope) }
+abbrev pub state_of : SymbolTable → WalkState
+state_of symbols =
+    record { known = known_in symbols; names = pending_in symbols; keeps = symbols.block.keeps; before = undone symbols.block.changes.items (pending_in symbols) }
 
 -- whether what is pending in front may still be pending after
 abbrev pub keeps_each : List Bool → Bool
@@ -115,8 +129,10 @@ state_after_all functions ss state =
     }
 
 -- what a checked script keeps
-pub record IsChecked (script : Script) (first : Table ℕ) (spawns : List Bool) : Type 0 where
+pub record IsChecked (script : Script) (first : Table ℕ) (spawns : List Bool) (names : List (List (List ℕ))) (places : List ℕ) : Type 0 where
   pub valid : IsValid script
   pub text : IsOfText script
   pub index : IsIndex script.functions first
   pub spawn : spawns ≡ each_spawns script.functions
+  pub variables : names ≡ each_names script.functions
+  pub found : finds_all places script.functions ≡ true

@@ -11,20 +11,25 @@ use crate::condition::Condition;
 use crate::expression::{see, use_array, want};
 use crate::findings::Findings;
 use crate::functions::Functions;
-use crate::scope::Scope;
+use crate::symbols::SymbolTable;
 use script_grammar::{CallText, Expr, Function, Kind, Name, Param};
 
 /// Arguments, each of its parameter's kind.
-pub(crate) fn judge_arguments(scope: &Scope, found: &mut Findings, params: &[Param], args: &[Expr])
-    ensures { found.new ≡ noted found.old (arguments params.now args.now (known_in scope.now) (pending_in scope.now)) }
+pub(crate) fn judge_arguments(
+    symbols: &SymbolTable,
+    found: &mut Findings,
+    params: &[Param],
+    args: &[Expr],
+)
+    ensures { found.new ≡ noted found.old (arguments params.now args.now (known_in symbols.now) (pending_in symbols.now)) }
 {
     for (i, e) in args.iter().enumerate() {
         match params.get(i) {
             Some(param) => {
-                want(scope, found, param.kind, e);
+                want(symbols, found, param.kind, e);
             }
             None => {
-                see(scope, found, e);
+                see(symbols, found, e);
             }
         }
     }
@@ -33,12 +38,12 @@ pub(crate) fn judge_arguments(scope: &Scope, found: &mut Findings, params: &[Par
 /// A call or spawn. The answer is the function's kind, where there is the function.
 pub(crate) fn judge_call(
     functions: &Functions,
-    scope: &Scope,
+    symbols: &SymbolTable,
     found: &mut Findings,
     c: &CallText,
 ) -> Option<Kind>
     ensures kind { result ≡ answer_kind_of (function_named functions.now c.now.name.bytes) }
-    ensures found { found.new ≡ noted found.old (call functions.now c.now (known_in scope.now) (pending_in scope.now)) }
+    ensures found { found.new ≡ noted found.old (call functions.now c.now (known_in symbols.now) (pending_in symbols.now)) }
 {
     let name = &c.name;
     let args = c.args.as_slice();
@@ -50,55 +55,55 @@ pub(crate) fn judge_call(
                 Condition::WrongNumberOfArguments,
                 name.at,
             );
-            judge_arguments(scope, found, params, args);
+            judge_arguments(symbols, found, params, args);
             Some(f.answer)
         }
         None => {
             found.note_if(true, Condition::UnknownFunction, name.at);
-            judge_arguments(scope, found, &[], args);
+            judge_arguments(symbols, found, &[], args);
             None
         }
     }
 }
 
 /// The target of a parallel loop.
-pub(crate) fn judge_target(scope: &Scope, found: &mut Findings, target: &Option<Name>)
-    ensures { found.new ≡ noted found.old (target_use target.now (known_in scope.now) (pending_in scope.now)) }
+pub(crate) fn judge_target(symbols: &SymbolTable, found: &mut Findings, target: &Option<Name>)
+    ensures { found.new ≡ noted found.old (target_use target.now (known_in symbols.now) (pending_in symbols.now)) }
 {
     if let Some(x) = target {
-        use_array(scope, found, x);
+        use_array(symbols, found, x);
     }
 }
 
 /// The call of a parallel loop, whose first argument is the number of the iteration.
 pub(crate) fn judge_loop_call(
     functions: &Functions,
-    scope: &Scope,
+    symbols: &SymbolTable,
     found: &mut Findings,
     has_target: bool,
     c: &CallText,
 )
-    ensures { found.new ≡ noted found.old (loop_call_of (function_named functions.now c.now.name.bytes) has_target c.now (known_in scope.now) (pending_in scope.now)) }
+    ensures { found.new ≡ noted found.old (loop_call_of (function_named functions.now c.now.name.bytes) has_target c.now (known_in symbols.now) (pending_in symbols.now)) }
 {
     let name = &c.name;
     match functions.named(name.bytes.as_slice()) {
-        Some(f) => judge_iterations(scope, found, f, has_target, c),
+        Some(f) => judge_iterations(symbols, found, f, has_target, c),
         None => {
             found.note_if(true, Condition::UnknownFunction, name.at);
-            judge_arguments(scope, found, &[], c.args.as_slice());
+            judge_arguments(symbols, found, &[], c.args.as_slice());
         }
     }
 }
 
 /// The same, where this is the function.
 fn judge_iterations(
-    scope: &Scope,
+    symbols: &SymbolTable,
     found: &mut Findings,
     f: &Function,
     has_target: bool,
     c: &CallText,
 )
-    ensures { found.new ≡ noted found.old (loop_call_of (Some f.now) has_target c.now (known_in scope.now) (pending_in scope.now)) }
+    ensures { found.new ≡ noted found.old (loop_call_of (Some f.now) has_target c.now (known_in symbols.now) (pending_in symbols.now)) }
 {
     let at = c.name.at;
     let params = f.params.as_slice();
@@ -112,11 +117,11 @@ fn judge_iterations(
                 at,
             );
             found.note_if(number.kind == Kind::Id, Condition::WrongKind, at);
-            judge_arguments(scope, found, others, args);
+            judge_arguments(symbols, found, others, args);
         }
         None => {
             found.note_if(true, Condition::WrongNumberOfArguments, at);
-            judge_arguments(scope, found, &[], args);
+            judge_arguments(symbols, found, &[], args);
         }
     }
 }

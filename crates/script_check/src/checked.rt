@@ -1,11 +1,12 @@
 // Checked scripts.
 
-ghost use Rattle.std.specs.Prelude.{◌≡◌, ◌≢◌, ◌<◌, ℕ, ◌++◌, Some, Err, IfOk, IfSome, OnOk, length, slice_get};
+ghost use Rattle.std.specs.Prelude.{◌≡◌, ◌≢◌, ◌<◌, ℕ, ◌++◌, true, Some, Err, IfOk, IfSome, OnOk, length, option_copied, option_map, slice_get};
 ghost use Rattle.script_grammar.specs.Text.{IsOfText};
 ghost use Rattle.script_check.specs.Functions.{first_named, function_named, main_name};
+ghost use Rattle.script_check.specs.Places.{finds_all, variable_names};
 ghost use Rattle.script_check.specs.Spawns.{spawns_in};
 ghost use Rattle.script_check.specs.Tables.{table_of};
-ghost use Rattle.script_check.specs.Valid.{IsValid, CheckFault, all_function_faults, main_faults};
+ghost use Rattle.script_check.specs.Valid.{IsValid, CheckFault, all_function_violations, main_violations};
 ghost use Rattle.script_check.specs.Violations.{noted};
 ghost use Rattle.script_check.specs.Walk.{IsChecked, IsIndex};
 
@@ -16,8 +17,9 @@ use crate::function::{judge_function, judge_main};
 use crate::functions::{Functions, index};
 use crate::memory::Memory;
 use crate::names::NameTable;
+use crate::places::places;
 use crate::texts::each_spawns;
-use script_grammar::{Items, Name, Script};
+use script_grammar::{Items, Name, NameText, Script};
 use std::alloc::Global;
 use std::marker::Model;
 use std::sync::Arc;
@@ -37,6 +39,10 @@ struct CheckedScript {
     spawns: Items<bool>,
     /// For each place of the text a guess at the function that is called there. It is right where the function has the name.
     callees: Items<u16>,
+    /// The names of the variables of each function.
+    names: Items<Items<NameText>>,
+    /// For each place of the text where a variable is named its place, which is its place among the names.
+    places: Items<u16>,
 }
 
 impl Model for Checked {
@@ -54,7 +60,7 @@ impl Model for Checked {
 
     ghost view = { λ c. (arc_value c.kept).script };
 
-    ghost invariant = { λ c. let k = arc_value c.kept in IsChecked k.script (table_of k.first.map) k.spawns };
+    ghost invariant = { λ c. let k = arc_value c.kept in IsChecked k.script (table_of k.first.map) k.spawns k.names k.places };
 }
 
 /// Checks a script that a text is of. `Ok` comes exactly for valid scripts, apart from want of memory; else the error tells the
@@ -68,25 +74,39 @@ pub fn check(alloc: Global, script: Script) -> Result<Checked, CheckError>
     let mut found = Findings::new();
     let first = index(alloc, &mut found, script.functions.as_slice())?;
     judge_script(alloc, &mut found, &script, &first)?;
-    let spawns = each_spawns(alloc, script.functions.as_slice())?;
-    let callees = callees(alloc, &first, script.functions.as_slice())?;
     match found.least() {
-        None => Ok(checked_of(
-            alloc,
-            CheckedScript {
-                script,
-                first,
-                spawns,
-                callees,
-            },
-        )?),
+        None => Ok(kept(alloc, script, first)?),
         Some(Violation { at, number }) => Err(CheckError::Bad { number, at }),
     }
 }
 
+/// What is kept of a valid script.
+fn kept(alloc: Global, script: Script, first: NameTable<u32>) -> Result<Checked, Memory>
+    requires valid { IsValid script }
+    requires text { IsOfText script }
+    requires index { IsIndex script.functions (table_of first.map) }
+    ensures { IfOk result (λ checked. checked ≡ script) }
+{
+    let functions = script.functions.as_slice();
+    let spawns = each_spawns(alloc, functions)?;
+    let callees = callees(alloc, &first, functions)?;
+    let (names, places) = places(alloc, functions)?;
+    checked_of(
+        alloc,
+        CheckedScript {
+            script,
+            first,
+            spawns,
+            callees,
+            names,
+            places,
+        },
+    )
+}
+
 /// The checked script of what a check found out.
 fn checked_of(alloc: Global, kept: CheckedScript) -> Result<Checked, Memory>
-    requires { IsChecked kept.script (table_of kept.first.map) kept.spawns }
+    requires { IsChecked kept.script (table_of kept.first.map) kept.spawns kept.names kept.places }
     ensures { IfOk result (λ checked. checked ≡ kept.script) }
 {
     Ok(Checked {
@@ -102,8 +122,8 @@ fn judge_script(
     first: &NameTable<u32>,
 ) -> Result<(), Memory>
     requires { IsIndex script.now.functions (table_of first.now.map) }
-    ensures { OnOk result (found.new ≡ noted found.old (main_faults (function_named script.now.functions main_name)
-        ++ all_function_faults script.now.functions script.now.functions)) }
+    ensures { OnOk result (found.new ≡ noted found.old (main_violations (function_named script.now.functions main_name)
+        ++ all_function_violations script.now.functions script.now.functions)) }
 {
     let list = script.functions.as_slice();
     let functions = Functions::new(list, first);
@@ -165,5 +185,20 @@ impl Checked {
             Some(spawns) => *spawns,
             None => false,
         }
+    }
+
+    /// The names of the variables of the function at this place: of its parameters, and then of its `let` statements.
+    pub fn names(&self, function: u32) -> Option<&Items<NameText>>
+        ensures { option_copied result ≡ option_map variable_names (slice_get self.now.functions function) }
+    {
+        self.kept.names.as_slice().get(function as usize)
+    }
+
+    /// For each place of the text where a variable is named its place, which is its place among the names of its function's variables.
+    #[inline(always)]
+    pub fn places(&self) -> &[u16]
+        ensures { finds_all result.now self.now.functions ≡ true }
+    {
+        self.kept.places.as_slice()
     }
 }

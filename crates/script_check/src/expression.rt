@@ -9,7 +9,7 @@ ghost use Rattle.script_grammar.specs.declared.tree.Kind.TheVariants as kind;
 
 use crate::condition::Condition;
 use crate::findings::Findings;
-use crate::scope::Scope;
+use crate::symbols::SymbolTable;
 use crate::variable::Variable;
 use script_grammar::{Expr, Kind, Name, ProductPart, SumPart};
 
@@ -55,18 +55,18 @@ fn is_other_kind(wanted: Kind, kind: Option<Kind>) -> bool
 }
 
 /// A name that is read or written as a scalar, and its kind.
-pub(crate) fn use_scalar(scope: &Scope, found: &mut Findings, x: &Name) -> Option<Kind>
-    ensures kind { result ≡ kind_of ((known_in scope.now).what x.now.bytes) }
-    ensures found { found.new ≡ noted found.old (scalar_use ((known_in scope.now).what x.now.bytes) (pending_in scope.now) x.now) }
+pub(crate) fn use_scalar(symbols: &SymbolTable, found: &mut Findings, x: &Name) -> Option<Kind>
+    ensures kind { result ≡ kind_of ((known_in symbols.now).what x.now.bytes) }
+    ensures found { found.new ≡ noted found.old (scalar_use ((known_in symbols.now).what x.now.bytes) (pending_in symbols.now) x.now) }
 {
-    match scope.variable(x) {
+    match symbols.variable(x) {
         Some(Variable::Scalar(kind)) => {
-            found.note_if(scope.is_pending(x), Condition::PendingVariable, x.at);
+            found.note_if(symbols.is_pending(x), Condition::PendingVariable, x.at);
             Some(kind)
         }
         Some(Variable::Array) => {
             found.note_if(true, Condition::WrongKind, x.at);
-            found.note_if(scope.is_pending(x), Condition::PendingVariable, x.at);
+            found.note_if(symbols.is_pending(x), Condition::PendingVariable, x.at);
             None
         }
         None => {
@@ -77,16 +77,16 @@ pub(crate) fn use_scalar(scope: &Scope, found: &mut Findings, x: &Name) -> Optio
 }
 
 /// A name that is read or written as an array.
-pub(crate) fn use_array(scope: &Scope, found: &mut Findings, x: &Name)
-    ensures { found.new ≡ noted found.old (array_use ((known_in scope.now).what x.now.bytes) (pending_in scope.now) x.now) }
+pub(crate) fn use_array(symbols: &SymbolTable, found: &mut Findings, x: &Name)
+    ensures { found.new ≡ noted found.old (array_use ((known_in symbols.now).what x.now.bytes) (pending_in symbols.now) x.now) }
 {
-    match scope.variable(x) {
+    match symbols.variable(x) {
         Some(Variable::Scalar(_)) => {
             found.note_if(true, Condition::WrongKind, x.at);
-            found.note_if(scope.is_pending(x), Condition::PendingVariable, x.at);
+            found.note_if(symbols.is_pending(x), Condition::PendingVariable, x.at);
         }
         Some(Variable::Array) => found.note_if(
-            scope.is_pending(x),
+            symbols.is_pending(x),
             Condition::PendingVariable,
             x.at,
         ),
@@ -97,40 +97,40 @@ pub(crate) fn use_array(scope: &Scope, found: &mut Findings, x: &Name)
 /// An expression of any kind.
 #[cycle(expressions)]
 #[tactic(auto, using(crate::proofs::LeastViolation::Noted::noted_append))]
-pub(crate) fn see(scope: &Scope, found: &mut Findings, e: &Expr) -> Seen
+pub(crate) fn see(symbols: &SymbolTable, found: &mut Findings, e: &Expr) -> Seen
     ensures at { result.at ≡ (read e.now).at }
-    ensures kind { result.kind ≡ (read e.now).kind (known_in scope.now) }
-    ensures found { found.new ≡ noted found.old ((read e.now).faults (known_in scope.now) (pending_in scope.now)) }
+    ensures kind { result.kind ≡ (read e.now).kind (known_in symbols.now) }
+    ensures found { found.new ≡ noted found.old ((read e.now).violations (known_in symbols.now) (pending_in symbols.now)) }
 {
     match e {
         Expr::Number(n) => Seen::int(n.at),
         Expr::Var(x) => {
-            let kind = use_scalar(scope, found, x);
+            let kind = use_scalar(symbols, found, x);
             Seen { at: x.at, kind }
         }
-        Expr::Item(x, i) => see_item(scope, found, x, i.get()),
+        Expr::Item(x, i) => see_item(symbols, found, x, i.get()),
         Expr::Neg(at, e) => {
-            want(scope, found, Kind::Int, e.get());
+            want(symbols, found, Kind::Int, e.get());
             Seen::int(*at)
         }
         Expr::Same(at, a, b) | Expr::Older(at, a, b) => {
-            want(scope, found, Kind::Id, a.get());
-            want(scope, found, Kind::Id, b.get());
+            want(symbols, found, Kind::Id, a.get());
+            want(symbols, found, Kind::Id, b.get());
             Seen::int(*at)
         }
         Expr::Compare(a, _, b) => {
-            let at = want(scope, found, Kind::Int, a.get());
-            want(scope, found, Kind::Int, b.get());
+            let at = want(symbols, found, Kind::Int, a.get());
+            want(symbols, found, Kind::Int, b.get());
             Seen::int(at)
         }
         Expr::Sum(first, parts) => {
-            let at = want(scope, found, Kind::Int, first.get());
-            want_summands(scope, found, parts.as_slice());
+            let at = want(symbols, found, Kind::Int, first.get());
+            want_summands(symbols, found, parts.as_slice());
             Seen::int(at)
         }
         Expr::Product(first, parts) => {
-            let at = want(scope, found, Kind::Int, first.get());
-            want_factors(scope, found, parts.as_slice());
+            let at = want(symbols, found, Kind::Int, first.get());
+            want_factors(symbols, found, parts.as_slice());
             Seen::int(at)
         }
     }
@@ -139,25 +139,25 @@ pub(crate) fn see(scope: &Scope, found: &mut Findings, e: &Expr) -> Seen
 /// An item of an array.
 #[cycle(expressions)]
 #[tactic(auto, using(crate::proofs::LeastViolation::Noted::noted_append))]
-fn see_item(scope: &Scope, found: &mut Findings, x: &Name, i: &Expr) -> Seen
+fn see_item(symbols: &SymbolTable, found: &mut Findings, x: &Name, i: &Expr) -> Seen
     ensures at { result.at ≡ x.now.at }
     ensures kind { result.kind ≡ Some kind.Int }
-    ensures found { found.new ≡ noted found.old (array_use ((known_in scope.now).what x.now.bytes) (pending_in scope.now) x.now
-        ++ wanted kind.Int (read i.now) (known_in scope.now) (pending_in scope.now)) }
+    ensures found { found.new ≡ noted found.old (array_use ((known_in symbols.now).what x.now.bytes) (pending_in symbols.now) x.now
+        ++ wanted kind.Int (read i.now) (known_in symbols.now) (pending_in symbols.now)) }
 {
-    use_array(scope, found, x);
-    want(scope, found, Kind::Int, i);
+    use_array(symbols, found, x);
+    want(symbols, found, Kind::Int, i);
     Seen::int(x.at)
 }
 
 /// An expression that has to be of this kind. The answer is its place.
 #[cycle(expressions)]
 #[tactic(auto, using(crate::proofs::LeastViolation::Noted::noted_append), unfolding(crate::specs::Expressions::wanted))]
-pub(crate) fn want(scope: &Scope, found: &mut Findings, kind: Kind, e: &Expr) -> u32
+pub(crate) fn want(symbols: &SymbolTable, found: &mut Findings, kind: Kind, e: &Expr) -> u32
     ensures at { result ≡ (read e.now).at }
-    ensures found { found.new ≡ noted found.old (wanted kind (read e.now) (known_in scope.now) (pending_in scope.now)) }
+    ensures found { found.new ≡ noted found.old (wanted kind (read e.now) (known_in symbols.now) (pending_in symbols.now)) }
 {
-    let seen = see(scope, found, e);
+    let seen = see(symbols, found, e);
     seen.want(found, kind);
     seen.at
 }
@@ -165,21 +165,21 @@ pub(crate) fn want(scope: &Scope, found: &mut Findings, kind: Kind, e: &Expr) ->
 /// The operands of a sum after the first.
 #[cycle(expressions)]
 #[tactic(auto, using(crate::proofs::LeastViolation::Noted::noted_append))]
-fn want_summands(scope: &Scope, found: &mut Findings, parts: &[SumPart])
-    ensures { found.new ≡ noted found.old (all_wanted kind.Int (map read_sum_part parts.now) (known_in scope.now) (pending_in scope.now)) }
+fn want_summands(symbols: &SymbolTable, found: &mut Findings, parts: &[SumPart])
+    ensures { found.new ≡ noted found.old (all_wanted kind.Int (map read_sum_part parts.now) (known_in symbols.now) (pending_in symbols.now)) }
 {
     for part in parts {
-        want(scope, found, Kind::Int, &part.operand);
+        want(symbols, found, Kind::Int, &part.operand);
     }
 }
 
 /// The operands of a product after the first.
 #[cycle(expressions)]
 #[tactic(auto, using(crate::proofs::LeastViolation::Noted::noted_append))]
-fn want_factors(scope: &Scope, found: &mut Findings, parts: &[ProductPart])
-    ensures { found.new ≡ noted found.old (all_wanted kind.Int (map read_product_part parts.now) (known_in scope.now) (pending_in scope.now)) }
+fn want_factors(symbols: &SymbolTable, found: &mut Findings, parts: &[ProductPart])
+    ensures { found.new ≡ noted found.old (all_wanted kind.Int (map read_product_part parts.now) (known_in symbols.now) (pending_in symbols.now)) }
 {
     for part in parts {
-        want(scope, found, Kind::Int, &part.operand);
+        want(symbols, found, Kind::Int, &part.operand);
     }
 }

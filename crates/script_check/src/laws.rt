@@ -1,6 +1,6 @@
 //! Laws of the definitions, each the contract of a function that does nothing. A proof that wants a law calls it.
 
-ghost use Rattle.script_check.specs.Laws.{FaultIsFirst, FaultIsUnique, FewerPendingStaysValid, LoopSetIsClosed};
+ghost use Rattle.script_check.specs.Laws.{FaultIsFirst, FaultIsUnique, FewerPendingStaysValid, LoopSetIsClosed, PlacesAreFound, VariablesAreFew};
 
 /// Statements that are valid where some names are pending are valid where only some of these are, and leave no more pending.
 pub fn fewer_pending_stays_valid()
@@ -20,4 +20,14 @@ pub fn fault_is_unique()
 /// Of all conditions that a script violates, its fault is one at the first place, and there the one of the least number.
 pub fn fault_is_first()
     ensures { FaultIsFirst }
+{}
+
+/// In a valid script of a text each variable that is named has its place in the table, so that no such script is refused for want of one.
+pub fn places_are_found()
+    ensures { PlacesAreFound }
+{}
+
+/// A function of a valid script has at most 256 variables, those that are declared in it.
+pub fn variables_are_few()
+    ensures { VariablesAreFew }
 {}

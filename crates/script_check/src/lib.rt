@@ -7,20 +7,25 @@ mod checked;
 mod condition;
 mod error;
 mod expression;
+mod finding;
 mod findings;
 mod function;
 mod functions;
 pub mod laws;
 mod memory;
+mod named;
 mod names;
-mod scope;
+mod places;
 mod spawns;
 mod statement;
+mod symbols;
 mod texts;
 mod variable;
+mod variables;
 
 pub use checked::{Checked, check};
 pub use error::CheckError;
+pub use finding::finds;
 pub use memory::Memory;
 
 fn is_shared<T: Send + Sync>() {}

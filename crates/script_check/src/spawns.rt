@@ -6,7 +6,7 @@ ghost use Rattle.script_check.specs.Statements.{after, judge};
 ghost use Rattle.script_check.specs.Walk.{state_of, keeps, keeps_all};
 
 use crate::memory::Memory;
-use crate::scope::Scope;
+use crate::symbols::SymbolTable;
 use script_grammar::{Act, Right, Stmt};
 use std::alloc::Global;
 
@@ -14,14 +14,18 @@ use std::alloc::Global;
 /// may still be so after them. The statements are taken from the last to the first, so that a sync, or a
 /// scope, at whose end a sync stands, is met before what it ends.
 #[cycle(spawns)]
-pub(crate) fn collect(alloc: Global, scope: &mut Scope, statements: &[Stmt]) -> Result<bool, Memory>
+pub(crate) fn collect(
+    alloc: Global,
+    symbols: &mut SymbolTable,
+    statements: &[Stmt],
+) -> Result<bool, Memory>
     ensures keeps { IfOk result (λ b. b ≡ keeps_all statements.now) }
-    ensures state { OnOk result (state_of scope.new ≡ record (state_of scope.old) { names = both (after statements.now nobody) (state_of scope.old).names }) }
+    ensures state { OnOk result (state_of symbols.new ≡ record (state_of symbols.old) { names = both (after statements.now nobody) (state_of symbols.old).names }) }
 {
     let mut i = statements.len();
     while i > 0 {
         i -= 1;
-        if !collect_one(alloc, scope, &statements[i])? {
+        if !collect_one(alloc, symbols, &statements[i])? {
             return Ok(false);
         }
     }
@@ -30,27 +34,27 @@ pub(crate) fn collect(alloc: Global, scope: &mut Scope, statements: &[Stmt]) -> 
 
 /// The same for one statement.
 #[cycle(spawns)]
-fn collect_one(alloc: Global, scope: &mut Scope, statement: &Stmt) -> Result<bool, Memory>
+fn collect_one(alloc: Global, symbols: &mut SymbolTable, statement: &Stmt) -> Result<bool, Memory>
     ensures keeps { IfOk result (λ b. b ≡ keeps statement.now) }
-    ensures state { OnOk result (state_of scope.new ≡ record (state_of scope.old) { names = both ((judge statement.now).after nobody) (state_of scope.old).names }) }
+    ensures state { OnOk result (state_of symbols.new ≡ record (state_of symbols.old) { names = both ((judge statement.now).after nobody) (state_of symbols.old).names }) }
 {
     match &statement.act {
         Act::Let(x, Right::Spawn(_, _)) => {
-            scope.spawn_to(alloc, x)?;
+            symbols.spawn_to(alloc, x)?;
             Ok(true)
         }
         Act::Set(x, Right::Spawn(_, _)) => {
-            scope.spawn_to(alloc, x)?;
+            symbols.spawn_to(alloc, x)?;
             Ok(true)
         }
         Act::Sync | Act::Scope(_) => Ok(false),
         Act::If(_, a, b) => {
-            let first = collect(alloc, scope, a.as_slice())?;
-            let second = collect(alloc, scope, b.as_slice())?;
+            let first = collect(alloc, symbols, a.as_slice())?;
+            let second = collect(alloc, symbols, b.as_slice())?;
             Ok(first || second)
         }
         Act::While(_, a) => {
-            collect(alloc, scope, a.as_slice())?;
+            collect(alloc, symbols, a.as_slice())?;
             Ok(true)
         }
         _ => Ok(true),

@@ -4,4 +4,5 @@ pub mod OriginFaults
 pub mod RisingPedigrees
 pub mod Equations
 pub mod ChunkLemmas
+pub mod PlainLines
 pub mod CodeLemmas

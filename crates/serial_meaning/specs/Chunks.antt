@@ -1,14 +1,13 @@
--- Segments of events, one after another. A list of events is kept so that none is copied; the form is this project's own.
-use Rattle.std.specs.Prelude.{List, [], ◌∷◌, ◌++◌, Vec}
-use Rattle.std.specs.declared.alloc.Global.{Global}
+-- Chunks of events, one after another. A list of events is kept so that none is copied; the form is this project's own.
+use Rattle.std.specs.Prelude.{List, [], ◌∷◌, ◌++◌}
 use Rattle.serial_meaning.specs.declared.event.Event.{Event}
 use Rattle.serial_meaning.specs.declared.out.Kept.{Kept}
 use Rattle.serial_meaning.specs.declared.out.Kept.TheVariants.{Nothing, One, Listed}
 use Rattle.serial_meaning.specs.declared.out.Chunks.{Chunks}
 
-abbrev pub joined : List (Vec Event Global) → List Event
+abbrev pub joined : List (List Event) → List Event
 joined [] = []
-joined (chunk ∷ chunks) = chunk.items ++ joined chunks
+joined (chunk ∷ chunks) = chunk ++ joined chunks
 
 abbrev pub chunks_events : Chunks → List Event
 chunks_events s = joined s.full.items ++ s.last.items

@@ -10,6 +10,7 @@ pub mod Loops
 pub mod Names
 pub mod Open
 pub mod Plan
+pub mod Prints
 pub mod Render
 pub mod Runs
 pub mod Chunks

@@ -5,6 +5,7 @@
 
 pub mod answer;
 pub mod answer_key;
+mod chunk;
 pub mod environment;
 pub mod event;
 pub mod examples;
@@ -22,6 +23,7 @@ pub mod value;
 
 pub use answer::{Answer, Outcome, Strand};
 pub use answer_key::AnswerKey;
+pub use chunk::Chunk;
 pub use environment::{Slot, Variable};
 pub use event::{Event, Fault, FaultKind};
 pub use known::Known;

@@ -1,6 +1,7 @@
 ghost use Rattle.std.specs.Prelude.{◌≡◌, [], ◌∷◌, ◌++◌, length, OnOk, OnErr, slice_get, option_copied, IfSome, IfNone, IfErr};
 ghost use Rattle.serial_meaning.specs.Chunks.{joined};
 
+use crate::chunk::{Chunk, put_first};
 use crate::event::Event;
 use crate::memory::Memory;
 use std::alloc::Global;
@@ -13,10 +14,10 @@ const MOST_MOVED: usize = 8;
 /// For how many events a list takes memory where a second one comes. Most lists come to so few.
 const FIRST_ROOM: usize = 5;
 
-/// How many events a segment has room for at most, but for those that were put before its first one.
+/// How many events a chunk has room for at most, but for those that were put before its first one.
 const MOST_ROOM: usize = 12;
 
-/// A list of events. One alone stands in place. More are kept in segments, which are moved and not copied where a list of more than a few events is put
+/// A list of events. One alone stands in place. More are kept in chunks, which are moved and not copied where a list of more than a few events is put
 /// after another one.
 #[derive(Drop)]
 pub struct Out {
@@ -33,11 +34,11 @@ enum Kept {
     Listed(Chunks),
 }
 
-/// Full segments, and the last one, which grows.
+/// Full chunks, and the last one, which grows.
 #[derive(Drop)]
 struct Chunks {
     alloc: Global,
-    full: Vec<Vec<Event>>,
+    full: Vec<Chunk>,
     last: Vec<Event>,
 }
 
@@ -106,8 +107,8 @@ impl Out {
         }
     }
 
-    /// The full segments and the last one, where there is any event.
-    pub fn chunks(&self) -> Option<(&[Vec<Event>], &[Event])>
+    /// The full chunks and the last one, where there is any event.
+    pub fn chunks(&self) -> Option<(&[Chunk], &[Event])>
         ensures some { IfSome result (λ parts. joined parts.0.now ++ parts.1.now ≡ self.now) }
         ensures none { IfNone result (self.now ≡ []) }
     {
@@ -193,7 +194,7 @@ impl Kept {
 impl Chunks {
     ghost use Rattle.serial_meaning.specs.Chunks.{chunks_events};
 
-    /// Room for so many more events at the end: in the last segment, or in a new one where that has grown enough.
+    /// Room for so many more events at the end: in the last chunk, or in a new one where that has grown enough.
     #[tactic(auto, using(crate::proofs::ChunkLemmas::joined_next))]
     fn make_room(&mut self, more: usize) -> Result<(), Memory>
         ensures { chunks_events self.new ≡ chunks_events self.old }
@@ -208,7 +209,7 @@ impl Chunks {
         self.full.try_reserve(1)?;
         let next = Vec::with_capacity(self.alloc, MOST_ROOM)?;
         let front = mem::replace(&mut self.last, next);
-        self.full.push_reserved(front);
+        self.full.push_reserved(Chunk::of(front));
         Ok(())
     }
 
@@ -229,12 +230,12 @@ impl Chunks {
         if self.full.is_empty() {
             put_first(&mut self.last, event)
         } else {
-            put_first(&mut self.full[0], event)
+            self.full[0].put_first(event)
         }
     }
 
-    /// Puts the other segments after these, whose last one grows no more. A few events are moved to the end of that one, so that
-    /// there are fewer segments to go on with.
+    /// Puts the other chunks after these, whose last one grows no more. A few events are moved to the end of that one, so that
+    /// there are fewer chunks to go on with.
     fn append(&mut self, others: Chunks) -> Result<(), Memory>
         ensures ok { OnOk result (chunks_events self.new ≡ chunks_events self.old ++ chunks_events others) }
         ensures err { OnErr result (chunks_events self.new ≡ chunks_events self.old) }
@@ -246,7 +247,7 @@ impl Chunks {
         }
     }
 
-    /// Puts events at the end of the last segment.
+    /// Puts events at the end of the last chunk.
     fn take_in(&mut self, mut events: Vec<Event>) -> Result<(), Memory>
         ensures ok { OnOk result (chunks_events self.new ≡ chunks_events self.old ++ events.items) }
         ensures err { OnErr result (chunks_events self.new ≡ chunks_events self.old) }
@@ -256,7 +257,7 @@ impl Chunks {
         Ok(())
     }
 
-    /// Puts the other segments after these.
+    /// Puts the other chunks after these.
     #[tactic(auto, using(crate::proofs::ChunkLemmas::joined_after))]
     fn follow(&mut self, others: Chunks) -> Result<(), Memory>
         ensures ok { OnOk result (chunks_events self.new ≡ chunks_events self.old ++ chunks_events others) }
@@ -265,7 +266,7 @@ impl Chunks {
         let Chunks { mut full, last, .. } = others;
         self.full.try_reserve(full.len().saturating_add(1))?;
         let front = mem::replace(&mut self.last, last);
-        self.full.push(front).unwrap();
+        self.full.push(Chunk::of(front)).unwrap();
         self.full.append(&mut full).unwrap();
         Ok(())
     }
@@ -275,23 +276,14 @@ impl Chunks {
     {
         let mut left = i;
         for chunk in &self.full {
-            let count = chunk.len() as u64;
+            let events = chunk.events();
+            let count = events.len() as u64;
             if left < count {
-                return event_at(chunk, left);
+                return event_at(events, left);
             }
             left -= count;
         }
         event_at(&self.last, left)
-    }
-}
-
-fn put_first(events: &mut Vec<Event>, event: Event) -> Result<(), Event>
-    ensures ok { OnOk result (events.new.items ≡ event ∷ events.old.items) }
-    ensures err { IfErr result (λ back. (back ≡ event) × (events.new.items ≡ events.old.items)) }
-{
-    match events.insert(0, event) {
-        Ok(()) => Ok(()),
-        Err(failed) => Err(failed.value),
     }
 }
 

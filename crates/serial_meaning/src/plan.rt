@@ -1,5 +1,6 @@
-ghost use Rattle.std.specs.Prelude.{◌≡◌, ◌≤◌, length, IfOk, slice_get};
+ghost use Rattle.std.specs.Prelude.{◌≡◌, ◌≤◌, true, length, IfOk, option_copied, option_map, slice_get};
 ghost use Rattle.std.specs.Arc.{arc_value};
+ghost use Rattle.script_check.specs.Places.{finds_all, variable_names};
 ghost use Rattle.script_check.specs.Spawns.{spawns_in};
 ghost use Rattle.serial_meaning.specs.Plan.{IsPlan, functions_of};
 ghost use Rattle.serial_meaning.specs.Functions.{number_of};
@@ -11,7 +12,7 @@ use dotmix::Gamma;
 use ped_path::Ped;
 use script_check::Checked;
 use script_grammar::laws::functions_are_few;
-use script_grammar::{Function, Items, Name};
+use script_grammar::{Function, Items, Name, NameText};
 use std::alloc::Global;
 use std::marker::Model;
 use std::sync::Arc;
@@ -108,6 +109,21 @@ impl Plan {
         ensures { result ≡ spawns_in (slice_get (functions_of self.now) function) }
     {
         self.checked.spawns(function)
+    }
+
+    /// The names of the variables of the function at this place, if there is one: of its parameters, and then of its `let` statements.
+    pub fn names(&self, function: u32) -> Option<&Items<NameText>>
+        ensures { option_copied result ≡ option_map variable_names (slice_get (functions_of self.now) function) }
+    {
+        self.checked.names(function)
+    }
+
+    /// For each place of the text where a variable is named its place, which is its place among the names of its function's variables.
+    #[inline(always)]
+    pub fn places(&self) -> &[u16]
+        ensures { finds_all result.now (functions_of self.now) ≡ true }
+    {
+        self.checked.places()
     }
 
     /// The place of the first function of this name, or the number of functions where there is none. A name of the text is found

@@ -1,4 +1,4 @@
-ghost use Rattle.std.specs.Prelude.{◌≡◌, ◌++◌, ◌∷◌, List, [], IfOk, OnOk, codes, decimal, flat_map};
+ghost use Rattle.std.specs.Prelude.{◌≡◌, ◌++◌, ◌∷◌, List, [], true, IfOk, OnOk, codes, decimal, flat_map};
 ghost use Rattle.std.specs.Fmt.{signed_decimal};
 ghost use Rattle.ped_path.specs.Text.{ped_text};
 ghost use Rattle.serial_meaning.specs.Chunks.{joined};
@@ -6,6 +6,7 @@ ghost use Rattle.serial_meaning.specs.Render.{IsWhole, answer_text, strand_text,
 ghost use Rattle.serial_meaning.specs.Columns.{line_in};
 
 use crate::answer::{Answer, Outcome, Strand};
+use crate::chunk::Chunk;
 use crate::event::{Event, Fault, FaultKind};
 use crate::memory::Memory;
 use crate::out::Out;
@@ -59,13 +60,23 @@ fn write_events(column: Column, events: &Out, text: &mut Vec<u8>) -> Result<(), 
     Ok(())
 }
 
-fn write_chunks(column: Column, chunks: &[Vec<Event>], text: &mut Vec<u8>) -> Result<(), Memory>
+fn write_chunks(column: Column, chunks: &[Chunk], text: &mut Vec<u8>) -> Result<(), Memory>
     ensures { OnOk result (text.new.items ≡ text.old.items ++ flat_map (line_in column) (joined chunks.now)) }
 {
     for chunk in chunks {
-        write_chunk(column, chunk, text)?;
+        if !is_silent(column, chunk) {
+            write_chunk(column, chunk.events(), text)?;
+        }
     }
     Ok(())
+}
+
+/// Whether it is known that none of its events has a line.
+#[tactic(auto, using(crate::proofs::PlainLines::plain_of_none))]
+fn is_silent(column: Column, chunk: &Chunk) -> bool
+    ensures { result ≡ true → flat_map (line_in column) chunk.now ≡ [] }
+{
+    matches!(column, Column::Run(Show::Plain)) && !chunk.prints()
 }
 
 fn write_chunk(column: Column, events: &[Event], text: &mut Vec<u8>) -> Result<(), Memory>

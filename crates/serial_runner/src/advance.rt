@@ -64,6 +64,7 @@ fn end_all(alloc: Global, answer: Answer, mut below: OpenTasks) -> Result<Answer
 
 /// Runs the topmost task to its next stop. A child goes on top of it. Where it waits its children have ended, and it takes their
 /// answers. Its own answer goes to the task below, and where it is a fault it ends all of them.
+#[inline(always)]
 pub(crate) fn advance(stack: Stack, alloc: Global) -> Result<Advanced, Memory>
     requires { IsStack stack }
     ensures { IfOk result (AdvancesTo stack) }

@@ -9,7 +9,7 @@ use crate::laws::spans_are_walked;
 use crate::measure::Span;
 use crate::walk::Walk;
 use serial_meaning::laws::whole_answers_are_evals;
-use serial_meaning::{Answer, Event, Memory, Out};
+use serial_meaning::{Answer, Chunk, Event, Memory, Out};
 use std::alloc::Global;
 
 /// Work and span of main's answer. It takes memory for the open instances alone, however many events there are.
@@ -40,11 +40,11 @@ fn longest_chain(alloc: Global, events: &Out) -> Result<u64, Memory>
     Ok(walk.longest())
 }
 
-fn note_chunks(alloc: Global, walk: &mut Walk, chunks: &[Vec<Event>]) -> Result<(), Memory>
+fn note_chunks(alloc: Global, walk: &mut Walk, chunks: &[Chunk]) -> Result<(), Memory>
     ensures { OnOk result (open_instances walk.new ≡ walked_all (open_instances walk.old) (joined chunks.now)) }
 {
     for chunk in chunks {
-        note_chunk(alloc, walk, chunk)?;
+        note_chunk(alloc, walk, chunk.events())?;
     }
     Ok(())
 }

@@ -13,6 +13,7 @@ use serial_meaning::{Origin, Value};
 use std::alloc::Global;
 
 /// The same values, over the same memory.
+#[inline(always)]
 pub fn share_values(alloc: Global, values: &[Value]) -> Result<Items<Value>, Memory>
     ensures { IfOk result (λ shared. shared ≡ values.now) }
 {
@@ -24,6 +25,7 @@ pub fn share_values(alloc: Global, values: &[Value]) -> Result<Items<Value>, Mem
 }
 
 /// The same origin. Its path shares its memory.
+#[inline(always)]
 pub fn share_origin(alloc: Global, origin: &Origin) -> Result<Origin, Memory>
     ensures { IfOk result (λ shared. shared ≡ origin.now) }
 {

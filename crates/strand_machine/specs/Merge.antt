@@ -37,6 +37,13 @@ with_stage change (Splits left) = Splits left
 with_stage change (Runs stage) = Runs (change stage)
 with_stage change (Over v gone_on) = Over v gone_on
 
+-- An instance in a stage, or in what remains of a task, is one of the plan.
+abbrev pub Stands : PlanView → InstanceState → Type 0
+Stands plan stage = (path : List ℕ) × StandsAt plan path stage
+
+abbrev pub Works : PlanView → Work → Type 0
+Works plan work = (o : Origin) × WorksAt plan o work
+
 -- By its meaning the stage after it is the one before it, changed so, and an instance in it is still one of the plan.
 pub record BecomesStage (change : meaning.InstanceState → meaning.InstanceState) (before after : InstanceState) : Type 0 where
   pub is : (plan : PlanView) → stage_of plan after ≡ change (stage_of plan before)

@@ -61,13 +61,14 @@ fn paused(mut parts: Box<Parts>, passed: Passed) -> Paused
 
 impl Task {
     /// Whether it has ended, or took an answer that is a cut, so that it ends by its next advance.
-    fn is_cut_short(&self) -> bool
+    pub fn is_cut_short(&self) -> bool
         ensures { result ≡ is_cut_short self.now.cut }
     {
         matches!(self.parts.work, Work::Ends(_))
     }
 
     /// What it answers, of a task that has ended or took an answer that is a cut, and the give for it.
+    #[inline(always)]
     pub fn finish(self) -> (Answer, Give<Answer>)
         requires { is_cut_short self.cut ≡ true }
         ensures { Advances self (stop.Done result.0 result.1) }

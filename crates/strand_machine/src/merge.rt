@@ -7,7 +7,7 @@ ghost use Rattle.strand_meaning.specs.Machine.{Spawned, Looped, Half};
 ghost use Rattle.strand_meaning.specs.Trace.{AwaitedChild, heard};
 ghost use Rattle.strand_meaning.specs.Task.{takes, changed, answered, more_values};
 ghost use Rattle.strand_moves.specs.Machines.{IsInstance, machine_of, path_of};
-ghost use Rattle.strand_machine.specs.Merge.{BecomesStage, BecomesWork, KeepsRest, TakesAnswers, end_of, ending_of, merge_of, with_stage};
+ghost use Rattle.strand_machine.specs.Merge.{BecomesStage, BecomesWork, KeepsRest, Stands, TakesAnswers, Works, end_of, ending_of, merge_of, with_stage};
 ghost use Rattle.strand_machine.specs.Parts.{destination_of, awaited_child};
 ghost use Rattle.strand_machine.specs.Stops.{is_cut};
 
@@ -18,7 +18,7 @@ use crate::replace::set;
 use crate::trace::{Behind, Trace};
 use crate::work::{InstanceState, Work};
 use script_grammar::{Items, Name};
-use serial_meaning::{Answer, Fault, Out, Outcome, Value};
+use serial_meaning::{Answer, Fault, Out, Outcome, Plan, Value};
 use std::alloc::Global;
 use strand_moves::Instance;
 use strand_values::Target;
@@ -62,28 +62,47 @@ fn first_of(values: Items<Value>) -> Value
 
 /// An instance that takes the answer of a child that it spawned.
 #[inline(always)]
-fn merge_spawned(instance: &mut Instance, height: usize, target: &Option<Target>, outcome: Outcome)
-    ensures machine { (plan : PlanView) → machine_of plan instance.new
-        ≡ changed height (answered target.now (ending_of outcome)) (machine_of plan instance.old) }
+fn merge_spawned(
+    instance: &mut Instance,
+    plan: &Plan,
+    height: usize,
+    target: &Option<Target>,
+    outcome: Outcome,
+)
+    requires { IsInstance plan.now instance.old }
+    ensures machine { (p : PlanView) → machine_of p instance.new
+        ≡ changed height (answered target.now (ending_of outcome)) (machine_of p instance.old) }
     ensures path { path_of instance.new ≡ path_of instance.old }
-    ensures sound { (plan : PlanView) → IsInstance plan instance.old → IsInstance plan instance.new }
+    ensures sound { (p : PlanView) → IsInstance p instance.old → IsInstance p instance.new }
 {
     match outcome {
-        Outcome::Value(value) => instance.take_value(height, target.as_ref(), value),
-        Outcome::Values(values) => instance.take_value(height, target.as_ref(), first_of(values)),
+        Outcome::Value(value) => instance.take_value(plan, height, target.as_ref(), value),
+        Outcome::Values(values) => instance.take_value(
+            plan,
+            height,
+            target.as_ref(),
+            first_of(values),
+        ),
         Outcome::Fault(fault) => instance.take_fault(height, fault),
         Outcome::Cut { by } => instance.take_fault(height, by),
     }
 }
 
 /// The stage after the answer of a child that an instance spawned.
-fn spawned(stage: &mut InstanceState, height: usize, target: &Option<Target>, outcome: Outcome)
+fn spawned(
+    stage: &mut InstanceState,
+    plan: &Plan,
+    height: usize,
+    target: &Option<Target>,
+    outcome: Outcome,
+)
+    requires { Stands plan.now stage.old }
     ensures { BecomesStage (takes (Spawned height target.now) (ending_of outcome)) stage.old stage.new }
 {
     match stage {
-        InstanceState::Running(instance) => merge_spawned(instance, height, target, outcome),
-        InstanceState::AtSync(instance) => merge_spawned(instance, height, target, outcome),
-        InstanceState::AtLoop(instance) => merge_spawned(instance, height, target, outcome),
+        InstanceState::Running(instance) => merge_spawned(instance, plan, height, target, outcome),
+        InstanceState::AtSync(instance) => merge_spawned(instance, plan, height, target, outcome),
+        InstanceState::AtLoop(instance) => merge_spawned(instance, plan, height, target, outcome),
         InstanceState::Returned(_) => drop(outcome),
         InstanceState::Faulted(_) => drop(outcome),
         InstanceState::ChildFaulted(_) => drop(outcome),
@@ -94,24 +113,26 @@ fn spawned(stage: &mut InstanceState, height: usize, target: &Option<Target>, ou
 fn filled(
     stage: &mut InstanceState,
     alloc: Global,
+    plan: &Plan,
     target: &Option<Name>,
     values: &Items<Value>,
 ) -> Result<(), Memory>
+    requires { Stands plan.now stage.old }
     ensures { OnOk result (BecomesStage (takes (Looped target.now) (Ok values.now)) stage.old stage.new) }
 {
     let into = target.as_ref();
     let given = values.as_slice();
     match stage {
         InstanceState::Running(instance) => {
-            instance.take_values(alloc, into, given)?;
+            instance.take_values(alloc, plan, into, given)?;
             Ok(())
         }
         InstanceState::AtSync(instance) => {
-            instance.take_values(alloc, into, given)?;
+            instance.take_values(alloc, plan, into, given)?;
             Ok(())
         }
         InstanceState::AtLoop(instance) => {
-            instance.take_values(alloc, into, given)?;
+            instance.take_values(alloc, plan, into, given)?;
             Ok(())
         }
         InstanceState::Returned(_) => Ok(()),
@@ -124,13 +145,15 @@ fn filled(
 fn looped(
     stage: &mut InstanceState,
     alloc: Global,
+    plan: &Plan,
     target: &Option<Name>,
     outcome: Outcome,
 ) -> Result<(), Memory>
+    requires { Stands plan.now stage.old }
     ensures { OnOk result (BecomesStage (takes (Looped target.now) (ending_of outcome)) stage.old stage.new) }
 {
     match ending(alloc, outcome)? {
-        Ok(values) => { filled(stage, alloc, target, &values) }
+        Ok(values) => { filled(stage, alloc, plan, target, &values) }
         Err(fault) => {
             set(stage, InstanceState::ChildFaulted(fault));
             Ok(())
@@ -142,17 +165,19 @@ fn looped(
 fn merge_stage(
     stage: &mut InstanceState,
     alloc: Global,
+    plan: &Plan,
     place: Destination,
     outcome: Outcome,
 ) -> Result<(), Memory>
+    requires { Stands plan.now stage.old }
     ensures { OnOk result (BecomesStage (takes (destination_of place) (ending_of outcome)) stage.old stage.new) }
 {
     match place {
         Destination::Spawned(height, target) => {
-            spawned(stage, height as usize, &target, outcome);
+            spawned(stage, plan, height as usize, &target, outcome);
             Ok(())
         }
-        Destination::Looped(target) => { looped(stage, alloc, &target, outcome) }
+        Destination::Looped(target) => { looped(stage, alloc, plan, &target, outcome) }
         Destination::Half => {
             drop(outcome);
             Ok(())
@@ -164,14 +189,16 @@ fn merge_stage(
 fn merge_work(
     work: &mut Work,
     alloc: Global,
+    plan: &Plan,
     place: Destination,
     outcome: Outcome,
 ) -> Result<(), Memory>
+    requires { Works plan.now work.old }
     ensures { OnOk result (BecomesWork (with_stage (takes (destination_of place) (ending_of outcome))) work.old work.new) }
 {
     match work {
         Work::Runs(stage) => {
-            merge_stage(stage, alloc, place, outcome)?;
+            merge_stage(stage, alloc, plan, place, outcome)?;
             Ok(())
         }
         Work::Splits(_) => {
@@ -265,16 +292,18 @@ fn merge_value(
     values: &mut Items<Value>,
     work: &mut Work,
     alloc: Global,
+    plan: &Plan,
     place: Destination,
     outcome: Outcome,
 ) -> Result<(), Memory>
+    requires { Works plan.now work.old }
     ensures values { OnOk result (values.new ≡ more_values (destination_of place) (ending_of outcome) values.old) }
     ensures work { OnOk result (BecomesWork (with_stage (takes (destination_of place) (ending_of outcome))) work.old work.new) }
 {
     if let Destination::Half = place {
         return add(values, outcome);
     }
-    merge_work(work, alloc, place, outcome)
+    merge_work(work, alloc, plan, place, outcome)
 }
 
 /// A task that awaits no child any more takes a child's answer.
@@ -285,21 +314,29 @@ pub(crate) fn merge_answer(
     behind: Behind,
     answer: Answer,
 ) -> Result<(), Memory>
-    requires { parts.old.body.trace.handed ≡ [] }
+    requires handed { parts.old.body.trace.handed ≡ [] }
+    requires works { Works parts.old.body.family.plan parts.old.work }
     ensures takes { OnOk result (TakesAnswers (awaited_child answer.origin behind ∷ []) (answer ∷ []) (merge_of parts.old heard.old) (merge_of parts.new heard.new)) }
     ensures rest { OnOk result (KeepsRest parts.old parts.new) }
 {
     let Answer {
         out,
         outcome,
-        plan,
+        plan: own,
         origin,
     } = answer;
-    drop((plan, origin));
+    drop((own, origin));
     let Behind { place, events } = behind;
     let Parts { body, work } = parts;
     match heard.hear(&mut body.trace, out, events, &outcome) {
-        Ok(()) => merge_value(&mut body.values, work, alloc, place, outcome),
+        Ok(()) => merge_value(
+            &mut body.values,
+            work,
+            alloc,
+            body.family.plan(),
+            place,
+            outcome,
+        ),
         Err(memory) => {
             drop((place, outcome));
             Err(memory)

@@ -11,6 +11,7 @@ use strand_family::path;
 use strand_meaning::laws;
 
 /// The same origin. Its path shares its memory.
+#[inline(always)]
 pub fn share_origin(alloc: Global, origin: &Origin) -> Result<Origin, Memory>
     ensures { IfOk result (λ shared. shared ≡ origin.now) }
 {

@@ -2,6 +2,7 @@
 ghost use Rattle.std.specs.Prelude.{◌≡◌};
 
 /// Puts a value in place of another, which is dropped.
+#[inline(always)]
 pub(crate) fn set<T: Drop>(place: &mut T, value: T)
     ensures { place.new ≡ value }
 {

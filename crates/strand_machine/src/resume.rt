@@ -3,7 +3,7 @@ ghost use Rattle.std.specs.Prelude.{◌≡◌, ◌-◌, List, [], true, false, l
 ghost use Rattle.serial_meaning.specs.Plan.{PlanView};
 ghost use Rattle.strand_meaning.specs.Task.{resumed, resumed_work};
 ghost use Rattle.strand_machine.specs.Family.{tags, origins, AwaitsCount};
-ghost use Rattle.strand_machine.specs.Merge.{BecomesStage, BecomesWork, EndsShort, HasTakenAnswers, IsShort, KeepsRest, TakesAnswers, end_of, merge_of};
+ghost use Rattle.strand_machine.specs.Merge.{BecomesStage, BecomesWork, EndsShort, HasTakenAnswers, IsShort, KeepsRest, TakesAnswers, Works, end_of, merge_of};
 ghost use Rattle.strand_machine.specs.Parts.{awaited, awaited_children};
 ghost use Rattle.strand_meaning.specs.Cuts.{AreAnswersOf};
 ghost use Rattle.strand_machine.specs.Made.{resumed_as};
@@ -28,16 +28,21 @@ use strand_family::Family;
 use strand_meaning::laws;
 use strand_moves::Instance;
 
-/// The answers of the last children, of whom so many are awaited.
-fn take_answers(family: &mut Family, alloc: Global, awaited: u64) -> Result<Items<Answer>, Memory>
+/// The answers of the last children, of whom so many are awaited, in this list.
+fn take_answers(
+    family: &mut Family,
+    awaited: u64,
+    room: Items<Answer>,
+) -> Result<Items<Answer>, Memory>
     requires ready { family.old.ready ≡ true }
     requires last { AwaitsCount family.old awaited }
+    requires room { room ≡ [] }
     ensures tags { IfOk result (λ answers. answer_tags answers ≡ tags family.old.plan (drop (length family.old.children - awaited) family.old.children)) }
     ensures family { family.new ≡ record family.old { taken = family.new.taken } }
     ensures length { length family.new.taken ≡ length family.old.taken }
 {
     let first = family.count() - awaited;
-    let mut answers = Vec::with_capacity(alloc, awaited as usize)?;
+    let mut answers = room.0;
     for i in 0..awaited {
         answers.push(family.take(first + i))?;
     }
@@ -94,6 +99,7 @@ fn merge_all(
 ) -> Result<Items<Answer>, Memory>
     requires many { length answers ≡ length behind.items }
     requires handed { parts.old.body.trace.handed ≡ [] }
+    requires works { Works parts.old.body.family.plan parts.old.work }
     ensures takes { OnOk result (TakesAnswers (awaited_children (origins (answer_tags answers)) behind.items) answers (merge_of parts.old heard.old) (merge_of parts.new heard.new)) }
     ensures rest { OnOk result (KeepsRest parts.old parts.new) }
     ensures none { IfOk result (λ left. left ≡ []) }
@@ -173,19 +179,26 @@ pub(crate) fn go_on(
     Ok(left)
 }
 
-/// Looks once. Where all children have answered, the task goes on with their answers, and it is said so.
-fn look_on(parts: &mut Parts, alloc: Global) -> Result<bool, Memory>
-    requires { IsSound parts.old.body parts.old.work }
-    ensures resumed { IfOk result (λ ready. IsResumed (view_of parts.old.body parts.old.work) (resumed_as ready (view_of parts.new.body parts.new.work))) }
+/// Looks once. Where all children have answered, the task goes on with their answers, and it is said so. They are taken in this list, which
+/// comes back empty.
+fn look_on(
+    parts: &mut Parts,
+    alloc: Global,
+    room: Items<Answer>,
+) -> Result<(bool, Items<Answer>), Memory>
+    requires sound { IsSound parts.old.body parts.old.work }
+    requires room { room ≡ [] }
+    ensures resumed { IfOk result (λ looked. IsResumed (view_of parts.old.body parts.old.work) (resumed_as looked.0 (view_of parts.new.body parts.new.work))) }
+    ensures none { IfOk result (λ looked. looked.1 ≡ []) }
     ensures holds { OnOk result (Holds parts.new.body parts.new.work) }
 {
     match parts.body.family.look() {
-        Look::NotYet(_) => Ok(false),
+        Look::NotYet(_) => Ok((false, room)),
         Look::Ready => {
             let awaited = parts.body.trace.count();
-            let answers = take_answers(&mut parts.body.family, alloc, awaited)?;
-            drop(go_on(parts, alloc, answers)?);
-            Ok(true)
+            let answers = take_answers(&mut parts.body.family, awaited, room)?;
+            let left = go_on(parts, alloc, answers)?;
+            Ok((true, left))
         }
     }
 }
@@ -197,11 +210,28 @@ impl Task {
         requires { self.task.waiting ≡ true }
         ensures { IfOk result (IsResumed self) }
     {
+        let (resumed, left) = self.resume_in(alloc, Items(Vec::new(alloc)))?;
+        drop(left);
+        Ok(resumed)
+    }
+
+    /// The same, by which the answers are taken in this list. It comes back empty, and keeps its room.
+    pub fn resume_in(
+        self,
+        alloc: Global,
+        room: Items<Answer>,
+    ) -> Result<(Resumed, Items<Answer>), Memory>
+        requires waits { self.task.waiting ≡ true }
+        requires room { room ≡ [] }
+        ensures resumed { IfOk result (λ resumed. IsResumed self resumed.0) }
+        ensures none { IfOk result (λ resumed. resumed.1 ≡ []) }
+    {
         let Task { mut parts } = self;
-        if look_on(&mut parts, alloc)? {
-            return Ok(Resumed::On(Task { parts }));
+        let (ready, left) = look_on(&mut parts, alloc, room)?;
+        if ready {
+            return Ok((Resumed::On(Task { parts }), left));
         }
-        Ok(Resumed::NotYet(Task { parts }))
+        Ok((Resumed::NotYet(Task { parts }), left))
     }
 
     /// Goes on from a wait with these answers, those of the children that it awaits, in order. Where one of them is a cut, the task ends by

@@ -82,6 +82,7 @@ impl Work {
 }
 
 /// What remains of an origin of which nothing is done.
+#[inline(always)]
 pub(crate) fn begun_work(
     alloc: Global,
     plan: &Plan,
@@ -140,6 +141,7 @@ pub(crate) fn begun_last(
 }
 
 /// An instance before its first move. One of no function has the value 0.
+#[inline(always)]
 fn begun_instance(
     alloc: Global,
     plan: &Plan,

@@ -1,3 +1,4 @@
 pub mod CursorLemmas
 pub mod Entering
+pub mod FoundStatements
 pub mod Passing

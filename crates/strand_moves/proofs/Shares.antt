@@ -14,7 +14,7 @@ use Rattle.serial_meaning.proofs.event.Event.TheSendSync as event_shared
 use Rattle.serial_meaning.proofs.event.Fault.TheSendSync as fault_shared
 use Rattle.serial_meaning.proofs.value.Value.TheSendSync as value_shared
 use Rattle.serial_meaning.specs.contracts.event.Fault as fault
-use Rattle.strand_values.proofs.environment.Environment.TheSendSync as environment_shared
+use Rattle.strand_values.proofs.Shares.{environment_sends, environment_syncs}
 use Rattle.strand_values.specs.contracts.target.Target as target
 use Rattle.strand_values.specs.contracts.target.Target.TheInside as target_inside
 use Rattle.strand_moves.proofs.cursor.Cursor.TheSendSync as cursor_shared
@@ -79,7 +79,7 @@ moved_sends = variants_send moved.enum ((effects_sends, tt), ((value_shared.the_
 
 frame_sends : IsSend frame.the_row
 frame_sends = declared_send frame.the_type
-    (number_sends, (bool_sends, (bool_sends, (Vec-send level.the_row level_shared.the_send, (cursor_shared.the_send, (environment_shared.the_send, (fault_sends, (maybe_target_sends, tt))))))))
+    (number_sends, (bool_sends, (bool_sends, (Vec-send level.the_row level_shared.the_send, (cursor_shared.the_send, (environment_sends, (fault_sends, (maybe_target_sends, tt))))))))
 
 running_sends : IsSend running.the_row
 running_sends = declared_send running.the_type (trail_shared.the_send, (word_sends, (word_sends, (bool_sends, (frame_sends, (Vec-send frame.the_row frame_sends, tt))))))
@@ -136,7 +136,7 @@ moved_syncs = variants_sync moved.enum ((effects_syncs, tt), ((value_shared.the_
 
 frame_syncs : IsSync frame.the_row
 frame_syncs = declared_sync frame.the_type
-    (number_syncs, (bool_syncs, (bool_syncs, (Vec-sync level.the_row level_shared.the_sync, (cursor_shared.the_sync, (environment_shared.the_sync, (fault_syncs, (maybe_target_syncs, tt))))))))
+    (number_syncs, (bool_syncs, (bool_syncs, (Vec-sync level.the_row level_shared.the_sync, (cursor_shared.the_sync, (environment_syncs, (fault_syncs, (maybe_target_syncs, tt))))))))
 
 running_syncs : IsSync running.the_row
 running_syncs = declared_sync running.the_type (trail_shared.the_sync, (word_syncs, (word_syncs, (bool_syncs, (frame_syncs, (Vec-sync frame.the_row frame_syncs, tt))))))

@@ -2,7 +2,9 @@ pub mod Assigning
 pub mod Conditions
 pub mod Equations
 pub mod LoopEquations
+pub mod Naming
 pub mod Paying
 pub mod QuickLemmas
+pub mod FoundParts
 pub mod Going
 pub mod Handing

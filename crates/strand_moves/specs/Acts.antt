@@ -14,6 +14,7 @@ use Rattle.serial_meaning.specs.declared.value.Value.{Value}
 use Rattle.serial_meaning.specs.declared.value.Value.TheVariants.{Int}
 use Rattle.serial_meaning.specs.declared.event.FaultKind.{FaultKind}
 use Rattle.serial_meaning.specs.declared.event.FaultKind.TheVariants.{Index, Depth, Budget}
+use Rattle.strand_values.specs.Environments.{EnvironmentView}
 use Rattle.strand_values.specs.declared.halt.Halt as values
 use Rattle.strand_values.specs.declared.halt.Halt.TheVariants as halt
 use Rattle.strand_moves.specs.declared.frame.Frame.{Frame}
@@ -84,7 +85,7 @@ loop_begins plan path n target env steps =
     else Ok tt
 
 -- a frame that a call of this function begins with these variables
-pub record IsCallee (number : ℕ) (variables : Env) (to : Option Name) (a : Frame) : Type 0 where
+pub record IsCallee (number : ℕ) (variables : EnvironmentView) (to : Option Name) (a : Frame) : Type 0 where
   pub function : a.function ≡ number
   pub left : (body : List Stmt) → left_of body a.cursor ≡ body
   pub levels : a.levels.items ≡ []

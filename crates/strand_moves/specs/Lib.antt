@@ -1,5 +1,6 @@
 pub mod Acts
 pub mod Cursors
+pub mod Found
 pub mod Machines
 pub mod Moves
 pub mod Quick

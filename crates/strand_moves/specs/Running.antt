@@ -1,8 +1,9 @@
 -- What an instance is in the words of the strand's meaning.
-use Rattle.std.specs.Prelude.{◌≡◌, ℕ, ◌+◌, ◌<◌, ◌^◌, Bool, true, false, List, [], ◌∷◌, ◌++◌, Option, Some, None, map, reverse, length, if◌then◌else◌}
+use Rattle.std.specs.Prelude.{◌≡◌, ℕ, ◌+◌, ◌<◌, ◌^◌, Bool, true, false, List, [], ◌∷◌, ◌++◌, Option, Some, None, map, reverse, length, All, if◌then◌else◌}
 use Rattle.dotmix.specs.Trails.{FitsGamma}
 use Rattle.script_grammar.specs.declared.tree.Function.{Function}
 use Rattle.script_grammar.specs.declared.tree.Stmt.{Stmt}
+use Rattle.script_check.specs.Places.{variable_names}
 use Rattle.serial_meaning.specs.Functions.{function_at}
 use Rattle.serial_meaning.specs.Plan.{PlanView, functions_of}
 use Rattle.strand_meaning.specs.Machine as meaning
@@ -42,7 +43,7 @@ frame_of plan leaving a = record {
   levels = levels_of (body_of plan a.function) (reverse a.levels.items);
   leaving = leaving;
   returning = a.returning;
-  env = a.env;
+  env = a.env.variables;
   spawned = a.spawned;
   faulted = a.faulted;
   target = a.target;
@@ -98,9 +99,23 @@ pub record IsStrand (plan : PlanView) (i : Running) : Type 0 where
   pub within : length i.trail.path < length plan.gamma
   pub few : i.rank < 2 ^ 32
 
+-- A frame's variables are those of its function.
+pub record IsNamed (plan : PlanView) (a : Frame) : Type 0 where
+  pub function : Function
+  pub of_plan : function_at (functions_of plan) a.function ≡ Some function
+  pub names : a.env.names ≡ variable_names function
+
+abbrev pub AreNamed : PlanView → Running → Type 0
+AreNamed plan i = All (IsNamed plan) (i.top ∷ i.below.items)
+
+-- No move changes whose variables they are.
+abbrev pub KeepsNames : PlanView → Running → Running → Type 0
+KeepsNames plan old new = AreNamed plan old → AreNamed plan new
+
 -- An instance of this plan: its strand, and its open scopes. Where the sync at the end of a scope is after it, no statement is left in that scope.
 pub record IsInstance (plan : PlanView) (i : Running) : Type 0 where
   pub strand : IsStrand plan i
   pub few : rank_bound i < 2 ^ 32
   pub around : AreAround plan (open_scopes i) i.trail.path
   pub leaving : i.leaving ≡ true → (left_of (statements_of plan i.top) i.top.cursor ≡ []) × (i.top.levels.items ≡ [] → ⊥)
+  pub named : AreNamed plan i

@@ -5,14 +5,16 @@ ghost use Rattle.std.specs.Option.{option_copied};
 ghost use Rattle.serial_meaning.specs.Open.{least};
 ghost use Rattle.serial_meaning.specs.Plan.{PlanView};
 ghost use Rattle.strand_meaning.specs.Task.{answered, changed, with_answer, with_values};
-ghost use Rattle.strand_moves.specs.Running.{IsInstance, machine_of, path_of};
+ghost use Rattle.strand_values.specs.Environments.{with_variables};
+ghost use Rattle.strand_moves.specs.Running.{IsInstance, IsNamed, machine_of, path_of};
 
+use crate::frame::Frame;
 use crate::memory::Memory;
 use crate::running::Running;
 use script_grammar::Name;
-use serial_meaning::{Fault, Value};
+use serial_meaning::{Fault, Plan, Value};
 use std::alloc::Global;
-use strand_values::{Environment, Target};
+use strand_values::Target;
 
 impl Running {
     /// Takes the fault of a child of the frame with `height` others below it.
@@ -29,15 +31,16 @@ impl Running {
     }
 
     /// Takes the value of a child of the frame with `height` others below it. A variable that isn't there doesn't come to be.
-    pub fn take_value(&mut self, height: usize, target: Option<&Target>, value: Value)
-        ensures machine { (plan : PlanView) → machine_of plan self.new ≡ changed height (answered (option_copied target.entry) (Ok (value ∷ []))) (machine_of plan self.old) }
+    pub fn take_value(&mut self, plan: &Plan, height: usize, target: Option<&Target>, value: Value)
+        requires { IsInstance plan.now self.old }
+        ensures machine { (p : PlanView) → machine_of p self.new ≡ changed height (answered (option_copied target.entry) (Ok (value ∷ []))) (machine_of p self.old) }
         ensures path { path_of self.new ≡ path_of self.old }
-        ensures sound { (plan : PlanView) → IsInstance plan self.old → IsInstance plan self.new }
+        ensures sound { (p : PlanView) → IsInstance p self.old → IsInstance p self.new }
     {
         if height == self.below.len() {
-            replace(&mut self.top.env, target, value);
+            replace(plan, &mut self.top, target, value);
         } else if height < self.below.len() {
-            replace(&mut self.below[height].env, target, value);
+            replace(plan, &mut self.below[height], target, value);
         }
     }
 
@@ -45,14 +48,19 @@ impl Running {
     pub fn take_values(
         &mut self,
         alloc: Global,
+        plan: &Plan,
         target: Option<&Name>,
         values: &[Value],
     ) -> Result<(), Memory>
-        ensures machine { OnOk result ((plan : PlanView) → machine_of plan self.new ≡ with_values (option_copied target.entry) values.now (machine_of plan self.old)) }
+        requires { IsInstance plan.now self.old }
+        ensures machine { OnOk result ((p : PlanView) → machine_of p self.new ≡ with_values (option_copied target.entry) values.now (machine_of p self.old)) }
         ensures path { OnOk result (path_of self.new ≡ path_of self.old) }
-        ensures sound { OnOk result ((plan : PlanView) → IsInstance plan self.old → IsInstance plan self.new) }
+        ensures sound { OnOk result ((p : PlanView) → IsInstance p self.old → IsInstance p self.new) }
     {
-        self.top.env.fill(alloc, target, values)?;
+        let Some(names) = plan.names(self.top.function) else {
+            unreachable!()
+        };
+        self.top.env.fill(alloc, names, target, values)?;
         Ok(())
     }
 
@@ -66,11 +74,14 @@ impl Running {
 
 /// Gives a variable that is there a new value.
 #[inline(always)]
-fn replace(env: &mut Environment, target: Option<&Target>, value: Value)
-    ensures { env.new ≡ with_answer (option_copied target.entry) value env.old }
+fn replace(plan: &Plan, frame: &mut Frame, target: Option<&Target>, value: Value)
+    requires { IsNamed plan.now frame.old }
+    ensures { frame.new ≡ record frame.old { env = with_variables frame.old.env (with_answer (option_copied target.entry) value frame.old.env.variables) } }
 {
-    if let Some(name) = target {
-        env.replace_scalar(name, value);
+    if let Some(x) = target {
+        if let Some(names) = plan.names(frame.function) {
+            frame.env.replace_scalar(names, x, value);
+        }
     }
 }
 

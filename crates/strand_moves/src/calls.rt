@@ -1,6 +1,6 @@
 // Calls, and the end of a frame.
 
-ghost use Rattle.std.specs.Prelude.{◌≡◌, ◌<◌, ◌≤◌, ◌+◌, ◌++◌, ◌∷◌, [], false, true, Some, None, Err, IfOk, OnOk, length};
+ghost use Rattle.std.specs.Prelude.{◌≡◌, ◌<◌, ◌≤◌, ◌+◌, ◌++◌, ◌∷◌, [], false, true, Some, None, Err, IfOk, OnErr, OnOk, length};
 ghost use Rattle.std.specs.Option.{option_copied};
 ghost use Rattle.script_grammar.specs.declared.tree.Stmt.{Stmt};
 ghost use Rattle.serial_meaning.specs.Functions.{function_at, number_of};
@@ -9,13 +9,15 @@ ghost use Rattle.serial_meaning.specs.declared.event.FaultKind.{FaultKind};
 ghost use Rattle.strand_values.specs.declared.halt.Halt.TheVariants.{Fault};
 ghost use Rattle.strand_meaning.specs.Machine.{here_of, return_move, spawns_in, with_scalar};
 ghost use Rattle.strand_values.specs.Gives.{Gives};
+ghost use Rattle.strand_values.specs.Environments.{FindsAll, with_variables};
+ghost use Rattle.strand_moves.specs.Found.{ArePlaces, FindsTarget};
 ghost use Rattle.strand_moves.specs.Acts.{Acts, BeginsOne, Costs, IsCallee, StaysUnlessMemory, result_of};
-ghost use Rattle.strand_moves.specs.Running.{IsStrand, machine_of, path_of, present_of};
+ghost use Rattle.strand_moves.specs.Running.{AreNamed, IsNamed, IsStrand, KeepsNames, machine_of, path_of, present_of};
 ghost use Rattle.strand_moves.specs.Moves.{Makes, MovesTrail, call_to, present_pedigree};
-ghost use Rattle.strand_moves.specs.Quick.{quiet, told};
+ghost use Rattle.strand_moves.specs.Quick.{StaysThere, quiet, told};
 
 use crate::effects::{Effects, MoveResult};
-use crate::frame::{Frame, lets, target_of};
+use crate::frame::{Frame, target_of};
 use crate::memory::Memory;
 use crate::quick::{quiet, told};
 use crate::running::Running;
@@ -34,20 +36,25 @@ impl Running {
         &mut self,
         alloc: Global,
         plan: &Plan,
+        places: &[u16],
         target: Option<&Name>,
         call: &CallText,
     ) -> Result<(), Halt>
-        requires { self.old.leaving ≡ false }
+        requires goes_on { self.old.leaving ≡ false }
+        requires places { ArePlaces places.now plan.now }
+        requires args { FindsAll places.now self.old.top.env call.now.args }
+        requires target { FindsTarget places.now self.old.top.env (option_copied target) }
         ensures shows { (st : Stmt) → Acts plan.now st (call_to (option_copied target.entry) call.now) self.old self.new (quiet result) }
         ensures same { (kind : FaultKind) → result ≡ Err (Fault kind) → self.new ≡ self.old }
         ensures stays { StaysUnlessMemory self.old self.new (quiet result) }
         ensures few { Costs self.old self.new }
         ensures begins { OnOk result (BeginsOne self.old self.new) }
+        ensures named { KeepsNames plan.now self.old self.new }
     {
         let number = plan.callee(&call.name);
         match function_in(plan, number) {
-            Some(function) => self.enter(alloc, number, function, target, call),
-            None => self.skip(alloc, target, call),
+            Some(function) => self.enter(alloc, plan, places, number, function, target, call),
+            None => self.skip(alloc, plan, places, target, call),
         }
     }
 
@@ -55,25 +62,31 @@ impl Running {
     fn enter(
         &mut self,
         alloc: Global,
+        plan: &Plan,
+        places: &[u16],
         number: u32,
         function: &Function,
         target: Option<&Name>,
         call: &CallText,
     ) -> Result<(), Halt>
-        requires { self.old.leaving ≡ false }
-        ensures shows { (plan : PlanView) (st : Stmt) → number ≡ number_of (functions_of plan) call.now.name.bytes → function_at (functions_of plan) number ≡ Some function.now →
-            Acts plan st (call_to (option_copied target.entry) call.now) self.old self.new (quiet result) }
+        requires goes_on { self.old.leaving ≡ false }
+        requires places { ArePlaces places.now plan.now }
+        requires args { FindsAll places.now self.old.top.env call.now.args }
+        requires number { number ≡ number_of (functions_of plan.now) call.now.name.bytes }
+        requires there { function_at (functions_of plan.now) number ≡ Some function.now }
+        ensures shows { (st : Stmt) → Acts plan.now st (call_to (option_copied target.entry) call.now) self.old self.new (quiet result) }
         ensures same { (kind : FaultKind) → result ≡ Err (Fault kind) → self.new ≡ self.old }
         ensures stays { StaysUnlessMemory self.old self.new (quiet result) }
         ensures few { Costs self.old self.new }
         ensures begins { OnOk result (BeginsOne self.old self.new) }
+        ensures named { KeepsNames plan.now self.old self.new }
     {
-        let more = lets(function.body.as_slice());
+        let Some(names) = plan.names(number) else {
+            unreachable!()
+        };
         let params = function.params.as_slice();
-        let env = self
-            .top
-            .env
-            .called(alloc, params, call.args.as_slice(), more)?;
+        let args = call.args.as_slice();
+        let env = self.top.env.called(alloc, places, names, params, args)?;
         if self.below.len() >= MOST_CALLS {
             return Err(Halt::Fault(FaultKind::Calls));
         }
@@ -82,20 +95,31 @@ impl Running {
     }
 
     /// A call of a function that there isn't, whose value is 0.
-    fn skip(&mut self, alloc: Global, target: Option<&Name>, call: &CallText) -> Result<(), Halt>
-        ensures shows { (plan : PlanView) (st : Stmt) → function_at (functions_of plan) (number_of (functions_of plan) call.now.name.bytes) ≡ None →
-            Acts plan st (call_to (option_copied target.entry) call.now) self.old self.new (quiet result) }
+    fn skip(
+        &mut self,
+        alloc: Global,
+        plan: &Plan,
+        places: &[u16],
+        target: Option<&Name>,
+        call: &CallText,
+    ) -> Result<(), Halt>
+        requires args { FindsAll places.now self.old.top.env call.now.args }
+        requires target { FindsTarget places.now self.old.top.env (option_copied target) }
+        requires none { function_at (functions_of plan.now) (number_of (functions_of plan.now) call.now.name.bytes) ≡ None }
+        ensures shows { (st : Stmt) → Acts plan.now st (call_to (option_copied target.entry) call.now) self.old self.new (quiet result) }
         ensures same { (kind : FaultKind) → result ≡ Err (Fault kind) → self.new ≡ self.old }
         ensures stays { StaysUnlessMemory self.old self.new (quiet result) }
         ensures few { Costs self.old self.new }
         ensures begins { OnOk result (BeginsOne self.old self.new) }
+        ensures named { KeepsNames plan.now self.old self.new }
     {
-        drop(self.top.env.values(alloc, call.args.as_slice())?);
+        drop(self.top.env.values(alloc, places, call.args.as_slice())?);
         if self.below.len() >= MOST_CALLS {
             return Err(Halt::Fault(FaultKind::Calls));
         }
-        let target = target_of(target);
-        self.receive(target.as_ref(), Value::Int(0))?;
+        if let Some(x) = target {
+            self.top.env.set_scalar(places, x, Value::Int(0));
+        }
         Ok(())
     }
 
@@ -109,6 +133,7 @@ impl Running {
     ) -> Result<(), Memory>
         ensures top { OnOk result (IsCallee number env (option_copied target.entry) self.new.top) }
         ensures below { OnOk result (self.new.below.items ≡ self.old.below.items ++ self.old.top ∷ []) }
+        ensures err { OnErr result (StaysThere self.old self.new) }
         ensures trail { self.new.trail ≡ self.old.trail }
         ensures leaving { self.new.leaving ≡ self.old.leaving }
         ensures rank { self.new.rank ≡ self.old.rank }
@@ -128,12 +153,23 @@ impl Running {
     }
 
     /// Gives a variable of the innermost frame a value, if there is one.
-    pub(crate) fn receive(&mut self, target: Option<&Target>, value: Value) -> Result<(), Memory>
-        ensures env { OnOk result (self.new.top.env ≡ with_scalar (option_copied target.entry) value self.old.top.env) }
+    #[inline(always)]
+    pub(crate) fn receive(
+        &mut self,
+        plan: &Plan,
+        target: Option<&Target>,
+        value: Value,
+    ) -> Result<(), Memory>
+        requires { IsNamed plan.now self.old.top }
+        ensures names { self.new.top.env.names ≡ self.old.top.env.names }
+        ensures env { OnOk result (self.new.top.env ≡ with_variables self.old.top.env (with_scalar (option_copied target.entry) value self.old.top.env.variables)) }
         ensures others { self.new ≡ record self.old { top = record self.old.top { env = self.new.top.env } } }
     {
         if let Some(x) = target {
-            self.top.env.receive(x, value)?;
+            let Some(names) = plan.names(self.top.function) else {
+                unreachable!()
+            };
+            self.top.env.receive(names, x, value)?;
         }
         Ok(())
     }
@@ -149,6 +185,7 @@ impl Running {
         ensures paid { OnOk result (self.new.steps + 1 ≡ self.old.steps) }
         ensures rest { OnOk result (self.new ≡ record self.old { steps = self.new.steps; rank = self.new.rank; top = record self.old.top { returning = true } }) }
         ensures few { self.new.rank + self.new.steps ≤ self.old.rank + self.old.steps }
+        ensures named { KeepsNames plan.now self.old self.new }
     {
         self.pay()?;
         self.top.returning = true;
@@ -169,6 +206,7 @@ impl Running {
         ensures child { IfOk result (MovesTrail plan.now) }
         ensures stays { StaysUnlessMemory self.old self.new result }
         ensures few { self.new.rank + self.new.steps ≤ self.old.rank + self.old.steps }
+        ensures named { KeepsNames plan.now self.old self.new }
     {
         if !self.top.spawned {
             return told(self.return_alone(plan));
@@ -190,16 +228,18 @@ impl Running {
 
     /// The value of the innermost frame's function, as its variables are.
     fn result(&self, plan: &Plan) -> Result<Value, Halt>
-        ensures { Gives result (result_of (function_at (functions_of plan.now) self.now.top.function) self.now.top.env) }
+        requires { IsNamed plan.now self.now.top }
+        ensures { Gives result (result_of (function_at (functions_of plan.now) self.now.top.function) self.now.top.env.variables) }
     {
         match function_in(plan, self.top.function) {
-            Some(f) => self.top.env.value(&f.result),
+            Some(f) => self.top.env.value(plan.places(), &f.result),
             None => Ok(Value::Int(0)),
         }
     }
 
     /// The value of a frame that ends goes to the one below it, or is that of the instance.
     pub(crate) fn end(&mut self, plan: &Plan) -> Result<MoveResult, Halt>
+        requires named { AreNamed plan.now self.old }
         requires outside { self.old.top.levels.items ≡ [] }
         requires goes_on { self.old.leaving ≡ false }
         requires here { here_of (path_of self.old) (machine_of plan.now self.old) ≡ present_of self.old }
@@ -208,6 +248,7 @@ impl Running {
         ensures child { IfOk result (MovesTrail plan.now) }
         ensures stays { StaysUnlessMemory self.old self.new result }
         ensures few { self.new.rank + self.new.steps ≤ self.old.rank + self.old.steps }
+        ensures named { KeepsNames plan.now self.old self.new }
     {
         if self.below.is_empty() {
             return Ok(MoveResult::Returned(self.result(plan)?));
@@ -216,7 +257,9 @@ impl Running {
     }
 
     /// The value of a frame that ends goes to the one below it.
+    #[inline(always)]
     pub(crate) fn give_back(&mut self, plan: &Plan) -> Result<(), Halt>
+        requires named { AreNamed plan.now self.old }
         requires outside { self.old.top.levels.items ≡ [] }
         requires goes_on { self.old.leaving ≡ false }
         requires below { self.old.below.items ≡ [] → ⊥ }
@@ -227,6 +270,7 @@ impl Running {
         ensures stays { StaysUnlessMemory self.old self.new (quiet result) }
         ensures steps { self.new.steps ≡ self.old.steps }
         ensures rank { self.new.rank ≡ self.old.rank }
+        ensures named { KeepsNames plan.now self.old self.new }
         ensures fewer { OnOk result (length self.new.below.items < length self.old.below.items) }
     {
         let value = self.result(plan)?;
@@ -236,7 +280,7 @@ impl Running {
         // the callee is dropped at one place, whatever was received
         let received = {
             let callee = mem::replace(&mut self.top, caller);
-            self.receive(callee.target.as_ref(), value)
+            self.receive(plan, callee.target.as_ref(), value)
         };
         received?;
         Ok(())

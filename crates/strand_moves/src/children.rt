@@ -1,9 +1,11 @@
 // Children: spawns, syncs and parallel loops.
 
-ghost use Rattle.std.specs.Prelude.{◌≡◌, ◌<◌, ◌≤◌, ◌^◌, ◌+◌, ◌++◌, ◌∷◌, [], ℕ, Some, Err, IfOk, IfSome, OnErr, OnOk, false, length};
+ghost use Rattle.std.specs.Prelude.{◌≡◌, ◌<◌, ◌≤◌, ◌^◌, ◌+◌, ◌++◌, ◌∷◌, [], ℕ, Bool, Some, Err, IfOk, IfSome, OnErr, OnOk, false, true, length};
 ghost use Rattle.std.specs.Option.{option_copied};
 ghost use Rattle.dotmix.specs.Trails.{FitsGamma};
 ghost use Rattle.script_grammar.specs.declared.tree.Act.TheOpen as act;
+ghost use Rattle.script_check.specs.Places.{every_in_statement};
+ghost use Rattle.script_grammar.specs.declared.tree.Name.{Name};
 ghost use Rattle.script_grammar.specs.declared.tree.Stmt.{Stmt};
 ghost use Rattle.serial_meaning.specs.Exec.{filled};
 ghost use Rattle.serial_meaning.specs.Functions.{function_at};
@@ -11,8 +13,10 @@ ghost use Rattle.serial_meaning.specs.Open.{answer_filler};
 ghost use Rattle.serial_meaning.specs.Plan.{PlanView, functions_of};
 ghost use Rattle.serial_meaning.specs.declared.event.Event.TheVariants as event;
 ghost use Rattle.strand_meaning.specs.Machine.{Emitted, sync_effects, with_scalar};
+ghost use Rattle.strand_values.specs.Environments.{with_variables};
+ghost use Rattle.strand_moves.specs.Found.{EveryInSpawn, FindsLoop, FindsSpawn, FindsTarget};
 ghost use Rattle.strand_moves.specs.Acts.{Acts, Costs, Stays, loop_begins};
-ghost use Rattle.strand_moves.specs.Running.{IsInstance, IsStrand, path_of, present_of};
+ghost use Rattle.strand_moves.specs.Running.{IsInstance, IsStrand, KeepsNames, path_of, present_of};
 ghost use Rattle.strand_values.specs.declared.halt.Halt.TheVariants as halt;
 ghost use Rattle.serial_meaning.specs.declared.event.FaultKind.{FaultKind};
 ghost use Rattle.strand_values.specs.declared.halt.Halt.TheVariants.{Fault};
@@ -37,27 +41,31 @@ use strand_values::{Halt, Target, iterations, number};
 
 impl Running {
     /// A spawn, whose child's value is to go to a variable, if any.
+    #[inline(always)]
     pub(crate) fn spawn(
         &mut self,
         alloc: Global,
         plan: &Plan,
+        places: &[u16],
         target: Option<&Name>,
         call: &CallText,
     ) -> Result<Spawning, Halt>
-        requires { IsStrand plan.now self.old }
+        requires strand { IsStrand plan.now self.old }
+        requires finds { FindsSpawn places.now self.old.top.env (option_copied target) call.now }
         ensures shows { (st : Stmt) → Acts plan.now st (spawn_to (option_copied target.entry) call.now) self.old self.new (handed result) }
         ensures same { (kind : FaultKind) → result ≡ Err (Fault kind) → self.new ≡ self.old }
         ensures child { IfOk result (λ s. IsTrailOf plan.now s.spawned.child.origin s.spawned.child.trail) }
         ensures stays { Stays self.old self.new }
         ensures few { Costs self.old self.new }
+        ensures named { (plan : PlanView) → KeepsNames plan self.old self.new }
     {
         let height = narrowed(self.below.len())?;
-        let args = self.top.env.values(alloc, call.args.as_slice())?;
+        let args = self.top.env.values(alloc, places, call.args.as_slice())?;
         if self.trail.path.len() + 1 >= plan.limits.depth as u64 {
             return Err(Halt::Fault(FaultKind::Depth));
         }
         let function = plan.callee(&call.name);
-        let target = self.receive_filler(alloc, plan, function, target)?;
+        let target = self.receive_filler(alloc, plan, places, function, target)?;
         let (trail, path) = self.child_place(alloc, plan)?;
         let origin = Origin::Instance {
             function,
@@ -67,14 +75,12 @@ impl Running {
         let event = Event::Spawn(self.pedigree()?);
         self.rank += 1;
         self.top.spawned = true;
-        Ok(Spawning {
-            event,
-            spawned: SpawnedChild {
-                child: Child { origin, trail },
-                height,
-                target,
-            },
-        })
+        let spawned = SpawnedChild {
+            child: Child { origin, trail },
+            height,
+            target,
+        };
+        Ok(Spawning { event, spawned })
     }
 
     /// The spawn that the statement is which the cursor has just passed. Where it is none, or meets a fault, nothing changes.
@@ -98,7 +104,7 @@ impl Running {
             return Ok(None);
         }
         self.steps -= 1;
-        match self.spawn(alloc, plan, text.0, text.1) {
+        match self.spawn(alloc, plan, plan.places(), text.0, text.1) {
             Ok(spawning) => Ok(Some(spawning)),
             Err(Halt::Fault(_)) => {
                 self.steps += 1;
@@ -117,6 +123,7 @@ impl Running {
         ensures child { (plan : PlanView) → IfOk result (MovesTrail plan) }
         ensures stays { Stays self.old self.new }
         ensures few { Costs self.old self.new }
+        ensures named { (plan : PlanView) → KeepsNames plan self.old self.new }
     {
         let event = Event::Sync(self.pedigree()?);
         let waits = self.top.spawned;
@@ -133,6 +140,7 @@ impl Running {
         &mut self,
         alloc: Global,
         plan: &Plan,
+        places: &[u16],
         lo: &Expr,
         hi: &Expr,
         target: &Option<Name>,
@@ -140,18 +148,20 @@ impl Running {
     ) -> Result<MoveResult, Halt>
         requires strand { IsStrand plan.now self.old }
         requires steps { self.old.steps < 2 ^ 32 }
+        requires finds { FindsLoop places.now self.old.top.env lo.now hi.now target.now call.now }
         ensures shows { (st : Stmt) (var : _) → Acts plan.now st (act.Pfor var lo.now hi.now target.now call.now) self.old self.new result }
         ensures child { IfOk result (MovesTrail plan.now) }
         ensures stays { Stays self.old self.new }
         ensures few { Costs self.old self.new }
+        ensures named { (plan : PlanView) → KeepsNames plan self.old self.new }
     {
-        let first = number(&self.top.env.value(lo)?);
-        let end = number(&self.top.env.value(hi)?);
-        let rest = self.top.env.values(alloc, call.args.as_slice())?;
+        let first = number(&self.top.env.value(places, lo)?);
+        let end = number(&self.top.env.value(places, hi)?);
+        let rest = self.top.env.values(alloc, places, call.args.as_slice())?;
         let count = iterations(first, end);
-        self.begin_loop(plan, target, count)?;
+        self.begin_loop(plan, places, target, count)?;
         if count == 0 {
-            return Ok(MoveResult::Went(self.pass_loop(alloc, target)?));
+            return Ok(MoveResult::Went(self.pass_loop(alloc, places, target)?));
         }
         let function = plan.callee(&call.name);
         let (trail, path) = self.child_place(alloc, plan)?;
@@ -164,17 +174,19 @@ impl Running {
             range,
         };
         let child = Child { origin, trail };
-        Ok(MoveResult::Went(self.hand_loop(alloc, target, child)?))
+        Ok(MoveResult::Went(self.hand_loop(alloc, places, target, child)?))
     }
 
     /// The steps of a loop of so many iterations, the room of its target, and the depth of its iterations.
     fn begin_loop(
         &mut self,
         plan: &Plan,
+        places: &[u16],
         target: &Option<Name>,
         count: u64,
     ) -> Result<(), FaultKind>
-        ensures result { result ≡ loop_begins plan.now (present_of self.old) count target.now self.old.top.env self.old.steps }
+        requires { FindsTarget places.now self.old.top.env target.now }
+        ensures result { result ≡ loop_begins plan.now (present_of self.old) count target.now self.old.top.env.variables self.old.steps }
         ensures ok { OnOk result (self.new.steps + count ≡ self.old.steps) }
         ensures less { self.new.steps ≤ self.old.steps }
         ensures others { self.new ≡ record self.old { steps = self.new.steps } }
@@ -183,7 +195,7 @@ impl Running {
             return Err(FaultKind::Budget);
         }
         self.steps -= count;
-        if !self.top.env.has_room(target.as_ref(), count) {
+        if !self.top.env.has_room(places, target.as_ref(), count) {
             return Err(FaultKind::Index);
         }
         if count != 0 && self.trail.path.len() + 2 >= plan.limits.depth as u64 {
@@ -193,14 +205,21 @@ impl Running {
     }
 
     /// A loop without an iteration.
-    fn pass_loop(&mut self, alloc: Global, target: &Option<Name>) -> Result<Effects, Memory>
-        requires { self.old.rank < 2 ^ 32 }
+    fn pass_loop(
+        &mut self,
+        alloc: Global,
+        places: &[u16],
+        target: &Option<Name>,
+    ) -> Result<Effects, Memory>
+        requires rank { self.old.rank < 2 ^ 32 }
+        requires target { FindsTarget places.now self.old.top.env target.now }
         ensures shown { IfOk result (λ s. s ≡ shown.Emitted (event.Loop (present_of self.old ++ self.old.rank ∷ []))) }
-        ensures passed { OnOk result (self.new ≡ record self.old { rank = self.old.rank + 1; top = record self.old.top { env = filled target.now [] self.old.top.env } }) }
+        ensures passed { OnOk result (self.new ≡ record self.old { rank = self.old.rank + 1; top = record self.old.top { env = with_variables self.old.top.env (filled target.now [] self.old.top.env.variables) } }) }
         ensures stays { Stays self.old self.new }
         ensures few { Costs self.old self.new }
+        ensures named { (plan : PlanView) → KeepsNames plan self.old self.new }
     {
-        self.top.env.fill(alloc, target.as_ref(), &[])?;
+        self.top.env.clear(alloc, places, target.as_ref());
         let event = Event::Loop(self.pedigree()?);
         self.rank += 1;
         Ok(Effects::Emitted(event))
@@ -210,14 +229,17 @@ impl Running {
     fn hand_loop(
         &mut self,
         alloc: Global,
+        places: &[u16],
         target: &Option<Name>,
         child: Child,
     ) -> Result<Effects, Memory>
-        requires { self.old.rank < 2 ^ 32 }
+        requires rank { self.old.rank < 2 ^ 32 }
+        requires target { FindsTarget places.now self.old.top.env target.now }
         ensures shown { IfOk result (λ s. s ≡ shown.Looped (event.Loop (present_of self.old ++ self.old.rank ∷ [])) (record { child = child; target = target.now })) }
-        ensures passed { OnOk result (self.new ≡ record self.old { rank = self.old.rank + 1; top = record self.old.top { env = filled target.now [] self.old.top.env } }) }
+        ensures passed { OnOk result (self.new ≡ record self.old { rank = self.old.rank + 1; top = record self.old.top { env = with_variables self.old.top.env (filled target.now [] self.old.top.env.variables) } }) }
         ensures stays { Stays self.old self.new }
         ensures few { Costs self.old self.new }
+        ensures named { (plan : PlanView) → KeepsNames plan self.old self.new }
     {
         let into = copy_of(target.as_ref());
         let looped = boxed(
@@ -227,13 +249,14 @@ impl Running {
                 target: into,
             },
         )?;
-        self.top.env.fill(alloc, target.as_ref(), &[])?;
+        self.top.env.clear(alloc, places, target.as_ref());
         let event = Event::Loop(self.pedigree()?);
         self.rank += 1;
         Ok(Effects::Looped { event, looped })
     }
 
     /// The trail of a child of this strand, and its path, over the same memory.
+    #[inline(always)]
     pub(crate) fn child_place(&self, alloc: Global, plan: &Plan) -> Result<(Trail, Ped), Memory>
         requires fits { FitsGamma plan.now.gamma self.now.trail }
         requires within { length (present_of self.now) < length plan.now.gamma }
@@ -248,27 +271,33 @@ impl Running {
     }
 
     /// A spawn's target, which receives what stands for the value of a child of this function.
+    #[inline(always)]
     fn receive_filler(
         &mut self,
         alloc: Global,
         plan: &Plan,
+        places: &[u16],
         function: u32,
         target: Option<&Name>,
     ) -> Result<Option<Target>, Memory>
+        requires { FindsTarget places.now self.old.top.env (option_copied target) }
         ensures to { IfOk result (λ to. to ≡ option_copied target.entry) }
-        ensures env { OnOk result (self.new.top.env ≡ with_scalar (option_copied target.entry) (answer_filler (function_at (functions_of plan.now) function)) self.old.top.env) }
+        ensures names { self.new.top.env.names ≡ self.old.top.env.names }
+        ensures env { OnOk result (self.new.top.env ≡ with_variables self.old.top.env (with_scalar (option_copied target.entry) (answer_filler (function_at (functions_of plan.now) function)) self.old.top.env.variables)) }
         ensures others { self.new ≡ record self.old { top = record self.old.top { env = self.new.top.env } } }
     {
         let instead = filler(alloc, plan, function)?;
-        let target = target_of(target);
-        self.receive(target.as_ref(), instead)?;
-        Ok(target)
+        if let Some(x) = target {
+            self.top.env.set_scalar(places, x, instead);
+        }
+        Ok(target_of(target))
     }
 }
 
 /// The variable and the call of a spawn, and nothing of another statement.
 fn spawn_in<'a>(statement: &'a Stmt) -> Option<(Option<&'a Name>, &'a CallText)>
-    ensures { IfSome result (λ text. DoesAs statement.now (option_copied text.0) text.1.now) }
+    ensures does { IfSome result (λ text. DoesAs statement.now (option_copied text.0) text.1.now) }
+    ensures every { (is : Name → Bool) → every_in_statement is statement.now ≡ true → IfSome result (λ text. EveryInSpawn is (option_copied text.0) text.1.now) }
 {
     match &statement.act {
         Act::Spawn(c) => Some((None, c)),

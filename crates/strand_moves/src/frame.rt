@@ -7,7 +7,7 @@ ghost use Rattle.strand_moves.specs.Running.{block_inside, body_of, statements_o
 
 use crate::cursor::Cursor;
 use dotmix::Trail;
-use script_grammar::{Act, Name, Stmt};
+use script_grammar::{Name, Stmt};
 use serial_meaning::{Fault, Plan};
 use std::alloc::Global;
 use strand_values::{Environment, Target};
@@ -79,6 +79,7 @@ impl Frame {
 }
 
 /// The block of the innermost of these scopes, which are open in a function of this body.
+#[inline(always)]
 fn inside<'a>(body: &'a [Stmt], levels: &[Level]) -> &'a [Stmt]
     ensures { result.now ≡ block_inside body.now (reverse levels.now) }
 {
@@ -87,17 +88,6 @@ fn inside<'a>(body: &'a [Stmt], levels: &[Level]) -> &'a [Stmt]
         block = level.cursor.scope(block);
     }
     block
-}
-
-/// How many variables the statements make, but for those of the blocks inside them.
-pub(crate) fn lets(body: &[Stmt]) -> usize {
-    let mut count: usize = 0;
-    for statement in body {
-        if let Act::Let(_, _) | Act::Array(_, _) = &statement.act {
-            count = count.saturating_add(1);
-        }
-    }
-    count
 }
 
 /// The statements of the function at this place, and none where there is no function.

@@ -29,6 +29,7 @@ impl Instance {
     ghost use Rattle.strand_moves.specs.Spawns.{SpawnsTrail};
 
     /// An instance of the function at this place in the script, before its first move.
+    #[inline(always)]
     pub fn new(
         alloc: Global,
         plan: &Plan,
@@ -116,26 +117,29 @@ impl Instance {
     }
 
     /// Takes the value of a child of the frame with `height` others below it. A variable that isn't there doesn't come to be.
-    pub fn take_value(&mut self, height: usize, target: Option<&Target>, value: Value)
-        ensures machine { (plan : PlanView) → machine_of plan self.new ≡ changed height (answered (option_copied target.entry) (Ok (value ∷ []))) (machine_of plan self.old) }
+    pub fn take_value(&mut self, plan: &Plan, height: usize, target: Option<&Target>, value: Value)
+        requires { IsInstance plan.now self.old }
+        ensures machine { (p : PlanView) → machine_of p self.new ≡ changed height (answered (option_copied target.entry) (Ok (value ∷ []))) (machine_of p self.old) }
         ensures path { path_of self.new ≡ path_of self.old }
-        ensures sound { (plan : PlanView) → IsInstance plan self.old → IsInstance plan self.new }
+        ensures sound { (p : PlanView) → IsInstance p self.old → IsInstance p self.new }
     {
-        self.running.take_value(height, target, value);
+        self.running.take_value(plan, height, target, value);
     }
 
     /// Takes the values of a loop of the innermost frame. Where there was no memory for it the instance is of no more use.
     pub fn take_values(
         &mut self,
         alloc: Global,
+        plan: &Plan,
         target: Option<&Name>,
         values: &[Value],
     ) -> Result<(), Memory>
-        ensures machine { OnOk result ((plan : PlanView) → machine_of plan self.new ≡ with_values (option_copied target.entry) values.now (machine_of plan self.old)) }
+        requires { IsInstance plan.now self.old }
+        ensures machine { OnOk result ((p : PlanView) → machine_of p self.new ≡ with_values (option_copied target.entry) values.now (machine_of p self.old)) }
         ensures path { OnOk result (path_of self.new ≡ path_of self.old) }
-        ensures sound { OnOk result ((plan : PlanView) → IsInstance plan self.old → IsInstance plan self.new) }
+        ensures sound { OnOk result ((p : PlanView) → IsInstance p self.old → IsInstance p self.new) }
     {
-        self.running.take_values(alloc, target, values)
+        self.running.take_values(alloc, plan, target, values)
     }
 
     /// The least fault among the answers that the innermost frame took since its last sync.

@@ -5,9 +5,12 @@ ghost use Rattle.std.specs.Option.{option_copied};
 ghost use Rattle.script_grammar.specs.declared.tree.Act.{out-Act};
 ghost use Rattle.script_grammar.specs.declared.tree.Act.TheOpen as act;
 ghost use Rattle.script_grammar.specs.declared.tree.Stmt.{Stmt, out-Stmt};
+ghost use Rattle.serial_meaning.specs.Plan.{PlanView};
+ghost use Rattle.strand_values.specs.Environments.{FindsName};
+ghost use Rattle.strand_moves.specs.Found.{ArePlaces, FindsRight, FindsStatement};
 ghost use Rattle.strand_moves.specs.Acts.{Costs, Stays};
 ghost use Rattle.strand_moves.specs.Cursors.{left_of};
-ghost use Rattle.strand_moves.specs.Running.{IsInstance, IsStrand, statements_of};
+ghost use Rattle.strand_moves.specs.Running.{IsInstance, IsStrand, KeepsNames, statements_of};
 ghost use Rattle.strand_moves.specs.Quick.{HasCalled, HasEmitted, EndsFrame, HasGone, IsDone, IsQuiet, IsEmittedTo, IsWent, StaysThere, emitted, is_fork, quiet, told};
 ghost use Rattle.strand_moves.specs.Rows.{Comes};
 
@@ -52,6 +55,7 @@ pub(crate) fn emitted(done: Result<Event, Halt>) -> Result<MoveResult, Halt>
 }
 
 /// Whether an event was shown, and not a fault met. The event goes to the sink.
+#[inline(always)]
 fn sent<S: EventSink>(
     alloc: Global,
     done: Result<Event, Halt>,
@@ -123,6 +127,7 @@ impl Running {
         requires { IsInstance plan.now self.old }
         ensures { IfOk result (λ next. Comes S.after plan.now self.old sink.old self.new sink.new (option_copied next)) }
     {
+        let places = plan.places();
         let mut text = self.top.statements(plan);
         let mut block = self.top.cursor.block(text);
         loop {
@@ -139,11 +144,11 @@ impl Running {
                 return Ok(Some(statement));
             }
             self.steps -= 1;
-            if self.quiet_statement(alloc, statement)? {
+            if self.quiet_statement(alloc, places, statement)? {
                 block = self.top.cursor.block_after(text, statement, passed.1);
                 continue;
             }
-            match self.other_statement(alloc, plan, statement, sink)? {
+            match self.other_statement(alloc, plan, places, statement, sink)? {
                 Form::Emitting => block = passed.1,
                 Form::Calling => {
                     text = self.top.statements(plan);
@@ -161,18 +166,22 @@ impl Running {
         &mut self,
         alloc: Global,
         plan: &Plan,
+        places: &[u16],
         statement: &Stmt,
         sink: &mut S,
     ) -> Result<Form, Memory>
         requires strand { IsStrand plan.now self.old }
         requires goes_on { self.old.leaving ≡ false }
         requires paid { self.old.steps + 1 < 2 ^ 64 }
-        ensures { IfOk result (λ form. HasGone S.after plan.now statement.now self.old sink.old self.new sink.new form) }
+        requires places { ArePlaces places.now plan.now }
+        requires finds { FindsStatement places.now self.old.top.env statement.now }
+        ensures gone { IfOk result (λ form. HasGone S.after plan.now statement.now self.old sink.old self.new sink.new form) }
+        ensures named { KeepsNames plan.now self.old self.new }
     {
         let form = form_of(statement);
         let done = match form {
-            Form::Emitting => self.emitting_statement(alloc, plan, statement, sink)?,
-            Form::Calling => self.calling_statement(alloc, plan, statement)?,
+            Form::Emitting => self.emitting_statement(alloc, plan, places, statement, sink)?,
+            Form::Calling => self.calling_statement(alloc, plan, places, statement)?,
             Form::Other => false,
         };
         if done {
@@ -215,39 +224,49 @@ impl Running {
     }
 
     /// What a statement does that shows nothing, after its step. Otherwise nothing changes, and the answer is no.
-    fn quiet_statement(&mut self, alloc: Global, statement: &Stmt) -> Result<bool, Memory>
+    fn quiet_statement(
+        &mut self,
+        alloc: Global,
+        places: &[u16],
+        statement: &Stmt,
+    ) -> Result<bool, Memory>
+        requires { FindsStatement places.now self.old.top.env statement.now }
         ensures did { IfOk result (IsQuiet statement.now self.old self.new) }
         ensures there { StaysThere self.old self.new }
         ensures cursor { is_fork (out-Act (out-Stmt statement.now).act) ≡ false → self.new.top.cursor ≡ self.old.top.cursor }
         ensures stays { Stays self.old self.new }
         ensures few { Costs self.old self.new }
+        ensures named { (plan : PlanView) → KeepsNames plan self.old self.new }
     {
         match &statement.act {
-            Act::Let(x, r) => self.quiet_right(x, r),
-            Act::Set(x, r) => self.quiet_right(x, r),
-            Act::Array(x, n) => went(self.array(alloc, x, *n)),
-            Act::Store(x, i, e) => went(self.store(x, i, e)),
-            Act::If(e, _, _) => went(self.branch(e)),
-            Act::While(e, _) => went(self.while_test(e)),
+            Act::Let(x, r) => self.quiet_right(places, x, r),
+            Act::Set(x, r) => self.quiet_right(places, x, r),
+            Act::Array(x, n) => went(self.array(alloc, places, x, *n)),
+            Act::Store(x, i, e) => went(self.store(places, x, i, e)),
+            Act::If(e, _, _) => went(self.branch(places, e)),
+            Act::While(e, _) => went(self.while_test(places, e)),
             _ => Ok(false),
         }
     }
 
     /// The same of `let x = R` or `x = R`.
-    fn quiet_right(&mut self, x: &Name, r: &Right) -> Result<bool, Memory>
+    fn quiet_right(&mut self, places: &[u16], x: &Name, r: &Right) -> Result<bool, Memory>
+        requires name { FindsName places.now self.old.top.env x.now }
+        requires right { FindsRight places.now self.old.top.env r.now }
         ensures did { (st : Stmt) → IfOk result (IsDone st (act.Set x.now r.now) self.old self.new) }
         ensures there { StaysThere self.old self.new }
         ensures cursor { self.new.top.cursor ≡ self.old.top.cursor }
         ensures stays { Stays self.old self.new }
         ensures few { Costs self.old self.new }
+        ensures named { (plan : PlanView) → KeepsNames plan self.old self.new }
     {
         match r {
-            Right::Value(e) => match self.top.env.plain(e) {
+            Right::Value(e) => match self.top.env.plain(places, e) {
                 Some(number) => {
-                    self.top.env.set_number(&x.bytes, number)?;
+                    self.top.env.set_number(places, x, number);
                     Ok(true)
                 }
-                None => went(self.set_value(x, e)),
+                None => went(self.set_value(places, x, e)),
             },
             _ => Ok(false),
         }
@@ -258,43 +277,50 @@ impl Running {
         &mut self,
         alloc: Global,
         plan: &Plan,
+        places: &[u16],
         statement: &Stmt,
         sink: &mut S,
     ) -> Result<bool, Memory>
-        requires { IsStrand plan.now self.old }
+        requires strand { IsStrand plan.now self.old }
+        requires finds { FindsStatement places.now self.old.top.env statement.now }
         ensures did { IfOk result (HasEmitted S.after plan.now statement.now (out-Act (out-Stmt statement.now).act) self.old sink.old self.new sink.new) }
         ensures there { StaysThere self.old self.new }
         ensures cursor { self.new.top.cursor ≡ self.old.top.cursor }
         ensures stays { Stays self.old self.new }
         ensures few { Costs self.old self.new }
+        ensures named { (plan : PlanView) → KeepsNames plan self.old self.new }
     {
         match &statement.act {
-            Act::Let(x, r) => self.emitting_right(alloc, plan, x, r, sink),
-            Act::Set(x, r) => self.emitting_right(alloc, plan, x, r, sink),
-            Act::Print(e) => sent(alloc, self.print(e), sink),
+            Act::Let(x, r) => self.emitting_right(alloc, plan, places, x, r, sink),
+            Act::Set(x, r) => self.emitting_right(alloc, plan, places, x, r, sink),
+            Act::Print(e) => sent(alloc, self.print(places, e), sink),
             _ => Ok(false),
         }
     }
 
     /// The same of `let x = R` or `x = R`.
+    #[inline(always)]
     fn emitting_right<S: EventSink>(
         &mut self,
         alloc: Global,
         plan: &Plan,
+        places: &[u16],
         x: &Name,
         r: &Right,
         sink: &mut S,
     ) -> Result<bool, Memory>
-        requires { IsStrand plan.now self.old }
+        requires strand { IsStrand plan.now self.old }
+        requires name { FindsName places.now self.old.top.env x.now }
         ensures did { (st : Stmt) → IfOk result (HasEmitted S.after plan.now st (act.Set x.now r.now) self.old sink.old self.new sink.new) }
         ensures there { StaysThere self.old self.new }
         ensures cursor { self.new.top.cursor ≡ self.old.top.cursor }
         ensures stays { Stays self.old self.new }
         ensures few { Costs self.old self.new }
+        ensures named { (plan : PlanView) → KeepsNames plan self.old self.new }
     {
         match r {
-            Right::Draw(_) => sent(alloc, self.draw(plan, x), sink),
-            Right::New(_) => sent(alloc, self.make_object(x), sink),
+            Right::Draw(_) => sent(alloc, self.draw(plan, places, x), sink),
+            Right::New(_) => sent(alloc, self.make_object(places, x), sink),
             _ => Ok(false),
         }
     }
@@ -304,16 +330,20 @@ impl Running {
         &mut self,
         alloc: Global,
         plan: &Plan,
+        places: &[u16],
         statement: &Stmt,
     ) -> Result<bool, Memory>
-        requires { self.old.leaving ≡ false }
+        requires goes_on { self.old.leaving ≡ false }
+        requires places { ArePlaces places.now plan.now }
+        requires finds { FindsStatement places.now self.old.top.env statement.now }
         ensures did { IfOk result (HasCalled plan.now statement.now (out-Act (out-Stmt statement.now).act) self.old self.new) }
         ensures few { Costs self.old self.new }
+        ensures named { KeepsNames plan.now self.old self.new }
     {
         match &statement.act {
-            Act::Let(x, r) => self.calling_right(alloc, plan, x, r),
-            Act::Set(x, r) => self.calling_right(alloc, plan, x, r),
-            Act::Call(c) => went(self.call(alloc, plan, None, c)),
+            Act::Let(x, r) => self.calling_right(alloc, plan, places, x, r),
+            Act::Set(x, r) => self.calling_right(alloc, plan, places, x, r),
+            Act::Call(c) => went(self.call(alloc, plan, places, None, c)),
             _ => Ok(false),
         }
     }
@@ -323,15 +353,20 @@ impl Running {
         &mut self,
         alloc: Global,
         plan: &Plan,
+        places: &[u16],
         x: &Name,
         r: &Right,
     ) -> Result<bool, Memory>
-        requires { self.old.leaving ≡ false }
+        requires goes_on { self.old.leaving ≡ false }
+        requires places { ArePlaces places.now plan.now }
+        requires name { FindsName places.now self.old.top.env x.now }
+        requires right { FindsRight places.now self.old.top.env r.now }
         ensures did { (st : Stmt) → IfOk result (HasCalled plan.now st (act.Set x.now r.now) self.old self.new) }
         ensures few { Costs self.old self.new }
+        ensures named { KeepsNames plan.now self.old self.new }
     {
         match r {
-            Right::Call(_, c) => went(self.call(alloc, plan, Some(x), c)),
+            Right::Call(_, c) => went(self.call(alloc, plan, places, Some(x), c)),
             _ => Ok(false),
         }
     }

@@ -7,7 +7,7 @@ ghost use Rattle.serial_meaning.specs.Plan.{functions_of};
 ghost use Rattle.strand_meaning.specs.Machine.{Stands, begun, move};
 
 use crate::effects::MoveResult;
-use crate::frame::{Frame, lets};
+use crate::frame::Frame;
 use crate::memory::Memory;
 use dotmix::Trail;
 use ped_path::Pedigree;
@@ -38,6 +38,7 @@ impl Running {
     ghost use Rattle.strand_moves.specs.Rows.{HasPassedStatement, unpassed};
 
     /// An instance of the function at this place in the script, before its first move.
+    #[inline(always)]
     pub fn new(
         alloc: Global,
         plan: &Plan,
@@ -53,8 +54,12 @@ impl Running {
         ensures sound { IfOk result (λ i. IsInstance plan.now i.value) }
     {
         let f = &plan.functions()[function as usize];
-        let more = lets(f.body.as_slice());
-        let env = Environment::bound(alloc, f.params.as_slice(), args, more)?;
+        let Some(names) = plan.names(function) else {
+            unreachable!()
+        };
+        // its contract tells that no two parameters have one name
+        plan.places();
+        let env = Environment::bound(alloc, names, f.params.as_slice(), args)?;
         let running = Running {
             trail,
             rank: 0,
@@ -88,6 +93,7 @@ impl Running {
     }
 
     /// The move of a statement that the cursor has just passed, or where none was left.
+    #[inline(always)]
     pub(crate) fn make(
         &mut self,
         alloc: Global,
@@ -122,7 +128,7 @@ impl Running {
         ensures keeps { Keeps plan.now self.old self.new result }
     {
         match next {
-            Some(statement) => self.statement(alloc, plan, statement),
+            Some(statement) => self.statement(alloc, plan, plan.places(), statement),
             None => self.end_block(plan),
         }
     }

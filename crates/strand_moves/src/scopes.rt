@@ -12,7 +12,7 @@ ghost use Rattle.strand_values.specs.declared.halt.Halt.TheVariants as halt;
 ghost use Rattle.strand_values.specs.declared.halt.Halt.TheVariants.{Fault};
 ghost use Rattle.strand_moves.specs.Acts.{Acts, GoesIn, Keeps};
 ghost use Rattle.strand_moves.specs.Cursors.{IsBehind, left_of};
-ghost use Rattle.strand_moves.specs.Running.{IsInstance, IsStrand, machine_of, path_of, present_of, statements_of};
+ghost use Rattle.strand_moves.specs.Running.{IsInstance, IsStrand, KeepsNames, machine_of, path_of, present_of, statements_of};
 ghost use Rattle.strand_moves.specs.Moves.{Makes, MovesTrail, Shows, present_pedigree};
 ghost use Rattle.strand_moves.specs.declared.effects.Effects.TheVariants as shown;
 
@@ -37,6 +37,7 @@ impl Running {
         ensures child { IfOk result (MovesTrail plan.now) }
         ensures same { (kind : FaultKind) → result ≡ Err (Fault kind) → self.new ≡ self.old }
         ensures into { IfOk result (λ _. GoesIn plan.now self.old self.new) }
+        ensures named { (plan : PlanView) → KeepsNames plan self.old self.new }
     {
         if self.trail.path.len() + 1 >= plan.limits.depth as u64 {
             return Err(Halt::Fault(FaultKind::Depth));

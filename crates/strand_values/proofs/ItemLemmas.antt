@@ -1,5 +1,5 @@
 -- Writes into the items of an array.
-use Rattle.std.proofs.Common.{◌≡◌, ℕ, zero, suc, ◌+◌, ◌<◌, ◌≤◌, min, Bool, true, false, Option, Some, None, List, [], ◌∷◌, ◌++◌, length, get_or, slice_set, take, drop, replicate, refl, sym, ap, subst, ◌∙◌, arith}
+use Rattle.std.proofs.Common.{◌≡◌, ℕ, zero, suc, ◌<◌, ◌≤◌, min, true, false, Option, Some, None, List, [], ◌∷◌, ◌++◌, length, get_or, slice_set, take, drop, replicate, refl, sym, ap, subst, ◌∙◌, arith}
 use Rattle.std.specs.Prelude.{ℤ, pos, negsuc, IsSome, slice_get}
 use lib.IntN.{nat_abs}
 use Rattle.std.proofs.lemmas.List.{take-append-drop}
@@ -50,7 +50,7 @@ pub index_is_within : (xs : List ℤ) (k : ℤ) → IsSome (at_index xs k) → n
 index_is_within xs (pos i) h = within xs i h
 index_is_within xs (negsuc i) h = absurd (not_some ℤ h)
 
-pub no_index_of_none : (k : ℤ) → IsSome (at_index [] k) → ⊥
+no_index_of_none : (k : ℤ) → IsSome (at_index [] k) → ⊥
 no_index_of_none (pos i) h = not_some ℤ h
 no_index_of_none (negsuc i) h = not_some ℤ h
 
@@ -62,7 +62,10 @@ stored xs (negsuc i) v h = absurd (not_some ℤ h)
 pub item_there : (s t : Option Slot) (k : ℤ) → s ≡ t → IsSome (at_index (items_of s) k) → IsSome (at_index (items_of t) k)
 item_there s t k e h = let P : Option Slot → Type 0 = λ u. IsSome (at_index (items_of u) k) in subst P e h
 
-pub slot_stored : (s : Option Slot) (t : Slot) (k : ℤ) (v : Value) → s ≡ Some t → IsSome (at_index (items_of s) k) →
-    Array (with_item (items_of (Some t)) (nat_abs k) (number v)) ≡ Array (set_item (items_of s) k v)
-slot_stored s t k v e h =
-    ap (λ xs. Array xs) (stored (items_of (Some t)) k v (item_there s (Some t) k e h) ∙ ap (λ u. set_item (items_of u) k v) (sym e))
+pub stored_there : (s t : Option Slot) (k : ℤ) (v : Value) → s ≡ t → IsSome (at_index (items_of s) k) → Array (with_item (items_of t) (nat_abs k) (number v)) ≡ Array (set_item (items_of s) k v)
+stored_there s t k v e h = ap (λ xs. Array xs) (stored (items_of t) k v (item_there s t k e h) ∙ ap (λ u. set_item (items_of u) k v) (sym e))
+
+-- which is there, since it has an item
+pub array_there : (s : Option Slot) (k : ℤ) → IsSome (at_index (items_of s) k) → IsSome s
+array_there None k h = absurd (no_index_of_none k h)
+array_there (Some t) k h = refl

@@ -1,5 +1,9 @@
 pub mod BoundLemmas
+pub mod ByPlaces
+pub mod Chains
+pub mod Filled
+pub mod FoundOperands
 pub mod ItemLemmas
 pub mod NumberLemmas
-pub mod PlaceLemmas
+pub mod Shares
 pub mod ValueLemmas

@@ -1,4 +1,5 @@
+pub mod ByPlaces
 pub mod Changes
+pub mod Environments
 pub mod Gives
 pub mod Nodes
-pub mod Targets

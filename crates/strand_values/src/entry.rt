@@ -1,84 +1,82 @@
-// A variable as an environment keeps it.
+// What stands in the place of a variable.
 
-ghost use Rattle.std.specs.Prelude.{◌≡◌, ◌<◌, Some, length};
-ghost use Rattle.std.specs.Str.{bytes_eq};
+ghost use Rattle.std.specs.Prelude.{◌≡◌, ◌<◌, Some, is_none, length};
 ghost use Rattle.serial_meaning.specs.declared.environment.Slot.TheVariants.{Scalar, Array};
 ghost use Rattle.serial_meaning.specs.declared.value.Value.TheVariants.{Int};
 ghost use Rattle.serial_meaning.specs.Values.{items_of};
 ghost use Rattle.serial_meaning.specs.Exec.{with_item, with_front};
+ghost use Rattle.strand_values.specs.Environments.{held};
 
-use crate::slots::{fill_slot, set_at};
-use script_grammar::NameText;
-use serial_meaning::{Slot, Value};
+use crate::scalar::number;
+use ped_path::Pedigree;
+use script_grammar::Items;
+use serial_meaning::Value;
 use std::alloc::Global;
-use std::marker::Model;
 
-/// A variable, whose name stands in place. Contracts see it as the `Variable` that it is.
+/// Nothing yet, or what the variable there holds.
 #[derive(Drop)]
-pub(crate) struct Entry {
-    name: NameText,
-    slot: Slot,
-}
-
-impl Model for Entry {
-    ghost use Rattle.serial_meaning.specs.declared.environment.Variable.{Variable};
-
-    ghost Value = { Variable };
-
-    ghost view = { λ e. record { name = e.name; slot = e.slot } };
+pub(crate) enum Entry {
+    Vacant,
+    Int(i64),
+    Id(Pedigree),
+    /// An array's items.
+    Array(Items<i64>),
 }
 
 impl Entry {
-    pub fn new(name: &NameText, slot: Slot) -> Entry
-        ensures { result ≡ record { name = name.now; slot = slot } }
+    /// A scalar of this value.
+    pub fn of(value: Value) -> Entry
+        ensures { held result ≡ Some (Scalar value) }
     {
-        Entry {
-            name: name.copy(),
-            slot,
+        match value {
+            Value::Int(number) => Entry::Int(number),
+            Value::Id(object) => Entry::Id(object),
         }
     }
 
-    #[inline(always)]
-    pub fn has_name(&self, name: &NameText) -> bool
-        ensures { result ≡ bytes_eq self.now.name name.now }
+    pub fn is_vacant(&self) -> bool
+        ensures { result ≡ is_none (held self.now) }
     {
-        self.name.same(name)
-    }
-
-    pub fn slot(&self) -> &Slot
-        ensures { result.now ≡ self.now.slot }
-    {
-        &self.slot
-    }
-
-    pub fn set_slot(&mut self, slot: Slot)
-        ensures { self.new ≡ record self.old { slot = slot } }
-    {
-        self.slot = slot;
+        matches!(self, Entry::Vacant)
     }
 
     /// Makes it a scalar of this number.
+    #[inline(always)]
     pub fn set_number(&mut self, number: i64)
-        ensures { self.new ≡ record self.old { slot = Scalar (Int number) } }
+        ensures { held self.new ≡ Some (Scalar (Int number)) }
     {
-        match &mut self.slot {
-            Slot::Scalar(Value::Int(old)) => *old = number,
-            slot => *slot = Slot::Scalar(Value::Int(number)),
+        match self {
+            Entry::Int(old) => *old = number,
+            entry => *entry = Entry::Int(number),
         }
     }
 
     /// Writes an item of an array that is there.
     pub fn set_at(&mut self, i: usize, number: i64)
-        requires { i < length (items_of (Some self.old.slot)) }
-        ensures { self.new ≡ record self.old { slot = Array (with_item (items_of (Some self.old.slot)) i number) } }
+        requires { i < length (items_of (held self.old)) }
+        ensures { held self.new ≡ Some (Array (with_item (items_of (held self.old)) i number)) }
     {
-        set_at(&mut self.slot, i, number);
+        match self {
+            Entry::Array(items) => items.0[i] = number,
+            _ => unreachable!(),
+        }
     }
 
-    /// Writes values over an array's first items. A scalar becomes an array of no items.
+    /// Writes values over an array's first items. What is no array becomes one of no items.
     pub fn set_front(&mut self, alloc: Global, values: &[Value])
-        ensures { self.new ≡ record self.old { slot = Array (with_front (items_of (Some self.old.slot)) values.now) } }
+        ensures { held self.new ≡ Some (Array (with_front (items_of (held self.old)) values.now)) }
     {
-        fill_slot(&mut self.slot, alloc, values);
+        match self {
+            Entry::Array(items) => fill_items(&mut items.0, values),
+            entry => *entry = Entry::Array(Items(Vec::new(alloc))),
+        }
+    }
+}
+
+fn fill_items(items: &mut [i64], values: &[Value])
+    ensures { items.new ≡ with_front items.old values.now }
+{
+    for i in 0..items.len().min(values.len()) {
+        items[i] = number(&values[i]);
     }
 }

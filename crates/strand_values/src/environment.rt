@@ -1,5 +1,6 @@
-ghost use Rattle.std.specs.Prelude.{◌≡◌, ◌++◌, ◌∷◌, [], Ok, Err, IfOk, IfSome, OnOk, OnErr, IsSome, IsNone};
+ghost use Rattle.std.specs.Prelude.{◌≡◌, ℕ, List, [], true, Ok, Err, Some, IfOk, IfSome, OnOk, OnErr, IsSome, IsNone, is_some};
 ghost use Rattle.std.specs.Option.{option_copied};
+ghost use Rattle.script_check.specs.Places.{every_in_target, has_place, place_in, stand_from};
 ghost use Rattle.serial_meaning.specs.declared.environment.Slot.TheVariants.{Scalar, Array};
 ghost use Rattle.serial_meaning.specs.Values.{value_of, values_of, slot_of, items_of, at_index};
 ghost use Rattle.serial_meaning.specs.Exec.{bound, with_slot, zeros, set_item, has_room, filled};
@@ -7,8 +8,8 @@ ghost use Rattle.serial_meaning.specs.declared.event.FaultKind.{FaultKind};
 ghost use Rattle.serial_meaning.specs.declared.value.Value.TheVariants.{Int};
 ghost use Rattle.strand_values.specs.declared.halt.Halt.TheVariants.{Fault};
 ghost use Rattle.strand_values.specs.Changes.{assigned, called_with};
+ghost use Rattle.strand_values.specs.Environments.{EnvironmentView, Finds, FindsAll, FindsName, IsPlace, held, with_filled, with_variables, with_what};
 ghost use Rattle.strand_values.specs.Gives.{Gives, numbered, holding};
-ghost use Rattle.strand_values.specs.Targets.{IsUnknown};
 
 use crate::entry::Entry;
 use crate::halt::Halt;
@@ -17,258 +18,344 @@ use crate::plain;
 use crate::scalar::number;
 use crate::target::Target;
 use crate::value::{self, is_integer};
-use crate::variables::{item, items, place};
+use meet_block::Log;
 use script_grammar::{Expr, Items, Name, NameText, Param};
-use serial_meaning::{Slot, Value};
+use serial_meaning::Value;
 use std::alloc::Global;
 use std::marker::Model;
+use std::mem;
+use std::snapshot::Snapshot;
 
-/// The variables of a frame, in the order in which they were made: its parameters, and then those of its `let` statements.
+/// The variables of a frame: an entry for each variable of its function. Contracts see them as the list of those that are there, by their
+/// names in the order in which they were made. No name is looked at when it runs, but where a value comes to a `Target`.
 #[derive(Drop)]
 pub struct Environment {
-    variables: Vec<Entry>,
+    pub(crate) entries: Vec<Entry>,
+    /// The names of its function's variables. Only contracts look there, so they take no memory.
+    names: Snapshot<Items<NameText>>,
+    /// The places in the order in which they were filled, alike.
+    filled: Log<usize>,
 }
 
 impl Model for Environment {
-    ghost use Rattle.std.specs.Prelude.{List};
-    ghost use Rattle.serial_meaning.specs.declared.environment.Variable.{Variable};
+    ghost use Rattle.strand_values.specs.Environments.{EnvironmentView, IsEnvironment, shown};
 
-    ghost Value = { List Variable };
+    ghost Value = { EnvironmentView };
 
-    ghost view = { λ e. e.variables.items };
+    ghost view = { λ e. record { names = e.names.value; variables = shown e.names.value e.entries.items e.filled.items } };
+
+    ghost invariant = { λ e. IsEnvironment e.names.value e.entries.items e.filled.items };
 }
 
 impl Environment {
-    /// The parameters with their arguments, as far as there are both; an id shares its memory. So many more variables can be made
-    /// without their list growing.
-    #[tactic(auto, using(crate::proofs::BoundLemmas::bound_step))]
-    pub fn bound(
-        alloc: Global,
-        params: &[Param],
-        args: &[Value],
-        more: usize,
-    ) -> Result<Environment, Memory>
-        ensures { IfOk result (λ env. env ≡ bound params.now args.now) }
+    /// No variable is there yet of a function with variables of these names.
+    fn vacant(alloc: Global, names: &Items<NameText>) -> Result<Environment, Memory>
+        ensures { IfOk result (λ env. env ≡ record { names = names.now; variables = [] }) }
     {
-        let count = params.len().min(args.len());
-        let mut variables = Vec::with_capacity(alloc, count.saturating_add(more))?;
-        for i in 0..count {
-            let slot = Slot::Scalar(args[i].share()?);
-            add(&mut variables, &params[i].name.bytes, slot)?;
+        let count = names.as_slice().len();
+        let mut entries = Vec::with_capacity(alloc, count)?;
+        for _ in 0..count {
+            entries.push_reserved(Entry::Vacant);
         }
-        Ok(Environment { variables })
+        Ok(Environment {
+            entries,
+            names: Snapshot::of(names),
+            filled: Log::none(),
+        })
     }
 
-    /// The parameters with the values of a call's arguments in these variables, as far as there are both, or the fault that is met first. So
-    /// many more variables can be made without their list growing.
+    /// The parameters with their arguments, as far as there are both; an id shares its memory. The names are those of the function's
+    /// variables.
+    #[inline(always)]
+    pub fn bound(
+        alloc: Global,
+        names: &Items<NameText>,
+        params: &[Param],
+        args: &[Value],
+    ) -> Result<Environment, Memory>
+        requires { stand_from 0 names.now params.now ≡ true }
+        ensures { IfOk result (λ env. env ≡ record { names = names.now; variables = bound params.now args.now }) }
+    {
+        let mut env = Environment::vacant(alloc, names)?;
+        for i in 0..params.len().min(args.len()) {
+            env.put(i, Entry::of(args[i].share()?));
+        }
+        Ok(env)
+    }
+
+    /// The parameters with the values of a call's arguments in these variables, as far as there are both, or the fault that is met first.
     pub fn called(
         &self,
         alloc: Global,
+        places: &[u16],
+        names: &Items<NameText>,
         params: &[Param],
         args: &[Expr],
-        more: usize,
     ) -> Result<Environment, Halt>
-        ensures { Gives result (called_with params.now args.now self.now) }
+        requires params { stand_from 0 names.now params.now ≡ true }
+        requires args { FindsAll places.now self.now args.now }
+        ensures { Gives result (called_with names.now params.now args.now self.now.variables) }
     {
-        let count = params.len().min(args.len());
-        let mut variables = Vec::with_capacity(alloc, count.saturating_add(more))?;
+        let mut env = Environment::vacant(alloc, names)?;
         for i in 0..args.len() {
-            let value = value::evaluate(&self.variables, &args[i])?;
+            let value = value::evaluate(self, places, &args[i])?;
             if i < params.len() {
-                let name = &params[i].name.bytes;
-                add(&mut variables, name, Slot::Scalar(value))?;
+                env.put(i, Entry::of(value));
             }
         }
-        Ok(Environment { variables })
+        Ok(env)
     }
 
     /// The value of an expression, or the fault that is met first from left to right. An id shares its memory.
-    pub fn value(&self, e: &Expr) -> Result<Value, Halt>
-        ensures { Gives result (value_of e.now self.now) }
+    pub fn value(&self, places: &[u16], e: &Expr) -> Result<Value, Halt>
+        requires { Finds places.now self.now e.now }
+        ensures { Gives result (value_of e.now self.now.variables) }
     {
-        value::evaluate(&self.variables, e)
+        value::evaluate(self, places, e)
     }
 
     /// The number that the value of an expression counts as.
-    pub fn integer(&self, e: &Expr) -> Result<i64, Halt>
-        ensures { Gives result (numbered (value_of e.now self.now)) }
+    pub fn integer(&self, places: &[u16], e: &Expr) -> Result<i64, Halt>
+        requires { Finds places.now self.now e.now }
+        ensures { Gives result (numbered (value_of e.now self.now.variables)) }
     {
-        value::integer(&self.variables, e)
+        value::integer(self, places, e)
     }
 
     /// The integer that an expression is, if it is a number, a variable that holds one, or a calculation of plain operands, and meets no
     /// fault.
-    pub fn plain(&self, e: &Expr) -> Option<i64>
-        ensures { IfSome result (λ n. value_of e.now self.now ≡ Ok (Int n)) }
+    pub fn plain(&self, places: &[u16], e: &Expr) -> Option<i64>
+        requires { Finds places.now self.now e.now }
+        ensures { IfSome result (λ n. value_of e.now self.now.variables ≡ Ok (Int n)) }
     {
-        plain::plain(&self.variables, e)
+        plain::plain(self, places, e)
     }
 
     /// Whether a condition holds: its value isn't 0.
-    pub fn holds(&self, e: &Expr) -> Result<bool, Halt>
-        ensures { Gives result (holding (value_of e.now self.now)) }
+    pub fn holds(&self, places: &[u16], e: &Expr) -> Result<bool, Halt>
+        requires { Finds places.now self.now e.now }
+        ensures { Gives result (holding (value_of e.now self.now.variables)) }
     {
-        match plain::plain(&self.variables, e) {
+        match plain::plain(self, places, e) {
             Some(number) => Ok(number != 0),
-            None => Ok(value::integer(&self.variables, e)? != 0),
+            None => Ok(value::integer(self, places, e)? != 0),
         }
     }
 
     /// The values of arguments from left to right, or the fault that is met first.
-    pub fn values(&self, alloc: Global, args: &[Expr]) -> Result<Items<Value>, Halt>
-        ensures { Gives result (values_of args.now self.now) }
+    pub fn values(&self, alloc: Global, places: &[u16], args: &[Expr]) -> Result<Items<Value>, Halt>
+        requires { FindsAll places.now self.now args.now }
+        ensures { Gives result (values_of args.now self.now.variables) }
     {
-        value::values(alloc, &self.variables, args)
-    }
-
-    /// The item of an array at this index, if it has one: from 0, and below the array's length.
-    pub fn item(&self, name: &Name, index: i64) -> Option<i64>
-        ensures { result ≡ at_index (items_of (slot_of self.now name.now.bytes)) index }
-    {
-        item(&self.variables, &name.bytes, index)
+        value::values(alloc, self, places, args)
     }
 
     /// Gives a scalar the value of an expression, or answers with the fault that is met first. A name that wasn't there stands at the
     /// end. After a fault, and without memory, everything is as it was.
-    pub fn assign(&mut self, name: &Name, e: &Expr) -> Result<(), Halt>
-        ensures ok { OnOk result (assigned self.old name.now e.now ≡ Ok self.new) }
-        ensures fault { (kind : FaultKind) → result ≡ Err (Fault kind) → assigned self.old name.now e.now ≡ Err kind }
+    pub fn assign(&mut self, places: &[u16], name: &Name, e: &Expr) -> Result<(), Halt>
+        requires name { FindsName places.now self.old name.now }
+        requires value { Finds places.now self.old e.now }
+        ensures ok { OnOk result (assigned self.old.variables name.now e.now ≡ Ok self.new.variables) }
+        ensures fault { (kind : FaultKind) → result ≡ Err (Fault kind) → assigned self.old.variables name.now e.now ≡ Err kind }
         ensures err { OnErr result (self.new ≡ self.old) }
+        ensures names { self.new.names ≡ self.old.names }
     {
         if is_integer(e) {
-            let number = value::integer(&self.variables, e)?;
-            self.set_number(&name.bytes, number)?;
+            let number = value::integer(self, places, e)?;
+            self.set_number(places, name, number);
         } else {
-            match value::value(&self.variables, e)? {
-                Value::Int(number) => self.set_number(&name.bytes, number)?,
-                value => self.set(&name.bytes, Slot::Scalar(value))?,
-            }
+            let value = value::value(self, places, e)?;
+            self.set_scalar(places, name, value);
         }
         Ok(())
     }
 
-    /// Gives a scalar a number. A name that wasn't there stands at the end. Without memory nothing changes.
-    pub fn set_number(&mut self, name: &NameText, number: i64) -> Result<(), Memory>
-        ensures ok { OnOk result (self.new ≡ with_slot self.old name.now (Scalar (Int number))) }
+    /// Gives a scalar a number. A name that wasn't there stands at the end.
+    #[inline(always)]
+    pub fn set_number(&mut self, places: &[u16], name: &Name, number: i64)
+        requires { FindsName places.now self.old name.now }
+        ensures { self.new ≡ with_variables self.old (with_slot self.old.variables name.now.bytes (Scalar (Int number))) }
+    {
+        let place = places[name.at as usize] as usize;
+        self.filled = noted(
+            mem::replace(&mut self.filled, Log::none()),
+            &self.entries[place],
+            place,
+        );
+        self.entries[place].set_number(number);
+    }
+
+    /// Gives a scalar a value. A name that wasn't there stands at the end.
+    pub fn set_scalar(&mut self, places: &[u16], name: &Name, value: Value)
+        requires { FindsName places.now self.old name.now }
+        ensures { self.new ≡ with_variables self.old (with_slot self.old.variables name.now.bytes (Scalar value)) }
+    {
+        self.put(places[name.at as usize] as usize, Entry::of(value));
+    }
+
+    /// The same of the variable that a call's value goes to. A function without a variable of that name is answered as want of memory:
+    /// a valid script has none.
+    pub fn receive(
+        &mut self,
+        names: &Items<NameText>,
+        target: &Target,
+        value: Value,
+    ) -> Result<(), Memory>
+        requires { names.now ≡ self.old.names }
+        ensures ok { OnOk result (self.new ≡ with_variables self.old (with_slot self.old.variables target.now.bytes (Scalar value))) }
         ensures err { OnErr result (self.new ≡ self.old) }
     {
-        match place(&self.variables, name) {
-            Some(i) => {
-                self.variables[i].set_number(number);
+        match place_named(names.as_slice(), target.text()) {
+            Some(place) => {
+                self.put(place, Entry::of(value));
                 Ok(())
             }
-            None => add(&mut self.variables, name, Slot::Scalar(Value::Int(number))),
+            None => Err(Memory),
         }
     }
 
-    /// Gives a scalar a value. A name that wasn't there stands at the end, and only then it needs memory. Without memory nothing
-    /// changes.
-    pub fn set_scalar(&mut self, name: &Name, value: Value) -> Result<(), Memory>
-        ensures ok { OnOk result (self.new ≡ with_slot self.old name.now.bytes (Scalar value)) }
-        ensures err { OnErr result ((self.new ≡ self.old) × IsNone (slot_of self.old name.now.bytes)) }
-    {
-        self.set(&name.bytes, Slot::Scalar(value))
-    }
-
-    /// The same of the variable that a call's value goes to.
-    pub fn receive(&mut self, name: &Target, value: Value) -> Result<(), Memory>
-        ensures ok { OnOk result (self.new ≡ with_slot self.old name.now.bytes (Scalar value)) }
-        ensures err { OnErr result ((self.new ≡ self.old) × IsNone (slot_of self.old name.now.bytes)) }
-    {
-        self.set(name.text(), Slot::Scalar(value))
-    }
-
     /// Gives a scalar that is there a new value. Where the name isn't there nothing changes.
-    pub fn replace_scalar(&mut self, name: &Target, value: Value)
-        ensures there { IsSome (slot_of self.old name.now.bytes) → self.new ≡ with_slot self.old name.now.bytes (Scalar value) }
-        ensures missing { IsNone (slot_of self.old name.now.bytes) → self.new ≡ self.old }
+    pub fn replace_scalar(&mut self, names: &Items<NameText>, target: &Target, value: Value)
+        requires { names.now ≡ self.old.names }
+        ensures there { IsSome (slot_of self.old.variables target.now.bytes) → self.new ≡ with_variables self.old (with_slot self.old.variables target.now.bytes (Scalar value)) }
+        ensures missing { IsNone (slot_of self.old.variables target.now.bytes) → self.new ≡ self.old }
     {
-        if let Some(i) = place(&self.variables, name.text()) {
-            self.variables[i].set_slot(Slot::Scalar(value));
+        if let Some(place) = self.place_there(names, target.text()) {
+            self.put(place, Entry::of(value));
         }
     }
 
     /// Makes an array of so many zeros. A name that wasn't there stands at the end. Without memory nothing changes.
-    pub fn set_array(&mut self, alloc: Global, name: &Name, length: u64) -> Result<(), Memory>
-        ensures ok { OnOk result (self.new ≡ with_slot self.old name.now.bytes (Array (zeros length))) }
+    pub fn set_array(
+        &mut self,
+        alloc: Global,
+        places: &[u16],
+        name: &Name,
+        length: u64,
+    ) -> Result<(), Memory>
+        requires { FindsName places.now self.old name.now }
+        ensures ok { OnOk result (self.new ≡ with_variables self.old (with_slot self.old.variables name.now.bytes (Array (zeros length)))) }
         ensures err { OnErr result (self.new ≡ self.old) }
     {
         let items = vec![in alloc; 0i64; length as usize]?;
-        self.set(&name.bytes, Slot::Array(Items(items)))
+        self.put(
+            places[name.at as usize] as usize,
+            Entry::Array(Items(items)),
+        );
+        Ok(())
     }
 
     /// Writes the item of an array at an index where it has one.
-    pub fn set_item(&mut self, name: &Name, index: i64, value: &Value)
-        requires { IsSome (at_index (items_of (slot_of self.old name.now.bytes)) index) }
-        ensures { self.new ≡ with_slot self.old name.now.bytes (Array (set_item (items_of (slot_of self.old name.now.bytes)) index value.now)) }
+    pub fn set_item(&mut self, places: &[u16], name: &Name, index: i64, value: &Value)
+        requires name { FindsName places.now self.old name.now }
+        requires there { IsSome (at_index (items_of (slot_of self.old.variables name.now.bytes)) index) }
+        ensures { self.new ≡ with_variables self.old (with_slot self.old.variables name.now.bytes (Array (set_item (items_of (slot_of self.old.variables name.now.bytes)) index value.now))) }
     {
-        match place(&self.variables, &name.bytes) {
-            Some(i) => self.variables[i].set_at(index as usize, number(value)),
-            None => unreachable!(),
-        }
+        self.entries[places[name.at as usize] as usize].set_at(index as usize, number(value));
     }
 
     /// Whether a loop's target, if there is one, has at least `n` items.
-    pub fn has_room(&self, target: Option<&Name>, n: u64) -> bool
-        ensures { result ≡ has_room (option_copied target.entry) n self.now }
+    pub fn has_room(&self, places: &[u16], target: Option<&Name>, n: u64) -> bool
+        requires { every_in_target (has_place places.now self.now.names) (option_copied target) ≡ true }
+        ensures { result ≡ has_room (option_copied target.entry) n self.now.variables }
     {
         match target {
-            Some(name) => n <= items(&self.variables, &name.bytes).len() as u64,
+            Some(name) => n <= self.items(places, name).len() as u64,
             None => true,
         }
     }
 
-    /// Writes a loop's values over the first items of its target, if there is one. What is no array becomes one of no items, and
-    /// only a name that wasn't there needs memory for that. Without memory nothing changes.
+    /// Writes no values over a loop's target, if there is one: what is no array becomes one of no items.
+    pub fn clear(&mut self, alloc: Global, places: &[u16], target: Option<&Name>)
+        requires { every_in_target (has_place places.now self.old.names) (option_copied target) ≡ true }
+        ensures { self.new ≡ with_variables self.old (filled (option_copied target.entry) [] self.old.variables) }
+    {
+        if let Some(name) = target {
+            self.fill_entry(alloc, places[name.at as usize] as usize, &[]);
+        }
+    }
+
+    /// Writes a loop's values over the first items of its target, if there is one. What is no array becomes one of no items. A function
+    /// without a variable of that name is answered as want of memory: a valid script has none.
     pub fn fill(
         &mut self,
         alloc: Global,
+        names: &Items<NameText>,
         target: Option<&Name>,
         values: &[Value],
     ) -> Result<(), Memory>
-        ensures ok { OnOk result (self.new ≡ filled (option_copied target.entry) values.now self.old) }
-        ensures err { OnErr result ((self.new ≡ self.old) × IsUnknown (option_copied target.entry) self.old) }
+        requires { names.now ≡ self.old.names }
+        ensures ok { OnOk result (self.new ≡ with_variables self.old (filled (option_copied target.entry) values.now self.old.variables)) }
+        ensures err { OnErr result (self.new ≡ self.old) }
     {
         let Some(name) = target else { return Ok(()) };
-        match place(&self.variables, &name.bytes) {
-            Some(i) => {
-                self.variables[i].set_front(alloc, values);
+        match place_named(names.as_slice(), &name.bytes) {
+            Some(place) => {
+                self.fill_entry(alloc, place, values);
                 Ok(())
             }
-            None => {
-                let nothing = Slot::Array(Items(Vec::new(alloc)));
-                self.set(&name.bytes, nothing)
-            }
+            None => Err(Memory),
         }
     }
 
-    fn set(&mut self, name: &NameText, slot: Slot) -> Result<(), Memory>
-        ensures ok { OnOk result (self.new ≡ with_slot self.old name.now slot) }
-        ensures err { OnErr result ((self.new ≡ self.old) × IsNone (slot_of self.old name.now)) }
+    /// The place of the variable of this name, if it is there.
+    fn place_there(&self, names: &Items<NameText>, name: &NameText) -> Option<usize>
+        requires { names.now ≡ self.now.names }
+        ensures place { IfSome result (λ i. place_in self.now.names name.now ≡ Some i) }
+        ensures there { is_some result ≡ is_some (slot_of self.now.variables name.now) }
     {
-        match place(&self.variables, name) {
-            Some(i) => {
-                self.variables[i].set_slot(slot);
-                Ok(())
-            }
-            None => add(&mut self.variables, name, slot),
+        let entries = &self.entries;
+        let place = place_named(names.as_slice(), name)?;
+        if entries[place].is_vacant() {
+            return None;
         }
+        Some(place)
+    }
+
+    /// Writes values over the first items of an array in the entry of a place. What is no array becomes one of no items.
+    fn fill_entry(&mut self, alloc: Global, place: usize, values: &[Value])
+        requires { IsPlace self.old.names place }
+        ensures { (name : List ℕ) → place_in self.old.names name ≡ Some place → self.new ≡ with_variables self.old (filled (Some (record { bytes = name; at = 0 })) values.now self.old.variables) }
+    {
+        self.filled = noted(
+            mem::replace(&mut self.filled, Log::none()),
+            &self.entries[place],
+            place,
+        );
+        self.entries[place].set_front(alloc, values);
+    }
+
+    /// Puts something into the entry of a place.
+    #[inline(always)]
+    fn put(&mut self, place: usize, entry: Entry)
+        requires there { IsPlace self.old.names place }
+        requires some { IsSome (held entry) }
+        ensures { (name : List ℕ) → place_in self.old.names name ≡ Some place → self.new ≡ with_variables self.old (with_what self.old.variables name (held entry)) }
+    {
+        self.filled = noted(
+            mem::replace(&mut self.filled, Log::none()),
+            &self.entries[place],
+            place,
+        );
+        self.entries[place] = entry;
     }
 }
 
-/// Adds a variable at the end of a list, which mostly has room for it.
-fn add(variables: &mut Vec<Entry>, name: &NameText, slot: Slot) -> Result<(), Memory>
-    ensures ok { OnOk result (variables.new.items ≡ variables.old.items ++ record { name = name.now; slot = slot } ∷ []) }
-    ensures err { OnErr result (variables.new.items ≡ variables.old.items) }
+/// The places in the order in which they were filled, once there is something in this entry.
+#[inline(always)]
+fn noted(filled: Log<usize>, entry: &Entry, place: usize) -> Log<usize>
+    ensures { result.items ≡ with_filled filled.items place (held entry.now) }
 {
-    match variables.try_reserve(1) {
-        Ok(()) => {
-            variables.push_reserved(Entry::new(name, slot));
-            Ok(())
-        }
-        Err(_) => {
-            drop(slot);
-            Err(Memory)
-        }
+    if entry.is_vacant() {
+        filled.with(&place)
+    } else {
+        filled
     }
+}
+
+/// The place of the variable of this name.
+fn place_named(names: &[NameText], name: &NameText) -> Option<usize>
+    ensures { result ≡ place_in names.now name.now }
+{
+    names.iter().position(|other| other.same(name))
 }

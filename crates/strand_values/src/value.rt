@@ -1,58 +1,61 @@
 // The value of an expression. Each kind of node has a function of its own, and what only its number counts of is never made a value.
 
-ghost use Rattle.std.specs.Prelude.{◌≡◌, map, IsTrue};
+ghost use Rattle.std.specs.Prelude.{◌≡◌, map, true, IsTrue};
 ghost use Rattle.serial_meaning.specs.Values.{Env, value_of, values_of, sums, products, sum_part, product_part};
 ghost use Rattle.serial_meaning.specs.declared.value.Value.TheVariants.{Int};
+ghost use Rattle.script_check.specs.Places.{all_true, every_in_factor, every_in_summand, has_place};
+ghost use Rattle.strand_values.specs.Environments.{Finds, FindsAll, FindsName};
 ghost use Rattle.strand_values.specs.Gives.{Gives, numbered, integral};
 ghost use Rattle.strand_values.specs.Nodes as node;
 
 use crate::arithmetic::{compare, product, sum};
-use crate::entry::Entry;
+use crate::environment::Environment;
 use crate::halt::Halt;
 use crate::plain::plain;
 use crate::scalar::{is_older, is_same, truth};
-use crate::variables::{item, number_of, scalar};
 use script_grammar::{Comparison, Expr, Items, Name, ProductPart, SumPart};
 use serial_meaning::{FaultKind, Value};
 use std::alloc::Global;
 
 /// The same as `value`. A number or a calculation of plain operands takes a shorter way.
-pub(crate) fn evaluate(variables: &[Entry], e: &Expr) -> Result<Value, Halt>
-    ensures { Gives result (value_of e.now variables.now) }
+pub(crate) fn evaluate(env: &Environment, places: &[u16], e: &Expr) -> Result<Value, Halt>
+    requires { Finds places.now env.now e.now }
+    ensures { Gives result (value_of e.now env.now.variables) }
 {
-    match plain(variables, e) {
+    match plain(env, places, e) {
         Some(number) => Ok(Value::Int(number)),
-        None => value(variables, e),
+        None => value(env, places, e),
     }
 }
 
 #[cycle(value)]
-pub(crate) fn value(variables: &[Entry], e: &Expr) -> Result<Value, Halt>
-    ensures { Gives result (value_of e.now variables.now) }
+pub(crate) fn value(env: &Environment, places: &[u16], e: &Expr) -> Result<Value, Halt>
+    requires found { Finds places.now env.now e.now }
+    ensures { Gives result (value_of e.now env.now.variables) }
 {
     match e {
-        Expr::Var(name) => scalar(variables, &name.bytes),
+        Expr::Var(name) => env.scalar(places, name),
         // Without a further operand it is the first one as it is, which may be an id.
         Expr::Sum(first, rest) => {
             if rest.as_slice().is_empty() {
-                value(variables, first.get())
+                value(env, places, first.get())
             } else {
-                whole(integer(variables, e))
+                whole(integer(env, places, e))
             }
         }
         Expr::Product(first, rest) => {
             if rest.as_slice().is_empty() {
-                value(variables, first.get())
+                value(env, places, first.get())
             } else {
-                whole(integer(variables, e))
+                whole(integer(env, places, e))
             }
         }
-        Expr::Number(_) => whole(integer(variables, e)),
-        Expr::Item(_, _) => whole(integer(variables, e)),
-        Expr::Neg(_, _) => whole(integer(variables, e)),
-        Expr::Same(_, _, _) => whole(integer(variables, e)),
-        Expr::Older(_, _, _) => whole(integer(variables, e)),
-        Expr::Compare(_, _, _) => whole(integer(variables, e)),
+        Expr::Number(_) => whole(integer(env, places, e)),
+        Expr::Item(_, _) => whole(integer(env, places, e)),
+        Expr::Neg(_, _) => whole(integer(env, places, e)),
+        Expr::Same(_, _, _) => whole(integer(env, places, e)),
+        Expr::Older(_, _, _) => whole(integer(env, places, e)),
+        Expr::Compare(_, _, _) => whole(integer(env, places, e)),
     }
 }
 
@@ -75,32 +78,33 @@ pub(crate) fn is_integer(e: &Expr) -> bool
 
 /// The number that the value counts as.
 #[cycle(value)]
-pub(crate) fn integer(variables: &[Entry], e: &Expr) -> Result<i64, Halt>
-    ensures { Gives result (numbered (value_of e.now variables.now)) }
+pub(crate) fn integer(env: &Environment, places: &[u16], e: &Expr) -> Result<i64, Halt>
+    requires found { Finds places.now env.now e.now }
+    ensures { Gives result (numbered (value_of e.now env.now.variables)) }
 {
     match e {
         Expr::Number(number) => Ok(number.value),
-        Expr::Var(name) => Ok(number_of(variables, &name.bytes)),
-        Expr::Item(name, index) => item_at(variables, name, index.get()),
-        Expr::Neg(_, operand) => negated(variables, operand.get()),
-        Expr::Same(_, left, right) => match value(variables, left.get()) {
-            Ok(left) => same(variables, left, right.get()),
+        Expr::Var(name) => Ok(env.number_of(places, name)),
+        Expr::Item(name, index) => item_at(env, places, name, index.get()),
+        Expr::Neg(_, operand) => negated(env, places, operand.get()),
+        Expr::Same(_, left, right) => match value(env, places, left.get()) {
+            Ok(left) => same(env, places, left, right.get()),
             Err(halt) => Err(halt),
         },
-        Expr::Older(_, left, right) => match value(variables, left.get()) {
-            Ok(left) => older(variables, left, right.get()),
+        Expr::Older(_, left, right) => match value(env, places, left.get()) {
+            Ok(left) => older(env, places, left, right.get()),
             Err(halt) => Err(halt),
         },
-        Expr::Compare(left, how, right) => match operand(variables, left.get()) {
-            Ok(left) => comparison(variables, left, *how, right.get()),
+        Expr::Compare(left, how, right) => match operand(env, places, left.get()) {
+            Ok(left) => comparison(env, places, left, *how, right.get()),
             Err(halt) => Err(halt),
         },
-        Expr::Sum(first, rest) => match operand(variables, first.get()) {
-            Ok(first) => add(variables, first, rest.as_slice()),
+        Expr::Sum(first, rest) => match operand(env, places, first.get()) {
+            Ok(first) => add(env, places, first, rest.as_slice()),
             Err(halt) => Err(halt),
         },
-        Expr::Product(first, rest) => match operand(variables, first.get()) {
-            Ok(first) => multiply(variables, first, rest.as_slice()),
+        Expr::Product(first, rest) => match operand(env, places, first.get()) {
+            Ok(first) => multiply(env, places, first, rest.as_slice()),
             Err(halt) => Err(halt),
         },
     }
@@ -109,13 +113,14 @@ pub(crate) fn integer(variables: &[Entry], e: &Expr) -> Result<i64, Halt>
 /// The number that an operand counts as. A number and a variable, which most operands are, take no call of their own.
 #[inline(always)]
 #[cycle(value)]
-fn operand(variables: &[Entry], e: &Expr) -> Result<i64, Halt>
-    ensures { Gives result (numbered (value_of e.now variables.now)) }
+fn operand(env: &Environment, places: &[u16], e: &Expr) -> Result<i64, Halt>
+    requires found { Finds places.now env.now e.now }
+    ensures { Gives result (numbered (value_of e.now env.now.variables)) }
 {
     match e {
         Expr::Number(number) => Ok(number.value),
-        Expr::Var(name) => Ok(number_of(variables, &name.bytes)),
-        _ => integer(variables, e),
+        Expr::Var(name) => Ok(env.number_of(places, name)),
+        _ => integer(env, places, e),
     }
 }
 
@@ -130,66 +135,85 @@ fn whole(number: Result<i64, Halt>) -> Result<Value, Halt>
 }
 
 #[cycle(value)]
-fn item_at(variables: &[Entry], name: &Name, index: &Expr) -> Result<i64, Halt>
-    ensures { Gives (integral result) (node.item_at variables.now name.now.bytes (value_of index.now variables.now)) }
+fn item_at(env: &Environment, places: &[u16], name: &Name, index: &Expr) -> Result<i64, Halt>
+    requires name { FindsName places.now env.now name.now }
+    requires index { Finds places.now env.now index.now }
+    ensures { Gives (integral result) (node.item_at env.now.variables name.now.bytes (value_of index.now env.now.variables)) }
 {
-    let index = operand(variables, index)?;
-    match item(variables, &name.bytes, index) {
+    let index = operand(env, places, index)?;
+    match env.item(places, name, index) {
         Some(item) => Ok(item),
         None => Err(Halt::Fault(FaultKind::Index)),
     }
 }
 
 #[cycle(value)]
-fn negated(variables: &[Entry], operand: &Expr) -> Result<i64, Halt>
-    ensures { Gives (integral result) (node.negated (value_of operand.now variables.now)) }
+fn negated(env: &Environment, places: &[u16], operand: &Expr) -> Result<i64, Halt>
+    requires found { Finds places.now env.now operand.now }
+    ensures { Gives (integral result) (node.negated (value_of operand.now env.now.variables)) }
 {
-    Ok(integer(variables, operand)?.wrapping_neg())
+    Ok(integer(env, places, operand)?.wrapping_neg())
 }
 
 #[cycle(value)]
-fn same(variables: &[Entry], left: Value, right: &Expr) -> Result<i64, Halt>
-    ensures { Gives (integral result) (node.same left (value_of right.now variables.now)) }
+fn same(env: &Environment, places: &[u16], left: Value, right: &Expr) -> Result<i64, Halt>
+    requires found { Finds places.now env.now right.now }
+    ensures { Gives (integral result) (node.same left (value_of right.now env.now.variables)) }
 {
-    let right = value(variables, right)?;
+    let right = value(env, places, right)?;
     Ok(truth(is_same(&left, &right)))
 }
 
 #[cycle(value)]
-fn older(variables: &[Entry], left: Value, right: &Expr) -> Result<i64, Halt>
-    ensures { Gives (integral result) (node.older left (value_of right.now variables.now)) }
+fn older(env: &Environment, places: &[u16], left: Value, right: &Expr) -> Result<i64, Halt>
+    requires found { Finds places.now env.now right.now }
+    ensures { Gives (integral result) (node.older left (value_of right.now env.now.variables)) }
 {
-    let right = value(variables, right)?;
+    let right = value(env, places, right)?;
     Ok(truth(is_older(&left, &right)))
 }
 
 #[cycle(value)]
-fn comparison(variables: &[Entry], left: i64, how: Comparison, right: &Expr) -> Result<i64, Halt>
-    ensures { Gives (integral result) (node.comparison left how (value_of right.now variables.now)) }
+fn comparison(
+    env: &Environment,
+    places: &[u16],
+    left: i64,
+    how: Comparison,
+    right: &Expr,
+) -> Result<i64, Halt>
+    requires found { Finds places.now env.now right.now }
+    ensures { Gives (integral result) (node.comparison left how (value_of right.now env.now.variables)) }
 {
-    let right = operand(variables, right)?;
+    let right = operand(env, places, right)?;
     Ok(truth(compare(how, left, right)))
 }
 
 #[cycle(value)]
-fn add(variables: &[Entry], first: i64, rest: &[SumPart]) -> Result<i64, Halt>
-    ensures { Gives (integral result) (sums variables.now (Int first) (map sum_part rest.now)) }
+fn add(env: &Environment, places: &[u16], first: i64, rest: &[SumPart]) -> Result<i64, Halt>
+    requires found { all_true (map (every_in_summand (has_place places.now env.now.names)) rest.now) ≡ true }
+    ensures { Gives (integral result) (sums env.now.variables (Int first) (map sum_part rest.now)) }
 {
     let mut total = first;
     for part in rest {
-        let right = operand(variables, &part.operand)?;
+        let right = operand(env, places, &part.operand)?;
         total = sum(part.minus, total, right);
     }
     Ok(total)
 }
 
 #[cycle(value)]
-fn multiply(variables: &[Entry], first: i64, rest: &[ProductPart]) -> Result<i64, Halt>
-    ensures { Gives (integral result) (products variables.now (Int first) (map product_part rest.now)) }
+fn multiply(
+    env: &Environment,
+    places: &[u16],
+    first: i64,
+    rest: &[ProductPart],
+) -> Result<i64, Halt>
+    requires found { all_true (map (every_in_factor (has_place places.now env.now.names)) rest.now) ≡ true }
+    ensures { Gives (integral result) (products env.now.variables (Int first) (map product_part rest.now)) }
 {
     let mut total = first;
     for part in rest {
-        let right = operand(variables, &part.operand)?;
+        let right = operand(env, places, &part.operand)?;
         total = product(part.sign, total, right)?;
     }
     Ok(total)
@@ -198,14 +222,16 @@ fn multiply(variables: &[Entry], first: i64, rest: &[ProductPart]) -> Result<i64
 /// The values of arguments, from left to right.
 pub(crate) fn values(
     alloc: Global,
-    variables: &[Entry],
+    env: &Environment,
+    places: &[u16],
     args: &[Expr],
 ) -> Result<Items<Value>, Halt>
-    ensures { Gives result (values_of args.now variables.now) }
+    requires { FindsAll places.now env.now args.now }
+    ensures { Gives result (values_of args.now env.now.variables) }
 {
     let mut values = Vec::with_capacity(alloc, args.len())?;
     for e in args {
-        values.push(evaluate(variables, e)?)?;
+        values.push(evaluate(env, places, e)?)?;
     }
     Ok(Items(values))
 }

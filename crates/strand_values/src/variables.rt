@@ -1,94 +1,86 @@
-// Variables by their names.
+// Variables by their places.
 
-ghost use Rattle.std.specs.Prelude.{◌≡◌, IfSome, Ok, position};
-ghost use Rattle.std.specs.Option.{option_copied};
-ghost use Rattle.std.specs.Str.{bytes_eq};
+ghost use Rattle.std.specs.Prelude.{◌≡◌, IfSome, Ok};
 ghost use Rattle.serial_meaning.specs.Values.{slot_of, scalar, number, items_of, at_index};
 ghost use Rattle.serial_meaning.specs.declared.value.Value.TheVariants.{Int};
+ghost use Rattle.strand_values.specs.Environments.{FindsName, held};
 ghost use Rattle.strand_values.specs.Gives.{Gives};
 
 use crate::entry::Entry;
+use crate::environment::Environment;
 use crate::halt::Halt;
-use script_grammar::NameText;
-use serial_meaning::{Slot, Value};
+use script_grammar::Name;
+use serial_meaning::Value;
 
-/// The place of the variable of this name.
-pub(crate) fn place(variables: &[Entry], name: &NameText) -> Option<usize>
-    ensures { result ≡ position (λ v. bytes_eq v.name name.now) variables.now }
-{
-    variables.iter().position(|v| v.has_name(name))
-}
+impl Environment {
+    /// What stands in a variable's place.
+    #[inline(always)]
+    pub(crate) fn entry(&self, places: &[u16], name: &Name) -> &Entry
+        requires { FindsName places.now self.now name.now }
+        ensures { held result.now ≡ slot_of self.now.variables name.now.bytes }
+    {
+        &self.entries[places[name.at as usize] as usize]
+    }
 
-fn slot<'a>(variables: &'a [Entry], name: &NameText) -> Option<&'a Slot>
-    ensures { option_copied result ≡ slot_of variables.now name.now }
-{
-    for variable in variables {
-        if variable.has_name(name) {
-            return Some(variable.slot());
+    /// A scalar's value; an id shares its memory.
+    pub(crate) fn scalar(&self, places: &[u16], name: &Name) -> Result<Value, Halt>
+        requires { FindsName places.now self.now name.now }
+        ensures { Gives result (Ok (scalar (slot_of self.now.variables name.now.bytes))) }
+    {
+        match self.entry(places, name) {
+            Entry::Int(number) => Ok(Value::Int(*number)),
+            Entry::Id(object) => match object.share() {
+                Ok(object) => Ok(Value::Id(object)),
+                Err(_) => Err(Halt::Memory),
+            },
+            Entry::Array(_) | Entry::Vacant => Ok(Value::Int(0)),
         }
     }
-    None
-}
 
-/// A scalar's value; an id shares its memory.
-pub(crate) fn scalar(variables: &[Entry], name: &NameText) -> Result<Value, Halt>
-    ensures { Gives result (Ok (scalar (slot_of variables.now name.now))) }
-{
-    match slot(variables, name) {
-        Some(Slot::Scalar(Value::Int(number))) => Ok(Value::Int(*number)),
-        Some(Slot::Scalar(value)) => shared(value),
-        Some(Slot::Array(_)) | None => Ok(Value::Int(0)),
+    /// The number that a scalar counts as.
+    #[inline(always)]
+    pub(crate) fn number_of(&self, places: &[u16], name: &Name) -> i64
+        requires { FindsName places.now self.now name.now }
+        ensures { result ≡ number (scalar (slot_of self.now.variables name.now.bytes)) }
+    {
+        match self.entry(places, name) {
+            Entry::Int(number) => *number,
+            Entry::Id(_) | Entry::Array(_) | Entry::Vacant => 0,
+        }
     }
-}
 
-fn shared(value: &Value) -> Result<Value, Halt>
-    ensures { Gives result (Ok value.now) }
-{
-    match value.share() {
-        Ok(value) => Ok(value),
-        Err(_) => Err(Halt::Memory),
+    /// The integer that a scalar holds, if it holds one.
+    #[inline(always)]
+    pub(crate) fn integer_of(&self, places: &[u16], name: &Name) -> Option<i64>
+        requires { FindsName places.now self.now name.now }
+        ensures { IfSome result (λ n. scalar (slot_of self.now.variables name.now.bytes) ≡ Int n) }
+    {
+        match self.entry(places, name) {
+            Entry::Int(number) => Some(*number),
+            Entry::Id(_) | Entry::Array(_) | Entry::Vacant => None,
+        }
     }
-}
 
-/// The number that a scalar counts as.
-#[inline(always)]
-pub(crate) fn number_of(variables: &[Entry], name: &NameText) -> i64
-    ensures { result ≡ number (scalar (slot_of variables.now name.now)) }
-{
-    match slot(variables, name) {
-        Some(Slot::Scalar(Value::Int(number))) => *number,
-        Some(Slot::Scalar(Value::Id(_))) | Some(Slot::Array(_)) | None => 0,
+    /// An array's items.
+    pub(crate) fn items(&self, places: &[u16], name: &Name) -> &[i64]
+        requires { FindsName places.now self.now name.now }
+        ensures { result.now ≡ items_of (slot_of self.now.variables name.now.bytes) }
+    {
+        match self.entry(places, name) {
+            Entry::Array(items) => items.as_slice(),
+            Entry::Int(_) | Entry::Id(_) | Entry::Vacant => &[],
+        }
     }
-}
 
-/// The integer that a scalar holds, if it holds one.
-#[inline(always)]
-pub(crate) fn integer_of(variables: &[Entry], name: &NameText) -> Option<i64>
-    ensures { IfSome result (λ n. scalar (slot_of variables.now name.now) ≡ Int n) }
-{
-    match slot(variables, name) {
-        Some(Slot::Scalar(Value::Int(number))) => Some(*number),
-        Some(Slot::Scalar(Value::Id(_))) | Some(Slot::Array(_)) | None => None,
+    /// The item of an array at this index, if it has one: from 0, and below the array's length.
+    pub fn item(&self, places: &[u16], name: &Name, index: i64) -> Option<i64>
+        requires { FindsName places.now self.now name.now }
+        ensures { result ≡ at_index (items_of (slot_of self.now.variables name.now.bytes)) index }
+    {
+        let items = self.items(places, name);
+        if index < 0 || index as u64 >= items.len() as u64 {
+            return None;
+        }
+        Some(items[index as usize])
     }
-}
-
-/// An array's items.
-pub(crate) fn items<'a>(variables: &'a [Entry], name: &NameText) -> &'a [i64]
-    ensures { result.now ≡ items_of (slot_of variables.now name.now) }
-{
-    match slot(variables, name) {
-        Some(Slot::Array(items)) => items.as_slice(),
-        Some(Slot::Scalar(_)) | None => &[],
-    }
-}
-
-/// An array's item, where it has one at this index.
-pub(crate) fn item(variables: &[Entry], name: &NameText, index: i64) -> Option<i64>
-    ensures { result ≡ at_index (items_of (slot_of variables.now name.now)) index }
-{
-    let items = items(variables, name);
-    if index < 0 || index as u64 >= items.len() as u64 {
-        return None;
-    }
-    Some(items[index as usize])
 }

@@ -2,6 +2,7 @@
 
 mod checks;
 mod excerpts;
+mod places;
 mod prints;
 mod tokens;
 mod trees;

@@ -1,6 +1,7 @@
 // What expressions give, and what is printed of a run.
 
 mod expressions;
+mod frame;
 mod lines;
 
 use std::fmt::{Debug, Display};

@@ -72,16 +72,16 @@ scalar_use_fine x known fewer p w h = scalar_fine (known.what x.bytes) x known f
 pub array_use_fine : (x : Name) → Fine (λ known p. array_use (known.what x.bytes) p x)
 array_use_fine x known fewer p w h = array_fine (known.what x.bytes) x known fewer p w h
 
-pub wanted_fine : (kind : Kind) (r : Reading) → Fine r.faults → Fine (wanted kind r)
+pub wanted_fine : (kind : Kind) (r : Reading) → Fine r.violations → Fine (wanted kind r)
 unfolding wanted
-wanted_fine kind r h = append_fine r.faults (λ known p. wrong_kind kind (r.kind known) r.at) h (same_fine (λ known. wrong_kind kind (r.kind known) r.at))
+wanted_fine kind r h = append_fine r.violations (λ known p. wrong_kind kind (r.kind known) r.at) h (same_fine (λ known. wrong_kind kind (r.kind known) r.at))
 
-pub two_fine : (kind : Kind) (a b : Reading) → Fine a.faults → Fine b.faults → Fine (two_wanted kind a b)
+pub two_fine : (kind : Kind) (a b : Reading) → Fine a.violations → Fine b.violations → Fine (two_wanted kind a b)
 unfolding two_wanted
 two_fine kind a b h g = append_fine (wanted kind a) (wanted kind b) (wanted_fine kind a h) (wanted_fine kind b g)
 
 abbrev FineReading : Reading → Type 0
-FineReading r = Fine r.faults
+FineReading r = Fine r.violations
 
 abbrev node_map : {A B C : Type 0} → (A → Reading) → (B → Reading) → (C → Reading) → Expr-F A B C → Expr-F Reading Reading Reading
 node_map {A} {B} {C} expr times plus = map-Expr A B C Reading Reading Reading expr times plus
@@ -137,7 +137,7 @@ read_fine =
 
 pub arguments_fine : (params : List Param) (es : List Expr) → Fine (arguments params es)
 arguments_fine params [] = none_fine
-arguments_fine [] (e ∷ es) = append_fine (read e).faults (arguments [] es) (read_fine e) (arguments_fine [] es)
+arguments_fine [] (e ∷ es) = append_fine (read e).violations (arguments [] es) (read_fine e) (arguments_fine [] es)
 arguments_fine (q ∷ params) (e ∷ es) = append_fine (wanted q.kind (read e)) (arguments params es) (wanted_fine q.kind (read e) (read_fine e)) (arguments_fine params es)
 
 pub call_fine : (o : Option Function) (c : CallText) → Fine (call_of o c)

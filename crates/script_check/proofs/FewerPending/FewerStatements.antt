@@ -15,7 +15,7 @@ use Rattle.script_check.specs.Names.{Names, IsWithin, both, after_right}
 use Rattle.script_check.specs.Functions.{function_named}
 use Rattle.script_check.specs.Rules.{Declared, kind_of, scalar_use, array_use, declaration, array_length, let_in_a_block}
 use Rattle.script_check.specs.Expressions.{wanted, two_wanted, read}
-use Rattle.script_check.specs.Statements.{Context, Judged, judge, judge_what, judge_act, judge_all, read_right, wanted_as, target_use, loop_call_of, faults_each, block_faults, known_each, after}
+use Rattle.script_check.specs.Statements.{Context, Judged, judge, judge_what, judge_act, judge_all, read_right, wanted_as, target_use, loop_call_of, violations_each, block_violations, known_each, after}
 use Rattle.script_check.proofs.FewerPending.Induction.{Each, Inside, induct, induct_each, judge_open}
 use Rattle.script_check.proofs.FewerPending.Fewer.{Fine, none_fine, same_fine, append_fine, scalar_use_fine, array_use_fine, wanted_fine, two_fine, read_fine, call_fine, loop_call_fine, target_fine, right_fine, wanted_as_fine, nothing_left, nothing_right, both_nothing}
 
@@ -23,7 +23,7 @@ abbrev IsMonotone : (Names → Names) → Type 0
 IsMonotone f = (fewer p : Names) → IsWithin fewer p → IsWithin (f fewer) (f p)
 
 abbrev FineJudged : Judged → Type 0
-FineJudged j = ((place : Context) → Fine (j.faults place)) × IsMonotone j.after
+FineJudged j = ((context : Context) → Fine (j.violations context)) × IsMonotone j.after
 
 abbrev FineStmt : Stmt → Type 0
 FineStmt s = FineJudged (judge s)
@@ -51,13 +51,13 @@ each_monotone : (ss : List Stmt) → Each FineStmt ss → IsMonotone (after ss)
 each_monotone [] h fewer p w = w
 each_monotone (s ∷ ss) h fewer p w = each_monotone ss h.1 ((judge s).after fewer) ((judge s).after p) (h.0.1 fewer p w)
 
-each_fine : (ss : List Stmt) → Each FineStmt ss → (place : Context) → Fine (faults_each (judge_all ss) place)
-each_fine [] h place known fewer p w e = refl
-each_fine (s ∷ ss) h place known fewer p w e =
-    both_nothing ((judge s).faults place known fewer) (faults_each (judge_all ss) place ((judge s).known place.functions known) ((judge s).after fewer))
-    (h.0.0 place known fewer p w (nothing_left ((judge s).faults place known p) (faults_each (judge_all ss) place ((judge s).known place.functions known) ((judge s).after p)) e))
-    (each_fine ss h.1 place ((judge s).known place.functions known) ((judge s).after fewer) ((judge s).after p) (h.0.1 fewer p w)
-    (nothing_right ((judge s).faults place known p) (faults_each (judge_all ss) place ((judge s).known place.functions known) ((judge s).after p)) e))
+each_fine : (ss : List Stmt) → Each FineStmt ss → (context : Context) → Fine (violations_each (judge_all ss) context)
+each_fine [] h context known fewer p w e = refl
+each_fine (s ∷ ss) h context known fewer p w e =
+    both_nothing ((judge s).violations context known fewer) (violations_each (judge_all ss) context ((judge s).known context.functions known) ((judge s).after fewer))
+    (h.0.0 context known fewer p w (nothing_left ((judge s).violations context known p) (violations_each (judge_all ss) context ((judge s).known context.functions known) ((judge s).after p)) e))
+    (each_fine ss h.1 context ((judge s).known context.functions known) ((judge s).after fewer) ((judge s).after p) (h.0.1 fewer p w)
+    (nothing_right ((judge s).violations context known p) (violations_each (judge_all ss) context ((judge s).known context.functions known) ((judge s).after p)) e))
 
 -- what a statement does in the open, with what is told of those inside it
 abbrev told : Act-F Act Stmt → ℕ → Judged
@@ -65,49 +65,49 @@ told d at = judge_act (map-Act Act Stmt (ℕ → Judged) Judged judge_what judge
 
 open_fine : (at : ℕ) (d : Act-F Act Stmt) → Inside FineStmt d → FineJudged (told d at)
 open_fine at (act.Let x r) h = (
-  λ place. append_fine (λ k p. let_in_a_block place.in_block at ++ (read_right place.functions r).faults k p) (λ k p. declaration k x)
-      (append_fine (λ k p. let_in_a_block place.in_block at) (read_right place.functions r).faults (same_fine (λ k. let_in_a_block place.in_block at)) (right_fine place.functions r))
+  λ context. append_fine (λ k p. let_in_a_block context.in_block at ++ (read_right context.functions r).violations k p) (λ k p. declaration k x)
+      (append_fine (λ k p. let_in_a_block context.in_block at) (read_right context.functions r).violations (same_fine (λ k. let_in_a_block context.in_block at)) (right_fine context.functions r))
       (same_fine (λ k. declaration k x)),
   right_monotone x r,
 )
-open_fine at (act.Array x n) h = (λ place. same_fine (λ k. let_in_a_block place.in_block at ++ declaration k x ++ array_length n), kept)
+open_fine at (act.Array x n) h = (λ context. same_fine (λ k. let_in_a_block context.in_block at ++ declaration k x ++ array_length n), kept)
 open_fine at (act.Set x r) h = (
-  λ place. append_fine (λ k p. scalar_use (k.what x.bytes) p x) (λ k p. wanted_as (kind_of (k.what x.bytes)) (read_right place.functions r) k p)
-      (scalar_use_fine x) (λ known. wanted_as_fine (kind_of (known.what x.bytes)) (read_right place.functions r) (right_fine place.functions r) known),
+  λ context. append_fine (λ k p. scalar_use (k.what x.bytes) p x) (λ k p. wanted_as (kind_of (k.what x.bytes)) (read_right context.functions r) k p)
+      (scalar_use_fine x) (λ known. wanted_as_fine (kind_of (known.what x.bytes)) (read_right context.functions r) (right_fine context.functions r) known),
   right_monotone x r,
 )
 open_fine at (act.Store x i e) h =
-    (λ place. append_fine (λ k p. array_use (k.what x.bytes) p x) (two_wanted Int (read i) (read e)) (array_use_fine x) (two_fine Int (read i) (read e) (read_fine i) (read_fine e)), kept)
-open_fine at (act.Spawn c) h = (λ place. call_fine (function_named place.functions c.name.bytes) c, kept)
-open_fine at (act.Call c) h = (λ place. call_fine (function_named place.functions c.name.bytes) c, kept)
-open_fine at act.Sync h = (λ place. none_fine, λ fewer p w x e. e)
-open_fine at (act.Print e) h = (λ place. read_fine e, kept)
+    (λ context. append_fine (λ k p. array_use (k.what x.bytes) p x) (two_wanted Int (read i) (read e)) (array_use_fine x) (two_fine Int (read i) (read e) (read_fine i) (read_fine e)), kept)
+open_fine at (act.Spawn c) h = (λ context. call_fine (function_named context.functions c.name.bytes) c, kept)
+open_fine at (act.Call c) h = (λ context. call_fine (function_named context.functions c.name.bytes) c, kept)
+open_fine at act.Sync h = (λ context. none_fine, λ fewer p w x e. e)
+open_fine at (act.Print e) h = (λ context. read_fine e, kept)
 open_fine at (act.If e a b) h = (
-  λ place. append_fine (λ k p. wanted Int (read e) k p ++ block_faults (judge_all a) place k p) (λ k p. block_faults (judge_all b) place (known_each (judge_all a) place.functions k) p)
-      (append_fine (wanted Int (read e)) (block_faults (judge_all a) place) (wanted_fine Int (read e) (read_fine e)) (each_fine a h.0 (record place { in_block = true })))
-      (λ known. each_fine b h.1 (record place { in_block = true }) (known_each (judge_all a) place.functions known)),
+  λ context. append_fine (λ k p. wanted Int (read e) k p ++ block_violations (judge_all a) context k p) (λ k p. block_violations (judge_all b) context (known_each (judge_all a) context.functions k) p)
+      (append_fine (wanted Int (read e)) (block_violations (judge_all a) context) (wanted_fine Int (read e) (read_fine e)) (each_fine a h.0 (record context { in_block = true })))
+      (λ known. each_fine b h.1 (record context { in_block = true }) (known_each (judge_all a) context.functions known)),
   λ fewer p w. both_within (after a fewer) (after b fewer) (after a p) (after b p) (each_monotone a h.0 fewer p w) (each_monotone b h.1 fewer p w),
 )
 open_fine at (act.While e a) h = (
-  λ place known fewer p w.
-      append_fine (wanted Int (read e)) (block_faults (judge_all a) place) (wanted_fine Int (read e) (read_fine e)) (each_fine a h (record place { in_block = true })) known
+  λ context known fewer p w.
+      append_fine (wanted Int (read e)) (block_violations (judge_all a) context) (wanted_fine Int (read e) (read_fine e)) (each_fine a h (record context { in_block = true })) known
       (both fewer (after a fewer)) (both p (after a p)) (both_within fewer (after a fewer) p (after a p) w (each_monotone a h fewer p w)),
   λ fewer p w. both_within fewer (after a fewer) p (after a p) w (each_monotone a h fewer p w),
 )
 open_fine at (act.Pfor x lo hi target c) h = (
-  λ place. append_fine (λ k p. two_wanted Int (read lo) (read hi) k p ++ target_use target k p) (loop_call_of (function_named place.functions c.name.bytes) (is_some target) c)
+  λ context. append_fine (λ k p. two_wanted Int (read lo) (read hi) k p ++ target_use target k p) (loop_call_of (function_named context.functions c.name.bytes) (is_some target) c)
       (append_fine (two_wanted Int (read lo) (read hi)) (target_use target) (two_fine Int (read lo) (read hi) (read_fine lo) (read_fine hi)) (target_fine target))
-      (loop_call_fine (function_named place.functions c.name.bytes) (is_some target) c),
+      (loop_call_fine (function_named context.functions c.name.bytes) (is_some target) c),
   kept,
 )
-open_fine at (act.Scope a) h = (λ place. each_fine a h (record place { in_block = true }), λ fewer p w x e. e)
+open_fine at (act.Scope a) h = (λ context. each_fine a h (record context { in_block = true }), λ fewer p w x e. e)
 
 all_fine : (s : Stmt) → FineStmt s
 all_fine = induct FineStmt (λ at d h. subst FineJudged (sym (judge_open at d)) (open_fine at d h))
 
-pub fewer_pending_stays_valid : (statements : List Stmt) (place : Context) (known : Declared) (fewer p : Names) → IsWithin fewer p →
-    faults_each (judge_all statements) place known p ≡ [] →
-    (faults_each (judge_all statements) place known fewer ≡ []) × IsWithin (after statements fewer) (after statements p)
-fewer_pending_stays_valid statements place known fewer p w h =
+pub fewer_pending_stays_valid : (statements : List Stmt) (context : Context) (known : Declared) (fewer p : Names) → IsWithin fewer p →
+    violations_each (judge_all statements) context known p ≡ [] →
+    (violations_each (judge_all statements) context known fewer ≡ []) × IsWithin (after statements fewer) (after statements p)
+fewer_pending_stays_valid statements context known fewer p w h =
     let each = induct_each FineStmt all_fine statements in
-    (each_fine statements each place known fewer p w h, each_monotone statements each fewer p w)
+    (each_fine statements each context known fewer p w h, each_monotone statements each fewer p w)

@@ -13,7 +13,7 @@ use Rattle.script_check.specs.declared.findings.Violation.{Violation}
 use Rattle.script_check.specs.Tables.{Table, with_first}
 use Rattle.script_check.specs.Functions.{first_named, function_at, function_named, main_name}
 use Rattle.script_check.specs.Violations.{broken, noted}
-use Rattle.script_check.specs.Valid.{functions_twice, main_faults, all_function_faults, violations}
+use Rattle.script_check.specs.Valid.{functions_twice, main_violations, all_function_violations, violations}
 use Rattle.script_check.specs.Walk.{IsIndex}
 use Rattle.script_check.proofs.LeastViolation.Noted.{noted_append}
 use Rattle.script_check.proofs.Walk.Reading.{at_index}
@@ -111,12 +111,12 @@ named_within fs q o e = shown o (subst (Below (length fs)) (sym e) (below fs q))
 pub has_main : (script : Script) (o : Option ℕ) (n : ℕ) → violations script ≡ [] → o ≡ first_named script.functions main_name → n ≡ unwrap_or o 0 → Some n ≡ first_named script.functions main_name
 has_main script o n h e u =
     found o n
-    (subst (λ (m : Option ℕ). main_faults (function_at script.functions m) ≡ []) (sym e)
-    (nothing_left (main_faults (function_named script.functions main_name)) (all_function_faults script.functions script.functions)
-    (nothing_right (functions_twice [] script.functions) (main_faults (function_named script.functions main_name) ++ all_function_faults script.functions script.functions) h)))
+    (subst (λ (m : Option ℕ). main_violations (function_at script.functions m) ≡ []) (sym e)
+    (nothing_left (main_violations (function_named script.functions main_name)) (all_function_violations script.functions script.functions)
+    (nothing_right (functions_twice [] script.functions) (main_violations (function_named script.functions main_name) ++ all_function_violations script.functions script.functions) h)))
     u ∙ e
   where
-    found : (o : Option ℕ) (n : ℕ) → main_faults (function_at script.functions o) ≡ [] → n ≡ unwrap_or o 0 → Some n ≡ o
+    found : (o : Option ℕ) (n : ℕ) → main_violations (function_at script.functions o) ≡ [] → n ≡ unwrap_or o 0 → Some n ≡ o
     found None n h u = cc
     found (Some i) n h u = ap (λ (m : ℕ). Some m) u
 

@@ -12,6 +12,9 @@ use Rattle.script_check.specs.contracts.checked.CheckedScript as kept
 use Rattle.script_check.proofs.names.NameTable.TheSendSync as table_shared
 use Rattle.script_grammar.proofs.Shares.{script_sends, script_syncs}
 use Rattle.script_grammar.proofs.items.Items.TheSendSync as items_shared
+use Rattle.script_grammar.proofs.name_text.NameText.TheSendSync as text_shared
+use Rattle.script_grammar.specs.contracts.items.Items as items
+use Rattle.script_grammar.specs.contracts.name_text.NameText as text
 
 number_sends : IsSend u32
 number_sends = search sendable
@@ -31,11 +34,25 @@ bool_sends = search sendable
 bool_syncs : IsSync bool
 bool_syncs = search sendable
 
+names_sends : IsSend (items.the_row text.the_row)
+names_sends = items_shared.the_send text.the_row text_shared.the_send
+
+names_syncs : IsSync (items.the_row text.the_row)
+names_syncs = items_shared.the_sync text.the_row text_shared.the_sync
+
+table_sends : IsSend (items.the_row u16)
+table_sends = items_shared.the_send u16 short_sends
+
+table_syncs : IsSync (items.the_row u16)
+table_syncs = items_shared.the_sync u16 short_syncs
+
 kept_sends : IsSend kept.the_row
-kept_sends = declared_send kept.the_type (script_sends, (table_shared.the_send u32 number_sends, (items_shared.the_send bool bool_sends, (items_shared.the_send u16 short_sends, tt))))
+kept_sends = declared_send kept.the_type
+    (script_sends, (table_shared.the_send u32 number_sends, (items_shared.the_send bool bool_sends, (table_sends, (items_shared.the_send (items.the_row text.the_row) names_sends, (table_sends, tt))))))
 
 kept_syncs : IsSync kept.the_row
-kept_syncs = declared_sync kept.the_type (script_syncs, (table_shared.the_sync u32 number_syncs, (items_shared.the_sync bool bool_syncs, (items_shared.the_sync u16 short_syncs, tt))))
+kept_syncs = declared_sync kept.the_type
+    (script_syncs, (table_shared.the_sync u32 number_syncs, (items_shared.the_sync bool bool_syncs, (table_syncs, (items_shared.the_sync (items.the_row text.the_row) names_syncs, (table_syncs, tt))))))
 
 shared_sends : IsSend (arc.the_row kept.the_row global.the_row ghosts)
 shared_sends = Arc-send kept.the_row kept_sends kept_syncs

@@ -8,7 +8,7 @@ use Rattle.script_check.specs.Names.{Names, nobody, only, both}
 use Rattle.script_grammar.specs.declared.tree.Kind.TheVariants.{Int}
 use Rattle.script_check.specs.Rules.{Declared}
 use Rattle.script_check.specs.Expressions.{Violations, Reading, wanted}
-use Rattle.script_check.specs.Statements.{place, Judged, judge, judge_all, known_each, faults_each, after}
+use Rattle.script_check.specs.Statements.{context, Judged, judge, judge_all, known_each, violations_each, after}
 use Rattle.script_check.specs.Walk.{WalkState, keeps, keeps_all, state_after, state_after_all}
 use Rattle.script_check.proofs.LeastViolation.Noted.{noted_append, after_two, after_three}
 use Rattle.script_check.proofs.Walk.Reading.{at_index}
@@ -30,17 +30,17 @@ one_behind functions ss i s state next h is e =
 
 pub one_judged : (functions : List Function) (in_block : Bool) (ss : List Stmt) (i : ℕ) (s : Stmt) (state next : WalkState) (before now : Option Violation) →
     i < length ss → s ≡ get_or ss i s → next ≡ state_after functions s state →
-    now ≡ noted before ((judge s).faults (place functions in_block) state.known state.names) →
-    noted now (faults_each (judge_all (drop (i + 1) ss)) (place functions in_block) next.known next.names)
-    ≡ noted before (faults_each (judge_all (drop i ss)) (place functions in_block) state.known state.names)
+    now ≡ noted before ((judge s).violations (context functions in_block) state.known state.names) →
+    noted now (violations_each (judge_all (drop (i + 1) ss)) (context functions in_block) next.known next.names)
+    ≡ noted before (violations_each (judge_all (drop i ss)) (context functions in_block) state.known state.names)
 one_judged functions in_block ss i s state next before now h is e n =
     ap (λ (t : WalkState). noted now (rest t.known t.names)) e
     ∙ ap (λ o. noted o (rest ((judge s).known functions state.known) ((judge s).after state.names))) n
-    ∙ sym (noted_append before ((judge s).faults (place functions in_block) state.known state.names) (rest ((judge s).known functions state.known) ((judge s).after state.names)))
-    ∙ ap (λ (l : List Stmt). noted before (faults_each (judge_all l) (place functions in_block) state.known state.names)) (sym (at_index ss i s h is))
+    ∙ sym (noted_append before ((judge s).violations (context functions in_block) state.known state.names) (rest ((judge s).known functions state.known) ((judge s).after state.names)))
+    ∙ ap (λ (l : List Stmt). noted before (violations_each (judge_all l) (context functions in_block) state.known state.names)) (sym (at_index ss i s h is))
   where
     rest : Violations
-    rest = faults_each (judge_all (drop (i + 1) ss)) (place functions in_block)
+    rest = violations_each (judge_all (drop (i + 1) ss)) (context functions in_block)
 
 -- the sets at the end of an `if` and at the beginning of a `while`
 pub if_names : (a b : List Stmt) (kept : Bool) (p : Names) → kept ≡ (keeps_all a || keeps_all b) →
@@ -85,17 +85,17 @@ module _ (functions : List Function) (a b : List Stmt) where
       l ∙ ap (λ (t : WalkState). record t { names = both (after a t.names) (after b t.names); keeps = kept && t.keeps }) (s ∙ ap (with_known functions b) f)
       ∙ ap (λ n. record (with_known functions b (with_known functions a state)) { names = both (after a state.names) (after b state.names); keeps = n && state.keeps }) k
 
-  pub if_faults : (in_block : Bool) (condition : List Violation) (state next : WalkState) (found first second third : Option Violation) →
+  pub if_violations : (in_block : Bool) (condition : List Violation) (state next : WalkState) (found first second third : Option Violation) →
       first ≡ noted found condition →
-      second ≡ noted first (faults_each (judge_all a) (place functions true) state.known state.names) →
+      second ≡ noted first (violations_each (judge_all a) (context functions true) state.known state.names) →
       next ≡ with_known functions a state →
-      third ≡ noted second (faults_each (judge_all b) (place functions true) next.known next.names) →
-      third ≡ noted found (condition ++ faults_each (judge_all a) (place functions true) state.known state.names
-      ++ faults_each (judge_all b) (place functions true) (known_each (judge_all a) functions state.known) state.names)
-  if_faults in_block condition state next found first second third f s n t =
-      after_three found first second third condition (faults_each (judge_all a) (place functions true) state.known state.names)
-      (faults_each (judge_all b) (place functions true) (known_each (judge_all a) functions state.known) state.names) _ f s
-      (t ∙ ap (λ (m : WalkState). noted second (faults_each (judge_all b) (place functions true) m.known m.names)) n) refl
+      third ≡ noted second (violations_each (judge_all b) (context functions true) next.known next.names) →
+      third ≡ noted found (condition ++ violations_each (judge_all a) (context functions true) state.known state.names
+      ++ violations_each (judge_all b) (context functions true) (known_each (judge_all a) functions state.known) state.names)
+  if_violations in_block condition state next found first second third f s n t =
+      after_three found first second third condition (violations_each (judge_all a) (context functions true) state.known state.names)
+      (violations_each (judge_all b) (context functions true) (known_each (judge_all a) functions state.known) state.names) _ f s
+      (t ∙ ap (λ (m : WalkState). noted second (violations_each (judge_all b) (context functions true) m.known m.names)) n) refl
 
 module _ (functions : List Function) (a : List Stmt) where
   abbrev pub with_loop_set : WalkState → WalkState
@@ -105,14 +105,14 @@ module _ (functions : List Function) (a : List Stmt) where
   while_state state first last f l = l ∙ ap (with_known functions a) f
 
   -- the sets of the loop as they were found
-  pub while_faults : (condition : Reading) (known known' : Declared) (p q : Names) (found first second : Option Violation) →
+  pub while_violations : (condition : Reading) (known known' : Declared) (p q : Names) (found first second : Option Violation) →
       known' ≡ known → q ≡ both p (after a p) → first ≡ noted found (wanted Int condition known' q) →
-      second ≡ noted first (faults_each (judge_all a) (place functions true) known' q) →
-      second ≡ noted found (wanted Int condition known (both p (after a p)) ++ faults_each (judge_all a) (place functions true) known (both p (after a p)))
-  while_faults condition known known' p q found first second k e f s =
-      after_two found first second (wanted Int condition known' q) (faults_each (judge_all a) (place functions true) known' q) _ f s refl
-      ∙ ap (λ (m : Declared). noted found (wanted Int condition m q ++ faults_each (judge_all a) (place functions true) m q)) k
-      ∙ ap (λ (r : Names). noted found (wanted Int condition known r ++ faults_each (judge_all a) (place functions true) known r)) e
+      second ≡ noted first (violations_each (judge_all a) (context functions true) known' q) →
+      second ≡ noted found (wanted Int condition known (both p (after a p)) ++ violations_each (judge_all a) (context functions true) known (both p (after a p)))
+  while_violations condition known known' p q found first second k e f s =
+      after_two found first second (wanted Int condition known' q) (violations_each (judge_all a) (context functions true) known' q) _ f s refl
+      ∙ ap (λ (m : Declared). noted found (wanted Int condition m q ++ violations_each (judge_all a) (context functions true) m q)) k
+      ∙ ap (λ (r : Names). noted found (wanted Int condition known r ++ violations_each (judge_all a) (context functions true) known r)) e
 
   -- a scope: what its block makes known, and after its sync nothing is pending
   pub scope_state : (state first last : WalkState) → first ≡ with_known functions a state → last ≡ record first { names = nobody; keeps = false } →

@@ -20,11 +20,11 @@ module _ (params : List Param) (args : List Expr) (i : ℕ) (e : Expr) (k : Decl
       ∙ ap (λ (l : List Param). noted before (arguments l (e ∷ drop (i + 1) args) k p)) (sym d)
       ∙ ap (λ (l : List Expr). noted before (arguments (drop i params) l k p)) (sym (at_index args i e h is))
 
-  pub without_parameter : drop i params ≡ [] → drop (i + 1) params ≡ [] → now ≡ noted before ((read e).faults k p) →
+  pub without_parameter : drop i params ≡ [] → drop (i + 1) params ≡ [] → now ≡ noted before ((read e).violations k p) →
       noted now (arguments (drop (i + 1) params) (drop (i + 1) args) k p) ≡ noted before (arguments (drop i params) (drop i args) k p)
   without_parameter none more n =
       ap (λ (l : List Param). noted now (arguments l (drop (i + 1) args) k p)) more
       ∙ ap (λ o. noted o (arguments [] (drop (i + 1) args) k p)) n
-      ∙ sym (noted_append before ((read e).faults k p) (arguments [] (drop (i + 1) args) k p))
+      ∙ sym (noted_append before ((read e).violations k p) (arguments [] (drop (i + 1) args) k p))
       ∙ ap (λ (l : List Param). noted before (arguments l (e ∷ drop (i + 1) args) k p)) (sym none)
       ∙ ap (λ (l : List Expr). noted before (arguments (drop i params) l k p)) (sym (at_index args i e h is))

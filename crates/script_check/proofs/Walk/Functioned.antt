@@ -8,8 +8,8 @@ use Rattle.script_check.specs.Tables.{no_entries}
 use Rattle.script_check.specs.Names.{nobody}
 use Rattle.script_check.specs.Rules.{Declared}
 use Rattle.script_check.specs.Expressions.{read, wanted}
-use Rattle.script_check.specs.Statements.{place, judge_all, known_each, faults_each}
-use Rattle.script_check.specs.Valid.{known_params, param_faults, function_faults, all_function_faults, functions_twice, main_faults, violations, CheckFault}
+use Rattle.script_check.specs.Statements.{context, judge_all, known_each, violations_each}
+use Rattle.script_check.specs.Valid.{known_params, param_violations, function_violations, all_function_violations, functions_twice, main_violations, violations, CheckFault}
 use Rattle.script_check.specs.Functions.{function_named, main_name}
 use Rattle.script_check.proofs.LeastViolation.Least.{least_contained, none_before_least}
 use Rattle.script_check.specs.Walk.{WalkState, state_after_all}
@@ -18,16 +18,16 @@ use Rattle.script_check.proofs.Walk.Reading.{at_index}
 
 pub function_judged : (fs : List Function) (f : Function) (new params body end : WalkState) (found first second third : Option Violation) →
     new.known ≡ no_entries → new.names ≡ nobody →
-    params ≡ record new { known = known_params f.params new.known } → first ≡ noted found (param_faults f.params new.known) →
-    body ≡ state_after_all fs f.body params → second ≡ noted first (faults_each (judge_all f.body) (place fs false) params.known params.names) →
+    params ≡ record new { known = known_params f.params new.known } → first ≡ noted found (param_violations f.params new.known) →
+    body ≡ state_after_all fs f.body params → second ≡ noted first (violations_each (judge_all f.body) (context fs false) params.known params.names) →
     end ≡ record body { names = nobody; keeps = false } → third ≡ noted second (wanted f.answer (read f.result) end.known end.names) →
-    third ≡ noted found (function_faults fs f)
+    third ≡ noted found (function_violations fs f)
 function_judged fs f new params body end found first second third k p s1 f1 s2 f2 s3 f3 =
-    after_three found first second third (param_faults f.params no_entries)
-    (faults_each (judge_all f.body) (place fs false) (known_params f.params no_entries) nobody)
-    (wanted f.answer (read f.result) (known_each (judge_all f.body) fs (known_params f.params no_entries)) nobody) (function_faults fs f)
-    (f1 ∙ ap (λ (m : Declared). noted found (param_faults f.params m)) k)
-    (f2 ∙ (λ i. noted first (faults_each (judge_all f.body) (place fs false) (known1 i) (pending1 i))))
+    after_three found first second third (param_violations f.params no_entries)
+    (violations_each (judge_all f.body) (context fs false) (known_params f.params no_entries) nobody)
+    (wanted f.answer (read f.result) (known_each (judge_all f.body) fs (known_params f.params no_entries)) nobody) (function_violations fs f)
+    (f1 ∙ ap (λ (m : Declared). noted found (param_violations f.params m)) k)
+    (f2 ∙ (λ i. noted first (violations_each (judge_all f.body) (context fs false) (known1 i) (pending1 i))))
     (f3 ∙ (λ i. noted second (wanted f.answer (read f.result) (known3 i) (pending3 i))))
     refl
   where
@@ -44,19 +44,19 @@ function_judged fs f new params body end found first second third k p s1 f1 s2 f
     pending3 = ap (λ (s : WalkState). s.names) s3
 
 pub one_function : (functions fs : List Function) (i : ℕ) (f : Function) (before now : Option Violation) → i < length fs → f ≡ get_or fs i f →
-    now ≡ noted before (function_faults functions f) →
-    noted now (all_function_faults functions (drop (i + 1) fs)) ≡ noted before (all_function_faults functions (drop i fs))
+    now ≡ noted before (function_violations functions f) →
+    noted now (all_function_violations functions (drop (i + 1) fs)) ≡ noted before (all_function_violations functions (drop i fs))
 one_function functions fs i f before now h is e =
-    ap (λ o. noted o (all_function_faults functions (drop (i + 1) fs))) e
-    ∙ sym (noted_append before (function_faults functions f) (all_function_faults functions (drop (i + 1) fs)))
-    ∙ ap (λ l. noted before (all_function_faults functions l)) (sym (at_index fs i f h is))
+    ap (λ o. noted o (all_function_violations functions (drop (i + 1) fs))) e
+    ∙ sym (noted_append before (function_violations functions f) (all_function_violations functions (drop (i + 1) fs)))
+    ∙ ap (λ l. noted before (all_function_violations functions l)) (sym (at_index fs i f h is))
 
 pub all_noted : (script : Script) (first second : Option Violation) → first ≡ noted None (functions_twice [] script.functions) →
-    second ≡ noted first (main_faults (function_named script.functions main_name) ++ all_function_faults script.functions script.functions) →
+    second ≡ noted first (main_violations (function_named script.functions main_name) ++ all_function_violations script.functions script.functions) →
     second ≡ noted None (violations script)
 all_noted script first second f s =
-    s ∙ ap (λ o. noted o (main_faults (function_named script.functions main_name) ++ all_function_faults script.functions script.functions)) f
-    ∙ sym (noted_append None (functions_twice [] script.functions) (main_faults (function_named script.functions main_name) ++ all_function_faults script.functions script.functions))
+    s ∙ ap (λ o. noted o (main_violations (function_named script.functions main_name) ++ all_function_violations script.functions script.functions)) f
+    ∙ sym (noted_append None (functions_twice [] script.functions) (main_violations (function_named script.functions main_name) ++ all_function_violations script.functions script.functions))
 
 pub fault_is : (script : Script) (v : Violation) (number at : ℕ) → noted None (violations script) ≡ Some v → v.number ≡ number → v.at ≡ at → CheckFault script number at
 fault_is script v number at h n a =

@@ -6,8 +6,8 @@ use Rattle.std.specs.Map.{update}
 use Rattle.std.specs.Str.{bytes_eq}
 use Rattle.std.specs.Cmp.Lexicographic.{bytes_decides}
 use Rattle.std.proofs.lemmas.Bool.{cases_Bool}
-use Rattle.script_check.specs.declared.scope.Change.{Change}
-use Rattle.script_check.specs.declared.scope.Change.TheVariants.{Added}
+use Rattle.script_check.specs.declared.symbols.Change.{Change}
+use Rattle.script_check.specs.declared.symbols.Change.TheVariants.{Added}
 use Rattle.script_check.specs.Tables.{Table}
 use Rattle.script_check.specs.Names.{Names, with_name}
 use Rattle.script_check.specs.Walk.{names_of, without_name, undo, undone}

@@ -18,13 +18,14 @@ use Rattle.strand_meaning.specs.Trace.{AwaitedChild, Trace, heard, heard_all, he
 use Rattle.strand_meaning.specs.Sound.{IsTask}
 use Rattle.strand_meaning.specs.Task.{takes, more_values}
 use Rattle.strand_machine.specs.Family.{FamilyView, tag, tags, origins}
-use Rattle.strand_machine.specs.Merge.{AreSaid, BecomesWork, EndsShort, IsShort, KeepsRest, Merge, Takes, TakesAnswers, end_of, ended_of, ending_of, meanings, trace_of, with_stage}
+use Rattle.strand_machine.specs.Merge.{AreSaid, BecomesWork, EndsShort, IsShort, KeepsRest, Merge, Takes, TakesAnswers, Works, end_of, ended_of, ending_of, meanings, merge_of, trace_of, with_stage}
 use Rattle.strand_machine.specs.Parts.{awaited, awaited_child, awaited_children, destination_of}
 use Rattle.strand_machine.specs.declared.destination.Destination.{Destination}
 use Rattle.strand_machine.specs.declared.destination.Destination.TheVariants as place
 use Rattle.strand_machine.specs.Stops.{IsCutOn, WentOn, answer_tags, any_cut, is_cut, prefix_with, view_on, went}
 use Rattle.strand_machine.specs.Tasks.{TaskView, IsCutShort, task_of, view_of, work_of}
 use Rattle.strand_machine.specs.declared.body.Body.{Body}
+use Rattle.strand_machine.specs.declared.merge.Heard.{Heard}
 use Rattle.strand_machine.specs.declared.parts.Parts.{Parts}
 use Rattle.strand_machine.specs.declared.trace.Behind.{Behind}
 use Rattle.strand_machine.specs.declared.work.Work.{Work}
@@ -169,6 +170,11 @@ went-short answers t next cut h = subst (λ (c : Bool). went c answers t next) (
 
 pub keeps-then : (p q r : Parts) → KeepsRest p q → KeepsRest q r → KeepsRest p r
 keeps-then p q r h k = record { body = k.body ∙ ap (λ (b : Body). record b { trace = r.body.trace; values = r.body.values }) h.body; handed = k.handed }
+
+pub works-then : (p q : Parts) (heard after : Heard) (ps : List AwaitedChild) (answers : List AnswerView) → KeepsRest p q → TakesAnswers ps answers (merge_of p heard) (merge_of q after) →
+    Works p.body.family.plan p.work → Works q.body.family.plan q.work
+works-then p q heard after ps answers kept h w =
+    subst (λ (f : FamilyView). Works f.plan q.work) (sym (ap (λ (b : Body). b.family) kept.body)) (w.0, h.takes.work.works p.body.family.plan w.0 w.1)
 
 pub kept-body : (p q : Parts) → KeepsRest p q → q.body ≡ record p.body { trace = record q.body.trace { handed = [] }; values = q.body.values }
 kept-body p q k = k.body ∙ ap (λ (ps : List AwaitedChild). record p.body { trace = record q.body.trace { handed = ps }; values = q.body.values }) k.handed

@@ -22,13 +22,13 @@ use Rattle.strand_meaning.specs.Sound.{IsTask}
 use Rattle.strand_meaning.specs.Task as meaning
 use Rattle.strand_meaning.specs.Task.{Splits, Runs, Over, Task, changed, answered, with_values, joins, resumed, takes, takes_all, more_values, all_values, resumed_work, on, own_instance}
 use Rattle.strand_machine.specs.Family.{FamilyView, HasPassed, HasStopped, tags, origins}
-use Rattle.strand_machine.specs.Merge.{BecomesStage, BecomesWork, Merge, Takes, HasTakenAnswers, with_stage, trace_of, meanings}
+use Rattle.strand_machine.specs.Merge.{BecomesStage, BecomesWork, Merge, Stands, Takes, HasTakenAnswers, Works, with_stage, trace_of, meanings}
 use Rattle.strand_machine.specs.Parts.{awaited, awaited_children, destination_of}
 use Rattle.strand_meaning.specs.Cuts.{AreAnswersOf}
 use Rattle.strand_machine.specs.Stops.{WentOn, any_cut, resumes, view_on, went}
 use Rattle.strand_moves.specs.Machines.{IsInstance, machine_of, path_of}
 use Rattle.strand_moves.specs.declared.instance.Instance.{Instance}
-use Rattle.strand_machine.specs.Tasks.{TaskView, cut_of, work_of, task_of, view_of, AwaitsLast, IsSound}
+use Rattle.strand_machine.specs.Tasks.{TaskView, cut_of, work_of, task_of, view_of, AwaitsLast, IsSound, RunsAt, StandsAt, WorksAt}
 use Rattle.strand_machine.specs.declared.body.Body.{Body}
 use Rattle.strand_machine.specs.declared.trace.Behind.{Behind}
 use Rattle.strand_machine.specs.declared.destination.Destination.{Destination}
@@ -67,6 +67,20 @@ pub values-taken : (plan : PlanView) (target t : Option Name) (values given : Li
     machine_of plan after ≡ with_values t given (machine_of plan before) → machine_of plan after ≡ with_values target values (machine_of plan before)
 values-taken plan target t values given before after to is e =
     e ∙ ap (λ (x : Option Name). with_values x given (machine_of plan before)) to ∙ ap (λ (x : List Value). with_values target x (machine_of plan before)) is
+
+-- An instance that remains is one of the plan.
+module _ (plan : PlanView) (s : InstanceState) (i : Instance) (h : Stands plan s) where
+  pub goes-of : s ≡ stage.Running i → IsInstance plan i
+  goes-of is = let at : RunsAt plan h.0 i = subst (StandsAt plan h.0) is h.1 in at.sound
+
+  pub sync-of : s ≡ stage.AtSync i → IsInstance plan i
+  sync-of is = let at : RunsAt plan h.0 i = subst (StandsAt plan h.0) is h.1 in at.sound
+
+  pub loop-of : s ≡ stage.AtLoop i → IsInstance plan i
+  loop-of is = let at : RunsAt plan h.0 i = subst (StandsAt plan h.0) is h.1 in at.sound
+
+pub stands-of : (plan : PlanView) (w : Work) (s : InstanceState) → Works plan w → w ≡ work.Runs s → Stands plan s
+stands-of plan w s h is = (origins-of.path_of (own_instance h.0), subst (WorksAt plan h.0) is h.1)
 
 -- A stage
 

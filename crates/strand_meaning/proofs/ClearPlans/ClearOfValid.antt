@@ -20,8 +20,8 @@ use Rattle.script_check.specs.Names as check
 use Rattle.script_check.specs.Names.{nobody, both, with_name, after_right}
 use Rattle.script_check.specs.Rules.{Declared, kind_of, scalar_use, array_use, declaration, variable_twice, too_many_variables, array_length, let_in_a_block}
 use Rattle.script_check.specs.Expressions.{wanted, two_wanted, read}
-use Rattle.script_check.specs.Statements.{Context, place, Judged, judge, judge_what, judge_act, judge_all, read_right, wanted_as, target_use, loop_call_of, faults_each, block_faults, known_each, after}
-use Rattle.script_check.specs.Valid.{IsValid, known_params, param_faults, function_faults, all_function_faults, functions_twice, main_faults}
+use Rattle.script_check.specs.Statements.{Context, context, Judged, judge, judge_what, judge_act, judge_all, read_right, wanted_as, target_use, loop_call_of, violations_each, block_violations, known_each, after}
+use Rattle.script_check.specs.Valid.{IsValid, known_params, param_violations, function_violations, all_function_violations, functions_twice, main_violations}
 use Rattle.script_check.specs.Functions.{main_name}
 use Rattle.script_check.proofs.FewerPending.Fewer.{nothing_left, nothing_right}
 use Rattle.script_check.proofs.FewerPending.FewerStatements.{fewer_pending_stays_valid}
@@ -181,9 +181,9 @@ right-within x (right.Spawn at c) p all w name h = from (Contains-append_cases (
 -- is after it is.
 record IsGood (j : Judged) (s : Stmt) : Type 0 where
   own : Names
-  stays : (place : Context) (known : Declared) (p : check.Names) → place.in_block ≡ true → j.faults place known p ≡ [] → j.known place.functions known ≡ known
-  knows : (place : Context) (known : Declared) (p : check.Names) → IsKnown p known → j.faults place known p ≡ [] → IsKnown (j.after p) (j.known place.functions known)
-  clears : (all : Names) → IsWithin own all → (place : Context) (known : Declared) (p : check.Names) → IsKnown p known → j.faults place known p ≡ [] →
+  stays : (context : Context) (known : Declared) (p : check.Names) → context.in_block ≡ true → j.violations context known p ≡ [] → j.known context.functions known ≡ known
+  knows : (context : Context) (known : Declared) (p : check.Names) → IsKnown p known → j.violations context known p ≡ [] → IsKnown (j.after p) (j.known context.functions known)
+  clears : (all : Names) → IsWithin own all → (context : Context) (known : Declared) (p : check.Names) → IsKnown p known → j.violations context known p ≡ [] →
       (sts : List Stmt) (ends : Names) → IsClear (kept (j.after p) all) sts ends → IsClear (kept p all) (s ∷ sts) ends
 
 abbrev Good : Stmt → Type 0
@@ -193,32 +193,32 @@ own-all : (ss : List Stmt) → Each Good ss → Names
 own-all [] h = []
 own-all (s ∷ ss) h = h.0.own ++ own-all ss h.1
 
-stays-all : (ss : List Stmt) → Each Good ss → (place : Context) (known : Declared) (p : check.Names) → place.in_block ≡ true → faults_each (judge_all ss) place known p ≡ [] →
-    known_each (judge_all ss) place.functions known ≡ known
-stays-all [] h place known p b e = refl
-stays-all (s ∷ ss) h place known p b e =
-    let rest = faults_each (judge_all ss) place ((judge s).known place.functions known) ((judge s).after p) in
-    stays-all ss h.1 place ((judge s).known place.functions known) ((judge s).after p) b (nothing_right ((judge s).faults place known p) rest e)
-    ∙ h.0.stays place known p b (nothing_left ((judge s).faults place known p) rest e)
+stays-all : (ss : List Stmt) → Each Good ss → (context : Context) (known : Declared) (p : check.Names) → context.in_block ≡ true → violations_each (judge_all ss) context known p ≡ [] →
+    known_each (judge_all ss) context.functions known ≡ known
+stays-all [] h context known p b e = refl
+stays-all (s ∷ ss) h context known p b e =
+    let rest = violations_each (judge_all ss) context ((judge s).known context.functions known) ((judge s).after p) in
+    stays-all ss h.1 context ((judge s).known context.functions known) ((judge s).after p) b (nothing_right ((judge s).violations context known p) rest e)
+    ∙ h.0.stays context known p b (nothing_left ((judge s).violations context known p) rest e)
 
-knows-all : (ss : List Stmt) → Each Good ss → (place : Context) (known : Declared) (p : check.Names) → IsKnown p known → faults_each (judge_all ss) place known p ≡ [] →
-    IsKnown (after ss p) (known_each (judge_all ss) place.functions known)
-knows-all [] h place known p k e = k
-knows-all (s ∷ ss) h place known p k e =
-    let rest = faults_each (judge_all ss) place ((judge s).known place.functions known) ((judge s).after p) in
-    knows-all ss h.1 place ((judge s).known place.functions known) ((judge s).after p)
-    (h.0.knows place known p k (nothing_left ((judge s).faults place known p) rest e)) (nothing_right ((judge s).faults place known p) rest e)
+knows-all : (ss : List Stmt) → Each Good ss → (context : Context) (known : Declared) (p : check.Names) → IsKnown p known → violations_each (judge_all ss) context known p ≡ [] →
+    IsKnown (after ss p) (known_each (judge_all ss) context.functions known)
+knows-all [] h context known p k e = k
+knows-all (s ∷ ss) h context known p k e =
+    let rest = violations_each (judge_all ss) context ((judge s).known context.functions known) ((judge s).after p) in
+    knows-all ss h.1 context ((judge s).known context.functions known) ((judge s).after p)
+    (h.0.knows context known p k (nothing_left ((judge s).violations context known p) rest e)) (nothing_right ((judge s).violations context known p) rest e)
 
-clears-all : (ss : List Stmt) (h : Each Good ss) (all : Names) → IsWithin (own-all ss h) all → (place : Context) (known : Declared) (p : check.Names) → IsKnown p known →
-    faults_each (judge_all ss) place known p ≡ [] → IsClear (kept p all) ss (kept (after ss p) all)
+clears-all : (ss : List Stmt) (h : Each Good ss) (all : Names) → IsWithin (own-all ss h) all → (context : Context) (known : Declared) (p : check.Names) → IsKnown p known →
+    violations_each (judge_all ss) context known p ≡ [] → IsClear (kept p all) ss (kept (after ss p) all)
 unfolding own-all
-clears-all [] h all w place known p k e = Nothing (within-itself (kept p all))
-clears-all (s ∷ ss) h all w place known p k e =
-    let rest = faults_each (judge_all ss) place ((judge s).known place.functions known) ((judge s).after p) in
-    let here = nothing_left ((judge s).faults place known p) rest e in
-    h.0.clears all (λ name c. w name (Contains-append_left h.0.own (own-all ss h.1) name c)) place known p k here ss (kept (after (s ∷ ss) p) all)
-    (clears-all ss h.1 all (λ name c. w name (Contains-append_right h.0.own (own-all ss h.1) name c)) place ((judge s).known place.functions known) ((judge s).after p)
-    (h.0.knows place known p k here) (nothing_right ((judge s).faults place known p) rest e))
+clears-all [] h all w context known p k e = Nothing (within-itself (kept p all))
+clears-all (s ∷ ss) h all w context known p k e =
+    let rest = violations_each (judge_all ss) context ((judge s).known context.functions known) ((judge s).after p) in
+    let here = nothing_left ((judge s).violations context known p) rest e in
+    h.0.clears all (λ name c. w name (Contains-append_left h.0.own (own-all ss h.1) name c)) context known p k here ss (kept (after (s ∷ ss) p) all)
+    (clears-all ss h.1 all (λ name c. w name (Contains-append_right h.0.own (own-all ss h.1) name c)) context ((judge s).known context.functions known) ((judge s).after p)
+    (h.0.knows context known p k here) (nothing_right ((judge s).violations context known p) rest e))
 
 opens : (at : ℕ) (d : Act-F Act Stmt) → out-Act (out-Stmt (statement at d)).act ≡ d
 opens at d = ap (λ s. out-Act s.act) (out-roll-Stmt (record { at = at; act = roll-Act d })) ∙ out-roll-Act d
@@ -236,94 +236,94 @@ not-in-block b at e h = true≢false (sym e ∙ not-broken b 10 at h)
 good-let : (at : ℕ) (x : Name) (r : Right) → IsGood (told (act.Let x r) at) (statement at (act.Let x r))
 good-let at x r = record {
   own = right-own x r;
-  stays = λ place known p b h. absurd (not-in-block place.in_block at b
-      (nothing_left (let_in_a_block place.in_block at) ((read_right place.functions r).faults known p)
-      (nothing_left (let_in_a_block place.in_block at ++ (read_right place.functions r).faults known p) (declaration known x) h)));
-  knows = λ place known p k h. right-known x r p (with_first known x.bytes _) (first-has known x.bytes _) (λ y e. first-keeps known x.bytes _ y (k y e));
-  clears = λ all w place known p k h.
+  stays = λ context known p b h. absurd (not-in-block context.in_block at b
+      (nothing_left (let_in_a_block context.in_block at) ((read_right context.functions r).violations known p)
+      (nothing_left (let_in_a_block context.in_block at ++ (read_right context.functions r).violations known p) (declaration known x) h)));
+  knows = λ context known p k h. right-known x r p (with_first known x.bytes _) (first-has known x.bytes _) (λ y e. first-keeps known x.bytes _ y (k y e));
+  clears = λ all w context known p k h.
       simple at (act.Let x r) tt p (after_right x r p) all
       (free-cons p x.bytes (names_in_right r)
-      (new-free p known x k (nothing_right (let_in_a_block place.in_block at ++ (read_right place.functions r).faults known p) (declaration known x) h))
-      (right-free place.functions r known p (nothing_right (let_in_a_block place.in_block at) ((read_right place.functions r).faults known p)
-      (nothing_left (let_in_a_block place.in_block at ++ (read_right place.functions r).faults known p) (declaration known x) h))))
+      (new-free p known x k (nothing_right (let_in_a_block context.in_block at ++ (read_right context.functions r).violations known p) (declaration known x) h))
+      (right-free context.functions r known p (nothing_right (let_in_a_block context.in_block at) ((read_right context.functions r).violations known p)
+      (nothing_left (let_in_a_block context.in_block at ++ (read_right context.functions r).violations known p) (declaration known x) h))))
       (right-within x r p all w);
 }
 
 good-set : (at : ℕ) (x : Name) (r : Right) → IsGood (told (act.Set x r) at) (statement at (act.Set x r))
 good-set at x r = record {
   own = right-own x r;
-  stays = λ place known p b h. refl;
-  knows = λ place known p k h.
-      right-known x r p known (scalar-known known p x (nothing_left (scalar_use (known.what x.bytes) p x) (wanted_as (kind_of (known.what x.bytes)) (read_right place.functions r) known p) h)) k;
-  clears = λ all w place known p k h.
+  stays = λ context known p b h. refl;
+  knows = λ context known p k h.
+      right-known x r p known (scalar-known known p x (nothing_left (scalar_use (known.what x.bytes) p x) (wanted_as (kind_of (known.what x.bytes)) (read_right context.functions r) known p) h)) k;
+  clears = λ all w context known p k h.
       simple at (act.Set x r) tt p (after_right x r p) all
       (free-cons p x.bytes (names_in_right r)
-      (scalar-free (known.what x.bytes) p x (nothing_left (scalar_use (known.what x.bytes) p x) (wanted_as (kind_of (known.what x.bytes)) (read_right place.functions r) known p) h))
-      (right-free place.functions r known p (wanted-as-left (kind_of (known.what x.bytes)) (read_right place.functions r) known p
-      (nothing_right (scalar_use (known.what x.bytes) p x) (wanted_as (kind_of (known.what x.bytes)) (read_right place.functions r) known p) h))))
+      (scalar-free (known.what x.bytes) p x (nothing_left (scalar_use (known.what x.bytes) p x) (wanted_as (kind_of (known.what x.bytes)) (read_right context.functions r) known p) h))
+      (right-free context.functions r known p (wanted-as-left (kind_of (known.what x.bytes)) (read_right context.functions r) known p
+      (nothing_right (scalar_use (known.what x.bytes) p x) (wanted_as (kind_of (known.what x.bytes)) (read_right context.functions r) known p) h))))
       (right-within x r p all w);
 }
 
 good-array : (at : ℕ) (x : Name) (n : _) → IsGood (told (act.Array x n) at) (statement at (act.Array x n))
 good-array at x n = record {
   own = [];
-  stays = λ place known p b h. absurd (not-in-block place.in_block at b
-      (nothing_left (let_in_a_block place.in_block at) (declaration known x) (nothing_left (let_in_a_block place.in_block at ++ declaration known x) (array_length n) h)));
-  knows = λ place known p k h y e. first-keeps known x.bytes _ y (k y e);
-  clears = λ all w place known p k h.
+  stays = λ context known p b h. absurd (not-in-block context.in_block at b
+      (nothing_left (let_in_a_block context.in_block at) (declaration known x) (nothing_left (let_in_a_block context.in_block at ++ declaration known x) (array_length n) h)));
+  knows = λ context known p k h y e. first-keeps known x.bytes _ y (k y e);
+  clears = λ all w context known p k h.
       simple at (act.Array x n) tt p p all
       (free-cons p x.bytes []
-      (new-free p known x k (nothing_right (let_in_a_block place.in_block at) (declaration known x) (nothing_left (let_in_a_block place.in_block at ++ declaration known x) (array_length n) h)))
+      (new-free p known x k (nothing_right (let_in_a_block context.in_block at) (declaration known x) (nothing_left (let_in_a_block context.in_block at ++ declaration known x) (array_length n) h)))
       (free-none p))
       (within-itself (kept p all));
 }
 
 -- a statement that adds nothing and makes nothing known
 good-plain : (at : ℕ) (d : Act-F Act Stmt) → IsSimple d → ((p : check.Names) → (told d at).after p ≡ p) → ((functions : List Function) (known : Declared) → (told d at).known functions known ≡ known) →
-    ((p : Names) → pending_after d p ≡ p) → ((place : Context) (known : Declared) (p : check.Names) → (told d at).faults place known p ≡ [] → Free p (touched d)) → IsGood (told d at) (statement at d)
+    ((p : Names) → pending_after d p ≡ p) → ((context : Context) (known : Declared) (p : check.Names) → (told d at).violations context known p ≡ [] → Free p (touched d)) → IsGood (told d at) (statement at d)
 good-plain at d s same still adds free = record {
   own = [];
-  stays = λ place known p b h. still place.functions known;
-  knows = λ place known p k h. subst (λ q. IsKnown q ((told d at).known place.functions known)) (sym (same p)) (subst (IsKnown p) (sym (still place.functions known)) k);
-  clears = λ all w place known p k h.
-      simple at d s p ((told d at).after p) all (free place known p h)
+  stays = λ context known p b h. still context.functions known;
+  knows = λ context known p k h. subst (λ q. IsKnown q ((told d at).known context.functions known)) (sym (same p)) (subst (IsKnown p) (sym (still context.functions known)) k);
+  clears = λ all w context known p k h.
+      simple at d s p ((told d at).after p) all (free context known p h)
       (subst (λ q. IsWithin (pending_after d (kept p all)) (kept q all)) (sym (same p)) (subst (λ l. IsWithin l (kept p all)) (sym (adds (kept p all))) (within-itself (kept p all))));
 }
 
 good-sync : (at : ℕ) → IsGood (told act.Sync at) (statement at act.Sync)
 good-sync at = record {
   own = [];
-  stays = λ place known p b h. refl;
-  knows = λ place known p k h y e. absurd (true≢false (sym e));
-  clears = λ all w place known p k h. simple at act.Sync tt p nobody all (free-none p) (nothing-within (kept nobody all));
+  stays = λ context known p b h. refl;
+  knows = λ context known p k h y e. absurd (true≢false (sym e));
+  clears = λ all w context known p k h. simple at act.Sync tt p nobody all (free-none p) (nothing-within (kept nobody all));
 }
 
 good-if : (at : ℕ) (e : _) (a b : List Stmt) → Each Good a → Each Good b → IsGood (told (act.If e a b) at) (statement at (act.If e a b))
 good-if at e a b g h = record {
   own = own-all a g ++ own-all b h;
-  stays = λ place known p o f.
-      let inner = record place { in_block = true } in
-      let first = first-of place known p f in
-      stays-all b h inner (known_each (judge_all a) place.functions known) p refl (last-of place known p f) ∙ stays-all a g inner known p refl first;
-  knows = λ place known p k f.
-      let inner = record place { in_block = true } in
-      let first = first-of place known p f in
-      let still : known_each (judge_all a) place.functions known ≡ known = stays-all a g inner known p refl first in
-      let last : faults_each (judge_all b) inner known p ≡ [] = subst (λ (m : Declared). faults_each (judge_all b) inner m p ≡ []) still (last-of place known p f) in
-      let again : known_each (judge_all b) place.functions (known_each (judge_all a) place.functions known) ≡ known =
-      stays-all b h inner (known_each (judge_all a) place.functions known) p refl (last-of place known p f) ∙ still in
+  stays = λ context known p o f.
+      let inner = record context { in_block = true } in
+      let first = first-of context known p f in
+      stays-all b h inner (known_each (judge_all a) context.functions known) p refl (last-of context known p f) ∙ stays-all a g inner known p refl first;
+  knows = λ context known p k f.
+      let inner = record context { in_block = true } in
+      let first = first-of context known p f in
+      let still : known_each (judge_all a) context.functions known ≡ known = stays-all a g inner known p refl first in
+      let last : violations_each (judge_all b) inner known p ≡ [] = subst (λ (m : Declared). violations_each (judge_all b) inner m p ≡ []) still (last-of context known p f) in
+      let again : known_each (judge_all b) context.functions (known_each (judge_all a) context.functions known) ≡ known =
+      stays-all b h inner (known_each (judge_all a) context.functions known) p refl (last-of context known p f) ∙ still in
       subst (IsKnown (both (after a p) (after b p))) (sym again)
       (λ y t. either-known (after a p y) (after b p y) (is_some (known.what y)) t
       (λ u. subst (IsKnown (after a p)) still (knows-all a g inner known p k first) y u)
       (λ u. subst (IsKnown (after b p)) (stays-all b h inner known p refl last) (knows-all b h inner known p k last) y u));
-  clears = λ all w place known p k f sts ends rest.
-      let inner = record place { in_block = true } in
-      let first = first-of place known p f in
-      let still : known_each (judge_all a) place.functions known ≡ known = stays-all a g inner known p refl first in
-      let last : faults_each (judge_all b) inner known p ≡ [] = subst (λ (m : Declared). faults_each (judge_all b) inner m p ≡ []) still (last-of place known p f) in
+  clears = λ all w context known p k f sts ends rest.
+      let inner = record context { in_block = true } in
+      let first = first-of context known p f in
+      let still : known_each (judge_all a) context.functions known ≡ known = stays-all a g inner known p refl first in
+      let last : violations_each (judge_all b) inner known p ≡ [] = subst (λ (m : Declared). violations_each (judge_all b) inner m p ≡ []) still (last-of context known p f) in
       let more = kept (both (after a p) (after b p)) all in
       Branches e a b more (opens at (act.If e a b))
-      (free-apart p (names_in e) all (read-free e known p (wanted-left Int (read e) known p (test-of place known p f))))
+      (free-apart p (names_in e) all (read-free e known p (wanted-left Int (read e) known p (test-of context known p f))))
       (clear-ends more (kept-within (after a p) (both (after a p) (after b p)) all (λ y u. or-left (after a p y) (after b p y) u))
       (clears-all a g all (λ name c. w name (Contains-append_left (own-all a g) (own-all b h) name c)) inner known p k first))
       (clear-ends more (kept-within (after b p) (both (after a p) (after b p)) all (λ y u. or-right (after a p y) (after b p y) u))
@@ -331,20 +331,20 @@ good-if at e a b g h = record {
       rest;
 }
   where
-    first-of : (place : Context) (known : Declared) (p : check.Names) → (told (act.If e a b) at).faults place known p ≡ [] → faults_each (judge_all a) (record place { in_block = true }) known p ≡ []
-    first-of place known p f =
-        nothing_right (wanted Int (read e) known p) (block_faults (judge_all a) place known p)
-        (nothing_left (wanted Int (read e) known p ++ block_faults (judge_all a) place known p) (block_faults (judge_all b) place (known_each (judge_all a) place.functions known) p) f)
+    first-of : (context : Context) (known : Declared) (p : check.Names) → (told (act.If e a b) at).violations context known p ≡ [] → violations_each (judge_all a) (record context { in_block = true }) known p ≡ []
+    first-of context known p f =
+        nothing_right (wanted Int (read e) known p) (block_violations (judge_all a) context known p)
+        (nothing_left (wanted Int (read e) known p ++ block_violations (judge_all a) context known p) (block_violations (judge_all b) context (known_each (judge_all a) context.functions known) p) f)
 
-    last-of : (place : Context) (known : Declared) (p : check.Names) → (told (act.If e a b) at).faults place known p ≡ [] →
-        faults_each (judge_all b) (record place { in_block = true }) (known_each (judge_all a) place.functions known) p ≡ []
-    last-of place known p f =
-        nothing_right (wanted Int (read e) known p ++ block_faults (judge_all a) place known p) (block_faults (judge_all b) place (known_each (judge_all a) place.functions known) p) f
+    last-of : (context : Context) (known : Declared) (p : check.Names) → (told (act.If e a b) at).violations context known p ≡ [] →
+        violations_each (judge_all b) (record context { in_block = true }) (known_each (judge_all a) context.functions known) p ≡ []
+    last-of context known p f =
+        nothing_right (wanted Int (read e) known p ++ block_violations (judge_all a) context known p) (block_violations (judge_all b) context (known_each (judge_all a) context.functions known) p) f
 
-    test-of : (place : Context) (known : Declared) (p : check.Names) → (told (act.If e a b) at).faults place known p ≡ [] → wanted Int (read e) known p ≡ []
-    test-of place known p f =
-        nothing_left (wanted Int (read e) known p) (block_faults (judge_all a) place known p)
-        (nothing_left (wanted Int (read e) known p ++ block_faults (judge_all a) place known p) (block_faults (judge_all b) place (known_each (judge_all a) place.functions known) p) f)
+    test-of : (context : Context) (known : Declared) (p : check.Names) → (told (act.If e a b) at).violations context known p ≡ [] → wanted Int (read e) known p ≡ []
+    test-of context known p f =
+        nothing_left (wanted Int (read e) known p) (block_violations (judge_all a) context known p)
+        (nothing_left (wanted Int (read e) known p ++ block_violations (judge_all a) context known p) (block_violations (judge_all b) context (known_each (judge_all a) context.functions known) p) f)
 
     either-known : (x y z : Bool) → (x || y) ≡ true → (x ≡ true → z ≡ true) → (y ≡ true → z ≡ true) → z ≡ true
     either-known true y z t u v = u refl
@@ -353,37 +353,37 @@ good-if at e a b g h = record {
 good-while : (at : ℕ) (e : _) (a : List Stmt) → Each Good a → IsGood (told (act.While e a) at) (statement at (act.While e a))
 good-while at e a g = record {
   own = own-all a g;
-  stays = λ place known p o f. stays-all a g (record place { in_block = true }) known (both p (after a p)) refl (body-of place known p f);
-  knows = λ place known p k f. subst (IsKnown (both p (after a p))) (sym (stays-all a g (record place { in_block = true }) known (both p (after a p)) refl (body-of place known p f))) (all-known place known p k f);
-  clears = λ all w place known p k f sts ends rest.
+  stays = λ context known p o f. stays-all a g (record context { in_block = true }) known (both p (after a p)) refl (body-of context known p f);
+  knows = λ context known p k f. subst (IsKnown (both p (after a p))) (sym (stays-all a g (record context { in_block = true }) known (both p (after a p)) refl (body-of context known p f))) (all-known context known p k f);
+  clears = λ all w context known p k f sts ends rest.
       let q : check.Names = both p (after a p) in
       Turns e a (kept q all) (opens at (act.While e a)) (kept-within p q all (λ y u. or-left (p y) (after a p y) u))
-      (free-apart q (names_in e) all (read-free e known q (wanted-left Int (read e) known q (nothing_left (wanted Int (read e) known q) (block_faults (judge_all a) place known q) f))))
+      (free-apart q (names_in e) all (read-free e known q (wanted-left Int (read e) known q (nothing_left (wanted Int (read e) known q) (block_violations (judge_all a) context known q) f))))
       (clear-ends (kept q all) (kept-within (after a q) q all (loop_closed a p))
-      (clears-all a g all w (record place { in_block = true }) known q (all-known place known p k f) (body-of place known p f)))
+      (clears-all a g all w (record context { in_block = true }) known q (all-known context known p k f) (body-of context known p f)))
       rest;
 }
   where
-    body-of : (place : Context) (known : Declared) (p : check.Names) → (told (act.While e a) at).faults place known p ≡ [] → faults_each (judge_all a) (record place { in_block = true }) known (both p (after a p)) ≡ []
-    body-of place known p f = nothing_right (wanted Int (read e) known (both p (after a p))) (block_faults (judge_all a) place known (both p (after a p))) f
+    body-of : (context : Context) (known : Declared) (p : check.Names) → (told (act.While e a) at).violations context known p ≡ [] → violations_each (judge_all a) (record context { in_block = true }) known (both p (after a p)) ≡ []
+    body-of context known p f = nothing_right (wanted Int (read e) known (both p (after a p))) (block_violations (judge_all a) context known (both p (after a p))) f
 
-    all-known : (place : Context) (known : Declared) (p : check.Names) → IsKnown p known → (told (act.While e a) at).faults place known p ≡ [] → IsKnown (both p (after a p)) known
-    all-known place known p k f y t =
-        from ((fewer_pending_stays_valid a (record place { in_block = true }) known p (both p (after a p)) (λ z u. or-left (p z) (after a p z) u) (body-of place known p f)).0)
+    all-known : (context : Context) (known : Declared) (p : check.Names) → IsKnown p known → (told (act.While e a) at).violations context known p ≡ [] → IsKnown (both p (after a p)) known
+    all-known context known p k f y t =
+        from ((fewer_pending_stays_valid a (record context { in_block = true }) known p (both p (after a p)) (λ z u. or-left (p z) (after a p z) u) (body-of context known p f)).0)
         (or-cases (p y) (after a p y) t)
       where
-        from : faults_each (judge_all a) (record place { in_block = true }) known p ≡ [] → (p y ≡ true) ⊎ (after a p y ≡ true) → is_some (known.what y) ≡ true
+        from : violations_each (judge_all a) (record context { in_block = true }) known p ≡ [] → (p y ≡ true) ⊎ (after a p y ≡ true) → is_some (known.what y) ≡ true
         from once (inl u) = k y u
         from once (inr u) =
-            subst (IsKnown (after a p)) (stays-all a g (record place { in_block = true }) known p refl once) (knows-all a g (record place { in_block = true }) known p k once) y u
+            subst (IsKnown (after a p)) (stays-all a g (record context { in_block = true }) known p refl once) (knows-all a g (record context { in_block = true }) known p k once) y u
 
 good-scope : (at : ℕ) (a : List Stmt) → Each Good a → IsGood (told (act.Scope a) at) (statement at (act.Scope a))
 good-scope at a g = record {
   own = own-all a g;
-  stays = λ place known p o f. stays-all a g (record place { in_block = true }) known p refl f;
-  knows = λ place known p k f y e. absurd (true≢false (sym e));
-  clears = λ all w place known p k f sts ends rest.
-      Levels a (kept (after a p) all) (opens at (act.Scope a)) (clears-all a g all w (record place { in_block = true }) known p k f)
+  stays = λ context known p o f. stays-all a g (record context { in_block = true }) known p refl f;
+  knows = λ context known p k f y e. absurd (true≢false (sym e));
+  clears = λ all w context known p k f sts ends rest.
+      Levels a (kept (after a p) all) (opens at (act.Scope a)) (clears-all a g all w (record context { in_block = true }) known p k f)
       (clear-within [] (kept nobody all) (nothing-within (kept nobody all)) rest);
 }
 
@@ -393,30 +393,30 @@ good at (act.Array x n) h = good-array at x n
 good at (act.Set x r) h = good-set at x r
 good at (act.Store x i e) h =
     good-plain at (act.Store x i e) tt (λ p. refl) (λ functions known. refl) (λ p. refl)
-    (λ place known p f. free-cons p x.bytes (names_in i ++ names_in e)
+    (λ context known p f. free-cons p x.bytes (names_in i ++ names_in e)
     (array-free (known.what x.bytes) p x (nothing_left (array_use (known.what x.bytes) p x) (two_wanted Int (read i) (read e) known p) f))
     (two-free Int (names_in i) (names_in e) (read i) (read e) (read-free i) (read-free e) known p (nothing_right (array_use (known.what x.bytes) p x) (two_wanted Int (read i) (read e) known p) f)))
 good at (act.Spawn c) h =
-    good-plain at (act.Spawn c) tt (λ p. refl) (λ functions known. refl) (λ p. refl) (λ place known p f. call-free (function_named place.functions c.name.bytes) c known p f)
+    good-plain at (act.Spawn c) tt (λ p. refl) (λ functions known. refl) (λ p. refl) (λ context known p f. call-free (function_named context.functions c.name.bytes) c known p f)
 good at (act.Call c) h =
-    good-plain at (act.Call c) tt (λ p. refl) (λ functions known. refl) (λ p. refl) (λ place known p f. call-free (function_named place.functions c.name.bytes) c known p f)
+    good-plain at (act.Call c) tt (λ p. refl) (λ functions known. refl) (λ p. refl) (λ context known p f. call-free (function_named context.functions c.name.bytes) c known p f)
 good at act.Sync h = good-sync at
-good at (act.Print e) h = good-plain at (act.Print e) tt (λ p. refl) (λ functions known. refl) (λ p. refl) (λ place known p f. read-free e known p f)
+good at (act.Print e) h = good-plain at (act.Print e) tt (λ p. refl) (λ functions known. refl) (λ p. refl) (λ context known p f. read-free e known p f)
 good at (act.If e a b) h = good-if at e a b h.0 h.1
 good at (act.While e a) h = good-while at e a h
 good at (act.Scope a) h = good-scope at a h
 good at (act.Pfor x lo hi target c) h =
     good-plain at (act.Pfor x lo hi target c) tt (λ p. refl) (λ functions known. refl) (λ p. refl)
-    (λ place known p f.
+    (λ context known p f.
     let bounds = two_wanted Int (read lo) (read hi) known p in
     let into = target_use target known p in
-    let called = loop_call_of (function_named place.functions c.name.bytes) (is_some target) c known p in
+    let called = loop_call_of (function_named context.functions c.name.bytes) (is_some target) c known p in
     let front = nothing_left (bounds ++ into) called f in
     let free-bounds = two-free Int (names_in lo) (names_in hi) (read lo) (read hi) (read-free lo) (read-free hi) known p (nothing_left bounds into front) in
     free-append p (names_in lo) (names_in hi ++ (names_in_all c.args ++ target_names target)) (λ name d. free-bounds name (Contains-append_left (names_in lo) (names_in hi) name d))
     (free-append p (names_in hi) (names_in_all c.args ++ target_names target) (λ name d. free-bounds name (Contains-append_right (names_in lo) (names_in hi) name d))
     (free-append p (names_in_all c.args) (target_names target)
-    (loop-call-free (function_named place.functions c.name.bytes) (is_some target) c known p (nothing_right (bounds ++ into) called f))
+    (loop-call-free (function_named context.functions c.name.bytes) (is_some target) c known p (nothing_right (bounds ++ into) called f))
     (target-free target known p (nothing_right bounds into front)))))
 
 all-good : (s : Stmt) → Good s
@@ -424,22 +424,22 @@ all-good = induct Good (λ at d h. subst (λ (j : Judged). IsGood j (statement a
 
 -- Functions
 
-valid-function : (functions : List Function) (f : Function) → function_faults functions f ≡ [] → IsClearFunction f
+valid-function : (functions : List Function) (f : Function) → function_violations functions f ≡ [] → IsClearFunction f
 valid-function functions f h =
     let known = known_params f.params no_entries in
-    let body = faults_each (judge_all f.body) (place functions false) known nobody in
-    let front = nothing_left (param_faults f.params no_entries ++ body) (wanted f.answer (read f.result) (known_each (judge_all f.body) functions known) nobody) h in
+    let body = violations_each (judge_all f.body) (context functions false) known nobody in
+    let front = nothing_left (param_violations f.params no_entries ++ body) (wanted f.answer (read f.result) (known_each (judge_all f.body) functions known) nobody) h in
     let each = induct_each Good all-good f.body in
     let all = own-all f.body each in (
       kept (after f.body nobody) all,
       clear-within [] (kept nobody all) (nothing-within (kept nobody all))
-          (clears-all f.body each all (within-itself all) (place functions false) known nobody (λ x e. absurd (true≢false (sym e))) (nothing_right (param_faults f.params no_entries) body front)),
+          (clears-all f.body each all (within-itself all) (context functions false) known nobody (λ x e. absurd (true≢false (sym e))) (nothing_right (param_violations f.params no_entries) body front)),
     )
 
-each-function : (functions fs : List Function) → all_function_faults functions fs ≡ [] → (f : Function) → Contains fs f → IsClearFunction f
+each-function : (functions fs : List Function) → all_function_violations functions fs ≡ [] → (f : Function) → Contains fs f → IsClearFunction f
 each-function functions [] h f c = absurd (omega (arith, c.1))
 each-function functions (g ∷ fs) h f c =
-    from (Contains-append_cases (g ∷ []) fs f c) (each-function functions fs (nothing_right (function_faults functions g) (all_function_faults functions fs) h) f)
+    from (Contains-append_cases (g ∷ []) fs f c) (each-function functions fs (nothing_right (function_violations functions g) (all_function_violations functions fs) h) f)
   where
     single : Contains (g ∷ []) f → g ≡ f
     single d = by_index d.0 d.1 d.2
@@ -449,13 +449,13 @@ each-function functions (g ∷ fs) h f c =
         by_index (suc i) e k = absurd (omega arith)
 
     from : Contains (g ∷ []) f ⊎ Contains fs f → (Contains fs f → IsClearFunction f) → IsClearFunction f
-    from (inl d) later = subst IsClearFunction (single d) (valid-function functions g (nothing_left (function_faults functions g) (all_function_faults functions fs) h))
+    from (inl d) later = subst IsClearFunction (single d) (valid-function functions g (nothing_left (function_violations functions g) (all_function_violations functions fs) h))
     from (inr d) later = later d
 
 -- A plan of a valid script touches no pending variable.
 pub clear_of_valid : (plan : PlanView) → IsValid plan.script → IsClearPlan plan
 clear_of_valid plan valid f c =
     let functions = functions_of plan in
-    let others = main_faults (function_named functions main_name) in
+    let others = main_violations (function_named functions main_name) in
     each-function functions functions
-    (nothing_right others (all_function_faults functions functions) (nothing_right (functions_twice [] functions) (others ++ all_function_faults functions functions) valid)) f c
+    (nothing_right others (all_function_violations functions functions) (nothing_right (functions_twice [] functions) (others ++ all_function_violations functions functions) valid)) f c

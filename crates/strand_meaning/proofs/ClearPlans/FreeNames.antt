@@ -80,17 +80,17 @@ array-free o p x h = array-at o (p x.bytes) x (sym (array-here o p x) ∙ h)
 
 -- what is read without a violation names nothing that is pending
 abbrev pub ReadsFree : Names → Reading → Type 0
-ReadsFree names r = (known : Declared) (p : check.Names) → r.faults known p ≡ [] → Free p names
+ReadsFree names r = (known : Declared) (p : check.Names) → r.violations known p ≡ [] → Free p names
 
-pub wanted-left : (kind : Kind) (r : Reading) (known : Declared) (p : check.Names) → wanted kind r known p ≡ [] → r.faults known p ≡ []
+pub wanted-left : (kind : Kind) (r : Reading) (known : Declared) (p : check.Names) → wanted kind r known p ≡ [] → r.violations known p ≡ []
 unfolding wanted
-wanted-left kind r known p h = nothing_left (r.faults known p) (wrong_kind kind (r.kind known) r.at) h
+wanted-left kind r known p h = nothing_left (r.violations known p) (wrong_kind kind (r.kind known) r.at) h
 
-two-left : (kind : Kind) (a b : Reading) (known : Declared) (p : check.Names) → two_wanted kind a b known p ≡ [] → a.faults known p ≡ []
+two-left : (kind : Kind) (a b : Reading) (known : Declared) (p : check.Names) → two_wanted kind a b known p ≡ [] → a.violations known p ≡ []
 unfolding two_wanted
 two-left kind a b known p h = wanted-left kind a known p (nothing_left (wanted kind a known p) (wanted kind b known p) h)
 
-two-right : (kind : Kind) (a b : Reading) (known : Declared) (p : check.Names) → two_wanted kind a b known p ≡ [] → b.faults known p ≡ []
+two-right : (kind : Kind) (a b : Reading) (known : Declared) (p : check.Names) → two_wanted kind a b known p ≡ [] → b.violations known p ≡ []
 unfolding two_wanted
 two-right kind a b known p h = wanted-left kind b known p (nothing_right (wanted kind a known p) (wanted kind b known p) h)
 
@@ -114,7 +114,7 @@ layer-free : (d : Expr-F Expr ProductPart SumPart) → LayerFree d → TreeFree 
 layer-free d h known p none =
     let names : names_in (roll-Expr d) ≡ names_at (node_names names_in names_in_product_part names_in_sum_part d) = fold-roll-Expr Names Names Names names_at (λ p. p.operand) (λ p. p.operand) d in
     let reading : read (roll-Expr d) ≡ read_at (node_map read read_product_part read_sum_part d) = fold-roll-Expr Reading Reading Reading read_at (λ p. p.operand) (λ p. p.operand) d in
-    subst (Free p) (sym names) (h known p (ap (λ (r : Reading). r.faults known p) (sym reading) ∙ none))
+    subst (Free p) (sym names) (h known p (ap (λ (r : Reading). r.violations known p) (sym reading) ∙ none))
 
 sum_part_is : (p : SumPart) → read_sum_part p ≡ read p.operand
 sum_part_is p = search (rules, the_lemmas)
@@ -185,8 +185,8 @@ read-free =
 pub arguments-free : (params : List Param) (es : List Expr) (known : Declared) (p : check.Names) → arguments params es known p ≡ [] → Free p (names_in_all es)
 arguments-free params [] known p h = free-none p
 arguments-free [] (e ∷ es) known p h =
-    free-append p (names_in e) (names_in_all es) (read-free e known p (nothing_left ((read e).faults known p) (arguments [] es known p) h))
-    (arguments-free [] es known p (nothing_right ((read e).faults known p) (arguments [] es known p) h))
+    free-append p (names_in e) (names_in_all es) (read-free e known p (nothing_left ((read e).violations known p) (arguments [] es known p) h))
+    (arguments-free [] es known p (nothing_right ((read e).violations known p) (arguments [] es known p) h))
 arguments-free (q ∷ params) (e ∷ es) known p h =
     free-append p (names_in e) (names_in_all es)
     (read-free e known p (wanted-left q.kind (read e) known p (nothing_left (wanted q.kind (read e) known p) (arguments params es known p) h)))
@@ -219,6 +219,6 @@ right-free functions (right.New at) known p h = free-none p
 right-free functions (right.Call at c) known p h = call-free (function_named functions c.name.bytes) c known p h
 right-free functions (right.Spawn at c) known p h = call-free (function_named functions c.name.bytes) c known p h
 
-pub wanted-as-left : (kind : Option Kind) (r : Reading) (known : Declared) (p : check.Names) → wanted_as kind r known p ≡ [] → r.faults known p ≡ []
+pub wanted-as-left : (kind : Option Kind) (r : Reading) (known : Declared) (p : check.Names) → wanted_as kind r known p ≡ [] → r.violations known p ≡ []
 wanted-as-left None r known p h = h
 wanted-as-left (Some kind) r known p h = wanted-left kind r known p h

@@ -20,7 +20,7 @@ branch-if : (e : Expr) (first second : List Stmt) (b : Bool) → branch_of (act.
 branch-if e first second true = refl
 branch-if e first second false = refl
 
-module _ (plan : PlanView) (i : Running) (st : Stmt) (e : Expr) (v : Value) (cursor : Cursor) (known : value_of e i.top.env ≡ Ok v) where
+module _ (plan : PlanView) (i : Running) (st : Stmt) (e : Expr) (v : Value) (cursor : Cursor) (known : value_of e i.top.env.variables ≡ Ok v) where
   abbrev within : List Stmt
   within = statements_of plan i.top
 

@@ -16,8 +16,9 @@ use Rattle.strand_moves.specs.Cursors.{left_of, PassesStatement}
 use Rattle.strand_moves.specs.Moves.{acted, run_of}
 use Rattle.strand_moves.specs.Quick.{EndsFrame, IsSentMove}
 use Rattle.strand_moves.specs.Rows.{Comes, HasPassedStatement, IsNextStatement, More, Row, RunsOn, Emits, unpassed}
-use Rattle.strand_moves.specs.Running.{IsInstance, block_inside, body_of, machine_of, path_of, present_of, statements_of}
+use Rattle.strand_moves.specs.Running.{IsInstance, KeepsNames, block_inside, body_of, machine_of, path_of, present_of, statements_of}
 use Rattle.strand_moves.proofs.Statements.Going.{moves-on}
+use Rattle.strand_moves.proofs.Statements.Naming.{top-named}
 use Rattle.strand_moves.proofs.Statements.QuickLemmas.{cursor-sound, passed-on, quick-showed, with_cursor}
 use Rattle.strand_moves.proofs.OpenScopes.Keeping.{here-is, same-path, stays-instance}
 
@@ -130,12 +131,15 @@ module _ {S : Type 0} (after : Event → S → S) (plan : PlanView) (first : Run
   abbrev paid : Running
   paid = with_cursor plan i n cursor
 
+  paid-named : KeepsNames plan i paid
+  paid-named = top-named plan i paid refl refl refl
+
   sent-on : (new : Running) (heard : S) (e : Event) → heard ≡ after e sent → acted plan (present_of paid) (machine_of plan paid) st (out-Act (out-Stmt st).act) ≡ run_of (moved.Went (shown.Emitted e)) (machine_of plan new) →
-      Stays paid new → Costs paid new → RowOn after plan first start i new heard
-  sent-on new heard e is acts stays few =
+      KeepsNames plan paid new → Stays paid new → Costs paid new → RowOn after plan first start i new heard
+  sent-on new heard e is acts named stays few =
       let alike : Stays i new = record { trail = stays.trail; scopes = stays.scopes; leaving = stays.leaving } in
       let path = same-path i new alike in
-      let kept = stays-instance plan i new sound (passed-on plan i _ _ sound passes.first) alike (omega (arith, few, less)) in
+      let kept = stays-instance plan i new sound (passed-on plan i _ _ sound passes.first) alike (λ h. named (paid-named h)) (omega (arith, few, less)) in
       record {
         row = Emits i new sent heard e row (quick-showed plan i st cursor n (here-is plan i sound) passes less (Emitted e ∷ []) new acts) is path kept;
         sound = kept;
@@ -143,18 +147,18 @@ module _ {S : Type 0} (after : Event → S → S) (plan : PlanView) (first : Run
       }
 
   pub row-sent : (before : Running) → before ≡ paid → (new : Running) (heard : S) (e : Event) → heard ≡ after e sent → acted plan (present_of before) (machine_of plan before) st (out-Act (out-Stmt st).act) ≡ run_of (moved.Went (shown.Emitted e)) (machine_of plan new) →
-      Stays before new → Costs before new → RowOn after plan first start i new heard
-  row-sent before same new heard e is acts stays few =
+      KeepsNames plan before new → Stays before new → Costs before new → RowOn after plan first start i new heard
+  row-sent before same new heard e is acts named stays few =
       sent-on new heard e is
       (subst (λ (x : Running). acted plan (present_of x) (machine_of plan x) st (out-Act (out-Stmt st).act) ≡ run_of (moved.Went (shown.Emitted e)) (machine_of plan new)) same acts)
-      (subst (λ (x : Running). Stays x new) same stays) (subst (λ (x : Running). Costs x new) same few)
+      (subst (λ (x : Running). KeepsNames plan x new) same named) (subst (λ (x : Running). Stays x new) same stays) (subst (λ (x : Running). Costs x new) same few)
 
-  called-on : (new : Running) (heard : S) → heard ≡ sent → acted plan (present_of paid) (machine_of plan paid) st (out-Act (out-Stmt st).act) ≡ run_of (moved.Went shown.Nothing) (machine_of plan new) → Stays paid new → Costs paid new →
-      RowOn after plan first start i new heard
-  called-on new heard is acts stays few =
+  called-on : (new : Running) (heard : S) → heard ≡ sent → acted plan (present_of paid) (machine_of plan paid) st (out-Act (out-Stmt st).act) ≡ run_of (moved.Went shown.Nothing) (machine_of plan new) →
+      KeepsNames plan paid new → Stays paid new → Costs paid new → RowOn after plan first start i new heard
+  called-on new heard is acts named stays few =
       let alike : Stays i new = record { trail = stays.trail; scopes = stays.scopes; leaving = stays.leaving } in
       let path = same-path i new alike in
-      let kept = stays-instance plan i new sound (passed-on plan i _ _ sound passes.first) alike (omega (arith, few, less)) in
+      let kept = stays-instance plan i new sound (passed-on plan i _ _ sound passes.first) alike (λ h. named (paid-named h)) (omega (arith, few, less)) in
       record {
         row = More i new heard (subst (λ (x : S). Row after plan first start i x) (sym is) row) (quick-showed plan i st cursor n (here-is plan i sound) passes less [] new acts) path kept;
         sound = kept;
@@ -162,8 +166,8 @@ module _ {S : Type 0} (after : Event → S → S) (plan : PlanView) (first : Run
       }
 
   pub row-called : (before : Running) → before ≡ paid → (new : Running) (heard : S) → heard ≡ sent → acted plan (present_of before) (machine_of plan before) st (out-Act (out-Stmt st).act) ≡ run_of (moved.Went shown.Nothing) (machine_of plan new) →
-      Stays before new → Costs before new → RowOn after plan first start i new heard
-  row-called before same new heard is acts stays few =
+      KeepsNames plan before new → Stays before new → Costs before new → RowOn after plan first start i new heard
+  row-called before same new heard is acts named stays few =
       called-on new heard is
       (subst (λ (x : Running). acted plan (present_of x) (machine_of plan x) st (out-Act (out-Stmt st).act) ≡ run_of (moved.Went shown.Nothing) (machine_of plan new)) same acts)
-      (subst (λ (x : Running). Stays x new) same stays) (subst (λ (x : Running). Costs x new) same few)
+      (subst (λ (x : Running). KeepsNames plan x new) same named) (subst (λ (x : Running). Stays x new) same stays) (subst (λ (x : Running). Costs x new) same few)

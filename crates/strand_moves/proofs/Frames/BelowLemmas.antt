@@ -78,6 +78,14 @@ module _ (plan : PlanView) (change : Frame → Frame) (h : ℕ) (i : Running) wh
   other : (n : ℕ) → h < n ⊎ n < h → nat_eq h n ≡ false
   other n l = grind (arith, eq-eqb)
 
+  -- the innermost frame is changed
+  pub changed-innermost : (a : own.Frame) → h ≡ length i.below.items → frame_of plan i.leaving a ≡ change (frame_of plan i.leaving i.top) → record (machine_of plan i) { top = frame_of plan i.leaving a } ≡ changed h change (machine_of plan i)
+  changed-innermost a same e =
+      let m = machine_of plan i in
+      let n = length-map (reverse i.below.items) (frame_of plan false) ∙ length-reverse i.below.items in
+      let f : nat_eq h (length m.below) ≡ true = eq-eqb h (length m.below) (same ∙ sym n) in
+      ap (λ (top : Frame). record m { top = top }) e ∙ sym (ap (λ (t : Bool). if t then record m { top = change m.top } else record m { below = changed_at h change m.below }) f)
+
   -- one of the frames below is changed
   pub changed-inside : (below : List own.Frame) (old a : own.Frame) → h < length i.below.items → old ≡ get_or i.below.items h old → below ≡ set i.below.items h a → frame_of plan false a ≡ change (frame_of plan false old) →
       record (machine_of plan i) { below = map (frame_of plan false) (reverse below) } ≡ changed h change (machine_of plan i)

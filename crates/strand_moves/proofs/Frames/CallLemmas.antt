@@ -1,5 +1,5 @@
 -- Calls that begin and end, as changes of a machine.
-use Rattle.std.proofs.Common.{◌≡◌, ℕ, ◌<◌, ◌≤◌, Bool, true, false, nat_lt, List, [], ◌∷◌, ◌++◌, Option, Some, Result, Ok, Err, length, map, reverse, refl, ap, ◌∙◌, arith}
+use Rattle.std.proofs.Common.{◌≡◌, ℕ, ◌<◌, ◌≤◌, Bool, true, false, nat_lt, List, [], ◌∷◌, ◌++◌, Option, Some, None, Result, Ok, Err, length, map, reverse, refl, ap, ◌∙◌, arith}
 use Rattle.std.proofs.lemmas.List.{length-map, length-reverse, reverse-append}
 use Rattle.std.proofs.lemmas.Bool.{lt-ltb, ltb-true}
 use Rattle.script_grammar.specs.declared.tree.Name.{Name}
@@ -13,7 +13,9 @@ use Rattle.serial_meaning.specs.declared.event.FaultKind.{FaultKind}
 use Rattle.serial_meaning.specs.declared.value.Value.{Value}
 use Rattle.script_grammar.specs.declared.tree.Expr.{Expr}
 use Rattle.script_grammar.specs.declared.tree.Param.{Param}
+use Rattle.strand_meaning.specs.Machine.{Stands, begun}
 use Rattle.strand_values.specs.Changes.{called_with}
+use Rattle.strand_values.specs.Environments.{EnvironmentView}
 use Rattle.strand_moves.specs.declared.frame.Frame.{Frame}
 use Rattle.strand_moves.specs.declared.frame.Level.{Level}
 use Rattle.script_grammar.specs.declared.tree.Stmt.{Stmt}
@@ -51,8 +53,11 @@ below-more plan items a = ap (map (frame_of plan false)) (reverse-append items (
 pub scopes-more : (items : List Frame) (a : Frame) → scopes_of (reverse (items ++ a ∷ [])) ≡ reverse a.levels.items ++ scopes_of (reverse items)
 scopes-more items a = ap (λ (stack : List Frame). scopes_of stack) (reverse-append items (a ∷ []))
 
-module _ (plan : PlanView) (number : ℕ) (f : Function) (vs : List Value) (target : Option Name) where
-  pub callee-begun : (a : Frame) → IsCallee number (bound f.params vs) target a → function_at (functions_of plan) number ≡ Some f → frame_of plan false a ≡ callee target number f vs
+module _ (plan : PlanView) (number : ℕ) (f : Function) (vs : List Value) (names : List (List ℕ)) (target : Option Name) where
+  abbrev pub with_params : EnvironmentView
+  with_params = record { names = names; variables = bound f.params vs }
+
+  pub callee-begun : (a : Frame) → IsCallee number with_params target a → function_at (functions_of plan) number ≡ Some f → frame_of plan false a ≡ callee target number f vs
   callee-begun a is h =
       let text = ap (λ (ls : List Level). block_inside (body_of plan a.function) (reverse ls)) is.levels in
       let levels = ap (λ (ls : List Level). levels_of (body_of plan a.function) (reverse ls)) is.levels in
@@ -60,13 +65,18 @@ module _ (plan : PlanView) (number : ℕ) (f : Function) (vs : List Value) (targ
       ap (λ (sts : List Stmt). left_of sts a.cursor) text ∙ ap (λ (n : ℕ). left_of (body_of plan n) a.cursor) is.function ∙ ap (λ (o : Option Function). left_of (body_in o) a.cursor) h ∙ is.left f.body in
       rw (left, levels, is.function, is.returning, is.env, is.spawned, is.faulted, is.target) refl
 
-  pub machine-begun : (old new : Running) → IsCallee number (bound f.params vs) target new.top → new.below.items ≡ old.below.items ++ old.top ∷ [] → new.rank ≡ old.rank → new.steps ≡ old.steps → new.leaving ≡ old.leaving → old.leaving ≡ false →
+  pub machine-begun : (old new : Running) → IsCallee number with_params target new.top → new.below.items ≡ old.below.items ++ old.top ∷ [] → new.rank ≡ old.rank → new.steps ≡ old.steps → new.leaving ≡ old.leaving → old.leaving ≡ false →
       function_at (functions_of plan) number ≡ Some f →
       machine_of plan new ≡ record { rank = old.rank; steps = old.steps; top = callee target number f vs; below = frame_of plan old.leaving old.top ∷ map (frame_of plan false) (reverse old.below.items) }
   machine-begun old new is b r s l e h = rw (l, e, callee-begun new.top is h, b, below-more plan old.below.items old.top, r, s) refl
 
+  -- an instance before its first move
+  pub first-begun : (i : Running) → IsCallee number with_params target i.top → i.below.items ≡ [] → i.rank ≡ 0 → i.steps ≡ plan.limits.budget → i.leaving ≡ false → target ≡ None → function_at (functions_of plan) number ≡ Some f →
+      begun plan number vs ≡ Stands (machine_of plan i)
+  first-begun i is alone rank steps on to there = rw (there, on, callee-begun i.top is there, alone, rank, steps, to) refl
+
 -- a call that begins opens no scope and leaves none
-pub begun-stays : (number : ℕ) (env : Env) (target : Option Name) (old new : Running) → IsCallee number env target new.top → new.below.items ≡ old.below.items ++ old.top ∷ [] → new.trail ≡ old.trail → new.leaving ≡ old.leaving → Stays old new
+pub begun-stays : (number : ℕ) (env : EnvironmentView) (target : Option Name) (old new : Running) → IsCallee number env target new.top → new.below.items ≡ old.below.items ++ old.top ∷ [] → new.trail ≡ old.trail → new.leaving ≡ old.leaving → Stays old new
 begun-stays number env target old new is b t l =
     record {
       trail = t;
@@ -76,19 +86,26 @@ begun-stays number env target old new is b t l =
 
 -- What the variables of a callee say of its arguments
 
-bound-by : (params : List Param) (r : Result (List Value) FaultKind) (env : Env) → (r >>= λ vs. let x : Result Env FaultKind = Ok (bound params vs) in x) ≡ Ok env → (vs : List Value) × ((r ≡ Ok vs) × (env ≡ bound params vs))
-bound-by params (Ok vs) env h = (vs, (refl, (cc)))
-bound-by params (Err kind) env h = absurd (cc)
+module _ (names : List (List ℕ)) (params : List Param) where
+  abbrev with_values : List Value → EnvironmentView
+  with_values vs = record { names = names; variables = bound params vs }
 
-pub called-by : (params : List Param) (args : List Expr) (old env : Env) → called_with params args old ≡ Ok env → (vs : List Value) × ((values_of args old ≡ Ok vs) × (env ≡ bound params vs))
-called-by params args old env h = bound-by params (values_of args old) env h
+  abbrev bound_to : Result (List Value) FaultKind → Result EnvironmentView FaultKind
+  bound_to r = r >>= λ vs. Ok (with_values vs)
 
-fault-by : (params : List Param) (r : Result (List Value) FaultKind) (kind : FaultKind) → (r >>= λ vs. let x : Result Env FaultKind = Ok (bound params vs) in x) ≡ Err kind → r ≡ Err kind
-fault-by params (Ok vs) kind h = absurd (cc)
-fault-by params (Err k) kind h = let e : k ≡ kind = cc in ap Err e
+  bound-by : (r : Result (List Value) FaultKind) (env : EnvironmentView) → bound_to r ≡ Ok env → (vs : List Value) × ((r ≡ Ok vs) × (env ≡ with_values vs))
+  bound-by (Ok vs) env h = (vs, (refl, (cc)))
+  bound-by (Err kind) env h = absurd (cc)
 
-pub called-fault : (params : List Param) (args : List Expr) (old : Env) (kind : FaultKind) → called_with params args old ≡ Err kind → values_of args old ≡ Err kind
-called-fault params args old kind h = fault-by params (values_of args old) kind h
+  pub called-by : (args : List Expr) (old : Env) (env : EnvironmentView) → called_with names params args old ≡ Ok env → (vs : List Value) × ((values_of args old ≡ Ok vs) × (env ≡ with_values vs))
+  called-by args old env h = bound-by (values_of args old) env h
+
+  fault-by : (r : Result (List Value) FaultKind) (kind : FaultKind) → bound_to r ≡ Err kind → r ≡ Err kind
+  fault-by (Ok vs) kind h = absurd (cc)
+  fault-by (Err k) kind h = let e : k ≡ kind = cc in ap Err e
+
+  pub called-fault : (args : List Expr) (old : Env) (kind : FaultKind) → called_with names params args old ≡ Err kind → values_of args old ≡ Err kind
+  called-fault args old kind h = fault-by (values_of args old) kind h
 
 -- what a call that shows nothing leaves
 pub stands-quiet : (old new : Running) (r : Result (Unit {0}) values.Halt) → Stays old new → StaysUnlessMemory old new (quiet r)

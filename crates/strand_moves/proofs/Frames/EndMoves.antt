@@ -1,15 +1,23 @@
 -- Ends of frames after which the instance goes on, as moves.
-use Rattle.std.proofs.Common.{◌≡◌, Bool, true, false, Option, Some, None, Result, Ok, Err, refl, sym, ap, subst}
+use Rattle.std.proofs.Common.{◌≡◌, ◌+◌, ◌<◌, ◌≤◌, Bool, true, false, inl, inr, List, [], Option, Some, None, Result, Ok, Err, IfOk, length, reverse, refl, sym, ap, subst, ◌∙◌, arith}
 use Rattle.std.specs.Prelude.{OnOk}
+use Rattle.script_grammar.specs.declared.tree.Stmt.{Stmt}
 use Rattle.serial_meaning.specs.Plan.{PlanView}
 use Rattle.serial_meaning.specs.declared.event.Event.{Event}
 use Rattle.serial_meaning.specs.declared.event.FaultKind.{FaultKind}
+use Rattle.strand_meaning.specs.Machine.{end_move, move, move_at, return_move}
 use Rattle.strand_values.specs.declared.halt.Halt as values
 use Rattle.strand_values.specs.declared.halt.Halt.TheVariants as halt
+use Rattle.strand_moves.specs.declared.frame.Level.{Level}
 use Rattle.strand_moves.specs.declared.running.Running.{Running}
+use Rattle.strand_moves.specs.declared.effects.Effects.TheVariants as shown
+use Rattle.strand_moves.specs.declared.effects.MoveResult.TheVariants as moved
 use Rattle.strand_moves.specs.Acts.{StaysUnlessMemory, Stays}
-use Rattle.strand_moves.specs.Quick.{EndsFrame, told}
-use Rattle.strand_moves.specs.Running.{open_scopes}
+use Rattle.strand_moves.specs.Cursors.{left_of}
+use Rattle.strand_moves.specs.Moves.{Makes, present_pedigree, run_of}
+use Rattle.strand_moves.specs.Quick.{EndsFrame, IsEmittedTo, IsSentMove, IsWent, Shortens, quiet, told}
+use Rattle.strand_moves.specs.Running.{IsInstance, KeepsNames, body_of, levels_of, machine_of, open_scopes, path_of, present_of, statements_of}
+use Rattle.strand_moves.proofs.OpenScopes.Keeping.{same-path, stays-instance}
 
 -- A frame's return is paid.
 abbrev pub IsReturning : Running → Running → Type 0
@@ -33,3 +41,40 @@ module _ {S : Type 0} (after : Event → S → S) (plan : PlanView) (old new : R
 
   pub did-not-end : (did : Bool) → did ≡ false → EndsFrame after plan old from new to did → EndsFrame after plan old from new to false
   did-not-end did e h = subst (EndsFrame after plan old from new to) e h
+
+-- where no statement and no scope of a frame is left
+module _ (plan : PlanView) (i : Running) (h : IsInstance plan i) (on : i.leaving ≡ false) (none : left_of (statements_of plan i.top) i.top.cursor ≡ []) (outside : i.top.levels.items ≡ []) where
+  ends-by : (returning : Bool) → i.top.returning ≡ returning → move plan (path_of i) (machine_of plan i) ≡ return_move plan (path_of i) (machine_of plan i) returning
+  ends-by returning is =
+      let m = machine_of plan i in
+      ap (λ (left : List Stmt). move_at plan (path_of i) m left) none
+      ∙ ap (λ (ls : List Level). end_move plan (path_of i) m (levels_of (body_of plan i.top.function) (reverse ls))) outside
+      ∙ ap (λ (b : Bool). return_move plan (path_of i) m b) is
+
+  module _ {S : Type 0} (after : Event → S → S) (from to : S) (new : Running) (kept : KeepsNames plan i new) (less : new.rank + new.steps ≤ i.rank + i.steps) where
+    ends : Stays i new → IsSentMove after plan i from new to → Shortens i new → EndsFrame after plan i from new to true
+    ends stays sent shorter = (sent, stays-instance plan i new h on stays kept less, same-path i new stays, shorter)
+
+    -- its value went to the frame below
+    pub gave-back : {E : Type 0} (done : Result (Unit {0}) values.Halt) (went : Result Bool E) → IfOk went (IsWent done) → i.top.returning ≡ true →
+        Makes (return_move plan (path_of i) (machine_of plan i) true) (present_pedigree (present_of i) (machine_of plan i)) (machine_of plan new) (quiet done) →
+        ((kind : FaultKind) → done ≡ Err (halt.Fault kind) → new ≡ i) → StaysUnlessMemory i new (quiet done) → new.steps ≡ i.steps → OnOk done (length new.below.items < length i.below.items) → to ≡ from →
+        IfOk went (EndsFrame after plan i from new to)
+    gave-back done (Err e) w returning makes same stays steps fewer still = tt
+    gave-back (Ok u) (Ok went) w returning makes same stays steps fewer still =
+        subst (EndsFrame after plan i from new to) (sym w) (ends stays (inl (ends-by true returning ∙ makes, still)) (omega (arith, steps, fewer)))
+    gave-back (Err (halt.Fault kind)) (Ok went) w returning makes same stays steps fewer still = subst (EndsFrame after plan i from new to) (sym w) (same kind refl, still)
+    gave-back (Err halt.Memory) (Ok went) w returning makes same stays steps fewer still = absurd w
+
+    -- its return was paid
+    module _ (off : i.top.returning ≡ false) (is : IsReturning i new) (paid : new.steps + 1 ≡ i.steps) where
+      shorter : Shortens i new
+      shorter = let frames = ap (λ (x : Running). length x.below.items) is in omega (arith, paid, frames)
+
+      pub returned-alone : return_move plan (path_of i) (machine_of plan i) false ≡ run_of (moved.Went shown.Nothing) (machine_of plan new) → to ≡ from → EndsFrame after plan i from new to true
+      returned-alone moves still = ends (returning-stays i new is) (inl (ends-by false off ∙ moves, still)) shorter
+
+      pub returned-sent : {E : Type 0} (e : Event) (sent : Result Bool E) → return_move plan (path_of i) (machine_of plan i) false ≡ run_of (moved.Went (shown.Emitted e)) (machine_of plan new) → IfOk sent (IsEmittedTo after (Ok e) from to) →
+          IfOk sent (EndsFrame after plan i from new to)
+      returned-sent e (Ok sent) moves w = subst (EndsFrame after plan i from new to) (sym w.0) (ends (returning-stays i new is) (inr (e, ends-by false off ∙ moves, w.1)) shorter)
+      returned-sent e (Err x) moves w = tt

@@ -1,13 +1,13 @@
 -- Frames that end, as changes of an instance.
 use Rattle.std.proofs.Common.{◌≡◌, ℕ, suc, ◌+◌, true, false, List, [], ◌∷◌, ◌++◌, Option, Some, None, Ok, Err, map, reverse, refl, sym, ap, ◌∙◌, arith}
 use Rattle.std.proofs.lemmas.List.{append-nil}
-use Rattle.serial_meaning.specs.Values.{Env}
 use Rattle.serial_meaning.specs.Functions.{function_at}
 use Rattle.serial_meaning.specs.Plan.{PlanView, functions_of}
 use Rattle.serial_meaning.specs.declared.value.Value.{Value}
 use Rattle.serial_meaning.specs.declared.event.Event.TheVariants as event
 use Rattle.serial_meaning.specs.declared.event.FaultKind.{FaultKind}
 use Rattle.strand_meaning.specs.Machine.{Stands, Gives, Emitted, back, here_of, spawns_in, sync_effects, with_scalar, return_move, Effect, Machine, Reached}
+use Rattle.strand_values.specs.Environments.{EnvironmentView}
 use Rattle.strand_moves.specs.declared.frame.Frame.{Frame}
 use Rattle.strand_moves.specs.declared.running.Running.{Running}
 use Rattle.strand_moves.specs.declared.frame.Level.{Level}
@@ -45,7 +45,7 @@ module _ (plan : PlanView) (path : List ℕ) (m : Machine) where
       (ap (λ (effects : List Effect). went (Emitted (event.Sync (here_of path m ++ m.rank ∷ [])) ∷ effects) (record m { rank = m.rank + 1; steps = n; top = record m.top { returning = true; spawned = false } })) (append-nil (sync_effects m.top.spawned)))
 
 module _ (plan : PlanView) (i : Running) (here : here_of (path_of i) (machine_of plan i) ≡ present_of i) where
-  pub value-fault : (kind : FaultKind) → result_of (function_at (functions_of plan) i.top.function) i.top.env ≡ Err kind → return_move plan (path_of i) (machine_of plan i) true ≡ faults kind (present_of i ++ i.rank ∷ [])
+  pub value-fault : (kind : FaultKind) → result_of (function_at (functions_of plan) i.top.function) i.top.env.variables ≡ Err kind → return_move plan (path_of i) (machine_of plan i) true ≡ faults kind (present_of i ++ i.rank ∷ [])
   value-fault kind k =
       by_fault plan (path_of i) (machine_of plan i) (function_at (functions_of plan) i.top.function) refl kind k ∙ ap (λ (p : List ℕ). faults kind (p ++ i.rank ∷ [])) here
 
@@ -65,8 +65,8 @@ module _ (plan : PlanView) (i : Running) (here : here_of (path_of i) (machine_of
         (joined-return plan (path_of i) m n one-more spawns ∙ ap (λ (q : List ℕ). went (Emitted (event.Sync (q ++ i.rank ∷ [])) ∷ sync_effects i.top.spawned) next) here
         ∙ ap (λ (x : Running). went effects (machine_of plan x)) (sym after))
 
-module _ (plan : PlanView) (i : Running) (v : Value) (known : result_of (function_at (functions_of plan) i.top.function) i.top.env ≡ Ok v) where
-  pub value-received : (rest : List Frame) (caller : Frame) (env : Env) (new : Running) → i.below.items ≡ rest ++ caller ∷ [] → env ≡ with_scalar i.top.target v caller.env →
+module _ (plan : PlanView) (i : Running) (v : Value) (known : result_of (function_at (functions_of plan) i.top.function) i.top.env.variables ≡ Ok v) where
+  pub value-received : (rest : List Frame) (caller : Frame) (env : EnvironmentView) (new : Running) → i.below.items ≡ rest ++ caller ∷ [] → env.variables ≡ with_scalar i.top.target v caller.env.variables →
       new.rank ≡ i.rank → new.steps ≡ i.steps → new.leaving ≡ false → new.top ≡ record caller { env = env } → new.below.items ≡ rest →
       return_move plan (path_of i) (machine_of plan i) true ≡ reaches (Stands (machine_of plan new))
   value-received rest caller env new b e r s g t l =
@@ -82,7 +82,7 @@ module _ (plan : PlanView) (i : Running) (v : Value) (known : result_of (functio
       ∙ ap (λ (items : List Frame). reaches (back (map (frame_of plan false) (reverse items)) i.top.target v i.rank i.steps)) none
 
 -- the frame below it has the open scopes where it had none
-pub ended-stays : (i new : Running) (rest : List Frame) (caller : Frame) (env : Env) → i.top.levels.items ≡ [] → i.below.items ≡ rest ++ caller ∷ [] → new.top ≡ record caller { env = env } → new.below.items ≡ rest →
+pub ended-stays : (i new : Running) (rest : List Frame) (caller : Frame) (env : EnvironmentView) → i.top.levels.items ≡ [] → i.below.items ≡ rest ++ caller ∷ [] → new.top ≡ record caller { env = env } → new.below.items ≡ rest →
     new.trail ≡ i.trail → new.leaving ≡ i.leaving → Stays i new
 ended-stays i new rest caller env none b t l trail leaving =
     record {

@@ -6,6 +6,7 @@ use Rattle.serial_meaning.specs.Exec.{with_slot}
 use Rattle.serial_meaning.specs.declared.environment.Slot.{Slot}
 use Rattle.serial_meaning.specs.declared.environment.Variable.{Variable}
 use Rattle.strand_meaning.specs.Task.{replaced}
+use Rattle.strand_values.specs.Environments.{EnvironmentView, with_variables}
 
 module _ (name : List ℕ) (slot : Slot) where
   there-at : (b : Bool) (v : Variable) (vs : Env) → (IsSome (slot_of vs name) → with_slot vs name slot ≡ replaced vs name slot) → IsSome (if b then Some v.slot else slot_of vs name) →
@@ -27,9 +28,9 @@ module _ (name : List ℕ) (slot : Slot) where
   missing (v ∷ vs) none = missing-at (bytes_eq v.name name) v vs (missing vs) none
 
   -- what the environment's method promises is the meaning's change
-  pub replaces : (old new : Env) → (IsSome (slot_of old name) → new ≡ with_slot old name slot) → (IsNone (slot_of old name) → new ≡ old) → new ≡ replaced old name slot
-  replaces old new some none = by_slot (slot_of old name) refl
+  pub replaces : (old new : EnvironmentView) → (IsSome (slot_of old.variables name) → new ≡ with_variables old (with_slot old.variables name slot)) → (IsNone (slot_of old.variables name) → new ≡ old) → new ≡ with_variables old (replaced old.variables name slot)
+  replaces old new some none = by_slot (slot_of old.variables name) refl
     where
-      by_slot : (s : Option Slot) → slot_of old name ≡ s → new ≡ replaced old name slot
-      by_slot (Some s) e = let found : IsSome (slot_of old name) = rw e refl in some found ∙ there old found
-      by_slot None e = let lost : IsNone (slot_of old name) = rw e refl in none lost ∙ missing old lost
+      by_slot : (s : Option Slot) → slot_of old.variables name ≡ s → new ≡ with_variables old (replaced old.variables name slot)
+      by_slot (Some s) e = let found : IsSome (slot_of old.variables name) = rw e refl in some found ∙ ap (λ (vs : Env). with_variables old vs) (there old.variables found)
+      by_slot None e = let lost : IsNone (slot_of old.variables name) = rw e refl in none lost ∙ ap (λ (vs : Env). with_variables old vs) (missing old.variables lost)

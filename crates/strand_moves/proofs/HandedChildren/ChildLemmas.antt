@@ -7,7 +7,7 @@ use Rattle.script_grammar.specs.declared.tree.Expr.{Expr}
 use Rattle.script_grammar.specs.declared.tree.CallText.{CallText}
 use Rattle.script_grammar.specs.declared.tree.Stmt.{Stmt}
 use Rattle.script_grammar.specs.declared.tree.Act.TheOpen as act
-use Rattle.serial_meaning.specs.Values.{Env, value_of, values_of, number}
+use Rattle.serial_meaning.specs.Values.{value_of, values_of, number}
 use Rattle.serial_meaning.specs.Functions.{number_of, function_at}
 use Rattle.serial_meaning.specs.Plan.{PlanView, functions_of}
 use Rattle.serial_meaning.specs.Exec.{count_of, filled}
@@ -16,6 +16,7 @@ use Rattle.serial_meaning.specs.declared.value.Value.{Value}
 use Rattle.serial_meaning.specs.declared.event.Event.TheVariants as event
 use Rattle.serial_meaning.specs.declared.origin.Origin.TheVariants as origin
 use Rattle.strand_meaning.specs.Machine.{Spawned, Emitted, Handed, with_scalar}
+use Rattle.strand_values.specs.Environments.{EnvironmentView, with_variables}
 use Rattle.strand_moves.specs.declared.running.Running.{Running}
 use Rattle.strand_moves.specs.declared.effects.Effects.{Effects}
 use Rattle.strand_moves.specs.declared.effects.Effects.TheVariants as shown
@@ -31,23 +32,23 @@ abbrev pub strand_at : Running → List ℕ
 strand_at i = present_of i ++ i.rank ∷ []
 
 module _ (plan : PlanView) (i : Running) (st : Stmt) where
-  pub spawned-child : (target : Option Name) (c : CallText) (vs : List Value) (instead : Value) (function height : ℕ) (at path : List ℕ) (to : Option Name) (env : Env) (received : Running) →
-      values_of c.args i.top.env ≡ Ok vs → length (present_of i) + 1 < plan.limits.depth → function ≡ number_of (functions_of plan) c.name.bytes → at ≡ strand_at i → path ≡ strand_at i →
-      instead ≡ answer_filler (function_at (functions_of plan) function) → env ≡ with_scalar target instead i.top.env → received ≡ record i { top = record i.top { env = env } } →
+  pub spawned-child : (target : Option Name) (c : CallText) (vs : List Value) (instead : Value) (function height : ℕ) (at path : List ℕ) (to : Option Name) (env : EnvironmentView) (received : Running) →
+      values_of c.args i.top.env.variables ≡ Ok vs → length (present_of i) + 1 < plan.limits.depth → function ≡ number_of (functions_of plan) c.name.bytes → at ≡ strand_at i → path ≡ strand_at i →
+      instead ≡ answer_filler (function_at (functions_of plan) function) → env.variables ≡ with_scalar target instead i.top.env.variables → received ≡ record i { top = record i.top { env = env } } →
       height ≡ length i.below.items → to ≡ target →
       acted plan (present_of i) (machine_of plan i) st (spawn_to target c)
       ≡ went (Emitted (event.Spawn at) ∷ Handed (origin.Instance function vs path) (Spawned height to) ∷ []) (machine_of plan (record received { rank = received.rank + 1; top = record received.top { spawned = true } }))
   spawned-child target c vs instead function height at path to env received known room number a p filler e r h t =
       let deep = is_below (length (present_of i) + 1) plan.limits.depth room in
       let put = rw (filler, number) at e in
-      rw (number, a, p, r, h ∙ sym (calls-open plan i), t) (spawn plan (present_of i) (machine_of plan i) st target c vs env known deep put)
+      rw (number, a, p, r, h ∙ sym (calls-open plan i), t) (spawn plan (present_of i) (machine_of plan i) st target c vs env.variables known deep put)
 
   module _ (var : Name) (lo hi : Expr) (target : Option Name) (c : CallText) (l h : Value) (vs : List Value) (n steps : ℕ) (begun : Running)
-      (known-lo : value_of lo i.top.env ≡ Ok l) (known-hi : value_of hi i.top.env ≡ Ok h) (known-args : values_of c.args i.top.env ≡ Ok vs)
-      (counted : n ≡ count_of (number h -ℤ number l)) (begins : loop_begins plan (present_of i) n target i.top.env i.steps ≡ Ok tt)
+      (known-lo : value_of lo i.top.env.variables ≡ Ok l) (known-hi : value_of hi i.top.env.variables ≡ Ok h) (known-args : values_of c.args i.top.env.variables ≡ Ok vs)
+      (counted : n ≡ count_of (number h -ℤ number l)) (begins : loop_begins plan (present_of i) n target i.top.env.variables i.steps ≡ Ok tt)
       (paid : steps + n ≡ i.steps) (is-begun : begun ≡ record i { steps = steps }) where
     abbrev pub passed_on : Running
-    passed_on = record begun { rank = begun.rank + 1; top = record begun.top { env = filled target [] begun.top.env } }
+    passed_on = record begun { rank = begun.rank + 1; top = record begun.top { env = with_variables begun.top.env (filled target [] begun.top.env.variables) } }
 
     left : i.steps - n ≡ steps
     left = omega arith

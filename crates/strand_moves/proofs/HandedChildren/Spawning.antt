@@ -23,7 +23,7 @@ use Rattle.strand_moves.specs.declared.effects.Effects.TheVariants as shown
 use Rattle.strand_moves.specs.Acts.{Acts, Costs, IsKept, Stays}
 use Rattle.strand_moves.specs.Moves.{Makes, acted, spawn_to, present_pedigree}
 use Rattle.strand_moves.specs.Rows.{HasPassedStatement}
-use Rattle.strand_moves.specs.Running.{IsInstance, machine_of, path_of, present_of}
+use Rattle.strand_moves.specs.Running.{IsInstance, KeepsNames, machine_of, path_of, present_of}
 use Rattle.strand_moves.specs.Spawns.{DoesAs, HasSpawned, handed}
 use Rattle.strand_moves.proofs.Cursors.Passing.{next-moves}
 use Rattle.strand_moves.proofs.OpenScopes.Exits.{shows-exit}
@@ -64,8 +64,8 @@ module _ (i : Running) (n : ℕ) (less : n + 1 ≡ i.steps) where
   spawn-undone last e = ap (λ (x : Running). let r : Running = record x { steps = x.steps + 1 } in r) e ∙ ap (λ (k : ℕ). let r : Running = record i { steps = k } in r) less
 
   module _ (plan : PlanView) (sound : IsInstance plan i) (st : Stmt) (passed : HasPassedStatement plan i (Some st)) (new : Running) where
-    pub spawn-kept : Stays paid new → Costs paid new → IsKept plan i new
-    spawn-kept stays few = keeps-paid plan i paid n sound passed.0 refl less new stays few (Ok (moved.Went shown.Nothing))
+    pub spawn-kept : KeepsNames plan paid new → Stays paid new → Costs paid new → IsKept plan i new
+    spawn-kept named stays few = keeps-paid plan i paid n sound passed.0 refl less new named stays few (Ok (moved.Went shown.Nothing))
 
     pub spawn-did : (to : Option Name) (c : CallText) → DoesAs st to c → (done : Result Spawning values.Halt) (s : Spawning) → done ≡ Ok s → Acts plan st (spawn_to to c) paid new (handed done) → HasSpawned plan i (Some st) new (Some s)
     spawn-did to c does done s is acts =

@@ -1,12 +1,15 @@
 -- Open scopes, and what moves keep of an instance.
-use Rattle.std.proofs.Common.{◌≡◌, ℕ, zero, suc, ◌+◌, ◌<◌, ◌≤◌, ◌^◌, Bool, false, List, [], ◌∷◌, ◌++◌, Result, Ok, Err, IfOk, map, reverse, length, get_or, set, refl, sym, ap, subst, ◌∙◌, arith, if◌then◌else◌}
+use Rattle.std.proofs.Common.{◌≡◌, ℕ, zero, suc, ◌+◌, ◌<◌, ◌≤◌, ◌^◌, Bool, false, List, [], ◌∷◌, ◌++◌, Option, Result, Ok, Err, IfOk, map, reverse, length, get_or, set, refl, sym, ap, subst, ◌∙◌, arith, if◌then◌else◌}
 use Rattle.std.proofs.lemmas.List.{append_assoc, get_or_default, reverse-append}
+use Rattle.std.proofs.lemmas.List.Elements.{All-cons, All-nil, All-same}
 use Rattle.dotmix.specs.Trails.{FitsGamma}
 use Rattle.dotmix.specs.declared.trail.Trail.{Trail}
 use Rattle.script_grammar.specs.declared.tree.Stmt.{Stmt}
 use Rattle.serial_meaning.specs.Plan.{PlanView}
+use Rattle.serial_meaning.specs.declared.event.Fault.{Fault}
 use Rattle.serial_meaning.specs.declared.event.FaultKind.{FaultKind}
 use Rattle.strand_meaning.specs.Machine.{here_of, inside_of, present}
+use Rattle.strand_values.specs.Environments.{EnvironmentView}
 use Rattle.strand_values.specs.declared.halt.Halt as values
 use Rattle.strand_values.specs.declared.halt.Halt.TheVariants as halt
 use Rattle.strand_moves.specs.declared.frame.Frame.{Frame}
@@ -14,7 +17,8 @@ use Rattle.strand_moves.specs.declared.frame.Level.{Level}
 use Rattle.strand_moves.specs.declared.running.Running.{Running}
 use Rattle.strand_moves.specs.declared.effects.MoveResult.{MoveResult}
 use Rattle.strand_moves.specs.Acts.{Costs, GoesIn, Keeps, StaysUnlessMemory, Stays}
-use Rattle.strand_moves.specs.Running.{AreAround, IsInstance, IsStrand, frame_of, body_of, levels_of, machine_of, rank_bound, open_scopes, path_around, path_of, present_of, ranks_after, scopes_of}
+use Rattle.strand_moves.specs.Running.{AreAround, IsInstance, IsNamed, IsStrand, KeepsNames, frame_of, body_of, levels_of, machine_of, rank_bound, open_scopes, path_around, path_of, present_of, ranks_after, scopes_of}
+use Rattle.strand_moves.proofs.Statements.Naming.{top-named}
 
 -- Paths
 
@@ -68,7 +72,7 @@ same-path old new s = ap (λ (ls : List Level). path_around ls new.trail.path) s
 going-on : (b : Bool) (n : ℕ) → b ≡ false → (if b then 0 else n) ≡ n
 going-on b n e = ap (λ (t : Bool). if t then 0 else n) e
 
-module _ (plan : PlanView) (old new : Running) (h : IsInstance plan old) (on : old.leaving ≡ false) (s : Stays old new) (less : new.rank + new.steps ≤ old.rank + old.steps) where
+module _ (plan : PlanView) (old new : Running) (h : IsInstance plan old) (on : old.leaving ≡ false) (s : Stays old new) (kept : KeepsNames plan old new) (less : new.rank + new.steps ≤ old.rank + old.steps) where
   stays-few : rank_bound new < 2 ^ 32
   stays-few =
       let few = h.few in
@@ -94,12 +98,19 @@ module _ (plan : PlanView) (old new : Running) (h : IsInstance plan old) (on : o
         few = stays-few;
         around = subst (λ (ls : List Level). AreAround plan ls new.trail.path) (sym s.scopes) (subst (λ (t : Trail). AreAround plan (open_scopes old) t.path) (sym s.trail) h.around);
         leaving = λ e. let no = s.leaving ∙ on in absurd (cc);
+        named = kept h.named;
       }
 
   pub keeps-stays : (result : Result MoveResult values.Halt) → Keeps plan old new result
   keeps-stays (Ok moved) = record { instance = stays-instance; path = same-path old new s }
   keeps-stays (Err (halt.Fault kind)) = (record { instance = stays-instance; path = same-path old new s }, s.trail)
   keeps-stays (Err halt.Memory) = tt
+
+-- the same where there may have been no memory
+pub keeps-where : (plan : PlanView) (old new : Running) → IsInstance plan old → old.leaving ≡ false → KeepsNames plan old new → new.rank + new.steps ≤ old.rank + old.steps → (result : Result MoveResult values.Halt) → StaysUnlessMemory old new result → Keeps plan old new result
+keeps-where plan old new h on kept less (Ok moved) s = keeps-stays plan old new h on s kept less (Ok moved)
+keeps-where plan old new h on kept less (Err (halt.Fault kind)) s = keeps-stays plan old new h on s kept less (Err (halt.Fault kind))
+keeps-where plan old new h on kept less (Err halt.Memory) s = tt
 
 pub stands-still : (old new : Running) → Stays old new → (result : Result MoveResult values.Halt) → StaysUnlessMemory old new result
 stands-still old new s (Ok moved) = s
@@ -120,16 +131,19 @@ module _ (plan : PlanView) (old paid : Running) (n : ℕ) (h : IsInstance plan o
   paid-costs : (new : Running) → Costs paid new → new.rank + new.steps ≤ old.rank + old.steps
   paid-costs new c = let P : Running → Type 0 = λ x. Costs x new in let d = subst P is-paid c in omega (arith, d, less)
 
-  pub keeps-paid : (new : Running) → Stays paid new → Costs paid new → (result : Result MoveResult values.Halt) → Keeps plan old new result
-  keeps-paid new s c result = keeps-stays plan old new h on (paid-stays new s) (paid-costs new c) result
+  paid-kept : (new : Running) → KeepsNames plan paid new → KeepsNames plan old new
+  paid-kept new kept = let P : Running → Type 0 = λ x. KeepsNames plan x new in subst P is-paid kept
 
-  pub keeps-unless : (new : Running) → Costs paid new → (result : Result MoveResult values.Halt) → StaysUnlessMemory paid new result → Keeps plan old new result
-  keeps-unless new c (Ok moved) s = keeps-paid new s c (Ok moved)
-  keeps-unless new c (Err (halt.Fault kind)) s = keeps-paid new s c (Err (halt.Fault kind))
-  keeps-unless new c (Err halt.Memory) s = tt
+  pub keeps-paid : (new : Running) → KeepsNames plan paid new → Stays paid new → Costs paid new → (result : Result MoveResult values.Halt) → Keeps plan old new result
+  keeps-paid new kept s c result = keeps-stays plan old new h on (paid-stays new s) (paid-kept new kept) (paid-costs new c) result
 
-  into-instance : (new : Running) → GoesIn plan (record old { steps = n }) new → IsInstance plan new
-  into-instance new g =
+  pub keeps-unless : (new : Running) → KeepsNames plan paid new → Costs paid new → (result : Result MoveResult values.Halt) → StaysUnlessMemory paid new result → Keeps plan old new result
+  keeps-unless new kept c (Ok moved) s = keeps-paid new kept s c (Ok moved)
+  keeps-unless new kept c (Err (halt.Fault kind)) s = keeps-paid new kept s c (Err (halt.Fault kind))
+  keeps-unless new kept c (Err halt.Memory) s = tt
+
+  into-instance : (new : Running) → KeepsNames plan old new → GoesIn plan (record old { steps = n }) new → IsInstance plan new
+  into-instance new kept g =
       let few = h.few in
       let before = going-on old.leaving old.rank on in
       let after = going-on new.leaving new.rank (g.leaving ∙ on) in
@@ -141,21 +155,22 @@ module _ (plan : PlanView) (old paid : Running) (n : ℕ) (h : IsInstance plan o
         few = omega (arith, few, before, after, ranks, rank, steps, less);
         around = subst (λ (ls : List Level). AreAround plan ls new.trail.path) (sym g.scopes) (g.path, h.strand.fits, h.around);
         leaving = λ e. let no = g.leaving ∙ on in absurd (cc);
+        named = kept h.named;
       }
 
-  keeps-into-at : (new : Running) (result : Result MoveResult values.Halt) → IfOk result (λ _. GoesIn plan (record old { steps = n }) new) → ((kind : FaultKind) → result ≡ Err (halt.Fault kind) → new ≡ record old { steps = n }) → Keeps plan old new result
-  keeps-into-at new (Ok moved) g same = record { instance = into-instance new g; path = ap (λ (ls : List Level). path_around ls new.trail.path) g.scopes }
-  keeps-into-at new (Err (halt.Fault kind)) g same =
+  keeps-into-at : (new : Running) → KeepsNames plan old new → (result : Result MoveResult values.Halt) → IfOk result (λ _. GoesIn plan (record old { steps = n }) new) → ((kind : FaultKind) → result ≡ Err (halt.Fault kind) → new ≡ record old { steps = n }) → Keeps plan old new result
+  keeps-into-at new kept (Ok moved) g same = record { instance = into-instance new kept g; path = ap (λ (ls : List Level). path_around ls new.trail.path) g.scopes }
+  keeps-into-at new kept (Err (halt.Fault kind)) g same =
       let s : Stays old new = subst (λ (x : Running). Stays old x) (sym (same kind refl)) (record { trail = refl; scopes = refl; leaving = refl }) in
       let rank = ap (λ (x : Running). x.rank) (same kind refl) in
       let steps = ap (λ (x : Running). x.steps) (same kind refl) in
-      keeps-stays plan old new h on s (omega (arith, rank, steps, less)) (Err (halt.Fault kind))
-  keeps-into-at new (Err halt.Memory) g same = tt
+      keeps-stays plan old new h on s kept (omega (arith, rank, steps, less)) (Err (halt.Fault kind))
+  keeps-into-at new kept (Err halt.Memory) g same = tt
 
-  pub keeps-into : (new : Running) (result : Result MoveResult values.Halt) → IfOk result (λ _. GoesIn plan paid new) → ((kind : FaultKind) → result ≡ Err (halt.Fault kind) → new ≡ paid) → Keeps plan old new result
-  keeps-into new result g same =
+  pub keeps-into : (new : Running) → KeepsNames plan paid new → (result : Result MoveResult values.Halt) → IfOk result (λ _. GoesIn plan paid new) → ((kind : FaultKind) → result ≡ Err (halt.Fault kind) → new ≡ paid) → Keeps plan old new result
+  keeps-into new kept result g same =
       let P : Running → Type 0 = λ x. IfOk result (λ _. GoesIn plan x new) in
-      keeps-into-at new result (subst P is-paid g) (λ kind e. same kind e ∙ is-paid)
+      keeps-into-at new (paid-kept new kept) result (subst P is-paid g) (λ kind e. same kind e ∙ is-paid)
 
 -- An instance of which frames were changed, but for their places
 
@@ -171,6 +186,31 @@ module _ (i : Running) (below : List Frame) (same : scopes_of (reverse below) �
 
   pub changed-around : (plan : PlanView) → AreAround plan (open_scopes i) i.trail.path → AreAround plan (scopes_of (i.top ∷ reverse below)) i.trail.path
   changed-around plan h = subst (λ (ls : List Level). AreAround plan ls i.trail.path) (sym changed-scopes) h
+
+-- an instance before its first move
+pub first-sound : (plan : PlanView) (i : Running) → FitsGamma plan.gamma i.trail → length i.trail.path < length plan.gamma → i.rank ≡ 0 → i.steps < 2 ^ 32 → i.leaving ≡ false → i.top.levels.items ≡ [] → i.below.items ≡ [] → IsNamed plan i.top → IsInstance plan i
+first-sound plan i fits within rank steps on none alone named =
+    let scopes : open_scopes i ≡ [] = ap (λ (ls : List Level). reverse ls ++ scopes_of (reverse i.below.items)) none ∙ ap (λ (below : List Frame). scopes_of (reverse below)) alone in
+    let ranks : ranks_after (open_scopes i) ≡ 0 = ap (λ (ls : List Level). ranks_after ls) scopes in
+    let here = going-on i.leaving i.rank on in
+    record {
+      strand = record { fits = fits; within = within; few = omega (arith, rank) };
+      few = omega (arith, here, rank, ranks, steps);
+      around = subst (λ (ls : List Level). AreAround plan ls i.trail.path) (sym scopes) tt;
+      leaving = λ e. absurd (cc);
+      named = All-cons (IsNamed plan) i.top i.below.items named (All-same (IsNamed plan) i.below.items [] alone (All-nil (IsNamed plan)));
+    }
+
+-- the innermost has other variables, or took a fault
+pub innermost-sound : (plan : PlanView) (i : Running) (env : EnvironmentView) (faulted : Option Fault) → env.names ≡ i.top.env.names → IsInstance plan i → IsInstance plan (record i { top = record i.top { env = env; faulted = faulted } })
+innermost-sound plan i env faulted names h =
+    record {
+      strand = record { fits = h.strand.fits; within = h.strand.within; few = h.strand.few };
+      few = h.few;
+      around = h.around;
+      leaving = h.leaving;
+      named = top-named plan i (record i { top = record i.top { env = env; faulted = faulted } }) refl refl names h.named;
+    }
 
 -- the scopes of a frame that is replaced by one with the same
 pub scopes-replaced : (xs : List Frame) (h : ℕ) (old a : Frame) → h < length xs → old ≡ get_or xs h old → a.levels.items ≡ old.levels.items → scopes_of (reverse (set xs h a)) ≡ scopes_of (reverse xs)

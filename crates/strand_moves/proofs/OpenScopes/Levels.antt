@@ -10,7 +10,7 @@ use Rattle.script_grammar.specs.declared.tree.Act.TheOpen as act
 use Rattle.script_grammar.specs.declared.tree.Act.TheOpen.{Act-F}
 use Rattle.serial_meaning.specs.Plan.{PlanView}
 use Rattle.serial_meaning.specs.declared.event.Event.TheVariants as event
-use Rattle.strand_meaning.specs.Machine.{Opens, Closes, Machine, Emitted, Effect, end_move, here_of, inside_of, level_move, move, move_at, present, return_move, sync_effects}
+use Rattle.strand_meaning.specs.Machine.{Opens, Closes, Machine, Emitted, Effect, end_move, here_of, inside_of, level_move, present, sync_effects}
 use Rattle.strand_meaning.specs.Machine as meaning
 use Rattle.strand_moves.specs.declared.frame.Level.{Level}
 use Rattle.strand_moves.specs.declared.cursor.Cursor.{Cursor}
@@ -22,6 +22,7 @@ use Rattle.strand_moves.proofs.Frames.CallLemmas.{is_below}
 use Rattle.strand_moves.specs.Running.{AreAround, IsInstance, body_of, block_inside, levels_of, machine_of, open_scopes, path_around, path_of, present_of, ranks_after, scopes_of, statements_of}
 use Rattle.strand_moves.proofs.Statements.Equations.{scope, went}
 use Rattle.strand_moves.proofs.OpenScopes.Keeping.{here-is}
+use Rattle.strand_moves.proofs.Statements.Naming.{top-named}
 
 module _ (plan : PlanView) (path : List ℕ) (m : Machine) where
   module _ (l : meaning.Level) (ls : List meaning.Level) (there : m.top.levels ≡ l ∷ ls) where
@@ -115,6 +116,7 @@ module _ (plan : PlanView) (i : Running) (h : IsInstance plan i) where
           few = omega (arith, few, was, is, left);
           around = subst (λ (ls : List Level). AreAround plan ls l.trail.path) (sym scopes) stands.2;
           leaving = λ e. absurd (cc);
+          named = top-named plan i (record i { trail = l.trail; rank = l.rank + 1; leaving = false; top = record i.top { levels = new.top.levels; cursor = l.cursor } }) refl refl refl h.named;
         }
 
     pub out-kept : (new : Running) → IsOut new → IsKept plan i new
@@ -152,6 +154,7 @@ module _ (plan : PlanView) (i : Running) (h : IsInstance plan i) where
             few = omega (arith, few);
             around = h.around;
             leaving = λ e. (none, some);
+            named = top-named plan i joined refl refl refl h.named;
           };
           path = refl;
         }

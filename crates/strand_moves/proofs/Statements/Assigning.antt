@@ -14,6 +14,7 @@ use Rattle.serial_meaning.specs.declared.value.Value.{Value}
 use Rattle.serial_meaning.specs.declared.value.Value.TheVariants.{Int}
 use Rattle.serial_meaning.specs.declared.event.FaultKind.{FaultKind}
 use Rattle.strand_values.specs.Changes.{assigned}
+use Rattle.strand_values.specs.Environments.{EnvironmentView, with_variables}
 use Rattle.strand_values.specs.declared.halt.Halt as values
 use Rattle.strand_values.specs.declared.halt.Halt.TheVariants as halt
 use Rattle.strand_moves.specs.declared.running.Running.{Running}
@@ -21,6 +22,7 @@ use Rattle.strand_moves.specs.Acts.{Acts}
 use Rattle.strand_moves.specs.Running.{machine_of, present_of}
 use Rattle.strand_moves.specs.Quick.{quiet}
 use Rattle.strand_moves.proofs.Statements.Equations.{set-value, set-value-fault}
+use Rattle.strand_moves.proofs.Statements.Naming.{variables-are}
 
 pub on-err : {E : Type 0} (r : Result (Unit {0}) E) (e : E) (P : Type 0) → OnErr r P → r ≡ Err e → P
 on-err (Ok u) e P h k = absurd (cc)
@@ -34,19 +36,24 @@ given-fault : (d : Val) (f : Value → Env) (kind : FaultKind) → (d >>= λ v. 
 given-fault (Ok v) f kind h = absurd (cc)
 given-fault (Err k) f kind h = let e : k ≡ kind = cc in ap Err e
 
-pub assigned-acts : (plan : PlanView) (i : Running) (env : Env) (st : Stmt) (x : Name) (e : Expr) (r : Result (Unit {0}) values.Halt) → OnOk r (assigned i.top.env x e ≡ Ok env) →
-    ((kind : FaultKind) → r ≡ Err (halt.Fault kind) → assigned i.top.env x e ≡ Err kind) →
+pub assigned-acts : (plan : PlanView) (i : Running) (env : EnvironmentView) (st : Stmt) (x : Name) (e : Expr) (r : Result (Unit {0}) values.Halt) → OnOk r (assigned i.top.env.variables x e ≡ Ok env.variables) →
+    ((kind : FaultKind) → r ≡ Err (halt.Fault kind) → assigned i.top.env.variables x e ≡ Err kind) →
     Acts plan st (act.Set x (right.Value e)) i (record i { top = record i.top { env = env } }) (quiet r)
 assigned-acts plan i env st x e (Ok u) ok fault =
-    let known = given-known (value_of e i.top.env) (λ (v : Value). with_slot i.top.env x.bytes (Scalar v)) env ok in
-    set-value plan (present_of i) (machine_of plan i) st x e known.0 env known.1.0 known.1.1
+    let old = i.top.env.variables in
+    let known = given-known (value_of e old) (λ (v : Value). with_slot old x.bytes (Scalar v)) env.variables ok in
+    set-value plan (present_of i) (machine_of plan i) st x e known.0 env.variables known.1.0 known.1.1
 assigned-acts plan i env st x e (Err (halt.Fault kind)) ok fault =
-    set-value-fault plan (present_of i) (machine_of plan i) st x e kind (given-fault (value_of e i.top.env) (λ (v : Value). with_slot i.top.env x.bytes (Scalar v)) kind (fault kind refl))
+    let old = i.top.env.variables in
+    set-value-fault plan (present_of i) (machine_of plan i) st x e kind (given-fault (value_of e old) (λ (v : Value). with_slot old x.bytes (Scalar v)) kind (fault kind refl))
 assigned-acts plan i env st x e (Err halt.Memory) ok fault = tt
 
 pub assigned-number : (env new : Env) (x : Name) (e : Expr) (n : ℤ) → value_of e env ≡ Ok (Int n) → new ≡ with_slot env x.bytes (Scalar (Int n)) → assigned env x e ≡ Ok new
 assigned-number env new x e n is set = ap (λ (d : Val). d >>= λ v. Ok (with_slot env x.bytes (Scalar v))) is ∙ ap Ok (sym set)
 
-pub number-acts : (plan : PlanView) (i : Running) (env : Env) (st : Stmt) (x : Name) (e : Expr) (n : ℤ) → value_of e i.top.env ≡ Ok (Int n) → env ≡ with_slot i.top.env x.bytes (Scalar (Int n)) →
+pub number-acts : (plan : PlanView) (i : Running) (env : EnvironmentView) (st : Stmt) (x : Name) (e : Expr) (n : ℤ) → value_of e i.top.env.variables ≡ Ok (Int n) →
+    env ≡ with_variables i.top.env (with_slot i.top.env.variables x.bytes (Scalar (Int n))) →
     Acts plan st (act.Set x (right.Value e)) i (record i { top = record i.top { env = env } }) (quiet (Ok tt))
-number-acts plan i env st x e n is set = assigned-acts plan i env st x e (Ok tt) (assigned-number i.top.env env x e n is set) (λ kind h. absurd (cc))
+number-acts plan i env st x e n is set =
+    let old = i.top.env in
+    assigned-acts plan i env st x e (Ok tt) (assigned-number old.variables env.variables x e n is (variables-are env old (with_slot old.variables x.bytes (Scalar (Int n))) set)) (λ kind h. absurd (cc))

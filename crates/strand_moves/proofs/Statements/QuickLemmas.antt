@@ -20,6 +20,7 @@ use Rattle.strand_moves.specs.Quick.{HasCalled, HasEmitted, IsDone, IsQuiet, IsE
 use Rattle.strand_moves.proofs.Statements.Equations.{paid-move}
 use Rattle.strand_moves.proofs.Statements.Equations as equations
 use Rattle.strand_moves.proofs.Statements.Going.{moves-on}
+use Rattle.strand_moves.proofs.Statements.Naming.{top-named}
 
 -- nothing that is shown is no child
 pub quiet-child : (plan : PlanView) (done : Result (Unit {0}) values.Halt) → IfOk (quiet done) (MovesTrail plan)
@@ -176,4 +177,5 @@ module _ (plan : PlanView) (i : Running) where
         few = h.few;
         around = h.around;
         leaving = λ e. (none e, (h.leaving e).1);
+        named = top-named plan i (with_cursor i.steps cursor) refl refl refl h.named;
       }

@@ -1,25 +1,14 @@
 // Expressions and writes on small environments.
 
+use super::frame::{Frame, NAMES, name};
 use super::same;
 use ped_path::{Ped, Pedigree};
-use script_grammar::{
-    Boxed, Comparison, Expr, Items, Kind, Name, NameText, Number, Param, ProductPart, ProductSign,
-    SumPart,
-};
+use script_grammar::{Boxed, Comparison, Expr, Items, Number, ProductPart, ProductSign, SumPart};
 use serial_meaning::{FaultKind, Value};
 use std::alloc::Global;
 use std::process::Abort;
 use std::test::Fail;
-use strand_values::{Environment, Halt, count, is_true, iterations, number};
-
-/// A name of the first 32 bytes of a text.
-fn name(text: &str) -> Name {
-    let bytes = text.as_bytes();
-    Name {
-        bytes: NameText::of(&bytes[..bytes.len().min(32)]),
-        at: 0,
-    }
-}
+use strand_values::{Halt, count, is_true, iterations, number};
 
 fn int(value: i64) -> Expr {
     Expr::Number(Number { at: 0, value })
@@ -59,13 +48,6 @@ fn divided(alloc: Global) -> Result<Expr, Fail> {
     product(alloc, int(1), ProductSign::Over, int(0))
 }
 
-fn param(kind: Kind, text: &str) -> Param {
-    Param {
-        kind,
-        name: name(text),
-    }
-}
-
 /// The object with the pedigree of this one rank.
 fn object(alloc: Global, rank: u32) -> Result<Value, Fail> {
     Ok(Value::Id(Pedigree {
@@ -74,40 +56,25 @@ fn object(alloc: Global, rank: u32) -> Result<Value, Fail> {
     }))
 }
 
-static PARAMS: [(Kind, &str); 3] = [(Kind::Int, "n"), (Kind::Id, "early"), (Kind::Id, "late")];
-
-fn params(alloc: Global) -> Result<Vec<Param>, Fail> {
-    let mut params = Vec::new(alloc);
-    for &(kind, text) in &PARAMS {
-        params.push(param(kind, text))?;
-    }
-    Ok(params)
-}
-
-fn args(alloc: Global) -> Result<Vec<Value>, Fail> {
-    let mut args = Vec::new(alloc);
-    args.push(Value::Int(7))?;
-    for rank in [2, 5] {
-        args.push(object(alloc, rank)?)?;
-    }
-    Ok(args)
-}
-
 /// An Int `n` of 7, the objects `early` and `late`, and an array `a` of three zeros.
-fn environment(alloc: Global) -> Result<Environment, Fail> {
-    let mut environment = Environment::bound(alloc, &params(alloc)?, &args(alloc)?, 0)?;
+fn environment(alloc: Global) -> Result<Frame, Fail> {
+    let mut environment = Frame::new(alloc)?;
+    environment.set(alloc, &name("n"), Value::Int(7))?;
+    for (text, rank) in [("early", 2), ("late", 5)] {
+        environment.set(alloc, &name(text), object(alloc, rank)?)?;
+    }
     environment.set_array(alloc, &name("a"), 3)?;
     Ok(environment)
 }
 
 /// The integer that an expression gives there, or its fault.
 fn told(alloc: Global, e: Expr) -> Result<Result<i64, FaultKind>, Fail> {
-    told_in(&environment(alloc)?, &e)
+    told_in(alloc, &environment(alloc)?, &e)
 }
 
 /// The same in this environment.
-fn told_in(environment: &Environment, e: &Expr) -> Result<Result<i64, FaultKind>, Fail> {
-    match environment.value(e) {
+fn told_in(alloc: Global, environment: &Frame, e: &Expr) -> Result<Result<i64, FaultKind>, Fail> {
+    match environment.value(alloc, e)? {
         Ok(value) => Ok(Ok(number(&value))),
         Err(Halt::Fault(kind)) => Ok(Err(kind)),
         Err(halt) => Err(halt)?,
@@ -215,7 +182,12 @@ fn all_but_0_hold(rt: HostRuntime) -> Result<(), Fail> {
     let environment = environment(rt.alloc())?;
     for (number, holds) in [(0, false), (1, true), (-1, true)] {
         same(&rt, number, is_true(&Value::Int(number)), holds);
-        same(&rt, number, environment.holds(&int(number))?, holds);
+        same(
+            &rt,
+            number,
+            environment.holds(rt.alloc(), &int(number))?,
+            holds,
+        );
     }
     Ok(())
 }
@@ -319,12 +291,9 @@ fn ids_are_older_by_their_pedigrees(rt: HostRuntime) -> Result<(), Fail> {
 }
 
 /// The array `a` with 9 as its last item.
-fn with_nine(alloc: Global) -> Result<Environment, Fail> {
+fn with_nine(alloc: Global) -> Result<Frame, Fail> {
     let mut environment = environment(alloc)?;
-    let a = name("a");
-    if environment.item(&a, 2).is_some() {
-        environment.set_item(&a, 2, &Value::Int(9));
-    }
+    environment.set_item(alloc, &name("a"), 2, 9)?;
     Ok(environment)
 }
 
@@ -338,13 +307,13 @@ static ITEMS: [(i64, Result<i64, FaultKind>); 4] = [
 /// The item of `a` is this, and so is what its expression gives.
 fn reads(
     rt: &(impl Abort + AllocGlobal),
-    environment: &Environment,
+    environment: &Frame,
     i: i64,
     expected: Result<i64, FaultKind>,
 ) -> Result<(), Fail> {
-    let found = environment.item(&name("a"), i);
+    let found = environment.item(rt.alloc(), &name("a"), i)?;
     same(rt, format_args!("item {i}"), found, expected.ok());
-    let given = told_in(environment, &item_of_a(rt.alloc(), i)?)?;
+    let given = told_in(rt.alloc(), environment, &item_of_a(rt.alloc(), i)?)?;
     same(rt, format_args!("item {i}"), given, expected);
     Ok(())
 }
@@ -358,23 +327,17 @@ fn items_are_read_and_written_within_the_array(rt: HostRuntime) -> Result<(), Fa
     Ok(())
 }
 
-/// Whether the array has room for so many values.
-fn has_room(environment: &Environment, array: &Name, count: u64) -> bool {
-    environment.has_room(Some(array), count)
-}
-
 #[test]
 fn arrays_have_room_for_their_length(rt: HostRuntime) -> Result<(), Fail> {
     let environment = environment(rt.alloc())?;
     let a = name("a");
-    assert!(rt; environment.has_room(None, 4));
-    assert!(rt; has_room(&environment, &a, 3));
-    assert!(rt; !has_room(&environment, &a, 4));
+    assert!(rt; environment.has_room(rt.alloc(), &a, 3)?);
+    assert!(rt; !environment.has_room(rt.alloc(), &a, 4)?);
     Ok(())
 }
 
 /// The same array after a loop of two iterations into it, and one into no array.
-fn filled(alloc: Global) -> Result<Environment, Fail> {
+fn filled(alloc: Global) -> Result<Frame, Fail> {
     let mut environment = with_nine(alloc)?;
     let a = name("a");
     environment.fill(alloc, Some(&a), &[Value::Int(4), Value::Int(5)])?;
@@ -387,16 +350,16 @@ fn the_values_of_a_loop_are_the_first_items(rt: HostRuntime) -> Result<(), Fail>
     let environment = filled(rt.alloc())?;
     let a = name("a");
     for (i, expected) in [(0, 4), (1, 5), (2, 9)] {
-        same(&rt, i, environment.item(&a, i), Some(expected));
+        same(&rt, i, environment.item(rt.alloc(), &a, i)?, Some(expected));
     }
     Ok(())
 }
 
 /// The environment where `n` is 8, and there is an `x` of 1.
-fn with_scalars(alloc: Global) -> Result<Environment, Fail> {
+fn with_scalars(alloc: Global) -> Result<Frame, Fail> {
     let mut environment = environment(alloc)?;
     for (text, number) in [("n", 8), ("x", 1)] {
-        environment.set_scalar(&name(text), Value::Int(number))?;
+        environment.set(alloc, &name(text), Value::Int(number))?;
     }
     Ok(environment)
 }
@@ -406,29 +369,21 @@ fn scalars_are_set_by_name(rt: HostRuntime) -> Result<(), Fail> {
     let environment = with_scalars(rt.alloc())?;
     for (text, expected) in [("n", 8), ("x", 1)] {
         let e = variable(text);
-        same(&rt, text, told_in(&environment, &e)?, Ok(expected));
+        same(
+            &rt,
+            text,
+            told_in(rt.alloc(), &environment, &e)?,
+            Ok(expected),
+        );
     }
     Ok(())
 }
 
-/// Names of 7 to 32 bytes, of which some differ in their lengths alone, and some in their last bytes.
-static NAMES: [&str; 9] = [
-    "abcdefg",
-    "abcdefgh",
-    "abcdefgi",
-    "abcdefghi",
-    "abcdefghj",
-    "abcdefghijklmnopqrstuvwxyz01234",
-    "abcdefghijklmnopqrstuvwxyz012345",
-    "abcdefghijklmnopqrstuvwxyz012346",
-    "bbcdefghijklmnopqrstuvwxyz012345",
-];
-
-/// The environment where each of these has its place.
-fn with_names(alloc: Global) -> Result<Environment, Fail> {
+/// The environment where each name holds its place.
+fn with_names(alloc: Global) -> Result<Frame, Fail> {
     let mut environment = environment(alloc)?;
     for (i, &text) in NAMES.iter().enumerate() {
-        environment.set_scalar(&name(text), Value::Int(i as i64))?;
+        environment.set(alloc, &name(text), Value::Int(i as i64))?;
     }
     Ok(environment)
 }
@@ -438,16 +393,21 @@ fn names_differ_by_their_lengths_and_by_each_byte(rt: HostRuntime) -> Result<(),
     let environment = with_names(rt.alloc())?;
     for (i, &text) in NAMES.iter().enumerate() {
         let e = variable(text);
-        same(&rt, text, told_in(&environment, &e)?, Ok(i as i64));
+        same(
+            &rt,
+            text,
+            told_in(rt.alloc(), &environment, &e)?,
+            Ok(i as i64),
+        );
     }
     Ok(())
 }
 
 /// The halt of `n = 1 / 0` after `n = 9`.
-fn halt_of_assignment(alloc: Global, environment: &mut Environment) -> Result<Option<Halt>, Fail> {
+fn halt_of_assignment(alloc: Global, environment: &mut Frame) -> Result<Option<Halt>, Fail> {
     let n = name("n");
-    environment.assign(&n, &int(9))?;
-    Ok(environment.assign(&n, &divided(alloc)?).err())
+    environment.assign(alloc, &n, &int(9))?;
+    environment.assign(alloc, &n, &divided(alloc)?)
 }
 
 #[test]
@@ -456,13 +416,13 @@ fn an_assignment_that_faults_changes_nothing(rt: HostRuntime) -> Result<(), Fail
     let halt = halt_of_assignment(rt.alloc(), &mut environment)?;
     same(&rt, "n = 1 / 0", halt, Some(Halt::Fault(FaultKind::Divide)));
     let e = variable("n");
-    same(&rt, "n", told_in(&environment, &e)?, Ok(9));
+    same(&rt, "n", told_in(rt.alloc(), &environment, &e)?, Ok(9));
     Ok(())
 }
 
-/// The integers that the arguments give.
-fn numbers(alloc: Global, args: &[Expr]) -> Result<Vec<i64>, Fail> {
-    let values = environment(alloc)?.values(alloc, args)?;
+/// The integers that two arguments give.
+fn numbers(alloc: Global, first: Expr, second: Expr) -> Result<Vec<i64>, Fail> {
+    let values = environment(alloc)?.values(alloc, first, second)??;
     let mut numbers = Vec::new(alloc);
     for value in values.as_slice() {
         numbers.push(number(value))?;
@@ -470,39 +430,24 @@ fn numbers(alloc: Global, args: &[Expr]) -> Result<Vec<i64>, Fail> {
     Ok(numbers)
 }
 
-/// The arguments `n` and `3`.
-fn arguments(alloc: Global) -> Result<Vec<Expr>, Fail> {
-    let mut args = Vec::new(alloc);
-    args.push(variable("n"))?;
-    args.push(int(3))?;
-    Ok(args)
-}
-
 #[test]
 fn arguments_are_taken_from_the_left(rt: HostRuntime) -> Result<(), Fail> {
-    let args = arguments(rt.alloc())?;
-    same(
-        &rt,
-        "n, 3",
-        numbers(rt.alloc(), &args)?.as_slice(),
-        [7, 3].as_slice(),
-    );
+    let found = numbers(rt.alloc(), variable("n"), int(3))?;
+    same(&rt, "n, 3", found.as_slice(), [7, 3].as_slice());
     Ok(())
-}
-
-/// The arguments `n`, `3`, `a[9]` and `1 / 0`.
-fn faulty_arguments(alloc: Global) -> Result<Vec<Expr>, Fail> {
-    let mut args = arguments(alloc)?;
-    args.push(item_of_a(alloc, 9)?)?;
-    args.push(divided(alloc)?)?;
-    Ok(args)
 }
 
 #[test]
 fn the_first_fault_of_arguments_is_told(rt: HostRuntime) -> Result<(), Fail> {
-    let args = faulty_arguments(rt.alloc())?;
-    let halt = environment(rt.alloc())?.values(rt.alloc(), &args).err();
-    same(&rt, "a[9]", halt, Some(Halt::Fault(FaultKind::Index)));
+    let environment = environment(rt.alloc())?;
+    let (first, second) = (item_of_a(rt.alloc(), 9)?, divided(rt.alloc())?);
+    let halt = environment.values(rt.alloc(), first, second)?.err();
+    same(
+        &rt,
+        "a[9], 1 / 0",
+        halt,
+        Some(Halt::Fault(FaultKind::Index)),
+    );
     Ok(())
 }
 

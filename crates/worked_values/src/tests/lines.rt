@@ -95,12 +95,12 @@ fn appended_events_stand_behind_the_others(rt: HostRuntime) -> Result<(), Fail> 
     Ok(())
 }
 
-/// How many events each full segment has, and then the last one.
+/// How many events each full chunk has, and then the last one.
 fn lengths(alloc: Global, events: &Out) -> Result<Vec<usize>, Memory> {
     let mut lengths = Vec::new(alloc);
     if let Some((full, last)) = events.chunks() {
-        for segment in full {
-            lengths.push(segment.len())?;
+        for chunk in full {
+            lengths.push(chunk.events().len())?;
         }
         lengths.push(last.len())?;
     }
@@ -121,7 +121,7 @@ fn a_long_list_is_appended_without_a_copy(rt: HostRuntime) -> Result<(), Fail> {
     let lengths = lengths(rt.alloc(), &long(rt.alloc())?)?;
     same(
         &rt,
-        "segments",
+        "chunks",
         lengths.as_slice(),
         [10usize, 10, 10, 2].as_slice(),
     );
@@ -138,7 +138,7 @@ fn one_event_goes_before_a_list_that_stays(rt: HostRuntime) -> Result<(), Fail> 
     }
     same(
         &rt,
-        "segments",
+        "chunks",
         lengths(rt.alloc(), &all)?.as_slice(),
         [11usize, 9].as_slice(),
     );
@@ -155,11 +155,45 @@ fn in_three(alloc: Global) -> Result<Out, Memory> {
 }
 
 #[test]
-fn an_event_is_found_in_its_segment(rt: HostRuntime) -> Result<(), Fail> {
+fn an_event_is_found_in_its_chunk(rt: HostRuntime) -> Result<(), Fail> {
     let all = in_three(rt.alloc())?;
     for i in [19u64, 20, 25, 59] {
         same(&rt, i, rank_of(&all, i), Some(i));
     }
+    Ok(())
+}
+
+/// A print, 20 objects, an event of each kind, and 20 objects.
+fn printing(alloc: Global) -> Result<Out, Memory> {
+    let mut rest = objects(alloc, 0..20)?;
+    rest.append(events(alloc)?)?;
+    rest.append(objects(alloc, 0..20)?)?;
+    let mut all = Out::new();
+    all.push(alloc, event(0, strand(alloc, 0)?))?;
+    all.append(rest)?;
+    Ok(all)
+}
+
+/// Whether each full chunk has a print.
+fn prints(alloc: Global, events: &Out) -> Result<Vec<bool>, Memory> {
+    let mut prints = Vec::new(alloc);
+    if let Some((full, _)) = events.chunks() {
+        for chunk in full {
+            prints.push(chunk.prints())?;
+        }
+    }
+    Ok(prints)
+}
+
+#[test]
+fn a_chunk_knows_whether_it_has_a_print(rt: HostRuntime) -> Result<(), Fail> {
+    let prints = prints(rt.alloc(), &printing(rt.alloc())?)?;
+    same(
+        &rt,
+        "prints",
+        prints.as_slice(),
+        [true, false, true, false].as_slice(),
+    );
     Ok(())
 }
 

@@ -12,8 +12,8 @@ loop-i-preserved c =
     let args = c.args.args.now in
     let i = c.loop-i.i in
     let e = c.index-args-i.result in
-    let k = known_in c.args.scope.now in
-    let p = pending_in c.args.scope.now in
+    let k = known_in c.args.symbols.now in
+    let p = pending_in c.args.symbols.now in
     elim c.match-get.branch [
       | in-Some w ↦
           let q = w.in-Some.param.now in

@@ -6,5 +6,5 @@ use Rattle.script_check.proofs.call.judge_arguments.Given as goal
 
 abbrev pub invariant-loop-i : goal.invariant-loop-i
 invariant-loop-i l =
-    noted l.found (arguments (drop l.i l.params) (drop l.i l.args) (known_in l.scope) (pending_in l.scope))
-    ≡ noted l.initial.found (arguments l.params l.args (known_in l.scope) (pending_in l.scope))
+    noted l.found (arguments (drop l.i l.params) (drop l.i l.args) (known_in l.symbols) (pending_in l.symbols))
+    ≡ noted l.initial.found (arguments l.params l.args (known_in l.symbols) (pending_in l.symbols))

@@ -2,11 +2,8 @@ use Rattle.std.proofs.Common.{◌≡◌, ℕ, [], Some, None, Result, Err, sym, 
 use Rattle.script_check.specs.declared.checked.Checked.{Checked}
 use Rattle.script_check.specs.declared.error.CheckError.{CheckError}
 use Rattle.script_check.specs.declared.error.CheckError.TheVariants.{Bad}
-use Rattle.script_check.specs.Spawns.{each_spawns}
-use Rattle.script_check.specs.Tables.{table_of}
 use Rattle.script_check.specs.Valid.{functions_twice, violations}
 use Rattle.script_check.specs.Violations.{noted}
-use Rattle.script_check.specs.Walk.{IsIndex}
 use Rattle.script_check.proofs.LeastViolation.Least.{nothing_noted}
 use Rattle.script_check.proofs.Walk.Functioned.{all_noted, fault_is}
 use Rattle.script_check.proofs.checked.check.Goals as goal
@@ -17,8 +14,15 @@ same_number m a n b h = cc
 same_place : (m a n b : ℕ) → (let l : Result Checked CheckError = Err (Bad m a) in l ≡ Err (Bad n b)) → a ≡ b
 same_place m a n b h = cc
 
-pub returns-in_ok-checked_of-in-None-clause-valid : goal.returns-in_ok-checked_of-in-None-clause-valid
-returns-in_ok-checked_of-in-None-clause-valid c =
+pub kept-requires-clause-valid : goal.kept-requires-clause-valid
+kept-requires-clause-valid c =
+    let script = c.args.script in
+    let first : c.index.new.found ≡ noted None (functions_twice [] script.functions) = search rules in
+    let least : c.judge_script.new.found ≡ None = sym c.least.ensures ∙ c.in-None.is in
+    nothing_noted (violations script) (sym (all_noted script c.index.new.found c.judge_script.new.found first c.in_ok-judge_script.ensures) ∙ least)
+
+pub returns-in_ok-kept-in-None-clause-valid : goal.returns-in_ok-kept-in-None-clause-valid
+returns-in_ok-kept-in-None-clause-valid c =
     let script = c.args.script in
     let first : c.index.new.found ≡ noted None (functions_twice [] script.functions) = search rules in
     let least : c.judge_script.new.found ≡ None = sym c.least.ensures ∙ c.in-None.is in
@@ -32,17 +36,3 @@ returns-in-Some-clause-bad c = λ number at h.
     let least : c.judge_script.new.found ≡ Some v = sym c.least.ensures ∙ c.in-Some.is in
     fault_is script v number at (sym (all_noted script c.index.new.found c.judge_script.new.found first c.in_ok-judge_script.ensures) ∙ least)
     (same_number v.number v.at number at h) (same_place v.number v.at number at h)
-
-pub checked_of-requires : goal.checked_of-requires
-checked_of-requires c =
-    let script = c.args.script in
-    let first : c.index.new.found ≡ noted None (functions_twice [] script.functions) = search rules in
-    let least : c.judge_script.new.found ≡ None = sym c.least.ensures ∙ c.in-None.is in
-    let index : IsIndex script.functions (table_of c.in_ok-first.first.map) = search rules in
-    let spawn : c.in_ok-spawns.spawns ≡ each_spawns script.functions = search rules in
-    record {
-      valid = nothing_noted (violations script) (sym (all_noted script c.index.new.found c.judge_script.new.found first c.in_ok-judge_script.ensures) ∙ least);
-      text = c.requires;
-      index = index;
-      spawn = spawn;
-    }

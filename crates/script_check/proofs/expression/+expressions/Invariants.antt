@@ -7,10 +7,10 @@ use Rattle.script_check.proofs.expression.+expressions.Given as goal
 
 abbrev pub invariant-want_factors-loop-part : goal.invariant-want_factors-loop-part
 invariant-want_factors-loop-part l =
-    noted l.found (all_wanted Int (map read_product_part (drop l.part-index l.parts)) (known_in l.scope) (pending_in l.scope))
-    ≡ noted l.initial.found (all_wanted Int (map read_product_part l.parts) (known_in l.scope) (pending_in l.scope))
+    noted l.found (all_wanted Int (map read_product_part (drop l.part-index l.parts)) (known_in l.symbols) (pending_in l.symbols))
+    ≡ noted l.initial.found (all_wanted Int (map read_product_part l.parts) (known_in l.symbols) (pending_in l.symbols))
 
 abbrev pub invariant-want_summands-loop-part : goal.invariant-want_summands-loop-part
 invariant-want_summands-loop-part l =
-    noted l.found (all_wanted Int (map read_sum_part (drop l.part-index l.parts)) (known_in l.scope) (pending_in l.scope))
-    ≡ noted l.initial.found (all_wanted Int (map read_sum_part l.parts) (known_in l.scope) (pending_in l.scope))
+    noted l.found (all_wanted Int (map read_sum_part (drop l.part-index l.parts)) (known_in l.symbols) (pending_in l.symbols))
+    ≡ noted l.initial.found (all_wanted Int (map read_sum_part l.parts) (known_in l.symbols) (pending_in l.symbols))

@@ -8,7 +8,7 @@ abbrev pub invariant-collect-loop-i : goal.invariant-collect-loop-i
 invariant-collect-loop-i l =
     (l.i ≤ length l.statements)
     × (keeps_all (drop l.i l.statements) ≡ true)
-    × (state_of l.scope ≡ record (state_of l.initial.scope) { names = both (after (drop l.i l.statements) nobody) (state_of l.initial.scope).names })
+    × (state_of l.symbols ≡ record (state_of l.initial.symbols) { names = both (after (drop l.i l.statements) nobody) (state_of l.initial.symbols).names })
 
 abbrev pub decreases-collect-loop-i : goal.decreases-collect-loop-i
 decreases-collect-loop-i l = l.i

@@ -6,5 +6,5 @@ use Rattle.script_check.proofs.statement.begin_while.Goals as goal
 
 pub returns : goal.returns
 returns c =
-    let s = state_of c.args.scope.now in
+    let s = state_of c.args.symbols.now in
     c.in_ok-collect.ensures.state ∙ ap (λ (n : Names). record s { names = n }) (while_names c.args.body.now s.names)

@@ -9,7 +9,7 @@ pub returns : goal.returns
 returns c =
     let a = after c.args.a.now nobody in
     let b = after c.args.b.now nobody in
-    let s = state_of c.args.scope.now in
+    let s = state_of c.args.symbols.now in
     c.in_ok-collect-2.ensures.state
     ∙ ap (λ (t : WalkState). record t { names = both b t.names })
     (c.in_ok-collect.ensures.state ∙ ap (λ (t : WalkState). record t { names = both a t.names }) c.in_ok-keep_if.ensures)

@@ -1,6 +1,15 @@
 use Rattle.std.proofs.Common.{Ok, refl}
-use Rattle.strand_machine.proofs.TakenAnswers.Taking.{loops-goes, loops-sync, loops-loop}
+use Rattle.strand_machine.proofs.TakenAnswers.Taking.{goes-of, loop-of, loops-goes, loops-loop, loops-sync, sync-of}
 use Rattle.strand_machine.proofs.merge.filled.Goals as goal
+
+pub take_values-requires : goal.take_values-requires
+take_values-requires c = goes-of c.args.plan.now c.args.stage.now _ c.requires c.in-Running.is
+
+pub take_values-requires-in-AtSync : goal.take_values-requires-in-AtSync
+take_values-requires-in-AtSync c = sync-of c.args.plan.now c.args.stage.now _ c.requires c.in-AtSync.is
+
+pub take_values-requires-in-AtLoop : goal.take_values-requires-in-AtLoop
+take_values-requires-in-AtLoop c = loop-of c.args.plan.now c.args.stage.now _ c.requires c.in-AtLoop.is
 
 pub returns-in_ok-take_values-in-Running : goal.returns-in_ok-take_values-in-Running
 returns-in_ok-take_values-in-Running c =

@@ -1,15 +1,19 @@
-use Rattle.std.proofs.Common.{◌∷◌, [], refl, subst}
+use Rattle.std.proofs.Common.{◌∷◌, [], refl, sym, subst}
 use Rattle.std.specs.Arc.{arc_value}
 use Rattle.std.specs.Prelude.{OnOk}
 use Rattle.serial_meaning.specs.Answer.{AnswerView}
+use Rattle.serial_meaning.specs.Plan.{PlanView}
 use Rattle.strand_meaning.specs.Trace.{AwaitedChild}
-use Rattle.strand_machine.specs.Merge.{TakesAnswers, ending_of, merge_of}
+use Rattle.strand_machine.specs.Merge.{TakesAnswers, Works, ending_of, merge_of}
 use Rattle.strand_machine.specs.Parts.{awaited_child}
 use Rattle.strand_machine.specs.declared.body.Body.{Body}
 use Rattle.strand_machine.specs.declared.parts.Parts.{Parts}
 use Rattle.strand_machine.proofs.TakenAnswers.Cutting.{heard-alone, takes-answer, told}
 use Rattle.strand_machine.proofs.TakenAnswers.Taking.{on-both, ok-of}
 use Rattle.strand_machine.proofs.merge.merge_answer.Goals as goal
+
+pub merge_value-requires : goal.merge_value-requires
+merge_value-requires c = subst (λ (p : PlanView). Works p c.args.parts.now.work) (sym c.plan.ensures) c.requires.works
 
 pub returns-in-Ok-clause-takes : goal.returns-in-Ok-clause-takes
 returns-in-Ok-clause-takes c =

@@ -2,8 +2,17 @@ use Rattle.std.proofs.Common.{refl}
 use Rattle.strand_meaning.specs.Machine.{Spawned}
 use Rattle.strand_meaning.specs.Task.{takes, changed, answered}
 use Rattle.strand_machine.specs.Merge.{ending_of}
-use Rattle.strand_machine.proofs.TakenAnswers.Taking.{at-goes, at-sync, at-loop}
+use Rattle.strand_machine.proofs.TakenAnswers.Taking.{at-goes, at-sync, at-loop, goes-of, loop-of, sync-of}
 use Rattle.strand_machine.proofs.merge.spawned.Goals as goal
+
+pub merge_spawned-requires : goal.merge_spawned-requires
+merge_spawned-requires c = goes-of c.args.plan.now c.args.stage.now _ c.requires c.in-Running.is
+
+pub merge_spawned-requires-in-AtSync : goal.merge_spawned-requires-in-AtSync
+merge_spawned-requires-in-AtSync c = sync-of c.args.plan.now c.args.stage.now _ c.requires c.in-AtSync.is
+
+pub merge_spawned-requires-in-AtLoop : goal.merge_spawned-requires-in-AtLoop
+merge_spawned-requires-in-AtLoop c = loop-of c.args.plan.now c.args.stage.now _ c.requires c.in-AtLoop.is
 
 pub returns-in-Running : goal.returns-in-Running
 returns-in-Running c =

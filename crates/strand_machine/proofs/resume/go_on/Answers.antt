@@ -23,6 +23,9 @@ merge_all-requires-clause-many c =
 pub merge_all-requires-clause-handed : goal.merge_all-requires-clause-handed
 merge_all-requires-clause-handed c = ap (λ (x : Trace). x.handed) c.take_children-behind.ensures.rest
 
+pub merge_all-requires-clause-works : goal.merge_all-requires-clause-works
+merge_all-requires-clause-works c = (c.args.parts.now.body.family.origin, c.requires.sound.works)
+
 pub cut_short-requires-clause-ends : goal.cut_short-requires-clause-ends
 cut_short-requires-clause-ends c =
     let b = c.args.parts.now.body in

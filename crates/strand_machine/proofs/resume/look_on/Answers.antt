@@ -18,7 +18,7 @@ pub returns-in-NotYet-clause-holds : goal.returns-in-NotYet-clause-holds
 returns-in-NotYet-clause-holds c =
     let b = c.args.parts.now.body in
     let w = c.args.parts.now.work in
-    sound_holds (record b { family = c.look.new.self }) w (looked-sound b w c.look.new.self false c.look.new.self.loads c.in-NotYet.ensures.1 c.requires)
+    sound_holds (record b { family = c.look.new.self }) w (looked-sound b w c.look.new.self false c.look.new.self.loads c.in-NotYet.ensures.1 c.requires.sound)
 
 pub take_answers-requires-clause-ready : goal.take_answers-requires-clause-ready
 take_answers-requires-clause-ready c = ap (λ (f : FamilyView). f.ready) c.in-Ready.ensures.1
@@ -26,26 +26,26 @@ take_answers-requires-clause-ready c = ap (λ (f : FamilyView). f.ready) c.in-Re
 pub take_answers-requires-clause-last : goal.take_answers-requires-clause-last
 take_answers-requires-clause-last c =
     let b = c.args.parts.now.body in
-    let last = looked-last b.family c.look.new.self b.trace.handed true c.look.new.self.loads c.in-Ready.ensures.1 c.requires.family in
+    let last = looked-last b.family c.look.new.self b.trace.handed true c.look.new.self.loads c.in-Ready.ensures.1 c.requires.sound.family in
     subst (AwaitsCount c.look.new.self) (sym c.count-awaited.ensures) (awaits-count c.look.new.self b.trace.handed last)
 
 pub go_on-requires-clause-sound : goal.go_on-requires-clause-sound
 go_on-requires-clause-sound c =
     let b = c.args.parts.now.body in
     let w = c.args.parts.now.work in
-    taken-answered b w c.look.new.self c.take_answers.new.family true c.look.new.self.loads c.in-Ready.ensures.1 c.take_answers.ensures.family c.take_answers.ensures.length c.requires
+    taken-answered b w c.look.new.self c.take_answers.new.family true c.look.new.self.loads c.in-Ready.ensures.1 c.take_answers.ensures.family c.take_answers.ensures.length c.requires.sound
 
 pub go_on-requires-clause-tags : goal.go_on-requires-clause-tags
 go_on-requires-clause-tags c =
     let b = c.args.parts.now.body in
     let g = c.look.new.self in
-    let last = looked-last b.family g b.trace.handed true g.loads c.in-Ready.ensures.1 c.requires.family in
+    let last = looked-last b.family g b.trace.handed true g.loads c.in-Ready.ensures.1 c.requires.sound.family in
     c.in_ok-answers-in-Ready.ensures.tags ∙ ap (λ (n : ℕ). tags g.plan (drop (length g.children - n) g.children)) c.count-awaited.ensures
     ∙ ap (tags g.plan) (last-awaited g b.trace.handed last) ∙ ap (λ (p : PlanView). tags p (awaited b.trace.handed)) (sym (ap (λ (f : FamilyView). f.plan) c.take_answers.ensures.family))
 
-pub returns-in_ok-go_on-in-Ready-clause-resumed : goal.returns-in_ok-go_on-in-Ready-clause-resumed
-returns-in_ok-go_on-in-Ready-clause-resumed c =
+pub returns-in_ok-left-in-Ready-clause-resumed : goal.returns-in_ok-left-in-Ready-clause-resumed
+returns-in_ok-left-in-Ready-clause-resumed c =
     let b = c.args.parts.now.body in
     let w = c.args.parts.now.work in
     resumed-on b w c.look.new.self c.take_answers.new.family true c.look.new.self.loads c.in-Ready.ensures.1 c.take_answers.ensures.family (view_of b w) _ refl
-    (works-on b.family.plan b.family.origin w c.requires.works) _ c.in_ok-go_on-in-Ready.ensures.answers c.in_ok-go_on-in-Ready.ensures.went c.in-Ready.ensures.0
+    (works-on b.family.plan b.family.origin w c.requires.sound.works) _ c.in_ok-left-in-Ready.ensures.answers c.in_ok-left-in-Ready.ensures.went c.in-Ready.ensures.0

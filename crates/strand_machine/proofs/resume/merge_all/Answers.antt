@@ -7,7 +7,7 @@ use Rattle.strand_machine.specs.Merge.{TakesAnswers, merge_of}
 use Rattle.strand_machine.specs.Parts.{awaited_children}
 use Rattle.strand_machine.specs.Stops.{answer_tags}
 use Rattle.strand_machine.specs.declared.trace.Behind.{Behind}
-use Rattle.strand_machine.proofs.TakenAnswers.Cutting.{answers-next, answers-no-more, keeps-then}
+use Rattle.strand_machine.proofs.TakenAnswers.Cutting.{answers-next, answers-no-more, keeps-then, works-then}
 use Rattle.strand_machine.proofs.resume.merge_all.Goals as goal
 
 pub loop-part-init : goal.loop-part-init
@@ -22,10 +22,14 @@ loop-part-init c =
       takes = λ after h. subst (λ (xs : List AnswerView). TakesAnswers (awaited_children (origins (answer_tags xs)) c.args.behind.items) xs before after) back
           (subst (λ (bs : List Behind). TakesAnswers (awaited_children (origins (answer_tags (reverse c.reverse.new.self.items))) bs) (reverse c.reverse.new.self.items) before after) parts h);
       rest = record { body = refl; handed = c.requires.handed };
+      works = c.requires.works;
     }
 
-pub merge_answer-requires : goal.merge_answer-requires
-merge_answer-requires c = c.loop-part.invariant.rest.handed
+pub merge_answer-requires-clause-handed : goal.merge_answer-requires-clause-handed
+merge_answer-requires-clause-handed c = c.loop-part.invariant.rest.handed
+
+pub merge_answer-requires-clause-works : goal.merge_answer-requires-clause-works
+merge_answer-requires-clause-works c = c.loop-part.invariant.works
 
 pub unreachable-requires : goal.unreachable-requires
 unreachable-requires c =
@@ -46,6 +50,7 @@ loop-part-preserved c =
       same = omega (arith, was.same, ap length popped, length-append c.pop.new.self.items (c.in-Some-pop.answer ∷ []), shorter);
       takes = λ after h. was.takes after (answers-next _ _ _ _ c.in-Some-pop.answer c.in-Some.part (merge_of c.loop-part.parts c.loop-part.heard) (merge_of c.merge_answer.new.parts c.merge_answer.new.heard) after front parts.0 c.in_ok-merge_answer.ensures.takes h);
       rest = keeps-then _ _ _ was.rest c.in_ok-merge_answer.ensures.rest;
+      works = works-then c.loop-part.parts c.merge_answer.new.parts c.loop-part.heard c.merge_answer.new.heard _ _ c.in_ok-merge_answer.ensures.rest c.in_ok-merge_answer.ensures.takes was.works;
     }
 
 pub returns-clause-takes : goal.returns-clause-takes

@@ -1,7 +1,7 @@
 use Rattle.std.proofs.Common.{◌≡◌, length, reverse}
 use Rattle.std.specs.Vec.Iter.{into_iter_items, into_iter_len}
 use Rattle.strand_machine.specs.Family.{origins}
-use Rattle.strand_machine.specs.Merge.{KeepsRest, Merge, TakesAnswers, merge_of}
+use Rattle.strand_machine.specs.Merge.{KeepsRest, Merge, TakesAnswers, Works, merge_of}
 use Rattle.strand_machine.specs.Parts.{awaited_children}
 use Rattle.strand_machine.specs.Stops.{answer_tags}
 use Rattle.strand_machine.proofs.resume.merge_all.Given as goal
@@ -17,4 +17,5 @@ invariant-loop-part l =
       takes : (after : Merge) → TakesAnswers (awaited_children (origins (answer_tags rest)) (into_iter_items l.part-iterator)) rest (merge_of l.parts l.heard) after →
           TakesAnswers (awaited_children (origins all) l.fn.behind.items) l.fn.answers (merge_of l.initial.parts l.initial.heard) after;
       rest : KeepsRest l.initial.parts l.parts;
+      works : Works l.parts.body.family.plan l.parts.work;
     }

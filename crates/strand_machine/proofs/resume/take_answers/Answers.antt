@@ -12,7 +12,7 @@ overflow_sub-first c = omega (arith, c.requires.last.within, c.count.ensures)
 pub loop-i-init : goal.loop-i-init
 loop-i-init c =
     let e : c.args.awaited ≡ c.args.awaited - 0 = omega arith in
-    record { tags = search rules; family = refl; last = subst (AwaitsCount c.args.family.now) e c.requires.last }
+    record { tags = ap answer_tags (c.room.view_is ∙ c.requires.room); family = refl; last = subst (AwaitsCount c.args.family.now) e c.requires.last }
 
 pub take-requires-clause-ready : goal.take-requires-clause-ready
 take-requires-clause-ready c = ap (λ (f : FamilyView). f.ready) c.loop-i.invariant.family ∙ c.requires.ready

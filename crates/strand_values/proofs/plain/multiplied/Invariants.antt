@@ -5,4 +5,4 @@ use Rattle.strand_values.proofs.plain.multiplied.Given as goal
 
 abbrev pub invariant-loop-part : goal.invariant-loop-part
 invariant-loop-part l =
-    products l.variables (Int l.fn.first) (map product_part l.rest) ≡ products l.variables (Int l.total) (map product_part (drop l.part-index l.rest))
+    products l.env.variables (Int l.fn.first) (map product_part l.rest) ≡ products l.env.variables (Int l.total) (map product_part (drop l.part-index l.rest))

@@ -5,4 +5,4 @@ use Rattle.strand_values.proofs.plain.total.Given as goal
 
 abbrev pub invariant-loop-part : goal.invariant-loop-part
 invariant-loop-part l =
-    sums l.variables (Int l.fn.first) (map sum_part l.rest) ≡ sums l.variables (Int l.total) (map sum_part (drop l.part-index l.rest))
+    sums l.env.variables (Int l.fn.first) (map sum_part l.rest) ≡ sums l.env.variables (Int l.total) (map sum_part (drop l.part-index l.rest))

@@ -5,8 +5,8 @@ use Rattle.strand_values.proofs.value.+value.Given as goal
 
 abbrev pub invariant-add-loop-part : goal.invariant-add-loop-part
 invariant-add-loop-part l =
-    sums l.variables (Int l.fn.first) (map sum_part l.rest) ≡ sums l.variables (Int l.total) (map sum_part (drop l.part-index l.rest))
+    sums l.env.variables (Int l.fn.first) (map sum_part l.rest) ≡ sums l.env.variables (Int l.total) (map sum_part (drop l.part-index l.rest))
 
 abbrev pub invariant-multiply-loop-part : goal.invariant-multiply-loop-part
 invariant-multiply-loop-part l =
-    products l.variables (Int l.fn.first) (map product_part l.rest) ≡ products l.variables (Int l.total) (map product_part (drop l.part-index l.rest))
+    products l.env.variables (Int l.fn.first) (map product_part l.rest) ≡ products l.env.variables (Int l.total) (map product_part (drop l.part-index l.rest))

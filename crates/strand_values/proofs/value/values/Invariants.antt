@@ -5,4 +5,4 @@ use Rattle.strand_values.proofs.value.values.Given as goal
 
 abbrev pub invariant-loop-e : goal.invariant-loop-e
 invariant-loop-e l =
-    values_of l.args l.variables ≡ (values_of (drop l.e-index l.args) l.variables >>= λ vs. Ok (l.values.items ++ vs))
+    values_of l.args l.env.variables ≡ (values_of (drop l.e-index l.args) l.env.variables >>= λ vs. Ok (l.values.items ++ vs))

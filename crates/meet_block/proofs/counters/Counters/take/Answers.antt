@@ -9,16 +9,16 @@ use Rattle.meet_block.proofs.Places.{holds_here, taken_at, tag_at, takes_known, 
 use Rattle.meet_block.proofs.Rows.{listed_set}
 use Rattle.meet_block.proofs.counters.Counters.take.Goals as goal
 
-pub block_of-at-requires-clause-within : goal.block_of-at-requires-clause-within
-block_of-at-requires-clause-within g c =
+pub block_holding-at-requires-clause-within : goal.block_holding-at-requires-clause-within
+block_holding-at-requires-clause-within g c =
     let ps = listed c.self.inside.blocks in
     let left = at_of_get (taken_of ps) c.args.i false (ap (λ j. slice_get j.taken c.args.i) c.self.view_is ∙ c.requires.left) in
     omega (arith, within_tags c.self.inside.found (length ps) ps c.args.i c.self.invariant.0 left, ap (λ l. length (tags_of l)) c.as_slice.ensures)
 
 pub bounds-as_mut_slice-at : goal.bounds-as_mut_slice-at
 bounds-as_mut_slice-at g c =
-    let h = c.block_of-at.ensures.1 in
-    omega (arith, below c.as_slice.result.now c.block_of-at.result c.block_of-at.ensures.0 h.here, ap length c.as_slice.ensures, ap length c.as_mut_slice.ensures.value)
+    let h = c.block_holding-at.ensures.1 in
+    omega (arith, below c.as_slice.result.now c.block_holding-at.result c.block_holding-at.ensures.0 h.here, ap length c.as_slice.ensures, ap length c.as_mut_slice.ensures.value)
 
 pub offset_bounds-as_mut_slice-at : goal.offset_bounds-as_mut_slice-at
 offset_bounds-as_mut_slice-at g c =
@@ -27,27 +27,27 @@ offset_bounds-as_mut_slice-at g c =
 
 pub overflow_sub-place : goal.overflow_sub-place
 overflow_sub-place g c =
-    let ps = listed c.self.inside.blocks in let us = c.as_mut_slice.result.now in let b = c.block_of-at.result in let d = get_or us b c.index-as_mut_slice-at.result in
-    let h = holds_here c.as_slice.result.now us ps c.args.i b c.block_of-at.ensures.0 c.index-as_mut_slice-at.result c.block_of-at.ensures.1 c.as_slice.ensures c.as_mut_slice.ensures.value in
+    let ps = listed c.self.inside.blocks in let us = c.as_mut_slice.result.now in let b = c.block_holding-at.result in let d = get_or us b c.index-as_mut_slice-at.result in
+    let h = holds_here c.as_slice.result.now us ps c.args.i b c.block_holding-at.ensures.0 c.index-as_mut_slice-at.result c.block_holding-at.ensures.1 c.as_slice.ensures c.as_mut_slice.ensures.value in
     omega (arith, h.low)
 
 pub take-requires-clause-ready : goal.take-requires-clause-ready
 take-requires-clause-ready g c =
-    let ps = listed c.self.inside.blocks in let us = c.as_mut_slice.result.now in let b = c.block_of-at.result in let d = get_or us b c.index-as_mut_slice-at.result in
-    let h = holds_here c.as_slice.result.now us ps c.args.i b c.block_of-at.ensures.0 c.index-as_mut_slice-at.result c.block_of-at.ensures.1 c.as_slice.ensures c.as_mut_slice.ensures.value in
+    let ps = listed c.self.inside.blocks in let us = c.as_mut_slice.result.now in let b = c.block_holding-at.result in let d = get_or us b c.index-as_mut_slice-at.result in
+    let h = holds_here c.as_slice.result.now us ps c.args.i b c.block_holding-at.ensures.0 c.index-as_mut_slice-at.result c.block_holding-at.ensures.1 c.as_slice.ensures c.as_mut_slice.ensures.value in
     each_ready ps b d (ap (λ j. j.ready) c.self.view_is ∙ c.requires.ready) h.here
 
 pub take-requires-clause-left : goal.take-requires-clause-left
 take-requires-clause-left g c =
-    let ps = listed c.self.inside.blocks in let us = c.as_mut_slice.result.now in let b = c.block_of-at.result in let d = get_or us b c.index-as_mut_slice-at.result in
-    let h = holds_here c.as_slice.result.now us ps c.args.i b c.block_of-at.ensures.0 c.index-as_mut_slice-at.result c.block_of-at.ensures.1 c.as_slice.ensures c.as_mut_slice.ensures.value in
+    let ps = listed c.self.inside.blocks in let us = c.as_mut_slice.result.now in let b = c.block_holding-at.result in let d = get_or us b c.index-as_mut_slice-at.result in
+    let h = holds_here c.as_slice.result.now us ps c.args.i b c.block_holding-at.ensures.0 c.index-as_mut_slice-at.result c.block_holding-at.ensures.1 c.as_slice.ensures c.as_mut_slice.ensures.value in
     let left = at_of_get (taken_of ps) c.args.i false (ap (λ j. slice_get j.taken c.args.i) c.self.view_is ∙ c.requires.left) in
     ap (λ n. get_elem? d.taken (c.args.i - n)) c.first.ensures ∙ taken_at c.self.inside.found (length ps) ps c.args.i b d h c.self.invariant.0 left
 
 pub invariant_of-self : goal.invariant_of-self
 invariant_of-self g c =
-    let ps = listed c.self.inside.blocks in let us = c.as_mut_slice.result.now in let b = c.block_of-at.result in let d = get_or us b c.index-as_mut_slice-at.result in
-    let h = holds_here c.as_slice.result.now us ps c.args.i b c.block_of-at.ensures.0 c.index-as_mut_slice-at.result c.block_of-at.ensures.1 c.as_slice.ensures c.as_mut_slice.ensures.value in
+    let ps = listed c.self.inside.blocks in let us = c.as_mut_slice.result.now in let b = c.block_holding-at.result in let d = get_or us b c.index-as_mut_slice-at.result in
+    let h = holds_here c.as_slice.result.now us ps c.args.i b c.block_holding-at.ensures.0 c.index-as_mut_slice-at.result c.block_holding-at.ensures.1 c.as_slice.ensures c.as_mut_slice.ensures.value in
     let is = c.take.ensures.taken ∙ ap (λ n. record d { taken = set d.taken (c.args.i - n) true }) c.first.ensures in
     subst (λ l. InOrder c.self.inside.found (length l) l × (c.self.inside.count ≡ length (tags_of l))) (sym (listed_set c.self.inside.blocks us b c.take.new.self c.as_mut_slice.ensures.value)) (
       takes_order c.self.inside.found ps c.args.i b d h c.take.new.self c.self.invariant.0 is,
@@ -56,16 +56,16 @@ invariant_of-self g c =
 
 pub returns-clause-tag : goal.returns-clause-tag
 returns-clause-tag g c =
-    let ps = listed c.self.inside.blocks in let us = c.as_mut_slice.result.now in let b = c.block_of-at.result in let d = get_or us b c.index-as_mut_slice-at.result in
-    let h = holds_here c.as_slice.result.now us ps c.args.i b c.block_of-at.ensures.0 c.index-as_mut_slice-at.result c.block_of-at.ensures.1 c.as_slice.ensures c.as_mut_slice.ensures.value in
+    let ps = listed c.self.inside.blocks in let us = c.as_mut_slice.result.now in let b = c.block_holding-at.result in let d = get_or us b c.index-as_mut_slice-at.result in
+    let h = holds_here c.as_slice.result.now us ps c.args.i b c.block_holding-at.ensures.0 c.index-as_mut_slice-at.result c.block_holding-at.ensures.1 c.as_slice.ensures c.as_mut_slice.ensures.value in
     let t = g.A.Tagged.tag c.take.result in
     let there = tag_at ps c.args.i b d h t (ap (λ n. get_elem? d.tags (c.args.i - n)) (sym c.first.ensures) ∙ c.take.ensures.value) in
     ap (λ j. slice_get j.tags c.args.i) (sym c.self.view_is) ∙ get_of_at (tags_of ps) c.args.i t there
 
 pub returns-clause-taken : goal.returns-clause-taken
 returns-clause-taken g c =
-    let ps = listed c.self.inside.blocks in let us = c.as_mut_slice.result.now in let b = c.block_of-at.result in let d = get_or us b c.index-as_mut_slice-at.result in
-    let h = holds_here c.as_slice.result.now us ps c.args.i b c.block_of-at.ensures.0 c.index-as_mut_slice-at.result c.block_of-at.ensures.1 c.as_slice.ensures c.as_mut_slice.ensures.value in
+    let ps = listed c.self.inside.blocks in let us = c.as_mut_slice.result.now in let b = c.block_holding-at.result in let d = get_or us b c.index-as_mut_slice-at.result in
+    let h = holds_here c.as_slice.result.now us ps c.args.i b c.block_holding-at.ensures.0 c.index-as_mut_slice-at.result c.block_holding-at.ensures.1 c.as_slice.ensures c.as_mut_slice.ensures.value in
     let is = c.take.ensures.taken ∙ ap (λ n. record d { taken = set d.taken (c.args.i - n) true }) c.first.ensures in
     ap known (listed_set c.self.inside.blocks us b c.take.new.self c.as_mut_slice.ensures.value)
     ∙ takes_known c.self.inside.found (length ps) ps c.args.i b d h c.take.new.self c.self.invariant.0 (ap (λ j. j.ready) c.self.view_is ∙ c.requires.ready) is

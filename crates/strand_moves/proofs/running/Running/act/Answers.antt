@@ -5,6 +5,7 @@ use Rattle.strand_meaning.specs.Machine.{end_move, move, statement_move}
 use Rattle.strand_moves.specs.Rows.{HasPassedStatement, unpassed}
 use Rattle.strand_moves.specs.Running.{machine_of, path_of, present_of}
 use Rattle.strand_moves.specs.Moves.{present_pedigree}
+use Rattle.strand_moves.proofs.Cursors.FoundStatements.{next-found}
 use Rattle.strand_moves.proofs.Cursors.Passing.{end-moves, next-moves}
 use Rattle.strand_moves.proofs.Statements.Paying.{shows-same}
 use Rattle.strand_moves.proofs.running.Running.act.Goals as goal
@@ -37,3 +38,12 @@ returns-in-None-clause-moves c =
     let none = subst (λ (n : Option Stmt). HasPassedStatement plan i n) is c.requires.passed in
     shows-same (move plan (path_of i) (unpassed plan i (option_copied c.args.next))) (end_move plan (path_of i) m m.top.levels) (present_pedigree (present_of i) m) (machine_of plan c.end_block.new.self) c.end_block.result
     (end-moves plan i (option_copied c.args.next) is none) c.end_block.ensures.shows
+
+pub statement-requires-clause-places : goal.statement-requires-clause-places
+statement-requires-clause-places c = c.places.ensures
+
+pub statement-requires-clause-finds : goal.statement-requires-clause-finds
+statement-requires-clause-finds c =
+    let i = c.args.self.now in
+    let has = subst (λ (n : Option Stmt). HasPassedStatement c.args.plan.now i n) (ap option_copied c.in-Some.is) c.requires.passed in
+    next-found c.args.plan.now c.places.result.now i c.places.ensures c.requires.sound.named c.in-Some.statement.now has.1

@@ -1,4 +1,6 @@
+use Rattle.script_check.specs.Places.{has_place}
 use Rattle.strand_moves.specs.Running.{machine_of, present_of}
+use Rattle.strand_moves.proofs.Statements.FoundParts.{in_called, in_spawned, in_value}
 use Rattle.strand_moves.proofs.Statements.Paying.{call-at, spawn-at}
 use Rattle.strand_moves.proofs.Statements.Handing.{handed-acts, handed-child}
 use Rattle.strand_moves.proofs.Statements.QuickLemmas.{emitted-child, quiet-child}
@@ -43,3 +45,34 @@ returns-in-Call-clause-stays c = rw c.quiet-in-Call.ensures c.call.ensures.stays
 
 pub returns-in-Spawn-clause-child : goal.returns-in-Spawn-clause-child
 returns-in-Spawn-clause-child c = handed-child c.args.plan.now c.spawn.result c.handed.result c.handed.ensures c.spawn.ensures.child
+
+pub set_value-requires-clause-value : goal.set_value-requires-clause-value
+set_value-requires-clause-value c = in_value (has_place c.args.places.now c.args.self.now.top.env.names) c.args.r.now c.in-Value.e c.in-Value.is c.requires.right
+
+pub call-requires-clause-args : goal.call-requires-clause-args
+call-requires-clause-args c = in_called (has_place c.args.places.now c.args.self.now.top.env.names) c.args.r.now c.in-Call.field-0 c.in-Call.c c.in-Call.is c.requires.right
+
+pub call-requires-clause-target : goal.call-requires-clause-target
+call-requires-clause-target c = c.requires.name
+
+pub returns-in-Value-clause-named : goal.returns-in-Value-clause-named
+returns-in-Value-clause-named c = c.set_value.ensures.named c.args.plan.now
+
+pub returns-in-Draw-clause-named : goal.returns-in-Draw-clause-named
+returns-in-Draw-clause-named c = c.draw.ensures.named c.args.plan.now
+
+pub returns-in-New-clause-named : goal.returns-in-New-clause-named
+returns-in-New-clause-named c = c.make_object.ensures.named c.args.plan.now
+
+pub returns-in-Call-clause-named : goal.returns-in-Call-clause-named
+returns-in-Call-clause-named c = c.call.ensures.named
+
+pub returns-in-Spawn-clause-named : goal.returns-in-Spawn-clause-named
+returns-in-Spawn-clause-named c = c.spawn.ensures.named c.args.plan.now
+
+pub spawn-requires-clause-finds : goal.spawn-requires-clause-finds
+spawn-requires-clause-finds c =
+    record {
+      target = c.requires.name;
+      args = in_spawned (has_place c.args.places.now c.args.self.now.top.env.names) c.args.r.now c.in-Spawn.field-0 c.in-Spawn.c c.in-Spawn.is c.requires.right;
+    }

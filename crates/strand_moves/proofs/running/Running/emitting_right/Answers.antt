@@ -14,3 +14,9 @@ returns-in-New-clause-did g c = λ st.
     rw c.in-New.is
     (sent-is g.S.EventSink.after c.args.plan.now st (act.Set c.args.x.now (right.New c.in-New.field-0)) c.args.self.now c.make_object.new.self c.args.sink.now c.sent-in-New.new.sink c.make_object.result c.sent-in-New.result
     (c.make_object.ensures.shows c.args.plan.now st c.in-New.field-0) c.make_object.ensures.same c.sent-in-New.ensures)
+
+pub returns-in-Draw-clause-named : goal.returns-in-Draw-clause-named
+returns-in-Draw-clause-named g c = c.draw.ensures.named
+
+pub returns-in-New-clause-named : goal.returns-in-New-clause-named
+returns-in-New-clause-named g c = c.make_object.ensures.named

@@ -1,3 +1,4 @@
+use Rattle.script_check.specs.Places.{has_place}
 use Rattle.std.proofs.Common.{ap, ◌∙◌, refl}
 use Rattle.script_grammar.specs.declared.tree.Act.{Act}
 use Rattle.script_grammar.specs.declared.tree.Act.TheOpen as act
@@ -9,6 +10,7 @@ use Rattle.strand_moves.specs.Running.{machine_of, present_of}
 use Rattle.strand_moves.specs.Moves.{acted}
 use Rattle.strand_moves.specs.Quick.{is_emitting}
 use Rattle.strand_moves.proofs.Statements.Equations.{let-is-set}
+use Rattle.strand_moves.proofs.Statements.FoundParts.{in_let, in_print, in_set}
 use Rattle.strand_moves.proofs.Statements.Paying.{act-is}
 use Rattle.strand_moves.proofs.Statements.QuickLemmas.{sent-alike, sent-is}
 use Rattle.strand_moves.proofs.running.Running.emitting_statement.Goals as goal
@@ -45,3 +47,27 @@ returns-in-Print-clause-did g c =
     sent-alike g.S.EventSink.after plan st a i i c.args.sink.now c.sent.new.sink (out-Act (out-Stmt st).act)
     (ap (λ (b : Act-F Act Stmt). acted plan (present_of i) (machine_of plan i) st b) is) (ap (λ (b : Act-F Act Stmt). is_emitting b) is) c.sent.result
     (sent-is g.S.EventSink.after plan st a i i c.args.sink.now c.sent.new.sink c.print.result c.sent.result (c.print.ensures plan st) (λ kind h. refl) c.sent.ensures)
+
+pub emitting_right-requires-clause-name : goal.emitting_right-requires-clause-name
+emitting_right-requires-clause-name g c =
+    let st = c.args.statement.now in
+    let is = act-is (act.Let c.in-Let.x c.in-Let.r) st.act (variant.Let c.in-Let.x c.in-Let.r) c.in-Let.is (variant.rolls-Let c.in-Let.x c.in-Let.r) in
+    (in_let (has_place c.args.places.now c.args.self.now.top.env.names) st c.requires.finds c.in-Let.x c.in-Let.r is).0
+
+pub emitting_right-requires-in-Set-clause-name : goal.emitting_right-requires-in-Set-clause-name
+emitting_right-requires-in-Set-clause-name g c =
+    let st = c.args.statement.now in
+    let is = act-is (act.Set c.in-Set.x c.in-Set.r) st.act (variant.Set c.in-Set.x c.in-Set.r) c.in-Set.is (variant.rolls-Set c.in-Set.x c.in-Set.r) in
+    (in_set (has_place c.args.places.now c.args.self.now.top.env.names) st c.requires.finds c.in-Set.x c.in-Set.r is).0
+
+pub print-requires-clause-finds : goal.print-requires-clause-finds
+print-requires-clause-finds g c =
+    let st = c.args.statement.now in
+    let is = act-is (act.Print c.in-Print.e) st.act (variant.Print c.in-Print.e) c.in-Print.is (variant.rolls-Print c.in-Print.e) in
+    in_print (has_place c.args.places.now c.args.self.now.top.env.names) st c.requires.finds c.in-Print.e is
+
+pub returns-in-Let-clause-named : goal.returns-in-Let-clause-named
+returns-in-Let-clause-named g c = c.emitting_right.ensures.named
+
+pub returns-in-Set-clause-named : goal.returns-in-Set-clause-named
+returns-in-Set-clause-named g c = c.emitting_right-in-Set.ensures.named

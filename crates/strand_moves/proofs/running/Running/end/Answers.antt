@@ -7,10 +7,14 @@ use Rattle.strand_moves.specs.Running.{machine_of, path_of, present_of}
 use Rattle.strand_moves.specs.Moves.{present_pedigree}
 use Rattle.strand_moves.proofs.Cursors.CursorLemmas.{nothing-in, something-in}
 use Rattle.strand_moves.proofs.Frames.Ending.{value-fault, value-returned}
+use Rattle.strand_moves.proofs.Frames.Names.{innermost-named}
 use Rattle.strand_moves.proofs.OpenScopes.Exits.{shows-exit}
 use Rattle.strand_moves.proofs.OpenScopes.Keeping.{stands-same}
 use Rattle.strand_moves.proofs.Statements.QuickLemmas.{quiet-child}
 use Rattle.strand_moves.proofs.running.Running.end.Goals as goal
+
+pub result-requires : goal.result-requires
+result-requires c = innermost-named c.args.plan.now c.args.self.now c.requires.named
 
 pub returns-then-is_empty-clause-shows : goal.returns-then-is_empty-clause-shows
 returns-then-is_empty-clause-shows c =
@@ -25,7 +29,7 @@ returns-in_err-result-clause-shows c =
     let i = c.args.self.now in
     let plan = c.args.plan.now in
     let m = machine_of plan i in
-    shows-exit (return_move plan (path_of i) m true) (present_pedigree (present_of i) m) _ c.from_residual.result c.in_err-result.field-0.0 (result_of (function_at (functions_of plan) i.top.function) i.top.env) c.from_residual.ensures.1
+    shows-exit (return_move plan (path_of i) m true) (present_pedigree (present_of i) m) _ c.from_residual.result c.in_err-result.field-0.0 (result_of (function_at (functions_of plan) i.top.function) i.top.env.variables) c.from_residual.ensures.1
     c.in_err-result.ensures (value-fault plan i c.requires.here)
 
 pub returns-in_err-result-clause-stays : goal.returns-in_err-result-clause-stays

@@ -9,7 +9,7 @@ use Rattle.strand_moves.specs.Running.{machine_of, path_of, present_of}
 use Rattle.strand_moves.proofs.Statements.Equations.{went}
 use Rattle.strand_moves.proofs.OpenScopes.Levels.{is-out, join-kept, join-moves, out-kept, out-moves, rank-fits}
 use Rattle.strand_moves.proofs.OpenScopes.Exits.{keeps-made, shows-made}
-use Rattle.strand_moves.proofs.OpenScopes.Keeping.{here-is}
+use Rattle.strand_moves.proofs.OpenScopes.Keeping.{here-is, keeps-where}
 use Rattle.strand_moves.proofs.running.Running.end_block.Goals as goal
 
 -- out of the innermost scope
@@ -79,8 +79,21 @@ returns-then-not-is_empty-clause-child c = c.join_scope.ensures.child c.args.pla
 
 -- the end of the function
 
+pub end-requires-clause-named : goal.end-requires-clause-named
+end-requires-clause-named c = c.requires.instance.named
+
 pub end-requires-clause-here : goal.end-requires-clause-here
 end-requires-clause-here c = here-is c.args.plan.now c.args.self.now c.requires.instance
+
+pub returns-then-self-2-clause-keeps : goal.returns-then-self-2-clause-keeps
+returns-then-self-2-clause-keeps c =
+    let e = c.end.ensures in
+    keeps-where c.args.plan.now c.args.self.now c.end.new.self c.requires.instance c.if-self.false e.named e.few c.end.result e.stays
+
+pub returns-clause-keeps : goal.returns-clause-keeps
+returns-clause-keeps c =
+    let e = c.return_step.ensures in
+    keeps-where c.args.plan.now c.args.self.now c.return_step.new.self c.requires.instance c.if-self.false e.named e.few c.return_step.result e.stays
 
 pub return_step-requires-clause-here : goal.return_step-requires-clause-here
 return_step-requires-clause-here c = here-is c.args.plan.now c.args.self.now c.requires.instance

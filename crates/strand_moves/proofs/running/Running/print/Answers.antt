@@ -10,7 +10,7 @@ pub returns-in_err-value : goal.returns-in_err-value
 returns-in_err-value c = λ plan st.
     let i = c.args.self.now in
     emitted-exit (acted plan (present_of i) (machine_of plan i) st (act.Print c.args.e.now)) (present_pedigree (present_of i) (machine_of plan i)) _ c.from_residual.result c.in_err-value.field-0.0
-    (value_of c.args.e.now i.top.env) c.from_residual.ensures.1 c.in_err-value.ensures (print-fault plan (present_of i) (machine_of plan i) st c.args.e.now)
+    (value_of c.args.e.now i.top.env.variables) c.from_residual.ensures.1 c.in_err-value.ensures (print-fault plan (present_of i) (machine_of plan i) st c.args.e.now)
 
 pub returns : goal.returns
 returns c = λ plan st.

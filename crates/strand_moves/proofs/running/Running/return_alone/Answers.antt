@@ -7,6 +7,8 @@ use Rattle.strand_moves.specs.declared.running.Running.{Running}
 use Rattle.strand_moves.specs.Running.{machine_of, present_of}
 use Rattle.strand_moves.proofs.Statements.Equations.{went}
 use Rattle.strand_moves.proofs.Frames.Ending.{return-joined}
+use Rattle.strand_moves.proofs.Frames.Names.{still-named}
+use Rattle.strand_moves.proofs.Statements.Naming.{top-named}
 use Rattle.strand_moves.proofs.running.Running.return_alone.Goals as goal
 
 pub returns-clause-shows : goal.returns-clause-shows
@@ -23,3 +25,27 @@ returns-clause-shows c =
     return-joined plan i c.requires.here paid paid.steps pays.ok pays.paid new (sym spawns ∙ sym c.has_spawns.ensures ∙ c.if-not-has_spawns.false) is
     ∙ ap (λ (b : Bool). went (Emitted (event.Sync (present_of paid ++ paid.rank ∷ [])) ∷ sync_effects b) (machine_of plan new)) alone
     ∙ ap (λ (j : List ℕ). went (Emitted (event.Sync j) ∷ []) (machine_of plan new)) (sym c.in_ok-pedigree.ensures)
+
+pub returns-then-not-has_spawns-clause-named : goal.returns-then-not-has_spawns-clause-named
+returns-then-not-has_spawns-clause-named c =
+    let paid = c.pay.new.self in
+    let ok = c.in_ok-pay.ensures.ok in
+    let new : Running = record paid { top = record paid.top { returning = true } } in
+    top-named c.args.plan.now c.args.self.now new (ap (λ (x : Running). x.below.items) ok) (ap (λ (x : Running). x.top.function) ok) (ap (λ (x : Running). x.top.env.names) ok)
+
+pub returns-in_err-pedigree-clause-named : goal.returns-in_err-pedigree-clause-named
+returns-in_err-pedigree-clause-named c =
+    let paid = c.pay.new.self in
+    let ok = c.in_ok-pay.ensures.ok in
+    let new : Running = record paid { top = record paid.top { returning = true } } in
+    top-named c.args.plan.now c.args.self.now new (ap (λ (x : Running). x.below.items) ok) (ap (λ (x : Running). x.top.function) ok) (ap (λ (x : Running). x.top.env.names) ok)
+
+pub returns-clause-named : goal.returns-clause-named
+returns-clause-named c =
+    let paid = c.pay.new.self in
+    let ok = c.in_ok-pay.ensures.ok in
+    let new : Running = record paid { rank = paid.rank + 1; top = record paid.top { returning = true } } in
+    top-named c.args.plan.now c.args.self.now new (ap (λ (x : Running). x.below.items) ok) (ap (λ (x : Running). x.top.function) ok) (ap (λ (x : Running). x.top.env.names) ok)
+
+pub returns-in_err-pay-clause-named : goal.returns-in_err-pay-clause-named
+returns-in_err-pay-clause-named c = still-named c.args.plan.now c.args.self.now c.pay.new.self (c.pay.ensures.err c.in_err-pay.field-0.0 c.in_err-pay.was).0

@@ -1,4 +1,4 @@
-use Rattle.std.proofs.Common.{false, ◌∙◌, sym, ap}
+use Rattle.std.proofs.Common.{true, false, ◌∙◌, sym, ap}
 use Rattle.serial_meaning.specs.Functions.{function_at}
 use Rattle.serial_meaning.specs.Plan.{functions_of}
 use Rattle.strand_meaning.specs.Machine.{return_move, spawns_in}
@@ -9,6 +9,8 @@ use Rattle.strand_moves.proofs.Frames.EndMoves.{told-stands}
 use Rattle.strand_moves.proofs.Frames.Ending.{return-joined}
 use Rattle.strand_moves.proofs.OpenScopes.Exits.{shows-made}
 use Rattle.strand_moves.proofs.Statements.Handing.{told-child}
+use Rattle.strand_moves.proofs.Frames.Names.{still-named}
+use Rattle.strand_moves.proofs.Statements.Naming.{top-named}
 use Rattle.strand_moves.proofs.running.Running.return_step.Goals as goal
 
 pub returns-then-not-self-clause-shows : goal.returns-then-not-self-clause-shows
@@ -32,3 +34,21 @@ returns-then-has_spawns-clause-shows c =
 
 pub returns-then-has_spawns-clause-child : goal.returns-then-has_spawns-clause-child
 returns-then-has_spawns-clause-child c = c.sync.ensures.child c.args.plan.now
+
+pub returns-then-has_spawns-clause-named : goal.returns-then-has_spawns-clause-named
+returns-then-has_spawns-clause-named c = λ h.
+    let plan = c.args.plan.now in
+    let paid = c.pay.new.self in
+    let ok = c.in_ok-pay.ensures.ok in
+    let begun : Running = record paid { top = record paid.top { returning = true } } in
+    c.sync.ensures.named plan (top-named plan c.args.self.now begun (ap (λ (x : Running). x.below.items) ok) (ap (λ (x : Running). x.top.function) ok) (ap (λ (x : Running). x.top.env.names) ok) h)
+
+pub returns-clause-named : goal.returns-clause-named
+returns-clause-named c =
+    let paid = c.pay.new.self in
+    let ok = c.in_ok-pay.ensures.ok in
+    let new : Running = record paid { top = record paid.top { returning = true } } in
+    top-named c.args.plan.now c.args.self.now new (ap (λ (x : Running). x.below.items) ok) (ap (λ (x : Running). x.top.function) ok) (ap (λ (x : Running). x.top.env.names) ok)
+
+pub returns-in_err-pay-clause-named : goal.returns-in_err-pay-clause-named
+returns-in_err-pay-clause-named c = still-named c.args.plan.now c.args.self.now c.pay.new.self (c.pay.ensures.err c.in_err-pay.field-0.0 c.in_err-pay.was).0

@@ -3,12 +3,15 @@ use Rattle.strand_moves.specs.declared.cursor.Cursor.{Cursor}
 use Rattle.strand_moves.specs.declared.frame.Frame.{Frame}
 use Rattle.strand_moves.specs.declared.running.Running.{Running}
 use Rattle.strand_moves.specs.Cursors.{block_of}
+use Rattle.strand_moves.specs.Found.{FindsStatement}
 use Rattle.strand_moves.specs.Quick.{HasGone}
 use Rattle.strand_moves.specs.Rows.{Still, More}
 use Rattle.strand_moves.specs.Running.{IsStrand}
 use Rattle.strand_moves.proofs.OpenScopes.Keeping.{here-is, stays-instance, same-path}
+use Rattle.strand_moves.proofs.Cursors.FoundStatements.{next-found}
 use Rattle.strand_moves.proofs.Cursors.Passing.{comes-ended, comes-undone, passed-sound, row-called, row-ended, row-sent, text-same}
 use Rattle.strand_moves.proofs.Frames.EndMoves.{did-end, did-not-end}
+use Rattle.strand_moves.proofs.Statements.Naming.{top-named}
 use Rattle.strand_moves.proofs.Statements.QuickLemmas.{did-nothing, did-quiet, passed-on, quick-went}
 use Rattle.strand_moves.proofs.running.Running.row.Goals as goal
 
@@ -26,7 +29,7 @@ loop-passed-smaller-then-branch g c =
 pub loop-passed-smaller-in-Emitting : goal.loop-passed-smaller-in-Emitting
 loop-passed-smaller-in-Emitting g c =
     let q = c.quiet_statement.ensures.there in
-    let gone = subst (HasGone g.S.EventSink.after c.args.plan.now c.in-Some.passed.0.now c.quiet_statement.new.self c.loop-passed.sink c.other_statement.new.self c.other_statement.new.sink) c.in-Emitting.is c.in_ok-other_statement.ensures in
+    let gone = subst (HasGone g.S.EventSink.after c.args.plan.now c.in-Some.passed.0.now c.quiet_statement.new.self c.loop-passed.sink c.other_statement.new.self c.other_statement.new.sink) c.in-Emitting.is c.in_ok-other_statement.ensures.gone in
     let t = gone.1.there in
     let frames = ap (λ (bs : List Frame). length bs) (t.below ∙ q.below) in
     omega (arith, q.steps, t.steps, frames)
@@ -34,7 +37,7 @@ loop-passed-smaller-in-Emitting g c =
 pub loop-passed-smaller : goal.loop-passed-smaller
 loop-passed-smaller g c =
     let q = c.quiet_statement.ensures.there in
-    let gone = subst (HasGone g.S.EventSink.after c.args.plan.now c.in-Some.passed.0.now c.quiet_statement.new.self c.loop-passed.sink c.other_statement.new.self c.other_statement.new.sink) c.in-Calling.is c.in_ok-other_statement.ensures in
+    let gone = subst (HasGone g.S.EventSink.after c.args.plan.now c.in-Some.passed.0.now c.quiet_statement.new.self c.loop-passed.sink c.other_statement.new.self c.other_statement.new.sink) c.in-Calling.is c.in_ok-other_statement.ensures.gone in
     let begins = gone.0.2 in
     let frames = ap (λ (bs : List Frame). length bs) q.below in
     omega (arith, q.steps, frames, begins.steps, begins.frames)
@@ -57,12 +60,13 @@ loop-passed-preserved-then-branch g c =
     let passes = rw was.text at c.in-Some.ensures.0 in
     let did = did-quiet st _ new _ c.if-branch.true c.in_ok-quiet_statement.ensures.did in
     let less : i.steps - 1 + 1 ≡ i.steps = omega arith in
+    let paid : Running = record i { steps = i.steps - 1; top = record i.top { cursor = c.pass_in.new.self } } in
     let moves = quick-went plan i st c.pass_in.new.self (i.steps - 1) (here-is plan i was.sound) passes less new did in
     let stays = q.ensures.stays in
     let there = q.ensures.there in
     let costs = q.ensures.few in
     let path = same-path i new (record { trail = stays.trail; scopes = stays.scopes; leaving = stays.leaving }) in
-    let sound = stays-instance plan i new was.sound (passed-on plan i _ _ was.sound passes.first) (record { trail = stays.trail; scopes = stays.scopes; leaving = stays.leaving }) (omega (arith, costs)) in
+    let sound = stays-instance plan i new was.sound (passed-on plan i _ _ was.sound passes.first) (record { trail = stays.trail; scopes = stays.scopes; leaving = stays.leaving }) (λ h. q.ensures.named plan (top-named plan i paid refl refl refl h)) (omega (arith, costs)) in
     record {
       row = More i new l.sink was.row moves path sound;
       sound = sound;
@@ -84,11 +88,11 @@ loop-passed-preserved-in-Emitting g c =
     let o = c.other_statement in
     let passes = rw was.text at c.in-Some.ensures.0 in
     let left = did-nothing st _ q.new.self _ c.if-branch.false c.in_ok-quiet_statement.ensures.did in
-    let gone = subst (HasGone g.S.EventSink.after plan st q.new.self l.sink o.new.self o.new.sink) c.in-Emitting.is c.in_ok-other_statement.ensures in
+    let gone = subst (HasGone g.S.EventSink.after plan st q.new.self l.sink o.new.self o.new.sink) c.in-Emitting.is c.in_ok-other_statement.ensures.gone in
     let did = gone.0 in
     let there = gone.1 in
     let less : i.steps - 1 + 1 ≡ i.steps = omega arith in
-    let went = row-sent g.S.EventSink.after plan c.args.self.now c.args.sink.now i l.sink was.row was.sound st c.pass_in.new.self (i.steps - 1) passes less q.new.self left.0 o.new.self o.new.sink did.0 did.1 did.2 there.stays there.few in
+    let went = row-sent g.S.EventSink.after plan c.args.self.now c.args.sink.now i l.sink was.row was.sound st c.pass_in.new.self (i.steps - 1) passes less q.new.self left.0 o.new.self o.new.sink did.0 did.1 did.2 o.ensures.named there.stays there.few in
     record {
       row = went.row;
       sound = went.sound;
@@ -108,10 +112,10 @@ loop-passed-preserved g c =
     let o = c.other_statement in
     let passes = rw was.text at c.in-Some.ensures.0 in
     let left = did-nothing st _ q.new.self _ c.if-branch.false c.in_ok-quiet_statement.ensures.did in
-    let gone = subst (HasGone g.S.EventSink.after plan st q.new.self l.sink o.new.self o.new.sink) c.in-Calling.is c.in_ok-other_statement.ensures in
+    let gone = subst (HasGone g.S.EventSink.after plan st q.new.self l.sink o.new.self o.new.sink) c.in-Calling.is c.in_ok-other_statement.ensures.gone in
     let did = gone.0 in
     let less : i.steps - 1 + 1 ≡ i.steps = omega arith in
-    let went = row-called g.S.EventSink.after plan c.args.self.now c.args.sink.now i l.sink was.row was.sound st c.pass_in.new.self (i.steps - 1) passes less q.new.self left.0 o.new.self o.new.sink gone.1 did.0 did.1 gone.2 in
+    let went = row-called g.S.EventSink.after plan c.args.self.now c.args.sink.now i l.sink was.row was.sound st c.pass_in.new.self (i.steps - 1) passes less q.new.self left.0 o.new.self o.new.sink gone.1 did.0 o.ensures.named did.1 gone.2 in
     record { row = went.row; sound = went.sound; path = went.path ∙ was.path; text = c.statements-text-in-Calling.ensures; block = c.block-block-in-Calling.ensures }
 
 pub other_statement-requires-clause-strand : goal.other_statement-requires-clause-strand
@@ -179,6 +183,33 @@ returns-in-Other g c =
     let o = c.other_statement in
     let passes = rw was.text at c.in-Some.ensures.0 in
     let left = did-nothing st _ q.new.self _ c.if-branch.false c.in_ok-quiet_statement.ensures.did in
-    let gone = subst (HasGone g.S.EventSink.after plan st q.new.self l.sink o.new.self o.new.sink) c.in-Other.is c.in_ok-other_statement.ensures in
+    let gone = subst (HasGone g.S.EventSink.after plan st q.new.self l.sink o.new.self o.new.sink) c.in-Other.is c.in_ok-other_statement.ensures.gone in
     let less : i.steps - 1 + 1 ≡ i.steps = omega arith in
     comes-undone g.S.EventSink.after plan c.args.self.now c.args.sink.now i l.sink was.row was.sound was.path st c.pass_in.new.self (i.steps - 1) passes less q.new.self left.0 o.new.self gone.0 o.new.sink gone.1
+
+-- the table has the places of what the next statement names
+
+pub quiet_statement-requires : goal.quiet_statement-requires
+quiet_statement-requires g c =
+    let was = c.loop-passed.invariant in
+    let plan = c.args.plan.now in
+    let i = c.loop-passed.self in
+    let passes = rw was.text at c.in-Some.ensures.0 in
+    let paid : Running = record i { steps = i.steps - 1; top = record i.top { cursor = c.pass_in.new.self } } in
+    next-found plan c.places-places.result.now paid c.places-places.ensures (top-named plan i paid refl refl refl was.sound.named) c.in-Some.passed.0.now passes.behind
+
+pub other_statement-requires-clause-places : goal.other_statement-requires-clause-places
+other_statement-requires-clause-places g c = c.places-places.ensures
+
+pub other_statement-requires-clause-finds : goal.other_statement-requires-clause-finds
+other_statement-requires-clause-finds g c =
+    let was = c.loop-passed.invariant in
+    let plan = c.args.plan.now in
+    let i = c.loop-passed.self in
+    let st = c.in-Some.passed.0.now in
+    let places = c.places-places.result.now in
+    let passes = rw was.text at c.in-Some.ensures.0 in
+    let paid : Running = record i { steps = i.steps - 1; top = record i.top { cursor = c.pass_in.new.self } } in
+    let left = did-nothing st _ c.quiet_statement.new.self _ c.if-branch.false c.in_ok-quiet_statement.ensures.did in
+    let found = next-found plan places paid c.places-places.ensures (top-named plan i paid refl refl refl was.sound.named) st passes.behind in
+    subst (λ (x : Running). FindsStatement places x.top.env st) (sym left.0) found

@@ -1,8 +1,10 @@
 use Rattle.std.proofs.Common.{◌+◌, length, ap, arith}
 use Rattle.serial_meaning.specs.Plan.{PlanView}
+use Rattle.strand_moves.specs.declared.running.Running.{Running}
 use Rattle.strand_moves.specs.Running.{machine_of, present_of}
 use Rattle.strand_moves.proofs.Frames.CallLemmas.{is_not_below}
 use Rattle.strand_moves.proofs.Statements.Equations.{scope-depth-fault}
+use Rattle.strand_moves.proofs.Statements.Naming.{top-named}
 use Rattle.strand_moves.proofs.OpenScopes.Levels.{Begins, goes-in, in-moves}
 use Rattle.strand_moves.proofs.running.Running.scope.Goals as goal
 
@@ -30,3 +32,13 @@ returns-clause-into c =
     let coefficients = c.plan.invariant.coefficients in
     let begins : Begins i c.go_in.new.self c.in_ok-inner.inner = (c.in_ok-go_in.ensures.levels, c.go_in.ensures.starts, c.go_in.ensures.others) in
     goes-in i c.go_in.new.self c.in_ok-inner.inner plan begins c.in_ok-inner.ensures.fits c.in_ok-inner.ensures.path (omega (arith, depth, gamma, coefficients))
+
+pub returns-clause-named : goal.returns-clause-named
+returns-clause-named c = λ plan.
+    let others = c.go_in.ensures.others in
+    top-named plan c.args.self.now c.go_in.new.self (ap (λ (x : Running). x.below.items) others) (ap (λ (x : Running). x.top.function) others) (ap (λ (x : Running). x.top.env.names) others)
+
+pub returns-in_err-go_in-clause-named : goal.returns-in_err-go_in-clause-named
+returns-in_err-go_in-clause-named c = λ plan.
+    let others = c.go_in.ensures.others in
+    top-named plan c.args.self.now c.go_in.new.self (ap (λ (x : Running). x.below.items) others) (ap (λ (x : Running). x.top.function) others) (ap (λ (x : Running). x.top.env.names) others)

@@ -1,7 +1,8 @@
-use Rattle.std.proofs.Common.{ap}
-use Rattle.strand_moves.proofs.Statements.Assigning.{assigned-acts, on-err}
+use Rattle.std.proofs.Common.{refl, ap}
+use Rattle.strand_values.specs.Environments.{EnvironmentView}
 use Rattle.strand_moves.specs.declared.running.Running.{Running}
-use Rattle.serial_meaning.specs.Values.{Env}
+use Rattle.strand_moves.proofs.Statements.Assigning.{assigned-acts, on-err}
+use Rattle.strand_moves.proofs.Statements.Naming.{top-named}
 use Rattle.strand_moves.proofs.running.Running.set_value.Goals as goal
 
 pub returns-clause-shows : goal.returns-clause-shows
@@ -11,4 +12,13 @@ returns-clause-shows c = λ plan st.
 pub returns-clause-same : goal.returns-clause-same
 returns-clause-same c = λ kind h.
     let i = c.args.self.now in
-    ap (λ (env : Env). let r : Running = record i { top = record i.top { env = env } } in r) (on-err c.assign.result _ _ c.assign.ensures.err h)
+    ap (λ (env : EnvironmentView). let r : Running = record i { top = record i.top { env = env } } in r) (on-err c.assign.result _ _ c.assign.ensures.err h)
+
+pub returns-clause-there : goal.returns-clause-there
+returns-clause-there c = record { below = refl; function = refl; levels = refl; names = c.assign.ensures.names; steps = refl }
+
+pub returns-clause-named : goal.returns-clause-named
+returns-clause-named c = λ plan.
+    let i = c.args.self.now in
+    let new : Running = record i { top = record i.top { env = c.assign.new.self } } in
+    top-named plan i new refl refl c.assign.ensures.names

@@ -1,4 +1,4 @@
-use Rattle.std.proofs.Common.{◌≡◌, ◌+◌, length, refl, sym, ap, ◌∙◌, arith}
+use Rattle.std.proofs.Common.{◌≡◌, ◌+◌, true, length, refl, sym, ap, ◌∙◌, arith}
 use Rattle.std.specs.Option.{option_copied}
 use Rattle.serial_meaning.specs.Functions.{function_at}
 use Rattle.serial_meaning.specs.Open.{answer_filler}
@@ -11,7 +11,14 @@ use Rattle.strand_moves.proofs.Frames.CallLemmas.{is_not_below}
 use Rattle.strand_moves.proofs.HandedChildren.ChildLemmas.{spawned-child, strand_at}
 use Rattle.strand_moves.proofs.Statements.Equations.{spawn-args-fault, spawn-depth-fault}
 use Rattle.strand_moves.proofs.HandedChildren.Spawning.{handed-exit}
+use Rattle.strand_moves.proofs.Statements.Naming.{top-named, variables-are}
 use Rattle.strand_moves.proofs.running.Running.spawn.Goals as goal
+
+pub values-requires : goal.values-requires
+values-requires c = rw c.as_slice.ensures c.requires.finds.args
+
+pub receive_filler-requires : goal.receive_filler-requires
+receive_filler-requires c = c.requires.finds.target
 
 pub returns-in_err-args-clause-shows : goal.returns-in_err-args-clause-shows
 returns-in_err-args-clause-shows c = λ st.
@@ -20,7 +27,7 @@ returns-in_err-args-clause-shows c = λ st.
     let to = option_copied c.args.target in
     let known = rw c.as_slice.ensures at c.in_err-args.ensures in
     handed-exit (acted plan (present_of i) (machine_of plan i) st (spawn_to to c.args.call.now)) (present_pedigree (present_of i) (machine_of plan i)) _ c.from_residual-in_err-args.result c.in_err-args.field-0.0
-    (values_of c.args.call.now.args i.top.env) c.from_residual-in_err-args.ensures.1 known (spawn-args-fault plan (present_of i) (machine_of plan i) st to c.args.call.now)
+    (values_of c.args.call.now.args i.top.env.variables) c.from_residual-in_err-args.ensures.1 known (spawn-args-fault plan (present_of i) (machine_of plan i) st to c.args.call.now)
 
 pub returns-then-len-plan-clause-shows : goal.returns-then-len-plan-clause-shows
 returns-then-len-plan-clause-shows c = λ st.
@@ -47,7 +54,31 @@ returns-clause-shows c = λ st.
     let at = c.in_ok-pedigree.ensures ∙ same in
     spawned-child plan i st (option_copied c.args.target) c.args.call.now c.in_ok-args.args (answer_filler (function_at (functions_of plan) c.callee-function.result)) c.callee-function.result c.in_ok-height.height
     c.in_ok-pedigree.field-0 c.in_ok-trail.path c.in_ok-target.target c.receive_filler.new.self.top.env c.receive_filler.new.self
-    known (omega arith) number at (place.shared ∙ place.path ∙ same) refl received.env others height received.to
+    known (omega arith) number at (place.shared ∙ place.path ∙ same) refl (variables-are c.receive_filler.new.self.top.env i.top.env _ received.env) others height received.to
 
 pub returns-clause-child : goal.returns-clause-child
 returns-clause-child c = record { fits = c.in_ok-trail.ensures.fits; path = sym c.in_ok-trail.ensures.shared }
+
+pub returns-in_err-target-clause-named : goal.returns-in_err-target-clause-named
+returns-in_err-target-clause-named c = λ plan.
+    let others = c.receive_filler.ensures.others in
+    let received = c.receive_filler.new.self in
+    top-named plan c.args.self.now received (ap (λ (x : Running). x.below.items) others) (ap (λ (x : Running). x.top.function) others) c.receive_filler.ensures.names
+
+pub returns-in_err-trail-clause-named : goal.returns-in_err-trail-clause-named
+returns-in_err-trail-clause-named c = λ plan.
+    let others = c.receive_filler.ensures.others in
+    let received = c.receive_filler.new.self in
+    top-named plan c.args.self.now received (ap (λ (x : Running). x.below.items) others) (ap (λ (x : Running). x.top.function) others) c.receive_filler.ensures.names
+
+pub returns-in_err-pedigree-clause-named : goal.returns-in_err-pedigree-clause-named
+returns-in_err-pedigree-clause-named c = λ plan.
+    let others = c.receive_filler.ensures.others in
+    let received = c.receive_filler.new.self in
+    top-named plan c.args.self.now received (ap (λ (x : Running). x.below.items) others) (ap (λ (x : Running). x.top.function) others) c.receive_filler.ensures.names
+
+pub returns-clause-named : goal.returns-clause-named
+returns-clause-named c = λ plan.
+    let others = c.receive_filler.ensures.others in
+    let received = c.receive_filler.new.self in
+    top-named plan c.args.self.now (record received { rank = received.rank + 1; top = record received.top { spawned = true } }) (ap (λ (x : Running). x.below.items) others) (ap (λ (x : Running). x.top.function) others) c.receive_filler.ensures.names

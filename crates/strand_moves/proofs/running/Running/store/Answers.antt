@@ -1,11 +1,13 @@
-use Rattle.std.proofs.Common.{◌∙◌, sym, w64, rules, SFits}
+use Rattle.std.proofs.Common.{◌∙◌, refl, sym, w64, rules, SFits}
 use Rattle.std.proofs.lemmas.Int.{to_z-of_z}
 use Rattle.script_grammar.specs.declared.tree.Act.TheOpen as act
 use Rattle.serial_meaning.specs.Values.{value_of}
+use Rattle.strand_moves.specs.declared.running.Running.{Running}
 use Rattle.strand_moves.specs.Running.{machine_of, present_of}
 use Rattle.strand_moves.specs.Moves.{acted, present_pedigree}
 use Rattle.strand_values.specs.Gives.{numbered}
 use Rattle.strand_moves.proofs.Statements.Conditions.{number-known, number-fault}
+use Rattle.strand_moves.proofs.Statements.Naming.{names-stay, top-named, variables-are}
 use Rattle.strand_moves.proofs.Statements.Equations.{store, store-fault, store-index-fault, store-value-fault}
 use Rattle.strand_moves.proofs.OpenScopes.Exits.{quiet-exit}
 use Rattle.strand_moves.proofs.HandedChildren.Items.{missing, there}
@@ -14,7 +16,7 @@ use Rattle.strand_moves.proofs.running.Running.store.Goals as goal
 pub returns-in_err-index-clause-shows : goal.returns-in_err-index-clause-shows
 returns-in_err-index-clause-shows c = λ plan st.
     let i = c.args.self.now in
-    let d = value_of c.args.i.now i.top.env in
+    let d = value_of c.args.i.now i.top.env.variables in
     quiet-exit (acted plan (present_of i) (machine_of plan i) st (act.Store c.args.x.now c.args.i.now c.args.e.now)) (present_pedigree (present_of i) (machine_of plan i)) _ c.from_residual.result c.in_err-index.field-0.0
     (numbered d) c.from_residual.ensures.1 c.in_err-index.ensures (λ kind h. store-index-fault plan (present_of i) (machine_of plan i) st c.args.x.now c.args.i.now c.args.e.now kind (number-fault d kind h))
 
@@ -23,7 +25,7 @@ returns-then-is_none-clause-shows c = λ plan st.
     let i = c.args.self.now in
     let n = c.in_ok-index.index in
     let fits : SFits w64 n = search rules in
-    let known = number-known (value_of c.args.i.now i.top.env) n c.in_ok-index.ensures in
+    let known = number-known (value_of c.args.i.now i.top.env.variables) n c.in_ok-index.ensures in
     let at = rw (to_z-of_z w64 n fits, sym known.1.1) at c.item.ensures in
     store-fault plan (present_of i) (machine_of plan i) st c.args.x.now c.args.i.now c.args.e.now known.0 known.1.0 (sym at ∙ missing c.item.result c.if-is_none.ensures)
 
@@ -32,11 +34,11 @@ returns-in_err-value-clause-shows c = λ plan st.
     let i = c.args.self.now in
     let n = c.in_ok-index.index in
     let fits : SFits w64 n = search rules in
-    let known = number-known (value_of c.args.i.now i.top.env) n c.in_ok-index.ensures in
+    let known = number-known (value_of c.args.i.now i.top.env.variables) n c.in_ok-index.ensures in
     let at = rw (to_z-of_z w64 n fits, sym known.1.1) at c.item.ensures in
     let old = there c.item.result c.if-is_none.ensures in
     quiet-exit (acted plan (present_of i) (machine_of plan i) st (act.Store c.args.x.now c.args.i.now c.args.e.now)) (present_pedigree (present_of i) (machine_of plan i)) _ c.from_residual-in_err-value.result
-    c.in_err-value.field-0.0 (value_of c.args.e.now i.top.env) c.from_residual-in_err-value.ensures.1 c.in_err-value.ensures
+    c.in_err-value.field-0.0 (value_of c.args.e.now i.top.env.variables) c.from_residual-in_err-value.ensures.1 c.in_err-value.ensures
     (λ kind. store-value-fault plan (present_of i) (machine_of plan i) st c.args.x.now c.args.i.now c.args.e.now known.0 old.0 kind known.1.0 (sym at ∙ old.1))
 
 pub returns-clause-shows : goal.returns-clause-shows
@@ -44,8 +46,18 @@ returns-clause-shows c = λ plan st.
     let i = c.args.self.now in
     let n = c.in_ok-index.index in
     let fits : SFits w64 n = search rules in
-    let known = number-known (value_of c.args.i.now i.top.env) n c.in_ok-index.ensures in
+    let known = number-known (value_of c.args.i.now i.top.env.variables) n c.in_ok-index.ensures in
     let at = rw (to_z-of_z w64 n fits, sym known.1.1) at c.item.ensures in
     let set = rw (to_z-of_z w64 n fits, sym known.1.1) at c.set_item.ensures in
     let old = there c.item.result c.if-is_none.ensures in
-    store plan (present_of i) (machine_of plan i) st c.args.x.now c.args.i.now c.args.e.now known.0 c.in_ok-value.value old.0 c.set_item.new.self known.1.0 (sym at ∙ old.1) c.in_ok-value.ensures set
+    store plan (present_of i) (machine_of plan i) st c.args.x.now c.args.i.now c.args.e.now known.0 c.in_ok-value.value old.0 c.set_item.new.self.variables known.1.0 (sym at ∙ old.1) c.in_ok-value.ensures (variables-are c.set_item.new.self i.top.env _ set)
+
+pub returns-clause-there : goal.returns-clause-there
+returns-clause-there c =
+    record { below = refl; function = refl; levels = refl; names = names-stay c.set_item.new.self c.args.self.now.top.env _ c.set_item.ensures; steps = refl }
+
+pub returns-clause-named : goal.returns-clause-named
+returns-clause-named c = λ plan.
+    let i = c.args.self.now in
+    let new : Running = record i { top = record i.top { env = c.set_item.new.self } } in
+    top-named plan i new refl refl (names-stay c.set_item.new.self i.top.env _ c.set_item.ensures)

@@ -1,32 +1,70 @@
-use Rattle.std.proofs.Common.{false, Ok, ◌∷◌, [], refl, ap, set, arith}
+use Rattle.std.proofs.Common.{false, Ok, ◌∷◌, [], refl, sym, ap, subst, set, arith}
 use Rattle.std.specs.Option.{option_copied}
-use Rattle.strand_meaning.specs.Task.{answered}
-use Rattle.strand_moves.specs.Running.{frame_of}
-use Rattle.strand_moves.proofs.Frames.BelowLemmas.{changed-inside, changed-beyond}
-use Rattle.strand_moves.proofs.OpenScopes.Keeping.{changed-around, changed-few, changed-path, scopes-replaced}
+use Rattle.strand_meaning.specs.Task.{answered, with_answer}
+use Rattle.strand_values.specs.Environments.{with_variables}
+use Rattle.strand_moves.specs.declared.frame.Frame.{Frame}
+use Rattle.strand_moves.specs.declared.running.Running.{Running}
+use Rattle.strand_moves.specs.Running.{IsInstance, frame_of, path_of}
+use Rattle.strand_moves.proofs.Frames.BelowLemmas.{changed-innermost, changed-inside, changed-beyond}
+use Rattle.strand_moves.proofs.Frames.Names.{innermost-named, named-set, one-below-named}
+use Rattle.strand_moves.proofs.OpenScopes.Keeping.{changed-around, changed-few, changed-path, innermost-sound, scopes-replaced}
+use Rattle.strand_moves.proofs.Statements.Naming.{same-named}
 use Rattle.strand_moves.proofs.running.Running.take_value.Goals as goal
 
+-- the innermost frame
+
+pub replace-requires : goal.replace-requires
+replace-requires c = innermost-named c.args.plan.now c.args.self.now c.requires.named
+
+pub returns-then-height-len-clause-machine : goal.returns-then-height-len-clause-machine
+returns-then-height-len-clause-machine c = λ p.
+    let i = c.args.self.now in
+    changed-innermost p (answered (option_copied c.args.target) (Ok (c.args.value ∷ []))) c.args.height i c.replace.new.frame (omega (arith, i.below.ok.0)) (ap (λ (a : Frame). frame_of p i.leaving a) c.replace.ensures)
+
+pub returns-then-height-len-clause-path : goal.returns-then-height-len-clause-path
+returns-then-height-len-clause-path c = let i = c.args.self.now in ap (λ (a : Frame). let x : Running = record i { top = a } in path_of x) c.replace.ensures
+
+pub returns-then-height-len-clause-sound : goal.returns-then-height-len-clause-sound
+returns-then-height-len-clause-sound c = λ p h.
+    let i = c.args.self.now in
+    let env = with_variables i.top.env (with_answer (option_copied c.args.target) c.args.value i.top.env.variables) in
+    subst (λ (a : Frame). IsInstance p (record i { top = a })) (sym c.replace.ensures) (innermost-sound p i env i.top.faulted refl h)
+
+-- one below it
+
+pub replace-requires-then-height-len-2 : goal.replace-requires-then-height-len-2
+replace-requires-then-height-len-2 c =
+    let i = c.args.self.now in
+    one-below-named c.args.plan.now i c.requires.named c.args.height c.index_mut.result.now (omega (arith, i.below.ok.0)) c.index_mut.ensures.value
+
 pub returns-then-height-len-2-clause-machine : goal.returns-then-height-len-2-clause-machine
-returns-then-height-len-2-clause-machine c = λ plan.
-    changed-inside plan (answered (option_copied c.args.target) (Ok (c.args.value ∷ []))) c.args.height c.args.self.now _ c.index_mut.result.now (record c.index_mut.result.now { env = c.replace-then-height-len-2.new.env }) (omega (arith, c.args.self.now.below.ok.0)) c.index_mut.ensures.value refl (ap (λ x. record (frame_of plan false c.index_mut.result.now) { env = x }) c.replace-then-height-len-2.ensures)
+returns-then-height-len-2-clause-machine c = λ p.
+    let new = c.replace-then-height-len-2.new.frame in
+    changed-inside p (answered (option_copied c.args.target) (Ok (c.args.value ∷ []))) c.args.height c.args.self.now _ c.index_mut.result.now new (omega (arith, c.args.self.now.below.ok.0)) c.index_mut.ensures.value refl (ap (λ (a : Frame). frame_of p false a) c.replace-then-height-len-2.ensures)
 
 pub returns-else-height-len-2-clause-machine : goal.returns-else-height-len-2-clause-machine
-returns-else-height-len-2-clause-machine c = λ plan. changed-beyond plan (answered (option_copied c.args.target) (Ok (c.args.value ∷ []))) c.args.height c.args.self.now (omega (arith, c.args.self.now.below.ok.0))
+returns-else-height-len-2-clause-machine c = λ p. changed-beyond p (answered (option_copied c.args.target) (Ok (c.args.value ∷ []))) c.args.height c.args.self.now (omega (arith, c.args.self.now.below.ok.0))
 
 pub returns-then-height-len-2-clause-path : goal.returns-then-height-len-2-clause-path
 returns-then-height-len-2-clause-path c =
     let i = c.args.self.now in
     let old = c.index_mut.result.now in
-    changed-path i (set i.below.items c.args.height (record old { env = c.replace-then-height-len-2.new.env })) (scopes-replaced i.below.items c.args.height old (record old { env = c.replace-then-height-len-2.new.env }) (omega (arith, i.below.ok.0)) c.index_mut.ensures.value refl)
+    let new = c.replace-then-height-len-2.new.frame in
+    let levels = ap (λ (a : Frame). a.levels.items) c.replace-then-height-len-2.ensures in
+    changed-path i (set i.below.items c.args.height new) (scopes-replaced i.below.items c.args.height old new (omega (arith, i.below.ok.0)) c.index_mut.ensures.value levels)
 
 pub returns-then-height-len-2-clause-sound : goal.returns-then-height-len-2-clause-sound
-returns-then-height-len-2-clause-sound c = λ plan h.
+returns-then-height-len-2-clause-sound c = λ p h.
     let i = c.args.self.now in
     let old = c.index_mut.result.now in
-    let same = scopes-replaced i.below.items c.args.height old (record old { env = c.replace-then-height-len-2.new.env }) (omega (arith, i.below.ok.0)) c.index_mut.ensures.value refl in
+    let new = c.replace-then-height-len-2.new.frame in
+    let is = c.replace-then-height-len-2.ensures in
+    let same = scopes-replaced i.below.items c.args.height old new (omega (arith, i.below.ok.0)) c.index_mut.ensures.value (ap (λ (a : Frame). a.levels.items) is) in
+    let was = one-below-named p i h.named c.args.height old (omega (arith, i.below.ok.0)) c.index_mut.ensures.value in
     record {
       strand = record { fits = h.strand.fits; within = h.strand.within; few = h.strand.few };
-      few = changed-few i (set i.below.items c.args.height (record old { env = c.replace-then-height-len-2.new.env })) same h.few;
-      around = changed-around i (set i.below.items c.args.height (record old { env = c.replace-then-height-len-2.new.env })) same plan h.around;
+      few = changed-few i (set i.below.items c.args.height new) same h.few;
+      around = changed-around i (set i.below.items c.args.height new) same p h.around;
       leaving = h.leaving;
+      named = named-set p i c.args.height new (same-named p old new (ap (λ (a : Frame). a.function) is) (ap (λ (a : Frame). a.env.names) is) was) h.named;
     }

@@ -1,35 +1,62 @@
 use lib.IntN.{nat_abs}
-use Rattle.std.proofs.Common.{◌≡◌, ap, sym, ◌∙◌, w64, rules, SFits, Some}
+use Rattle.std.proofs.Common.{get_or, sym, ap, ◌∙◌, arith, w64, rules, SFits}
 use Rattle.std.proofs.lemmas.Int.{to_z-of_z}
-use Rattle.serial_meaning.specs.Values.{Env, slot_of, items_of, number}
-use Rattle.serial_meaning.specs.Exec.{with_slot, with_item}
+use Rattle.serial_meaning.specs.Exec.{with_item, with_slot}
+use Rattle.serial_meaning.specs.Values.{items_of, number, slot_of}
 use Rattle.serial_meaning.specs.declared.environment.Slot.TheVariants.{Array}
-use Rattle.strand_values.proofs.PlaceLemmas.{slot_found, slot_missing, set_found}
-use Rattle.strand_values.proofs.ItemLemmas.{index_is_within, item_there, slot_stored, no_index_of_none}
+use Rattle.strand_values.specs.Environments.{held, with_filled, with_variables}
+use Rattle.strand_values.proofs.Filled.{entry_holds, entry_put, entry_there, in_table, place_found, seen_put, some_of}
+use Rattle.strand_values.proofs.ItemLemmas.{array_there, index_is_within, item_there, stored_there}
 use Rattle.strand_values.proofs.environment.Environment.set_item.Goals as goal
+
+pub bounds-places-name : goal.bounds-places-name
+bounds-places-name c = in_table c.args.places.now c.args.self.now.names c.args.name.now c.requires.name
+
+pub index_mut-requires : goal.index_mut-requires
+index_mut-requires c =
+    let i = c.self.inside in
+    let env = c.args.self.now in
+    let x = c.args.name.now in
+    let place = get_or c.args.places.now x.at 0 in
+    let there = place_found c.args.places.now env.names x c.requires.name in
+    let within = entry_there i.names.value i.entries.items i.filled.items c.self.invariant env c.self.view_is place x.bytes there in
+    omega (arith, within, i.entries.ok.0)
 
 pub set_at-requires : goal.set_at-requires
 set_at-requires c =
-    let there = sym (rw c.deref.ensures.value at c.place.ensures) ∙ c.in-Some.is in
-    let e = slot_found c.in-Some.i c.self.inside.variables.items c.args.name.now.bytes c.index_mut.result.now there c.index_mut.ensures.value in
-    let found = ap (λ (vs : Env). slot_of vs c.args.name.now.bytes) (sym c.self.view_is) ∙ e in
-    rw (to_z-of_z w64 c.args.index c.ranges.index) (index_is_within _ c.args.index (item_there _ _ c.args.index found c.requires))
+    let i = c.self.inside in
+    let env = c.args.self.now in
+    let x = c.args.name.now in
+    let place = get_or c.args.places.now x.at 0 in
+    let there = place_found c.args.places.now env.names x c.requires.name in
+    let is = sym (entry_holds i.names.value i.entries.items i.filled.items c.self.invariant env c.self.view_is place x.bytes there c.index_mut.result.now c.index_mut.ensures.value) in
+    rw (to_z-of_z w64 c.args.index c.ranges.index) (index_is_within _ c.args.index (item_there _ _ c.args.index is c.requires.there))
 
-pub unreachable-requires : goal.unreachable-requires
-unreachable-requires c =
-    let missing = sym (rw c.deref.ensures.value at c.place.ensures) ∙ c.in-None.is in
-    let e = slot_missing c.self.inside.variables.items c.args.name.now.bytes missing in
-    no_index_of_none c.args.index (item_there _ _ c.args.index (ap (λ (vs : Env). slot_of vs c.args.name.now.bytes) (sym c.self.view_is) ∙ e) c.requires)
+pub invariant_of-self : goal.invariant_of-self
+invariant_of-self c =
+    let i = c.self.inside in
+    let env = c.args.self.now in
+    let x = c.args.name.now in
+    let place = get_or c.args.places.now x.at 0 in
+    let there = place_found c.args.places.now env.names x c.requires.name in
+    let e = c.index_mut.result.now in
+    let is = sym (entry_holds i.names.value i.entries.items i.filled.items c.self.invariant env c.self.view_is place x.bytes there e c.index_mut.ensures.value) in
+    let some = some_of (held e) (array_there (held e) c.args.index (item_there _ _ c.args.index is c.requires.there)) in
+    let noted = sym (ap (λ o. with_filled i.filled.items place o) some.1) in
+    entry_put i.names.value i.entries.items i.filled.items c.self.invariant env c.self.view_is place x.bytes there e c.index_mut.ensures.value i.filled.items noted c.set_at.new.self _ c.set_at.ensures
 
 pub returns : goal.returns
 returns c =
-    let there = sym (rw c.deref.ensures.value at c.place.ensures) ∙ c.in-Some.is in
-    let f = slot_found c.in-Some.i c.self.inside.variables.items c.args.name.now.bytes c.index_mut.result.now there c.index_mut.ensures.value in
-    let slot = Array (with_item (items_of (Some c.index_mut.result.now.slot)) (nat_abs c.args.index) (number c.args.value.now)) in
-    let e = set_found c.in-Some.i c.self.inside.variables.items c.args.name.now.bytes slot c.index_mut.result.now there c.index_mut.ensures.value in
-    let found = ap (λ (vs : Env). slot_of vs c.args.name.now.bytes) (sym c.self.view_is) ∙ f in
+    let i = c.self.inside in
+    let env = c.args.self.now in
+    let x = c.args.name.now in
+    let place = get_or c.args.places.now x.at 0 in
+    let there = place_found c.args.places.now env.names x c.requires.name in
+    let e = c.index_mut.result.now in
+    let is = sym (entry_holds i.names.value i.entries.items i.filled.items c.self.invariant env c.self.view_is place x.bytes there e c.index_mut.ensures.value) in
+    let some = some_of (held e) (array_there (held e) c.args.index (item_there _ _ c.args.index is c.requires.there)) in
+    let noted = sym (ap (λ o. with_filled i.filled.items place o) some.1) in
     let fits : SFits w64 c.number.result = search rules in
-    let r = rw (to_z-of_z w64 c.args.index c.ranges.index, to_z-of_z w64 c.number.result fits, c.number.ensures) at c.set_at.ensures in
-    rw r
-    (e ∙ ap (λ (vs : Env). with_slot vs c.args.name.now.bytes slot) c.self.view_is
-    ∙ ap (λ slot. with_slot c.args.self.now c.args.name.now.bytes slot) (slot_stored _ _ c.args.index c.args.value.now found c.requires))
+    let holds = rw (to_z-of_z w64 c.args.index c.ranges.index, to_z-of_z w64 c.number.result fits, c.number.ensures) at c.set_at.ensures in
+    seen_put i.names.value i.entries.items i.filled.items c.self.invariant env c.self.view_is place x.bytes there e c.index_mut.ensures.value i.filled.items noted c.set_at.new.self (Array (with_item (items_of (held e)) (nat_abs c.args.index) (number c.args.value.now))) holds
+    ∙ ap (λ s. with_variables env (with_slot env.variables x.bytes s)) (stored_there (slot_of env.variables x.bytes) (held e) c.args.index c.args.value.now is c.requires.there)

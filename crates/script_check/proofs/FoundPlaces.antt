@@ -1,0 +1,10 @@
+pub mod Parts
+pub mod Collected
+pub mod Named
+pub mod Picked
+pub mod Rising
+pub mod Known
+pub mod Filled
+pub mod Reads
+pub mod Few
+pub mod Found

@@ -1,0 +1,69 @@
+// Where each name of a script finds its variable, by the offset of the name.
+
+ghost use Rattle.std.specs.Prelude.{◌≡◌, ◌≤◌, All, IfOk, OnOk, length};
+ghost use Rattle.script_check.specs.Places.{each_names, named_in_function, places_of, variable_names, with_place, with_places};
+ghost use Rattle.script_check.specs.Rules.{most_variables};
+
+use crate::memory::Memory;
+use crate::named::named_in;
+use crate::variables::Variables;
+use script_grammar::{Function, Items, Name, NameText};
+use std::alloc::Global;
+
+/// The names of the variables of each function, and the table of places. Each offset of a variable's name has the variable's place there.
+pub(crate) fn places(
+    alloc: Global,
+    functions: &[Function],
+) -> Result<(Items<Items<NameText>>, Items<u16>), Memory>
+    requires { All (λ f. length (variable_names f) ≤ most_variables) functions.now }
+    ensures names { IfOk result (λ kept. kept.0 ≡ each_names functions.now) }
+    ensures places { IfOk result (λ kept. kept.1 ≡ places_of functions.now) }
+{
+    let mut each = Vec::with_capacity(alloc, functions.len())?;
+    let mut table = Vec::new(alloc);
+    for f in functions {
+        let named = named_in(alloc, f)?;
+        let variables = variables_of(alloc, f, named.as_slice())?;
+        put_each(&mut table, &variables, named.as_slice())?;
+        each.push(variables.names())?;
+    }
+    Ok((Items(each), Items(table)))
+}
+
+/// The variables of a function that names these after its parameters.
+fn variables_of(alloc: Global, f: &Function, named: &[Name]) -> Result<Variables, Memory>
+    requires named { named.now ≡ named_in_function f.now }
+    requires few { length (variable_names f.now) ≤ most_variables }
+    ensures { IfOk result (λ variables. variables ≡ variable_names f.now) }
+{
+    let mut variables = Variables::new(alloc);
+    for param in f.params.as_slice() {
+        variables = variables.with(alloc, &param.name.bytes)?;
+    }
+    for name in named {
+        variables = variables.with_new(alloc, &name.bytes)?;
+    }
+    Ok(variables)
+}
+
+/// The places of these names.
+fn put_each(table: &mut Vec<u16>, variables: &Variables, named: &[Name]) -> Result<(), Memory>
+    ensures { OnOk result (table.new.items ≡ with_places variables.now table.old.items named.now) }
+{
+    for name in named {
+        let place = variables.place(&name.bytes).unwrap_or(0);
+        put(table, name.at as usize, place)?;
+    }
+    Ok(())
+}
+
+/// A place behind the table's end, with zeros before it up to there.
+fn put(table: &mut Vec<u16>, at: usize, place: u16) -> Result<(), Memory>
+    ensures { OnOk result (table.new.items ≡ with_place table.old.items at place) }
+{
+    while table.len() < at {
+        table.push(0)?;
+    }
+    table.push(place)?;
+    Ok(())
+}

@@ -1,0 +1,19 @@
+use Rattle.std.proofs.Common.{sym, ap, ◌∙◌, subst}
+use Rattle.strand_machine.specs.Tasks.{IsSound, view_of}
+use Rattle.strand_machine.specs.declared.parts.Parts.{Parts}
+use Rattle.strand_machine.proofs.NextStops.Advancing.{waits-sound}
+use Rattle.strand_machine.proofs.Moves.Making.{resumed-so}
+use Rattle.strand_machine.proofs.task.Task.resume_in.Goals as goal
+
+pub look_on-requires-clause-sound : goal.look_on-requires-clause-sound
+look_on-requires-clause-sound c =
+    let p = c.self.inside.parts.value in
+    subst (λ (q : Parts). IsSound q.body q.work) (sym c.deref_mut.ensures.value) (waits-sound p.body p.work c.args.self c.self.view_is c.requires.waits c.self.invariant)
+
+pub returns-then-ready-clause-resumed : goal.returns-then-ready-clause-resumed
+returns-then-ready-clause-resumed c =
+    let same = ap (λ (q : Parts). view_of q.body q.work) c.deref_mut.ensures.value ∙ c.self.view_is in resumed-so _ c.args.self _ _ _ same c.if-ready.true c.in_ok-ready.ensures.resumed
+
+pub returns-clause-resumed : goal.returns-clause-resumed
+returns-clause-resumed c =
+    let same = ap (λ (q : Parts). view_of q.body q.work) c.deref_mut.ensures.value ∙ c.self.view_is in resumed-so _ c.args.self _ _ _ same c.if-ready.false c.in_ok-ready.ensures.resumed

@@ -1,0 +1,21 @@
+use Rattle.strand_moves.proofs.OpenScopes.Keeping.{innermost-sound}
+use Rattle.strand_moves.proofs.Statements.Naming.{names-stay}
+use Rattle.strand_moves.proofs.Frames.Names.{innermost-named, names-are, names-there}
+use Rattle.strand_moves.proofs.running.Running.take_values.Goals as goal
+
+pub unreachable-requires : goal.unreachable-requires
+unreachable-requires c =
+    let plan = c.args.plan.now in
+    let i = c.args.self.now in
+    names-there plan i.top (innermost-named plan i c.requires.named) c.in_default.ensures
+
+pub fill-requires : goal.fill-requires
+fill-requires c =
+    let plan = c.args.plan.now in
+    let i = c.args.self.now in
+    names-are plan i.top (innermost-named plan i c.requires.named) c.in-Some.names.now c.in-Some.ensures
+
+pub returns-clause-sound : goal.returns-clause-sound
+returns-clause-sound c = λ p h.
+    let i = c.args.self.now in
+    innermost-sound p i c.fill.new.self i.top.faulted (names-stay c.fill.new.self i.top.env _ c.in_ok-fill.ensures.ok) h

@@ -1,0 +1,90 @@
+-- Chains of operators, one operand after another.
+use Rattle.std.proofs.Common.{◌≡◌, ℕ, zero, suc, ◌<◌, Bool, List, [], ◌∷◌, map, length, get_or, drop, Result, Ok, Err, refl, sym, ap, subst, ◌∙◌, arith, rules}
+use Rattle.std.proofs.Common.{ℤ}
+use Rattle.script_grammar.specs.declared.tree.Expr.{the_lemmas}
+use Rattle.script_grammar.specs.declared.tree.ProductPart.{ProductPart}
+use Rattle.script_grammar.specs.declared.tree.ProductSign.{ProductSign}
+use Rattle.script_grammar.specs.declared.tree.SumPart.{SumPart}
+use Rattle.std.specs.Result.{IsErrAnd}
+use Rattle.serial_meaning.specs.Runs.{◌>>=◌}
+use Rattle.serial_meaning.specs.Values.{Val, Env, Meaning, number, added, product, sums, products, sum_part, product_part, value_of}
+use Rattle.serial_meaning.specs.declared.value.Value.{Value}
+use Rattle.serial_meaning.specs.declared.value.Value.TheVariants.{Int}
+use Rattle.serial_meaning.specs.declared.event.FaultKind.{FaultKind}
+use Rattle.strand_values.specs.Gives.{Gives, numbered, integral}
+use Rattle.strand_values.specs.declared.halt.Halt.{Halt}
+use Rattle.strand_values.specs.declared.halt.Halt.TheVariants as halt
+
+summand : (p : SumPart) → sum_part p ≡ (p.minus, value_of p.operand)
+summand p = search (rules, the_lemmas)
+
+factor : (p : ProductPart) → product_part p ≡ (p.sign, value_of p.operand)
+factor p = search (rules, the_lemmas)
+
+-- what is answered where a step failed so
+failed : (r : Result ℤ Halt) (h : Halt) → IsErrAnd r (λ e. e ≡ h) → integral r ≡ Err h
+failed (Ok n) h g = absurd g
+failed (Err k) h g = ap (λ e. Err e) g
+
+given : (r : Result ℤ Halt) (h : Halt) (d : Val) → IsErrAnd r (λ e. e ≡ h) → Gives {A = Value} (Err h) d → Gives (integral r) d
+given r h d so g = subst (λ x. Gives {A = Value} x d) (sym (failed r h so)) g
+
+-- an operand that counts as no number ends a chain
+ended : (f : Val → Val) (w : Val) (h : Halt) → ((kind : FaultKind) → f (Err kind) ≡ Err kind) → Gives {A = ℤ} (Err h) (numbered w) → Gives {A = Value} (Err h) (f w)
+ended f w halt.Memory out g = tt
+ended f (Ok v) (halt.Fault kind) out g = absurd (cc)
+ended f (Err k) (halt.Fault kind) out g = let same : k ≡ kind = cc in out k ∙ ap (λ e. Err e) same
+
+module _ (env : Env) where
+  at_sum : (rest : List SumPart) (i : ℕ) (p : SumPart) (v : Value) → i < length rest → p ≡ get_or rest i p →
+      sums env v (map sum_part (drop i rest)) ≡ (value_of p.operand env >>= λ y. added p.minus (number v) (number y) >>= λ z. sums env z (map sum_part (drop (suc i) rest)))
+  at_sum [] i p v h e = absurd (omega arith)
+  at_sum (q ∷ qs) zero p v h e =
+      let Goes : SumPart → Type 0 = λ s. sums env v (sum_part q ∷ map sum_part qs) ≡ (value_of s.operand env >>= λ y. added s.minus (number v) (number y) >>= λ z. sums env z (map sum_part qs)) in
+      subst Goes (sym e) (ap (λ (m : Bool × Meaning). m.1 env >>= λ y. added m.0 (number v) (number y) >>= λ z. sums env z (map sum_part qs)) (summand q))
+  at_sum (q ∷ qs) (suc i) p v h e = at_sum qs i p v (omega arith) e
+
+  at_product : (rest : List ProductPart) (i : ℕ) (p : ProductPart) (v : Value) → i < length rest → p ≡ get_or rest i p →
+      products env v (map product_part (drop i rest)) ≡ (value_of p.operand env >>= λ y. product p.sign (number v) (number y) >>= λ z. products env z (map product_part (drop (suc i) rest)))
+  at_product [] i p v h e = absurd (omega arith)
+  at_product (q ∷ qs) zero p v h e =
+      let Goes : ProductPart → Type 0 = λ s. products env v (product_part q ∷ map product_part qs) ≡ (value_of s.operand env >>= λ y. product s.sign (number v) (number y) >>= λ z. products env z (map product_part qs)) in
+      subst Goes (sym e) (ap (λ (m : ProductSign × Meaning). m.1 env >>= λ y. product m.0 (number v) (number y) >>= λ z. products env z (map product_part qs)) (factor q))
+  at_product (q ∷ qs) (suc i) p v h e = at_product qs i p v (omega arith) e
+
+  -- the number of an operand goes into the chain
+  goes : (f : ℤ → Val) (g : Value → Val) (w : Val) (m s : ℤ) → numbered w ≡ Ok m → f m ≡ Ok (Int s) → (w >>= λ y. f (number y) >>= g) ≡ g (Int s)
+  goes f g (Err kind) m s h k = absurd (cc)
+  goes f g (Ok y) m s h k = let e : number y ≡ m = cc in rw (e, k) refl
+
+  pub next_sum : (rest : List SumPart) (i : ℕ) (p : SumPart) (n : ℤ) (d : Val) (m s : ℤ) → i < length rest → p ≡ get_or rest i p → numbered (value_of p.operand env) ≡ Ok m → added p.minus n m ≡ Ok (Int s) →
+      d ≡ sums env (Int n) (map sum_part (drop i rest)) → d ≡ sums env (Int s) (map sum_part (drop (suc i) rest))
+  next_sum rest i p n d m s h e w k so = so ∙ at_sum rest i p (Int n) h e ∙ goes (added p.minus n) (λ z. sums env z (map sum_part (drop (suc i) rest))) (value_of p.operand env) m s w k
+
+  pub next_product : (rest : List ProductPart) (i : ℕ) (p : ProductPart) (n : ℤ) (d : Val) (m s : ℤ) → i < length rest → p ≡ get_or rest i p → numbered (value_of p.operand env) ≡ Ok m → product p.sign n m ≡ Ok (Int s) →
+      d ≡ products env (Int n) (map product_part (drop i rest)) → d ≡ products env (Int s) (map product_part (drop (suc i) rest))
+  next_product rest i p n d m s h e w k so = so ∙ at_product rest i p (Int n) h e ∙ goes (product p.sign n) (λ z. products env z (map product_part (drop (suc i) rest))) (value_of p.operand env) m s w k
+
+  -- an operand without one ends it
+  pub sum_ends : (rest : List SumPart) (i : ℕ) (p : SumPart) (n : ℤ) (d : Val) (h : Halt) (r : Result ℤ Halt) → i < length rest → p ≡ get_or rest i p →
+      Gives {A = ℤ} (Err h) (numbered (value_of p.operand env)) → IsErrAnd r (λ e. e ≡ h) → d ≡ sums env (Int n) (map sum_part (drop i rest)) → Gives (integral r) d
+  sum_ends rest i p n d h r k e g so from =
+      let f : Val → Val = λ w. w >>= λ y. added p.minus n (number y) >>= λ z. sums env z (map sum_part (drop (suc i) rest)) in
+      given r h d so (subst (λ x. Gives {A = Value} (Err h) x) (sym (from ∙ at_sum rest i p (Int n) k e)) (ended f (value_of p.operand env) h (λ kind. refl) g))
+
+  pub product_ends : (rest : List ProductPart) (i : ℕ) (p : ProductPart) (n : ℤ) (d : Val) (h : Halt) (r : Result ℤ Halt) → i < length rest → p ≡ get_or rest i p →
+      Gives {A = ℤ} (Err h) (numbered (value_of p.operand env)) → IsErrAnd r (λ e. e ≡ h) → d ≡ products env (Int n) (map product_part (drop i rest)) → Gives (integral r) d
+  product_ends rest i p n d h r k e g so from =
+      let f : Val → Val = λ w. w >>= λ y. product p.sign n (number y) >>= λ z. products env z (map product_part (drop (suc i) rest)) in
+      given r h d so (subst (λ x. Gives {A = Value} (Err h) x) (sym (from ∙ at_product rest i p (Int n) k e)) (ended f (value_of p.operand env) h (λ kind. refl) g))
+
+  stops : (f : ℤ → Val) (g : Value → Val) (w : Val) (m : ℤ) (kind : FaultKind) → numbered w ≡ Ok m → f m ≡ Err kind → (w >>= λ y. f (number y) >>= g) ≡ Err kind
+  stops f g (Err k) m kind h e = absurd (cc)
+  stops f g (Ok y) m kind h e = let same : number y ≡ m = cc in rw (same, e) refl
+
+  -- and so does a division by 0
+  pub product_stops : (rest : List ProductPart) (i : ℕ) (p : ProductPart) (n : ℤ) (d : Val) (m : ℤ) (kind : FaultKind) (r : Result ℤ Halt) → i < length rest → p ≡ get_or rest i p →
+      numbered (value_of p.operand env) ≡ Ok m → product p.sign n m ≡ Err kind → IsErrAnd r (λ e. e ≡ halt.Fault kind) → d ≡ products env (Int n) (map product_part (drop i rest)) → Gives (integral r) d
+  product_stops rest i p n d m kind r k e w stop so from =
+      let whole = from ∙ at_product rest i p (Int n) k e ∙ stops (product p.sign n) (λ z. products env z (map product_part (drop (suc i) rest))) (value_of p.operand env) m kind w stop in
+      given r (halt.Fault kind) d so whole

@@ -1,0 +1,43 @@
+use Rattle.std.proofs.Common.{[], get_or, ap, ◌∙◌, arith}
+use Rattle.serial_meaning.specs.Exec.{with_front, with_slot}
+use Rattle.serial_meaning.specs.Values.{items_of}
+use Rattle.serial_meaning.specs.declared.environment.Slot.TheVariants.{Array}
+use Rattle.strand_values.specs.Environments.{held, with_variables}
+use Rattle.strand_values.proofs.Filled.{entry_holds, entry_put, entry_there, seen_put}
+use Rattle.strand_values.proofs.environment.Environment.fill_entry.Goals as goal
+
+pub index-requires : goal.index-requires
+index-requires c =
+    let i = c.self.inside in
+    let env = c.args.self.now in
+    let place = c.args.place in
+    let within = entry_there i.names.value i.entries.items i.filled.items c.self.invariant env c.self.view_is place (get_or env.names place []) c.requires in
+    omega (arith, within, i.entries.ok.0)
+
+pub index_mut-requires : goal.index_mut-requires
+index_mut-requires c =
+    let i = c.self.inside in
+    let env = c.args.self.now in
+    let place = c.args.place in
+    let within = entry_there i.names.value i.entries.items i.filled.items c.self.invariant env c.self.view_is place (get_or env.names place []) c.requires in
+    omega (arith, within, i.entries.ok.0)
+
+pub invariant_of-self : goal.invariant_of-self
+invariant_of-self c =
+    let i = c.self.inside in
+    let env = c.args.self.now in
+    let place = c.args.place in
+    let noted = rw c.replace.ensures.value at c.noted.ensures in
+    entry_put i.names.value i.entries.items i.filled.items c.self.invariant env c.self.view_is place (get_or env.names place []) c.requires
+    c.index.result.now c.index.ensures c.noted.result.items noted c.set_front.new.self (Array (with_front (items_of (held c.index_mut.result.now)) c.args.values.now)) c.set_front.ensures
+
+pub returns : goal.returns
+returns c = λ name there.
+    let i = c.self.inside in
+    let env = c.args.self.now in
+    let place = c.args.place in
+    let noted = rw c.replace.ensures.value at c.noted.ensures in
+    seen_put i.names.value i.entries.items i.filled.items c.self.invariant env c.self.view_is place name there
+    c.index.result.now c.index.ensures c.noted.result.items noted c.set_front.new.self (Array (with_front (items_of (held c.index_mut.result.now)) c.args.values.now)) c.set_front.ensures
+    ∙ ap (λ o. with_variables env (with_slot env.variables name (Array (with_front (items_of o) c.args.values.now))))
+    (entry_holds i.names.value i.entries.items i.filled.items c.self.invariant env c.self.view_is place name there c.index_mut.result.now c.index_mut.ensures.value)

@@ -1,0 +1,48 @@
+-- The value of an expression whose variables are found in another way than by their names.
+use Rattle.std.specs.Prelude.{◌≡◌, ℕ, true, Bool, List, [], Ok, Option, get_or}
+use Rattle.script_grammar.specs.declared.tree.Expr.{Expr}
+use Rattle.script_grammar.specs.declared.tree.Expr.TheFolds.{fold-Expr, fold-SumPart, fold-ProductPart}
+use Rattle.script_grammar.specs.declared.tree.Expr.TheOpen as node
+use Rattle.script_grammar.specs.declared.tree.Expr.TheOpen.{Expr-F}
+use Rattle.script_grammar.specs.declared.tree.Name.{Name}
+use Rattle.script_grammar.specs.declared.tree.ProductPart.{ProductPart}
+use Rattle.script_grammar.specs.declared.tree.ProductSign.{ProductSign}
+use Rattle.script_grammar.specs.declared.tree.SumPart.{SumPart}
+use Rattle.script_check.specs.Places.{every_in, has_place}
+use Rattle.serial_meaning.specs.Runs.{◌>>=◌}
+use Rattle.serial_meaning.specs.Values.{Val, Meaning, item, items_of, number, product_at, scalar, sum_at, value_at, value_of}
+use Rattle.serial_meaning.specs.declared.environment.Slot.{Slot}
+use Rattle.strand_values.specs.Environments.{IsEnvironment, held_at, shown}
+use Rattle.strand_values.specs.declared.entry.Entry.{Entry}
+
+module _ (slot : Name → Option Slot) where
+  -- one node, with what its parts give in their places
+  abbrev pub found_at : Expr-F Meaning (ProductSign × Meaning) (Bool × Meaning) → Meaning
+  found_at (node.Number n) env = value_at (node.Number n) env
+  found_at (node.Var x) env = Ok (scalar (slot x))
+  found_at (node.Item x i) env = i env >>= λ v. item (items_of (slot x)) (number v)
+  found_at (node.Neg at e) env = value_at (node.Neg at e) env
+  found_at (node.Same at a b) env = value_at (node.Same at a b) env
+  found_at (node.Older at a b) env = value_at (node.Older at a b) env
+  found_at (node.Compare a how b) env = value_at (node.Compare a how b) env
+  found_at (node.Sum first rest) env = value_at (node.Sum first rest) env
+  found_at (node.Product first rest) env = value_at (node.Product first rest) env
+
+  abbrev pub meaning_by : Expr → Meaning
+  meaning_by = fold-Expr Meaning (ProductSign × Meaning) (Bool × Meaning) found_at product_at sum_at
+
+  abbrev pub sum_part_by : SumPart → Bool × Meaning
+  sum_part_by = fold-SumPart Meaning (ProductSign × Meaning) (Bool × Meaning) found_at product_at sum_at
+
+  abbrev pub product_part_by : ProductPart → ProductSign × Meaning
+  product_part_by = fold-ProductPart Meaning (ProductSign × Meaning) (Bool × Meaning) found_at product_at sum_at
+
+  -- where no variable is there by its name
+  abbrev pub value_by : Expr → Val
+  value_by e = meaning_by e []
+
+-- where a table has the place of each variable, what stands in the places gives the value that the names give
+abbrev pub PlacesMeanNames : Type 0
+PlacesMeanNames =
+    (table : List ℕ) (names : List (List ℕ)) (entries : List Entry) (filled : List ℕ) → IsEnvironment names entries filled → (e : Expr) → every_in (has_place table names) e ≡ true →
+    value_by (λ x. held_at entries (get_or table x.at 0)) e ≡ value_of e (shown names entries filled)
