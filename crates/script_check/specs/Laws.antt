@@ -6,7 +6,7 @@ use Rattle.script_check.specs.Names.{Names, IsWithin, both}
 use Rattle.script_check.specs.Rules.{Declared, most_variables}
 use Rattle.script_check.specs.Statements.{Context, judge_all, violations_each, after}
 use Rattle.script_grammar.specs.Text.{IsOfText}
-use Rattle.script_check.specs.Places.{finds_all, places_of, variable_names}
+use Rattle.script_check.specs.Places.{finds_all, table_of_places, variable_names}
 use Rattle.script_check.specs.Valid.{violations, CheckFault, IsValid}
 
 -- Statements that are valid from a set are valid from each subset of it, with no more pending after them.
@@ -31,7 +31,7 @@ FaultIsFirst =
 
 -- The table that is made of a valid script of a text has the place of each variable that the script names.
 abbrev pub PlacesAreFound : Type 0
-PlacesAreFound = (script : Script) → IsOfText script → IsValid script → finds_all (places_of script.functions) script.functions ≡ true
+PlacesAreFound = (script : Script) → IsOfText script → IsValid script → finds_all (table_of_places script.functions) script.functions ≡ true
 
 -- A function of a valid script has at most 256 variables.
 abbrev pub VariablesAreFew : Type 0

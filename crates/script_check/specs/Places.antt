@@ -88,17 +88,17 @@ abbrev pub place_in : List (List ℕ) → List ℕ → Option ℕ
 place_in names name = position (λ other. bytes_eq other name) names
 
 -- one name more, where it is new
-abbrev pub with_variable : List (List ℕ) → List ℕ → List (List ℕ)
-with_variable names name = if is_some (place_in names name) then names else names ++ name ∷ []
+abbrev pub with_new_name : List (List ℕ) → List ℕ → List (List ℕ)
+with_new_name names name = if is_some (place_in names name) then names else names ++ name ∷ []
 
-abbrev pub with_variables : List (List ℕ) → List Name → List (List ℕ)
-with_variables names [] = names
-with_variables names (x ∷ xs) = with_variables (with_variable names x.bytes) xs
+abbrev pub with_new_names : List (List ℕ) → List Name → List (List ℕ)
+with_new_names names [] = names
+with_new_names names (x ∷ xs) = with_new_names (with_new_name names x.bytes) xs
 
 -- The names of a function's variables: its parameters, and then all others that its text has, in the order of their first places there. In a
 -- valid script these are those of its `let` statements.
 abbrev pub variable_names : Function → List (List ℕ)
-variable_names f = with_variables (map (λ q. q.name.bytes) f.params) (named_in_function f)
+variable_names f = with_new_names (map (λ q. q.name.bytes) f.params) (named_in_function f)
 
 -- The table of places
 
@@ -191,10 +191,6 @@ finds_all table functions = all_true (map (finds_in table) functions)
 abbrev pub each_names : List Function → List (List (List ℕ))
 each_names = map variable_names
 
-abbrev pub names_in : Option Function → List (List ℕ)
-names_in (Some f) = variable_names f
-names_in None = []
-
 -- The table that is made: one function after another, and in each one name after another
 
 -- a place at an offset behind the table's end
@@ -209,5 +205,5 @@ abbrev pub with_functions : List ℕ → List Function → List ℕ
 with_functions table [] = table
 with_functions table (f ∷ fs) = with_functions (with_places (variable_names f) table (named_in_function f)) fs
 
-abbrev pub places_of : List Function → List ℕ
-places_of functions = with_functions [] functions
+abbrev pub table_of_places : List Function → List ℕ
+table_of_places functions = with_functions [] functions

@@ -1,7 +1,7 @@
 // Where each name of a script finds its variable, by the offset of the name.
 
 ghost use Rattle.std.specs.Prelude.{◌≡◌, ◌≤◌, All, IfOk, OnOk, length};
-ghost use Rattle.script_check.specs.Places.{each_names, named_in_function, places_of, variable_names, with_place, with_places};
+ghost use Rattle.script_check.specs.Places.{each_names, named_in_function, table_of_places, variable_names, with_place, with_places};
 ghost use Rattle.script_check.specs.Rules.{most_variables};
 
 use crate::memory::Memory;
@@ -17,7 +17,7 @@ pub(crate) fn places(
 ) -> Result<(Items<Items<NameText>>, Items<u16>), Memory>
     requires { All (λ f. length (variable_names f) ≤ most_variables) functions.now }
     ensures names { IfOk result (λ kept. kept.0 ≡ each_names functions.now) }
-    ensures places { IfOk result (λ kept. kept.1 ≡ places_of functions.now) }
+    ensures places { IfOk result (λ kept. kept.1 ≡ table_of_places functions.now) }
 {
     let mut each = Vec::with_capacity(alloc, functions.len())?;
     let mut table = Vec::new(alloc);

@@ -1,7 +1,7 @@
 // The variables of a function with their places.
 
 ghost use Rattle.std.specs.Prelude.{◌≡◌, ◌<◌, ◌≤◌, ◌++◌, ◌∷◌, [], IfOk, length};
-ghost use Rattle.script_check.specs.Places.{place_in, with_variable};
+ghost use Rattle.script_check.specs.Places.{place_in, with_new_name};
 ghost use Rattle.script_check.specs.Rules.{most_variables};
 
 use crate::memory::Memory;
@@ -60,8 +60,8 @@ impl Variables {
 
     /// The same of a name that is new.
     pub(crate) fn with_new(self, alloc: Global, name: &NameText) -> Result<Variables, Memory>
-        requires { length (with_variable self name.now) ≤ most_variables }
-        ensures { IfOk result (λ more. more ≡ with_variable self name.now) }
+        requires { length (with_new_name self name.now) ≤ most_variables }
+        ensures { IfOk result (λ more. more ≡ with_new_name self name.now) }
     {
         if self.place(name).is_some() {
             return Ok(self);

@@ -1,4 +1,5 @@
 pub mod Answering
 pub mod Cutting
 pub mod Faulting
+pub mod Targets
 pub mod Taking

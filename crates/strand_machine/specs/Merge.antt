@@ -12,15 +12,18 @@ use Rattle.serial_meaning.specs.declared.value.Value.{Value}
 use Rattle.strand_meaning.specs.Answers.{answer_evaluations}
 use Rattle.strand_meaning.specs.Cuts.{IsByFaultOf, ended_after}
 use Rattle.strand_meaning.specs.Trace.{AwaitedChild, Trace, heard_all}
-use Rattle.strand_meaning.specs.Sound.{IsTask}
+use Rattle.strand_meaning.specs.Machine as machine
+use Rattle.strand_meaning.specs.Sound.{IsTask, TargetIsThere}
 use Rattle.strand_meaning.specs.Task as meaning
 use Rattle.strand_meaning.specs.Task.{Splits, Runs, Over, takes_all, all_values}
 use Rattle.strand_machine.specs.Family.{FamilyView}
+use Rattle.strand_machine.specs.Parts.{destination_of}
 use Rattle.strand_machine.specs.Stops.{any_cut}
 use Rattle.strand_machine.specs.Tasks.{TaskView, stage_of, work_of, task_of, StandsAt, WorksAt}
 use Rattle.strand_machine.specs.declared.body.Body.{Body}
 use Rattle.strand_machine.specs.declared.merge.Heard.{Heard}
 use Rattle.strand_machine.specs.declared.parts.Parts.{Parts}
+use Rattle.strand_machine.specs.declared.trace.Behind.{Behind}
 use Rattle.strand_machine.specs.declared.work.InstanceState.{InstanceState}
 use Rattle.strand_machine.specs.declared.work.Work.{Work}
 
@@ -43,6 +46,23 @@ Stands plan stage = (path : List ℕ) × StandsAt plan path stage
 
 abbrev pub Works : PlanView → Work → Type 0
 Works plan work = (o : Origin) × WorksAt plan o work
+
+-- The variable into which the values of a child at this place go, if it is a loop, is there in the instance of a stage, and in that of what
+-- remains of a task.
+abbrev pub StageHasTarget : machine.Destination → meaning.InstanceState → Type 0
+StageHasTarget place (meaning.Running m) = TargetIsThere m.top.env place
+StageHasTarget place (meaning.AtSync m) = TargetIsThere m.top.env place
+StageHasTarget place (meaning.AtLoop m) = TargetIsThere m.top.env place
+StageHasTarget place (meaning.Ended e) = Unit {0}
+
+abbrev pub HasTarget : machine.Destination → meaning.Work → Type 0
+HasTarget place (Splits left) = Unit {0}
+HasTarget place (Runs stage) = StageHasTarget place stage
+HasTarget place (Over v gone_on) = Unit {0}
+
+abbrev pub HasTargets : List Behind → meaning.Work → Type 0
+HasTargets [] w = Unit {0}
+HasTargets (b ∷ bs) w = HasTarget (destination_of b.place) w × HasTargets bs w
 
 -- By its meaning the stage after it is the one before it, changed so, and an instance in it is still one of the plan.
 pub record BecomesStage (change : meaning.InstanceState → meaning.InstanceState) (before after : InstanceState) : Type 0 where

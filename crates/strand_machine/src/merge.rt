@@ -7,9 +7,10 @@ ghost use Rattle.strand_meaning.specs.Machine.{Spawned, Looped, Half};
 ghost use Rattle.strand_meaning.specs.Trace.{AwaitedChild, heard};
 ghost use Rattle.strand_meaning.specs.Task.{takes, changed, answered, more_values};
 ghost use Rattle.strand_moves.specs.Machines.{IsInstance, machine_of, path_of};
-ghost use Rattle.strand_machine.specs.Merge.{BecomesStage, BecomesWork, KeepsRest, Stands, TakesAnswers, Works, end_of, ending_of, merge_of, with_stage};
+ghost use Rattle.strand_machine.specs.Merge.{BecomesStage, BecomesWork, HasTarget, KeepsRest, StageHasTarget, Stands, TakesAnswers, Works, end_of, ending_of, merge_of, with_stage};
 ghost use Rattle.strand_machine.specs.Parts.{destination_of, awaited_child};
 ghost use Rattle.strand_machine.specs.Stops.{is_cut};
+ghost use Rattle.strand_machine.specs.Tasks.{stage_of, work_of};
 
 use crate::destination::Destination;
 use crate::memory::Memory;
@@ -116,28 +117,20 @@ fn filled(
     plan: &Plan,
     target: &Option<Name>,
     values: &Items<Value>,
-) -> Result<(), Memory>
-    requires { Stands plan.now stage.old }
-    ensures { OnOk result (BecomesStage (takes (Looped target.now) (Ok values.now)) stage.old stage.new) }
+)
+    requires stands { Stands plan.now stage.old }
+    requires target { StageHasTarget (Looped target.now) (stage_of plan.now stage.old) }
+    ensures { BecomesStage (takes (Looped target.now) (Ok values.now)) stage.old stage.new }
 {
     let into = target.as_ref();
     let given = values.as_slice();
     match stage {
-        InstanceState::Running(instance) => {
-            instance.take_values(alloc, plan, into, given)?;
-            Ok(())
-        }
-        InstanceState::AtSync(instance) => {
-            instance.take_values(alloc, plan, into, given)?;
-            Ok(())
-        }
-        InstanceState::AtLoop(instance) => {
-            instance.take_values(alloc, plan, into, given)?;
-            Ok(())
-        }
-        InstanceState::Returned(_) => Ok(()),
-        InstanceState::Faulted(_) => Ok(()),
-        InstanceState::ChildFaulted(_) => Ok(()),
+        InstanceState::Running(instance) => instance.take_values(alloc, plan, into, given),
+        InstanceState::AtSync(instance) => instance.take_values(alloc, plan, into, given),
+        InstanceState::AtLoop(instance) => instance.take_values(alloc, plan, into, given),
+        InstanceState::Returned(_) => {}
+        InstanceState::Faulted(_) => {}
+        InstanceState::ChildFaulted(_) => {}
     }
 }
 
@@ -149,16 +142,15 @@ fn looped(
     target: &Option<Name>,
     outcome: Outcome,
 ) -> Result<(), Memory>
-    requires { Stands plan.now stage.old }
+    requires stands { Stands plan.now stage.old }
+    requires target { StageHasTarget (Looped target.now) (stage_of plan.now stage.old) }
     ensures { OnOk result (BecomesStage (takes (Looped target.now) (ending_of outcome)) stage.old stage.new) }
 {
     match ending(alloc, outcome)? {
-        Ok(values) => { filled(stage, alloc, plan, target, &values) }
-        Err(fault) => {
-            set(stage, InstanceState::ChildFaulted(fault));
-            Ok(())
-        }
+        Ok(values) => filled(stage, alloc, plan, target, &values),
+        Err(fault) => set(stage, InstanceState::ChildFaulted(fault)),
     }
+    Ok(())
 }
 
 /// The stage after the answer of a child.
@@ -169,7 +161,8 @@ fn merge_stage(
     place: Destination,
     outcome: Outcome,
 ) -> Result<(), Memory>
-    requires { Stands plan.now stage.old }
+    requires stands { Stands plan.now stage.old }
+    requires target { StageHasTarget (destination_of place) (stage_of plan.now stage.old) }
     ensures { OnOk result (BecomesStage (takes (destination_of place) (ending_of outcome)) stage.old stage.new) }
 {
     match place {
@@ -193,7 +186,8 @@ fn merge_work(
     place: Destination,
     outcome: Outcome,
 ) -> Result<(), Memory>
-    requires { Works plan.now work.old }
+    requires works { Works plan.now work.old }
+    requires target { HasTarget (destination_of place) (work_of plan.now work.old) }
     ensures { OnOk result (BecomesWork (with_stage (takes (destination_of place) (ending_of outcome))) work.old work.new) }
 {
     match work {
@@ -296,7 +290,8 @@ fn merge_value(
     place: Destination,
     outcome: Outcome,
 ) -> Result<(), Memory>
-    requires { Works plan.now work.old }
+    requires works { Works plan.now work.old }
+    requires target { HasTarget (destination_of place) (work_of plan.now work.old) }
     ensures values { OnOk result (values.new ≡ more_values (destination_of place) (ending_of outcome) values.old) }
     ensures work { OnOk result (BecomesWork (with_stage (takes (destination_of place) (ending_of outcome))) work.old work.new) }
 {
@@ -316,6 +311,7 @@ pub(crate) fn merge_answer(
 ) -> Result<(), Memory>
     requires handed { parts.old.body.trace.handed ≡ [] }
     requires works { Works parts.old.body.family.plan parts.old.work }
+    requires target { HasTarget (destination_of behind.place) (work_of parts.old.body.family.plan parts.old.work) }
     ensures takes { OnOk result (TakesAnswers (awaited_child answer.origin behind ∷ []) (answer ∷ []) (merge_of parts.old heard.old) (merge_of parts.new heard.new)) }
     ensures rest { OnOk result (KeepsRest parts.old parts.new) }
 {

@@ -3,12 +3,12 @@ ghost use Rattle.std.specs.Prelude.{◌≡◌, ◌-◌, List, [], true, false, l
 ghost use Rattle.serial_meaning.specs.Plan.{PlanView};
 ghost use Rattle.strand_meaning.specs.Task.{resumed, resumed_work};
 ghost use Rattle.strand_machine.specs.Family.{tags, origins, AwaitsCount};
-ghost use Rattle.strand_machine.specs.Merge.{BecomesStage, BecomesWork, EndsShort, HasTakenAnswers, IsShort, KeepsRest, TakesAnswers, Works, end_of, merge_of};
+ghost use Rattle.strand_machine.specs.Merge.{BecomesStage, BecomesWork, EndsShort, HasTakenAnswers, HasTargets, IsShort, KeepsRest, TakesAnswers, Works, end_of, merge_of};
 ghost use Rattle.strand_machine.specs.Parts.{awaited, awaited_children};
 ghost use Rattle.strand_meaning.specs.Cuts.{AreAnswersOf};
 ghost use Rattle.strand_machine.specs.Made.{resumed_as};
 ghost use Rattle.strand_machine.specs.Stops.{IsResumed, WentOn, answer_tags};
-ghost use Rattle.strand_machine.specs.Tasks.{Holds, IsSound, view_of};
+ghost use Rattle.strand_machine.specs.Tasks.{Holds, IsSound, view_of, work_of};
 ghost use Rattle.strand_machine.specs.declared.work.InstanceState.TheVariants as stage;
 
 use crate::memory::Memory;
@@ -100,6 +100,7 @@ fn merge_all(
     requires many { length answers ≡ length behind.items }
     requires handed { parts.old.body.trace.handed ≡ [] }
     requires works { Works parts.old.body.family.plan parts.old.work }
+    requires targets { HasTargets behind.items (work_of parts.old.body.family.plan parts.old.work) }
     ensures takes { OnOk result (TakesAnswers (awaited_children (origins (answer_tags answers)) behind.items) answers (merge_of parts.old heard.old) (merge_of parts.new heard.new)) }
     ensures rest { OnOk result (KeepsRest parts.old parts.new) }
     ensures none { IfOk result (λ left. left ≡ []) }
@@ -206,6 +207,9 @@ fn look_on(
 impl Task {
     /// Goes on from a wait, where a look finds that all children have answered. Where one of the answers is a cut, the task ends by its next
     /// advance. On `Memory` the task is dropped.
+    ///
+    /// It is for who resumes one task: `Resumed::NotYet(task)` gives it back as it was, to be asked again once a child has answered, and
+    /// `Resumed::On(task)` is to be advanced. A hand resumes many, and goes by `resume_in`.
     pub fn resume(self, alloc: Global) -> Result<Resumed, Memory>
         requires { self.task.waiting ≡ true }
         ensures { IfOk result (IsResumed self) }

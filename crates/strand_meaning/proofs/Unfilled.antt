@@ -5,4 +5,5 @@ pub mod Changed
 pub mod Clears
 pub mod Moves
 pub mod Taken
+pub mod Targets
 pub mod SoundMoves

@@ -1,9 +1,10 @@
 -- What holds of a task at all times.
-use Rattle.std.specs.Prelude.{◌≡◌, ◌≤◌, ◌<◌, ℕ, ◌+◌, Bool, true, false, ◌||◌, ◌⊎◌, nat_eq, List, [], ◌∷◌, ◌++◌, Option, None, Ok, Err, Contains, length, if◌then◌else◌}
+use Rattle.std.specs.Prelude.{◌≡◌, ◌≤◌, ◌<◌, ℕ, ◌+◌, Bool, true, false, ◌||◌, ◌⊎◌, nat_eq, List, [], ◌∷◌, ◌++◌, Option, None, Ok, Err, IfSome, IsSome, Contains, length, if◌then◌else◌}
 use Rattle.loop_range.specs.Range.{Range}
 use Rattle.script_grammar.specs.declared.tree.Name.{Name}
 use Rattle.serial_meaning.specs.Runs.{done, behind, ◌then◌}
 use Rattle.serial_meaning.specs.Names.{Names}
+use Rattle.serial_meaning.specs.Values.{Env, slot_of}
 use Rattle.serial_meaning.specs.Functions.{function_at, any_spawns}
 use Rattle.serial_meaning.specs.Plan.{PlanView, functions_of}
 use Rattle.serial_meaning.specs.Eval.{path_of, eval}
@@ -88,6 +89,16 @@ abbrev pub AreHalves : List AwaitedChild → Type 0
 AreHalves [] = Unit {0}
 AreHalves (p ∷ ps) = IsHalf p.place × AreHalves ps
 
+-- the variable that a loop's values go to is there
+abbrev pub TargetIsThere : Env → Destination → Type 0
+TargetIsThere env (Spawned owner target) = Unit {0}
+TargetIsThere env (Looped target) = IfSome target (λ x. IsSome (slot_of env x.bytes))
+TargetIsThere env Half = Unit {0}
+
+abbrev pub TargetsAreThere : Env → List AwaitedChild → Type 0
+TargetsAreThere env [] = Unit {0}
+TargetsAreThere env (p ∷ ps) = TargetIsThere env p.place × TargetsAreThere env ps
+
 -- A frame at a sync has nothing unfilled once it goes on, and knows of no fault.
 abbrev pub behind_sync : Frame → Frame
 behind_sync a = record a { faulted = None }
@@ -95,7 +106,7 @@ behind_sync a = record a { faulted = None }
 abbrev pub IsSoundStage : PlanView → List AwaitedChild → InstanceState → Type 0
 IsSoundStage plan parts (Running m) = AreDestinations (length m.below) parts × IsSound plan parts (length m.below) m.top × AreSound plan parts m.top.target m.below
 IsSoundStage plan parts (AtSync m) = AreDestinations (length m.below) parts × IsSound plan [] (length m.below) (behind_sync m.top) × AreSound plan parts m.top.target m.below
-IsSoundStage plan parts (AtLoop m) = IsSound plan parts (length m.below) m.top × AreSound plan parts m.top.target m.below
+IsSoundStage plan parts (AtLoop m) = IsSound plan parts (length m.below) m.top × AreSound plan parts m.top.target m.below × TargetsAreThere m.top.env parts
 IsSoundStage plan parts (Ended (Ok v)) = AreHalves parts
 IsSoundStage plan parts (Ended (Err (Own f))) = (height : ℕ) × AreDestinations height parts
 IsSoundStage plan parts (Ended (Err (ChildFaulted f))) = parts ≡ []

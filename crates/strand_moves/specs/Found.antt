@@ -7,7 +7,7 @@ use Rattle.script_grammar.specs.declared.tree.Name.{Name}
 use Rattle.script_grammar.specs.declared.tree.Right.{Right}
 use Rattle.script_grammar.specs.declared.tree.Stmt.{Stmt}
 use Rattle.serial_meaning.specs.Plan.{PlanView, functions_of}
-use Rattle.strand_values.specs.Environments.{EnvironmentView, Finds, FindsAll}
+use Rattle.strand_values.specs.Environments.{EnvironmentView, FindsExpression, FindsArguments}
 
 -- the table has the place of each variable that a function of the plan names
 abbrev pub ArePlaces : List ℕ → PlanView → Type 0
@@ -33,7 +33,7 @@ FindsSpawn places env to c = EveryInSpawn (has_place places env.names) to c
 
 -- and each that a parallel loop names
 pub record FindsLoop (places : List ℕ) (env : EnvironmentView) (lo hi : Expr) (to : Option Name) (c : CallText) : Type 0 where
-  pub first : Finds places env lo
-  pub end : Finds places env hi
+  pub first : FindsExpression places env lo
+  pub end : FindsExpression places env hi
   pub target : FindsTarget places env to
-  pub args : FindsAll places env c.args
+  pub args : FindsArguments places env c.args

@@ -135,6 +135,7 @@ pub record StaysThere (old new : Running) : Type 0 where
   pub function : new.top.function ≡ old.top.function
   pub levels : new.top.levels.items ≡ old.top.levels.items
   pub names : new.top.env.names ≡ old.top.env.names
+  pub target : new.top.target ≡ old.top.target
   pub steps : new.steps ≡ old.steps
 
 -- the innermost frame stands where it stood, and no step is paid

@@ -1,9 +1,10 @@
 -- What an instance is in the words of the strand's meaning.
-use Rattle.std.specs.Prelude.{◌≡◌, ℕ, ◌+◌, ◌<◌, ◌^◌, Bool, true, false, List, [], ◌∷◌, ◌++◌, Option, Some, None, map, reverse, length, All, if◌then◌else◌}
+use Rattle.std.specs.Prelude.{◌≡◌, ℕ, ◌+◌, ◌<◌, ◌^◌, Bool, true, false, List, [], ◌∷◌, ◌++◌, Option, Some, None, IfSome, IsSome, map, reverse, length, All, if◌then◌else◌}
 use Rattle.dotmix.specs.Trails.{FitsGamma}
 use Rattle.script_grammar.specs.declared.tree.Function.{Function}
+use Rattle.script_grammar.specs.declared.tree.Name.{Name}
 use Rattle.script_grammar.specs.declared.tree.Stmt.{Stmt}
-use Rattle.script_check.specs.Places.{variable_names}
+use Rattle.script_check.specs.Places.{place_in, variable_names}
 use Rattle.serial_meaning.specs.Functions.{function_at}
 use Rattle.serial_meaning.specs.Plan.{PlanView, functions_of}
 use Rattle.strand_meaning.specs.Machine as meaning
@@ -105,8 +106,18 @@ pub record IsNamed (plan : PlanView) (a : Frame) : Type 0 where
   pub of_plan : function_at (functions_of plan) a.function ≡ Some function
   pub names : a.env.names ≡ variable_names function
 
-abbrev pub AreNamed : PlanView → Running → Type 0
-AreNamed plan i = All (IsNamed plan) (i.top ∷ i.below.items)
+-- What a call's value goes to is a variable of the caller's function, if there is a target.
+abbrev pub IsNamedIn : Frame → Option Name → Type 0
+IsNamedIn caller target = IfSome target (λ x. IsSome (place_in caller.env.names x.bytes))
+
+-- the same of a frame with this target and of each below it, by the frames below, the innermost first
+abbrev pub TargetsAreNamed : Option Name → List Frame → Type 0
+TargetsAreNamed target [] = Unit {0}
+TargetsAreNamed target (caller ∷ below) = IsNamedIn caller target × TargetsAreNamed caller.target below
+
+pub record AreNamed (plan : PlanView) (i : Running) : Type 0 where
+  pub each : All (IsNamed plan) (i.top ∷ i.below.items)
+  pub targets : TargetsAreNamed i.top.target (reverse i.below.items)
 
 -- No move changes whose variables they are.
 abbrev pub KeepsNames : PlanView → Running → Running → Type 0

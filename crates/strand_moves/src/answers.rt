@@ -1,15 +1,15 @@
 // What the answers of children change in an instance.
 
-ghost use Rattle.std.specs.Prelude.{◌≡◌, [], ◌∷◌, Some, Ok, Err, OnOk};
+ghost use Rattle.std.specs.Prelude.{◌≡◌, [], ◌∷◌, Some, Ok, Err, IfSome, IsSome};
 ghost use Rattle.std.specs.Option.{option_copied};
 ghost use Rattle.serial_meaning.specs.Open.{least};
 ghost use Rattle.serial_meaning.specs.Plan.{PlanView};
+ghost use Rattle.serial_meaning.specs.Values.{slot_of};
 ghost use Rattle.strand_meaning.specs.Task.{answered, changed, with_answer, with_values};
 ghost use Rattle.strand_values.specs.Environments.{with_variables};
 ghost use Rattle.strand_moves.specs.Running.{IsInstance, IsNamed, machine_of, path_of};
 
 use crate::frame::Frame;
-use crate::memory::Memory;
 use crate::running::Running;
 use script_grammar::Name;
 use serial_meaning::{Fault, Plan, Value};
@@ -44,24 +44,24 @@ impl Running {
         }
     }
 
-    /// Takes the values of a loop of the innermost frame. Where there was no memory for it the instance is of no more use.
+    /// Takes the values of a loop of the innermost frame, in which its target is there.
     pub fn take_values(
         &mut self,
         alloc: Global,
         plan: &Plan,
         target: Option<&Name>,
         values: &[Value],
-    ) -> Result<(), Memory>
-        requires { IsInstance plan.now self.old }
-        ensures machine { OnOk result ((p : PlanView) → machine_of p self.new ≡ with_values (option_copied target.entry) values.now (machine_of p self.old)) }
-        ensures path { OnOk result (path_of self.new ≡ path_of self.old) }
-        ensures sound { OnOk result ((p : PlanView) → IsInstance p self.old → IsInstance p self.new) }
+    )
+        requires sound { IsInstance plan.now self.old }
+        requires there { IfSome (option_copied target) (λ x. IsSome (slot_of (machine_of plan.now self.old).top.env x.bytes)) }
+        ensures machine { (p : PlanView) → machine_of p self.new ≡ with_values (option_copied target.entry) values.now (machine_of p self.old) }
+        ensures path { path_of self.new ≡ path_of self.old }
+        ensures sound { (p : PlanView) → IsInstance p self.old → IsInstance p self.new }
     {
         let Some(names) = plan.names(self.top.function) else {
             unreachable!()
         };
-        self.top.env.fill(alloc, names, target, values)?;
-        Ok(())
+        self.top.env.fill(alloc, names, target, values);
     }
 
     /// The least fault among the answers that the innermost frame took since its last sync.

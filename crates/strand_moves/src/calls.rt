@@ -9,10 +9,10 @@ ghost use Rattle.serial_meaning.specs.declared.event.FaultKind.{FaultKind};
 ghost use Rattle.strand_values.specs.declared.halt.Halt.TheVariants.{Fault};
 ghost use Rattle.strand_meaning.specs.Machine.{here_of, return_move, spawns_in, with_scalar};
 ghost use Rattle.strand_values.specs.Gives.{Gives};
-ghost use Rattle.strand_values.specs.Environments.{FindsAll, with_variables};
+ghost use Rattle.strand_values.specs.Environments.{FindsArguments, with_variables};
 ghost use Rattle.strand_moves.specs.Found.{ArePlaces, FindsTarget};
 ghost use Rattle.strand_moves.specs.Acts.{Acts, BeginsOne, Costs, IsCallee, StaysUnlessMemory, result_of};
-ghost use Rattle.strand_moves.specs.Running.{AreNamed, IsNamed, IsStrand, KeepsNames, machine_of, path_of, present_of};
+ghost use Rattle.strand_moves.specs.Running.{AreNamed, IsNamed, IsNamedIn, IsStrand, KeepsNames, machine_of, path_of, present_of};
 ghost use Rattle.strand_moves.specs.Moves.{Makes, MovesTrail, call_to, present_pedigree};
 ghost use Rattle.strand_moves.specs.Quick.{StaysThere, quiet, told};
 
@@ -42,7 +42,7 @@ impl Running {
     ) -> Result<(), Halt>
         requires goes_on { self.old.leaving ≡ false }
         requires places { ArePlaces places.now plan.now }
-        requires args { FindsAll places.now self.old.top.env call.now.args }
+        requires args { FindsArguments places.now self.old.top.env call.now.args }
         requires target { FindsTarget places.now self.old.top.env (option_copied target) }
         ensures shows { (st : Stmt) → Acts plan.now st (call_to (option_copied target.entry) call.now) self.old self.new (quiet result) }
         ensures same { (kind : FaultKind) → result ≡ Err (Fault kind) → self.new ≡ self.old }
@@ -71,7 +71,8 @@ impl Running {
     ) -> Result<(), Halt>
         requires goes_on { self.old.leaving ≡ false }
         requires places { ArePlaces places.now plan.now }
-        requires args { FindsAll places.now self.old.top.env call.now.args }
+        requires args { FindsArguments places.now self.old.top.env call.now.args }
+        requires target { FindsTarget places.now self.old.top.env (option_copied target) }
         requires number { number ≡ number_of (functions_of plan.now) call.now.name.bytes }
         requires there { function_at (functions_of plan.now) number ≡ Some function.now }
         ensures shows { (st : Stmt) → Acts plan.now st (call_to (option_copied target.entry) call.now) self.old self.new (quiet result) }
@@ -103,7 +104,7 @@ impl Running {
         target: Option<&Name>,
         call: &CallText,
     ) -> Result<(), Halt>
-        requires args { FindsAll places.now self.old.top.env call.now.args }
+        requires args { FindsArguments places.now self.old.top.env call.now.args }
         requires target { FindsTarget places.now self.old.top.env (option_copied target) }
         requires none { function_at (functions_of plan.now) (number_of (functions_of plan.now) call.now.name.bytes) ≡ None }
         ensures shows { (st : Stmt) → Acts plan.now st (call_to (option_copied target.entry) call.now) self.old self.new (quiet result) }
@@ -154,24 +155,17 @@ impl Running {
 
     /// Gives a variable of the innermost frame a value, if there is one.
     #[inline(always)]
-    pub(crate) fn receive(
-        &mut self,
-        plan: &Plan,
-        target: Option<&Target>,
-        value: Value,
-    ) -> Result<(), Memory>
-        requires { IsNamed plan.now self.old.top }
-        ensures names { self.new.top.env.names ≡ self.old.top.env.names }
-        ensures env { OnOk result (self.new.top.env ≡ with_variables self.old.top.env (with_scalar (option_copied target.entry) value self.old.top.env.variables)) }
-        ensures others { self.new ≡ record self.old { top = record self.old.top { env = self.new.top.env } } }
+    pub(crate) fn receive(&mut self, plan: &Plan, target: Option<&Target>, value: Value)
+        requires named { IsNamed plan.now self.old.top }
+        requires target { IsNamedIn self.old.top (option_copied target) }
+        ensures { self.new ≡ record self.old { top = record self.old.top { env = with_variables self.old.top.env (with_scalar (option_copied target.entry) value self.old.top.env.variables) } } }
     {
         if let Some(x) = target {
             let Some(names) = plan.names(self.top.function) else {
                 unreachable!()
             };
-            self.top.env.receive(names, x, value)?;
+            self.top.env.receive(names, x, value);
         }
-        Ok(())
     }
 
     /// The step of a return of a frame that spawned nothing since its last sync, and the event of the sync that it implies, if it does.
@@ -277,12 +271,8 @@ impl Running {
         let Some(caller) = self.below.pop() else {
             unreachable!()
         };
-        // the callee is dropped at one place, whatever was received
-        let received = {
-            let callee = mem::replace(&mut self.top, caller);
-            self.receive(plan, callee.target.as_ref(), value)
-        };
-        received?;
+        let callee = mem::replace(&mut self.top, caller);
+        self.receive(plan, callee.target.as_ref(), value);
         Ok(())
     }
 }

@@ -1,9 +1,10 @@
 // Instances.
 
-ghost use Rattle.std.specs.Prelude.{◌≡◌, ◌<◌, [], ◌∷◌, Some, Ok, Err, IfOk, OnOk, length};
+ghost use Rattle.std.specs.Prelude.{◌≡◌, ◌<◌, [], ◌∷◌, Some, Ok, Err, IfOk, IfSome, IsSome, length};
 ghost use Rattle.std.specs.Option.{option_copied};
 ghost use Rattle.dotmix.specs.Trails.{FitsGamma};
 ghost use Rattle.serial_meaning.specs.Plan.{PlanView, functions_of};
+ghost use Rattle.serial_meaning.specs.Values.{slot_of};
 ghost use Rattle.strand_meaning.specs.Machine.{Stands, begun, move};
 ghost use Rattle.strand_meaning.specs.Task.{answered, changed, with_values};
 
@@ -126,20 +127,21 @@ impl Instance {
         self.running.take_value(plan, height, target, value);
     }
 
-    /// Takes the values of a loop of the innermost frame. Where there was no memory for it the instance is of no more use.
+    /// Takes the values of a loop of the innermost frame, in which its target is there.
     pub fn take_values(
         &mut self,
         alloc: Global,
         plan: &Plan,
         target: Option<&Name>,
         values: &[Value],
-    ) -> Result<(), Memory>
-        requires { IsInstance plan.now self.old }
-        ensures machine { OnOk result ((p : PlanView) → machine_of p self.new ≡ with_values (option_copied target.entry) values.now (machine_of p self.old)) }
-        ensures path { OnOk result (path_of self.new ≡ path_of self.old) }
-        ensures sound { OnOk result ((p : PlanView) → IsInstance p self.old → IsInstance p self.new) }
+    )
+        requires sound { IsInstance plan.now self.old }
+        requires there { IfSome (option_copied target) (λ x. IsSome (slot_of (machine_of plan.now self.old).top.env x.bytes)) }
+        ensures machine { (p : PlanView) → machine_of p self.new ≡ with_values (option_copied target.entry) values.now (machine_of p self.old) }
+        ensures path { path_of self.new ≡ path_of self.old }
+        ensures sound { (p : PlanView) → IsInstance p self.old → IsInstance p self.new }
     {
-        self.running.take_values(alloc, plan, target, values)
+        self.running.take_values(alloc, plan, target, values);
     }
 
     /// The least fault among the answers that the innermost frame took since its last sync.

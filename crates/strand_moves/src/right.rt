@@ -7,7 +7,7 @@ ghost use Rattle.script_grammar.specs.declared.tree.Stmt.{Stmt};
 ghost use Rattle.serial_meaning.specs.Plan.{PlanView};
 ghost use Rattle.serial_meaning.specs.declared.event.FaultKind.{FaultKind};
 ghost use Rattle.strand_values.specs.declared.halt.Halt.TheVariants.{Fault};
-ghost use Rattle.strand_values.specs.Environments.{Finds, FindsName};
+ghost use Rattle.strand_values.specs.Environments.{FindsExpression, FindsName};
 ghost use Rattle.strand_moves.specs.Found.{ArePlaces, FindsRight};
 ghost use Rattle.strand_moves.specs.Acts.{Acts, Costs, StaysUnlessMemory, Stays};
 ghost use Rattle.strand_moves.specs.Running.{IsStrand, KeepsNames};
@@ -55,7 +55,7 @@ impl Running {
 
     pub(crate) fn set_value(&mut self, places: &[u16], x: &Name, e: &Expr) -> Result<(), Halt>
         requires name { FindsName places.now self.old.top.env x.now }
-        requires value { Finds places.now self.old.top.env e.now }
+        requires value { FindsExpression places.now self.old.top.env e.now }
         ensures shows { (plan : PlanView) (st : Stmt) → Acts plan st (act.Set x.now (right.Value e.now)) self.old self.new (quiet result) }
         ensures same { (kind : FaultKind) → result ≡ Err (Fault kind) → self.new ≡ self.old }
         ensures there { StaysThere self.old self.new }

@@ -8,7 +8,7 @@ ghost use Rattle.serial_meaning.specs.Plan.{PlanView};
 ghost use Rattle.serial_meaning.specs.declared.event.FaultKind.{FaultKind};
 ghost use Rattle.strand_meaning.specs.Machine.{statement_move};
 ghost use Rattle.strand_values.specs.declared.halt.Halt.TheVariants.{Fault};
-ghost use Rattle.strand_values.specs.Environments.{Finds, FindsName};
+ghost use Rattle.strand_values.specs.Environments.{FindsExpression, FindsName};
 ghost use Rattle.strand_moves.specs.Found.{ArePlaces, FindsStatement};
 ghost use Rattle.strand_moves.specs.Acts.{Acts, Costs, Keeps, Stays};
 ghost use Rattle.strand_moves.specs.Cursors.{IsBehind};
@@ -89,8 +89,8 @@ impl Running {
 
     pub(crate) fn store(&mut self, places: &[u16], x: &Name, i: &Expr, e: &Expr) -> Result<(), Halt>
         requires name { FindsName places.now self.old.top.env x.now }
-        requires index { Finds places.now self.old.top.env i.now }
-        requires value { Finds places.now self.old.top.env e.now }
+        requires index { FindsExpression places.now self.old.top.env i.now }
+        requires value { FindsExpression places.now self.old.top.env e.now }
         ensures shows { (plan : PlanView) (st : Stmt) → Acts plan st (act.Store x.now i.now e.now) self.old self.new (quiet result) }
         ensures same { (kind : FaultKind) → result ≡ Err (Fault kind) → self.new ≡ self.old }
         ensures there { StaysThere self.old self.new }
@@ -121,7 +121,7 @@ impl Running {
 
     pub(crate) fn print(&self, places: &[u16], e: &Expr) -> Result<Event, Halt>
         requires rank { self.now.rank < 2 ^ 32 }
-        requires finds { Finds places.now self.now.top.env e.now }
+        requires finds { FindsExpression places.now self.now.top.env e.now }
         ensures { (plan : PlanView) (st : Stmt) → Acts plan st (act.Print e.now) self.now self.now (emitted result) }
     {
         let value = self.top.env.value(places, e)?;
@@ -129,7 +129,7 @@ impl Running {
     }
 
     pub(crate) fn branch(&mut self, places: &[u16], e: &Expr) -> Result<(), Halt>
-        requires { Finds places.now self.old.top.env e.now }
+        requires { FindsExpression places.now self.old.top.env e.now }
         ensures shows { (plan : PlanView) (st : Stmt) (yes no : List Stmt) → IsBehind (statements_of plan self.old.top) self.old.top.cursor st →
             out-Act (out-Stmt st).act ≡ act.If e.now yes no → Acts plan st (act.If e.now yes no) self.old self.new (quiet result) }
         ensures same { (kind : FaultKind) → result ≡ Err (Fault kind) → self.new ≡ self.old }
@@ -145,7 +145,7 @@ impl Running {
 
     #[inline(always)]
     pub(crate) fn while_test(&mut self, places: &[u16], e: &Expr) -> Result<(), Halt>
-        requires { Finds places.now self.old.top.env e.now }
+        requires { FindsExpression places.now self.old.top.env e.now }
         ensures shows { (plan : PlanView) (st : Stmt) (body : List Stmt) → IsBehind (statements_of plan self.old.top) self.old.top.cursor st →
             out-Act (out-Stmt st).act ≡ act.While e.now body → Acts plan st (act.While e.now body) self.old self.new (quiet result) }
         ensures same { (kind : FaultKind) → result ≡ Err (Fault kind) → self.new ≡ self.old }

@@ -17,7 +17,7 @@ use Rattle.serial_meaning.specs.declared.environment.Slot.TheVariants.{Scalar}
 use Rattle.serial_meaning.specs.declared.environment.Variable.{Variable}
 use Rattle.serial_meaning.specs.declared.value.Value.{Value}
 use Rattle.strand_values.specs.Changes.{called_with}
-use Rattle.strand_values.specs.Environments.{EnvironmentView, IsPlace, with_variables, with_what}
+use Rattle.strand_values.specs.Environments.{EnvironmentView, IsOwnPlace, with_variables, with_what}
 use Rattle.strand_values.specs.Gives.{Gives}
 use Rattle.strand_values.specs.declared.halt.Halt.{Halt}
 use Rattle.strand_values.specs.declared.halt.Halt.TheVariants as halt
@@ -129,7 +129,7 @@ module _ (names : List (List ℕ)) (ps : List Param) (stand : stand_from 0 names
     put_last = ap (λ (w : EnvironmentView). w.variables) new_is ∙ put_new names i old.variables none p.name.bytes (stands_at names ps stand i p here e) s
 
 -- so the next place is that of its own name
-pub place_for : (names : List (List ℕ)) (ps : List Param) (i : ℕ) (old : EnvironmentView) → stand_from 0 names ps ≡ true → old.names ≡ names → i < length ps → IsPlace old.names i
+pub place_for : (names : List (List ℕ)) (ps : List Param) (i : ℕ) (old : EnvironmentView) → stand_from 0 names ps ≡ true → old.names ≡ names → i < length ps → IsOwnPlace old.names i
 place_for names ps i old stand e h =
     let q = param_at ps i h in
     is_place old.names q.0.name.bytes i (ap (λ (ns : List (List ℕ)). place_in ns q.0.name.bytes) e ∙ stands_at names ps stand i q.0 h q.1)

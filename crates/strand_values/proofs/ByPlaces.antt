@@ -15,7 +15,7 @@ use Rattle.serial_meaning.specs.declared.environment.Slot.{Slot}
 use Rattle.serial_meaning.specs.declared.event.FaultKind.{FaultKind}
 use Rattle.serial_meaning.specs.declared.value.Value.{Value}
 use Rattle.strand_values.specs.ByPlaces.{PlacesMeanNames, found_at, meaning_by, product_part_by, sum_part_by}
-use Rattle.strand_values.specs.Environments.{held_at, shown}
+use Rattle.strand_values.specs.Environments.{held_at, filled_variables}
 use Rattle.strand_values.proofs.Filled.{place_found, slot_held}
 
 and-then : {A B E : Type 0} (r : Result A E) (f g : A → Result B E) → ((a : A) → f a ≡ g a) → (r >>= f) ≡ (r >>= g)
@@ -26,7 +26,7 @@ both-then : {A B E : Type 0} (q r : Result A E) (f g : A → Result B E) → q �
 both-then q r f g e h = and-then q f g h ∙ ap (λ (s : Result _ _). s >>= g) e
 
 module _ (is : Name → Bool) (slot : Name → Option Slot) (env : Env) (same : (x : Name) → is x ≡ true → slot x ≡ slot_of env x.bytes) where
-  -- what is to be shown, of an expression and of the parts of a sum or product
+  -- what is to be filled_variables, of an expression and of the parts of a sum or product
   abbrev Fine : Bool → Meaning → Meaning → Type 0
   Fine known by meaning = known ≡ true → by [] ≡ meaning env
 
@@ -136,7 +136,7 @@ module _ (is : Name → Bool) (slot : Name → Option Slot) (env : Env) (same : 
 
 pub places_mean_names : PlacesMeanNames
 places_mean_names table names entries filled is =
-    same_values (has_place table names) (λ x. held_at entries (get_or table x.at 0)) (shown names entries filled) same
+    same_values (has_place table names) (λ x. held_at entries (get_or table x.at 0)) (filled_variables names entries filled) same
   where
-    same : (x : Name) → has_place table names x ≡ true → held_at entries (get_or table x.at 0) ≡ slot_of (shown names entries filled) x.bytes
+    same : (x : Name) → has_place table names x ≡ true → held_at entries (get_or table x.at 0) ≡ slot_of (filled_variables names entries filled) x.bytes
     same x found = sym (slot_held names x.bytes (get_or table x.at 0) (place_found table names x found) entries filled is)

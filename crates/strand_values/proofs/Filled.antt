@@ -13,7 +13,7 @@ use Rattle.serial_meaning.specs.Exec.{with_slot}
 use Rattle.serial_meaning.specs.Values.{Env, slot_of}
 use Rattle.serial_meaning.specs.declared.environment.Slot.{Slot}
 use Rattle.serial_meaning.specs.declared.environment.Variable.{Variable}
-use Rattle.strand_values.specs.Environments.{EnvironmentView, IsEnvironment, IsPlace, filled_once, held, held_at, shown, times, with_filled, with_held, with_variables}
+use Rattle.strand_values.specs.Environments.{EnvironmentView, IsEnvironment, IsOwnPlace, filled_once, held, held_at, filled_variables, times_filled, with_filled, with_held, with_variables}
 use Rattle.strand_values.specs.declared.entry.Entry.{Entry}
 use Rattle.strand_values.specs.declared.entry.Entry.TheVariants as entry
 
@@ -37,9 +37,9 @@ both_counted true false n = refl
 both_counted false true n = refl
 both_counted false false n = refl
 
-times-push : (j i : ℕ) (js : List ℕ) → times j (js ++ i ∷ []) ≡ cond (nat_eq j i) (suc (times j js)) (times j js)
+times-push : (j i : ℕ) (js : List ℕ) → times_filled j (js ++ i ∷ []) ≡ cond (nat_eq j i) (suc (times_filled j js)) (times_filled j js)
 times-push j i [] = refl
-times-push j i (k ∷ js) = ap (λ (n : ℕ). cond (nat_eq j k) (suc n) n) (times-push j i js) ∙ both_counted (nat_eq j k) (nat_eq j i) (times j js)
+times-push j i (k ∷ js) = ap (λ (n : ℕ). cond (nat_eq j k) (suc n) n) (times-push j i js) ∙ both_counted (nat_eq j k) (nat_eq j i) (times_filled j js)
 
 none_either : (b : Bool) (o : Option Slot) → o ≡ None → cond b None o ≡ o
 none_either true o e = sym e
@@ -58,11 +58,11 @@ module _ (names : List (List ℕ)) (x : List ℕ) (i : ℕ) (at : place_in names
   pub is_named : get_or names i [] ≡ x
   is_named = (bytes_decides (get_or names i []) x).0 has_name
 
-  pub is_place : IsPlace names i
+  pub is_place : IsOwnPlace names i
   is_place = ap (λ (name : List ℕ). place_in names name) is_named ∙ at
 
   -- a place that is that of its own name has this name exactly where it is this place
-  named : (j : ℕ) → IsPlace names j → bytes_eq (get_or names j []) x ≡ nat_eq i j
+  named : (j : ℕ) → IsOwnPlace names j → bytes_eq (get_or names j []) x ≡ nat_eq i j
   named j own = ⊎_elim same other (cases_eq i j)
     where
       same : i ≡ j → bytes_eq (get_or names j []) x ≡ nat_eq i j
@@ -77,21 +77,21 @@ module _ (names : List (List ℕ)) (x : List ℕ) (i : ℕ) (at : place_in names
   module _ (entries : List Entry) where
     -- what the place holds, where it came to be filled
     abbrev seen : List ℕ → Option Slot
-    seen js = cond (nat_eq (times i js) 0) None (held_at entries i)
+    seen js = cond (nat_eq (times_filled i js) 0) None (held_at entries i)
 
-    slot_shown : (js : List ℕ) → All (IsPlace names) js → slot_of (shown names entries js) x ≡ seen js
+    slot_shown : (js : List ℕ) → All (IsOwnPlace names) js → slot_of (filled_variables names entries js) x ≡ seen js
     slot_shown [] own = refl
-    slot_shown (j ∷ js) own = by (slot_shown js (rest_of (IsPlace names) j js own)) (held_at entries j) refl (nat_eq i j) refl
+    slot_shown (j ∷ js) own = by (slot_shown js (rest_of (IsOwnPlace names) j js own)) (held_at entries j) refl (nat_eq i j) refl
       where
         is : bytes_eq (get_or names j []) x ≡ nat_eq i j
-        is = named j (first_of (IsPlace names) j js own)
+        is = named j (first_of (IsOwnPlace names) j js own)
 
-        by : slot_of (shown names entries js) x ≡ seen js → (o : Option Slot) → held_at entries j ≡ o → (b : Bool) → nat_eq i j ≡ b →
-            slot_of (with_held (get_or names j []) o (shown names entries js)) x ≡ cond (nat_eq (cond b (suc (times i js)) (times i js)) 0) None (held_at entries i)
+        by : slot_of (filled_variables names entries js) x ≡ seen js → (o : Option Slot) → held_at entries j ≡ o → (b : Bool) → nat_eq i j ≡ b →
+            slot_of (with_held (get_or names j []) o (filled_variables names entries js)) x ≡ cond (nat_eq (cond b (suc (times_filled i js)) (times_filled i js)) 0) None (held_at entries i)
         by rest None e false n = rest
-        by rest None e true n = rest ∙ none_either (nat_eq (times i js) 0) (held_at entries i) (ap (λ k. held_at entries k) (eqb-true i j n) ∙ e) ∙ some_times (times i js) (held_at entries i)
+        by rest None e true n = rest ∙ none_either (nat_eq (times_filled i js) 0) (held_at entries i) (ap (λ k. held_at entries k) (eqb-true i j n) ∙ e) ∙ some_times (times_filled i js) (held_at entries i)
         by rest (Some s) e false n = cond-false (bytes_eq (get_or names j []) x) _ _ (is ∙ n) ∙ rest
-        by rest (Some s) e true n = cond-true (bytes_eq (get_or names j []) x) _ _ (is ∙ n) ∙ sym (ap (λ k. held_at entries k) (eqb-true i j n) ∙ e) ∙ some_times (times i js) (held_at entries i)
+        by rest (Some s) e true n = cond-true (bytes_eq (get_or names j []) x) _ _ (is ∙ n) ∙ sym (ap (λ k. held_at entries k) (eqb-true i j n) ∙ e) ∙ some_times (times_filled i js) (held_at entries i)
 
     module _ (put : Entry) (s : Slot) (holds : held put ≡ Some s) (within : i < length entries) where
       abbrev after : List Entry
@@ -107,18 +107,18 @@ module _ (names : List (List ℕ)) (x : List ℕ) (i : ℕ) (at : place_in names
       apart j n e = false≢true (sym n ∙ eq-eqb i j (sym e))
 
       -- where it isn't among these nothing changes
-      without : (js : List ℕ) → times i js ≡ 0 → shown names after js ≡ shown names entries js
+      without : (js : List ℕ) → times_filled i js ≡ 0 → filled_variables names after js ≡ filled_variables names entries js
       without [] none = refl
       without (j ∷ js) none = by (without js) (nat_eq i j) refl none
         where
-          by : (times i js ≡ 0 → shown names after js ≡ shown names entries js) → (b : Bool) → nat_eq i j ≡ b → cond b (suc (times i js)) (times i js) ≡ 0 → shown names after (j ∷ js) ≡ shown names entries (j ∷ js)
+          by : (times_filled i js ≡ 0 → filled_variables names after js ≡ filled_variables names entries js) → (b : Bool) → nat_eq i j ≡ b → cond b (suc (times_filled i js)) (times_filled i js) ≡ 0 → filled_variables names after (j ∷ js) ≡ filled_variables names entries (j ∷ js)
           by rest true n none = absurd (omega (arith, none))
           by rest false n none =
-              ap (λ o. with_held (get_or names j []) o (shown names after js)) (elsewhere j (apart j n))
+              ap (λ o. with_held (get_or names j []) o (filled_variables names after js)) (elsewhere j (apart j n))
               ∙ ap (λ (vs : Env). with_held (get_or names j []) (held_at entries j) vs) (rest none)
 
       -- another variable in front
-      past : (j : ℕ) → IsPlace names j → nat_eq i j ≡ false → (vs ws : Env) → vs ≡ with_slot ws x s →
+      past : (j : ℕ) → IsOwnPlace names j → nat_eq i j ≡ false → (vs ws : Env) → vs ≡ with_slot ws x s →
           with_held (get_or names j []) (held_at after j) vs ≡ with_slot (with_held (get_or names j []) (held_at entries j) ws) x s
       past j own n vs ws e = ap (λ o. with_held (get_or names j []) o vs) (elsewhere j (apart j n)) ∙ by (held_at entries j)
         where
@@ -127,42 +127,42 @@ module _ (names : List (List ℕ)) (x : List ℕ) (i : ℕ) (at : place_in names
           by (Some t) = ap (λ (l : Env). let v : Variable = record { name = get_or names j []; slot = t } in v ∷ l) e ∙ sym (cond-false (bytes_eq (get_or names j []) x) _ _ (named j own ∙ n))
 
       -- a variable that is there takes the slot in its place
-      set_filled : (js : List ℕ) → All (IsPlace names) js → times i js ≡ 1 → (old : Slot) → held_at entries i ≡ Some old → shown names after js ≡ with_slot (shown names entries js) x s
+      set_filled : (js : List ℕ) → All (IsOwnPlace names) js → times_filled i js ≡ 1 → (old : Slot) → held_at entries i ≡ Some old → filled_variables names after js ≡ with_slot (filled_variables names entries js) x s
       set_filled [] own once old was = absurd (omega (arith, once))
-      set_filled (j ∷ js) own once old was = by (λ h. set_filled js (rest_of (IsPlace names) j js own) h old was) (nat_eq i j) refl once
+      set_filled (j ∷ js) own once old was = by (λ h. set_filled js (rest_of (IsOwnPlace names) j js own) h old was) (nat_eq i j) refl once
         where
-          its : IsPlace names j
-          its = first_of (IsPlace names) j js own
+          its : IsOwnPlace names j
+          its = first_of (IsOwnPlace names) j js own
 
-          by : (times i js ≡ 1 → shown names after js ≡ with_slot (shown names entries js) x s) → (b : Bool) → nat_eq i j ≡ b → cond b (suc (times i js)) (times i js) ≡ 1 → shown names after (j ∷ js) ≡ with_slot (shown names entries (j ∷ js)) x s
+          by : (times_filled i js ≡ 1 → filled_variables names after js ≡ with_slot (filled_variables names entries js) x s) → (b : Bool) → nat_eq i j ≡ b → cond b (suc (times_filled i js)) (times_filled i js) ≡ 1 → filled_variables names after (j ∷ js) ≡ with_slot (filled_variables names entries (j ∷ js)) x s
           by rest false n once = past j its n _ _ (rest once)
           by rest true n once =
               let same : j ≡ i = sym (eqb-true i j n) in
-              let none : times i js ≡ 0 = omega (arith, once) in
+              let none : times_filled i js ≡ 0 = omega (arith, once) in
               let front : held_at after j ≡ Some s = ap (λ k. held_at after k) same ∙ here in
               let before : held_at entries j ≡ Some old = ap (λ k. held_at entries k) same ∙ was in
-              ap (λ o. with_held (get_or names j []) o (shown names after js)) front
+              ap (λ o. with_held (get_or names j []) o (filled_variables names after js)) front
               ∙ ap (λ (l : Env). let v : Variable = record { name = get_or names j []; slot = s } in v ∷ l) (without js none)
-              ∙ sym (ap (λ o. with_slot (with_held (get_or names j []) o (shown names entries js)) x s) before ∙ cond-true (bytes_eq (get_or names j []) x) _ _ (named j its ∙ n))
+              ∙ sym (ap (λ o. with_slot (with_held (get_or names j []) o (filled_variables names entries js)) x s) before ∙ cond-true (bytes_eq (get_or names j []) x) _ _ (named j its ∙ n))
 
       -- one that wasn't there stands at the end
-      set_vacant : (js : List ℕ) → All (IsPlace names) js → times i js ≡ 0 → shown names after (js ++ i ∷ []) ≡ with_slot (shown names entries js) x s
+      set_vacant : (js : List ℕ) → All (IsOwnPlace names) js → times_filled i js ≡ 0 → filled_variables names after (js ++ i ∷ []) ≡ with_slot (filled_variables names entries js) x s
       set_vacant [] own none = ap (λ o. with_held (get_or names i []) o []) here ∙ ap (λ (y : List ℕ). let v : Variable = record { name = y; slot = s } in v ∷ []) is_named
-      set_vacant (j ∷ js) own none = by (set_vacant js (rest_of (IsPlace names) j js own)) (nat_eq i j) refl none
+      set_vacant (j ∷ js) own none = by (set_vacant js (rest_of (IsOwnPlace names) j js own)) (nat_eq i j) refl none
         where
-          by : (times i js ≡ 0 → shown names after (js ++ i ∷ []) ≡ with_slot (shown names entries js) x s) → (b : Bool) → nat_eq i j ≡ b → cond b (suc (times i js)) (times i js) ≡ 0 → shown names after (j ∷ (js ++ i ∷ [])) ≡ with_slot (shown names entries (j ∷ js)) x s
+          by : (times_filled i js ≡ 0 → filled_variables names after (js ++ i ∷ []) ≡ with_slot (filled_variables names entries js) x s) → (b : Bool) → nat_eq i j ≡ b → cond b (suc (times_filled i js)) (times_filled i js) ≡ 0 → filled_variables names after (j ∷ (js ++ i ∷ [])) ≡ with_slot (filled_variables names entries (j ∷ js)) x s
           by rest true n none = absurd (omega (arith, none))
-          by rest false n none = past j (first_of (IsPlace names) j js own) n _ _ (rest none)
+          by rest false n none = past j (first_of (IsOwnPlace names) j js own) n _ _ (rest none)
 
   -- The same of an environment
 
   module _ (entries : List Entry) (filled : List ℕ) (is : IsEnvironment names entries filled) where
     -- a variable's slot is what its place holds
-    pub slot_held : slot_of (shown names entries filled) x ≡ held_at entries i
+    pub slot_held : slot_of (filled_variables names entries filled) x ≡ held_at entries i
     slot_held = slot_shown entries filled is.own ∙ by (held_at entries i) refl
       where
-        by : (o : Option Slot) → held_at entries i ≡ o → cond (nat_eq (times i filled) 0) None (held_at entries i) ≡ held_at entries i
-        by None e = none_either (nat_eq (times i filled) 0) (held_at entries i) e
+        by : (o : Option Slot) → held_at entries i ≡ o → cond (nat_eq (times_filled i filled) 0) None (held_at entries i) ≡ held_at entries i
+        by None e = none_either (nat_eq (times_filled i filled) 0) (held_at entries i) e
         by (Some s) e = ap (λ (n : ℕ). cond (nat_eq n 0) None (held_at entries i)) (is.once i ∙ ap filled_once e)
 
     is_inside : i < length entries
@@ -170,10 +170,10 @@ module _ (names : List (List ℕ)) (x : List ℕ) (i : ℕ) (at : place_in names
 
     module _ (put : Entry) (s : Slot) (holds : held put ≡ Some s) where
       -- what is put into its place is the variable's slot
-      put_shown : shown names (slice_set entries i put) (with_filled filled i (held_at entries i)) ≡ with_slot (shown names entries filled) x s
+      put_shown : filled_variables names (slice_set entries i put) (with_filled filled i (held_at entries i)) ≡ with_slot (filled_variables names entries filled) x s
       put_shown = by (held_at entries i) refl
         where
-          by : (o : Option Slot) → held_at entries i ≡ o → shown names (slice_set entries i put) (with_filled filled i o) ≡ with_slot (shown names entries filled) x s
+          by : (o : Option Slot) → held_at entries i ≡ o → filled_variables names (slice_set entries i put) (with_filled filled i o) ≡ with_slot (filled_variables names entries filled) x s
           by None e = set_vacant entries put s holds is_inside filled is.own (is.once i ∙ ap filled_once e)
           by (Some old) e = set_filled entries put s holds is_inside filled is.own (is.once i ∙ ap filled_once e) old e
 
@@ -181,24 +181,24 @@ module _ (names : List (List ℕ)) (x : List ℕ) (i : ℕ) (at : place_in names
       put_stays : IsEnvironment names (slice_set entries i put) (with_filled filled i (held_at entries i))
       put_stays = record { one_for_each = length-set entries i put ∙ is.one_for_each; own = own_of (held_at entries i); once = λ j. ⊎_elim (same j) (other j) (cases_eq j i) }
         where
-          own_of : (o : Option Slot) → All (IsPlace names) (with_filled filled i o)
-          own_of None = all-push (IsPlace names) filled i is.own is_place
+          own_of : (o : Option Slot) → All (IsOwnPlace names) (with_filled filled i o)
+          own_of None = all-push (IsOwnPlace names) filled i is.own is_place
           own_of (Some old) = is.own
 
-          now : (o : Option Slot) → held_at entries i ≡ o → times i (with_filled filled i o) ≡ 1
-          now None e = times-push i i filled ∙ ap (λ (b : Bool). cond b (suc (times i filled)) (times i filled)) (eq-eqb i i refl) ∙ ap suc (is.once i ∙ ap filled_once e)
+          now : (o : Option Slot) → held_at entries i ≡ o → times_filled i (with_filled filled i o) ≡ 1
+          now None e = times-push i i filled ∙ ap (λ (b : Bool). cond b (suc (times_filled i filled)) (times_filled i filled)) (eq-eqb i i refl) ∙ ap suc (is.once i ∙ ap filled_once e)
           now (Some old) e = is.once i ∙ ap filled_once e
 
-          same : (j : ℕ) → j ≡ i → times j (with_filled filled i (held_at entries i)) ≡ filled_once (held_at (slice_set entries i put) j)
+          same : (j : ℕ) → j ≡ i → times_filled j (with_filled filled i (held_at entries i)) ≡ filled_once (held_at (slice_set entries i put) j)
           same j e =
-              ap (λ (k : ℕ). times k (with_filled filled i (held_at entries i))) e ∙ now (held_at entries i) refl
+              ap (λ (k : ℕ). times_filled k (with_filled filled i (held_at entries i))) e ∙ now (held_at entries i) refl
               ∙ sym (ap (λ (k : ℕ). filled_once (held_at (slice_set entries i put) k)) e ∙ ap filled_once (here entries put s holds is_inside))
 
-          as_before : (j : ℕ) (o : Option Slot) → (j ≡ i → ⊥) → times j (with_filled filled i o) ≡ times j filled
-          as_before j None n = times-push j i filled ∙ ap (λ (b : Bool). cond b (suc (times j filled)) (times j filled)) (ne_eqb j i n)
+          as_before : (j : ℕ) (o : Option Slot) → (j ≡ i → ⊥) → times_filled j (with_filled filled i o) ≡ times_filled j filled
+          as_before j None n = times-push j i filled ∙ ap (λ (b : Bool). cond b (suc (times_filled j filled)) (times_filled j filled)) (ne_eqb j i n)
           as_before j (Some old) n = refl
 
-          other : (j : ℕ) → (j ≡ i → ⊥) → times j (with_filled filled i (held_at entries i)) ≡ filled_once (held_at (slice_set entries i put) j)
+          other : (j : ℕ) → (j ≡ i → ⊥) → times_filled j (with_filled filled i (held_at entries i)) ≡ filled_once (held_at (slice_set entries i put) j)
           other j n = as_before j (held_at entries i) n ∙ is.once j ∙ sym (ap filled_once (elsewhere entries put s holds is_inside j n))
 
 pub some_of : (o : Option Slot) → IsSome o → (s : Slot) × (o ≡ Some s)
@@ -208,16 +208,16 @@ some_of (Some s) h = (s, refl)
 -- A name without a place has no variable
 
 module _ (names : List (List ℕ)) (x : List ℕ) (none : place_in names x ≡ None) (entries : List Entry) where
-  not_shown : (js : List ℕ) → All (IsPlace names) js → slot_of (shown names entries js) x ≡ None
+  not_shown : (js : List ℕ) → All (IsOwnPlace names) js → slot_of (filled_variables names entries js) x ≡ None
   not_shown [] own = refl
-  not_shown (j ∷ js) own = by (not_shown js (rest_of (IsPlace names) j js own)) (held_at entries j)
+  not_shown (j ∷ js) own = by (not_shown js (rest_of (IsOwnPlace names) j js own)) (held_at entries j)
     where
       apart : bytes_eq (get_or names j []) x ≡ false
       apart =
           false_from_ne_true (bytes_eq (get_or names j []) x)
-          (λ e. none-some j (sym none ∙ ap (λ (name : List ℕ). place_in names name) (sym ((bytes_decides (get_or names j []) x).0 e)) ∙ first_of (IsPlace names) j js own))
+          (λ e. none-some j (sym none ∙ ap (λ (name : List ℕ). place_in names name) (sym ((bytes_decides (get_or names j []) x).0 e)) ∙ first_of (IsOwnPlace names) j js own))
 
-      by : slot_of (shown names entries js) x ≡ None → (o : Option Slot) → slot_of (with_held (get_or names j []) o (shown names entries js)) x ≡ None
+      by : slot_of (filled_variables names entries js) x ≡ None → (o : Option Slot) → slot_of (with_held (get_or names j []) o (filled_variables names entries js)) x ≡ None
       by rest None = rest
       by rest (Some s) = cond-false (bytes_eq (get_or names j []) x) _ _ apart ∙ rest
 
@@ -241,7 +241,7 @@ module _ (table : List ℕ) (names : List (List ℕ)) (x : Name) (found : has_pl
 -- An environment that is seen
 
 abbrev seen_as : List (List ℕ) → List Entry → List ℕ → EnvironmentView
-seen_as names entries filled = record { names = names; variables = shown names entries filled }
+seen_as names entries filled = record { names = names; variables = filled_variables names entries filled }
 
 module _ (names : List (List ℕ)) (entries : List Entry) (filled : List ℕ) (is : IsEnvironment names entries filled) (env : EnvironmentView) (view_is : seen_as names entries filled ≡ env) where
   pub entry_missing : (name : List ℕ) → place_in env.names name ≡ None → slot_of env.variables name ≡ None

@@ -12,7 +12,7 @@ use Rattle.script_check.specs.Places.{every_in, has_place}
 use Rattle.serial_meaning.specs.Runs.{◌>>=◌}
 use Rattle.serial_meaning.specs.Values.{Val, Meaning, item, items_of, number, product_at, scalar, sum_at, value_at, value_of}
 use Rattle.serial_meaning.specs.declared.environment.Slot.{Slot}
-use Rattle.strand_values.specs.Environments.{IsEnvironment, held_at, shown}
+use Rattle.strand_values.specs.Environments.{IsEnvironment, held_at, filled_variables}
 use Rattle.strand_values.specs.declared.entry.Entry.{Entry}
 
 module _ (slot : Name → Option Slot) where
@@ -45,4 +45,4 @@ module _ (slot : Name → Option Slot) where
 abbrev pub PlacesMeanNames : Type 0
 PlacesMeanNames =
     (table : List ℕ) (names : List (List ℕ)) (entries : List Entry) (filled : List ℕ) → IsEnvironment names entries filled → (e : Expr) → every_in (has_place table names) e ≡ true →
-    value_by (λ x. held_at entries (get_or table x.at 0)) e ≡ value_of e (shown names entries filled)
+    value_by (λ x. held_at entries (get_or table x.at 0)) e ≡ value_of e (filled_variables names entries filled)

@@ -32,13 +32,13 @@ with_held name None vs = vs
 with_held name (Some slot) vs = record { name = name; slot = slot } ∷ vs
 
 -- the variables, by their places in the order in which they came to be
-abbrev pub shown : List (List ℕ) → List Entry → List ℕ → Env
-shown names entries [] = []
-shown names entries (i ∷ is) = with_held (get_or names i []) (held_at entries i) (shown names entries is)
+abbrev pub filled_variables : List (List ℕ) → List Entry → List ℕ → Env
+filled_variables names entries [] = []
+filled_variables names entries (i ∷ is) = with_held (get_or names i []) (held_at entries i) (filled_variables names entries is)
 
-abbrev pub times : ℕ → List ℕ → ℕ
-times i [] = 0
-times i (j ∷ js) = if nat_eq i j then suc (times i js) else times i js
+abbrev pub times_filled : ℕ → List ℕ → ℕ
+times_filled i [] = 0
+times_filled i (j ∷ js) = if nat_eq i j then suc (times_filled i js) else times_filled i js
 
 -- how often a place came to be filled, by what it holds
 abbrev pub filled_once : Option Slot → ℕ
@@ -49,14 +49,14 @@ filled_once (Some slot) = 1
 pub record IsEnvironment (names : List (List ℕ)) (entries : List Entry) (filled : List ℕ) : Type 0 where
   pub one_for_each : length entries ≡ length names
   pub own : All (λ i. place_in names (get_or names i []) ≡ Some i) filled
-  pub once : (i : ℕ) → times i filled ≡ filled_once (held_at entries i)
+  pub once : (i : ℕ) → times_filled i filled ≡ filled_once (held_at entries i)
 
 -- the table has the place of each variable that is named
-abbrev pub Finds : List ℕ → EnvironmentView → Expr → Type 0
-Finds table env e = every_in (has_place table env.names) e ≡ true
+abbrev pub FindsExpression : List ℕ → EnvironmentView → Expr → Type 0
+FindsExpression table env e = every_in (has_place table env.names) e ≡ true
 
-abbrev pub FindsAll : List ℕ → EnvironmentView → List Expr → Type 0
-FindsAll table env es = every_in_all (has_place table env.names) es ≡ true
+abbrev pub FindsArguments : List ℕ → EnvironmentView → List Expr → Type 0
+FindsArguments table env es = every_in_all (has_place table env.names) es ≡ true
 
 abbrev pub FindsName : List ℕ → EnvironmentView → Name → Type 0
 FindsName table env x = has_place table env.names x ≡ true
@@ -66,8 +66,8 @@ abbrev pub with_variables : EnvironmentView → Env → EnvironmentView
 with_variables env vs = record env { variables = vs }
 
 -- the place is that of its own name
-abbrev pub IsPlace : List (List ℕ) → ℕ → Type 0
-IsPlace names i = place_in names (get_or names i []) ≡ Some i
+abbrev pub IsOwnPlace : List (List ℕ) → ℕ → Type 0
+IsOwnPlace names i = place_in names (get_or names i []) ≡ Some i
 
 -- the places in the order in which they were filled, once something is put into the entry of one that held this
 abbrev pub with_filled : List ℕ → ℕ → Option Slot → List ℕ

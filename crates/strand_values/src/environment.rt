@@ -8,7 +8,7 @@ ghost use Rattle.serial_meaning.specs.declared.event.FaultKind.{FaultKind};
 ghost use Rattle.serial_meaning.specs.declared.value.Value.TheVariants.{Int};
 ghost use Rattle.strand_values.specs.declared.halt.Halt.TheVariants.{Fault};
 ghost use Rattle.strand_values.specs.Changes.{assigned, called_with};
-ghost use Rattle.strand_values.specs.Environments.{EnvironmentView, Finds, FindsAll, FindsName, IsPlace, held, with_filled, with_variables, with_what};
+ghost use Rattle.strand_values.specs.Environments.{EnvironmentView, FindsExpression, FindsArguments, FindsName, IsOwnPlace, held, with_filled, with_variables, with_what};
 ghost use Rattle.strand_values.specs.Gives.{Gives, numbered, holding};
 
 use crate::entry::Entry;
@@ -38,11 +38,11 @@ pub struct Environment {
 }
 
 impl Model for Environment {
-    ghost use Rattle.strand_values.specs.Environments.{EnvironmentView, IsEnvironment, shown};
+    ghost use Rattle.strand_values.specs.Environments.{EnvironmentView, IsEnvironment, filled_variables};
 
     ghost Value = { EnvironmentView };
 
-    ghost view = { λ e. record { names = e.names.value; variables = shown e.names.value e.entries.items e.filled.items } };
+    ghost view = { λ e. record { names = e.names.value; variables = filled_variables e.names.value e.entries.items e.filled.items } };
 
     ghost invariant = { λ e. IsEnvironment e.names.value e.entries.items e.filled.items };
 }
@@ -93,7 +93,7 @@ impl Environment {
         args: &[Expr],
     ) -> Result<Environment, Halt>
         requires params { stand_from 0 names.now params.now ≡ true }
-        requires args { FindsAll places.now self.now args.now }
+        requires args { FindsArguments places.now self.now args.now }
         ensures { Gives result (called_with names.now params.now args.now self.now.variables) }
     {
         let mut env = Environment::vacant(alloc, names)?;
@@ -108,7 +108,7 @@ impl Environment {
 
     /// The value of an expression, or the fault that is met first from left to right. An id shares its memory.
     pub fn value(&self, places: &[u16], e: &Expr) -> Result<Value, Halt>
-        requires { Finds places.now self.now e.now }
+        requires { FindsExpression places.now self.now e.now }
         ensures { Gives result (value_of e.now self.now.variables) }
     {
         value::evaluate(self, places, e)
@@ -116,7 +116,7 @@ impl Environment {
 
     /// The number that the value of an expression counts as.
     pub fn integer(&self, places: &[u16], e: &Expr) -> Result<i64, Halt>
-        requires { Finds places.now self.now e.now }
+        requires { FindsExpression places.now self.now e.now }
         ensures { Gives result (numbered (value_of e.now self.now.variables)) }
     {
         value::integer(self, places, e)
@@ -125,7 +125,7 @@ impl Environment {
     /// The integer that an expression is, if it is a number, a variable that holds one, or a calculation of plain operands, and meets no
     /// fault.
     pub fn plain(&self, places: &[u16], e: &Expr) -> Option<i64>
-        requires { Finds places.now self.now e.now }
+        requires { FindsExpression places.now self.now e.now }
         ensures { IfSome result (λ n. value_of e.now self.now.variables ≡ Ok (Int n)) }
     {
         plain::plain(self, places, e)
@@ -133,7 +133,7 @@ impl Environment {
 
     /// Whether a condition holds: its value isn't 0.
     pub fn holds(&self, places: &[u16], e: &Expr) -> Result<bool, Halt>
-        requires { Finds places.now self.now e.now }
+        requires { FindsExpression places.now self.now e.now }
         ensures { Gives result (holding (value_of e.now self.now.variables)) }
     {
         match plain::plain(self, places, e) {
@@ -144,7 +144,7 @@ impl Environment {
 
     /// The values of arguments from left to right, or the fault that is met first.
     pub fn values(&self, alloc: Global, places: &[u16], args: &[Expr]) -> Result<Items<Value>, Halt>
-        requires { FindsAll places.now self.now args.now }
+        requires { FindsArguments places.now self.now args.now }
         ensures { Gives result (values_of args.now self.now.variables) }
     {
         value::values(alloc, self, places, args)
@@ -154,7 +154,7 @@ impl Environment {
     /// end. After a fault, and without memory, everything is as it was.
     pub fn assign(&mut self, places: &[u16], name: &Name, e: &Expr) -> Result<(), Halt>
         requires name { FindsName places.now self.old name.now }
-        requires value { Finds places.now self.old e.now }
+        requires value { FindsExpression places.now self.old e.now }
         ensures ok { OnOk result (assigned self.old.variables name.now e.now ≡ Ok self.new.variables) }
         ensures fault { (kind : FaultKind) → result ≡ Err (Fault kind) → assigned self.old.variables name.now e.now ≡ Err kind }
         ensures err { OnErr result (self.new ≡ self.old) }
@@ -177,7 +177,7 @@ impl Environment {
         ensures { self.new ≡ with_variables self.old (with_slot self.old.variables name.now.bytes (Scalar (Int number))) }
     {
         let place = places[name.at as usize] as usize;
-        self.filled = noted(
+        self.filled = with_filled(
             mem::replace(&mut self.filled, Log::none()),
             &self.entries[place],
             place,
@@ -193,25 +193,16 @@ impl Environment {
         self.put(places[name.at as usize] as usize, Entry::of(value));
     }
 
-    /// The same of the variable that a call's value goes to. A function without a variable of that name is answered as want of memory:
-    /// a valid script has none.
-    pub fn receive(
-        &mut self,
-        names: &Items<NameText>,
-        target: &Target,
-        value: Value,
-    ) -> Result<(), Memory>
-        requires { names.now ≡ self.old.names }
-        ensures ok { OnOk result (self.new ≡ with_variables self.old (with_slot self.old.variables target.now.bytes (Scalar value))) }
-        ensures err { OnErr result (self.new ≡ self.old) }
+    /// The same of the variable that a call's value goes to, which is one of the function's.
+    pub fn receive(&mut self, names: &Items<NameText>, target: &Target, value: Value)
+        requires names { names.now ≡ self.old.names }
+        requires known { IsSome (place_in self.old.names target.now.bytes) }
+        ensures { self.new ≡ with_variables self.old (with_slot self.old.variables target.now.bytes (Scalar value)) }
     {
-        match place_named(names.as_slice(), target.text()) {
-            Some(place) => {
-                self.put(place, Entry::of(value));
-                Ok(())
-            }
-            None => Err(Memory),
-        }
+        let Some(place) = place_named(names.as_slice(), target.text()) else {
+            unreachable!()
+        };
+        self.put(place, Entry::of(value));
     }
 
     /// Gives a scalar that is there a new value. Where the name isn't there nothing changes.
@@ -275,26 +266,24 @@ impl Environment {
         }
     }
 
-    /// Writes a loop's values over the first items of its target, if there is one. What is no array becomes one of no items. A function
-    /// without a variable of that name is answered as want of memory: a valid script has none.
+    /// Writes a loop's values over the first items of its target, if there is one. The target is there, and what is no array becomes one of no
+    /// items.
     pub fn fill(
         &mut self,
         alloc: Global,
         names: &Items<NameText>,
         target: Option<&Name>,
         values: &[Value],
-    ) -> Result<(), Memory>
-        requires { names.now ≡ self.old.names }
-        ensures ok { OnOk result (self.new ≡ with_variables self.old (filled (option_copied target.entry) values.now self.old.variables)) }
-        ensures err { OnErr result (self.new ≡ self.old) }
+    )
+        requires names { names.now ≡ self.old.names }
+        requires there { IfSome (option_copied target) (λ x. IsSome (slot_of self.old.variables x.bytes)) }
+        ensures { self.new ≡ with_variables self.old (filled (option_copied target.entry) values.now self.old.variables) }
     {
-        let Some(name) = target else { return Ok(()) };
-        match place_named(names.as_slice(), &name.bytes) {
-            Some(place) => {
-                self.fill_entry(alloc, place, values);
-                Ok(())
-            }
-            None => Err(Memory),
+        if let Some(name) = target {
+            let Some(place) = self.place_there(names, &name.bytes) else {
+                unreachable!()
+            };
+            self.fill_entry(alloc, place, values);
         }
     }
 
@@ -314,10 +303,10 @@ impl Environment {
 
     /// Writes values over the first items of an array in the entry of a place. What is no array becomes one of no items.
     fn fill_entry(&mut self, alloc: Global, place: usize, values: &[Value])
-        requires { IsPlace self.old.names place }
+        requires { IsOwnPlace self.old.names place }
         ensures { (name : List ℕ) → place_in self.old.names name ≡ Some place → self.new ≡ with_variables self.old (filled (Some (record { bytes = name; at = 0 })) values.now self.old.variables) }
     {
-        self.filled = noted(
+        self.filled = with_filled(
             mem::replace(&mut self.filled, Log::none()),
             &self.entries[place],
             place,
@@ -328,11 +317,11 @@ impl Environment {
     /// Puts something into the entry of a place.
     #[inline(always)]
     fn put(&mut self, place: usize, entry: Entry)
-        requires there { IsPlace self.old.names place }
+        requires there { IsOwnPlace self.old.names place }
         requires some { IsSome (held entry) }
         ensures { (name : List ℕ) → place_in self.old.names name ≡ Some place → self.new ≡ with_variables self.old (with_what self.old.variables name (held entry)) }
     {
-        self.filled = noted(
+        self.filled = with_filled(
             mem::replace(&mut self.filled, Log::none()),
             &self.entries[place],
             place,
@@ -343,7 +332,7 @@ impl Environment {
 
 /// The places in the order in which they were filled, once there is something in this entry.
 #[inline(always)]
-fn noted(filled: Log<usize>, entry: &Entry, place: usize) -> Log<usize>
+fn with_filled(filled: Log<usize>, entry: &Entry, place: usize) -> Log<usize>
     ensures { result.items ≡ with_filled filled.items place (held entry.now) }
 {
     if entry.is_vacant() {

@@ -5,7 +5,7 @@ ghost use Rattle.std.specs.Prelude.{◌≡◌, Ok, IfSome, map, true};
 ghost use Rattle.serial_meaning.specs.Values.{value_of, sums, products, sum_part, product_part};
 ghost use Rattle.serial_meaning.specs.declared.value.Value.TheVariants.{Int};
 ghost use Rattle.script_check.specs.Places.{all_true, every_in_factor, every_in_summand, has_place};
-ghost use Rattle.strand_values.specs.Environments.{Finds};
+ghost use Rattle.strand_values.specs.Environments.{FindsExpression};
 ghost use Rattle.strand_values.specs.Gives.{numbered};
 ghost use Rattle.strand_values.specs.Nodes as node;
 
@@ -17,7 +17,7 @@ use script_grammar::{Expr, ProductPart, SumPart};
 /// The integer that the expression is, where it is a number, a variable that holds one, or a calculation of plain operands. Otherwise, and where a fault is
 /// met, there is none.
 pub(crate) fn plain(env: &Environment, places: &[u16], e: &Expr) -> Option<i64>
-    requires { Finds places.now env.now e.now }
+    requires { FindsExpression places.now env.now e.now }
     ensures { IfSome result (λ n. value_of e.now env.now.variables ≡ Ok (Int n)) }
 {
     match e {
@@ -48,7 +48,7 @@ pub(crate) fn plain(env: &Environment, places: &[u16], e: &Expr) -> Option<i64>
 /// The number that a plain operand counts as. A number takes no call.
 #[inline(always)]
 fn operand(env: &Environment, places: &[u16], e: &Expr) -> Option<i64>
-    requires { Finds places.now env.now e.now }
+    requires { FindsExpression places.now env.now e.now }
     ensures { IfSome result (λ n. numbered (value_of e.now env.now.variables) ≡ Ok n) }
 {
     match e {
@@ -60,7 +60,7 @@ fn operand(env: &Environment, places: &[u16], e: &Expr) -> Option<i64>
 /// The same of an operand that is seldom a number.
 #[inline(always)]
 fn first_operand(env: &Environment, places: &[u16], e: &Expr) -> Option<i64>
-    requires { Finds places.now env.now e.now }
+    requires { FindsExpression places.now env.now e.now }
     ensures { IfSome result (λ n. numbered (value_of e.now env.now.variables) ≡ Ok n) }
 {
     match e {
@@ -74,7 +74,7 @@ fn first_operand(env: &Environment, places: &[u16], e: &Expr) -> Option<i64>
 /// The number that a number or a variable counts as.
 #[inline(always)]
 fn leaf(env: &Environment, places: &[u16], e: &Expr) -> Option<i64>
-    requires { Finds places.now env.now e.now }
+    requires { FindsExpression places.now env.now e.now }
     ensures { IfSome result (λ n. numbered (value_of e.now env.now.variables) ≡ Ok n) }
 {
     match e {
@@ -100,7 +100,7 @@ fn total(env: &Environment, places: &[u16], first: i64, rest: &[SumPart]) -> Opt
 
 /// The number that a product counts as.
 fn scaled(env: &Environment, places: &[u16], first: &Expr, rest: &[ProductPart]) -> Option<i64>
-    requires first { Finds places.now env.now first.now }
+    requires first { FindsExpression places.now env.now first.now }
     requires rest { all_true (map (every_in_factor (has_place places.now env.now.names)) rest.now) ≡ true }
     ensures { IfSome result (λ n. numbered (node.product_of env.now.variables (value_of first.now env.now.variables) rest.now) ≡ Ok n) }
 {

@@ -4,7 +4,7 @@ ghost use Rattle.std.specs.Prelude.{◌≡◌, map, true, IsTrue};
 ghost use Rattle.serial_meaning.specs.Values.{Env, value_of, values_of, sums, products, sum_part, product_part};
 ghost use Rattle.serial_meaning.specs.declared.value.Value.TheVariants.{Int};
 ghost use Rattle.script_check.specs.Places.{all_true, every_in_factor, every_in_summand, has_place};
-ghost use Rattle.strand_values.specs.Environments.{Finds, FindsAll, FindsName};
+ghost use Rattle.strand_values.specs.Environments.{FindsExpression, FindsArguments, FindsName};
 ghost use Rattle.strand_values.specs.Gives.{Gives, numbered, integral};
 ghost use Rattle.strand_values.specs.Nodes as node;
 
@@ -19,7 +19,7 @@ use std::alloc::Global;
 
 /// The same as `value`. A number or a calculation of plain operands takes a shorter way.
 pub(crate) fn evaluate(env: &Environment, places: &[u16], e: &Expr) -> Result<Value, Halt>
-    requires { Finds places.now env.now e.now }
+    requires { FindsExpression places.now env.now e.now }
     ensures { Gives result (value_of e.now env.now.variables) }
 {
     match plain(env, places, e) {
@@ -30,7 +30,7 @@ pub(crate) fn evaluate(env: &Environment, places: &[u16], e: &Expr) -> Result<Va
 
 #[cycle(value)]
 pub(crate) fn value(env: &Environment, places: &[u16], e: &Expr) -> Result<Value, Halt>
-    requires found { Finds places.now env.now e.now }
+    requires found { FindsExpression places.now env.now e.now }
     ensures { Gives result (value_of e.now env.now.variables) }
 {
     match e {
@@ -79,7 +79,7 @@ pub(crate) fn is_integer(e: &Expr) -> bool
 /// The number that the value counts as.
 #[cycle(value)]
 pub(crate) fn integer(env: &Environment, places: &[u16], e: &Expr) -> Result<i64, Halt>
-    requires found { Finds places.now env.now e.now }
+    requires found { FindsExpression places.now env.now e.now }
     ensures { Gives result (numbered (value_of e.now env.now.variables)) }
 {
     match e {
@@ -114,7 +114,7 @@ pub(crate) fn integer(env: &Environment, places: &[u16], e: &Expr) -> Result<i64
 #[inline(always)]
 #[cycle(value)]
 fn operand(env: &Environment, places: &[u16], e: &Expr) -> Result<i64, Halt>
-    requires found { Finds places.now env.now e.now }
+    requires found { FindsExpression places.now env.now e.now }
     ensures { Gives result (numbered (value_of e.now env.now.variables)) }
 {
     match e {
@@ -137,7 +137,7 @@ fn whole(number: Result<i64, Halt>) -> Result<Value, Halt>
 #[cycle(value)]
 fn item_at(env: &Environment, places: &[u16], name: &Name, index: &Expr) -> Result<i64, Halt>
     requires name { FindsName places.now env.now name.now }
-    requires index { Finds places.now env.now index.now }
+    requires index { FindsExpression places.now env.now index.now }
     ensures { Gives (integral result) (node.item_at env.now.variables name.now.bytes (value_of index.now env.now.variables)) }
 {
     let index = operand(env, places, index)?;
@@ -149,7 +149,7 @@ fn item_at(env: &Environment, places: &[u16], name: &Name, index: &Expr) -> Resu
 
 #[cycle(value)]
 fn negated(env: &Environment, places: &[u16], operand: &Expr) -> Result<i64, Halt>
-    requires found { Finds places.now env.now operand.now }
+    requires found { FindsExpression places.now env.now operand.now }
     ensures { Gives (integral result) (node.negated (value_of operand.now env.now.variables)) }
 {
     Ok(integer(env, places, operand)?.wrapping_neg())
@@ -157,7 +157,7 @@ fn negated(env: &Environment, places: &[u16], operand: &Expr) -> Result<i64, Hal
 
 #[cycle(value)]
 fn same(env: &Environment, places: &[u16], left: Value, right: &Expr) -> Result<i64, Halt>
-    requires found { Finds places.now env.now right.now }
+    requires found { FindsExpression places.now env.now right.now }
     ensures { Gives (integral result) (node.same left (value_of right.now env.now.variables)) }
 {
     let right = value(env, places, right)?;
@@ -166,7 +166,7 @@ fn same(env: &Environment, places: &[u16], left: Value, right: &Expr) -> Result<
 
 #[cycle(value)]
 fn older(env: &Environment, places: &[u16], left: Value, right: &Expr) -> Result<i64, Halt>
-    requires found { Finds places.now env.now right.now }
+    requires found { FindsExpression places.now env.now right.now }
     ensures { Gives (integral result) (node.older left (value_of right.now env.now.variables)) }
 {
     let right = value(env, places, right)?;
@@ -181,7 +181,7 @@ fn comparison(
     how: Comparison,
     right: &Expr,
 ) -> Result<i64, Halt>
-    requires found { Finds places.now env.now right.now }
+    requires found { FindsExpression places.now env.now right.now }
     ensures { Gives (integral result) (node.comparison left how (value_of right.now env.now.variables)) }
 {
     let right = operand(env, places, right)?;
@@ -226,7 +226,7 @@ pub(crate) fn values(
     places: &[u16],
     args: &[Expr],
 ) -> Result<Items<Value>, Halt>
-    requires { FindsAll places.now env.now args.now }
+    requires { FindsArguments places.now env.now args.now }
     ensures { Gives result (values_of args.now env.now.variables) }
 {
     let mut values = Vec::with_capacity(alloc, args.len())?;

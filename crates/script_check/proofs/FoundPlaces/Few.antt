@@ -19,7 +19,7 @@ use Rattle.script_check.specs.Expressions.{read, two_wanted, wanted}
 use Rattle.script_check.specs.Functions.{function_named, main_name}
 use Rattle.script_check.specs.Laws.{VariablesAreFew}
 use Rattle.script_check.specs.Names.{Names, both, nobody}
-use Rattle.script_check.specs.Places.{named_in, named_in_act, named_in_all, named_in_block, named_in_right, named_in_statement, named_in_target, place_in, variable_names, with_variable, with_variables}
+use Rattle.script_check.specs.Places.{named_in, named_in_act, named_in_all, named_in_block, named_in_right, named_in_statement, named_in_target, place_in, variable_names, with_new_name, with_new_names}
 use Rattle.script_check.specs.Rules.{Declared, array_length, array_use, declaration, kind_of, let_in_a_block, most_variables, scalar_use, too_many_variables, variable_twice}
 use Rattle.script_check.specs.Statements.{Context, Judged, after, block_violations, violations_each, judge, judge_act, judge_all, judge_what, kind_or_int, known_each, loop_call_of, context, read_right, target_use, wanted_as}
 use Rattle.script_check.specs.Tables.{no_entries, with_first}
@@ -40,16 +40,16 @@ record Lists (names : List (List ℕ)) (known : Declared) : Type 0 where
   few : length names ≤ 256
 
 -- what is known adds nothing
-with-known : (names : List (List ℕ)) (known : Declared) → Lists names known → (xs : List Name) → AllKnown known xs → with_variables names xs ≡ names
+with-known : (names : List (List ℕ)) (known : Declared) → Lists names known → (xs : List Name) → AllKnown known xs → with_new_names names xs ≡ names
 with-known names known l [] h = refl
 with-known names known l (x ∷ xs) h =
     let first : is_some (place_in names x.bytes) ≡ true = l.same x.bytes ∙ (and_parts (is_some (known.what x.bytes)) (each_is (λ x. is_some (known.what x.bytes)) xs) h).0 in
-    ap (λ l. with_variables l xs) (cond-true (is_some (place_in names x.bytes)) names (names ++ x.bytes ∷ []) first)
+    ap (λ l. with_new_names l xs) (cond-true (is_some (place_in names x.bytes)) names (names ++ x.bytes ∷ []) first)
     ∙ with-known names known l xs (and_parts (is_some (known.what x.bytes)) (each_is (λ x. is_some (known.what x.bytes)) xs) h).1
 
-with-append : (names : List (List ℕ)) (xs ys : List Name) → with_variables names (xs ++ ys) ≡ with_variables (with_variables names xs) ys
+with-append : (names : List (List ℕ)) (xs ys : List Name) → with_new_names names (xs ++ ys) ≡ with_new_names (with_new_names names xs) ys
 with-append names [] ys = refl
-with-append names (x ∷ xs) ys = with-append (with_variable names x.bytes) xs ys
+with-append names (x ∷ xs) ys = with-append (with_new_name names x.bytes) xs ys
 
 -- One declaration more
 
@@ -226,22 +226,22 @@ all-in-block =
 
 abbrev Listed : Judged → List Name → Type 0
 Listed j named = (functions : List Function) (names : List (List ℕ)) (known : Declared) (p : Names) → Lists names known → j.violations (context functions false) known p ≡ [] →
-    Lists (with_variables names named) (j.known functions known)
+    Lists (with_new_names names named) (j.known functions known)
 
 plain-listed : (j : Judged) (named : List Name) → ((at : Context) → Stays j named at) → Listed j named
 plain-listed j named stays functions names known p l h =
     let k = stays (context functions false) known p h in
-    subst (λ m. Lists (with_variables names named) m) (sym k.0) (subst (λ m. Lists m known) (sym (with-known names known l named k.1)) l)
+    subst (λ m. Lists (with_new_names names named) m) (sym k.0) (subst (λ m. Lists m known) (sym (with-known names known l named k.1)) l)
 
 -- a declaration and what it names beside its variable
 one-listed : (names : List (List ℕ)) (known : Declared) (x : Name) (v : Variable) (xs : List Name) → Lists names known → declaration known x ≡ [] → AllKnown known xs →
-    Lists (with_variables names (x ∷ xs)) (with_first known x.bytes v)
+    Lists (with_new_names names (x ∷ xs)) (with_first known x.bytes v)
 one-listed names known x v xs l h all =
     let more = declared names known x v l h in
     let new : is_some (place_in names x.bytes) ≡ false = l.same x.bytes ∙ new-known known x h in
-    let one : with_variable names x.bytes ≡ names ++ x.bytes ∷ [] = cond-false (is_some (place_in names x.bytes)) names (names ++ x.bytes ∷ []) new in
-    let rest : with_variables (names ++ x.bytes ∷ []) xs ≡ names ++ x.bytes ∷ [] = with-known (names ++ x.bytes ∷ []) (with_first known x.bytes v) more xs (first-keeps known x v (new-known known x h) xs all) in
-    subst (λ m. Lists m (with_first known x.bytes v)) (sym (ap (λ m. with_variables m xs) one ∙ rest)) more
+    let one : with_new_name names x.bytes ≡ names ++ x.bytes ∷ [] = cond-false (is_some (place_in names x.bytes)) names (names ++ x.bytes ∷ []) new in
+    let rest : with_new_names (names ++ x.bytes ∷ []) xs ≡ names ++ x.bytes ∷ [] = with-known (names ++ x.bytes ∷ []) (with_first known x.bytes v) more xs (first-keeps known x v (new-known known x h) xs all) in
+    subst (λ m. Lists m (with_first known x.bytes v)) (sym (ap (λ m. with_new_names m xs) one ∙ rest)) more
 
 open-listed : (n : ℕ) (d : Act-F Act Stmt) → Inside InBlock d → Listed (told d n) (names_of d)
 open-listed n (act.Let x r) g functions names known p l h =
@@ -281,19 +281,19 @@ inside-blocks (act.Scope a) = induct_each InBlock all-in-block a
 all-listed : (s : Stmt) → Listed (judge s) (named_in_statement s)
 all-listed =
     induct (λ s. Listed (judge s) (named_in_statement s)) (λ n d g functions names known p l h.
-    subst (λ m. Lists (with_variables names m) ((judge (statement n d)).known functions known)) (sym (named_open n d))
-    (subst (λ (j : Judged). Lists (with_variables names (names_of d)) (j.known functions known)) (sym (judge_open n d))
+    subst (λ m. Lists (with_new_names names m) ((judge (statement n d)).known functions known)) (sym (named_open n d))
+    (subst (λ (j : Judged). Lists (with_new_names names (names_of d)) (j.known functions known)) (sym (judge_open n d))
     (open-listed n d (inside-blocks d) functions names known p l (ap (λ (j : Judged). j.violations (context functions false) known p) (sym (judge_open n d)) ∙ h))))
 
 body-listed : (ss : List Stmt) (functions : List Function) (names : List (List ℕ)) (known : Declared) (p : Names) → Lists names known → violations_each (judge_all ss) (context functions false) known p ≡ [] →
-    Lists (with_variables names (named_in_block ss)) (known_each (judge_all ss) functions known)
+    Lists (with_new_names names (named_in_block ss)) (known_each (judge_all ss) functions known)
 body-listed [] functions names known p l h = l
 body-listed (s ∷ ss) functions names known p l h =
     let next = (judge s).known functions known in
     let here = (judge s).violations (context functions false) known p in
     let rest = violations_each (judge_all ss) (context functions false) next ((judge s).after p) in
     subst (λ m. Lists m (known_each (judge_all ss) functions next)) (sym (with-append names (named_in_statement s) (named_in_block ss)))
-    (body-listed ss functions (with_variables names (named_in_statement s)) next ((judge s).after p) (all-listed s functions names known p l (nothing_left here rest h)) (nothing_right here rest h))
+    (body-listed ss functions (with_new_names names (named_in_statement s)) next ((judge s).after p) (all-listed s functions names known p l (nothing_left here rest h)) (nothing_right here rest h))
 
 params-listed : (params : List Param) (names : List (List ℕ)) (known : Declared) → Lists names known → param_violations params known ≡ [] → Lists (names ++ map (λ q. q.name.bytes) params) (known_params params known)
 params-listed [] names known l h = subst (λ m. Lists m known) (sym (append-nil names)) l
@@ -316,7 +316,7 @@ function-few functions f h =
     let behind = body-listed f.body functions start known nobody first (nothing_right params body (nothing_left (params ++ body) last h)) in
     let result = read-known f.result ends nobody (wanted-left f.answer (read f.result) ends nobody (nothing_right (params ++ body) last h)) in
     subst (λ m. length m ≤ most_variables)
-    (sym (with-append start (named_in_block f.body) (named_in f.result) ∙ with-known (with_variables start (named_in_block f.body)) ends behind (named_in f.result) result)) behind.few
+    (sym (with-append start (named_in_block f.body) (named_in f.result) ∙ with-known (with_new_names start (named_in_block f.body)) ends behind (named_in f.result) result)) behind.few
 
 all-few : (functions fs : List Function) → all_function_violations functions fs ≡ [] → All (λ f. length (variable_names f) ≤ most_variables) fs
 all-few functions [] h = All-nil (λ f. length (variable_names f) ≤ most_variables)

@@ -11,7 +11,7 @@ use Rattle.script_grammar.specs.declared.tree.Function.{Function}
 use Rattle.script_check.specs.declared.findings.Violation.{Violation}
 use Rattle.script_check.specs.declared.variable.Variable.{Variable}
 use Rattle.script_check.specs.declared.variable.Variable.TheVariants.{Scalar}
-use Rattle.script_check.specs.Places.{agree, named_in_function, place_in, stand_from, variable_names, with_variable, with_variables}
+use Rattle.script_check.specs.Places.{agree, named_in_function, place_in, stand_from, variable_names, with_new_name, with_new_names}
 use Rattle.script_check.specs.Rules.{Declared, declaration, most_variables, variable_twice, too_many_variables}
 use Rattle.script_check.specs.Statements.{violations_each, judge_all, known_each, context}
 use Rattle.script_check.specs.Expressions.{read, wanted}
@@ -44,16 +44,16 @@ new-place names y h =
     ∙ ap (λ o. or_else o (if bytes_eq y y then Some (length names) else None)) h
     ∙ cond-true (bytes_eq y y) (Some (length names)) None ((bytes_decides y y).1 refl)
 
-stays-with : (names : List (List ℕ)) (y : List ℕ) → Stays names (with_variable names y)
+stays-with : (names : List (List ℕ)) (y : List ℕ) → Stays names (with_new_name names y)
 stays-with names y q i h = by (is_some (place_in names y))
   where
     by : (b : Bool) → place_in (cond b names (names ++ y ∷ [])) q ≡ Some i
     by true = h
     by false = stays-snoc names y q i h
 
-pub stays-each : (names : List (List ℕ)) (xs : List Name) → Stays names (with_variables names xs)
+pub stays-each : (names : List (List ℕ)) (xs : List Name) → Stays names (with_new_names names xs)
 stays-each names [] q i h = h
-stays-each names (x ∷ xs) q i h = stays-each (with_variable names x.bytes) xs q i (stays-with names x.bytes q i h)
+stays-each names (x ∷ xs) q i h = stays-each (with_new_name names x.bytes) xs q i (stays-with names x.bytes q i h)
 
 here : (o : Option ℕ) → is_some o ≡ true → (i : ℕ) × (o ≡ Some i)
 here None h = absurd (true≢false (sym h))
@@ -63,7 +63,7 @@ nothing : (o : Option ℕ) → is_some o ≡ false → o ≡ None
 nothing None h = refl
 nothing (Some i) h = absurd (true≢false h)
 
-has-new : (names : List (List ℕ)) (y : List ℕ) → (i : ℕ) × (place_in (with_variable names y) y ≡ Some i)
+has-new : (names : List (List ℕ)) (y : List ℕ) → (i : ℕ) × (place_in (with_new_name names y) y ≡ Some i)
 has-new names y =
     ⊎_elim
     (λ s. let k = here (place_in names y) s in (k.0, ap (λ l. place_in l y) (cond-true (is_some (place_in names y)) names (names ++ y ∷ []) s) ∙ k.1))
@@ -71,15 +71,15 @@ has-new names y =
     (cases_Bool (is_some (place_in names y)))
 
 -- each of them is there in the end
-pub all-known : (names : List (List ℕ)) (xs : List Name) → each_is (λ x. is_some (place_in (with_variables names xs) x.bytes)) xs ≡ true
-all-known names xs = from names xs (with_variables names xs) (λ q i h. h)
+pub all-known : (names : List (List ℕ)) (xs : List Name) → each_is (λ x. is_some (place_in (with_new_names names xs) x.bytes)) xs ≡ true
+all-known names xs = from names xs (with_new_names names xs) (λ q i h. h)
   where
-    from : (names : List (List ℕ)) (xs : List Name) (all : List (List ℕ)) → Stays (with_variables names xs) all → each_is (λ x. is_some (place_in all x.bytes)) xs ≡ true
+    from : (names : List (List ℕ)) (xs : List Name) (all : List (List ℕ)) → Stays (with_new_names names xs) all → each_is (λ x. is_some (place_in all x.bytes)) xs ≡ true
     from names [] all s = refl
     from names (x ∷ xs) all s =
         let k = has-new names x.bytes in
-        let there : place_in all x.bytes ≡ Some k.0 = s x.bytes k.0 (stays-each (with_variable names x.bytes) xs x.bytes k.0 k.1) in
-        ap (λ o. is_some o && each_is (λ x. is_some (place_in all x.bytes)) xs) there ∙ from (with_variable names x.bytes) xs all s
+        let there : place_in all x.bytes ≡ Some k.0 = s x.bytes k.0 (stays-each (with_new_name names x.bytes) xs x.bytes k.0 k.1) in
+        ap (λ o. is_some o && each_is (λ x. is_some (place_in all x.bytes)) xs) there ∙ from (with_new_name names x.bytes) xs all s
 
 -- Parameters
 
@@ -134,20 +134,20 @@ function-stands functions f h =
 
 -- The names only become more
 
-long-one : (names : List (List ℕ)) (y : List ℕ) → length names ≤ length (with_variable names y)
+long-one : (names : List (List ℕ)) (y : List ℕ) → length names ≤ length (with_new_name names y)
 long-one names y = by (is_some (place_in names y))
   where
     by : (b : Bool) → length names ≤ length (cond b names (names ++ y ∷ []))
     by true = omega arith
     by false = let long : length (names ++ y ∷ []) ≡ length names + 1 = length-append names (y ∷ []) in omega (arith, long)
 
-pub long-each : (names : List (List ℕ)) (xs : List Name) → length names ≤ length (with_variables names xs)
+pub long-each : (names : List (List ℕ)) (xs : List Name) → length names ≤ length (with_new_names names xs)
 long-each names [] = omega arith
-long-each names (x ∷ xs) = let one = long-one names x.bytes in let more = long-each (with_variable names x.bytes) xs in omega (arith, one, more)
+long-each names (x ∷ xs) = let one = long-one names x.bytes in let more = long-each (with_new_name names x.bytes) xs in omega (arith, one, more)
 
 -- there is room for a parameter, and for a name that is new
 pub room-for : (params : List Param) (xs : List Name) (names : List (List ℕ)) (i : ℕ) → map (λ q. q.name.bytes) params ≡ names ++ map (λ q. q.name.bytes) (drop i params) → i < length params →
-    length (with_variables (map (λ q. q.name.bytes) params) xs) ≤ most_variables → length names < most_variables
+    length (with_new_names (map (λ q. q.name.bytes) params) xs) ≤ most_variables → length names < most_variables
 room-for params xs names i e h few =
     let rest = map (λ (q : Param). q.name.bytes) (drop i params) in
     let all : length (map (λ (q : Param). q.name.bytes) params) ≡ length params = length-map params (λ (q : Param). q.name.bytes) in
@@ -157,10 +157,10 @@ room-for params xs names i e h few =
     let more = long-each (map (λ (q : Param). q.name.bytes) params) xs in
     omega (arith, all, left, dropped, both, more, few, h)
 
-pub room-new : (all names : List (List ℕ)) (xs : List Name) (i : ℕ) (x : Name) → i < length xs → x ≡ get_or xs i x → all ≡ with_variables names (drop i xs) → length all ≤ most_variables →
-    length (with_variable names x.bytes) ≤ most_variables
+pub room-new : (all names : List (List ℕ)) (xs : List Name) (i : ℕ) (x : Name) → i < length xs → x ≡ get_or xs i x → all ≡ with_new_names names (drop i xs) → length all ≤ most_variables →
+    length (with_new_name names x.bytes) ≤ most_variables
 room-new all names xs i x h is e few =
     let next : drop i xs ≡ x ∷ drop (i + 1) xs = at_index xs i x h is in
-    let long : length all ≡ length (with_variables (with_variable names x.bytes) (drop (i + 1) xs)) = ap length (e ∙ ap (with_variables names) next) in
-    let more = long-each (with_variable names x.bytes) (drop (i + 1) xs) in
+    let long : length all ≡ length (with_new_names (with_new_name names x.bytes) (drop (i + 1) xs)) = ap length (e ∙ ap (with_new_names names) next) in
+    let more = long-each (with_new_name names x.bytes) (drop (i + 1) xs) in
     omega (arith, long, more, few)

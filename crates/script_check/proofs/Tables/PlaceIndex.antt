@@ -6,7 +6,7 @@ use Rattle.std.specs.List.{position_or_len}
 use Rattle.std.specs.Str.{bytes_eq}
 use Rattle.std.specs.Cmp.Lexicographic.{bytes_decides}
 use Rattle.std.proofs.lemmas.Bool.{cases_Bool, cases_lt, cond-true, cond-false, le-ltb, lt-ltb, true≢false}
-use Rattle.script_check.specs.Places.{place_in, with_variable}
+use Rattle.script_check.specs.Places.{place_in, with_new_name}
 use Rattle.script_check.specs.Tables.{Table, no_entries, with_first}
 use Rattle.script_check.specs.Walk.{IsPlaceIndex}
 use Rattle.script_check.proofs.Tables.Indexed.{or_else}
@@ -80,15 +80,15 @@ no-names names table n e q = ap (λ (t : Table ℕ). t.what q) e ∙ ap (λ l. p
 
 -- One variable more
 
-pub with-old : (names : List (List ℕ)) (y : List ℕ) → is_some (place_in names y) ≡ true → with_variable names y ≡ names
+pub with-old : (names : List (List ℕ)) (y : List ℕ) → is_some (place_in names y) ≡ true → with_new_name names y ≡ names
 with-old names y h = cond-true (is_some (place_in names y)) names (names ++ y ∷ []) h
 
-pub with-new : (names : List (List ℕ)) (y : List ℕ) → is_some (place_in names y) ≡ false → with_variable names y ≡ names ++ y ∷ []
+pub with-new : (names : List (List ℕ)) (y : List ℕ) → is_some (place_in names y) ≡ false → with_new_name names y ≡ names ++ y ∷ []
 with-new names y h = cond-false (is_some (place_in names y)) names (names ++ y ∷ []) h
 
-pub room-for-new : (names : List (List ℕ)) (y : List ℕ) (most : ℕ) → is_some (place_in names y) ≡ false → length (with_variable names y) ≤ most → length names < most
+pub room-for-new : (names : List (List ℕ)) (y : List ℕ) (most : ℕ) → is_some (place_in names y) ≡ false → length (with_new_name names y) ≤ most → length names < most
 room-for-new names y most h few =
-    let one : length (with_variable names y) ≡ length names + 1 = ap length (with-new names y h) ∙ length-append names (y ∷ []) in
+    let one : length (with_new_name names y) ≡ length names + 1 = ap length (with-new names y h) ∙ length-append names (y ∷ []) in
     omega (arith, one, few)
 
 -- the first of some names, and the next

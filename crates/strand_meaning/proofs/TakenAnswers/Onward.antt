@@ -5,6 +5,7 @@ use Rattle.script_grammar.specs.declared.tree.Name.{Name}
 use Rattle.serial_meaning.specs.Runs.{Run, done, behind, goes_on, ◌then◌}
 use Rattle.serial_meaning.specs.Plan.{PlanView}
 use Rattle.serial_meaning.specs.Eval.{Evaluation, path_of, eval}
+use Rattle.serial_meaning.specs.Exec.{filled}
 use Rattle.serial_meaning.specs.Open.{Item, NodeFault, Own, ChildFaulted}
 use Rattle.serial_meaning.specs.declared.value.Value.{Value}
 use Rattle.serial_meaning.specs.declared.event.Fault.{Fault}
@@ -19,6 +20,7 @@ use Rattle.strand_meaning.specs.Sound.{unfilled_by, unfilled, is_by, any_by, IsS
 use Rattle.strand_meaning.proofs.SoundSteps.Closing.{behind-then}
 use Rattle.strand_meaning.proofs.Unfilled.Changed.{length-changed}
 use Rattle.strand_meaning.proofs.Unfilled.Clears.{clear-within}
+use Rattle.strand_meaning.proofs.Unfilled.Targets.{all-kept, changed-kept, filled-kept}
 use Rattle.strand_meaning.proofs.UnfilledPending.PendingAnswers.{answers-pending}
 use Rattle.strand_meaning.proofs.SoundSteps.Steps.{so_far-same}
 
@@ -220,14 +222,15 @@ module _ (plan : PlanView) (p : AwaitedChild) (ps : List AwaitedChild) (q : Resu
   takes-spawned owner to e (AtSync m) s =
       let k = changed-machine plan p ps owner to q e (λ height a. IsSound plan [] height (behind_sync a)) (λ height a h t. sync-kept height a to t) m s.1 s.2 in
       inl (places-owner (length m.below) ps (length (changed owner (answered to q) m).below) (same-height owner to m) s.0.1, k.0, k.1)
-  takes-spawned owner to e (AtLoop m) s = let k = top-changed owner to e m s.0 s.1 in inl (k.0, k.1)
+  takes-spawned owner to e (AtLoop m) s =
+      let k = top-changed owner to e m s.0 s.1 in inl (k.0, k.1, all-kept m.top.env (changed owner (answered to q) m).top.env (changed-kept owner to q m) ps s.2.1)
   takes-spawned owner to e (Ended (Ok v)) s = inl s.1
   takes-spawned owner to e (Ended (Err x)) s = inr (x, refl)
 
   takes-half : (stage : InstanceState) → IsSoundStage plan (p ∷ ps) stage → Taking plan ps stage
   takes-half (Running m) s = inl (s.0.1, less-sound plan p ps (length m.below) m.top s.1, less-below plan p ps m.top.target m.below s.2)
   takes-half (AtSync m) s = inl (s.0.1, s.1, less-below plan p ps m.top.target m.below s.2)
-  takes-half (AtLoop m) s = inl (less-sound plan p ps (length m.below) m.top s.0, less-below plan p ps m.top.target m.below s.1)
+  takes-half (AtLoop m) s = inl (less-sound plan p ps (length m.below) m.top s.0, less-below plan p ps m.top.target m.below s.1, s.2.1)
   takes-half (Ended (Ok v)) s = inl s.1
   takes-half (Ended (Err x)) s = inr (x, refl)
 
@@ -237,7 +240,11 @@ module _ (plan : PlanView) (p : AwaitedChild) (ps : List AwaitedChild) (q : Resu
   takes-looped to e (Ok vs) (AtSync m) s = let no : IsDestination (length m.below) (Looped to) = subst (IsDestination (length m.below)) e s.0.0 in absurd no
   takes-looped to e (Ok vs) (AtLoop m) s =
       let l = less-sound plan p ps (length m.below) m.top s.0 in
-      inl (record { clear = l.clear; spawned = l.spawned; faulted = l.faulted; in_text = l.in_text; left_in_text = l.left_in_text; levels = l.levels; leaving = l.leaving; returning = l.returning }, less-below plan p ps m.top.target m.below s.1)
+      inl (
+        record { clear = l.clear; spawned = l.spawned; faulted = l.faulted; in_text = l.in_text; left_in_text = l.left_in_text; levels = l.levels; leaving = l.leaving; returning = l.returning },
+        less-below plan p ps m.top.target m.below s.1,
+        all-kept m.top.env (filled to vs m.top.env) (filled-kept to vs m.top.env) ps s.2.1,
+      )
   takes-looped to e (Ok vs) (Ended (Ok v)) s = let no : IsHalf (Looped to) = subst IsHalf e s.0 in absurd no
   takes-looped to e (Ok vs) (Ended (Err x)) s = inr (x, refl)
 

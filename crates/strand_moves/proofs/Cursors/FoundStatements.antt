@@ -129,4 +129,4 @@ module _ (plan : PlanView) (places : List ℕ) (a : Frame) (all : ArePlaces plac
 
 -- the same of an instance's innermost frame
 pub next-found : (plan : PlanView) (places : List ℕ) (i : Running) → ArePlaces places plan → AreNamed plan i → (st : Stmt) → IsBehind (statements_of plan i.top) i.top.cursor st → FindsStatement places i.top.env st
-next-found plan places i all named st behind = statement-found plan places i.top all (All-head (IsNamed plan) i.top i.below.items named) st behind
+next-found plan places i all named st behind = statement-found plan places i.top all (All-head (IsNamed plan) i.top i.below.items named.each) st behind

@@ -132,7 +132,7 @@ module _ {S : Type 0} (after : Event → S → S) (plan : PlanView) (first : Run
   paid = with_cursor plan i n cursor
 
   paid-named : KeepsNames plan i paid
-  paid-named = top-named plan i paid refl refl refl
+  paid-named = top-named plan i paid refl refl refl refl
 
   sent-on : (new : Running) (heard : S) (e : Event) → heard ≡ after e sent → acted plan (present_of paid) (machine_of plan paid) st (out-Act (out-Stmt st).act) ≡ run_of (moved.Went (shown.Emitted e)) (machine_of plan new) →
       KeepsNames plan paid new → Stays paid new → Costs paid new → RowOn after plan first start i new heard

@@ -1,52 +1,131 @@
 -- Frames whose variables are those of their functions.
-use Rattle.std.proofs.Common.{◌≡◌, ℕ, ◌<◌, true, Bool, ◌&&◌, List, [], ◌∷◌, ◌++◌, Some, None, All, option_map, get_or, length, set, sym, ap, subst, ◌∙◌}
-use Rattle.std.proofs.lemmas.Bool.{and_parts}
+use Rattle.std.proofs.Common.{◌≡◌, ℕ, zero, suc, ◌<◌, true, Bool, ◌&&◌, List, [], ◌∷◌, ◌++◌, Option, Some, None, All, map, option_map, get_or, slice_get, length, reverse, set, refl, sym, ap, subst, ◌∙◌}
+use Rattle.std.specs.Prelude.{IfSome, IsSome}
+use Rattle.std.proofs.lemmas.Bool.{and_parts, false≢true}
+use Rattle.std.proofs.lemmas.List.{get_or_default, map-append, reverse-append}
 use Rattle.std.proofs.lemmas.List.Elements.{All-cons, All-get_or, All-head, All-pop, All-push, All-same, All-set, All-tail}
-use Rattle.script_check.specs.Places.{every_in, every_in_block, finds_in, has_place, stand_from, variable_names}
+use Rattle.script_check.specs.Places.{agree, every_in, every_in_block, finds_in, has_place, place_in, stand_from, variable_names}
 use Rattle.script_grammar.specs.declared.tree.Function.{Function}
+use Rattle.script_grammar.specs.declared.tree.Name.{Name}
 use Rattle.serial_meaning.specs.Functions.{function_at}
 use Rattle.serial_meaning.specs.Plan.{PlanView, functions_of}
-use Rattle.strand_values.specs.Environments.{Finds}
+use Rattle.strand_values.specs.Environments.{FindsExpression}
 use Rattle.strand_moves.specs.declared.frame.Frame.{Frame}
 use Rattle.strand_moves.specs.declared.running.Running.{Running}
-use Rattle.strand_moves.specs.Found.{ArePlaces}
-use Rattle.strand_moves.specs.Running.{AreNamed, IsNamed, KeepsNames}
+use Rattle.strand_moves.specs.Found.{ArePlaces, FindsTarget}
+use Rattle.strand_moves.specs.Running.{AreNamed, IsNamed, IsNamedIn, KeepsNames, TargetsAreNamed}
 use Rattle.strand_moves.proofs.Cursors.FoundStatements.{one-of}
 use Rattle.strand_moves.proofs.Statements.Naming.{same-named}
 
+-- Targets
+
+module _ (places : List ℕ) (caller : Frame) where
+  both-there : (i j : Option ℕ) → agree i j ≡ true → IsSome j
+  both-there None j h = absurd (false≢true h)
+  both-there (Some i) None h = absurd (false≢true h)
+  both-there (Some i) (Some j) h = refl
+
+  -- a target that is found is named
+  pub target-named : (target : Option Name) → FindsTarget places caller.env target → IsNamedIn caller target
+  target-named None h = tt
+  target-named (Some x) h = both-there (slice_get places x.at) (place_in caller.env.names x.bytes) h
+
+-- what targets are told of a frame
+abbrev tie : Frame → Option Name × List (List ℕ)
+tie a = (a.target, a.env.names)
+
+ties-same : (target : Option Name) (xs ys : List Frame) → map tie xs ≡ map tie ys → TargetsAreNamed target xs → TargetsAreNamed target ys
+ties-same target [] [] e h = tt
+ties-same target [] (y ∷ ys) e h = absurd (cc)
+ties-same target (x ∷ xs) [] e h = absurd (cc)
+ties-same target (x ∷ xs) (y ∷ ys) e h =
+    let first : tie x ≡ tie y = cc in
+    let rest : map tie xs ≡ map tie ys = cc in (
+      subst (λ (ns : List (List ℕ)). IfSome target (λ z. IsSome (place_in ns z.bytes))) (ap (λ (t : Option Name × List (List ℕ)). t.1) first) h.0,
+      ties-same y.target xs ys rest (subst (λ (t : Option Name). TargetsAreNamed t xs) (ap (λ (t : Option Name × List (List ℕ)). t.0) first) h.1),
+    )
+
+set-tie : (xs : List Frame) (h : ℕ) (a : Frame) → tie a ≡ tie (get_or xs h a) → map tie (set xs h a) ≡ map tie xs
+set-tie [] h a e = refl
+set-tie (x ∷ xs) zero a e = ap (λ (t : Option Name × List (List ℕ)). t ∷ map tie xs) e
+set-tie (x ∷ xs) (suc h) a e = ap (λ (ts : List (Option Name × List (List ℕ))). tie x ∷ ts) (set-tie xs h a e)
+
+turned : (xs : List Frame) → map tie (reverse xs) ≡ reverse (map tie xs)
+turned [] = refl
+turned (x ∷ xs) =
+    ap (map tie) (reverse-append (x ∷ []) xs) ∙ map-append tie (reverse xs) (x ∷ [])
+    ∙ ap (λ (ts : List (Option Name × List (List ℕ))). ts ++ tie x ∷ []) (turned xs) ∙ sym (reverse-append (tie x ∷ []) (map tie xs))
+
+turned-ties : (xs ys : List Frame) → map tie xs ≡ map tie ys → map tie (reverse xs) ≡ map tie (reverse ys)
+turned-ties xs ys e = turned xs ∙ ap reverse e ∙ sym (turned ys)
+
+-- Frames
+
 module _ (plan : PlanView) where
   pub innermost-named : (i : Running) → AreNamed plan i → IsNamed plan i.top
-  innermost-named i h = All-head (IsNamed plan) i.top i.below.items h
+  innermost-named i h = All-head (IsNamed plan) i.top i.below.items h.each
 
   -- nothing changed
   pub still-named : (old new : Running) → new ≡ old → KeepsNames plan old new
   still-named old new e h = subst (λ (x : Running). AreNamed plan x) (sym e) h
 
   pub one-below-named : (i : Running) → AreNamed plan i → (h : ℕ) (a : Frame) → h < length i.below.items → a ≡ get_or i.below.items h a → IsNamed plan a
-  one-below-named i all h a within there = subst (IsNamed plan) (sym there) (All-get_or (IsNamed plan) i.below.items h a within (All-tail (IsNamed plan) i.top i.below.items all))
+  one-below-named i all h a within there = subst (IsNamed plan) (sym there) (All-get_or (IsNamed plan) i.below.items h a within (All-tail (IsNamed plan) i.top i.below.items all.each))
 
   -- one of those below is changed
-  pub named-set : (i : Running) (h : ℕ) (a : Frame) → IsNamed plan a → AreNamed plan i → All (IsNamed plan) (i.top ∷ set i.below.items h a)
-  named-set i h a is all =
-      All-cons (IsNamed plan) i.top (set i.below.items h a) (innermost-named i all) (All-set (IsNamed plan) i.below.items h a is (All-tail (IsNamed plan) i.top i.below.items all))
+  module _ (i new : Running) (h : ℕ) (old a : Frame) (within : h < length i.below.items) (there : old ≡ get_or i.below.items h old) (function : a.function ≡ old.function) (target : a.target ≡ old.target) (names : a.env.names ≡ old.env.names) where
+    its-tie : tie a ≡ tie (get_or i.below.items h a)
+    its-tie =
+        ap (λ (t : Option Name). (t, a.env.names)) target ∙ ap (λ (ns : List (List ℕ)). (old.target, ns)) names
+        ∙ ap tie (there ∙ get_or_default i.below.items h old a within)
+
+    pub named-set : new.top ≡ i.top → new.below.items ≡ set i.below.items h a → KeepsNames plan i new
+    named-set top below all =
+        let is : IsNamed plan a = same-named plan old a function names (one-below-named i all h old within there) in
+        record {
+          each =
+              All-cons (IsNamed plan) new.top new.below.items (subst (IsNamed plan) (sym top) (innermost-named i all))
+              (All-same (IsNamed plan) new.below.items (set i.below.items h a) below (All-set (IsNamed plan) i.below.items h a is (All-tail (IsNamed plan) i.top i.below.items all.each)));
+          targets =
+              subst (λ (t : Frame). TargetsAreNamed t.target (reverse new.below.items)) (sym top)
+              (ties-same i.top.target (reverse i.below.items) (reverse new.below.items)
+              (turned-ties i.below.items new.below.items (sym (ap (map tie) below ∙ set-tie i.below.items h a its-tie))) all.targets);
+        }
 
   -- one frame more
-  pub named-begun : (old new : Running) → new.below.items ≡ old.below.items ++ old.top ∷ [] → IsNamed plan new.top → KeepsNames plan old new
-  named-begun old new below is h =
-      All-cons (IsNamed plan) new.top new.below.items is
-      (All-same (IsNamed plan) new.below.items (old.below.items ++ old.top ∷ []) below (All-push (IsNamed plan) old.below.items old.top (All-tail (IsNamed plan) old.top old.below.items h) (innermost-named old h)))
+  pub named-begun : (old new : Running) → new.below.items ≡ old.below.items ++ old.top ∷ [] → IsNamed plan new.top → IsNamedIn old.top new.top.target → KeepsNames plan old new
+  named-begun old new below is target h =
+      record {
+        each =
+            All-cons (IsNamed plan) new.top new.below.items is
+            (All-same (IsNamed plan) new.below.items (old.below.items ++ old.top ∷ []) below (All-push (IsNamed plan) old.below.items old.top (All-tail (IsNamed plan) old.top old.below.items h.each) (innermost-named old h)));
+        targets = subst (TargetsAreNamed new.top.target) (sym (ap reverse below ∙ reverse-append old.below.items (old.top ∷ []))) (target, h.targets);
+      }
 
   -- those below one that ends
   module _ (i : Running) (h : AreNamed plan i) (rest : List Frame) (caller : Frame) (there : i.below.items ≡ rest ++ caller ∷ []) where
     below-named : All (IsNamed plan) rest × IsNamed plan caller
-    below-named = All-pop (IsNamed plan) i.below.items rest (Some caller) there (All-tail (IsNamed plan) i.top i.below.items h)
+    below-named = All-pop (IsNamed plan) i.below.items rest (Some caller) there (All-tail (IsNamed plan) i.top i.below.items h.each)
 
     pub caller-named : IsNamed plan caller
     caller-named = below-named.1
 
-    pub named-ended : (new : Running) → new.top.function ≡ caller.function → new.top.env.names ≡ caller.env.names → new.below.items ≡ rest → AreNamed plan new
-    named-ended new function names below =
-        All-cons (IsNamed plan) new.top new.below.items (same-named plan caller new.top function names caller-named) (All-same (IsNamed plan) new.below.items rest below below-named.0)
+    targets-below : IsNamedIn caller i.top.target × TargetsAreNamed caller.target (reverse rest)
+    targets-below = subst (TargetsAreNamed i.top.target) (ap reverse there ∙ reverse-append rest (caller ∷ [])) h.targets
+
+    -- its value goes to a variable of the caller's, if to any
+    pub value-named : IsNamedIn caller i.top.target
+    value-named = targets-below.0
+
+    pub named-ended : (new : Running) → new.top.function ≡ caller.function → new.top.target ≡ caller.target → new.top.env.names ≡ caller.env.names → new.below.items ≡ rest → AreNamed plan new
+    named-ended new function target names below =
+        record {
+          each =
+              All-cons (IsNamed plan) new.top new.below.items (same-named plan caller new.top function names caller-named) (All-same (IsNamed plan) new.below.items rest below below-named.0);
+          targets =
+              subst (λ (t : Option Name). TargetsAreNamed t (reverse new.below.items)) (sym target)
+              (subst (λ (frames : List Frame). TargetsAreNamed caller.target (reverse frames)) (sym below) targets-below.1);
+        }
 
 -- by the names that a plan has for a frame's function
 module _ (plan : PlanView) (a : Frame) (is : IsNamed plan a) where
@@ -80,7 +159,7 @@ module _ (plan : PlanView) (number : ℕ) (f : Function) (there : function_at (f
     result-named : every_in (has_place places (variable_names f)) f.result ≡ true
     result-named = (and_parts (every_in_block (has_place places (variable_names f)) f.body) (every_in (has_place places (variable_names f)) f.result) parts.1).1
 
-    pub result-found : (a : Frame) → a.env.names ≡ variable_names f → Finds places a.env f.result
+    pub result-found : (a : Frame) → a.env.names ≡ variable_names f → FindsExpression places a.env f.result
     result-found a names = ap (λ (ns : List (List ℕ)). every_in (has_place places ns) f.result) names ∙ result-named
 
 -- a frame of a function of a plan

@@ -17,7 +17,7 @@ use Rattle.strand_moves.specs.declared.frame.Level.{Level}
 use Rattle.strand_moves.specs.declared.running.Running.{Running}
 use Rattle.strand_moves.specs.declared.effects.MoveResult.{MoveResult}
 use Rattle.strand_moves.specs.Acts.{Costs, GoesIn, Keeps, StaysUnlessMemory, Stays}
-use Rattle.strand_moves.specs.Running.{AreAround, IsInstance, IsNamed, IsStrand, KeepsNames, frame_of, body_of, levels_of, machine_of, rank_bound, open_scopes, path_around, path_of, present_of, ranks_after, scopes_of}
+use Rattle.strand_moves.specs.Running.{AreAround, IsInstance, IsNamed, IsStrand, KeepsNames, TargetsAreNamed, frame_of, body_of, levels_of, machine_of, rank_bound, open_scopes, path_around, path_of, present_of, ranks_after, scopes_of}
 use Rattle.strand_moves.proofs.Statements.Naming.{top-named}
 
 -- Paths
@@ -132,7 +132,7 @@ module _ (plan : PlanView) (old paid : Running) (n : ℕ) (h : IsInstance plan o
   paid-costs new c = let P : Running → Type 0 = λ x. Costs x new in let d = subst P is-paid c in omega (arith, d, less)
 
   paid-kept : (new : Running) → KeepsNames plan paid new → KeepsNames plan old new
-  paid-kept new kept = let P : Running → Type 0 = λ x. KeepsNames plan x new in subst P is-paid kept
+  paid-kept new kept h = let P : Running → Type 0 = λ x. KeepsNames plan x new in subst P is-paid kept (top-named plan old (record old { steps = n }) refl refl refl refl h)
 
   pub keeps-paid : (new : Running) → KeepsNames plan paid new → Stays paid new → Costs paid new → (result : Result MoveResult values.Halt) → Keeps plan old new result
   keeps-paid new kept s c result = keeps-stays plan old new h on (paid-stays new s) (paid-kept new kept) (paid-costs new c) result
@@ -198,7 +198,11 @@ first-sound plan i fits within rank steps on none alone named =
       few = omega (arith, here, rank, ranks, steps);
       around = subst (λ (ls : List Level). AreAround plan ls i.trail.path) (sym scopes) tt;
       leaving = λ e. absurd (cc);
-      named = All-cons (IsNamed plan) i.top i.below.items named (All-same (IsNamed plan) i.below.items [] alone (All-nil (IsNamed plan)));
+      named =
+          record {
+            each = All-cons (IsNamed plan) i.top i.below.items named (All-same (IsNamed plan) i.below.items [] alone (All-nil (IsNamed plan)));
+            targets = subst (λ (below : List Frame). TargetsAreNamed i.top.target (reverse below)) (sym alone) tt;
+          };
     }
 
 -- the innermost has other variables, or took a fault
@@ -209,7 +213,7 @@ innermost-sound plan i env faulted names h =
       few = h.few;
       around = h.around;
       leaving = h.leaving;
-      named = top-named plan i (record i { top = record i.top { env = env; faulted = faulted } }) refl refl names h.named;
+      named = top-named plan i (record i { top = record i.top { env = env; faulted = faulted } }) refl refl refl names h.named;
     }
 
 -- the scopes of a frame that is replaced by one with the same

@@ -116,7 +116,7 @@ module _ (plan : PlanView) (i : Running) (h : IsInstance plan i) where
           few = omega (arith, few, was, is, left);
           around = subst (λ (ls : List Level). AreAround plan ls l.trail.path) (sym scopes) stands.2;
           leaving = λ e. absurd (cc);
-          named = top-named plan i (record i { trail = l.trail; rank = l.rank + 1; leaving = false; top = record i.top { levels = new.top.levels; cursor = l.cursor } }) refl refl refl h.named;
+          named = top-named plan i (record i { trail = l.trail; rank = l.rank + 1; leaving = false; top = record i.top { levels = new.top.levels; cursor = l.cursor } }) refl refl refl refl h.named;
         }
 
     pub out-kept : (new : Running) → IsOut new → IsKept plan i new
@@ -154,7 +154,7 @@ module _ (plan : PlanView) (i : Running) (h : IsInstance plan i) where
             few = omega (arith, few);
             around = h.around;
             leaving = λ e. (none, some);
-            named = top-named plan i joined refl refl refl h.named;
+            named = top-named plan i joined refl refl refl refl h.named;
           };
           path = refl;
         }

@@ -177,5 +177,5 @@ module _ (plan : PlanView) (i : Running) where
         few = h.few;
         around = h.around;
         leaving = λ e. (none e, (h.leaving e).1);
-        named = top-named plan i (with_cursor i.steps cursor) refl refl refl h.named;
+        named = top-named plan i (with_cursor i.steps cursor) refl refl refl refl h.named;
       }

@@ -155,7 +155,18 @@ impl Frame {
         array: Option<&Name>,
         values: &[Value],
     ) -> Result<(), Fail> {
-        self.environment.fill(alloc, &self.names, array, values)?;
+        if let Some(x) = array {
+            let places = self.places.as_slice();
+            if !finds(alloc, places, &self.names, &Expr::Var(x.copy()))? {
+                return Err(Unknown)?;
+            }
+            if self.environment.item(places, x, 0).is_none() {
+                return Err(Unknown)?;
+            }
+            self.environment.fill(alloc, &self.names, Some(x), values);
+        } else {
+            self.environment.fill(alloc, &self.names, None, values);
+        }
         Ok(())
     }
 

@@ -1,7 +1,7 @@
 use Rattle.std.proofs.Common.{◌≡◌, ◌≤◌, length, ap, ◌∙◌, rules}
 use Rattle.std.proofs.lemmas.List.Elements.{All-same}
 use Rattle.script_grammar.specs.declared.tree.Function.{Function}
-use Rattle.script_check.specs.Places.{each_names, finds_all, places_of, variable_names}
+use Rattle.script_check.specs.Places.{each_names, finds_all, table_of_places, variable_names}
 use Rattle.script_check.specs.Rules.{most_variables}
 use Rattle.script_check.specs.Spawns.{each_spawns}
 use Rattle.script_check.proofs.FoundPlaces.Few.{variables_are_few}
@@ -17,7 +17,7 @@ checked_of-requires c =
     let script = c.args.script in
     let spawn : c.in_ok-spawns.spawns ≡ each_spawns script.functions = search rules in
     let variables : c.in_ok-names.names ≡ each_names script.functions = c.in_ok-names.ensures.names ∙ ap each_names c.as_slice-functions.ensures in
-    let made : c.in_ok-names.places ≡ places_of script.functions = c.in_ok-names.ensures.places ∙ ap places_of c.as_slice-functions.ensures in
+    let made : c.in_ok-names.places ≡ table_of_places script.functions = c.in_ok-names.ensures.places ∙ ap table_of_places c.as_slice-functions.ensures in
     record {
       valid = c.requires.valid;
       text = c.requires.text;

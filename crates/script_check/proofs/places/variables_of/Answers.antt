@@ -2,7 +2,7 @@ use Rattle.std.proofs.Common.{◌≡◌, ℕ, ◌+◌, ◌<◌, ◌≤◌, List,
 use Rattle.std.proofs.lemmas.List.{drop_all}
 use Rattle.script_grammar.specs.declared.tree.Name.{Name}
 use Rattle.script_grammar.specs.declared.tree.Param.{Param}
-use Rattle.script_check.specs.Places.{named_in_function, variable_names, with_variable, with_variables}
+use Rattle.script_check.specs.Places.{named_in_function, variable_names, with_new_name, with_new_names}
 use Rattle.script_check.proofs.FoundPlaces.Known.{room-for, room-new}
 use Rattle.script_check.proofs.Walk.Reading.{at_index}
 use Rattle.script_check.proofs.places.variables_of.Goals as goal
@@ -17,10 +17,10 @@ one_param params i q before next h e is was =
     ∙ sym (append_assoc before (q.name.bytes ∷ []) (names (drop (i + 1) params)))
     ∙ ap (λ l. l ++ names (drop (i + 1) params)) (sym is)
 
-one_name : (all : List (List ℕ)) (xs : List Name) (i : ℕ) (x : Name) (before next : List (List ℕ)) → i < length xs → x ≡ get_or xs i x → next ≡ with_variable before x.bytes →
-    all ≡ with_variables before (drop i xs) → all ≡ with_variables next (drop (i + 1) xs)
+one_name : (all : List (List ℕ)) (xs : List Name) (i : ℕ) (x : Name) (before next : List (List ℕ)) → i < length xs → x ≡ get_or xs i x → next ≡ with_new_name before x.bytes →
+    all ≡ with_new_names before (drop i xs) → all ≡ with_new_names next (drop (i + 1) xs)
 one_name all xs i x before next h e is was =
-    was ∙ ap (with_variables before) (at_index xs i x h e) ∙ ap (λ l. with_variables l (drop (i + 1) xs)) (sym is)
+    was ∙ ap (with_new_names before) (at_index xs i x h e) ∙ ap (λ l. with_new_names l (drop (i + 1) xs)) (sym is)
 
 pub with-requires : goal.with-requires
 with-requires c =
@@ -46,7 +46,7 @@ loop-name-init c =
     let past : length f.params ≤ c.loop-param.param-index = subst (λ (l : List Param). length l ≤ c.loop-param.param-index) same c.loop-param-test.false in
     let all : names f.params ≡ c.loop-param.variables =
     c.loop-param.invariant ∙ ap (λ l. c.loop-param.variables ++ names l) (drop_all c.loop-param.param-index f.params past) ∙ append-nil c.loop-param.variables in
-    ap (λ l. with_variables l (named_in_function f)) all ∙ ap (with_variables c.loop-param.variables) (sym c.requires.named)
+    ap (λ l. with_new_names l (named_in_function f)) all ∙ ap (with_new_names c.loop-param.variables) (sym c.requires.named)
 
 pub with_new-requires : goal.with_new-requires
 with_new-requires c =

@@ -2,10 +2,14 @@ use Rattle.strand_meaning.specs.Task.{takes}
 use Rattle.strand_machine.specs.Merge.{ending_of}
 use Rattle.strand_machine.specs.Parts.{destination_of}
 use Rattle.strand_machine.proofs.TakenAnswers.Taking.{runs-taken, stands-of}
+use Rattle.strand_machine.proofs.TakenAnswers.Targets.{target-of}
 use Rattle.strand_machine.proofs.merge.merge_work.Goals as goal
 
-pub merge_stage-requires : goal.merge_stage-requires
-merge_stage-requires c = stands-of c.args.plan.now c.args.work.now _ c.requires c.in-Runs.is
+pub merge_stage-requires-clause-stands : goal.merge_stage-requires-clause-stands
+merge_stage-requires-clause-stands c = stands-of c.args.plan.now c.args.work.now _ c.requires.works c.in-Runs.is
+
+pub merge_stage-requires-clause-target : goal.merge_stage-requires-clause-target
+merge_stage-requires-clause-target c = target-of c.args.plan.now (destination_of c.args.place) c.args.work.now _ c.in-Runs.is c.requires.target
 
 pub returns-in_ok-merge_stage-in-Runs : goal.returns-in_ok-merge_stage-in-Runs
 returns-in_ok-merge_stage-in-Runs c = runs-taken (takes (destination_of c.args.place) (ending_of c.args.outcome)) c.args.work.now _ _ c.in-Runs.is c.in_ok-merge_stage-in-Runs.ensures

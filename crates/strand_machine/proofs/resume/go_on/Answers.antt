@@ -1,16 +1,18 @@
-use Rattle.std.proofs.Common.{◌≡◌, [], false, length, refl, sym, ap, ◌∙◌, subst}
-use Rattle.strand_meaning.specs.Trace.{Trace}
+use Rattle.std.proofs.Common.{◌≡◌, List, false, length, sym, ap, ◌∙◌, subst}
+use Rattle.strand_meaning.specs.Sound.{IsSoundWork}
+use Rattle.strand_meaning.specs.Trace.{AwaitedChild, Trace}
 use Rattle.strand_machine.specs.Family.{FamilyView}
 use Rattle.strand_machine.specs.Merge.{EndsShort, IsShort, merge_of, trace_of}
 use Rattle.strand_machine.specs.Parts.{awaited}
 use Rattle.strand_machine.specs.Stops.{answer_tags}
-use Rattle.strand_machine.specs.Tasks.{IsSound, view_of}
+use Rattle.strand_machine.specs.Tasks.{IsSound, view_of, work_of}
 use Rattle.strand_machine.specs.declared.body.Body.{Body}
 use Rattle.strand_machine.proofs.NextStops.Advancing.{sound_holds}
 use Rattle.strand_machine.proofs.TakenAnswers.Answering.{length-answer-tags, length-tags}
 use Rattle.strand_machine.proofs.TakenAnswers.Cutting.{answers-of, ends-short, kept-body, own-children, short-on, taken-from, takes-whole, went-short, went-whole}
 use Rattle.strand_machine.proofs.Moves.Handed.{awaited_parts}
 use Rattle.strand_machine.proofs.TakenAnswers.Taking.{goes-on-sound, goes-on-view}
+use Rattle.strand_machine.proofs.TakenAnswers.Targets.{work-targets}
 use Rattle.strand_machine.proofs.resume.go_on.Goals as goal
 
 pub merge_all-requires-clause-many : goal.merge_all-requires-clause-many
@@ -25,6 +27,14 @@ merge_all-requires-clause-handed c = ap (λ (x : Trace). x.handed) c.take_childr
 
 pub merge_all-requires-clause-works : goal.merge_all-requires-clause-works
 merge_all-requires-clause-works c = (c.args.parts.now.body.family.origin, c.requires.sound.works)
+
+pub merge_all-requires-clause-targets : goal.merge_all-requires-clause-targets
+merge_all-requires-clause-targets c =
+    let b = c.args.parts.now.body in
+    let w = c.args.parts.now.work in
+    let q = c.take_children-behind.ensures.parted in
+    let sound = subst (λ (ps : List AwaitedChild). IsSoundWork b.family.plan b.family.origin ps (work_of b.family.plan w)) (sym (ap (λ (x : Trace). x.handed) q.is)) c.requires.sound.task.work in
+    work-targets b.family.plan q.children c.take_children-behind.result.items q.many b.family.origin (work_of b.family.plan w) sound
 
 pub cut_short-requires-clause-ends : goal.cut_short-requires-clause-ends
 cut_short-requires-clause-ends c =

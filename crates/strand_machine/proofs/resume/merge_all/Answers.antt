@@ -3,11 +3,12 @@ use Rattle.std.proofs.lemmas.List.{reverse-append, reverse-reverse, length-rever
 use Rattle.std.specs.Vec.Iter.{into_iter_items}
 use Rattle.serial_meaning.specs.Answer.{AnswerView}
 use Rattle.strand_machine.specs.Family.{origins}
-use Rattle.strand_machine.specs.Merge.{TakesAnswers, merge_of}
-use Rattle.strand_machine.specs.Parts.{awaited_children}
+use Rattle.strand_machine.specs.Merge.{HasTargets, TakesAnswers, merge_of}
+use Rattle.strand_machine.specs.Parts.{awaited_child, awaited_children}
 use Rattle.strand_machine.specs.Stops.{answer_tags}
+use Rattle.strand_machine.specs.Tasks.{work_of}
 use Rattle.strand_machine.specs.declared.trace.Behind.{Behind}
-use Rattle.strand_machine.proofs.TakenAnswers.Cutting.{answers-next, answers-no-more, keeps-then, works-then}
+use Rattle.strand_machine.proofs.TakenAnswers.Cutting.{answers-next, answers-no-more, keeps-then, targets-then, works-then}
 use Rattle.strand_machine.proofs.resume.merge_all.Goals as goal
 
 pub loop-part-init : goal.loop-part-init
@@ -23,6 +24,7 @@ loop-part-init c =
           (subst (λ (bs : List Behind). TakesAnswers (awaited_children (origins (answer_tags (reverse c.reverse.new.self.items))) bs) (reverse c.reverse.new.self.items) before after) parts h);
       rest = record { body = refl; handed = c.requires.handed };
       works = c.requires.works;
+      targets = subst (λ (bs : List Behind). HasTargets bs (work_of c.args.parts.now.body.family.plan c.args.parts.now.work)) (sym parts) c.requires.targets;
     }
 
 pub merge_answer-requires-clause-handed : goal.merge_answer-requires-clause-handed
@@ -30,6 +32,11 @@ merge_answer-requires-clause-handed c = c.loop-part.invariant.rest.handed
 
 pub merge_answer-requires-clause-works : goal.merge_answer-requires-clause-works
 merge_answer-requires-clause-works c = c.loop-part.invariant.works
+
+pub merge_answer-requires-clause-target : goal.merge_answer-requires-clause-target
+merge_answer-requires-clause-target c =
+    let all = subst (λ (bs : List Behind). HasTargets bs (work_of c.loop-part.parts.body.family.plan c.loop-part.parts.work)) c.in-Some.ensures.steps.0 c.loop-part.invariant.targets in
+    all.0
 
 pub unreachable-requires : goal.unreachable-requires
 unreachable-requires c =
@@ -44,6 +51,7 @@ loop-part-preserved c =
     let parts = c.in-Some.ensures.steps in
     let shorter = ap length parts.0 in
     let popped : c.loop-part.left.items ≡ c.pop.new.self.items ++ c.in-Some-pop.answer ∷ [] = c.in-Some-pop.ensures.items in
+    let all = subst (λ (bs : List Behind). HasTargets bs (work_of c.loop-part.parts.body.family.plan c.loop-part.parts.work)) parts.0 was.targets in
     let front : reverse c.loop-part.left.items ≡ c.in-Some-pop.answer ∷ reverse c.pop.new.self.items = ap reverse popped ∙ reverse-append c.pop.new.self.items (c.in-Some-pop.answer ∷ []) in
     record {
       parts = omega (arith, was.parts, parts.1, shorter);
@@ -51,6 +59,9 @@ loop-part-preserved c =
       takes = λ after h. was.takes after (answers-next _ _ _ _ c.in-Some-pop.answer c.in-Some.part (merge_of c.loop-part.parts c.loop-part.heard) (merge_of c.merge_answer.new.parts c.merge_answer.new.heard) after front parts.0 c.in_ok-merge_answer.ensures.takes h);
       rest = keeps-then _ _ _ was.rest c.in_ok-merge_answer.ensures.rest;
       works = works-then c.loop-part.parts c.merge_answer.new.parts c.loop-part.heard c.merge_answer.new.heard _ _ c.in_ok-merge_answer.ensures.rest c.in_ok-merge_answer.ensures.takes was.works;
+      targets =
+          targets-then c.loop-part.parts c.merge_answer.new.parts c.loop-part.heard c.merge_answer.new.heard (awaited_child c.in-Some-pop.answer.origin c.in-Some.part) c.in-Some-pop.answer _
+          c.in_ok-merge_answer.ensures.rest c.in_ok-merge_answer.ensures.takes all.1;
     }
 
 pub returns-clause-takes : goal.returns-clause-takes

@@ -17,20 +17,20 @@ returns-clause-shows c = λ plan st.
 
 pub returns-clause-there : goal.returns-clause-there
 returns-clause-there c =
-    record { below = refl; function = refl; levels = refl; names = names-stay c.set_array.new.self c.args.self.now.top.env _ c.in_ok-set_array.ensures.ok; steps = refl }
+    record { below = refl; function = refl; levels = refl; target = refl; names = names-stay c.set_array.new.self c.args.self.now.top.env _ c.in_ok-set_array.ensures.ok; steps = refl }
 
 pub returns-clause-named : goal.returns-clause-named
 returns-clause-named c = λ plan.
     let i = c.args.self.now in
     let new : Running = record i { top = record i.top { env = c.set_array.new.self } } in
-    top-named plan i new refl refl (names-stay c.set_array.new.self i.top.env _ c.in_ok-set_array.ensures.ok)
+    top-named plan i new refl refl refl (names-stay c.set_array.new.self i.top.env _ c.in_ok-set_array.ensures.ok)
 
 pub returns-in_err-set_array-clause-there : goal.returns-in_err-set_array-clause-there
 returns-in_err-set_array-clause-there c =
-    record { below = refl; function = refl; levels = refl; names = ap (λ (e : EnvironmentView). e.names) c.in_err-set_array.ensures.err; steps = refl }
+    record { below = refl; function = refl; levels = refl; target = refl; names = ap (λ (e : EnvironmentView). e.names) c.in_err-set_array.ensures.err; steps = refl }
 
 pub returns-in_err-set_array-clause-named : goal.returns-in_err-set_array-clause-named
 returns-in_err-set_array-clause-named c = λ plan.
     let i = c.args.self.now in
     let new : Running = record i { top = record i.top { env = c.set_array.new.self } } in
-    top-named plan i new refl refl (ap (λ (e : EnvironmentView). e.names) c.in_err-set_array.ensures.err)
+    top-named plan i new refl refl refl (ap (λ (e : EnvironmentView). e.names) c.in_err-set_array.ensures.err)

@@ -30,10 +30,10 @@ pub returns-clause-named : goal.returns-clause-named
 returns-clause-named c = λ plan.
     let i = c.args.self.now in
     let new : Running = record i { top = record i.top { cursor = c.enter.new.self } } in
-    top-named plan i new refl refl refl
+    top-named plan i new refl refl refl refl
 
 pub returns-in_err-enter-clause-named : goal.returns-in_err-enter-clause-named
 returns-in_err-enter-clause-named c = λ plan.
     let i = c.args.self.now in
     let new : Running = record i { top = record i.top { cursor = c.enter.new.self } } in
-    top-named plan i new refl refl refl
+    top-named plan i new refl refl refl refl

@@ -7,10 +7,10 @@ use Rattle.strand_values.specs.Changes.{called_with}
 use Rattle.strand_values.specs.Environments.{EnvironmentView}
 use Rattle.strand_meaning.specs.Machine.{Machine}
 use Rattle.strand_moves.specs.Acts.{IsCallee}
-use Rattle.strand_moves.specs.Running.{machine_of, present_of}
+use Rattle.strand_moves.specs.Running.{IsNamedIn, machine_of, present_of}
 use Rattle.strand_moves.specs.Moves.{acted, call_to, present_pedigree}
 use Rattle.strand_moves.proofs.Frames.CallLemmas.{begun-stays, called-by, called-fault, is_below, is_not_below, calls-open, machine-begun, stands-quiet}
-use Rattle.strand_moves.proofs.Frames.Names.{named-begun, own-names, own-names-there, params-stand}
+use Rattle.strand_moves.proofs.Frames.Names.{named-begun, own-names, own-names-there, params-stand, target-named}
 use Rattle.strand_moves.proofs.Statements.Naming.{there-named}
 use Rattle.strand_moves.proofs.Statements.Equations.{call, callee, call-args-fault, calls-fault, went}
 use Rattle.strand_moves.proofs.OpenScopes.Exits.{quiet-exit}
@@ -93,6 +93,7 @@ returns-clause-named c =
       of_plan = ap (λ (n : ℕ). function_at (functions_of plan) n) top.function ∙ c.requires.there;
       names = ap (λ (e : EnvironmentView). e.names) (top.env ∙ known.1.1) ∙ own-names plan c.args.number f c.requires.there names c.in-Some.ensures;
     })
+    (subst (IsNamedIn i.top) (sym top.target) (target-named c.args.places.now i.top (option_copied c.args.target) c.requires.target))
 
 pub returns-in_err-open-clause-named : goal.returns-in_err-open-clause-named
 returns-in_err-open-clause-named c = there-named c.args.plan.now c.args.self.now c.open.new.self c.in_err-open.ensures.err

@@ -13,20 +13,20 @@ returns-clause-shows c = λ plan st at.
 
 pub returns-clause-there : goal.returns-clause-there
 returns-clause-there c =
-    record { below = refl; function = refl; levels = refl; names = names-stay c.set_scalar.new.self c.args.self.now.top.env _ c.set_scalar.ensures; steps = refl }
+    record { below = refl; function = refl; levels = refl; target = refl; names = names-stay c.set_scalar.new.self c.args.self.now.top.env _ c.set_scalar.ensures; steps = refl }
 
 pub returns-clause-named : goal.returns-clause-named
 returns-clause-named c = λ plan.
     let i = c.args.self.now in
     let new : Running = record i { rank = i.rank + 1; top = record i.top { env = c.set_scalar.new.self } } in
-    top-named plan i new refl refl (names-stay c.set_scalar.new.self i.top.env _ c.set_scalar.ensures)
+    top-named plan i new refl refl refl (names-stay c.set_scalar.new.self i.top.env _ c.set_scalar.ensures)
 
 pub returns-in_err-at-clause-there : goal.returns-in_err-at-clause-there
 returns-in_err-at-clause-there c =
-    record { below = refl; function = refl; levels = refl; names = names-stay c.set_scalar.new.self c.args.self.now.top.env _ c.set_scalar.ensures; steps = refl }
+    record { below = refl; function = refl; levels = refl; target = refl; names = names-stay c.set_scalar.new.self c.args.self.now.top.env _ c.set_scalar.ensures; steps = refl }
 
 pub returns-in_err-at-clause-named : goal.returns-in_err-at-clause-named
 returns-in_err-at-clause-named c = λ plan.
     let i = c.args.self.now in
     let new : Running = record i { top = record i.top { env = c.set_scalar.new.self } } in
-    top-named plan i new refl refl (names-stay c.set_scalar.new.self i.top.env _ c.set_scalar.ensures)
+    top-named plan i new refl refl refl (names-stay c.set_scalar.new.self i.top.env _ c.set_scalar.ensures)

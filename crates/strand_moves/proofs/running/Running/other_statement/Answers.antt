@@ -1,6 +1,7 @@
-use Rattle.std.proofs.Common.{sym, subst}
+use Rattle.std.proofs.Common.{refl, sym, subst}
 use Rattle.strand_moves.specs.declared.running.Running.{Running}
 use Rattle.strand_moves.specs.Running.{KeepsNames}
+use Rattle.strand_moves.proofs.Statements.Naming.{top-named}
 use Rattle.strand_moves.proofs.running.Running.other_statement.Goals as goal
 use Rattle.strand_moves.proofs.running.Running.other_statement.Goals.{in-Emitting+in_ok-done-in-Emitting, in-Calling+in_ok-done-in-Calling, in-Other}
 
@@ -19,8 +20,10 @@ returns-then-done-clause-named g c =
 
 pub returns-clause-named : goal.returns-clause-named
 returns-clause-named g c =
+    let kept : KeepsNames c.args.plan.now c.args.self.now c.match-form.self =
     elim c.match-form.branch [
       | in-Emitting+in_ok-done-in-Emitting w ↦ subst (λ (x : Running). KeepsNames c.args.plan.now c.args.self.now x) (sym w.self-is) (w.emitting_statement.ensures.named c.args.plan.now)
       | in-Calling+in_ok-done-in-Calling w ↦ subst (λ (x : Running). KeepsNames c.args.plan.now c.args.self.now x) (sym w.self-is) w.calling_statement.ensures.named
       | in-Other w ↦ subst (λ (x : Running). KeepsNames c.args.plan.now c.args.self.now x) (sym w.self-is) (λ h. h)
-    ]
+    ] in
+    λ h. top-named c.args.plan.now c.match-form.self _ refl refl refl refl (kept h)

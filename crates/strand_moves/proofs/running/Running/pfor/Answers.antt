@@ -98,29 +98,29 @@ returns-clause-shows c = λ st var.
 pub returns-in_err-begin_loop-clause-named : goal.returns-in_err-begin_loop-clause-named
 returns-in_err-begin_loop-clause-named c = λ plan.
     let others = c.begin_loop.ensures.others in
-    top-named plan c.args.self.now c.begin_loop.new.self (ap (λ (x : Running). x.below.items) others) (ap (λ (x : Running). x.top.function) others) (ap (λ (x : Running). x.top.env.names) others)
+    top-named plan c.args.self.now c.begin_loop.new.self (ap (λ (x : Running). x.below.items) others) (ap (λ (x : Running). x.top.function) others) (ap (λ (x : Running). x.top.target) others) (ap (λ (x : Running). x.top.env.names) others)
 
 pub returns-in_err-trail-clause-named : goal.returns-in_err-trail-clause-named
 returns-in_err-trail-clause-named c = λ plan.
     let others = c.begin_loop.ensures.others in
-    top-named plan c.args.self.now c.begin_loop.new.self (ap (λ (x : Running). x.below.items) others) (ap (λ (x : Running). x.top.function) others) (ap (λ (x : Running). x.top.env.names) others)
+    top-named plan c.args.self.now c.begin_loop.new.self (ap (λ (x : Running). x.below.items) others) (ap (λ (x : Running). x.top.function) others) (ap (λ (x : Running). x.top.target) others) (ap (λ (x : Running). x.top.env.names) others)
 
 pub returns-then-count-eq0-clause-named : goal.returns-then-count-eq0-clause-named
 returns-then-count-eq0-clause-named c = λ plan h.
     let others = c.begin_loop.ensures.others in
-    c.pass_loop.ensures.named plan (top-named plan c.args.self.now c.begin_loop.new.self (ap (λ (x : Running). x.below.items) others) (ap (λ (x : Running). x.top.function) others) (ap (λ (x : Running). x.top.env.names) others) h)
+    c.pass_loop.ensures.named plan (top-named plan c.args.self.now c.begin_loop.new.self (ap (λ (x : Running). x.below.items) others) (ap (λ (x : Running). x.top.function) others) (ap (λ (x : Running). x.top.target) others) (ap (λ (x : Running). x.top.env.names) others) h)
 
 pub returns-in_err-pass_loop-clause-named : goal.returns-in_err-pass_loop-clause-named
 returns-in_err-pass_loop-clause-named c = λ plan h.
     let others = c.begin_loop.ensures.others in
-    c.pass_loop.ensures.named plan (top-named plan c.args.self.now c.begin_loop.new.self (ap (λ (x : Running). x.below.items) others) (ap (λ (x : Running). x.top.function) others) (ap (λ (x : Running). x.top.env.names) others) h)
+    c.pass_loop.ensures.named plan (top-named plan c.args.self.now c.begin_loop.new.self (ap (λ (x : Running). x.below.items) others) (ap (λ (x : Running). x.top.function) others) (ap (λ (x : Running). x.top.target) others) (ap (λ (x : Running). x.top.env.names) others) h)
 
 pub returns-clause-named : goal.returns-clause-named
 returns-clause-named c = λ plan h.
     let others = c.begin_loop.ensures.others in
-    c.hand_loop.ensures.named plan (top-named plan c.args.self.now c.begin_loop.new.self (ap (λ (x : Running). x.below.items) others) (ap (λ (x : Running). x.top.function) others) (ap (λ (x : Running). x.top.env.names) others) h)
+    c.hand_loop.ensures.named plan (top-named plan c.args.self.now c.begin_loop.new.self (ap (λ (x : Running). x.below.items) others) (ap (λ (x : Running). x.top.function) others) (ap (λ (x : Running). x.top.target) others) (ap (λ (x : Running). x.top.env.names) others) h)
 
 pub returns-in_err-hand_loop-clause-named : goal.returns-in_err-hand_loop-clause-named
 returns-in_err-hand_loop-clause-named c = λ plan h.
     let others = c.begin_loop.ensures.others in
-    c.hand_loop.ensures.named plan (top-named plan c.args.self.now c.begin_loop.new.self (ap (λ (x : Running). x.below.items) others) (ap (λ (x : Running). x.top.function) others) (ap (λ (x : Running). x.top.env.names) others) h)
+    c.hand_loop.ensures.named plan (top-named plan c.args.self.now c.begin_loop.new.self (ap (λ (x : Running). x.below.items) others) (ap (λ (x : Running). x.top.function) others) (ap (λ (x : Running). x.top.target) others) (ap (λ (x : Running). x.top.env.names) others) h)

@@ -30,13 +30,13 @@ set_value-requires-clause-value c = in_value (has_place c.args.places.now c.args
 
 pub returns-in-Some-clause-there : goal.returns-in-Some-clause-there
 returns-in-Some-clause-there c =
-    record { below = refl; function = refl; levels = refl; names = names-stay c.set_number.new.self c.args.self.now.top.env _ c.set_number.ensures; steps = refl }
+    record { below = refl; function = refl; levels = refl; target = refl; names = names-stay c.set_number.new.self c.args.self.now.top.env _ c.set_number.ensures; steps = refl }
 
 pub returns-in-Some-clause-named : goal.returns-in-Some-clause-named
 returns-in-Some-clause-named c = λ plan.
     let i = c.args.self.now in
     let new : Running = record i { top = record i.top { env = c.set_number.new.self } } in
-    top-named plan i new refl refl (names-stay c.set_number.new.self i.top.env _ c.set_number.ensures)
+    top-named plan i new refl refl refl (names-stay c.set_number.new.self i.top.env _ c.set_number.ensures)
 
 pub returns-in-None-clause-named : goal.returns-in-None-clause-named
 returns-in-None-clause-named c = c.set_value.ensures.named

@@ -41,14 +41,14 @@ returns-then-has_spawns-clause-named c = λ h.
     let paid = c.pay.new.self in
     let ok = c.in_ok-pay.ensures.ok in
     let begun : Running = record paid { top = record paid.top { returning = true } } in
-    c.sync.ensures.named plan (top-named plan c.args.self.now begun (ap (λ (x : Running). x.below.items) ok) (ap (λ (x : Running). x.top.function) ok) (ap (λ (x : Running). x.top.env.names) ok) h)
+    c.sync.ensures.named plan (top-named plan c.args.self.now begun (ap (λ (x : Running). x.below.items) ok) (ap (λ (x : Running). x.top.function) ok) (ap (λ (x : Running). x.top.target) ok) (ap (λ (x : Running). x.top.env.names) ok) h)
 
 pub returns-clause-named : goal.returns-clause-named
 returns-clause-named c =
     let paid = c.pay.new.self in
     let ok = c.in_ok-pay.ensures.ok in
     let new : Running = record paid { top = record paid.top { returning = true } } in
-    top-named c.args.plan.now c.args.self.now new (ap (λ (x : Running). x.below.items) ok) (ap (λ (x : Running). x.top.function) ok) (ap (λ (x : Running). x.top.env.names) ok)
+    top-named c.args.plan.now c.args.self.now new (ap (λ (x : Running). x.below.items) ok) (ap (λ (x : Running). x.top.function) ok) (ap (λ (x : Running). x.top.target) ok) (ap (λ (x : Running). x.top.env.names) ok)
 
 pub returns-in_err-pay-clause-named : goal.returns-in_err-pay-clause-named
 returns-in_err-pay-clause-named c = still-named c.args.plan.now c.args.self.now c.pay.new.self (c.pay.ensures.err c.in_err-pay.field-0.0 c.in_err-pay.was).0

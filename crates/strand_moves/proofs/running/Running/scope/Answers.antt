@@ -36,9 +36,9 @@ returns-clause-into c =
 pub returns-clause-named : goal.returns-clause-named
 returns-clause-named c = λ plan.
     let others = c.go_in.ensures.others in
-    top-named plan c.args.self.now c.go_in.new.self (ap (λ (x : Running). x.below.items) others) (ap (λ (x : Running). x.top.function) others) (ap (λ (x : Running). x.top.env.names) others)
+    top-named plan c.args.self.now c.go_in.new.self (ap (λ (x : Running). x.below.items) others) (ap (λ (x : Running). x.top.function) others) (ap (λ (x : Running). x.top.target) others) (ap (λ (x : Running). x.top.env.names) others)
 
 pub returns-in_err-go_in-clause-named : goal.returns-in_err-go_in-clause-named
 returns-in_err-go_in-clause-named c = λ plan.
     let others = c.go_in.ensures.others in
-    top-named plan c.args.self.now c.go_in.new.self (ap (λ (x : Running). x.below.items) others) (ap (λ (x : Running). x.top.function) others) (ap (λ (x : Running). x.top.env.names) others)
+    top-named plan c.args.self.now c.go_in.new.self (ap (λ (x : Running). x.below.items) others) (ap (λ (x : Running). x.top.function) others) (ap (λ (x : Running). x.top.target) others) (ap (λ (x : Running). x.top.env.names) others)

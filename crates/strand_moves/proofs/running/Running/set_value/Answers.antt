@@ -15,10 +15,10 @@ returns-clause-same c = λ kind h.
     ap (λ (env : EnvironmentView). let r : Running = record i { top = record i.top { env = env } } in r) (on-err c.assign.result _ _ c.assign.ensures.err h)
 
 pub returns-clause-there : goal.returns-clause-there
-returns-clause-there c = record { below = refl; function = refl; levels = refl; names = c.assign.ensures.names; steps = refl }
+returns-clause-there c = record { below = refl; function = refl; levels = refl; target = refl; names = c.assign.ensures.names; steps = refl }
 
 pub returns-clause-named : goal.returns-clause-named
 returns-clause-named c = λ plan.
     let i = c.args.self.now in
     let new : Running = record i { top = record i.top { env = c.assign.new.self } } in
-    top-named plan i new refl refl c.assign.ensures.names
+    top-named plan i new refl refl refl c.assign.ensures.names

@@ -44,7 +44,7 @@ returns-in-Some-clause-shows c = λ st.
 pub returns-in-Some-clause-named : goal.returns-in-Some-clause-named
 returns-in-Some-clause-named c =
     let i = c.args.self.now in
-    top-named c.args.plan.now i (record i { top = record i.top { env = c.set_scalar.new.self } }) refl refl (names-stay c.set_scalar.new.self i.top.env _ c.set_scalar.ensures)
+    top-named c.args.plan.now i (record i { top = record i.top { env = c.set_scalar.new.self } }) refl refl refl (names-stay c.set_scalar.new.self i.top.env _ c.set_scalar.ensures)
 
 pub returns-in_default-clause-shows : goal.returns-in_default-clause-shows
 returns-in_default-clause-shows c = λ st.

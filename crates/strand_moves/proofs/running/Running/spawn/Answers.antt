@@ -63,22 +63,22 @@ pub returns-in_err-target-clause-named : goal.returns-in_err-target-clause-named
 returns-in_err-target-clause-named c = λ plan.
     let others = c.receive_filler.ensures.others in
     let received = c.receive_filler.new.self in
-    top-named plan c.args.self.now received (ap (λ (x : Running). x.below.items) others) (ap (λ (x : Running). x.top.function) others) c.receive_filler.ensures.names
+    top-named plan c.args.self.now received (ap (λ (x : Running). x.below.items) others) (ap (λ (x : Running). x.top.function) others) (ap (λ (x : Running). x.top.target) others) c.receive_filler.ensures.names
 
 pub returns-in_err-trail-clause-named : goal.returns-in_err-trail-clause-named
 returns-in_err-trail-clause-named c = λ plan.
     let others = c.receive_filler.ensures.others in
     let received = c.receive_filler.new.self in
-    top-named plan c.args.self.now received (ap (λ (x : Running). x.below.items) others) (ap (λ (x : Running). x.top.function) others) c.receive_filler.ensures.names
+    top-named plan c.args.self.now received (ap (λ (x : Running). x.below.items) others) (ap (λ (x : Running). x.top.function) others) (ap (λ (x : Running). x.top.target) others) c.receive_filler.ensures.names
 
 pub returns-in_err-pedigree-clause-named : goal.returns-in_err-pedigree-clause-named
 returns-in_err-pedigree-clause-named c = λ plan.
     let others = c.receive_filler.ensures.others in
     let received = c.receive_filler.new.self in
-    top-named plan c.args.self.now received (ap (λ (x : Running). x.below.items) others) (ap (λ (x : Running). x.top.function) others) c.receive_filler.ensures.names
+    top-named plan c.args.self.now received (ap (λ (x : Running). x.below.items) others) (ap (λ (x : Running). x.top.function) others) (ap (λ (x : Running). x.top.target) others) c.receive_filler.ensures.names
 
 pub returns-clause-named : goal.returns-clause-named
 returns-clause-named c = λ plan.
     let others = c.receive_filler.ensures.others in
     let received = c.receive_filler.new.self in
-    top-named plan c.args.self.now (record received { rank = received.rank + 1; top = record received.top { spawned = true } }) (ap (λ (x : Running). x.below.items) others) (ap (λ (x : Running). x.top.function) others) c.receive_filler.ensures.names
+    top-named plan c.args.self.now (record received { rank = received.rank + 1; top = record received.top { spawned = true } }) (ap (λ (x : Running). x.below.items) others) (ap (λ (x : Running). x.top.function) others) (ap (λ (x : Running). x.top.target) others) c.receive_filler.ensures.names

@@ -54,10 +54,10 @@ returns-clause-shows c = λ plan st.
 
 pub returns-clause-there : goal.returns-clause-there
 returns-clause-there c =
-    record { below = refl; function = refl; levels = refl; names = names-stay c.set_item.new.self c.args.self.now.top.env _ c.set_item.ensures; steps = refl }
+    record { below = refl; function = refl; levels = refl; target = refl; names = names-stay c.set_item.new.self c.args.self.now.top.env _ c.set_item.ensures; steps = refl }
 
 pub returns-clause-named : goal.returns-clause-named
 returns-clause-named c = λ plan.
     let i = c.args.self.now in
     let new : Running = record i { top = record i.top { env = c.set_item.new.self } } in
-    top-named plan i new refl refl (names-stay c.set_item.new.self i.top.env _ c.set_item.ensures)
+    top-named plan i new refl refl refl (names-stay c.set_item.new.self i.top.env _ c.set_item.ensures)

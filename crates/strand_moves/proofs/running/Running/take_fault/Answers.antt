@@ -2,9 +2,8 @@ use Rattle.std.proofs.Common.{false, Err, refl, ap, set, arith}
 use Rattle.strand_meaning.specs.Task.{answered}
 use Rattle.strand_moves.specs.Running.{frame_of}
 use Rattle.strand_moves.proofs.Frames.BelowLemmas.{changed-inside, changed-beyond}
-use Rattle.strand_moves.proofs.Frames.Names.{named-set, one-below-named}
+use Rattle.strand_moves.proofs.Frames.Names.{named-set}
 use Rattle.strand_moves.proofs.OpenScopes.Keeping.{changed-around, changed-few, changed-path, innermost-sound, scopes-replaced}
-use Rattle.strand_moves.proofs.Statements.Naming.{same-named}
 use Rattle.strand_moves.proofs.running.Running.take_fault.Goals as goal
 
 pub returns-then-height-len-2-clause-machine : goal.returns-then-height-len-2-clause-machine
@@ -28,11 +27,10 @@ returns-then-height-len-2-clause-sound c = λ plan h.
     let i = c.args.self.now in
     let old = c.index_mut.result.now in
     let same = scopes-replaced i.below.items c.args.height old (record old { faulted = c.take_least-then-height-len-2.new.faulted }) (omega (arith, i.below.ok.0)) c.index_mut.ensures.value refl in
-    let was = one-below-named plan i h.named c.args.height old (omega (arith, i.below.ok.0)) c.index_mut.ensures.value in
     record {
       strand = record { fits = h.strand.fits; within = h.strand.within; few = h.strand.few };
       few = changed-few i (set i.below.items c.args.height (record old { faulted = c.take_least-then-height-len-2.new.faulted })) same h.few;
       around = changed-around i (set i.below.items c.args.height (record old { faulted = c.take_least-then-height-len-2.new.faulted })) same plan h.around;
       leaving = h.leaving;
-      named = named-set plan i c.args.height (record old { faulted = c.take_least-then-height-len-2.new.faulted }) (same-named plan old (record old { faulted = c.take_least-then-height-len-2.new.faulted }) refl refl was) h.named;
+      named = named-set plan i _ c.args.height old (record old { faulted = c.take_least-then-height-len-2.new.faulted }) (omega (arith, i.below.ok.0)) c.index_mut.ensures.value refl refl refl refl refl h.named;
     }

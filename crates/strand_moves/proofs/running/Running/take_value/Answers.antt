@@ -8,7 +8,6 @@ use Rattle.strand_moves.specs.Running.{IsInstance, frame_of, path_of}
 use Rattle.strand_moves.proofs.Frames.BelowLemmas.{changed-innermost, changed-inside, changed-beyond}
 use Rattle.strand_moves.proofs.Frames.Names.{innermost-named, named-set, one-below-named}
 use Rattle.strand_moves.proofs.OpenScopes.Keeping.{changed-around, changed-few, changed-path, innermost-sound, scopes-replaced}
-use Rattle.strand_moves.proofs.Statements.Naming.{same-named}
 use Rattle.strand_moves.proofs.running.Running.take_value.Goals as goal
 
 -- the innermost frame
@@ -60,11 +59,12 @@ returns-then-height-len-2-clause-sound c = λ p h.
     let new = c.replace-then-height-len-2.new.frame in
     let is = c.replace-then-height-len-2.ensures in
     let same = scopes-replaced i.below.items c.args.height old new (omega (arith, i.below.ok.0)) c.index_mut.ensures.value (ap (λ (a : Frame). a.levels.items) is) in
-    let was = one-below-named p i h.named c.args.height old (omega (arith, i.below.ok.0)) c.index_mut.ensures.value in
     record {
       strand = record { fits = h.strand.fits; within = h.strand.within; few = h.strand.few };
       few = changed-few i (set i.below.items c.args.height new) same h.few;
       around = changed-around i (set i.below.items c.args.height new) same p h.around;
       leaving = h.leaving;
-      named = named-set p i c.args.height new (same-named p old new (ap (λ (a : Frame). a.function) is) (ap (λ (a : Frame). a.env.names) is) was) h.named;
+      named =
+          named-set p i _ c.args.height old new (omega (arith, i.below.ok.0)) c.index_mut.ensures.value (ap (λ (a : Frame). a.function) is) (ap (λ (a : Frame). a.target) is) (ap (λ (a : Frame). a.env.names) is)
+          refl refl h.named;
     }

@@ -1,3 +1,7 @@
+use Rattle.std.proofs.Common.{ap}
+use Rattle.strand_values.specs.Environments.{EnvironmentView}
+use Rattle.strand_moves.specs.declared.running.Running.{Running}
+use Rattle.strand_moves.specs.Running.{machine_of}
 use Rattle.strand_moves.proofs.OpenScopes.Keeping.{innermost-sound}
 use Rattle.strand_moves.proofs.Statements.Naming.{names-stay}
 use Rattle.strand_moves.proofs.Frames.Names.{innermost-named, names-are, names-there}
@@ -7,15 +11,20 @@ pub unreachable-requires : goal.unreachable-requires
 unreachable-requires c =
     let plan = c.args.plan.now in
     let i = c.args.self.now in
-    names-there plan i.top (innermost-named plan i c.requires.named) c.in_default.ensures
+    names-there plan i.top (innermost-named plan i c.requires.sound.named) c.in_default.ensures
 
-pub fill-requires : goal.fill-requires
-fill-requires c =
+pub fill-requires-clause-names : goal.fill-requires-clause-names
+fill-requires-clause-names c =
     let plan = c.args.plan.now in
     let i = c.args.self.now in
-    names-are plan i.top (innermost-named plan i c.requires.named) c.in-Some.names.now c.in-Some.ensures
+    names-are plan i.top (innermost-named plan i c.requires.sound.named) c.in-Some.names.now c.in-Some.ensures
+
+pub returns-clause-machine : goal.returns-clause-machine
+returns-clause-machine c = λ p.
+    let i = c.args.self.now in
+    ap (λ (env : EnvironmentView). let x : Running = record i { top = record i.top { env = env } } in machine_of p x) c.fill.ensures
 
 pub returns-clause-sound : goal.returns-clause-sound
 returns-clause-sound c = λ p h.
     let i = c.args.self.now in
-    innermost-sound p i c.fill.new.self i.top.faulted (names-stay c.fill.new.self i.top.env _ c.in_ok-fill.ensures.ok) h
+    innermost-sound p i c.fill.new.self i.top.faulted (names-stay c.fill.new.self i.top.env _ c.fill.ensures) h

@@ -35,10 +35,10 @@ pub returns-in_ok-enter_loop-clause-named : goal.returns-in_ok-enter_loop-clause
 returns-in_ok-enter_loop-clause-named c = λ plan.
     let i = c.args.self.now in
     let new : Running = record i { top = record i.top { cursor = c.enter_loop.new.self } } in
-    top-named plan i new refl refl refl
+    top-named plan i new refl refl refl refl
 
 pub returns-in_err-enter_loop-clause-named : goal.returns-in_err-enter_loop-clause-named
 returns-in_err-enter_loop-clause-named c = λ plan.
     let i = c.args.self.now in
     let new : Running = record i { top = record i.top { cursor = c.enter_loop.new.self } } in
-    top-named plan i new refl refl refl
+    top-named plan i new refl refl refl refl
