@@ -17,14 +17,14 @@ use Rattle.bulk_draw.specs.Streams.{dots, last_rank, later, path, stream}
 before_last : (p : List ℕ) (r : ℕ) → length (p ++ r ∷ []) - 1 ≡ length p
 before_last p r = simp length-append (omega arith)
 
-pub path-behind : (p : List ℕ) (r : ℕ) → path (p ++ r ∷ []) ≡ p
-path-behind p r = rw (before_last p r) (take_at p (r ∷ []) (length p) refl)
+pub path-after : (p : List ℕ) (r : ℕ) → path (p ++ r ∷ []) ≡ p
+path-after p r = rw (before_last p r) (take_at p (r ∷ []) (length p) refl)
 
-pub last_rank-behind : (p : List ℕ) (r : ℕ) → last_rank (p ++ r ∷ []) ≡ r
-last_rank-behind p r = rw (before_last p r) (get_or_at p r [] 0 (length p) refl)
+pub last_rank-after : (p : List ℕ) (r : ℕ) → last_rank (p ++ r ∷ []) ≡ r
+last_rank-after p r = rw (before_last p r) (get_or_at p r [] 0 (length p) refl)
 
-pub later-behind : (p : List ℕ) (r i : ℕ) → later (p ++ r ∷ []) i ≡ p ++ (r + i) ∷ []
-later-behind p r i = rw (path-behind p r, last_rank-behind p r) refl
+pub later-after : (p : List ℕ) (r i : ℕ) → later (p ++ r ∷ []) i ≡ p ++ (r + i) ∷ []
+later-after p r i = rw (path-after p r, last_rank-after p r) refl
 
 -- ---- one more dot product
 
@@ -44,7 +44,7 @@ dot-later gamma p r m n h =
     let before = dot-append gamma p (r + m) (length p) refl h in
     let after = dot-append gamma p (r + (m + n)) (length p) refl h in
     let moved = mod-add-mod (dot gamma p + c * (r + m + 1)) modulus (n * c) in
-    rw (later-behind p r m, later-behind p r (m + n)) (sym after ∙ ap (λ s. s % modulus) (omega arith) ∙ sym moved ∙ ap (λ s. (s + n * c) % modulus) before)
+    rw (later-after p r m, later-after p r (m + n)) (sym after ∙ ap (λ s. s % modulus) (omega arith) ∙ sym moved ∙ ap (λ s. (s + n * c) % modulus) before)
 
 -- ---- a stream in two parts
 
@@ -99,7 +99,7 @@ block_next gamma j p r rounds b n e next step xs ys is =
 
 -- a stream begins with its pedigree's own draw
 pub later-none : (j p : List ℕ) (r : ℕ) → p ++ r ∷ [] ≡ j → later j 0 ≡ j
-later-none j p r e = rw (sym e) (later-behind p r 0 ∙ ap (λ n. p ++ n ∷ []) (omega arith))
+later-none j p r e = rw (sym e) (later-after p r 0 ∙ ap (λ n. p ++ n ∷ []) (omega arith))
 
-pub length-behind : (j p : List ℕ) (r : ℕ) → p ++ r ∷ [] ≡ j → length j ≡ length p + 1
-length-behind j p r e = rw (sym e) (simp length-append refl)
+pub length-after : (j p : List ℕ) (r : ℕ) → p ++ r ∷ [] ≡ j → length j ≡ length p + 1
+length-after j p r e = rw (sym e) (simp length-append refl)

@@ -7,20 +7,20 @@ use Rattle.crew.specs.declared.steps.TakeUp.{TakeUp}
 use Rattle.crew.specs.declared.steps.TakeUp.TheVariants.{Missing, Waits, Goes}
 
 -- the middle hand lacks the task alone
-abbrev LacksInRing : HandView → HandView → Type 0
-LacksInRing old mid = mid ≡ record old { stalled = mid.stalled }
+abbrev ChangesStalledAlone : HandView → HandView → Type 0
+ChangesStalledAlone old mid = mid ≡ record old { stalled = mid.stalled }
 
-with_stalled : (old mid new : HandView) (stalled : List TaskView) → LacksInRing old mid → new ≡ record mid { stalled = stalled } → new ≡ record old { stalled = new.stalled }
+with_stalled : (old mid new : HandView) (stalled : List TaskView) → ChangesStalledAlone old mid → new ≡ record mid { stalled = stalled } → new ≡ record old { stalled = new.stalled }
 with_stalled old mid new stalled lacks is =
     is ∙ ap (λ (h : HandView). record h { stalled = stalled }) lacks ∙ ap (λ (l : List TaskView). record old { stalled = l }) (sym (ap (λ (h : HandView). h.stalled) is))
 
-with_current : (old mid new : HandView) (t : TaskView) → LacksInRing old mid → new ≡ record mid { current = Some t } →
+with_current : (old mid new : HandView) (t : TaskView) → ChangesStalledAlone old mid → new ≡ record mid { current = Some t } →
     new ≡ record old { current = Some t; stalled = new.stalled }
 with_current old mid new t lacks is =
     is ∙ ap (λ (h : HandView). record h { current = Some t }) lacks
     ∙ ap (λ (l : List TaskView). record old { current = Some t; stalled = l }) (sym (ap (λ (h : HandView). h.stalled) is))
 
-pub looks : (old mid : HandView) (t : TaskView) (found : TakeUp) (new : HandView) → old.stalled ≡ t ∷ mid.stalled → LacksInRing old mid → TakesUp t mid found new →
+pub looks : (old mid : HandView) (t : TaskView) (found : TakeUp) (new : HandView) → old.stalled ≡ t ∷ mid.stalled → ChangesStalledAlone old mid → TakesUp t mid found new →
     Looks old found new
 looks old mid t Missing new front lacks h = absurd h
 looks old mid t Waits new front lacks h = (
@@ -33,12 +33,12 @@ looks old mid t Goes new front lacks h = (
   with_current old mid new h.0 lacks h.2,
 )
 
-pub newest_waits : (old mid : HandView) (t : TaskView) (new : HandView) → old.current ≡ None → old.stalled ≡ mid.stalled ++ t ∷ [] → LacksInRing old mid →
+pub newest_waits : (old mid : HandView) (t : TaskView) (new : HandView) → old.current ≡ None → old.stalled ≡ mid.stalled ++ t ∷ [] → ChangesStalledAlone old mid →
     TakesUp t mid Waits new → LooksNewest old looked.Waits new
 newest_waits old mid t new none last lacks h =
     (none, (mid.stalled, t, h.0, last, h.1, ap (λ (x : HandView). x.stalled) h.2), with_stalled old mid new _ lacks h.2)
 
-pub newest_goes : (old mid : HandView) (t : TaskView) (new : HandView) → old.current ≡ None → old.stalled ≡ mid.stalled ++ t ∷ [] → LacksInRing old mid →
+pub newest_goes : (old mid : HandView) (t : TaskView) (new : HandView) → old.current ≡ None → old.stalled ≡ mid.stalled ++ t ∷ [] → ChangesStalledAlone old mid →
     TakesUp t mid Goes new → LooksNewest old looked.Goes new
 newest_goes old mid t new none last lacks h = (
   h.0,

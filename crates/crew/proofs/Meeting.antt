@@ -18,8 +18,8 @@ unmet made decks = map (λ deck. meeting_hand deck made []) decks
 
 -- those of these decks, which have theirs, between the decks before them and after them
 abbrev pub met : ℕ → List DeckId → List DeckId → List DeckId → List HandView
-met made before [] behind = []
-met made before (deck ∷ decks) behind = meeting_hand deck made ((decks ++ behind) ++ before) ∷ met made (before ++ deck ∷ []) decks behind
+met made before [] after = []
+met made before (deck ∷ decks) after = meeting_hand deck made ((decks ++ after) ++ before) ∷ met made (before ++ deck ∷ []) decks after
 
 -- so many of the hands have met the others
 pub record IsMeeting (decks : List DeckId) (own : ℕ) (hands : List HandView) : Type 0 where
@@ -66,21 +66,21 @@ unmet-thief : (made : ℕ) (decks : List DeckId) → map with_thief (unmet made 
 unmet-thief made [] = refl
 unmet-thief made (d ∷ ds) = ap (λ hs. meeting_hand d (made + 1) [] ∷ hs) (unmet-thief made ds)
 
-met-thief : (made : ℕ) (before decks behind : List DeckId) → map with_thief (met made before decks behind) ≡ met (made + 1) before decks behind
-met-thief made before [] behind = refl
-met-thief made before (d ∷ ds) behind = ap (λ hs. meeting_hand d (made + 1) ((ds ++ behind) ++ before) ∷ hs) (met-thief made (before ++ d ∷ []) ds behind)
+met-thief : (made : ℕ) (before decks after : List DeckId) → map with_thief (met made before decks after) ≡ met (made + 1) before decks after
+met-thief made before [] after = refl
+met-thief made before (d ∷ ds) after = ap (λ hs. meeting_hand d (made + 1) ((ds ++ after) ++ before) ∷ hs) (met-thief made (before ++ d ∷ []) ds after)
 
 unmet-decks : (made : ℕ) (decks : List DeckId) → map thief_of (unmet made decks) ≡ map new_thief decks
 unmet-decks made [] = refl
 unmet-decks made (d ∷ ds) = ap (λ l. new_thief d ∷ l) (unmet-decks made ds)
 
-met-decks : (made : ℕ) (before decks behind : List DeckId) → map thief_of (met made before decks behind) ≡ map new_thief decks
-met-decks made before [] behind = refl
-met-decks made before (d ∷ ds) behind = ap (λ l. new_thief d ∷ l) (met-decks made (before ++ d ∷ []) ds behind)
+met-decks : (made : ℕ) (before decks after : List DeckId) → map thief_of (met made before decks after) ≡ map new_thief decks
+met-decks made before [] after = refl
+met-decks made before (d ∷ ds) after = ap (λ l. new_thief d ∷ l) (met-decks made (before ++ d ∷ []) ds after)
 
-met-count : (made : ℕ) (before decks behind : List DeckId) → length (met made before decks behind) ≡ length decks
-met-count made before [] behind = refl
-met-count made before (d ∷ ds) behind = ap (λ n. suc n) (met-count made (before ++ d ∷ []) ds behind)
+met-count : (made : ℕ) (before decks after : List DeckId) → length (met made before decks after) ≡ length decks
+met-count made before [] after = refl
+met-count made before (d ∷ ds) after = ap (λ n. suc n) (met-count made (before ++ d ∷ []) ds after)
 
 -- the next one joins those that have met
 met-next : (made : ℕ) (before front : List DeckId) (deck : DeckId) (back : List DeckId) →

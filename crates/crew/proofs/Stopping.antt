@@ -13,7 +13,7 @@ use Rattle.serial_meaning.specs.declared.answer.Outcome.{Outcome}
 use Rattle.serial_meaning.specs.declared.answer.Outcome.TheVariants as outcome
 use Rattle.strand_meaning.specs.Machine.{Effect, Reached, Stands, Gives, move}
 use Rattle.strand_meaning.specs.Trace.{AwaitedChild}
-use Rattle.strand_meaning.specs.Task.{InstanceState, Running, AtSync, AtLoop, Ended, Work, Splits, Runs, Over, Task, own_instance, MoveOrStop, Passes, Stops, Stop, Spawn, Wait, End, IsNext, Now, Later, stage_after, child_in, stops_at, passing, moved, ends_unless, faults_behind, gave, stage_step, split_step, over_step, work_step}
+use Rattle.strand_meaning.specs.Task.{InstanceState, Running, AtSync, AtLoop, Ended, Work, Splits, Runs, Over, Task, own_instance, MoveOrStop, Passes, Stops, Stop, Spawn, Wait, End, IsNext, Now, Later, stage_after, child_in, stops_at, passing, moved, ends_unless, faults_after, gave, stage_step, split_step, over_step, work_step}
 use Rattle.strand_machine.specs.Family.{tag}
 use Rattle.strand_meaning.specs.Cuts.{IsByFaultOf}
 use Rattle.strand_meaning.specs.Laws.{IsFaultOf}
@@ -50,7 +50,7 @@ module _ (t : Task) where
   at-move ts (Ok (Gives v)) = tt
   at-move ts (Err f) = tt
 
-  at-fault : (ps : List AwaitedChild) (f : Fault) → StandsInStep (faults_behind ps t f)
+  at-fault : (ps : List AwaitedChild) (f : Fault) → StandsInStep (faults_after ps t f)
   at-fault [] f = at-end t.trace.fault _
   at-fault (p ∷ ps) f = refl
 

@@ -144,7 +144,7 @@ impl Gamma {
     }
 
     /// The place of a rank that stands after this path.
-    pub(crate) fn place_behind(&self, path: &Ped) -> u32
+    pub(crate) fn place_after(&self, path: &Ped) -> u32
         requires { length path.now < length self.now }
         ensures { result ≡ length path.now + 1 }
     {

@@ -63,7 +63,7 @@ pub(crate) fn dot_with_rank(gamma: &Gamma, path: &Ped, path_dot: u64, rank: u64)
     ensures value { result ≡ draws.dot gamma.now (path.now ++ rank ∷ []) }
     ensures small { IsResidue result }
 {
-    add_term(gamma, path_dot, gamma.place_behind(path), rank)
+    add_term(gamma, path_dot, gamma.place_after(path), rank)
 }
 
 /// The dot product of the coefficients and the ranks, each rank counted one more than itself, so that 0 and 0.0 differ. It is

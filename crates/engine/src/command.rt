@@ -1,7 +1,6 @@
 // Which commands take a script, and how their reports are made.
 
 ghost use Rattle.std.specs.Prelude.{◌≡◌};
-ghost use Rattle.ped_words.specs.Commands.{is_batch};
 ghost use Rattle.engine.specs.Commands.{is_whole, takes_script};
 
 use ped_words::Command;
@@ -11,13 +10,6 @@ pub fn is_whole(command: &Command) -> bool
     ensures { result ≡ is_whole command.now }
 {
     !matches!(command, Command::Stream { .. })
-}
-
-/// Whether the command is a batch, which runs on workers alone.
-pub fn is_batch(command: &Command) -> bool
-    ensures { result ≡ is_batch command.now }
-{
-    matches!(command, Command::Batch { .. })
 }
 
 /// Whether the command is about a script, which it reads from the source.

@@ -199,7 +199,7 @@ module _ {T : Type 0} where
   pub none_open : (found many k : ℕ) (p : CounterView T) → StandsInOrder found many k p → (k + 1 ≡ many → p.stage ≢ Open) → StandsInOrder found 0 k p
   none_open found many k p s ne = record {
     before = s.before;
-    behind = λ le. ⊎_elim {C = (p.stage ≡ Waiting) ⊎ ((p.stage ≡ Open) × (k + 1 ≡ 0))} (λ w. inl w) (λ t. absurd (ne t.1 t.0)) (s.behind le);
+    after = λ le. ⊎_elim {C = (p.stage ≡ Waiting) ⊎ ((p.stage ≡ Open) × (k + 1 ≡ 0))} (λ w. inl w) (λ t. absurd (ne t.1 t.0)) (s.after le);
     unseen = s.unseen;
     even = s.even;
   }
@@ -208,7 +208,7 @@ module _ {T : Type 0} where
   pub some_open : (found many k : ℕ) (p : CounterView T) → StandsInOrder found 0 k p → StandsInOrder found many k p
   some_open found many k p s = record {
     before = s.before;
-    behind = λ le. ⊎_elim {C = (p.stage ≡ Waiting) ⊎ ((p.stage ≡ Open) × (k + 1 ≡ many))} (λ w. inl w) (λ t. absurd (omega (arith, t.1))) (s.behind le);
+    after = λ le. ⊎_elim {C = (p.stage ≡ Waiting) ⊎ ((p.stage ≡ Open) × (k + 1 ≡ many))} (λ w. inl w) (λ t. absurd (omega (arith, t.1))) (s.after le);
     unseen = s.unseen;
     even = s.even;
   }
@@ -220,16 +220,16 @@ module _ {T : Type 0} where
   order_closed found ps o ne = record { within = o.within; each = λ k p at. none_open found (length ps) k p (o.each k p at) (λ l. ne k p l at); numbered = o.numbered }
 
   -- after the blocks that were found ready
-  pub is_behind : (found many k : ℕ) (p : CounterView T) → StandsInOrder found many k p → p.stage ≡ Open → found ≤ k
-  is_behind found many k p s e = dite (ℕ_discrete (found - k) 0) (λ z. omega arith) (λ ne. let r = s.before (omega arith) in let f : Open ≡ Ready = sym e ∙ r in absurd (cc))
+  pub is_after : (found many k : ℕ) (p : CounterView T) → StandsInOrder found many k p → p.stage ≡ Open → found ≤ k
+  is_after found many k p s e = dite (ℕ_discrete (found - k) 0) (λ z. omega arith) (λ ne. let r = s.before (omega arith) in let f : Open ≡ Ready = sym e ∙ r in absurd (cc))
 
   -- the parent gives up its party in the last block
   pub order_close : (found : ℕ) (ps : List (CounterView T)) (k : ℕ) (p q : CounterView T) → InOrder found (length ps) ps → k + 1 ≡ length ps → get_elem? ps k ≡ some p → p.stage ≡ Open → q ≡ record p { stage = Waiting } → InOrder found 0 (set ps k q)
   order_close found ps k p q o l at opens is = let s = o.each k p at in
       order_set found found (length ps) 0 ps k q o o.within (numbered_set 0 ps k p q o.numbered at (ap (λ (y : CounterView T). y.first) is) (ap (λ (y : CounterView T). length y.tags) is))
       record {
-        before = λ lt. let le = is_behind found (length ps) k p s opens in absurd (omega arith);
-        behind = λ _. inl (ap (λ (y : CounterView T). y.stage) is);
+        before = λ lt. let le = is_after found (length ps) k p s opens in absurd (omega arith);
+        after = λ _. inl (ap (λ (y : CounterView T). y.stage) is);
         unseen = λ lt. ap (λ (y : CounterView T). y.loads) is ∙ s.unseen lt;
         even = ap (λ (y : CounterView T). length y.taken) is ∙ s.even ∙ ap (λ (y : CounterView T). length y.tags) (sym is);
       }
@@ -252,11 +252,11 @@ module _ {T : Type 0} where
     order_set found (found + 1) 0 0 ps found q o (omega arith) (numbered_set 0 ps found p q o.numbered at (ap (λ (y : CounterView T). y.first) is) (ap (λ (y : CounterView T). length y.tags) is))
         record {
           before = λ _. ap (λ (y : CounterView T). y.stage) is;
-          behind = λ le. absurd (omega arith);
+          after = λ le. absurd (omega arith);
           unseen = λ l. absurd (omega arith);
           even = ap (λ (y : CounterView T). length y.taken) is ∙ s.even ∙ ap (λ (y : CounterView T). length y.tags) (sym is);
         }
-        (λ j u here ne. let t = o.each j u here in record { before = λ l. t.before (omega (arith, ne)); behind = λ le. t.behind (omega arith); unseen = λ l. t.unseen (omega arith); even = t.even }),
+        (λ j u here ne. let t = o.each j u here in record { before = λ l. t.before (omega (arith, ne)); after = λ le. t.after (omega arith); unseen = λ l. t.unseen (omega arith); even = t.even }),
     record {
       tags = tags_set ps found p q at (ap (λ (y : CounterView T). y.tags) is) ∙ r.tags;
       taken = taken_set ps found p q at (ap (λ (y : CounterView T). y.taken) is) ∙ r.taken;
@@ -271,7 +271,7 @@ module _ {T : Type 0} where
     order_set found found 0 0 ps found q o o.within (numbered_set 0 ps found p q o.numbered at (ap (λ (y : CounterView T). y.first) is) (ap (λ (y : CounterView T). length y.tags) is))
         record {
           before = λ l. absurd (omega arith);
-          behind = λ le. ⊎_elim {C = (q.stage ≡ Waiting) ⊎ ((q.stage ≡ Open) × (found + 1 ≡ 0))} (λ w. inl (ap (λ (y : CounterView T). y.stage) is ∙ w)) (λ t. absurd (omega (arith, t.1))) (s.behind le);
+          after = λ le. ⊎_elim {C = (q.stage ≡ Waiting) ⊎ ((q.stage ≡ Open) × (found + 1 ≡ 0))} (λ w. inl (ap (λ (y : CounterView T). y.stage) is ∙ w)) (λ t. absurd (omega (arith, t.1))) (s.after le);
           unseen = λ l. absurd (omega arith);
           even = ap (λ (y : CounterView T). length y.taken) is ∙ s.even ∙ ap (λ (y : CounterView T). length y.tags) (sym is);
         }
@@ -295,7 +295,7 @@ module _ {T : Type 0} where
 
   -- the block that is looked at waits
   pub is_waiting : (ps : List (CounterView T)) (found : ℕ) (p : CounterView T) → InOrder found 0 ps → get_elem? ps found ≡ some p → p.stage ≡ Waiting
-  is_waiting ps found p o at = ⊎_elim {C = p.stage ≡ Waiting} (λ w. w) (λ t. absurd (omega (arith, t.1))) ((o.each found p at).behind (omega arith))
+  is_waiting ps found p o at = ⊎_elim {C = p.stage ≡ Waiting} (λ w. w) (λ t. absurd (omega (arith, t.1))) ((o.each found p at).after (omega arith))
 
   pub all_found : (ps : List (CounterView T)) (found : ℕ) → InOrder found 0 ps → length ps ≤ found → all_ready ps ≡ true
   all_found ps found o le = ready_of ps (λ k p at. let lt = below ps k p at in (o.each k p at).before (omega arith))

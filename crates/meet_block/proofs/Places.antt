@@ -11,7 +11,7 @@ use Rattle.meet_block.specs.declared.view.SeatState.TheVariants.{Open, Waiting}
 use Rattle.meet_block.specs.Counter.{holds_party}
 use Rattle.meet_block.specs.Joined.{joined}
 use Rattle.meet_block.specs.CounterViews.{CounterView, is_ready, stage_given, handed, tags_of, taken_of, all_ready, loads_of, known, offset, Numbered, StandsInOrder, InOrder, HandsOut, Holds, ends_open}
-use Rattle.meet_block.proofs.Orders.{not_open, same_known, at_or, below, at_right, at_left, set_left, set_right, tags_last, taken_last, numbered_last, tags_more, taken_more, loads_more, numbered_more, tags_set, loads_set, ready_set, numbered_set, owing_of, order_set, none_open, some_open, is_behind}
+use Rattle.meet_block.proofs.Orders.{not_open, same_known, at_or, below, at_right, at_left, set_left, set_right, tags_last, taken_last, numbered_last, tags_more, taken_more, loads_more, numbered_more, tags_set, loads_set, ready_set, numbered_set, owing_of, order_set, none_open, some_open, is_after}
 
 given_waits : (b : Bool) → is_ready (if b then Waiting else Open) ≡ false
 given_waits true = refl
@@ -36,11 +36,11 @@ module _ {T : Type 0} where
       let long = length-set ps k q in record {
         known_is = same_known (tags_last ps k p q t l at (ap (λ (y : CounterView T). y.tags) is)) (taken_last ps k p q false l at (ap (λ (y : CounterView T). y.taken) is))
             (owing_of (set ps k q) k q (set_here ps k q (omega arith)) (ap is_ready stage ∙ given_waits _)) (loads_set ps k p q at (ap (λ (y : CounterView T). y.loads) is));
-        order = λ found o. let s = o.each k p at in let le = is_behind found (length ps) k p s opens in
+        order = λ found o. let s = o.each k p at in let le = is_after found (length ps) k p s opens in
             order_set found found (length ps) (length (set ps k q)) ps k q o o.within (numbered_last 0 ps k p q o.numbered l at (ap (λ (y : CounterView T). y.first) is))
             record {
               before = λ lt. absurd (omega arith);
-              behind = λ _. ⊎_elim {C = (q.stage ≡ Waiting) ⊎ ((q.stage ≡ Open) × (k + 1 ≡ length (set ps k q)))} (λ w. inl (stage ∙ w)) (λ w. inr (stage ∙ w, omega arith)) (given_stage _);
+              after = λ _. ⊎_elim {C = (q.stage ≡ Waiting) ⊎ ((q.stage ≡ Open) × (k + 1 ≡ length (set ps k q)))} (λ w. inl (stage ∙ w)) (λ w. inr (stage ∙ w, omega arith)) (given_stage _);
               unseen = λ lt. ap (λ (y : CounterView T). y.loads) is ∙ s.unseen lt;
               even = omega (arith, ap (λ (y : CounterView T). length y.taken) is, ap (λ (y : CounterView T). length y.tags) is, s.even, length-append p.taken (false ∷ []), length-append p.tags (t ∷ []));
             }
@@ -73,7 +73,7 @@ module _ {T : Type 0} where
           (λ here. some_open found (length (ps ++ q ∷ [])) j u (none_open found (length ps) j u (o.each j u here) (λ l. ne j u l here)))
           (λ h. subst (λ (y : CounterView T). StandsInOrder found (length (ps ++ q ∷ [])) j y) h.1 record {
             before = λ lt. absurd (omega (arith, h.0, o.within));
-            behind = λ _. inr (ap (λ (y : CounterView T). y.stage) is, omega (arith, h.0));
+            after = λ _. inr (ap (λ (y : CounterView T). y.stage) is, omega (arith, h.0));
             unseen = λ _. ap (λ (y : CounterView T). y.loads) is;
             even = omega (arith, ap (λ (y : CounterView T). length y.taken) is, ap (λ (y : CounterView T). length y.tags) is);
           })
@@ -148,7 +148,7 @@ module _ {T : Type 0} where
       (order_set found found (length ps) (length ps) ps b q o o.within (numbered_set 0 ps b p q o.numbered h.here (ap (λ (y : CounterView T). y.first) is) (ap (λ (y : CounterView T). length y.tags) is))
       record {
         before = λ lt. ap (λ (y : CounterView T). y.stage) is ∙ s.before lt;
-        behind = λ le. subst (λ (x : SeatState). (x ≡ Waiting) ⊎ ((x ≡ Open) × (b + 1 ≡ length ps))) (ap (λ (y : CounterView T). y.stage) (sym is)) (s.behind le);
+        after = λ le. subst (λ (x : SeatState). (x ≡ Waiting) ⊎ ((x ≡ Open) × (b + 1 ≡ length ps))) (ap (λ (y : CounterView T). y.stage) (sym is)) (s.after le);
         unseen = λ lt. ap (λ (y : CounterView T). y.loads) is ∙ s.unseen lt;
         even = ap (λ (y : CounterView T). length y.taken) is ∙ length-set p.taken (i - p.first) true ∙ s.even ∙ ap (λ (y : CounterView T). length y.tags) (sym is);
       }

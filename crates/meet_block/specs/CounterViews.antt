@@ -78,7 +78,7 @@ module _ {T : Type 0} where
   -- blocks, or 0 where none is open
   pub record StandsInOrder (found many k : ℕ) (p : CounterView T) : Type 0 where
     pub before : k < found → p.stage ≡ Ready
-    pub behind : found ≤ k → (p.stage ≡ Waiting) ⊎ ((p.stage ≡ Open) × (k + 1 ≡ many))
+    pub after : found ≤ k → (p.stage ≡ Waiting) ⊎ ((p.stage ≡ Open) × (k + 1 ≡ many))
     pub unseen : found < k → p.loads ≡ []
     pub even : length p.taken ≡ length p.tags
 

@@ -39,7 +39,7 @@ All-append_right P xs ys h = λ k d lt. subst P (get_or-append-add xs ys k d) (h
 module _ (bs : List (List ℕ)) (last : List ℕ) (count : ℕ) (kept : IsBlocked bs last count) where
   pub length-joined : length (joined bs last count) ≡ length bs * 16 + count
   length-joined =
-      let behind : length (take count last) ≡ count = length-take-le count last (omega (arith, kept.slots, kept.unfinished)) in
+      let after : length (take count last) ≡ count = length-take-le count last (omega (arith, kept.slots, kept.unfinished)) in
       let full : length (concat bs) ≡ length bs * 16 = length-concat bs kept.full in
       length-append (concat bs) (take count last) ∙ omega arith
 

@@ -17,7 +17,7 @@ use Rattle.std.proofs.lemmas.Str.{digit_value_digit}
 use Rattle.std.proofs.lemmas.Str.Parse.{IsNumeralModel, digit_at, digit_from_value, numerals_by_value, tells_digits}
 use Rattle.ped_path.specs.Path.{IsRank}
 use Rattle.ped_path.specs.Text.{ped_text, stopped}
-use Rattle.ped_path.specs.Parsing.{begins_with_digit, has_needless_zero, BeginsTooBig, IsBehindRanks, IsRankFault, IsRankThen, IsRefused, LacksStop, RankDueAt}
+use Rattle.ped_path.specs.Parsing.{begins_with_digit, has_needless_zero, BeginsTooBig, IsAfterRanks, IsRankFault, IsRankThen, IsRefused, LacksStop, RankDueAt}
 use Rattle.ped_path.specs.declared.parse.PedTextError.{PedTextError}
 use Rattle.ped_path.specs.declared.parse.PedTextError.TheVariants.{Empty, BadByte, Zeros, TooBig, TooLong, Memory}
 use Rattle.ped_path.proofs.TextLemmas.{ped_text-append, stopped-append}
@@ -39,7 +39,7 @@ digit_small c passes =
     let h = high c passes in
     let v = digit_value_digit c (low c passes, h) in omega arith
 
--- the digits at the front, and what is after them
+-- the digits at the front, and what is left them
 
 front_case : (c : ℕ) (cs : List ℕ) (b : Bool) → is_ascii_digit c ≡ b → AllDigits 10 cs → AllDigits 10 (cond b (c ∷ cs) [])
 front_case c cs true passes all = (digit_small c passes, all)
@@ -49,29 +49,29 @@ pub digits_front : (s : List ℕ) → AllDigits 10 (take_while is_ascii_digit s)
 digits_front [] = tt
 digits_front (c ∷ cs) = subst (λ (t : List ℕ). AllDigits 10 t) (sym (take_while-cons is_ascii_digit c cs)) (front_case c (take_while is_ascii_digit cs) (is_ascii_digit c) refl (digits_front cs))
 
-behind_case : (c : ℕ) (cs : List ℕ) (n : ℕ) (b : Bool) → is_ascii_digit c ≡ b → begins_with_digit (drop n cs) ≡ false → begins_with_digit (drop (cond b (1 + n) 0) (c ∷ cs)) ≡ false
-behind_case c cs n true passes ended = subst (λ (k : ℕ). begins_with_digit (drop k (c ∷ cs)) ≡ false) (sym (one-add n)) ended
-behind_case c cs n false passes ended = passes
+after_case : (c : ℕ) (cs : List ℕ) (n : ℕ) (b : Bool) → is_ascii_digit c ≡ b → begins_with_digit (drop n cs) ≡ false → begins_with_digit (drop (cond b (1 + n) 0) (c ∷ cs)) ≡ false
+after_case c cs n true passes ended = subst (λ (k : ℕ). begins_with_digit (drop k (c ∷ cs)) ≡ false) (sym (one-add n)) ended
+after_case c cs n false passes ended = passes
 
-pub behind_front : (s : List ℕ) → begins_with_digit (drop (prefix_len is_ascii_digit s) s) ≡ false
-behind_front [] = refl
-behind_front (c ∷ cs) = behind_case c cs (prefix_len is_ascii_digit cs) (is_ascii_digit c) refl (behind_front cs)
+pub after_front : (s : List ℕ) → begins_with_digit (drop (prefix_len is_ascii_digit s) s) ≡ false
+after_front [] = refl
+after_front (c ∷ cs) = after_case c cs (prefix_len is_ascii_digit cs) (is_ascii_digit c) refl (after_front cs)
 
 and_false : (b : Bool) → (b && false) ≡ false
 and_false true = refl
 and_false false = refl
 
-pub needless_zero : (ds behind : List ℕ) → AllDigits 10 ds → 1 < length ds → get_or ds 0 0 ≡ 48 → has_needless_zero (ds ++ behind) ≡ true
-needless_zero [] behind all long first = absurd (omega arith)
-needless_zero (z ∷ []) behind all long first = absurd (omega arith)
-needless_zero (z ∷ d ∷ ds) behind all long first =
+pub needless_zero : (ds after : List ℕ) → AllDigits 10 ds → 1 < length ds → get_or ds 0 0 ≡ 48 → has_needless_zero (ds ++ after) ≡ true
+needless_zero [] after all long first = absurd (omega arith)
+needless_zero (z ∷ []) after all long first = absurd (omega arith)
+needless_zero (z ∷ d ∷ ds) after all long first =
     let P : ℕ → Type 0 = λ y. (eqb y 48 && is_ascii_digit d) ≡ true in subst P (sym first) (digit_passes d (digit_from_value d all.1.0))
 
-pub no_needless_zero : (ds behind : List ℕ) → 0 < length ds → (1 < length ds → get_or ds 0 0 ≢ 48) → begins_with_digit behind ≡ false → has_needless_zero (ds ++ behind) ≡ false
-no_needless_zero [] behind some needed ended = absurd (omega arith)
-no_needless_zero (z ∷ []) behind some needed ended =
+pub no_needless_zero : (ds after : List ℕ) → 0 < length ds → (1 < length ds → get_or ds 0 0 ≢ 48) → begins_with_digit after ≡ false → has_needless_zero (ds ++ after) ≡ false
+no_needless_zero [] after some needed ended = absurd (omega arith)
+no_needless_zero (z ∷ []) after some needed ended =
     let P : Bool → Type 0 = λ b. (eqb z 48 && b) ≡ false in subst P (sym ended) (and_false (eqb z 48))
-no_needless_zero (z ∷ d ∷ ds) behind some needed ended =
+no_needless_zero (z ∷ d ∷ ds) after some needed ended =
     let other : eqb z 48 ≡ false = ne_eqb z 48 (needed (omega arith)) in
     let P : Bool → Type 0 = λ b. (b && is_ascii_digit d) ≡ false in subst P (sym other) refl
 
@@ -86,37 +86,37 @@ value_more ds i v w within all so_far next =
     let more = digits_value_more 10 ds i within in
     let digit = digit_value_digit (get_or ds i 0) (digit_at ds i all within) in omega (arith, more, digit)
 
--- the digits at the front, and what is after them
-pub record IsSplit (rest digits behind : List ℕ) : Type 0 where
+-- the digits at the front, and what is left them
+pub record IsSplit (rest digits after : List ℕ) : Type 0 where
   pub all : AllDigits 10 digits
-  pub ended : begins_with_digit behind ≡ false
-  pub split : rest ≡ digits ++ behind
+  pub ended : begins_with_digit after ≡ false
+  pub split : rest ≡ digits ++ after
 
-pub split_of : (rest digits behind : List ℕ) (k : ℕ) → k ≡ prefix_len is_ascii_digit rest → digits ≡ take k rest → behind ≡ drop k rest → IsSplit rest digits behind
-split_of rest digits behind k e front back = record {
+pub split_of : (rest digits after : List ℕ) (k : ℕ) → k ≡ prefix_len is_ascii_digit rest → digits ≡ take k rest → after ≡ drop k rest → IsSplit rest digits after
+split_of rest digits after k e front back = record {
   all = subst (λ (t : List ℕ). AllDigits 10 t) (sym (front ∙ ap (λ n. take n rest) e)) (digits_front rest);
-  ended = ap begins_with_digit (back ∙ ap (λ n. drop n rest) e) ∙ behind_front rest;
+  ended = ap begins_with_digit (back ∙ ap (λ n. drop n rest) e) ∙ after_front rest;
   split = sym (take-append-drop k rest) ∙ ap (λ t. t ++ drop k rest) (sym front) ∙ ap (λ t. digits ++ t) (sym back);
 }
 
-pub rank_then : (rest digits behind : List ℕ) (rank : ℕ) → IsSplit rest digits behind → 0 < length digits → (1 < length digits → get_or digits 0 0 ≢ 48) → digits_value 10 digits < 2 ^ 32 → rank ≡ digits_value 10 digits → IsRankThen rest rank behind
-rank_then rest digits behind rank s some needed small e = record {
+pub rank_then : (rest digits after : List ℕ) (rank : ℕ) → IsSplit rest digits after → 0 < length digits → (1 < length digits → get_or digits 0 0 ≢ 48) → digits_value 10 digits < 2 ^ 32 → rank ≡ digits_value 10 digits → IsRankThen rest rank after
+rank_then rest digits after rank s some needed small e = record {
   bounded = omega (arith, small, e);
-  split = s.split ∙ ap (λ t. t ++ behind) (sym (rank_text digits s.all some needed small) ∙ ap decimal (sym e));
+  split = s.split ∙ ap (λ t. t ++ after) (sym (rank_text digits s.all some needed small) ∙ ap decimal (sym e));
   ended = s.ended;
 }
 
-pub too_big : (rest digits behind : List ℕ) → IsSplit rest digits behind → 0 < length digits → (1 < length digits → get_or digits 0 0 ≢ 48) → (digits_value 10 digits < 2 ^ 32 → ⊥) → BeginsTooBig rest
-too_big rest digits behind s some needed big = record {
+pub too_big : (rest digits after : List ℕ) → IsSplit rest digits after → 0 < length digits → (1 < length digits → get_or digits 0 0 ≢ 48) → (digits_value 10 digits < 2 ^ 32 → ⊥) → BeginsTooBig rest
+too_big rest digits after s some needed big = record {
   digits = digits;
-  behind = behind;
+  after = after;
   split = s.split;
   numeral = s.all;
-  needed = ap has_needless_zero s.split ∙ no_needless_zero digits behind some needed s.ended;
+  needed = ap has_needless_zero s.split ∙ no_needless_zero digits after some needed s.ended;
   big = omega (arith, big);
 }
 
--- How far a text has been read: these ranks, each with a full stop after it, and this rest at this offset.
+-- How far a text has been read: these ranks, each with a full stop left it, and this rest at this offset.
 pub record ReadSoFar (text path : List ℕ) (count at : ℕ) (rest : List ℕ) : Type 0 where
   pub counted : length path ≡ count
   pub bounded : All IsRank path
@@ -129,33 +129,33 @@ read_none text path rest e f =
     let P : List ℕ → Type 0 = λ p. ReadSoFar text p 0 0 rest in
     subst P (sym e) (record { counted = refl; bounded = λ k d h. absurd (omega arith); whole = sym f; offset = refl; small = omega arith })
 
-pub front_of : (text path : List ℕ) (count at : ℕ) (rest : List ℕ) → ReadSoFar text path count at rest → IsBehindRanks text count at rest
+pub front_of : (text path : List ℕ) (count at : ℕ) (rest : List ℕ) → ReadSoFar text path count at rest → IsAfterRanks text count at rest
 front_of text path count at rest s = record { ranks = path; counted = s.counted; bounded = s.bounded; whole = s.whole; offset = s.offset }
 
--- a full stop after one more rank
+-- a full stop left one more rank
 stopped-push : (path : List ℕ) (rank : ℕ) → stopped (path ++ rank ∷ []) ≡ stopped path ++ (decimal rank ++ codes ".")
 stopped-push path rank = stopped-append path (rank ∷ []) ∙ ap (λ t. stopped path ++ t) (append-nil (decimal rank ++ codes "."))
 
 rank_len : (rank : ℕ) → IsRank rank → length (decimal rank) ≤ 10
 rank_len rank bounded = length-decimal-le 10 rank (omega arith) (omega arith) (omega arith)
 
-pub len_behind : (rest behind : List ℕ) (rank : ℕ) → IsRankThen rest rank behind → length rest ≡ length (decimal rank) + length behind
-len_behind rest behind rank r = ap length r.split ∙ length-append (decimal rank) behind
+pub len_after : (rest after : List ℕ) (rank : ℕ) → IsRankThen rest rank after → length rest ≡ length (decimal rank) + length after
+len_after rest after rank r = ap length r.split ∙ length-append (decimal rank) after
 
-pub len_small : (rest behind : List ℕ) (rank : ℕ) → IsRankThen rest rank behind → length rest ≤ length behind + 10
-len_small rest behind rank r =
-    let l = len_behind rest behind rank r in
+pub len_small : (rest after : List ℕ) (rank : ℕ) → IsRankThen rest rank after → length rest ≤ length after + 10
+len_small rest after rank r =
+    let l = len_after rest after rank r in
     let m = rank_len rank r.bounded in omega (arith, l, m)
 
 stop_regroup : (a b cs : List ℕ) → a ++ (b ++ 46 ∷ cs) ≡ (a ++ (b ++ codes ".")) ++ cs
 stop_regroup a b cs = simp append_assoc
 
-pub read_more : (text path next rest behind after : List ℕ) (count at end rank : ℕ) → ReadSoFar text path count at rest → IsRankThen rest rank behind → next ≡ path ++ rank ∷ [] → end ≡ at + (length rest - length behind) → 0 < length behind → get_or behind 0 0 ≡ 46 → after ≡ drop 1 behind → ReadSoFar text next (count + 1) (end + 1) after
-read_more text path next rest [] after count at end rank s r n e some stop d = absurd (omega arith)
-read_more text path next rest (c ∷ cs) after count at end rank s r n e some stop d =
-    let l = len_behind rest (c ∷ cs) rank r in
+pub read_more : (text path next rest after left : List ℕ) (count at end rank : ℕ) → ReadSoFar text path count at rest → IsRankThen rest rank after → next ≡ path ++ rank ∷ [] → end ≡ at + (length rest - length after) → 0 < length after → get_or after 0 0 ≡ 46 → left ≡ drop 1 after → ReadSoFar text next (count + 1) (end + 1) left
+read_more text path next rest [] left count at end rank s r n e some stop d = absurd (omega arith)
+read_more text path next rest (c ∷ cs) left count at end rank s r n e some stop d =
+    let l = len_after rest (c ∷ cs) rank r in
     let m = rank_len rank r.bounded in
-    let P : List ℕ → Type 0 = λ p. ReadSoFar text p (count + 1) (end + 1) after in
+    let P : List ℕ → Type 0 = λ p. ReadSoFar text p (count + 1) (end + 1) left in
     subst P (sym n)
     (record {
       counted = length-append path (rank ∷ []) ∙ ap (λ k. k + 1) s.counted;
@@ -165,10 +165,10 @@ read_more text path next rest (c ∷ cs) after count at end rank s r n e some st
       small = let o = s.small in omega (arith, l, e, m, o);
     })
 
-moved : (text : List ℕ) (count at k : ℕ) (rest : List ℕ) → k ≡ at → IsBehindRanks text count at rest → IsBehindRanks text count k rest
+moved : (text : List ℕ) (count at k : ℕ) (rest : List ℕ) → k ≡ at → IsAfterRanks text count at rest → IsAfterRanks text count k rest
 moved text count at k rest e f = record { ranks = f.ranks; counted = f.counted; bounded = f.bounded; whole = f.whole; offset = e ∙ f.offset }
 
-stands : (text : List ℕ) (count at k : ℕ) (rest : List ℕ) (P : List ℕ → Type 0) → k ≡ at → count < 512 → IsBehindRanks text count at rest → P rest → RankDueAt text k P
+stands : (text : List ℕ) (count at k : ℕ) (rest : List ℕ) (P : List ℕ → Type 0) → k ≡ at → count < 512 → IsAfterRanks text count at rest → P rest → RankDueAt text k P
 stands text count at k rest P e few f here = record { count = count; rest = rest; few = few; front = moved text count at k rest e f; here = here }
 
 -- a rank that isn't one
@@ -180,21 +180,21 @@ refused_at text path count at rest (TooBig k) some few s f = stands text count a
 refused_at text path count at rest TooLong some few s f = absurd f
 refused_at text path count at rest Memory some few s f = absurd f
 
--- another byte after a rank
-pub refused_behind : (text path : List ℕ) (count at end rank : ℕ) (rest behind : List ℕ) → text ≢ [] → count < 512 → ReadSoFar text path count at rest → IsRankThen rest rank behind → end ≡ at + (length rest - length behind) → 0 < length behind → get_or behind 0 0 ≢ 46 → IsRefused text (BadByte end)
-refused_behind text path count at end rank rest [] some few s r e more other = absurd (omega arith)
-refused_behind text path count at end rank rest (c ∷ cs) some few s r e more other =
-    let l = len_behind rest (c ∷ cs) rank r in (
+-- another byte left a rank
+pub refused_after : (text path : List ℕ) (count at end rank : ℕ) (rest after : List ℕ) → text ≢ [] → count < 512 → ReadSoFar text path count at rest → IsRankThen rest rank after → end ≡ at + (length rest - length after) → 0 < length after → get_or after 0 0 ≢ 46 → IsRefused text (BadByte end)
+refused_after text path count at end rank rest [] some few s r e more other = absurd (omega arith)
+refused_after text path count at end rank rest (c ∷ cs) some few s r e more other =
+    let l = len_after rest (c ∷ cs) rank r in (
       some,
       inr (
         at,
         stands text count at at rest (LacksStop at end) refl few (front_of text path count at rest s)
-            (record { rank = rank; byte = c; behind = cs; first = r; other = other; place = omega (arith, l, e) }),
+            (record { rank = rank; byte = c; after = cs; first = r; other = other; place = omega (arith, l, e) }),
       ),
     )
 
--- the end after a rank
-pub read_whole : (text path j : List ℕ) (count at rank : ℕ) (rest behind : List ℕ) → ReadSoFar text path count at rest → IsRankThen rest rank behind → length behind ≡ 0 → path ++ rank ∷ [] ≡ j → text ≡ ped_text j
+-- the end left a rank
+pub read_whole : (text path j : List ℕ) (count at rank : ℕ) (rest after : List ℕ) → ReadSoFar text path count at rest → IsRankThen rest rank after → length after ≡ 0 → path ++ rank ∷ [] ≡ j → text ≡ ped_text j
 read_whole text path j count at rank rest [] s r none e =
     s.whole ∙ ap (λ t. stopped path ++ t) (r.split ∙ append-nil (decimal rank)) ∙ ped_text-append path j rank e
 read_whole text path j count at rank rest (c ∷ cs) s r none e = absurd (omega arith)
@@ -207,5 +207,5 @@ read_short text path j count at rank rest few s e =
 pub not_empty : (text : List ℕ) → 0 < length text → text ≢ []
 not_empty text some = λ e. let l = ap length e in absurd (omega (arith, l))
 
-pub behind_first : (behind : List ℕ) → take (length behind - 1) (drop 1 behind) ≡ drop 1 behind
-behind_first behind = take_all (length behind - 1) (drop 1 behind) (simp length-drop (omega arith))
+pub after_first : (after : List ℕ) → take (length after - 1) (drop 1 after) ≡ drop 1 after
+after_first after = take_all (length after - 1) (drop 1 after) (simp length-drop (omega arith))

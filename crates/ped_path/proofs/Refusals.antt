@@ -10,13 +10,13 @@ use Rattle.std.proofs.lemmas.List.Elements.{All-head, All-tail}
 use Rattle.std.proofs.lemmas.Str.Parse.{digit_from_value, digits_value-take-le}
 use Rattle.ped_path.specs.Path.{IsRank}
 use Rattle.ped_path.specs.Text.{stopped}
-use Rattle.ped_path.specs.Parsing.{begins_with_digit, has_needless_zero, BeginsTooBig, IsBehindRanks, IsRankThen, IsRefused, LacksStop, RankDueAt}
+use Rattle.ped_path.specs.Parsing.{begins_with_digit, has_needless_zero, BeginsTooBig, IsAfterRanks, IsRankThen, IsRefused, LacksStop, RankDueAt}
 use Rattle.ped_path.specs.Laws.{RefusalsAreUnique, WritesTooBig, Breaks, number_of, place_of, LeastRuleIsTold}
 use Rattle.ped_path.specs.declared.parse.PedTextError.{PedTextError}
 use Rattle.ped_path.specs.declared.parse.PedTextError.TheVariants.{Empty, BadByte, Zeros, TooBig, TooLong, Memory}
 use Rattle.ped_path.proofs.ParseLemmas.{digit_passes, no_needless_zero, numerals}
 
--- Digits in front
+-- Digits before
 
 digit_ends : (d : ℕ) (more xs : List ℕ) → digit_value d < 10 → begins_with_digit xs ≡ false → xs ≡ d ∷ more → ⊥
 digit_ends d more xs small none e =
@@ -46,9 +46,9 @@ front_within (d ∷ ds) (c ∷ es) xs ys a g e =
     let digits : es ≡ ds ++ r.0 = r.1 in
     let here : ◌≡◌ {A = List ℕ} (c ∷ es) (d ∷ (ds ++ r.0)) = cc in (r.0, here)
 
-first_digit : (ds behind : List ℕ) → AllDigits 10 ds → 0 < length ds → begins_with_digit (ds ++ behind) ≡ true
-first_digit [] behind a some = absurd (omega arith)
-first_digit (d ∷ ds) behind a some = digit_passes d (digit_from_value d a.0)
+first_digit : (ds after : List ℕ) → AllDigits 10 ds → 0 < length ds → begins_with_digit (ds ++ after) ≡ true
+first_digit [] after a some = absurd (omega arith)
+first_digit (d ∷ ds) after a some = digit_passes d (digit_from_value d a.0)
 
 rank_digits : (r : ℕ) → IsRank r → AllDigits 10 (decimal r)
 rank_digits r bounded = digits_decimal numerals r (omega arith)
@@ -57,7 +57,7 @@ needed : (r : ℕ) → IsRank r → 1 < length (decimal r) → get_or (decimal r
 needed zero bounded long = let one : length (decimal 0) ≡ 1 = ap length (decimal_digit 0 (omega arith)) in absurd (omega (arith, one, long))
 needed (suc n) bounded long = λ e. let above = first_decimal (suc n) (omega arith) (omega arith) in omega (arith, e, above)
 
--- A rank in front
+-- A rank before
 
 module _ (x : List ℕ) (r : ℕ) (b : List ℕ) (s : IsRankThen x r b) where
   pub rank_once : (q : ℕ) (c : List ℕ) → IsRankThen x q c → (r ≡ q) × (b ≡ c)
@@ -78,7 +78,7 @@ module _ (x : List ℕ) (r : ℕ) (b : List ℕ) (s : IsRankThen x r b) where
   ranked_small : WritesTooBig x → ⊥
   ranked_small w =
       let low : r < 2 ^ 32 = s.bounded in
-      let f = front_within w.digits (decimal r) w.behind b w.numeral s.ended (sym w.split ∙ s.split) in
+      let f = front_within w.digits (decimal r) w.after b w.numeral s.ended (sym w.split ∙ s.split) in
       let part : digits_value 10 (take (length w.digits) (w.digits ++ f.0)) ≤ digits_value 10 (w.digits ++ f.0) = digits_value-take-le 10 (w.digits ++ f.0) (length w.digits) (omega arith) in
       let front : digits_value 10 (take (length w.digits) (w.digits ++ f.0)) ≡ digits_value 10 w.digits = ap (digits_value 10) (take-append_seam w.digits f.0) in
       let whole : digits_value 10 (decimal r) ≡ digits_value 10 (w.digits ++ f.0) = ap (digits_value 10) f.1 in
@@ -90,7 +90,7 @@ big_some [] big = absurd (omega arith)
 big_some (d ∷ ds) big = omega arith
 
 big_digit : (x : List ℕ) → WritesTooBig x → begins_with_digit x ≡ true
-big_digit x w = ap begins_with_digit w.split ∙ first_digit w.digits w.behind w.numeral (big_some w.digits w.big)
+big_digit x w = ap begins_with_digit w.split ∙ first_digit w.digits w.after w.numeral (big_some w.digits w.big)
 
 both : (a b : Bool) → (a && b) ≡ true → (a ≡ true) × (b ≡ true)
 both true b e = (refl, e)
@@ -124,13 +124,13 @@ abbrev Stuck : List ℕ → Type 0
 Stuck x = (r : ℕ) (b : List ℕ) → IsRankThen x r (46 ∷ b) → ⊥
 
 writes : (x : List ℕ) → BeginsTooBig x → WritesTooBig x
-writes x w = record { digits = w.digits; behind = w.behind; split = w.split; numeral = w.numeral; big = w.big }
+writes x w = record { digits = w.digits; after = w.after; split = w.split; numeral = w.numeral; big = w.big }
 
 no_both : (b : Bool) → b ≡ true → b ≡ false → ⊥
 no_both b e f = cc
 
 no_stop : (x : List ℕ) (at k : ℕ) → LacksStop at k x → Stuck x
-no_stop x at k l r b s = let same = (rank_once x l.rank (l.byte ∷ l.behind) l.first r (46 ∷ b) s).1 in let other : l.byte ≡ 46 = cc in l.other other
+no_stop x at k l r b s = let same = (rank_once x l.rank (l.byte ∷ l.after) l.first r (46 ∷ b) s).1 in let other : l.byte ≡ 46 = cc in l.other other
 
 wrong_stuck : (e : PedTextError) (at : ℕ) (x : List ℕ) → Wrong e at x → Stuck x
 wrong_stuck (BadByte k) at x (inl w) r b s = no_both _ (ranked_digit x r (46 ∷ b) s) w.1
@@ -155,16 +155,16 @@ Among e f = (e ≡ f) ⊎ ((k : ℕ) × (e ≡ Zeros k) × (f ≡ TooBig k))
 
 two_bad : (k j at : ℕ) (x : List ℕ) → Wrong (BadByte k) at x → Wrong (BadByte j) at x → ◌≡◌ {A = PedTextError} (BadByte k) (BadByte j)
 two_bad k j at x (inl a) (inl b) = ap BadByte (a.0 ∙ sym b.0)
-two_bad k j at x (inl a) (inr b) = absurd (no_both _ (ranked_digit x b.rank (b.byte ∷ b.behind) b.first) a.1)
-two_bad k j at x (inr a) (inl b) = absurd (no_both _ (ranked_digit x a.rank (a.byte ∷ a.behind) a.first) b.1)
+two_bad k j at x (inl a) (inr b) = absurd (no_both _ (ranked_digit x b.rank (b.byte ∷ b.after) b.first) a.1)
+two_bad k j at x (inr a) (inl b) = absurd (no_both _ (ranked_digit x a.rank (a.byte ∷ a.after) a.first) b.1)
 two_bad k j at x (inr a) (inr b) =
-    let same = (rank_once x a.rank (a.byte ∷ a.behind) a.first b.rank (b.byte ∷ b.behind) b.first).0 in
+    let same = (rank_once x a.rank (a.byte ∷ a.after) a.first b.rank (b.byte ∷ b.after) b.first).0 in
     ap BadByte (a.place ∙ ap (λ r. at + length (decimal r)) same ∙ sym b.place)
 
 bad_alone : (k at : ℕ) (x : List ℕ) → Wrong (BadByte k) at x → begins_with_digit x ≡ true → (has_needless_zero x ≡ true) ⊎ WritesTooBig x → ⊥
 bad_alone k at x (inl a) d w = no_both _ d a.1
-bad_alone k at x (inr a) d (inl z) = no_both _ z (ranked_plain x a.rank (a.byte ∷ a.behind) a.first)
-bad_alone k at x (inr a) d (inr w) = ranked_small x a.rank (a.byte ∷ a.behind) a.first w
+bad_alone k at x (inr a) d (inl z) = no_both _ z (ranked_plain x a.rank (a.byte ∷ a.after) a.first)
+bad_alone k at x (inr a) d (inr w) = ranked_small x a.rank (a.byte ∷ a.after) a.first w
 
 one_told : (e f : PedTextError) (at : ℕ) (x : List ℕ) → Told e at x → Wrong f at x → Among e f
 one_told (BadByte k) (BadByte j) at x a b = inl (two_bad k j at x a b)
@@ -201,7 +201,7 @@ met (r ∷ p) (t ∷ q) x y a b e s =
     let here = goes_on r p x (All-head IsRank r p a) in
     let there : IsRankThen (stopped (r ∷ p) ++ x) t (46 ∷ (stopped q ++ y)) = subst (λ z. IsRankThen z t (46 ∷ (stopped q ++ y))) (sym e) (goes_on t q y (All-head IsRank t q b)) in
     let same = rank_once (stopped (r ∷ p) ++ x) r (46 ∷ (stopped p ++ x)) here t (46 ∷ (stopped q ++ y)) there in
-    let behind = same.1 in
+    let after = same.1 in
     let more : stopped p ++ x ≡ stopped q ++ y = cc in
     later same.0 (met p q x y (All-tail IsRank r p a) (All-tail IsRank t q b) more s)
   where
@@ -214,7 +214,7 @@ record Found (P : ℕ → List ℕ → Type 0) (text : List ℕ) : Type 0 where
   at : ℕ
   rest : List ℕ
   few : count < 512
-  front : IsBehindRanks text count at rest
+  front : IsAfterRanks text count at rest
   what : P at rest
 
 stand : (P : ℕ → List ℕ → Type 0) (text : List ℕ) (at : ℕ) (Q : List ℕ → Type 0) → RankDueAt text at Q → ((x : List ℕ) → Q x → P at x) → Found P text
@@ -233,7 +233,7 @@ at_one text P Q ps qs f g =
         (f.at, f.rest, f.what, subst (λ z. Q z f.rest) same (subst (Q g.at) (sym h.1) g.what))
     go (inr h) = absurd (h.1 (qs g.at g.rest g.what))
 
-never_long : (text : List ℕ) (P : ℕ → List ℕ → Type 0) → ((at : ℕ) (x : List ℕ) → P at x → Stuck x) → Found P text → (at : ℕ) (rest : List ℕ) → IsBehindRanks text 512 at rest → ⊥
+never_long : (text : List ℕ) (P : ℕ → List ℕ → Type 0) → ((at : ℕ) (x : List ℕ) → P at x → Stuck x) → Found P text → (at : ℕ) (rest : List ℕ) → IsAfterRanks text 512 at rest → ⊥
 never_long text P ps f at rest q =
     let p = f.front in
     go (met p.ranks q.ranks f.rest rest p.bounded q.bounded (sym p.whole ∙ q.whole) (ps f.at f.rest f.what))
@@ -245,22 +245,22 @@ never_long text P ps f at rest q =
     go (inl h) = let e = ap length h.0 in omega (arith, e, fewer)
     go (inr h) = let l = h.0 in omega (arith, l, fewer)
 
-behind_nothing : (xs ys : List ℕ) → xs ++ ys ≡ [] → ys ≡ []
-behind_nothing [] ys e = e
-behind_nothing (x ∷ xs) ys e = cc
+after_nothing : (xs ys : List ℕ) → xs ++ ys ≡ [] → ys ≡ []
+after_nothing [] ys e = e
+after_nothing (x ∷ xs) ys e = cc
 
 long_some : (p y : List ℕ) → 0 < length p → stopped p ++ y ≡ [] → ⊥
 long_some [] y some e = absurd (omega arith)
-long_some (r ∷ p) y some e = let f = behind_nothing (decimal r) (46 ∷ (stopped p ++ y)) (sym (regroup (decimal r) (stopped p) y) ∙ e) in cc
+long_some (r ∷ p) y some e = let f = after_nothing (decimal r) (46 ∷ (stopped p ++ y)) (sym (regroup (decimal r) (stopped p) y) ∙ e) in cc
 
 some_of : (text : List ℕ) (at : ℕ) (Q : List ℕ → Type 0) → RankDueAt text at Q → ((x : List ℕ) → Q x → begins_with_digit x ≡ true) → text ≢ []
 some_of text at Q s f = λ e.
-    let none = behind_nothing (stopped s.front.ranks) s.rest (sym s.front.whole ∙ e) in
+    let none = after_nothing (stopped s.front.ranks) s.rest (sym s.front.whole ∙ e) in
     no_both (begins_with_digit s.rest) (f s.rest s.here) (ap begins_with_digit none)
 
 data View (P : PedTextError → ℕ → List ℕ → Type 0) (text : List ℕ) (e : PedTextError) : Type 0 where
   empty : e ≡ Empty → text ≡ [] → View P text e
-  long : e ≡ TooLong → (at : ℕ) (rest : List ℕ) → IsBehindRanks text 512 at rest → View P text e
+  long : e ≡ TooLong → (at : ℕ) (rest : List ℕ) → IsAfterRanks text 512 at rest → View P text e
   found : text ≢ [] → Found (P e) text → View P text e
 
 bad : (text : List ℕ) (k : ℕ) → RankDueAt text k (λ rest. begins_with_digit rest ≡ false) ⊎ ((start : ℕ) × RankDueAt text start (LacksStop start k)) → Found (Wrong (BadByte k)) text

@@ -12,8 +12,8 @@ RefusalsAreUnique = (text : List ℕ) (e f : PedTextError) → e ≢ Memory → 
 -- Digits stand first, and the number that they write is no rank, whether or not needless zeros stand among them.
 pub record WritesTooBig (rest : List ℕ) : Type 0 where
   pub digits : List ℕ
-  pub behind : List ℕ
-  pub split : rest ≡ digits ++ behind
+  pub after : List ℕ
+  pub split : rest ≡ digits ++ after
   pub numeral : AllDigits 10 digits
   pub big : 2 ^ 32 ≤ digits_value 10 digits
 

@@ -16,20 +16,20 @@ abbrev pub has_needless_zero : List ℕ → Bool
 has_needless_zero [] = false
 has_needless_zero (c ∷ cs) = (c == 48) && begins_with_digit cs
 
--- Digits stand in front, without a needless zero, and the number that they write is no rank.
+-- Digits come first, without a needless zero, and the number that they write is no rank.
 pub record BeginsTooBig (rest : List ℕ) : Type 0 where
   pub digits : List ℕ
-  pub behind : List ℕ
-  pub split : rest ≡ digits ++ behind
+  pub after : List ℕ
+  pub split : rest ≡ digits ++ after
   pub numeral : AllDigits 10 digits
   pub needed : has_needless_zero rest ≡ false
   pub big : 2 ^ 32 ≤ digits_value 10 digits
 
--- A rank stands in front, and what stands after it goes on with no digit.
-pub record IsRankThen (rest : List ℕ) (rank : ℕ) (behind : List ℕ) : Type 0 where
+-- A rank comes first, and what stands after it goes on with no digit.
+pub record IsRankThen (rest : List ℕ) (rank : ℕ) (after : List ℕ) : Type 0 where
   pub bounded : IsRank rank
-  pub split : rest ≡ decimal rank ++ behind
-  pub ended : begins_with_digit behind ≡ false
+  pub split : rest ≡ decimal rank ++ after
+  pub ended : begins_with_digit after ≡ false
 
 -- Here a rank is needed, which begins at this offset, and this is wrong with it.
 abbrev pub IsRankFault : List ℕ → ℕ → PedTextError → Type 0
@@ -41,7 +41,7 @@ IsRankFault rest start TooLong = ⊥
 IsRankFault rest start Memory = ⊥
 
 -- The text begins with so many ranks, each with a full stop after it, and this rest stands at this offset.
-pub record IsBehindRanks (text : List ℕ) (count at : ℕ) (rest : List ℕ) : Type 0 where
+pub record IsAfterRanks (text : List ℕ) (count at : ℕ) (rest : List ℕ) : Type 0 where
   pub ranks : List ℕ
   pub counted : length ranks ≡ count
   pub bounded : All IsRank ranks
@@ -53,15 +53,15 @@ pub record RankDueAt (text : List ℕ) (start : ℕ) (P : List ℕ → Type 0) :
   pub count : ℕ
   pub rest : List ℕ
   pub few : count < 512
-  pub front : IsBehindRanks text count start rest
+  pub front : IsAfterRanks text count start rest
   pub here : P rest
 
--- A rank stands in front, and after it at this offset a byte that is neither a digit nor a full stop.
+-- A rank comes first, and after it at this offset a byte that is neither a digit nor a full stop.
 pub record LacksStop (start at : ℕ) (rest : List ℕ) : Type 0 where
   pub rank : ℕ
   pub byte : ℕ
-  pub behind : List ℕ
-  pub first : IsRankThen rest rank (byte ∷ behind)
+  pub after : List ℕ
+  pub first : IsRankThen rest rank (byte ∷ after)
   pub other : byte ≢ 46
   pub place : at ≡ start + length (decimal rank)
 
@@ -71,5 +71,5 @@ IsRefused text Empty = text ≡ []
 IsRefused text (BadByte at) = (text ≢ []) × (RankDueAt text at (λ rest. begins_with_digit rest ≡ false) ⊎ ((start : ℕ) × RankDueAt text start (LacksStop start at)))
 IsRefused text (Zeros at) = RankDueAt text at (λ rest. has_needless_zero rest ≡ true)
 IsRefused text (TooBig at) = RankDueAt text at BeginsTooBig
-IsRefused text TooLong = (at : ℕ) × (rest : List ℕ) × IsBehindRanks text 512 at rest
+IsRefused text TooLong = (at : ℕ) × (rest : List ℕ) × IsAfterRanks text 512 at rest
 IsRefused text Memory = Unit {0}

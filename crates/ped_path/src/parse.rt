@@ -56,16 +56,16 @@ pub fn parse_pedigree(alloc: Global, text: &str) -> Result<Pedigree, PedTextErro
     let mut rest = text.as_bytes();
     let mut at = 0;
     for _count in 0..MOST_RANKS {
-        let (rank, behind) = read_rank(rest, at)?;
-        let end = at + (rest.len() - behind.len()) as u32;
-        if behind.is_empty() {
+        let (rank, after) = read_rank(rest, at)?;
+        let end = at + (rest.len() - after.len()) as u32;
+        if after.is_empty() {
             return Ok(Pedigree { path, rank });
         }
-        if behind[0] != b'.' {
+        if after[0] != b'.' {
             return Err(PedTextError::BadByte(end));
         }
         path = path.child(alloc, rank)?;
-        rest = &behind[1..];
+        rest = &after[1..];
         at = end + 1;
     }
     Err(PedTextError::TooLong)
@@ -76,7 +76,7 @@ fn read_rank(rest: &[u8], at: u32) -> Result<(u64, &[u8]), PedTextError>
     ensures ok { IfOk result (λ r. IsRankThen rest.now r.0 r.1.now) }
     ensures err { IfErr result (λ e. IsRankFault rest.now at e) }
 {
-    let (digits, behind) = rest.split_at(digits_len(rest));
+    let (digits, after) = rest.split_at(digits_len(rest));
     if digits.is_empty() {
         return Err(PedTextError::BadByte(at));
     }
@@ -84,7 +84,7 @@ fn read_rank(rest: &[u8], at: u32) -> Result<(u64, &[u8]), PedTextError>
         return Err(PedTextError::Zeros(at));
     }
     match rank_of(digits) {
-        Some(rank) => Ok((rank, behind)),
+        Some(rank) => Ok((rank, after)),
         None => Err(PedTextError::TooBig(at)),
     }
 }

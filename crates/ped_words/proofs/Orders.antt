@@ -194,8 +194,8 @@ all_none f zero e j h = absurd (omega arith)
 all_none f (suc n) e j h = go (cases_lt j n) (all_none f n (or_none (first_below f n) (f n) e).0 j)
   where
     go : (j < n) ⊎ (n ≤ j) → (j < n → f j ≡ None) → f j ≡ None
-    go (inl low) behind = behind low
-    go (inr high) behind = let same : n ≡ j = omega (arith, high) in subst (λ z. f z ≡ None) same (or_none (first_below f n) (f n) e).1
+    go (inl low) after = after low
+    go (inr high) after = let same : n ≡ j = omega (arith, high) in subst (λ z. f z ≡ None) same (or_none (first_below f n) (f n) e).1
 
 none_all : (f : ℕ → Option WordError) (n : ℕ) → ((j : ℕ) → j < n → f j ≡ None) → first_below f n ≡ None
 none_all f zero h = refl
@@ -214,7 +214,7 @@ record Swapped (words others : List (List ℕ)) (k : ℕ) : Type 0 where
   first_value : value_word others k ≡ value_word words (suc k)
   second_name : name_word others (suc k) ≡ name_word words k
   second_value : value_word others (suc k) ≡ value_word words k
-  behind : (i : ℕ) → 2 * k + 5 ≤ i → word_at others i ≡ word_at words i
+  after : (i : ℕ) → 2 * k + 5 ≤ i → word_at others i ≡ word_at words i
 
 front_at : (xs ys : List (List ℕ)) (i : ℕ) → i < length xs → word_at (xs ++ ys) i ≡ word_at xs i
 front_at [] ys i h = absurd (omega arith)
@@ -224,10 +224,10 @@ front_at (x ∷ xs) ys (suc i) h = front_at xs ys i (omega arith)
 back_at : (xs ys : List (List ℕ)) (i m : ℕ) → i ≡ length xs + m → word_at (xs ++ ys) i ≡ word_at ys m
 back_at xs ys i m e = ap (word_at (xs ++ ys)) e ∙ get_or-append-add xs ys m []
 
-swapped : (front behind : List (List ℕ)) (n v m w : List ℕ) (k : ℕ) → length front ≡ 2 * k + 1 → Swapped (front ++ n ∷ v ∷ m ∷ w ∷ behind) (front ++ m ∷ w ∷ n ∷ v ∷ behind) k
-swapped front behind n v m w k e =
-    let xs : List (List ℕ) = n ∷ v ∷ m ∷ w ∷ behind in
-    let ys : List (List ℕ) = m ∷ w ∷ n ∷ v ∷ behind in
+swapped : (front after : List (List ℕ)) (n v m w : List ℕ) (k : ℕ) → length front ≡ 2 * k + 1 → Swapped (front ++ n ∷ v ∷ m ∷ w ∷ after) (front ++ m ∷ w ∷ n ∷ v ∷ after) k
+swapped front after n v m w k e =
+    let xs : List (List ℕ) = n ∷ v ∷ m ∷ w ∷ after in
+    let ys : List (List ℕ) = m ∷ w ∷ n ∷ v ∷ after in
     record {
       long = length-append front ys ∙ sym (length-append front xs);
       enough = let l : length (front ++ xs) ≡ length front + length xs = length-append front xs in omega (arith, l, e);
@@ -236,7 +236,7 @@ swapped front behind n v m w k e =
       first_value = back_at front ys (2 * k + 2) 1 (omega (arith, e)) ∙ sym (back_at front xs (2 * suc k + 2) 3 (omega (arith, e)));
       second_name = back_at front ys (2 * suc k + 1) 2 (omega (arith, e)) ∙ sym (back_at front xs (2 * k + 1) 0 (omega (arith, e)));
       second_value = back_at front ys (2 * suc k + 2) 3 (omega (arith, e)) ∙ sym (back_at front xs (2 * k + 2) 1 (omega (arith, e)));
-      behind = λ i h.
+      after = λ i h.
           let at : i ≡ length front + suc (suc (suc (suc (i - (length front + 4))))) = omega (arith, e, h) in
           back_at front ys i (suc (suc (suc (suc (i - (length front + 4)))))) at ∙ sym (back_at front xs i (suc (suc (suc (suc (i - (length front + 4)))))) at);
     }
@@ -271,11 +271,11 @@ module _ (words others : List (List ℕ)) (k : ℕ) (s : Swapped words others k)
   front-value : (j : ℕ) → j < k → value_word others j ≡ value_word words j
   front-value j h = s.front (2 * j + 2) (omega arith)
 
-  behind-word : (j : ℕ) → suc k < j → name_word others j ≡ name_word words j
-  behind-word j h = s.behind (2 * j + 1) (omega arith)
+  after-word : (j : ℕ) → suc k < j → name_word others j ≡ name_word words j
+  after-word j h = s.after (2 * j + 1) (omega arith)
 
-  behind-value : (j : ℕ) → suc k < j → value_word others j ≡ value_word words j
-  behind-value j h = s.behind (2 * j + 2) (omega arith)
+  after-value : (j : ℕ) → suc k < j → value_word others j ≡ value_word words j
+  after-value j h = s.after (2 * j + 2) (omega arith)
 
   next-same : (j : ℕ) → name_word others j ≡ name_word words j → value_word others j ≡ value_word words j → (n : OptionName) → word_of (option_values others j) n ≡ word_of (option_values words j) n →
       word_of (option_values others (suc j)) n ≡ word_of (option_values words (suc j)) n
@@ -304,12 +304,12 @@ module _ (words others : List (List ℕ)) (k : ℕ) (s : Swapped words others k)
         ∙ ap (λ z. next_word (name_word words (suc k)) (value_word words (suc k)) z n) (sym (word_of-next words k n))
         ∙ sym (word_of-next words (suc k) n)
 
-    values-behind : (j : ℕ) → suc k < j → (n : OptionName) → word_of (option_values others j) n ≡ word_of (option_values words j) n
-    values-behind zero h n = absurd (omega arith)
-    values-behind (suc j) h n = go (cases_lt (suc k) j) (λ l. values-behind j l n)
+    values-after : (j : ℕ) → suc k < j → (n : OptionName) → word_of (option_values others j) n ≡ word_of (option_values words j) n
+    values-after zero h n = absurd (omega arith)
+    values-after (suc j) h n = go (cases_lt (suc k) j) (λ l. values-after j l n)
       where
         go : (suc k < j) ⊎ (j ≤ suc k) → (suc k < j → word_of (option_values others j) n ≡ word_of (option_values words j) n) → word_of (option_values others (suc j)) n ≡ word_of (option_values words (suc j)) n
-        go (inl l) before = next-same j (behind-word j l) (behind-value j l) n (before l)
+        go (inl l) before = next-same j (after-word j l) (after-value j l) n (before l)
         go (inr l) before = let same : suc k ≡ j = omega (arith, l, h) in subst (λ z. word_of (option_values others (suc z)) n ≡ word_of (option_values words (suc z)) n) same (values-two n)
 
   module _ (verb : Verb) (a : Right verb (option_values words k) (name_word words k) (value_word words k) (nat_le (length words) (2 * k + 2)))
@@ -335,8 +335,8 @@ module _ (words others : List (List ℕ)) (k : ℕ) (s : Swapped words others k)
     some-front : (j : ℕ) → j ≤ k → (n : OptionName) → is_some (option_values others j n) ≡ is_some (option_values words j n)
     some-front j h n = sym (some-word (option_values others j) n) ∙ ap is_some (values-front j h n) ∙ some-word (option_values words j) n
 
-    some-behind : (j : ℕ) → suc k < j → (n : OptionName) → is_some (option_values others j n) ≡ is_some (option_values words j n)
-    some-behind j h n = sym (some-word (option_values others j) n) ∙ ap is_some (values-behind apart j h n) ∙ some-word (option_values words j) n
+    some-after : (j : ℕ) → suc k < j → (n : OptionName) → is_some (option_values others j n) ≡ is_some (option_values words j n)
+    some-after j h n = sym (some-word (option_values others j) n) ∙ ap is_some (values-after apart j h n) ∙ some-word (option_values words j) n
 
     not_last : (i : ℕ) → i < length words → nat_le (length others) i ≡ false
     not_last i h = let l = s.long in above (length others) i (omega (arith, l, h))
@@ -397,7 +397,7 @@ module _ (words others : List (List ℕ)) (k : ℕ) (s : Swapped words others k)
 
       at_back : (j : ℕ) → j < pairs_in words → suc k < j → Right verb (option_values others j) (name_word others j) (value_word others j) (nat_le (length others) (2 * j + 2))
       at_back j l h =
-          carried verb (option_values words j) (option_values others j) (name_word words j) (name_word others j) (value_word words j) (value_word others j) _ _ (behind-word j h) (behind-value j h) (some-behind verb a c j h) (last j) (right j l)
+          carried verb (option_values words j) (option_values others j) (name_word words j) (name_word others j) (value_word words j) (value_word others j) _ _ (after-word j h) (after-value j h) (some-after verb a c j h) (last j) (right j l)
 
       go : (j : ℕ) → j < pairs_in words → (j < k) ⊎ (k ≤ j) → (suc k < j) ⊎ (j ≤ suc k) → (k < j) ⊎ (j ≤ k) → broken_pair verb others j ≡ None
       go j l (inl low) y z = right_to verb others j (at_front j low)
@@ -411,7 +411,7 @@ module _ (words others : List (List ℕ)) (k : ℕ) (s : Swapped words others k)
   exchanged-made : (verb : Verb) (command : Command) → first_broken verb words ≡ None → made verb (option_values words (pairs_in words)) (length words) ≡ Ok command →
       made verb (option_values others (pairs_in others)) (length others) ≡ Ok command
   exchanged-made verb command e f =
-      ap (λ l. made verb (option_values others (l / 2)) l) s.long ∙ made-same (option_values words (pairs_in words)) (option_values others (pairs_in words)) (values-behind (apart verb a c) (pairs_in words) two) verb (length words) command f
+      ap (λ l. made verb (option_values others (l / 2)) l) s.long ∙ made-same (option_values words (pairs_in words)) (option_values others (pairs_in words)) (values-after (apart verb a c) (pairs_in words) two) verb (length words) command f
     where
       two : suc k < pairs_in words
       two = let l = s.enough in omega (arith, l)
@@ -444,5 +444,5 @@ module _ (words others : List (List ℕ)) (k : ℕ) (s : Swapped words others k)
 
 pub orders_give_one : OrdersGiveOneCommand
 orders_give_one words others command as_it_was e = e
-orders_give_one words others command (exchanged front behind n v m w k odd r) e =
-    exchange (front ++ n ∷ v ∷ m ∷ w ∷ behind) (front ++ m ∷ w ∷ n ∷ v ∷ behind) k (swapped front behind n v m w k odd) command (orders_give_one words (front ++ n ∷ v ∷ m ∷ w ∷ behind) command r e)
+orders_give_one words others command (exchanged front after n v m w k odd r) e =
+    exchange (front ++ n ∷ v ∷ m ∷ w ∷ after) (front ++ m ∷ w ∷ n ∷ v ∷ after) k (swapped front after n v m w k odd) command (orders_give_one words (front ++ n ∷ v ∷ m ∷ w ∷ after) command r e)

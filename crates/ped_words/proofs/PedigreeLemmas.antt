@@ -14,7 +14,7 @@ use Rattle.std.proofs.lemmas.List.{append-nil}
 use Rattle.std.proofs.lemmas.List.Splits.{slice_split-cons_no, slice_split-cons_yes, slice_split_at, slice_split_none}
 use Rattle.std.proofs.lemmas.List.Sums.{take_while-cons}
 use Rattle.std.proofs.lemmas.Str.Parse.{digits_value-take-le}
-use Rattle.ped_path.specs.Parsing.{begins_with_digit, has_needless_zero, BeginsTooBig, IsBehindRanks, IsRefused, LacksStop}
+use Rattle.ped_path.specs.Parsing.{begins_with_digit, has_needless_zero, BeginsTooBig, IsAfterRanks, IsRefused, LacksStop}
 use Rattle.ped_path.specs.Path.{IsRank}
 use Rattle.ped_path.specs.Text.{ped_text, stopped}
 use Rattle.ped_path.specs.declared.parse.PedTextError.{PedTextError}
@@ -41,7 +41,7 @@ stop_no_digit c stop = grind (arith, nat_tests)
 digit_no_stop : (c : ℕ) → is_ascii_digit c ≡ true → eqb c 46 ≡ false
 digit_no_stop c digit = grind (arith, nat_tests)
 
--- the digits in front
+-- the digits that come first
 
 front_digits : (c : ℕ) (cs : List ℕ) (b : Bool) → is_ascii_digit c ≡ b → take_while is_ascii_digit (c ∷ cs) ≡ cond b (c ∷ take_while is_ascii_digit cs) []
 front_digits c cs b digit = take_while-cons is_ascii_digit c cs ∙ ap (λ t. cond t (c ∷ take_while is_ascii_digit cs) []) digit
@@ -95,17 +95,17 @@ record GoesOn (ds : List ℕ) (byte : ℕ) (rest : List ℕ) : Type 0 where
   parts : List (List ℕ)
   cut : ranks_in rest ≡ (ds ++ byte ∷ more) ∷ parts
 
-goes_on : (ds : List ℕ) (byte : ℕ) (behind : List ℕ) → all_ascii_digits ds ≡ true → eqb byte 46 ≡ false → GoesOn ds byte (ds ++ byte ∷ behind)
-goes_on [] byte behind all other =
-    let h = first_part behind in
-    record { more = h.part; parts = h.parts; cut = slice_split-cons_no (λ x. eqb x 46) byte behind other ∙ ap (onto_first byte) h.cut }
-goes_on (d ∷ ds) byte behind all other =
+goes_on : (ds : List ℕ) (byte : ℕ) (after : List ℕ) → all_ascii_digits ds ≡ true → eqb byte 46 ≡ false → GoesOn ds byte (ds ++ byte ∷ after)
+goes_on [] byte after all other =
+    let h = first_part after in
+    record { more = h.part; parts = h.parts; cut = slice_split-cons_no (λ x. eqb x 46) byte after other ∙ ap (onto_first byte) h.cut }
+goes_on (d ∷ ds) byte after all other =
     let both = and_both (is_ascii_digit d) (all_ascii_digits ds) all in
-    let h = goes_on ds byte behind both.1 other in
+    let h = goes_on ds byte after both.1 other in
     record {
       more = h.more;
       parts = h.parts;
-      cut = slice_split-cons_no (λ x. eqb x 46) d (ds ++ byte ∷ behind) (digit_no_stop d both.0) ∙ ap (onto_first d) h.cut;
+      cut = slice_split-cons_no (λ x. eqb x 46) d (ds ++ byte ∷ after) (digit_no_stop d both.0) ∙ ap (onto_first d) h.cut;
     }
 
 -- what is judged of a part by its digits
@@ -193,10 +193,10 @@ All-rest r rs all = λ k d lt. all (suc k) d (omega arith)
 regroup : (a b c : List ℕ) → ((a ++ codes ".") ++ b) ++ c ≡ a ++ 46 ∷ (b ++ c)
 regroup a b c = simp append_assoc
 
-parts_behind : (ranks rest : List ℕ) → All IsRank ranks → ranks_in (stopped ranks ++ rest) ≡ map decimal ranks ++ ranks_in rest
-parts_behind [] rest all = refl
-parts_behind (r ∷ rs) rest all =
-    ap ranks_in (regroup (decimal r) (stopped rs) rest) ∙ slice_split_at (λ c. eqb c 46) (decimal r) 46 (stopped rs ++ rest) (no_stops (decimal r) (rank_digits r (all 0 0 (omega arith)))) refl ∙ ap (λ t. decimal r ∷ t) (parts_behind rs rest (All-rest r rs all))
+parts_after : (ranks rest : List ℕ) → All IsRank ranks → ranks_in (stopped ranks ++ rest) ≡ map decimal ranks ++ ranks_in rest
+parts_after [] rest all = refl
+parts_after (r ∷ rs) rest all =
+    ap ranks_in (regroup (decimal r) (stopped rs) rest) ∙ slice_split_at (λ c. eqb c 46) (decimal r) 46 (stopped rs ++ rest) (no_stops (decimal r) (rank_digits r (all 0 0 (omega arith)))) refl ∙ ap (λ t. decimal r ∷ t) (parts_after rs rest (All-rest r rs all))
 
 with_room : (part : List ℕ) (parts : List (List ℕ)) (room : ℕ) → 0 < room → ranks_rule (part ∷ parts) room ≡ option_or (rank_rule part) (ranks_rule parts (room - 1))
 with_room part parts room some = ap (λ b. cond b (Some OutOfRange) (option_or (rank_rule part) (ranks_rule parts (room - 1)))) (some_room room some)
@@ -204,21 +204,21 @@ with_room part parts room some = ap (λ b. cond b (Some OutOfRange) (option_or (
     some_room : (n : ℕ) → 0 < n → eqb n 0 ≡ false
     some_room n some = grind (arith, nat_tests)
 
-rules_behind : (ranks : List ℕ) (parts : List (List ℕ)) (room left : ℕ) → All IsRank ranks → room ≡ length ranks + left → ranks_rule (map decimal ranks ++ parts) room ≡ ranks_rule parts left
-rules_behind [] parts room left all long = ap (ranks_rule parts) (omega (arith, long))
-rules_behind (r ∷ rs) parts room left all long =
-    with_room (decimal r) (map decimal rs ++ parts) room (omega (arith, long)) ∙ ap (λ t. option_or t (ranks_rule (map decimal rs ++ parts) (room - 1))) (rank_good r (all 0 0 (omega arith))) ∙ rules_behind rs parts (room - 1) left (All-rest r rs all) (omega (arith, long))
+rules_after : (ranks : List ℕ) (parts : List (List ℕ)) (room left : ℕ) → All IsRank ranks → room ≡ length ranks + left → ranks_rule (map decimal ranks ++ parts) room ≡ ranks_rule parts left
+rules_after [] parts room left all long = ap (ranks_rule parts) (omega (arith, long))
+rules_after (r ∷ rs) parts room left all long =
+    with_room (decimal r) (map decimal rs ++ parts) room (omega (arith, long)) ∙ ap (λ t. option_or t (ranks_rule (map decimal rs ++ parts) (room - 1))) (rank_good r (all 0 0 (omega arith))) ∙ rules_after rs parts (room - 1) left (All-rest r rs all) (omega (arith, long))
 
 -- so many ranks are good
-behind_ranks : (text : List ℕ) (count at left : ℕ) (rest : List ℕ) → IsBehindRanks text count at rest → count + left ≡ 512 → ped_rule text ≡ ranks_rule (ranks_in rest) left
+after_ranks : (text : List ℕ) (count at left : ℕ) (rest : List ℕ) → IsAfterRanks text count at rest → count + left ≡ 512 → ped_rule text ≡ ranks_rule (ranks_in rest) left
 unfolding ped_rule
-behind_ranks text count at left rest f long =
-    ap (λ t. ranks_rule (ranks_in t) 512) f.whole ∙ ap (λ t. ranks_rule t 512) (parts_behind f.ranks rest f.bounded) ∙ rules_behind f.ranks (ranks_in rest) 512 left f.bounded (omega (arith, long, f.counted))
+after_ranks text count at left rest f long =
+    ap (λ t. ranks_rule (ranks_in t) 512) f.whole ∙ ap (λ t. ranks_rule t 512) (parts_after f.ranks rest f.bounded) ∙ rules_after f.ranks (ranks_in rest) 512 left f.bounded (omega (arith, long, f.counted))
 
 -- the part at which the text is refused
-refused_part : (text : List ℕ) (count at : ℕ) (rest part : List ℕ) (parts : List (List ℕ)) (rule : Rule) → IsBehindRanks text count at rest → count < 512 → ranks_in rest ≡ part ∷ parts → rank_rule part ≡ Some rule → ped_rule text ≡ Some rule
+refused_part : (text : List ℕ) (count at : ℕ) (rest part : List ℕ) (parts : List (List ℕ)) (rule : Rule) → IsAfterRanks text count at rest → count < 512 → ranks_in rest ≡ part ∷ parts → rank_rule part ≡ Some rule → ped_rule text ≡ Some rule
 refused_part text count at rest part parts rule f few cut bad =
-    behind_ranks text count at (512 - count) rest f (omega (arith, few)) ∙ ap (λ t. ranks_rule t (512 - count)) cut ∙ with_room part parts (512 - count) (omega (arith, few)) ∙ ap (λ t. option_or t (ranks_rule parts (512 - count - 1))) bad
+    after_ranks text count at (512 - count) rest f (omega (arith, few)) ∙ ap (λ t. ranks_rule t (512 - count)) cut ∙ with_room part parts (512 - count) (omega (arith, few)) ∙ ap (λ t. option_or t (ranks_rule parts (512 - count - 1))) bad
 
 zeros_no_number : (ds : List ℕ) → leb (length ds) 1 ≡ false → eqb (get_or ds 0 0) 48 ≡ true → is_number ds ≡ false
 zeros_no_number ds long is_zero =
@@ -243,7 +243,7 @@ needless_zero_rule (c ∷ d ∷ ds) part zeros front =
     zero_digit : (c : ℕ) → eqb c 48 ≡ true → is_ascii_digit c ≡ true
     zero_digit c is_zero = grind (arith, nat_tests)
 
--- Digits that stand in front without a needless zero are a number.
+-- Digits that come first without a needless zero are a number.
 needed_first : (rest : List ℕ) → has_needless_zero rest ≡ false → (leb (length (take_while is_ascii_digit rest)) 1 || not (eqb (get_or (take_while is_ascii_digit rest) 0 0) 48)) ≡ true
 needed_first [] needed = refl
 needed_first (c ∷ cs) needed =
@@ -267,13 +267,13 @@ big_some (d ∷ ds) big = omega arith
 
 too_big_rule : (rest part : List ℕ) → BeginsTooBig rest → take_while is_ascii_digit part ≡ take_while is_ascii_digit rest → rank_rule part ≡ Some OutOfRange
 too_big_rule rest part b front =
-    let whole : take_while is_ascii_digit rest ≡ b.digits ++ take_while is_ascii_digit b.behind = ap (take_while is_ascii_digit) b.split ∙ front_append b.digits b.behind (all_from b.digits b.numeral) in
-    let seam : take (length b.digits) (take_while is_ascii_digit rest) ≡ b.digits = ap (take (length b.digits)) whole ∙ take-append_seam b.digits (take_while is_ascii_digit b.behind) in
+    let whole : take_while is_ascii_digit rest ≡ b.digits ++ take_while is_ascii_digit b.after = ap (take_while is_ascii_digit) b.split ∙ front_append b.digits b.after (all_from b.digits b.numeral) in
+    let seam : take (length b.digits) (take_while is_ascii_digit rest) ≡ b.digits = ap (take (length b.digits)) whole ∙ take-append_seam b.digits (take_while is_ascii_digit b.after) in
     let less : digits_value 10 (take (length b.digits) (take_while is_ascii_digit rest)) ≤ digits_value 10 (take_while is_ascii_digit rest) =
     digits_value-take-le 10 (take_while is_ascii_digit rest) (length b.digits) (omega arith)
     in
     let same = ap (digits_value 10) seam in
-    let long = ap length whole ∙ length-append b.digits (take_while is_ascii_digit b.behind) in
+    let long = ap length whole ∙ length-append b.digits (take_while is_ascii_digit b.after) in
     let some = big_some b.digits b.big in
     is_big part (take_while is_ascii_digit rest) front
     (number_from (take_while is_ascii_digit rest) (omega (arith, long, some)) (front_all rest) (needed_first rest b.needed))
@@ -283,7 +283,7 @@ lacks_stop_rule : (start at : ℕ) (rest : List ℕ) → (l : LacksStop start at
 lacks_stop_rule start at rest l =
     let ds = decimal l.rank in
     let all : all_ascii_digits ds ≡ true = rank_digits l.rank l.first.bounded in
-    let g = goes_on ds l.byte l.behind all (ne_eqb l.byte 46 l.other) in
+    let g = goes_on ds l.byte l.after all (ne_eqb l.byte 46 l.other) in
     let front : take_while is_ascii_digit (ds ++ l.byte ∷ g.more) ≡ ds = front_append ds (l.byte ∷ g.more) all ∙ ap (λ t. ds ++ t) (front_none (l.byte ∷ g.more) l.first.ended) ∙ append-nil ds in
     (ds ++ l.byte ∷ g.more, g.parts, ap ranks_in l.first.split ∙ g.cut, is_rank (ds ++ l.byte ∷ g.more) ds front false (rank_number l.rank l.first.bounded) (rank_fits l.rank l.first.bounded) (shorter (length ds) (length (ds ++ l.byte ∷ g.more)) (simp length-append (omega arith))))
   where
@@ -303,7 +303,7 @@ ped_refused text (Zeros at) rule s is =
 ped_refused text (TooBig at) rule s is =
     let h = first_part s.rest in refused_part text s.count at s.rest h.part h.parts OutOfRange s.front s.few h.cut (too_big_rule s.rest h.part s.here h.digits) ∙ is
 ped_refused text TooLong rule (at, rest, f) is =
-    let h = first_part rest in behind_ranks text 512 at 0 rest f (omega arith) ∙ ap (λ t. ranks_rule t 0) h.cut ∙ is
+    let h = first_part rest in after_ranks text 512 at 0 rest f (omega arith) ∙ ap (λ t. ranks_rule t 0) h.cut ∙ is
 ped_refused text Memory rule r is = cc
 
 text_more : (x y : ℕ) (ys : List ℕ) → ped_text (x ∷ y ∷ ys) ≡ decimal x ++ 46 ∷ ped_text (y ∷ ys)
@@ -326,6 +326,6 @@ ped_good text [] is some ranks few = absurd (omega arith)
 ped_good text (x ∷ xs) is some ranks few =
     let parts : ranks_in text ≡ map decimal (x ∷ xs) = ap ranks_in is ∙ parts_whole x xs ranks in
     let whole : map decimal (x ∷ xs) ≡ map decimal (x ∷ xs) ++ [] = sym (append-nil (map decimal (x ∷ xs))) in (
-      ap (λ t. ranks_rule t 512) (parts ∙ whole) ∙ rules_behind (x ∷ xs) [] 512 (512 - length (x ∷ xs)) ranks (omega (arith, few)),
+      ap (λ t. ranks_rule t 512) (parts ∙ whole) ∙ rules_after (x ∷ xs) [] 512 (512 - length (x ∷ xs)) ranks (omega (arith, few)),
       sym (ap (map value_of) parts ∙ values_back (x ∷ xs) ranks),
     )

@@ -70,9 +70,9 @@ module _ (words : List (List ℕ)) (k : ℕ) (n : OptionName) where
 
 pub same_name : (verb : Verb) (words : List (List ℕ)) (k len last : ℕ) (given : OptionValues) (word : List ℕ) → given ≡ option_values words k → word ≡ name_word words k → len ≡ length words → last ≡ 2 * k + 2 →
     broken_name verb words k ≡ name_rule verb given word (leb len last)
-same_name verb words k len last given word values named long behind =
+same_name verb words k len last given word values named long after =
     sym
     (ap (λ v. name_rule verb v word (leb len last)) values
     ∙ ap (λ w. name_rule verb (option_values words k) w (leb len last)) named
     ∙ ap (λ n. name_rule verb (option_values words k) (name_word words k) (leb n last)) long
-    ∙ ap (λ n. name_rule verb (option_values words k) (name_word words k) (leb (length words) n)) behind)
+    ∙ ap (λ n. name_rule verb (option_values words k) (name_word words k) (leb (length words) n)) after)

@@ -7,8 +7,8 @@ use Rattle.ped_words.specs.declared.command.Command.{Command}
 -- and whole pairs, an odd number of words.
 pub data IsReordered : List (List ℕ) → List (List ℕ) → Type 0 where
   as_it_was : {words : List (List ℕ)} → IsReordered words words
-  exchanged : (front behind : List (List ℕ)) (n v m w : List ℕ) (k : ℕ) {words : List (List ℕ)} → length front ≡ 2 * k + 1 →
-      IsReordered words (front ++ n ∷ v ∷ m ∷ w ∷ behind) → IsReordered words (front ++ m ∷ w ∷ n ∷ v ∷ behind)
+  exchanged : (front after : List (List ℕ)) (n v m w : List ℕ) (k : ℕ) {words : List (List ℕ)} → length front ≡ 2 * k + 1 →
+      IsReordered words (front ++ n ∷ v ∷ m ∷ w ∷ after) → IsReordered words (front ++ m ∷ w ∷ n ∷ v ∷ after)
 
 -- Words that give a command give it in each order of their option pairs.
 abbrev pub OrdersGiveOneCommand : Type 0

@@ -11,7 +11,7 @@ use Rattle.ped_words.specs.declared.rule.Rule.TheVariants.{BadValue, OutOfRange}
 abbrev pub ranks_in : List ℕ → List (List ℕ)
 ranks_in word = slice_split (λ c. c == 46) word
 
--- The digits in front are judged first: they are a number, and it is a rank. Then nothing else stands after them.
+-- The digits that come first are judged first: they are a number, and it is a rank. Then nothing else stands after them.
 abbrev pub rank_rule : List ℕ → Option Rule
 rank_rule part =
     let digits = take_while is_ascii_digit part in

@@ -10,7 +10,7 @@ use Rattle.ped_words.specs.declared.rule.Rule.TheVariants.{NoCommand, UnknownCom
 use Rattle.ped_words.specs.declared.rule.WordError.{WordError}
 use Rattle.ped_words.specs.declared.table.Verb.{Verb}
 
--- The words in front are judged before what all of them show together.
+-- The words before are judged before what all of them show together.
 abbrev pub reading_as : Option Verb → List (List ℕ) → Result Command WordError
 reading_as None words = Err (breaks UnknownCommand 0)
 reading_as (Some verb) words = unless (first_broken verb words) (made verb (option_values words (pairs_in words)) (length words))

@@ -11,6 +11,9 @@ use strand_machine::Memory;
 
 /// Workers with their tasks, the origins that were begun and the answers that were given. Contracts see it as the scheduling machine's
 /// core.
+///
+/// It is for who makes a schedule by hand: where main's first stop is a spawn, worker 1 can steal nothing at first (`NotLawful`), and main's
+/// rest after `Run(0)`. `stolen_rest_answers` in the tests of `worked_schedules` goes on so up to main's answer.
 #[derive(Drop)]
 pub struct Core {
     pub(crate) state: CoreState,

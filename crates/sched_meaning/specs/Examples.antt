@@ -17,13 +17,13 @@ pub record OneChild (plan : PlanView) : Type 0 where
   pub child : Origin
   pub rest : Task
   pub waiting : Task
-  pub told : List Event
+  pub own_events : List Event
   pub childs_end : Outcome
   pub out : List Event
   pub ended : Outcome
   pub spawns : IsNext (start plan (main_origin plan)) (Spawn child rest)
   pub waits : IsNext rest (Wait waiting)
-  pub child_ends : IsNext (start rest.plan child) (End told childs_end)
+  pub child_ends : IsNext (start rest.plan child) (End own_events childs_end)
   pub awaits : awaited waiting ≡ child ∷ []
   pub ends : IsNext (gone_on waiting) (End out ended)
   pub other : child ≢ main_origin plan

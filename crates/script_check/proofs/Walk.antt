@@ -1,4 +1,4 @@
-pub mod Behind
+pub mod After
 pub mod Called
 pub mod Collected
 pub mod Functioned

@@ -193,7 +193,7 @@ each_names = map variable_names
 
 -- The table that is made: one function after another, and in each one name after another
 
--- a place at an offset behind the table's end
+-- a place at an offset after the table's end
 abbrev pub with_place : List ℕ → ℕ → ℕ → List ℕ
 with_place table at place = (table ++ replicate (at - length table) 0) ++ place ∷ []
 

@@ -8,7 +8,7 @@ use script_text::{MAX_BYTES, SyntaxError, Version, parse};
 use std::alloc::{AllocError, Global};
 
 /// The longest text that is looked at: each word is tried by a parse of the text.
-const MOST_BYTES: usize = 65536;
+const LONGEST_ADVISED: usize = 65536;
 
 /// The words that stand for themselves, `scope` in version 2 alone.
 static WORDS: [&str; 41] = [
@@ -61,7 +61,7 @@ pub fn follower(alloc: Global, text: &[u8], at: usize) -> Result<Option<&'static
     requires { at ≤ length text.now }
     ensures { IfOk result (λ found. IfSome found (λ word. GoesOn text.now at word.now)) }
 {
-    if text.len() > MOST_BYTES {
+    if text.len() > LONGEST_ADVISED {
         return Ok(None);
     }
     let version = Version::of(text);

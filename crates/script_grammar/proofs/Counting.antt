@@ -21,7 +21,7 @@ use Rattle.script_grammar.specs.Grammar.{IsFactor, a_neg, a_number, a_name, an_i
 use Rattle.script_grammar.specs.Grammar.{IsMoreArgs, no_more_args, one_more_arg, IsArgs, no_args, some_args, IsCall, a_call, IsRight, right_value, right_draw, right_new, right_call, right_spawn, IsInto, no_into, an_into}
 use Rattle.script_grammar.specs.Grammar.{IsStmt, a_let, an_array, a_set, a_store, a_spawn, a_call_stmt, a_sync, a_print, an_if, a_while, a_pfor, a_scope, IsStmts, no_stmts, one_stmt, IsBlock, a_block, IsElse, no_else, an_else}
 use Rattle.script_grammar.specs.Grammar.{IsParam, int_param, id_param, IsMoreParams, no_more_params, one_more_param, IsParams, no_params, some_params, IsAnswerKind, int_answer, id_answer, IsFunction, a_function, IsFunctions, no_functions, one_function}
-use Rattle.script_grammar.specs.Fault.{is_fn, functions_begun, too_many_functions, WithinBehind}
+use Rattle.script_grammar.specs.Fault.{is_fn, functions_begun, too_many_functions, WithinAfter}
 use Rattle.script_grammar.specs.Text.{FunctionsAreFew}
 
 -- what is after a part has no more of them
@@ -200,26 +200,26 @@ is_fn_word word.Scope e = absurd (cc)
 abbrev IsFew : List Token → List Token → Type 0
 IsFew before ts = functions_begun before ≤ 1024 → functions_begun before + functions_begun ts ≤ 1024
 
-few_with : (version : Version) (is : Bool) (before : List Token) (t : Token) (ts : List Token) → is_fn t.word ≡ is → WithinBehind version before (t ∷ ts) → IsFew (before ++ t ∷ []) ts →
+few_with : (version : Version) (is : Bool) (before : List Token) (t : Token) (ts : List Token) → is_fn t.word ≡ is → WithinAfter version before (t ∷ ts) → IsFew (before ++ t ∷ []) ts →
     functions_begun before ≤ 1024 → functions_begun before + (if is then suc (functions_begun ts) else functions_begun ts) ≤ 1024
-few_with version true before t ts e w behind few =
+few_with version true before t ts e w after few =
     let one : functions_begun (t ∷ []) ≡ 1 = ap (λ is. if is then 1 else 0) e in
     let sum = begun_with before t in
     let less : functions_begun before < 1024 = lt_of_not-le (λ h. w.0 7 (too_many_functions (is_fn_word t.word e) h)) in
-    let more = behind (omega (arith, sum, one, less)) in
+    let more = after (omega (arith, sum, one, less)) in
     omega (arith, sum, one, more)
-few_with version false before t ts e w behind few =
+few_with version false before t ts e w after few =
     let none : functions_begun (t ∷ []) ≡ 0 = ap (λ is. if is then 1 else 0) e in
     let sum = begun_with before t in
-    let more = behind (omega (arith, sum, none, few)) in
+    let more = after (omega (arith, sum, none, few)) in
     omega (arith, sum, none, more)
 
-few_behind : (version : Version) (before ts : List Token) → WithinBehind version before ts → IsFew before ts
-few_behind version before [] w few = omega (arith, few)
-few_behind version before (t ∷ ts) w few = few_with version (is_fn t.word) before t ts refl w (few_behind version (before ++ t ∷ []) ts w.1) few
+few_after : (version : Version) (before ts : List Token) → WithinAfter version before ts → IsFew before ts
+few_after version before [] w few = omega (arith, few)
+few_after version before (t ∷ ts) w few = few_with version (is_fn t.word) before t ts refl w (few_after version (before ++ t ∷ []) ts w.1) few
 
 pub functions_are_few : FunctionsAreFew
 functions_are_few script is =
     let all = in_functions is.text.program.derives in
-    let few = few_behind script.version [] _ is.text.program.within (omega arith) in
+    let few = few_after script.version [] _ is.text.program.within (omega arith) in
     omega (arith, all, few)

@@ -18,8 +18,8 @@ tokens_plain bytes (l ∷ ls) e = go (is_scope l.word) e (tokens_plain bytes ls)
   where
     go : (b : Bool) → (not b && list_all (λ l. not (is_scope l.word)) ls) ≡ true → (list_all (λ l. not (is_scope l.word)) ls ≡ true → has_scope (tokens_of bytes ls) ≡ false) →
         (if b then true else has_scope (tokens_of bytes ls)) ≡ false
-    go true f behind = cc
-    go false f behind = behind f
+    go true f after = cc
+    go false f after = after f
 
 tokens_are_of : (version : Version) (bytes : List ℕ) (from : ℕ) (left : List ℕ) (ls : List Lexeme) (stop : LexEnd) → Lexes version from left ls stop → AreOf version (tokens_of bytes ls)
 tokens_are_of One bytes from left ls stop x = tokens_plain bytes ls (one_has_no_scope from left ls stop x)

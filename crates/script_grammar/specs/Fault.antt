@@ -51,18 +51,18 @@ FaultAtStop version end (NotAscii place) tokens number at = (number ≡ 1) × (a
 FaultAtStop version end (NoToken place) tokens number at = (number ≡ 2) × (at ≡ place)
 
 -- the first fault after the tokens `before`, its number and its place
-abbrev pub FaultBehind : Version → TextEnd → List Token → List Token → ℕ → ℕ → Type 0
-FaultBehind version ending before [] number at = FaultAtStop version ending.end ending.stop before number at
-FaultBehind version ending before (t ∷ ts) number at =
-    (IsFault version before t number × (at ≡ t.at)) ⊎ (((n : ℕ) → IsFault version before t n → ⊥) × FaultBehind version ending (before ++ t ∷ []) ts number at)
+abbrev pub FaultAfter : Version → TextEnd → List Token → List Token → ℕ → ℕ → Type 0
+FaultAfter version ending before [] number at = FaultAtStop version ending.end ending.stop before number at
+FaultAfter version ending before (t ∷ ts) number at =
+    (IsFault version before t number × (at ≡ t.at)) ⊎ (((n : ℕ) → IsFault version before t n → ⊥) × FaultAfter version ending (before ++ t ∷ []) ts number at)
 
 -- no token after the tokens `before` breaks a limit
-abbrev pub WithinBehind : Version → List Token → List Token → Type 0
-WithinBehind version before [] = Unit {0}
-WithinBehind version before (t ∷ ts) = ((n : ℕ) → BreaksLimit version before t n → ⊥) × WithinBehind version (before ++ t ∷ []) ts
+abbrev pub WithinAfter : Version → List Token → List Token → Type 0
+WithinAfter version before [] = Unit {0}
+WithinAfter version before (t ∷ ts) = ((n : ℕ) → BreaksLimit version before t n → ⊥) × WithinAfter version (before ++ t ∷ []) ts
 
 -- the tokens are a script of the version with these functions, within the limits
 pub record IsProgram (version : Version) (tokens : List Token) (functions : List Function) : Type 0 where
   pub of_version : AreOf version tokens
   pub derives : IsScript tokens functions
-  pub within : WithinBehind version [] tokens
+  pub within : WithinAfter version [] tokens

@@ -8,7 +8,7 @@ use Rattle.script_tokens.specs.Version.{version_of}
 use Rattle.script_tokens.specs.Lexing.{IsLexed, text_of}
 use Rattle.script_grammar.specs.declared.tree.Script.{Script}
 use Rattle.script_grammar.specs.Grammar.{Token, tok}
-use Rattle.script_grammar.specs.Fault.{FaultBehind, IsProgram}
+use Rattle.script_grammar.specs.Fault.{FaultAfter, IsProgram}
 
 -- a lexeme with its bytes
 abbrev pub token_of : List ℕ → Lexeme → Token
@@ -35,7 +35,7 @@ pub record SyntaxFault (bytes : List ℕ) (number at : ℕ) : Type 0 where
   pub lexemes : List Lexeme
   pub stop : LexEnd
   pub cut : IsLexed bytes (version_of bytes) lexemes stop
-  pub fault : FaultBehind (version_of bytes) (record { end = length bytes; stop = stop }) [] (tokens_of bytes lexemes) number at
+  pub fault : FaultAfter (version_of bytes) (record { end = length bytes; stop = stop }) [] (tokens_of bytes lexemes) number at
 
 abbrev pub FunctionsAreFew : Type 0
 FunctionsAreFew = (script : Script) → IsOfText script → length script.functions ≤ 1024

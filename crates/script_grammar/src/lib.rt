@@ -13,7 +13,7 @@ pub mod tree;
 
 pub use boxed::Boxed;
 pub use items::Items;
-pub use name_text::NameText;
+pub use name_text::{LONGEST_NAME, NameText};
 pub use script_tokens::Version;
 pub use tree::{
     Act, CallText, Comparison, Expr, Function, Kind, Name, Number, Param, ProductPart, ProductSign,

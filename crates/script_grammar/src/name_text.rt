@@ -7,10 +7,10 @@ ghost use Rattle.std.specs.Str.{bytes_eq};
 use std::marker::Model;
 
 /// How many bytes a name has at most.
-const LONGEST_NAME: usize = 32;
+pub const LONGEST_NAME: usize = 32;
 
 /// How many of them the number has by which names are told apart.
-const IN_FRONT: u8 = 8;
+const COMPARED_FIRST: u8 = 8;
 
 /// A name's bytes, in place, so that a copy takes no memory and two names are mostly compared as two numbers. Contracts see them as
 /// their list.
@@ -78,7 +78,7 @@ impl NameText {
         if front(&self.room) != front(&other.room) || self.length != other.length {
             return false;
         }
-        if self.length <= IN_FRONT {
+        if self.length <= COMPARED_FIRST {
             return true;
         }
         same_bytes(self.as_slice(), other.as_slice())

@@ -19,7 +19,7 @@ use Rattle.script_grammar.specs.declared.tree.Act.{Act, map-Act, roll-Act, fold-
 use Rattle.script_grammar.specs.declared.tree.Act.TheOpen as act_node
 use Rattle.script_grammar.specs.declared.tree.Act.TheOpen.{Act-F}
 use Rattle.script_grammar.specs.declared.tree.Act.TheVariants as act
-use Rattle.script_print.specs.Canonical.{Printed, at_precedence, operand, comparison_text, sum_sign_text, product_sign_text, spaced, expr_at, product_part_at, sum_part_at, printed, product_part_text, sum_part_text, expr_text, behind_commas, call_text, right_text, into_text, range_text, loop_call_text, Indented, block_text, else_text, act_at, line_at, act_text, stmt_text, stmts_text}
+use Rattle.script_print.specs.Canonical.{Printed, at_precedence, operand, comparison_text, sum_sign_text, product_sign_text, spaced, expr_at, product_part_at, sum_part_at, printed, product_part_text, sum_part_text, expr_text, after_commas, call_text, right_text, into_text, range_text, loop_call_text, Indented, block_text, else_text, act_at, line_at, act_text, stmt_text, stmts_text}
 
 printed-roll : (d : Expr-F Expr ProductPart SumPart) → printed (roll-Expr d) ≡ expr_at (map-Expr Expr ProductPart SumPart Printed (List ℕ) (List ℕ) printed product_part_text sum_part_text d)
 printed-roll d = fold-roll-Expr Printed (List ℕ) (List ℕ) expr_at product_part_at sum_part_at d

@@ -147,9 +147,9 @@ function_eats (a_function {a} {b} {c} {d} {e} {f} {g} {h} {t} {n} {u} {v} {w} {x
   one refl (one refl (also (params_eats p) (one refl (also (answer_eats k) (one refl (also (stmts_eats body) (one refl (also (expr_eats r) (one refl (one refl eaten)))))))))),
 )
 
-begun_behind : {ts rest : List Token} → Eats ts rest → functions_begun ts ≡ functions_begun rest
-begun_behind eaten = refl
-begun_behind (one {t = t} {ts = ts} h e) = ap (λ b. if b then suc (functions_begun ts) else functions_begun ts) h ∙ begun_behind e
+begun_after : {ts rest : List Token} → Eats ts rest → functions_begun ts ≡ functions_begun rest
+begun_after eaten = refl
+begun_after (one {t = t} {ts = ts} h e) = ap (λ b. if b then suc (functions_begun ts) else functions_begun ts) h ∙ begun_after e
 
 -- a script begins as many functions as it has
 pub functions_counted : {ts rest : List Token} {fs : List Function} → IsFunctions ts fs rest → functions_begun ts ≡ length fs + functions_begun rest
@@ -158,4 +158,4 @@ functions_counted (one_function {ts = ts} d e) =
     let h = function_eats d in
     let here : functions_begun (h.0 ∷ h.1) ≡ suc (functions_begun h.1) = ap (λ b. if b then suc (functions_begun h.1) else functions_begun h.1) h.3 in
     let all : functions_begun ts ≡ suc (functions_begun h.1) = ap functions_begun h.2 ∙ here in
-    omega (arith, all, begun_behind h.4, functions_counted e)
+    omega (arith, all, begun_after h.4, functions_counted e)

@@ -24,7 +24,7 @@ use Rattle.script_print.proofs.Computing.{printed-number, printed-variable, prin
 use Rattle.script_print.proofs.Placing.{same_item, same_number, same_variable, same_negation, same_same, same_older, same_comparison, same_sum_part, same_product_part, same_sum, same_product, cons_same}
 use Rattle.script_print.proofs.Cutting.{IsModest, starts}
 use Rattle.script_print.proofs.Forms.{Forms, Then, and_then, IsToken, a_token, IsNothing, nothing, then_, weaken, before, empty, any, anything, calm, no_arrow, calmly, symbol, word_before}
-use Rattle.script_print.proofs.Pieces.{in_each, spaced_word, word_space, minus, name_form, number_read, number_form, number_starts, name_starts, nothing_behind, nothing_in_front}
+use Rattle.script_print.proofs.Pieces.{in_each, spaced_word, word_space, minus, name_form, number_read, number_form, number_starts, name_starts, nothing_after, nothing_in_front}
 use Rattle.script_print.proofs.Eats.{Eats, eaten, one, factor_eats, term_eats, factors_eats, sum_eats, terms_eats, expr_eats}
 use Rattle.script_tokens.specs.declared.version.Version.{Version}
 
@@ -54,9 +54,9 @@ abbrev pub Sound : Version → List Token → Type 0
 Sound version [] = Unit {0}
 Sound version (t ∷ ts) = IsSound version t × Sound version ts
 
-pub sound_behind : (version : Version) {ts rest : List Token} → Eats ts rest → Sound version ts → Sound version rest
-sound_behind version eaten s = s
-sound_behind version (one h e) s = sound_behind version e s.1
+pub sound_after : (version : Version) {ts rest : List Token} → Eats ts rest → Sound version ts → Sound version rest
+sound_after version eaten s = s
+sound_after version (one h e) s = sound_after version e s.1
 
 -- The tokens derive a tree that is x apart from offsets, and with up to n open round them their nestings are within the limit.
 pub record ExprOf (x : Expr) (n : ℕ) (us ts : List Token) : Type 0 where
@@ -498,51 +498,51 @@ mutual
       let inner : Shown version (printed x) x (suc n) = expr_shown d (suc n) (low_front (expr_nesting d (suc n)) (n ∷ []) l.1) s.1 in
       record { here = lower (printed x) x n (suc n) (omega arith) inner; room = λ e. inner }
   factor_shown {version = version} (a_same {a = a} {x = x} {y = y} d e) n l s =
-      let behind = low_back (expr_nesting d (suc n)) (suc n ∷ (expr_nesting e (suc n) ++ n ∷ [])) l.1.1 in
+      let after = low_back (expr_nesting d (suc n)) (suc n ∷ (expr_nesting e (suc n) ++ n ∷ [])) l.1.1 in
       same_shown a x y n
       (expr_shown d (suc n) (low_front (expr_nesting d (suc n)) (suc n ∷ (expr_nesting e (suc n) ++ n ∷ [])) l.1.1) s.1.1)
-      (expr_shown e (suc n) (low_front (expr_nesting e (suc n)) (n ∷ []) behind.1) (sound_behind version (expr_eats d) s.1.1).1)
+      (expr_shown e (suc n) (low_front (expr_nesting e (suc n)) (n ∷ []) after.1) (sound_after version (expr_eats d) s.1.1).1)
   factor_shown {version = version} (an_older {a = a} {x = x} {y = y} d e) n l s =
-      let behind = low_back (expr_nesting d (suc n)) (suc n ∷ (expr_nesting e (suc n) ++ n ∷ [])) l.1.1 in
+      let after = low_back (expr_nesting d (suc n)) (suc n ∷ (expr_nesting e (suc n) ++ n ∷ [])) l.1.1 in
       older_shown a x y n
       (expr_shown d (suc n) (low_front (expr_nesting d (suc n)) (suc n ∷ (expr_nesting e (suc n) ++ n ∷ [])) l.1.1) s.1.1)
-      (expr_shown e (suc n) (low_front (expr_nesting e (suc n)) (n ∷ []) behind.1) (sound_behind version (expr_eats d) s.1.1).1)
+      (expr_shown e (suc n) (low_front (expr_nesting e (suc n)) (n ∷ []) after.1) (sound_after version (expr_eats d) s.1.1).1)
 
   pub term_shown : {version : Version} {ts rest : List Token} {x : Expr} (d : IsTerm ts x rest) (n : ℕ) → Low (term_nesting d n) → Sound version ts → Room version 3 x n
   term_shown (factors {x = x} d no_factors) n l s = looser 3 x n (factor_shown d n (low_front (factor_nesting d n) [] l) s)
   term_shown {version = version} (factors {x = x} d (one_factor {s = sign} {x = y} {xs = ys} k e f)) n l s =
-      let behind = low_back (factor_nesting d n) (n ∷ (factor_nesting e n ++ factors_nesting f n)) l in
-      let others = (sound_behind version (factor_eats d) s).1 in
+      let after = low_back (factor_nesting d n) (n ∷ (factor_nesting e n ++ factors_nesting f n)) l in
+      let others = (sound_after version (factor_eats d) s).1 in
       product_shown x (record { sign = sign; operand = y }) ys n
       (factor_shown d n (low_front (factor_nesting d n) (n ∷ (factor_nesting e n ++ factors_nesting f n)) l) s)
-      (factors_tail sign y ys n (factor_shown e n (low_front (factor_nesting e n) (factors_nesting f n) behind.1) others)
-      (factors_shown f n (low_back (factor_nesting e n) (factors_nesting f n) behind.1) (sound_behind version (factor_eats e) others)))
+      (factors_tail sign y ys n (factor_shown e n (low_front (factor_nesting e n) (factors_nesting f n) after.1) others)
+      (factors_shown f n (low_back (factor_nesting e n) (factors_nesting f n) after.1) (sound_after version (factor_eats e) others)))
 
   pub factors_shown : {version : Version} {ts rest : List Token} {xs : List ProductPart} (d : IsFactors ts xs rest) (n : ℕ) → Low (factors_nesting d n) → Sound version ts → Tail version (flat_map product_part_text xs) (FactorsOf xs n)
   factors_shown no_factors n l s = record { form = weaken empty (no_factors_made n); front = λ r h. h }
   factors_shown {version = version} (one_factor {s = sign} {x = y} {xs = ys} k e f) n l s =
       factors_tail sign y ys n (factor_shown e n (low_front (factor_nesting e n) (factors_nesting f n) l.1) s.1)
-      (factors_shown f n (low_back (factor_nesting e n) (factors_nesting f n) l.1) (sound_behind version (factor_eats e) s.1))
+      (factors_shown f n (low_back (factor_nesting e n) (factors_nesting f n) l.1) (sound_after version (factor_eats e) s.1))
 
   pub sum_is_shown : {version : Version} {ts rest : List Token} {x : Expr} (d : IsSum ts x rest) (n : ℕ) → Low (sum_nesting d n) → Sound version ts → Room version 2 x n
   sum_is_shown (terms {x = x} d no_terms) n l s = looser 2 x n (term_shown d n (low_front (term_nesting d n) [] l) s)
   sum_is_shown {version = version} (terms {x = x} d (one_term {s = sign} {x = y} {xs = ys} k e f)) n l s =
-      let behind = low_back (term_nesting d n) (n ∷ (term_nesting e n ++ terms_nesting f n)) l in
-      let others = (sound_behind version (term_eats d) s).1 in
+      let after = low_back (term_nesting d n) (n ∷ (term_nesting e n ++ terms_nesting f n)) l in
+      let others = (sound_after version (term_eats d) s).1 in
       sum_shown x (record { minus = sign; operand = y }) ys n
       (term_shown d n (low_front (term_nesting d n) (n ∷ (term_nesting e n ++ terms_nesting f n)) l) s)
-      (terms_tail sign y ys n (term_shown e n (low_front (term_nesting e n) (terms_nesting f n) behind.1) others)
-      (terms_shown f n (low_back (term_nesting e n) (terms_nesting f n) behind.1) (sound_behind version (term_eats e) others)))
+      (terms_tail sign y ys n (term_shown e n (low_front (term_nesting e n) (terms_nesting f n) after.1) others)
+      (terms_shown f n (low_back (term_nesting e n) (terms_nesting f n) after.1) (sound_after version (term_eats e) others)))
 
   pub terms_shown : {version : Version} {ts rest : List Token} {xs : List SumPart} (d : IsTerms ts xs rest) (n : ℕ) → Low (terms_nesting d n) → Sound version ts → Tail version (flat_map sum_part_text xs) (TermsOf xs n)
   terms_shown no_terms n l s = record { form = weaken empty (no_terms_made n); front = λ r h. h }
   terms_shown {version = version} (one_term {s = sign} {x = y} {xs = ys} k e f) n l s =
       terms_tail sign y ys n (term_shown e n (low_front (term_nesting e n) (terms_nesting f n) l.1) s.1)
-      (terms_shown f n (low_back (term_nesting e n) (terms_nesting f n) l.1) (sound_behind version (term_eats e) s.1))
+      (terms_shown f n (low_back (term_nesting e n) (terms_nesting f n) l.1) (sound_after version (term_eats e) s.1))
 
   pub expr_shown : {version : Version} {ts rest : List Token} {x : Expr} (d : IsExpr ts x rest) (n : ℕ) → Low (expr_nesting d n) → Sound version ts → Shown version (printed x) x n
   expr_shown (alone d) n l s = (sum_is_shown d n l s).here
   expr_shown {version = version} (compared {s = how} {x = x} {y = y} d k e) n l s =
       comparison_shown x how y n
       (sum_is_shown d n (low_front (sum_nesting d n) (n ∷ sum_nesting e n) l) s)
-      (sum_is_shown e n (low_back (sum_nesting d n) (n ∷ sum_nesting e n) l).1 (sound_behind version (sum_eats d) s).1)
+      (sum_is_shown e n (low_back (sum_nesting d n) (n ∷ sum_nesting e n) l).1 (sound_after version (sum_eats d) s).1)

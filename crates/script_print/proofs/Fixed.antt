@@ -24,7 +24,7 @@ use Rattle.script_grammar.specs.declared.tree.Act.TheVariants as act
 use Rattle.script_grammar.specs.declared.tree.Param.{Param}
 use Rattle.script_grammar.specs.declared.tree.Function.{Function}
 use Rattle.script_grammar.specs.declared.tree.Script.{Script}
-use Rattle.script_print.specs.Canonical.{Printed, at_precedence, operand, spaced, comparison_text, sum_sign_text, product_sign_text, printed, product_part_text, sum_part_text, expr_text, behind_commas, listed, call_text, right_text, range_text, loop_call_text, into_text, block_text, else_text, act_text, stmt_text, stmts_text, param_text, answer_kind_text, head_text, function_text, version_text, canonical}
+use Rattle.script_print.specs.Canonical.{Printed, at_precedence, operand, spaced, comparison_text, sum_sign_text, product_sign_text, printed, product_part_text, sum_part_text, expr_text, after_commas, listed, call_text, right_text, range_text, loop_call_text, into_text, block_text, else_text, act_text, stmt_text, stmts_text, param_text, answer_kind_text, head_text, function_text, version_text, canonical}
 use Rattle.script_print.specs.Unplaced.{unplaced_name, unplaced_number, unplaced_expr, unplaced_product_part, unplaced_sum_part, unplaced_call, unplaced_right, unplaced_target, unplaced_act, unplaced_stmt, unplaced_param, unplaced_function, unplaced}
 use Rattle.script_print.proofs.Computing.{printed-number, printed-variable, printed-item, printed-negation, printed-same, printed-older, printed-comparison, printed-sum, printed-product, sum_part_text-part, product_part_text-part, act_text-let, act_text-array, act_text-set, act_text-store, act_text-spawn, act_text-call, act_text-sync, act_text-print, act_text-if, act_text-while, act_text-pfor, act_text-scope, stmt_text-line, block_text-stmts}
 use Rattle.script_print.proofs.Placing.{unplaced-number, unplaced-variable, unplaced-item, unplaced-negation, unplaced-same, unplaced-older, unplaced-comparison, unplaced-sum, unplaced-product, unplaced-sum_part, unplaced-product_part, unplaced-stmt, sync_is, let_is, set_is, array_is, store_is, spawn_is, call_is, print_is, if_is, while_is, pfor_is, scope_is}
@@ -129,13 +129,13 @@ expr_text_fixed x = text_of x (expr_fixed x)
 
 -- Statements.
 
-behind_fixed : {A : Type 0} (f : A → List ℕ) (g : A → A) → ((x : A) → f (g x) ≡ f x) → (xs : List A) → behind_commas f (map g xs) ≡ behind_commas f xs
-behind_fixed f g h [] = refl
-behind_fixed f g h (x ∷ xs) = ap (λ z. codes ", " ++ z ++ behind_commas f (map g xs)) (h x) ∙ ap (λ z. codes ", " ++ f x ++ z) (behind_fixed f g h xs)
+after_fixed : {A : Type 0} (f : A → List ℕ) (g : A → A) → ((x : A) → f (g x) ≡ f x) → (xs : List A) → after_commas f (map g xs) ≡ after_commas f xs
+after_fixed f g h [] = refl
+after_fixed f g h (x ∷ xs) = ap (λ z. codes ", " ++ z ++ after_commas f (map g xs)) (h x) ∙ ap (λ z. codes ", " ++ f x ++ z) (after_fixed f g h xs)
 
 listed_fixed : {A : Type 0} (f : A → List ℕ) (g : A → A) → ((x : A) → f (g x) ≡ f x) → (xs : List A) → listed f (map g xs) ≡ listed f xs
 listed_fixed f g h [] = refl
-listed_fixed f g h (x ∷ xs) = ap (λ z. z ++ behind_commas f (map g xs)) (h x) ∙ ap (λ z. f x ++ z) (behind_fixed f g h xs)
+listed_fixed f g h (x ∷ xs) = ap (λ z. z ++ after_commas f (map g xs)) (h x) ∙ ap (λ z. f x ++ z) (after_fixed f g h xs)
 
 call_fixed : (c : CallText) → call_text (unplaced_call c) ≡ call_text c
 call_fixed c = ap (λ z. c.name.bytes ++ codes "(" ++ z ++ codes ")") (listed_fixed expr_text unplaced_expr expr_text_fixed c.args)
@@ -181,7 +181,7 @@ moved : (a : Act) {b : Act} {t u : List ℕ} (margin : List ℕ) → unplaced_ac
 moved a margin e f g h = ap (λ z. act_text z margin) e ∙ f ∙ g ∙ sym h
 
 loop_call_fixed : (i : Name) (c : CallText) → loop_call_text (unplaced_name i) (unplaced_call c) ≡ loop_call_text i c
-loop_call_fixed i c = ap (λ z. codes " call " ++ c.name.bytes ++ codes "(" ++ i.bytes ++ z ++ codes ");") (behind_fixed expr_text unplaced_expr expr_text_fixed c.args)
+loop_call_fixed i c = ap (λ z. codes " call " ++ c.name.bytes ++ codes "(" ++ i.bytes ++ z ++ codes ");") (after_fixed expr_text unplaced_expr expr_text_fixed c.args)
 
 range_fixed : (i : Name) (lo hi : Expr) → range_text (unplaced_name i) (unplaced_expr lo) (unplaced_expr hi) ≡ range_text i lo hi
 range_fixed i lo hi =

@@ -14,15 +14,15 @@ abbrev pub Relation : Type 1
 Relation = List Token → List Token → Type 0
 
 -- The bytes are cut into tokens whose last are those of what stands after, and the others are of the form.
-pub record Cut (version : Version) (D : List Token → List Token → Type 0) (at : ℕ) (bytes : List ℕ) (behind : ℕ → List Token) : Type 0 where
+pub record Cut (version : Version) (D : List Token → List Token → Type 0) (at : ℕ) (bytes : List ℕ) (after : ℕ → List Token) : Type 0 where
   pub tokens : List Token
   pub spells : Spells version at bytes tokens
   pub end : ℕ
-  pub form : D tokens (behind end)
+  pub form : D tokens (after end)
 
 -- Wherever the text stands, and whatever stands after it that begins with a byte that passes, it is of the form.
 pub record Forms (version : Version) (text : List ℕ) (passes : ℕ → Bool) (D : List Token → List Token → Type 0) : Type 0 where
-  pub cut : (rest : List ℕ) (behind : ℕ → List Token) → starts passes rest ≡ true → ((at : ℕ) → Spells version at rest (behind at)) → (at : ℕ) → Cut version D at (text ++ rest) behind
+  pub cut : (rest : List ℕ) (after : ℕ → List Token) → starts passes rest ≡ true → ((at : ℕ) → Spells version at rest (after at)) → (at : ℕ) → Cut version D at (text ++ rest) after
 
 -- one form and then another
 pub data Then (D E : List Token → List Token → Type 0) : List Token → List Token → Type 0 where
@@ -39,9 +39,9 @@ pub data IsNothing : List Token → List Token → Type 0 where
 pub then_ : {version : Version} {t u : List ℕ} {f g : ℕ → Bool} {D E : List Token → List Token → Type 0} → Forms version t f D → Forms version u g E →
     ((rest : List ℕ) → starts g rest ≡ true → starts f (u ++ rest) ≡ true) → Forms version (t ++ u) g (Then D E)
 then_ {version = version} {t = t} {u = u} a b ok = record {
-  cut = λ rest behind s spells at.
-      let first = a.cut (u ++ rest) (λ n. (b.cut rest behind s spells n).tokens) (ok rest s) (λ n. (b.cut rest behind s spells n).spells) at in
-      let second = b.cut rest behind s spells first.end in
+  cut = λ rest after s spells at.
+      let first = a.cut (u ++ rest) (λ n. (b.cut rest after s spells n).tokens) (ok rest s) (λ n. (b.cut rest after s spells n).spells) at in
+      let second = b.cut rest after s spells first.end in
       record {
         tokens = first.tokens;
         spells = subst (λ z. Spells version at z first.tokens) (sym (append_assoc t u rest)) first.spells;
@@ -52,17 +52,17 @@ then_ {version = version} {t = t} {u = u} a b ok = record {
 
 pub weaken : {version : Version} {t : List ℕ} {f : ℕ → Bool} {D E : List Token → List Token → Type 0} → Forms version t f D → ((us ts : List Token) → D us ts → E us ts) → Forms version t f E
 weaken a h = record {
-  cut = λ rest behind s spells at.
-      let c = a.cut rest behind s spells at in
-      record { tokens = c.tokens; spells = c.spells; end = c.end; form = h c.tokens (behind c.end) c.form };
+  cut = λ rest after s spells at.
+      let c = a.cut rest after s spells at in
+      record { tokens = c.tokens; spells = c.spells; end = c.end; form = h c.tokens (after c.end) c.form };
 }
 
 -- fewer bytes may stand after
 pub before : {version : Version} {t : List ℕ} {f : ℕ → Bool} {D : List Token → List Token → Type 0} (g : ℕ → Bool) → Forms version t f D → ((rest : List ℕ) → starts g rest ≡ true → starts f rest ≡ true) → Forms version t g D
-before g a h = record { cut = λ rest behind s spells at. a.cut rest behind (h rest s) spells at }
+before g a h = record { cut = λ rest after s spells at. a.cut rest after (h rest s) spells at }
 
 pub empty : {version : Version} {f : ℕ → Bool} → Forms version [] f IsNothing
-empty = record { cut = λ rest behind s spells at. record { tokens = behind at; spells = spells at; end = at; form = nothing } }
+empty = record { cut = λ rest after s spells at. record { tokens = after at; spells = spells at; end = at; form = nothing } }
 
 -- any byte may stand after
 abbrev pub any : ℕ → Bool
@@ -85,15 +85,15 @@ calmly a = before calm a (λ rest s. anything rest)
 
 pub a_blank : {version : Version} (b : ℕ) → is_blank b ≡ true → Forms version (b ∷ []) any IsNothing
 a_blank b h = record {
-  cut = λ rest behind s spells at. record { tokens = behind (suc at); spells = spells_blank at b rest (behind (suc at)) h (spells (suc at)); end = suc at; form = nothing };
+  cut = λ rest after s spells at. record { tokens = after (suc at); spells = spells_blank at b rest (after (suc at)) h (spells (suc at)); end = suc at; form = nothing };
 }
 
 pub token_before : {version : Version} (w : Word) (text : List ℕ) (f : ℕ → Bool) → word_of version text ≡ Some w → ((b : ℕ) → f b ≡ true → word_of version (text ++ b ∷ []) ≡ None) →
     ((at : ℕ) → IsModest (tok at w text)) → Forms version text f (IsToken w text)
 token_before w text f e none modest = record {
-  cut = λ rest behind s spells at. record {
-    tokens = tok at w text ∷ behind (at + length text);
-    spells = spells_token at w text rest (behind (at + length text)) (longest_by w text f e none rest s) (modest at) (spells (at + length text));
+  cut = λ rest after s spells at. record {
+    tokens = tok at w text ∷ after (at + length text);
+    spells = spells_token at w text rest (after (at + length text)) (longest_by w text f e none rest s) (modest at) (spells (at + length text));
     end = at + length text;
     form = a_token;
   };

@@ -11,14 +11,14 @@ use Rattle.script_grammar.specs.declared.tree.Param.{Param}
 use Rattle.script_grammar.specs.declared.tree.Function.{Function}
 use Rattle.script_grammar.specs.Grammar.{Token, tok, name_at, IsExpr, IsStmts, IsParam, int_param, id_param, IsMoreParams, no_more_params, one_more_param, IsParams, no_params, some_params, IsAnswerKind, int_answer, id_answer, IsFunction, a_function, IsFunctions, no_functions, one_function}
 use Rattle.script_grammar.specs.Nesting.{expr_nesting, stmts_nesting, param_nesting, more_params_nesting, params_nesting, answer_nesting, function_nesting, functions_nesting}
-use Rattle.script_print.specs.Canonical.{expr_text, behind_commas, listed, stmts_text, param_text, answer_kind_text, head_text, function_text}
+use Rattle.script_print.specs.Canonical.{expr_text, after_commas, listed, stmts_text, param_text, answer_kind_text, head_text, function_text}
 use Rattle.script_print.specs.Unplaced.{unplaced_name, unplaced_expr, unplaced_stmt, unplaced_param, unplaced_function}
 use Rattle.script_print.proofs.Placing.{cons_same}
 use Rattle.script_print.proofs.Cutting.{starts}
 use Rattle.script_print.proofs.Forms.{Forms, Then, and_then, IsToken, a_token, IsNothing, nothing, then_, weaken, empty, any, anything, calm, calmly, symbol, a_blank}
-use Rattle.script_print.proofs.Pieces.{in_each, spaced_word, word_space, keyword, name_form, nothing_behind, nothing_in_front}
+use Rattle.script_print.proofs.Pieces.{in_each, spaced_word, word_space, keyword, name_form, nothing_after, nothing_in_front}
 use Rattle.script_print.proofs.Eats.{Eats, also, one, expr_eats, stmts_eats, param_eats, more_params_eats, params_eats, answer_eats, function_eats}
-use Rattle.script_print.proofs.Expressions.{Low, low_append, low_front, low_back, IsSound, Sound, sound_behind, ExprOf, Tail, opened, closed, comma, expr_shown}
+use Rattle.script_print.proofs.Expressions.{Low, low_append, low_front, low_back, IsSound, Sound, sound_after, ExprOf, Tail, opened, closed, comma, expr_shown}
 use Rattle.script_print.proofs.Statements.{StmtsOf, semicolon, open_block, close_block, two_spaces, stmts_shown}
 use Rattle.script_tokens.specs.declared.version.Version.{Version}
 
@@ -70,11 +70,11 @@ more_params_made x xs n h us ts (and_then (and_then a_token d) e) =
       low = (h, low_append (param_nesting d.derived n) (more_params_nesting e.derived n) d.low e.low);
     }
 
-more_params_shown : {version : Version} {ts rest : List Token} {xs : List Param} (d : IsMoreParams ts xs rest) (n : ℕ) → Low (more_params_nesting d n) → Sound version ts → Tail version (behind_commas param_text xs) (MoreParamsOf xs n)
+more_params_shown : {version : Version} {ts rest : List Token} {xs : List Param} (d : IsMoreParams ts xs rest) (n : ℕ) → Low (more_params_nesting d n) → Sound version ts → Tail version (after_commas param_text xs) (MoreParamsOf xs n)
 more_params_shown no_more_params n l s = record { form = weaken empty (no_more_params_made n); front = λ r h. h }
 more_params_shown {version = version} (one_more_param {x = x} {xs = xs} d e) n l s =
     let first = param_shown d n (low_front (param_nesting d n) (more_params_nesting e n) l.1) s.1 in
-    let others = more_params_shown e n (low_back (param_nesting d n) (more_params_nesting e n) l.1) (sound_behind version (param_eats d) s.1) in
+    let others = more_params_shown e n (low_back (param_nesting d n) (more_params_nesting e n) l.1) (sound_after version (param_eats d) s.1) in
     record {
       form = weaken (then_ (then_ comma first (λ r h. anything (param_text x ++ r))) others.form others.front) (more_params_made x xs n l.0);
       front = λ r h. refl;
@@ -96,7 +96,7 @@ params_shown : {version : Version} {ts rest : List Token} {xs : List Param} (d :
 params_shown no_params n l s = weaken empty (no_params_made n)
 params_shown {version = version} (some_params {x = x} {xs = xs} d e) n l s =
     let first = param_shown d n (low_front (param_nesting d n) (more_params_nesting e n) l) s in
-    let others = more_params_shown e n (low_back (param_nesting d n) (more_params_nesting e n) l) (sound_behind version (param_eats d) s) in
+    let others = more_params_shown e n (low_back (param_nesting d n) (more_params_nesting e n) l) (sound_after version (param_eats d) s) in
     weaken (then_ first others.form others.front) (params_made x xs n)
 
 int_answer_made : (n : ℕ) (us ts : List Token) → IsNothing us ts → AnswerOf Int n us ts
@@ -181,22 +181,22 @@ return_word {version = version} = weaken (then_ two_spaces (word_space word.Retu
 
 end_form : {version : Version} → Forms version (codes ";\n}\n") any EndOf
 end_form =
-    then_ (weaken (then_ semicolon (a_blank 10 refl) (λ r h. refl)) nothing_behind) (weaken (then_ close_block (a_blank 10 refl) (λ r h. refl)) nothing_behind) (λ r h. refl)
+    then_ (weaken (then_ semicolon (a_blank 10 refl) (λ r h. refl)) nothing_after) (weaken (then_ close_block (a_blank 10 refl) (λ r h. refl)) nothing_after) (λ r h. refl)
 
 pub function_shown : {version : Version} {ts rest : List Token} {f : Function} (d : IsFunction ts f rest) (n : ℕ) → Low (function_nesting d n) → Sound version ts → Forms version (function_text f) any (FunctionOf f n)
 function_shown {version = version} (a_function {b = b} {f = at} {n = t} {ps = ps} {k = k} {body = body} {r = x} p q d e) n l s =
-    let behind_params = low_back (params_nesting p (suc n)) _ l.1.1.1 in
-    let behind_answer = low_back (answer_nesting q n) _ behind_params.1 in
-    let behind_body = low_back (stmts_nesting d (suc n)) _ behind_answer.1 in
+    let after_params = low_back (params_nesting p (suc n)) _ l.1.1.1 in
+    let after_answer = low_back (answer_nesting q n) _ after_params.1 in
+    let after_body = low_back (stmts_nesting d (suc n)) _ after_answer.1 in
     let at_params = s.1.1.1 in
-    let at_answer = (sound_behind version (params_eats p) at_params).1 in
-    let at_body = (sound_behind version (answer_eats q) at_answer).1 in
-    let at_result = (sound_behind version (stmts_eats d) at_body).1 in
+    let at_answer = (sound_after version (params_eats p) at_params).1 in
+    let at_body = (sound_after version (answer_eats q) at_answer).1 in
+    let at_result = (sound_after version (stmts_eats d) at_body).1 in
     let name = name_form t s.1.0.word_is (s.1.0.modest.name refl) in
     let params = params_shown p (suc n) (low_front (params_nesting p (suc n)) _ l.1.1.1) at_params in
-    let answer = answer_shown q n (low_front (answer_nesting q n) _ behind_params.1) in
-    let stmts = stmts_shown d (suc n) (low_front (stmts_nesting d (suc n)) _ behind_answer.1) at_body (codes "  ") two_spaces in
-    let result = expr_shown e (suc n) (low_front (expr_nesting e (suc n)) _ behind_body.1) at_result in
+    let answer = answer_shown q n (low_front (answer_nesting q n) _ after_params.1) in
+    let stmts = stmts_shown d (suc n) (low_front (stmts_nesting d (suc n)) _ after_answer.1) at_body (codes "  ") two_spaces in
+    let result = expr_shown e (suc n) (low_front (expr_nesting e (suc n)) _ after_body.1) at_result in
     weaken (then_ (then_ (then_ (then_ (head_form t ps k n name params answer) stmts (λ r h. anything (stmts_text body (codes "  ") ++ r))) return_word (λ r h. anything (codes "  return " ++ r)))
     result.expr (λ r h. anything (expr_text x ++ r))) end_form (λ r h. refl))
     (function_made b at t ps k body x n l.0 l.1.1.0)
@@ -214,7 +214,7 @@ functions_made x xs n us ts (and_then d e) =
     }
 
 function_sound : (version : Version) {ts rest : List Token} {f : Function} → IsFunction ts f rest → Sound version ts → Sound version rest
-function_sound version (a_function p q d e) s = (sound_behind version (expr_eats e) (sound_behind version (stmts_eats d) (sound_behind version (answer_eats q) (sound_behind version (params_eats p) s.1.1.1).1).1).1).1.1
+function_sound version (a_function p q d e) s = (sound_after version (expr_eats e) (sound_after version (stmts_eats d) (sound_after version (answer_eats q) (sound_after version (params_eats p) s.1.1.1).1).1).1).1.1
 
 pub functions_shown : {version : Version} {ts rest : List Token} {fs : List Function} (d : IsFunctions ts fs rest) (n : ℕ) → Low (functions_nesting d n) → Sound version ts → Forms version (flat_map function_text fs) any (FunctionsOf fs n)
 functions_shown no_functions n l s = weaken empty (no_functions_made n)

@@ -19,8 +19,8 @@ use Rattle.script_print.proofs.Forms.{Forms, Then, and_then, IsToken, IsNothing,
 use Rattle.script_tokens.specs.declared.version.Version.{Version}
 use Rattle.script_tokens.specs.declared.version.Version.TheVariants.{One, Two}
 
-pub nothing_behind : {D : List Token → List Token → Type 0} (us ts : List Token) → Then D IsNothing us ts → D us ts
-nothing_behind us ts (and_then d nothing) = d
+pub nothing_after : {D : List Token → List Token → Type 0} (us ts : List Token) → Then D IsNothing us ts → D us ts
+nothing_after us ts (and_then d nothing) = d
 
 pub nothing_in_front : {D : List Token → List Token → Type 0} (us ts : List Token) → Then IsNothing D us ts → D us ts
 nothing_in_front us ts (and_then nothing d) = d
@@ -32,11 +32,11 @@ in_each Two w text e f = f
 
 -- a word and a space
 pub word_space : {version : Version} (w : Word) (text : List ℕ) → is_fixed w ≡ true → word_of version text ≡ Some w → word_of version (text ++ 32 ∷ []) ≡ None → Forms version (text ++ 32 ∷ []) any (IsToken w text)
-word_space w text h e none = weaken (then_ (word_before 32 w text h e none) (a_blank 32 refl) (λ r s. refl)) nothing_behind
+word_space w text h e none = weaken (then_ (word_before 32 w text h e none) (a_blank 32 refl) (λ r s. refl)) nothing_after
 
 -- a space, a word, and a space
 pub spaced_word : {version : Version} (w : Word) (text : List ℕ) → is_fixed w ≡ true → word_of version text ≡ Some w → word_of version (text ++ 32 ∷ []) ≡ None → Forms version ((32 ∷ []) ++ text ++ (32 ∷ [])) any (IsToken w text)
-spaced_word w text h e none = weaken (then_ (weaken (then_ (a_blank 32 refl) (word_before 32 w text h e none) (λ r s. anything (text ++ r))) nothing_in_front) (a_blank 32 refl) (λ r s. refl)) nothing_behind
+spaced_word w text h e none = weaken (then_ (weaken (then_ (a_blank 32 refl) (word_before 32 w text h e none) (λ r s. anything (text ++ r))) nothing_in_front) (a_blank 32 refl) (λ r s. refl)) nothing_after
 
 -- Minuses.
 
@@ -58,9 +58,9 @@ spelled_fixed (s ∷ ss) text w h e = go (bytes_eq s.0 text) (is_fixed s.1) refl
   where
     go : (same fixed : Bool) → is_fixed s.1 ≡ fixed → (fixed && list_all (λ s. is_fixed s.1) ss) ≡ true → (if same then Some s.1 else word_spelled ss text) ≡ Some w →
         (list_all (λ s. is_fixed s.1) ss ≡ true → word_spelled ss text ≡ Some w → is_fixed w ≡ true) → is_fixed w ≡ true
-    go true true f h e behind = let same : s.1 ≡ w = cc in ap is_fixed (sym same) ∙ f
-    go false true f h e behind = behind h e
-    go same false f h e behind = absurd cc
+    go true true f h e after = let same : s.1 ≡ w = cc in ap is_fixed (sym same) ∙ f
+    go false true f h e after = after h e
+    go same false f h e after = absurd cc
 
 pub name_is : (version : Version) (text : List ℕ) → word_of version text ≡ Some word.Name → is_name text ≡ true
 name_is version text e = go (is_name text) (is_number text) e

@@ -69,9 +69,9 @@ abbrev pub before_closer : List (ℕ × ℕ) → ℕ
 before_closer [] = 0
 before_closer (p ∷ o) = p.0
 
-abbrev pub behind_closer : List (ℕ × ℕ) → ScanState
-behind_closer [] = at done 0 0 []
-behind_closer (p ∷ o) = at done p.1 p.1 o
+abbrev pub after_closer : List (ℕ × ℕ) → ScanState
+after_closer [] = at done 0 0 []
+after_closer (p ∷ o) = at done p.1 p.1 o
 
 abbrev pub minus_nested : Mode → ℕ → ℕ → ℕ
 minus_nested due m b = suc m
@@ -93,7 +93,7 @@ abbrev pub step : Effect → ScanState → ScanState
 step opens s = at due (suc (settled s.mode s.depth s.inside)) (suc (settled s.mode s.depth s.inside)) ((settled s.mode s.depth s.inside, s.inside) ∷ s.outer)
 step opens_item s = at due (suc s.depth) (suc s.depth) ((s.depth, s.inside) ∷ s.outer)
 step opens_block s = at done (suc (settled s.mode s.depth s.inside)) (suc (settled s.mode s.depth s.inside)) ((settled s.mode s.depth s.inside, s.inside) ∷ s.outer)
-step closes s = behind_closer s.outer
+step closes s = after_closer s.outer
 step negates s = at due (minus_nested s.mode s.depth s.inside) s.inside s.outer
 step names s = at named (settled s.mode s.depth s.inside) s.inside s.outer
 step ends s = at done s.inside s.inside s.outer

@@ -16,15 +16,15 @@ use Rattle.script_grammar.specs.declared.tree.Act.{Act}
 use Rattle.script_grammar.specs.declared.tree.Act.TheVariants as act
 use Rattle.script_grammar.specs.Grammar.{Token, tok, name_at, number_at, decimal, stmt_at, IsExpr, IsMoreArgs, no_more_args, one_more_arg, IsArgs, no_args, some_args, IsCall, a_call, IsRight, right_value, right_draw, right_new, right_call, right_spawn, IsInto, no_into, an_into, IsStmt, a_let, an_array, a_set, a_store, a_spawn, a_call_stmt, a_sync, a_print, an_if, a_while, a_pfor, a_scope, IsStmts, no_stmts, one_stmt, IsBlock, a_block, IsElse, no_else, an_else}
 use Rattle.script_grammar.specs.Nesting.{expr_nesting, more_args_nesting, args_nesting, call_nesting, right_nesting, into_nesting, stmt_nesting, stmts_nesting, block_nesting, else_nesting}
-use Rattle.script_print.specs.Canonical.{Printed, printed, expr_text, behind_commas, listed, call_text, right_text, range_text, loop_call_text, into_text, block_text, else_text, act_text, stmt_text, stmts_text}
+use Rattle.script_print.specs.Canonical.{Printed, printed, expr_text, after_commas, listed, call_text, right_text, range_text, loop_call_text, into_text, block_text, else_text, act_text, stmt_text, stmts_text}
 use Rattle.script_print.specs.Unplaced.{unplaced_name, unplaced_number, unplaced_expr, unplaced_call, unplaced_right, unplaced_target, unplaced_act, unplaced_stmt}
 use Rattle.script_print.proofs.Computing.{act_text-let, act_text-array, act_text-set, act_text-store, act_text-spawn, act_text-call, act_text-sync, act_text-print, act_text-if, act_text-while, act_text-pfor, act_text-scope, stmt_text-line, block_text-stmts}
 use Rattle.script_print.proofs.Placing.{cons_same, same_stmt, same_let, same_set, same_array, same_store, same_spawn, same_call, same_print, same_if, same_while, same_pfor, same_scope}
 use Rattle.script_print.proofs.Cutting.{IsModest, starts}
 use Rattle.script_print.proofs.Forms.{Forms, Then, and_then, IsToken, a_token, IsNothing, nothing, then_, weaken, before, empty, any, anything, calm, calmly, symbol, word_before, a_blank}
-use Rattle.script_print.proofs.Pieces.{in_each, spaced_word, word_space, keyword, name_form, number_read, number_form, nothing_behind, nothing_in_front}
+use Rattle.script_print.proofs.Pieces.{in_each, spaced_word, word_space, keyword, name_form, number_read, number_form, nothing_after, nothing_in_front}
 use Rattle.script_print.proofs.Eats.{expr_eats, more_args_eats, args_eats, call_eats, right_eats, into_eats, stmt_eats, stmts_eats, block_eats}
-use Rattle.script_print.proofs.Expressions.{Low, low_append, low_front, low_back, IsSound, Sound, sound_behind, ExprOf, Shown, Tail, opened, closed, comma, open_item, close_item, expr_shown}
+use Rattle.script_print.proofs.Expressions.{Low, low_append, low_front, low_back, IsSound, Sound, sound_after, ExprOf, Shown, Tail, opened, closed, comma, open_item, close_item, expr_shown}
 use Rattle.script_tokens.specs.declared.version.Version.{Version}
 use Rattle.script_tokens.specs.declared.version.Version.TheVariants.{One, Two}
 use Rattle.script_tokens.proofs.Versions.{token_other}
@@ -61,11 +61,11 @@ more_args_made x xs n h us ts (and_then (and_then a_token d) e) =
       low = (h, low_append (expr_nesting d.derived n) (more_args_nesting e.derived n) (d.low n (omega arith)) e.low);
     }
 
-pub more_args_shown : {version : Version} {ts rest : List Token} {xs : List Expr} (d : IsMoreArgs ts xs rest) (n : ℕ) → Low (more_args_nesting d n) → Sound version ts → Tail version (behind_commas expr_text xs) (MoreArgsOf xs n)
+pub more_args_shown : {version : Version} {ts rest : List Token} {xs : List Expr} (d : IsMoreArgs ts xs rest) (n : ℕ) → Low (more_args_nesting d n) → Sound version ts → Tail version (after_commas expr_text xs) (MoreArgsOf xs n)
 more_args_shown no_more_args n l s = record { form = weaken empty (no_more_args_made n); front = λ r h. h }
 more_args_shown {version = version} (one_more_arg {x = x} {xs = xs} d e) n l s =
     let first = expr_shown d n (low_front (expr_nesting d n) (more_args_nesting e n) l.1) s.1 in
-    let others = more_args_shown e n (low_back (expr_nesting d n) (more_args_nesting e n) l.1) (sound_behind version (expr_eats d) s.1) in
+    let others = more_args_shown e n (low_back (expr_nesting d n) (more_args_nesting e n) l.1) (sound_after version (expr_eats d) s.1) in
     record {
       form = weaken (then_ (then_ comma first.expr (λ r h. anything (expr_text x ++ r))) others.form others.front) (more_args_made x xs n l.0);
       front = λ r h. refl;
@@ -87,7 +87,7 @@ args_shown : {version : Version} {ts rest : List Token} {xs : List Expr} (d : Is
 args_shown no_args n l s = weaken empty (no_args_made n)
 args_shown {version = version} (some_args {x = x} {xs = xs} d e) n l s =
     let first = expr_shown d n (low_front (expr_nesting d n) (more_args_nesting e n) l) s in
-    let others = more_args_shown e n (low_back (expr_nesting d n) (more_args_nesting e n) l) (sound_behind version (expr_eats d) s) in
+    let others = more_args_shown e n (low_back (expr_nesting d n) (more_args_nesting e n) l) (sound_after version (expr_eats d) s) in
     weaken (then_ first.expr others.form others.front) (args_made x xs n)
 
 call_made : (a : ℕ) (t : List ℕ) (xs : List Expr) (n : ℕ) → n ≤ 64 → suc n ≤ 64 → (us ts : List Token) →
@@ -330,7 +330,7 @@ pfor_made : (a b c : ℕ) (t f : List ℕ) (x y : Expr) (o : Option Name) (xs : 
 pfor_made a b c t f x y o xs n h k us ts
     (and_then (and_then (and_then (and_then (and_then (and_then (and_then (a_token {a = i}) (a_token {a = j})) a_token) d) a_token) e) g)
     (and_then (and_then (and_then (and_then (and_then a_token (a_token {a = m})) a_token) a_token) p) (and_then a_token a_token))) =
-    let behind : Low (n ∷ n ∷ suc n ∷ suc n ∷ (more_args_nesting p.derived (suc n) ++ n ∷ n ∷ [])) =
+    let after : Low (n ∷ n ∷ suc n ∷ suc n ∷ (more_args_nesting p.derived (suc n) ++ n ∷ n ∷ [])) =
     (h, (h, (k, (k, low_append (more_args_nesting p.derived (suc n)) (n ∷ n ∷ []) p.low (h, (h, tt)))))) in
     record {
       tree = stmt_at i (act.Pfor (name_at j t) d.tree e.tree g.tree (record { name = name_at m f; args = p.tree }));
@@ -344,23 +344,23 @@ pfor_made a b c t f x y o xs n h k us ts
           (
             h,
             low_append (expr_nesting d.derived n) _ (d.low n (omega arith))
-                (h, low_append (expr_nesting e.derived n) _ (e.low n (omega arith)) (low_append (into_nesting g.derived n) _ g.low behind)),
+                (h, low_append (expr_nesting e.derived n) _ (e.low n (omega arith)) (low_append (into_nesting g.derived n) _ g.low after)),
           ),
         ),
       );
     }
 
 pub open_block : {version : Version} → Forms version (codes "{\n") any (IsToken word.OpenBlock (codes "{"))
-open_block = weaken (then_ (symbol word.OpenBlock (codes "{") refl refl (λ b. refl)) (a_blank 10 refl) (λ r h. refl)) nothing_behind
+open_block = weaken (then_ (symbol word.OpenBlock (codes "{") refl refl (λ b. refl)) (a_blank 10 refl) (λ r h. refl)) nothing_after
 
 pub close_block : {version : Version} → Forms version (codes "}") any (IsToken word.CloseBlock (codes "}"))
 close_block = symbol word.CloseBlock (codes "}") refl refl (λ b. refl)
 
-pub blanks_behind : (us ts : List Token) → Then IsNothing IsNothing us ts → IsNothing us ts
-blanks_behind us ts (and_then nothing nothing) = nothing
+pub blanks_after : (us ts : List Token) → Then IsNothing IsNothing us ts → IsNothing us ts
+blanks_after us ts (and_then nothing nothing) = nothing
 
 pub two_spaces : {version : Version} → Forms version (codes "  ") any IsNothing
-two_spaces = weaken (then_ (a_blank 32 refl) (a_blank 32 refl) (λ r h. refl)) blanks_behind
+two_spaces = weaken (then_ (a_blank 32 refl) (a_blank 32 refl) (λ r h. refl)) blanks_after
 
 line_made : (x : Stmt) (n : ℕ) (us ts : List Token) → Then (Then IsNothing (StmtOf x n)) IsNothing us ts → StmtOf x n us ts
 line_made x n us ts (and_then (and_then nothing d) nothing) = d
@@ -413,8 +413,8 @@ range_form {version = version} t x y n name d e =
     then_ (then_ (then_ (then_ (then_ (word_space word.Pfor (codes "pfor") refl (in_each version word.Pfor (codes "pfor") refl refl) refl) name (λ r h. anything (t ++ r))) (spaced_word word.In (codes "in") refl (in_each version word.In (codes "in") refl refl) refl) (λ r h. refl))
     d.expr (λ r h. anything (expr_text x ++ r))) (symbol word.Range (codes "..") refl refl (λ b. refl)) (λ r h. refl)) e.expr (λ r h. anything (expr_text y ++ r))
 
-loop_call_form : {version : Version} (t f : List ℕ) (xs : List Expr) (n : ℕ) → Forms version t calm (IsToken word.Name t) → Forms version f calm (IsToken word.Name f) → Tail version (behind_commas expr_text xs) (MoreArgsOf xs (suc n)) →
-    Forms version (codes " call " ++ f ++ codes "(" ++ t ++ behind_commas expr_text xs ++ codes ");") any (LoopCallOf t f xs n)
+loop_call_form : {version : Version} (t f : List ℕ) (xs : List Expr) (n : ℕ) → Forms version t calm (IsToken word.Name t) → Forms version f calm (IsToken word.Name f) → Tail version (after_commas expr_text xs) (MoreArgsOf xs (suc n)) →
+    Forms version (codes " call " ++ f ++ codes "(" ++ t ++ after_commas expr_text xs ++ codes ");") any (LoopCallOf t f xs n)
 loop_call_form {version = version} t f xs n name called args =
     then_ (then_ (then_ (then_ (then_ (spaced_word word.Call (codes "call") refl (in_each version word.Call (codes "call") refl refl) refl) called (λ r h. anything (f ++ r))) opened (λ r h. refl)) name (λ r h. anything (t ++ r)))
     args.form args.front) (then_ closed semicolon (λ r h. refl)) (λ r h. refl)
@@ -440,9 +440,9 @@ mutual
       (weaken (then_ (then_ (then_ (name_form t s.0.word_is (s.0.modest.name refl)) assign (λ q h. refl)) value (λ q h. anything (right_text r ++ q))) semicolon (λ q h. refl))
       (set_made a t r n l.0))
   stmt_shown {version = version} (a_store {a = a} {t = t} {x = x} {y = y} d e) n l s margin m =
-      let behind = low_back (expr_nesting d (suc n)) (n ∷ n ∷ (expr_nesting e n ++ n ∷ [])) l.1.1 in
+      let after = low_back (expr_nesting d (suc n)) (n ∷ n ∷ (expr_nesting e n ++ n ∷ [])) l.1.1 in
       let index = expr_shown d (suc n) (low_front (expr_nesting d (suc n)) (n ∷ n ∷ (expr_nesting e n ++ n ∷ [])) l.1.1) s.1.1 in
-      let value = expr_shown e n (low_front (expr_nesting e n) (n ∷ []) behind.1.1) (sound_behind version (expr_eats d) s.1.1).1.1 in
+      let value = expr_shown e n (low_front (expr_nesting e n) (n ∷ []) after.1.1) (sound_after version (expr_eats d) s.1.1).1.1 in
       lined a (act.Store (name_at a t) x y) n margin _ m (act_text-store (name_at a t) x y margin)
       (weaken (then_ (then_ (then_ (then_ (then_ (name_form t s.0.word_is (s.0.modest.name refl)) open_item (λ q h. refl)) index.expr (λ q h. anything (expr_text x ++ q)))
       (then_ close_item assign (λ q h. refl)) (λ q h. refl)) value.expr (λ q h. anything (expr_text y ++ q))) semicolon (λ q h. refl))
@@ -463,18 +463,18 @@ mutual
       lined a (act.Print x) n margin _ m (act_text-print x margin)
       (weaken (then_ (then_ (word_space word.Print (codes "print") refl (in_each version word.Print (codes "print") refl refl) refl) value.expr (λ q h. anything (expr_text x ++ q))) semicolon (λ q h. refl)) (print_made a x n l.0))
   stmt_shown {version = version} (an_if {a = a} {x = x} {p = p} {q = q} d e f) n l s margin m =
-      let behind = low_back (expr_nesting d n) (block_nesting e n ++ else_nesting f n) l.1 in
+      let after = low_back (expr_nesting d n) (block_nesting e n ++ else_nesting f n) l.1 in
       let guard = expr_shown d n (low_front (expr_nesting d n) (block_nesting e n ++ else_nesting f n) l.1) s.1 in
-      let in_block = sound_behind version (expr_eats d) s.1 in
-      let block = block_shown e n (low_front (block_nesting e n) (else_nesting f n) behind) in_block margin m in
-      let otherwise = else_shown f n (low_back (block_nesting e n) (else_nesting f n) behind) (sound_behind version (block_eats e) in_block) margin m in
+      let in_block = sound_after version (expr_eats d) s.1 in
+      let block = block_shown e n (low_front (block_nesting e n) (else_nesting f n) after) in_block margin m in
+      let otherwise = else_shown f n (low_back (block_nesting e n) (else_nesting f n) after) (sound_after version (block_eats e) in_block) margin m in
       lined a (act.If x p q) n margin _ m (act_text-if x p q margin)
       (weaken (then_ (then_ (then_ (then_ (word_space word.If (codes "if") refl (in_each version word.If (codes "if") refl refl) refl) guard.expr (λ r h. anything (expr_text x ++ r))) (a_blank 32 refl) (λ r h. refl))
       block (λ r h. anything (block_text (map stmt_text p) margin ++ r))) otherwise (λ r h. anything (else_text (map stmt_text q) margin ++ r)))
       (if_made a x p q n l.0))
   stmt_shown {version = version} (a_while {a = a} {x = x} {p = p} d e) n l s margin m =
       let guard = expr_shown d n (low_front (expr_nesting d n) (block_nesting e n) l.1) s.1 in
-      let block = block_shown e n (low_back (expr_nesting d n) (block_nesting e n) l.1) (sound_behind version (expr_eats d) s.1) margin m in
+      let block = block_shown e n (low_back (expr_nesting d n) (block_nesting e n) l.1) (sound_after version (expr_eats d) s.1) margin m in
       lined a (act.While x p) n margin _ m (act_text-while x p margin)
       (weaken (then_ (then_ (then_ (word_space word.While (codes "while") refl (in_each version word.While (codes "while") refl refl) refl) guard.expr (λ r h. anything (expr_text x ++ r))) (a_blank 32 refl) (λ r h. refl))
       block (λ r h. anything (block_text (map stmt_text p) margin ++ r)))
@@ -484,33 +484,33 @@ mutual
       lined a (act.Scope p) n margin _ m (act_text-scope p margin)
       (weaken (then_ (word_space word.Scope (codes "scope") refl (scope_is version t s.0.word_is) refl) block (λ r h. anything (block_text (map stmt_text p) margin ++ r))) (scope_made a p n l.0))
   stmt_shown {version = version} (a_pfor {a = a} {b = b} {f = f} {n = t} {f' = f'} {lo = lo} {hi = hi} {into = o} {xs = xs} d e i g) n l s margin m =
-      let behind_lo = low_back (expr_nesting d n) _ l.1.1.1 in
-      let behind_hi = low_back (expr_nesting e n) _ behind_lo.1 in
-      let behind_into = low_back (into_nesting i n) _ behind_hi in
+      let after_lo = low_back (expr_nesting d n) _ l.1.1.1 in
+      let after_hi = low_back (expr_nesting e n) _ after_lo.1 in
+      let after_into = low_back (into_nesting i n) _ after_hi in
       let at_lo = s.1.1.1 in
-      let at_hi = (sound_behind version (expr_eats d) at_lo).1 in
-      let at_into = sound_behind version (expr_eats e) at_hi in
-      let at_call = sound_behind version (into_eats i) at_into in
+      let at_hi = (sound_after version (expr_eats d) at_lo).1 in
+      let at_into = sound_after version (expr_eats e) at_hi in
+      let at_call = sound_after version (into_eats i) at_into in
       let name = name_form t s.1.0.word_is (s.1.0.modest.name refl) in
       let called = name_form f' at_call.1.0.word_is (at_call.1.0.modest.name refl) in
       let first = expr_shown d n (low_front (expr_nesting d n) _ l.1.1.1) at_lo in
-      let end = expr_shown e n (low_front (expr_nesting e n) _ behind_lo.1) at_hi in
-      let target = into_shown i n (low_front (into_nesting i n) _ behind_hi) at_into in
-      let args = more_args_shown g (suc n) (low_front (more_args_nesting g (suc n)) (n ∷ n ∷ []) behind_into.1.1.1.1) at_call.1.1.1.1 in
+      let end = expr_shown e n (low_front (expr_nesting e n) _ after_lo.1) at_hi in
+      let target = into_shown i n (low_front (into_nesting i n) _ after_hi) at_into in
+      let args = more_args_shown g (suc n) (low_front (more_args_nesting g (suc n)) (n ∷ n ∷ []) after_into.1.1.1.1) at_call.1.1.1.1 in
       lined a (act.Pfor (name_at b t) lo hi o (record { name = name_at f f'; args = xs })) n margin _ m (act_text-pfor (name_at b t) lo hi o (record { name = name_at f f'; args = xs }) margin)
       (weaken (then_ (then_ (range_form t lo hi n name first end) target.form target.front) (loop_call_form t f' xs n name called args) (λ r h. refl))
-      (pfor_made a b f t f' lo hi o xs n l.0 behind_into.1.1.0))
+      (pfor_made a b f t f' lo hi o xs n l.0 after_into.1.1.0))
 
   pub stmts_shown : {version : Version} {ts rest : List Token} {xs : List Stmt} (d : IsStmts ts xs rest) (n : ℕ) → Low (stmts_nesting d n) → Sound version ts → (margin : List ℕ) → Forms version margin any IsNothing → Forms version (stmts_text xs margin) any (StmtsOf xs n)
   stmts_shown no_stmts n l s margin m = weaken empty (no_stmts_made n)
   stmts_shown {version = version} (one_stmt {x = x} {xs = xs} d e) n l s margin m =
       let first = stmt_shown d n (low_front (stmt_nesting d n) (stmts_nesting e n) l) s margin m in
-      let others = stmts_shown e n (low_back (stmt_nesting d n) (stmts_nesting e n) l) (sound_behind version (stmt_eats d) s) margin m in
+      let others = stmts_shown e n (low_back (stmt_nesting d n) (stmts_nesting e n) l) (sound_after version (stmt_eats d) s) margin m in
       weaken (then_ first others (λ r h. anything (stmts_text xs margin ++ r))) (stmts_made x xs n)
 
   pub block_shown : {version : Version} {ts rest : List Token} {xs : List Stmt} (d : IsBlock ts xs rest) (n : ℕ) → Low (block_nesting d n) → Sound version ts → (margin : List ℕ) → Forms version margin any IsNothing → Forms version (block_text (map stmt_text xs) margin) any (BlockOf xs n)
   block_shown {version = version} (a_block {xs = xs} d) n l s margin m =
-      let deeper : Forms version (margin ++ codes "  ") any IsNothing = weaken (then_ m two_spaces (λ r h. anything (codes "  " ++ r))) blanks_behind in
+      let deeper : Forms version (margin ++ codes "  ") any IsNothing = weaken (then_ m two_spaces (λ r h. anything (codes "  " ++ r))) blanks_after in
       let stmts = stmts_shown d (suc n) (low_front (stmts_nesting d (suc n)) (n ∷ []) l.1) s.1 (margin ++ codes "  ") deeper in
       let end = low_back (stmts_nesting d (suc n)) (n ∷ []) l.1 in
       subst (λ z. Forms version z any (BlockOf xs n)) (sym (block_text-stmts xs margin))

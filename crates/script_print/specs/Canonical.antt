@@ -100,12 +100,12 @@ expr_text x = (printed x).text
 
 -- Lists, with a comma and a space before each item but the first.
 
-abbrev pub behind_commas : {A : Type 0} → (A → List ℕ) → List A → List ℕ
-behind_commas f xs = flat_map (λ x. codes ", " ++ f x) xs
+abbrev pub after_commas : {A : Type 0} → (A → List ℕ) → List A → List ℕ
+after_commas f xs = flat_map (λ x. codes ", " ++ f x) xs
 
 abbrev pub listed : {A : Type 0} → (A → List ℕ) → List A → List ℕ
 listed f [] = []
-listed f (x ∷ xs) = f x ++ behind_commas f xs
+listed f (x ∷ xs) = f x ++ after_commas f xs
 
 -- Statements.
 
@@ -124,7 +124,7 @@ abbrev pub range_text : Name → Expr → Expr → List ℕ
 range_text i lo hi = codes "pfor " ++ i.bytes ++ codes " in " ++ expr_text lo ++ codes ".." ++ expr_text hi
 
 abbrev pub loop_call_text : Name → CallText → List ℕ
-loop_call_text i c = codes " call " ++ c.name.bytes ++ codes "(" ++ i.bytes ++ behind_commas expr_text c.args ++ codes ");"
+loop_call_text i c = codes " call " ++ c.name.bytes ++ codes "(" ++ i.bytes ++ after_commas expr_text c.args ++ codes ");"
 
 abbrev pub into_text : Option Name → List ℕ
 into_text None = []

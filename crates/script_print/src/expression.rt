@@ -110,11 +110,11 @@ fn write_product_parts(parts: &[ProductPart], text: &mut Vec<u8>) -> Result<(), 
 
 // An expression between two texts.
 #[cycle(expressions)]
-fn write_between(before: &[u8], x: &Expr, behind: &[u8], text: &mut Vec<u8>) -> Result<(), Memory>
-    ensures { OnOk result (text.new.items ≡ text.old.items ++ before.now ++ expr_text x.now ++ behind.now) }
+fn write_between(before: &[u8], x: &Expr, after: &[u8], text: &mut Vec<u8>) -> Result<(), Memory>
+    ensures { OnOk result (text.new.items ≡ text.old.items ++ before.now ++ expr_text x.now ++ after.now) }
 {
     text.extend_from_slice(before)?;
     write_expr(x, text)?;
-    text.extend_from_slice(behind)?;
+    text.extend_from_slice(after)?;
     Ok(())
 }

@@ -2,7 +2,7 @@ ghost use Rattle.std.specs.Prelude.{◌≡◌, ◌++◌, IfOk, OnOk, flat_map};
 ghost use Rattle.script_grammar.specs.declared.tree.Script.{Script};
 ghost use Rattle.script_grammar.specs.Text.{IsOfText};
 ghost use Rattle.script_print.specs.Unplaced.{unplaced, IsTextOf};
-ghost use Rattle.script_print.specs.Canonical.{behind_commas, canonical, function_text, head_text, listed, param_text, version_text};
+ghost use Rattle.script_print.specs.Canonical.{after_commas, canonical, function_text, head_text, listed, param_text, version_text};
 
 use crate::expression::write_expr;
 use crate::memory::Memory;
@@ -79,13 +79,13 @@ fn write_params(params: &[Param], text: &mut Vec<u8>) -> Result<(), Memory>
 {
     if let Some((first, others)) = params.split_first() {
         write_param(first, text)?;
-        write_params_behind_commas(others, text)?;
+        write_params_after_commas(others, text)?;
     }
     Ok(())
 }
 
-fn write_params_behind_commas(params: &[Param], text: &mut Vec<u8>) -> Result<(), Memory>
-    ensures { OnOk result (text.new.items ≡ text.old.items ++ behind_commas param_text params.now) }
+fn write_params_after_commas(params: &[Param], text: &mut Vec<u8>) -> Result<(), Memory>
+    ensures { OnOk result (text.new.items ≡ text.old.items ++ after_commas param_text params.now) }
 {
     for param in params {
         text.extend_from_slice(b", ")?;

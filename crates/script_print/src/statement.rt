@@ -1,6 +1,6 @@
 ghost use Rattle.std.specs.Prelude.{◌≡◌, ◌++◌, IfOk, OnOk, codes, map};
 ghost use Rattle.std.specs.Fmt.{signed_decimal};
-ghost use Rattle.script_print.specs.Canonical.{act_text, behind_commas, block_text, call_text, else_text, expr_text, into_text, listed, loop_call_text, range_text, right_text, stmt_text, stmts_text};
+ghost use Rattle.script_print.specs.Canonical.{act_text, after_commas, block_text, call_text, else_text, expr_text, into_text, listed, loop_call_text, range_text, right_text, stmt_text, stmts_text};
 
 use crate::expression::write_expr;
 use crate::memory::Memory;
@@ -9,8 +9,8 @@ use script_grammar::{Act, CallText, Expr, Name, Number, Right, Stmt};
 use std::alloc::Global;
 
 // The expressions, each after a comma and a space.
-fn write_behind_commas(args: &[Expr], text: &mut Vec<u8>) -> Result<(), Memory>
-    ensures { OnOk result (text.new.items ≡ text.old.items ++ behind_commas expr_text args.now) }
+fn write_after_commas(args: &[Expr], text: &mut Vec<u8>) -> Result<(), Memory>
+    ensures { OnOk result (text.new.items ≡ text.old.items ++ after_commas expr_text args.now) }
 {
     for arg in args {
         text.extend_from_slice(b", ")?;
@@ -24,7 +24,7 @@ fn write_args(args: &[Expr], text: &mut Vec<u8>) -> Result<(), Memory>
 {
     if let Some((first, others)) = args.split_first() {
         write_expr(first, text)?;
-        write_behind_commas(others, text)?;
+        write_after_commas(others, text)?;
     }
     Ok(())
 }
@@ -146,7 +146,7 @@ fn write_loop_call(var: &Name, call: &CallText, text: &mut Vec<u8>) -> Result<()
     write_name(&call.name, text)?;
     text.push(b'(')?;
     write_name(var, text)?;
-    write_behind_commas(call.args.as_slice(), text)?;
+    write_after_commas(call.args.as_slice(), text)?;
     text.extend_from_slice(b");")?;
     Ok(())
 }

@@ -235,7 +235,7 @@ nestings (t ∷ ts) s = onward (step t.word t.text s) (nestings ts)
 abbrev pub PlacedFault : Type 0
 PlacedFault = ℕ × ℕ
 
--- the limit that a token breaks where it may come, with n functions in front, and nested d deep
+-- the limit that a token breaks where it may come, with n functions before, and nested d deep
 abbrev pub broken : ℕ → Token → ℕ → Option ℕ
 broken n t d =
     if same_word t.word word.Number && nat_lt 9223372036854775807 (decimal 0 t.text) then Some 3

@@ -31,7 +31,7 @@ seen source ls = tokens_of source.bytes.now ls
 abbrev pub ending : LexedText → TextEnd
 ending source = record { end = source.end; stop = source.stop }
 
--- the machine comes from the symbols in front to those after, by the lexemes between
+-- the machine comes from the symbols before to those after, by the lexemes between
 abbrev pub Leads : List Sym → List Sym → LexedText → ℕ → List Lexeme → List Lexeme → Type 0
 Leads front back source d old rest =
     (n : ℕ) (s : List Sym) → nesting s ≡ d → judge (ending source) n (front ++ s) (seen source old) ≡ judge (ending source) n (back ++ s) (seen source rest)
@@ -46,7 +46,7 @@ abbrev pub Errs : List Sym → LexedText → ℕ → List Lexeme → SyntaxError
 Errs front source d old Memory = Unit {0}
 Errs front source d old (Bad number at) = Finds front source d old number at
 
--- What was read from the front derives so, and takes the symbols in front from the machine's stack. Or the machine finds the fault.
+-- What was read from the front derives so, and takes the symbols before from the machine's stack. Or the machine finds the fault.
 abbrev pub Reads : {X : Type 0} → (List Token → X → List Token → Type 0) → List Sym → LexedText → ℕ → List Lexeme → Result (X × Bor (List Lexeme)) SyntaxError → Type 0
 Reads R front source d old (Ok p) = R (seen source old) p.0 (seen source p.1.now) × Leads front [] source d old p.1.now
 Reads R front source d old (Err e) = Errs front source d old e

@@ -23,8 +23,8 @@ all_fails p [] (suc i) (suc j) h e = e
 all_fails p (b ∷ bs) (suc i) (suc j) h e = go (p b) e (all_fails p bs i j (omega arith))
   where
     go : (c : Bool) → (c && list_all p (take i bs)) ≡ false → (list_all p (take i bs) ≡ false → list_all p (take j bs) ≡ false) → (c && list_all p (take j bs)) ≡ false
-    go true f behind = behind f
-    go false f behind = refl
+    go true f after = after f
+    go false f after = refl
 
 fails : (c : Bool) (w : Word) (r : Option Word) → r ≡ (if c then Some w else None) → r ≡ None → c ≡ false
 fails true w r e f = cc
@@ -121,7 +121,7 @@ module _ (version : Version) where
   lexes_blank {from} {b} {bs} h (stops {stop = stop} c) = stops (comes_blank from b bs (Err stop) h c)
   lexes_blank {from} {b} {bs} h (goes_on {l = l} {ls = ls} {stop = stop} c x) =
       let n : IsNext version (suc from) bs l = lexeme_is_next version (suc from) bs l c in
-      let one : l.end - from ≡ suc (l.end - suc from) = omega (arith, n.behind, n.below) in
+      let one : l.end - from ≡ suc (l.end - suc from) = omega (arith, n.after, n.below) in
       let left : drop (l.end - from) (b ∷ bs) ≡ drop (l.end - suc from) bs = ap (λ k. drop k (b ∷ bs)) one in
       goes_on (comes_blank from b bs (Ok l) h c) (subst (λ z. Lexes version l.end z ls stop) (sym left) x)
 

@@ -47,12 +47,12 @@ module _ (version : Version) where
       by : ((next : Result Lexeme LexEnd) × Comes version from left next) →
           ((l : Lexeme) → length (drop (l.end - from) left) ≤ fuel → (ls : List Lexeme) × (stop : LexEnd) × Lexes version l.end (drop (l.end - from) left) ls stop) →
           (ls : List Lexeme) × (stop : LexEnd) × Lexes version from left ls stop
-      by (Err stop, c) behind = ([], stop, stops c)
-      by (Ok l, c) behind =
+      by (Err stop, c) after = ([], stop, stops c)
+      by (Ok l, c) after =
           let n : IsNext version from left l = lexeme_is_next version from left l c in
           let rest : length (drop (l.end - from) left) ≡ length left - (l.end - from) = length-drop (l.end - from) left in
           let found : (ls : List Lexeme) × (stop : LexEnd) × Lexes version l.end (drop (l.end - from) left) ls stop =
-          behind l (omega (arith, n.behind, n.below, n.within)) in
+          after l (omega (arith, n.after, n.below, n.within)) in
           (l ∷ found.0, found.1, goes_on c found.2)
 
 pub every_text : EveryTextIsCut

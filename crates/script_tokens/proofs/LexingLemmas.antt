@@ -89,7 +89,7 @@ module _ (version : Version) where
   lexes_same {from} {left} (goes_on {l = l} c x) (goes_on {l = k} {ls = ms} {stop = end} d y) =
       let same : l ≡ k = ok_same l k (stands_same c d) in
       let both = lexes_same x (subst (λ z. Lexes version z.end (drop (z.end - from) left) ms end) (sym same) y) in
-      (let behind = both.0 in cc, both.1)
+      (let after = both.0 in cc, both.1)
 
   -- where a lexeme stands
   pub record IsAt (at : ℕ) (bytes : List ℕ) (l : Lexeme) : Type 0 where
@@ -115,7 +115,7 @@ module _ (version : Version) where
 
   -- the lexeme that comes next
   pub record IsNext (from : ℕ) (left : List ℕ) (l : Lexeme) : Type 0 where
-    pub behind : from ≤ l.start
+    pub after : from ≤ l.start
     pub below : l.start < l.end
     pub within : l.end ≤ from + length left
     pub text : word_of version (take (l.end - l.start) (drop (l.start - from) left)) ≡ Some l.word
@@ -127,7 +127,7 @@ module _ (version : Version) where
       let rest : length (drop (gap_length left) left) ≡ length left - gap_length left = length-drop (gap_length left) left in
       let skipped : l.start - from ≡ gap_length left = omega (arith, a.start) in
       record {
-        behind = omega (arith, a.start);
+        after = omega (arith, a.start);
         below = a.below;
         within = omega (arith, a.within);
         text = ap (λ n. word_of version (take (l.end - l.start) (drop n left))) skipped ∙ a.text;
@@ -138,8 +138,8 @@ module _ (version : Version) where
   in_order from left (l ∷ ls) stop (goes_on c x) =
       let n : IsNext from left l = lexeme_is_next from left l c in
       let rest : length (drop (l.end - from) left) ≡ length left - (l.end - from) = length-drop (l.end - from) left in
-      let far : l.end + length (drop (l.end - from) left) ≡ from + length left = omega (arith, n.within, n.below, n.behind) in
-      (n.behind, n.below, subst (λ e. InOrder l.end e ls) far (in_order l.end (drop (l.end - from) left) ls stop x))
+      let far : l.end + length (drop (l.end - from) left) ≡ from + length left = omega (arith, n.within, n.below, n.after) in
+      (n.after, n.below, subst (λ e. InOrder l.end e ls) far (in_order l.end (drop (l.end - from) left) ls stop x))
 
   -- what stands at a place, as the code finds it
   pub stands_end : (at : ℕ) (bytes : List ℕ) → length bytes ≡ 0 → LexemeAt version at bytes (Err End)
@@ -171,7 +171,7 @@ module _ (version : Version) where
   begins_more text first ls ms from r l so_far c e grown more stop x =
       let comes : Comes version from (drop from text) (Ok l) = subst (Comes version from (drop from text)) e c in
       let n : IsNext from (drop from text) l = lexeme_is_next from (drop from text) l comes in
-      let there : from + (l.end - from) ≡ l.end = omega (arith, n.behind, n.below) in
+      let there : from + (l.end - from) ≡ l.end = omega (arith, n.after, n.below) in
       let left : drop (l.end - from) (drop from text) ≡ drop l.end text = drop-drop (l.end - from) from text ∙ ap (λ k. drop k text) there in
       let longer : ms ++ more ≡ ls ++ (l ∷ more) = ap (λ z. z ++ more) grown ∙ append_assoc ls (l ∷ []) more in
       subst (λ z. Lexes version first (drop first text) z stop) (sym longer) (so_far (l ∷ more) stop (goes_on comes (subst (λ z. Lexes version l.end z more stop) (sym left) x)))
@@ -182,7 +182,7 @@ module _ (version : Version) where
   next_ends text from r l h c e =
       let n : IsNext from (drop from text) l = lexeme_is_next from (drop from text) l (subst (Comes version from (drop from text)) e c) in
       let rest : length (drop from text) ≡ length text - from = length-drop from text in
-      (omega (arith, n.behind, n.below), omega (arith, n.within))
+      (omega (arith, n.after, n.below), omega (arith, n.within))
 
   -- each lexeme has the text of its word
   texts : (text : List ℕ) (from : ℕ) (ls : List Lexeme) (stop : LexEnd) → from ≤ length text → Lexes version from (drop from text) ls stop →
@@ -190,11 +190,11 @@ module _ (version : Version) where
   texts text from [] stop h (stops c) = λ k d below. absurd (omega arith)
   texts text from (l ∷ ls) stop h (goes_on c x) =
       let n : IsNext from (drop from text) l = lexeme_is_next from (drop from text) l c in
-      let skip : from + (l.start - from) ≡ l.start = omega (arith, n.behind) in
+      let skip : from + (l.start - from) ≡ l.start = omega (arith, n.after) in
       let there : drop (l.start - from) (drop from text) ≡ drop l.start text = drop-drop (l.start - from) from text ∙ ap (λ k. drop k text) skip in
       let here : word_of version (text_of text l) ≡ Some l.word = ap (λ z. word_of version (take (l.end - l.start) z)) (sym there) ∙ n.text in
       let rest : length (drop from text) ≡ length text - from = length-drop from text in
-      let next : from + (l.end - from) ≡ l.end = omega (arith, n.behind, n.below) in
+      let next : from + (l.end - from) ≡ l.end = omega (arith, n.after, n.below) in
       let left : drop (l.end - from) (drop from text) ≡ drop l.end text = drop-drop (l.end - from) from text ∙ ap (λ k. drop k text) next in
       All-cons (λ k. word_of version (text_of text k) ≡ Some k.word) l ls here (texts text l.end ls stop (omega (arith, n.within)) (subst (λ z. Lexes version l.end z ls stop) left x))
 

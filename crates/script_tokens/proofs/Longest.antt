@@ -24,11 +24,11 @@ word_spelled-none q [] text none h = refl
 word_spelled-none q (s ∷ ss) text none h = go (bytes_eq s.0 text) refl (word_spelled-none q ss text (both (not (q s.0)) _ none).1 h)
   where
     go : (same : Bool) → bytes_eq s.0 text ≡ same → word_spelled ss text ≡ None → (if same then Some s.1 else word_spelled ss text) ≡ None
-    go true e behind =
+    go true e after =
         let such : q s.0 ≡ true = ap q ((bytes_eq-Decides s.0 text).0 e) ∙ h in
         let other : not true ≡ true = sym (ap not such) ∙ (both (not (q s.0)) _ none).0 in
         cc
-    go false e behind = behind
+    go false e after = after
 
 -- whether there is a first byte, and it passes
 abbrev pub first_passes : (ℕ → Bool) → List ℕ → Bool
@@ -41,8 +41,8 @@ all_run p [] = refl
 all_run p (b ∷ bs) = go (p b) refl (all_run p bs)
   where
     go : (c : Bool) → p b ≡ c → list_all p (take (prefix_len p bs) bs) ≡ true → list_all p (take (cond c (1 + prefix_len p bs) 0) (b ∷ bs)) ≡ true
-    go true e behind = rw one-add (ap (λ z. z && list_all p (take (prefix_len p bs) bs)) e ∙ behind)
-    go false e behind = refl
+    go true e after = rw one-add (ap (λ z. z && list_all p (take (prefix_len p bs) bs)) e ∙ after)
+    go false e after = refl
 
 past_run : (p : ℕ → Bool) (bs : List ℕ) (m : ℕ) → prefix_len p bs < m → m ≤ length bs → list_all p (take m bs) ≡ false
 past_run p [] m h l = absurd (omega arith)
@@ -50,8 +50,8 @@ past_run p (b ∷ bs) zero h l = absurd (omega arith)
 past_run p (b ∷ bs) (suc m) h l = go (p b) refl h (λ g. past_run p bs m g (omega arith))
   where
     go : (c : Bool) → p b ≡ c → cond c (1 + prefix_len p bs) 0 < suc m → (prefix_len p bs < m → list_all p (take m bs) ≡ false) → (p b && list_all p (take m bs)) ≡ false
-    go true e g behind = ap (λ z. z && list_all p (take m bs)) e ∙ behind (omega arith)
-    go false e g behind = ap (λ z. z && list_all p (take m bs)) e
+    go true e g after = ap (λ z. z && list_all p (take m bs)) e ∙ after (omega arith)
+    go false e g after = ap (λ z. z && list_all p (take m bs)) e
 
 -- what a text is, by its first byte
 abbrev choose : Bool → Bool → Option Word → Option Word → Option Word

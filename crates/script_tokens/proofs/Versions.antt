@@ -29,8 +29,8 @@ spelled_other (s ∷ ss) text w other h o e =
     go (bytes_eq s.0 text) e (λ f. spelled_other ss text w other (both (not (is_scope s.1)) _ h).1 o f)
   where
     go : (b : Bool) → unwrap_or (if b then Some s.1 else word_spelled ss text) other ≡ w → (unwrap_or (word_spelled ss text) other ≡ w → IsOther w) → IsOther w
-    go true f behind = subst IsOther f (both (not (is_scope s.1)) _ h).0
-    go false f behind = behind f
+    go true f after = subst IsOther f (both (not (is_scope s.1)) _ h).0
+    go false f after = after f
 
 some_is : {A : Type 0} (x y d : A) → Some x ≡ Some y → x ≡ y
 some_is x y d e = ap (λ o. unwrap_or o d) e

@@ -136,7 +136,8 @@ pub struct Lexeme {
 impl Lexeme {
     ghost use Rattle.script_tokens.specs.Lexing.{text_of};
 
-    /// The lexeme's bytes, where `bytes` is the text in which it stands.
+    /// The lexeme's bytes, where `bytes` is the text in which it stands. It is for who shows a text word by word: those of `a..b` are `a`, `..`
+    /// and `b`.
     pub fn text<'a>(&self, bytes: &'a [u8]) -> &'a [u8]
         requires order { self.now.start ≤ self.now.end }
         requires within { self.now.end ≤ length bytes.now }

@@ -22,11 +22,11 @@ slice_get-front [] ys i h = absurd (omega arith)
 slice_get-front (x ∷ xs) ys zero h = refl
 slice_get-front (x ∷ xs) ys (suc i) h = slice_get-front xs ys i (omega arith)
 
-pub slice_get-behind : {X : Type 0} (xs ys : List X) (i : ℕ) → length xs ≤ i → slice_get (xs ++ ys) i ≡ slice_get ys (i - length xs)
-slice_get-behind [] ys i h = let e : i - 0 ≡ i = omega arith in rw e
-slice_get-behind (x ∷ xs) ys zero h = absurd (omega arith)
-slice_get-behind (x ∷ xs) ys (suc i) h =
-    let e : suc i - suc (length xs) ≡ i - length xs = omega arith in rw e (slice_get-behind xs ys i (omega arith))
+pub slice_get-after : {X : Type 0} (xs ys : List X) (i : ℕ) → length xs ≤ i → slice_get (xs ++ ys) i ≡ slice_get ys (i - length xs)
+slice_get-after [] ys i h = let e : i - 0 ≡ i = omega arith in rw e
+slice_get-after (x ∷ xs) ys zero h = absurd (omega arith)
+slice_get-after (x ∷ xs) ys (suc i) h =
+    let e : suc i - suc (length xs) ≡ i - length xs = omega arith in rw e (slice_get-after xs ys i (omega arith))
 
 -- The chunks from the k-th on are that one and those after it.
 pub joined_at : (chunks : List (List Event)) (k : ℕ) (d : List Event) (last : List Event) → k < length chunks →
@@ -45,8 +45,8 @@ found_here o chunks k left chunk last h is e small =
 pub found_later : (o : Option Event) (chunks : List (List Event)) (k left : ℕ) (chunk : List Event) (last : List Event) → k < length chunks → chunk ≡ get_or chunks k chunk →
     o ≡ slice_get (joined (drop k chunks) ++ last) left → length chunk ≤ left → o ≡ slice_get (joined (drop (k + 1) chunks) ++ last) (left - length chunk)
 found_later o chunks k left chunk last h is e big =
-    let behind : slice_get (chunk ++ (joined (drop (k + 1) chunks) ++ last)) left ≡ slice_get (joined (drop (k + 1) chunks) ++ last) (left - length chunk) = slice_get-behind chunk (joined (drop (k + 1) chunks) ++ last) left big in
-    e ∙ ap (λ l. slice_get l left) (joined_at chunks k chunk last h ∙ ap (λ (s : List Event). s ++ (joined (drop (k + 1) chunks) ++ last)) (sym is)) ∙ behind
+    let after : slice_get (chunk ++ (joined (drop (k + 1) chunks) ++ last)) left ≡ slice_get (joined (drop (k + 1) chunks) ++ last) (left - length chunk) = slice_get-after chunk (joined (drop (k + 1) chunks) ++ last) left big in
+    e ∙ ap (λ l. slice_get l left) (joined_at chunks k chunk last h ∙ ap (λ (s : List Event). s ++ (joined (drop (k + 1) chunks) ++ last)) (sym is)) ∙ after
 
 -- After all full chunks stands the last one.
 pub found_last : (o : Option Event) (chunks : List (List Event)) (k left : ℕ) (last : List Event) → length chunks ≤ k → o ≡ slice_get (joined (drop k chunks) ++ last) left → o ≡ slice_get last left

@@ -12,8 +12,8 @@ use Rattle.serial_meaning.specs.declared.origin.Origin.{Origin}
 use Rattle.serial_meaning.specs.declared.origin.Origin.TheVariants.{Instance, Loop}
 use Rattle.serial_meaning.specs.declared.answer.Outcome.{Outcome}
 use Rattle.strand_meaning.specs.Machine.{Effect, Opens, Closes, Emitted, Handed, Syncs, Loops, Reached, Stands, Gives, move}
-use Rattle.strand_meaning.specs.Trace.{AwaitedChild, Trace, behind_last, emit, emit_at, add_child, with_effects}
-use Rattle.strand_meaning.specs.Task.{InstanceState, Running, AtSync, AtLoop, Ended, Work, Splits, Runs, Over, Task, own_instance, MoveOrStop, Passes, Stops, Stop, Spawn, Wait, End, IsNext, Now, Later, stage_after, child_in, stops_at, passing, moved, ends_unless, faults_behind, gave, stage_step, first_half, split_step, over_step, work_step, step}
+use Rattle.strand_meaning.specs.Trace.{AwaitedChild, Trace, after_last, emit, emit_at, add_child, with_effects}
+use Rattle.strand_meaning.specs.Task.{InstanceState, Running, AtSync, AtLoop, Ended, Work, Splits, Runs, Over, Task, own_instance, MoveOrStop, Passes, Stops, Stop, Spawn, Wait, End, IsNext, Now, Later, stage_after, child_in, stops_at, passing, moved, ends_unless, faults_after, gave, stage_step, first_half, split_step, over_step, work_step, step}
 use Rattle.strand_meaning.specs.Sound.{IsEndOf, IsSoundWork, IsTask}
 use Rattle.strand_meaning.specs.Laws.{IsOf, IsSoundStep}
 use Rattle.strand_meaning.proofs.SoundSteps.Ends.{steps_are_sound}
@@ -29,13 +29,13 @@ pub awaited-append : (ps qs : List AwaitedChild) → awaited (ps ++ qs) ≡ awai
 awaited-append [] qs = refl
 awaited-append (p ∷ ps) qs = ap (λ l. p.child ∷ l) (awaited-append ps qs)
 
-awaited-behind : (p : AwaitedChild) (ps : List AwaitedChild) (e : Event) → awaited (behind_last p ps e) ≡ awaited (p ∷ ps)
-awaited-behind p [] e = refl
-awaited-behind p (q ∷ qs) e = ap (λ l. p.child ∷ l) (awaited-behind q qs e)
+awaited-after : (p : AwaitedChild) (ps : List AwaitedChild) (e : Event) → awaited (after_last p ps e) ≡ awaited (p ∷ ps)
+awaited-after p [] e = refl
+awaited-after p (q ∷ qs) e = ap (λ l. p.child ∷ l) (awaited-after q qs e)
 
 awaited-emit : (ps : List AwaitedChild) (e : Event) (trace : Trace) → trace.handed ≡ ps → awaited (emit_at ps e trace).handed ≡ awaited trace.handed
 awaited-emit [] e trace h = refl
-awaited-emit (p ∷ ps) e trace h = awaited-behind p ps e ∙ ap awaited (sym h)
+awaited-emit (p ∷ ps) e trace h = awaited-after p ps e ∙ ap awaited (sym h)
 
 awaited-effects : (ts : List Effect) (trace : Trace) → awaited (with_effects ts trace).handed ≡ awaited trace.handed ++ children ts
 awaited-effects [] trace = sym (append-nil (awaited trace.handed))
@@ -100,7 +100,7 @@ module _ (t : Task) where
   hands-moved ts (Ok (Gives v)) h = awaited-effects ts t.trace ∙ ap (λ os. handed t ++ os) h ∙ append-nil (handed t)
   hands-moved ts (Err f) h = awaited-effects ts t.trace ∙ ap (λ os. handed t ++ os) h ∙ append-nil (handed t)
 
-  hands-faults : (ps : List AwaitedChild) (f : Fault) → HandsStep t (faults_behind ps t f)
+  hands-faults : (ps : List AwaitedChild) (f : Fault) → HandsStep t (faults_after ps t f)
   hands-faults [] f = hands-ends t.trace.fault _
   hands-faults (p ∷ ps) f = refl
 

@@ -16,7 +16,7 @@ use Rattle.strand_meaning.proofs.SoundSteps.Ends.{tasks_begin}
 use Rattle.strand_meaning.proofs.NextStops.Fewer.{stops_fall, answers_leave_no_more}
 use Rattle.strand_meaning.proofs.NextStops.Stops.{stops_are_one, stops_are_sound, stops_keep_origins}
 use Rattle.strand_meaning.proofs.TakenAnswers.Onward.{answers_keep_tasks}
-use Rattle.serial_runner.specs.Stacks.{task_of, IsStack, tasks, behind, Follows}
+use Rattle.serial_runner.specs.Stacks.{task_of, IsStack, tasks, tasks_after, Follows}
 use Rattle.serial_runner.specs.declared.stack.Stack.{Stack}
 use Rattle.serial_runner.proofs.Handed.{size_of, IsSmaller, HandsStop, stops_hand}
 
@@ -57,15 +57,15 @@ record IsAt (plan : PlanView) (o : Origin) (t : Task) : Type 0 where
   origin_is : t.origin ≡ o
 
 -- what holds after a stop
-abbrev Behind : PlanView → Origin → ℕ → Stop → Type 0
-Behind plan o n (Spawn c t) = IsOriginOf plan c × IsSmaller plan o c × IsAt plan o t × (stops_left t < n)
-Behind plan o n (Wait t) = IsAt plan o (gone_on t) × (stops_left (gone_on t) < n)
-Behind plan o n (End out ended) = Unit {0}
+abbrev FewerAfter : PlanView → Origin → ℕ → Stop → Type 0
+FewerAfter plan o n (Spawn c t) = IsOriginOf plan c × IsSmaller plan o c × IsAt plan o t × (stops_left t < n)
+FewerAfter plan o n (Wait t) = IsAt plan o (gone_on t) × (stops_left (gone_on t) < n)
+FewerAfter plan o n (End out ended) = Unit {0}
 
-behind-stop : (plan : PlanView) (o : Origin) (t : Task) (stop : Stop) → IsAt plan o t → IsNext t stop → Behind plan o (stops_left t) stop
-behind-stop plan o t stop at n = from stop (stops_are_sound t stop at.task n) (stops_keep_origins t stop n) (stops_fall t stop at.task at.idle n) (stops_hand t stop at.task n)
+after-stop : (plan : PlanView) (o : Origin) (t : Task) (stop : Stop) → IsAt plan o t → IsNext t stop → FewerAfter plan o (stops_left t) stop
+after-stop plan o t stop at n = from stop (stops_are_sound t stop at.task n) (stops_keep_origins t stop n) (stops_fall t stop at.task at.idle n) (stops_hand t stop at.task n)
   where
-    from : (stop : Stop) → IsSoundStop t stop → KeepsOrigin t stop → LeavesFewer t stop → HandsStop t stop → Behind plan o (stops_left t) stop
+    from : (stop : Stop) → IsSoundStop t stop → KeepsOrigin t stop → LeavesFewer t stop → HandsStop t stop → FewerAfter plan o (stops_left t) stop
     from (Spawn c r) sound same fewer hands = (
       subst (λ (p : PlanView). IsOriginOf p c) at.plan_is sound.0,
       subst (λ (q : Origin). IsSmaller plan q c) at.origin_is (subst (λ (p : PlanView). IsSmaller p t.origin c) at.plan_is hands.1),
@@ -105,9 +105,9 @@ module _ (plan : PlanView) (clear : IsClearPlan plan) where
   stops-agree : (o : Origin) (f g : Origin → ℕ) → Agree o f g → (n m : ℕ) (t : Task) → IsAt plan o t → stops_left t < n → stops_left t < m → stops_within f n t ≡ stops_within g m t
   stops-agree o f g same zero m t at h k = absurd (omega arith)
   stops-agree o f g same (suc n) zero t at h k = absurd (omega arith)
-  stops-agree o f g same (suc n) (suc m) t at h k = by_stop (next t) (behind-stop plan o t (next t) at (next-comes t)) (stops-agree o f g same n m)
+  stops-agree o f g same (suc n) (suc m) t at h k = by_stop (next t) (after-stop plan o t (next t) at (next-comes t)) (stops-agree o f g same n m)
     where
-      by_stop : (stop : Stop) → Behind plan o (stops_left t) stop → ((u : Task) → IsAt plan o u → stops_left u < n → stops_left u < m → stops_within f n u ≡ stops_within g m u) →
+      by_stop : (stop : Stop) → FewerAfter plan o (stops_left t) stop → ((u : Task) → IsAt plan o u → stops_left u < n → stops_left u < m → stops_within f n u ≡ stops_within g m u) →
           with_stop f (stops_within f n) stop ≡ with_stop g (stops_within g m) stop
       by_stop (Spawn c u) b later =
           let x : f c ≡ g c = same c b.0 b.1 in let y : stops_within f n u ≡ stops_within g m u = later u b.2 (omega (arith, b.3)) (omega (arith, b.3)) in cong x y
@@ -174,9 +174,9 @@ unfolding own_stops
 stops-begun plan other o clear known same = whole-is plan clear o known ∙ ap (λ (p : PlanView). all_stops (whole p) (start p o)) (sym same)
 
 -- Each stop leaves one less.
-pub one_less_follows : (t : Task) (stop : Stop) (ts : List Task) → IsTask t → t.waiting ≡ false → IsNext t stop → stops_in_all (behind stop ts) < stops_in_all (t ∷ ts)
+pub one_less_follows : (t : Task) (stop : Stop) (ts : List Task) → IsTask t → t.waiting ≡ false → IsNext t stop → stops_in_all (tasks_after stop ts) < stops_in_all (t ∷ ts)
 unfolding own_stops
-one_less_follows t stop ts is idle n = less _ _ _ (sym first) (by_stop stop (behind-stop t.plan t.origin t stop at n))
+one_less_follows t stop ts is idle n = less _ _ _ (sym first) (by_stop stop (after-stop t.plan t.origin t stop at n))
   where
     at : IsAt t.plan t.origin t
     at = record { task = is; idle = idle; plan_is = refl; origin_is = refl }
@@ -190,7 +190,7 @@ one_less_follows t stop ts is idle n = less _ _ _ (sym first) (by_stop stop (beh
     less : (a b c : ℕ) → b ≡ a → c < b + stops_in_all ts → c < a + stops_in_all ts
     less a b c e h = omega arith
 
-    by_stop : (stop : Stop) → Behind t.plan t.origin (stops_left t) stop → stops_in_all (behind stop ts) < with_stop f (stops_within f (stops_left t)) stop + stops_in_all ts
+    by_stop : (stop : Stop) → FewerAfter t.plan t.origin (stops_left t) stop → stops_in_all (tasks_after stop ts) < with_stop f (stops_within f (stops_left t)) stop + stops_in_all ts
     by_stop (Spawn c u) b = two _ _ _ _ (stops-begun t.plan u.plan c is.clear b.0 b.2.plan_is) (stops-enough t.plan t.origin u (stops_left t) is.clear b.2 b.3)
       where
         two : (x y z w : ℕ) → x ≡ y → z ≡ w → y + (w + stops_in_all ts) < suc (x + z) + stops_in_all ts

@@ -6,7 +6,7 @@ use Rattle.strand_machine.specs.declared.memory.Memory.{Memory}
 use Rattle.strand_machine.specs.declared.note.Noted.{Noted}
 use Rattle.strand_machine.specs.declared.stop.Stop.{Stop}
 use Rattle.serial_runner.specs.Beside.{Beside}
-use Rattle.serial_runner.specs.Observed.{IsStopped, with_notes}
+use Rattle.serial_runner.specs.Observed.{IsStopped, with_observation}
 use Rattle.serial_runner.specs.declared.observed.ObservedInstance.{ObservedInstance}
 use Rattle.serial_runner.specs.declared.walk.NodeWalk.{NodeWalk}
 
@@ -14,12 +14,12 @@ pub made : {B E : Type 0} (P : B → Type 0) (r : Result B E) (b : B) → r ≡ 
 made P r b e h = subst (λ z. IfOk z P) e h
 
 -- what was noted, and is seen by then
-pub notes : (j : List ℕ) (w : NodeWalk) (observed : ObservedInstance) (n : Noted) → observed ≡ w.observed → IsNoted w.task j w.observed.eye n → (r : Result ObservedInstance Memory) → IfOk r (λ s. s ≡ with_notes n.eye n.events n.fault n.joined observed)
+pub observation : (j : List ℕ) (w : NodeWalk) (observed : ObservedInstance) (n : Noted) → observed ≡ w.observed → IsNoted w.task j w.observed.eye n → (r : Result ObservedInstance Memory) → IfOk r (λ s. s ≡ with_observation n.eye n.events n.fault n.joined observed)
     → (result : Result (Stop × ObservedInstance) Memory) → Beside n.stop r result → IfOk result (λ p. IsStopped j w p.0 p.1)
-notes j w observed n e is r h (Ok p) b = record {
+observation j w observed n e is r h (Ok p) b = record {
   noted = n;
   is_noted = is;
   stops = b.0;
-  sees = made (λ s. s ≡ with_notes n.eye n.events n.fault n.joined observed) r p.1 b.1 h ∙ ap (with_notes n.eye n.events n.fault n.joined) e;
+  sees = made (λ s. s ≡ with_observation n.eye n.events n.fault n.joined observed) r p.1 b.1 h ∙ ap (with_observation n.eye n.events n.fault n.joined) e;
 }
-notes j w observed n e is r h (Err m) b = tt
+observation j w observed n e is r h (Err m) b = tt

@@ -3,7 +3,7 @@ use Rattle.std.proofs.Common.{◌≡◌, ℕ, Bool, true, false, ◌||◌, ◌&&
 use Rattle.serial_meaning.specs.Eval.{path_of}
 use Rattle.serial_meaning.specs.Open as open_tree
 use Rattle.serial_meaning.specs.Open.{Item, Happened, Child, Opened, Closed, NodeFault, Own, ChildFaulted, opened, places_of}
-use Rattle.serial_meaning.specs.Runs.{behind}
+use Rattle.serial_meaning.specs.Runs.{after_items}
 use Rattle.serial_meaning.specs.Plan.{PlanView}
 use Rattle.serial_meaning.specs.declared.value.Value.{Value}
 use Rattle.serial_meaning.specs.declared.event.Fault.{Fault}
@@ -13,12 +13,12 @@ use Rattle.serial_meaning.specs.declared.origin.Origin.TheVariants.{Instance, Lo
 use Rattle.strand_meaning.specs.Observation.{IsInstance, Observation, also, newest, own_fault_of, node_left, IsOnWay, IsAllNoted}
 use Rattle.strand_meaning.specs.Task.{Task}
 use Rattle.strand_meaning.specs.Strands.{Strand, is_below, events_at, own_events, own_fault_at, joined_fault, last_place, ended_before, child_on_way, is_one_of, strand_of, blocks}
-use Rattle.strand_meaning.proofs.NodesNoted.NoteWords.{events_at-append}
+use Rattle.strand_meaning.proofs.NodesObserved.NoteWords.{events_at-append}
 use Rattle.strand_machine.specs.Eyes.{new_eye, eye_after, is_none_ahead}
 use Rattle.strand_machine.specs.declared.eye.Eye.{Eye}
-use Rattle.strand_machine.proofs.NodesNoted.Eyes.{looks-append, own-append, places-seen, places-without, past-seen}
+use Rattle.strand_machine.proofs.NodesObserved.Eyes.{looks-append, own-append, places-seen, places-without, past-seen}
 use Rattle.serial_runner.specs.Nodes.{IsBelow, shown_by, shown_at, fault_at, is_none, came_to, strand_seen, joined_before, node_seen}
-use Rattle.serial_runner.specs.Observed.{with_notes, first_of, with_child, seen, IsSeen, is_some, is_over}
+use Rattle.serial_runner.specs.Observed.{with_observation, first_of, with_child, seen, IsSeen, is_some, is_over}
 use Rattle.serial_runner.specs.declared.observed.ObservedInstance.{ObservedInstance}
 use Rattle.serial_runner.proofs.Over.{IsOver, stays, comes, none-later, fault-later, not-ended, last-led, came-stays}
 use Rattle.serial_runner.proofs.Places.{stands, came_by, stands-append, by-append, follow-front, follow-rest, NodeFollows, NodeEnds, node-follows}
@@ -70,40 +70,40 @@ first-only (Some o) = refl
 
 -- What is seen once more is noted
 
-module _ (path j : List ℕ) (notes later : Observation) where
+module _ (path j : List ℕ) (observation later : Observation) where
   abbrev noted : Option Origin → ObservedInstance
   noted child = record {
-    eye = eye_after j (new_eye path j) (notes.items ++ later.items);
-    events = events_at j (own_events (notes.items ++ later.items));
-    fault = newest notes.fault later.fault;
+    eye = eye_after j (new_eye path j) (observation.items ++ later.items);
+    events = events_at j (own_events (observation.items ++ later.items));
+    fault = newest observation.fault later.fault;
     child = child;
-    joined = newest notes.joined later.joined;
+    joined = newest observation.joined later.joined;
   }
 
-  with-events : (told events : List Event) → told ≡ events_at j (own_events notes.items) → events ≡ events_at j (own_events later.items) → told ++ events ≡ events_at j (own_events (notes.items ++ later.items))
-  with-events told events e h =
-      ap (λ (l : List Event). l ++ events) e ∙ ap (λ (l : List Event). events_at j (own_events notes.items) ++ l) h ∙ sym (events_at-append j (own_events notes.items) (own_events later.items))
-      ∙ ap (events_at j) (sym (own-append notes.items later.items))
+  with-events : (so_far events : List Event) → so_far ≡ events_at j (own_events observation.items) → events ≡ events_at j (own_events later.items) → so_far ++ events ≡ events_at j (own_events (observation.items ++ later.items))
+  with-events so_far events e h =
+      ap (λ (l : List Event). l ++ events) e ∙ ap (λ (l : List Event). events_at j (own_events observation.items) ++ l) h ∙ sym (events_at-append j (own_events observation.items) (own_events later.items))
+      ∙ ap (events_at j) (sym (own-append observation.items later.items))
 
-  pub seen-with : (s : ObservedInstance) (eye : Eye) (events : List Event) (fault joined : Option Fault) → s ≡ seen path j notes → eye ≡ eye_after j s.eye later.items → events ≡ events_at j (own_events later.items) →
-      fault ≡ later.fault → joined ≡ later.joined → with_notes eye events fault joined s ≡ noted (child_on_way j notes.items)
+  pub seen-with : (s : ObservedInstance) (eye : Eye) (events : List Event) (fault joined : Option Fault) → s ≡ seen path j observation → eye ≡ eye_after j s.eye later.items → events ≡ events_at j (own_events later.items) →
+      fault ≡ later.fault → joined ≡ later.joined → with_observation eye events fault joined s ≡ noted (child_on_way j observation.items)
   seen-with s eye events fault joined e r v f g =
-      ap (with_notes eye events fault joined) e
-      ∙ ap (λ (b : Eye). record (with_notes eye events fault joined (seen path j notes)) { eye = b }) (r ∙ ap (λ (t : ObservedInstance). eye_after j t.eye later.items) e ∙ sym (looks-append j (new_eye path j) notes.items later.items))
-      ∙ ap (λ (l : List Event). record (noted (child_on_way j notes.items)) { events = l; fault = newest notes.fault fault; joined = newest notes.joined joined }) (with-events (events_at j (own_events notes.items)) events refl v)
-      ∙ ap (λ (x : Option Fault). record (noted (child_on_way j notes.items)) { fault = newest notes.fault x; joined = newest notes.joined joined }) f
-      ∙ ap (λ (x : Option Fault). record (noted (child_on_way j notes.items)) { joined = newest notes.joined x }) g
+      ap (with_observation eye events fault joined) e
+      ∙ ap (λ (b : Eye). record (with_observation eye events fault joined (seen path j observation)) { eye = b }) (r ∙ ap (λ (t : ObservedInstance). eye_after j t.eye later.items) e ∙ sym (looks-append j (new_eye path j) observation.items later.items))
+      ∙ ap (λ (l : List Event). record (noted (child_on_way j observation.items)) { events = l; fault = newest observation.fault fault; joined = newest observation.joined joined }) (with-events (events_at j (own_events observation.items)) events refl v)
+      ∙ ap (λ (x : Option Fault). record (noted (child_on_way j observation.items)) { fault = newest observation.fault x; joined = newest observation.joined joined }) f
+      ∙ ap (λ (x : Option Fault). record (noted (child_on_way j observation.items)) { joined = newest observation.joined x }) g
 
   -- where a child was handed out, and where none was
-  pub seen_child : (c : Origin) (s : ObservedInstance) → item_children later.items ≡ c ∷ [] → s ≡ noted (child_on_way j notes.items) → with_child j c s ≡ seen path j (also notes later)
+  pub seen_child : (c : Origin) (s : ObservedInstance) → item_children later.items ≡ c ∷ [] → s ≡ noted (child_on_way j observation.items) → with_child j c s ≡ seen path j (also observation later)
   seen_child c s h e =
       ap (with_child j c) e
-      ∙ ap (λ (x : Option Origin). noted (first_of (child_on_way j notes.items) x)) (sym (child-among j later.items ∙ ap (origin_on_way j) h))
-      ∙ ap noted (sym (child-append j notes.items later.items))
+      ∙ ap (λ (x : Option Origin). noted (first_of (child_on_way j observation.items) x)) (sym (child-among j later.items ∙ ap (origin_on_way j) h))
+      ∙ ap noted (sym (child-append j observation.items later.items))
 
-  pub seen_none : (s : ObservedInstance) → item_children later.items ≡ [] → s ≡ noted (child_on_way j notes.items) → s ≡ seen path j (also notes later)
+  pub seen_none : (s : ObservedInstance) → item_children later.items ≡ [] → s ≡ noted (child_on_way j observation.items) → s ≡ seen path j (also observation later)
   seen_none s h e =
-      e ∙ ap noted (sym (child-append j notes.items later.items ∙ ap (first_of (child_on_way j notes.items)) (child-among j later.items ∙ ap (origin_on_way j) h) ∙ first-only (child_on_way j notes.items)))
+      e ∙ ap noted (sym (child-append j observation.items later.items ∙ ap (first_of (child_on_way j observation.items)) (child-among j later.items ∙ ap (origin_on_way j) h) ∙ first-only (child_on_way j observation.items)))
 
 -- What is seen of a whole instance
 
@@ -248,16 +248,16 @@ by-child j s c e = ap (λ (d : Option Origin). shown_by d (strand_seen j s) (joi
 
 module _ (plan : PlanView) (o : Origin) (j : List ℕ) (i : IsInstance o) (below : IsBelow (path_of o) j) where
   -- what is seen of the whole instance
-  pub whole_seen : (notes : Observation) → IsAllNoted plan o notes → (s : ObservedInstance) → s ≡ seen (path_of o) j notes → IsSeen plan o j s
-  whole_seen notes w s e = ap (node_seen j) (e ∙ same) ∙ from o i j below (opened plan o)
+  pub whole_seen : (observation : Observation) → IsAllNoted plan o observation → (s : ObservedInstance) → s ≡ seen (path_of o) j observation → IsSeen plan o j s
+  whole_seen observation w s e = ap (node_seen j) (e ∙ same) ∙ from o i j below (opened plan o)
     where
       n : open_tree.Node
       n = opened plan o
 
-      same : seen (path_of o) j notes ≡ an_observed (eye_after j (new_eye (path_of o) j) n.items) (events_at j (own_events n.items)) (own_fault_of n.ending) (child_on_way j n.items) (joined_fault n.ending)
+      same : seen (path_of o) j observation ≡ an_observed (eye_after j (new_eye (path_of o) j) n.items) (events_at j (own_events n.items)) (own_fault_of n.ending) (child_on_way j n.items) (joined_fault n.ending)
       same =
-          ap (λ (l : List Item). an_observed (eye_after j (new_eye (path_of o) j) l) (events_at j (own_events l)) notes.fault (child_on_way j l) notes.joined) (sym w.items)
-          ∙ ap (λ (f : Option Fault). an_observed (eye_after j (new_eye (path_of o) j) n.items) (events_at j (own_events n.items)) f (child_on_way j n.items) notes.joined) (sym w.fault)
+          ap (λ (l : List Item). an_observed (eye_after j (new_eye (path_of o) j) l) (events_at j (own_events l)) observation.fault (child_on_way j l) observation.joined) (sym w.items)
+          ∙ ap (λ (f : Option Fault). an_observed (eye_after j (new_eye (path_of o) j) n.items) (events_at j (own_events n.items)) f (child_on_way j n.items) observation.joined) (sym w.fault)
           ∙ ap (λ (f : Option Fault). an_observed (eye_after j (new_eye (path_of o) j) n.items) (events_at j (own_events n.items)) (own_fault_of n.ending) (child_on_way j n.items) f) (sym w.joined)
 
       from : (o : Origin) → IsInstance o → (j : List ℕ) → IsBelow (path_of o) j → (n : open_tree.Node) →
@@ -267,23 +267,23 @@ module _ (plan : PlanView) (o : Origin) (j : List ℕ) (i : IsInstance o) (below
       from (Loop function rest first path range) i j b n = absurd i
 
   -- what is seen once nothing more counts
-  pub over_seen : (notes : Observation) (u : Task) → u.plan ≡ plan → u.origin ≡ o → IsOnWay notes u → (s : ObservedInstance) → s ≡ seen (path_of o) j notes → is_over s ≡ true → IsSeen plan o j s
-  over_seen notes u plan_is origin_is way s e h = by_child s.child refl
+  pub over_seen : (observation : Observation) (u : Task) → u.plan ≡ plan → u.origin ≡ o → IsOnWay observation u → (s : ObservedInstance) → s ≡ seen (path_of o) j observation → is_over s ≡ true → IsSeen plan o j s
+  over_seen observation u plan_is origin_is way s e h = by_child s.child refl
     where
-      node : opened plan o ≡ behind notes.items (node_left u)
-      node = subst (λ (p : PlanView). opened p o ≡ behind notes.items (node_left u)) plan_is (subst (λ (d : Origin). opened u.plan d ≡ behind notes.items (node_left u)) origin_is way.node)
+      node : opened plan o ≡ after_items observation.items (node_left u)
+      node = subst (λ (p : PlanView). opened p o ≡ after_items observation.items (node_left u)) plan_is (subst (λ (d : Origin). opened u.plan d ≡ after_items observation.items (node_left u)) origin_is way.node)
 
-      parts : (opened plan o).items ≡ notes.items ++ (node_left u).items
+      parts : (opened plan o).items ≡ observation.items ++ (node_left u).items
       parts = ap (λ (n : open_tree.Node). n.items) node
 
-      child : s.child ≡ child_on_way j notes.items
+      child : s.child ≡ child_on_way j observation.items
       child = ap (λ (t : ObservedInstance). t.child) e
 
       found : (c : Origin) → s.child ≡ Some c → IsSeen plan o j s
       found c g = by-child j s c g ∙ sym (ap (λ (d : Option Origin). shown_by d (strand_of o (opened plan o) j) (blocks (opened plan o) j)) there)
         where
           there : child_on_way j (opened plan o).items ≡ Some c
-          there = ap (child_on_way j) parts ∙ child-append j notes.items (node_left u).items ∙ ap (λ (d : Option Origin). first_of d (child_on_way j (node_left u).items)) (sym child ∙ g)
+          there = ap (child_on_way j) parts ∙ child-append j observation.items (node_left u).items ∙ ap (λ (d : Option Origin). first_of d (child_on_way j (node_left u).items)) (sym child ∙ g)
 
       came : s.child ≡ None → (s.eye.came ≡ true) × (s.fault ≡ None)
       came g = split s.eye.came s.fault (sym (ap (λ (d : Option Origin). is_some d || (s.eye.came && is_none s.fault)) g) ∙ h)
@@ -293,15 +293,15 @@ module _ (plan : PlanView) (o : Origin) (j : List ℕ) (i : IsInstance o) (below
           split true (Some f) k = absurd (cc)
           split false f k = absurd (cc)
 
-      from : (o : Origin) → IsInstance o → (j : List ℕ) → IsBelow (path_of o) j → (n : open_tree.Node) → NodeFollows (path_of o) n → n.items ≡ notes.items ++ (node_left u).items → (eye_after j (new_eye (path_of o) j) notes.items).came ≡ true →
-          s.eye ≡ eye_after j (new_eye (path_of o) j) notes.items → s.events ≡ events_at j (own_events notes.items) → s.fault ≡ None → s.child ≡ child_on_way j notes.items → s.joined ≡ None → node_seen j s ≡ shown_at o n j
+      from : (o : Origin) → IsInstance o → (j : List ℕ) → IsBelow (path_of o) j → (n : open_tree.Node) → NodeFollows (path_of o) n → n.items ≡ observation.items ++ (node_left u).items → (eye_after j (new_eye (path_of o) j) observation.items).came ≡ true →
+          s.eye ≡ eye_after j (new_eye (path_of o) j) observation.items → s.events ≡ events_at j (own_events observation.items) → s.fault ≡ None → s.child ≡ child_on_way j observation.items → s.joined ≡ None → node_seen j s ≡ shown_at o n j
       from (Instance function args path) i [] b n follows p c eye events fault one joined = absurd (let l = b.longer in omega (arith, l))
-      from (Instance function args path) i (r ∷ more) b n follows p c eye events fault one joined = over-is function args path r more n follows notes.items (node_left u).items p c s eye events fault one joined
+      from (Instance function args path) i (r ∷ more) b n follows p c eye events fault one joined = over-is function args path r more n follows observation.items (node_left u).items p c s eye events fault one joined
       from (Loop function rest first path range) i j b n follows p c eye events fault one joined = absurd i
 
       by_child : (c : Option Origin) → s.child ≡ c → IsSeen plan o j s
       by_child (Some c) g = found c g
       by_child None g =
           let k = came g in
-          let eye : s.eye ≡ eye_after j (new_eye (path_of o) j) notes.items = ap (λ (t : ObservedInstance). t.eye) e in
+          let eye : s.eye ≡ eye_after j (new_eye (path_of o) j) observation.items = ap (λ (t : ObservedInstance). t.eye) e in
           from o i j below (opened plan o) (node-follows plan o i) parts (sym (ap (λ (y : Eye). y.came) eye) ∙ k.0) eye (ap (λ (t : ObservedInstance). t.events) e) k.1 child (ap (λ (t : ObservedInstance). t.joined) e ∙ way.joined)

@@ -15,7 +15,7 @@ use Rattle.strand_meaning.specs.Strands.{pedigree_of, events_at, own_events, las
 use Rattle.strand_meaning.proofs.Unfilled.Variables.{same-name, is-other}
 use Rattle.strand_machine.specs.Eyes.{eye_after, goes_to, less, ahead_of, is_none_ahead}
 use Rattle.strand_machine.specs.declared.eye.Eye.{Eye}
-use Rattle.strand_machine.proofs.NodesNoted.Eyes.{risen-last}
+use Rattle.strand_machine.proofs.NodesObserved.Eyes.{risen-last}
 use Rattle.serial_runner.proofs.Below.{below-of}
 use Rattle.serial_runner.proofs.Places.{IsStrand, stands, came_by, Follow}
 

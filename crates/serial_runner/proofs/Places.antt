@@ -2,7 +2,7 @@
 -- before it.
 use Rattle.std.proofs.Common.{◌≡◌, ℕ, ◌+◌, Bool, true, false, List, [], ◌∷◌, ◌++◌, Option, Some, None, Result, Ok, Err, refl, sym, ap, ◌∙◌, subst, append-nil, if◌then◌else◌}
 use Rattle.script_grammar.specs.declared.tree.Function.{Function}
-use Rattle.serial_meaning.specs.Runs.{Run, done, behind, goes_on, ◌then◌}
+use Rattle.serial_meaning.specs.Runs.{Run, done, after_items, goes_on, ◌then◌}
 use Rattle.serial_meaning.specs.Functions.{function_at}
 use Rattle.serial_meaning.specs.Plan.{PlanView, functions_of}
 use Rattle.serial_meaning.specs.Exec.{State, goes_out, frame, exec, filled}
@@ -17,7 +17,7 @@ use Rattle.serial_meaning.specs.declared.origin.Origin.{Origin}
 use Rattle.serial_meaning.specs.declared.origin.Origin.TheVariants as origin
 use Rattle.strand_meaning.specs.Observation.{IsInstance}
 use Rattle.strand_meaning.specs.Strands.{pedigree_of}
-use Rattle.strand_machine.proofs.NodesNoted.Eyes.{risen-last}
+use Rattle.strand_machine.proofs.NodesObserved.Eyes.{risen-last}
 
 -- a strand's pedigree: a path and a rank
 abbrev pub IsStrand : List ℕ → Type 0
@@ -155,7 +155,7 @@ module _ (plan : PlanView) (child : Origin → Evaluation) where
     ends = λ by. ap (last_of (path ++ lo ∷ [])) raises ∙ risen-last path lo ∙ ap (λ (n : ℕ). path ++ n ∷ []) (sym r);
   }
 
-  join-follows : (path : List ℕ) (s : S) (known : Option Fault) → P path s.rank (behind (Happened (event.Sync (path ++ s.rank ∷ [])) ∷ []) (joined known then λ k. done (record s { rank = s.rank + 1; spawned = k })))
+  join-follows : (path : List ℕ) (s : S) (known : Option Fault) → P path s.rank (after_items (Happened (event.Sync (path ++ s.rank ∷ [])) ∷ []) (joined known then λ k. done (record s { rank = s.rank + 1; spawned = k })))
   join-follows path s None = one path rank_of s.rank (event.Sync (path ++ s.rank ∷ [])) (record s { rank = s.rank + 1; spawned = None }) refl refl refl
   join-follows path s (Some f) = record { follow = λ by. (refl, strand-is path s.rank, tt); ends = λ by. (refl, strand-is path s.rank) }
 
@@ -171,14 +171,14 @@ module _ (plan : PlanView) (child : Origin → Evaluation) where
       place = ap (last_of (path ++ lo ∷ [])) raises
 
   loop-follows : (path : List ℕ) (s : S) (o : Origin) (env : List Value → S) → ((ws : List Value) → (env ws).rank ≡ s.rank + 1) → path_of o ≡ path ++ s.rank ∷ [] → (b : Result (List Value) Fault) (empty : Bool) →
-      P path s.rank (behind (Happened (event.Loop (path ++ s.rank ∷ [])) ∷ []) ((if empty then done [] else record { items = Child o ∷ []; ending = loop_end b }) then λ ws. done (env ws)))
+      P path s.rank (after_items (Happened (event.Loop (path ++ s.rank ∷ [])) ∷ []) ((if empty then done [] else record { items = Child o ∷ []; ending = loop_end b }) then λ ws. done (env ws)))
   loop-follows path s o env r below b true = one path rank_of s.rank (event.Loop (path ++ s.rank ∷ [])) (env []) refl refl (r [])
   loop-follows path s o env r below (Ok vs) false =
       begun path rank_of s.rank (event.Loop (path ++ s.rank ∷ [])) o (Ok (env vs)) refl refl refl below (risen-last path s.rank ∙ ap (λ (n : ℕ). path ++ n ∷ []) (sym (r vs)))
   loop-follows path s o env r below (Err f) false = begun path rank_of s.rank (event.Loop (path ++ s.rank ∷ [])) o (Err (ChildFaulted f)) refl refl refl below (refl, strand-is path s.rank)
 
   -- a scope, by what its block and the sync at its end do
-  scope-follows : (path : List ℕ) (s : S) (r : Run Item NodeFault S) → P (path ++ s.rank ∷ []) 0 r → P path s.rank (behind (Opened (path ++ s.rank ∷ []) ∷ []) r then goes_out (put_off_all plan child) plan path s.rank)
+  scope-follows : (path : List ℕ) (s : S) (r : Run Item NodeFault S) → P (path ++ s.rank ∷ []) 0 r → P path s.rank (after_items (Opened (path ++ s.rank ∷ []) ∷ []) r then goes_out (put_off_all plan child) plan path s.rank)
   scope-follows path s r h = from r.items r.ending h.follow h.ends
     where
       j : List ℕ

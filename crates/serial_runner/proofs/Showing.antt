@@ -9,9 +9,9 @@ use Rattle.serial_meaning.specs.declared.origin.Origin.{Origin}
 use Rattle.serial_meaning.specs.declared.origin.Origin.TheVariants.{Instance, Loop}
 use Rattle.serial_meaning.specs.declared.answer.Outcome.{Outcome}
 use Rattle.strand_meaning.specs.Machine.{Effect, Opens, Closes, Emitted, Handed, Syncs, Loops, Reached, Stands, Gives, move}
-use Rattle.strand_meaning.specs.Observation.{IsInstance, Observation, effect_items, work_notes, step_notes, Shows, Now, Later}
+use Rattle.strand_meaning.specs.Observation.{IsInstance, Observation, effect_items, work_observation, step_observation, Shows, Now, Later}
 use Rattle.strand_meaning.specs.Trace.{AwaitedChild}
-use Rattle.strand_meaning.specs.Task.{Running, AtSync, AtLoop, Ended, Work, Splits, Runs, Over, Task, own_instance, MoveOrStop, Passes, Stops, Stop, Spawn, Wait, End, stage_after, child_in, stops_at, passing, moved, ends_unless, faults_behind, gave, work_step}
+use Rattle.strand_meaning.specs.Task.{Running, AtSync, AtLoop, Ended, Work, Splits, Runs, Over, Task, own_instance, MoveOrStop, Passes, Stops, Stop, Spawn, Wait, End, stage_after, child_in, stops_at, passing, moved, ends_unless, faults_after, gave, work_step}
 use Rattle.strand_meaning.specs.Sound.{IsEndOf, IsLoop, IsSoundWork, IsTask}
 use Rattle.strand_meaning.specs.Laws.{IsSoundStep}
 use Rattle.strand_meaning.proofs.SoundSteps.Ends.{steps_are_sound}
@@ -60,7 +60,7 @@ module _ (t : Task) where
   at-move ts (Ok (Gives v)) h = effect-children ts ∙ h
   at-move ts (Err f) h = effect-children ts ∙ h
 
-  at-fault : (ps : List AwaitedChild) (f : Fault) → ShowsStep [] (faults_behind ps t f)
+  at-fault : (ps : List AwaitedChild) (f : Fault) → ShowsStep [] (faults_after ps t f)
   at-fault [] f = at-end t.trace.fault _
   at-fault (p ∷ ps) f = refl
 
@@ -68,7 +68,7 @@ module _ (t : Task) where
   at-value (Instance function args path) v = at-end t.trace.fault _
   at-value (Loop function rest first path range) v = refl
 
-  at-work : (work : Work) → IsInstance t.origin → IsSoundWork t.plan t.origin t.trace.handed work → ShowsStep (work_notes t.plan (path_of (own_instance t.origin)) work).items (work_step t work)
+  at-work : (work : Work) → IsInstance t.origin → IsSoundWork t.plan t.origin t.trace.handed work → ShowsStep (work_observation t.plan (path_of (own_instance t.origin)) work).items (work_step t work)
   at-work (Splits left) i is = absurd (no_end t.origin left i is.0)
   at-work (Runs (Running m)) i is =
       let path = path_of (own_instance t.origin) in let r = move t.plan path m in at-move r.items r.ending (move_hands t.plan path m)
@@ -88,12 +88,12 @@ shows-more is more (Spawn child rest) h k = children-append is more ∙ ap (λ l
 shows-more is more (Wait rest) h k = children-append is more ∙ ap (λ l. l ++ item_children more) h ∙ k
 shows-more is more (End out ended) h k = children-append is more ∙ ap (λ l. l ++ item_children more) h ∙ k
 
-pub stops_show : (t : Task) (notes : Observation) (stop : Stop) → IsTask t → IsInstance t.origin → Shows t notes stop → ShowsStop notes.items stop
-stops_show t notes stop is i (Now h e) =
-    let k : ShowsStop (step_notes t).items stop = subst (ShowsStep (step_notes t).items) h (at-work t t.work i is.work) in
+pub stops_show : (t : Task) (observation : Observation) (stop : Stop) → IsTask t → IsInstance t.origin → Shows t observation stop → ShowsStop observation.items stop
+stops_show t observation stop is i (Now h e) =
+    let k : ShowsStop (step_observation t).items stop = subst (ShowsStep (step_observation t).items) h (at-work t t.work i is.work) in
     subst (λ (l : List Item). ShowsStop l stop) (sym (ap (λ (m : Observation). m.items) e)) k
-stops_show t notes stop is i (Later next later h n e) =
+stops_show t observation stop is i (Later next later h n e) =
     let same : KeepsStep t (Passes next) = subst (KeepsStep t) h (step-keeps t) in
-    let shown : ShowsStep (step_notes t).items (Passes next) = subst (ShowsStep (step_notes t).items) h (at-work t t.work i is.work) in
+    let shown : ShowsStep (step_observation t).items (Passes next) = subst (ShowsStep (step_observation t).items) h (at-work t t.work i is.work) in
     subst (λ (l : List Item). ShowsStop l stop) (sym (ap (λ (m : Observation). m.items) e))
-    (shows-more (step_notes t).items later.items stop shown (stops_show next later stop (subst (IsSoundStep t) h (steps_are_sound t is)) (subst IsInstance (sym same.1) i) n))
+    (shows-more (step_observation t).items later.items stop shown (stops_show next later stop (subst (IsSoundStep t) h (steps_are_sound t is)) (subst IsInstance (sym same.1) i) n))

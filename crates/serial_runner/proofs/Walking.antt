@@ -8,9 +8,9 @@ use Rattle.serial_meaning.specs.Plan.{PlanView}
 use Rattle.serial_meaning.specs.declared.event.Event.{Event}
 use Rattle.serial_meaning.specs.declared.event.Fault.{Fault}
 use Rattle.serial_meaning.specs.declared.origin.Origin.{Origin}
-use Rattle.strand_meaning.specs.Laws.{IsOf, IsSoundStop, KeepsOrigin, LeavesFewer, NotesBegin, NotesGoOn, AnswersShowNothing}
+use Rattle.strand_meaning.specs.Laws.{IsOf, IsSoundStop, KeepsOrigin, LeavesFewer, ObservationBegins, ObservationGoesOn, AnswersShowNothing}
 use Rattle.strand_meaning.specs.Left.{stops_left}
-use Rattle.strand_meaning.specs.Observation.{IsInstance, no_notes, also, IsOnWay, OnWay, IsAllNoted}
+use Rattle.strand_meaning.specs.Observation.{IsInstance, no_observation, also, IsOnWay, OnWay, IsAllNoted}
 use Rattle.strand_meaning.specs.Trace.{AwaitedChild}
 use Rattle.strand_meaning.specs.Sound.{AreParts, IsTask}
 use Rattle.strand_meaning.specs.Task.{Task, start}
@@ -28,7 +28,7 @@ use Rattle.strand_machine.specs.declared.stop.Stop.TheVariants as stop
 use Rattle.strand_machine.specs.declared.note.Noted.{Noted}
 use Rattle.strand_machine.specs.declared.eye.Eye.{Eye}
 use Rattle.serial_runner.specs.Nodes.{IsBelow}
-use Rattle.serial_runner.specs.Observed.{with_notes, with_child, seen, begun_walk, origin_of, AreOriginsOf, IsWalk, IsSeen, is_over, WalksOn}
+use Rattle.serial_runner.specs.Observed.{with_observation, with_child, seen, begun_walk, origin_of, AreOriginsOf, IsWalk, IsSeen, is_over, WalksOn}
 use Rattle.serial_runner.specs.declared.observed.ObservedInstance.{ObservedInstance}
 use Rattle.serial_runner.specs.declared.walk.NodeWalk.{NodeWalk}
 use Rattle.serial_runner.specs.declared.walk.Walked.{Walked}
@@ -62,12 +62,12 @@ module _ (plan : PlanView) (o : Origin) (j : List ℕ) (w : NodeWalk) (is : IsWa
 
   module _ (s : stops.Stop) (eye : Eye) (events : List Event) (fault joined : Option Fault) (noted : IsNoted w.task j w.observed.eye (record { stop = s; eye = eye; events = events; fault = fault; joined = joined })) where
     -- what is seen, but for a child that was handed out
-    notes-seen : (observed : ObservedInstance) → observed ≡ with_notes eye events fault joined w.observed → observed ≡ record (seen (path_of o) j (also is.notes noted.notes)) { child = (seen (path_of o) j is.notes).child }
-    notes-seen observed e =
-        e ∙ seen-with (path_of o) j is.notes noted.notes w.observed eye events fault joined is.says noted.eye noted.events noted.fault noted.joined
+    observation-seen : (observed : ObservedInstance) → observed ≡ with_observation eye events fault joined w.observed → observed ≡ record (seen (path_of o) j (also is.observation noted.observation)) { child = (seen (path_of o) j is.observation).child }
+    observation-seen observed e =
+        e ∙ seen-with (path_of o) j is.observation noted.observation w.observed eye events fault joined is.says noted.eye noted.events noted.fault noted.joined
 
-    shown : ShowsStop noted.notes.items (stop_of s)
-    shown = stops_show t noted.notes (stop_of s) is.task of_instance noted.shows
+    shown : ShowsStop noted.observation.items (stop_of s)
+    shown = stops_show t noted.observation (stop_of s) is.task of_instance noted.shows
 
     sound : IsSoundStop t (stop_of s)
     sound = stops_are_sound t (stop_of s) is.task noted.stop.next
@@ -78,12 +78,12 @@ module _ (plan : PlanView) (o : Origin) (j : List ℕ) (w : NodeWalk) (is : IsWa
     fewer : LeavesFewer t (stop_of s)
     fewer = stops_fall t (stop_of s) is.task is.idle noted.stop.next
 
-    goes-on : NotesGoOn → OnWay (also is.notes noted.notes) t (stop_of s)
-    goes-on go = go t is.notes noted.notes (stop_of s) is.task of_instance is.on noted.shows
+    goes-on : ObservationGoesOn → OnWay (also is.observation noted.observation) t (stop_of s)
+    goes-on go = go t is.observation noted.observation (stop_of s) is.task of_instance is.on noted.shows
 
     -- Where nothing more counts, and this task is what is left, all that is to be seen of it is seen.
-    all-seen : IsBelow (path_of o) j → (u : Task) → IsOf t u → IsOnWay (also is.notes noted.notes) u → (observed : ObservedInstance) → is_over observed ≡ true → observed ≡ seen (path_of o) j (also is.notes noted.notes) → IsSeen plan o j observed
-    all-seen below u same way observed over says = over_seen plan o j is.instance below (also is.notes noted.notes) u (same.0 ∙ is.plan_is) (same.1 ∙ is.origin_is) way observed says over
+    all-seen : IsBelow (path_of o) j → (u : Task) → IsOf t u → IsOnWay (also is.observation noted.observation) u → (observed : ObservedInstance) → is_over observed ≡ true → observed ≡ seen (path_of o) j (also is.observation noted.observation) → IsSeen plan o j observed
+    all-seen below u same way observed over says = over_seen plan o j is.instance below (also is.observation noted.observation) u (same.0 ∙ is.plan_is) (same.1 ∙ is.origin_is) way observed says over
 
   module _ (n : Noted) (as_noted : IsNoted w.task j w.observed.eye n) (child rest : TaskView) (stopped : n.stop ≡ stop.Spawn child rest) where
     abbrev s : stops.Stop
@@ -97,7 +97,7 @@ module _ (plan : PlanView) (o : Origin) (j : List ℕ) (w : NodeWalk) (is : IsWa
     child_known = let k : IsSoundStop t (stop_of s) = sound s n.eye n.events n.fault n.joined noted in subst (λ (p : PlanView). IsOriginOf p child.task.origin) is.plan_is k.0
 
     -- The walk goes on with the rest.
-    pub walks_by_child : NotesGoOn → (before observed : ObservedInstance) → before ≡ with_notes n.eye n.events n.fault n.joined w.observed → observed ≡ with_child j child.task.origin before →
+    pub walks_by_child : ObservationGoesOn → (before observed : ObservedInstance) → before ≡ with_observation n.eye n.events n.fault n.joined w.observed → observed ≡ with_child j child.task.origin before →
         WalksOn plan o j w (Goes (record { task = rest; observed = observed }))
     walks_by_child go before observed b h = (walk, less.0)
       where
@@ -107,10 +107,10 @@ module _ (plan : PlanView) (o : Origin) (j : List ℕ) (w : NodeWalk) (is : IsWa
         less : LeavesFewer t (stop_of s)
         less = fewer s n.eye n.events n.fault n.joined noted
 
-        on : OnWay (also is.notes noted.notes) t (stop_of s)
+        on : OnWay (also is.observation noted.observation) t (stop_of s)
         on = goes-on s n.eye n.events n.fault n.joined noted go
 
-        shows : ShowsStop noted.notes.items (stop_of s)
+        shows : ShowsStop noted.observation.items (stop_of s)
         shows = shown s n.eye n.events n.fault n.joined noted
 
         task : IsSoundStop t (stop_of s)
@@ -124,25 +124,25 @@ module _ (plan : PlanView) (o : Origin) (j : List ℕ) (w : NodeWalk) (is : IsWa
           goes_on = noted.stop.keeps.4;
           plan_is = kept.0 ∙ is.plan_is;
           origin_is = kept.1 ∙ is.origin_is;
-          notes = also is.notes noted.notes;
+          observation = also is.observation noted.observation;
           on = on;
-          says = h ∙ seen_child (path_of o) j is.notes noted.notes child.task.origin before shows (notes-seen s n.eye n.events n.fault n.joined noted before b);
+          says = h ∙ seen_child (path_of o) j is.observation noted.observation child.task.origin before shows (observation-seen s n.eye n.events n.fault n.joined noted before b);
         }
 
     -- The strand is over.
-    pub over_by_child : IsBelow (path_of o) j → NotesGoOn → (before observed : ObservedInstance) → is_over observed ≡ true → before ≡ with_notes n.eye n.events n.fault n.joined w.observed → observed ≡ with_child j child.task.origin before →
+    pub over_by_child : IsBelow (path_of o) j → ObservationGoesOn → (before observed : ObservedInstance) → is_over observed ≡ true → before ≡ with_observation n.eye n.events n.fault n.joined w.observed → observed ≡ with_child j child.task.origin before →
         WalksOn plan o j w (Ends observed)
     over_by_child below go before observed over b h =
         all-seen s n.eye n.events n.fault n.joined noted below rest.task kept on observed over
-        (h ∙ seen_child (path_of o) j is.notes noted.notes child.task.origin before shows (notes-seen s n.eye n.events n.fault n.joined noted before b))
+        (h ∙ seen_child (path_of o) j is.observation noted.observation child.task.origin before shows (observation-seen s n.eye n.events n.fault n.joined noted before b))
       where
         kept : KeepsOrigin t (stop_of s)
         kept = same s n.eye n.events n.fault n.joined noted
 
-        on : OnWay (also is.notes noted.notes) t (stop_of s)
+        on : OnWay (also is.observation noted.observation) t (stop_of s)
         on = goes-on s n.eye n.events n.fault n.joined noted go
 
-        shows : ShowsStop noted.notes.items (stop_of s)
+        shows : ShowsStop noted.observation.items (stop_of s)
         shows = shown s n.eye n.events n.fault n.joined noted
 
   module _ (n : Noted) (as_noted : IsNoted w.task j w.observed.eye n) (rest : TaskView) (stopped : n.stop ≡ stop.Wait rest) where
@@ -168,8 +168,8 @@ module _ (plan : PlanView) (o : Origin) (j : List ℕ) (w : NodeWalk) (is : IsWa
     it_has_answers answers os e h = h ∙ ap (tags plan) e ∙ ap (λ (p : PlanView). tags p (awaited rest.task.trace.handed)) (sym of_plan)
 
     -- The walk goes on with the answers.
-    pub walks_by_wait : NotesGoOn → AnswersShowNothing → (answers : List AnswerView) → any_cut answers ≡ false → (v : TaskView) → WentOn answers rest v →
-        (observed : ObservedInstance) → observed ≡ with_notes n.eye n.events n.fault n.joined w.observed → WalksOn plan o j w (Goes (record { task = v; observed = observed }))
+    pub walks_by_wait : ObservationGoesOn → AnswersShowNothing → (answers : List AnswerView) → any_cut answers ≡ false → (v : TaskView) → WentOn answers rest v →
+        (observed : ObservedInstance) → observed ≡ with_observation n.eye n.events n.fault n.joined w.observed → WalksOn plan o j w (Goes (record { task = v; observed = observed }))
     walks_by_wait go nothing answers whole v h observed b =
         subst (λ (u : TaskView). WalksOn plan o j w (Goes (record { task = u; observed = observed }))) (sym (went_whole answers rest v whole h)) (walk, left)
       where
@@ -182,10 +182,10 @@ module _ (plan : PlanView) (o : Origin) (j : List ℕ) (w : NodeWalk) (is : IsWa
         task : IsSoundStop t (stop_of at)
         task = sound at n.eye n.events n.fault n.joined noted_wait
 
-        on : OnWay (also is.notes noted_wait.notes) t (stop_of at)
+        on : OnWay (also is.observation noted_wait.observation) t (stop_of at)
         on = goes-on at n.eye n.events n.fault n.joined noted_wait go
 
-        shows : ShowsStop noted_wait.notes.items (stop_of at)
+        shows : ShowsStop noted_wait.observation.items (stop_of at)
         shows = shown at n.eye n.events n.fault n.joined noted_wait
 
         no_more : stops_left (went_on rest) ≤ stops_left rest.task
@@ -202,17 +202,17 @@ module _ (plan : PlanView) (o : Origin) (j : List ℕ) (w : NodeWalk) (is : IsWa
           goes_on = noted_wait.stop.keeps.3;
           plan_is = kept.0 ∙ is.plan_is;
           origin_is = kept.1 ∙ is.origin_is;
-          notes = also is.notes noted_wait.notes;
-          on = nothing rest.task (also is.notes noted_wait.notes) task (subst IsInstance (sym (kept.1 ∙ is.origin_is)) is.instance) on;
-          says = seen_none (path_of o) j is.notes noted_wait.notes observed shows (notes-seen at n.eye n.events n.fault n.joined noted_wait observed b);
+          observation = also is.observation noted_wait.observation;
+          on = nothing rest.task (also is.observation noted_wait.observation) task (subst IsInstance (sym (kept.1 ∙ is.origin_is)) is.instance) on;
+          says = seen_none (path_of o) j is.observation noted_wait.observation observed shows (observation-seen at n.eye n.events n.fault n.joined noted_wait observed b);
         }
 
     -- The strand is over.
-    pub over_by_wait : IsBelow (path_of o) j → NotesGoOn → AnswersShowNothing → (observed : ObservedInstance) → is_over observed ≡ true → observed ≡ with_notes n.eye n.events n.fault n.joined w.observed → WalksOn plan o j w (Ends observed)
+    pub over_by_wait : IsBelow (path_of o) j → ObservationGoesOn → AnswersShowNothing → (observed : ObservedInstance) → is_over observed ≡ true → observed ≡ with_observation n.eye n.events n.fault n.joined w.observed → WalksOn plan o j w (Ends observed)
     over_by_wait below go nothing observed over b =
         all-seen at n.eye n.events n.fault n.joined noted_wait below (went_on rest) kept
-        (nothing rest.task (also is.notes noted_wait.notes) task (subst IsInstance (sym (kept.1 ∙ is.origin_is)) is.instance) on) observed over
-        (seen_none (path_of o) j is.notes noted_wait.notes observed shows (notes-seen at n.eye n.events n.fault n.joined noted_wait observed b))
+        (nothing rest.task (also is.observation noted_wait.observation) task (subst IsInstance (sym (kept.1 ∙ is.origin_is)) is.instance) on) observed over
+        (seen_none (path_of o) j is.observation noted_wait.observation observed shows (observation-seen at n.eye n.events n.fault n.joined noted_wait observed b))
       where
         task : IsSoundStop t (stop_of at)
         task = sound at n.eye n.events n.fault n.joined noted_wait
@@ -220,10 +220,10 @@ module _ (plan : PlanView) (o : Origin) (j : List ℕ) (w : NodeWalk) (is : IsWa
         kept : KeepsOrigin t (stop_of at)
         kept = same at n.eye n.events n.fault n.joined noted_wait
 
-        on : OnWay (also is.notes noted_wait.notes) t (stop_of at)
+        on : OnWay (also is.observation noted_wait.observation) t (stop_of at)
         on = goes-on at n.eye n.events n.fault n.joined noted_wait go
 
-        shows : ShowsStop noted_wait.notes.items (stop_of at)
+        shows : ShowsStop noted_wait.observation.items (stop_of at)
         shows = shown at n.eye n.events n.fault n.joined noted_wait
 
   module _ (n : Noted) (as_noted : IsNoted w.task j w.observed.eye n) (answer : AnswerView) (give : AnswerTag) (stopped : n.stop ≡ stop.Done answer give) where
@@ -234,21 +234,21 @@ module _ (plan : PlanView) (o : Origin) (j : List ℕ) (w : NodeWalk) (is : IsWa
     noted_end = subst (λ (to : stops.Stop). IsNoted w.task j w.observed.eye (record n { stop = to })) stopped as_noted
 
     -- The whole instance is seen.
-    pub walk_ends : IsBelow (path_of o) j → NotesGoOn → (observed : ObservedInstance) → observed ≡ with_notes n.eye n.events n.fault n.joined w.observed → WalksOn plan o j w (Ends observed)
-    walk_ends below go observed b = whole_seen plan o j is.instance below (also is.notes noted_end.notes)
-        (subst (λ (q : PlanView). IsAllNoted q o (also is.notes noted_end.notes)) is.plan_is (subst (λ (d : Origin). IsAllNoted t.plan d (also is.notes noted_end.notes)) is.origin_is whole)) observed says
+    pub walk_ends : IsBelow (path_of o) j → ObservationGoesOn → (observed : ObservedInstance) → observed ≡ with_observation n.eye n.events n.fault n.joined w.observed → WalksOn plan o j w (Ends observed)
+    walk_ends below go observed b = whole_seen plan o j is.instance below (also is.observation noted_end.observation)
+        (subst (λ (q : PlanView). IsAllNoted q o (also is.observation noted_end.observation)) is.plan_is (subst (λ (d : Origin). IsAllNoted t.plan d (also is.observation noted_end.observation)) is.origin_is whole)) observed says
       where
-        shows : ShowsStop noted_end.notes.items (stop_of end)
+        shows : ShowsStop noted_end.observation.items (stop_of end)
         shows = shown end n.eye n.events n.fault n.joined noted_end
 
-        says : observed ≡ seen (path_of o) j (also is.notes noted_end.notes)
-        says = seen_none (path_of o) j is.notes noted_end.notes observed shows (notes-seen end n.eye n.events n.fault n.joined noted_end observed b)
+        says : observed ≡ seen (path_of o) j (also is.observation noted_end.observation)
+        says = seen_none (path_of o) j is.observation noted_end.observation observed shows (observation-seen end n.eye n.events n.fault n.joined noted_end observed b)
 
-        whole : OnWay (also is.notes noted_end.notes) t (stop_of end)
+        whole : OnWay (also is.observation noted_end.observation) t (stop_of end)
         whole = goes-on end n.eye n.events n.fault n.joined noted_end go
 
 -- A walk begins with a task of which nothing is done.
-pub walk_begins : NotesBegin → (plan : PlanView) (o : Origin) (j : List ℕ) → IsInstance o → IsTask (start plan o) → (w : NodeWalk) → w ≡ begun_walk plan o j → IsWalk plan o j w
+pub walk_begins : ObservationBegins → (plan : PlanView) (o : Origin) (j : List ℕ) → IsInstance o → IsTask (start plan o) → (w : NodeWalk) → w ≡ begun_walk plan o j → IsWalk plan o j w
 walk_begins begin plan o j i is w e =
     subst (IsWalk plan o j) (sym e) (record {
       instance = i;
@@ -257,7 +257,7 @@ walk_begins begin plan o j i is w e =
       goes_on = refl;
       plan_is = refl;
       origin_is = refl;
-      notes = no_notes;
+      observation = no_observation;
       on = begin plan o i;
       says = refl;
     })

@@ -26,8 +26,8 @@ use Rattle.serial_runner.specs.declared.walk.Walked.TheVariants.{Goes, Ends}
 abbrev pub nothing_seen : Eye → ObservedInstance
 nothing_seen eye = record { eye = eye; events = []; fault = None; child = None; joined = None }
 
-abbrev pub with_notes : Eye → List Event → Option Fault → Option Fault → ObservedInstance → ObservedInstance
-with_notes eye events fault joined s = record s {
+abbrev pub with_observation : Eye → List Event → Option Fault → Option Fault → ObservedInstance → ObservedInstance
+with_observation eye events fault joined s = record s {
   eye = eye;
   events = s.events ++ events;
   fault = newest s.fault fault;
@@ -43,12 +43,12 @@ with_child j o s = record s { child = first_of s.child (child_on_way j (Child o 
 
 -- what notes say of a pedigree, of an instance with this path
 abbrev pub seen : List ℕ → List ℕ → Observation → ObservedInstance
-seen path j notes = record {
-  eye = eye_after j (new_eye path j) notes.items;
-  events = events_at j (own_events notes.items);
-  fault = notes.fault;
-  child = child_on_way j notes.items;
-  joined = notes.joined;
+seen path j observation = record {
+  eye = eye_after j (new_eye path j) observation.items;
+  events = events_at j (own_events observation.items);
+  fault = observation.fault;
+  child = child_on_way j observation.items;
+  joined = observation.joined;
 }
 
 -- a walk of which nothing is done
@@ -69,16 +69,16 @@ pub record IsWalk (plan : PlanView) (o : Origin) (j : List ℕ) (w : NodeWalk) :
   pub goes_on : w.task.cut ≡ None
   pub plan_is : w.task.task.plan ≡ plan
   pub origin_is : origin_of w ≡ o
-  pub notes : Observation
-  pub on : IsOnWay notes w.task.task
-  pub says : w.observed ≡ seen (path_of o) j notes
+  pub observation : Observation
+  pub on : IsOnWay observation w.task.task
+  pub says : w.observed ≡ seen (path_of o) j observation
 
 -- The task of a walk has come to this stop, and this is what is seen then.
 pub record IsStopped (j : List ℕ) (w : NodeWalk) (stop : Stop) (observed : ObservedInstance) : Type 0 where
   pub noted : Noted
   pub is_noted : IsNoted w.task j w.observed.eye noted
   pub stops : stop ≡ noted.stop
-  pub sees : observed ≡ with_notes noted.eye noted.events noted.fault noted.joined w.observed
+  pub sees : observed ≡ with_observation noted.eye noted.events noted.fault noted.joined w.observed
 
 -- What is seen of an instance, for a node, is what its node shows.
 abbrev pub IsSeen : PlanView → Origin → List ℕ → ObservedInstance → Type 0

@@ -50,10 +50,10 @@ abbrev pub tasks : List OpenTask → List Task
 tasks [] = []
 tasks (f ∷ fs) = task_of f ∷ tasks fs
 
-abbrev pub behind : Stop → List Task → List Task
-behind (Spawn child rest) ts = start rest.plan child ∷ rest ∷ ts
-behind (Wait rest) ts = on (evaluations (eval rest.plan) rest.trace.handed) rest ∷ ts
-behind (End out ended) ts = ts
+abbrev pub tasks_after : Stop → List Task → List Task
+tasks_after (Spawn child rest) ts = start rest.plan child ∷ rest ∷ ts
+tasks_after (Wait rest) ts = on (evaluations (eval rest.plan) rest.trace.handed) rest ∷ ts
+tasks_after (End out ended) ts = ts
 
 -- the stack once the task at the head of these has one answer more
 abbrev pub with_answer : AnswerView → OpenTask → List OpenTask → Stack
@@ -65,7 +65,7 @@ pub record Follows (s next : Stack) : Type 0 where
   pub root : IsOf (root s) (root next)
   pub stop : Stop
   pub comes : IsNext (task_of s.top) stop
-  pub leaves : tasks (next.top ∷ next.below) ≡ behind stop (tasks s.below)
+  pub leaves : tasks (next.top ∷ next.below) ≡ tasks_after stop (tasks s.below)
 
 -- what a task answers
 pub record IsAnswerOf (t : Task) (answer : AnswerView) : Type 0 where

@@ -2,7 +2,7 @@
 ghost use Rattle.std.specs.Prelude.{◌≡◌, IfOk, OnOk};
 ghost use Rattle.strand_meaning.specs.Observation.{newest};
 ghost use Rattle.strand_meaning.specs.Strands.{is_below};
-ghost use Rattle.serial_runner.specs.Observed.{is_over, nothing_seen, with_notes, with_child};
+ghost use Rattle.serial_runner.specs.Observed.{is_over, nothing_seen, with_observation, with_child};
 
 use ped_path::{Ped, Pedigree};
 use serial_meaning::{Fault, Origin, Out};
@@ -63,13 +63,13 @@ impl ObservedInstance {
         fault: Option<Fault>,
         joined: Option<Fault>,
     ) -> Result<ObservedInstance, Memory>
-        ensures { IfOk result (λ observed. observed ≡ with_notes eye events fault joined self) }
+        ensures { IfOk result (λ observed. observed ≡ with_observation eye events fault joined self) }
     {
-        let mut told = self.events;
-        told.append(events)?;
+        let mut so_far = self.events;
+        so_far.append(events)?;
         Ok(ObservedInstance {
             eye,
-            events: told,
+            events: so_far,
             fault: newest(self.fault, fault),
             child: self.child,
             joined: newest(self.joined, joined),

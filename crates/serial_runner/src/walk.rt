@@ -76,7 +76,7 @@ fn walk_on(walk: NodeWalk, alloc: Global, plan: &Arc<Plan>, at: &Pedigree) -> Re
     requires walk { IsWalk (arc_value plan.now) (origin_of walk) at.now walk }
     ensures { IfOk result (WalksOn (arc_value plan.now) (origin_of walk) at.now walk) }
 {
-    laws::notes_go_on();
+    laws::observation_goes_on();
     laws::answers_show_nothing();
     let (stop, mut observed) = stopped(walk, alloc, at)?;
     match stop {
@@ -147,7 +147,7 @@ pub(crate) fn observe_instance(
     requires below { IsBelow (path_of origin) at.now }
     ensures { IfOk result (IsSeen (arc_value plan.now) origin at.now) }
 {
-    laws::notes_begin();
+    laws::observation_begins();
     let mut walk = begin_walk(alloc, plan, origin, at)?;
     loop {
         match walk_on(walk, alloc, plan, at)? {

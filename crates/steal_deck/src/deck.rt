@@ -112,7 +112,8 @@ impl<T> Deck<T> {
 
     /// Ends the work on a deck whose thieves all came back, so that no steal can follow, and gives the entries left.
     ///
-    /// Each number pushed was taken once, by the owner or a thief, or is left, and not both.
+    /// Each number pushed was taken once, by the owner or a thief, or is left, and not both. It is for who ends before all tasks were taken (the
+    /// example at the crate's head).
     pub fn close(mut self) -> Remains<T>
         requires { AllCameBack self }
         ensures left { result ≡ left_of self.pushed (known_taken self) }

@@ -24,7 +24,7 @@ impl<T> Model for Remains<T> {
 }
 
 impl<T> Remains<T> {
-    /// Takes the last entry of the list, or answers `None` where the list is empty.
+    /// Takes the last entry of the list, or answers `None` where the list is empty: of `b` and `c`, pushed in this order, `c` comes first.
     pub fn pop(&mut self) -> Option<T>
         ensures some { IfSome result (λ task. (number : ℕ) × (self.old ≡ self.new ++ (number, task) ∷ [])) }
         ensures none { IfNone result ((self.old ≡ []) × (self.new ≡ [])) }

@@ -1,5 +1,5 @@
 pub mod NextStops
 pub mod TakenAnswers
 pub mod Moves
-pub mod NodesNoted
+pub mod NodesObserved
 pub mod CodeLemmas

@@ -16,8 +16,8 @@ use Rattle.strand_machine.specs.Tasks.{RunsAt, AwaitsLast, task_with}
 use Rattle.strand_machine.specs.declared.body.Body.{Body}
 
 -- the task after a move that showed this and left the instance so
-abbrev pub shown_task : Body → Instance → Effects → Task
-shown_task b i s =
+abbrev pub task_after_effects : Body → Instance → Effects → Task
+task_after_effects b i s =
     let m = machine_of b.family.plan i in
     passing (task_with b (meaning.Runs (meaning.Running m))) (effects_of s) (meaning.Runs (stage_after (effects_of s) m))
 
@@ -30,8 +30,8 @@ IsHandedChild plan o None = Unit {0}
 IsHandedChild plan o (Some child) = IsHandedFor plan o child
 
 -- That task is sound, and its child, if any, an origin of the plan with its trail, and one that is handed out for the task's own origin.
-pub record IsSoundShown (b : Body) (i : Instance) (s : Effects) : Type 0 where
-  pub task : IsTask (shown_task b i s)
+pub record HasSoundEffects (b : Body) (i : Instance) (s : Effects) : Type 0 where
+  pub task : IsTask (task_after_effects b i s)
   pub child : IsKnownChild b.family.plan (child_in (effects_of s))
   pub handed : IsHandedChild b.family.plan b.family.origin (child_in (effects_of s))
   pub family : AwaitsLast b.family b.trace.handed

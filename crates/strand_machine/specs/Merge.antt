@@ -23,7 +23,7 @@ use Rattle.strand_machine.specs.Tasks.{TaskView, stage_of, work_of, task_of, Sta
 use Rattle.strand_machine.specs.declared.body.Body.{Body}
 use Rattle.strand_machine.specs.declared.merge.Heard.{Heard}
 use Rattle.strand_machine.specs.declared.parts.Parts.{Parts}
-use Rattle.strand_machine.specs.declared.trace.Behind.{Behind}
+use Rattle.strand_machine.specs.declared.trace.AfterChild.{AfterChild}
 use Rattle.strand_machine.specs.declared.work.InstanceState.{InstanceState}
 use Rattle.strand_machine.specs.declared.work.Work.{Work}
 
@@ -60,7 +60,7 @@ HasTarget place (Splits left) = Unit {0}
 HasTarget place (Runs stage) = StageHasTarget place stage
 HasTarget place (Over v gone_on) = Unit {0}
 
-abbrev pub HasTargets : List Behind → meaning.Work → Type 0
+abbrev pub HasTargets : List AfterChild → meaning.Work → Type 0
 HasTargets [] w = Unit {0}
 HasTargets (b ∷ bs) w = HasTarget (destination_of b.place) w × HasTargets bs w
 
@@ -74,7 +74,7 @@ pub record BecomesWork (change : meaning.Work → meaning.Work) (before after : 
   pub is : (plan : PlanView) → work_of plan after ≡ change (work_of plan before)
   pub works : (plan : PlanView) (o : Origin) → WorksAt plan o before → WorksAt plan o after
 
--- A task that takes its children's answers: what it told, its values, what remains, and of the answers whether one is a cut, and whether the
+-- A task that takes its children's answers: its own events, its values, what remains, and of the answers whether one is a cut, and whether the
 -- fault is one by which a child was cut.
 pub record Merge : Type 0 where
   pub prefix : List Event

@@ -1,7 +1,7 @@
 -- What a call of `advance_noted` gives.
 use Rattle.std.specs.Prelude.{◌≡◌, ℕ, List, [], ◌++◌, Some, None}
 use Rattle.strand_meaning.specs.Observation as meaning
-use Rattle.strand_meaning.specs.Observation.{Shows, effect_items, newest, no_notes}
+use Rattle.strand_meaning.specs.Observation.{Shows, effect_items, newest, no_observation}
 use Rattle.strand_meaning.specs.Strands.{own_events, events_at}
 use Rattle.strand_moves.specs.Moves.{effects_of}
 use Rattle.strand_moves.specs.declared.effects.MoveResult.{MoveResult}
@@ -16,24 +16,24 @@ use Rattle.strand_machine.specs.declared.note.Observed.{Observed}
 -- The next stop of a task, and of what is noted on the way to it that which is of this pedigree, with what the eye had seen before.
 pub record IsNoted (t : TaskView) (j : List ℕ) (before : Eye) (n : Noted) : Type 0 where
   pub stop : IsStop t n.stop
-  pub notes : meaning.Observation
-  pub shows : Shows t.task notes (stop_of n.stop)
-  pub eye : n.eye ≡ eye_after j before notes.items
-  pub events : n.events ≡ events_at j (own_events notes.items)
-  pub fault : n.fault ≡ notes.fault
-  pub joined : n.joined ≡ notes.joined
+  pub observation : meaning.Observation
+  pub shows : Shows t.task observation (stop_of n.stop)
+  pub eye : n.eye ≡ eye_after j before observation.items
+  pub events : n.events ≡ events_at j (own_events observation.items)
+  pub fault : n.fault ≡ observation.fault
+  pub joined : n.joined ≡ observation.joined
 
 -- these notes, and what a step shows of this pedigree
 abbrev pub with_step : List ℕ → meaning.Observation → Observed → Observed
-with_step j step notes = record {
-  eye = eye_after j notes.eye step.items;
-  events = notes.events ++ events_at j (own_events step.items);
-  fault = newest notes.fault step.fault;
-  joined = newest notes.joined step.joined;
+with_step j step observation = record {
+  eye = eye_after j observation.eye step.items;
+  events = observation.events ++ events_at j (own_events step.items);
+  fault = newest observation.fault step.fault;
+  joined = newest observation.joined step.joined;
 }
 
 -- what a move of an instance shows
-abbrev pub moved_notes : MoveResult → meaning.Observation
-moved_notes (moved.Went s) = record { items = effect_items (effects_of s); fault = None; joined = None }
-moved_notes (moved.Returned v) = no_notes
-moved_notes (moved.Faulted f) = record { items = []; fault = Some f; joined = None }
+abbrev pub moved_observation : MoveResult → meaning.Observation
+moved_observation (moved.Went s) = record { items = effect_items (effects_of s); fault = None; joined = None }
+moved_observation (moved.Returned v) = no_observation
+moved_observation (moved.Faulted f) = record { items = []; fault = Some f; joined = None }

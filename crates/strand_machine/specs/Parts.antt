@@ -7,17 +7,17 @@ use Rattle.strand_meaning.specs.Machine as meaning
 use Rattle.strand_meaning.specs.Trace.{AwaitedChild, Trace}
 use Rattle.strand_machine.specs.declared.destination.Destination.{Destination}
 use Rattle.strand_machine.specs.declared.destination.Destination.TheVariants as place
-use Rattle.strand_machine.specs.declared.trace.Behind.{Behind}
+use Rattle.strand_machine.specs.declared.trace.AfterChild.{AfterChild}
 
 abbrev pub destination_of : Destination → meaning.Destination
 destination_of (place.Spawned height target) = meaning.Spawned height target
 destination_of (place.Looped target) = meaning.Looped target
 destination_of place.Half = meaning.Half
 
-abbrev pub awaited_child : Origin → Behind → AwaitedChild
-awaited_child child b = record { child = child; place = destination_of b.place; behind = b.events }
+abbrev pub awaited_child : Origin → AfterChild → AwaitedChild
+awaited_child child b = record { child = child; place = destination_of b.place; after = b.events }
 
-abbrev pub awaited_children : List Origin → List Behind → List AwaitedChild
+abbrev pub awaited_children : List Origin → List AfterChild → List AwaitedChild
 awaited_children [] bs = []
 awaited_children (o ∷ os) [] = []
 awaited_children (o ∷ os) (b ∷ bs) = awaited_child o b ∷ awaited_children os bs
@@ -26,8 +26,8 @@ abbrev pub awaited : List AwaitedChild → List Origin
 awaited [] = []
 awaited (p ∷ ps) = p.child ∷ awaited ps
 
--- A trace has these events before its first child, this fault, and this behind its children.
-pub record IsParted (trace : Trace) (prefix : List Event) (fault : Option Fault) (behind : List Behind) : Type 0 where
+-- A trace has these events before its first child, this fault, and this after its children.
+pub record IsParted (trace : Trace) (prefix : List Event) (fault : Option Fault) (after : List AfterChild) : Type 0 where
   pub children : List Origin
-  pub many : length children ≡ length behind
-  pub is : ◌≡◌ {A = Trace} (record { prefix = prefix; fault = fault; handed = awaited_children children behind }) trace
+  pub many : length children ≡ length after
+  pub is : ◌≡◌ {A = Trace} (record { prefix = prefix; fault = fault; handed = awaited_children children after }) trace

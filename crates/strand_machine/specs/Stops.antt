@@ -103,7 +103,7 @@ abbrev pub any_cut : List AnswerView → Bool
 any_cut [] = false
 any_cut (a ∷ answers) = is_cut a.outcome || any_cut answers
 
--- what a task told once it heard these answers
+-- the events of a task once it heard these answers
 abbrev pub prefix_with : List AnswerView → meaning.Task → List Event
 prefix_with answers t = (heard_all t.trace.handed (answer_evaluations answers) (record t.trace { handed = [] })).prefix
 

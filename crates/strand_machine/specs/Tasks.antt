@@ -30,7 +30,7 @@ use Rattle.strand_machine.specs.declared.work.Work.TheVariants as work
 
 -- A task as contracts see it: what it is by its meaning, the origins of all children that it handed out, in order, and the numbers that
 -- looks at their join have loaded; whether it knows of the loops on its path; and of a task that took a cut for an answer, or that has ended and
--- still has its answer, how it ends. Such a task isn't finished: of its meaning its plan and origin count, and what it told.
+-- still has its answer, how it ends. Such a task isn't finished: of its meaning its plan and origin count, and its own events.
 pub record TaskView : Type 0 where
   pub task : Task
   pub children : List Origin

@@ -47,7 +47,7 @@ impl Eye {
     {
         Eye {
             came: false,
-            ahead: first_of(path, at),
+            ahead: rises_to_first(path, at),
             past: false,
         }
     }
@@ -97,7 +97,7 @@ impl Eye {
     pub(crate) fn enter_scope(&mut self, at: &Pedigree, path: &Ped)
         ensures { self.new ≡ eye_after at.now self.old (Opened path.now ∷ []) }
     {
-        self.go_to(first_of(path, at));
+        self.go_to(rises_to_first(path, at));
     }
 
     /// The scope has ended that this strand began.
@@ -109,7 +109,7 @@ impl Eye {
 }
 
 /// By how many rises the first strand on a path comes to a pedigree.
-fn first_of(path: &Ped, at: &Pedigree) -> Option<u64>
+fn rises_to_first(path: &Ped, at: &Pedigree) -> Option<u64>
     ensures { result ≡ ahead_of (path.now ++ 0 ∷ []) at.now }
 {
     if at.path.same(path) {

@@ -23,7 +23,7 @@ pub fn is_fault(answer: &Answer) -> bool
 
 impl Task {
     /// Ends by the answers of the children that it awaits, in order, of which the last one, `last`, is a fault. Nothing that stands
-    /// after a fault counts, so what the task would do next isn't done: its answer is what it told and its children's answers, up to
+    /// after a fault counts, so what the task would do next isn't done: its answer is its own events and its children's answers, up to
     /// the first fault. None of them may be a cut. On `Memory` the task and the answers are dropped.
     pub fn end_by(
         self,

@@ -16,7 +16,7 @@ use crate::destination::Destination;
 use crate::memory::Memory;
 use crate::parts::Parts;
 use crate::replace::set;
-use crate::trace::{Behind, Trace};
+use crate::trace::{AfterChild, Trace};
 use crate::work::{InstanceState, Work};
 use script_grammar::{Items, Name};
 use serial_meaning::{Answer, Fault, Out, Outcome, Plan, Value};
@@ -216,36 +216,36 @@ impl Heard {
         &mut self,
         trace: &mut Trace,
         events: Out,
-        behind: Out,
+        after: Out,
         outcome: &Outcome,
     ) -> Result<(), Memory>
         requires { trace.old.handed ≡ [] }
-        ensures trace { OnOk result ((p : AwaitedChild) → p.behind ≡ behind
+        ensures trace { OnOk result ((p : AwaitedChild) → p.after ≡ after
             → trace.new ≡ heard p (record { items = events; ending = ending_of outcome.now }) trace.old) }
         ensures ended { OnOk result (end_of trace.new.fault self.new.by_cut ≡ or_ends (end_of trace.old.fault self.old.by_cut) outcome.now) }
         ensures cut { OnOk result (self.new.cut ≡ (self.old.cut || is_cut outcome.now)) }
     {
         self.cut |= is_cut(outcome);
         if trace.fault.is_some() {
-            drop((events, behind));
+            drop((events, after));
             return Ok(());
         }
         match trace.prefix.append(events) {
             Ok(()) => {}
             Err(memory) => {
-                drop(behind);
+                drop(after);
                 return Err(memory.into());
             }
         }
         match outcome {
-            Outcome::Value(_) | Outcome::Values(_) => trace.prefix.append(behind)?,
+            Outcome::Value(_) | Outcome::Values(_) => trace.prefix.append(after)?,
             Outcome::Fault(fault) => {
-                drop(behind);
+                drop(after);
                 set(&mut trace.fault, Some(fault.share()?));
                 self.by_cut = false;
             }
             Outcome::Cut { by } => {
-                drop(behind);
+                drop(after);
                 set(&mut trace.fault, Some(by.share()?));
                 self.by_cut = true;
             }
@@ -306,13 +306,13 @@ pub(crate) fn merge_answer(
     parts: &mut Parts,
     heard: &mut Heard,
     alloc: Global,
-    behind: Behind,
+    after: AfterChild,
     answer: Answer,
 ) -> Result<(), Memory>
     requires handed { parts.old.body.trace.handed ≡ [] }
     requires works { Works parts.old.body.family.plan parts.old.work }
-    requires target { HasTarget (destination_of behind.place) (work_of parts.old.body.family.plan parts.old.work) }
-    ensures takes { OnOk result (TakesAnswers (awaited_child answer.origin behind ∷ []) (answer ∷ []) (merge_of parts.old heard.old) (merge_of parts.new heard.new)) }
+    requires target { HasTarget (destination_of after.place) (work_of parts.old.body.family.plan parts.old.work) }
+    ensures takes { OnOk result (TakesAnswers (awaited_child answer.origin after ∷ []) (answer ∷ []) (merge_of parts.old heard.old) (merge_of parts.new heard.new)) }
     ensures rest { OnOk result (KeepsRest parts.old parts.new) }
 {
     let Answer {
@@ -322,7 +322,7 @@ pub(crate) fn merge_answer(
         origin,
     } = answer;
     drop((own, origin));
-    let Behind { place, events } = behind;
+    let AfterChild { place, events } = after;
     let Parts { body, work } = parts;
     match heard.hear(&mut body.trace, out, events, &outcome) {
         Ok(()) => merge_value(

@@ -1,11 +1,11 @@
 // What a task shows on its way to its next stop, noted for one pedigree.
 ghost use Rattle.std.specs.Prelude.{◌≡◌, ◌++◌, ◌∷◌, [], None, IfOk, OnOk};
 ghost use Rattle.serial_meaning.specs.Open.{Happened};
-ghost use Rattle.strand_meaning.specs.Observation.{step_notes};
+ghost use Rattle.strand_meaning.specs.Observation.{step_observation};
 ghost use Rattle.strand_meaning.specs.Strands.{events_at};
 ghost use Rattle.strand_machine.specs.Eyes.{eye_after};
 ghost use Rattle.strand_machine.specs.Made.{IsSoundMade, made};
-ghost use Rattle.strand_machine.specs.Noted.{moved_notes, with_step};
+ghost use Rattle.strand_machine.specs.Noted.{moved_observation, with_step};
 ghost use Rattle.strand_machine.specs.Stops.{IsStep};
 ghost use Rattle.strand_machine.specs.Tasks.{IsSound, view_of, task_of};
 ghost use Rattle.strand_machine.specs.declared.work.InstanceState.TheVariants as stage;
@@ -92,7 +92,7 @@ impl Observed {
 
     /// One more move of the task's instance.
     fn observe(&mut self, alloc: Global, at: &Pedigree, moved: &MoveResult) -> Result<(), Memory>
-        ensures { OnOk result (self.new ≡ with_step at.now (moved_notes moved.now) self.old) }
+        ensures { OnOk result (self.new ≡ with_step at.now (moved_observation moved.now) self.old) }
     {
         match moved {
             MoveResult::Went(Effects::Nothing) => {}
@@ -115,12 +115,12 @@ fn go_observed(
     alloc: Global,
     at: &Pedigree,
     mut instance: Instance,
-    notes: &mut Observed,
+    observation: &mut Observed,
 ) -> Result<Passed, Memory>
     requires { IsSound parts.old.body (work.Runs (stage.Running instance)) }
     ensures step { IfOk result (λ passed. IsStep (view_of parts.old.body (work.Runs (stage.Running instance))) (made parts.new passed)) }
     ensures sound { IfOk result (IsSoundMade parts.new) }
-    ensures notes { OnOk result (notes.new ≡ with_step at.now (step_notes (task_of parts.old.body (work.Runs (stage.Running instance)))) notes.old) }
+    ensures observation { OnOk result (observation.new ≡ with_step at.now (step_observation (task_of parts.old.body (work.Runs (stage.Running instance)))) observation.old) }
 {
     laws::steps_are_sound();
     let moved = match instance.make_move(alloc, parts.body.family.plan()) {
@@ -130,7 +130,7 @@ fn go_observed(
             return Err(memory.into());
         }
     };
-    match notes.observe(alloc, at, &moved) {
+    match observation.observe(alloc, at, &moved) {
         Ok(()) => {}
         Err(memory) => {
             drop((moved, instance));
@@ -156,17 +156,17 @@ fn run_observed(
     alloc: Global,
     at: &Pedigree,
     stage: InstanceState,
-    notes: &mut Observed,
+    observation: &mut Observed,
 ) -> Result<Passed, Memory>
     requires { IsSound parts.old.body (work.Runs stage) }
     ensures step { IfOk result (λ passed. IsStep (view_of parts.old.body (work.Runs stage)) (made parts.new passed)) }
     ensures sound { IfOk result (IsSoundMade parts.new) }
-    ensures notes { OnOk result (notes.new ≡ with_step at.now (step_notes (task_of parts.old.body (work.Runs stage))) notes.old) }
+    ensures observation { OnOk result (observation.new ≡ with_step at.now (step_observation (task_of parts.old.body (work.Runs stage))) observation.old) }
 {
     match stage {
-        InstanceState::Running(instance) => go_observed(parts, alloc, at, instance, notes),
+        InstanceState::Running(instance) => go_observed(parts, alloc, at, instance, observation),
         InstanceState::ChildFaulted(fault) => {
-            set(&mut notes.joined, Some(fault.share()?));
+            set(&mut observation.joined, Some(fault.share()?));
             run(parts, alloc, InstanceState::ChildFaulted(fault))
         }
         stage => run(parts, alloc, stage),
@@ -179,15 +179,15 @@ fn work_observed(
     alloc: Global,
     at: &Pedigree,
     work: Work,
-    notes: &mut Observed,
+    observation: &mut Observed,
 ) -> Result<Passed, Memory>
     requires { IsSound parts.old.body work }
     ensures step { IfOk result (λ passed. IsStep (view_of parts.old.body work) (made parts.new passed)) }
     ensures sound { IfOk result (IsSoundMade parts.new) }
-    ensures notes { OnOk result (notes.new ≡ with_step at.now (step_notes (task_of parts.old.body work)) notes.old) }
+    ensures observation { OnOk result (observation.new ≡ with_step at.now (step_observation (task_of parts.old.body work)) observation.old) }
 {
     match work {
-        Work::Runs(stage) => run_observed(parts, alloc, at, stage, notes),
+        Work::Runs(stage) => run_observed(parts, alloc, at, stage, observation),
         work => pass_with(parts, alloc, work),
     }
 }
@@ -197,15 +197,15 @@ fn pass_observed(
     parts: &mut Parts,
     alloc: Global,
     at: &Pedigree,
-    notes: &mut Observed,
+    observation: &mut Observed,
 ) -> Result<Passed, Memory>
     requires { IsSound parts.old.body parts.old.work }
     ensures step { IfOk result (λ passed. IsStep (view_of parts.old.body parts.old.work) (made parts.new passed)) }
     ensures sound { IfOk result (IsSoundMade parts.new) }
-    ensures notes { OnOk result (notes.new ≡ with_step at.now (step_notes (task_of parts.old.body parts.old.work)) notes.old) }
+    ensures observation { OnOk result (observation.new ≡ with_step at.now (step_observation (task_of parts.old.body parts.old.work)) observation.old) }
 {
     let work = mem::replace(&mut parts.work, Work::nothing());
-    work_observed(parts, alloc, at, work, notes)
+    work_observed(parts, alloc, at, work, observation)
 }
 
 /// A move of the task, or its stop, which is noted.
@@ -213,14 +213,14 @@ fn step_observed(
     task: Task,
     alloc: Global,
     at: &Pedigree,
-    notes: &mut Observed,
+    observation: &mut Observed,
 ) -> Result<MoveOrStop, Memory>
     requires { task.cut ≡ None }
     ensures step { IfOk result (IsStep task) }
-    ensures notes { OnOk result (notes.new ≡ with_step at.now (step_notes task.task) notes.old) }
+    ensures observation { OnOk result (observation.new ≡ with_step at.now (step_observation task.task) observation.old) }
 {
     let Task { mut parts } = task;
-    let passed = pass_observed(&mut parts, alloc, at, notes)?;
+    let passed = pass_observed(&mut parts, alloc, at, observation)?;
     Ok(stepped(parts, passed))
 }
 
@@ -239,10 +239,10 @@ impl Task {
         laws::stops_are_sound();
         // Read for the proof: a task keeps by its type that finishing it gives the evaluation of its origin.
         let _work = &self.parts.work;
-        let mut notes = Observed::new(eye);
+        let mut observation = Observed::new(eye);
         let mut task = self;
         loop {
-            match step_observed(task, alloc, at, &mut notes)? {
+            match step_observed(task, alloc, at, &mut observation)? {
                 MoveOrStop::Passes(next) => task = next,
                 MoveOrStop::Stops(stop) => {
                     let Observed {
@@ -250,7 +250,7 @@ impl Task {
                         events,
                         fault,
                         joined,
-                    } = notes;
+                    } = observation;
                     return Ok(Noted {
                         stop,
                         eye,

@@ -17,7 +17,7 @@ use crate::parts::Parts;
 use crate::replace::set;
 use crate::stop::Resumed;
 use crate::task::Task;
-use crate::trace::Behind;
+use crate::trace::AfterChild;
 use crate::work::{InstanceState, Work};
 use meet_block::Look;
 use script_grammar::Items;
@@ -94,20 +94,20 @@ fn merge_all(
     parts: &mut Parts,
     heard: &mut Heard,
     alloc: Global,
-    behind: Vec<Behind>,
+    after: Vec<AfterChild>,
     answers: Items<Answer>,
 ) -> Result<Items<Answer>, Memory>
-    requires many { length answers ≡ length behind.items }
+    requires many { length answers ≡ length after.items }
     requires handed { parts.old.body.trace.handed ≡ [] }
     requires works { Works parts.old.body.family.plan parts.old.work }
-    requires targets { HasTargets behind.items (work_of parts.old.body.family.plan parts.old.work) }
-    ensures takes { OnOk result (TakesAnswers (awaited_children (origins (answer_tags answers)) behind.items) answers (merge_of parts.old heard.old) (merge_of parts.new heard.new)) }
+    requires targets { HasTargets after.items (work_of parts.old.body.family.plan parts.old.work) }
+    ensures takes { OnOk result (TakesAnswers (awaited_children (origins (answer_tags answers)) after.items) answers (merge_of parts.old heard.old) (merge_of parts.new heard.new)) }
     ensures rest { OnOk result (KeepsRest parts.old parts.new) }
     ensures none { IfOk result (λ left. left ≡ []) }
 {
     let mut left = answers.0;
     left.reverse();
-    for part in behind {
+    for part in after {
         let Some(answer) = left.pop() else {
             unreachable!()
         };
@@ -166,12 +166,12 @@ pub(crate) fn go_on(
     laws::answers_keep_tasks();
     laws::answers_are_evaluations();
     laws::answers_end();
-    let behind = parts.body.trace.take_children(alloc);
+    let after = parts.body.trace.take_children(alloc);
     let mut heard = Heard {
         cut: false,
         by_cut: false,
     };
-    let left = merge_all(parts, &mut heard, alloc, behind, answers)?;
+    let left = merge_all(parts, &mut heard, alloc, after, answers)?;
     if heard.cut {
         cut_short(parts, &heard);
         return Ok(left);

@@ -2,9 +2,9 @@
 ghost use Rattle.std.specs.Prelude.{◌≡◌, IfOk, OnOk};
 ghost use Rattle.strand_meaning.specs.Task.{stops_at, child_in};
 ghost use Rattle.strand_moves.specs.Moves.{effects_of};
-ghost use Rattle.strand_moves.specs.declared.effects.Effects.TheVariants as shown;
+ghost use Rattle.strand_moves.specs.declared.effects.Effects.TheVariants as effect;
 ghost use Rattle.strand_machine.specs.Made.{IsSoundMade, made, IsRun};
-ghost use Rattle.strand_machine.specs.Effects.{shown_task, IsSoundShown};
+ghost use Rattle.strand_machine.specs.Effects.{task_after_effects, HasSoundEffects};
 ghost use Rattle.strand_machine.specs.Stops.{KeepsStep, step_of};
 ghost use Rattle.strand_machine.specs.Tasks.{IsSound, view_of};
 ghost use Rattle.strand_machine.specs.declared.work.InstanceState.TheVariants as stage;
@@ -35,9 +35,9 @@ fn show_spawn(
     instance: Instance,
     spawning: Spawning,
 ) -> Result<Passed, Memory>
-    requires { IsSoundShown parts.old.body instance (shown.Spawned spawning.event spawning.spawned) }
-    ensures step { let s = shown.Spawned spawning.event spawning.spawned in
-        IfOk result (λ passed. step_of (made parts.new passed) ≡ stops_at (child_in (effects_of s)) (shown_task parts.old.body instance s)) }
+    requires { HasSoundEffects parts.old.body instance (effect.Spawned spawning.event spawning.spawned) }
+    ensures step { let s = effect.Spawned spawning.event spawning.spawned in
+        IfOk result (λ passed. step_of (made parts.new passed) ≡ stops_at (child_in (effects_of s)) (task_after_effects parts.old.body instance s)) }
     ensures keeps { IfOk result (λ passed. KeepsStep (view_of parts.old.body (work.Runs (stage.Running instance))) (made parts.new passed)) }
     ensures sound { IfOk result (IsSoundMade parts.new) }
 {
@@ -58,14 +58,14 @@ pub(crate) fn show(
     parts: &mut Parts,
     alloc: Global,
     instance: Instance,
-    shown: Effects,
+    effects: Effects,
 ) -> Result<Passed, Memory>
-    requires { IsSoundShown parts.old.body instance shown }
-    ensures step { IfOk result (λ passed. step_of (made parts.new passed) ≡ stops_at (child_in (effects_of shown)) (shown_task parts.old.body instance shown)) }
+    requires { HasSoundEffects parts.old.body instance effects }
+    ensures step { IfOk result (λ passed. step_of (made parts.new passed) ≡ stops_at (child_in (effects_of effects)) (task_after_effects parts.old.body instance effects)) }
     ensures keeps { IfOk result (λ passed. KeepsStep (view_of parts.old.body (work.Runs (stage.Running instance))) (made parts.new passed)) }
     ensures sound { IfOk result (IsSoundMade parts.new) }
 {
-    match shown {
+    match effects {
         Effects::Nothing | Effects::Opened(_) | Effects::Closed(_) => {
             Ok(pass(parts, Work::Runs(InstanceState::Running(instance))))
         }
@@ -134,7 +134,7 @@ pub(crate) fn go(parts: &mut Parts, alloc: Global, mut instance: Instance) -> Re
                 parts.body.trace.emit(alloc, event)?;
                 return Ok(wait(parts, Work::Runs(InstanceState::AtSync(instance))));
             }
-            Ok(MoveResult::Went(shown)) => return show(parts, alloc, instance, shown),
+            Ok(MoveResult::Went(effects)) => return show(parts, alloc, instance, effects),
             Ok(MoveResult::Returned(value)) => return Ok(returned(parts, value)),
             Ok(MoveResult::Faulted(own)) => return Ok(faulted(parts, own)),
             Err(memory) => return Err(memory.into()),

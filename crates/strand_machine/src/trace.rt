@@ -13,7 +13,7 @@ use strand_moves::EventSink;
 
 /// Where a child's value goes, and the task's own events after it, up to the next child.
 #[derive(Drop)]
-pub(crate) struct Behind {
+pub(crate) struct AfterChild {
     pub place: Destination,
     pub events: Out,
 }
@@ -25,7 +25,7 @@ pub(crate) struct Trace {
     pub prefix: Out,
     pub fault: Option<Fault>,
     pub awaited: Items<Origin>,
-    pub behind: Vec<Behind>,
+    pub after: Vec<AfterChild>,
 }
 
 impl Model for Trace {
@@ -35,9 +35,9 @@ impl Model for Trace {
 
     ghost Value = { TraceView };
 
-    ghost view = { λ p. record { prefix = p.prefix; fault = p.fault; handed = awaited_children p.awaited p.behind.items } };
+    ghost view = { λ p. record { prefix = p.prefix; fault = p.fault; handed = awaited_children p.awaited p.after.items } };
 
-    ghost invariant = { λ p. length p.awaited ≡ length p.behind.items };
+    ghost invariant = { λ p. length p.awaited ≡ length p.after.items };
 }
 
 impl Trace {
@@ -52,7 +52,7 @@ impl Trace {
             prefix: Out::new(),
             fault: None,
             awaited: Items(Vec::new(alloc)),
-            behind: Vec::new(alloc),
+            after: Vec::new(alloc),
         }
     }
 
@@ -69,7 +69,7 @@ impl Trace {
     pub fn count(&self) -> u64
         ensures { result ≡ length (awaited self.now.handed) }
     {
-        self.behind.len() as u64
+        self.after.len() as u64
     }
 
     /// One more event of the task's own.
@@ -77,7 +77,7 @@ impl Trace {
     pub fn emit(&mut self, alloc: Global, event: Event) -> Result<(), Memory>
         ensures { OnOk result (self.new ≡ emit event self.old) }
     {
-        match self.behind.last_mut() {
+        match self.after.last_mut() {
             Some(last) => last.events.push(alloc, event)?,
             None => {
                 if self.fault.is_none() {
@@ -95,15 +95,15 @@ impl Trace {
     pub fn add_child(&mut self, child: Origin, place: Destination) -> Result<(), Memory>
         ensures { OnOk result (self.new ≡ add_child child (destination_of place) self.old) }
     {
-        let room = if self.behind.is_empty() {
+        let room = if self.after.is_empty() {
             // most tasks hand out one or two children before they wait, and a list would begin with room for four
             match self.awaited.0.try_reserve_exact(2) {
-                Ok(()) => self.behind.try_reserve_exact(2),
+                Ok(()) => self.after.try_reserve_exact(2),
                 Err(error) => Err(error),
             }
         } else {
             match self.awaited.0.try_reserve(1) {
-                Ok(()) => self.behind.try_reserve(1),
+                Ok(()) => self.after.try_reserve(1),
                 Err(error) => Err(error),
             }
         };
@@ -115,7 +115,7 @@ impl Trace {
             }
         }
         self.awaited.0.push_reserved(child);
-        self.behind.push_reserved(Behind {
+        self.after.push_reserved(AfterChild {
             place,
             events: Out::new(),
         });
@@ -140,17 +140,17 @@ impl Trace {
     pub fn is_alone(&self) -> bool
         ensures { IsTrue result ↔ (self.now.handed ≡ []) }
     {
-        self.behind.is_empty()
+        self.after.is_empty()
     }
 
-    /// Takes the children out, with what stands behind each.
+    /// Takes the children out, with what stands after each.
     #[inline(always)]
-    pub fn take_children(&mut self, alloc: Global) -> Vec<Behind>
+    pub fn take_children(&mut self, alloc: Global) -> Vec<AfterChild>
         ensures parted { IsParted self.old self.old.prefix self.old.fault result.items }
         ensures rest { self.new ≡ record self.old { handed = [] } }
     {
         set(&mut self.awaited, Items(Vec::new(alloc)));
-        mem::replace(&mut self.behind, Vec::new(alloc))
+        mem::replace(&mut self.after, Vec::new(alloc))
     }
 
     /// Takes the fault out, if there is one.

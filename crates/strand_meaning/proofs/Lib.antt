@@ -1,6 +1,6 @@
 pub mod TakenAnswers
 pub mod SoundSteps
-pub mod NodesNoted
+pub mod NodesObserved
 pub mod UnfilledPending
 pub mod NextStops
 pub mod Computed

@@ -23,7 +23,7 @@ use Rattle.strand_meaning.specs.Trace.{AwaitedChild}
 use Rattle.strand_meaning.specs.Task.{Running, changed, answered, Task, Stop, Spawn, Wait, End, MoveOrStop, Passes, Stops, start, step, IsNext, on}
 use Rattle.strand_meaning.specs.Rest.{evaluations}
 use Rattle.strand_meaning.specs.Left.{stops_left, moves_left}
-use Rattle.strand_meaning.specs.Observation.{IsInstance, Observation, no_notes, also, Shows, IsOnWay, OnWay}
+use Rattle.strand_meaning.specs.Observation.{IsInstance, Observation, no_observation, also, Shows, IsOnWay, OnWay}
 use Rattle.strand_meaning.specs.Sound.{IsSoundStage, UnfilledArePendingIn, IsTask}
 
 -- No function of a valid script touches a pending variable.
@@ -135,17 +135,17 @@ abbrev pub OriginsFit : Type 0
 OriginsFit = (plan : PlanView) (o : Origin) → 1 ≤ plan.limits.depth → IsOriginOf plan o → Fits plan o
 
 -- Of a task that wasn't advanced nothing is to be noted.
-abbrev pub NotesBegin : Type 0
-NotesBegin = (plan : PlanView) (o : Origin) → IsInstance o → IsOnWay no_notes (start plan o)
+abbrev pub ObservationBegins : Type 0
+ObservationBegins = (plan : PlanView) (o : Origin) → IsInstance o → IsOnWay no_observation (start plan o)
 
 -- With what is noted up to a stop all is noted of the task there, and at the end its whole node.
-abbrev pub NotesGoOn : Type 0
-NotesGoOn = (t : Task) (notes later : Observation) (stop : Stop) → IsTask t → IsInstance t.origin → IsOnWay notes t → Shows t later stop → OnWay (also notes later) t stop
+abbrev pub ObservationGoesOn : Type 0
+ObservationGoesOn = (t : Task) (observation later : Observation) (stop : Stop) → IsTask t → IsInstance t.origin → IsOnWay observation t → Shows t later stop → OnWay (also observation later) t stop
 
 -- A task that takes its children's answers shows nothing.
 abbrev pub AnswersShowNothing : Type 0
-AnswersShowNothing = (t : Task) (notes : Observation) → IsTask t → IsInstance t.origin → IsOnWay notes t → IsOnWay notes (on (evaluations (eval t.plan) t.trace.handed) t)
+AnswersShowNothing = (t : Task) (observation : Observation) → IsTask t → IsInstance t.origin → IsOnWay observation t → IsOnWay observation (on (evaluations (eval t.plan) t.trace.handed) t)
 
 -- There is one way to the next stop.
 abbrev pub StopsAreShown : Type 0
-StopsAreShown = (t : Task) (stop : Stop) → IsNext t stop → (notes : Observation) × Shows t notes stop
+StopsAreShown = (t : Task) (stop : Stop) → IsNext t stop → (observation : Observation) × Shows t observation stop

@@ -1,6 +1,6 @@
 -- What a task of an instance shows on its way to its next stop, tied to its node of the open tree.
 use Rattle.std.specs.Prelude.{◌≡◌, ℕ, List, [], ◌∷◌, ◌++◌, Option, Some, None, Result, Ok, Err}
-use Rattle.serial_meaning.specs.Runs.{done, behind, ◌then◌}
+use Rattle.serial_meaning.specs.Runs.{done, after_items, ◌then◌}
 use Rattle.serial_meaning.specs.Plan.{PlanView}
 use Rattle.serial_meaning.specs.Eval.{path_of}
 use Rattle.serial_meaning.specs.Open.{Item, Happened, Child, Opened, Closed, NodeFault, Own, ChildFaulted, Node, opened, led_to, without_last}
@@ -38,8 +38,8 @@ pub record Observation : Type 0 where
   pub fault : Option Fault
   pub joined : Option Fault
 
-abbrev pub no_notes : Observation
-no_notes = record { items = []; fault = None; joined = None }
+abbrev pub no_observation : Observation
+no_observation = record { items = []; fault = None; joined = None }
 
 abbrev pub newest : Option Fault → Option Fault → Option Fault
 newest old None = old
@@ -47,7 +47,7 @@ newest old (Some f) = Some f
 
 -- notes, and later ones
 abbrev pub also : Observation → Observation → Observation
-also notes later = record { items = notes.items ++ later.items; fault = newest notes.fault later.fault; joined = newest notes.joined later.joined }
+also observation later = record { items = observation.items ++ later.items; fault = newest observation.fault later.fault; joined = newest observation.joined later.joined }
 
 abbrev pub effect_items : List Effect → List Item
 effect_items [] = []
@@ -63,26 +63,26 @@ move_fault (Ok reached) = None
 move_fault (Err f) = Some f
 
 -- what one move or stop shows: a move its effects and the instance's own fault, and an end the fault of a child
-abbrev pub stage_notes : PlanView → List ℕ → InstanceState → Observation
-stage_notes plan path (Running m) = let r = move plan path m in record { items = effect_items r.items; fault = move_fault r.ending; joined = None }
-stage_notes plan path (AtSync m) = no_notes
-stage_notes plan path (AtLoop m) = no_notes
-stage_notes plan path (Ended (Ok v)) = no_notes
-stage_notes plan path (Ended (Err (Own f))) = no_notes
-stage_notes plan path (Ended (Err (ChildFaulted f))) = record { items = []; fault = None; joined = Some f }
+abbrev pub stage_observation : PlanView → List ℕ → InstanceState → Observation
+stage_observation plan path (Running m) = let r = move plan path m in record { items = effect_items r.items; fault = move_fault r.ending; joined = None }
+stage_observation plan path (AtSync m) = no_observation
+stage_observation plan path (AtLoop m) = no_observation
+stage_observation plan path (Ended (Ok v)) = no_observation
+stage_observation plan path (Ended (Err (Own f))) = no_observation
+stage_observation plan path (Ended (Err (ChildFaulted f))) = record { items = []; fault = None; joined = Some f }
 
-abbrev pub work_notes : PlanView → List ℕ → Work → Observation
-work_notes plan path (Splits left) = no_notes
-work_notes plan path (Runs stage) = stage_notes plan path stage
-work_notes plan path (Over v gone_on) = no_notes
+abbrev pub work_observation : PlanView → List ℕ → Work → Observation
+work_observation plan path (Splits left) = no_observation
+work_observation plan path (Runs stage) = stage_observation plan path stage
+work_observation plan path (Over v gone_on) = no_observation
 
-abbrev pub step_notes : Task → Observation
-step_notes t = work_notes t.plan (path_of (own_instance t.origin)) t.work
+abbrev pub step_observation : Task → Observation
+step_observation t = work_observation t.plan (path_of (own_instance t.origin)) t.work
 
 -- the stop that a task comes to, at once or after moves, with what is noted on the way
 pub data Shows : Task → Observation → Stop → Type 0 where
-  Now : {t : Task} {notes : Observation} {stop : Stop} → step t ≡ Stops stop → notes ≡ step_notes t → Shows t notes stop
-  Later : {t : Task} {notes : Observation} {stop : Stop} (next : Task) (later : Observation) → step t ≡ Passes next → Shows next later stop → notes ≡ also (step_notes t) later → Shows t notes stop
+  Now : {t : Task} {observation : Observation} {stop : Stop} → step t ≡ Stops stop → observation ≡ step_observation t → Shows t observation stop
+  Later : {t : Task} {observation : Observation} {stop : Stop} (next : Task) (later : Observation) → step t ≡ Passes next → Shows next later stop → observation ≡ also (step_observation t) later → Shows t observation stop
 
 -- What notes say of the instance's strands
 
@@ -92,8 +92,8 @@ places_unless (Some f) js = without_last js
 
 -- The pedigrees to which an instance with this path came by what is noted. While it waits for children it is already at the one after the
 -- wait; where it ends by the fault of a child it never came there.
-abbrev pub places_noted : List ℕ → Observation → List (List ℕ)
-places_noted path notes = places_unless notes.joined ((path ++ 0 ∷ []) ∷ led_to (path ++ 0 ∷ []) notes.items)
+abbrev pub places_observed : List ℕ → Observation → List (List ℕ)
+places_observed path observation = places_unless observation.joined ((path ++ 0 ∷ []) ∷ led_to (path ++ 0 ∷ []) observation.items)
 
 -- A task on its way
 
@@ -115,18 +115,18 @@ work_fault (Runs stage) = stage_fault stage
 work_fault (Over v gone_on) = None
 
 -- All that a task of an instance showed since it began is noted: its node is that, and then the node of what is left.
-pub record IsOnWay (notes : Observation) (t : Task) : Type 0 where
-  pub node : opened t.plan t.origin ≡ behind notes.items (node_left t)
-  pub fault : notes.fault ≡ work_fault t.work
-  pub joined : notes.joined ≡ None
+pub record IsOnWay (observation : Observation) (t : Task) : Type 0 where
+  pub node : opened t.plan t.origin ≡ after_items observation.items (node_left t)
+  pub fault : observation.fault ≡ work_fault t.work
+  pub joined : observation.joined ≡ None
 
 -- All that an instance showed is noted: its node has these items and ends by these faults.
-pub record IsAllNoted (plan : PlanView) (o : Origin) (notes : Observation) : Type 0 where
-  pub items : (opened plan o).items ≡ notes.items
-  pub fault : own_fault_of (opened plan o).ending ≡ notes.fault
-  pub joined : joined_fault (opened plan o).ending ≡ notes.joined
+pub record IsAllNoted (plan : PlanView) (o : Origin) (observation : Observation) : Type 0 where
+  pub items : (opened plan o).items ≡ observation.items
+  pub fault : own_fault_of (opened plan o).ending ≡ observation.fault
+  pub joined : joined_fault (opened plan o).ending ≡ observation.joined
 
 abbrev pub OnWay : Observation → Task → Stop → Type 0
-OnWay notes t (Spawn child rest) = IsOnWay notes rest
-OnWay notes t (Wait rest) = IsOnWay notes rest
-OnWay notes t (End out ended) = IsAllNoted t.plan t.origin notes
+OnWay observation t (Spawn child rest) = IsOnWay observation rest
+OnWay observation t (Wait rest) = IsOnWay observation rest
+OnWay observation t (End out ended) = IsAllNoted t.plan t.origin observation

@@ -3,7 +3,7 @@ use Rattle.std.specs.Prelude.{ℕ, ◌-◌, Bool, true, false, List, [], ◌∷�
 use Rattle.std.specs.Prelude.{pos}
 use Rattle.script_grammar.specs.declared.tree.Name.{Name}
 use Rattle.script_grammar.specs.declared.tree.Function.{Function}
-use Rattle.serial_meaning.specs.Runs.{Run, done, behind, ◌then◌}
+use Rattle.serial_meaning.specs.Runs.{Run, done, after_items, ◌then◌}
 use Rattle.serial_meaning.specs.Values.{value_of}
 use Rattle.serial_meaning.specs.Functions.{function_at}
 use Rattle.serial_meaning.specs.Plan.{PlanView, functions_of}
@@ -100,7 +100,7 @@ module _ (child : Origin → Evaluation) where
 
   abbrev pub closed_at : {A : Type 0} → List Item → Result A NodeFault → Run Event Fault A
   closed_at [] ending = record { items = []; ending = closed_end ending }
-  closed_at (Happened e ∷ items) ending = behind (e ∷ []) (closed_at items ending)
+  closed_at (Happened e ∷ items) ending = after_items (e ∷ []) (closed_at items ending)
   closed_at (Child o ∷ items) ending = child o then λ vs. closed_at items ending
   closed_at (Opened j ∷ items) ending = closed_at items ending
   closed_at (Closed j ∷ items) ending = closed_at items ending
@@ -121,7 +121,7 @@ module _ (child : Origin → Evaluation) where
   -- the children's evaluations and the events after them, with the values of a loop's parts after those that were taken
   abbrev pub parts_run : List AwaitedChild → List Value → Run Event Fault (List Value)
   parts_run [] values = done values
-  parts_run (p ∷ ps) values = child p.child then λ vs. behind p.behind (parts_run ps (more_values p.place (Ok vs) values))
+  parts_run (p ∷ ps) values = child p.child then λ vs. after_items p.after (parts_run ps (more_values p.place (Ok vs) values))
 
   -- the iterations of a loop that nobody has begun
   abbrev pub turns_left : Origin → Range → Evaluation

@@ -2,7 +2,7 @@
 use Rattle.std.specs.Prelude.{◌≡◌, ◌≤◌, ◌<◌, ℕ, ◌+◌, Bool, true, false, ◌||◌, ◌⊎◌, nat_eq, List, [], ◌∷◌, ◌++◌, Option, None, Ok, Err, IfSome, IsSome, Contains, length, if◌then◌else◌}
 use Rattle.loop_range.specs.Range.{Range}
 use Rattle.script_grammar.specs.declared.tree.Name.{Name}
-use Rattle.serial_meaning.specs.Runs.{done, behind, ◌then◌}
+use Rattle.serial_meaning.specs.Runs.{done, after_items, ◌then◌}
 use Rattle.serial_meaning.specs.Names.{Names}
 use Rattle.serial_meaning.specs.Values.{Env, slot_of}
 use Rattle.serial_meaning.specs.Functions.{function_at, any_spawns}
@@ -100,12 +100,12 @@ TargetsAreThere env [] = Unit {0}
 TargetsAreThere env (p ∷ ps) = TargetIsThere env p.place × TargetsAreThere env ps
 
 -- A frame at a sync has nothing unfilled once it goes on, and knows of no fault.
-abbrev pub behind_sync : Frame → Frame
-behind_sync a = record a { faulted = None }
+abbrev pub after_sync : Frame → Frame
+after_sync a = record a { faulted = None }
 
 abbrev pub IsSoundStage : PlanView → List AwaitedChild → InstanceState → Type 0
 IsSoundStage plan parts (Running m) = AreDestinations (length m.below) parts × IsSound plan parts (length m.below) m.top × AreSound plan parts m.top.target m.below
-IsSoundStage plan parts (AtSync m) = AreDestinations (length m.below) parts × IsSound plan [] (length m.below) (behind_sync m.top) × AreSound plan parts m.top.target m.below
+IsSoundStage plan parts (AtSync m) = AreDestinations (length m.below) parts × IsSound plan [] (length m.below) (after_sync m.top) × AreSound plan parts m.top.target m.below
 IsSoundStage plan parts (AtLoop m) = IsSound plan parts (length m.below) m.top × AreSound plan parts m.top.target m.below × TargetsAreThere m.top.env parts
 IsSoundStage plan parts (Ended (Ok v)) = AreHalves parts
 IsSoundStage plan parts (Ended (Err (Own f))) = (height : ℕ) × AreDestinations height parts
@@ -114,7 +114,7 @@ IsSoundStage plan parts (Ended (Err (ChildFaulted f))) = parts ≡ []
 -- What an instance passed in the open tree, and what remains of it.
 pub record IsSoFar (plan : PlanView) (o : Origin) (parts : List AwaitedChild) (stage : InstanceState) : Type 0 where
   pub front : List Item
-  pub whole : opened plan o ≡ behind front (rest_open plan (children_of plan o) (path_of o) parts stage then λ v. done (v ∷ []))
+  pub whole : opened plan o ≡ after_items front (rest_open plan (children_of plan o) (path_of o) parts stage then λ v. done (v ∷ []))
 
 -- Pending variables
 
@@ -194,7 +194,7 @@ IsShownBy o events p =
 -- the first is shown by these events, and each other by those between it and the child before it
 abbrev pub AreShownBy : Origin → List Event → List AwaitedChild → Type 0
 AreShownBy o events [] = Unit {0}
-AreShownBy o events (p ∷ ps) = IsShownBy o events p × AreShownBy o p.behind ps
+AreShownBy o events (p ∷ ps) = IsShownBy o events p × AreShownBy o p.after ps
 
 -- The invariant: to finish a task gives the evaluation of its origin; and what is unfilled of it is pending, where it stands.
 pub record IsTask (t : Task) : Type 0 where

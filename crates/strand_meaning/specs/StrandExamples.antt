@@ -28,8 +28,8 @@ ChildsStrandHasItsFault = strand_at spending (0 ∷ 0 ∷ []) ≡ Reached (recor
 abbrev pub ParentGoesOnToItsFault : Type 0
 ParentGoesOnToItsFault = strand_at spending (1 ∷ []) ≡ Reached (record { events = []; fault = Some (record { kind = fault.Budget; at = 1 ∷ [] }) })
 
-abbrev pub NoStrandBehindAFault : Type 0
-NoStrandBehindAFault = strand_at spending (7 ∷ []) ≡ Missing
+abbrev pub NoStrandAfterAFault : Type 0
+NoStrandAfterAFault = strand_at spending (7 ∷ []) ≡ Missing
 
 abbrev pub joining : PlanView
 joining =
@@ -76,8 +76,8 @@ ScopesSecondStrandSyncs = strand_at (plan_of_child 20) (0 ∷ 1 ∷ []) ≡ Reac
 abbrev pub ScopesLastStrandIsThere : Type 0
 ScopesLastStrandIsThere = strand_at (plan_of_child 20) (0 ∷ 2 ∷ []) ≡ Reached (record { events = []; fault = None })
 
-abbrev pub NoStrandBehindAScopesLast : Type 0
-NoStrandBehindAScopesLast = strand_at (plan_of_child 20) (0 ∷ 3 ∷ []) ≡ Missing
+abbrev pub NoStrandAfterAScopesLast : Type 0
+NoStrandAfterAScopesLast = strand_at (plan_of_child 20) (0 ∷ 3 ∷ []) ≡ Missing
 
 -- The strand after the scope.
 abbrev pub StrandAfterAScopePrints : Type 0

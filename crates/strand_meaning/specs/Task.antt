@@ -119,9 +119,9 @@ abbrev pub ends : Task → Outcome → MoveOrStop
 ends t ended = ends_unless t.trace.fault t ended
 
 -- an own fault waits for the children handed out since the last wait
-abbrev pub faults_behind : List AwaitedChild → Task → Fault → MoveOrStop
-faults_behind [] t f = ends t (outcome.Fault f)
-faults_behind (p ∷ ps) t f = waits t
+abbrev pub faults_after : List AwaitedChild → Task → Fault → MoveOrStop
+faults_after [] t f = ends t (outcome.Fault f)
+faults_after (p ∷ ps) t f = waits t
 
 -- the instance that the task ran ended well
 abbrev pub gave : Task → Origin → Value → MoveOrStop
@@ -133,7 +133,7 @@ stage_step t (Running m) = let r = move t.plan (path_of (own_instance t.origin))
 stage_step t (AtSync m) = waits t
 stage_step t (AtLoop m) = waits t
 stage_step t (Ended (Ok v)) = gave t t.origin v
-stage_step t (Ended (Err (Own f))) = faults_behind t.trace.handed t f
+stage_step t (Ended (Err (Own f))) = faults_after t.trace.handed t f
 stage_step t (Ended (Err (ChildFaulted f))) = ends t (outcome.Fault f)
 
 -- Of a loop, half of the iterations left is handed out while there are two. The last is run by the task itself.

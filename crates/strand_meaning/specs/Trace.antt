@@ -12,7 +12,7 @@ use Rattle.strand_meaning.specs.Machine.{Destination, Effect, Opens, Closes, Emi
 pub record AwaitedChild : Type 0 where
   pub child : Origin
   pub place : Destination
-  pub behind : List Event
+  pub after : List Event
 
 -- The events before the first child whose answer isn't taken, up to the first fault among these, and that fault, after which
 -- nothing counts; and then the children.
@@ -30,20 +30,20 @@ abbrev pub prefix_unless : Option Fault → List Event → List Event → List E
 prefix_unless None prefix more = prefix ++ more
 prefix_unless (Some f) prefix more = prefix
 
-abbrev pub behind_last : AwaitedChild → List AwaitedChild → Event → List AwaitedChild
-behind_last p [] e = record p { behind = p.behind ++ e ∷ [] } ∷ []
-behind_last p (q ∷ qs) e = p ∷ behind_last q qs e
+abbrev pub after_last : AwaitedChild → List AwaitedChild → Event → List AwaitedChild
+after_last p [] e = record p { after = p.after ++ e ∷ [] } ∷ []
+after_last p (q ∷ qs) e = p ∷ after_last q qs e
 
 abbrev pub emit_at : List AwaitedChild → Event → Trace → Trace
 emit_at [] e trace = record trace { prefix = prefix_unless trace.fault trace.prefix (e ∷ []) }
-emit_at (p ∷ ps) e trace = record trace { handed = behind_last p ps e }
+emit_at (p ∷ ps) e trace = record trace { handed = after_last p ps e }
 
 abbrev pub emit : Event → Trace → Trace
 emit e trace = emit_at trace.handed e trace
 
 -- a child more
 abbrev pub add_child : Origin → Destination → Trace → Trace
-add_child o place trace = record trace { handed = trace.handed ++ record { child = o; place = place; behind = [] } ∷ [] }
+add_child o place trace = record trace { handed = trace.handed ++ record { child = o; place = place; after = [] } ∷ [] }
 
 -- what a move shows
 abbrev pub with_effects : List Effect → Trace → Trace
@@ -60,7 +60,7 @@ with_effects (Loops ∷ ts) trace = with_effects ts trace
 -- the answer's events, and where it is no fault then those after the child
 abbrev pub heard_unless : Option Fault → List Event → AwaitedChild → List Event → Result (List Value) Fault → Trace
 heard_unless (Some f) prefix p events ending = record { prefix = prefix; fault = Some f; handed = [] }
-heard_unless None prefix p events (Ok vs) = record { prefix = prefix ++ (events ++ p.behind); fault = None; handed = [] }
+heard_unless None prefix p events (Ok vs) = record { prefix = prefix ++ (events ++ p.after); fault = None; handed = [] }
 heard_unless None prefix p events (Err f) = record { prefix = prefix ++ events; fault = Some f; handed = [] }
 
 -- a trace without children, after which a child's answer was taken

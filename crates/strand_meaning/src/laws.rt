@@ -2,7 +2,7 @@
 
 ghost use Rattle.strand_meaning.specs.Cuts.{AnswersEnd, CutsPass, FaultsPass};
 ghost use Rattle.strand_meaning.specs.StrandLaws.{StrandsAreTheElisions};
-ghost use Rattle.strand_meaning.specs.Laws.{AnswersAreEvaluations, AnswersKeepTasks, AnswersLeaveNoMore, AnswersShowNothing, MovesFall, MovesLeaveUnfilledAlone, NotesBegin, NotesGoOn, OriginsFit, StepsAreSound, StopsAreOne, StopsAreShown, StopsAreSound, StopsCome, StopsFall, StopsKeepOrigins, TasksBegin, UnfilledIsPending, ValidPlansAreClear};
+ghost use Rattle.strand_meaning.specs.Laws.{AnswersAreEvaluations, AnswersKeepTasks, AnswersLeaveNoMore, AnswersShowNothing, MovesFall, MovesLeaveUnfilledAlone, ObservationBegins, ObservationGoesOn, OriginsFit, StepsAreSound, StopsAreOne, StopsAreShown, StopsAreSound, StopsCome, StopsFall, StopsKeepOrigins, TasksBegin, UnfilledIsPending, ValidPlansAreClear};
 
 /// A task of an origin of the plan begins sound where no function of the script touches a pending variable.
 pub fn tasks_begin()
@@ -87,13 +87,13 @@ pub fn strands_are_the_elisions()
 {}
 
 /// Of a task that wasn't advanced nothing is to be noted: its node is what is left.
-pub fn notes_begin()
-    ensures { NotesBegin }
+pub fn observation_begins()
+    ensures { ObservationBegins }
 {}
 
 /// What a task shows up to its next stop joins what is noted of it, and at its end that is its whole node: the items and the ending.
-pub fn notes_go_on()
-    ensures { NotesGoOn }
+pub fn observation_goes_on()
+    ensures { ObservationGoesOn }
 {}
 
 /// Answers that a task takes change nothing of what is noted: they are known to its node.

@@ -1,6 +1,6 @@
 //! The strands of small scripts. Each function does nothing; its contract is the example.
 
-ghost use Rattle.strand_meaning.specs.StrandExamples.{ChildsFaultBlocks, ChildsStrandHasItsFault, FirstStrandPrintsAndSpawns, IterationsHaveStrands, IterationsPathIsNoStrand, LoopIsAStrandsEvent, NoStrandBehindAFault, NoStrandBelowAMissingIteration, ParentGoesOnToItsFault, SyncStandsWhereAChildFaulted, ScopesFirstStrandSpawns, ScopesSecondStrandSyncs, ScopesLastStrandIsThere, NoStrandBehindAScopesLast, StrandAfterAScopePrints};
+ghost use Rattle.strand_meaning.specs.StrandExamples.{ChildsFaultBlocks, ChildsStrandHasItsFault, FirstStrandPrintsAndSpawns, IterationsHaveStrands, IterationsPathIsNoStrand, LoopIsAStrandsEvent, NoStrandAfterAFault, NoStrandBelowAMissingIteration, ParentGoesOnToItsFault, SyncStandsWhereAChildFaulted, ScopesFirstStrandSpawns, ScopesSecondStrandSyncs, ScopesLastStrandIsThere, NoStrandAfterAScopesLast, StrandAfterAScopePrints};
 
 /// `fn bad() { let z = 0; return 1 / z; } fn main() { print 7; spawn bad(); return 0; }` with a budget of 2: the strand 0 prints 7 and
 /// spawns.
@@ -22,9 +22,9 @@ pub fn parent_goes_on_to_its_fault()
 {}
 
 /// It has no strand 7.
-#[tactic(auto, using(crate::proofs::Computed::StrandRuns::no_strand_behind_a_fault))]
-pub fn no_strand_behind_a_fault()
-    ensures { NoStrandBehindAFault }
+#[tactic(auto, using(crate::proofs::Computed::StrandRuns::no_strand_after_a_fault))]
+pub fn no_strand_after_a_fault()
+    ensures { NoStrandAfterAFault }
 {}
 
 /// `fn bad() { let z = 0; return 1 / z; } fn main() { spawn bad(); sync; print 1; return 0; }`: the strand 1 syncs.
@@ -84,9 +84,9 @@ pub fn scopes_last_strand_is_there()
 {}
 
 /// There is no strand 0.3.
-#[tactic(auto, using(crate::proofs::Computed::StrandRuns::no_strand_behind_a_scopes_last))]
-pub fn no_strand_behind_a_scopes_last()
-    ensures { NoStrandBehindAScopesLast }
+#[tactic(auto, using(crate::proofs::Computed::StrandRuns::no_strand_after_a_scopes_last))]
+pub fn no_strand_after_a_scopes_last()
+    ensures { NoStrandAfterAScopesLast }
 {}
 
 /// The strand 1 of the same prints 21, and has the sync that the return implies.

@@ -35,13 +35,13 @@ block_of block [] = block
 block_of block (e ∷ es) = block_of (block_in block e) es
 
 -- what is left of the enclosing blocks, from the innermost on
-abbrev pub behind_of : List Stmt → List Entered → List Stmt
-behind_of block [] = []
-behind_of block (e ∷ es) = behind_of (block_in block e) es ++ drop e.back block
+abbrev pub left_around : List Stmt → List Entered → List Stmt
+left_around block [] = []
+left_around block (e ∷ es) = left_around (block_in block e) es ++ drop e.back block
 
 -- the statements left of a function's body
 unfoldable pub left_of : List Stmt → Cursor → List Stmt
-left_of body c = drop c.next (block_of body c.entered.items) ++ behind_of body c.entered.items
+left_of body c = drop c.next (block_of body c.entered.items) ++ left_around body c.entered.items
 
 -- a scope's block, and no statements where this is no scope
 abbrev pub scope_of : Act-F Act Stmt → List Stmt
@@ -57,11 +57,11 @@ abbrev pub scope_after : List Stmt → Cursor → List Stmt
 scope_after body c = scope_at (slice_get (block_of body c.entered.items) (c.next - 1))
 
 -- The cursor stands after this statement.
-pub record IsBehind (body : List Stmt) (c : Cursor) (st : Stmt) : Type 0 where
+pub record IsAfterStatement (body : List Stmt) (c : Cursor) (st : Stmt) : Type 0 where
   pub some : 0 < c.next
   pub there : slice_get (block_of body c.entered.items) (c.next - 1) ≡ Some st
 
 -- the next statement and those after it
 pub record PassesStatement (body : List Stmt) (old new : Cursor) (st : Stmt) : Type 0 where
   pub first : left_of body old ≡ st ∷ left_of body new
-  pub behind : IsBehind body new st
+  pub after : IsAfterStatement body new st

@@ -19,19 +19,19 @@ use Rattle.strand_meaning.specs.Machine.{Spawned, Looped, Effect, Opens, Closes,
 use Rattle.strand_values.specs.declared.halt.Halt as values
 use Rattle.strand_values.specs.declared.halt.Halt.TheVariants as halt
 use Rattle.strand_moves.specs.declared.effects.Effects.{Effects}
-use Rattle.strand_moves.specs.declared.effects.Effects.TheVariants as shown
+use Rattle.strand_moves.specs.declared.effects.Effects.TheVariants as effect
 use Rattle.strand_moves.specs.declared.effects.MoveResult.{MoveResult}
 use Rattle.strand_moves.specs.declared.effects.MoveResult.TheVariants as moved
 
 -- the effects of what is shown
 abbrev pub effects_of : Effects → List Effect
-effects_of shown.Nothing = []
-effects_of (shown.Emitted e) = Emitted e ∷ []
-effects_of (shown.Opened path) = Opens path ∷ []
-effects_of (shown.Closed j) = Closes j ∷ []
-effects_of (shown.Spawned e s) = Emitted e ∷ Handed s.child.origin (Spawned s.height s.target) ∷ []
-effects_of (shown.Synced e) = Emitted e ∷ Syncs ∷ []
-effects_of (shown.Looped e l) = Emitted e ∷ Handed l.child.origin (Looped l.target) ∷ Loops ∷ []
+effects_of effect.Nothing = []
+effects_of (effect.Emitted e) = Emitted e ∷ []
+effects_of (effect.Opened path) = Opens path ∷ []
+effects_of (effect.Closed j) = Closes j ∷ []
+effects_of (effect.Spawned e s) = Emitted e ∷ Handed s.child.origin (Spawned s.height s.target) ∷ []
+effects_of (effect.Synced e) = Emitted e ∷ Syncs ∷ []
+effects_of (effect.Looped e l) = Emitted e ∷ Handed l.child.origin (Looped l.target) ∷ Loops ∷ []
 
 -- The trail is one of the plan's coefficients, and of the origin's path.
 pub record IsTrailOf (plan : PlanView) (o : Origin) (trail : Trail) : Type 0 where
@@ -40,13 +40,13 @@ pub record IsTrailOf (plan : PlanView) (o : Origin) (trail : Trail) : Type 0 whe
 
 -- a child that is shown has the trail of its origin
 abbrev pub ShowsTrail : PlanView → Effects → Type 0
-ShowsTrail plan shown.Nothing = Unit {0}
-ShowsTrail plan (shown.Emitted e) = Unit {0}
-ShowsTrail plan (shown.Opened path) = Unit {0}
-ShowsTrail plan (shown.Closed j) = Unit {0}
-ShowsTrail plan (shown.Spawned e s) = IsTrailOf plan s.child.origin s.child.trail
-ShowsTrail plan (shown.Synced e) = Unit {0}
-ShowsTrail plan (shown.Looped e l) = IsTrailOf plan l.child.origin l.child.trail
+ShowsTrail plan effect.Nothing = Unit {0}
+ShowsTrail plan (effect.Emitted e) = Unit {0}
+ShowsTrail plan (effect.Opened path) = Unit {0}
+ShowsTrail plan (effect.Closed j) = Unit {0}
+ShowsTrail plan (effect.Spawned e s) = IsTrailOf plan s.child.origin s.child.trail
+ShowsTrail plan (effect.Synced e) = Unit {0}
+ShowsTrail plan (effect.Looped e l) = IsTrailOf plan l.child.origin l.child.trail
 
 abbrev pub MovesTrail : PlanView → MoveResult → Type 0
 MovesTrail plan (moved.Went s) = ShowsTrail plan s

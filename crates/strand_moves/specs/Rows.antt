@@ -8,17 +8,17 @@ use Rattle.strand_moves.specs.declared.cursor.Cursor.{Cursor}
 use Rattle.strand_moves.specs.declared.running.Running.{Running}
 use Rattle.strand_moves.specs.declared.effects.MoveResult.{MoveResult}
 use Rattle.strand_moves.specs.declared.effects.MoveResult.TheVariants as moved
-use Rattle.strand_moves.specs.declared.effects.Effects.TheVariants as shown
-use Rattle.strand_moves.specs.Cursors.{IsBehind, left_of, PassesStatement}
+use Rattle.strand_moves.specs.declared.effects.Effects.TheVariants as effect
+use Rattle.strand_moves.specs.Cursors.{IsAfterStatement, left_of, PassesStatement}
 use Rattle.strand_moves.specs.Moves.{run_of}
 use Rattle.strand_moves.specs.Running.{IsInstance, machine_of, path_of, statements_of}
 
 -- They lead from the first of these instances to the other. A sink takes the events that they show.
 pub data Row {S : Type 0} (after : Event → S → S) (plan : PlanView) (first : Running) (start : S) : Running → S → Type 0 where
   Still : (now : Running) (sent : S) → now ≡ first → sent ≡ start → Row after plan first start now sent
-  More : (before now : Running) (sent : S) → Row after plan first start before sent → move plan (path_of before) (machine_of plan before) ≡ run_of (moved.Went shown.Nothing) (machine_of plan now) → path_of now ≡ path_of before →
+  More : (before now : Running) (sent : S) → Row after plan first start before sent → move plan (path_of before) (machine_of plan before) ≡ run_of (moved.Went effect.Nothing) (machine_of plan now) → path_of now ≡ path_of before →
       IsInstance plan now → Row after plan first start now sent
-  Emits : (before now : Running) (earlier sent : S) (e : Event) → Row after plan first start before earlier → move plan (path_of before) (machine_of plan before) ≡ run_of (moved.Went (shown.Emitted e)) (machine_of plan now) →
+  Emits : (before now : Running) (earlier sent : S) (e : Event) → Row after plan first start before earlier → move plan (path_of before) (machine_of plan before) ≡ run_of (moved.Went (effect.Emitted e)) (machine_of plan now) →
       sent ≡ after e earlier → path_of now ≡ path_of before → IsInstance plan now → Row after plan first start now sent
 
 -- They lead to an instance that makes one move more, and that one was made.
@@ -35,7 +35,7 @@ IsNextStatement body old new (Some st) = PassesStatement body old new st
 -- What holds where the cursor has just passed this statement, or where none was left.
 abbrev pub HasPassedStatement : PlanView → Running → Option Stmt → Type 0
 HasPassedStatement plan i None = left_of (statements_of plan i.top) i.top.cursor ≡ []
-HasPassedStatement plan i (Some st) = (i.leaving ≡ false) × IsBehind (statements_of plan i.top) i.top.cursor st
+HasPassedStatement plan i (Some st) = (i.leaving ≡ false) × IsAfterStatement (statements_of plan i.top) i.top.cursor st
 
 abbrev pub with_next : Option Stmt → List Stmt → List Stmt
 with_next None left = []

@@ -11,7 +11,7 @@ use Rattle.strand_values.specs.declared.halt.Halt.TheVariants as halt
 use Rattle.strand_moves.specs.declared.running.Running.{Running}
 use Rattle.strand_moves.specs.declared.effects.MoveResult.{MoveResult}
 use Rattle.strand_moves.specs.declared.effects.MoveResult.TheVariants as moved
-use Rattle.strand_moves.specs.declared.effects.Effects.TheVariants as shown
+use Rattle.strand_moves.specs.declared.effects.Effects.TheVariants as effect
 use Rattle.strand_moves.specs.declared.effects.Spawning.{Spawning}
 use Rattle.strand_moves.specs.Moves.{IsTrailOf, acted, run_of, spawn_to}
 use Rattle.strand_moves.specs.Rows.{unpassed}
@@ -19,7 +19,7 @@ use Rattle.strand_moves.specs.Running.{machine_of, path_of}
 
 -- a spawn, as a move
 abbrev pub handed : Result Spawning values.Halt → Result MoveResult values.Halt
-handed (Ok s) = Ok (moved.Went (shown.Spawned s.event s.spawned))
+handed (Ok s) = Ok (moved.Went (effect.Spawned s.event s.spawned))
 handed (Err h) = Err h
 
 -- It is that move, where there was memory for its box.
@@ -33,7 +33,7 @@ DoesAs st to c = (plan : PlanView) (here : List ℕ) (m : Machine) → acted pla
 -- The spawn was done that the instance made after its cursor passed. Or nothing changed.
 abbrev pub HasSpawned : PlanView → Running → Option Stmt → Running → Option Spawning → Type 0
 HasSpawned plan old next new None = new ≡ old
-HasSpawned plan old next new (Some s) = move plan (path_of old) (unpassed plan old next) ≡ run_of (moved.Went (shown.Spawned s.event s.spawned)) (machine_of plan new)
+HasSpawned plan old next new (Some s) = move plan (path_of old) (unpassed plan old next) ≡ run_of (moved.Went (effect.Spawned s.event s.spawned)) (machine_of plan new)
 
 -- the child has the trail of its origin
 abbrev pub SpawnsTrail : PlanView → Option Spawning → Type 0

@@ -14,12 +14,12 @@ ghost use Rattle.strand_moves.specs.Found.{ArePlaces, FindsTarget};
 ghost use Rattle.strand_moves.specs.Acts.{Acts, BeginsOne, Costs, IsCallee, StaysUnlessMemory, result_of};
 ghost use Rattle.strand_moves.specs.Running.{AreNamed, IsNamed, IsNamedIn, IsStrand, KeepsNames, machine_of, path_of, present_of};
 ghost use Rattle.strand_moves.specs.Moves.{Makes, MovesTrail, call_to, present_pedigree};
-ghost use Rattle.strand_moves.specs.Quick.{StaysThere, quiet, told};
+ghost use Rattle.strand_moves.specs.Quick.{StaysThere, quiet, emitted_if_any};
 
 use crate::effects::{Effects, MoveResult};
 use crate::frame::{Frame, target_of};
 use crate::memory::Memory;
-use crate::quick::{quiet, told};
+use crate::quick::{emitted_if_any, quiet};
 use crate::running::Running;
 use script_grammar::{CallText, Function, Name};
 use serial_meaning::{Event, FaultKind, Plan, Value};
@@ -174,7 +174,7 @@ impl Running {
         requires here { here_of (path_of self.old) (machine_of plan.now self.old) ≡ present_of self.old }
         requires alone { self.old.top.spawned ≡ false }
         ensures shows { let m = machine_of plan.now self.old in
-            Makes (return_move plan.now (path_of self.old) m false) (present_pedigree (present_of self.old) m) (machine_of plan.now self.new) (told result) }
+            Makes (return_move plan.now (path_of self.old) m false) (present_pedigree (present_of self.old) m) (machine_of plan.now self.new) (emitted_if_any result) }
         ensures same { (kind : FaultKind) → result ≡ Err (Fault kind) → self.new ≡ self.old }
         ensures paid { OnOk result (self.new.steps + 1 ≡ self.old.steps) }
         ensures rest { OnOk result (self.new ≡ record self.old { steps = self.new.steps; rank = self.new.rank; top = record self.old.top { returning = true } }) }
@@ -203,7 +203,7 @@ impl Running {
         ensures named { KeepsNames plan.now self.old self.new }
     {
         if !self.top.spawned {
-            return told(self.return_alone(plan));
+            return emitted_if_any(self.return_alone(plan));
         }
         self.pay()?;
         self.top.returning = true;

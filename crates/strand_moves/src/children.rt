@@ -23,7 +23,7 @@ ghost use Rattle.strand_values.specs.declared.halt.Halt.TheVariants.{Fault};
 ghost use Rattle.strand_moves.specs.Moves.{IsTrailOf, MovesTrail, Shows, spawn_to};
 ghost use Rattle.strand_moves.specs.Rows.{HasPassedStatement};
 ghost use Rattle.strand_moves.specs.Spawns.{DoesAs, HasSpawned, IsHanded, SpawnsTrail, handed};
-ghost use Rattle.strand_moves.specs.declared.effects.Effects.TheVariants as shown;
+ghost use Rattle.strand_moves.specs.declared.effects.Effects.TheVariants as effect;
 
 use crate::calls::function_in;
 use crate::effects::{Child, Effects, LoopedChild, MoveResult, SpawnedChild, Spawning};
@@ -213,7 +213,7 @@ impl Running {
     ) -> Result<Effects, Memory>
         requires rank { self.old.rank < 2 ^ 32 }
         requires target { FindsTarget places.now self.old.top.env target.now }
-        ensures shown { IfOk result (λ s. s ≡ shown.Emitted (event.Loop (present_of self.old ++ self.old.rank ∷ []))) }
+        ensures shown { IfOk result (λ s. s ≡ effect.Emitted (event.Loop (present_of self.old ++ self.old.rank ∷ []))) }
         ensures passed { OnOk result (self.new ≡ record self.old { rank = self.old.rank + 1; top = record self.old.top { env = with_variables self.old.top.env (filled target.now [] self.old.top.env.variables) } }) }
         ensures stays { Stays self.old self.new }
         ensures few { Costs self.old self.new }
@@ -235,7 +235,7 @@ impl Running {
     ) -> Result<Effects, Memory>
         requires rank { self.old.rank < 2 ^ 32 }
         requires target { FindsTarget places.now self.old.top.env target.now }
-        ensures shown { IfOk result (λ s. s ≡ shown.Looped (event.Loop (present_of self.old ++ self.old.rank ∷ [])) (record { child = child; target = target.now })) }
+        ensures shown { IfOk result (λ s. s ≡ effect.Looped (event.Loop (present_of self.old ++ self.old.rank ∷ [])) (record { child = child; target = target.now })) }
         ensures passed { OnOk result (self.new ≡ record self.old { rank = self.old.rank + 1; top = record self.old.top { env = with_variables self.old.top.env (filled target.now [] self.old.top.env.variables) } }) }
         ensures stays { Stays self.old self.new }
         ensures few { Costs self.old self.new }

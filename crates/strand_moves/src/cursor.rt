@@ -5,7 +5,7 @@ ghost use Rattle.script_grammar.specs.declared.tree.Stmt.{Stmt, out-Stmt};
 ghost use Rattle.script_grammar.specs.declared.tree.Act.{out-Act};
 ghost use Rattle.strand_moves.specs.declared.cursor.Branch.TheVariants as branch;
 ghost use Rattle.strand_moves.specs.Quick.{is_fork};
-ghost use Rattle.strand_moves.specs.Cursors.{branch_of, block_in, block_of, left_of, scope_after, scope_of, IsBehind, PassesStatement};
+ghost use Rattle.strand_moves.specs.Cursors.{branch_of, block_in, block_of, left_of, scope_after, scope_of, IsAfterStatement, PassesStatement};
 
 use crate::memory::Memory;
 use crate::narrow::narrowed;
@@ -198,14 +198,14 @@ impl Cursor {
 
     /// Goes back before the statement after which the cursor stands.
     pub(crate) fn back(&mut self)
-        ensures { (body : List Stmt) (st : Stmt) → IsBehind body self.old st → left_of body self.new ≡ st ∷ left_of body self.old }
+        ensures { (body : List Stmt) (st : Stmt) → IsAfterStatement body self.old st → left_of body self.new ≡ st ∷ left_of body self.old }
     {
         self.next = self.next.saturating_sub(1);
     }
 
     /// Enters a block of the `if` after which the cursor stands.
     pub(crate) fn enter(&mut self, yes: bool) -> Result<(), Memory>
-        ensures { IfOk result (λ _. (body : List Stmt) (st : Stmt) → IsBehind body self.old st →
+        ensures { IfOk result (λ _. (body : List Stmt) (st : Stmt) → IsAfterStatement body self.old st →
             left_of body self.new ≡ branch_of (out-Act (out-Stmt st).act) (if yes then branch.Yes else branch.No) ++ left_of body self.old) }
     {
         let back = narrowed(self.next)?;
@@ -219,7 +219,7 @@ impl Cursor {
 
     /// Enters the body of the loop after which the cursor stands. The loop is left again after it.
     pub(crate) fn enter_loop(&mut self) -> Result<(), Memory>
-        ensures { IfOk result (λ _. (body : List Stmt) (st : Stmt) → IsBehind body self.old st →
+        ensures { IfOk result (λ _. (body : List Stmt) (st : Stmt) → IsAfterStatement body self.old st →
             left_of body self.new ≡ branch_of (out-Act (out-Stmt st).act) branch.LoopBody ++ (st ∷ left_of body self.old)) }
     {
         let back = narrowed(self.next.saturating_sub(1))?;

@@ -11,7 +11,7 @@ ghost use Rattle.strand_moves.specs.Found.{ArePlaces, FindsRight, FindsStatement
 ghost use Rattle.strand_moves.specs.Acts.{Costs, Stays};
 ghost use Rattle.strand_moves.specs.Cursors.{left_of};
 ghost use Rattle.strand_moves.specs.Running.{IsInstance, IsStrand, KeepsNames, statements_of};
-ghost use Rattle.strand_moves.specs.Quick.{HasCalled, HasEmitted, EndsFrame, HasGone, IsDone, IsQuiet, IsEmittedTo, IsWent, StaysThere, emitted, is_fork, quiet, told};
+ghost use Rattle.strand_moves.specs.Quick.{HasCalled, HasEmitted, EndsFrame, HasGone, IsDone, IsQuiet, IsEmittedTo, IsWent, StaysThere, emitted, is_fork, quiet, emitted_if_any};
 ghost use Rattle.strand_moves.specs.Rows.{Comes};
 
 use crate::effects::{Effects, MoveResult};
@@ -74,8 +74,8 @@ fn sent<S: EventSink>(
 }
 
 /// What showed an event or nothing, as a move.
-pub(crate) fn told(done: Result<Option<Event>, Halt>) -> Result<MoveResult, Halt>
-    ensures { result ≡ told done }
+pub(crate) fn emitted_if_any(done: Result<Option<Event>, Halt>) -> Result<MoveResult, Halt>
+    ensures { result ≡ emitted_if_any done }
 {
     match done {
         Ok(Some(event)) => Ok(MoveResult::Went(Effects::Emitted(event))),

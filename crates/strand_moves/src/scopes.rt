@@ -11,10 +11,10 @@ ghost use Rattle.strand_meaning.specs.Machine.{Emitted, end_move, sync_effects};
 ghost use Rattle.strand_values.specs.declared.halt.Halt.TheVariants as halt;
 ghost use Rattle.strand_values.specs.declared.halt.Halt.TheVariants.{Fault};
 ghost use Rattle.strand_moves.specs.Acts.{Acts, GoesIn, Keeps};
-ghost use Rattle.strand_moves.specs.Cursors.{IsBehind, left_of};
+ghost use Rattle.strand_moves.specs.Cursors.{IsAfterStatement, left_of};
 ghost use Rattle.strand_moves.specs.Running.{IsInstance, IsStrand, KeepsNames, machine_of, path_of, present_of, statements_of};
 ghost use Rattle.strand_moves.specs.Moves.{Makes, MovesTrail, Shows, present_pedigree};
-ghost use Rattle.strand_moves.specs.declared.effects.Effects.TheVariants as shown;
+ghost use Rattle.strand_moves.specs.declared.effects.Effects.TheVariants as effect;
 
 use crate::cursor::Cursor;
 use crate::effects::{Effects, MoveResult};
@@ -32,7 +32,7 @@ impl Running {
     /// A scope, after which the cursor stands: its block stands one level further, at rank 0.
     pub(crate) fn scope(&mut self, alloc: Global, plan: &Plan) -> Result<MoveResult, Halt>
         requires { IsStrand plan.now self.old }
-        ensures shows { (st : Stmt) (block : List Stmt) → IsBehind (statements_of plan.now self.old.top) self.old.top.cursor st →
+        ensures shows { (st : Stmt) (block : List Stmt) → IsAfterStatement (statements_of plan.now self.old.top) self.old.top.cursor st →
             out-Act (out-Stmt st).act ≡ act.Scope block → Acts plan.now st (act.Scope block) self.old self.new result }
         ensures child { IfOk result (MovesTrail plan.now) }
         ensures same { (kind : FaultKind) → result ≡ Err (Fault kind) → self.new ≡ self.old }
@@ -101,7 +101,7 @@ impl Running {
     /// Goes on after this scope, at the next rank of the path around it.
     fn go_out(&mut self, level: Level) -> Result<Effects, Memory>
         requires { level.rank < 2 ^ 32 }
-        ensures shown { IfOk result (λ s. s ≡ shown.Closed (level.trail.path ++ level.rank ∷ [])) }
+        ensures shown { IfOk result (λ s. s ≡ effect.Closed (level.trail.path ++ level.rank ∷ [])) }
         ensures passed { OnOk result (self.new ≡ record self.old { trail = level.trail; rank = level.rank + 1; leaving = false; top = record self.old.top { cursor = level.cursor } }) }
     {
         let Level {

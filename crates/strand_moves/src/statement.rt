@@ -11,7 +11,7 @@ ghost use Rattle.strand_values.specs.declared.halt.Halt.TheVariants.{Fault};
 ghost use Rattle.strand_values.specs.Environments.{FindsExpression, FindsName};
 ghost use Rattle.strand_moves.specs.Found.{ArePlaces, FindsStatement};
 ghost use Rattle.strand_moves.specs.Acts.{Acts, Costs, Keeps, Stays};
-ghost use Rattle.strand_moves.specs.Cursors.{IsBehind};
+ghost use Rattle.strand_moves.specs.Cursors.{IsAfterStatement};
 ghost use Rattle.strand_moves.specs.Running.{IsInstance, KeepsNames, machine_of, path_of, present_of, statements_of};
 ghost use Rattle.strand_moves.specs.Moves.{Makes, MovesTrail, present_pedigree};
 ghost use Rattle.strand_moves.specs.Quick.{StaysThere, emitted, quiet};
@@ -36,7 +36,7 @@ impl Running {
     ) -> Result<MoveResult, Halt>
         requires instance { IsInstance plan.now self.old }
         requires goes_on { self.old.leaving ≡ false }
-        requires behind { IsBehind (statements_of plan.now self.old.top) self.old.top.cursor statement.now }
+        requires after { IsAfterStatement (statements_of plan.now self.old.top) self.old.top.cursor statement.now }
         requires places { ArePlaces places.now plan.now }
         requires finds { FindsStatement places.now self.old.top.env statement.now }
         ensures shows { let m = machine_of plan.now self.old in
@@ -130,7 +130,7 @@ impl Running {
 
     pub(crate) fn branch(&mut self, places: &[u16], e: &Expr) -> Result<(), Halt>
         requires { FindsExpression places.now self.old.top.env e.now }
-        ensures shows { (plan : PlanView) (st : Stmt) (yes no : List Stmt) → IsBehind (statements_of plan self.old.top) self.old.top.cursor st →
+        ensures shows { (plan : PlanView) (st : Stmt) (yes no : List Stmt) → IsAfterStatement (statements_of plan self.old.top) self.old.top.cursor st →
             out-Act (out-Stmt st).act ≡ act.If e.now yes no → Acts plan st (act.If e.now yes no) self.old self.new (quiet result) }
         ensures same { (kind : FaultKind) → result ≡ Err (Fault kind) → self.new ≡ self.old }
         ensures there { StaysThere self.old self.new }
@@ -146,7 +146,7 @@ impl Running {
     #[inline(always)]
     pub(crate) fn while_test(&mut self, places: &[u16], e: &Expr) -> Result<(), Halt>
         requires { FindsExpression places.now self.old.top.env e.now }
-        ensures shows { (plan : PlanView) (st : Stmt) (body : List Stmt) → IsBehind (statements_of plan self.old.top) self.old.top.cursor st →
+        ensures shows { (plan : PlanView) (st : Stmt) (body : List Stmt) → IsAfterStatement (statements_of plan self.old.top) self.old.top.cursor st →
             out-Act (out-Stmt st).act ≡ act.While e.now body → Acts plan st (act.While e.now body) self.old self.new (quiet result) }
         ensures same { (kind : FaultKind) → result ≡ Err (Fault kind) → self.new ≡ self.old }
         ensures there { StaysThere self.old self.new }

@@ -14,7 +14,7 @@ use Rattle.sched_meaning.specs.declared.event.CoreEvent.TheVariants.{Run}
 use Rattle.sched_meaning.proofs.BegunOnce.Begun.{is-it, is_it}
 use Rattle.sched_meaning.proofs.BegunOnce.Changing.{each-get, total}
 use Rattle.sched_meaning.proofs.KeptByEvents.Cores as cores
-use Rattle.sched_meaning.proofs.KeptByEvents.Good.{IsGoing, IsGood, current-good}
+use Rattle.sched_meaning.proofs.KeptByEvents.Good.{IsRunning, IsGood, current-good}
 use Rattle.sched_meaning.proofs.BegunOnce.Handed.{stops_hand}
 use Rattle.sched_meaning.proofs.KeptByEvents.Kept.{by_origin}
 use Rattle.sched_core.specs.Cores.{answer_of, core_of, current_in, origins_of, plan_of, task_in, worker_of}
@@ -34,7 +34,7 @@ module _ (s : CoreState) (t : IsConsistent s) (w : ℕ) (v : WorkerView) (there 
   own-job = subst (λ o. IfSome o (IsJob s.nodes.items)) current (t.workers w v there).current
 
   -- its task is sound and stands in no wait
-  pub going : IsGoing (plan_of s) (origins_of s.nodes.items) (task_in j)
+  pub going : IsRunning (plan_of s) (origins_of s.nodes.items) (task_in j)
   going =
       let kept = cores.kept (plan_of s) t.led.workers t.led.events (core_of false s) t.valid t.led.leads in
       current-good (plan_of s) (origins_of s.nodes.items) (worker_of v) (task_in j) (each-get (IsGood (plan_of s) (origins_of s.nodes.items)) (map worker_of s.workers.items) w (worker_of v) (get-map worker_of s.workers.items w v there) kept.workers)
@@ -99,7 +99,7 @@ module _ (s next : CoreState) (t : IsConsistent s) (none : s.root ≡ None) (w :
 -- A wait
 
 -- what the state is after it
-pub record HasParked (w : ℕ) (j rest : Job) (v : WorkerView) (s next : CoreState) : Type 0 where
+pub record HasStalled (w : ℕ) (j rest : Job) (v : WorkerView) (s next : CoreState) : Type 0 where
   pub workers : next.workers.items ≡ slice_set s.workers.items w (record v { current = None; stalled = v.stalled ++ rest ∷ [] })
   pub nodes : next.nodes.items ≡ s.nodes.items
   pub plan : next.plan ≡ s.plan
@@ -108,7 +108,7 @@ pub record HasParked (w : ℕ) (j rest : Job) (v : WorkerView) (s next : CoreSta
   pub runs : next.runs ≡ s.runs + 1
 
 module _ (s next : CoreState) (t : IsConsistent s) (none : s.root ≡ None) (w : ℕ) (v : WorkerView) (there : slice_get s.workers.items w ≡ Some v) (j : Job) (current : v.current ≡ Some j) (rest : Job) where
-  module _ (stops : IsStop j.task (stop.Wait rest.task)) (number : rest.number ≡ j.number) (p : HasParked w j rest v s next) where
+  module _ (stops : IsStop j.task (stop.Wait rest.task)) (number : rest.number ≡ j.number) (p : HasStalled w j rest v s next) where
     own : IsJob s.nodes.items j
     own = own-job s t w v there j current
 

@@ -12,8 +12,8 @@ use Rattle.serial_meaning.specs.declared.origin.Origin.{Origin}
 use Rattle.serial_meaning.specs.declared.origin.Origin.TheVariants.{Instance, Loop}
 use Rattle.serial_meaning.specs.declared.answer.Outcome.{Outcome}
 use Rattle.strand_meaning.specs.Machine.{Effect, Opens, Closes, Emitted, Handed, Syncs, Loops, Reached, Stands, Gives, move}
-use Rattle.strand_meaning.specs.Trace.{AwaitedChild, Trace, behind_last, emit, emit_at, add_child, with_effects}
-use Rattle.strand_meaning.specs.Task.{InstanceState, Running, AtSync, AtLoop, Ended, Work, Splits, Runs, Over, Task, own_instance, MoveOrStop, Passes, Stops, Stop, Spawn, Wait, End, IsNext, Now, Later, stage_after, child_in, stops_at, passing, moved, ends_unless, faults_behind, gave, stage_step, first_half, split_step, over_step, work_step, step}
+use Rattle.strand_meaning.specs.Trace.{AwaitedChild, Trace, after_last, emit, emit_at, add_child, with_effects}
+use Rattle.strand_meaning.specs.Task.{InstanceState, Running, AtSync, AtLoop, Ended, Work, Splits, Runs, Over, Task, own_instance, MoveOrStop, Passes, Stops, Stop, Spawn, Wait, End, IsNext, Now, Later, stage_after, child_in, stops_at, passing, moved, ends_unless, faults_after, gave, stage_step, first_half, split_step, over_step, work_step, step}
 use Rattle.strand_meaning.specs.Sound.{IsEndOf, IsSoundWork, IsTask}
 use Rattle.strand_meaning.specs.Laws.{IsOf, IsSoundStep}
 use Rattle.strand_meaning.proofs.SoundSteps.Ends.{steps_are_sound}
@@ -28,13 +28,13 @@ pub child-append : (ps qs : List AwaitedChild) → children_in (ps ++ qs) ≡ ch
 child-append [] qs = refl
 child-append (p ∷ ps) qs = ap (λ l. p.child ∷ l) (child-append ps qs)
 
-child-behind : (p : AwaitedChild) (ps : List AwaitedChild) (e : Event) → children_in (behind_last p ps e) ≡ children_in (p ∷ ps)
-child-behind p [] e = refl
-child-behind p (q ∷ qs) e = ap (λ l. p.child ∷ l) (child-behind q qs e)
+child-after : (p : AwaitedChild) (ps : List AwaitedChild) (e : Event) → children_in (after_last p ps e) ≡ children_in (p ∷ ps)
+child-after p [] e = refl
+child-after p (q ∷ qs) e = ap (λ l. p.child ∷ l) (child-after q qs e)
 
 child-emit : (ps : List AwaitedChild) (e : Event) (trace : Trace) → trace.handed ≡ ps → children_in (emit_at ps e trace).handed ≡ children_in trace.handed
 child-emit [] e trace h = refl
-child-emit (p ∷ ps) e trace h = child-behind p ps e ∙ ap children_in (sym h)
+child-emit (p ∷ ps) e trace h = child-after p ps e ∙ ap children_in (sym h)
 
 child-effects : (ts : List Effect) (trace : Trace) → children_in (with_effects ts trace).handed ≡ children_in trace.handed ++ children ts
 child-effects [] trace = sym (append-nil (children_in trace.handed))
@@ -99,7 +99,7 @@ module _ (t : Task) where
   hands-moved at ts (Ok (Gives v)) h = child-effects ts t.trace ∙ ap (λ os. awaited t ++ os) h ∙ append-nil (awaited t)
   hands-moved at ts (Err f) h = child-effects ts t.trace ∙ ap (λ os. awaited t ++ os) h ∙ append-nil (awaited t)
 
-  hands-faults : (ps : List AwaitedChild) (f : Fault) → HandsStep t (faults_behind ps t f)
+  hands-faults : (ps : List AwaitedChild) (f : Fault) → HandsStep t (faults_after ps t f)
   hands-faults [] f = hands-ends t.trace.fault _
   hands-faults (p ∷ ps) f = refl
 

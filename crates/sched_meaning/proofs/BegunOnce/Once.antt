@@ -11,7 +11,7 @@ use Rattle.strand_meaning.proofs.SoundSteps.Ends.{tasks_begin}
 use Rattle.sched_meaning.specs.Core.{Worker, Core, gone_on, current_tasks, tasks_of, all_tasks, origins_of, answered, IsAnswered}
 use Rattle.sched_meaning.specs.Same.{same_origin}
 use Rattle.sched_meaning.specs.Sound.{StandsOnce}
-use Rattle.sched_meaning.proofs.Segments.Weights.{next, next-comes, Behind, behind-stop, weight, stop_weight, weight-stop}
+use Rattle.sched_meaning.proofs.Segments.Weights.{next, next-comes, FewerAfter, after-stop, weight, stop_weight, weight-stop}
 use Rattle.sched_meaning.proofs.Segments.Counted.{nothing, segments, at-least-one}
 use Rattle.sched_meaning.proofs.BegunOnce.Regions.{Region, not-own, AreApart, StopRegion, stop-region, on-region}
 use Rattle.sched_meaning.proofs.BegunOnce.Changing.{total, total-append, total-map, total-flat}
@@ -49,7 +49,7 @@ module _ (q : Origin) where
           let one : is_it q c ≡ 1 = ap (is_it q) (sym s) ∙ is-it q in inr (omega arith, subst (λ (p : Origin). Region t p) (sym s) a.own)
 
   module _ (t : Task) (is : IsTask t) (idle : t.waiting ≡ false) where
-    by-stop : (n k : ℕ) (stop : Stop) → Within n → StopRegion t stop → Behind t.plan t.origin k stop → segments t ≡ stop_weight 1 nothing stop → begins t ≡ stop_weight 0 (is_it q) stop → segments t ≤ suc n → AtMostOnce t
+    by-stop : (n k : ℕ) (stop : Stop) → Within n → StopRegion t stop → FewerAfter t.plan t.origin k stop → segments t ≡ stop_weight 1 nothing stop → begins t ≡ stop_weight 0 (is_it q) stop → segments t ≤ suc n → AtMostOnce t
     by-stop n k (End out ended) go r b e f s = inl f
     by-stop n k (Wait rest) go r b e f s = from (go (gone_on rest) b.0.task b.0.idle (omega arith))
       where
@@ -65,7 +65,7 @@ module _ (q : Origin) where
       let e : segments t ≡ stop_weight 1 nothing (next t) = weight-stop 1 nothing t (next t) is idle (next-comes t) in let one = at-least-one (next t) in absurd (omega arith)
   once-within (suc n) t is idle small =
       by-stop t is idle n _ (next t) (once-within n) (stop-region t (next t) is (next-comes t))
-      (behind-stop t.plan t.origin t (next t) (record { task = is; idle = idle; plan_is = refl; origin_is = refl }) (next-comes t)) (weight-stop 1 nothing t (next t) is idle (next-comes t))
+      (after-stop t.plan t.origin t (next t) (record { task = is; idle = idle; plan_is = refl; origin_is = refl }) (next-comes t)) (weight-stop 1 nothing t (next t) is idle (next-comes t))
       (weight-stop 0 (is_it q) t (next t) is idle (next-comes t)) small
 
   -- main's origin is none of those below it

@@ -13,7 +13,7 @@ use Rattle.serial_meaning.specs.declared.origin.Origin.TheVariants.{Instance, Lo
 use Rattle.serial_meaning.specs.declared.answer.Outcome.{Outcome}
 use Rattle.strand_meaning.specs.Machine.{Destination, Spawned, Looped, Half, Level, Frame, Effect, Opens, Closes, Emitted, Handed, Syncs, Loops, Machine, Reached, Stands, Gives, inside_of, present, here_of, begun, move}
 use Rattle.strand_meaning.specs.Trace.{AwaitedChild, add_child}
-use Rattle.strand_meaning.specs.Task.{InstanceState, Running, AtSync, AtLoop, Ended, Work, Splits, Runs, Over, Task, start, begun_stage, own_instance, begins_last, MoveOrStop, Passes, Stops, Stop, Spawn, Wait, End, IsNext, Now, Later, stage_after, child_in, stops_at, passing, moved, waits, ends_unless, faults_behind, gave, stage_step, first_half, split_step, over_step, work_step, step, changed, changed_at, answered, takes, joins, resumed, takes_all, resumed_work}
+use Rattle.strand_meaning.specs.Task.{InstanceState, Running, AtSync, AtLoop, Ended, Work, Splits, Runs, Over, Task, start, begun_stage, own_instance, begins_last, MoveOrStop, Passes, Stops, Stop, Spawn, Wait, End, IsNext, Now, Later, stage_after, child_in, stops_at, passing, moved, waits, ends_unless, faults_after, gave, stage_step, first_half, split_step, over_step, work_step, step, changed, changed_at, answered, takes, joins, resumed, takes_all, resumed_work}
 use Rattle.strand_meaning.specs.Rest.{evaluations}
 use Rattle.strand_meaning.specs.Sound.{IsEndOf, IsSoundWork, IsTask}
 use Rattle.strand_meaning.specs.Laws.{IsSoundStep}
@@ -142,7 +142,7 @@ module _ (t : Task) (is : IsTask t) where
   region-waits : (work : Work) → t.work ≡ work → StepRegion t.origin work (waits t)
   region-waits work at = λ q h. subst (λ (x : Work). WorkRegion t.origin x q) at h
 
-  region-faults : (work : Work) → t.work ≡ work → (ps : List AwaitedChild) (f : Fault) → StepRegion t.origin work (faults_behind ps t f)
+  region-faults : (work : Work) → t.work ≡ work → (ps : List AwaitedChild) (f : Fault) → StepRegion t.origin work (faults_after ps t f)
   region-faults work at [] f = region-ends work t.trace.fault _
   region-faults work at (p ∷ ps) f = region-waits work at
 

@@ -26,7 +26,7 @@ module _ (plan : PlanView) (s : OneChild plan) where
   both = main_origin plan ∷ s.child ∷ []
 
   abbrev child_answer : AnswerView
-  child_answer = record { plan = s.rest.plan; origin = s.child; out = s.told; outcome = s.childs_end }
+  child_answer = record { plan = s.rest.plan; origin = s.child; out = s.own_events; outcome = s.childs_end }
 
   abbrev root_answer : AnswerView
   root_answer = record { plan = (gone_on s.waiting).plan; origin = (gone_on s.waiting).origin; out = s.out; outcome = s.ended }
@@ -116,7 +116,7 @@ module _ (plan : PlanView) (s : OneChild plan) where
     unanswered = none-yet main;
     happens = record {
       task = start s.rest.plan s.child;
-      stop = End s.told s.childs_end;
+      stop = End s.own_events s.childs_end;
       moved = record c3 { workers = worker None [] [] ∷ worker None [] (s.waiting ∷ []) ∷ [] };
       runs = record { worker = worker (Some (start s.rest.plan s.child)) [] []; after = worker None [] []; there = refl; does = record { current = refl; comes = s.child_ends; after = refl }; next_is = refl };
       next_is = refl;

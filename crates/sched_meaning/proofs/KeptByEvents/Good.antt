@@ -40,8 +40,8 @@ pub record IsTaskOf (plan : PlanView) (begun : List Origin) (t : Task) : Type 0 
   pub plan_is : t.plan ≡ plan
   pub children : Each (IsChild plan begun t.origin) (awaited t)
 
-abbrev pub IsGoing : PlanView → List Origin → Task → Type 0
-IsGoing plan begun t = IsTaskOf plan begun t × (t.waiting ≡ false)
+abbrev pub IsRunning : PlanView → List Origin → Task → Type 0
+IsRunning plan begun t = IsTaskOf plan begun t × (t.waiting ≡ false)
 
 abbrev pub IsStalled : PlanView → List Origin → Task → Type 0
 IsStalled plan begun t = IsTaskOf plan begun t × (t.waiting ≡ true)
@@ -54,10 +54,10 @@ module _ (plan : PlanView) where
     children = each-map (IsChild plan begun t.origin) (IsChild plan (begun ++ more) t.origin) (λ c h. (h.0, in-front begun more c h.1)) (awaited t) is.children;
   }
 
-  pub begin-going : (begun : List Origin) (t : Task) (child : Origin) → IsTask t → t.plan ≡ plan → IsOriginOf t.plan child → IsGoing plan begun (start t.plan child)
+  pub begin-going : (begun : List Origin) (t : Task) (child : Origin) → IsTask t → t.plan ≡ plan → IsOriginOf t.plan child → IsRunning plan begun (start t.plan child)
   begin-going begun t child is same known = (record { task = tasks_begin t.plan child known is.clear; plan_is = same; children = tt }, refl)
 
-  pub goes-on : (begun : List Origin) (t : Task) → IsStalled plan begun t → IsGoing plan begun (gone_on t)
+  pub goes-on : (begun : List Origin) (t : Task) → IsStalled plan begun t → IsRunning plan begun (gone_on t)
   goes-on begun t is = (
     record {
       task = answers_keep_tasks t is.0.task;
@@ -69,11 +69,11 @@ module _ (plan : PlanView) where
 
   -- what a stop leaves, with its child begun
   abbrev pub IsLeft : List Origin → Task → Stop → Type 0
-  IsLeft begun t (Spawn child rest) = IsGoing plan (begun ++ child ∷ []) (start rest.plan child) × IsGoing plan (begun ++ child ∷ []) rest × (rest.origin ≡ t.origin)
+  IsLeft begun t (Spawn child rest) = IsRunning plan (begun ++ child ∷ []) (start rest.plan child) × IsRunning plan (begun ++ child ∷ []) rest × (rest.origin ≡ t.origin)
   IsLeft begun t (Wait rest) = IsStalled plan begun rest × (rest.origin ≡ t.origin)
   IsLeft begun t (End out ended) = (t.plan ≡ plan) × IsEval plan t.origin out ended
 
-  pub stop-leaves : (begun : List Origin) (t : Task) (stop : Stop) → IsGoing plan begun t → IsNext t stop → IsLeft begun t stop
+  pub stop-leaves : (begun : List Origin) (t : Task) (stop : Stop) → IsRunning plan begun t → IsNext t stop → IsLeft begun t stop
   stop-leaves begun t stop is n =
       from stop (stops_are_sound t stop is.0.task n) (stops_keep_origins t stop n) (stops_fall t stop is.0.task is.1 n) (stops_hand t stop is.0.task n)
     where
@@ -116,24 +116,24 @@ Current P (Some t) = P t
 
 -- the current task and those of the deque are in no wait, and the stalled ones stand in one
 pub record IsGood (plan : PlanView) (begun : List Origin) (w : Worker) : Type 0 where
-  pub current : Current (IsGoing plan begun) w.current
-  pub deque : Each (IsGoing plan begun) w.deque
+  pub current : Current (IsRunning plan begun) w.current
+  pub deque : Each (IsRunning plan begun) w.deque
   pub stalled : Each (IsStalled plan begun) w.stalled
 
 module _ (plan : PlanView) where
   pub grow : (begun more : List Origin) (w : Worker) → IsGood plan begun w → IsGood plan (begun ++ more) w
   grow begun more w is = record {
     current = current-grows w.current is.current;
-    deque = each-map (IsGoing plan begun) (IsGoing plan (begun ++ more)) (λ t h. (grow-task plan begun more t h.0, h.1)) w.deque is.deque;
+    deque = each-map (IsRunning plan begun) (IsRunning plan (begun ++ more)) (λ t h. (grow-task plan begun more t h.0, h.1)) w.deque is.deque;
     stalled = each-map (IsStalled plan begun) (IsStalled plan (begun ++ more)) (λ t h. (grow-task plan begun more t h.0, h.1)) w.stalled is.stalled;
   }
     where
-      current-grows : (o : Option Task) → Current (IsGoing plan begun) o → Current (IsGoing plan (begun ++ more)) o
+      current-grows : (o : Option Task) → Current (IsRunning plan begun) o → Current (IsRunning plan (begun ++ more)) o
       current-grows None h = tt
       current-grows (Some t) h = (grow-task plan begun more t h.0, h.1)
 
-  pub current-good : (begun : List Origin) (w : Worker) (t : Task) → IsGood plan begun w → w.current ≡ Some t → IsGoing plan begun t
-  current-good begun w t is h = subst (Current (IsGoing plan begun)) h is.current
+  pub current-good : (begun : List Origin) (w : Worker) (t : Task) → IsGood plan begun w → w.current ≡ Some t → IsRunning plan begun t
+  current-good begun w t is h = subst (Current (IsRunning plan begun)) h is.current
 
   -- the origins begun after a stop
   abbrev pub begun_by : List Origin → Stop → List Origin
@@ -144,31 +144,31 @@ module _ (plan : PlanView) where
   pub good-runs : (begun : List Origin) (w : Worker) (t : Task) (stop : Stop) → IsGood plan begun w → IsLeft plan begun t stop → IsGood plan (begun_by begun stop) (after_stop stop w)
   good-runs begun w t (Spawn child rest) is left =
       let more : IsGood plan (begun ++ child ∷ []) w = grow begun (child ∷ []) w is in
-      record { current = left.0; deque = each-append (IsGoing plan (begun ++ child ∷ [])) w.deque (rest ∷ []) more.deque (left.1, tt); stalled = more.stalled }
+      record { current = left.0; deque = each-append (IsRunning plan (begun ++ child ∷ [])) w.deque (rest ∷ []) more.deque (left.1, tt); stalled = more.stalled }
   good-runs begun w t (Wait rest) is left = record { current = tt; deque = is.deque; stalled = each-append (IsStalled plan begun) w.stalled (rest ∷ []) is.stalled (left.0, tt) }
   good-runs begun w t (End out ended) is left = record { current = tt; deque = is.deque; stalled = is.stalled }
 
   pub good-pops : (begun : List Origin) (t : Task) (w next : Worker) → WorkerPops t w next → IsGood plan begun w → IsGood plan begun next
   good-pops begun t w next p is =
-      let both : Each (IsGoing plan begun) (next.deque ++ t ∷ []) = subst (Each (IsGoing plan begun)) p.back is.deque in
-      let last : IsGoing plan begun t = (each-back (IsGoing plan begun) next.deque (t ∷ []) both).0 in
+      let both : Each (IsRunning plan begun) (next.deque ++ t ∷ []) = subst (Each (IsRunning plan begun)) p.back is.deque in
+      let last : IsRunning plan begun t = (each-back (IsRunning plan begun) next.deque (t ∷ []) both).0 in
       record {
-        current = subst (Current (IsGoing plan begun)) (sym p.current) last;
-        deque = each-front (IsGoing plan begun) next.deque (t ∷ []) both;
+        current = subst (Current (IsRunning plan begun)) (sym p.current) last;
+        deque = each-front (IsRunning plan begun) next.deque (t ∷ []) both;
         stalled = subst (Each (IsStalled plan begun)) (sym p.stalled) is.stalled;
       }
 
-  pub good-given : (begun : List Origin) (t : Task) (w next : Worker) → WorkerGives t w next → IsGood plan begun w → IsGoing plan begun t
-  good-given begun t w next p is = (subst (Each (IsGoing plan begun)) p.front is.deque).0
+  pub good-given : (begun : List Origin) (t : Task) (w next : Worker) → WorkerGives t w next → IsGood plan begun w → IsRunning plan begun t
+  good-given begun t w next p is = (subst (Each (IsRunning plan begun)) p.front is.deque).0
 
   pub good-gives : (begun : List Origin) (t : Task) (w next : Worker) → WorkerGives t w next → IsGood plan begun w → IsGood plan begun next
   good-gives begun t w next p is = record {
-    current = subst (Current (IsGoing plan begun)) (sym p.current) is.current;
-    deque = (subst (Each (IsGoing plan begun)) p.front is.deque).1;
+    current = subst (Current (IsRunning plan begun)) (sym p.current) is.current;
+    deque = (subst (Each (IsRunning plan begun)) p.front is.deque).1;
     stalled = subst (Each (IsStalled plan begun)) (sym p.stalled) is.stalled;
   }
 
-  pub good-takes : (begun : List Origin) (t : Task) (w next : Worker) → WorkerTakes t w next → IsGoing plan begun t → IsGood plan begun w → IsGood plan begun next
+  pub good-takes : (begun : List Origin) (t : Task) (w next : Worker) → WorkerTakes t w next → IsRunning plan begun t → IsGood plan begun w → IsGood plan begun next
   good-takes begun t w next p going is = subst (IsGood plan begun) (sym p.after) (record { current = going; deque = is.deque; stalled = is.stalled })
 
   pub good-resumes : (begun : List Origin) (k : ℕ) (t : Task) (w next : Worker) → WorkerResumes k t w next → IsGood plan begun w → IsGood plan begun next

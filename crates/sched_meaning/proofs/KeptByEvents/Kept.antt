@@ -16,7 +16,7 @@ use Rattle.sched_meaning.specs.declared.event.CoreEvent.TheVariants.{Run, Pop, S
 use Rattle.sched_meaning.proofs.Segments.Weights.{weight, stop_weight, weight-stop}
 use Rattle.sched_meaning.proofs.BegunOnce.Changing.{total, total-end, total-map, total-set, Each, each-append, each-map, each-get, each-set}
 use Rattle.sched_meaning.proofs.BegunOnce.Loads.{load, stop_load, load-stop, load-pops, load-gives, load-takes, load-resumes, load-passes}
-use Rattle.sched_meaning.proofs.KeptByEvents.Good.{IsGoing, IsGood, IsLeft, stop-leaves, grow, current-good, good-runs, good-pops, good-given, good-gives, good-takes, good-resumes, good-passes}
+use Rattle.sched_meaning.proofs.KeptByEvents.Good.{IsRunning, IsGood, IsLeft, stop-leaves, grow, current-good, good-runs, good-pops, good-given, good-gives, good-takes, good-resumes, good-passes}
 
 abbrev pub IsAnswerOf : PlanView → AnswerView → Type 0
 IsAnswerOf plan a = (a.plan ≡ plan) × IsEval plan a.origin a.out a.outcome
@@ -30,7 +30,7 @@ by_origin h t = h t.origin
 pub record IsKept (plan : PlanView) (out : List Task) (c : Core) : Type 0 where
   pub plan_is : c.plan ≡ plan
   pub workers : Each (IsGood plan c.begun) c.workers
-  pub between : Each (IsGoing plan c.begun) out
+  pub between : Each (IsRunning plan c.begun) out
   pub root : (more : List Origin) × (c.begun ≡ main_origin plan ∷ more)
   pub answers : Each (IsAnswerOf plan) c.answers
   pub same : (h : Origin → ℕ) → total h c.begun ≡ total h (answered c) + (total (load (by_origin h)) c.workers + total (by_origin h) out)
@@ -75,7 +75,7 @@ module _ (plan : PlanView) where
   -- A step by which one worker changes and nothing is noted
 
   changed-kept : (n : ℕ) (R : Worker → Worker → Type 0) (c next : Core) (p : Changes n R c next) (out after : List Task) → IsKept plan out c →
-      IsGood plan c.begun p.after → Each (IsGoing plan c.begun) after → ((f : Task → ℕ) → load f p.after + total f after ≡ load f p.worker + total f out) → IsKept plan after next
+      IsGood plan c.begun p.after → Each (IsRunning plan c.begun) after → ((f : Task → ℕ) → load f p.after + total f after ≡ load f p.worker + total f out) → IsKept plan after next
   changed-kept n R c next p out after is good between loads = subst (λ (d : Core). IsKept plan after d) (sym p.next_is) (record {
     plan_is = is.plan_is;
     workers = each-set (IsGood plan c.begun) c.workers n p.after good is.workers;
@@ -134,7 +134,7 @@ module _ (plan : PlanView) where
     good : IsGood plan c.begun worker
     good = each-get (IsGood plan c.begun) c.workers w worker there is.workers
 
-    going : IsGoing plan c.begun t
+    going : IsRunning plan c.begun t
     going = current-good plan c.begun worker t good current
 
     moved : Stop → Core
@@ -151,8 +151,8 @@ module _ (plan : PlanView) where
     abbrev before : (Task → ℕ) → ℕ
     before f = total (load f) c.workers
 
-    abbrev behind : (Task → ℕ) → Stop → ℕ
-    behind f stop = total (load f) (slice_set c.workers w (after_stop stop worker))
+    abbrev load_after : (Task → ℕ) → Stop → ℕ
+    load_after f stop = total (load f) (slice_set c.workers w (after_stop stop worker))
 
     abbrev all : ℕ → (Origin → ℕ) → ℕ
     all a h = h (main_origin plan) + weight a h (start plan (main_origin plan))
@@ -165,8 +165,8 @@ module _ (plan : PlanView) where
       between = tt;
       root = (is.root.0 ++ child ∷ [], ap (λ l. l ++ child ∷ []) is.root.1);
       answers = is.answers;
-      same = λ h. same (h child) (total h c.begun) _ (total h (answered c)) (before (by_origin h)) (behind (by_origin h) (Spawn child rest)) (h t.origin) (h rest.origin) (total-end h c.begun child) (is.same h) (sums (by_origin h) (Spawn child rest)) (ap h l.2);
-      left = λ a h. left a (h child) (total h c.begun) _ (before (weight a h)) (behind (weight a h) (Spawn child rest)) (weight a h t) (weight a h (start rest.plan child)) (weight a h rest) (a * c.runs) (a * (c.runs + 1)) (all a h) (total-end h c.begun child) (is.left a h) (sums (weight a h) (Spawn child rest)) (weighs a h (Spawn child rest) n) (times-more a c.runs);
+      same = λ h. same (h child) (total h c.begun) _ (total h (answered c)) (before (by_origin h)) (load_after (by_origin h) (Spawn child rest)) (h t.origin) (h rest.origin) (total-end h c.begun child) (is.same h) (sums (by_origin h) (Spawn child rest)) (ap h l.2);
+      left = λ a h. left a (h child) (total h c.begun) _ (before (weight a h)) (load_after (weight a h) (Spawn child rest)) (weight a h t) (weight a h (start rest.plan child)) (weight a h rest) (a * c.runs) (a * (c.runs + 1)) (all a h) (total-end h c.begun child) (is.left a h) (sums (weight a h) (Spawn child rest)) (weighs a h (Spawn child rest) n) (times-more a c.runs);
     }
       where
         same : (k b d x y z u v : ℕ) → d ≡ b + k → b ≡ x + (y + 0) → z + u ≡ y + (k + v) → v ≡ u → d ≡ x + (z + 0)
@@ -180,8 +180,8 @@ module _ (plan : PlanView) where
       between = tt;
       root = is.root;
       answers = is.answers;
-      same = λ h. same (total h c.begun) (total h (answered c)) (before (by_origin h)) (behind (by_origin h) (Wait rest)) (h t.origin) (h rest.origin) (is.same h) (sums (by_origin h) (Wait rest)) (ap h l.1);
-      left = λ a h. left a (total h c.begun) (before (weight a h)) (behind (weight a h) (Wait rest)) (weight a h t) (weight a h (gone_on rest)) (a * c.runs) (a * (c.runs + 1)) (all a h) (is.left a h) (sums (weight a h) (Wait rest)) (weighs a h (Wait rest) n) (times-more a c.runs);
+      same = λ h. same (total h c.begun) (total h (answered c)) (before (by_origin h)) (load_after (by_origin h) (Wait rest)) (h t.origin) (h rest.origin) (is.same h) (sums (by_origin h) (Wait rest)) (ap h l.1);
+      left = λ a h. left a (total h c.begun) (before (weight a h)) (load_after (weight a h) (Wait rest)) (weight a h t) (weight a h (gone_on rest)) (a * c.runs) (a * (c.runs + 1)) (all a h) (is.left a h) (sums (weight a h) (Wait rest)) (weighs a h (Wait rest) n) (times-more a c.runs);
     }
       where
         same : (b x y z u v : ℕ) → b ≡ x + (y + 0) → z + u ≡ y + v → v ≡ u → b ≡ x + (z + 0)
@@ -195,8 +195,8 @@ module _ (plan : PlanView) where
       between = tt;
       root = is.root;
       answers = each-append (IsAnswerOf plan) c.answers _ is.answers (l, tt);
-      same = λ h. same (total h c.begun) (total h (answered c)) _ (before (by_origin h)) (behind (by_origin h) (End out ended)) (h t.origin) (answers-end h) (is.same h) (sums (by_origin h) (End out ended));
-      left = λ a h. left a (total h c.begun) (before (weight a h)) (behind (weight a h) (End out ended)) (weight a h t) (a * c.runs) (a * (c.runs + 1)) (all a h) (is.left a h) (sums (weight a h) (End out ended)) (weighs a h (End out ended) n) (times-more a c.runs);
+      same = λ h. same (total h c.begun) (total h (answered c)) _ (before (by_origin h)) (load_after (by_origin h) (End out ended)) (h t.origin) (answers-end h) (is.same h) (sums (by_origin h) (End out ended));
+      left = λ a h. left a (total h c.begun) (before (weight a h)) (load_after (weight a h) (End out ended)) (weight a h t) (a * c.runs) (a * (c.runs + 1)) (all a h) (is.left a h) (sums (weight a h) (End out ended)) (weighs a h (End out ended) n) (times-more a c.runs);
     }
       where
         answer : AnswerView
@@ -217,7 +217,7 @@ module _ (plan : PlanView) where
   runs-kept : (w : ℕ) (c next : Core) → steps.Runs w c next → IsKept plan [] c → IsKept plan [] next
   runs-kept w c next s is =
       let p = s.runs in
-      let g : IsGoing plan c.begun s.task = current-good plan c.begun p.worker s.task (worker-good w _ c s.moved p [] is) p.does.current in
+      let g : IsRunning plan c.begun s.task = current-good plan c.begun p.worker s.task (worker-good w _ c s.moved p [] is) p.does.current in
       let k = run-kept w c p.worker s.task p.there p.does.current is s.stop p.does.comes (stop-leaves plan c.begun s.task s.stop g p.does.comes) in
       let e : s.moved ≡ record c { workers = slice_set c.workers w (after_stop s.stop p.worker) } = p.next_is ∙ ap (λ v. record c { workers = slice_set c.workers w v }) p.does.after in
       subst (λ (d : Core). IsKept plan [] d) (sym (s.next_is ∙ ap (λ (d : Core). noted s.task s.stop d) e)) k

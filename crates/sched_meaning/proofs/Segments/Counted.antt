@@ -12,7 +12,7 @@ use Rattle.strand_meaning.proofs.SoundSteps.Ends.{tasks_begin}
 use Rattle.strand_meaning.proofs.ClearPlans.ClearOfValid.{clear_of_valid}
 use Rattle.sched_meaning.specs.Core.{gone_on}
 use Rattle.sched_meaning.specs.Segments.{ComesToStops, Ends, Waits, Spawns, IsSegments}
-use Rattle.sched_meaning.proofs.Segments.Weights.{next, next-comes, Behind, behind-stop, weight, stop_weight, weight-stop}
+use Rattle.sched_meaning.proofs.Segments.Weights.{next, next-comes, FewerAfter, after-stop, weight, stop_weight, weight-stop}
 
 -- every child weighs nothing where it is begun
 abbrev pub nothing : Origin → ℕ
@@ -31,7 +31,7 @@ at-least-one (Wait rest) = omega arith
 at-least-one (End out ended) = omega arith
 
 module _ (t : Task) (is : IsTask t) (idle : t.waiting ≡ false) where
-  by-stop : (n k : ℕ) (stop : Stop) → Within n → IsNext t stop → Behind t.plan t.origin k stop → segments t ≡ stop_weight 1 nothing stop → segments t ≤ suc n → ComesToStops t (segments t)
+  by-stop : (n k : ℕ) (stop : Stop) → Within n → IsNext t stop → FewerAfter t.plan t.origin k stop → segments t ≡ stop_weight 1 nothing stop → segments t ≤ suc n → ComesToStops t (segments t)
   by-stop n k (End out ended) go i b e s = Ends out ended i e
   by-stop n k (Wait rest) go i b e s = Waits rest (segments (gone_on rest)) i (go (gone_on rest) b.0.task b.0.idle (omega arith)) e
   by-stop n k (Spawn child rest) go i b e s =
@@ -45,7 +45,7 @@ module _ (t : Task) (is : IsTask t) (idle : t.waiting ≡ false) where
 comes-within : (n : ℕ) → Within n
 comes-within zero t is idle small = let e = next-weighs t is idle in let one = at-least-one (next t) in absurd (omega arith)
 comes-within (suc n) t is idle small =
-    by-stop t is idle n _ (next t) (comes-within n) (next-comes t) (behind-stop t.plan t.origin t (next t) (record { task = is; idle = idle; plan_is = refl; origin_is = refl }) (next-comes t))
+    by-stop t is idle n _ (next t) (comes-within n) (next-comes t) (after-stop t.plan t.origin t (next t) (record { task = is; idle = idle; plan_is = refl; origin_is = refl }) (next-comes t))
     (next-weighs t is idle) small
 
 pub segments-come : (t : Task) → IsTask t → t.waiting ≡ false → ComesToStops t (segments t)

@@ -39,15 +39,15 @@ pub record IsAt (plan : PlanView) (o : Origin) (t : Task) : Type 0 where
   pub origin_is : t.origin ≡ o
 
 -- what holds after a stop
-abbrev pub Behind : PlanView → Origin → ℕ → Stop → Type 0
-Behind plan o n (Spawn c t) = IsOriginOf plan c × IsSmaller plan o c × IsAt plan o t × (stops_left t < n)
-Behind plan o n (Wait t) = IsAt plan o (gone_on t) × (stops_left (gone_on t) < n)
-Behind plan o n (End out ended) = Unit {0}
+abbrev pub FewerAfter : PlanView → Origin → ℕ → Stop → Type 0
+FewerAfter plan o n (Spawn c t) = IsOriginOf plan c × IsSmaller plan o c × IsAt plan o t × (stops_left t < n)
+FewerAfter plan o n (Wait t) = IsAt plan o (gone_on t) × (stops_left (gone_on t) < n)
+FewerAfter plan o n (End out ended) = Unit {0}
 
-pub behind-stop : (plan : PlanView) (o : Origin) (t : Task) (stop : Stop) → IsAt plan o t → IsNext t stop → Behind plan o (stops_left t) stop
-behind-stop plan o t stop at n = from stop (stops_are_sound t stop at.task n) (stops_keep_origins t stop n) (stops_fall t stop at.task at.idle n) (stops_hand t stop at.task n)
+pub after-stop : (plan : PlanView) (o : Origin) (t : Task) (stop : Stop) → IsAt plan o t → IsNext t stop → FewerAfter plan o (stops_left t) stop
+after-stop plan o t stop at n = from stop (stops_are_sound t stop at.task n) (stops_keep_origins t stop n) (stops_fall t stop at.task at.idle n) (stops_hand t stop at.task n)
   where
-    from : (stop : Stop) → IsSoundStop t stop → KeepsOrigin t stop → LeavesFewer t stop → HandsStop t stop → Behind plan o (stops_left t) stop
+    from : (stop : Stop) → IsSoundStop t stop → KeepsOrigin t stop → LeavesFewer t stop → HandsStop t stop → FewerAfter plan o (stops_left t) stop
     from (Spawn c r) sound same fewer hands = (
       subst (λ (p : PlanView). IsOriginOf p c) at.plan_is sound.0,
       subst (λ (q : Origin). IsSmaller plan q c) at.origin_is (subst (λ (p : PlanView). IsSmaller p t.origin c) at.plan_is hands.1),
@@ -106,9 +106,9 @@ module _ (a : ℕ) (h : Origin → ℕ) where
     stops-agree : (o : Origin) (f g : Origin → ℕ) → Agree o f g → (n m : ℕ) (t : Task) → IsAt plan o t → stops_left t < n → stops_left t < m → weight_within f n t ≡ weight_within g m t
     stops-agree o f g same zero m t at x y = absurd (omega arith)
     stops-agree o f g same (suc n) zero t at x y = absurd (omega arith)
-    stops-agree o f g same (suc n) (suc m) t at x y = by_stop (next t) (behind-stop plan o t (next t) at (next-comes t)) (stops-agree o f g same n m)
+    stops-agree o f g same (suc n) (suc m) t at x y = by_stop (next t) (after-stop plan o t (next t) at (next-comes t)) (stops-agree o f g same n m)
       where
-        by_stop : (stop : Stop) → Behind plan o (stops_left t) stop → ((u : Task) → IsAt plan o u → stops_left u < n → stops_left u < m → weight_within f n u ≡ weight_within g m u) →
+        by_stop : (stop : Stop) → FewerAfter plan o (stops_left t) stop → ((u : Task) → IsAt plan o u → stops_left u < n → stops_left u < m → weight_within f n u ≡ weight_within g m u) →
             with_stop f (weight_within f n) stop ≡ with_stop g (weight_within g m) stop
         by_stop (Spawn c u) b later =
             let p : f c ≡ g c = same c b.0 b.1 in let q : weight_within f n u ≡ weight_within g m u = later u b.2 (omega (arith, b.3)) (omega (arith, b.3)) in cong p q
@@ -174,7 +174,7 @@ module _ (a : ℕ) (h : Origin → ℕ) where
 
   pub weight-stop : (t : Task) (stop : Stop) → IsTask t → t.waiting ≡ false → IsNext t stop → weight t ≡ stop_weight stop
   unfolding weight
-  weight-stop t stop is idle n = first ∙ by_stop stop (behind-stop t.plan t.origin t stop at n)
+  weight-stop t stop is idle n = first ∙ by_stop stop (after-stop t.plan t.origin t stop at n)
     where
       at : IsAt t.plan t.origin t
       at = record { task = is; idle = idle; plan_is = refl; origin_is = refl }
@@ -185,7 +185,7 @@ module _ (a : ℕ) (h : Origin → ℕ) where
       first : weight_with f t ≡ with_stop f (weight_within f (stops_left t)) stop
       first = ap (with_stop f (weight_within f (stops_left t))) (next-is t stop n)
 
-      by_stop : (stop : Stop) → Behind t.plan t.origin (stops_left t) stop → with_stop f (weight_within f (stops_left t)) stop ≡ stop_weight stop
+      by_stop : (stop : Stop) → FewerAfter t.plan t.origin (stops_left t) stop → with_stop f (weight_within f (stops_left t)) stop ≡ stop_weight stop
       by_stop (Spawn c u) b = two _ _ _ _ (stops-begun t.plan u.plan c is.clear b.0 b.2.plan_is) (stops-enough t.plan t.origin u (stops_left t) is.clear b.2 b.3)
         where
           two : (x y z w : ℕ) → x ≡ y → z ≡ w → a + (h c + (x + z)) ≡ a + (h c + (y + w))

@@ -12,7 +12,7 @@ use Rattle.sched_meaning.proofs.Segments.Weights.{stop_weight, weight-stop}
 use Rattle.sched_meaning.proofs.Segments.Counted.{nothing, segments}
 use Rattle.sched_meaning.proofs.BegunOnce.Changing.{total, total-set, each-get}
 use Rattle.sched_meaning.proofs.BegunOnce.Loads.{load, stop_load, load-stop, load-pops, load-gives, load-takes, load-resumes}
-use Rattle.sched_meaning.proofs.KeptByEvents.Good.{IsGoing, IsGood, current-good}
+use Rattle.sched_meaning.proofs.KeptByEvents.Good.{IsRunning, IsGood, current-good}
 use Rattle.sched_meaning.proofs.KeptByEvents.Kept.{IsKept}
 use Rattle.sched_meaning.proofs.OneCore.OneStep.{not-both}
 
@@ -73,7 +73,7 @@ none-at-most (Some t) = omega arith
 runs-fall : (plan : PlanView) (w : ℕ) (c next : Core) → IsKept plan [] c → steps.Runs w c next → work_left next < work_left c
 runs-fall plan w c next is s =
     let p = s.runs in
-    let g : IsGoing plan c.begun s.task = current-good plan c.begun p.worker s.task (each-get (IsGood plan c.begun) c.workers w p.worker p.there is.workers) p.does.current in
+    let g : IsRunning plan c.begun s.task = current-good plan c.begun p.worker s.task (each-get (IsGood plan c.begun) c.workers w p.worker p.there is.workers) p.does.current in
     let e : segments s.task ≡ stop_weight 1 nothing s.stop = weight-stop 1 nothing s.task s.stop g.0.task g.1 p.does.comes in
     let f : stop_weight 1 nothing s.stop ≡ 1 + stop_load segments s.stop = stop-one s.stop in
     let l : load segments (after_stop s.stop p.worker) + segments s.task ≡ load segments p.worker + stop_load segments s.stop = load-stop segments p.worker s.task s.stop p.does.current in

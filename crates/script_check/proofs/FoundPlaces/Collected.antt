@@ -22,7 +22,7 @@ one-part see xs i x all old new h is e n =
     let rest = joined (map see (drop (i + 1) xs)) in
     e ∙ ap (λ l. old ++ joined (map see l)) (at_index xs i x h is) ∙ sym (append_assoc old (see x) rest) ∙ ap (λ l. l ++ rest) (sym n)
 
--- a test of each part, told of one and of those behind it
+-- a test of each part, told of one and of those after it
 pub all-at : {A : Type 0} (test : A → Bool) (xs : List A) (i : ℕ) (x : A) (b : Bool) → i < length xs → x ≡ get_or xs i x → test x ≡ b →
     all_true (map test (drop i xs)) ≡ (b && all_true (map test (drop (i + 1) xs)))
 all-at test xs i x b h is e = ap (λ l. all_true (map test l)) (at_index xs i x h is) ∙ ap (λ c. c && all_true (map test (drop (i + 1) xs))) e

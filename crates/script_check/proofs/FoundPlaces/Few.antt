@@ -313,10 +313,10 @@ function-few functions f h =
     let last : List Violation = wanted f.answer (read f.result) ends nobody in
     let none : Lists [] no_entries = record { same = λ q. refl; count = refl; few = omega arith } in
     let first = params-listed f.params [] no_entries none (nothing_left params body (nothing_left (params ++ body) last h)) in
-    let behind = body-listed f.body functions start known nobody first (nothing_right params body (nothing_left (params ++ body) last h)) in
+    let ended_block = body-listed f.body functions start known nobody first (nothing_right params body (nothing_left (params ++ body) last h)) in
     let result = read-known f.result ends nobody (wanted-left f.answer (read f.result) ends nobody (nothing_right (params ++ body) last h)) in
     subst (λ m. length m ≤ most_variables)
-    (sym (with-append start (named_in_block f.body) (named_in f.result) ∙ with-known (with_new_names start (named_in_block f.body)) ends behind (named_in f.result) result)) behind.few
+    (sym (with-append start (named_in_block f.body) (named_in f.result) ∙ with-known (with_new_names start (named_in_block f.body)) ends ended_block (named_in f.result) result)) ended_block.few
 
 all-few : (functions fs : List Function) → all_function_violations functions fs ≡ [] → All (λ f. length (variable_names f) ≤ most_variables) fs
 all-few functions [] h = All-nil (λ f. length (variable_names f) ≤ most_variables)

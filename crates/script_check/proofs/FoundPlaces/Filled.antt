@@ -64,7 +64,7 @@ agreed : (o : Option ℕ) → is_some o ≡ true → agree (Some (unwrap_or o 0)
 agreed None h = absurd (true≢false (sym h))
 agreed (Some i) h = eq-eqb i i refl
 
--- the names that rise behind the table's end are found
+-- the names that rise after the table's end are found
 pub found : (names : List (List ℕ)) (table : List ℕ) (xs : List Name) → Rises (length table) xs → each_is (λ x. is_some (place_in names x.bytes)) xs ≡ true →
     each_is (has_place (with_places names table xs) names) xs ≡ true
 found names table [] r known = refl
@@ -82,9 +82,9 @@ pub rises-front : (n : ℕ) (xs ys : List Name) → Rises n (xs ++ ys) → Rises
 rises-front n [] ys r = tt
 rises-front n (x ∷ xs) ys r = (r.0, rises-front (suc x.at) xs ys r.1)
 
--- what rises behind them rises behind the new end
-pub rises-behind : (names : List (List ℕ)) (table : List ℕ) (xs ys : List Name) → Rises (length table) (xs ++ ys) → Rises (length (with_places names table xs)) ys
-rises-behind names table [] ys r = r
-rises-behind names table (x ∷ xs) ys r =
+-- what rises after them rises after the new end
+pub rises-after : (names : List (List ℕ)) (table : List ℕ) (xs ys : List Name) → Rises (length table) (xs ++ ys) → Rises (length (with_places names table xs)) ys
+rises-after names table [] ys r = r
+rises-after names table (x ∷ xs) ys r =
     let next = with_place table x.at (unwrap_or (place_in names x.bytes) 0) in
-    rises-behind names next xs ys (subst (λ n. Rises n (xs ++ ys)) (sym (length-put table x.at (unwrap_or (place_in names x.bytes) 0) r.0)) r.1)
+    rises-after names next xs ys (subst (λ n. Rises n (xs ++ ys)) (sym (length-put table x.at (unwrap_or (place_in names x.bytes) 0) r.0)) r.1)

@@ -8,7 +8,7 @@ use Rattle.script_check.specs.Valid.{all_function_violations, function_violation
 use Rattle.script_check.proofs.FewerPending.Fewer.{nothing_left, nothing_right}
 use Rattle.script_check.proofs.FoundPlaces.Known.{all-known, function-stands}
 use Rattle.script_check.proofs.FoundPlaces.Named.{each_is, function-same, true-both}
-use Rattle.script_check.proofs.FoundPlaces.Filled.{found, found-append, longer, rises-behind, rises-front}
+use Rattle.script_check.proofs.FoundPlaces.Filled.{found, found-append, longer, rises-after, rises-front}
 use Rattle.script_check.proofs.FoundPlaces.Rising.{Rises, script-rises}
 
 -- later functions only add to the table
@@ -38,7 +38,7 @@ all-found functions table (f ∷ fs) r h =
     subst (λ t. each_is (has_place t names) xs ≡ true) (sym k.1) (found-append names next k.0 xs here) in
     true-both (finds_in (with_functions next fs) f) (finds_all (with_functions next fs) fs)
     (one-found f (with_functions next fs) (function-stands functions f (nothing_left (function_violations functions f) (all_function_violations functions fs) h)) later)
-    (all-found functions next fs (rises-behind names table xs ys r) (nothing_right (function_violations functions f) (all_function_violations functions fs) h))
+    (all-found functions next fs (rises-after names table xs ys r) (nothing_right (function_violations functions f) (all_function_violations functions fs) h))
 
 pub places_are_found : PlacesAreFound
 places_are_found script is valid =

@@ -32,8 +32,8 @@ append (passed d) e = passed (append d e)
 append (picked d) e = picked (append d e)
 
 -- one token more is passed at the end
-behind : {xs : List Name} {t : Token} {ts rest : List Token} → Picked xs ts (t ∷ rest) → Picked xs ts rest
-behind {xs} {t} {ts} {rest} d = subst (λ l. Picked l ts rest) (append-nil xs) (append d (passed no_more))
+after : {xs : List Name} {t : Token} {ts rest : List Token} → Picked xs ts (t ∷ rest) → Picked xs ts rest
+after {xs} {t} {ts} {rest} d = subst (λ l. Picked l ts rest) (append-nil xs) (append d (passed no_more))
 
 told : {xs ys : List Name} {ts rest : List Token} → xs ≡ ys → Picked ys ts rest → Picked xs ts rest
 told {xs} {ys} {ts} {rest} e d = subst (λ l. Picked l ts rest) (sym e) d
@@ -51,10 +51,10 @@ mutual
   in_factor (a_neg d) = told (named-neg _ _) (passed (in_factor d))
   in_factor a_number = told (named-number _) (passed no_more)
   in_factor a_name = told (named-var _) (picked no_more)
-  in_factor (an_item d) = told (named-item _ _) (picked (passed (behind (in_expr d))))
-  in_factor (a_group d) = passed (behind (in_expr d))
-  in_factor (a_same d e) = told (named-same _ _ _) (passed (passed (append (behind (in_expr d)) (behind (in_expr e)))))
-  in_factor (an_older d e) = told (named-older _ _ _) (passed (passed (append (behind (in_expr d)) (behind (in_expr e)))))
+  in_factor (an_item d) = told (named-item _ _) (picked (passed (after (in_expr d))))
+  in_factor (a_group d) = passed (after (in_expr d))
+  in_factor (a_same d e) = told (named-same _ _ _) (passed (passed (append (after (in_expr d)) (after (in_expr e)))))
+  in_factor (an_older d e) = told (named-older _ _ _) (passed (passed (append (after (in_expr d)) (after (in_expr e)))))
 
   in_term : {ts rest : List Token} {x : Expr} → IsTerm ts x rest → Picked (named_in x) ts rest
   in_term (factors d e) = told (named-product_of _ _) (append (in_factor d) (in_factors e))
@@ -72,7 +72,7 @@ mutual
 
   in_expr : {ts rest : List Token} {x : Expr} → IsExpr ts x rest → Picked (named_in x) ts rest
   in_expr (alone d) = in_sum d
-  in_expr (compared d k e) = told (named-compare _ _ _) (append (behind (in_sum d)) (in_sum e))
+  in_expr (compared d k e) = told (named-compare _ _ _) (append (after (in_sum d)) (in_sum e))
 
 in_more_args : {ts rest : List Token} {xs : List Expr} → IsMoreArgs ts xs rest → Picked (named_in_all xs) ts rest
 in_more_args no_more_args = no_more
@@ -83,7 +83,7 @@ in_args no_args = no_more
 in_args (some_args d e) = append (in_expr d) (in_more_args e)
 
 in_call : {ts rest : List Token} {c : CallText} → IsCall ts c rest → Picked (named_in_all c.args) ts rest
-in_call (a_call d) = passed (passed (behind (in_args d)))
+in_call (a_call d) = passed (passed (after (in_args d)))
 
 in_right : {ts rest : List Token} {r : Right} → IsRight ts r rest → Picked (named_in_right r) ts rest
 in_right (right_value d) = in_expr d
@@ -102,19 +102,19 @@ acted at what e d = told (named-is (stmt_at at what) ∙ e) d
 
 mutual
   in_stmt : {ts rest : List Token} {x : Stmt} → IsStmt ts x rest → Picked (named_in_statement x) ts rest
-  in_stmt (a_let d) = acted _ _ (named-let _ _) (passed (picked (passed (behind (in_right d)))))
+  in_stmt (a_let d) = acted _ _ (named-let _ _) (passed (picked (passed (after (in_right d)))))
   in_stmt an_array = acted _ _ (named-array _ _) (passed (picked (passed (passed (passed (passed no_more))))))
-  in_stmt (a_set d) = acted _ _ (named-set _ _) (picked (passed (behind (in_right d))))
-  in_stmt (a_store d e) = acted _ _ (named-store _ _ _) (picked (passed (append (behind (behind (in_expr d))) (behind (in_expr e)))))
-  in_stmt (a_spawn d) = acted _ _ (named-spawn _) (passed (behind (in_call d)))
-  in_stmt (a_call_stmt d) = acted _ _ (named-call _) (passed (behind (in_call d)))
+  in_stmt (a_set d) = acted _ _ (named-set _ _) (picked (passed (after (in_right d))))
+  in_stmt (a_store d e) = acted _ _ (named-store _ _ _) (picked (passed (append (after (after (in_expr d))) (after (in_expr e)))))
+  in_stmt (a_spawn d) = acted _ _ (named-spawn _) (passed (after (in_call d)))
+  in_stmt (a_call_stmt d) = acted _ _ (named-call _) (passed (after (in_call d)))
   in_stmt a_sync = acted _ _ named-sync (passed (passed no_more))
-  in_stmt (a_print d) = acted _ _ (named-print _) (passed (behind (in_expr d)))
+  in_stmt (a_print d) = acted _ _ (named-print _) (passed (after (in_expr d)))
   in_stmt (an_if d e f) = acted _ _ (named-if _ _ _) (passed (append (in_expr d) (append (in_block e) (in_else f))))
   in_stmt (a_while d e) = acted _ _ (named-while _ _) (passed (append (in_expr d) (in_block e)))
   in_stmt (a_pfor d e f g) =
       acted _ _ (named-pfor _ _ _ _ _)
-      (passed (passed (passed (append (behind (in_expr d)) (append (in_expr e) (append (behind (behind (behind (behind (in_into f))))) (behind (behind (in_more_args g)))))))))
+      (passed (passed (passed (append (after (in_expr d)) (append (in_expr e) (append (after (after (after (after (in_into f))))) (after (after (in_more_args g)))))))))
   in_stmt (a_scope d) = acted _ _ (named-scope _) (passed (in_block d))
 
   in_stmts : {ts rest : List Token} {xs : List Stmt} → IsStmts ts xs rest → Picked (named_in_block xs) ts rest
@@ -122,7 +122,7 @@ mutual
   in_stmts (one_stmt d e) = append (in_stmt d) (in_stmts e)
 
   in_block : {ts rest : List Token} {xs : List Stmt} → IsBlock ts xs rest → Picked (named_in_block xs) ts rest
-  in_block (a_block d) = passed (behind (in_stmts d))
+  in_block (a_block d) = passed (after (in_stmts d))
 
   in_else : {ts rest : List Token} {xs : List Stmt} → IsElse ts xs rest → Picked (named_in_block xs) ts rest
   in_else no_else = no_more
@@ -146,7 +146,7 @@ in_answer id_answer = passed (passed no_more)
 
 in_function : {ts rest : List Token} {f : Function} → IsFunction ts f rest → Picked (named_in_function f) ts rest
 in_function (a_function p k d e) =
-    passed (passed (passed (append (behind (in_params p)) (append (behind (in_answer k)) (append (behind (in_stmts d)) (behind (behind (in_expr e))))))))
+    passed (passed (passed (append (after (in_params p)) (append (after (in_answer k)) (append (after (in_stmts d)) (after (after (in_expr e))))))))
 
 pub in_functions : {ts rest : List Token} {fs : List Function} → IsFunctions ts fs rest → Picked (joined (map named_in_function fs)) ts rest
 in_functions no_functions = no_more

@@ -1,4 +1,4 @@
--- In a text each variable stands behind those that are named before it.
+-- In a text each variable stands after those that are named before it.
 use Rattle.std.proofs.Common.{ℕ, suc, ◌+◌, ◌≤◌, List, [], ◌∷◌, length, drop, map, arith}
 use Rattle.script_tokens.specs.declared.token.Lexeme.{Lexeme}
 use Rattle.script_tokens.specs.declared.lexing.LexEnd.TheVariants.{End}
@@ -12,7 +12,7 @@ use Rattle.script_grammar.specs.Text.{IsOfText, tokens_of}
 use Rattle.script_check.specs.Places.{joined, named_in_function}
 use Rattle.script_check.proofs.FoundPlaces.Picked.{Picked, no_more, passed, picked, in_functions}
 
--- they stand from the offset on, each behind the one before it
+-- they stand from the offset on, each after the one before it
 abbrev pub Rises : ℕ → List Name → Type 0
 Rises from [] = Unit {0}
 Rises from (x ∷ xs) = (from ≤ x.at) × Rises (suc x.at) xs

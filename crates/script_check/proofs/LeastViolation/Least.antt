@@ -58,11 +58,11 @@ taken u v w ws false e l =
 some_inside : {A : Type 0} (x y : A) → Some x ≡ Some y → x ≡ y
 some_inside x y h = cc
 
-least_behind : (u v : Violation) (ws : List Violation) → noted (Some u) ws ≡ Some v → IsLeast v u ws
-least_behind u v [] h =
+least_after : (u v : Violation) (ws : List Violation) → noted (Some u) ws ≡ Some v → IsLeast v u ws
+least_after u v [] h =
     let e : u ≡ v = some_inside u v h in
     (subst (λ (w : Violation). is_before u w ≡ false) e (irreflexive u), tt, inl e)
-least_behind u v (w ∷ ws) h = taken u v w ws (is_before w u) refl (least_behind (if is_before w u then w else u) v ws h)
+least_after u v (w ∷ ws) h = taken u v w ws (is_before w u) refl (least_after (if is_before w u then w else u) v ws h)
 
 stays : (u : Violation) (ws : List Violation) → noted (Some u) ws ≡ None → ⊥
 stays u [] h = true≢false (ap (λ (o : Option Violation). is_some o) h)
@@ -78,8 +78,8 @@ all_of v (w ∷ ws) n = All-cons (λ w. is_before w v ≡ false) w ws n.0 (all_o
 
 pub least_contained : (vs : List Violation) (v : Violation) → noted None vs ≡ Some v → Contains vs v
 least_contained [] v h = absurd (true≢false (sym (ap (λ (o : Option Violation). is_some o) h)))
-least_contained (u ∷ vs) v h = ⊎_elim (λ e. here v u vs e) (λ c. later v u vs c) (least_behind u v vs h).2
+least_contained (u ∷ vs) v h = ⊎_elim (λ e. here v u vs e) (λ c. later v u vs c) (least_after u v vs h).2
 
 pub none_before_least : (vs : List Violation) (v : Violation) → noted None vs ≡ Some v → All (λ w. is_before w v ≡ false) vs
 none_before_least [] v h = λ k d l. absurd (omega (arith, l))
-none_before_least (u ∷ vs) v h = let l = least_behind u v vs h in all_of v (u ∷ vs) (l.0, l.1)
+none_before_least (u ∷ vs) v h = let l = least_after u v vs h in all_of v (u ∷ vs) (l.0, l.1)

@@ -29,17 +29,17 @@ snoc [] f q = alone (bytes_eq f.name.bytes q)
     alone : (b : Bool) → cond b (Some 0) (option_map suc (first_named [] q)) ≡ or_else None (cond b (Some 0) None)
     alone true = refl
     alone false = refl
-snoc (g ∷ fs) f q = behind (bytes_eq g.name.bytes q) (snoc fs f q)
+snoc (g ∷ fs) f q = after (bytes_eq g.name.bytes q) (snoc fs f q)
   where
     later : (o : Option ℕ) (b : Bool) → option_map suc (or_else o (cond b (Some (length fs)) None)) ≡ or_else (option_map suc o) (cond b (Some (length (g ∷ fs))) None)
     later None true = refl
     later None false = refl
     later (Some k) b = refl
 
-    behind : (b : Bool) → first_named (fs ++ f ∷ []) q ≡ or_else (first_named fs q) (if bytes_eq f.name.bytes q then Some (length fs) else None) →
+    after : (b : Bool) → first_named (fs ++ f ∷ []) q ≡ or_else (first_named fs q) (if bytes_eq f.name.bytes q then Some (length fs) else None) →
         cond b (Some 0) (option_map suc (first_named (fs ++ f ∷ []) q)) ≡ or_else (cond b (Some 0) (option_map suc (first_named fs q))) (cond (bytes_eq f.name.bytes q) (Some (length (g ∷ fs))) None)
-    behind true h = refl
-    behind false h = ap (option_map suc) h ∙ later (first_named fs q) (bytes_eq f.name.bytes q)
+    after true h = refl
+    after false h = ap (option_map suc) h ∙ later (first_named fs q) (bytes_eq f.name.bytes q)
 
 indexed : (fs : List Function) (f : Function) (table : Table ℕ) → IsIndex fs table → IsIndex (fs ++ f ∷ []) (with_first table f.name.bytes (length fs))
 indexed fs f table h q =

@@ -33,17 +33,17 @@ place-snoc [] y q = place-cons y [] q ∙ alone (bytes_eq y q)
     alone : (b : Bool) → cond b (Some 0) (option_map suc (place_in [] q)) ≡ or_else None (cond b (Some 0) None)
     alone true = refl
     alone false = refl
-place-snoc (z ∷ ys) y q = place-cons z (ys ++ y ∷ []) q ∙ behind (bytes_eq z q) (place-snoc ys y q) ∙ ap (λ o. or_else o (if bytes_eq y q then Some (length (z ∷ ys)) else None)) (sym (place-cons z ys q))
+place-snoc (z ∷ ys) y q = place-cons z (ys ++ y ∷ []) q ∙ after (bytes_eq z q) (place-snoc ys y q) ∙ ap (λ o. or_else o (if bytes_eq y q then Some (length (z ∷ ys)) else None)) (sym (place-cons z ys q))
   where
     later : (o : Option ℕ) (b : Bool) → option_map suc (or_else o (cond b (Some (length ys)) None)) ≡ or_else (option_map suc o) (cond b (Some (length (z ∷ ys))) None)
     later None true = refl
     later None false = refl
     later (Some k) b = refl
 
-    behind : (b : Bool) → place_in (ys ++ y ∷ []) q ≡ or_else (place_in ys q) (if bytes_eq y q then Some (length ys) else None) →
+    after : (b : Bool) → place_in (ys ++ y ∷ []) q ≡ or_else (place_in ys q) (if bytes_eq y q then Some (length ys) else None) →
         cond b (Some 0) (option_map suc (place_in (ys ++ y ∷ []) q)) ≡ or_else (cond b (Some 0) (option_map suc (place_in ys q))) (cond (bytes_eq y q) (Some (length (z ∷ ys))) None)
-    behind true h = refl
-    behind false h = ap (option_map suc) h ∙ later (place_in ys q) (bytes_eq y q)
+    after true h = refl
+    after false h = ap (option_map suc) h ∙ later (place_in ys q) (bytes_eq y q)
 
 indexed : (ys : List (List ℕ)) (x : List ℕ) (table : Table ℕ) → IsPlaceIndex ys table → IsPlaceIndex (ys ++ x ∷ []) (with_first table x (length ys))
 indexed ys x table h q =

@@ -40,38 +40,38 @@ abbrev pub EndsExpr : List Token → Type 0
 EndsExpr [] = ⊥
 EndsExpr (t ∷ ts) = Skips index t × Skips more_factors t × Skips more_terms t × Skips comparison t
 
--- with these in front
-abbrev pub behind : List ℕ → Nestings → Nestings
-behind ns o = option_and_then (λ p. Some (ns ++ p.0, p.1)) o
+-- with these before
+abbrev pub tail : List ℕ → Nestings → Nestings
+tail ns o = option_and_then (λ p. Some (ns ++ p.0, p.1)) o
 
 -- from one stack the machine comes to the other, by tokens nested so
 pub record Goes (ts : List Token) (s : List Sym) (ns : List ℕ) (rest : List Token) (s' : List Sym) : Type 0 where
-  pub traced : nestings ts s ≡ behind ns (nestings rest s')
+  pub traced : nestings ts s ≡ tail ns (nestings rest s')
 
-behind-append : (ms ns : List ℕ) (o : Nestings) → behind (ms ++ ns) o ≡ behind ms (behind ns o)
-behind-append ms ns None = refl
-behind-append ms ns (Some p) = ap (λ q. Some (q, p.1)) (append_assoc ms ns p.0)
+after-append : (ms ns : List ℕ) (o : Nestings) → tail (ms ++ ns) o ≡ tail ms (tail ns o)
+after-append ms ns None = refl
+after-append ms ns (Some p) = ap (λ q. Some (q, p.1)) (append_assoc ms ns p.0)
 
-behind_none : (o : Nestings) → o ≡ behind [] o
-behind_none None = refl
-behind_none (Some p) = refl
+after_none : (o : Nestings) → o ≡ tail [] o
+after_none None = refl
+after_none (Some p) = refl
 
-onward-behind : (o : Option (List Sym)) (go : List Sym → Nestings) (s : List Sym) (ns : List ℕ) (r : Nestings) → o ≡ Some s → go s ≡ behind ns r → onward o go ≡ behind (nesting s ∷ ns) r
-onward-behind o go s ns r e f = ap (λ z. onward z go) e ∙ ap (λ z. option_and_then (λ p. Some (nesting s ∷ p.0, p.1)) z) f ∙ sym (behind-append (nesting s ∷ []) ns r)
+onward-after : (o : Option (List Sym)) (go : List Sym → Nestings) (s : List Sym) (ns : List ℕ) (r : Nestings) → o ≡ Some s → go s ≡ tail ns r → onward o go ≡ tail (nesting s ∷ ns) r
+onward-after o go s ns r e f = ap (λ z. onward z go) e ∙ ap (λ z. option_and_then (λ p. Some (nesting s ∷ p.0, p.1)) z) f ∙ sym (after-append (nesting s ∷ []) ns r)
 
 -- one token, and then these
 take : {t : Token} {ts rest : List Token} {s s' s'' : List Sym} {ns : List ℕ} → step t.word t.text s ≡ Some s' → Goes ts s' ns rest s'' → Goes (t ∷ ts) s (nesting s' ∷ ns) rest s''
-take {t = t} {ts = ts} {rest = rest} {s = s} {s' = s'} {s'' = s''} {ns = ns} e g = record { traced = onward-behind (step t.word t.text s) (nestings ts) s' ns (nestings rest s'') e g.traced }
+take {t = t} {ts = ts} {rest = rest} {s = s} {s' = s'} {s'' = s''} {ns = ns} e g = record { traced = onward-after (step t.word t.text s) (nestings ts) s' ns (nestings rest s'') e g.traced }
 
 next : {ts mid rest : List Token} {s s' s'' : List Sym} {ms ns : List ℕ} → Goes ts s ms mid s' → Goes mid s' ns rest s'' → Goes ts s (ms ++ ns) rest s''
-next {rest = rest} {s'' = s''} {ms = ms} {ns = ns} g h = record { traced = g.traced ∙ ap (behind ms) h.traced ∙ sym (behind-append ms ns (nestings rest s'')) }
+next {rest = rest} {s'' = s''} {ms = ms} {ns = ns} g h = record { traced = g.traced ∙ ap (tail ms) h.traced ∙ sym (after-append ms ns (nestings rest s'')) }
 
 -- no token, and the same stack apart from symbols that may be left out
 stay : {rest : List Token} {s s' : List Sym} → nestings rest s ≡ nestings rest s' → Goes rest s [] rest s'
-stay {rest = rest} {s' = s'} e = record { traced = e ∙ behind_none (nestings rest s') }
+stay {rest = rest} {s' = s'} e = record { traced = e ∙ after_none (nestings rest s') }
 
 then_stay : {ts rest : List Token} {s s' s'' : List Sym} {ns : List ℕ} → Goes ts s ns rest s' → nestings rest s' ≡ nestings rest s'' → Goes ts s ns rest s''
-then_stay {ns = ns} g e = record { traced = g.traced ∙ ap (behind ns) e }
+then_stay {ns = ns} g e = record { traced = g.traced ∙ ap (tail ns) e }
 
 stay_then : {ts rest : List Token} {s s' s'' : List Sym} {ns : List ℕ} → nestings ts s ≡ nestings ts s' → Goes ts s' ns rest s'' → Goes ts s ns rest s''
 stay_then e g = record { traced = e ∙ g.traced }

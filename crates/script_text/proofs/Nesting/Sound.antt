@@ -116,7 +116,7 @@ expr_from : {ts m1 m2 m3 rest : List Token} → From factor ts m1 → From more_
 expr_from f g h not_compared = (_, alone (terms (factors f.1 g.1) h.1))
 expr_from f g h (is_compared c e) = (_, compared (terms (factors f.1 g.1) h.1) c e)
 
--- an expression in front
+-- an expression before
 cut : (s : List Sym) (ts : List Token) → Derives (expr_then s) ts → (mid : List Token) × An ts mid × Derives s mid
 cut s ts d = (_, expr_from d.1 d.2.1 d.2.2.1 d.2.2.2.1, d.2.2.2.2)
 
@@ -501,8 +501,8 @@ found_plain k text (q ∷ qs) r h e = go (same_word k q.first && q.fits text) e 
     p = two_true _ _ h
 
     go : (b : Bool) → cond b (Some (q.rest text)) (find_rule k text qs) ≡ Some r → (find_rule k text qs ≡ Some r → all_plain r ≡ true) → all_plain r ≡ true
-    go true f behind = subst (λ z. all_plain z ≡ true) (same_Some _ _ f) p.0
-    go false f behind = behind f
+    go true f tail = subst (λ z. all_plain z ≡ true) (same_Some _ _ f) p.0
+    go false f tail = tail f
 
 step_plain : (k : Word) (text : List ℕ) (s s' : List Sym) → all_plain s ≡ true → step k text s ≡ Some s' → all_plain s' ≡ true
 step_plain k text [] s' h e = absurd (none-some _ e)
@@ -512,9 +512,9 @@ step_plain k text (a ∷ s) s' h e = go (find_rule k text (rules a)) (is_empty a
     p = two_true _ _ h
 
     go : (o : Option (List Sym)) (b : Bool) → find_rule k text (rules a) ≡ o → choose o b s (step k text s) ≡ Some s' → (step k text s ≡ Some s' → all_plain s' ≡ true) → all_plain s' ≡ true
-    go (Some r) b f g behind = subst (λ z. all_plain z ≡ true) (same_Some _ _ g) (plain-append r s (found_plain k text (rules a) r (rules_plain a text) f) p.1)
-    go None true f g behind = behind g
-    go None false f g behind = absurd (none-some _ g)
+    go (Some r) b f g tail = subst (λ z. all_plain z ≡ true) (same_Some _ _ g) (plain-append r s (found_plain k text (rules a) r (rules_plain a text) f) p.1)
+    go None true f g tail = tail g
+    go None false f g tail = absurd (none-some _ g)
 
 run_plain : (ts : List Token) (s s' : List Sym) → all_plain s ≡ true → run ts s ≡ Some s' → all_plain s' ≡ true
 run_plain [] s s' h e = subst (λ z. all_plain z ≡ true) (same_Some _ _ e) h
@@ -567,8 +567,8 @@ has_scope-append [] us e f = f
 has_scope-append (t ∷ ts) us e f = go (is_scope t.word) e (λ g. has_scope-append ts us g f)
   where
     go : (b : Bool) → (if b then true else has_scope ts) ≡ false → (has_scope ts ≡ false → has_scope (ts ++ us) ≡ false) → (if b then true else has_scope (ts ++ us)) ≡ false
-    go true g behind = cc
-    go false g behind = behind g
+    go true g tail = cc
+    go false g tail = tail g
 
 pub are-append : (version : Version) (ts us : List Token) → AreOf version ts → AreOf version us → AreOf version (ts ++ us)
 are-append One ts us e f = has_scope-append ts us e f

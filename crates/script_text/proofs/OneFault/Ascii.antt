@@ -42,11 +42,11 @@ low-more : (c n : ℕ) (bytes : List ℕ) → c < 128 → AreLow n bytes → Are
 low-more c n bytes h k zero b l e = let same : c ≡ b = same_Some c b e in omega (arith, same, h)
 low-more c n bytes h k (suc i) b l e = k i b (omega (arith, l)) e
 
-low-behind : (k n : ℕ) (bytes : List ℕ) → AreLow k bytes → AreLow n (drop k bytes) → AreLow (k + n) bytes
-low-behind zero n bytes h g i b l e = g i b (omega (arith, l)) e
-low-behind (suc k) n [] h g i b l e = absurd (none-some b e)
-low-behind (suc k) n (c ∷ bytes) h g zero b l e = h zero b (omega arith) e
-low-behind (suc k) n (c ∷ bytes) h g (suc i) b l e = low-behind k n bytes (λ j d m f. h (suc j) d (omega (arith, m)) f) g i b (omega (arith, l)) e
+low-after : (k n : ℕ) (bytes : List ℕ) → AreLow k bytes → AreLow n (drop k bytes) → AreLow (k + n) bytes
+low-after zero n bytes h g i b l e = g i b (omega (arith, l)) e
+low-after (suc k) n [] h g i b l e = absurd (none-some b e)
+low-after (suc k) n (c ∷ bytes) h g zero b l e = h zero b (omega arith) e
+low-after (suc k) n (c ∷ bytes) h g (suc i) b l e = low-after k n bytes (λ j d m f. h (suc j) d (omega (arith, m)) f) g i b (omega (arith, l)) e
 
 two_true : (a b : Bool) → (a && b) ≡ true → (a ≡ true) × (b ≡ true)
 two_true true b e = (refl, e)
@@ -146,9 +146,9 @@ get-front (suc k) b (c ∷ left) bs e = get-front k b left bs e
 
 -- further back
 back : (from k : ℕ) (left : List ℕ) (stop : LexEnd) → AreLow k left → StopsAt (from + k) (drop k left) stop → StopsAt from left stop
-back from k left End h s = low-fewer (k + length (drop k left)) (length left) left (omega (arith, length-drop k left)) (low-behind k (length (drop k left)) left h s)
-back from k left (NotAscii place) h s = (k + s.0, s.1, omega (arith, s.2), low-behind k s.0 left h s.3, get-drop k s.0 s.1 left s.4, s.5)
-back from k left (NoToken place) h s = (k + s.0, s.1, omega (arith, s.2), low-behind k s.0 left h s.3, get-drop k s.0 s.1 left s.4, s.5)
+back from k left End h s = low-fewer (k + length (drop k left)) (length left) left (omega (arith, length-drop k left)) (low-after k (length (drop k left)) left h s)
+back from k left (NotAscii place) h s = (k + s.0, s.1, omega (arith, s.2), low-after k s.0 left h s.3, get-drop k s.0 s.1 left s.4, s.5)
+back from k left (NoToken place) h s = (k + s.0, s.1, omega (arith, s.2), low-after k s.0 left h s.3, get-drop k s.0 s.1 left s.4, s.5)
 
 -- Offsets
 
@@ -193,7 +193,7 @@ module _ (version : Version) where
   lexes-stop {from} {left} {stop = stop} (goes_on {l = l} c x) =
       let n = next_low version c in
       let k : l.end - from ≡ gap_length left + n.0 = omega (arith, n.1) in
-      let low : AreLow (l.end - from) left = low-fewer (gap_length left + n.0) (l.end - from) left (omega (arith, k)) (low-behind (gap_length left) n.0 left (gap_low left) n.2) in
+      let low : AreLow (l.end - from) left = low-fewer (gap_length left + n.0) (l.end - from) left (omega (arith, k)) (low-after (gap_length left) n.0 left (gap_low left) n.2) in
       let there : l.end ≡ from + (l.end - from) = omega (arith, n.1) in
       back from (l.end - from) left stop low (subst (λ m. StopsAt m (drop (l.end - from) left) stop) there (lexes-stop x))
 
@@ -202,8 +202,8 @@ module _ (version : Version) where
   lexes-row bytes {from} {left} {stop = stop} n e (goes_on {l = l} {ls = ls} c x) =
       let next : IsNext version from left l = lexeme_is_next version from left l c in
       let rest : length (drop (l.end - from) left) ≡ length left - (l.end - from) = length-drop (l.end - from) left in
-      let far : n ≡ l.end + length (drop (l.end - from) left) = omega (arith, e, rest, next.within, next.below, next.behind) in
-      (next.behind, row-from (tokens_of bytes ls) l.end (suc l.start) (place_of n stop) (omega (arith, next.below)) (lexes-row bytes n far x))
+      let far : n ≡ l.end + length (drop (l.end - from) left) = omega (arith, e, rest, next.within, next.below, next.tail) in
+      (next.tail, row-from (tokens_of bytes ls) l.end (suc l.start) (place_of n stop) (omega (arith, next.below)) (lexes-row bytes n far x))
 
 -- the version's line
 line_low : (version : Version) (bytes : List ℕ) → version ≡ version_of bytes → AreLow (begins_at version) bytes

@@ -12,7 +12,7 @@ use Rattle.script_tokens.specs.Lexing.{IsLexed}
 use Rattle.script_tokens.proofs.Cuts.{every_text}
 use Rattle.script_grammar.specs.declared.tree.Function.{Function}
 use Rattle.script_grammar.specs.Grammar.{Token, IsScript, AreOf, IsScriptOf, IsViable}
-use Rattle.script_grammar.specs.Fault.{BreaksLimit, IsFault, unexpected, breaks_limit, TextEnd, FaultAtStop, FaultBehind, WithinBehind}
+use Rattle.script_grammar.specs.Fault.{BreaksLimit, IsFault, unexpected, breaks_limit, TextEnd, FaultAtStop, FaultAfter, WithinAfter}
 use Rattle.script_grammar.specs.Text.{tokens_of, SyntaxFault}
 use Rattle.script_grammar.proofs.Versions.{are_of_cut}
 use Rattle.script_text.specs.Faults.{HasTokens, HasFault, not_ascii, no_token, of_token, unexpected_end, IsFirstFault}
@@ -48,7 +48,7 @@ row-at (u ∷ b) after t from end r = let l = row-at b after t (suc u.at) end r.
 module _ (version : Version) (ending : TextEnd) where
   -- the fault of some tokens isn't after that of one of them
   first-token : (b before after : List Token) (t : Token) (s : List Sym) → AreOf version before → AreOf version (b ++ t ∷ after) → StandsAfter before s → nesting s ≤ 64 → (from end : ℕ) → InRow from (b ++ t ∷ after) end →
-      (number at n : ℕ) → FaultBehind version ending before (b ++ t ∷ after) number at → IsFault version (before ++ b) t n → NotAfter number at n t.at
+      (number at n : ℕ) → FaultAfter version ending before (b ++ t ∷ after) number at → IsFault version (before ++ b) t n → NotAfter number at n t.at
   first-token [] before after t s of more st low from end r number at n f g = go f
     where
       here : IsFault version before t n
@@ -57,7 +57,7 @@ module _ (version : Version) (ending : TextEnd) where
       of' : AreOf version (before ++ t ∷ [])
       of' = are-append version before (t ∷ []) of (are-first version t after more).0
 
-      go : FaultBehind version ending before (t ∷ after) number at → NotAfter number at n t.at
+      go : FaultAfter version ending before (t ∷ after) number at → NotAfter number at n t.at
       go (inl x) = let same = one_number version before t s of' st low number n x.0 here in inr (x.1, omega (arith, same))
       go (inr x) = absurd (x.0 n here)
   first-token (u ∷ b) before after t s of more st low from end r number at n f g = go f (λ x. first-token b (before ++ u ∷ []) after t x of' (are-first version u (b ++ t ∷ after) more).1)
@@ -68,25 +68,25 @@ module _ (version : Version) (ending : TextEnd) where
       there : IsFault version ((before ++ u ∷ []) ++ b) t n
       there = subst (λ l. IsFault version l t n) (sym (append_assoc before (u ∷ []) b)) g
 
-      go : FaultBehind version ending before (u ∷ (b ++ t ∷ after)) number at →
-          ((x : List Sym) → StandsAfter (before ++ u ∷ []) x → nesting x ≤ 64 → (from end : ℕ) → InRow from (b ++ t ∷ after) end → (number at n : ℕ) → FaultBehind version ending (before ++ u ∷ []) (b ++ t ∷ after) number at →
+      go : FaultAfter version ending before (u ∷ (b ++ t ∷ after)) number at →
+          ((x : List Sym) → StandsAfter (before ++ u ∷ []) x → nesting x ≤ 64 → (from end : ℕ) → InRow from (b ++ t ∷ after) end → (number at n : ℕ) → FaultAfter version ending (before ++ u ∷ []) (b ++ t ∷ after) number at →
           IsFault version ((before ++ u ∷ []) ++ b) t n → NotAfter number at n t.at) → NotAfter number at n t.at
       go (inl x) later = let l = row-at b after t (suc u.at) end r.1 in inl (omega (arith, x.1, l))
       go (inr x) later = let q = taken_low version before u s of' st x.0 in later q.0 q.1 q.2 (suc u.at) end r.1 number at n x.1 there
 
   -- it stands before the end, or is that of the end
-  before-stop : (ts before : List Token) (from end : ℕ) → InRow from ts end → (number at : ℕ) → FaultBehind version ending before ts number at →
+  before-stop : (ts before : List Token) (from end : ℕ) → InRow from ts end → (number at : ℕ) → FaultAfter version ending before ts number at →
       (at < end) ⊎ FaultAtStop version ending.end ending.stop (before ++ ts) number at
   before-stop [] before from end r number at f = inr (subst (λ l. FaultAtStop version ending.end ending.stop l number at) (sym (append-nil before)) f)
   before-stop (t ∷ ts) before from end r number at f = go f (λ g. before-stop ts (before ++ t ∷ []) (suc t.at) end r.1 number at g)
     where
-      go : FaultBehind version ending before (t ∷ ts) number at → (FaultBehind version ending (before ++ t ∷ []) ts number at → (at < end) ⊎ FaultAtStop version ending.end ending.stop ((before ++ t ∷ []) ++ ts) number at) →
+      go : FaultAfter version ending before (t ∷ ts) number at → (FaultAfter version ending (before ++ t ∷ []) ts number at → (at < end) ⊎ FaultAtStop version ending.end ending.stop ((before ++ t ∷ []) ++ ts) number at) →
           (at < end) ⊎ FaultAtStop version ending.end ending.stop (before ++ t ∷ ts) number at
       go (inl x) later = let l = row-later ts (suc t.at) end r.1 in inl (omega (arith, x.1, l))
       go (inr x) later = subst (λ l. (at < end) ⊎ FaultAtStop version ending.end ending.stop l number at) (append_assoc before (t ∷ []) ts) (later x.1)
 
   -- a token of a script within the limits is at no fault
-  within-at : (b before after : List Token) (t : Token) (n : ℕ) → WithinBehind version before (b ++ t ∷ after) → BreaksLimit version (before ++ b) t n → ⊥
+  within-at : (b before after : List Token) (t : Token) (n : ℕ) → WithinAfter version before (b ++ t ∷ after) → BreaksLimit version (before ++ b) t n → ⊥
   within-at [] before after t n w g = w.0 n (subst (λ l. BreaksLimit version l t n) (append-nil before) g)
   within-at (u ∷ b) before after t n w g = within-at b (before ++ u ∷ []) after t n w.1 (subst (λ l. BreaksLimit version l t n) (sym (append_assoc before (u ∷ []) b)) g)
 
@@ -119,22 +119,22 @@ module _ (bytes : List ℕ) (ls : List Lexeme) (stop : LexEnd) (cut : IsLexed by
   has-stop (NoToken place) e before s of st same number at f =
       subst (λ n. HasFault bytes n at) (sym f.0) (subst (HasFault bytes 2) (sym f.1) (no_token (subst (HasTokens bytes tokens) e has-tokens)))
 
-  has-of : (ts before : List Token) (s : List Sym) → AreOf version before → AreOf version ts → StandsAfter before s → nesting s ≤ 64 → before ++ ts ≡ tokens → (number at : ℕ) → FaultBehind version ending before ts number at → HasFault bytes number at
+  has-of : (ts before : List Token) (s : List Sym) → AreOf version before → AreOf version ts → StandsAfter before s → nesting s ≤ 64 → before ++ ts ≡ tokens → (number at : ℕ) → FaultAfter version ending before ts number at → HasFault bytes number at
   has-of [] before s of more st low same number at f = has-stop stop refl before s of st (sym (append-nil before) ∙ same) number at f
   has-of (t ∷ ts) before s of more st low same number at f = go f (λ x. has-of ts (before ++ t ∷ []) x of' (are-first version t ts more).1)
     where
       of' : AreOf version (before ++ t ∷ [])
       of' = are-append version before (t ∷ []) of (are-first version t ts more).0
 
-      go : FaultBehind version ending before (t ∷ ts) number at →
-          ((x : List Sym) → StandsAfter (before ++ t ∷ []) x → nesting x ≤ 64 → (before ++ t ∷ []) ++ ts ≡ tokens → (number at : ℕ) → FaultBehind version ending (before ++ t ∷ []) ts number at → HasFault bytes number at) → HasFault bytes number at
+      go : FaultAfter version ending before (t ∷ ts) number at →
+          ((x : List Sym) → StandsAfter (before ++ t ∷ []) x → nesting x ≤ 64 → (before ++ t ∷ []) ++ ts ≡ tokens → (number at : ℕ) → FaultAfter version ending (before ++ t ∷ []) ts number at → HasFault bytes number at) → HasFault bytes number at
       go (inl x) later = subst (HasFault bytes number) (sym x.1) (of_token ts (subst (λ l. HasTokens bytes l stop) (sym same) has-tokens) x.0)
       go (inr x) later = let q = taken_low version before t s of' st x.0 in later q.0 q.1 q.2 (append_assoc before (t ∷ []) ts ∙ same) number at x.1
 
   none-of : AreOf version []
   none-of = of_none version
 
-  has-told : (number at : ℕ) → FaultBehind version ending [] tokens number at → HasFault bytes number at
+  has-told : (number at : ℕ) → FaultAfter version ending [] tokens number at → HasFault bytes number at
   has-told number at f = has-of tokens [] (functions ∷ []) none-of tokens-of refl (omega arith) refl number at f
 
   -- No fault of it is before the one that is told.
@@ -164,7 +164,7 @@ module _ (bytes : List ℕ) (ls : List Lexeme) (stop : LexEnd) (cut : IsLexed by
       by_place (inr l) (inl i) (inl m) = inl (omega (arith, i, m, q.2))
       by_place (inr l) (inl i) (inr m) = inl (omega (arith, i, m.1, q.2))
 
-  module _ (number at : ℕ) (f : FaultBehind version ending [] tokens number at) where
+  module _ (number at : ℕ) (f : FaultAfter version ending [] tokens number at) where
     stopped : (at < place_of (length bytes) stop) ⊎ FaultAtStop version (length bytes) stop tokens number at
     stopped = before-stop version ending tokens [] 0 (place_of (length bytes) stop) row number at f
 
@@ -181,7 +181,7 @@ module _ (bytes : List ℕ) (ls : List Lexeme) (stop : LexEnd) (cut : IsLexed by
     not-after n place (of_token {before = b} {t = t} after {stop = end} h g) =
         let same : tokens ≡ b ++ t ∷ after = ap (tokens_of bytes) (cut_once bytes version version ls h.lexemes stop end cut h.cut).1 ∙ h.same in
         first-token version ending b [] after t (functions ∷ []) none-of (subst (AreOf version) same tokens-of) refl (omega arith) 0 (place_of (length bytes) stop)
-        (subst (λ l. InRow 0 l (place_of (length bytes) stop)) same row) number at n (subst (λ l. FaultBehind version ending [] l number at) same f) g
+        (subst (λ l. InRow 0 l (place_of (length bytes) stop)) same row) number at n (subst (λ l. FaultAfter version ending [] l number at) same f) g
     not-after n place (unexpected_end h v never) = from (stopped-as End (cut_once bytes version version ls h.lexemes stop End cut h.cut).2)
       where
         from : (at < length bytes) ⊎ ((number ≡ 6) × (at ≡ length bytes) × ((fs : List Function) → IsScriptOf version tokens fs → ⊥)) → NotAfter number at 6 (length bytes)
@@ -189,7 +189,7 @@ module _ (bytes : List ℕ) (ls : List Lexeme) (stop : LexEnd) (cut : IsLexed by
         from (inr m) = inr (m.1, omega (arith, m.0))
 
   -- A script within the limits has none.
-  no-fault : stop ≡ End → WithinBehind version [] tokens → (fs : List Function) → IsScript tokens fs → (n place : ℕ) → HasFault bytes n place → ⊥
+  no-fault : stop ≡ End → WithinAfter version [] tokens → (fs : List Function) → IsScript tokens fs → (n place : ℕ) → HasFault bytes n place → ⊥
   no-fault e w fs d n place (not_ascii {b = b} k h) =
       let q : StopsAt 0 bytes End = subst (StopsAt 0 bytes) e (cut-stops bytes version ls stop cut) in
       let low = q place b (slice_get_within bytes place b k) k in omega (arith, low, h)
@@ -205,7 +205,7 @@ module _ (bytes : List ℕ) (ls : List Lexeme) (stop : LexEnd) (cut : IsLexed by
 
       from : (m : ℕ) → IsFault version b t m → ⊥
       from m (unexpected u) = u (after, fs, (subst (AreOf version) (sym split) tokens-of, subst (λ l. IsScript l fs) (sym split) d))
-      from m (breaks_limit v x) = within-at version ending b [] after t m (subst (WithinBehind version []) same w) x
+      from m (breaks_limit v x) = within-at version ending b [] after t m (subst (WithinAfter version []) same w) x
   no-fault e w fs d n place (unexpected_end {tokens = ts} h v never) =
       let same : tokens ≡ ts = ap (tokens_of bytes) (cut_once bytes version version ls h.lexemes stop End cut h.cut).1 ∙ h.same in
       never fs (subst (AreOf version) same tokens-of, subst (λ l. IsScript l fs) same d)

@@ -13,10 +13,10 @@ use Rattle.script_tokens.specs.declared.lexing.LexEnd.TheVariants.{End, NotAscii
 use Rattle.script_grammar.specs.declared.tree.Function.{Function}
 use Rattle.script_grammar.specs.Grammar.{Token, tok, decimal, IsScript, AreOf, IsViable}
 use Rattle.script_grammar.specs.Nesting.{functions_nesting}
-use Rattle.script_grammar.specs.Fault.{is_fn, functions_begun, NestsAt, BreaksLimit, number_out_of_range, name_too_long, nested_too_deep, too_many_functions, IsFault, unexpected, breaks_limit, TextEnd, FaultAtStop, FaultBehind, WithinBehind, IsProgram}
+use Rattle.script_grammar.specs.Fault.{is_fn, functions_begun, NestsAt, BreaksLimit, number_out_of_range, name_too_long, nested_too_deep, too_many_functions, IsFault, unexpected, breaks_limit, TextEnd, FaultAtStop, FaultAfter, WithinAfter, IsProgram}
 use Rattle.script_text.specs.Machine.{Sym, functions, same_word, is_empty, step, run, nesting, Nestings, onward, nestings, all_empty, PlacedFault, broken, unless_broken, verdict, at_stop, begun, judge}
 use Rattle.script_text.proofs.Parsing.Words.{same_words}
-use Rattle.script_text.proofs.Nesting.Follows.{behind, script_traced, script_runs}
+use Rattle.script_text.proofs.Nesting.Follows.{tail, script_traced, script_runs}
 use Rattle.script_text.proofs.Nesting.Sound.{Derives, run_sound, run-append, whole, left_out, viable, taken, are-append, are-first}
 
 -- the machine stands here after these tokens
@@ -57,16 +57,16 @@ length-steps : {ts : List Token} {s s' : List Sym} {ns : List ℕ} → Steps ts 
 length-steps stopped = refl
 length-steps (stepped e r) = ap suc (length-steps r)
 
-trace-append : {ts : List Token} {s s' : List Sym} {ns : List ℕ} (us : List Token) → Steps ts s ns s' → nestings (ts ++ us) s ≡ behind ns (nestings us s')
+trace-append : {ts : List Token} {s s' : List Sym} {ns : List ℕ} (us : List Token) → Steps ts s ns s' → nestings (ts ++ us) s ≡ tail ns (nestings us s')
 trace-append {s = s} us stopped = none (nestings us s)
   where
-    none : (o : Nestings) → o ≡ behind [] o
+    none : (o : Nestings) → o ≡ tail [] o
     none None = refl
     none (Some p) = refl
 trace-append {s' = s'} us (stepped {t = t} {ts = ts} {x = x} {ns = ns} e r) =
     ap (λ o. onward o (nestings (ts ++ us))) e ∙ ap (option_and_then (λ p. Some (nesting x ∷ p.0, p.1))) (trace-append us r) ∙ longer (nesting x) ns (nestings us s')
   where
-    longer : (n : ℕ) (ns : List ℕ) (o : Nestings) → option_and_then (λ p. Some (n ∷ p.0, p.1)) (behind ns o) ≡ behind (n ∷ ns) o
+    longer : (n : ℕ) (ns : List ℕ) (o : Nestings) → option_and_then (λ p. Some (n ∷ p.0, p.1)) (tail ns o) ≡ tail (n ∷ ns) o
     longer n ns None = refl
     longer n ns (Some p) = refl
 
@@ -80,11 +80,11 @@ module _ (version : Version) where
   pub nested_so : (before : List Token) (t : Token) (s s' : List Sym) → StandsAfter before s → step t.word t.text s ≡ Some s' → (n : ℕ) → NestsAt version before t n → n ≡ nesting s'
   nested_so before t s s' st e n h =
       let r = steps before (functions ∷ []) s st in
-      let split : nestings (before ++ t ∷ h.0) (functions ∷ []) ≡ behind r.0 (onward (Some s') (nestings h.0)) =
-      trace-append (t ∷ h.0) r.1 ∙ ap (λ o. behind r.0 (onward o (nestings h.0))) e in
+      let split : nestings (before ++ t ∷ h.0) (functions ∷ []) ≡ tail r.0 (onward (Some s') (nestings h.0)) =
+      trace-append (t ∷ h.0) r.1 ∙ ap (λ o. tail r.0 (onward o (nestings h.0))) e in
       go (functions_nesting h.3 0) r.0 (nestings h.0 s') (length-steps r.1) (sym (script_traced h.3) ∙ split) h.4
     where
-      go : (levels ns : List ℕ) (o : Nestings) → length ns ≡ length before → Some (levels, functions ∷ []) ≡ behind ns (option_and_then (λ p. Some (nesting s' ∷ p.0, p.1)) o) → slice_get levels (length before) ≡ Some n → n ≡ nesting s'
+      go : (levels ns : List ℕ) (o : Nestings) → length ns ≡ length before → Some (levels, functions ∷ []) ≡ tail ns (option_and_then (λ p. Some (nesting s' ∷ p.0, p.1)) o) → slice_get levels (length before) ≡ Some n → n ≡ nesting s'
       go levels ns None f g k = absurd (none-some _ (sym g))
       go levels ns (Some p) f g k =
           let whole : levels ≡ ns ++ nesting s' ∷ p.0 = ap (λ q. q.0) (same_Some _ _ g) in
@@ -101,11 +101,11 @@ module _ (version : Version) where
       let d : IsScript (before ++ t ∷ v.0) v.1 = subst (λ x. IsScript x v.1) (append_assoc before (t ∷ []) v.0) v.2.1 in
       let of' : AreOf version (before ++ t ∷ v.0) = subst (AreOf version) (append_assoc before (t ∷ []) v.0) v.2.0 in
       let r = steps before (functions ∷ []) s st in
-      let split : nestings (before ++ t ∷ v.0) (functions ∷ []) ≡ behind r.0 (onward (Some s') (nestings v.0)) =
-      trace-append (t ∷ v.0) r.1 ∙ ap (λ o. behind r.0 (onward o (nestings v.0))) e in
+      let split : nestings (before ++ t ∷ v.0) (functions ∷ []) ≡ tail r.0 (onward (Some s') (nestings v.0)) =
+      trace-append (t ∷ v.0) r.1 ∙ ap (λ o. tail r.0 (onward o (nestings v.0))) e in
       (v.0, v.1, of', d, go (functions_nesting d 0) r.0 (nestings v.0 s') (length-steps r.1) (sym (script_traced d) ∙ split))
     where
-      go : (levels ns : List ℕ) (o : Nestings) → length ns ≡ length before → Some (levels, functions ∷ []) ≡ behind ns (option_and_then (λ p. Some (nesting s' ∷ p.0, p.1)) o) → slice_get levels (length before) ≡ Some (nesting s')
+      go : (levels ns : List ℕ) (o : Nestings) → length ns ≡ length before → Some (levels, functions ∷ []) ≡ tail ns (option_and_then (λ p. Some (nesting s' ∷ p.0, p.1)) o) → slice_get levels (length before) ≡ Some (nesting s')
       go levels ns None f g = absurd (none-some _ (sym g))
       go levels ns (Some p) f g =
           let whole : levels ≡ ns ++ nesting s' ∷ p.0 = ap (λ q. q.0) (same_Some _ _ g) in
@@ -184,8 +184,8 @@ module _ (version : Version) where
 
   -- what an answer says of the tokens after these
   abbrev pub Says : TextEnd → List Token → List Token → Option PlacedFault → Type 0
-  Says ending before ts (Some f) = FaultBehind version ending before ts f.0 f.1
-  Says ending before ts None = (ending.stop ≡ End) × WithinBehind version before ts × ((fs : List Function) × IsScript (before ++ ts) fs)
+  Says ending before ts (Some f) = FaultAfter version ending before ts f.0 f.1
+  Says ending before ts None = (ending.stop ≡ End) × WithinAfter version before ts × ((fs : List Function) × IsScript (before ++ ts) fs)
 
   no_fault : (before : List Token) (t : Token) → IsViable version (before ++ t ∷ []) → ((n : ℕ) → BreaksLimit version before t n → ⊥) → (n : ℕ) → IsFault version before t n → ⊥
   no_fault before t v h n (unexpected f) = f v
@@ -237,7 +237,7 @@ module _ (version : Version) where
       go (Some s') f ih = let st' = one_more before t s st ∙ f in within s' f st' (broken n t (nesting s')) refl (ih s' st')
 
   -- a script within the limits has no fault
-  no_fault_in_script : (ending : TextEnd) (ts before : List Token) (fs : List Function) (number at : ℕ) → ending.stop ≡ End → AreOf version (before ++ ts) → IsScript (before ++ ts) fs → WithinBehind version before ts → FaultBehind version ending before ts number at → ⊥
+  no_fault_in_script : (ending : TextEnd) (ts before : List Token) (fs : List Function) (number at : ℕ) → ending.stop ≡ End → AreOf version (before ++ ts) → IsScript (before ++ ts) fs → WithinAfter version before ts → FaultAfter version ending before ts number at → ⊥
   no_fault_in_script ending [] before fs number at e of d w f =
       let g : FaultAtStop version ending.end End before number at = subst (λ w. FaultAtStop version ending.end w before number at) e f in
       g.2 fs (subst (AreOf version) (append-nil before) of, subst (λ x. IsScript x fs) (append-nil before) d)
@@ -251,7 +251,7 @@ module _ (version : Version) where
       no_fault_in_script ending ts (before ++ t ∷ []) fs number at e of' d' w.1 f.1
 
   -- the machine's answer, for the whole list
-  pub bad_is_fault : (ending : TextEnd) (ts : List Token) (n at : ℕ) → AreOf version ts → judge ending 0 (functions ∷ []) ts ≡ Some (n, at) → FaultBehind version ending [] ts n at
+  pub bad_is_fault : (ending : TextEnd) (ts : List Token) (n at : ℕ) → AreOf version ts → judge ending 0 (functions ∷ []) ts ≡ Some (n, at) → FaultAfter version ending [] ts n at
   bad_is_fault ending ts n at of e = subst (Says ending [] ts) e (judged ending ts [] 0 (functions ∷ []) of_none of refl refl)
 
   pub none_is_program : (ending : TextEnd) (ts : List Token) (fs : List Function) → AreOf version ts → judge ending 0 (functions ∷ []) ts ≡ None → IsScript ts fs → (ending.stop ≡ End) × IsProgram version ts fs
@@ -259,5 +259,5 @@ module _ (version : Version) where
       let w = subst (Says ending [] ts) e (judged ending ts [] 0 (functions ∷ []) of_none of refl refl) in
       (w.0, record { of_version = of; derives = d; within = w.1 })
 
-  pub never_bad : (ending : TextEnd) (ts : List Token) (fs : List Function) (n at : ℕ) → ending.stop ≡ End → IsProgram version ts fs → FaultBehind version ending [] ts n at → ⊥
+  pub never_bad : (ending : TextEnd) (ts : List Token) (fs : List Function) (n at : ℕ) → ending.stop ≡ End → IsProgram version ts fs → FaultAfter version ending [] ts n at → ⊥
   never_bad ending ts fs n at e t f = no_fault_in_script ending ts [] fs n at e t.of_version t.derives t.within f

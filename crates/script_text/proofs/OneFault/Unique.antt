@@ -10,7 +10,7 @@ use Rattle.script_tokens.specs.declared.token.Word.TheVariants as word
 use Rattle.script_tokens.specs.declared.lexing.LexEnd.{LexEnd}
 use Rattle.script_tokens.specs.declared.lexing.LexEnd.TheVariants.{End, NotAscii, NoToken}
 use Rattle.script_grammar.specs.Grammar.{Token, AreOf, IsViable}
-use Rattle.script_grammar.specs.Fault.{NestsAt, BreaksLimit, number_out_of_range, name_too_long, nested_too_deep, too_many_functions, IsFault, unexpected, breaks_limit, TextEnd, FaultAtStop, FaultBehind}
+use Rattle.script_grammar.specs.Fault.{NestsAt, BreaksLimit, number_out_of_range, name_too_long, nested_too_deep, too_many_functions, IsFault, unexpected, breaks_limit, TextEnd, FaultAtStop, FaultAfter}
 use Rattle.script_text.specs.Machine.{Sym, only, exactly, factor, index, pair, more_factors, more_terms, comparison, minus_end, args, more_args, call_args, right, into, loop_name, loop_args, stmts, after_let, after_name, block, otherwise, functions, param_list, params, more_params, param, answer, body, same_word, Production, rules, is_empty, find_rule, choose, step, is_closer, nesting}
 use Rattle.script_text.proofs.Parsing.Words.{same_words}
 use Rattle.script_text.proofs.Nesting.Sound.{viable, taken, are-append, are-first}
@@ -72,20 +72,20 @@ found_flat k text (q ∷ qs) r h f e = go (same_word k q.first && q.fits text) r
     p = two_true _ _ h
 
     go : (b : Bool) → (same_word k q.first && q.fits text) ≡ b → (if b then Some (q.rest text) else find_rule k text qs) ≡ Some r → (find_rule k text qs ≡ Some r → nesting r ≡ 0) → nesting r ≡ 0
-    go true g i behind =
+    go true g i tail =
         let same : k ≡ q.first = same_words k q.first (two_true (same_word k q.first) (q.fits text) g).0 in
         let flat : is_flat q.first ≡ true = ap is_flat (sym same) ∙ f in
         let none : nesting (q.rest text) ≡ 0 = eqb-true (nesting (q.rest text)) 0 (first_true (nat_eq (nesting (q.rest text)) 0) (is_flat q.first) p.0 flat) in
         subst (λ z. nesting z ≡ 0) (same_Some _ _ i) none
-    go false g i behind = behind i
+    go false g i tail = tail i
 
 flat-append : (r s : List Sym) → nesting r ≡ 0 → nesting (r ++ s) ≡ nesting s
 flat-append [] s e = refl
 flat-append (only w ∷ r) s e = go (is_closer w) e (flat-append r s)
   where
     go : (b : Bool) → (if b then suc (nesting r) else nesting r) ≡ 0 → (nesting r ≡ 0 → nesting (r ++ s) ≡ nesting s) → (if b then suc (nesting (r ++ s)) else nesting (r ++ s)) ≡ nesting s
-    go true f behind = absurd (omega (arith, f))
-    go false f behind = behind f
+    go true f tail = absurd (omega (arith, f))
+    go false f tail = tail f
 flat-append (minus_end ∷ r) s e = absurd (omega (arith, e))
 flat-append (_ ∷ r) s e = flat-append r s e
 
@@ -106,11 +106,11 @@ step_flat k text (a ∷ s) s' f e = go (find_rule k text (rules a)) (is_empty a)
     above = no_higher a s
 
     go : (o : Option (List Sym)) (b : Bool) → find_rule k text (rules a) ≡ o → choose o b s (step k text s) ≡ Some s' → (step k text s ≡ Some s' → nesting s' ≤ nesting s) → nesting s' ≤ nesting (a ∷ s)
-    go (Some r) b g h behind =
+    go (Some r) b g h tail =
         let whole : nesting s' ≡ nesting (r ++ s) = ap nesting (sym (same_Some _ _ h)) in
         let flat : nesting (r ++ s) ≡ nesting s = flat-append r s (found_flat k text (rules a) r (rules_flat a text) f g) in omega (arith, whole, flat, above)
-    go None true g h behind = let low = behind h in omega (arith, low, above)
-    go None false g h behind = absurd (none-some _ h)
+    go None true g h tail = let low = tail h in omega (arith, low, above)
+    go None false g h tail = absurd (none-some _ h)
 
 number_name : (w : Word) → w ≡ word.Number → w ≡ word.Name → ⊥
 number_name w e f = let g : word.Number ≡ word.Name = sym e ∙ f in cc
@@ -192,17 +192,17 @@ module _ (version : Version) where
   -- what holds of the tokens after some that are at no fault
   abbrev Later : TextEnd → List Token → List Token → Type 0
   Later ending ts before =
-      (x : List Sym) → StandsAfter before x → nesting x ≤ 64 → (m at n place : ℕ) → FaultBehind version ending before ts m at → FaultBehind version ending before ts n place → (m ≡ n) × (at ≡ place)
+      (x : List Sym) → StandsAfter before x → nesting x ≤ 64 → (m at n place : ℕ) → FaultAfter version ending before ts m at → FaultAfter version ending before ts n place → (m ≡ n) × (at ≡ place)
 
   pub one_fault : (ending : TextEnd) (ts before : List Token) (s : List Sym) → AreOf version before → AreOf version ts → StandsAfter before s → nesting s ≤ 64 → (m at n place : ℕ) →
-      FaultBehind version ending before ts m at → FaultBehind version ending before ts n place → (m ≡ n) × (at ≡ place)
+      FaultAfter version ending before ts m at → FaultAfter version ending before ts n place → (m ≡ n) × (at ≡ place)
   one_fault ending [] before s of more st low m at n place f g = one_stop ending.end ending.stop before m at n place f g
   one_fault ending (t ∷ ts) before s of more st low m at n place f g = go f g (λ x. one_fault ending ts (before ++ t ∷ []) x of' (are-first version t ts more).1)
     where
       of' : AreOf version (before ++ t ∷ [])
       of' = are-append version before (t ∷ []) of (are-first version t ts more).0
 
-      go : FaultBehind version ending before (t ∷ ts) m at → FaultBehind version ending before (t ∷ ts) n place → Later ending ts (before ++ t ∷ []) → (m ≡ n) × (at ≡ place)
+      go : FaultAfter version ending before (t ∷ ts) m at → FaultAfter version ending before (t ∷ ts) n place → Later ending ts (before ++ t ∷ []) → (m ≡ n) × (at ≡ place)
       go (inl x) (inl y) later = (one_number before t s of' st low m n x.0 y.0, x.1 ∙ sym y.1)
       go (inl x) (inr y) later = absurd (y.0 m x.0)
       go (inr x) (inl y) later = absurd (x.0 n y.0)

@@ -14,7 +14,7 @@ use Rattle.script_text.specs.declared.parser.source.LexedText.{LexedText}
 use Rattle.script_grammar.specs.declared.tree.Script.{Script}
 use Rattle.script_grammar.specs.declared.tree.Function.{Function}
 use Rattle.script_grammar.specs.Grammar.{AreOf}
-use Rattle.script_grammar.specs.Fault.{FaultBehind, IsProgram}
+use Rattle.script_grammar.specs.Fault.{FaultAfter, IsProgram}
 use Rattle.script_grammar.specs.Text.{tokens_of, Text, SyntaxFault}
 use Rattle.script_text.specs.Reads.{seen, ending, Judges}
 use Rattle.script_text.specs.Machine.{functions}
@@ -42,14 +42,14 @@ module _ (source : LexedText) (bytes : List ℕ) (ls : List Lexeme) (stop : LexE
   bad_is_syntax_fault r j number at g =
       let j' : Judges source ls (Err (Bad number at)) = subst (Judges source ls) g j in
       let f = bad_is_fault source.version (ending source) (seen source ls) number at of_source j' in
-      let f' = subst (λ z. FaultBehind source.version (record { end = z; stop = stop }) [] (tokens_of bytes ls) number at) e
-      (subst (λ z. FaultBehind source.version (record { end = source.end; stop = z }) [] (tokens_of bytes ls) number at) s
-      (subst (λ z. FaultBehind source.version (ending source) [] (tokens_of z ls) number at) b f)) in
+      let f' = subst (λ z. FaultAfter source.version (record { end = z; stop = stop }) [] (tokens_of bytes ls) number at) e
+      (subst (λ z. FaultAfter source.version (record { end = source.end; stop = z }) [] (tokens_of bytes ls) number at) s
+      (subst (λ z. FaultAfter source.version (ending source) [] (tokens_of z ls) number at) b f)) in
       record {
         lexemes = ls;
         stop = stop;
         cut = subst (λ z. IsLexed bytes z ls stop) cut.told cut;
-        fault = subst (λ z. FaultBehind z (record { end = length bytes; stop = stop }) [] (tokens_of bytes ls) number at) cut.told f';
+        fault = subst (λ z. FaultAfter z (record { end = length bytes; stop = stop }) [] (tokens_of bytes ls) number at) cut.told f';
       }
 
 -- two ways to cut a text are one
@@ -81,7 +81,7 @@ pub fault_unique : FaultIsUnique
 fault_unique bytes number at other place f g =
     let v = version_of bytes in
     let u = cut_once bytes v v f.lexemes g.lexemes f.stop g.stop f.cut g.cut in
-    let same : FaultBehind v (record { end = length bytes; stop = f.stop }) [] (tokens_of bytes f.lexemes) other place =
-    subst (λ z. FaultBehind v (record { end = length bytes; stop = z }) [] (tokens_of bytes f.lexemes) other place) (sym u.2)
-    (subst (λ z. FaultBehind v (record { end = length bytes; stop = g.stop }) [] (tokens_of bytes z) other place) (sym u.1) g.fault) in
+    let same : FaultAfter v (record { end = length bytes; stop = f.stop }) [] (tokens_of bytes f.lexemes) other place =
+    subst (λ z. FaultAfter v (record { end = length bytes; stop = z }) [] (tokens_of bytes f.lexemes) other place) (sym u.2)
+    (subst (λ z. FaultAfter v (record { end = length bytes; stop = g.stop }) [] (tokens_of bytes z) other place) (sym u.1) g.fault) in
     one_fault v (record { end = length bytes; stop = f.stop }) (tokens_of bytes f.lexemes) [] (functions ∷ []) (of_none v) (are_of_cut bytes v f.lexemes f.stop f.cut) refl (omega arith) number at other place f.fault same

@@ -16,7 +16,7 @@ use Rattle.script_grammar.specs.Grammar.{Token, tok, name_at, number_at, IsExpr,
 use Rattle.script_text.specs.Machine.{Sym, only, args, more_args, call_args, expr_then, step, at_stop, verdict, begun, judge}
 use Rattle.script_grammar.specs.Text.{token_of}
 use Rattle.script_text.specs.Reads.{seen, ending, Leads, Errs, NextIs, NextIsNot, IsBracket, ReadsName, ReadsNumber, unexpected_in, IsName, a_name_token, IsNumber, a_number_token, IsArguments, arguments, AddsArgs}
-use Rattle.script_text.proofs.Parsing.Steps.{taken, name_taken, name_long, number_taken, number_big, skipped, has_none, seen-next, err_behind, unexpected_err, Comes, Passed, Opened}
+use Rattle.script_text.proofs.Parsing.Steps.{taken, name_taken, name_long, number_taken, number_big, skipped, has_none, seen-next, err_after, unexpected_err, Comes, Passed, Opened}
 use Rattle.script_text.proofs.Parsing.Expressions.{first_is, expr_shorter, length-seen}
 
 -- ReadsName and numbers
@@ -86,7 +86,7 @@ one_more_argument source d at start found found' old left inner rest x p h i k a
 
 pub more_args_err : (source : LexedText) (d at : ℕ) (start found : List Expr) (old left inner : List Lexeme) (e : SyntaxError) → d ≤ 64 → ArgsSoFar source d start old found left → NextIs word.Comma at left inner → Errs (expr_then []) source d inner e
     → Errs (more_args ∷ []) source d old e
-more_args_err source d at start found old left inner e h i k f = err_behind (more_args ∷ []) (expr_then []) (more_args ∷ []) source d d old inner e (args_enter source d at old left inner h i.goes k) (λ s r. r) f
+more_args_err source d at start found old left inner e h i k f = err_after (more_args ∷ []) (expr_then []) (more_args ∷ []) source d d old inner e (args_enter source d at old left inner h i.goes k) (λ s r. r) f
 
 pub args_turn : (source : LexedText) (at : ℕ) (left inner rest : List Lexeme) (x : Expr) → NextIs word.Comma at left inner → IsExpr (seen source inner) x (seen source rest) → length rest < length left
 args_turn source at left inner rest x k a =
@@ -127,15 +127,15 @@ some_arguments source d old mid mid' rest found ys x k a p b c =
     )
 
 pub arguments_err_first : (source : LexedText) (d : ℕ) (old : List Lexeme) (e : SyntaxError) → NextIsNot word.Close old → Errs (expr_then []) source (d + 1) old e → Errs (args ∷ only word.Close ∷ []) source d old e
-arguments_err_first source d old e k f = err_behind (args ∷ only word.Close ∷ []) (expr_then []) (more_args ∷ only word.Close ∷ []) source d (d + 1) old old e (λ n s r. args_same source n s old k) (λ s r. omega (arith, r)) f
+arguments_err_first source d old e k f = err_after (args ∷ only word.Close ∷ []) (expr_then []) (more_args ∷ only word.Close ∷ []) source d (d + 1) old old e (λ n s r. args_same source n s old k) (λ s r. omega (arith, r)) f
 
 pub arguments_err_more : (source : LexedText) (d : ℕ) (old mid : List Lexeme) (x : Expr) (e : SyntaxError) → NextIsNot word.Close old → Comes IsExpr (expr_then []) source (d + 1) old x mid → Errs (more_args ∷ []) source (d + 1) mid e → Errs (args ∷ only word.Close ∷ []) source d old e
-arguments_err_more source d old mid x e k a f = err_behind (args ∷ only word.Close ∷ []) (more_args ∷ []) (only word.Close ∷ []) source d (d + 1) old mid e
+arguments_err_more source d old mid x e k a f = err_after (args ∷ only word.Close ∷ []) (more_args ∷ []) (only word.Close ∷ []) source d (d + 1) old mid e
     (λ n s r. args_same source n s old k ∙ a.1 n (more_args ∷ only word.Close ∷ s) (omega (arith, r))) (λ s r. omega (arith, r)) f
 
 pub arguments_err_close : (source : LexedText) (d : ℕ) (old mid mid' : List Lexeme) (found ys : List Expr) (x : Expr) (e : SyntaxError) → NextIsNot word.Close old → Comes IsExpr (expr_then []) source (d + 1) old x mid → Comes (AddsArgs found) (more_args ∷ []) source (d + 1) mid ys mid'
     → Errs (only word.Close ∷ []) source d mid' e → Errs (args ∷ only word.Close ∷ []) source d old e
-arguments_err_close source d old mid mid' found ys x e k a b f = err_behind (args ∷ only word.Close ∷ []) (only word.Close ∷ []) [] source d d old mid' e
+arguments_err_close source d old mid mid' found ys x e k a b f = err_after (args ∷ only word.Close ∷ []) (only word.Close ∷ []) [] source d d old mid' e
     (λ n s r. args_same source n s old k ∙ a.1 n (more_args ∷ only word.Close ∷ s) (omega (arith, r)) ∙ b.1 n (only word.Close ∷ s) (omega (arith, r))) (λ s r. r) f
 
 -- Calls
@@ -154,11 +154,11 @@ call_read source d old t1 t2 rest x xs a o b = (
 )
 
 pub call_err_name : (source : LexedText) (d : ℕ) (old : List Lexeme) (e : SyntaxError) → Errs (only word.Name ∷ []) source d old e → Errs (only word.Name ∷ call_args ∷ []) source d old e
-call_err_name source d old e f = err_behind (only word.Name ∷ call_args ∷ []) (only word.Name ∷ []) (call_args ∷ []) source d d old old e (λ n s r. refl) (λ s r. r) f
+call_err_name source d old e f = err_after (only word.Name ∷ call_args ∷ []) (only word.Name ∷ []) (call_args ∷ []) source d d old old e (λ n s r. refl) (λ s r. r) f
 
 pub call_err_open : (source : LexedText) (d : ℕ) (old t1 : List Lexeme) (x : Name) (e : SyntaxError) → Comes IsName (only word.Name ∷ []) source d old x t1 → Errs (call_args ∷ []) source d t1 e → Errs (only word.Name ∷ call_args ∷ []) source d old e
-call_err_open source d old t1 x e a f = err_behind (only word.Name ∷ call_args ∷ []) (call_args ∷ []) [] source d d old t1 e (λ n s r. a.1 n (call_args ∷ s) r) (λ s r. r) f
+call_err_open source d old t1 x e a f = err_after (only word.Name ∷ call_args ∷ []) (call_args ∷ []) [] source d d old t1 e (λ n s r. a.1 n (call_args ∷ s) r) (λ s r. r) f
 
 pub call_err_args : (source : LexedText) (d : ℕ) (old t1 t2 : List Lexeme) (x : Name) (e : SyntaxError) → Comes IsName (only word.Name ∷ []) source d old x t1 → Opened word.Open source d t1 t2 → Errs (args ∷ only word.Close ∷ []) source d t2 e → Errs (only word.Name ∷ call_args ∷ []) source d old e
-call_err_args source d old t1 t2 x e a o f = err_behind (only word.Name ∷ call_args ∷ []) (args ∷ only word.Close ∷ []) [] source d d old t2 e
+call_err_args source d old t1 t2 x e a o f = err_after (only word.Name ∷ call_args ∷ []) (args ∷ only word.Close ∷ []) [] source d d old t2 e
     (λ n s r. a.1 n (call_args ∷ s) r ∙ o.2 call_args _ args_bracket n s r) (λ s r. r) f

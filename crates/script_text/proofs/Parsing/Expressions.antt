@@ -19,7 +19,7 @@ use Rattle.script_grammar.specs.Grammar.{Token, tok, name_at, number_at, sum_of,
 use Rattle.script_text.specs.Machine.{Sym, only, factor, index, pair, more_factors, more_terms, comparison, minus_end, sum_then, expr_then, step, nesting, judge}
 use Rattle.script_text.specs.Reads.{seen, ending, Leads, Errs, NextIs, NextIsNot, is_unlimited, SignNext, Deepens, IsBracket, ReadsName, ReadsNumber, IsOperands, an_operands}
 use Rattle.script_text.proofs.Nesting.Follows.{comparison_step, factors_step, terms_step}
-use Rattle.script_text.proofs.Parsing.Steps.{taken, deep, name_taken, name_long, number_taken, number_big, HasNone, skipped, has_none, seen-next, err_behind, Comes, Passed, Opened}
+use Rattle.script_text.proofs.Parsing.Steps.{taken, deep, name_taken, name_long, number_taken, number_big, HasNone, skipped, has_none, seen-next, err_after, Comes, Passed, Opened}
 
 none_has : {X : Type 0} (a : Sym) (R : Word → X → Type 0) (source : LexedText) (ls : List Lexeme) → SignNext a R ls None → HasNone a ls source.bytes.now
 none_has a R source [] h = tt
@@ -47,17 +47,17 @@ product_plain a_modulo = refl
 pub expr_alone : (source : LexedText) (d : ℕ) (old rest : List Lexeme) (x : Expr) → Comes IsSum (sum_then []) source d old x rest → SignNext comparison IsComparison rest None → Comes IsExpr (expr_then []) source d old x rest
 expr_alone source d old rest x a k = (alone a.0, λ n s e. a.1 n (comparison ∷ s) e ∙ skipped source n comparison s rest refl (none_has comparison IsComparison source rest k))
 
-pub compares : (source : LexedText) (d : ℕ) (old mid behind : List Lexeme) (x : Expr) (s : Comparison) (l : Lexeme) → d ≤ 64 → Comes IsSum (sum_then []) source d old x mid → mid ≡ l ∷ behind → IsComparison l.word s
-    → Leads (expr_then []) (sum_then []) source d old behind
-compares source d old mid behind x c l h a e k = λ n s f.
+pub compares : (source : LexedText) (d : ℕ) (old mid tail : List Lexeme) (x : Expr) (s : Comparison) (l : Lexeme) → d ≤ 64 → Comes IsSum (sum_then []) source d old x mid → mid ≡ l ∷ tail → IsComparison l.word s
+    → Leads (expr_then []) (sum_then []) source d old tail
+compares source d old mid tail x c l h a e k = λ n s f.
     a.1 n (comparison ∷ s) f ∙ ap (λ z. judge (ending source) n (comparison ∷ s) (seen source z)) e
-    ∙ taken (ending source) n l.start l.word _ (comparison ∷ s) (sum_then s) (seen source behind) (comparison_plain k) (omega arith) (comparison_step _ s k)
+    ∙ taken (ending source) n l.start l.word _ (comparison ∷ s) (sum_then s) (seen source tail) (comparison_plain k) (omega arith) (comparison_step _ s k)
 
-pub expr_compared : (source : LexedText) (d : ℕ) (old mid behind rest : List Lexeme) (x y z : Expr) (s : Comparison) → d ≤ 64 → Comes IsSum (sum_then []) source d old x mid
-    → (l : Lexeme) × (mid ≡ l ∷ behind) × IsComparison l.word s → Comes IsSum (sum_then []) source d behind y rest → z ≡ expr.Compare x s y → Comes IsExpr (expr_then []) source d old z rest
-expr_compared source d old mid behind rest x y z c h a k b e = (
+pub expr_compared : (source : LexedText) (d : ℕ) (old mid tail rest : List Lexeme) (x y z : Expr) (s : Comparison) → d ≤ 64 → Comes IsSum (sum_then []) source d old x mid
+    → (l : Lexeme) × (mid ≡ l ∷ tail) × IsComparison l.word s → Comes IsSum (sum_then []) source d tail y rest → z ≡ expr.Compare x s y → Comes IsExpr (expr_then []) source d old z rest
+expr_compared source d old mid tail rest x y z c h a k b e = (
   subst (λ w. IsExpr (seen source old) w (seen source rest)) (sym e) (compared (subst (IsSum (seen source old) x) (ap (seen source) k.1) a.0) k.2 b.0),
-  λ n s f. compares source d old mid behind x c k.0 h a k.1 k.2 n s f ∙ b.1 n s f,
+  λ n s f. compares source d old mid tail x c k.0 h a k.1 k.2 n s f ∙ b.1 n s f,
 )
 
 -- Sums and products
@@ -173,31 +173,31 @@ factor_name_err source d rest l (Bad number at) e k = λ n s f.
     ap (judge (ending source) n (factor ∷ s)) t ∙ name_long (ending source) n l.start (text_of source.bytes.now l) (factor ∷ s) (index ∷ s) (seen source rest) k.0 refl ∙ fault
 
 -- the machine after the bracket of an item
-pub item_enters : (source : LexedText) (d at : ℕ) (rest behind : List Lexeme) (l : Lexeme) (x : Name) → l.word ≡ word.Name → d < 64 → ReadsName source l (Ok x) → NextIs word.OpenItem at rest behind
-    → Leads (factor ∷ []) (expr_then (only word.CloseItem ∷ [])) source d (l ∷ rest) behind
-item_enters source d at rest behind l x e h k g = λ n s f.
-    names source d rest l x e (omega arith) k n s f ∙ ap (judge (ending source) n (index ∷ s)) (seen-next word.OpenItem source at rest behind g)
-    ∙ taken (ending source) n at word.OpenItem (text_of source.bytes.now g.0) (index ∷ s) (expr_then (only word.CloseItem ∷ s)) (seen source behind) refl (omega arith) refl
+pub item_enters : (source : LexedText) (d at : ℕ) (rest tail : List Lexeme) (l : Lexeme) (x : Name) → l.word ≡ word.Name → d < 64 → ReadsName source l (Ok x) → NextIs word.OpenItem at rest tail
+    → Leads (factor ∷ []) (expr_then (only word.CloseItem ∷ [])) source d (l ∷ rest) tail
+item_enters source d at rest tail l x e h k g = λ n s f.
+    names source d rest l x e (omega arith) k n s f ∙ ap (judge (ending source) n (index ∷ s)) (seen-next word.OpenItem source at rest tail g)
+    ∙ taken (ending source) n at word.OpenItem (text_of source.bytes.now g.0) (index ∷ s) (expr_then (only word.CloseItem ∷ s)) (seen source tail) refl (omega arith) refl
 
-pub item_deep : (source : LexedText) (d at : ℕ) (rest behind : List Lexeme) (l : Lexeme) (x : Name) (e : SyntaxError) → l.word ≡ word.Name → d ≤ 64 → ReadsName source l (Ok x) → NextIs word.OpenItem at rest behind → Deepens d at (Err e)
+pub item_deep : (source : LexedText) (d at : ℕ) (rest tail : List Lexeme) (l : Lexeme) (x : Name) (e : SyntaxError) → l.word ≡ word.Name → d ≤ 64 → ReadsName source l (Ok x) → NextIs word.OpenItem at rest tail → Deepens d at (Err e)
     → Errs (factor ∷ []) source d (l ∷ rest) e
-item_deep source d at rest behind l x Memory e h k g q = tt
-item_deep source d at rest behind l x (Bad number place) e h k g q = λ n s f.
+item_deep source d at rest tail l x Memory e h k g q = tt
+item_deep source d at rest tail l x (Bad number place) e h k g q = λ n s f.
     let fault : ◌≡◌ {A = Option (ℕ × ℕ)} (Some (5, at)) (Some (number, place)) = cc in
-    names source d rest l x e h k n s f ∙ ap (judge (ending source) n (index ∷ s)) (seen-next word.OpenItem source at rest behind g)
-    ∙ deep (ending source) n at word.OpenItem (text_of source.bytes.now g.0) (index ∷ s) (expr_then (only word.CloseItem ∷ s)) (seen source behind) refl (omega arith) refl ∙ fault
+    names source d rest l x e h k n s f ∙ ap (judge (ending source) n (index ∷ s)) (seen-next word.OpenItem source at rest tail g)
+    ∙ deep (ending source) n at word.OpenItem (text_of source.bytes.now g.0) (index ∷ s) (expr_then (only word.CloseItem ∷ s)) (seen source tail) refl (omega arith) refl ∙ fault
 
-pub factor_item : (source : LexedText) (d inside at : ℕ) (rest behind mid last : List Lexeme) (l : Lexeme) (x : Name) (y z : Expr) → l.word ≡ word.Name → Deepens d at (Ok inside) → ReadsName source l (Ok x) → NextIs word.OpenItem at rest behind
-    → Comes IsExpr (expr_then []) source inside behind y mid → Passed word.CloseItem source d mid last → z ≡ expr.Item x y → Comes IsFactor (factor ∷ []) source d (l ∷ rest) z last
-factor_item source d inside at rest behind mid last l x y z e h k g a b p =
+pub factor_item : (source : LexedText) (d inside at : ℕ) (rest tail mid last : List Lexeme) (l : Lexeme) (x : Name) (y z : Expr) → l.word ≡ word.Name → Deepens d at (Ok inside) → ReadsName source l (Ok x) → NextIs word.OpenItem at rest tail
+    → Comes IsExpr (expr_then []) source inside tail y mid → Passed word.CloseItem source d mid last → z ≡ expr.Item x y → Comes IsFactor (factor ∷ []) source d (l ∷ rest) z last
+factor_item source d inside at rest tail mid last l x y z e h k g a b p =
     let t = seen-next word.Name source l.start (l ∷ rest) rest (first_is l (l ∷ rest) rest refl e) in
-    let u = seen-next word.OpenItem source at rest behind g in
+    let u = seen-next word.OpenItem source at rest tail g in
     let v = seen-next word.CloseItem source b.0.0 mid last b.0.1 in
-    let d' : IsFactor (tok l.start word.Name (text_of source.bytes.now l) ∷ tok at word.OpenItem (text_of source.bytes.now g.0) ∷ seen source behind) (expr.Item (name_at l.start (text_of source.bytes.now l)) y) (seen source last) =
-    an_item (subst (IsExpr (seen source behind) y) v a.0) in
-    let there : seen source (l ∷ rest) ≡ tok l.start word.Name (text_of source.bytes.now l) ∷ tok at word.OpenItem (text_of source.bytes.now g.0) ∷ seen source behind = t ∙ ap (λ q. tok l.start word.Name (text_of source.bytes.now l) ∷ q) u in (
+    let d' : IsFactor (tok l.start word.Name (text_of source.bytes.now l) ∷ tok at word.OpenItem (text_of source.bytes.now g.0) ∷ seen source tail) (expr.Item (name_at l.start (text_of source.bytes.now l)) y) (seen source last) =
+    an_item (subst (IsExpr (seen source tail) y) v a.0) in
+    let there : seen source (l ∷ rest) ≡ tok l.start word.Name (text_of source.bytes.now l) ∷ tok at word.OpenItem (text_of source.bytes.now g.0) ∷ seen source tail = t ∙ ap (λ q. tok l.start word.Name (text_of source.bytes.now l) ∷ q) u in (
       subst (λ q. IsFactor (seen source (l ∷ rest)) q (seen source last)) (sym (p ∙ ap (λ q. expr.Item q y) k.0)) (subst (λ q. IsFactor q (expr.Item (name_at l.start (text_of source.bytes.now l)) y) (seen source last)) (sym there) d'),
-      λ n s f. item_enters source d at rest behind l x e h.1 k g n s f ∙ a.1 n (only word.CloseItem ∷ s) (omega (arith, h.0)) ∙ b.1 n s f,
+      λ n s f. item_enters source d at rest tail l x e h.1 k g n s f ∙ a.1 n (only word.CloseItem ∷ s) (omega (arith, h.0)) ∙ b.1 n s f,
     )
 
 -- unary minus
@@ -344,71 +344,71 @@ factor_turn source left inner rest x l e a =
 
 module _ (source : LexedText) (d : ℕ) where
   pub expr_err_left : (old : List Lexeme) (e : SyntaxError) → Errs (sum_then []) source d old e → Errs (expr_then []) source d old e
-  expr_err_left old e f = err_behind (expr_then []) (sum_then []) (comparison ∷ []) source d d old old e (λ n s h. refl) (λ s h. h) f
+  expr_err_left old e f = err_after (expr_then []) (sum_then []) (comparison ∷ []) source d d old old e (λ n s h. refl) (λ s h. h) f
 
-  pub expr_err_right : (old mid behind : List Lexeme) (x : Expr) (c : Comparison) (e : SyntaxError) → d ≤ 64 → Comes IsSum (sum_then []) source d old x mid → (l : Lexeme) × (mid ≡ l ∷ behind) × IsComparison l.word c → Errs (sum_then []) source d behind e
+  pub expr_err_right : (old mid tail : List Lexeme) (x : Expr) (c : Comparison) (e : SyntaxError) → d ≤ 64 → Comes IsSum (sum_then []) source d old x mid → (l : Lexeme) × (mid ≡ l ∷ tail) × IsComparison l.word c → Errs (sum_then []) source d tail e
       → Errs (expr_then []) source d old e
-  expr_err_right old mid behind x c e h a k f = err_behind (expr_then []) (sum_then []) [] source d d old behind e (compares source d old mid behind x c k.0 h a k.1 k.2) (λ s h. h) f
+  expr_err_right old mid tail x c e h a k f = err_after (expr_then []) (sum_then []) [] source d d old tail e (compares source d old mid tail x c k.0 h a k.1 k.2) (λ s h. h) f
 
   pub sum_err_first : (old : List Lexeme) (e : SyntaxError) → Errs (factor ∷ more_factors ∷ []) source d old e → Errs (sum_then []) source d old e
-  sum_err_first old e f = err_behind (sum_then []) (factor ∷ more_factors ∷ []) (more_terms ∷ []) source d d old old e (λ n s h. refl) (λ s h. h) f
+  sum_err_first old e f = err_after (sum_then []) (factor ∷ more_factors ∷ []) (more_terms ∷ []) source d d old old e (λ n s h. refl) (λ s h. h) f
 
   pub sum_err_others : (old mid : List Lexeme) (x : Expr) (e : SyntaxError) → Comes IsTerm (factor ∷ more_factors ∷ []) source d old x mid → Errs (more_terms ∷ []) source d mid e → Errs (sum_then []) source d old e
-  sum_err_others old mid x e a f = err_behind (sum_then []) (more_terms ∷ []) [] source d d old mid e (λ n s h. a.1 n (more_terms ∷ s) h) (λ s h. h) f
+  sum_err_others old mid x e a f = err_after (sum_then []) (more_terms ∷ []) [] source d d old mid e (λ n s h. a.1 n (more_terms ∷ s) h) (λ s h. h) f
 
   pub term_err_first : (old : List Lexeme) (e : SyntaxError) → Errs (factor ∷ []) source d old e → Errs (factor ∷ more_factors ∷ []) source d old e
-  term_err_first old e f = err_behind (factor ∷ more_factors ∷ []) (factor ∷ []) (more_factors ∷ []) source d d old old e (λ n s h. refl) (λ s h. h) f
+  term_err_first old e f = err_after (factor ∷ more_factors ∷ []) (factor ∷ []) (more_factors ∷ []) source d d old old e (λ n s h. refl) (λ s h. h) f
 
   pub term_err_others : (old mid : List Lexeme) (x : Expr) (e : SyntaxError) → Comes IsFactor (factor ∷ []) source d old x mid → Errs (more_factors ∷ []) source d mid e → Errs (factor ∷ more_factors ∷ []) source d old e
-  term_err_others old mid x e a f = err_behind (factor ∷ more_factors ∷ []) (more_factors ∷ []) [] source d d old mid e (λ n s h. a.1 n (more_factors ∷ s) h) (λ s h. h) f
+  term_err_others old mid x e a f = err_after (factor ∷ more_factors ∷ []) (more_factors ∷ []) [] source d d old mid e (λ n s h. a.1 n (more_factors ∷ s) h) (λ s h. h) f
 
   pub more_terms_err : (old left inner : List Lexeme) (xs : List SumPart) (g : Bool) (e : SyntaxError) → d ≤ 64 → TermsSoFar source d old xs left → (l : Lexeme) × (left ≡ l ∷ inner) × IsSumSign l.word g → Errs (factor ∷ more_factors ∷ []) source d inner e
       → Errs (more_terms ∷ []) source d old e
-  more_terms_err old left inner xs g e h i k f = err_behind (more_terms ∷ []) (factor ∷ more_factors ∷ []) (more_terms ∷ []) source d d old inner e (terms_enter source d old left inner g h i.goes k) (λ s h. h) f
+  more_terms_err old left inner xs g e h i k f = err_after (more_terms ∷ []) (factor ∷ more_factors ∷ []) (more_terms ∷ []) source d d old inner e (terms_enter source d old left inner g h i.goes k) (λ s h. h) f
 
   pub more_factors_err : (old left inner : List Lexeme) (xs : List ProductPart) (g : ProductSign) (e : SyntaxError) → d ≤ 64 → FactorsSoFar source d old xs left → (l : Lexeme) × (left ≡ l ∷ inner) × IsProductSign l.word g → Errs (factor ∷ []) source d inner e
       → Errs (more_factors ∷ []) source d old e
-  more_factors_err old left inner xs g e h i k f = err_behind (more_factors ∷ []) (factor ∷ []) (more_factors ∷ []) source d d old inner e (factors_enter source d old left inner g h i.goes k) (λ s h. h) f
+  more_factors_err old left inner xs g e h i k f = err_after (more_factors ∷ []) (factor ∷ []) (more_factors ∷ []) source d d old inner e (factors_enter source d old left inner g h i.goes k) (λ s h. h) f
 
   pub factor_err_pair : (rest : List Lexeme) (l : Lexeme) (w : Word) (e : SyntaxError) → l.word ≡ w → is_unlimited w ≡ true → ((text : List ℕ) (s : List Sym) → step w text (factor ∷ s) ≡ Some (pair ∷ s)) → d ≤ 64 → Errs (pair ∷ []) source d rest e
       → Errs (factor ∷ []) source d (l ∷ rest) e
-  factor_err_pair rest l w e q p g h f = err_behind (factor ∷ []) (pair ∷ []) [] source d d (l ∷ rest) rest e (word_enters source d rest l w q p g h) (λ s h. h) f
+  factor_err_pair rest l w e q p g h f = err_after (factor ∷ []) (pair ∷ []) [] source d d (l ∷ rest) rest e (word_enters source d rest l w q p g h) (λ s h. h) f
 
-  pub item_err_place : (inside at : ℕ) (rest behind : List Lexeme) (l : Lexeme) (x : Name) (e : SyntaxError) → l.word ≡ word.Name → Deepens d at (Ok inside) → ReadsName source l (Ok x) → NextIs word.OpenItem at rest behind
-      → Errs (expr_then []) source inside behind e → Errs (factor ∷ []) source d (l ∷ rest) e
-  item_err_place inside at rest behind l x e q h k g f =
-      err_behind (factor ∷ []) (expr_then []) (only word.CloseItem ∷ []) source d inside (l ∷ rest) behind e (item_enters source d at rest behind l x q h.1 k g) (λ s r. omega (arith, h.0, r)) f
+  pub item_err_place : (inside at : ℕ) (rest tail : List Lexeme) (l : Lexeme) (x : Name) (e : SyntaxError) → l.word ≡ word.Name → Deepens d at (Ok inside) → ReadsName source l (Ok x) → NextIs word.OpenItem at rest tail
+      → Errs (expr_then []) source inside tail e → Errs (factor ∷ []) source d (l ∷ rest) e
+  item_err_place inside at rest tail l x e q h k g f =
+      err_after (factor ∷ []) (expr_then []) (only word.CloseItem ∷ []) source d inside (l ∷ rest) tail e (item_enters source d at rest tail l x q h.1 k g) (λ s r. omega (arith, h.0, r)) f
 
-  pub item_err_rest : (inside at : ℕ) (rest behind mid : List Lexeme) (l : Lexeme) (x : Name) (y : Expr) (e : SyntaxError) → l.word ≡ word.Name → Deepens d at (Ok inside) → ReadsName source l (Ok x) → NextIs word.OpenItem at rest behind
-      → Comes IsExpr (expr_then []) source inside behind y mid → Errs (only word.CloseItem ∷ []) source d mid e → Errs (factor ∷ []) source d (l ∷ rest) e
-  item_err_rest inside at rest behind mid l x y e q h k g a f =
-      err_behind (factor ∷ []) (only word.CloseItem ∷ []) [] source d d (l ∷ rest) mid e
-      (λ n s r. item_enters source d at rest behind l x q h.1 k g n s r ∙ a.1 n (only word.CloseItem ∷ s) (omega (arith, h.0, r))) (λ s r. r) f
+  pub item_err_rest : (inside at : ℕ) (rest tail mid : List Lexeme) (l : Lexeme) (x : Name) (y : Expr) (e : SyntaxError) → l.word ≡ word.Name → Deepens d at (Ok inside) → ReadsName source l (Ok x) → NextIs word.OpenItem at rest tail
+      → Comes IsExpr (expr_then []) source inside tail y mid → Errs (only word.CloseItem ∷ []) source d mid e → Errs (factor ∷ []) source d (l ∷ rest) e
+  item_err_rest inside at rest tail mid l x y e q h k g a f =
+      err_after (factor ∷ []) (only word.CloseItem ∷ []) [] source d d (l ∷ rest) mid e
+      (λ n s r. item_enters source d at rest tail l x q h.1 k g n s r ∙ a.1 n (only word.CloseItem ∷ s) (omega (arith, h.0, r))) (λ s r. r) f
 
   pub minus_err : (inside : ℕ) (rest : List Lexeme) (l : Lexeme) (e : SyntaxError) → l.word ≡ word.Minus → Deepens d l.start (Ok inside) → Errs (factor ∷ []) source inside rest e → Errs (factor ∷ []) source d (l ∷ rest) e
-  minus_err inside rest l e q h f = err_behind (factor ∷ []) (factor ∷ []) (minus_end ∷ []) source d inside (l ∷ rest) rest e (minus_enters source d rest l q h.1) (λ s r. omega (arith, h.0, r)) f
+  minus_err inside rest l e q h f = err_after (factor ∷ []) (factor ∷ []) (minus_end ∷ []) source d inside (l ∷ rest) rest e (minus_enters source d rest l q h.1) (λ s r. omega (arith, h.0, r)) f
 
   pub group_err_x : (inside : ℕ) (rest : List Lexeme) (l : Lexeme) (e : SyntaxError) → l.word ≡ word.Open → Deepens d l.start (Ok inside) → Errs (expr_then []) source inside rest e → Errs (factor ∷ []) source d (l ∷ rest) e
-  group_err_x inside rest l e q h f = err_behind (factor ∷ []) (expr_then []) (only word.Close ∷ []) source d inside (l ∷ rest) rest e (group_enters source d rest l q h.1) (λ s r. omega (arith, h.0, r)) f
+  group_err_x inside rest l e q h f = err_after (factor ∷ []) (expr_then []) (only word.Close ∷ []) source d inside (l ∷ rest) rest e (group_enters source d rest l q h.1) (λ s r. omega (arith, h.0, r)) f
 
   pub group_err_rest : (inside : ℕ) (rest mid : List Lexeme) (l : Lexeme) (x : Expr) (e : SyntaxError) → l.word ≡ word.Open → Deepens d l.start (Ok inside) → Comes IsExpr (expr_then []) source inside rest x mid → Errs (only word.Close ∷ []) source d mid e
       → Errs (factor ∷ []) source d (l ∷ rest) e
   group_err_rest inside rest mid l x e q h a f =
-      err_behind (factor ∷ []) (only word.Close ∷ []) [] source d d (l ∷ rest) mid e (λ n s r. group_enters source d rest l q h.1 n s r ∙ a.1 n (only word.Close ∷ s) (omega (arith, h.0, r))) (λ s r. r) f
+      err_after (factor ∷ []) (only word.Close ∷ []) [] source d d (l ∷ rest) mid e (λ n s r. group_enters source d rest l q h.1 n s r ∙ a.1 n (only word.Close ∷ s) (omega (arith, h.0, r))) (λ s r. r) f
 
   pub operands_err_x : (old t1 : List Lexeme) (e : SyntaxError) → Opened word.Open source d old t1 → Errs (expr_then []) source (d + 1) t1 e → Errs (pair ∷ []) source d old e
-  operands_err_x old t1 e o f = err_behind (pair ∷ []) (expr_then []) (only word.Comma ∷ expr_then (only word.Close ∷ [])) source d (d + 1) old t1 e (o.2 pair _ pair_bracket) (λ s r. omega (arith, r)) f
+  operands_err_x old t1 e o f = err_after (pair ∷ []) (expr_then []) (only word.Comma ∷ expr_then (only word.Close ∷ [])) source d (d + 1) old t1 e (o.2 pair _ pair_bracket) (λ s r. omega (arith, r)) f
 
   pub operands_err_comma : (old t1 t2 : List Lexeme) (x : Expr) (e : SyntaxError) → Opened word.Open source d old t1 → Comes IsExpr (expr_then []) source (d + 1) t1 x t2 → Errs (only word.Comma ∷ []) source (d + 1) t2 e → Errs (pair ∷ []) source d old e
-  operands_err_comma old t1 t2 x e o a f = err_behind (pair ∷ []) (only word.Comma ∷ []) (expr_then (only word.Close ∷ [])) source d (d + 1) old t2 e
+  operands_err_comma old t1 t2 x e o a f = err_after (pair ∷ []) (only word.Comma ∷ []) (expr_then (only word.Close ∷ [])) source d (d + 1) old t2 e
       (λ n s r. o.2 pair _ pair_bracket n s r ∙ a.1 n (only word.Comma ∷ expr_then (only word.Close ∷ s)) (omega (arith, r))) (λ s r. omega (arith, r)) f
 
   pub operands_err_y : (old t1 t2 t3 : List Lexeme) (x : Expr) (e : SyntaxError) → Opened word.Open source d old t1 → Comes IsExpr (expr_then []) source (d + 1) t1 x t2 → Passed word.Comma source (d + 1) t2 t3 → Errs (expr_then []) source (d + 1) t3 e
       → Errs (pair ∷ []) source d old e
-  operands_err_y old t1 t2 t3 x e o a c f = err_behind (pair ∷ []) (expr_then []) (only word.Close ∷ []) source d (d + 1) old t3 e
+  operands_err_y old t1 t2 t3 x e o a c f = err_after (pair ∷ []) (expr_then []) (only word.Close ∷ []) source d (d + 1) old t3 e
       (λ n s r. o.2 pair _ pair_bracket n s r ∙ a.1 n (only word.Comma ∷ expr_then (only word.Close ∷ s)) (omega (arith, r)) ∙ c.1 n (expr_then (only word.Close ∷ s)) (omega (arith, r))) (λ s r. omega (arith, r)) f
 
   pub operands_err_close : (old t1 t2 t3 t4 : List Lexeme) (x y : Expr) (e : SyntaxError) → Opened word.Open source d old t1 → Comes IsExpr (expr_then []) source (d + 1) t1 x t2 → Passed word.Comma source (d + 1) t2 t3
       → Comes IsExpr (expr_then []) source (d + 1) t3 y t4 → Errs (only word.Close ∷ []) source d t4 e → Errs (pair ∷ []) source d old e
-  operands_err_close old t1 t2 t3 t4 x y e o a c b f = err_behind (pair ∷ []) (only word.Close ∷ []) [] source d d old t4 e
+  operands_err_close old t1 t2 t3 t4 x y e o a c b f = err_after (pair ∷ []) (only word.Close ∷ []) [] source d d old t4 e
       (λ n s r. o.2 pair _ pair_bracket n s r ∙ a.1 n (only word.Comma ∷ expr_then (only word.Close ∷ s)) (omega (arith, r)) ∙ c.1 n (expr_then (only word.Close ∷ s)) (omega (arith, r)) ∙ b.1 n (only word.Close ∷ s) (omega (arith, r))) (λ s r. r) f

@@ -22,7 +22,7 @@ use Rattle.script_grammar.specs.Fault.{TextEnd}
 use Rattle.script_text.specs.Machine.{Sym, only, param, params, more_params, param_list, answer, body, stmts, functions, expr_then, step, nesting, at_stop, unless_broken, verdict, begun, judge}
 use Rattle.script_grammar.specs.Text.{token_of}
 use Rattle.script_text.specs.Reads.{seen, ending, Leads, Errs, NextIs, NextIsNot, IsBracket, stopped_at, unexpected_in, IsName, a_name_token, IsEnded, ended, AddsParams, IsParamList, parameters, IsBody, a_body, IsRestOfFunction, ReadsFunctions, Judges}
-use Rattle.script_text.proofs.Parsing.Steps.{taken, skipped, has_none, seen-next, err_behind, unexpected_err, Comes, Passed, Opened}
+use Rattle.script_text.proofs.Parsing.Steps.{taken, skipped, has_none, seen-next, err_after, unexpected_err, Comes, Passed, Opened}
 use Rattle.script_text.proofs.Parsing.Expressions.{expr_shorter, length-seen}
 use Rattle.script_text.proofs.Parsing.Statements.{err_first, stmts_shorter}
 
@@ -69,7 +69,7 @@ module _ (source : LexedText) (d : ℕ) (old : List Lexeme) where
       made a_name_token = id_param
 
   pub id_err : (at : ℕ) (t1 : List Lexeme) (e : SyntaxError) → d ≤ 64 → NextIs word.Id at old t1 → Errs (only word.Name ∷ []) source d t1 e → Errs (param ∷ []) source d old e
-  id_err at t1 e h k f = err_behind (param ∷ []) (only word.Name ∷ []) [] source d d old t1 e (id_enters at t1 h k) (λ s r. r) f
+  id_err at t1 e h k f = err_after (param ∷ []) (only word.Name ∷ []) [] source d d old t1 e (id_enters at t1 h k) (λ s r. r) f
 
 abbrev pub ParamsSoFar : LexedText → ℕ → List Param → List Lexeme → List Param → List Lexeme → Type 0
 ParamsSoFar source d start old found left = record {
@@ -102,7 +102,7 @@ one_more_parameter source d at start found found' old left inner rest x p h i k 
 
 pub more_params_err : (source : LexedText) (d at : ℕ) (start found : List Param) (old left inner : List Lexeme) (e : SyntaxError) → d ≤ 64 → ParamsSoFar source d start old found left → NextIs word.Comma at left inner → Errs (param ∷ []) source d inner e
     → Errs (more_params ∷ []) source d old e
-more_params_err source d at start found old left inner e h i k f = err_behind (more_params ∷ []) (param ∷ []) (more_params ∷ []) source d d old inner e (params_enter source d at old left inner h i.goes k) (λ s r. r) f
+more_params_err source d at start found old left inner e h i k f = err_after (more_params ∷ []) (param ∷ []) (more_params ∷ []) source d d old inner e (params_enter source d at old left inner h i.goes k) (λ s r. r) f
 
 param_shorter : {ts rest : List Token} {x : Param} → IsParam ts x rest → length rest < length ts
 param_shorter int_param = omega arith
@@ -146,15 +146,15 @@ some_parameters source d old mid mid' rest found ys x k a p b c =
     )
 
 pub parameters_err_first : (source : LexedText) (d : ℕ) (old : List Lexeme) (e : SyntaxError) → NextIsNot word.Close old → Errs (param ∷ []) source (d + 1) old e → Errs (params ∷ only word.Close ∷ []) source d old e
-parameters_err_first source d old e k f = err_behind (params ∷ only word.Close ∷ []) (param ∷ []) (more_params ∷ only word.Close ∷ []) source d (d + 1) old old e (λ n s r. params_same source n s old k) (λ s r. omega (arith, r)) f
+parameters_err_first source d old e k f = err_after (params ∷ only word.Close ∷ []) (param ∷ []) (more_params ∷ only word.Close ∷ []) source d (d + 1) old old e (λ n s r. params_same source n s old k) (λ s r. omega (arith, r)) f
 
 pub parameters_err_more : (source : LexedText) (d : ℕ) (old mid : List Lexeme) (x : Param) (e : SyntaxError) → NextIsNot word.Close old → Comes IsParam (param ∷ []) source (d + 1) old x mid → Errs (more_params ∷ []) source (d + 1) mid e → Errs (params ∷ only word.Close ∷ []) source d old e
-parameters_err_more source d old mid x e k a f = err_behind (params ∷ only word.Close ∷ []) (more_params ∷ []) (only word.Close ∷ []) source d (d + 1) old mid e
+parameters_err_more source d old mid x e k a f = err_after (params ∷ only word.Close ∷ []) (more_params ∷ []) (only word.Close ∷ []) source d (d + 1) old mid e
     (λ n s r. params_same source n s old k ∙ a.1 n (more_params ∷ only word.Close ∷ s) (omega (arith, r))) (λ s r. omega (arith, r)) f
 
 pub parameters_err_close : (source : LexedText) (d : ℕ) (old mid mid' : List Lexeme) (found ys : List Param) (x : Param) (e : SyntaxError) → NextIsNot word.Close old → Comes IsParam (param ∷ []) source (d + 1) old x mid → Comes (AddsParams found) (more_params ∷ []) source (d + 1) mid ys mid'
     → Errs (only word.Close ∷ []) source d mid' e → Errs (params ∷ only word.Close ∷ []) source d old e
-parameters_err_close source d old mid mid' found ys x e k a b f = err_behind (params ∷ only word.Close ∷ []) (only word.Close ∷ []) [] source d d old mid' e
+parameters_err_close source d old mid mid' found ys x e k a b f = err_after (params ∷ only word.Close ∷ []) (only word.Close ∷ []) [] source d d old mid' e
     (λ n s r. params_same source n s old k ∙ a.1 n (more_params ∷ only word.Close ∷ s) (omega (arith, r)) ∙ b.1 n (only word.Close ∷ s) (omega (arith, r))) (λ s r. r) f
 
 -- Answers
@@ -175,7 +175,7 @@ module _ (source : LexedText) (d : ℕ) (old : List Lexeme) where
   )
 
   pub id_answer_err : (at : ℕ) (t1 : List Lexeme) (e : SyntaxError) → d ≤ 64 → NextIs word.Arrow at old t1 → Errs (only word.Id ∷ []) source d t1 e → Errs (answer ∷ []) source d old e
-  id_answer_err at t1 e h k f = err_behind (answer ∷ []) (only word.Id ∷ []) [] source d d old t1 e (arrow_enters at t1 h k) (λ s r. r) f
+  id_answer_err at t1 e h k f = err_after (answer ∷ []) (only word.Id ∷ []) [] source d d old t1 e (arrow_enters at t1 h k) (λ s r. r) f
 
 -- Bodies
 
@@ -187,14 +187,14 @@ module _ (source : LexedText) (d : ℕ) (old t1 : List Lexeme) (o : Opened word.
   body_opened = o.2 body _ body_bracket
 
   pub body_err_stmts : (e : SyntaxError) → Errs (stmts ∷ []) source (d + 1) t1 e → Errs (body ∷ []) source d old e
-  body_err_stmts e f = err_behind (body ∷ []) (stmts ∷ []) (only word.Return ∷ expr_then (only word.Semicolon ∷ only word.CloseBlock ∷ [])) source d (d + 1) old t1 e body_opened (λ s r. omega (arith, r)) f
+  body_err_stmts e f = err_after (body ∷ []) (stmts ∷ []) (only word.Return ∷ expr_then (only word.Semicolon ∷ only word.CloseBlock ∷ [])) source d (d + 1) old t1 e body_opened (λ s r. omega (arith, r)) f
 
   module _ (t2 : List Lexeme) (xs : List Stmt) (a : Comes IsStmts (stmts ∷ []) source (d + 1) t1 xs t2) where
     body_acts : (n : ℕ) (s : List Sym) → nesting s ≡ d → judge (ending source) n (body ∷ s) (seen source old) ≡ judge (ending source) n (only word.Return ∷ expr_then (only word.Semicolon ∷ only word.CloseBlock ∷ s)) (seen source t2)
     body_acts n s r = body_opened n s r ∙ a.1 n (only word.Return ∷ expr_then (only word.Semicolon ∷ only word.CloseBlock ∷ s)) (omega (arith, r))
 
     pub body_err_return : (e : SyntaxError) → NextIsNot word.Return t2 → e ≡ unexpected_in source t2 → Errs (body ∷ []) source d old e
-    body_err_return e k f = err_behind (body ∷ []) (only word.Return ∷ []) (expr_then (only word.Semicolon ∷ only word.CloseBlock ∷ [])) source d (d + 1) old t2 e body_acts (λ s r. omega (arith, r))
+    body_err_return e k f = err_after (body ∷ []) (only word.Return ∷ []) (expr_then (only word.Semicolon ∷ only word.CloseBlock ∷ [])) source d (d + 1) old t2 e body_acts (λ s r. omega (arith, r))
         (unexpected_err (only word.Return) [] source (d + 1) t2 e refl (has_none (only word.Return) word.Return [] t2 source.bytes.now refl k) f)
 
     module _ (at : ℕ) (t3 : List Lexeme) (h : d < 64) (k : NextIs word.Return at t2 t3) where
@@ -204,11 +204,11 @@ module _ (source : LexedText) (d : ℕ) (old t1 : List Lexeme) (o : Opened word.
           ∙ taken (ending source) n at word.Return (text_of source.bytes.now k.0) (only word.Return ∷ expr_then (only word.Semicolon ∷ only word.CloseBlock ∷ s)) (expr_then (only word.Semicolon ∷ only word.CloseBlock ∷ s)) (seen source t3) refl (omega (arith, r, h)) refl
 
       pub body_err_result : (e : SyntaxError) → Errs (expr_then (only word.Semicolon ∷ [])) source (d + 1) t3 e → Errs (body ∷ []) source d old e
-      body_err_result e f = err_behind (body ∷ []) (expr_then (only word.Semicolon ∷ [])) (only word.CloseBlock ∷ []) source d (d + 1) old t3 e body_returns (λ s r. omega (arith, r)) f
+      body_err_result e f = err_after (body ∷ []) (expr_then (only word.Semicolon ∷ [])) (only word.CloseBlock ∷ []) source d (d + 1) old t3 e body_returns (λ s r. omega (arith, r)) f
 
       module _ (t4 : List Lexeme) (x : Expr) (b : Comes IsEnded (expr_then (only word.Semicolon ∷ [])) source (d + 1) t3 x t4) where
         pub body_err_close : (e : SyntaxError) → Errs (only word.CloseBlock ∷ []) source d t4 e → Errs (body ∷ []) source d old e
-        body_err_close e f = err_behind (body ∷ []) (only word.CloseBlock ∷ []) [] source d d old t4 e (λ n s r. body_returns n s r ∙ b.1 n (only word.CloseBlock ∷ s) (omega (arith, r))) (λ s r. r) f
+        body_err_close e f = err_after (body ∷ []) (only word.CloseBlock ∷ []) [] source d d old t4 e (λ n s r. body_returns n s r ∙ b.1 n (only word.CloseBlock ∷ s) (omega (arith, r))) (λ s r. r) f
 
         pub body_read : (rest : List Lexeme) → Passed word.CloseBlock source d t4 rest → IsBody (seen source old) xs at x (seen source rest) × Leads (body ∷ []) [] source d old rest
         body_read rest c = (
@@ -233,22 +233,22 @@ module _ (source : LexedText) (d : ℕ) (old : List Lexeme) where
 
   module _ (t1 : List Lexeme) (x : Name) (a : Comes IsName (only word.Name ∷ []) source d old x t1) where
     pub function_err_open : (e : SyntaxError) → Errs (param_list ∷ []) source d t1 e → Errs function_front source d old e
-    function_err_open e f = err_behind function_front (param_list ∷ []) (answer ∷ body ∷ []) source d d old t1 e (λ n s r. a.1 n (param_list ∷ answer ∷ body ∷ s) r) (λ s r. r) f
+    function_err_open e f = err_after function_front (param_list ∷ []) (answer ∷ body ∷ []) source d d old t1 e (λ n s r. a.1 n (param_list ∷ answer ∷ body ∷ s) r) (λ s r. r) f
 
     module _ (t2 : List Lexeme) (o : Opened word.Open source d t1 t2) where
       function_opened : Leads function_front (params ∷ only word.Close ∷ answer ∷ body ∷ []) source d old t2
       function_opened = λ n s r. a.1 n (param_list ∷ answer ∷ body ∷ s) r ∙ o.2 param_list _ params_bracket n (answer ∷ body ∷ s) r
 
       pub function_err_params : (e : SyntaxError) → Errs (params ∷ only word.Close ∷ []) source d t2 e → Errs function_front source d old e
-      function_err_params e f = err_behind function_front (params ∷ only word.Close ∷ []) (answer ∷ body ∷ []) source d d old t2 e function_opened (λ s r. r) f
+      function_err_params e f = err_after function_front (params ∷ only word.Close ∷ []) (answer ∷ body ∷ []) source d d old t2 e function_opened (λ s r. r) f
 
       module _ (t3 : List Lexeme) (ps : List Param) (b : Comes IsParamList (params ∷ only word.Close ∷ []) source d t2 ps t3) where
         pub function_err_answer : (e : SyntaxError) → Errs (answer ∷ []) source d t3 e → Errs function_front source d old e
-        function_err_answer e f = err_behind function_front (answer ∷ []) (body ∷ []) source d d old t3 e (λ n s r. function_opened n s r ∙ b.1 n (answer ∷ body ∷ s) r) (λ s r. r) f
+        function_err_answer e f = err_after function_front (answer ∷ []) (body ∷ []) source d d old t3 e (λ n s r. function_opened n s r ∙ b.1 n (answer ∷ body ∷ s) r) (λ s r. r) f
 
         module _ (t4 : List Lexeme) (k : Kind) (c : Comes IsAnswerKind (answer ∷ []) source d t3 k t4) where
           pub function_err_body : (e : SyntaxError) → Errs (body ∷ []) source d t4 e → Errs function_front source d old e
-          function_err_body e f = err_behind function_front (body ∷ []) [] source d d old t4 e (λ n s r. function_opened n s r ∙ b.1 n (answer ∷ body ∷ s) r ∙ c.1 n (body ∷ s) r) (λ s r. r) f
+          function_err_body e f = err_after function_front (body ∷ []) [] source d d old t4 e (λ n s r. function_opened n s r ∙ b.1 n (answer ∷ body ∷ s) r ∙ c.1 n (body ∷ s) r) (λ s r. r) f
 
           pub function_read : (rest : List Lexeme) (xs : List Stmt) (at : ℕ) (z : Expr) → IsBody (seen source t4) xs at z (seen source rest) → Leads (body ∷ []) [] source d t4 rest
               → Comes IsRestOfFunction function_front source d old (record { name = x; params = ps; answer = k; body = xs; return_at = at; result = z }) rest

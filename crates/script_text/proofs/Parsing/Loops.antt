@@ -15,7 +15,7 @@ use Rattle.script_text.specs.Machine.{Sym, only, exactly, loop_args, more_args, 
 use Rattle.script_text.specs.Reads.{seen, ending, Leads, Errs, NextIs, NextIsNot, NextLexeme, IsBracket, ReadsName, unexpected_in, IsName, a_name_token, AddsArgs, IsBounds, bounds, IsLoopCall, loop_call}
 use Rattle.script_text.proofs.Nesting.Sound.{same_name}
 use Rattle.script_text.proofs.Nesting.Follows.{exact_step}
-use Rattle.script_text.proofs.Parsing.Steps.{taken, name_taken, name_long, HasNone, skipped, has_none, other_word, seen-next, err_behind, unexpected_err, Comes, Passed, Opened}
+use Rattle.script_text.proofs.Parsing.Steps.{taken, name_taken, name_long, HasNone, skipped, has_none, other_word, seen-next, err_after, unexpected_err, Comes, Passed, Opened}
 use Rattle.script_text.proofs.Parsing.Expressions.{first_is}
 use Rattle.script_text.proofs.Parsing.Statements.{ComesAct, stmt_token, stmt_enters, err_first}
 
@@ -26,16 +26,16 @@ module _ (source : LexedText) (d : ℕ) (old : List Lexeme) where
   bounds_err_in e f = err_first source d (only word.In ∷ expr_then (only word.Range ∷ expr_then [])) (only word.In ∷ []) (expr_then (only word.Range ∷ expr_then [])) d old e (λ n s. refl) (λ s r. r) f
 
   pub bounds_err_lo : (t1 : List Lexeme) (e : SyntaxError) → Passed word.In source d old t1 → Errs (expr_then []) source d t1 e → Errs (only word.In ∷ expr_then (only word.Range ∷ expr_then [])) source d old e
-  bounds_err_lo t1 e a f = err_behind (only word.In ∷ expr_then (only word.Range ∷ expr_then [])) (expr_then []) (only word.Range ∷ expr_then []) source d d old t1 e (λ n s r. a.1 n (expr_then (only word.Range ∷ expr_then s)) r) (λ s r. r) f
+  bounds_err_lo t1 e a f = err_after (only word.In ∷ expr_then (only word.Range ∷ expr_then [])) (expr_then []) (only word.Range ∷ expr_then []) source d d old t1 e (λ n s r. a.1 n (expr_then (only word.Range ∷ expr_then s)) r) (λ s r. r) f
 
   pub bounds_err_range : (t1 t2 : List Lexeme) (x : Expr) (e : SyntaxError) → Passed word.In source d old t1 → Comes IsExpr (expr_then []) source d t1 x t2 → Errs (only word.Range ∷ []) source d t2 e
       → Errs (only word.In ∷ expr_then (only word.Range ∷ expr_then [])) source d old e
-  bounds_err_range t1 t2 x e a b f = err_behind (only word.In ∷ expr_then (only word.Range ∷ expr_then [])) (only word.Range ∷ []) (expr_then []) source d d old t2 e
+  bounds_err_range t1 t2 x e a b f = err_after (only word.In ∷ expr_then (only word.Range ∷ expr_then [])) (only word.Range ∷ []) (expr_then []) source d d old t2 e
       (λ n s r. a.1 n (expr_then (only word.Range ∷ expr_then s)) r ∙ b.1 n (only word.Range ∷ expr_then s) r) (λ s r. r) f
 
   pub bounds_err_hi : (t1 t2 t3 : List Lexeme) (x : Expr) (e : SyntaxError) → Passed word.In source d old t1 → Comes IsExpr (expr_then []) source d t1 x t2 → Passed word.Range source d t2 t3 → Errs (expr_then []) source d t3 e
       → Errs (only word.In ∷ expr_then (only word.Range ∷ expr_then [])) source d old e
-  bounds_err_hi t1 t2 t3 x e a b c f = err_behind (only word.In ∷ expr_then (only word.Range ∷ expr_then [])) (expr_then []) [] source d d old t3 e
+  bounds_err_hi t1 t2 t3 x e a b c f = err_after (only word.In ∷ expr_then (only word.Range ∷ expr_then [])) (expr_then []) [] source d d old t3 e
       (λ n s r. a.1 n (expr_then (only word.Range ∷ expr_then s)) r ∙ b.1 n (only word.Range ∷ expr_then s) r ∙ c.1 n (expr_then s) r) (λ s r. r) f
 
   pub bounds_read : (t1 t2 t3 rest : List Lexeme) (x y : Expr) → Passed word.In source d old t1 → Comes IsExpr (expr_then []) source d t1 x t2 → Passed word.Range source d t2 t3 → Comes IsExpr (expr_then []) source d t3 y rest
@@ -65,7 +65,7 @@ module _ (source : LexedText) (d : ℕ) (old : List Lexeme) where
       made a_name_token = an_into
 
   pub target_err : (at : ℕ) (t1 : List Lexeme) (e : SyntaxError) → d ≤ 64 → NextIs word.Into at old t1 → Errs (only word.Name ∷ []) source d t1 e → Errs (into ∷ []) source d old e
-  target_err at t1 e h k f = err_behind (into ∷ []) (only word.Name ∷ []) [] source d d old t1 e (target_enters at t1 h k) (λ s r. r) f
+  target_err at t1 e h k f = err_after (into ∷ []) (only word.Name ∷ []) [] source d d old t1 e (target_enters at t1 h k) (λ s r. r) f
 
 -- The name again
 
@@ -117,36 +117,36 @@ module _ (source : LexedText) (d : ℕ) (n : List ℕ) (old t1 : List Lexeme) wh
   loop_err_call e f = err_first source d (loop_front n) (only word.Call ∷ []) (only word.Name ∷ loop_args n ∷ only word.Semicolon ∷ []) d old e (λ m s. refl) (λ s r. r) f
 
   pub loop_err_name : (e : SyntaxError) → Passed word.Call source d old t1 → Errs (only word.Name ∷ []) source d t1 e → Errs (loop_front n) source d old e
-  loop_err_name e a f = err_behind (loop_front n) (only word.Name ∷ []) (loop_args n ∷ only word.Semicolon ∷ []) source d d old t1 e (λ m s r. a.1 m (only word.Name ∷ loop_args n ∷ only word.Semicolon ∷ s) r) (λ s r. r) f
+  loop_err_name e a f = err_after (loop_front n) (only word.Name ∷ []) (loop_args n ∷ only word.Semicolon ∷ []) source d d old t1 e (λ m s r. a.1 m (only word.Name ∷ loop_args n ∷ only word.Semicolon ∷ s) r) (λ s r. r) f
 
   module _ (t2 : List Lexeme) (x : Name) (a : Passed word.Call source d old t1) (b : Comes IsName (only word.Name ∷ []) source d t1 x t2) where
     loop_named : Leads (loop_front n) (loop_args n ∷ only word.Semicolon ∷ []) source d old t2
     loop_named = λ m s r. a.1 m (only word.Name ∷ loop_args n ∷ only word.Semicolon ∷ s) r ∙ b.1 m (loop_args n ∷ only word.Semicolon ∷ s) r
 
     pub loop_err_open : (e : SyntaxError) → Errs (loop_args n ∷ []) source d t2 e → Errs (loop_front n) source d old e
-    loop_err_open e f = err_behind (loop_front n) (loop_args n ∷ []) (only word.Semicolon ∷ []) source d d old t2 e loop_named (λ s r. r) f
+    loop_err_open e f = err_after (loop_front n) (loop_args n ∷ []) (only word.Semicolon ∷ []) source d d old t2 e loop_named (λ s r. r) f
 
     module _ (t3 : List Lexeme) (o : Opened word.Open source d t2 t3) where
       loop_opened : Leads (loop_front n) (exactly n ∷ more_args ∷ only word.Close ∷ only word.Semicolon ∷ []) source d old t3
       loop_opened = λ m s r. loop_named m s r ∙ o.2 (loop_args n) _ (loop_bracket n) m (only word.Semicolon ∷ s) r
 
       pub loop_err_again : (e : SyntaxError) → Errs (exactly n ∷ []) source (d + 1) t3 e → Errs (loop_front n) source d old e
-      loop_err_again e f = err_behind (loop_front n) (exactly n ∷ []) (more_args ∷ only word.Close ∷ only word.Semicolon ∷ []) source d (d + 1) old t3 e loop_opened (λ s r. omega (arith, r)) f
+      loop_err_again e f = err_after (loop_front n) (exactly n ∷ []) (more_args ∷ only word.Close ∷ only word.Semicolon ∷ []) source d (d + 1) old t3 e loop_opened (λ s r. omega (arith, r)) f
 
       module _ (t4 : List Lexeme) (g : Repeated source (d + 1) n t3 t4) where
         loop_again : (m : ℕ) (s : List Sym) → nesting s ≡ d → judge (ending source) m (loop_front n ++ s) (seen source old) ≡ judge (ending source) m (more_args ∷ only word.Close ∷ only word.Semicolon ∷ s) (seen source t4)
         loop_again m s r = loop_opened m s r ∙ g.1 m (more_args ∷ only word.Close ∷ only word.Semicolon ∷ s) (omega (arith, r))
 
         pub loop_err_args : (e : SyntaxError) → Errs (more_args ∷ []) source (d + 1) t4 e → Errs (loop_front n) source d old e
-        loop_err_args e f = err_behind (loop_front n) (more_args ∷ []) (only word.Close ∷ only word.Semicolon ∷ []) source d (d + 1) old t4 e loop_again (λ s r. omega (arith, r)) f
+        loop_err_args e f = err_after (loop_front n) (more_args ∷ []) (only word.Close ∷ only word.Semicolon ∷ []) source d (d + 1) old t4 e loop_again (λ s r. omega (arith, r)) f
 
         module _ (found xs : List Expr) (t5 : List Lexeme) (h : Comes (AddsArgs found) (more_args ∷ []) source (d + 1) t4 xs t5) where
           pub loop_err_close : (e : SyntaxError) → Errs (only word.Close ∷ []) source d t5 e → Errs (loop_front n) source d old e
-          loop_err_close e f = err_behind (loop_front n) (only word.Close ∷ []) (only word.Semicolon ∷ []) source d d old t5 e
+          loop_err_close e f = err_after (loop_front n) (only word.Close ∷ []) (only word.Semicolon ∷ []) source d d old t5 e
               (λ m s r. loop_again m s r ∙ h.1 m (only word.Close ∷ only word.Semicolon ∷ s) (omega (arith, r))) (λ s r. r) f
 
           pub loop_err_end : (t6 : List Lexeme) (e : SyntaxError) → Passed word.Close source d t5 t6 → Errs (only word.Semicolon ∷ []) source d t6 e → Errs (loop_front n) source d old e
-          loop_err_end t6 e i f = err_behind (loop_front n) (only word.Semicolon ∷ []) [] source d d old t6 e
+          loop_err_end t6 e i f = err_after (loop_front n) (only word.Semicolon ∷ []) [] source d d old t6 e
               (λ m s r. loop_again m s r ∙ h.1 m (only word.Close ∷ only word.Semicolon ∷ s) (omega (arith, r)) ∙ i.1 m (only word.Semicolon ∷ s) r) (λ s r. r) f
 
           pub loop_call_read : (t6 last : List Lexeme) → found ≡ [] → Passed word.Close source d t5 t6 → Passed word.Semicolon source d t6 last → Comes (IsLoopCall n) (loop_front n) source d old (record { name = x; args = xs }) last
@@ -174,47 +174,47 @@ module _ (source : LexedText) (d : ℕ) (l : Lexeme) (rest : List Lexeme) where
   loop_enters p h = stmt_enters source d l rest word.Pfor (loop_name ∷ []) p refl (λ t s. refl) (λ s. refl) h
 
   pub pfor_missing : (e : SyntaxError) → l.word ≡ word.Pfor → d ≤ 64 → NextIsNot word.Name rest → e ≡ unexpected_in source rest → Errs (stmts ∷ []) source d (l ∷ rest) e
-  pfor_missing e p h k f = err_behind (stmts ∷ []) (loop_name ∷ []) (stmts ∷ []) source d d (l ∷ rest) rest e (loop_enters p h) (λ s r. r) (unexpected_err loop_name [] source d rest e refl (none rest k) f)
+  pfor_missing e p h k f = err_after (stmts ∷ []) (loop_name ∷ []) (stmts ∷ []) source d d (l ∷ rest) rest e (loop_enters p h) (λ s r. r) (unexpected_err loop_name [] source d rest e refl (none rest k) f)
     where
       none : (ls : List Lexeme) → NextIsNot word.Name ls → HasNone loop_name ls source.bytes.now
       none [] k = tt
       none (v ∷ ls) k = ap (λ b. cond (b && true) (Some (loop_rest (text_of source.bytes.now v) [])) None) (other_word v.word word.Name k)
 
-  module _ (v : Lexeme) (behind : List Lexeme) (k : NextLexeme word.Name v rest behind) where
+  module _ (v : Lexeme) (tail : List Lexeme) (k : NextLexeme word.Name v rest tail) where
     pub pfor_err_name : (e : SyntaxError) → l.word ≡ word.Pfor → d ≤ 64 → ReadsName source v (Err e) → Errs (stmts ∷ []) source d (l ∷ rest) e
-    pfor_err_name e p h q = err_behind (stmts ∷ []) (loop_name ∷ []) (stmts ∷ []) source d d (l ∷ rest) rest e (loop_enters p h) (λ s r. r) (go e q)
+    pfor_err_name e p h q = err_after (stmts ∷ []) (loop_name ∷ []) (stmts ∷ []) source d d (l ∷ rest) rest e (loop_enters p h) (λ s r. r) (go e q)
       where
         go : (e : SyntaxError) → ReadsName source v (Err e) → Errs (loop_name ∷ []) source d rest e
         go Memory q = tt
         go (Bad number at) q = λ m s f.
             let fault : ◌≡◌ {A = Option (ℕ × ℕ)} (Some (4, v.start)) (Some (number, at)) = cc in
-            ap (judge (ending source) m (loop_name ∷ s)) (seen-next word.Name source v.start rest behind (first_is v rest behind k.0 k.1))
-            ∙ name_long (ending source) m v.start (text_of source.bytes.now v) (loop_name ∷ s) (loop_rest (text_of source.bytes.now v) s) (seen source behind) q.0 refl ∙ fault
+            ap (judge (ending source) m (loop_name ∷ s)) (seen-next word.Name source v.start rest tail (first_is v rest tail k.0 k.1))
+            ∙ name_long (ending source) m v.start (text_of source.bytes.now v) (loop_name ∷ s) (loop_rest (text_of source.bytes.now v) s) (seen source tail) q.0 refl ∙ fault
 
     module _ (x : Name) (p : l.word ≡ word.Pfor) (h : d ≤ 64) (q : ReadsName source v (Ok x)) where
-      loop_begun : (m : ℕ) (s : List Sym) → nesting s ≡ d → judge (ending source) m (stmts ∷ s) (seen source (l ∷ rest)) ≡ judge (ending source) m (loop_rest x.bytes (stmts ∷ s)) (seen source behind)
+      loop_begun : (m : ℕ) (s : List Sym) → nesting s ≡ d → judge (ending source) m (stmts ∷ s) (seen source (l ∷ rest)) ≡ judge (ending source) m (loop_rest x.bytes (stmts ∷ s)) (seen source tail)
       loop_begun m s f =
-          loop_enters p h m s f ∙ ap (judge (ending source) m (loop_name ∷ stmts ∷ s)) (seen-next word.Name source v.start rest behind (first_is v rest behind k.0 k.1))
-          ∙ name_taken (ending source) m v.start (text_of source.bytes.now v) (loop_name ∷ stmts ∷ s) (loop_rest (text_of source.bytes.now v) (stmts ∷ s)) (seen source behind) q.1 (omega arith) refl
-          ∙ ap (λ z. judge (ending source) m (loop_rest z (stmts ∷ s)) (seen source behind)) (sym (ap (λ z. z.bytes) q.0))
+          loop_enters p h m s f ∙ ap (judge (ending source) m (loop_name ∷ stmts ∷ s)) (seen-next word.Name source v.start rest tail (first_is v rest tail k.0 k.1))
+          ∙ name_taken (ending source) m v.start (text_of source.bytes.now v) (loop_name ∷ stmts ∷ s) (loop_rest (text_of source.bytes.now v) (stmts ∷ s)) (seen source tail) q.1 (omega arith) refl
+          ∙ ap (λ z. judge (ending source) m (loop_rest z (stmts ∷ s)) (seen source tail)) (sym (ap (λ z. z.bytes) q.0))
 
-      pub pfor_err_bounds : (e : SyntaxError) → Errs (only word.In ∷ expr_then (only word.Range ∷ expr_then [])) source d behind e → Errs (stmts ∷ []) source d (l ∷ rest) e
-      pfor_err_bounds e f = err_behind (stmts ∷ []) (only word.In ∷ expr_then (only word.Range ∷ expr_then [])) (into ∷ only word.Call ∷ only word.Name ∷ loop_args x.bytes ∷ only word.Semicolon ∷ stmts ∷ []) source d d (l ∷ rest) behind e loop_begun (λ s r. r) f
+      pub pfor_err_bounds : (e : SyntaxError) → Errs (only word.In ∷ expr_then (only word.Range ∷ expr_then [])) source d tail e → Errs (stmts ∷ []) source d (l ∷ rest) e
+      pfor_err_bounds e f = err_after (stmts ∷ []) (only word.In ∷ expr_then (only word.Range ∷ expr_then [])) (into ∷ only word.Call ∷ only word.Name ∷ loop_args x.bytes ∷ only word.Semicolon ∷ stmts ∷ []) source d d (l ∷ rest) tail e loop_begun (λ s r. r) f
 
-      module _ (lo hi : Expr) (t1 : List Lexeme) (a : IsBounds (seen source behind) lo hi (seen source t1)) (b : Leads (only word.In ∷ expr_then (only word.Range ∷ expr_then [])) [] source d behind t1) where
+      module _ (lo hi : Expr) (t1 : List Lexeme) (a : IsBounds (seen source tail) lo hi (seen source t1)) (b : Leads (only word.In ∷ expr_then (only word.Range ∷ expr_then [])) [] source d tail t1) where
         pub pfor_err_target : (e : SyntaxError) → Errs (into ∷ []) source d t1 e → Errs (stmts ∷ []) source d (l ∷ rest) e
-        pfor_err_target e f = err_behind (stmts ∷ []) (into ∷ []) (only word.Call ∷ only word.Name ∷ loop_args x.bytes ∷ only word.Semicolon ∷ stmts ∷ []) source d d (l ∷ rest) t1 e
+        pfor_err_target e f = err_after (stmts ∷ []) (into ∷ []) (only word.Call ∷ only word.Name ∷ loop_args x.bytes ∷ only word.Semicolon ∷ stmts ∷ []) source d d (l ∷ rest) t1 e
             (λ m s r. loop_begun m s r ∙ b m (into ∷ only word.Call ∷ only word.Name ∷ loop_args x.bytes ∷ only word.Semicolon ∷ stmts ∷ s) r) (λ s r. r) f
 
         module _ (to : Option Name) (t2 : List Lexeme) (c : Comes IsInto (into ∷ []) source d t1 to t2) where
           pub pfor_err_call : (e : SyntaxError) → Errs (loop_front x.bytes) source d t2 e → Errs (stmts ∷ []) source d (l ∷ rest) e
-          pfor_err_call e f = err_behind (stmts ∷ []) (loop_front x.bytes) (stmts ∷ []) source d d (l ∷ rest) t2 e
+          pfor_err_call e f = err_after (stmts ∷ []) (loop_front x.bytes) (stmts ∷ []) source d d (l ∷ rest) t2 e
               (λ m s r. loop_begun m s r ∙ b m (into ∷ only word.Call ∷ only word.Name ∷ loop_args x.bytes ∷ only word.Semicolon ∷ stmts ∷ s) r ∙ c.1 m (only word.Call ∷ only word.Name ∷ loop_args x.bytes ∷ only word.Semicolon ∷ stmts ∷ s) r) (λ s r. r) f
 
           pub pfor_read : (call : CallText) (last : List Lexeme) → Comes (IsLoopCall x.bytes) (loop_front x.bytes) source d t2 call last → ComesAct source d l rest (act.Pfor x lo hi to call) last
           pfor_read call last g = (
             subst (λ z. IsStmt z (stmt_at l.start (act.Pfor x lo hi to call)) (seen source last))
-                (sym (stmt_token source d l rest word.Pfor p ∙ ap (λ z. tok l.start word.Pfor (text_of source.bytes.now l) ∷ z) (seen-next word.Name source v.start rest behind (first_is v rest behind k.0 k.1))))
+                (sym (stmt_token source d l rest word.Pfor p ∙ ap (λ z. tok l.start word.Pfor (text_of source.bytes.now l) ∷ z) (seen-next word.Name source v.start rest tail (first_is v rest tail k.0 k.1))))
                 (named x q.0 g.0),
             λ m s r. loop_begun m s r ∙ b m (into ∷ only word.Call ∷ only word.Name ∷ loop_args x.bytes ∷ only word.Semicolon ∷ stmts ∷ s) r ∙ c.1 m (only word.Call ∷ only word.Name ∷ loop_args x.bytes ∷ only word.Semicolon ∷ stmts ∷ s) r ∙ g.1 m (stmts ∷ s) r,
           )
@@ -224,7 +224,7 @@ module _ (source : LexedText) (d : ℕ) (l : Lexeme) (rest : List Lexeme) where
               made (bounds p q) i (loop_call m) = a_pfor p q i m
 
               named : (y : Name) → y ≡ name_at v.start (text_of source.bytes.now v) → IsLoopCall y.bytes (seen source t2) call (seen source last)
-                  → IsStmt (tok l.start word.Pfor (text_of source.bytes.now l) ∷ tok v.start word.Name (text_of source.bytes.now v) ∷ seen source behind) (stmt_at l.start (act.Pfor y lo hi to call)) (seen source last)
+                  → IsStmt (tok l.start word.Pfor (text_of source.bytes.now l) ∷ tok v.start word.Name (text_of source.bytes.now v) ∷ seen source tail) (stmt_at l.start (act.Pfor y lo hi to call)) (seen source last)
               named y e m =
-                  subst (λ z. IsStmt (tok l.start word.Pfor (text_of source.bytes.now l) ∷ tok v.start word.Name (text_of source.bytes.now v) ∷ seen source behind) (stmt_at l.start (act.Pfor z lo hi to call)) (seen source last)) (sym e)
+                  subst (λ z. IsStmt (tok l.start word.Pfor (text_of source.bytes.now l) ∷ tok v.start word.Name (text_of source.bytes.now v) ∷ seen source tail) (stmt_at l.start (act.Pfor z lo hi to call)) (seen source last)) (sym e)
                   (made a c.0 (subst (λ z. IsLoopCall z (seen source t2) call (seen source last)) (ap (λ z. z.bytes) e) m))

@@ -21,7 +21,7 @@ use Rattle.script_text.specs.Machine as machine
 use Rattle.script_text.specs.Machine.{Sym, only, exactly, loop_args, call_args, more_args, into, loop_name, stmts, after_let, after_name, block, otherwise, expr_then, rules, rule, is_empty, find_rule, step, nesting, at_stop, verdict, begun, judge}
 use Rattle.script_grammar.specs.Text.{token_of}
 use Rattle.script_text.specs.Reads.{seen, ending, Leads, Errs, NextIs, NextIsNot, IsBracket, Deepens, ReadsName, is_unlimited, unexpected_in, IsName, a_name_token, IsNumber, a_number_token, IsValueOf, value_of, IsEnded, ended, IsCallOf, call_of, IsSize, a_size, IsElement, an_element, begins_stmt, NoStmt}
-use Rattle.script_text.proofs.Parsing.Steps.{taken, deep, name_taken, name_long, HasNone, skipped, has_none, other_word, seen-next, err_behind, unexpected_err, Comes, Passed, Opened}
+use Rattle.script_text.proofs.Parsing.Steps.{taken, deep, name_taken, name_long, HasNone, skipped, has_none, other_word, seen-next, err_after, unexpected_err, Comes, Passed, Opened}
 use Rattle.script_text.proofs.Parsing.Expressions.{first_is, expr_shorter, length-seen}
 
 -- Two in a row
@@ -29,7 +29,7 @@ use Rattle.script_text.proofs.Parsing.Expressions.{first_is, expr_shorter, lengt
 module _ (source : LexedText) (d : ℕ) where
   pub err_first : (front next tail : List Sym) (d' : ℕ) (old : List Lexeme) (e : SyntaxError) → ((n : ℕ) (s : List Sym) → judge (ending source) n (front ++ s) (seen source old) ≡ judge (ending source) n ((next ++ tail) ++ s) (seen source old))
       → ((s : List Sym) → nesting s ≡ d → nesting (tail ++ s) ≡ d') → Errs next source d' old e → Errs front source d old e
-  err_first front next tail d' old e g h f = err_behind front next tail source d d' old old e (λ n s r. g n s) h f
+  err_first front next tail d' old e g h f = err_after front next tail source d d' old old e (λ n s r. g n s) h f
 
 -- Right sides
 
@@ -89,10 +89,10 @@ module _ (source : LexedText) (d : ℕ) (old rest : List Lexeme) (l : Lexeme) (e
   )
 
   pub right_call_err : (g : SyntaxError) → l.word ≡ word.Call → d ≤ 64 → Errs (only word.Name ∷ call_args ∷ []) source d rest g → Errs (machine.right ∷ []) source d old g
-  right_call_err g p h f = err_behind (machine.right ∷ []) (only word.Name ∷ call_args ∷ []) [] source d d old rest g (right_enters word.Call (only word.Name ∷ call_args ∷ []) p refl (λ t s. refl) (λ s. refl) h) (λ s r. r) f
+  right_call_err g p h f = err_after (machine.right ∷ []) (only word.Name ∷ call_args ∷ []) [] source d d old rest g (right_enters word.Call (only word.Name ∷ call_args ∷ []) p refl (λ t s. refl) (λ s. refl) h) (λ s r. r) f
 
   pub right_spawn_err : (g : SyntaxError) → l.word ≡ word.Spawn → d ≤ 64 → Errs (only word.Name ∷ call_args ∷ []) source d rest g → Errs (machine.right ∷ []) source d old g
-  right_spawn_err g p h f = err_behind (machine.right ∷ []) (only word.Name ∷ call_args ∷ []) [] source d d old rest g (right_enters word.Spawn (only word.Name ∷ call_args ∷ []) p refl (λ t s. refl) (λ s. refl) h) (λ s r. r) f
+  right_spawn_err g p h f = err_after (machine.right ∷ []) (only word.Name ∷ call_args ∷ []) [] source d d old rest g (right_enters word.Spawn (only word.Name ∷ call_args ∷ []) p refl (λ t s. refl) (λ s. refl) h) (λ s r. r) f
 
 pub right_missing : (source : LexedText) (d : ℕ) (old : List Lexeme) (e : SyntaxError) → old ≡ [] → e ≡ unexpected_in source old → Errs (machine.right ∷ []) source d old e
 right_missing source d old e h f = unexpected_err machine.right [] source d old e refl (subst (λ z. HasNone machine.right z source.bytes.now) (sym h) tt) f
@@ -114,19 +114,19 @@ module _ (source : LexedText) (d : ℕ) (old : List Lexeme) (e : SyntaxError) wh
   value_err f = err_first source d (machine.right ∷ only word.Semicolon ∷ []) (machine.right ∷ []) (only word.Semicolon ∷ []) d old e (λ n s. refl) (λ s r. r) f
 
   pub value_err_end : (mid : List Lexeme) (x : Right) → Comes IsRight (machine.right ∷ []) source d old x mid → Errs (only word.Semicolon ∷ []) source d mid e → Errs (machine.right ∷ only word.Semicolon ∷ []) source d old e
-  value_err_end mid x a f = err_behind (machine.right ∷ only word.Semicolon ∷ []) (only word.Semicolon ∷ []) [] source d d old mid e (λ n s r. a.1 n (only word.Semicolon ∷ s) r) (λ s r. r) f
+  value_err_end mid x a f = err_after (machine.right ∷ only word.Semicolon ∷ []) (only word.Semicolon ∷ []) [] source d d old mid e (λ n s r. a.1 n (only word.Semicolon ∷ s) r) (λ s r. r) f
 
   pub ended_err : Errs (expr_then []) source d old e → Errs (expr_then (only word.Semicolon ∷ [])) source d old e
   ended_err f = err_first source d (expr_then (only word.Semicolon ∷ [])) (expr_then []) (only word.Semicolon ∷ []) d old e (λ n s. refl) (λ s r. r) f
 
   pub ended_err_end : (mid : List Lexeme) (x : Expr) → Comes IsExpr (expr_then []) source d old x mid → Errs (only word.Semicolon ∷ []) source d mid e → Errs (expr_then (only word.Semicolon ∷ [])) source d old e
-  ended_err_end mid x a f = err_behind (expr_then (only word.Semicolon ∷ [])) (only word.Semicolon ∷ []) [] source d d old mid e (λ n s r. a.1 n (only word.Semicolon ∷ s) r) (λ s r. r) f
+  ended_err_end mid x a f = err_after (expr_then (only word.Semicolon ∷ [])) (only word.Semicolon ∷ []) [] source d d old mid e (λ n s r. a.1 n (only word.Semicolon ∷ s) r) (λ s r. r) f
 
   pub call_of_err : Errs (only word.Name ∷ call_args ∷ []) source d old e → Errs (only word.Name ∷ call_args ∷ only word.Semicolon ∷ []) source d old e
   call_of_err f = err_first source d (only word.Name ∷ call_args ∷ only word.Semicolon ∷ []) (only word.Name ∷ call_args ∷ []) (only word.Semicolon ∷ []) d old e (λ n s. refl) (λ s r. r) f
 
   pub call_of_err_end : (mid : List Lexeme) (x : CallText) → Comes IsCall (only word.Name ∷ call_args ∷ []) source d old x mid → Errs (only word.Semicolon ∷ []) source d mid e → Errs (only word.Name ∷ call_args ∷ only word.Semicolon ∷ []) source d old e
-  call_of_err_end mid x a f = err_behind (only word.Name ∷ call_args ∷ only word.Semicolon ∷ []) (only word.Semicolon ∷ []) [] source d d old mid e (λ n s r. a.1 n (only word.Semicolon ∷ s) r) (λ s r. r) f
+  call_of_err_end mid x a f = err_after (only word.Name ∷ call_args ∷ only word.Semicolon ∷ []) (only word.Semicolon ∷ []) [] source d d old mid e (λ n s r. a.1 n (only word.Semicolon ∷ s) r) (λ s r. r) f
 
 -- Brackets after a name: [n]; and [E] = E;
 
@@ -190,15 +190,15 @@ module _ (source : LexedText) (d at inside : ℕ) (old t1 : List Lexeme) (k : Ne
           subst (λ z. IsSize z (number_at g w) to) (sym (e ∙ ap (λ z. tok a word.OpenItem t ∷ tok g word.Number w ∷ z) (p ∙ ap (λ z. tok b word.CloseItem u ∷ z) q))) a_size
 
   pub size_err_number : (e : SyntaxError) → Deepens d at (Ok inside) → Errs (only word.Number ∷ []) source inside t1 e → Errs (after_let ∷ []) source d old e
-  size_err_number e h f = err_behind (after_let ∷ []) (only word.Number ∷ []) (only word.CloseItem ∷ only word.Semicolon ∷ []) source d inside old t1 e (size_enters h.1) (λ s r. omega (arith, h.0, r)) f
+  size_err_number e h f = err_after (after_let ∷ []) (only word.Number ∷ []) (only word.CloseItem ∷ only word.Semicolon ∷ []) source d inside old t1 e (size_enters h.1) (λ s r. omega (arith, h.0, r)) f
 
   pub size_err_close : (t2 : List Lexeme) (x : Number) (e : SyntaxError) → Deepens d at (Ok inside) → Comes IsNumber (only word.Number ∷ []) source inside t1 x t2 → Errs (only word.CloseItem ∷ []) source d t2 e → Errs (after_let ∷ []) source d old e
-  size_err_close t2 x e h a f = err_behind (after_let ∷ []) (only word.CloseItem ∷ []) (only word.Semicolon ∷ []) source d d old t2 e
+  size_err_close t2 x e h a f = err_after (after_let ∷ []) (only word.CloseItem ∷ []) (only word.Semicolon ∷ []) source d d old t2 e
       (λ n s r. size_enters h.1 n s r ∙ a.1 n (only word.CloseItem ∷ only word.Semicolon ∷ s) (omega (arith, h.0, r))) (λ s r. r) f
 
   pub size_err_end : (t2 t3 : List Lexeme) (x : Number) (e : SyntaxError) → Deepens d at (Ok inside) → Comes IsNumber (only word.Number ∷ []) source inside t1 x t2 → Passed word.CloseItem source d t2 t3 → Errs (only word.Semicolon ∷ []) source d t3 e
       → Errs (after_let ∷ []) source d old e
-  size_err_end t2 t3 x e h a b f = err_behind (after_let ∷ []) (only word.Semicolon ∷ []) [] source d d old t3 e
+  size_err_end t2 t3 x e h a b f = err_after (after_let ∷ []) (only word.Semicolon ∷ []) [] source d d old t3 e
       (λ n s r. size_enters h.1 n s r ∙ a.1 n (only word.CloseItem ∷ only word.Semicolon ∷ s) (omega (arith, h.0, r)) ∙ b.1 n (only word.Semicolon ∷ s) r) (λ s r. r) f
 
   pub element_read : (t2 t3 t4 rest : List Lexeme) (x y : Expr) → Deepens d at (Ok inside) → Comes IsExpr (expr_then []) source inside t1 x t2 → Passed word.CloseItem source d t2 t3 → Passed word.Assign source d t3 t4
@@ -214,19 +214,19 @@ module _ (source : LexedText) (d at inside : ℕ) (old t1 : List Lexeme) (k : Ne
           subst (λ z. IsElement z x y to) (sym e) (an_element (subst (IsExpr s1 x) (f ∙ ap (λ z. tok b word.CloseItem u ∷ z) g) p) q)
 
   pub element_err_place : (e : SyntaxError) → Deepens d at (Ok inside) → Errs (expr_then []) source inside t1 e → Errs (after_name ∷ []) source d old e
-  element_err_place e h f = err_behind (after_name ∷ []) (expr_then []) (only word.CloseItem ∷ only word.Assign ∷ expr_then (only word.Semicolon ∷ [])) source d inside old t1 e (element_enters h.1) (λ s r. omega (arith, h.0, r)) f
+  element_err_place e h f = err_after (after_name ∷ []) (expr_then []) (only word.CloseItem ∷ only word.Assign ∷ expr_then (only word.Semicolon ∷ [])) source d inside old t1 e (element_enters h.1) (λ s r. omega (arith, h.0, r)) f
 
   pub element_err_close : (t2 : List Lexeme) (x : Expr) (e : SyntaxError) → Deepens d at (Ok inside) → Comes IsExpr (expr_then []) source inside t1 x t2 → Errs (only word.CloseItem ∷ []) source d t2 e → Errs (after_name ∷ []) source d old e
-  element_err_close t2 x e h a f = err_behind (after_name ∷ []) (only word.CloseItem ∷ []) (only word.Assign ∷ expr_then (only word.Semicolon ∷ [])) source d d old t2 e
+  element_err_close t2 x e h a f = err_after (after_name ∷ []) (only word.CloseItem ∷ []) (only word.Assign ∷ expr_then (only word.Semicolon ∷ [])) source d d old t2 e
       (λ n s r. element_enters h.1 n s r ∙ a.1 n (only word.CloseItem ∷ only word.Assign ∷ expr_then (only word.Semicolon ∷ s)) (omega (arith, h.0, r))) (λ s r. r) f
 
   pub element_err_assign : (t2 t3 : List Lexeme) (x : Expr) (e : SyntaxError) → Deepens d at (Ok inside) → Comes IsExpr (expr_then []) source inside t1 x t2 → Passed word.CloseItem source d t2 t3 → Errs (only word.Assign ∷ []) source d t3 e → Errs (after_name ∷ []) source d old e
-  element_err_assign t2 t3 x e h a b f = err_behind (after_name ∷ []) (only word.Assign ∷ []) (expr_then (only word.Semicolon ∷ [])) source d d old t3 e
+  element_err_assign t2 t3 x e h a b f = err_after (after_name ∷ []) (only word.Assign ∷ []) (expr_then (only word.Semicolon ∷ [])) source d d old t3 e
       (λ n s r. element_enters h.1 n s r ∙ a.1 n (only word.CloseItem ∷ only word.Assign ∷ expr_then (only word.Semicolon ∷ s)) (omega (arith, h.0, r)) ∙ b.1 n (only word.Assign ∷ expr_then (only word.Semicolon ∷ s)) r) (λ s r. r) f
 
   pub element_err_value : (t2 t3 t4 : List Lexeme) (x : Expr) (e : SyntaxError) → Deepens d at (Ok inside) → Comes IsExpr (expr_then []) source inside t1 x t2 → Passed word.CloseItem source d t2 t3 → Passed word.Assign source d t3 t4
       → Errs (expr_then (only word.Semicolon ∷ [])) source d t4 e → Errs (after_name ∷ []) source d old e
-  element_err_value t2 t3 t4 x e h a b c f = err_behind (after_name ∷ []) (expr_then (only word.Semicolon ∷ [])) [] source d d old t4 e
+  element_err_value t2 t3 t4 x e h a b c f = err_after (after_name ∷ []) (expr_then (only word.Semicolon ∷ [])) [] source d d old t4 e
       (λ n s r. element_enters h.1 n s r ∙ a.1 n (only word.CloseItem ∷ only word.Assign ∷ expr_then (only word.Semicolon ∷ s)) (omega (arith, h.0, r)) ∙ b.1 n (only word.Assign ∷ expr_then (only word.Semicolon ∷ s)) r
       ∙ c.1 n (expr_then (only word.Semicolon ∷ s)) r) (λ s r. r) f
 
@@ -294,15 +294,15 @@ module _ (source : LexedText) (d : ℕ) (l : Lexeme) (rest : List Lexeme) where
       made a_name_token a_size = an_array
 
   pub let_err_name : (e : SyntaxError) → l.word ≡ word.Let → d ≤ 64 → Errs (only word.Name ∷ []) source d rest e → Errs (stmts ∷ []) source d (l ∷ rest) e
-  let_err_name e p h f = err_behind (stmts ∷ []) (only word.Name ∷ []) (after_let ∷ stmts ∷ []) source d d (l ∷ rest) rest e (let_enters p h) (λ s r. r) f
+  let_err_name e p h f = err_after (stmts ∷ []) (only word.Name ∷ []) (after_let ∷ stmts ∷ []) source d d (l ∷ rest) rest e (let_enters p h) (λ s r. r) f
 
   pub let_err_value : (at : ℕ) (t1 t2 : List Lexeme) (x : Name) (e : SyntaxError) → l.word ≡ word.Let → d ≤ 64 → Comes IsName (only word.Name ∷ []) source d rest x t1 → NextIs word.Assign at t1 t2 → Errs (machine.right ∷ only word.Semicolon ∷ []) source d t2 e
       → Errs (stmts ∷ []) source d (l ∷ rest) e
-  let_err_value at t1 t2 x e p h a k f = err_behind (stmts ∷ []) (machine.right ∷ only word.Semicolon ∷ []) (stmts ∷ []) source d d (l ∷ rest) t2 e
+  let_err_value at t1 t2 x e p h a k f = err_after (stmts ∷ []) (machine.right ∷ only word.Semicolon ∷ []) (stmts ∷ []) source d d (l ∷ rest) t2 e
       (λ n s r. let_enters p h n s r ∙ a.1 n (after_let ∷ stmts ∷ s) r ∙ assign_enters after_let at t1 t2 (λ t s. refl) h k n (stmts ∷ s) r) (λ s r. r) f
 
   pub let_err_size : (t1 : List Lexeme) (x : Name) (e : SyntaxError) → l.word ≡ word.Let → d ≤ 64 → Comes IsName (only word.Name ∷ []) source d rest x t1 → Errs (after_let ∷ []) source d t1 e → Errs (stmts ∷ []) source d (l ∷ rest) e
-  let_err_size t1 x e p h a f = err_behind (stmts ∷ []) (after_let ∷ []) (stmts ∷ []) source d d (l ∷ rest) t1 e (λ n s r. let_enters p h n s r ∙ a.1 n (after_let ∷ stmts ∷ s) r) (λ s r. r) f
+  let_err_size t1 x e p h a f = err_after (stmts ∷ []) (after_let ∷ []) (stmts ∷ []) source d d (l ∷ rest) t1 e (λ n s r. let_enters p h n s r ∙ a.1 n (after_let ∷ stmts ∷ s) r) (λ s r. r) f
 
   -- a name
 
@@ -341,11 +341,11 @@ module _ (source : LexedText) (d : ℕ) (l : Lexeme) (rest : List Lexeme) where
       made (an_element p q) = a_store p q
 
   pub set_err : (at : ℕ) (t1 : List Lexeme) (x : Name) (e : SyntaxError) → l.word ≡ word.Name → d ≤ 64 → ReadsName source l (Ok x) → NextIs word.Assign at rest t1 → Errs (machine.right ∷ only word.Semicolon ∷ []) source d t1 e → Errs (stmts ∷ []) source d (l ∷ rest) e
-  set_err at t1 x e p h k g f = err_behind (stmts ∷ []) (machine.right ∷ only word.Semicolon ∷ []) (stmts ∷ []) source d d (l ∷ rest) t1 e
+  set_err at t1 x e p h k g f = err_after (stmts ∷ []) (machine.right ∷ only word.Semicolon ∷ []) (stmts ∷ []) source d d (l ∷ rest) t1 e
       (λ n s r. named x p h k n s r ∙ assign_enters after_name at rest t1 (λ t s. refl) h g n (stmts ∷ s) r) (λ s r. r) f
 
   pub store_err : (x : Name) (e : SyntaxError) → l.word ≡ word.Name → d ≤ 64 → ReadsName source l (Ok x) → Errs (after_name ∷ []) source d rest e → Errs (stmts ∷ []) source d (l ∷ rest) e
-  store_err x e p h k f = err_behind (stmts ∷ []) (after_name ∷ []) (stmts ∷ []) source d d (l ∷ rest) rest e (named x p h k) (λ s r. r) f
+  store_err x e p h k f = err_after (stmts ∷ []) (after_name ∷ []) (stmts ∷ []) source d d (l ∷ rest) rest e (named x p h k) (λ s r. r) f
 
   -- spawn, call, sync, print
 
@@ -384,7 +384,7 @@ module _ (source : LexedText) (d : ℕ) (l : Lexeme) (rest : List Lexeme) where
 
   pub stmt_err : (w : Word) (next : List Sym) (e : SyntaxError) → l.word ≡ w → is_unlimited w ≡ true → ((text : List ℕ) (s : List Sym) → step w text (stmts ∷ s) ≡ Some (next ++ stmts ∷ s)) → ((s : List Sym) → nesting (next ++ stmts ∷ s) ≡ nesting s) → d ≤ 64
       → Errs next source d rest e → Errs (stmts ∷ []) source d (l ∷ rest) e
-  stmt_err w next e p q g k h f = err_behind (stmts ∷ []) next (stmts ∷ []) source d d (l ∷ rest) rest e
+  stmt_err w next e p q g k h f = err_after (stmts ∷ []) next (stmts ∷ []) source d d (l ∷ rest) rest e
       (λ n s r. stmt_enters w next p q g k h n s r ∙ ap (λ z. judge (ending source) n z (seen source rest)) (sym (append_assoc next (stmts ∷ []) s))) (λ s r. r) f
 
   -- if and while
@@ -409,21 +409,21 @@ module _ (source : LexedText) (d : ℕ) (l : Lexeme) (rest : List Lexeme) where
   )
 
   pub if_err : (e : SyntaxError) → l.word ≡ word.If → d ≤ 64 → Errs (expr_then []) source d rest e → Errs (stmts ∷ []) source d (l ∷ rest) e
-  if_err e w h f = err_behind (stmts ∷ []) (expr_then []) (block ∷ otherwise ∷ stmts ∷ []) source d d (l ∷ rest) rest e (if_enters w h) (λ s r. r) f
+  if_err e w h f = err_after (stmts ∷ []) (expr_then []) (block ∷ otherwise ∷ stmts ∷ []) source d d (l ∷ rest) rest e (if_enters w h) (λ s r. r) f
 
   pub if_err_block : (t1 : List Lexeme) (x : Expr) (e : SyntaxError) → l.word ≡ word.If → d ≤ 64 → Comes IsExpr (expr_then []) source d rest x t1 → Errs (block ∷ []) source d t1 e → Errs (stmts ∷ []) source d (l ∷ rest) e
-  if_err_block t1 x e w h a f = err_behind (stmts ∷ []) (block ∷ []) (otherwise ∷ stmts ∷ []) source d d (l ∷ rest) t1 e (λ n s r. if_enters w h n s r ∙ a.1 n (block ∷ otherwise ∷ stmts ∷ s) r) (λ s r. r) f
+  if_err_block t1 x e w h a f = err_after (stmts ∷ []) (block ∷ []) (otherwise ∷ stmts ∷ []) source d d (l ∷ rest) t1 e (λ n s r. if_enters w h n s r ∙ a.1 n (block ∷ otherwise ∷ stmts ∷ s) r) (λ s r. r) f
 
   pub if_err_else : (t1 t2 : List Lexeme) (x : Expr) (p : List Stmt) (e : SyntaxError) → l.word ≡ word.If → d ≤ 64 → Comes IsExpr (expr_then []) source d rest x t1 → Comes IsBlock (block ∷ []) source d t1 p t2 → Errs (otherwise ∷ []) source d t2 e
       → Errs (stmts ∷ []) source d (l ∷ rest) e
-  if_err_else t1 t2 x p e w h a b f = err_behind (stmts ∷ []) (otherwise ∷ []) (stmts ∷ []) source d d (l ∷ rest) t2 e
+  if_err_else t1 t2 x p e w h a b f = err_after (stmts ∷ []) (otherwise ∷ []) (stmts ∷ []) source d d (l ∷ rest) t2 e
       (λ n s r. if_enters w h n s r ∙ a.1 n (block ∷ otherwise ∷ stmts ∷ s) r ∙ b.1 n (otherwise ∷ stmts ∷ s) r) (λ s r. r) f
 
   pub while_err : (e : SyntaxError) → l.word ≡ word.While → d ≤ 64 → Errs (expr_then []) source d rest e → Errs (stmts ∷ []) source d (l ∷ rest) e
-  while_err e w h f = err_behind (stmts ∷ []) (expr_then []) (block ∷ stmts ∷ []) source d d (l ∷ rest) rest e (while_enters w h) (λ s r. r) f
+  while_err e w h f = err_after (stmts ∷ []) (expr_then []) (block ∷ stmts ∷ []) source d d (l ∷ rest) rest e (while_enters w h) (λ s r. r) f
 
   pub while_err_block : (t1 : List Lexeme) (x : Expr) (e : SyntaxError) → l.word ≡ word.While → d ≤ 64 → Comes IsExpr (expr_then []) source d rest x t1 → Errs (block ∷ []) source d t1 e → Errs (stmts ∷ []) source d (l ∷ rest) e
-  while_err_block t1 x e w h a f = err_behind (stmts ∷ []) (block ∷ []) (stmts ∷ []) source d d (l ∷ rest) t1 e (λ n s r. while_enters w h n s r ∙ a.1 n (block ∷ stmts ∷ s) r) (λ s r. r) f
+  while_err_block t1 x e w h a f = err_after (stmts ∷ []) (block ∷ []) (stmts ∷ []) source d d (l ∷ rest) t1 e (λ n s r. while_enters w h n s r ∙ a.1 n (block ∷ stmts ∷ s) r) (λ s r. r) f
 
   -- scope
 
@@ -437,7 +437,7 @@ module _ (source : LexedText) (d : ℕ) (l : Lexeme) (rest : List Lexeme) where
   )
 
   pub scope_err : (e : SyntaxError) → l.word ≡ word.Scope → d ≤ 64 → Errs (block ∷ []) source d rest e → Errs (stmts ∷ []) source d (l ∷ rest) e
-  scope_err e w h f = err_behind (stmts ∷ []) (block ∷ []) (stmts ∷ []) source d d (l ∷ rest) rest e (scope_enters w h) (λ s r. r) f
+  scope_err e w h f = err_after (stmts ∷ []) (block ∷ []) (stmts ∷ []) source d d (l ∷ rest) rest e (scope_enters w h) (λ s r. r) f
 
 -- Blocks
 
@@ -452,10 +452,10 @@ module _ (source : LexedText) (d : ℕ) (old t1 : List Lexeme) (o : Opened word.
   )
 
   pub block_err_stmts : (e : SyntaxError) → Errs (stmts ∷ []) source (d + 1) t1 e → Errs (block ∷ []) source d old e
-  block_err_stmts e f = err_behind (block ∷ []) (stmts ∷ []) (only word.CloseBlock ∷ []) source d (d + 1) old t1 e (o.2 block _ block_bracket) (λ s r. omega (arith, r)) f
+  block_err_stmts e f = err_after (block ∷ []) (stmts ∷ []) (only word.CloseBlock ∷ []) source d (d + 1) old t1 e (o.2 block _ block_bracket) (λ s r. omega (arith, r)) f
 
   pub block_err_close : (t2 : List Lexeme) (xs : List Stmt) (e : SyntaxError) → Comes IsStmts (stmts ∷ []) source (d + 1) t1 xs t2 → Errs (only word.CloseBlock ∷ []) source d t2 e → Errs (block ∷ []) source d old e
-  block_err_close t2 xs e a f = err_behind (block ∷ []) (only word.CloseBlock ∷ []) [] source d d old t2 e (λ n s r. o.2 block _ block_bracket n s r ∙ a.1 n (only word.CloseBlock ∷ s) (omega (arith, r))) (λ s r. r) f
+  block_err_close t2 xs e a f = err_after (block ∷ []) (only word.CloseBlock ∷ []) [] source d d old t2 e (λ n s r. o.2 block _ block_bracket n s r ∙ a.1 n (only word.CloseBlock ∷ s) (omega (arith, r))) (λ s r. r) f
 
 module _ (source : LexedText) (d : ℕ) (old : List Lexeme) where
   pub else_missing : (xs : List Stmt) → xs ≡ [] → NextIsNot word.Else old → Comes IsElse (otherwise ∷ []) source d old xs old
@@ -470,7 +470,7 @@ module _ (source : LexedText) (d : ℕ) (old : List Lexeme) where
   else_read at t1 rest xs h k a = (subst (λ z. IsElse z xs (seen source rest)) (sym (seen-next word.Else source at old t1 k)) (an_else a.0), λ n s f. else_enters at t1 h k n s f ∙ a.1 n s f)
 
   pub else_err : (at : ℕ) (t1 : List Lexeme) (e : SyntaxError) → d ≤ 64 → NextIs word.Else at old t1 → Errs (block ∷ []) source d t1 e → Errs (otherwise ∷ []) source d old e
-  else_err at t1 e h k f = err_behind (otherwise ∷ []) (block ∷ []) [] source d d old t1 e (else_enters at t1 h k) (λ s r. r) f
+  else_err at t1 e h k f = err_after (otherwise ∷ []) (block ∷ []) [] source d d old t1 e (else_enters at t1 h k) (λ s r. r) f
 
 -- Lists of statements
 
@@ -496,7 +496,7 @@ one_more_stmt source d old left inner rest l xs ys x p i e a = record {
 }
 
 pub stmts_err : (source : LexedText) (d : ℕ) (old left inner : List Lexeme) (l : Lexeme) (xs : List Stmt) (g : SyntaxError) → StmtsSoFar source d old xs left → left ≡ l ∷ inner → Errs (stmts ∷ []) source d (l ∷ inner) g → Errs (stmts ∷ []) source d old g
-stmts_err source d old left inner l xs g i e f = err_behind (stmts ∷ []) (stmts ∷ []) [] source d d old (l ∷ inner) g (λ n s r. i.goes n s r ∙ ap (λ z. judge (ending source) n (stmts ∷ s) (seen source z)) e) (λ s r. r) f
+stmts_err source d old left inner l xs g i e f = err_after (stmts ∷ []) (stmts ∷ []) [] source d d old (l ∷ inner) g (λ n s r. i.goes n s r ∙ ap (λ z. judge (ending source) n (stmts ∷ s) (seen source z)) e) (λ s r. r) f
 
 -- What was read is shorter
 

@@ -133,10 +133,10 @@ Opened w source d old rest =
     ((at : ℕ) × NextIs w at old rest) × (d < 64) × ((a : Sym) (inside : List Sym) → IsBracket a w inside → Leads (a ∷ []) inside source d old rest)
 
 -- a fault that is found after what was read, where these symbols are still expected
-pub err_behind : (front next tail : List Sym) (source : LexedText) (d d' : ℕ) (old mid : List Lexeme) (e : SyntaxError) → Leads front (next ++ tail) source d old mid → ((s : List Sym) → nesting s ≡ d → nesting (tail ++ s) ≡ d')
+pub err_after : (front next tail : List Sym) (source : LexedText) (d d' : ℕ) (old mid : List Lexeme) (e : SyntaxError) → Leads front (next ++ tail) source d old mid → ((s : List Sym) → nesting s ≡ d → nesting (tail ++ s) ≡ d')
     → Errs next source d' mid e → Errs front source d old e
-err_behind front next tail source d d' old mid Memory g h f = tt
-err_behind front next tail source d d' old mid (Bad number at) g h f = λ n s k.
+err_after front next tail source d d' old mid Memory g h f = tt
+err_after front next tail source d d' old mid (Bad number at) g h f = λ n s k.
     g n s k ∙ ap (λ z. judge (ending source) n z (seen source mid)) (append_assoc next tail s) ∙ f n (tail ++ s) (h s k)
 
 -- the fault where none of the words that may come does

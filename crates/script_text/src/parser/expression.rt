@@ -104,11 +104,11 @@ pub(crate) fn expr<'t>(
     ensures { Reads IsExpr (expr_then []) source.now depth tokens.now result }
 {
     let (left, rest) = sum(source, tokens, depth)?;
-    let Some((sign, behind)) = next_comparison(rest) else {
+    let Some((sign, tail)) = next_comparison(rest) else {
         return Ok((left, rest));
     };
     let left = Boxed(Box::new(source.alloc, left)?);
-    let (right, rest) = sum(source, behind, depth)?;
+    let (right, rest) = sum(source, tail, depth)?;
     let right = Boxed(Box::new(source.alloc, right)?);
     Ok((Expr::Compare(left, sign, right), rest))
 }
@@ -221,11 +221,11 @@ fn name_or_item<'t>(
     ensures { Reads IsFactor (factor ∷ []) source.now depth (first ∷ rest.now) result }
 {
     let name = name_of(source, first)?;
-    let Some((at, behind)) = after(rest, Word::OpenItem) else {
+    let Some((at, tail)) = after(rest, Word::OpenItem) else {
         return Ok((Expr::Var(name), rest));
     };
     let inside = deeper(depth, at)?;
-    let (place, rest) = expr(source, behind, inside)?;
+    let (place, rest) = expr(source, tail, inside)?;
     let (place, rest) = beside(place, expect(source, rest, Word::CloseItem, depth))?;
     let place = Boxed(Box::new(source.alloc, place)?);
     Ok((Expr::Item(name, place), rest))

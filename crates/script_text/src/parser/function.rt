@@ -109,10 +109,10 @@ fn body<'t>(
 {
     let rest = open(source, tokens, Word::OpenBlock, depth)?;
     let (acts, rest) = stmts(source, rest, depth + 1)?;
-    let Some((return_at, behind)) = after(rest, Word::Return) else {
+    let Some((return_at, tail)) = after(rest, Word::Return) else {
         return Err(unexpected(source, rest));
     };
-    let (x, rest) = ended_expr(source, behind, depth + 1)?;
+    let (x, rest) = ended_expr(source, tail, depth + 1)?;
     let (x, rest) = beside(x, expect(source, rest, Word::CloseBlock, depth))?;
     Ok((acts, return_at, x, rest))
 }

@@ -26,11 +26,11 @@ pub(crate) fn pfor<'t>(
     requires depth { depth ≤ 64 }
     ensures { ReadsAct source.now depth first rest.now result }
 {
-    let Some((lexeme, behind)) = next(rest, Word::Name) else {
+    let Some((lexeme, tail)) = next(rest, Word::Name) else {
         return Err(unexpected(source, rest));
     };
     let var = name_of(source, lexeme)?;
-    let (lo, hi, rest) = bounds(source, behind, depth)?;
+    let (lo, hi, rest) = bounds(source, tail, depth)?;
     let ((lo, hi), (target, rest)) = beside((lo, hi), target(source, rest, depth))?;
     let ((lo, hi, target), (call, rest)) = beside(
         (lo, hi, target),

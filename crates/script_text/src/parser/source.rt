@@ -9,7 +9,7 @@ ghost use Rattle.script_text.specs.Reads.{IsUnlimited, IsValue, IsName, IsNumber
 
 use crate::error::SyntaxError;
 use crate::fault::TextFault;
-use script_grammar::{Name, NameText, Number};
+use script_grammar::{LONGEST_NAME, Name, NameText, Number};
 use script_tokens::{LexEnd, Lexeme, Version, Word};
 use std::alloc::Global;
 
@@ -26,8 +26,6 @@ pub(crate) struct LexedText<'a> {
 }
 
 const DEEPEST: u8 = 64;
-
-const LONGEST_NAME: usize = 32;
 
 const LARGEST_NUMBER: u64 = 9_223_372_036_854_775_807;
 

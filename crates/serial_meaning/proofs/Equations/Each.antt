@@ -3,7 +3,7 @@ use Rattle.std.proofs.Common.{◌≡◌, ℕ, zero, suc, ◌+◌, ◌<◌, true,
 use Rattle.std.proofs.Common.{ℤ}
 use Rattle.std.specs.Prelude.{Contains}
 use Rattle.script_grammar.specs.declared.tree.Function.{Function}
-use Rattle.serial_meaning.specs.Runs.{Run, done, behind, goes_on, ◌then◌}
+use Rattle.serial_meaning.specs.Runs.{Run, done, after_items, goes_on, ◌then◌}
 use Rattle.serial_meaning.specs.Plan.{PlanView, drawn}
 use Rattle.serial_meaning.specs.Exec.{State, Manner, strand, goes_out, frame, exec, instance, filled, fits_depth, bound}
 use Rattle.serial_meaning.proofs.RisingPedigrees.Closed.{Closed, closed-exec, returned-q}
@@ -62,9 +62,9 @@ module _ {I E K : Type 0} (how : Manner I E K) (plan : PlanView) (T : I → Type
     abbrev Q : List ℕ → ℕ → Run I E (Value × State K) → Type 0
     Q path n r = Each T r.items
 
-    scope-each : (path : List ℕ) (s : State K) (r : Run I E (State K)) → Each T r.items → Each T (behind (how.opens (strand path s)) r then goes_out how plan path s.rank).items
+    scope-each : (path : List ℕ) (s : State K) (r : Run I E (State K)) → Each T r.items → Each T (after_items (how.opens (strand path s)) r then goes_out how plan path s.rank).items
     scope-each path s r h =
-        each-then T (behind (how.opens (strand path s)) r) (goes_out how plan path s.rank) (each-append T (how.opens (strand path s)) r.items (parts.opens (strand path s)) h) (λ a. parts.closes (strand path s))
+        each-then T (after_items (how.opens (strand path s)) r) (goes_out how plan path s.rank) (each-append T (how.opens (strand path s)) r.items (parts.opens (strand path s)) h) (λ a. parts.closes (strand path s))
 
     rules : Closed how plan P Q
     rules = record {

@@ -2,7 +2,7 @@
 use Rattle.std.proofs.Common.{◌≡◌, ℕ, zero, suc, ◌+◌, ◌-◌, ◌≤◌, Bool, true, false, List, [], ◌∷◌, ◌++◌, Option, Some, None, Result, Ok, Err, refl, ap, sym, ◌∙◌, arith, length, nat_lt, if◌then◌else◌}
 use Rattle.std.proofs.Common.{ℤ, ◌-ℤ◌}
 use Rattle.serial_meaning.proofs.Equations.RunLaws.{then-then, then-same, Gives, then-gives, anything, gives-at}
-use Rattle.serial_meaning.specs.Runs.{Run, done, behind, ◌then◌}
+use Rattle.serial_meaning.specs.Runs.{Run, done, after_items, ◌then◌}
 use Rattle.serial_meaning.specs.Values.{value_of, values_of, slot_of, items_of, number, is_true, at_index}
 use Rattle.serial_meaning.specs.Functions.{number_of, function_at, any_spawns}
 use Rattle.serial_meaning.specs.Exec.{State, Manner, BlockMeaning, strand, fault, given, paid, paid_from, tested, has_room, fits_depth, spawn, join, join_at, leaves, shown, implied, returned, frame, called, right_side, found, store, looped, does, statement, each, statements, exec, count_of, set_scalar, bound}
@@ -230,7 +230,7 @@ module _ {I E K : Type 0} (how : Manner I E K) (plan : PlanView) (path : List �
   does-same n b c spends alike calls st (act.Pfor x lo hi target t) s h = refl
   does-same n b c spends alike calls st (act.Scope xs) s h =
       tested-same (nat_lt (length path + 1) plan.limits.depth) Depth s _ _
-      (ap (λ r. behind (how.opens (strand path s)) r then leaves how plan path s.rank) (alike (strand path s) calls xs (record s { rank = 0 }) h))
+      (ap (λ r. after_items (how.opens (strand path s)) r then leaves how plan path s.rank) (alike (strand path s) calls xs (record s { rank = 0 }) h))
 
   paid-same : {A : Type 0} (s : State K) (f g : State K → Run I E A) → ((k : ℕ) → suc k ≤ s.steps → f (record s { steps = k }) ≡ g (record s { steps = k })) →
       paid how plan path s f ≡ paid how plan path s g

@@ -2,7 +2,7 @@
 use Rattle.std.proofs.Common.{◌≡◌, ℕ, zero, suc, ◌+◌, ◌-◌, ◌<◌, ◌≤◌, Bool, true, false, List, [], ◌∷◌, ◌++◌, Option, Some, None, Result, Ok, Err, map, refl, sym, ap, ◌∙◌, subst, append-nil, append_assoc, if◌then◌else◌, arith}
 use Rattle.std.proofs.Common.{ℤ}
 use Rattle.script_grammar.specs.declared.tree.Function.{Function}
-use Rattle.serial_meaning.specs.Runs.{Run, done, behind, goes_on, ◌then◌}
+use Rattle.serial_meaning.specs.Runs.{Run, done, after_items, goes_on, ◌then◌}
 use Rattle.serial_meaning.specs.Values.{Env}
 use Rattle.serial_meaning.specs.Functions.{function_at}
 use Rattle.serial_meaning.specs.Plan.{PlanView, functions_of}
@@ -198,18 +198,18 @@ module _ (plan : PlanView) (child : Origin → Evaluation) where
   alone : (path : List ℕ) (k : ℕ) (o : Origin) → path_of o ≡ path ++ k ∷ [] → ChildrenRise path k (k + 1) (o ∷ [])
   alone path k o h = record { within = ((k, [], h, omega arith, omega arith), tt); rise = (tt, tt) }
 
-  sync-spread : (path : List ℕ) (s : S) (e : Event) (k : Option Fault) → P path s.rank (behind (Happened e ∷ []) (joined k then λ k. done (record s { rank = s.rank + 1; spawned = k })))
+  sync-spread : (path : List ℕ) (s : S) (e : Event) (k : Option Fault) → P path s.rank (after_items (Happened e ∷ []) (joined k then λ k. done (record s { rank = s.rank + 1; spawned = k })))
   sync-spread path s e None = quiet path rank_of s.rank (Happened e ∷ []) (record s { rank = s.rank + 1; spawned = None }) refl (omega arith)
   sync-spread path s e (Some f) = record { hi = s.rank; up = omega arith; ends = tt; spread = record { within = tt; rise = tt } }
 
   loop-spread : (path : List ℕ) (b : Bool) (q : Result (List Value) Fault) (o : Origin) (s : S) (e : Event) (target : List Value → Env) → path_of o ≡ path ++ s.rank ∷ [] →
-      P path s.rank (behind (Happened e ∷ []) ((if b then done [] else record { items = Child o ∷ []; ending = loop_end q }) then λ ws. done (record s { rank = s.rank + 1; env = target ws })))
+      P path s.rank (after_items (Happened e ∷ []) ((if b then done [] else record { items = Child o ∷ []; ending = loop_end q }) then λ ws. done (record s { rank = s.rank + 1; env = target ws })))
   loop-spread path true q o s e target h = record { hi = s.rank + 1; up = omega arith; ends = refl; spread = record { within = tt; rise = tt } }
   loop-spread path false (Ok ws) o s e target h = record { hi = s.rank + 1; up = omega arith; ends = refl; spread = alone path s.rank o h }
   loop-spread path false (Err f) o s e target h = record { hi = s.rank + 1; up = omega arith; ends = tt; spread = alone path s.rank o h }
 
   -- all children of a scope stand below its rank
-  scope-spread : (path : List ℕ) (s : S) (r : Run Item NodeFault S) → P (path ++ s.rank ∷ []) 0 r → P path s.rank (behind (Opened (path ++ s.rank ∷ []) ∷ []) r then goes_out (put_off_all plan child) plan path s.rank)
+  scope-spread : (path : List ℕ) (s : S) (r : Run Item NodeFault S) → P (path ++ s.rank ∷ []) 0 r → P path s.rank (after_items (Opened (path ++ s.rank ∷ []) ∷ []) r then goes_out (put_off_all plan child) plan path s.rank)
   scope-spread path s r h = from r.items r.ending h.hi h.ends h.spread
     where
       here : List ℕ

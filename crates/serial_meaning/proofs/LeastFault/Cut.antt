@@ -1,6 +1,6 @@
 -- The elision is the open tree with each child's run in its place, cut at the first child that faults.
 use Rattle.std.proofs.Common.{◌≡◌, List, [], ◌∷◌, ◌++◌, Option, Some, None, Result, Ok, Err, refl, sym, ap, ◌∙◌, append_assoc, subst}
-use Rattle.serial_meaning.specs.Runs.{Run, behind, goes_on, ◌then◌}
+use Rattle.serial_meaning.specs.Runs.{Run, after_items, goes_on, ◌then◌}
 use Rattle.serial_meaning.specs.Eval.{Evaluation}
 use Rattle.serial_meaning.specs.Open.{Item, Happened, Child, Opened, Closed, NodeFault, Own, ChildFaulted}
 use Rattle.serial_meaning.specs.declared.value.Value.{Value}
@@ -62,10 +62,10 @@ module _ (child : Origin → Evaluation) where
   abbrev pub Cuts : {A B : Type 0} → (A → B) → Run Event Fault A → Run Item NodeFault B → Type 0
   Cuts lift r q = Matches lift (cut q.items).events (cut q.items).cut_by r q.ending
 
-  matches-front : {C D : Type 0} (lift : C → D) (xs es : List Event) (c : Option Fault) (r : Run Event Fault C) (e : Result D NodeFault) → Matches lift es c r e → Matches lift (xs ++ es) c (behind xs r) e
-  matches-front lift xs es (Some f) r e h = ap (behind xs) h
-  matches-front lift xs es None r (Ok d) h = (h.0, h.1, ap (behind xs) h.2)
-  matches-front lift xs es None r (Err (Own f)) h = ap (behind xs) h
+  matches-front : {C D : Type 0} (lift : C → D) (xs es : List Event) (c : Option Fault) (r : Run Event Fault C) (e : Result D NodeFault) → Matches lift es c r e → Matches lift (xs ++ es) c (after_items xs r) e
+  matches-front lift xs es (Some f) r e h = ap (after_items xs) h
+  matches-front lift xs es None r (Ok d) h = (h.0, h.1, ap (after_items xs) h.2)
+  matches-front lift xs es None r (Err (Own f)) h = ap (after_items xs) h
   matches-front lift xs es None r (Err (ChildFaulted f)) h = h
 
   module _ {A B C D : Type 0} (lift : A → B) (lift' : C → D) (f : A → Run Event Fault C) (g : B → Run Item NodeFault D) (k : (a : A) → Cuts lift' (f a) (g (lift a))) where
@@ -76,7 +76,7 @@ module _ (child : Origin → Evaluation) where
         Matches lift' (followed (record { events = es; cut_by = c }) c (cut (g b).items)).events (followed (record { events = es; cut_by = c }) c (cut (g b).items)).cut_by (r then f) (g b).ending
     after_ok r b es (Some x) h = ap (λ q. q then f) h
     after_ok r b es None h =
-        let m : Matches lift' (es ++ (cut (g b).items).events) (cut (g b).items).cut_by (behind es (f h.0)) (g b).ending = matches-front lift' es (cut (g b).items).events (cut (g b).items).cut_by (f h.0) (g b).ending (at_value b h.0 h.1) in subst (λ (q : Run Event Fault C). Matches lift' (es ++ (cut (g b).items).events) (cut (g b).items).cut_by q (g b).ending) (sym (ap (λ q. q then f) h.2)) m
+        let m : Matches lift' (es ++ (cut (g b).items).events) (cut (g b).items).cut_by (after_items es (f h.0)) (g b).ending = matches-front lift' es (cut (g b).items).events (cut (g b).items).cut_by (f h.0) (g b).ending (at_value b h.0 h.1) in subst (λ (q : Run Event Fault C). Matches lift' (es ++ (cut (g b).items).events) (cut (g b).items).cut_by q (g b).ending) (sym (ap (λ q. q then f) h.2)) m
 
     after_err : (r : Run Event Fault A) (x : NodeFault) (es : List Event) (c : Option Fault) → Matches lift es c r (Err x) → Matches lift' es c (r then f) (Err x)
     after_err r x es (Some y) h = ap (λ q. q then f) h

@@ -10,7 +10,7 @@ use Rattle.script_grammar.specs.declared.tree.Stmt.{Stmt, out-Stmt}
 use Rattle.script_grammar.specs.declared.tree.Act.{out-Act, the_lemmas}
 use Rattle.script_grammar.specs.declared.tree.Act.TheVariants as act
 use Rattle.script_grammar.specs.declared.tree.Act.TheOpen as node
-use Rattle.serial_meaning.specs.Runs.{Run, done, stopped, behind, ◌then◌}
+use Rattle.serial_meaning.specs.Runs.{Run, done, stopped, after_items, ◌then◌}
 use Rattle.serial_meaning.specs.Values.{value_of}
 use Rattle.serial_meaning.specs.Plan.{PlanView}
 use Rattle.serial_meaning.specs.Exec.{State, Manner, fault, statement, exec, returned, instance}
@@ -129,7 +129,7 @@ module _ {I E K : Type 0} (how : Manner I E K) (n : ℕ) where
   bad-faults : instance how (endless_plan n) (0 ∷ []) (Some bad) [] ≡ stopped (how.own divided)
   bad-faults =
       ap (λ (r : Run I E (State K)). (r then returned how (endless_plan n) (0 ∷ []) bad) then λ p. done p.0) bad-body
-      ∙ ap (λ (r : Run I E (Value × State K)). behind [] r then λ p. done p.0) bad-ends
+      ∙ ap (λ (r : Run I E (Value × State K)). after_items [] r then λ p. done p.0) bad-ends
 
 module _ {K : Type 0} (n : ℕ) (k : K) where
   abbrev first : State K
@@ -167,12 +167,12 @@ module _ (n : ℕ) (child : Origin → Evaluation) (faulting : child child_origi
   from-second : exec how plan [] 0 (stated (act.Let (named (codes "a")) (spawn (codes "bad") [])) ∷ stated (act.Let (named (codes "i")) (right.Value (number 0))) ∷ endless_body) (second n None) ≡ record { items = Happened (event.Spawn (0 ∷ [])) ∷ Child child_origin ∷ []; ending = Err (Own spent) }
   from-second =
       exec-cons how plan [] 0 _ _ (second n None) ∙ ap (λ r. r then exec how plan [] 0 (stated (act.Let (named (codes "i")) (right.Value (number 0))) ∷ endless_body)) spawns
-      ∙ ap (behind (Happened (event.Spawn (0 ∷ [])) ∷ Child child_origin ∷ [])) from-third
+      ∙ ap (after_items (Happened (event.Spawn (0 ∷ [])) ∷ Child child_origin ∷ [])) from-third
 
   from-first : exec how plan [] 0 endless_main.body (first n None) ≡ record { items = Happened (event.Print (0 ∷ []) (Int (pos 7))) ∷ Happened (event.Spawn (0 ∷ [])) ∷ Child child_origin ∷ []; ending = Err (Own spent) }
   from-first =
       exec-cons how plan [] 0 _ _ (first n None) ∙ ap (λ r. r then exec how plan [] 0 (stated (act.Let (named (codes "a")) (spawn (codes "bad") [])) ∷ stated (act.Let (named (codes "i")) (right.Value (number 0))) ∷ endless_body)) prints
-      ∙ ap (behind (Happened (event.Print (0 ∷ []) (Int (pos 7))) ∷ [])) from-second
+      ∙ ap (after_items (Happened (event.Print (0 ∷ []) (Int (pos 7))) ∷ [])) from-second
 
   open-run : instance how plan [] (Some endless_main) [] ≡ record { items = Happened (event.Print (0 ∷ []) (Int (pos 7))) ∷ Happened (event.Spawn (0 ∷ [])) ∷ Child child_origin ∷ []; ending = Err (Own spent) }
   open-run = ap (λ r. (r then returned how plan [] endless_main) then λ p. done p.0) from-first

@@ -58,13 +58,13 @@ module _ (child : Origin → Evaluation) (under : (o : Origin) (f : Fault) → (
     where
       later : (vs : List Value) (items : List Event) (q : Result (List Value) Fault) → (all (k + 1) n).ending ≡ q → (goes_on items q (λ ws. done (vs ++ ws))).ending ≡ Err f →
           ((all (k + 1) n).ending ≡ Err f → From path (k + 1) f) → From path k f
-      later vs items (Ok ws) g h behind = absurd (ok_or_err (vs ++ ws) f h)
-      later vs items (Err x) g h behind = from-lower path k f (behind (g ∙ h))
+      later vs items (Ok ws) g h after = absurd (ok_or_err (vs ++ ws) f h)
+      later vs items (Err x) g h after = from-lower path k f (after (g ∙ h))
 
       by_end : (items : List Event) (q : Result (List Value) Fault) → (child (iteration function rest first path k)).ending ≡ q →
           (goes_on items q (λ vs. all (k + 1) n then λ ws. done (vs ++ ws))).ending ≡ Err f → ((all (k + 1) n).ending ≡ Err f → From path (k + 1) f) → From path k f
-      by_end items (Ok vs) g h behind = later vs (all (k + 1) n).items (all (k + 1) n).ending refl h behind
-      by_end items (Err x) g h behind = let a = at-iteration k f (g ∙ h) in (k, a.0, a.1, omega arith)
+      by_end items (Ok vs) g h after = later vs (all (k + 1) n).items (all (k + 1) n).ending refl h after
+      by_end items (Err x) g h after = let a = at-iteration k f (g ∙ h) in (k, a.0, a.1, omega arith)
 
   gathered-turns : (k n : ℕ) → gathered child (iterations function rest first path k n) ≡ (all k n).ending
   gathered-turns k zero = refl

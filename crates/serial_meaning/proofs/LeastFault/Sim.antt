@@ -2,7 +2,7 @@
 use Rattle.std.proofs.Common.{ℕ, zero, suc, ◌+◌, ◌-◌, ◌≡◌, Bool, true, false, List, [], ◌∷◌, ◌++◌, Option, Some, None, Result, Ok, Err, nat_lt, if◌then◌else◌, length}
 use Rattle.std.proofs.Common.{ℤ, pos, ◌-ℤ◌}
 use Rattle.std.specs.Int.{w64, cast_signed}
-use Rattle.serial_meaning.specs.Runs.{Run, done, behind, goes_on, ◌then◌}
+use Rattle.serial_meaning.specs.Runs.{Run, done, after_items, goes_on, ◌then◌}
 use Rattle.serial_meaning.specs.Values.{Env, value_of, values_of, slot_of, items_of, number, is_true, at_index}
 use Rattle.serial_meaning.specs.Functions.{number_of, function_at, any_spawns}
 use Rattle.serial_meaning.specs.Exec.{State, BlockMeaning, fault, given, paid_from, tested, has_room, fits_depth, filled, spawn, leaves, scoped, implied, returned, frame, called, right_side, found, looped, does, statement, each, statements, exec, instance, count_of, set_scalar, set_array, bound}
@@ -74,7 +74,7 @@ module _ (plan : PlanView) (path : List ℕ) (child : Origin → Evaluation) (em
 
   spawned-c : (e : Event) (instead : Value) (s : State (Unit {0})) (is : List Event) (q : Result (List Value) Fault) →
       Matches child lift_pair (in_front (e ∷ []) (child_first is q (record { events = []; cut_by = None }))).events (in_front (e ∷ []) (child_first is q (record { events = []; cut_by = None }))).cut_by
-      (behind (e ∷ []) ((record { items = is; ending = q } then λ (vs : List Value). done {I = Event} {E = Fault} (first_of vs, tt {0})) then λ (r : Value × Unit {0}). done (r.0, record s { rank = s.rank + 1; spawned = r.1 })))
+      (after_items (e ∷ []) ((record { items = is; ending = q } then λ (vs : List Value). done {I = Event} {E = Fault} (first_of vs, tt {0})) then λ (r : Value × Unit {0}). done (r.0, record s { rank = s.rank + 1; spawned = r.1 })))
       (Ok ((put_off instead None q).0, record { env = s.env; rank = s.rank + 1; steps = s.steps; spawned = (put_off instead None q).1 }))
   spawned-c e instead s is (Ok vs) = ((first_of vs, record s { rank = s.rank + 1 }), refl, ap (λ l. record { items = e ∷ l; ending = Ok (first_of vs, record s { rank = s.rank + 1 }) }) (append-nil (is ++ [])))
   spawned-c e instead s is (Err f) = refl
@@ -83,17 +83,17 @@ module _ (plan : PlanView) (path : List ℕ) (child : Origin → Evaluation) (em
   spawn-c t s = given-c lift_pair (values_of t.args s.env) s _ _ (λ vs. tested-c lift_pair (nat_lt (length path + 1) plan.limits.depth) Depth s _ _ (let o = origin.Instance (number_of (functions_of plan) t.name.bytes) vs (path ++ s.rank ∷ []) in spawned-c (event.Spawn (path ++ s.rank ∷ [])) (filler plan o) s (child o).items (child o).ending))
 
   loop-c : (o : Origin) (e : Event) (s : State (Unit {0})) (target : List Value → Env) →
-      Cuts child lift (behind (e ∷ []) (child o then λ ws. done (record s { rank = s.rank + 1; env = target ws }))) (behind (Happened e ∷ []) ((put_off_all plan child).loop o then λ ws. done (record (lift s) { rank = s.rank + 1; env = target ws })))
+      Cuts child lift (after_items (e ∷ []) (child o then λ ws. done (record s { rank = s.rank + 1; env = target ws }))) (after_items (Happened e ∷ []) ((put_off_all plan child).loop o then λ ws. done (record (lift s) { rank = s.rank + 1; env = target ws })))
   loop-c o e s target = by_size (is_empty_loop o) refl
     where
       by_end : (q : Result (List Value) Fault) → (child o).ending ≡ q →
-          Cuts child lift (behind (e ∷ []) (child o then λ ws. done (record s { rank = s.rank + 1; env = target ws }))) (behind (Happened e ∷ []) (goes_on (Child o ∷ []) (loop_end (child o).ending) (λ ws. done (record (lift s) { rank = s.rank + 1; env = target ws }))))
+          Cuts child lift (after_items (e ∷ []) (child o then λ ws. done (record s { rank = s.rank + 1; env = target ws }))) (after_items (Happened e ∷ []) (goes_on (Child o ∷ []) (loop_end (child o).ending) (λ ws. done (record (lift s) { rank = s.rank + 1; env = target ws }))))
       by_end (Ok ws) h = rw (h, h) (record s { rank = s.rank + 1; env = target ws }, refl, refl)
       by_end (Err f) h = rw (h, h)
 
       by_size : (b : Bool) → is_empty_loop o ≡ b →
-          Cuts child lift (behind (e ∷ []) (child o then λ ws. done (record s { rank = s.rank + 1; env = target ws }))) (behind (Happened e ∷ []) ((if b then done [] else record { items = Child o ∷ []; ending = loop_end (child o).ending }) then λ ws. done (record (lift s) { rank = s.rank + 1; env = target ws })))
-      by_size true h = (record s { rank = s.rank + 1; env = target [] }, refl, ap (λ r. behind (e ∷ []) (r then λ ws. done (record s { rank = s.rank + 1; env = target ws }))) (empty o h))
+          Cuts child lift (after_items (e ∷ []) (child o then λ ws. done (record s { rank = s.rank + 1; env = target ws }))) (after_items (Happened e ∷ []) ((if b then done [] else record { items = Child o ∷ []; ending = loop_end (child o).ending }) then λ ws. done (record (lift s) { rank = s.rank + 1; env = target ws })))
+      by_size true h = (record s { rank = s.rank + 1; env = target [] }, refl, ap (λ r. after_items (e ∷ []) (r then λ ws. done (record s { rank = s.rank + 1; env = target ws }))) (empty o h))
       by_size false h = by_end (child o).ending refl
 
   looped-c : (lo : ℤ) (n : ℕ) (vs : List Value) (target : Option Name) (t : CallText) (s : State (Unit {0})) → Cuts child lift (looped (serial child) plan path lo n vs target t s) (looped (put_off_all plan child) plan path lo n vs target t (lift s))
@@ -116,7 +116,7 @@ module _ (plan : PlanView) (path : List ℕ) (child : Origin → Evaluation) (em
         let here : List ℕ = path ++ s.rank ∷ [] in
         tested-c lift (nat_lt (length path + 1) plan.limits.depth) Depth s _ _
         (cuts-then child lift lift (leaves (serial child) plan path s.rank) (leaves (put_off_all plan child) plan path s.rank) (leaves-c s.rank)
-        (behind [] (b here calls xs inner)) (behind (Opened here ∷ []) (c here calls xs (lift inner))) (fine here calls xs inner))
+        (after_items [] (b here calls xs inner)) (after_items (Opened here ∷ []) (c here calls xs (lift inner))) (fine here calls xs inner))
 
     frame-c : (calls : ℕ) (o : Option Function) (vs : List Value) (s : State (Unit {0})) → Cuts child lift_pair (frame (serial child) plan path b calls o vs s) (frame (put_off_all plan child) plan path c calls o vs (lift s))
     frame-c calls None vs s = ((Int (pos 0), s), refl, refl)
@@ -195,10 +195,10 @@ module _ (child : Origin → Evaluation) (function : ℕ) (rest : List Value) (f
   loop_node k n = record { items = map Child (loop_origins k n); ending = loop_end (gathered child (loop_origins k n)) }
 
   one_more : (vs : List Value) (xs es : List Event) (c : Option Fault) (r : Evaluation) (q : Result (List Value) Fault) → Matches child (λ (ws : List Value). ws) es c r (loop_end q) →
-      Matches child (λ (ws : List Value). ws) (xs ++ es) c (behind xs (r then λ ws. done (vs ++ ws))) (loop_end (both (Ok vs) q))
-  one_more vs xs es (Some f) r q h = ap (λ (r : Evaluation). behind xs (r then λ ws. done (vs ++ ws))) h
+      Matches child (λ (ws : List Value). ws) (xs ++ es) c (after_items xs (r then λ ws. done (vs ++ ws))) (loop_end (both (Ok vs) q))
+  one_more vs xs es (Some f) r q h = ap (λ (r : Evaluation). after_items xs (r then λ ws. done (vs ++ ws))) h
   one_more vs xs es None r (Ok ws) h =
-      (vs ++ h.0, ap (λ l. vs ++ l) h.1, ap (λ (r : Evaluation). behind xs (r then λ ws. done (vs ++ ws))) h.2 ∙ ap (λ l. record { items = xs ++ l; ending = Ok (vs ++ h.0) }) (append-nil es))
+      (vs ++ h.0, ap (λ l. vs ++ l) h.1, ap (λ (r : Evaluation). after_items xs (r then λ ws. done (vs ++ ws))) h.2 ∙ ap (λ l. record { items = xs ++ l; ending = Ok (vs ++ h.0) }) (append-nil es))
   one_more vs xs es None r (Err f) h = absurd h
 
   loop-cuts : (k n : ℕ) → Cuts child (λ (vs : List Value). vs) (loop_run k n) (loop_node k n)

@@ -3,7 +3,7 @@ use Rattle.std.proofs.Common.{refl, ap, sym, subst, ◌∙◌, length, ◌≡◌
 use Rattle.std.proofs.Common.{ℤ, pos, ◌-ℤ◌}
 use Rattle.std.specs.Int.{w64, cast_signed}
 use Rattle.serial_meaning.proofs.Equations.RunLaws.{then-then}
-use Rattle.serial_meaning.specs.Runs.{Run, done, happens, behind, ◌then◌}
+use Rattle.serial_meaning.specs.Runs.{Run, done, happens, after_items, ◌then◌}
 use Rattle.serial_meaning.specs.Values.{value_of, values_of, slot_of, items_of, number, is_true, at_index}
 use Rattle.serial_meaning.specs.Functions.{number_of, function_at, any_spawns}
 use Rattle.serial_meaning.specs.Exec.{State, Manner, BlockMeaning, strand, fault, emit, given, paid_from, tested, has_room, fits_depth, filled, spawn, join, leaves, goes_out, shown, implied, returned, frame, called, right_side, found, looped, does, statement, each, statements, exec, count_of, set_scalar, set_array, bound}
@@ -44,7 +44,7 @@ module _ {I E K : Type 0} (how : Manner I E K) (plan : PlanView) where
     pub q-child : (path : List ℕ) (n : ℕ) (vs : List Value) (s : State K) → nat_lt (length path + 1) plan.limits.depth ≡ true → Q path s.rank (happens (how.event (event.Spawn (strand path s))) s then λ s. how.spawn (origin.Instance n vs (strand path s)) s.spawned then λ r. done (r.0, record s { rank = s.rank + 1; spawned = r.1 }))
     pub p-loop : (path : List ℕ) (n : ℕ) (vs : List Value) (lo : ℤ) (hi : ℕ) (target : Option Name) (s : State K) → fits_depth how plan path hi ≡ true → P path s.rank (happens (how.event (event.Loop (strand path s))) s then λ s. how.loop (origin.Loop n vs lo (strand path s) (record { lo = 0; hi = hi })) then λ ws. done (record s { rank = s.rank + 1; env = filled target ws s.env }))
     -- of what a scope's block and the sync at its end do, and so of the scope
-    pub p-scope : (path : List ℕ) (s : State K) (r : Goes) → nat_lt (length path + 1) plan.limits.depth ≡ true → P (strand path s) 0 r → P path s.rank (behind (how.opens (strand path s)) r then goes_out how plan path s.rank)
+    pub p-scope : (path : List ℕ) (s : State K) (r : Goes) → nat_lt (length path + 1) plan.limits.depth ≡ true → P (strand path s) 0 r → P path s.rank (after_items (how.opens (strand path s)) r then goes_out how plan path s.rank)
     pub pp : (path : List ℕ) (n : ℕ) (r : Goes) (f : State K → Goes) → P path n r → ((s : State K) → P path s.rank (f s)) → P path n (r then f)
     pub pq : (path : List ℕ) (n : ℕ) (r : Goes) (f : State K → Gives) → P path n r → ((s : State K) → Q path s.rank (f s)) → Q path n (r then f)
     pub qp : (path : List ℕ) (n : ℕ) (r : Gives) (f : Value × State K → Goes) → Q path n r → ((p : Value × State K) → P path p.1.rank (f p)) → P path n (r then f)
@@ -125,7 +125,7 @@ module _ {I E K : Type 0} (how : Manner I E K) (plan : PlanView) where
             let here : List ℕ = strand path s in
             let inner : State K = record s { rank = 0 } in
             let opens : Goes = shown (how.opens here) inner in
-            let same : (behind (how.opens here) (b here calls xs inner then join how plan here) then goes_out how plan path s.rank) ≡ (opens then b here calls xs then leaves how plan path s.rank) =
+            let same : (after_items (how.opens here) (b here calls xs inner then join how plan here) then goes_out how plan path s.rank) ≡ (opens then b here calls xs then leaves how plan path s.rank) =
             ap (λ (q : Goes). q then goes_out how plan path s.rank) (sym (then-then opens (b here calls xs) (join how plan here)))
             ∙ then-then (opens then b here calls xs) (join how plan here) (goes_out how plan path s.rank) in
             subst (P path s.rank) same (c.p-scope path s _ deep (c.pp here 0 (b here calls xs inner) (join how plan here) (fine here calls xs inner) (c.p-join here)))

@@ -18,15 +18,15 @@ nat_cmp-less : (j k : ℕ) → j < k → nat_cmp j k ≡ Less
 nat_cmp-less j k h = sym (nat_cmp_is j k Less h)
 
 -- what stands before both doesn't matter
-slice_cmp-behind : (path xs ys : List ℕ) → cmp (path ++ xs) (path ++ ys) ≡ cmp xs ys
-slice_cmp-behind [] xs ys = refl
-slice_cmp-behind (r ∷ path) xs ys =
-    ap (λ o. ordering_then o (cmp (path ++ xs) (path ++ ys))) (nat_cmp-same r) ∙ slice_cmp-behind path xs ys
+slice_cmp-after : (path xs ys : List ℕ) → cmp (path ++ xs) (path ++ ys) ≡ cmp xs ys
+slice_cmp-after [] xs ys = refl
+slice_cmp-after (r ∷ path) xs ys =
+    ap (λ o. ordering_then o (cmp (path ++ xs) (path ++ ys))) (nat_cmp-same r) ∙ slice_cmp-after path xs ys
 
 -- The first ranks that differ decide.
 pub before-by_rank : (path : List ℕ) (j k : ℕ) (xs ys : List ℕ) → j < k → IsBefore (path ++ j ∷ xs) (path ++ k ∷ ys)
 before-by_rank path j k xs ys h =
-    slice_cmp-behind path (j ∷ xs) (k ∷ ys) ∙ ap (λ o. ordering_then o (cmp xs ys)) (nat_cmp-less j k h)
+    slice_cmp-after path (j ∷ xs) (k ∷ ys) ∙ ap (λ o. ordering_then o (cmp xs ys)) (nat_cmp-less j k h)
 
 -- A proper prefix stands first.
 pub before-prefix : (xs : List ℕ) (y : ℕ) (ys : List ℕ) → IsBefore xs (xs ++ y ∷ ys)

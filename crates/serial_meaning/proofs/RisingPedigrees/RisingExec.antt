@@ -5,7 +5,7 @@ use Rattle.std.specs.Int.{w64, int_wrapping_add}
 use Rattle.std.specs.Prelude.{AllPairs}
 use Rattle.ped_path.specs.Path.{IsBefore}
 use Rattle.serial_meaning.specs.Laws.{places}
-use Rattle.serial_meaning.specs.Runs.{Run, done, behind, goes_on, ◌then◌}
+use Rattle.serial_meaning.specs.Runs.{Run, done, after_items, goes_on, ◌then◌}
 use Rattle.serial_meaning.specs.Functions.{function_at}
 use Rattle.serial_meaning.specs.Exec.{State, goes_out, frame, exec, instance, filled}
 use Rattle.serial_meaning.specs.Eval.{Evaluation, serial, turns, eval_with, eval_below, eval, depth_left, path_of, first_of, main_origin, elision}
@@ -66,7 +66,7 @@ module _ (plan : PlanView) (child : Origin → Evaluation) (fine : (o : Origin) 
   fault-child path k js f n = (k, n.0 ∷ n.1, n.2 ∙ append_assoc path (k ∷ []) (n.0 ∷ n.1), omega arith, n.3)
 
   with_child : {B : Type 0} (path : List ℕ) (rank : B → ℕ) (k : ℕ) (e : Event) (items : List Event) (q : Result (List Value) Fault) (f : List Value → B) → ((a : List Value) → rank (f a) ≡ k + 1) → places (e ∷ items) ≡ (path ++ k ∷ []) ∷ places items →
-      (hi : ℕ) → Within (path ++ k ∷ []) 0 hi (places items) → Rise (places items) → EndsAfter (path ++ k ∷ []) (places items) q → Rising path rank k (behind (e ∷ []) (goes_on items q (λ a. done (f a))))
+      (hi : ℕ) → Within (path ++ k ∷ []) 0 hi (places items) → Rise (places items) → EndsAfter (path ++ k ∷ []) (places items) q → Rising path rank k (after_items (e ∷ []) (goes_on items q (λ a. done (f a))))
   with_child path rank k e items (Ok a) f r p hi w s n = record {
     hi = k + 1;
     below = (sym (r a), omega arith);
@@ -82,7 +82,7 @@ module _ (plan : PlanView) (child : Origin → Evaluation) (fine : (o : Origin) 
 
   -- out of a scope: all that its block and its sync do stands below its rank
   scope-rises : (path : List ℕ) (s : State (Unit {0})) (r : Run Event Fault (State (Unit {0}))) → Rising (path ++ s.rank ∷ []) rank_of 0 r →
-      Rising path rank_of s.rank (behind [] r then goes_out (serial child) plan path s.rank)
+      Rising path rank_of s.rank (after_items [] r then goes_out (serial child) plan path s.rank)
   scope-rises path s r h = from r.items r.ending h.hi h.below h.within h.rise
     where
       from : (items : List Event) (q : Result (State (Unit {0})) Fault) (hi : ℕ) → Below (path ++ s.rank ∷ []) rank_of 0 hi (places items) q → Within (path ++ s.rank ∷ []) 0 hi (places items) → Rise (places items) →
@@ -110,7 +110,7 @@ module _ (plan : PlanView) (child : Origin → Evaluation) (fine : (o : Origin) 
     q-draw = λ path s. record { hi = s.rank + 1; below = (refl, omega arith); within = one path s.rank; rise = (tt, tt) };
     q-new = λ path s. record { hi = s.rank + 1; below = (refl, omega arith); within = one path s.rank; rise = (tt, tt) };
     p-join = λ path s. record { hi = s.rank + 1; below = (refl, omega arith); within = one path s.rank; rise = (tt, tt) };
-    q-child = λ path n vs s _. let o = origin.Instance n vs (path ++ s.rank ∷ []) in subst (λ (r : Run Event Fault (Value × State (Unit {0}))). Rising path pair_rank s.rank (behind (event.Spawn (path ++ s.rank ∷ []) ∷ []) r)) (sym (then-then (child o) (λ vs. done (first_of vs, s.spawned)) (λ r. done (r.0, record s { rank = s.rank + 1; spawned = r.1 })))) (with_child path pair_rank s.rank (event.Spawn (path ++ s.rank ∷ [])) (child o).items (child o).ending (λ vs. (first_of vs, record s { rank = s.rank + 1 })) (λ a. refl) refl (fine o).hi (fine o).within (fine o).rise (fine o).ends);
+    q-child = λ path n vs s _. let o = origin.Instance n vs (path ++ s.rank ∷ []) in subst (λ (r : Run Event Fault (Value × State (Unit {0}))). Rising path pair_rank s.rank (after_items (event.Spawn (path ++ s.rank ∷ []) ∷ []) r)) (sym (then-then (child o) (λ vs. done (first_of vs, s.spawned)) (λ r. done (r.0, record s { rank = s.rank + 1; spawned = r.1 })))) (with_child path pair_rank s.rank (event.Spawn (path ++ s.rank ∷ [])) (child o).items (child o).ending (λ vs. (first_of vs, record s { rank = s.rank + 1 })) (λ a. refl) refl (fine o).hi (fine o).within (fine o).rise (fine o).ends);
     p-loop = λ path n vs lo hi target s _. let o = origin.Loop n vs lo (path ++ s.rank ∷ []) (record { lo = 0; hi = hi }) in with_child path rank_of s.rank (event.Loop (path ++ s.rank ∷ [])) (child o).items (child o).ending (λ ws. record s { rank = s.rank + 1; env = filled target ws s.env }) (λ a. refl) refl (fine o).hi (fine o).within (fine o).rise (fine o).ends;
     p-scope = λ path s r _ h. scope-rises path s r h;
     pp = λ path n r f h k. rising-then path rank_of rank_of n r f h k;

@@ -2,7 +2,7 @@
 use Rattle.std.proofs.Common.{◌≡◌, ℕ, zero, suc, ◌+◌, ◌-◌, List, [], ◌∷◌, ◌++◌, Option, Some, None, Result, Ok, Err, refl, sym, ap, ◌∙◌, append_assoc, append-nil, subst}
 use Rattle.std.proofs.Common.{ℤ, pos}
 use Rattle.std.specs.Int.{w64, int_wrapping_add}
-use Rattle.serial_meaning.specs.Runs.{Run, done, behind, goes_on, ◌then◌}
+use Rattle.serial_meaning.specs.Runs.{Run, done, after_items, goes_on, ◌then◌}
 use Rattle.serial_meaning.specs.Functions.{function_at}
 use Rattle.serial_meaning.specs.Exec.{State, goes_out, frame, exec, instance, filled}
 use Rattle.serial_meaning.specs.Eval.{Evaluation, serial, turns, eval_with, eval_below, depth_left, first_of, main_origin, elision}
@@ -74,12 +74,12 @@ module _ (plan : PlanView) (home : List ℕ) (child : Origin → Evaluation) (fi
 
   -- an event that begins children, with what they do
   with_child : {B : Type 0} (path : List ℕ) (rank : B → ℕ) (k : ℕ) (e : Event) (items : List Event) (q : Result (List Value) Fault) (f : List Value → B) → ((a : List Value) → rank (f a) ≡ k + 1) →
-      ((es : List Event) → IsNested (Instance home) path (k + 1) es → IsNested (Instance home) path k (e ∷ (items ++ es))) → Nests home path rank k (behind (e ∷ []) (goes_on items q (λ a. done (f a))))
+      ((es : List Event) → IsNested (Instance home) path (k + 1) es → IsNested (Instance home) path k (e ∷ (items ++ es))) → Nests home path rank k (after_items (e ∷ []) (goes_on items q (λ a. done (f a))))
   with_child path rank k e items (Ok a) f r put = record { goes = λ es n. subst (λ (l : List Event). IsNested (Instance home) path k (e ∷ (l ++ es))) (sym (append-nil items)) (put es (subst (λ (i : ℕ). IsNested (Instance home) path i es) (r a) n)) }
   with_child path rank k e items (Err g) f r put = record { goes = subst (λ (l : List Event). IsNested (Instance home) path k (e ∷ l)) (append-nil items) (put [] (Ends (Instance home) path (k + 1))) }
 
   -- out of a scope
-  scope-nests : (path : List ℕ) (s : State (Unit {0})) (r : Run Event Fault (State (Unit {0}))) → P (path ++ s.rank ∷ []) 0 r → P path s.rank (behind [] r then goes_out (serial child) plan path s.rank)
+  scope-nests : (path : List ℕ) (s : State (Unit {0})) (r : Run Event Fault (State (Unit {0}))) → P (path ++ s.rank ∷ []) 0 r → P path s.rank (after_items [] r then goes_out (serial child) plan path s.rank)
   scope-nests path s r h = from r.items r.ending (whole home (path ++ s.rank ∷ []) rank_of 0 r h)
     where
       from : (items : List Event) (q : Result (State (Unit {0})) Fault) → IsNested (Instance home) (path ++ s.rank ∷ []) 0 items → P path s.rank (goes_on items q (goes_out (serial child) plan path s.rank))
@@ -96,7 +96,7 @@ module _ (plan : PlanView) (home : List ℕ) (child : Origin → Evaluation) (fi
     q-draw = λ path s. record { goes = λ es n. Steps home path s.rank (event.Draw (path ++ s.rank ∷ []) (drawn plan (path ++ s.rank ∷ []))) es (Draw (path ++ s.rank ∷ []) (drawn plan (path ++ s.rank ∷ []))) n };
     q-new = λ path s. record { goes = λ es n. Steps home path s.rank (event.New (path ++ s.rank ∷ [])) es (New (path ++ s.rank ∷ [])) n };
     p-join = λ path s. record { goes = λ es n. Steps home path s.rank (event.Sync (path ++ s.rank ∷ [])) es (Sync (path ++ s.rank ∷ [])) n };
-    q-child = λ path n vs s _. let o = origin.Instance n vs (path ++ s.rank ∷ []) in subst (λ (r : Run Event Fault (Value × State (Unit {0}))). Nests home path pair_rank s.rank (behind (event.Spawn (path ++ s.rank ∷ []) ∷ []) r)) (sym (then-then (child o) (λ vs. done (first_of vs, s.spawned)) (λ r. done (r.0, record s { rank = s.rank + 1; spawned = r.1 })))) (with_child path pair_rank s.rank (event.Spawn (path ++ s.rank ∷ [])) (child o).items (child o).ending (λ vs. (first_of vs, record s { rank = s.rank + 1 })) (λ a. refl) (λ es m. Spawns home path s.rank (child o).items es (fine o) m));
+    q-child = λ path n vs s _. let o = origin.Instance n vs (path ++ s.rank ∷ []) in subst (λ (r : Run Event Fault (Value × State (Unit {0}))). Nests home path pair_rank s.rank (after_items (event.Spawn (path ++ s.rank ∷ []) ∷ []) r)) (sym (then-then (child o) (λ vs. done (first_of vs, s.spawned)) (λ r. done (r.0, record s { rank = s.rank + 1; spawned = r.1 })))) (with_child path pair_rank s.rank (event.Spawn (path ++ s.rank ∷ [])) (child o).items (child o).ending (λ vs. (first_of vs, record s { rank = s.rank + 1 })) (λ a. refl) (λ es m. Spawns home path s.rank (child o).items es (fine o) m));
     p-loop = λ path n vs lo hi target s _. let o = origin.Loop n vs lo (path ++ s.rank ∷ []) (record { lo = 0; hi = hi }) in with_child path rank_of s.rank (event.Loop (path ++ s.rank ∷ [])) (child o).items (child o).ending (λ ws. record s { rank = s.rank + 1; env = filled target ws s.env }) (λ a. refl) (λ es m. Loops home path s.rank (child o).items es (fine o) m);
     p-scope = λ path s r _ h. scope-nests path s r h;
     pp = λ path n r f h k. nests-then home path rank_of rank_of n r f h k;

@@ -25,7 +25,7 @@ use Rattle.strand_machine.specs.contracts.stop.Resumed as resumed
 use Rattle.strand_machine.specs.contracts.stop.Stop as stop
 use Rattle.strand_machine.specs.contracts.task.Task as task
 use Rattle.strand_machine.specs.contracts.task.Task.TheInside as task_inside
-use Rattle.strand_machine.specs.contracts.trace.Behind as behind
+use Rattle.strand_machine.specs.contracts.trace.AfterChild as after
 use Rattle.strand_machine.specs.contracts.trace.Trace as trace
 use Rattle.strand_machine.specs.contracts.trace.Trace.TheInside as trace_inside
 use Rattle.strand_machine.specs.contracts.work.InstanceState as stage
@@ -36,15 +36,15 @@ place_sends : IsSend place.the_row
 place_sends = variants_send place.enum
     ((search sendable, (maybe_target_sends, tt)), ((variants_send (option.enum name.the_row) (tt, ((name_shared.the_send, tt), tt)), tt), (tt, tt)))
 
-behind_sends : IsSend behind.the_row
-behind_sends = declared_send behind.the_type (place_sends, (out_shared.the_send, tt))
+after_sends : IsSend after.the_row
+after_sends = declared_send after.the_type (place_sends, (out_shared.the_send, tt))
 
 fault_sends : IsSend (option.the_row fault.the_row)
 fault_sends = variants_send (option.enum fault.the_row) (tt, ((fault_shared.the_send, tt), tt))
 
 trace_inside_sends : IsSend trace_inside.the_row
 trace_inside_sends = declared_send trace_inside.the_type
-    (out_shared.the_send, (fault_sends, (items_shared.the_send origin.the_row origin_shared.the_send, (Vec-send behind.the_row behind_sends, tt))))
+    (out_shared.the_send, (fault_sends, (items_shared.the_send origin.the_row origin_shared.the_send, (Vec-send after.the_row after_sends, tt))))
 
 trace_sends : IsSend trace.the_row
 trace_sends = view_send trace_inside.the_row _ _ _ _ trace_inside_sends

@@ -23,7 +23,7 @@ use Rattle.strand_meaning.specs.Machine.{Effect, Reached, move}
 use Rattle.strand_meaning.specs.Trace.{AwaitedChild}
 use Rattle.strand_meaning.specs.Sound.{IsEndOf, IsTask}
 use Rattle.strand_meaning.specs.Task as meaning
-use Rattle.strand_meaning.specs.Task.{Task, ends, ends_unless, own_instance, first_half, split_step, over_step, waits, begins_last, gave, faults_behind, moved, stops_at, child_in}
+use Rattle.strand_meaning.specs.Task.{Task, ends, ends_unless, own_instance, first_half, split_step, over_step, waits, begins_last, gave, faults_after, moved, stops_at, child_in}
 use Rattle.strand_moves.specs.Machines as moves
 use Rattle.strand_moves.specs.Moves.{IsTrailOf, ShowsTrail, effects_of, run_of}
 use Rattle.strand_moves.specs.declared.instance.Instance.{Instance as RawInstance}
@@ -34,7 +34,7 @@ use Rattle.strand_machine.specs.Bodies.{is_long}
 use Rattle.strand_machine.specs.Family.{FamilyView, handed}
 use Rattle.strand_machine.specs.Parts.{awaited, destination_of}
 use Rattle.strand_machine.specs.Loops.{IsHandedFor}
-use Rattle.strand_machine.specs.Effects.{shown_task, IsSoundShown, IsKnownChild, IsHandedChild}
+use Rattle.strand_machine.specs.Effects.{task_after_effects, HasSoundEffects, IsKnownChild, IsHandedChild}
 use Rattle.strand_machine.specs.Made.{ended}
 use Rattle.strand_machine.specs.Stops.{IsStep}
 use Rattle.strand_machine.specs.declared.stop.MoveOrStop.{MoveOrStop as MadeStep}
@@ -85,7 +85,7 @@ pub spawn-sound : StepsAreSound → (b : Body) (w next : Work) (child : Origin) 
     WorksAt b.family.plan b.family.origin next → IsOriginOf b.family.plan child × IsSound (with_child b child p) next
 spawn-sound law b w next child p h e works =
     let s = sound-step law b w (meaning.Stops (meaning.Spawn child (task_of (with_child b child p) next))) h e in
-    (s.0, record { task = s.1; family = awaits-more b.family b.trace.handed (record { child = child; place = destination_of p; behind = [] }) h.family; works = works })
+    (s.0, record { task = s.1; family = awaits-more b.family b.trace.handed (record { child = child; place = destination_of p; after = [] }) h.family; works = works })
 
 -- Ends
 
@@ -215,12 +215,12 @@ pub give-loop : (b : Body) (v : Value) (function : ℕ) (rest : List Value) (fir
 give-loop b v function rest first path range e = ap (λ (o : Origin). gave (task_of b (work.Runs (stage.Returned v))) o v) e
 
 pub fault-alone : (b : Body) (f : Fault) → b.trace.handed ≡ [] → meaning.step (task_of b (work.Runs (stage.Faulted f))) ≡ ends (task_of b (work.Runs (stage.Faulted f))) (outcome.Fault f)
-fault-alone b f e = ap (λ (ps : List AwaitedChild). faults_behind ps (task_of b (work.Runs (stage.Faulted f))) f) e
+fault-alone b f e = ap (λ (ps : List AwaitedChild). faults_after ps (task_of b (work.Runs (stage.Faulted f))) f) e
 
-pub fault-behind : (b : Body) (f : Fault) → (b.trace.handed ≡ [] → ⊥) → meaning.step (task_of b (work.Runs (stage.Faulted f))) ≡ meaning.Stops (meaning.Wait (task_of (waiting b) (work.Runs (stage.Faulted f))))
-fault-behind b f h = from b.trace.handed h
+pub fault-after : (b : Body) (f : Fault) → (b.trace.handed ≡ [] → ⊥) → meaning.step (task_of b (work.Runs (stage.Faulted f))) ≡ meaning.Stops (meaning.Wait (task_of (waiting b) (work.Runs (stage.Faulted f))))
+fault-after b f h = from b.trace.handed h
   where
-    from : (ps : List AwaitedChild) → (ps ≡ [] → ⊥) → faults_behind ps (task_of b (work.Runs (stage.Faulted f))) f ≡ waits (task_of b (work.Runs (stage.Faulted f)))
+    from : (ps : List AwaitedChild) → (ps ≡ [] → ⊥) → faults_after ps (task_of b (work.Runs (stage.Faulted f))) f ≡ waits (task_of b (work.Runs (stage.Faulted f)))
     from [] g = absurd (g refl)
     from (p ∷ ps) g = refl
 
@@ -241,7 +241,7 @@ module _ (b : Body) (i : RawInstance) where
 
   pub go-went : (next : RawInstance) (s : Effects) → RunsAt b.family.plan (path_of (own_instance b.family.origin)) i →
       move b.family.plan (moves.path_of i) (moves.machine_of b.family.plan i) ≡ run_of (moved-in.Went s) (moves.machine_of b.family.plan next) →
-      meaning.step here ≡ stops_at (child_in (effects_of s)) (shown_task b next s)
+      meaning.step here ≡ stops_at (child_in (effects_of s)) (task_after_effects b next s)
   go-went next s at e = ap (λ (p : List ℕ). made (move b.family.plan p (moves.machine_of b.family.plan i))) (sym at.at) ∙ ap made e
 
   pub go-gave : (next : RawInstance) (v : Value) → RunsAt b.family.plan (path_of (own_instance b.family.origin)) i →
@@ -256,12 +256,12 @@ module _ (b : Body) (i : RawInstance) where
 
   pub shown-sound : StepsAreSound → (next : RawInstance) (s : Effects) → IsSound b (work.Runs (stage.Running i)) →
       move b.family.plan (moves.path_of i) (moves.machine_of b.family.plan i) ≡ run_of (moved-in.Went s) (moves.machine_of b.family.plan next) →
-      RunsAt b.family.plan (path_of (own_instance b.family.origin)) next → ShowsTrail b.family.plan s → IsSoundShown b next s
+      RunsAt b.family.plan (path_of (own_instance b.family.origin)) next → ShowsTrail b.family.plan s → HasSoundEffects b next s
   shown-sound law next s h moved-so runs trail =
       let e = go-went next s h.works moved-so in
-      let known = from (child_in (effects_of s)) (sound-step law b (work.Runs (stage.Running i)) (stops_at (child_in (effects_of s)) (shown_task b next s)) h e) in
+      let known = from (child_in (effects_of s)) (sound-step law b (work.Runs (stage.Running i)) (stops_at (child_in (effects_of s)) (task_after_effects b next s)) h e) in
       record { task = known.0; child = known.1; handed = known.2; family = h.family; runs = runs; trail = trail }
     where
-      from : (o : Option Origin) → IsSoundStep here (stops_at o (shown_task b next s)) → IsTask (shown_task b next s) × IsKnownChild b.family.plan o × IsHandedChild b.family.plan b.family.origin o
+      from : (o : Option Origin) → IsSoundStep here (stops_at o (task_after_effects b next s)) → IsTask (task_after_effects b next s) × IsKnownChild b.family.plan o × IsHandedChild b.family.plan b.family.origin o
       from None g = (g, tt, tt)
       from (Some o) g = (g.1, g.0, g.2)

@@ -12,7 +12,7 @@ use Rattle.serial_meaning.specs.declared.value.Value.{Value}
 use Rattle.strand_meaning.specs.Laws.{MovesFall, StepsAreSound}
 use Rattle.strand_meaning.specs.Left.{moves_left}
 use Rattle.strand_meaning.specs.Machine.{Reached, Stands, Gives, Effect, move}
-use Rattle.strand_meaning.specs.Trace.{AwaitedChild, Trace, emit, emit_at, behind_last}
+use Rattle.strand_meaning.specs.Trace.{AwaitedChild, Trace, emit, emit_at, after_last}
 use Rattle.strand_meaning.specs.Task as meaning
 use Rattle.strand_meaning.specs.Task.{IsNext, Now, Later, own_instance, stops_at, child_in}
 use Rattle.strand_moves.specs.Machines as moves
@@ -32,7 +32,7 @@ use Rattle.strand_moves.specs.declared.effects.Effects.TheVariants as shown-in
 use Rattle.strand_machine.specs.Family.{FamilyView}
 use Rattle.strand_machine.specs.Loops.{IsHandedFor}
 use Rattle.strand_machine.specs.Parts.{awaited, destination_of}
-use Rattle.strand_machine.specs.Effects.{shown_task, IsSoundShown}
+use Rattle.strand_machine.specs.Effects.{task_after_effects, HasSoundEffects}
 use Rattle.strand_machine.specs.Made.{IsRun, LeadsTo}
 use Rattle.strand_machine.specs.Stops.{IsStep, KeepsStep, step_of}
 use Rattle.strand_machine.specs.Tasks.{TaskView, task_of, view_of, fresh_with, cut_of, AwaitsLast, RunsAt, IsSound, gone, waiting, with_child}
@@ -50,13 +50,13 @@ use Rattle.strand_machine.proofs.Moves.Dispatch.{awaits-more, pass-sound, pass-i
 
 -- An event changes no child
 
-awaited-behind : (p : AwaitedChild) (ps : List AwaitedChild) (e : Event) → awaited (behind_last p ps e) ≡ awaited (p ∷ ps)
-awaited-behind p [] e = refl
-awaited-behind p (q ∷ qs) e = ap (λ (l : List Origin). p.child ∷ l) (awaited-behind q qs e)
+awaited-after : (p : AwaitedChild) (ps : List AwaitedChild) (e : Event) → awaited (after_last p ps e) ≡ awaited (p ∷ ps)
+awaited-after p [] e = refl
+awaited-after p (q ∷ qs) e = ap (λ (l : List Origin). p.child ∷ l) (awaited-after q qs e)
 
-length-behind : (p : AwaitedChild) (ps : List AwaitedChild) (e : Event) → length (behind_last p ps e) ≡ length (p ∷ ps)
-length-behind p [] e = refl
-length-behind p (q ∷ qs) e = ap (λ (n : ℕ). suc n) (length-behind q qs e)
+length-after : (p : AwaitedChild) (ps : List AwaitedChild) (e : Event) → length (after_last p ps e) ≡ length (p ∷ ps)
+length-after p [] e = refl
+length-after p (q ∷ qs) e = ap (λ (n : ℕ). suc n) (length-after q qs e)
 
 awaits-same : (family : FamilyView) (ps qs : List AwaitedChild) → awaited qs ≡ awaited ps → length qs ≡ length ps → AwaitsLast family ps → AwaitsLast family qs
 awaits-same family ps qs a n h = record {
@@ -72,7 +72,7 @@ awaits-emitted family trace e h = from trace.handed refl
   where
     from : (ps : List AwaitedChild) → trace.handed ≡ ps → AwaitsLast family (emit_at ps e trace).handed
     from [] g = h
-    from (p ∷ ps) g = awaits-same family (p ∷ ps) (behind_last p ps e) (awaited-behind p ps e) (length-behind p ps e) (subst (AwaitsLast family) g h)
+    from (p ∷ ps) g = awaits-same family (p ∷ ps) (after_last p ps e) (awaited-after p ps e) (length-after p ps e) (subst (AwaitsLast family) g h)
 
 -- The body after an event
 
@@ -88,33 +88,33 @@ module _ (b : Body) (i : RawInstance) where
   abbrev pub IsQuiet : Effects → Type 0
   IsQuiet s = (s ≡ shown-in.Nothing) ⊎ (((j : List ℕ) × s ≡ shown-in.Opened j) ⊎ ((j : List ℕ) × s ≡ shown-in.Closed j))
 
-  pub nothing-sound : (s : Effects) → s ≡ shown-in.Nothing → IsSoundShown b i s → IsSound (gone b) goes
-  nothing-sound s is h = let k : IsSoundShown b i shown-in.Nothing = subst (IsSoundShown b i) is h in record { task = k.task; family = k.family; works = k.runs }
+  pub nothing-sound : (s : Effects) → s ≡ shown-in.Nothing → HasSoundEffects b i s → IsSound (gone b) goes
+  nothing-sound s is h = let k : HasSoundEffects b i shown-in.Nothing = subst (HasSoundEffects b i) is h in record { task = k.task; family = k.family; works = k.runs }
 
   pub nothing-step : (s : Effects) (r : MadeStep) → s ≡ shown-in.Nothing → r ≡ step-in.Passes (view_of (gone b) goes) →
-      step_of r ≡ stops_at (child_in (effects_of s)) (shown_task b i s)
+      step_of r ≡ stops_at (child_in (effects_of s)) (task_after_effects b i s)
   nothing-step s r is h = rw (h, is) refl
 
-  pub quiet-sound : (s : Effects) → IsQuiet s → IsSoundShown b i s → IsSound (gone b) goes
+  pub quiet-sound : (s : Effects) → IsQuiet s → HasSoundEffects b i s → IsSound (gone b) goes
   quiet-sound s (inl is) h = nothing-sound s is h
-  quiet-sound s (inr (inl (j, is))) h = let k : IsSoundShown b i (shown-in.Opened j) = subst (IsSoundShown b i) is h in record { task = k.task; family = k.family; works = k.runs }
-  quiet-sound s (inr (inr (j, is))) h = let k : IsSoundShown b i (shown-in.Closed j) = subst (IsSoundShown b i) is h in record { task = k.task; family = k.family; works = k.runs }
+  quiet-sound s (inr (inl (j, is))) h = let k : HasSoundEffects b i (shown-in.Opened j) = subst (HasSoundEffects b i) is h in record { task = k.task; family = k.family; works = k.runs }
+  quiet-sound s (inr (inr (j, is))) h = let k : HasSoundEffects b i (shown-in.Closed j) = subst (HasSoundEffects b i) is h in record { task = k.task; family = k.family; works = k.runs }
 
-  pub quiet-step : (s : Effects) (r : MadeStep) → IsQuiet s → r ≡ step-in.Passes (view_of (gone b) goes) → step_of r ≡ stops_at (child_in (effects_of s)) (shown_task b i s)
+  pub quiet-step : (s : Effects) (r : MadeStep) → IsQuiet s → r ≡ step-in.Passes (view_of (gone b) goes) → step_of r ≡ stops_at (child_in (effects_of s)) (task_after_effects b i s)
   quiet-step s r (inl is) h = nothing-step s r is h
   quiet-step s r (inr (inl (j, is))) h = rw (h, is) refl
   quiet-step s r (inr (inr (j, is))) h = rw (h, is) refl
 
   -- an event
 
-  emitted-at : (e : Event) → IsSoundShown b i (shown-in.Emitted e) → IsSound (gone (with_trace b (emit e b.trace))) goes
+  emitted-at : (e : Event) → HasSoundEffects b i (shown-in.Emitted e) → IsSound (gone (with_trace b (emit e b.trace))) goes
   emitted-at e h = record { task = h.task; family = awaits-emitted b.family b.trace e h.family; works = h.runs }
 
-  pub emitted-sound : (s : Effects) (e : Event) (p : Trace) → s ≡ shown-in.Emitted e → p ≡ emit e b.trace → IsSoundShown b i s → IsSound (gone (with_trace b p)) goes
-  emitted-sound s e p is q h = subst (λ (x : Trace). IsSound (gone (with_trace b x)) goes) (sym q) (emitted-at e (subst (IsSoundShown b i) is h))
+  pub emitted-sound : (s : Effects) (e : Event) (p : Trace) → s ≡ shown-in.Emitted e → p ≡ emit e b.trace → HasSoundEffects b i s → IsSound (gone (with_trace b p)) goes
+  emitted-sound s e p is q h = subst (λ (x : Trace). IsSound (gone (with_trace b x)) goes) (sym q) (emitted-at e (subst (HasSoundEffects b i) is h))
 
   pub emitted-step : (s : Effects) (e : Event) (p : Trace) (r : MadeStep) → s ≡ shown-in.Emitted e → p ≡ emit e b.trace → r ≡ step-in.Passes (view_of (gone (with_trace b p)) goes) →
-      step_of r ≡ stops_at (child_in (effects_of s)) (shown_task b i s)
+      step_of r ≡ stops_at (child_in (effects_of s)) (task_after_effects b i s)
   emitted-step s e p r is q h = rw (h, q, is) refl
 
   -- a sync
@@ -122,43 +122,43 @@ module _ (b : Body) (i : RawInstance) where
   abbrev at-sync : Work
   at-sync = work.Runs (stage.AtSync i)
 
-  synced-at : (e : Event) → IsSoundShown b i (shown-in.Synced e) → IsSound (gone (with_trace b (emit e b.trace))) at-sync
+  synced-at : (e : Event) → HasSoundEffects b i (shown-in.Synced e) → IsSound (gone (with_trace b (emit e b.trace))) at-sync
   synced-at e h = record { task = h.task; family = awaits-emitted b.family b.trace e h.family; works = h.runs }
 
-  pub synced-sound : (s : Effects) (e : Event) (p : Trace) → s ≡ shown-in.Synced e → p ≡ emit e b.trace → IsSoundShown b i s → IsSound (gone (with_trace b p)) at-sync
-  synced-sound s e p is q h = subst (λ (x : Trace). IsSound (gone (with_trace b x)) at-sync) (sym q) (synced-at e (subst (IsSoundShown b i) is h))
+  pub synced-sound : (s : Effects) (e : Event) (p : Trace) → s ≡ shown-in.Synced e → p ≡ emit e b.trace → HasSoundEffects b i s → IsSound (gone (with_trace b p)) at-sync
+  synced-sound s e p is q h = subst (λ (x : Trace). IsSound (gone (with_trace b x)) at-sync) (sym q) (synced-at e (subst (HasSoundEffects b i) is h))
 
   pub synced-step : (s : Effects) (e : Event) (p : Trace) (r : MadeStep) → s ≡ shown-in.Synced e → p ≡ emit e b.trace → r ≡ step-in.Passes (view_of (gone (with_trace b p)) at-sync) →
-      step_of r ≡ stops_at (child_in (effects_of s)) (shown_task b i s)
+      step_of r ≡ stops_at (child_in (effects_of s)) (task_after_effects b i s)
   synced-step s e p r is q h = rw (h, q, is) refl
 
   -- a child
 
-  pub spawned-known : (s : Effects) (e : Event) (o : SpawnedChild) → s ≡ shown-in.Spawned e o → IsSoundShown b i s → IsOriginOf b.family.plan o.child.origin
-  spawned-known s e o is h = let k : IsSoundShown b i (shown-in.Spawned e o) = subst (IsSoundShown b i) is h in k.child
+  pub spawned-known : (s : Effects) (e : Event) (o : SpawnedChild) → s ≡ shown-in.Spawned e o → HasSoundEffects b i s → IsOriginOf b.family.plan o.child.origin
+  spawned-known s e o is h = let k : HasSoundEffects b i (shown-in.Spawned e o) = subst (HasSoundEffects b i) is h in k.child
 
-  pub spawned-trail : (s : Effects) (e : Event) (o : SpawnedChild) → s ≡ shown-in.Spawned e o → IsSoundShown b i s → IsTrailOf b.family.plan o.child.origin o.child.trail
-  spawned-trail s e o is h = let k : IsSoundShown b i (shown-in.Spawned e o) = subst (IsSoundShown b i) is h in k.trail
+  pub spawned-trail : (s : Effects) (e : Event) (o : SpawnedChild) → s ≡ shown-in.Spawned e o → HasSoundEffects b i s → IsTrailOf b.family.plan o.child.origin o.child.trail
+  spawned-trail s e o is h = let k : HasSoundEffects b i (shown-in.Spawned e o) = subst (HasSoundEffects b i) is h in k.trail
 
-  pub spawned-handed : (s : Effects) (e : Event) (o : SpawnedChild) → s ≡ shown-in.Spawned e o → IsSoundShown b i s → IsHandedFor b.family.plan b.family.origin o.child.origin
-  spawned-handed s e o is h = let k : IsSoundShown b i (shown-in.Spawned e o) = subst (IsSoundShown b i) is h in k.handed
+  pub spawned-handed : (s : Effects) (e : Event) (o : SpawnedChild) → s ≡ shown-in.Spawned e o → HasSoundEffects b i s → IsHandedFor b.family.plan b.family.origin o.child.origin
+  spawned-handed s e o is h = let k : HasSoundEffects b i (shown-in.Spawned e o) = subst (HasSoundEffects b i) is h in k.handed
 
-  spawned-at : (e : Event) (o : SpawnedChild) → IsSoundShown b i (shown-in.Spawned e o) →
+  spawned-at : (e : Event) (o : SpawnedChild) → HasSoundEffects b i (shown-in.Spawned e o) →
       IsSound (with_child (with_trace b (emit e b.trace)) o.child.origin (place.Spawned o.height o.target)) goes
   spawned-at e o h = record {
     task = h.task;
-    family = awaits-more b.family (emit e b.trace).handed (record { child = o.child.origin; place = destination_of (place.Spawned o.height o.target); behind = [] }) (awaits-emitted b.family b.trace e h.family);
+    family = awaits-more b.family (emit e b.trace).handed (record { child = o.child.origin; place = destination_of (place.Spawned o.height o.target); after = [] }) (awaits-emitted b.family b.trace e h.family);
     works = h.runs;
   }
 
-  pub spawned-sound : (s : Effects) (e : Event) (o : SpawnedChild) (p : Trace) → s ≡ shown-in.Spawned e o → p ≡ emit e b.trace → IsSoundShown b i s →
+  pub spawned-sound : (s : Effects) (e : Event) (o : SpawnedChild) (p : Trace) → s ≡ shown-in.Spawned e o → p ≡ emit e b.trace → HasSoundEffects b i s →
       IsSound (with_child (with_trace b p) o.child.origin (place.Spawned o.height o.target)) goes
   spawned-sound s e o p is q h =
-      subst (λ (x : Trace). IsSound (with_child (with_trace b x) o.child.origin (place.Spawned o.height o.target)) goes) (sym q) (spawned-at e o (subst (IsSoundShown b i) is h))
+      subst (λ (x : Trace). IsSound (with_child (with_trace b x) o.child.origin (place.Spawned o.height o.target)) goes) (sym q) (spawned-at e o (subst (HasSoundEffects b i) is h))
 
   pub spawned-step : (s : Effects) (e : Event) (o : SpawnedChild) (p : Trace) (r : MadeStep) → s ≡ shown-in.Spawned e o → p ≡ emit e b.trace →
       r ≡ step-in.Stops (stop-in.Spawn (fresh_with b.family.knows b.family.plan o.child.origin) (view_of (with_child (with_trace b p) o.child.origin (place.Spawned o.height o.target)) goes)) →
-      step_of r ≡ stops_at (child_in (effects_of s)) (shown_task b i s)
+      step_of r ≡ stops_at (child_in (effects_of s)) (task_after_effects b i s)
   spawned-step s e o p r is q h = rw (h, q, is) refl
 
   -- a loop
@@ -166,31 +166,31 @@ module _ (b : Body) (i : RawInstance) where
   abbrev at-loop : Work
   at-loop = work.Runs (stage.AtLoop i)
 
-  pub looped-known : (s : Effects) (e : Event) (o : LoopedChild) → s ≡ shown-in.Looped e o → IsSoundShown b i s → IsOriginOf b.family.plan o.child.origin
-  looped-known s e o is h = let k : IsSoundShown b i (shown-in.Looped e o) = subst (IsSoundShown b i) is h in k.child
+  pub looped-known : (s : Effects) (e : Event) (o : LoopedChild) → s ≡ shown-in.Looped e o → HasSoundEffects b i s → IsOriginOf b.family.plan o.child.origin
+  looped-known s e o is h = let k : HasSoundEffects b i (shown-in.Looped e o) = subst (HasSoundEffects b i) is h in k.child
 
-  pub looped-trail : (s : Effects) (e : Event) (o : LoopedChild) → s ≡ shown-in.Looped e o → IsSoundShown b i s → IsTrailOf b.family.plan o.child.origin o.child.trail
-  looped-trail s e o is h = let k : IsSoundShown b i (shown-in.Looped e o) = subst (IsSoundShown b i) is h in k.trail
+  pub looped-trail : (s : Effects) (e : Event) (o : LoopedChild) → s ≡ shown-in.Looped e o → HasSoundEffects b i s → IsTrailOf b.family.plan o.child.origin o.child.trail
+  looped-trail s e o is h = let k : HasSoundEffects b i (shown-in.Looped e o) = subst (HasSoundEffects b i) is h in k.trail
 
-  pub looped-handed : (s : Effects) (e : Event) (o : LoopedChild) → s ≡ shown-in.Looped e o → IsSoundShown b i s → IsHandedFor b.family.plan b.family.origin o.child.origin
-  looped-handed s e o is h = let k : IsSoundShown b i (shown-in.Looped e o) = subst (IsSoundShown b i) is h in k.handed
+  pub looped-handed : (s : Effects) (e : Event) (o : LoopedChild) → s ≡ shown-in.Looped e o → HasSoundEffects b i s → IsHandedFor b.family.plan b.family.origin o.child.origin
+  looped-handed s e o is h = let k : HasSoundEffects b i (shown-in.Looped e o) = subst (HasSoundEffects b i) is h in k.handed
 
-  looped-at : (e : Event) (o : LoopedChild) → IsSoundShown b i (shown-in.Looped e o) →
+  looped-at : (e : Event) (o : LoopedChild) → HasSoundEffects b i (shown-in.Looped e o) →
       IsSound (with_child (with_trace b (emit e b.trace)) o.child.origin (place.Looped o.target)) at-loop
   looped-at e o h = record {
     task = h.task;
-    family = awaits-more b.family (emit e b.trace).handed (record { child = o.child.origin; place = destination_of (place.Looped o.target); behind = [] }) (awaits-emitted b.family b.trace e h.family);
+    family = awaits-more b.family (emit e b.trace).handed (record { child = o.child.origin; place = destination_of (place.Looped o.target); after = [] }) (awaits-emitted b.family b.trace e h.family);
     works = h.runs;
   }
 
-  pub looped-sound : (s : Effects) (e : Event) (o : LoopedChild) (p : Trace) → s ≡ shown-in.Looped e o → p ≡ emit e b.trace → IsSoundShown b i s →
+  pub looped-sound : (s : Effects) (e : Event) (o : LoopedChild) (p : Trace) → s ≡ shown-in.Looped e o → p ≡ emit e b.trace → HasSoundEffects b i s →
       IsSound (with_child (with_trace b p) o.child.origin (place.Looped o.target)) at-loop
   looped-sound s e o p is q h =
-      subst (λ (x : Trace). IsSound (with_child (with_trace b x) o.child.origin (place.Looped o.target)) at-loop) (sym q) (looped-at e o (subst (IsSoundShown b i) is h))
+      subst (λ (x : Trace). IsSound (with_child (with_trace b x) o.child.origin (place.Looped o.target)) at-loop) (sym q) (looped-at e o (subst (HasSoundEffects b i) is h))
 
   pub looped-step : (s : Effects) (e : Event) (o : LoopedChild) (p : Trace) (r : MadeStep) → s ≡ shown-in.Looped e o → p ≡ emit e b.trace →
       r ≡ step-in.Stops (stop-in.Spawn (fresh_with b.family.knows b.family.plan o.child.origin) (view_of (with_child (with_trace b p) o.child.origin (place.Looped o.target)) at-loop)) →
-      step_of r ≡ stops_at (child_in (effects_of s)) (shown_task b i s)
+      step_of r ≡ stops_at (child_in (effects_of s)) (task_after_effects b i s)
   looped-step s e o p r is q h = rw (h, q, is) refl
 
 -- What the family keeps
@@ -224,7 +224,7 @@ module _ (b : Body) (i next : RawInstance) (plan : PlanView) (m : MoveResult) (p
       subst (λ (q : PlanView). move q (moves.path_of i) (moves.machine_of q i) ≡ run_of n (moves.machine_of q next)) p
       (e ∙ ap (λ (x : MoveResult). run_of x (moves.machine_of plan next)) is)
 
-  pub went-sound : StepsAreSound → (s : Effects) → m ≡ moved-in.Went s → moves.path_of next ≡ moves.path_of i → moves.IsInstance plan next → MovesTrail plan m → IsSoundShown b next s
+  pub went-sound : StepsAreSound → (s : Effects) → m ≡ moved-in.Went s → moves.path_of next ≡ moves.path_of i → moves.IsInstance plan next → MovesTrail plan m → HasSoundEffects b next s
   went-sound law s is path sound trail =
       shown-sound b i law next s h (moves-so (moved-in.Went s) is) (runs-on path sound)
       (subst (λ (q : PlanView). ShowsTrail q s) p (subst (MovesTrail plan) is trail))
@@ -241,11 +241,11 @@ module _ (b : Body) (i next : RawInstance) (plan : PlanView) (m : MoveResult) (p
   pub faulted-is : (f : Fault) (r : MadeStep) → m ≡ moved-in.Faulted f → r ≡ step-in.Passes (view_of (gone b) (work.Runs (stage.Faulted f))) → IsStep (view_of b (work.Runs (stage.Running i))) r
   faulted-is f r is = pass-is b (work.Runs (stage.Running i)) (work.Runs (stage.Faulted f)) r tt (go-faulted b i next f h.works (moves-so (moved-in.Faulted f) is))
 
-  went-one : (s : Effects) (r : MadeStep) → m ≡ moved-in.Went s → step_of r ≡ stops_at (child_in (effects_of s)) (shown_task b next s) → KeepsStep (view_of b (work.Runs (stage.Running next))) r →
+  went-one : (s : Effects) (r : MadeStep) → m ≡ moved-in.Went s → step_of r ≡ stops_at (child_in (effects_of s)) (task_after_effects b next s) → KeepsStep (view_of b (work.Runs (stage.Running next))) r →
       IsStep (view_of b (work.Runs (stage.Running i))) r
   went-one s r is g k = record { is = go-went b i next s h.works (moves-so (moved-in.Went s) is) ∙ sym g; keeps = keeps-alike b (work.Runs (stage.Running next)) (work.Runs (stage.Running i)) r k }
 
-  pub went-is : {X E : Type 0} (f : X → MadeStep) (s : Effects) (r : Result X E) → m ≡ moved-in.Went s → IfOk r (λ x. step_of (f x) ≡ stops_at (child_in (effects_of s)) (shown_task b next s)) →
+  pub went-is : {X E : Type 0} (f : X → MadeStep) (s : Effects) (r : Result X E) → m ≡ moved-in.Went s → IfOk r (λ x. step_of (f x) ≡ stops_at (child_in (effects_of s)) (task_after_effects b next s)) →
       IfOk r (λ x. KeepsStep (view_of b (work.Runs (stage.Running next))) (f x)) → IfOk r (λ x. IsStep (view_of b (work.Runs (stage.Running i))) (f x))
   went-is f s (Ok x) is g k = went-one s (f x) is g k
   went-is f s (Err x) is g k = tt

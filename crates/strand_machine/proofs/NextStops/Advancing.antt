@@ -19,7 +19,7 @@ use Rattle.strand_meaning.specs.Machine.{Effect, Reached, Stands, Gives, move}
 use Rattle.strand_meaning.specs.Trace.{AwaitedChild}
 use Rattle.strand_meaning.specs.Sound.{IsTask}
 use Rattle.strand_meaning.specs.Task as meaning
-use Rattle.strand_meaning.specs.Task.{Task, Stop, IsNext, Now, Later, own_instance, stage_after, child_in, stops_at, passing, moved, ends_unless, faults_behind, gave, stage_step, split_step, over_step, work_step}
+use Rattle.strand_meaning.specs.Task.{Task, Stop, IsNext, Now, Later, own_instance, stage_after, child_in, stops_at, passing, moved, ends_unless, faults_after, gave, stage_step, split_step, over_step, work_step}
 use Rattle.strand_machine.specs.Family.{tag}
 use Rattle.strand_machine.specs.Made.{IsRun, LeadsTo, GoesOn, stage_goes_on, work_goes_on}
 use Rattle.strand_machine.specs.Stops.{IsStep, IsStop, IsKnownStop, Advances, advances, Keeps, stop_of}
@@ -52,7 +52,7 @@ module _ (t : Task) where
   of-moved ts (Ok (Gives v)) = (refl, refl)
   of-moved ts (Err f) = (refl, refl)
 
-  of-faults : (ps : List AwaitedChild) (f : Fault) → KeepsOf t (faults_behind ps t f)
+  of-faults : (ps : List AwaitedChild) (f : Fault) → KeepsOf t (faults_after ps t f)
   of-faults [] f = of-ends t.trace.fault _
   of-faults (p ∷ ps) f = tt
 

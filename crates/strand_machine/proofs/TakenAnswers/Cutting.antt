@@ -27,7 +27,7 @@ use Rattle.strand_machine.specs.Tasks.{TaskView, IsCutShort, task_of, view_of, w
 use Rattle.strand_machine.specs.declared.body.Body.{Body}
 use Rattle.strand_machine.specs.declared.merge.Heard.{Heard}
 use Rattle.strand_machine.specs.declared.parts.Parts.{Parts}
-use Rattle.strand_machine.specs.declared.trace.Behind.{Behind}
+use Rattle.strand_machine.specs.declared.trace.AfterChild.{AfterChild}
 use Rattle.strand_machine.specs.declared.work.Work.{Work}
 use Rattle.strand_machine.specs.declared.work.Work.TheVariants as work
 use Rattle.strand_machine.proofs.TakenAnswers.Answering.{eval-of, origins-tags}
@@ -56,8 +56,8 @@ heard-none None prefix p events (Err f) = refl
 pub heard-alone : (p : AwaitedChild) (e : Evaluation) (before after : Trace) → after ≡ heard p e before → after.handed ≡ []
 heard-alone p e before after h = ap (λ (t : Trace). t.handed) h ∙ heard-none before.fault before.prefix p e.items e.ending
 
-pub told : (p : AwaitedChild) (e : Evaluation) (before after : Trace) → after ≡ heard p e before → record after { handed = [] } ≡ heard p e (record before { handed = [] })
-told p e before after h =
+pub heard-front : (p : AwaitedChild) (e : Evaluation) (before after : Trace) → after ≡ heard p e before → record after { handed = [] } ≡ heard p e (record before { handed = [] })
+heard-front p e before after h =
     ap (λ (t : Trace). record t { handed = [] }) h
     ∙ ap (λ (ps : List AwaitedChild). record (heard p e before) { handed = ps }) (sym (heard-none before.fault before.prefix p e.items e.ending))
 
@@ -95,16 +95,16 @@ answers-then p ps a answers before between after h k = record {
   said = (h.said.0, k.said);
 }
 
-pub answers-next : (xs ys : List AnswerView) (bs cs : List Behind) (a : AnswerView) (b : Behind) (before between after : Merge) → xs ≡ a ∷ ys → bs ≡ b ∷ cs →
+pub answers-next : (xs ys : List AnswerView) (bs cs : List AfterChild) (a : AnswerView) (b : AfterChild) (before between after : Merge) → xs ≡ a ∷ ys → bs ≡ b ∷ cs →
     TakesAnswers (awaited_child a.origin b ∷ []) (a ∷ []) before between → TakesAnswers (awaited_children (origins (answer_tags ys)) cs) ys between after →
     TakesAnswers (awaited_children (origins (answer_tags xs)) bs) xs before after
 answers-next xs ys bs cs a b before between after e k h more =
     let all : TakesAnswers (awaited_children (origins (answer_tags (a ∷ ys))) (b ∷ cs)) (a ∷ ys) before after =
     answers-then (awaited_child a.origin b) (awaited_children (origins (answer_tags ys)) cs) a ys before between after h more in
-    subst (λ (ds : List Behind). TakesAnswers (awaited_children (origins (answer_tags xs)) ds) xs before after) (sym k)
+    subst (λ (ds : List AfterChild). TakesAnswers (awaited_children (origins (answer_tags xs)) ds) xs before after) (sym k)
     (subst (λ (zs : List AnswerView). TakesAnswers (awaited_children (origins (answer_tags zs)) (b ∷ cs)) zs before after) (sym e) all)
 
-pub answers-no-more : (xs : List AnswerView) (bs : List Behind) (g : Merge) → length xs ≡ 0 → length bs ≡ 0 → TakesAnswers (awaited_children (origins (answer_tags xs)) bs) xs g g
+pub answers-no-more : (xs : List AnswerView) (bs : List AfterChild) (g : Merge) → length xs ≡ 0 → length bs ≡ 0 → TakesAnswers (awaited_children (origins (answer_tags xs)) bs) xs g g
 answers-no-more [] bs g h k = record { takes = takes-none g; ended = refl; cut = sym (or-false g.cut); said = tt }
 answers-no-more (x ∷ xs) bs g h k = absurd (omega arith)
 
@@ -158,7 +158,7 @@ fault-first : (f : Option Fault) → end_of f false ≡ by_fault f
 fault-first None = refl
 fault-first (Some f) = refl
 
-pub own-children : (b : Body) (os : List Origin) (bs : List Behind) (ts : List AnswerTag) → awaited_children os bs ≡ b.trace.handed → length os ≡ length bs → ts ≡ tags b.family.plan (awaited b.trace.handed) → origins ts ≡ os
+pub own-children : (b : Body) (os : List Origin) (bs : List AfterChild) (ts : List AnswerTag) → awaited_children os bs ≡ b.trace.handed → length os ≡ length bs → ts ≡ tags b.family.plan (awaited b.trace.handed) → origins ts ≡ os
 own-children b os bs ts parts same e = ap origins e ∙ origins-tags b.family.plan (awaited b.trace.handed) ∙ ap awaited (sym parts) ∙ awaited_parts os bs same
 
 pub went-whole : (answers : List AnswerView) (t next : TaskView) → any_cut answers ≡ false → next ≡ view_on t → WentOn answers t next
@@ -178,7 +178,7 @@ works-then p q heard after ps answers kept h w =
     subst (λ (f : FamilyView). Works f.plan q.work) (sym (ap (λ (b : Body). b.family) kept.body)) (w.0, h.takes.work.works p.body.family.plan w.0 w.1)
 
 -- the targets of the children that are left stay
-pub targets-then : (p q : Parts) (heard after : Heard) (child : AwaitedChild) (a : AnswerView) (bs : List Behind) → KeepsRest p q → TakesAnswers (child ∷ []) (a ∷ []) (merge_of p heard) (merge_of q after) →
+pub targets-then : (p q : Parts) (heard after : Heard) (child : AwaitedChild) (a : AnswerView) (bs : List AfterChild) → KeepsRest p q → TakesAnswers (child ∷ []) (a ∷ []) (merge_of p heard) (merge_of q after) →
     HasTargets bs (work_of p.body.family.plan p.work) → HasTargets bs (work_of q.body.family.plan q.work)
 targets-then p q heard after child a bs kept h has =
     subst (λ (f : FamilyView). HasTargets bs (work_of f.plan q.work)) (sym (ap (λ (b : Body). b.family) kept.body))
@@ -194,7 +194,7 @@ taken-from b w trace ps answers after e h = subst (λ (t : Trace). TakesAnswers 
 
 -- What is left of a task that took a cut
 
-module _ (b : Body) (w : Work) (os : List Origin) (bs : List Behind) (answers : List AnswerView) (after : Merge) where
+module _ (b : Body) (w : Work) (os : List Origin) (bs : List AfterChild) (answers : List AnswerView) (after : Merge) where
   -- where none is a cut they are the children's evaluations
   pub takes-whole : AnswersAreEvaluations → TakesAnswers (awaited_children (origins (answer_tags answers)) bs) answers (begins b w) after → any_cut answers ≡ false →
       Takes (awaited_children (origins (answer_tags answers)) bs) (meanings (answer_tags answers)) (begins b w) after

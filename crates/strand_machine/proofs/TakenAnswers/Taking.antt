@@ -30,7 +30,7 @@ use Rattle.strand_moves.specs.Machines.{IsInstance, machine_of, path_of}
 use Rattle.strand_moves.specs.declared.instance.Instance.{Instance}
 use Rattle.strand_machine.specs.Tasks.{TaskView, cut_of, work_of, task_of, view_of, AwaitsLast, IsSound, RunsAt, StandsAt, WorksAt}
 use Rattle.strand_machine.specs.declared.body.Body.{Body}
-use Rattle.strand_machine.specs.declared.trace.Behind.{Behind}
+use Rattle.strand_machine.specs.declared.trace.AfterChild.{AfterChild}
 use Rattle.strand_machine.specs.declared.destination.Destination.{Destination}
 use Rattle.strand_machine.specs.declared.destination.Destination.TheVariants as place
 use Rattle.strand_machine.specs.declared.work.InstanceState.{InstanceState}
@@ -200,13 +200,13 @@ takes-none g = record {
 
 -- All children
 
-meanings-tags : (plan : PlanView) (os : List Origin) (bs : List Behind) → length os ≡ length bs → meanings (tags plan os) ≡ evaluations (eval plan) (awaited_children os bs)
+meanings-tags : (plan : PlanView) (os : List Origin) (bs : List AfterChild) → length os ≡ length bs → meanings (tags plan os) ≡ evaluations (eval plan) (awaited_children os bs)
 meanings-tags plan [] bs h = refl
 meanings-tags plan (o ∷ os) [] h = absurd (omega arith)
 meanings-tags plan (o ∷ os) (b ∷ bs) h = ap (λ es. eval plan o ∷ es) (meanings-tags plan os bs (omega arith))
 
 -- answers with the children's tags are the children's evaluations
-pub takes-awaited : (plan : PlanView) (os : List Origin) (bs : List Behind) (ts : List AnswerTag) (before after : Merge) → length os ≡ length bs → ts ≡ tags plan (awaited (awaited_children os bs)) →
+pub takes-awaited : (plan : PlanView) (os : List Origin) (bs : List AfterChild) (ts : List AnswerTag) (before after : Merge) → length os ≡ length bs → ts ≡ tags plan (awaited (awaited_children os bs)) →
     Takes (awaited_children (origins ts) bs) (meanings ts) before after → Takes (awaited_children os bs) (evaluations (eval plan) (awaited_children os bs)) before after
 takes-awaited plan os bs ts before after same are h =
     let all : ts ≡ tags plan os = are ∙ ap (tags plan) (awaited_parts os bs same) in
@@ -234,7 +234,7 @@ goes-on t before after rest trace values work h over =
 abbrev pub begins : Body → Work → Merge
 begins b w = record { prefix = b.trace.prefix; fault = b.trace.fault; values = b.values; work = w; cut = false; by_cut = false }
 
-module _ (b : Body) (w : Work) (os : List Origin) (bs : List Behind) (ts : List AnswerTag) (after : Merge) (rest : Work) where
+module _ (b : Body) (w : Work) (os : List Origin) (bs : List AfterChild) (ts : List AnswerTag) (after : Merge) (rest : Work) where
   abbrev next-body : Body
   next-body = record b { trace = trace_of after; values = after.values; waiting = false }
 

@@ -20,7 +20,7 @@ use Rattle.strand_machine.specs.Merge.{BecomesWork, HasTarget, HasTargets, Stage
 use Rattle.strand_machine.specs.Parts.{awaited_children, destination_of}
 use Rattle.strand_machine.specs.Tasks.{stage_of, work_of}
 use Rattle.strand_machine.specs.declared.destination.Destination.{Destination}
-use Rattle.strand_machine.specs.declared.trace.Behind.{Behind}
+use Rattle.strand_machine.specs.declared.trace.AfterChild.{AfterChild}
 use Rattle.strand_machine.specs.declared.work.InstanceState.{InstanceState}
 use Rattle.strand_machine.specs.declared.work.InstanceState.TheVariants as stage
 use Rattle.strand_machine.specs.declared.work.Work.{Work}
@@ -68,27 +68,27 @@ module _ (place : machine.Destination) where
   work-keeps p q (Runs s) h = stage-keeps p q s h
   work-keeps p q (Over v gone_on) h = tt
 
-all-keep : (p : machine.Destination) (q : Result (List Value) Fault) (w : meaning.Work) (bs : List Behind) → HasTargets bs w → HasTargets bs (with_stage (takes p q) w)
+all-keep : (p : machine.Destination) (q : Result (List Value) Fault) (w : meaning.Work) (bs : List AfterChild) → HasTargets bs w → HasTargets bs (with_stage (takes p q) w)
 all-keep p q w [] h = tt
 all-keep p q w (b ∷ bs) h = (work-keeps (destination_of b.place) p q w h.0, all-keep p q w bs h.1)
 
-pub targets-kept : (plan : PlanView) (p : machine.Destination) (q : Result (List Value) Fault) (before after : Work) (bs : List Behind) → BecomesWork (with_stage (takes p q)) before after → HasTargets bs (work_of plan before) → HasTargets bs (work_of plan after)
+pub targets-kept : (plan : PlanView) (p : machine.Destination) (q : Result (List Value) Fault) (before after : Work) (bs : List AfterChild) → BecomesWork (with_stage (takes p q)) before after → HasTargets bs (work_of plan before) → HasTargets bs (work_of plan after)
 targets-kept plan p q before after bs h has = subst (HasTargets bs) (sym (h.is plan)) (all-keep p q (work_of plan before) bs has)
 
 -- At first it is there
 
 module _ (w : meaning.Work) where
-  none-awaited : ((place : machine.Destination) → HasTarget place w) → (bs : List Behind) → HasTargets bs w
+  none-awaited : ((place : machine.Destination) → HasTarget place w) → (bs : List AfterChild) → HasTargets bs w
   none-awaited each [] = tt
   none-awaited each (b ∷ bs) = (each (destination_of b.place), none-awaited each bs)
 
-  all-awaited : (env : Env) → ((place : machine.Destination) → TargetIsThere env place → HasTarget place w) → (os : List Origin) (bs : List Behind) → length os ≡ length bs → TargetsAreThere env (awaited_children os bs) → HasTargets bs w
+  all-awaited : (env : Env) → ((place : machine.Destination) → TargetIsThere env place → HasTarget place w) → (os : List Origin) (bs : List AfterChild) → length os ≡ length bs → TargetsAreThere env (awaited_children os bs) → HasTargets bs w
   all-awaited env each [] [] same h = tt
   all-awaited env each [] (b ∷ bs) same h = absurd (omega arith)
   all-awaited env each (o ∷ os) [] same h = tt
   all-awaited env each (o ∷ os) (b ∷ bs) same h = (each (destination_of b.place) h.0, all-awaited env each os bs (omega arith) h.1)
 
-module _ (plan : PlanView) (os : List Origin) (bs : List Behind) (same : length os ≡ length bs) where
+module _ (plan : PlanView) (os : List Origin) (bs : List AfterChild) (same : length os ≡ length bs) where
   stage-targets : (s : meaning.InstanceState) → IsSoundStage plan (awaited_children os bs) s → HasTargets bs (Runs s)
   stage-targets (meaning.Running m) h = all-awaited (Runs (meaning.Running m)) m.top.env (λ place t. t) os bs same (none-there m.top.env (length m.below) (awaited_children os bs) h.0)
   stage-targets (meaning.AtSync m) h = all-awaited (Runs (meaning.AtSync m)) m.top.env (λ place t. t) os bs same (none-there m.top.env (length m.below) (awaited_children os bs) h.0)

@@ -223,8 +223,8 @@ clears-all (s ∷ ss) h all w context known p k e =
 opens : (at : ℕ) (d : Act-F Act Stmt) → out-Act (out-Stmt (statement at d)).act ≡ d
 opens at d = ap (λ s. out-Act s.act) (out-roll-Stmt (record { at = at; act = roll-Act d })) ∙ out-roll-Act d
 
-abbrev told : Act-F Act Stmt → ℕ → Judged
-told d at = judge_act (map-Act Act Stmt (ℕ → Judged) Judged judge_what judge d) at
+abbrev judgement : Act-F Act Stmt → ℕ → Judged
+judgement d at = judge_act (map-Act Act Stmt (ℕ → Judged) Judged judge_what judge d) at
 
 simple : (at : ℕ) (d : Act-F Act Stmt) → IsSimple d → (p next : check.Names) (all : Names) → Free p (touched d) → IsWithin (pending_after d (kept p all)) (kept next all) →
     (sts : List Stmt) (ends : Names) → IsClear (kept next all) sts ends → IsClear (kept p all) (statement at d ∷ sts) ends
@@ -233,7 +233,7 @@ simple at d s p next all free w sts ends rest = Simple d (opens at d) s (free-ap
 not-in-block : (b : Bool) (at : ℕ) → b ≡ true → let_in_a_block b at ≡ [] → ⊥
 not-in-block b at e h = true≢false (sym e ∙ not-broken b 10 at h)
 
-good-let : (at : ℕ) (x : Name) (r : Right) → IsGood (told (act.Let x r) at) (statement at (act.Let x r))
+good-let : (at : ℕ) (x : Name) (r : Right) → IsGood (judgement (act.Let x r) at) (statement at (act.Let x r))
 good-let at x r = record {
   own = right-own x r;
   stays = λ context known p b h. absurd (not-in-block context.in_block at b
@@ -249,7 +249,7 @@ good-let at x r = record {
       (right-within x r p all w);
 }
 
-good-set : (at : ℕ) (x : Name) (r : Right) → IsGood (told (act.Set x r) at) (statement at (act.Set x r))
+good-set : (at : ℕ) (x : Name) (r : Right) → IsGood (judgement (act.Set x r) at) (statement at (act.Set x r))
 good-set at x r = record {
   own = right-own x r;
   stays = λ context known p b h. refl;
@@ -264,7 +264,7 @@ good-set at x r = record {
       (right-within x r p all w);
 }
 
-good-array : (at : ℕ) (x : Name) (n : _) → IsGood (told (act.Array x n) at) (statement at (act.Array x n))
+good-array : (at : ℕ) (x : Name) (n : _) → IsGood (judgement (act.Array x n) at) (statement at (act.Array x n))
 good-array at x n = record {
   own = [];
   stays = λ context known p b h. absurd (not-in-block context.in_block at b
@@ -279,18 +279,18 @@ good-array at x n = record {
 }
 
 -- a statement that adds nothing and makes nothing known
-good-plain : (at : ℕ) (d : Act-F Act Stmt) → IsSimple d → ((p : check.Names) → (told d at).after p ≡ p) → ((functions : List Function) (known : Declared) → (told d at).known functions known ≡ known) →
-    ((p : Names) → pending_after d p ≡ p) → ((context : Context) (known : Declared) (p : check.Names) → (told d at).violations context known p ≡ [] → Free p (touched d)) → IsGood (told d at) (statement at d)
+good-plain : (at : ℕ) (d : Act-F Act Stmt) → IsSimple d → ((p : check.Names) → (judgement d at).after p ≡ p) → ((functions : List Function) (known : Declared) → (judgement d at).known functions known ≡ known) →
+    ((p : Names) → pending_after d p ≡ p) → ((context : Context) (known : Declared) (p : check.Names) → (judgement d at).violations context known p ≡ [] → Free p (touched d)) → IsGood (judgement d at) (statement at d)
 good-plain at d s same still adds free = record {
   own = [];
   stays = λ context known p b h. still context.functions known;
-  knows = λ context known p k h. subst (λ q. IsKnown q ((told d at).known context.functions known)) (sym (same p)) (subst (IsKnown p) (sym (still context.functions known)) k);
+  knows = λ context known p k h. subst (λ q. IsKnown q ((judgement d at).known context.functions known)) (sym (same p)) (subst (IsKnown p) (sym (still context.functions known)) k);
   clears = λ all w context known p k h.
-      simple at d s p ((told d at).after p) all (free context known p h)
+      simple at d s p ((judgement d at).after p) all (free context known p h)
       (subst (λ q. IsWithin (pending_after d (kept p all)) (kept q all)) (sym (same p)) (subst (λ l. IsWithin l (kept p all)) (sym (adds (kept p all))) (within-itself (kept p all))));
 }
 
-good-sync : (at : ℕ) → IsGood (told act.Sync at) (statement at act.Sync)
+good-sync : (at : ℕ) → IsGood (judgement act.Sync at) (statement at act.Sync)
 good-sync at = record {
   own = [];
   stays = λ context known p b h. refl;
@@ -298,7 +298,7 @@ good-sync at = record {
   clears = λ all w context known p k h. simple at act.Sync tt p nobody all (free-none p) (nothing-within (kept nobody all));
 }
 
-good-if : (at : ℕ) (e : _) (a b : List Stmt) → Each Good a → Each Good b → IsGood (told (act.If e a b) at) (statement at (act.If e a b))
+good-if : (at : ℕ) (e : _) (a b : List Stmt) → Each Good a → Each Good b → IsGood (judgement (act.If e a b) at) (statement at (act.If e a b))
 good-if at e a b g h = record {
   own = own-all a g ++ own-all b h;
   stays = λ context known p o f.
@@ -331,17 +331,17 @@ good-if at e a b g h = record {
       rest;
 }
   where
-    first-of : (context : Context) (known : Declared) (p : check.Names) → (told (act.If e a b) at).violations context known p ≡ [] → violations_each (judge_all a) (record context { in_block = true }) known p ≡ []
+    first-of : (context : Context) (known : Declared) (p : check.Names) → (judgement (act.If e a b) at).violations context known p ≡ [] → violations_each (judge_all a) (record context { in_block = true }) known p ≡ []
     first-of context known p f =
         nothing_right (wanted Int (read e) known p) (block_violations (judge_all a) context known p)
         (nothing_left (wanted Int (read e) known p ++ block_violations (judge_all a) context known p) (block_violations (judge_all b) context (known_each (judge_all a) context.functions known) p) f)
 
-    last-of : (context : Context) (known : Declared) (p : check.Names) → (told (act.If e a b) at).violations context known p ≡ [] →
+    last-of : (context : Context) (known : Declared) (p : check.Names) → (judgement (act.If e a b) at).violations context known p ≡ [] →
         violations_each (judge_all b) (record context { in_block = true }) (known_each (judge_all a) context.functions known) p ≡ []
     last-of context known p f =
         nothing_right (wanted Int (read e) known p ++ block_violations (judge_all a) context known p) (block_violations (judge_all b) context (known_each (judge_all a) context.functions known) p) f
 
-    test-of : (context : Context) (known : Declared) (p : check.Names) → (told (act.If e a b) at).violations context known p ≡ [] → wanted Int (read e) known p ≡ []
+    test-of : (context : Context) (known : Declared) (p : check.Names) → (judgement (act.If e a b) at).violations context known p ≡ [] → wanted Int (read e) known p ≡ []
     test-of context known p f =
         nothing_left (wanted Int (read e) known p) (block_violations (judge_all a) context known p)
         (nothing_left (wanted Int (read e) known p ++ block_violations (judge_all a) context known p) (block_violations (judge_all b) context (known_each (judge_all a) context.functions known) p) f)
@@ -350,7 +350,7 @@ good-if at e a b g h = record {
     either-known true y z t u v = u refl
     either-known false y z t u v = v t
 
-good-while : (at : ℕ) (e : _) (a : List Stmt) → Each Good a → IsGood (told (act.While e a) at) (statement at (act.While e a))
+good-while : (at : ℕ) (e : _) (a : List Stmt) → Each Good a → IsGood (judgement (act.While e a) at) (statement at (act.While e a))
 good-while at e a g = record {
   own = own-all a g;
   stays = λ context known p o f. stays-all a g (record context { in_block = true }) known (both p (after a p)) refl (body-of context known p f);
@@ -364,10 +364,10 @@ good-while at e a g = record {
       rest;
 }
   where
-    body-of : (context : Context) (known : Declared) (p : check.Names) → (told (act.While e a) at).violations context known p ≡ [] → violations_each (judge_all a) (record context { in_block = true }) known (both p (after a p)) ≡ []
+    body-of : (context : Context) (known : Declared) (p : check.Names) → (judgement (act.While e a) at).violations context known p ≡ [] → violations_each (judge_all a) (record context { in_block = true }) known (both p (after a p)) ≡ []
     body-of context known p f = nothing_right (wanted Int (read e) known (both p (after a p))) (block_violations (judge_all a) context known (both p (after a p))) f
 
-    all-known : (context : Context) (known : Declared) (p : check.Names) → IsKnown p known → (told (act.While e a) at).violations context known p ≡ [] → IsKnown (both p (after a p)) known
+    all-known : (context : Context) (known : Declared) (p : check.Names) → IsKnown p known → (judgement (act.While e a) at).violations context known p ≡ [] → IsKnown (both p (after a p)) known
     all-known context known p k f y t =
         from ((fewer_pending_stays_valid a (record context { in_block = true }) known p (both p (after a p)) (λ z u. or-left (p z) (after a p z) u) (body-of context known p f)).0)
         (or-cases (p y) (after a p y) t)
@@ -377,7 +377,7 @@ good-while at e a g = record {
         from once (inr u) =
             subst (IsKnown (after a p)) (stays-all a g (record context { in_block = true }) known p refl once) (knows-all a g (record context { in_block = true }) known p k once) y u
 
-good-scope : (at : ℕ) (a : List Stmt) → Each Good a → IsGood (told (act.Scope a) at) (statement at (act.Scope a))
+good-scope : (at : ℕ) (a : List Stmt) → Each Good a → IsGood (judgement (act.Scope a) at) (statement at (act.Scope a))
 good-scope at a g = record {
   own = own-all a g;
   stays = λ context known p o f. stays-all a g (record context { in_block = true }) known p refl f;
@@ -387,7 +387,7 @@ good-scope at a g = record {
       (clear-within [] (kept nobody all) (nothing-within (kept nobody all)) rest);
 }
 
-good : (at : ℕ) (d : Act-F Act Stmt) → Inside Good d → IsGood (told d at) (statement at d)
+good : (at : ℕ) (d : Act-F Act Stmt) → Inside Good d → IsGood (judgement d at) (statement at d)
 good at (act.Let x r) h = good-let at x r
 good at (act.Array x n) h = good-array at x n
 good at (act.Set x r) h = good-set at x r

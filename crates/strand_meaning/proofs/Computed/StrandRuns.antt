@@ -2,7 +2,7 @@
 use Rattle.script_grammar.specs.declared.tree.Act.{out-Act}
 use Rattle.serial_meaning.proofs.Equations.Computing.{opened-let, opened-set, opened-print, opened-scope, value_of-number, value_of-variable, value_of-product, spawns-out}
 use Rattle.serial_meaning.proofs.RisingPedigrees.Named.{product_part-is}
-use Rattle.strand_meaning.specs.StrandExamples.{FirstStrandPrintsAndSpawns, ChildsStrandHasItsFault, ParentGoesOnToItsFault, NoStrandBehindAFault, SyncStandsWhereAChildFaulted, ChildsFaultBlocks, IterationsHaveStrands, LoopIsAStrandsEvent, IterationsPathIsNoStrand, NoStrandBelowAMissingIteration, ScopesFirstStrandSpawns, ScopesSecondStrandSyncs, ScopesLastStrandIsThere, NoStrandBehindAScopesLast, StrandAfterAScopePrints}
+use Rattle.strand_meaning.specs.StrandExamples.{FirstStrandPrintsAndSpawns, ChildsStrandHasItsFault, ParentGoesOnToItsFault, NoStrandAfterAFault, SyncStandsWhereAChildFaulted, ChildsFaultBlocks, IterationsHaveStrands, LoopIsAStrandsEvent, IterationsPathIsNoStrand, NoStrandBelowAMissingIteration, ScopesFirstStrandSpawns, ScopesSecondStrandSyncs, ScopesLastStrandIsThere, NoStrandAfterAScopesLast, StrandAfterAScopePrints}
 
 pub first_strand_prints_and_spawns : FirstStrandPrintsAndSpawns
 unfolding out-Act denote.Hole.Carrier.out
@@ -16,9 +16,9 @@ pub parent_goes_on_to_its_fault : ParentGoesOnToItsFault
 unfolding out-Act denote.Hole.Carrier.out
 parent_goes_on_to_its_fault = simp value_of-number
 
-pub no_strand_behind_a_fault : NoStrandBehindAFault
+pub no_strand_after_a_fault : NoStrandAfterAFault
 unfolding out-Act denote.Hole.Carrier.out
-no_strand_behind_a_fault = simp value_of-number
+no_strand_after_a_fault = simp value_of-number
 
 pub sync_stands_where_a_child_faulted : SyncStandsWhereAChildFaulted
 unfolding out-Act denote.Hole.Carrier.out
@@ -53,8 +53,8 @@ scopes_second_strand_syncs = simp (opened-scope, opened-print, opened-let, opene
 pub scopes_last_strand_is_there : ScopesLastStrandIsThere
 scopes_last_strand_is_there = simp (opened-scope, opened-print, opened-let, opened-set, value_of-number, value_of-variable, spawns-out)
 
-pub no_strand_behind_a_scopes_last : NoStrandBehindAScopesLast
-no_strand_behind_a_scopes_last = simp (opened-scope, opened-print, opened-let, opened-set, value_of-number, value_of-variable, spawns-out)
+pub no_strand_after_a_scopes_last : NoStrandAfterAScopesLast
+no_strand_after_a_scopes_last = simp (opened-scope, opened-print, opened-let, opened-set, value_of-number, value_of-variable, spawns-out)
 
 pub strand_after_a_scope_prints : StrandAfterAScopePrints
 strand_after_a_scope_prints = simp (opened-scope, opened-print, opened-let, opened-set, value_of-number, value_of-variable, spawns-out)

@@ -3,7 +3,7 @@ use Rattle.std.proofs.Common.{◌≡◌, ℕ, zero, suc, ◌+◌, ◌-◌, ◌�
 use Rattle.std.proofs.Common.{ℤ}
 use Rattle.std.proofs.lemmas.List.{append_cancel_left}
 use Rattle.script_grammar.specs.declared.tree.Function.{Function}
-use Rattle.serial_meaning.specs.Runs.{Run, done, behind, goes_on, ◌then◌}
+use Rattle.serial_meaning.specs.Runs.{Run, done, after_items, goes_on, ◌then◌}
 use Rattle.serial_meaning.specs.Values.{Env}
 use Rattle.serial_meaning.specs.Functions.{function_at}
 use Rattle.serial_meaning.specs.Plan.{PlanView, functions_of}
@@ -216,17 +216,17 @@ module _ (plan : PlanView) (child : Origin → Evaluation) where
     rise = ((not-itself (pedigree_of e) (path_of o) (h ∙ sym g), tt), (tt, w, tt));
   }
 
-  sync-spread : (path : List ℕ) (s : S) (k : Option Fault) → P path s.rank (behind (Happened (event.Sync (strand path s)) ∷ []) (joined k then λ k. done (record s { rank = s.rank + 1; spawned = k })))
+  sync-spread : (path : List ℕ) (s : S) (k : Option Fault) → P path s.rank (after_items (Happened (event.Sync (strand path s)) ∷ []) (joined k then λ k. done (record s { rank = s.rank + 1; spawned = k })))
   sync-spread path s None = prefix path rank_of s.rank (s.rank + 1) (event.Sync (strand path s)) (Ok (record s { rank = s.rank + 1; spawned = None })) refl (omega arith) refl
   sync-spread path s (Some f) = record { hi = s.rank; up = omega arith; ends = tt; placed = (event-at path s.rank s.rank (omega arith), tt); rise = (tt, tt) }
 
   loop-spread : (path : List ℕ) (b : Bool) (q : Result (List Value) Fault) (o : Origin) (s : S) (target : List Value → Env) → path_of o ≡ path ++ s.rank ∷ [] → IsWholeLoop o →
-      P path s.rank (behind (Happened (event.Loop (strand path s)) ∷ []) ((if b then done [] else record { items = Child o ∷ []; ending = loop_end q }) then λ ws. done (record s { rank = s.rank + 1; env = target ws })))
+      P path s.rank (after_items (Happened (event.Loop (strand path s)) ∷ []) ((if b then done [] else record { items = Child o ∷ []; ending = loop_end q }) then λ ws. done (record s { rank = s.rank + 1; env = target ws })))
   loop-spread path true q o s target h w = prefix path rank_of s.rank (s.rank + 1) (event.Loop (strand path s)) (Ok (record s { rank = s.rank + 1; env = target [] })) refl (omega arith) refl
   loop-spread path false (Ok ws) o s target h w = begins_child path rank_of s.rank (event.Loop (strand path s)) o (Ok (record s { rank = s.rank + 1; env = target ws })) refl h w refl
   loop-spread path false (Err f) o s target h w = begins_child path rank_of s.rank (event.Loop (strand path s)) o _ refl h w tt
 
-  scope-spread : (path : List ℕ) (s : S) (r : Run Item NodeFault S) → P (path ++ s.rank ∷ []) 0 r → P path s.rank (behind (Opened (path ++ s.rank ∷ []) ∷ []) r then goes_out (put_off_all plan child) plan path s.rank)
+  scope-spread : (path : List ℕ) (s : S) (r : Run Item NodeFault S) → P (path ++ s.rank ∷ []) 0 r → P path s.rank (after_items (Opened (path ++ s.rank ∷ []) ∷ []) r then goes_out (put_off_all plan child) plan path s.rank)
   scope-spread path s r h = from r.items r.ending h.hi h.placed h.rise
     where
       here : List ℕ

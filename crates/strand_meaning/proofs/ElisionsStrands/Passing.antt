@@ -34,9 +34,9 @@ events_at-none j [] h = refl
 events_at-none j (e ∷ es) h = events_at-skip j e es h.0 ∙ events_at-none j es h.1
 
 -- events before which none is at the pedigree
-pub events_at-behind : (j : List ℕ) (xs ys : List Event) → Each (λ e. pedigree_of e ≡ j → ⊥) xs → events_at j (xs ++ ys) ≡ events_at j ys
-events_at-behind j [] ys h = refl
-events_at-behind j (e ∷ xs) ys h = events_at-skip j e (xs ++ ys) h.0 ∙ events_at-behind j xs ys h.1
+pub events_at-after : (j : List ℕ) (xs ys : List Event) → Each (λ e. pedigree_of e ≡ j → ⊥) xs → events_at j (xs ++ ys) ≡ events_at j ys
+events_at-after j [] ys h = refl
+events_at-after j (e ∷ xs) ys h = events_at-skip j e (xs ++ ys) h.0 ∙ events_at-after j xs ys h.1
 
 pub events_at-before : (j : List ℕ) (xs ys : List Event) → events_at j ys ≡ [] → events_at j (xs ++ ys) ≡ events_at j xs
 events_at-before j [] ys h = h
@@ -97,7 +97,7 @@ module _ (child : Origin → Evaluation) (under : (c : Origin) → StaysUnder (p
       where
         by_end : (q : Result (List Value) Fault) → (child o).ending ≡ q → (events_at j (cut child is).events ≡ []) × NoFaultHere (cut child is).cut_by →
             (events_at j (child_first (child o).items q (cut child is)).events ≡ []) × NoFaultHere (child_first (child o).items q (cut child is)).cut_by
-        by_end (Ok vs) e ih = (events_at-behind j (child o).items (cut child is).events (child-not_here o (right-not_below (path_of o) r.0)) ∙ ih.0, ih.1)
+        by_end (Ok vs) e ih = (events_at-after j (child o).items (cut child is).events (child-not_here o (right-not_below (path_of o) r.0)) ∙ ih.0, ih.1)
         by_end (Err f) e ih =
             let u = child-fault o f e in
             (events_at-none j (child o).items (child-not_here o (right-not_below (path_of o) r.0)), fault_at-other j f (λ g. right-not_below (path_of o) r.0 u.0 u.1 (sym g ∙ u.2)))
@@ -156,7 +156,7 @@ module _ (child : Origin → Evaluation) (under : (c : Origin) → StaysUnder (p
       -- another one before it
       passed : LeftOf (path_of o) j → (q : Result (List Value) Fault) → (child o).ending ≡ q → Through (cut child is).events (cut child is).cut_by (child c) →
           Through (child_first (child o).items q (cut child is)).events (child_first (child o).items q (cut child is)).cut_by (child c)
-      passed l (Ok vs) h ih = through-front (child o).items (cut child is).events (cut child is).cut_by (child c) (events_at-behind j (child o).items (cut child is).events (child-not_here o (left-not_below (path_of o) l))) ih
+      passed l (Ok vs) h ih = through-front (child o).items (cut child is).events (cut child is).cut_by (child c) (events_at-after j (child o).items (cut child is).events (child-not_here o (left-not_below (path_of o) l))) ih
       passed l (Err f) h ih = λ n. absurd (n (left-fault o f l h))
 
       from : (Child o ≡ Child c) ⊎ Contains is (Child c) → (Contains is (Child c) → Through (cut child is).events (cut child is).cut_by (child c)) →
@@ -207,8 +207,8 @@ module _ (child : Origin → Evaluation) (under : (c : Origin) → StaysUnder (p
   event-front i es is (Some f) h = λ n. let a = h n in (events_at-same j i es (own_events is) a.0, a.1, a.2)
 
   child-front : (xs es : List Event) (is : List Item) (o : Origin) (c : Option Fault) → Each NotHere xs → OwnAlone es is c → OwnAlone (xs ++ es) (Child o ∷ is) c
-  child-front xs es is o None n h = events_at-behind j xs es n ∙ h
-  child-front xs es is o (Some f) n h = λ b. let a = h b in (events_at-behind j xs es n ∙ a.0, a.1, (a.2.0, later-one a.2.1, a.2.2))
+  child-front xs es is o None n h = events_at-after j xs es n ∙ h
+  child-front xs es is o (Some f) n h = λ b. let a = h b in (events_at-after j xs es n ∙ a.0, a.1, (a.2.0, later-one a.2.1, a.2.2))
     where
       later-one : {d : Origin} → Contains (children is) d → Contains (o ∷ children is) d
       later-one k = (suc k.0, omega (arith, k.1), k.2)

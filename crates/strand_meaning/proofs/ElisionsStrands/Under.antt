@@ -2,7 +2,7 @@
 use Rattle.std.proofs.Common.{◌≡◌, ℕ, zero, suc, ◌+◌, ◌-◌, List, [], ◌∷◌, ◌++◌, Option, Some, None, Result, Ok, Err, refl, ◌∙◌, append_assoc}
 use Rattle.std.proofs.Common.{ℤ}
 use Rattle.script_grammar.specs.declared.tree.Function.{Function}
-use Rattle.serial_meaning.specs.Runs.{Run, done, behind, goes_on, ◌then◌}
+use Rattle.serial_meaning.specs.Runs.{Run, done, after_items, goes_on, ◌then◌}
 use Rattle.serial_meaning.specs.Functions.{function_at}
 use Rattle.serial_meaning.specs.Plan.{PlanView, functions_of}
 use Rattle.serial_meaning.specs.Exec.{State, strand, goes_out, frame, exec, instance, filled, bound}
@@ -36,7 +36,7 @@ pub record StaysUnder {A : Type 0} (path : List ℕ) (r : Run Event Fault A) : T
 nothing : {A : Type 0} (path : List ℕ) (a : A) → StaysUnder path (done a)
 nothing path a = record { events = tt; ends = tt }
 
-event-first : {A : Type 0} (path : List ℕ) (e : Event) (r : Run Event Fault A) → EventUnder path e → StaysUnder path r → StaysUnder path (behind (e ∷ []) r)
+event-first : {A : Type 0} (path : List ℕ) (e : Event) (r : Run Event Fault A) → EventUnder path e → StaysUnder path r → StaysUnder path (after_items (e ∷ []) r)
 event-first path e r h k = record { events = (h, k.events); ends = k.ends }
 
 under-then : {A B : Type 0} (path : List ℕ) (r : Run Event Fault A) (f : A → Run Event Fault B) → StaysUnder path r → ((a : A) → StaysUnder path (f a)) → StaysUnder path (r then f)

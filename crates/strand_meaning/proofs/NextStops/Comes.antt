@@ -13,7 +13,7 @@ use Rattle.serial_meaning.specs.declared.origin.Origin.TheVariants.{Instance, Lo
 use Rattle.serial_meaning.specs.declared.answer.Outcome.{Outcome}
 use Rattle.strand_meaning.specs.Machine.{Effect, Opens, Closes, Emitted, Handed, Syncs, Loops, Machine, Reached, Stands, Gives, begun, move}
 use Rattle.strand_meaning.specs.Trace.{AwaitedChild}
-use Rattle.strand_meaning.specs.Task.{InstanceState, Running, AtSync, AtLoop, Ended, Work, Splits, Runs, Over, Task, begun_stage, own_instance, begins_last, MoveOrStop, Passes, Stops, Stop, IsNext, Now, Later, stage_after, child_in, stops_at, passing, moved, ends_unless, faults_behind, gave, stage_step, split_step, over_step, work_step, step}
+use Rattle.strand_meaning.specs.Task.{InstanceState, Running, AtSync, AtLoop, Ended, Work, Splits, Runs, Over, Task, begun_stage, own_instance, begins_last, MoveOrStop, Passes, Stops, Stop, IsNext, Now, Later, stage_after, child_in, stops_at, passing, moved, ends_unless, faults_after, gave, stage_step, split_step, over_step, work_step, step}
 use Rattle.strand_meaning.specs.Left.{moves_of, stage_moves, work_moves, moves_left}
 use Rattle.strand_meaning.proofs.NextStops.Falls.{Falls, move-falls}
 
@@ -45,7 +45,7 @@ module _ (t : Task) where
   moved-falls m ts (Ok (Gives v)) h = omega arith
   moved-falls m ts (Err f) h = omega arith
 
-  faults-fall : (ps : List AwaitedChild) (f : Fault) → StepFalls 1 (faults_behind ps t f)
+  faults-fall : (ps : List AwaitedChild) (f : Fault) → StepFalls 1 (faults_after ps t f)
   faults-fall [] f = ends-fall 1 t.trace.fault _
   faults-fall (p ∷ ps) f = tt
 

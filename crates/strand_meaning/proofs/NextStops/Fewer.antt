@@ -1,7 +1,7 @@
 -- Fewer stops are left after each stop.
 use Rattle.std.proofs.Common.{◌≡◌, ℕ, zero, suc, ◌+◌, ◌-◌, ◌/◌, ◌<◌, ◌≤◌, Bool, true, false, List, [], ◌∷◌, ◌++◌, Option, Some, None, Result, Ok, Err, length, refl, sym, ap, ◌∙◌, subst, arith}
 use Rattle.loop_range.specs.Range.{Range}
-use Rattle.serial_meaning.specs.Runs.{Run, behind}
+use Rattle.serial_meaning.specs.Runs.{Run, after_items}
 use Rattle.serial_meaning.specs.Plan.{PlanView}
 use Rattle.serial_meaning.specs.Eval.{Evaluation, path_of, eval}
 use Rattle.serial_meaning.specs.Open.{Item, Happened, Child, Opened, Closed, NodeFault, Own, ChildFaulted}
@@ -15,7 +15,7 @@ use Rattle.serial_meaning.specs.declared.answer.Outcome.{Outcome}
 use Rattle.script_grammar.specs.declared.tree.Name.{Name}
 use Rattle.strand_meaning.specs.Machine.{Destination, Spawned, Looped, Half, Effect, Opens, Closes, Emitted, Handed, Syncs, Loops, loop_effects, sync_effects, Machine, Reached, Stands, Gives, begun, move}
 use Rattle.strand_meaning.specs.Trace.{AwaitedChild, with_effects}
-use Rattle.strand_meaning.specs.Task.{InstanceState, Running, AtSync, AtLoop, Ended, Work, Splits, Runs, Over, Task, begun_stage, begins_last, own_instance, MoveOrStop, Passes, Stops, Stop, Spawn, Wait, End, IsNext, Now, Later, stage_after, child_in, stops_at, passing, moved, waits, ends_unless, faults_behind, gave, stage_step, split_step, over_step, work_step, step, takes, takes_all, joins, resumed, resumed_work, on}
+use Rattle.strand_meaning.specs.Task.{InstanceState, Running, AtSync, AtLoop, Ended, Work, Splits, Runs, Over, Task, begun_stage, begins_last, own_instance, MoveOrStop, Passes, Stops, Stop, Spawn, Wait, End, IsNext, Now, Later, stage_after, child_in, stops_at, passing, moved, waits, ends_unless, faults_after, gave, stage_step, split_step, over_step, work_step, step, takes, takes_all, joins, resumed, resumed_work, on}
 use Rattle.strand_meaning.specs.Rest.{children_of, evaluations, rest_of_stage, rest_open}
 use Rattle.strand_meaning.specs.Sound.{AreHalves, IsSoundStage, IsSoundWork, IsTask}
 use Rattle.strand_meaning.specs.Left.{item_stops, at_end, stage_stops, work_stops, stops_of, stops_left}
@@ -167,7 +167,7 @@ module _ (t : Task) (is : IsTask t) (idle : t.waiting ≡ false) where
     now-is : stops_left t ≡ 2 + (3 + before)
     now-is = left-is (Runs (Running m)) at
 
-    shows-items : (ts : List Effect) (rest : Run Item NodeFault Value) → rest_open t.plan kids path ps (Running m) ≡ behind (effect_items ts) rest → before ≡ item_stops (effect_items ts) + item_stops rest.items
+    shows-items : (ts : List Effect) (rest : Run Item NodeFault Value) → rest_open t.plan kids path ps (Running m) ≡ after_items (effect_items ts) rest → before ≡ item_stops (effect_items ts) + item_stops rest.items
     shows-items ts rest h = ap (λ (r : Run Item NodeFault Value). item_stops r.items) h ∙ items-append (effect_items ts) rest.items
 
     fewer-at : (o : Option Origin) (ts : List Effect) (stage : InstanceState) → child_in ts ≡ o →
@@ -184,7 +184,7 @@ module _ (t : Task) (is : IsTask t) (idle : t.waiting ≡ false) where
             2 ≤ item_stops (effect_items ts) → waits_in ts ≤ 1 → stops_left (passing t ts (Runs stage)) < stops_left t
         fewer e f g k = omega arith
 
-    fewer-moved : (ts : List Effect) (e : Result Reached Fault) → Paid ts → rest_open t.plan kids path ps (Running m) ≡ behind (effect_items ts) (shown_with t.plan kids path ps ts e) → FewerStep t (moved t ts e)
+    fewer-moved : (ts : List Effect) (e : Result Reached Fault) → Paid ts → rest_open t.plan kids path ps (Running m) ≡ after_items (effect_items ts) (shown_with t.plan kids path ps ts e) → FewerStep t (moved t ts e)
     fewer-moved ts (Ok (Stands k)) p h =
         let rest : Run Item NodeFault Value = rest_open t.plan kids path (ps ++ effect_parts ts) (stage_after ts k) in
         let after = (with_effects ts t.trace).handed in
@@ -223,7 +223,7 @@ module _ (t : Task) (is : IsTask t) (idle : t.waiting ≡ false) where
       fewer : stops_left t ≡ of_work ps work → stops_of t.plan t.origin true ps t.work ≡ stops_of t.plan t.origin true ps work → stops_of t.plan t.origin true ps t.work < stops_left t
       fewer e f = omega arith
 
-  fewer-faults : (f : Fault) (qs : List AwaitedChild) → ps ≡ qs → t.work ≡ Runs (Ended (Err (Own f))) → FewerStep t (faults_behind qs t f)
+  fewer-faults : (f : Fault) (qs : List AwaitedChild) → ps ≡ qs → t.work ≡ Runs (Ended (Err (Own f))) → FewerStep t (faults_after qs t f)
   fewer-faults f [] h at = fewer-ends t.trace.fault _
   fewer-faults f (q ∷ qs) h at = fewer-wait (Runs (Ended (Err (Own f)))) at (from ps h)
     where

@@ -13,7 +13,7 @@ use Rattle.serial_meaning.specs.declared.origin.Origin.TheVariants.{Instance, Lo
 use Rattle.serial_meaning.specs.declared.answer.Outcome.{Outcome}
 use Rattle.strand_meaning.specs.Machine.{Effect, Reached, Stands, Gives, move}
 use Rattle.strand_meaning.specs.Trace.{AwaitedChild}
-use Rattle.strand_meaning.specs.Task.{InstanceState, Running, AtSync, AtLoop, Ended, Work, Splits, Runs, Over, Task, own_instance, MoveOrStop, Passes, Stops, Stop, Spawn, Wait, End, IsNext, Now, Later, stage_after, child_in, stops_at, passing, moved, ends_unless, faults_behind, gave, stage_step, split_step, over_step, work_step, step}
+use Rattle.strand_meaning.specs.Task.{InstanceState, Running, AtSync, AtLoop, Ended, Work, Splits, Runs, Over, Task, own_instance, MoveOrStop, Passes, Stops, Stop, Spawn, Wait, End, IsNext, Now, Later, stage_after, child_in, stops_at, passing, moved, ends_unless, faults_after, gave, stage_step, split_step, over_step, work_step, step}
 use Rattle.strand_meaning.specs.Sound.{IsTask}
 use Rattle.serial_meaning.specs.Loops.{IsHandedFor}
 use Rattle.strand_meaning.specs.Laws.{IsSoundStop, IsSoundStep, IsFaultOf, IsOf, KeepsOrigin}
@@ -37,7 +37,7 @@ module _ (t : Task) where
   keeps-moved ts (Ok (Gives v)) = (refl, refl)
   keeps-moved ts (Err f) = (refl, refl)
 
-  keeps-faults : (ps : List AwaitedChild) (f : Fault) → KeepsStep t (faults_behind ps t f)
+  keeps-faults : (ps : List AwaitedChild) (f : Fault) → KeepsStep t (faults_after ps t f)
   keeps-faults [] f = keeps-ends t.trace.fault _
   keeps-faults (p ∷ ps) f = (refl, refl)
 

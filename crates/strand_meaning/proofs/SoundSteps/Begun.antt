@@ -14,7 +14,7 @@ use Rattle.serial_meaning.specs.declared.origin.Origin.{Origin}
 use Rattle.serial_meaning.specs.declared.origin.Origin.TheVariants.{Instance, Loop}
 use Rattle.loop_range.specs.Range.{Range}
 use Rattle.strand_meaning.specs.Machine.{Destination, Spawned, Looped, Effect, Opens, Closes, Emitted, Handed, Syncs, Loops, Machine, sync_effects, loop_effects, move}
-use Rattle.strand_meaning.specs.Trace.{AwaitedChild, Trace, prefix_unless, behind_last, emit, emit_at, add_child, with_effects}
+use Rattle.strand_meaning.specs.Trace.{AwaitedChild, Trace, prefix_unless, after_last, emit, emit_at, add_child, with_effects}
 use Rattle.strand_meaning.specs.Task.{own_instance, first_half}
 use Rattle.strand_meaning.specs.Sound.{IsShownBy, AreShownBy}
 use Rattle.strand_meaning.proofs.Unfilled.Keeps.{first-contained}
@@ -23,11 +23,11 @@ use Rattle.strand_meaning.proofs.SoundSteps.Own.{Begins, EffectRules, effects-mo
 -- the events before the next child
 abbrev pub front_of : List Event → List AwaitedChild → List Event
 front_of events [] = events
-front_of events (p ∷ ps) = front_of p.behind ps
+front_of events (p ∷ ps) = front_of p.after ps
 
 pub shown-more : (o : Origin) (events : List Event) (ps : List AwaitedChild) (q : AwaitedChild) → AreShownBy o events ps → IsShownBy o (front_of events ps) q → AreShownBy o events (ps ++ q ∷ [])
 shown-more o events [] q h k = (k, tt)
-shown-more o events (p ∷ ps) q h k = (h.0, shown-more o p.behind ps q h.1 k)
+shown-more o events (p ∷ ps) q h k = (h.0, shown-more o p.after ps q h.1 k)
 
 -- An event of the task's own
 
@@ -56,20 +56,20 @@ effects-one-by-one (Handed o place ∷ xs) ys trace = effects-one-by-one xs ys (
 effects-one-by-one (Syncs ∷ xs) ys trace = effects-one-by-one xs ys trace
 effects-one-by-one (Loops ∷ xs) ys trace = effects-one-by-one xs ys trace
 
-behind-shown : (o : Origin) (events : List Event) (p : AwaitedChild) (ps : List AwaitedChild) (e : Event) → AreShownBy o events (p ∷ ps) → AreShownBy o events (behind_last p ps e)
-behind-shown o events p [] e h = h
-behind-shown o events p (q ∷ qs) e h = (h.0, behind-shown o p.behind q qs e h.1)
+after-shown : (o : Origin) (events : List Event) (p : AwaitedChild) (ps : List AwaitedChild) (e : Event) → AreShownBy o events (p ∷ ps) → AreShownBy o events (after_last p ps e)
+after-shown o events p [] e h = h
+after-shown o events p (q ∷ qs) e h = (h.0, after-shown o p.after q qs e h.1)
 
-behind-front : (events : List Event) (p : AwaitedChild) (ps : List AwaitedChild) (e : Event) → front_of events (behind_last p ps e) ≡ front_of events (p ∷ ps) ++ e ∷ []
-behind-front events p [] e = refl
-behind-front events p (q ∷ qs) e = behind-front p.behind q qs e
+after-front : (events : List Event) (p : AwaitedChild) (ps : List AwaitedChild) (e : Event) → front_of events (after_last p ps e) ≡ front_of events (p ∷ ps) ++ e ∷ []
+after-front events p [] e = refl
+after-front events p (q ∷ qs) e = after-front p.after q qs e
 
 front-prefix : (e : Event) (trace : Trace) → trace.fault ≡ None → front_of (emit e trace).prefix (emit e trace).handed ≡ front_of trace.prefix trace.handed ++ e ∷ []
 front-prefix e trace none = by_parts trace.handed
   where
     by_parts : (ps : List AwaitedChild) → let q : Trace = emit_at ps e (record { prefix = trace.prefix; fault = trace.fault; handed = ps }) in front_of q.prefix q.handed ≡ front_of trace.prefix ps ++ e ∷ []
     by_parts [] = ap (λ (f : Option Fault). prefix_unless f trace.prefix (e ∷ [])) none
-    by_parts (p ∷ ps) = behind-front trace.prefix p ps e
+    by_parts (p ∷ ps) = after-front trace.prefix p ps e
 
 module _ (o : Origin) where
   abbrev pub Shown : Trace → Type 0
@@ -80,7 +80,7 @@ module _ (o : Origin) where
     where
       by_parts : (ps : List AwaitedChild) → AreShownBy o trace.prefix ps → Shown (emit_at ps e (record { prefix = trace.prefix; fault = trace.fault; handed = ps }))
       by_parts [] s = tt
-      by_parts (p ∷ ps) s = behind-shown o trace.prefix p ps e s
+      by_parts (p ∷ ps) s = after-shown o trace.prefix p ps e s
 
   abbrev own_path : List ℕ
   own_path = path_of (own_instance o)
@@ -88,7 +88,7 @@ module _ (o : Origin) where
   -- a child after the event by which it begins
   begun-shown : (e : Event) (c : Origin) (place : Destination) → Begins own_path e c → (trace : Trace) → trace.fault ≡ None → Shown trace → Shown (add_child c place (emit e trace))
   begun-shown e c place b trace none h =
-      shown-more o (emit e trace).prefix (emit e trace).handed (record { child = c; place = place; behind = [] }) (emit-shown e trace h) (inr (b.rank, b.more, b.at, there))
+      shown-more o (emit e trace).prefix (emit e trace).handed (record { child = c; place = place; after = [] }) (emit-shown e trace h) (inr (b.rank, b.more, b.at, there))
     where
       old : List Event
       old = front_of trace.prefix trace.handed

@@ -1,10 +1,10 @@
 -- An open run with its children's evaluations in their places.
 use Rattle.std.proofs.Common.{◌≡◌, List, [], ◌∷◌, ◌++◌, Option, Some, None, Result, Ok, Err, refl, sym, ap, ◌∙◌}
-use Rattle.serial_meaning.specs.Runs.{Run, done, behind, goes_on, ◌then◌}
+use Rattle.serial_meaning.specs.Runs.{Run, done, after_items, goes_on, ◌then◌}
 use Rattle.serial_meaning.specs.Plan.{PlanView}
 use Rattle.serial_meaning.specs.Eval.{Evaluation, eval}
 use Rattle.serial_meaning.specs.Open.{Item, Happened, Child, Opened, Closed, NodeFault, Own, ChildFaulted, opened}
-use Rattle.serial_meaning.proofs.Equations.RunLaws.{goes_on-behind, then-then}
+use Rattle.serial_meaning.proofs.Equations.RunLaws.{goes_on-after, then-then}
 use Rattle.serial_meaning.proofs.LeastFault.Cut.{Matches, cut, child_first}
 use Rattle.serial_meaning.proofs.LeastFault.Sim.{eval-cuts}
 use Rattle.serial_meaning.specs.declared.value.Value.{Value}
@@ -13,8 +13,8 @@ use Rattle.serial_meaning.specs.declared.event.Event.{Event}
 use Rattle.serial_meaning.specs.declared.origin.Origin.{Origin}
 use Rattle.strand_meaning.specs.Rest.{children_of, closed_end, closed_at, closed}
 
-pub behind-then : {I E A B : Type 0} (xs : List I) (r : Run I E A) (f : A → Run I E B) → (behind xs r then f) ≡ behind xs (r then f)
-behind-then xs r f = goes_on-behind xs r.items r.ending f
+pub after-then : {I E A B : Type 0} (xs : List I) (r : Run I E A) (f : A → Run I E B) → (after_items xs r then f) ≡ after_items xs (r then f)
+after-then xs r f = goes_on-after xs r.items r.ending f
 
 module _ (child : Origin → Evaluation) where
   -- a piece and how it ends
@@ -24,19 +24,19 @@ module _ (child : Origin → Evaluation) where
 
   closed-cut : {A : Type 0} (items : List Item) (e : Result A NodeFault) → closed_at child items e ≡ ends_by (cut child items).events (cut child items).cut_by e
   closed-cut {A} [] e = refl
-  closed-cut {A} (Happened x ∷ items) e = ap (behind (x ∷ [])) (closed-cut items e) ∙ from (cut child items).events (cut child items).cut_by
+  closed-cut {A} (Happened x ∷ items) e = ap (after_items (x ∷ [])) (closed-cut items e) ∙ from (cut child items).events (cut child items).cut_by
     where
-      from : (es : List Event) (c : Option Fault) → behind (x ∷ []) (ends_by es c e) ≡ ends_by (x ∷ es) c e
+      from : (es : List Event) (c : Option Fault) → after_items (x ∷ []) (ends_by es c e) ≡ ends_by (x ∷ es) c e
       from es (Some f) = refl
       from es None = refl
   closed-cut {A} (Child o ∷ items) e = by_end (closed-cut items e) (child o).ending
     where
-      from : (es : List Event) (c : Option Fault) → behind (child o).items (ends_by es c e) ≡ ends_by ((child o).items ++ es) c e
+      from : (es : List Event) (c : Option Fault) → after_items (child o).items (ends_by es c e) ≡ ends_by ((child o).items ++ es) c e
       from es (Some f) = refl
       from es None = refl
 
       by_end : closed_at child items e ≡ ends_by (cut child items).events (cut child items).cut_by e → (q : Result (List Value) Fault) → goes_on (child o).items q (λ vs. closed_at child items e) ≡ ends_by (child_first (child o).items q (cut child items)).events (child_first (child o).items q (cut child items)).cut_by e
-      by_end ih (Ok vs) = ap (behind (child o).items) ih ∙ from (cut child items).events (cut child items).cut_by
+      by_end ih (Ok vs) = ap (after_items (child o).items) ih ∙ from (cut child items).events (cut child items).cut_by
       by_end ih (Err f) = refl
   closed-cut {A} (Opened j ∷ items) e = closed-cut items e
   closed-cut {A} (Closed j ∷ items) e = closed-cut items e
@@ -52,7 +52,7 @@ module _ (child : Origin → Evaluation) where
     where
       by_items : (items : List Item) (a : A) → closed_at child (items ++ []) (Ok (f a)) ≡ (closed_at child items (Ok a) then λ a. done (f a))
       by_items [] a = refl
-      by_items (Happened e ∷ items) a = ap (behind (e ∷ [])) (by_items items a) ∙ sym (behind-then (e ∷ []) (closed_at child items (Ok a)) (λ a. done (f a)))
+      by_items (Happened e ∷ items) a = ap (after_items (e ∷ [])) (by_items items a) ∙ sym (after-then (e ∷ []) (closed_at child items (Ok a)) (λ a. done (f a)))
       by_items (Child o ∷ items) a =
           ap (λ (r : Run Event Fault B). child o then λ vs. r) (by_items items a) ∙ sym (then-then (child o) (λ vs. closed_at child items (Ok a)) (λ a. done (f a)))
       by_items (Opened j ∷ items) a = by_items items a
@@ -61,7 +61,7 @@ module _ (child : Origin → Evaluation) where
       by_fault : (items : List Item) (e : NodeFault) → closed_at child items (Err e) ≡ (closed_at child items (Err e) then λ a. done (f a))
       by_fault [] (Own g) = refl
       by_fault [] (ChildFaulted g) = refl
-      by_fault (Happened x ∷ items) e = ap (behind (x ∷ [])) (by_fault items e) ∙ sym (behind-then (x ∷ []) (closed_at child items (Err e)) (λ (a : A). done (f a)))
+      by_fault (Happened x ∷ items) e = ap (after_items (x ∷ [])) (by_fault items e) ∙ sym (after-then (x ∷ []) (closed_at child items (Err e)) (λ (a : A). done (f a)))
       by_fault (Child o ∷ items) e =
           ap (λ (r : Run Event Fault B). child o then λ vs. r) (by_fault items e) ∙ sym (then-then (child o) (λ vs. closed_at child items (Err e)) (λ (a : A). done (f a)))
       by_fault (Opened j ∷ items) e = by_fault items e

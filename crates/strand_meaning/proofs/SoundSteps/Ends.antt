@@ -20,7 +20,7 @@ use Rattle.serial_meaning.specs.declared.answer.Outcome.TheVariants as outcome
 use Rattle.strand_meaning.specs.Clear.{IsClearPlan}
 use Rattle.strand_meaning.specs.Machine.{Destination, Spawned, Looped, Half, begun}
 use Rattle.strand_meaning.specs.Trace.{AwaitedChild, Trace, add_child}
-use Rattle.strand_meaning.specs.Task.{InstanceState, Running, AtSync, AtLoop, Ended, Work, Splits, Runs, Over, Task, begun_stage, start, own_instance, Stops, Spawn, waits, ends, ends_unless, faults_behind, gave, stage_step, first_half, begins_last, split_step, over_step, work_step, step}
+use Rattle.strand_meaning.specs.Task.{InstanceState, Running, AtSync, AtLoop, Ended, Work, Splits, Runs, Over, Task, begun_stage, start, own_instance, Stops, Spawn, waits, ends, ends_unless, faults_after, gave, stage_step, first_half, begins_last, split_step, over_step, work_step, step}
 use Rattle.strand_meaning.specs.Rest.{children_of, rest_of_stage, rest_open, closed, prefix_run, parts_run, turns_left, all_with, work_run, finish}
 use Rattle.strand_meaning.specs.Sound.{IsHalf, AreHalves, IsSoundStage, IsSoFar, IsEndOf, IsLoop, IsLongLoop, FitsOrigin, AreParts, IsInstanceOrLoop, IsSoundWork, UnfilledArePendingIn, IsTask}
 use Rattle.serial_meaning.specs.Loops.{IsHandedFor}
@@ -136,7 +136,7 @@ module _ (t : Task) (is : IsTask t) where
               ∙ ap (λ (r : Run Item NodeFault Value). closed (children_of t.plan own) r then λ v. done (all_with t.origin vs v)) (ended-rest t.plan (children_of t.plan own) (path_of own) 0 ps (halves-places ps halves) (Ok v))
               ∙ ap (λ (o : Origin). done (all_with o vs v)) h
 
-  fault-sound : (f : Fault) → t.work ≡ Runs (Ended (Err (Own f))) → (qs : List AwaitedChild) → ps ≡ qs → IsSoundStep t (faults_behind qs t f)
+  fault-sound : (f : Fault) → t.work ≡ Runs (Ended (Err (Own f))) → (qs : List AwaitedChild) → ps ≡ qs → IsSoundStep t (faults_after qs t f)
   fault-sound f at [] h = end-alone t is h (Err f) (ap (λ (w : Work). run_at [] w t.values) at) (outcome.Fault f) (sym (err-outcome t.origin f))
   fault-sound f at (q ∷ qs) h = waits-sound t is
 
@@ -273,7 +273,7 @@ module _ (t : Task) (is : IsTask t) where
         known = is.known;
         clear = is.clear;
         parts = parts-append t.plan t.origin ps _ is.parts (record { known = subst (IsOriginOf t.plan) (sym half-is) known-half; fits = subst IsLongLoop (sym loop) long; same = inl tt }, tt);
-        shown = λ none. shown-more t.origin t.trace.prefix ps (record { child = first_half t.origin left; place = Half; behind = [] }) (is.shown none) (inl (tt, half-path t.origin left));
+        shown = λ none. shown-more t.origin t.trace.prefix ps (record { child = first_half t.origin left; place = Half; after = [] }) (is.shown none) (inl (tt, half-path t.origin left));
         work = (subst (λ (o : Origin). IsEndOf o (upper_half left)) (sym loop) upper, more ps halves);
         pending = tt;
       },
@@ -301,7 +301,7 @@ module _ (t : Task) (is : IsTask t) where
         known-half : IsOriginOf t.plan half
         known-half = part-of-loop t.plan function rest first path range (lower_half left) whole known-loop refl low (omega arith) (omega arith)
 
-        more : (qs : List AwaitedChild) → AreHalves qs → AreHalves (qs ++ record { child = first_half t.origin left; place = Half; behind = [] } ∷ [])
+        more : (qs : List AwaitedChild) → AreHalves qs → AreHalves (qs ++ record { child = first_half t.origin left; place = Half; after = [] } ∷ [])
         more [] g = (tt, tt)
         more (q ∷ qs) g = (g.0, more qs g.1)
 

@@ -1,6 +1,6 @@
 -- What a task gives in the end, where a move shows something more.
 use Rattle.std.proofs.Common.{◌≡◌, List, [], ◌∷◌, ◌++◌, Option, Some, None, Ok, refl, sym, ap, ◌∙◌, append_assoc, append-nil}
-use Rattle.serial_meaning.specs.Runs.{Run, done, behind, ◌then◌}
+use Rattle.serial_meaning.specs.Runs.{Run, done, after_items, ◌then◌}
 use Rattle.serial_meaning.specs.Eval.{Evaluation}
 use Rattle.serial_meaning.specs.Open.{Item, NodeFault}
 use Rattle.serial_meaning.proofs.Equations.RunLaws.{then-then, then-same}
@@ -10,11 +10,11 @@ use Rattle.serial_meaning.specs.declared.event.Fault.{Fault}
 use Rattle.serial_meaning.specs.declared.event.Event.{Event}
 use Rattle.serial_meaning.specs.declared.origin.Origin.{Origin}
 use Rattle.strand_meaning.specs.Machine.{Destination, Spawned, Looped, Half, Effect, Opens, Closes, Emitted, Handed, Syncs, Loops}
-use Rattle.strand_meaning.specs.Trace.{AwaitedChild, Trace, behind_last, emit, emit_at, add_child, with_effects}
+use Rattle.strand_meaning.specs.Trace.{AwaitedChild, Trace, after_last, emit, emit_at, add_child, with_effects}
 use Rattle.strand_meaning.specs.Task.{more_values}
 use Rattle.strand_meaning.specs.Rest.{closed, prefix_run, parts_run}
 use Rattle.strand_meaning.specs.Observation.{effect_items}
-use Rattle.strand_meaning.proofs.SoundSteps.Closing.{behind-then}
+use Rattle.strand_meaning.proofs.SoundSteps.Closing.{after-then}
 
 -- a child of an instance
 abbrev pub NotHalf : Effect → Type 0
@@ -37,51 +37,51 @@ module _ (child : Origin → Evaluation) where
   played [] r = r
   played (Opens j ∷ ts) r = played ts r
   played (Closes j ∷ ts) r = played ts r
-  played (Emitted e ∷ ts) r = behind (e ∷ []) (played ts r)
+  played (Emitted e ∷ ts) r = after_items (e ∷ []) (played ts r)
   played (Handed o place ∷ ts) r = child o then λ vs. played ts r
   played (Syncs ∷ ts) r = played ts r
   played (Loops ∷ ts) r = played ts r
 
   parts-emit : (p : AwaitedChild) (ps : List AwaitedChild) (e : Event) (values : List Value) (tail : List Value → Evaluation) →
-      (parts_run child (behind_last p ps e) values then tail) ≡ (parts_run child (p ∷ ps) values then λ vs. behind (e ∷ []) (tail vs))
+      (parts_run child (after_last p ps e) values then tail) ≡ (parts_run child (p ∷ ps) values then λ vs. after_items (e ∷ []) (tail vs))
   parts-emit p [] e values tail =
-      then-then (child p.child) (λ vs. behind (p.behind ++ e ∷ []) (done (more_values p.place (Ok vs) values))) tail
+      then-then (child p.child) (λ vs. after_items (p.after ++ e ∷ []) (done (more_values p.place (Ok vs) values))) tail
       ∙ then-same (child p.child) _ _ (λ vs h. one (more_values p.place (Ok vs) values))
-      ∙ sym (then-then (child p.child) (λ vs. behind p.behind (done (more_values p.place (Ok vs) values))) (λ vs. behind (e ∷ []) (tail vs)))
+      ∙ sym (then-then (child p.child) (λ vs. after_items p.after (done (more_values p.place (Ok vs) values))) (λ vs. after_items (e ∷ []) (tail vs)))
     where
-      one : (vs : List Value) → (behind (p.behind ++ e ∷ []) (done vs) then tail) ≡ (behind p.behind (done vs) then λ vs. behind (e ∷ []) (tail vs))
+      one : (vs : List Value) → (after_items (p.after ++ e ∷ []) (done vs) then tail) ≡ (after_items p.after (done vs) then λ vs. after_items (e ∷ []) (tail vs))
       one vs =
-          ap (λ (l : List Event). behind l (tail vs)) (append-nil (p.behind ++ e ∷ []) ∙ ap (λ (l : List Event). l ++ e ∷ []) (sym (append-nil p.behind)))
-          ∙ ap (λ (l : List Event). record { items = l; ending = (tail vs).ending }) (append_assoc (p.behind ++ []) (e ∷ []) (tail vs).items)
+          ap (λ (l : List Event). after_items l (tail vs)) (append-nil (p.after ++ e ∷ []) ∙ ap (λ (l : List Event). l ++ e ∷ []) (sym (append-nil p.after)))
+          ∙ ap (λ (l : List Event). record { items = l; ending = (tail vs).ending }) (append_assoc (p.after ++ []) (e ∷ []) (tail vs).items)
   parts-emit p (q ∷ qs) e values tail =
-      then-then (child p.child) (λ vs. behind p.behind (parts_run child (behind_last q qs e) (more_values p.place (Ok vs) values))) tail
-      ∙ then-same (child p.child) _ _ (λ vs h. behind-then p.behind (parts_run child (behind_last q qs e) (more_values p.place (Ok vs) values)) tail
-      ∙ ap (behind p.behind) (parts-emit q qs e (more_values p.place (Ok vs) values) tail)
-      ∙ sym (behind-then p.behind (parts_run child (q ∷ qs) (more_values p.place (Ok vs) values)) (λ vs. behind (e ∷ []) (tail vs))))
-      ∙ sym (then-then (child p.child) (λ vs. behind p.behind (parts_run child (q ∷ qs) (more_values p.place (Ok vs) values))) (λ vs. behind (e ∷ []) (tail vs)))
+      then-then (child p.child) (λ vs. after_items p.after (parts_run child (after_last q qs e) (more_values p.place (Ok vs) values))) tail
+      ∙ then-same (child p.child) _ _ (λ vs h. after-then p.after (parts_run child (after_last q qs e) (more_values p.place (Ok vs) values)) tail
+      ∙ ap (after_items p.after) (parts-emit q qs e (more_values p.place (Ok vs) values) tail)
+      ∙ sym (after-then p.after (parts_run child (q ∷ qs) (more_values p.place (Ok vs) values)) (λ vs. after_items (e ∷ []) (tail vs))))
+      ∙ sym (then-then (child p.child) (λ vs. after_items p.after (parts_run child (q ∷ qs) (more_values p.place (Ok vs) values))) (λ vs. after_items (e ∷ []) (tail vs)))
 
-  emit-so_far : (e : Event) (trace : Trace) (values : List Value) (tail : List Value → Evaluation) → so_far (emit e trace) values tail ≡ so_far trace values (λ vs. behind (e ∷ []) (tail vs))
+  emit-so_far : (e : Event) (trace : Trace) (values : List Value) (tail : List Value → Evaluation) → so_far (emit e trace) values tail ≡ so_far trace values (λ vs. after_items (e ∷ []) (tail vs))
   emit-so_far e trace values tail = by_parts trace.handed trace.fault
     where
       by_parts : (ps : List AwaitedChild) (f : Option Fault) →
-          so_far (emit_at ps e (record { prefix = trace.prefix; fault = f; handed = ps })) values tail ≡ so_far (record { prefix = trace.prefix; fault = f; handed = ps }) values (λ vs. behind (e ∷ []) (tail vs))
+          so_far (emit_at ps e (record { prefix = trace.prefix; fault = f; handed = ps })) values tail ≡ so_far (record { prefix = trace.prefix; fault = f; handed = ps }) values (λ vs. after_items (e ∷ []) (tail vs))
       by_parts [] None = ap (λ (l : List Event). record { items = l; ending = (tail values).ending }) (append_assoc trace.prefix (e ∷ []) (tail values).items)
       by_parts [] (Some f) = refl
-      by_parts (p ∷ ps) None = ap (behind trace.prefix) (parts-emit p ps e values tail)
+      by_parts (p ∷ ps) None = ap (after_items trace.prefix) (parts-emit p ps e values tail)
       by_parts (p ∷ ps) (Some f) = refl
 
   parts-add_child : (ps : List AwaitedChild) (p : AwaitedChild) (values : List Value) (tail : List Value → Evaluation) →
-      (parts_run child (ps ++ p ∷ []) values then tail) ≡ (parts_run child ps values then λ vs. child p.child then λ ws. behind p.behind (tail (more_values p.place (Ok ws) vs)))
+      (parts_run child (ps ++ p ∷ []) values then tail) ≡ (parts_run child ps values then λ vs. child p.child then λ ws. after_items p.after (tail (more_values p.place (Ok ws) vs)))
   parts-add_child [] p values tail =
-      then-then (child p.child) (λ vs. behind p.behind (done (more_values p.place (Ok vs) values))) tail
-      ∙ then-same (child p.child) _ _ (λ vs h. ap (λ (l : List Event). behind l (tail (more_values p.place (Ok vs) values))) (append-nil p.behind))
+      then-then (child p.child) (λ vs. after_items p.after (done (more_values p.place (Ok vs) values))) tail
+      ∙ then-same (child p.child) _ _ (λ vs h. ap (λ (l : List Event). after_items l (tail (more_values p.place (Ok vs) values))) (append-nil p.after))
   parts-add_child (q ∷ qs) p values tail =
-      let hence : List Value → Evaluation = λ vs. child p.child then λ ws. behind p.behind (tail (more_values p.place (Ok ws) vs)) in
-      then-then (child q.child) (λ vs. behind q.behind (parts_run child (qs ++ p ∷ []) (more_values q.place (Ok vs) values))) tail
-      ∙ then-same (child q.child) _ _ (λ vs h. behind-then q.behind (parts_run child (qs ++ p ∷ []) (more_values q.place (Ok vs) values)) tail
-      ∙ ap (behind q.behind) (parts-add_child qs p (more_values q.place (Ok vs) values) tail)
-      ∙ sym (behind-then q.behind (parts_run child qs (more_values q.place (Ok vs) values)) hence))
-      ∙ sym (then-then (child q.child) (λ vs. behind q.behind (parts_run child qs (more_values q.place (Ok vs) values))) hence)
+      let hence : List Value → Evaluation = λ vs. child p.child then λ ws. after_items p.after (tail (more_values p.place (Ok ws) vs)) in
+      then-then (child q.child) (λ vs. after_items q.after (parts_run child (qs ++ p ∷ []) (more_values q.place (Ok vs) values))) tail
+      ∙ then-same (child q.child) _ _ (λ vs h. after-then q.after (parts_run child (qs ++ p ∷ []) (more_values q.place (Ok vs) values)) tail
+      ∙ ap (after_items q.after) (parts-add_child qs p (more_values q.place (Ok vs) values) tail)
+      ∙ sym (after-then q.after (parts_run child qs (more_values q.place (Ok vs) values)) hence))
+      ∙ sym (then-then (child q.child) (λ vs. after_items q.after (parts_run child qs (more_values q.place (Ok vs) values))) hence)
 
   prefix-same : (trace : Trace) (r q : Evaluation) → r ≡ q → (prefix_run trace then λ u. r) ≡ (prefix_run trace then λ u. q)
   prefix-same trace r q h = ap (λ (s : Evaluation). prefix_run trace then λ u. s) h
@@ -89,7 +89,7 @@ module _ (child : Origin → Evaluation) where
   pub add_child-so_far : (o : Origin) (place : Destination) (trace : Trace) (values : List Value) (tail : List Value → Evaluation) →
       so_far (add_child o place trace) values tail ≡ so_far trace values (λ vs. child o then λ ws. tail (more_values place (Ok ws) vs))
   add_child-so_far o place trace values tail =
-      prefix-same trace _ _ (parts-add_child trace.handed (record { child = o; place = place; behind = [] }) values tail)
+      prefix-same trace _ _ (parts-add_child trace.handed (record { child = o; place = place; after = [] }) values tail)
 
   -- What a move showed stands after the trace, and before the rest.
   pub effects-so_far : (ts : List Effect) → Each NotHalf ts → (trace : Trace) (values : List Value) (tail : List Value → Evaluation) →
@@ -116,13 +116,13 @@ SameChild some other Syncs = Unit {0}
 SameChild some other Loops = Unit {0}
 
 pub played-closed : (some other : Origin → Evaluation) (ts : List Effect) → Each (SameChild some other) ts → {A : Type 0} (r : Run Item NodeFault A) (go : A → Evaluation) →
-    (closed some (behind (effect_items ts) r) then go) ≡ played other ts (closed some r then go)
+    (closed some (after_items (effect_items ts) r) then go) ≡ played other ts (closed some r then go)
 played-closed some other [] same r go = refl
 played-closed some other (Opens j ∷ ts) same r go = played-closed some other ts same.1 r go
 played-closed some other (Closes j ∷ ts) same r go = played-closed some other ts same.1 r go
-played-closed some other (Emitted e ∷ ts) same r go = behind-then (e ∷ []) (closed some (behind (effect_items ts) r)) go ∙ ap (behind (e ∷ [])) (played-closed some other ts same.1 r go)
+played-closed some other (Emitted e ∷ ts) same r go = after-then (e ∷ []) (closed some (after_items (effect_items ts) r)) go ∙ ap (after_items (e ∷ [])) (played-closed some other ts same.1 r go)
 played-closed some other (Handed o place ∷ ts) same r go =
-    then-then (some o) (λ vs. closed some (behind (effect_items ts) r)) go
+    then-then (some o) (λ vs. closed some (after_items (effect_items ts) r)) go
     ∙ ap (λ (q : Evaluation). some o then λ vs. q) (played-closed some other ts same.1 r go)
     ∙ ap (λ (q : Evaluation). q then λ vs. played other ts (closed some r then go)) same.0
 played-closed some other (Syncs ∷ ts) same r go = played-closed some other ts same.1 r go

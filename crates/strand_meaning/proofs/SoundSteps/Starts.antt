@@ -160,7 +160,7 @@ halves-rest plan child path (p ∷ ps) h r = by_place p h.0 (halves-rest plan ch
     by_place : (p : AwaitedChild) → IsHalf p.place → rest_open plan child path ps (begun_stage r) ≡ rest_of_stage plan child path (begun_stage r) → rest_open plan child path (p ∷ ps) (begun_stage r) ≡ rest_of_stage plan child path (begun_stage r)
     by_place q g later = from q.place g
       where
-        from : (place : Destination) → IsHalf place → rest_open plan child path (record { child = q.child; place = place; behind = q.behind } ∷ ps) (begun_stage r) ≡ rest_of_stage plan child path (begun_stage r)
+        from : (place : Destination) → IsHalf place → rest_open plan child path (record { child = q.child; place = place; after = q.after } ∷ ps) (begun_stage r) ≡ rest_of_stage plan child path (begun_stage r)
         from (Spawned owner target) k = absurd k
         from (Looped target) k = absurd k
         from Half k = later

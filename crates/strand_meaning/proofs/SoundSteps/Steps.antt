@@ -2,7 +2,7 @@
 use Rattle.std.proofs.Common.{◌≡◌, ℕ, ◌-◌, List, [], ◌∷◌, ◌++◌, Option, Some, None, Result, Ok, Err, inr, length, refl, sym, ap, ◌∙◌, append_assoc, append-nil, subst}
 use Rattle.std.specs.Prelude.{Contains}
 use Rattle.std.proofs.lemmas.List.Elements.{Contains-append_left, Contains-append_right}
-use Rattle.serial_meaning.specs.Runs.{Run, done, stopped, behind, ◌then◌}
+use Rattle.serial_meaning.specs.Runs.{Run, done, stopped, after_items, ◌then◌}
 use Rattle.serial_meaning.specs.Plan.{PlanView}
 use Rattle.serial_meaning.specs.Eval.{Evaluation, path_of, eval}
 use Rattle.serial_meaning.specs.Open.{Item, Happened, Child, Opened, Closed, NodeFault, Own, opened}
@@ -31,7 +31,7 @@ use Rattle.strand_meaning.proofs.UnfilledPending.Alike.{Alike, alike-effects, al
 use Rattle.strand_meaning.proofs.SoundSteps.Depth.{loop-of-plan, same-answer}
 use Rattle.strand_meaning.proofs.SoundSteps.Own.{own-move}
 use Rattle.strand_meaning.proofs.SoundSteps.Begun.{Shows, effects-fault, move-shows}
-use Rattle.strand_meaning.proofs.SoundSteps.Closing.{behind-then}
+use Rattle.strand_meaning.proofs.SoundSteps.Closing.{after-then}
 use Rattle.strand_meaning.proofs.SoundSteps.Finishing.{NotHalf, so_far, played, effects-so_far, SameChild, played-closed}
 use Rattle.strand_meaning.proofs.Unfilled.Keeps.{first-contained, later-contained}
 
@@ -129,16 +129,16 @@ module _ (t : Task) (is : IsTask t) (m : Machine) (own-known : IsOriginOf t.plan
 
   -- what a move shows and leaves, as an equation of what remains
   abbrev Leaves : List Effect → Run Item NodeFault Value → Type 0
-  Leaves ts rest = rest_open t.plan kids path ps (Running m) ≡ behind (effect_items ts) rest
+  Leaves ts rest = rest_open t.plan kids path ps (Running m) ≡ after_items (effect_items ts) rest
 
   abbrev all_of : Value → Run Item NodeFault (List Value)
   all_of v = done (v ∷ [])
 
-  further : (ts : List Effect) (rest : Run Item NodeFault Value) → Leaves ts rest → opened t.plan own ≡ behind (far.front ++ effect_items ts) (rest then all_of)
+  further : (ts : List Effect) (rest : Run Item NodeFault Value) → Leaves ts rest → opened t.plan own ≡ after_items (far.front ++ effect_items ts) (rest then all_of)
   further ts rest h =
       far.whole
-      ∙ ap (λ (r : Run Item NodeFault Value). behind far.front (r then all_of)) h
-      ∙ ap (behind far.front) (behind-then (effect_items ts) rest all_of)
+      ∙ ap (λ (r : Run Item NodeFault Value). after_items far.front (r then all_of)) h
+      ∙ ap (after_items far.front) (after-then (effect_items ts) rest all_of)
       ∙ ap (λ (l : List Item). record { items = l; ending = (rest then all_of).ending }) (sym (append_assoc far.front (effect_items ts) (rest then all_of).items))
 
   known : (ts : List Effect) (rest : Run Item NodeFault Value) → Leaves ts rest → (c : Origin) → Contains (effect_items ts) (Child c) → Known t.plan t.origin c
@@ -158,7 +158,7 @@ module _ (t : Task) (is : IsTask t) (m : Machine) (own-known : IsOriginOf t.plan
     clear = is.clear;
     parts = alike-parts t.plan t.origin alike (parts-append t.plan t.origin ps (effect_parts ts) is.parts (new-parts t.plan t.origin ts own-effects (known ts rest leaves)));
     shown = λ none. let before : t.trace.fault ≡ None = sym (effects-fault ts t.trace) ∙ none in shows t.trace before (is.shown before);
-    work = (is-loop, record { front = far.front ++ effect_items ts; whole = further ts rest leaves ∙ ap (λ (r : Run Item NodeFault Value). behind (far.front ++ effect_items ts) (r then all_of)) lands-here }, alike-stage t.plan alike stage fits);
+    work = (is-loop, record { front = far.front ++ effect_items ts; whole = further ts rest leaves ∙ ap (λ (r : Run Item NodeFault Value). after_items (far.front ++ effect_items ts) (r then all_of)) lands-here }, alike-stage t.plan alike stage fits);
     pending = alike-pending t.plan alike stage stands;
   }
     where

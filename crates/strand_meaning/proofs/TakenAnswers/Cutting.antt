@@ -8,7 +8,7 @@ use Rattle.serial_meaning.specs.Eval.{Evaluation, path_of, eval}
 use Rattle.serial_meaning.specs.Laws.{IsOriginOf, EndsWithin, places}
 use Rattle.serial_meaning.specs.Open.{faults}
 use Rattle.serial_meaning.specs.Plan.{PlanView}
-use Rattle.serial_meaning.specs.Runs.{behind, ◌then◌}
+use Rattle.serial_meaning.specs.Runs.{after_items, ◌then◌}
 use Rattle.serial_meaning.proofs.CutsBefore.Earlier.{before-own}
 use Rattle.serial_meaning.proofs.OriginFaults.Origins.{origins_end_within_faults}
 use Rattle.serial_meaning.proofs.RisingPedigrees.Rising.{places-append}
@@ -27,7 +27,7 @@ use Rattle.strand_meaning.specs.Sound.{IsShownBy, AreShownBy, IsTask}
 use Rattle.strand_meaning.specs.Task.{Task, own_instance, more_values}
 use Rattle.strand_meaning.proofs.TakenAnswers.AnswerRuns.{answers_are_evaluations}
 use Rattle.strand_meaning.proofs.SoundSteps.Begun.{front_of}
-use Rattle.strand_meaning.proofs.SoundSteps.Closing.{behind-then}
+use Rattle.strand_meaning.proofs.SoundSteps.Closing.{after-then}
 use Rattle.strand_meaning.proofs.SoundSteps.Ends.{err-outcome}
 
 module _ (child : Origin → Evaluation) where
@@ -37,15 +37,15 @@ module _ (child : Origin → Evaluation) where
   shown-comes events [] p later values tail j gave c =
       let more : List Event = (parts_run child (p ∷ later) values then tail).items in
       subst (λ (l : List (List ℕ)). Contains l j) (sym (places-append events more)) (Contains-append_left (places events) (places more) j c)
-  shown-comes events (q ∷ front) p later values tail j gave c = by_end (child q.child).ending (λ vs. shown-comes q.behind front p later (more_values q.place (Ok vs) values) tail j gave.1 c) gave.0
+  shown-comes events (q ∷ front) p later values tail j gave c = by_end (child q.child).ending (λ vs. shown-comes q.after front p later (more_values q.place (Ok vs) values) tail j gave.1 c) gave.0
     where
       rest : List Value → Evaluation
       rest vs = parts_run child (front ++ p ∷ later) (more_values q.place (Ok vs) values)
 
       with_end : Result (List Value) Fault → Evaluation
-      with_end e = record { items = (child q.child).items; ending = e } then λ vs. behind q.behind (rest vs)
+      with_end e = record { items = (child q.child).items; ending = e } then λ vs. after_items q.after (rest vs)
 
-      by_end : (e : Result (List Value) Fault) → ((vs : List Value) → Contains (places (q.behind ++ (rest vs then tail).items)) j) → GaveValue e → Contains (places (events ++ (with_end e then tail).items)) j
+      by_end : (e : Result (List Value) Fault) → ((vs : List Value) → Contains (places (q.after ++ (rest vs then tail).items)) j) → GaveValue e → Contains (places (events ++ (with_end e then tail).items)) j
       by_end (Err f) h g = absurd g
       by_end (Ok vs) h g = subst (λ (l : List Event). Contains (places l) j) (sym split) last
         where
@@ -53,32 +53,32 @@ module _ (child : Origin → Evaluation) where
           front_events = events ++ (child q.child).items
 
           -- the items are those of the child, and then those after it
-          split : events ++ (with_end (Ok vs) then tail).items ≡ front_events ++ (q.behind ++ (rest vs then tail).items)
+          split : events ++ (with_end (Ok vs) then tail).items ≡ front_events ++ (q.after ++ (rest vs then tail).items)
           split =
-              ap (λ (r : Evaluation). events ++ r.items) (behind-then (child q.child).items (behind q.behind (rest vs)) tail ∙ ap (behind (child q.child).items) (behind-then q.behind (rest vs) tail))
-              ∙ sym (append_assoc events (child q.child).items (q.behind ++ (rest vs then tail).items))
+              ap (λ (r : Evaluation). events ++ r.items) (after-then (child q.child).items (after_items q.after (rest vs)) tail ∙ ap (after_items (child q.child).items) (after-then q.after (rest vs) tail))
+              ∙ sym (append_assoc events (child q.child).items (q.after ++ (rest vs then tail).items))
 
-          last : Contains (places (front_events ++ (q.behind ++ (rest vs then tail).items))) j
+          last : Contains (places (front_events ++ (q.after ++ (rest vs then tail).items))) j
           last =
-              let more : List Event = q.behind ++ (rest vs then tail).items in
+              let more : List Event = q.after ++ (rest vs then tail).items in
               subst (λ (l : List (List ℕ)). Contains l j) (sym (places-append front_events more)) (Contains-append_right (places front_events) (places more) j (h vs))
 
   -- The trace up to the first fault of a child, and that fault.
   heard-ends : (prefix : List Event) (front : List AwaitedChild) (p : AwaitedChild) (later : List AwaitedChild) (values : List Value) (tail : List Value → Evaluation) (f : Fault) → GaveValues child front → (child p.child).ending ≡ Err f →
-      behind prefix (parts_run child (front ++ p ∷ later) values then tail) ≡ record { items = (heard_all (front ++ p ∷ []) (evaluations child (front ++ p ∷ [])) (record { prefix = prefix; fault = None; handed = [] })).prefix; ending = Err f }
+      after_items prefix (parts_run child (front ++ p ∷ later) values then tail) ≡ record { items = (heard_all (front ++ p ∷ []) (evaluations child (front ++ p ∷ [])) (record { prefix = prefix; fault = None; handed = [] })).prefix; ending = Err f }
   heard-ends prefix [] p later values tail f gave e = by_end (child p.child).ending e
     where
       run : Result (List Value) Fault → Evaluation
-      run q = record { items = (child p.child).items; ending = q } then λ vs. behind p.behind (parts_run child later (more_values p.place (Ok vs) values))
+      run q = record { items = (child p.child).items; ending = q } then λ vs. after_items p.after (parts_run child later (more_values p.place (Ok vs) values))
 
       heard_with : Result (List Value) Fault → Trace
       heard_with q = heard_all (p ∷ []) (record { items = (child p.child).items; ending = q } ∷ []) (record { prefix = prefix; fault = None; handed = [] })
 
-      by_end : (q : Result (List Value) Fault) → q ≡ Err f → behind prefix (run q then tail) ≡ record { items = (heard_with q).prefix; ending = Err f }
+      by_end : (q : Result (List Value) Fault) → q ≡ Err f → after_items prefix (run q then tail) ≡ record { items = (heard_with q).prefix; ending = Err f }
       by_end (Ok vs) g = absurd (cc)
       by_end (Err x) g = ap (λ (y : Result (List Value) Fault). record { items = prefix ++ (child p.child).items; ending = y }) g
   heard-ends prefix (q ∷ front) p later values tail f gave e =
-      by_end (child q.child).ending (λ vs. heard-ends (prefix ++ ((child q.child).items ++ q.behind)) front p later (more_values q.place (Ok vs) values) tail f gave.1 e) gave.0
+      by_end (child q.child).ending (λ vs. heard-ends (prefix ++ ((child q.child).items ++ q.after)) front p later (more_values q.place (Ok vs) values) tail f gave.1 e) gave.0
     where
       rest : List Value → Evaluation
       rest vs = parts_run child (front ++ p ∷ later) (more_values q.place (Ok vs) values)
@@ -87,31 +87,31 @@ module _ (child : Origin → Evaluation) where
       ps = front ++ p ∷ []
 
       next : List Event
-      next = prefix ++ ((child q.child).items ++ q.behind)
+      next = prefix ++ ((child q.child).items ++ q.after)
 
       with_end : Result (List Value) Fault → Evaluation
-      with_end r = record { items = (child q.child).items; ending = r } then λ vs. behind q.behind (rest vs)
+      with_end r = record { items = (child q.child).items; ending = r } then λ vs. after_items q.after (rest vs)
 
       heard_with : Result (List Value) Fault → Trace
       heard_with r = heard_all (q ∷ ps) (record { items = (child q.child).items; ending = r } ∷ evaluations child ps) (record { prefix = prefix; fault = None; handed = [] })
 
       by_end : (r : Result (List Value) Fault) →
-          ((vs : List Value) → behind next (rest vs then tail) ≡ record { items = (heard_all ps (evaluations child ps) (record { prefix = next; fault = None; handed = [] })).prefix; ending = Err f }) →
-          GaveValue r → behind prefix (with_end r then tail) ≡ record { items = (heard_with r).prefix; ending = Err f }
+          ((vs : List Value) → after_items next (rest vs then tail) ≡ record { items = (heard_all ps (evaluations child ps) (record { prefix = next; fault = None; handed = [] })).prefix; ending = Err f }) →
+          GaveValue r → after_items prefix (with_end r then tail) ≡ record { items = (heard_with r).prefix; ending = Err f }
       by_end (Err x) h g = absurd g
       by_end (Ok vs) h g =
-          ap (behind prefix) (behind-then (child q.child).items (behind q.behind (rest vs)) tail ∙ ap (behind (child q.child).items) (behind-then q.behind (rest vs) tail))
-          ∙ ap (λ (l : List Event). record { items = l; ending = (rest vs then tail).ending }) (ap (λ (l : List Event). prefix ++ l) (sym (append_assoc (child q.child).items q.behind (rest vs then tail).items)) ∙ sym (append_assoc prefix ((child q.child).items ++ q.behind) (rest vs then tail).items))
+          ap (after_items prefix) (after-then (child q.child).items (after_items q.after (rest vs)) tail ∙ ap (after_items (child q.child).items) (after-then q.after (rest vs) tail))
+          ∙ ap (λ (l : List Event). record { items = l; ending = (rest vs then tail).ending }) (ap (λ (l : List Event). prefix ++ l) (sym (append_assoc (child q.child).items q.after (rest vs then tail).items)) ∙ sym (append_assoc prefix ((child q.child).items ++ q.after) (rest vs then tail).items))
           ∙ h vs
 
 -- how the child after the front ones is shown
 shown-at : (o : Origin) (events : List Event) (front : List AwaitedChild) (p : AwaitedChild) (later : List AwaitedChild) → AreShownBy o events (front ++ p ∷ later) → IsShownBy o (front_of events front) p
 shown-at o events [] p later h = h.0
-shown-at o events (q ∷ front) p later h = shown-at o q.behind front p later h.1
+shown-at o events (q ∷ front) p later h = shown-at o q.after front p later h.1
 
 -- a task's trace without a fault, before the rest
 trace-whole : (t : Task) (ps : List AwaitedChild) → IsTask t → t.trace.fault ≡ None → t.trace.handed ≡ ps →
-    behind t.trace.prefix (parts_run (eval t.plan) ps t.values then work_run t.plan t.origin ps t.work) ≡ eval t.plan t.origin
+    after_items t.trace.prefix (parts_run (eval t.plan) ps t.values then work_run t.plan t.origin ps t.work) ≡ eval t.plan t.origin
 trace-whole t ps is none e = sym (ap run none) ∙ ap whole (sym e) ∙ is.finishes
   where
     run : Option Fault → Evaluation
@@ -246,7 +246,7 @@ first_end plan (p ∷ ps) (a ∷ answers) prefix ended h e =
     rest = answer_evaluations answers
 
     -- a child that gave values
-    goes_on : (vs : List Value) → record { items = a.out; ending = Ok vs } ≡ eval plan p.child → First plan ps rest (prefix ++ (a.out ++ p.behind)) ended →
+    goes_on : (vs : List Value) → record { items = a.out; ending = Ok vs } ≡ eval plan p.child → First plan ps rest (prefix ++ (a.out ++ p.after)) ended →
         First plan (p ∷ ps) (record { items = a.out; ending = Ok vs } ∷ rest) prefix ended
     goes_on vs same next = record {
       front = p ∷ next.front;
@@ -254,7 +254,7 @@ first_end plan (p ∷ ps) (a ∷ answers) prefix ended h e =
       later = next.later;
       split = ap (λ (l : List AwaitedChild). p ∷ l) next.split;
       gave = (subst (λ (q : Evaluation). GaveValue q.ending) same tt, next.gave);
-      says = subst (λ (q : Evaluation). Says plan next.p (heard_all ps rest (clear_of (prefix ++ (a.out ++ p.behind)))).prefix (heard_all (next.front ++ next.p ∷ []) (evaluations (eval plan) (next.front ++ next.p ∷ [])) (heard p q (clear_of prefix))).prefix ended) same next.says;
+      says = subst (λ (q : Evaluation). Says plan next.p (heard_all ps rest (clear_of (prefix ++ (a.out ++ p.after)))).prefix (heard_all (next.front ++ next.p ∷ []) (evaluations (eval plan) (next.front ++ next.p ∷ [])) (heard p q (clear_of prefix))).prefix ended) same next.says;
     }
 
     fault : (f : Fault) → record { items = a.out; ending = Err f } ≡ eval plan p.child → First plan (p ∷ ps) (record { items = a.out; ending = Err f } ∷ rest) prefix (outcome.Fault f)
@@ -275,8 +275,8 @@ first_end plan (p ∷ ps) (a ∷ answers) prefix ended h e =
 
     by_outcome : (o : Outcome) → IsAnswer plan p.child a.out o → ended_after (or_ends None o) answers ≡ Some ended → ((more : List Event) → ended_after None answers ≡ Some ended → First plan ps rest more ended) →
         First plan (p ∷ ps) (evaluation_of a.out o ∷ rest) prefix ended
-    by_outcome (outcome.Value v) is g next = goes_on (v ∷ []) (answers_are_evaluations plan p.child a.out (outcome.Value v) is) (next (prefix ++ (a.out ++ p.behind)) g)
-    by_outcome (outcome.Values vs) is g next = goes_on vs (answers_are_evaluations plan p.child a.out (outcome.Values vs) is) (next (prefix ++ (a.out ++ p.behind)) g)
+    by_outcome (outcome.Value v) is g next = goes_on (v ∷ []) (answers_are_evaluations plan p.child a.out (outcome.Value v) is) (next (prefix ++ (a.out ++ p.after)) g)
+    by_outcome (outcome.Values vs) is g next = goes_on vs (answers_are_evaluations plan p.child a.out (outcome.Values vs) is) (next (prefix ++ (a.out ++ p.after)) g)
     by_outcome (outcome.Fault f) is g next =
         subst (First plan (p ∷ ps) (evaluation_of a.out (outcome.Fault f) ∷ rest) prefix) (ended-by (outcome.Fault f) g) (fault f (answers_are_evaluations plan p.child a.out (outcome.Fault f) is))
     by_outcome (outcome.Cut f) is g next =

@@ -2,7 +2,7 @@
 use Rattle.std.proofs.Common.{◌≡◌, ℕ, Bool, true, false, ◌||◌, nat_eq, List, [], ◌∷◌, ◌++◌, Option, Some, None, Result, Ok, Err, inl, inr, ◌⊎◌, length, refl, sym, ap, ◌∙◌, append_assoc, subst, if◌then◌else◌}
 use Rattle.std.proofs.lemmas.List.Elements.{Contains-append_right}
 use Rattle.script_grammar.specs.declared.tree.Name.{Name}
-use Rattle.serial_meaning.specs.Runs.{Run, done, behind, goes_on, ◌then◌}
+use Rattle.serial_meaning.specs.Runs.{Run, done, after_items, goes_on, ◌then◌}
 use Rattle.serial_meaning.specs.Plan.{PlanView}
 use Rattle.serial_meaning.specs.Eval.{Evaluation, path_of, eval}
 use Rattle.serial_meaning.specs.Exec.{filled}
@@ -16,8 +16,8 @@ use Rattle.strand_meaning.specs.Machine.{Destination, Spawned, Looped, Half, Fra
 use Rattle.strand_meaning.specs.Trace.{AwaitedChild, Trace, heard_unless, heard, heard_all}
 use Rattle.strand_meaning.specs.Task.{InstanceState, Running, AtSync, AtLoop, Ended, Work, Splits, Runs, Over, Task, own_instance, changed, changed_at, answered, takes, takes_all, joins, resumed, resumed_work, more_values, all_values, on}
 use Rattle.strand_meaning.specs.Rest.{children_of, evaluations, rest_of_stage, rest_open, closed, prefix_end, prefix_run, parts_run, all_with, work_run, finish}
-use Rattle.strand_meaning.specs.Sound.{unfilled_by, unfilled, is_by, any_by, IsSound, AreSound, IsDestination, AreDestinations, IsHalf, behind_sync, IsSoundStage, AreParts, IsSoundWork, AreShownBy, UnfilledArePendingIn, IsTask}
-use Rattle.strand_meaning.proofs.SoundSteps.Closing.{behind-then}
+use Rattle.strand_meaning.specs.Sound.{unfilled_by, unfilled, is_by, any_by, IsSound, AreSound, IsDestination, AreDestinations, IsHalf, after_sync, IsSoundStage, AreParts, IsSoundWork, AreShownBy, UnfilledArePendingIn, IsTask}
+use Rattle.strand_meaning.proofs.SoundSteps.Closing.{after-then}
 use Rattle.strand_meaning.proofs.Unfilled.Changed.{length-changed}
 use Rattle.strand_meaning.proofs.Unfilled.Clears.{clear-within}
 use Rattle.strand_meaning.proofs.Unfilled.Targets.{all-kept, changed-kept, filled-kept}
@@ -38,15 +38,15 @@ module _ (child : Origin → Evaluation) where
   heard-one p ps trace values tail = by_cases trace.fault (child p.child).items (child p.child).ending
     where
       by_cases : (f : Option Fault) (events : List Event) (q : Result (List Value) Fault) →
-          (record { items = trace.prefix; ending = prefix_end f } then λ (u : Unit {0}). (goes_on events q (λ vs. behind p.behind (parts_run child ps (more_values p.place (Ok vs) values)))) then tail)
+          (record { items = trace.prefix; ending = prefix_end f } then λ (u : Unit {0}). (goes_on events q (λ vs. after_items p.after (parts_run child ps (more_values p.place (Ok vs) values)))) then tail)
           ≡ from_parts ps (heard_unless f trace.prefix p events q) (more_values p.place q values) tail
       by_cases (Some f) events q = refl
       by_cases None events (Err f) = refl
       by_cases None events (Ok vs) =
           let r : Evaluation = parts_run child ps (more_values p.place (Ok vs) values) in
-          ap (behind trace.prefix) (behind-then events (behind p.behind r) tail ∙ ap (behind events) (behind-then p.behind r tail))
-          ∙ ap (λ (l : List Event). record { items = trace.prefix ++ l; ending = (r then tail).ending }) (sym (append_assoc events p.behind (r then tail).items))
-          ∙ ap (λ (l : List Event). record { items = l; ending = (r then tail).ending }) (sym (append_assoc trace.prefix (events ++ p.behind) (r then tail).items))
+          ap (after_items trace.prefix) (after-then events (after_items p.after r) tail ∙ ap (after_items events) (after-then p.after r tail))
+          ∙ ap (λ (l : List Event). record { items = trace.prefix ++ l; ending = (r then tail).ending }) (sym (append_assoc events p.after (r then tail).items))
+          ∙ ap (λ (l : List Event). record { items = l; ending = (r then tail).ending }) (sym (append_assoc trace.prefix (events ++ p.after) (r then tail).items))
 
   heard-so_far : (ps : List AwaitedChild) (trace : Trace) (values : List Value) (tail : List Value → Evaluation) →
       from_parts ps trace values tail ≡ from_parts [] (heard_all ps (evaluations child ps) trace) (all_values ps (evaluations child ps) values) tail
@@ -198,10 +198,10 @@ module _ (plan : PlanView) (p : AwaitedChild) (ps : List AwaitedChild) (q : Resu
       from true = refl
       from false = sym (length-changed owner (answered to q) m.below)
 
-  sync-kept : (height : ℕ) (a : Frame) (to : Option Name) → IsSound plan [] height (behind_sync a) → IsSound plan [] height (behind_sync (answered to q a))
+  sync-kept : (height : ℕ) (a : Frame) (to : Option Name) → IsSound plan [] height (after_sync a) → IsSound plan [] height (after_sync (answered to q a))
   sync-kept height a to s = from q
     where
-      from : (q : Result (List Value) Fault) → IsSound plan [] height (behind_sync (answered to q a))
+      from : (q : Result (List Value) Fault) → IsSound plan [] height (after_sync (answered to q a))
       from (Ok vs) = record { clear = s.clear; spawned = s.spawned; faulted = s.faulted; in_text = s.in_text; left_in_text = s.left_in_text; levels = s.levels; leaving = s.leaving; returning = s.returning }
       from (Err f) = record { clear = s.clear; spawned = s.spawned; faulted = s.faulted; in_text = s.in_text; left_in_text = s.left_in_text; levels = s.levels; leaving = s.leaving; returning = s.returning }
 
@@ -220,7 +220,7 @@ module _ (plan : PlanView) (p : AwaitedChild) (ps : List AwaitedChild) (q : Resu
   takes-spawned owner to e (Running m) s =
       let k = top-changed owner to e m s.1 s.2 in inl (places-owner (length m.below) ps (length (changed owner (answered to q) m).below) (same-height owner to m) s.0.1, k.0, k.1)
   takes-spawned owner to e (AtSync m) s =
-      let k = changed-machine plan p ps owner to q e (λ height a. IsSound plan [] height (behind_sync a)) (λ height a h t. sync-kept height a to t) m s.1 s.2 in
+      let k = changed-machine plan p ps owner to q e (λ height a. IsSound plan [] height (after_sync a)) (λ height a h t. sync-kept height a to t) m s.1 s.2 in
       inl (places-owner (length m.below) ps (length (changed owner (answered to q) m).below) (same-height owner to m) s.0.1, k.0, k.1)
   takes-spawned owner to e (AtLoop m) s =
       let k = top-changed owner to e m s.0 s.1 in inl (k.0, k.1, all-kept m.top.env (changed owner (answered to q) m).top.env (changed-kept owner to q m) ps s.2.1)
@@ -313,7 +313,7 @@ module _ (t : Task) (is : IsTask t) where
   work-sound : (work : Work) → IsSoundWork t.plan t.origin ps work → IsSoundWork t.plan t.origin [] (resumed_work ps answers work)
   work-sound (Splits left) s = (s.0, tt)
   work-sound (Runs stage) s =
-      (s.0, record { front = s.1.front; whole = s.1.whole ∙ ap (λ (r : Run Item NodeFault Value). behind s.1.front (r then λ v. done (v ∷ []))) (rest-same stage) }, resumed-sound t.plan (takes_all ps answers stage) (all-taken t.plan (eval t.plan) ps stage (inl s.2)))
+      (s.0, record { front = s.1.front; whole = s.1.whole ∙ ap (λ (r : Run Item NodeFault Value). after_items s.1.front (r then λ v. done (v ∷ []))) (rest-same stage) }, resumed-sound t.plan (takes_all ps answers stage) (all-taken t.plan (eval t.plan) ps stage (inl s.2)))
   work-sound (Over v true) s = (s.0, refl)
   work-sound (Over v false) s = (s.0, refl)
 

@@ -12,7 +12,7 @@ use Rattle.script_grammar.specs.declared.tree.Stmt.{Stmt, out-Stmt}
 use Rattle.script_grammar.specs.declared.tree.Act.{Act, out-Act}
 use Rattle.script_grammar.specs.declared.tree.Act.TheOpen as act
 use Rattle.script_grammar.specs.declared.tree.Act.TheOpen.{Act-F}
-use Rattle.serial_meaning.specs.Runs.{Run, done, happens, behind, ◌then◌}
+use Rattle.serial_meaning.specs.Runs.{Run, done, happens, after_items, ◌then◌}
 use Rattle.serial_meaning.specs.Values.{Env, value_of, values_of, slot_of, items_of, number, is_true, at_index}
 use Rattle.serial_meaning.specs.Functions.{number_of, function_at}
 use Rattle.serial_meaning.specs.Plan.{PlanView, functions_of}
@@ -20,7 +20,7 @@ use Rattle.serial_meaning.specs.Exec.{State, Manner, strand, fault, given, paid_
 use Rattle.serial_meaning.specs.Exec.{shown as passes}
 use Rattle.serial_meaning.specs.Eval.{Evaluation, first_of}
 use Rattle.serial_meaning.specs.Open.{Item, Happened, Child, Opened, Closed, NodeFault, put_off, put_off_all, joined, loop_end, is_empty_loop, filler}
-use Rattle.serial_meaning.proofs.Equations.RunLaws.{goes_on-behind, then-then, then-same}
+use Rattle.serial_meaning.proofs.Equations.RunLaws.{goes_on-after, then-then, then-same}
 use Rattle.serial_meaning.proofs.Equations.ExecLaws.{exec-cons, exec-nil, exec-append, exec-turn}
 use Rattle.serial_meaning.specs.declared.value.Value.{Value}
 use Rattle.serial_meaning.specs.declared.value.Value.TheVariants.{Int}
@@ -65,13 +65,13 @@ module _ (plan : PlanView) (child : Origin → Evaluation) (path : List ℕ) whe
       (same : (s : State Bool) → go (opens m.top.faulted s) ≡ rest_of_machine plan child path (on s)) where
     -- the open run q and then go, is what the run r of the machine shows and leaves
     abbrev pub Shows : Run Effect Exit (State Bool) → Run Item NodeFault (State (Option Fault)) → Type 0
-    Shows r q = (q then go) ≡ behind (effect_items r.items) (shown plan child path r.items (reached plan on into r.ending))
+    Shows r q = (q then go) ≡ after_items (effect_items r.items) (shown plan child path r.items (reached plan on into r.ending))
 
     pub at-done : (s : State Bool) → Shows (done s) (done (opens m.top.faulted s))
     at-done s = same s
 
     pub at-event : (place : Destination) (e : Event) (s : State Bool) → Shows (happens (Emitted e) s) (happens (Happened e) (opens m.top.faulted s))
-    at-event place e s = ap (behind (Happened e ∷ [])) (same s)
+    at-event place e s = ap (after_items (Happened e ∷ [])) (same s)
 
     pub at-fault : (place : Destination) (kind : FaultKind) (s : State Bool) → Shows (fault (what place) plan now kind s) (fault tree plan now kind (opens m.top.faulted s))
     at-fault place kind s = refl
@@ -103,13 +103,13 @@ module _ (plan : PlanView) (child : Origin → Evaluation) (path : List ℕ) whe
         next k = record s { rank = s.rank + 1; spawned = false }
 
         by_spawned : (k : Bool) → s.spawned ≡ k → (f : Option Fault) → m.top.faulted ≡ f →
-            ((behind (Happened e ∷ []) (joined f then λ k. done (record (opens m.top.faulted s) { rank = s.rank + 1; spawned = k }))) then go)
-            ≡ behind (effect_items (Emitted e ∷ sync_effects k ++ [])) (rest_open plan child path (effect_parts (Emitted e ∷ sync_effects k ++ [])) (stage_after (Emitted e ∷ sync_effects k ++ []) (on (next k))))
+            ((after_items (Happened e ∷ []) (joined f then λ k. done (record (opens m.top.faulted s) { rank = s.rank + 1; spawned = k }))) then go)
+            ≡ after_items (effect_items (Emitted e ∷ sync_effects k ++ [])) (rest_open plan child path (effect_parts (Emitted e ∷ sync_effects k ++ [])) (stage_after (Emitted e ∷ sync_effects k ++ []) (on (next k))))
         by_spawned true h None g =
-            ap (behind (Happened e ∷ [])) (ap (λ (k : Option Fault). go (record (opens m.top.faulted s) { rank = s.rank + 1; spawned = k })) (sym g) ∙ same (next true) ∙ ap (λ (k : Option Fault). rest_of_stage plan child path (joins k (on (next true)))) (sym (keeps (next true) ∙ g)))
+            ap (after_items (Happened e ∷ [])) (ap (λ (k : Option Fault). go (record (opens m.top.faulted s) { rank = s.rank + 1; spawned = k })) (sym g) ∙ same (next true) ∙ ap (λ (k : Option Fault). rest_of_stage plan child path (joins k (on (next true)))) (sym (keeps (next true) ∙ g)))
         by_spawned true h (Some f) g =
-            ap (λ (k : Option Fault). behind (Happened e ∷ []) (rest_of_stage plan child path (joins k (on (next true))))) (sym (keeps (next true) ∙ g))
-        by_spawned false h None g = ap (behind (Happened e ∷ [])) (ap (λ (k : Option Fault). go (record (opens m.top.faulted s) { rank = s.rank + 1; spawned = k })) (sym g) ∙ same (next false))
+            ap (λ (k : Option Fault). after_items (Happened e ∷ []) (rest_of_stage plan child path (joins k (on (next true))))) (sym (keeps (next true) ∙ g))
+        by_spawned false h None g = ap (after_items (Happened e ∷ [])) (ap (λ (k : Option Fault). go (record (opens m.top.faulted s) { rank = s.rank + 1; spawned = k })) (sym g) ∙ same (next false))
         by_spawned false h (Some f) g = let none_here : None ≡ Some f = sym (none h) ∙ g in absurd (cc)
 
   -- A statement. What it goes inside to stands before the others.
@@ -166,12 +166,12 @@ module _ (plan : PlanView) (child : Origin → Evaluation) (path : List ℕ) whe
           next o = record { env = with_scalar target (filler plan o) m.top.env; rank = m.rank + 1; steps = n; spawned = true }
 
           by_end : (o : Origin) (q : Result (List Value) Fault) →
-              behind (Happened e ∷ Child o ∷ []) (go (record { env = with_scalar target (put_off (filler plan o) m.top.faulted q).0 m.top.env; rank = m.rank + 1; steps = n; spawned = (put_off (filler plan o) m.top.faulted q).1 }))
-              ≡ behind (Happened e ∷ Child o ∷ []) (rest_of_stage plan child path (resumed (takes (Spawned height target) q (Running (on (next o))))))
+              after_items (Happened e ∷ Child o ∷ []) (go (record { env = with_scalar target (put_off (filler plan o) m.top.faulted q).0 m.top.env; rank = m.rank + 1; steps = n; spawned = (put_off (filler plan o) m.top.faulted q).1 }))
+              ≡ after_items (Happened e ∷ Child o ∷ []) (rest_of_stage plan child path (resumed (takes (Spawned height target) q (Running (on (next o))))))
           by_end o (Ok vs) =
-              ap (λ (env : Env). behind (Happened e ∷ Child o ∷ []) (go (record { env = env; rank = m.rank + 1; steps = n; spawned = m.top.faulted }))) (sym (answer-later target (filler plan o) (first_of vs) m.top.env))
-              ∙ ap (λ (k : Machine). behind (Happened e ∷ Child o ∷ []) (rest_of_machine plan child path k)) (sym (changed-top (answered target (Ok vs)) (on (next o))))
-          by_end o (Err f) = ap (λ (k : Machine). behind (Happened e ∷ Child o ∷ []) (rest_of_machine plan child path k)) (sym (changed-top (answered target (Err f)) (on (next o))))
+              ap (λ (env : Env). after_items (Happened e ∷ Child o ∷ []) (go (record { env = env; rank = m.rank + 1; steps = n; spawned = m.top.faulted }))) (sym (answer-later target (filler plan o) (first_of vs) m.top.env))
+              ∙ ap (λ (k : Machine). after_items (Happened e ∷ Child o ∷ []) (rest_of_machine plan child path k)) (sym (changed-top (answered target (Ok vs)) (on (next o))))
+          by_end o (Err f) = ap (λ (k : Machine). after_items (Happened e ∷ Child o ∷ []) (rest_of_machine plan child path k)) (sym (changed-top (answered target (Err f)) (on (next o))))
 
           by_test : (vs : List Value) (b : Bool) →
               Moves into (tested (what place) plan now b Depth (here n) (child_run (what place) c vs (here n)) then λ p. done (sets target p)) (tested tree plan now b Depth (there n) (child_run tree c vs (there n)) then λ p. done (sets target p))
@@ -310,10 +310,10 @@ module _ (plan : PlanView) (child : Origin → Evaluation) (path : List ℕ) whe
         next = record { env = filled target [] m.top.env; rank = m.rank + 1; steps = n - hi; spawned = m.top.spawned }
 
         by_end : (q : Result (List Value) Fault) →
-            behind (Happened e ∷ []) ((record { items = Child o ∷ []; ending = loop_end q } then λ ws. done (record (there (n - hi)) { rank = m.rank + 1; env = filled target ws m.top.env }))) then go
-            ≡ behind (Happened e ∷ Child o ∷ []) (rest_of_stage plan child path (resumed (takes (Looped target) q (AtLoop (on next)))))
+            after_items (Happened e ∷ []) ((record { items = Child o ∷ []; ending = loop_end q } then λ ws. done (record (there (n - hi)) { rank = m.rank + 1; env = filled target ws m.top.env }))) then go
+            ≡ after_items (Happened e ∷ Child o ∷ []) (rest_of_stage plan child path (resumed (takes (Looped target) q (AtLoop (on next)))))
         by_end (Ok ws) =
-            ap (λ (env : Env). behind (Happened e ∷ Child o ∷ []) (go (record { env = env; rank = m.rank + 1; steps = n - hi; spawned = m.top.faulted }))) (sym (filled-later target ws m.top.env))
+            ap (λ (env : Env). after_items (Happened e ∷ Child o ∷ []) (go (record { env = env; rank = m.rank + 1; steps = n - hi; spawned = m.top.faulted }))) (sym (filled-later target ws m.top.env))
         by_end (Err f) = refl
 
         by_size : (b : Bool) →
@@ -388,15 +388,15 @@ module _ (plan : PlanView) (child : Origin → Evaluation) (path : List ℕ) whe
           block : Run Item NodeFault S
           block = exec tree plan here_inside height a (opens m.top.faulted inner)
 
-          whole : ((behind (Opened here_inside ∷ []) block then leaves tree plan now m.rank) then go) ≡ behind (Opened here_inside ∷ []) (rest_of_machine plan child path (into_level m left a inner))
+          whole : ((after_items (Opened here_inside ∷ []) block then leaves tree plan now m.rank) then go) ≡ after_items (Opened here_inside ∷ []) (rest_of_machine plan child path (into_level m left a inner))
           whole =
-              then-then (behind (Opened here_inside ∷ []) block) (leaves tree plan now m.rank) go
-              ∙ goes_on-behind (Opened here_inside ∷ []) block.items block.ending (λ s. leaves tree plan now m.rank s then go)
-              ∙ ap (behind (Opened here_inside ∷ [])) (sym (level-ends block))
-              ∙ ap (λ (b : Bool). behind (Opened here_inside ∷ []) ((block then level_then b) then rest_below)) (sym open_ended)
+              then-then (after_items (Opened here_inside ∷ []) block) (leaves tree plan now m.rank) go
+              ∙ goes_on-after (Opened here_inside ∷ []) block.items block.ending (λ s. leaves tree plan now m.rank s then go)
+              ∙ ap (after_items (Opened here_inside ∷ [])) (sym (level-ends block))
+              ∙ ap (λ (b : Bool). after_items (Opened here_inside ∷ []) ((block then level_then b) then rest_below)) (sym open_ended)
 
           by_test : (b : Bool) →
-              Moves (into_level m left) (tested (what place) plan now b Depth (here n) (passes ((what place).opens here_inside) inner then inside here_inside height a then leaves (what place) plan now m.rank)) (tested tree plan now b Depth (there n) (behind (Opened here_inside ∷ []) block then leaves tree plan now m.rank))
+              Moves (into_level m left) (tested (what place) plan now b Depth (here n) (passes ((what place).opens here_inside) inner then inside here_inside height a then leaves (what place) plan now m.rank)) (tested tree plan now b Depth (there n) (after_items (Opened here_inside ∷ []) block then leaves tree plan now m.rank))
           by_test true = whole
           by_test false = refl
 
@@ -418,7 +418,7 @@ module _ (plan : PlanView) (child : Origin → Evaluation) (path : List ℕ) whe
 
   -- What remains of a machine is what a move shows, and then what it leaves.
   abbrev pub IsMove : Machine → Type 0
-  IsMove m = rest_of_machine plan child path m ≡ behind (effect_items (move plan path m).items) (shown plan child path (move plan path m).items (move plan path m).ending)
+  IsMove m = rest_of_machine plan child path m ≡ after_items (effect_items (move plan path m).items) (shown plan child path (move plan path m).items (move plan path m).ending)
 
   abbrev rebuilt : Machine → List Stmt → List Level → Bool → Bool → Machine
   rebuilt m left levels leaving returning = record m { top = record m.top { left = left; levels = levels; leaving = leaving; returning = returning } }
@@ -446,7 +446,7 @@ module _ (plan : PlanView) (child : Origin → Evaluation) (path : List ℕ) whe
   -- the value of a return goes to the frame below
   value-is : (m : Machine) (f : Option Function) →
       (valued plan child path (here_of path m) f (open_state plan child path m) then remains_below plan child path m.below m.top.target)
-      ≡ behind (effect_items (value_run plan path f m).items) (shown plan child path (value_run plan path f m).items (gives plan m (value_run plan path f m).ending))
+      ≡ after_items (effect_items (value_run plan path f m).items) (shown plan child path (value_run plan path f m).items (gives plan m (value_run plan path f m).ending))
   value-is m None = to_caller m.below
     where
       to_caller : (below : List Frame) → remains_below plan child path below m.top.target (Int (pos 0), open_state plan child path m) ≡ shown plan child path [] (Ok (back below m.top.target (Int (pos 0)) m.rank m.steps))
@@ -463,7 +463,7 @@ module _ (plan : PlanView) (child : Origin → Evaluation) (path : List ℕ) whe
 
       by_value : (o : Result Value FaultKind) → let r : Run Effect Exit (Value × State Bool) = given (what place) plan (here_of path m) o (state_of m) (λ v. done (v, state_of m)) in
           (given tree plan (here_of path m) o (open_state plan child path m) (λ v. done (v, open_state plan child path m)) then remains_below plan child path m.below m.top.target)
-          ≡ behind (effect_items r.items) (shown plan child path r.items (gives plan m r.ending))
+          ≡ after_items (effect_items r.items) (shown plan child path r.items (gives plan m r.ending))
       by_value (Ok v) = to_caller v m.below
       by_value (Err kind) = refl
 
@@ -504,7 +504,7 @@ module _ (plan : PlanView) (child : Origin → Evaluation) (path : List ℕ) whe
       by_steps : (n : ℕ) →
           let r : Run Effect Exit (State Bool) = paid_from (what (Spawned (length m.below) None)) plan (present path m.below) n (state_of k) (λ s. implied (what (Spawned (length m.below) None)) plan (present path m.below) (spawns_in (function_of m)) s) in
           (paid_from tree plan (present path m.below) n (open_state plan child path k) (λ s. implied tree plan (present path m.below) (spawns_in (function_of m)) s then valued plan child path (present path m.below) (function_of m)) then remains_below plan child path m.below m.top.target)
-          ≡ behind (effect_items r.items) (shown plan child path r.items (reached plan (with_returning k) (λ inner s. k) r.ending))
+          ≡ after_items (effect_items r.items) (shown plan child path r.items (reached plan (with_returning k) (λ inner s. k) r.ending))
       by_steps zero = refl
       by_steps (suc n) =
           let s : State Bool = record (state_of k) { steps = n } in
@@ -544,20 +544,20 @@ module _ (plan : PlanView) (child : Origin → Evaluation) (path : List ℕ) whe
       next : State Bool → State Bool
       next s = record s { rank = l.rank + 1 }
 
-      out-is : (s : State Bool) → out (opens m.top.faulted s) ≡ behind (Closed here ∷ []) (rest_of_machine plan child path (out_of_level (k true) l ls (next s)))
+      out-is : (s : State Bool) → out (opens m.top.faulted s) ≡ after_items (Closed here ∷ []) (rest_of_machine plan child path (out_of_level (k true) l ls (next s)))
       out-is s =
           let t : S = opens m.top.faulted (next s) in
           let first : Run Item NodeFault S = after_level t in
-          ap (λ (r : Run Item NodeFault (Value × S)). r then rest_below) (goes_on-behind (Closed here ∷ []) first.items first.ending closing)
-          ∙ goes_on-behind (Closed here ∷ []) (first then closing).items (first then closing).ending rest_below
-          ∙ ap (λ (r : Run Item NodeFault (Value × S)). behind (Closed here ∷ []) (r then rest_below)) (then-then (exec tree plan outer (length m.below) l.left t) outside closing)
+          ap (λ (r : Run Item NodeFault (Value × S)). r then rest_below) (goes_on-after (Closed here ∷ []) first.items first.ending closing)
+          ∙ goes_on-after (Closed here ∷ []) (first then closing).items (first then closing).ending rest_below
+          ∙ ap (λ (r : Run Item NodeFault (Value × S)). after_items (Closed here ∷ []) (r then rest_below)) (then-then (exec tree plan outer (length m.below) l.left t) outside closing)
 
       same : (s : State Bool) → out (opens m.top.faulted s) ≡ rest_of_machine plan child path (with_leaving (k false) s)
       same s = ap (λ (r : Run Item NodeFault S). (r then λ s. (goes_out tree plan outer l.rank s then after_level) then closing) then rest_below) (sym (exec-nil tree plan here (length m.below) (opens m.top.faulted s)))
 
       by_sync : (b : Bool) →
           ((level_end plan child path b outer l.rank (open_state plan child path m) then after_level) then closing) then rest_below
-          ≡ behind (effect_items (level_move plan path (k b) l ls b).items) (shown plan child path (level_move plan path (k b) l ls b).items (level_move plan path (k b) l ls b).ending)
+          ≡ after_items (effect_items (level_move plan path (k b) l ls b).items) (shown plan child path (level_move plan path (k b) l ls b).items (level_move plan path (k b) l ls b).ending)
       by_sync true = out-is (state_of m)
       by_sync false =
           let s : S = open_state plan child path m in

@@ -35,7 +35,7 @@ use Rattle.strand_meaning.specs.Clear.{IsWithin, IsApart, IsClear, Simple, Branc
 use Rattle.strand_meaning.specs.Machine.{Destination, Spawned, Looped, Half, Effect, Emitted, Exit, loop_effects, sync_effects, handing, inside, destination_of, Level, Frame, Machine, Reached, Stands, Gives, state_of, here_of, with_left, into_level, with_leaving, out_of_level, with_returning, with_scalar, back, spawns_in, calling, entered, reached, gives, value_run, statement_move, return_move, level_move, end_move, move_at, move}
 use Rattle.strand_meaning.specs.Trace.{AwaitedChild}
 use Rattle.strand_meaning.specs.Task.{changed, answered, Running, AtSync, stage_after}
-use Rattle.strand_meaning.specs.Sound.{unfilled, is_by, any_by, AreSoundLevels, IsSound, AreSound, IsDestination, AreDestinations, IsHalf, AreHalves, behind_sync, IsSoundStage}
+use Rattle.strand_meaning.specs.Sound.{unfilled, is_by, any_by, AreSoundLevels, IsSound, AreSound, IsDestination, AreDestinations, IsHalf, AreHalves, after_sync, IsSoundStage}
 use Rattle.strand_meaning.proofs.Unfilled.Shown.{effect_parts, same-number}
 use Rattle.strand_meaning.proofs.Unfilled.Keeps.{first-contained, later-contained}
 use Rattle.strand_meaning.specs.Laws.{changed_run}
@@ -269,7 +269,7 @@ module _ (plan : PlanView) (path : List ℕ) (clear-plan : IsClearPlan plan) (pa
             done (r.0, record s { rank = s.rank + 1; spawned = r.1 })
 
         more : List Value → List AwaitedChild
-        more vs = record { child = origin.Instance (number_of (functions_of plan) c.name.bytes) vs (now ++ m.rank ∷ []); place = place; behind = [] } ∷ []
+        more vs = record { child = origin.Instance (number_of (functions_of plan) c.name.bytes) vs (now ++ m.rank ∷ []); place = place; after = [] } ∷ []
 
         none-lower : (vs : List Value) (j : ℕ) → j < height → any_by j (more vs) ≡ false
         none-lower vs j h = ap (λ b. b || false) (not-same j h)
@@ -406,8 +406,8 @@ module _ (plan : PlanView) (path : List ℕ) (clear-plan : IsClearPlan plan) (pa
         next : State Bool
         next = record { env = m.top.env; rank = m.rank + 1; steps = n; spawned = false }
 
-        behind-it : IsSound plan [] height (behind_sync (with_left m left next).top)
-        behind-it = record {
+        after-it : IsSound plan [] height (after_sync (with_left m left next).top)
+        after-it = record {
           clear = (ends, clear);
           spawned = λ e. absurd (clash (sym e));
           faulted = λ e. refl;
@@ -423,7 +423,7 @@ module _ (plan : PlanView) (path : List ℕ) (clear-plan : IsClearPlan plan) (pa
         nothing-by false e h = e
 
         by_spawned : (b : Bool) → m.top.spawned ≡ b → SoundEnd plan parts (Emitted (event.Sync (now ++ m.rank ∷ [])) ∷ (sync_effects b ++ [])) (Ok (Stands (with_left m left next)))
-        by_spawned true h = no-parts (λ ps. IsSoundStage plan ps (AtSync (with_left m left next))) (sound.0, behind-it, sound.2)
+        by_spawned true h = no-parts (λ ps. IsSoundStage plan ps (AtSync (with_left m left next))) (sound.0, after-it, sound.2)
         by_spawned false h = going left next ends (sym h) (subst (λ (l : Names). IsClear l left ends) (sym (none-unfilled height parts (nothing-by (any_by height parts) refl h))) clear) text-more
 
     fine-loop : (target : Option Name) (c : CallText) (lo : ℤ) (hi : ℕ) (vs : List Value) (n : ℕ) → IsClear pending left ends → Fine (looped (what (Looped target)) plan now lo hi vs target c (here n))
@@ -440,14 +440,14 @@ module _ (plan : PlanView) (path : List ℕ) (clear-plan : IsClearPlan plan) (pa
         next = record { env = filled target [] m.top.env; rank = m.rank + 1; steps = n - hi; spawned = m.top.spawned }
 
         more : List AwaitedChild
-        more = record { child = o; place = place; behind = [] } ∷ []
+        more = record { child = o; place = place; after = [] } ∷ []
 
         by_size : (b : Bool) → SoundEnd plan parts (Emitted (event.Loop (now ++ m.rank ∷ [])) ∷ (loop_effects b o place ++ [])) (Ok (Stands (with_left m left next)))
         by_size true = going left next ends refl clear text-more
         by_size false = (
           sound-as plan parts (parts ++ more) height (with_left m left next).top (same-unfilled height parts more refl) (same-any height parts more refl) (top-sound left next ends refl clear text-more),
           sound-more plan parts more height (λ j h. refl) m.top.target m.below (omega arith) sound.2,
-          loop-there target m.top.env height parts sound.0 (record { child = o; place = place; behind = [] }) refl,
+          loop-there target m.top.env height parts sound.0 (record { child = o; place = place; after = [] }) refl,
         )
 
   first-within : (x : List ℕ) (names : Names) → IsApart (x ∷ names) pending → IsApart (x ∷ []) pending

@@ -4,7 +4,7 @@ use Rattle.std.specs.Prelude.{Contains}
 use Rattle.script_grammar.specs.declared.tree.Name.{Name}
 use Rattle.script_grammar.specs.declared.tree.Stmt.{Stmt, out-Stmt}
 use Rattle.script_grammar.specs.declared.tree.Act.{out-Act}
-use Rattle.serial_meaning.specs.Runs.{Run, done, stopped, behind}
+use Rattle.serial_meaning.specs.Runs.{Run, done, stopped, after_items}
 use Rattle.serial_meaning.specs.Plan.{PlanView}
 use Rattle.serial_meaning.specs.Eval.{Evaluation, first_of}
 use Rattle.serial_meaning.specs.Open.{Item, NodeFault, Own, least}
@@ -182,13 +182,13 @@ module _ (plan : PlanView) (child : Origin → Evaluation) (path : List ℕ) (he
 
   -- What remains of an instance is what a move shows, and then what it leaves, with the parts so far and those of the move.
   pub open-move : (m : Machine) → AreFree ps (shape_of m) → ((taken child ps m).top.spawned ≡ false → (taken child ps m).top.faulted ≡ None) → (m.top.leaving ≡ true → m.top.left ≡ []) →
-      rest_open plan child path ps (Running m) ≡ behind (effect_items (move plan path m).items) (shown_with plan child path ps (move plan path m).items (move plan path m).ending)
+      rest_open plan child path ps (Running m) ≡ after_items (effect_items (move plan path m).items) (shown_with plan child path ps (move plan path m).items (move plan path m).ending)
   open-move m free none ended =
       let r = move plan path m in
       ap (λ stage. rest_of_stage plan child path (resumed stage)) (takes-taken child height ps places (Running m))
       ∙ complete-move plan child path (taken child ps m) none (ended-so m ended)
-      ∙ ap (λ (r : Run Effect Fault Reached). behind (effect_items r.items) (shown plan child path r.items r.ending)) (taken-move plan path child ps m free)
-      ∙ ap (behind (effect_items r.items)) (shown-taken r.items r.ending)
+      ∙ ap (λ (r : Run Effect Fault Reached). after_items (effect_items r.items) (shown plan child path r.items r.ending)) (taken-move plan path child ps m free)
+      ∙ ap (after_items (effect_items r.items)) (shown-taken r.items r.ending)
 
 -- what is known of the innermost frame where no child is its own
 

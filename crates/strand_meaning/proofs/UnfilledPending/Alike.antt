@@ -10,7 +10,7 @@ use Rattle.serial_meaning.specs.declared.origin.Origin.{Origin}
 use Rattle.script_grammar.specs.declared.tree.Name.{Name}
 use Rattle.strand_meaning.specs.Clear.{IsApart, target_names}
 use Rattle.strand_meaning.specs.Machine.{Destination, Effect, Opens, Closes, Emitted, Handed, Syncs, Loops, Frame}
-use Rattle.strand_meaning.specs.Trace.{AwaitedChild, Trace, behind_last, emit, emit_at, add_child, with_effects}
+use Rattle.strand_meaning.specs.Trace.{AwaitedChild, Trace, after_last, emit, emit_at, add_child, with_effects}
 use Rattle.strand_meaning.specs.Task.{InstanceState, Running, AtSync, AtLoop, Ended, takes, takes_all}
 use Rattle.strand_meaning.specs.Rest.{evaluations}
 use Rattle.strand_meaning.specs.Sound.{unfilled_by, unfilled, is_by, any_by, AreSound, AreDestinations, AreHalves, TargetsAreThere, IsSoundStage, AreParts}
@@ -20,11 +20,11 @@ use Rattle.strand_meaning.proofs.Unfilled.SoundMoves.{sound-as}
 pub data Alike : List AwaitedChild → List AwaitedChild → Type 0 where
   End : Alike [] []
   Next : {ps qs : List AwaitedChild} (child : Origin) (place : Destination) (before after : List Event) → Alike ps qs →
-      Alike (record { child = child; place = place; behind = before } ∷ ps) (record { child = child; place = place; behind = after } ∷ qs)
+      Alike (record { child = child; place = place; after = before } ∷ ps) (record { child = child; place = place; after = after } ∷ qs)
 
 pub alike-itself : (ps : List AwaitedChild) → Alike ps ps
 alike-itself [] = End
-alike-itself (p ∷ ps) = Next p.child p.place p.behind p.behind (alike-itself ps)
+alike-itself (p ∷ ps) = Next p.child p.place p.after p.after (alike-itself ps)
 
 pub alike-then : {ps qs rs : List AwaitedChild} → Alike ps qs → Alike qs rs → Alike ps rs
 alike-then End b = b
@@ -34,16 +34,16 @@ alike-append : {ps qs : List AwaitedChild} (rs : List AwaitedChild) → Alike ps
 alike-append rs End = alike-itself rs
 alike-append rs (Next child place before after a) = Next child place before after (alike-append rs a)
 
-alike-behind : (p : AwaitedChild) (ps : List AwaitedChild) (e : Event) → Alike (p ∷ ps) (behind_last p ps e)
-alike-behind p [] e = Next p.child p.place p.behind (p.behind ++ e ∷ []) End
-alike-behind p (q ∷ qs) e = Next p.child p.place p.behind p.behind (alike-behind q qs e)
+alike-after : (p : AwaitedChild) (ps : List AwaitedChild) (e : Event) → Alike (p ∷ ps) (after_last p ps e)
+alike-after p [] e = Next p.child p.place p.after (p.after ++ e ∷ []) End
+alike-after p (q ∷ qs) e = Next p.child p.place p.after p.after (alike-after q qs e)
 
 alike-emit : (e : Event) (trace : Trace) → Alike trace.handed (emit e trace).handed
 alike-emit e trace = from trace.handed
   where
     from : (ps : List AwaitedChild) → Alike ps (emit_at ps e (record trace { handed = ps })).handed
     from [] = End
-    from (p ∷ ps) = alike-behind p ps e
+    from (p ∷ ps) = alike-after p ps e
 
 -- what a move shows stands after the parts
 pub alike-effects : (ts : List Effect) (trace : Trace) → Alike (trace.handed ++ effect_parts ts) (with_effects ts trace).handed
@@ -52,7 +52,7 @@ alike-effects (Opens j ∷ ts) trace = alike-effects ts trace
 alike-effects (Closes j ∷ ts) trace = alike-effects ts trace
 alike-effects (Emitted e ∷ ts) trace = alike-then (alike-append (effect_parts ts) (alike-emit e trace)) (alike-effects ts (emit e trace))
 alike-effects (Handed o place ∷ ts) trace =
-    subst (λ (l : List AwaitedChild). Alike l (with_effects ts (add_child o place trace)).handed) (append_assoc trace.handed (record { child = o; place = place; behind = [] } ∷ []) (effect_parts ts)) (alike-effects ts (add_child o place trace))
+    subst (λ (l : List AwaitedChild). Alike l (with_effects ts (add_child o place trace)).handed) (append_assoc trace.handed (record { child = o; place = place; after = [] } ∷ []) (effect_parts ts)) (alike-effects ts (add_child o place trace))
 alike-effects (Syncs ∷ ts) trace = alike-effects ts trace
 alike-effects (Loops ∷ ts) trace = alike-effects ts trace
 

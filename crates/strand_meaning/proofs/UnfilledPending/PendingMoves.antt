@@ -44,7 +44,7 @@ use Rattle.strand_meaning.proofs.Unfilled.Clears.{none-contained, unfilled-appen
 use Rattle.strand_meaning.proofs.Unfilled.Variables.{is-itself}
 use Rattle.strand_meaning.proofs.ClearPlans.FreeNames.{single-name}
 use Rattle.strand_meaning.proofs.Unfilled.SoundMoves.{same-unfilled}
-use Rattle.strand_meaning.proofs.UnfilledPending.Standing.{told, after-as, at-within, StandsOn, stands-on, stands-in, stands-out}
+use Rattle.strand_meaning.proofs.UnfilledPending.Standing.{names_after, after-as, at-within, StandsOn, stands-on, stands-in, stands-out}
 
 clash : true ≡ false → ⊥
 clash h = absurd (cc)
@@ -81,7 +81,7 @@ below-more plan ps qs height none below h p = below-fewer plan ps (ps ++ qs) hei
 
 -- A statement that its frame stood still at, and which kept all that was pending, is passed.
 abbrev Keeps : (Act-F Act Stmt → Type 0) → Type 0
-Keeps IsSuch = (d : Act-F Act Stmt) → IsSuch d → (set : check.Names) → check.IsWithin (judged_by d set) (told d set)
+Keeps IsSuch = (d : Act-F Act Stmt) → IsSuch d → (set : check.Names) → check.IsWithin (judged_by d set) (names_after d set)
 
 call-keeps : Keeps IsCall
 call-keeps (act.Let x (right.Value e)) i set name h = absurd i
@@ -206,7 +206,7 @@ module _ (plan : PlanView) (path : List ℕ) (parts : List AwaitedChild) (m : Ma
             done (r.0, record s { rank = s.rank + 1; spawned = r.1 })
 
         more : List Value → List AwaitedChild
-        more vs = record { child = origin.Instance (number_of (functions_of plan) c.name.bytes) vs (now ++ m.rank ∷ []); place = place; behind = [] } ∷ []
+        more vs = record { child = origin.Instance (number_of (functions_of plan) c.name.bytes) vs (now ++ m.rank ∷ []); place = place; after = [] } ∷ []
 
         none-lower : (vs : List Value) (j : ℕ) → j < height → any_by j (more vs) ≡ false
         none-lower vs j h = ap (λ b. b || false) (not-same j h)
@@ -354,7 +354,7 @@ module _ (plan : PlanView) (path : List ℕ) (parts : List AwaitedChild) (m : Ma
         next = record { env = filled target [] m.top.env; rank = m.rank + 1; steps = n - hi; spawned = m.top.spawned }
 
         more : List AwaitedChild
-        more = record { child = o; place = place; behind = [] } ∷ []
+        more = record { child = o; place = place; after = [] } ∷ []
 
         by_size : (b : Bool) → PendingEnd plan parts (Emitted (event.Loop (now ++ m.rank ∷ [])) ∷ (loop_effects b o place ++ [])) (Ok (Stands (with_left m left next)))
         by_size true = going w next
@@ -374,7 +374,7 @@ module _ (plan : PlanView) (path : List ℕ) (parts : List AwaitedChild) (m : Ma
     judged : AreIn pending (judged_by d set)
     judged = subst (λ (c : Act-F Act Stmt). AreIn pending (judged_by c set)) same top.pending
 
-    after-it : (names : Names) → AreIn names (told d set) → AreIn names ((judge st).after set)
+    after-it : (names : Names) → AreIn names (names_after d set) → AreIn names ((judge st).after set)
     after-it names w name h = ap (λ (s : check.Names). s name) (after-as st d same set) ∙ w name h
 
     such : (IsSuch : Act-F Act Stmt → Type 0) → IsSuch d → IsSuch (act_of st)

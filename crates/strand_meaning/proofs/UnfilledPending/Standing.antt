@@ -19,17 +19,17 @@ or-right true b h = refl
 or-right false b h = h
 
 -- what is pending after a statement, by what it does
-abbrev pub told : Act-F Act Stmt → check.Names → check.Names
-told d p = (judge_act (map-Act Act Stmt (ℕ → Judged) Judged judge_what judge d) 0).after p
+abbrev pub names_after : Act-F Act Stmt → check.Names → check.Names
+names_after d p = (judge_act (map-Act Act Stmt (ℕ → Judged) Judged judge_what judge d) 0).after p
 
-pub after-told : (st : Stmt) (p : check.Names) → (judge st).after p ≡ told (act_of st) p
-after-told st p =
+pub after-names : (st : Stmt) (p : check.Names) → (judge st).after p ≡ names_after (act_of st) p
+after-names st p =
     ap (λ (j : Judged). j.after p)
     (fold_out-Stmt (ℕ → Judged) Judged judge_act (λ s. s.act s.at) st
     ∙ ap (λ (f : ℕ → Judged). f (out-Stmt st).at) (fold_out-Act (ℕ → Judged) Judged judge_act (λ s. s.act s.at) (out-Stmt st).act))
 
-pub after-as : (st : Stmt) (d : Act-F Act Stmt) → act_of st ≡ d → (p : check.Names) → (judge st).after p ≡ told d p
-after-as st d e p = after-told st p ∙ ap (λ (c : Act-F Act Stmt). told c p) e
+pub after-as : (st : Stmt) (d : Act-F Act Stmt) → act_of st ≡ d → (p : check.Names) → (judge st).after p ≡ names_after d p
+after-as st d e p = after-names st p ∙ ap (λ (c : Act-F Act Stmt). names_after c p) e
 
 set-within : (p q r : check.Names) → q ≡ r → check.IsWithin p r → check.IsWithin p q
 set-within p q r e w = subst (check.IsWithin p) (sym e) w

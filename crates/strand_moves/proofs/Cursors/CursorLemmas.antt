@@ -8,7 +8,7 @@ use Rattle.script_grammar.specs.declared.tree.Act.{out-Act}
 use Rattle.strand_moves.specs.declared.cursor.Branch.TheVariants as branch
 use Rattle.strand_moves.specs.declared.cursor.Entered.{Entered}
 use Rattle.strand_moves.specs.declared.cursor.Cursor.{Cursor}
-use Rattle.strand_moves.specs.Cursors.{branch_of, branch_at, place_before, block_in, block_of, behind_of, left_of, IsBehind, PassesStatement}
+use Rattle.strand_moves.specs.Cursors.{branch_of, branch_at, place_before, block_in, block_of, left_around, left_of, IsAfterStatement, PassesStatement}
 
 -- where no block is entered, none can be left
 pub nothing-there : (es : List Entered) → (0 < length es → IsSome {T = Entered} None) → es ≡ []
@@ -25,28 +25,28 @@ module _ {A : Type 0} (items : List A) (len : ℕ) (there : len ≡ length items
 
 -- what is left where these blocks are entered, from this place in the innermost one on
 abbrev pub rest_of : List Stmt → List Entered → ℕ → List Stmt
-rest_of body es n = drop n (block_of body es) ++ behind_of body es
+rest_of body es n = drop n (block_of body es) ++ left_around body es
 
 pub block_of-more : (body : List Stmt) (es : List Entered) (e : Entered) → block_of body (es ++ e ∷ []) ≡ block_in (block_of body es) e
 block_of-more body [] e = refl
 block_of-more body (f ∷ es) e = block_of-more (block_in body f) es e
 
-pub behind_of-more : (body : List Stmt) (es : List Entered) (e : Entered) → behind_of body (es ++ e ∷ []) ≡ rest_of body es e.back
-behind_of-more body [] e = sym (append-nil (drop e.back body))
-behind_of-more body (f ∷ es) e =
-    ap (λ (l : List Stmt). l ++ drop f.back body) (behind_of-more (block_in body f) es e)
-    ∙ append_assoc (drop e.back (block_of (block_in body f) es)) (behind_of (block_in body f) es) (drop f.back body)
+pub left_around-more : (body : List Stmt) (es : List Entered) (e : Entered) → left_around body (es ++ e ∷ []) ≡ rest_of body es e.back
+left_around-more body [] e = sym (append-nil (drop e.back body))
+left_around-more body (f ∷ es) e =
+    ap (λ (l : List Stmt). l ++ drop f.back body) (left_around-more (block_in body f) es e)
+    ∙ append_assoc (drop e.back (block_of (block_in body f) es)) (left_around (block_in body f) es) (drop f.back body)
 
 pub rest-left : (body : List Stmt) (es : List Entered) (e : Entered) (n : ℕ) → length (block_of body (es ++ e ∷ [])) ≤ n → rest_of body (es ++ e ∷ []) n ≡ rest_of body es e.back
 rest-left body es e n h =
-    ap (λ (l : List Stmt). l ++ behind_of body (es ++ e ∷ [])) (drop_all n (block_of body (es ++ e ∷ [])) h) ∙ behind_of-more body es e
+    ap (λ (l : List Stmt). l ++ left_around body (es ++ e ∷ [])) (drop_all n (block_of body (es ++ e ∷ [])) h) ∙ left_around-more body es e
 
 pub rest-ended : (body : List Stmt) (n : ℕ) → length body ≤ n → rest_of body [] n ≡ []
 rest-ended body n h = append-nil (drop n body) ∙ drop_all n body h
 
 pub rest-entered : (body : List Stmt) (es : List Entered) (e : Entered) → rest_of body (es ++ e ∷ []) 0 ≡ block_in (block_of body es) e ++ rest_of body es e.back
 rest-entered body es e =
-    ap (λ (l : List Stmt). l ++ behind_of body (es ++ e ∷ [])) (block_of-more body es e) ∙ ap (λ (l : List Stmt). block_in (block_of body es) e ++ l) (behind_of-more body es e)
+    ap (λ (l : List Stmt). l ++ left_around body (es ++ e ∷ [])) (block_of-more body es e) ∙ ap (λ (l : List Stmt). block_in (block_of body es) e ++ l) (left_around-more body es e)
 
 pub branch-there : (block : List Stmt) (e : Entered) (st : Stmt) → slice_get block (place_before e.branch e.back) ≡ Some st → block_in block e ≡ branch_of (out-Act (out-Stmt st).act) e.branch
 branch-there block e st h = ap (λ (s : Option Stmt). branch_at s e.branch) h
@@ -56,7 +56,7 @@ drop-next block n st h =
     drop_more block n st (slice_get_within block n st h) ∙ ap (λ (s : Stmt). s ∷ drop (n + 1) block) (get_or_from_slice_get block n st st h)
 
 rest-next : (body : List Stmt) (es : List Entered) (n : ℕ) (st : Stmt) → slice_get (block_of body es) n ≡ Some st → rest_of body es n ≡ st ∷ rest_of body es (n + 1)
-rest-next body es n st h = ap (λ (l : List Stmt). l ++ behind_of body es) (drop-next (block_of body es) n st h)
+rest-next body es n st h = ap (λ (l : List Stmt). l ++ left_around body es) (drop-next (block_of body es) n st h)
 
 -- back to the statement that stands before this place
 rest-back : (body : List Stmt) (es : List Entered) (n : ℕ) (st : Stmt) → 0 < n → slice_get (block_of body es) (n - 1) ≡ Some st → rest_of body es (n - 1) ≡ st ∷ rest_of body es n
@@ -75,22 +75,22 @@ pub left-is : (body : List Stmt) (c : Cursor) → rest_of body c.entered.items c
 unfolding left_of
 left-is body c = refl
 
-pub left-branch : (body : List Stmt) (c d : Cursor) (st : Stmt) (yes : Bool) → IsBehind body c st → d.entered.items ≡ c.entered.items ++ record { branch = if yes then branch.Yes else branch.No; back = c.next } ∷ [] → d.next ≡ 0 →
+pub left-branch : (body : List Stmt) (c d : Cursor) (st : Stmt) (yes : Bool) → IsAfterStatement body c st → d.entered.items ≡ c.entered.items ++ record { branch = if yes then branch.Yes else branch.No; back = c.next } ∷ [] → d.next ≡ 0 →
     left_of body d ≡ branch_of (out-Act (out-Stmt st).act) (if yes then branch.Yes else branch.No) ++ left_of body c
-left-branch body c d st true behind h k =
-    left-entered body c d (record { branch = branch.Yes; back = c.next }) st h k behind.there ∙ ap (λ (l : List Stmt). branch_of (out-Act (out-Stmt st).act) branch.Yes ++ l) (left-is body c)
-left-branch body c d st false behind h k =
-    left-entered body c d (record { branch = branch.No; back = c.next }) st h k behind.there ∙ ap (λ (l : List Stmt). branch_of (out-Act (out-Stmt st).act) branch.No ++ l) (left-is body c)
+left-branch body c d st true after h k =
+    left-entered body c d (record { branch = branch.Yes; back = c.next }) st h k after.there ∙ ap (λ (l : List Stmt). branch_of (out-Act (out-Stmt st).act) branch.Yes ++ l) (left-is body c)
+left-branch body c d st false after h k =
+    left-entered body c d (record { branch = branch.No; back = c.next }) st h k after.there ∙ ap (λ (l : List Stmt). branch_of (out-Act (out-Stmt st).act) branch.No ++ l) (left-is body c)
 
-pub left-turn : (body : List Stmt) (c d : Cursor) (st : Stmt) → IsBehind body c st → d.entered.items ≡ c.entered.items ++ record { branch = branch.LoopBody; back = c.next - 1 } ∷ [] → d.next ≡ 0 →
+pub left-turn : (body : List Stmt) (c d : Cursor) (st : Stmt) → IsAfterStatement body c st → d.entered.items ≡ c.entered.items ++ record { branch = branch.LoopBody; back = c.next - 1 } ∷ [] → d.next ≡ 0 →
     left_of body d ≡ branch_of (out-Act (out-Stmt st).act) branch.LoopBody ++ (st ∷ left_of body c)
-left-turn body c d st behind h k =
-    left-entered body c d (record { branch = branch.LoopBody; back = c.next - 1 }) st h k behind.there
-    ∙ ap (λ (l : List Stmt). branch_of (out-Act (out-Stmt st).act) branch.LoopBody ++ l) (rest-back body c.entered.items c.next st behind.some behind.there ∙ ap (λ (l : List Stmt). st ∷ l) (left-is body c))
+left-turn body c d st after h k =
+    left-entered body c d (record { branch = branch.LoopBody; back = c.next - 1 }) st h k after.there
+    ∙ ap (λ (l : List Stmt). branch_of (out-Act (out-Stmt st).act) branch.LoopBody ++ l) (rest-back body c.entered.items c.next st after.some after.there ∙ ap (λ (l : List Stmt). st ∷ l) (left-is body c))
 
-pub left-back : (body : List Stmt) (c d : Cursor) (st : Stmt) → IsBehind body c st → d.entered.items ≡ c.entered.items → d.next ≡ c.next - 1 → left_of body d ≡ st ∷ left_of body c
+pub left-back : (body : List Stmt) (c d : Cursor) (st : Stmt) → IsAfterStatement body c st → d.entered.items ≡ c.entered.items → d.next ≡ c.next - 1 → left_of body d ≡ st ∷ left_of body c
 unfolding left_of
-left-back body c d st behind h k = rw (h, k) (rest-back body c.entered.items c.next st behind.some behind.there)
+left-back body c d st after h k = rw (h, k) (rest-back body c.entered.items c.next st after.some after.there)
 
 -- after the next statement
 pub passes : (body : List Stmt) (c d : Cursor) (st : Stmt) → slice_get (block_of body c.entered.items) c.next ≡ Some st → d.entered.items ≡ c.entered.items → d.next ≡ c.next + 1 → PassesStatement body c d st
@@ -99,7 +99,7 @@ passes body c d st there h k =
     let back : c.next + 1 - 1 ≡ c.next = omega arith in
     record {
       first = rw (h, k) (rest-next body c.entered.items c.next st there);
-      behind = record { some = omega arith; there = rw (h, k, back) there };
+      after = record { some = omega arith; there = rw (h, k, back) there };
     }
 
 -- a block that is left, since nothing of it is left

@@ -17,7 +17,7 @@ use Rattle.strand_moves.specs.declared.cursor.Entered.{Entered}
 use Rattle.strand_moves.specs.declared.frame.Frame.{Frame}
 use Rattle.strand_moves.specs.declared.frame.Level.{Level}
 use Rattle.strand_moves.specs.declared.running.Running.{Running}
-use Rattle.strand_moves.specs.Cursors.{IsBehind, block_in, block_of, branch_at, branch_of, place_before, scope_at, scope_of}
+use Rattle.strand_moves.specs.Cursors.{IsAfterStatement, block_in, block_of, branch_at, branch_of, place_before, scope_at, scope_of}
 use Rattle.strand_moves.specs.Found.{ArePlaces, FindsStatement}
 use Rattle.strand_moves.specs.Running.{AreNamed, IsNamed, block_inside, body_in, body_of, statements_of}
 
@@ -121,12 +121,12 @@ module _ (plan : PlanView) (places : List ℕ) (a : Frame) (all : ArePlaces plac
       ∙ ap (λ (ns : List (List ℕ)). every_in_block (has_place places ns) named.function.body) named.names
       ∙ own
 
-  pub statement-found : (st : Stmt) → IsBehind (statements_of plan a) a.cursor st → FindsStatement places a.env st
-  statement-found st behind =
+  pub statement-found : (st : Stmt) → IsAfterStatement (statements_of plan a) a.cursor st → FindsStatement places a.env st
+  statement-found st after =
       one-of (every_in_statement has_own) (block_of (statements_of plan a) a.cursor.entered.items) (a.cursor.next - 1) st
       (block-found has_own (statements_of plan a) a.cursor.entered.items (inside-found has_own (body_of plan a.function) (reverse a.levels.items) body-found))
-      behind.there
+      after.there
 
 -- the same of an instance's innermost frame
-pub next-found : (plan : PlanView) (places : List ℕ) (i : Running) → ArePlaces places plan → AreNamed plan i → (st : Stmt) → IsBehind (statements_of plan i.top) i.top.cursor st → FindsStatement places i.top.env st
-next-found plan places i all named st behind = statement-found plan places i.top all (All-head (IsNamed plan) i.top i.below.items named.each) st behind
+pub next-found : (plan : PlanView) (places : List ℕ) (i : Running) → ArePlaces places plan → AreNamed plan i → (st : Stmt) → IsAfterStatement (statements_of plan i.top) i.top.cursor st → FindsStatement places i.top.env st
+next-found plan places i all named st after = statement-found plan places i.top all (All-head (IsNamed plan) i.top i.below.items named.each) st after

@@ -10,7 +10,7 @@ use Rattle.strand_moves.specs.declared.cursor.Cursor.{Cursor}
 use Rattle.strand_moves.specs.declared.running.Running.{Running}
 use Rattle.strand_moves.specs.declared.effects.MoveResult.{MoveResult}
 use Rattle.strand_moves.specs.declared.effects.MoveResult.TheVariants as moved
-use Rattle.strand_moves.specs.declared.effects.Effects.TheVariants as shown
+use Rattle.strand_moves.specs.declared.effects.Effects.TheVariants as effect
 use Rattle.strand_moves.specs.Acts.{Costs, Stays}
 use Rattle.strand_moves.specs.Cursors.{left_of, PassesStatement}
 use Rattle.strand_moves.specs.Moves.{acted, run_of}
@@ -54,7 +54,7 @@ module _ (plan : PlanView) (i : Running) where
 
     pub passed-has : (next : Option Stmt) → IsInstance plan i → IsNextStatement (statements_of plan i.top) i.top.cursor cursor next → HasPassedStatement plan passed_by next
     passed-has None sound h = h.1
-    passed-has (Some st) sound h = (passed-on plan i _ _ sound h.first, h.behind)
+    passed-has (Some st) sound h = (passed-on plan i _ _ sound h.first, h.after)
 
 -- where moves in a row came to
 module _ {S : Type 0} (after : Event → S → S) (plan : PlanView) (first : Running) (start : S) (now : Running) (sent : S) (next : Option Stmt) (h : Comes after plan first start now sent next) where
@@ -134,7 +134,7 @@ module _ {S : Type 0} (after : Event → S → S) (plan : PlanView) (first : Run
   paid-named : KeepsNames plan i paid
   paid-named = top-named plan i paid refl refl refl refl
 
-  sent-on : (new : Running) (heard : S) (e : Event) → heard ≡ after e sent → acted plan (present_of paid) (machine_of plan paid) st (out-Act (out-Stmt st).act) ≡ run_of (moved.Went (shown.Emitted e)) (machine_of plan new) →
+  sent-on : (new : Running) (heard : S) (e : Event) → heard ≡ after e sent → acted plan (present_of paid) (machine_of plan paid) st (out-Act (out-Stmt st).act) ≡ run_of (moved.Went (effect.Emitted e)) (machine_of plan new) →
       KeepsNames plan paid new → Stays paid new → Costs paid new → RowOn after plan first start i new heard
   sent-on new heard e is acts named stays few =
       let alike : Stays i new = record { trail = stays.trail; scopes = stays.scopes; leaving = stays.leaving } in
@@ -146,14 +146,14 @@ module _ {S : Type 0} (after : Event → S → S) (plan : PlanView) (first : Run
         path = path;
       }
 
-  pub row-sent : (before : Running) → before ≡ paid → (new : Running) (heard : S) (e : Event) → heard ≡ after e sent → acted plan (present_of before) (machine_of plan before) st (out-Act (out-Stmt st).act) ≡ run_of (moved.Went (shown.Emitted e)) (machine_of plan new) →
+  pub row-sent : (before : Running) → before ≡ paid → (new : Running) (heard : S) (e : Event) → heard ≡ after e sent → acted plan (present_of before) (machine_of plan before) st (out-Act (out-Stmt st).act) ≡ run_of (moved.Went (effect.Emitted e)) (machine_of plan new) →
       KeepsNames plan before new → Stays before new → Costs before new → RowOn after plan first start i new heard
   row-sent before same new heard e is acts named stays few =
       sent-on new heard e is
-      (subst (λ (x : Running). acted plan (present_of x) (machine_of plan x) st (out-Act (out-Stmt st).act) ≡ run_of (moved.Went (shown.Emitted e)) (machine_of plan new)) same acts)
+      (subst (λ (x : Running). acted plan (present_of x) (machine_of plan x) st (out-Act (out-Stmt st).act) ≡ run_of (moved.Went (effect.Emitted e)) (machine_of plan new)) same acts)
       (subst (λ (x : Running). KeepsNames plan x new) same named) (subst (λ (x : Running). Stays x new) same stays) (subst (λ (x : Running). Costs x new) same few)
 
-  called-on : (new : Running) (heard : S) → heard ≡ sent → acted plan (present_of paid) (machine_of plan paid) st (out-Act (out-Stmt st).act) ≡ run_of (moved.Went shown.Nothing) (machine_of plan new) →
+  called-on : (new : Running) (heard : S) → heard ≡ sent → acted plan (present_of paid) (machine_of plan paid) st (out-Act (out-Stmt st).act) ≡ run_of (moved.Went effect.Nothing) (machine_of plan new) →
       KeepsNames plan paid new → Stays paid new → Costs paid new → RowOn after plan first start i new heard
   called-on new heard is acts named stays few =
       let alike : Stays i new = record { trail = stays.trail; scopes = stays.scopes; leaving = stays.leaving } in
@@ -165,9 +165,9 @@ module _ {S : Type 0} (after : Event → S → S) (plan : PlanView) (first : Run
         path = path;
       }
 
-  pub row-called : (before : Running) → before ≡ paid → (new : Running) (heard : S) → heard ≡ sent → acted plan (present_of before) (machine_of plan before) st (out-Act (out-Stmt st).act) ≡ run_of (moved.Went shown.Nothing) (machine_of plan new) →
+  pub row-called : (before : Running) → before ≡ paid → (new : Running) (heard : S) → heard ≡ sent → acted plan (present_of before) (machine_of plan before) st (out-Act (out-Stmt st).act) ≡ run_of (moved.Went effect.Nothing) (machine_of plan new) →
       KeepsNames plan before new → Stays before new → Costs before new → RowOn after plan first start i new heard
   row-called before same new heard is acts named stays few =
       called-on new heard is
-      (subst (λ (x : Running). acted plan (present_of x) (machine_of plan x) st (out-Act (out-Stmt st).act) ≡ run_of (moved.Went shown.Nothing) (machine_of plan new)) same acts)
+      (subst (λ (x : Running). acted plan (present_of x) (machine_of plan x) st (out-Act (out-Stmt st).act) ≡ run_of (moved.Went effect.Nothing) (machine_of plan new)) same acts)
       (subst (λ (x : Running). KeepsNames plan x new) same named) (subst (λ (x : Running). Stays x new) same stays) (subst (λ (x : Running). Costs x new) same few)

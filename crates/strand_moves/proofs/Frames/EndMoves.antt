@@ -10,12 +10,12 @@ use Rattle.strand_values.specs.declared.halt.Halt as values
 use Rattle.strand_values.specs.declared.halt.Halt.TheVariants as halt
 use Rattle.strand_moves.specs.declared.frame.Level.{Level}
 use Rattle.strand_moves.specs.declared.running.Running.{Running}
-use Rattle.strand_moves.specs.declared.effects.Effects.TheVariants as shown
+use Rattle.strand_moves.specs.declared.effects.Effects.TheVariants as effect
 use Rattle.strand_moves.specs.declared.effects.MoveResult.TheVariants as moved
 use Rattle.strand_moves.specs.Acts.{StaysUnlessMemory, Stays}
 use Rattle.strand_moves.specs.Cursors.{left_of}
 use Rattle.strand_moves.specs.Moves.{Makes, present_pedigree, run_of}
-use Rattle.strand_moves.specs.Quick.{EndsFrame, IsEmittedTo, IsSentMove, IsWent, Shortens, quiet, told}
+use Rattle.strand_moves.specs.Quick.{EndsFrame, IsEmittedTo, IsSentMove, IsWent, Shortens, quiet, emitted_if_any}
 use Rattle.strand_moves.specs.Running.{IsInstance, KeepsNames, body_of, levels_of, machine_of, open_scopes, path_of, present_of, statements_of}
 use Rattle.strand_moves.proofs.OpenScopes.Keeping.{same-path, stays-instance}
 
@@ -28,11 +28,11 @@ returning-stays old new is =
     record { trail = ap (λ (x : Running). x.trail) is; scopes = ap (λ (x : Running). open_scopes x) is; leaving = ap (λ (x : Running). x.leaving) is }
 
 -- what a return keeps, by what it told
-pub told-stands : (old new : Running) (done : Result (Option Event) values.Halt) → OnOk done (IsReturning old new) → ((kind : FaultKind) → done ≡ Err (halt.Fault kind) → new ≡ old) → StaysUnlessMemory old new (told done)
-told-stands old new (Ok None) is same = returning-stays old new is
-told-stands old new (Ok (Some e)) is same = returning-stays old new is
-told-stands old new (Err (halt.Fault kind)) is same = subst (λ (x : Running). Stays old x) (sym (same kind refl)) (record { trail = refl; scopes = refl; leaving = refl })
-told-stands old new (Err halt.Memory) is same = tt
+pub emitted_if_any-stands : (old new : Running) (done : Result (Option Event) values.Halt) → OnOk done (IsReturning old new) → ((kind : FaultKind) → done ≡ Err (halt.Fault kind) → new ≡ old) → StaysUnlessMemory old new (emitted_if_any done)
+emitted_if_any-stands old new (Ok None) is same = returning-stays old new is
+emitted_if_any-stands old new (Ok (Some e)) is same = returning-stays old new is
+emitted_if_any-stands old new (Err (halt.Fault kind)) is same = subst (λ (x : Running). Stays old x) (sym (same kind refl)) (record { trail = refl; scopes = refl; leaving = refl })
+emitted_if_any-stands old new (Err halt.Memory) is same = tt
 
 -- by what the call at a frame's end answered
 module _ {S : Type 0} (after : Event → S → S) (plan : PlanView) (old new : Running) (from to : S) where
@@ -71,10 +71,10 @@ module _ (plan : PlanView) (i : Running) (h : IsInstance plan i) (on : i.leaving
       shorter : Shortens i new
       shorter = let frames = ap (λ (x : Running). length x.below.items) is in omega (arith, paid, frames)
 
-      pub returned-alone : return_move plan (path_of i) (machine_of plan i) false ≡ run_of (moved.Went shown.Nothing) (machine_of plan new) → to ≡ from → EndsFrame after plan i from new to true
+      pub returned-alone : return_move plan (path_of i) (machine_of plan i) false ≡ run_of (moved.Went effect.Nothing) (machine_of plan new) → to ≡ from → EndsFrame after plan i from new to true
       returned-alone moves still = ends (returning-stays i new is) (inl (ends-by false off ∙ moves, still)) shorter
 
-      pub returned-sent : {E : Type 0} (e : Event) (sent : Result Bool E) → return_move plan (path_of i) (machine_of plan i) false ≡ run_of (moved.Went (shown.Emitted e)) (machine_of plan new) → IfOk sent (IsEmittedTo after (Ok e) from to) →
+      pub returned-sent : {E : Type 0} (e : Event) (sent : Result Bool E) → return_move plan (path_of i) (machine_of plan i) false ≡ run_of (moved.Went (effect.Emitted e)) (machine_of plan new) → IfOk sent (IsEmittedTo after (Ok e) from to) →
           IfOk sent (EndsFrame after plan i from new to)
       returned-sent e (Ok sent) moves w = subst (EndsFrame after plan i from new to) (sym w.0) (ends (returning-stays i new is) (inr (e, ends-by false off ∙ moves, w.1)) shorter)
       returned-sent e (Err x) moves w = tt

@@ -19,7 +19,7 @@ use Rattle.strand_meaning.specs.Machine.{Spawned, Emitted, Handed, with_scalar}
 use Rattle.strand_values.specs.Environments.{EnvironmentView, with_variables}
 use Rattle.strand_moves.specs.declared.running.Running.{Running}
 use Rattle.strand_moves.specs.declared.effects.Effects.{Effects}
-use Rattle.strand_moves.specs.declared.effects.Effects.TheVariants as shown
+use Rattle.strand_moves.specs.declared.effects.Effects.TheVariants as effect
 use Rattle.strand_moves.specs.Acts.{loop_begins}
 use Rattle.strand_moves.specs.Running.{machine_of, present_of}
 use Rattle.strand_moves.specs.Moves.{acted, spawn_to, effects_of}
@@ -53,13 +53,13 @@ module _ (plan : PlanView) (i : Running) (st : Stmt) where
     left : i.steps - n ≡ steps
     left = omega arith
 
-    pub looped-none : n ≡ 0 → (s : Effects) (passed : Running) → s ≡ shown.Emitted (event.Loop (strand_at begun)) → passed ≡ passed_on →
+    pub looped-none : n ≡ 0 → (s : Effects) (passed : Running) → s ≡ effect.Emitted (event.Loop (strand_at begun)) → passed ≡ passed_on →
         acted plan (present_of i) (machine_of plan i) st (act.Pfor var lo hi target c) ≡ went (effects_of s) (machine_of plan passed)
     looped-none none s passed e p =
         rw (e, p, is-begun, ← left) (pfor-none plan (present_of i) (machine_of plan i) st var lo hi target c l h vs n known-lo known-hi known-args counted none begins)
 
     pub looped-some : 0 < n → (s : Effects) (passed : Running) (function : ℕ) (first : ℤ) (path : List ℕ) (trail : Trail) → function ≡ number_of (functions_of plan) c.name.bytes → first ≡ number l → path ≡ strand_at begun →
-        s ≡ shown.Looped (event.Loop (strand_at begun)) (record { child = record { origin = origin.Loop function vs first path (record { lo = 0; hi = n }); trail = trail }; target = target }) → passed ≡ passed_on →
+        s ≡ effect.Looped (event.Loop (strand_at begun)) (record { child = record { origin = origin.Loop function vs first path (record { lo = 0; hi = n }); trail = trail }; target = target }) → passed ≡ passed_on →
         acted plan (present_of i) (machine_of plan i) st (act.Pfor var lo hi target c) ≡ went (effects_of s) (machine_of plan passed)
     looped-some some s passed function first path trail f g a e p =
         rw (e, p, f, g, a, is-begun, ← left) (pfor-some plan (present_of i) (machine_of plan i) st var lo hi target c l h vs n known-lo known-hi known-args counted some begins)

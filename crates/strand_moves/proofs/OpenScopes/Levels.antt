@@ -16,7 +16,7 @@ use Rattle.strand_moves.specs.declared.frame.Level.{Level}
 use Rattle.strand_moves.specs.declared.cursor.Cursor.{Cursor}
 use Rattle.strand_moves.specs.declared.running.Running.{Running}
 use Rattle.strand_moves.specs.Acts.{GoesIn, IsKept}
-use Rattle.strand_moves.specs.Cursors.{IsBehind, left_of, scope_after, scope_at, scope_of}
+use Rattle.strand_moves.specs.Cursors.{IsAfterStatement, left_of, scope_after, scope_at, scope_of}
 use Rattle.strand_moves.specs.Moves.{acted}
 use Rattle.strand_moves.proofs.Frames.CallLemmas.{is_below}
 use Rattle.strand_moves.specs.Running.{AreAround, IsInstance, body_of, block_inside, levels_of, machine_of, open_scopes, path_around, path_of, present_of, ranks_after, scopes_of, statements_of}
@@ -161,8 +161,8 @@ module _ (plan : PlanView) (i : Running) (h : IsInstance plan i) where
 
 -- Into a scope
 
-scope-there : (body : List Stmt) (c : Cursor) (st : Stmt) (block : List Stmt) → IsBehind body c st → out-Act (out-Stmt st).act ≡ act.Scope block → scope_after body c ≡ block
-scope-there body c st block behind is = ap (λ (s : Option Stmt). scope_at s) behind.there ∙ ap (λ (a : Act-F Act Stmt). scope_of a) is
+scope-there : (body : List Stmt) (c : Cursor) (st : Stmt) (block : List Stmt) → IsAfterStatement body c st → out-Act (out-Stmt st).act ≡ act.Scope block → scope_after body c ≡ block
+scope-there body c st block after is = ap (λ (s : Option Stmt). scope_at s) after.there ∙ ap (λ (a : Act-F Act Stmt). scope_of a) is
 
 module _ (i new : Running) (inner : Trail) where
   -- where the block of a scope begins
@@ -195,13 +195,13 @@ module _ (i new : Running) (inner : Trail) where
         leaving = ap (λ (x : Running). x.leaving) b.2;
       }
 
-  pub in-moves : (plan : PlanView) (st : Stmt) (block : List Stmt) → Begins → IsBehind (statements_of plan i.top) i.top.cursor st → out-Act (out-Stmt st).act ≡ act.Scope block → length (present_of i) + 1 < plan.limits.depth →
+  pub in-moves : (plan : PlanView) (st : Stmt) (block : List Stmt) → Begins → IsAfterStatement (statements_of plan i.top) i.top.cursor st → out-Act (out-Stmt st).act ≡ act.Scope block → length (present_of i) + 1 < plan.limits.depth →
       acted plan (present_of i) (machine_of plan i) st (act.Scope block) ≡ went (Opens (present_of i ++ i.rank ∷ []) ∷ []) (machine_of plan new)
-  in-moves plan st block b behind is deep =
+  in-moves plan st block b after is deep =
       let m = machine_of plan i in
       let body = body_of plan i.top.function in
       let starts = b.1 (block_inside body (reverse new.top.levels.items)) in
-      let text = ap (λ (ls : List Level). block_inside body ls) (in-turned b) ∙ scope-there (statements_of plan i.top) i.top.cursor st block behind is in
+      let text = ap (λ (ls : List Level). block_inside body ls) (in-turned b) ∙ scope-there (statements_of plan i.top) i.top.cursor st block after is in
       let levels = ap (λ (ls : List Level). levels_of body ls) (in-turned b) in
       let machine : machine_of plan new ≡ record m { rank = 0; top = record m.top { left = block; levels = record { rank = m.rank; left = m.top.left } ∷ m.top.levels } } =
       ap (λ (x : Running). machine_of plan x) b.2

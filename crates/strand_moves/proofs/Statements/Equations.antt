@@ -45,14 +45,14 @@ faults kind strand = record { items = []; ending = Err (record { kind = kind; at
 -- The step
 
 -- a machine whose step is paid and that is after a statement
-abbrev pub behind_statement : Machine → ℕ → List Stmt → Machine
-behind_statement m n left = record m { steps = n; top = record m.top { left = left } }
+abbrev pub after_statement : Machine → ℕ → List Stmt → Machine
+after_statement m n left = record m { steps = n; top = record m.top { left = left } }
 
 module _ (plan : PlanView) (here : List ℕ) (m : Machine) (st : Stmt) (left : List Stmt) where
   by_act : (n : ℕ) (a : Act-F Act Stmt) →
       (let r = does (handing plan (destination_of (length m.below) a)) plan here inside (length m.below) st a (record (state_of m) { steps = n }) in
       let run : Run Effect Fault Reached = record { items = r.items; ending = reached plan (with_left m left) (entered plan st a left m) r.ending } in run)
-      ≡ acted plan here (behind_statement m n left) st a
+      ≡ acted plan here (after_statement m n left) st a
   unfolding acted
   by_act n (act.Let x (right.Value e)) = refl
   by_act n (act.Let x (right.Draw at)) = refl
@@ -76,7 +76,7 @@ module _ (plan : PlanView) (here : List ℕ) (m : Machine) (st : Stmt) (left : L
   by_act n (act.Scope a) = refl
 
 module _ (plan : PlanView) (path : List ℕ) (m : Machine) (st : Stmt) (left : List Stmt) where
-  pub paid-move : (n : ℕ) → m.steps ≡ suc n → statement_move plan path m st left ≡ acted plan (here_of path m) (behind_statement m n left) st (out-Act (out-Stmt st).act)
+  pub paid-move : (n : ℕ) → m.steps ≡ suc n → statement_move plan path m st left ≡ acted plan (here_of path m) (after_statement m n left) st (out-Act (out-Stmt st).act)
   paid-move n h =
       let a = out-Act (out-Stmt st).act in
       ap (λ (k : ℕ).

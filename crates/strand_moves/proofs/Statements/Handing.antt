@@ -11,14 +11,14 @@ use Rattle.strand_moves.specs.declared.effects.MoveResult.{MoveResult}
 use Rattle.strand_moves.specs.declared.effects.Spawning.{Spawning}
 use Rattle.strand_moves.specs.Acts.{Acts}
 use Rattle.strand_moves.specs.Moves.{IsTrailOf, MovesTrail}
-use Rattle.strand_moves.specs.Quick.{told}
+use Rattle.strand_moves.specs.Quick.{emitted_if_any}
 use Rattle.strand_moves.specs.Spawns.{IsHanded, handed}
 
 -- an event, or nothing, is no child
-pub told-child : (plan : PlanView) (done : Result (Option Event) values.Halt) → IfOk (told done) (MovesTrail plan)
-told-child plan (Ok None) = tt
-told-child plan (Ok (Some e)) = tt
-told-child plan (Err h) = tt
+pub emitted_if_any-child : (plan : PlanView) (done : Result (Option Event) values.Halt) → IfOk (emitted_if_any done) (MovesTrail plan)
+emitted_if_any-child plan (Ok None) = tt
+emitted_if_any-child plan (Ok (Some e)) = tt
+emitted_if_any-child plan (Err h) = tt
 
 -- a spawn does as a move what it does
 pub handed-acts : (plan : PlanView) (st : Stmt) (a : Act-F Act Stmt) (old new : Running) (done : Result Spawning values.Halt) (r : Result MoveResult values.Halt) → IsHanded done r → Acts plan st a old new (handed done) → Acts plan st a old new r

@@ -16,10 +16,10 @@ use Rattle.strand_values.specs.declared.halt.Halt as values
 use Rattle.strand_moves.specs.declared.running.Running.{Running}
 use Rattle.strand_moves.specs.declared.effects.MoveResult.{MoveResult}
 use Rattle.strand_moves.specs.Acts.{Acts}
-use Rattle.strand_moves.specs.Cursors.{IsBehind}
+use Rattle.strand_moves.specs.Cursors.{IsAfterStatement}
 use Rattle.strand_moves.specs.Running.{machine_of, path_of, present_of, statements_of}
 use Rattle.strand_moves.specs.Moves.{acted, Makes, present_pedigree}
-use Rattle.strand_moves.proofs.Statements.Equations.{behind_statement, faults, paid-move, unpaid-move}
+use Rattle.strand_moves.proofs.Statements.Equations.{after_statement, faults, paid-move, unpaid-move}
 
 pub shows-same : (run other : Run Effect Fault Reached) (strand : List ℕ) (m : Machine) (result : Result MoveResult values.Halt) → run ≡ other → Makes other strand m result → Makes run strand m result
 shows-same run other strand m result e h = let P : Run Effect Fault Reached → Type 0 = λ r. Makes r strand m result in subst P (sym e) h
@@ -46,11 +46,11 @@ module _ (plan : PlanView) (i paid : Running) (n : ℕ) (is-paid : paid ≡ reco
       let one : m.steps ≡ suc n = omega arith in
       let acts = rw is-paid at h in
       shows-same (statement_move plan (path_of i) m st m.top.left) (acted plan (present_of i) (record m { steps = n }) st a) (present_pedigree (present_of i) m) (machine_of plan new) result
-      (paid-move plan (path_of i) m st m.top.left n one ∙ ap (λ (b : Act-F Act Stmt). acted plan (here_of (path_of i) m) (behind_statement m n m.top.left) st b) e
+      (paid-move plan (path_of i) m st m.top.left n one ∙ ap (λ (b : Act-F Act Stmt). acted plan (here_of (path_of i) m) (after_statement m n m.top.left) st b) e
       ∙ ap (λ (p : List ℕ). acted plan p (record m { steps = n }) st a) here) acts
 
-  pub paid-behind : (st : Stmt) → IsBehind (statements_of plan i.top) i.top.cursor st → IsBehind (statements_of plan paid.top) paid.top.cursor st
-  paid-behind st h = let P : Running → Type 0 = λ x. IsBehind (statements_of plan x.top) x.top.cursor st in subst P (sym is-paid) h
+  pub paid-after : (st : Stmt) → IsAfterStatement (statements_of plan i.top) i.top.cursor st → IsAfterStatement (statements_of plan paid.top) paid.top.cursor st
+  paid-after st h = let P : Running → Type 0 = λ x. IsAfterStatement (statements_of plan x.top) x.top.cursor st in subst P (sym is-paid) h
 
 -- a statement for which no step is left
 pub statement-unpaid : (plan : PlanView) (i : Running) (st : Stmt) (left : List Stmt) → i.steps ≡ 0 → here_of (path_of i) (machine_of plan i) ≡ present_of i →

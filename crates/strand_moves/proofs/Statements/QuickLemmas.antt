@@ -13,7 +13,7 @@ use Rattle.strand_values.specs.declared.halt.Halt.TheVariants as halt
 use Rattle.strand_moves.specs.declared.cursor.Cursor.{Cursor}
 use Rattle.strand_moves.specs.declared.running.Running.{Running}
 use Rattle.strand_moves.specs.Acts.{Acts, BeginsOne, StaysUnlessMemory}
-use Rattle.strand_moves.specs.Cursors.{IsBehind, left_of, PassesStatement}
+use Rattle.strand_moves.specs.Cursors.{IsAfterStatement, left_of, PassesStatement}
 use Rattle.strand_moves.specs.Running.{IsInstance, machine_of, path_of, present_of, statements_of}
 use Rattle.strand_moves.specs.Moves.{acted, MovesTrail, present_pedigree}
 use Rattle.strand_moves.specs.Quick.{HasCalled, HasEmitted, IsDone, IsQuiet, IsEmittedTo, IsWent, emitted, is_plain, is_emitting, quiet}
@@ -34,16 +34,16 @@ emitted-child plan (Err h) = tt
 
 -- what a call did for a statement, by what it answered
 module _ (st : Stmt) (a : Act-F Act Stmt) (old new : Running) (is : out-Act (out-Stmt st).act ≡ a) where
-  quiet-at : (done : Result (Unit {0}) values.Halt) (went : Bool) → ((plan : PlanView) → IsBehind (statements_of plan old.top) old.top.cursor st → Acts plan st a old new (quiet done)) →
+  quiet-at : (done : Result (Unit {0}) values.Halt) (went : Bool) → ((plan : PlanView) → IsAfterStatement (statements_of plan old.top) old.top.cursor st → Acts plan st a old new (quiet done)) →
       ((kind : FaultKind) → done ≡ Err (halt.Fault kind) → new ≡ old) → IsWent done went → IsQuiet st old new went
   quiet-at (Ok u) went acts same w =
-      subst (IsQuiet st old new) (sym w) (λ plan behind. ap (λ (b : Act-F Act Stmt). acted plan (present_of old) (machine_of plan old) st b) is ∙ acts plan behind)
+      subst (IsQuiet st old new) (sym w) (λ plan after. ap (λ (b : Act-F Act Stmt). acted plan (present_of old) (machine_of plan old) st b) is ∙ acts plan after)
   quiet-at (Err (halt.Fault kind)) went acts same w =
       subst (IsQuiet st old new) (sym w)
-      (same kind refl, λ plan behind plain. (record { kind = kind; at = present_pedigree (present_of old) (machine_of plan old) }, ap (λ (b : Act-F Act Stmt). acted plan (present_of old) (machine_of plan old) st b) is ∙ acts plan behind))
+      (same kind refl, λ plan after plain. (record { kind = kind; at = present_pedigree (present_of old) (machine_of plan old) }, ap (λ (b : Act-F Act Stmt). acted plan (present_of old) (machine_of plan old) st b) is ∙ acts plan after))
   quiet-at (Err halt.Memory) went acts same w = absurd w
 
-  pub quiet-is : {E : Type 0} (done : Result (Unit {0}) values.Halt) (r : Result Bool E) → ((plan : PlanView) → IsBehind (statements_of plan old.top) old.top.cursor st → Acts plan st a old new (quiet done)) →
+  pub quiet-is : {E : Type 0} (done : Result (Unit {0}) values.Halt) (r : Result Bool E) → ((plan : PlanView) → IsAfterStatement (statements_of plan old.top) old.top.cursor st → Acts plan st a old new (quiet done)) →
       ((kind : FaultKind) → done ≡ Err (halt.Fault kind) → new ≡ old) → IfOk r (IsWent done) → IfOk r (IsQuiet st old new)
   quiet-is done (Ok went) acts same w = quiet-at done went acts same w
   quiet-is done (Err e) acts same w = tt
@@ -64,8 +64,8 @@ module _ (st : Stmt) (a : Act-F Act Stmt) (old new : Running) where
   -- the act of the statement does the same
   module _ (same : (plan : PlanView) → acted plan (present_of old) (machine_of plan old) st (out-Act (out-Stmt st).act) ≡ acted plan (present_of old) (machine_of plan old) st a) (kind : is_plain (out-Act (out-Stmt st).act) ≡ is_plain a) where
     quiet-by : (went : Bool) → IsDone st a old new went → IsQuiet st old new went
-    quiet-by true d = λ plan behind. same plan ∙ d plan
-    quiet-by false d = (d.0, λ plan behind plain. let f = d.1 plan (sym kind ∙ plain) in (f.0, same plan ∙ f.1))
+    quiet-by true d = λ plan after. same plan ∙ d plan
+    quiet-by false d = (d.0, λ plan after plain. let f = d.1 plan (sym kind ∙ plain) in (f.0, same plan ∙ f.1))
 
     pub done-quiet : {E : Type 0} (r : Result Bool E) → IfOk r (IsDone st a old new) → IfOk r (IsQuiet st old new)
     done-quiet (Ok went) d = quiet-by went d
@@ -153,7 +153,7 @@ module _ (plan : PlanView) (i : Running) where
 
     -- a statement that was paid and done
     pub quick-went : (new : Running) → IsQuiet st (with_cursor n cursor) new true → move plan (path_of i) (machine_of plan i) ≡ equations.went [] (machine_of plan new)
-    quick-went new acts = passed ∙ acts plan passes.behind
+    quick-went new acts = passed ∙ acts plan passes.after
 
     -- one that showed these effects
     pub quick-showed : (effects : List Effect) (new : Running) →

@@ -104,7 +104,7 @@ fn blocks<R: Host>(rt: &R) -> Result<String, Fail> {
 
 // A stream of several blocks has the lines of the shorter streams that it is made of.
 #[test]
-fn streams_go_on_behind_a_block(rt: HostRuntime) -> Result<(), Fail> {
+fn streams_go_on_after_a_block(rt: HostRuntime) -> Result<(), Fail> {
     let parts = blocks(&rt)?;
     let line = "stream --seed 3 --at 2.10 --count 8193";
     prints(&rt, line, "", parts.as_str())

@@ -211,7 +211,7 @@ fn generated_scripts_are_the_same_on_any_workers(rt: HostRuntime) -> Result<(), 
 
 // Without cuts each level would take three times as long as the one before.
 #[test]
-fn what_stands_behind_a_known_fault_is_not_run(rt: HostRuntime) -> Result<(), Fail> {
+fn what_stands_after_a_known_fault_is_not_run(rt: HostRuntime) -> Result<(), Fail> {
     let alloc = rt.alloc();
     let mut output = String::from_str(alloc, "fault 0")?;
     for _ in 1..100 {

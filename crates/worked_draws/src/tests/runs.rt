@@ -32,7 +32,7 @@ static RUNS: [(u64, u32, &[u64]); 3] = [
     (1, 4_294_967_295, &[90_194_313_216]),
 ];
 
-/// The draws of a strand of main and of those behind it are these, by one coefficient.
+/// The draws of a strand of main and of those after it are these, by one coefficient.
 fn draws(rt: &impl Abort, gamma: &Gamma, at: &Pedigree, rank: u32, expected: &[u64])
     requires { at.now ≡ rank ∷ [] }
 {
@@ -69,7 +69,7 @@ fn strand_of_child(alloc: Global, rank: u64) -> Result<Pedigree, Memory>
     Ok(Pedigree { path, rank })
 }
 
-/// What one call draws for the strand so many ranks behind the first one, which has the rank 5.
+/// What one call draws for the strand so many ranks after the first one, which has the rank 5.
 fn drawn_at(alloc: Global, gamma: &Gamma, i: usize, rounds: u32) -> Result<u64, Memory>
     requires gamma { length gamma.now ≡ 2 }
     requires i { i < 17 }
@@ -79,7 +79,7 @@ fn drawn_at(alloc: Global, gamma: &Gamma, i: usize, rounds: u32) -> Result<u64, 
     Ok(dotmix(gamma, &j, rounds))
 }
 
-/// A run of this length draws what each strand draws, and nothing behind it.
+/// A run of this length draws what each strand draws, and nothing after it.
 fn draws_each(
     rt: &(impl Abort + AllocGlobal),
     gamma: &Gamma,

@@ -24,7 +24,7 @@ fn is_path(rt: &impl Abort, it: &Ped, ranks: &[u32]) {
     for i in 0..ranks.len() {
         same(rt, i, it.rank_at(i as u64), Some(ranks[i] as u64));
     }
-    same(rt, "behind", it.rank_at(it.len()), None);
+    same(rt, "after", it.rank_at(it.len()), None);
 }
 
 // The example at the head of `ped_path`.
@@ -199,7 +199,7 @@ fn is_counted(rt: &impl Abort, path: &Ped, len: u64)
     for i in 0..len {
         same(rt, i, path.rank_at(i), Some(1001 + i));
     }
-    same(rt, "behind", path.rank_at(len), None);
+    same(rt, "after", path.rank_at(len), None);
 }
 
 // The lengths about the end of a block of 16 ranks.
@@ -289,7 +289,7 @@ fn is_pedigree(rt: &impl Abort, j: &Pedigree, ranks: &[u32]) {
     for i in 0..ranks.len() {
         same(rt, i, j.rank_at(i as u64), Some(ranks[i] as u64));
     }
-    same(rt, "behind", j.rank_at(j.len()), None);
+    same(rt, "after", j.rank_at(j.len()), None);
 }
 
 #[test]
@@ -300,23 +300,23 @@ fn texts_of_pedigrees_are_read(rt: HostRuntime) -> Result<(), Fail> {
     Ok(())
 }
 
-/// The text of 512 ranks, with this behind it.
-fn of_512_ranks(alloc: Global, behind: &str) -> Result<String, AllocError> {
+/// The text of 512 ranks, with this after it.
+fn of_512_ranks(alloc: Global, after: &str) -> Result<String, AllocError> {
     let mut text = String::from_str(alloc, "0")?;
     for _ in 0..511 {
         text.push_str(".0")?;
     }
-    text.push_str(behind)?;
+    text.push_str(after)?;
     Ok(text)
 }
 
 #[test]
 fn texts_have_at_most_512_ranks(rt: HostRuntime) -> Result<(), Fail> {
     let alloc = rt.alloc();
-    for (behind, wanted) in [("", Ok(512)), (".", Err(PedTextError::TooLong))] {
-        let text = of_512_ranks(alloc, behind)?;
+    for (after, wanted) in [("", Ok(512)), (".", Err(PedTextError::TooLong))] {
+        let text = of_512_ranks(alloc, after)?;
         let read = parse_pedigree(alloc, text.as_str()).map(|j| j.len());
-        same(&rt, behind, read, wanted);
+        same(&rt, after, read, wanted);
     }
     Ok(())
 }

@@ -137,7 +137,7 @@ const CUT_TURNS: [&str; 9] = [
 ];
 
 #[test]
-fn a_task_behind_a_known_fault_is_cut(rt: HostRuntime) -> Result<(), Fail> {
+fn a_task_after_a_known_fault_is_cut(rt: HostRuntime) -> Result<(), Fail> {
     let plan = plan(&rt, FAULT_BEFORE_ANOTHER)?;
     let (root, hands) = Crew::new(rt.alloc(), &plan, 1)?;
     let mut hands = hands.0.0;

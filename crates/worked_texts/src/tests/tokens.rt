@@ -185,7 +185,7 @@ fn assert_next(rt: &impl Abort, text: &[u8], from: u32, wanted: Result<Token, Mi
 }
 
 #[test]
-fn the_next_token_stands_behind_the_gap(rt: HostRuntime) {
+fn the_next_token_stands_after_the_gap(rt: HostRuntime) {
     for &(text, from, kind, start, end) in &NEXT_TOKENS {
         assert_next(&rt, text, from, Ok(Token { kind, start, end }));
     }

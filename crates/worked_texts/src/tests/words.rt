@@ -155,7 +155,7 @@ fn words_are_judged_in_order(rt: HostRuntime) {
     }
 }
 
-/// These words, with so many times this behind them.
+/// These words, with so many times this after them.
 fn repeated(alloc: Global, words: &str, piece: &str, times: u32) -> Result<String, AllocError> {
     let mut line = String::from_str(alloc, words)?;
     for _ in 0..times {
@@ -179,7 +179,7 @@ fn a_hash_may_have_512_ranks(rt: HostRuntime) -> Result<(), Fail> {
     Ok(())
 }
 
-// The words, a piece that stands behind them so many times, and the first rule that they break and where they do.
+// The words, a text that stands after them so many times, and the first rule that they break and where they do.
 static LONG: [(&str, &str, u32, (u8, u32)); 2] = [
     ("hash --at 0", ".7", 512, (7, 2)),
     ("run --depth 1", " --depth 2", 100, (4, 3)),

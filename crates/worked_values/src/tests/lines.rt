@@ -85,7 +85,7 @@ fn rank_of(events: &Out, i: u64) -> Option<u64> {
 }
 
 #[test]
-fn appended_events_stand_behind_the_others(rt: HostRuntime) -> Result<(), Fail> {
+fn appended_events_stand_after_the_others(rt: HostRuntime) -> Result<(), Fail> {
     let all = appended(rt.alloc())?;
     same(&rt, "length", all.len(), 6);
     for i in 0u64..6 {

@@ -1,7 +1,7 @@
 use Rattle.std.proofs.Common.{◌≡◌, ◌≤◌, ◌+◌, ◌*◌, ◌-◌, ◌/◌, ◌∙◌, length, map, take, drop, ap, refl, subst, sym, arith, length-take, length-drop}
 use Rattle.dotmix.specs.Draws.{dot, mix}
 use Rattle.bulk_draw.specs.Streams.{dots, later, stream}
-use Rattle.bulk_draw.proofs.StreamLemmas.{block_next, block_written, dot-IsResidue, last_block_written, later-none, length-behind, IsStreamBlock}
+use Rattle.bulk_draw.proofs.StreamLemmas.{block_next, block_written, dot-IsResidue, last_block_written, later-none, length-after, IsStreamBlock}
 use Rattle.bulk_draw.proofs.run.draw_run.Goals as goal
 
 pub loop-block-init : goal.loop-block-init
@@ -14,7 +14,7 @@ loop-block-init c = record {
 pub loop-block-preserved : goal.loop-block-preserved
 loop-block-preserved c =
     let start = c.loop-block.block * 8 in
-    let long = length-behind _ _ _ c.at.view_is in
+    let long = length-after _ _ _ c.at.view_is in
     let is : IsStreamBlock c.args.gamma.now c.args.at.now c.at.inside.path c.at.inside.rank c.args.rounds start 8 ((c.loop-block.block + 1) * 8) c.loop-block.next c.coeff-step.result c.loop-block.out c.mix_each.new.z = record {
       pedigree = c.at.view_is;
       within = omega arith;
@@ -36,7 +36,7 @@ returns c =
     let start = length c.args.out.now / 8 * 8 in
     let many = length c.loop-block.out - start in
     let here : c.loop-block.block * 8 ≡ start = omega arith in
-    let long = length-behind _ _ _ c.at.view_is in
+    let long = length-after _ _ _ c.at.view_is in
     let room : start ≤ length c.loop-block.out = omega arith in
     let counted : length (take many (drop start c.loop-block.out)) ≡ many = simp (length-take, length-drop) (omega arith) in
     let is : IsStreamBlock c.args.gamma.now c.args.at.now c.at.inside.path c.at.inside.rank c.args.rounds start many (length c.args.out.now) c.loop-block.next c.coeff-step.result c.loop-block.out c.mix_each-2.new.z = record {

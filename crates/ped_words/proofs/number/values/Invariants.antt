@@ -3,7 +3,7 @@ use Rattle.std.specs.List.{list_all}
 use Rattle.ped_words.specs.Numbers.{value_of}
 use Rattle.ped_words.proofs.number.values.Given as goal
 
--- the numbers in front are small, and their values were taken
+-- the numbers before are small, and their values were taken
 abbrev pub invariant-loop-part : goal.invariant-loop-part
 invariant-loop-part l = record {
   small : list_all (λ x. ltb (value_of x.now) (2 ^ 64)) (take l.part-index l.parts) ≡ true;

@@ -5,7 +5,7 @@ use Rattle.ped_words.specs.Given.{count_of}
 use Rattle.ped_words.specs.Values.{option_values}
 use Rattle.ped_words.proofs.read.judge_pairs.Given as goal
 
--- The pairs in front break no rule, have values, and each gave an option that had not been given.
+-- The pairs before break no rule, have values, and each gave an option that had not been given.
 abbrev pub invariant-loop-pair : goal.invariant-loop-pair
 invariant-loop-pair l = record {
   within : l.pair ≤ pairs_in (map string_bytes l.words);

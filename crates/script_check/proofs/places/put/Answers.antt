@@ -10,7 +10,7 @@ one_zero old table next h is e =
     is ∙ ap (λ t. t ++ 0 ∷ []) e ∙ append_assoc old (replicate (length table - length old) 0) (0 ∷ [])
     ∙ ap (λ z. old ++ z) (replicate_more (length table - length old) 0 ∙ ap (λ n. replicate n 0) (omega (arith, h, longer)))
 
--- the place behind them
+-- the place after them
 all_put : (old table next : List ℕ) (at place : ℕ) → length old ≤ length table → length table ≤ max (length old) at → at ≤ length table →
     table ≡ old ++ replicate (length table - length old) 0 → next ≡ table ++ place ∷ [] → next ≡ with_place old at place
 all_put old table next at place h w a e is = is ∙ ap (λ t. t ++ place ∷ []) (e ∙ ap (λ n. old ++ replicate n 0) (omega (arith, h, w, a)))

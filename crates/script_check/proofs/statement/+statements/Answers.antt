@@ -7,7 +7,7 @@ use Rattle.script_check.specs.Names.{nobody, both}
 use Rattle.script_check.specs.Expressions.{read, wanted}
 use Rattle.script_check.specs.Statements.{context, Judged, judge_what, judge_all, violations_each, after}
 use Rattle.script_check.specs.Walk.{WalkState, keeps_what, keeps_all, state_of}
-use Rattle.script_check.proofs.Walk.Behind.{one_behind, one_judged, if_state, if_violations, while_state, while_violations, scope_state, with_known, with_loop_set, behind_by}
+use Rattle.script_check.proofs.Walk.After.{one_after, one_judged, if_state, if_violations, while_state, while_violations, scope_state, with_known, with_loop_set, after_by}
 use Rattle.script_check.proofs.FewerPending.Induction.{judge_is, keeps_is, judge_if, keeps_if, judge_while, keeps_while, judge_scope, keeps_scope}
 use Rattle.script_check.proofs.statement.+statements.Goals as goal
 
@@ -27,7 +27,7 @@ judge_nested-returns-in_ok-end_if-in-If-clause-state t c =
     let what : st.act ≡ variant.If c.in-If.e a b = search rules in
     if_state fs a b k s (state_of c.judge_block.new.symbols) (state_of c.judge_block-in-If.new.symbols) (state_of c.end_if.new.symbols)
     c.in_ok-first-in-If.ensures.state c.in_ok-second-in-If.ensures.state last kept
-    ∙ sym (behind_by fs st _ _ s (judge_is st ∙ ap (λ (w : Act). judge_what w st.at) what ∙ judge_if st.at c.in-If.e a b) (keeps_is st ∙ ap keeps_what what ∙ keeps_if c.in-If.e a b))
+    ∙ sym (after_by fs st _ _ s (judge_is st ∙ ap (λ (w : Act). judge_what w st.at) what ∙ judge_if st.at c.in-If.e a b) (keeps_is st ∙ ap keeps_what what ∙ keeps_if c.in-If.e a b))
 
 pub judge_nested-returns-in_ok-end_if-in-If-clause-found : goal.judge_nested-returns-in_ok-end_if-in-If-clause-found
 judge_nested-returns-in_ok-end_if-in-If-clause-found t c in_block =
@@ -52,7 +52,7 @@ judge_nested-returns-in_ok-judge_block-in-While-clause-state t c =
     let begun : state_of c.begin_while.new.symbols ≡ with_loop_set fs a s = search rules in
     let last : state_of c.judge_block-in-While.new.symbols ≡ with_known fs a (state_of c.begin_while.new.symbols) = search rules in
     while_state fs a s (state_of c.begin_while.new.symbols) (state_of c.judge_block-in-While.new.symbols) begun last
-    ∙ sym (behind_by fs st _ _ s (judge_is st ∙ ap (λ (w : Act). judge_what w st.at) what ∙ judge_while st.at c.in-While.e a) (keeps_is st ∙ ap keeps_what what ∙ keeps_while c.in-While.e a))
+    ∙ sym (after_by fs st _ _ s (judge_is st ∙ ap (λ (w : Act). judge_what w st.at) what ∙ judge_while st.at c.in-While.e a) (keeps_is st ∙ ap keeps_what what ∙ keeps_while c.in-While.e a))
 
 pub judge_nested-returns-in_ok-judge_block-in-While-clause-found : goal.judge_nested-returns-in_ok-judge_block-in-While-clause-found
 judge_nested-returns-in_ok-judge_block-in-While-clause-found t c in_block =
@@ -79,7 +79,7 @@ judge_nested-returns-in_ok-sync-in-Scope-clause-state t c =
     let first : state_of c.judge_block-in-Scope.new.symbols ≡ with_known fs a s = search rules in
     let last : state_of c.sync.new.self ≡ record (state_of c.judge_block-in-Scope.new.symbols) { names = nobody; keeps = false } = search rules in
     scope_state fs a s (state_of c.judge_block-in-Scope.new.symbols) (state_of c.sync.new.self) first last
-    ∙ sym (behind_by fs st _ _ s (judge_is st ∙ ap (λ (w : Act). judge_what w st.at) what ∙ judge_scope st.at a) (keeps_is st ∙ ap keeps_what what ∙ keeps_scope a))
+    ∙ sym (after_by fs st _ _ s (judge_is st ∙ ap (λ (w : Act). judge_what w st.at) what ∙ judge_scope st.at a) (keeps_is st ∙ ap keeps_what what ∙ keeps_scope a))
 
 pub judge_nested-returns-in_ok-sync-in-Scope-clause-found : goal.judge_nested-returns-in_ok-sync-in-Scope-clause-found
 judge_nested-returns-in_ok-sync-in-Scope-clause-found t c in_block =
@@ -97,7 +97,7 @@ judge_each-loop-statement-preserved t c =
     let ss = c.args.statements.now in
     let i = c.loop-statement.statement-index in
     let s = c.statement-item.result in (
-      one_behind fs ss i s (state_of c.loop-statement.symbols) (state_of c.judge.new.symbols) c.loop-statement-test.true c.statement-item.is c.in_ok-judge.ensures.state ∙ c.loop-statement.invariant.0,
+      one_after fs ss i s (state_of c.loop-statement.symbols) (state_of c.judge.new.symbols) c.loop-statement-test.true c.statement-item.is c.in_ok-judge.ensures.state ∙ c.loop-statement.invariant.0,
       one_judged fs c.args.in_block ss i s (state_of c.loop-statement.symbols) (state_of c.judge.new.symbols) c.loop-statement.found c.judge.new.found
           c.loop-statement-test.true c.statement-item.is c.in_ok-judge.ensures.state c.in_ok-judge.ensures.found ∙ c.loop-statement.invariant.1,
     )

@@ -1,7 +1,7 @@
 use Rattle.std.proofs.Common.{ap, ◌∙◌}
 use Rattle.script_check.specs.Names.{Names}
 use Rattle.script_check.specs.Walk.{state_of}
-use Rattle.script_check.proofs.Walk.Behind.{while_names}
+use Rattle.script_check.proofs.Walk.After.{while_names}
 use Rattle.script_check.proofs.statement.begin_while.Goals as goal
 
 pub returns : goal.returns

@@ -2,7 +2,7 @@ use Rattle.std.proofs.Common.{ap, ◌∙◌, ◌&&◌}
 use Rattle.script_check.specs.Names.{Names, nobody, both}
 use Rattle.script_check.specs.Statements.{after}
 use Rattle.script_check.specs.Walk.{state_of, WalkState}
-use Rattle.script_check.proofs.Walk.Behind.{if_names}
+use Rattle.script_check.proofs.Walk.After.{if_names}
 use Rattle.script_check.proofs.statement.end_if.Goals as goal
 
 pub returns : goal.returns

@@ -8,7 +8,7 @@ use Rattle.serial_runner.proofs.Walking.{walk_begins, walks_on_as}
 use Rattle.serial_runner.proofs.walk.observe_instance.Goals as goal
 
 pub loop-next-init : goal.loop-next-init
-loop-next-init c = walk_begins c.notes_begin.ensures _ _ _ c.requires.instance c.in_ok-walk.ensures.sound _ c.in_ok-walk.ensures.walk
+loop-next-init c = walk_begins c.observation_begins.ensures _ _ _ c.requires.instance c.in_ok-walk.ensures.sound _ c.in_ok-walk.ensures.walk
 
 pub walk_on-requires-clause-below : goal.walk_on-requires-clause-below
 walk_on-requires-clause-below c = subst (λ (o : Origin). IsBelow (path_of o) c.args.at.now) (sym c.loop-next.invariant.origin_is) c.requires.below

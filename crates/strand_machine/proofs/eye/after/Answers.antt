@@ -1,7 +1,7 @@
 use Rattle.std.proofs.Common.{ℕ, List, sym, ◌∙◌, ap₂}
 use Rattle.serial_meaning.specs.Open.{risen}
 use Rattle.strand_machine.specs.Eyes.{ahead_of}
-use Rattle.strand_machine.proofs.NodesNoted.Eyes.{ahead-after, ahead-after-past}
+use Rattle.strand_machine.proofs.NodesObserved.Eyes.{ahead-after, ahead-after-past}
 use Rattle.strand_machine.proofs.eye.after.Goals as goal
 use Rattle.strand_machine.proofs.eye.after.Goals.{else-strand-at-via-then-strand-at+else-same, else-strand-at-via-else-strand-at}
 

@@ -3,7 +3,7 @@ use Rattle.std.proofs.lemmas.Bool.{true≢false}
 use Rattle.serial_meaning.specs.declared.answer.Outcome.TheVariants as outcome
 use Rattle.strand_machine.specs.declared.work.InstanceState.TheVariants as stage
 use Rattle.strand_machine.specs.declared.work.Work.TheVariants as work
-use Rattle.strand_machine.proofs.Moves.Dispatch.{end-answers, end-is, wait-sound, wait-is, fault-alone, fault-behind}
+use Rattle.strand_machine.proofs.Moves.Dispatch.{end-answers, end-is, wait-sound, wait-is, fault-alone, fault-after}
 use Rattle.strand_machine.proofs.leave.faulted.Goals as goal
 
 pub returns-then-is_alone-clause-step : goal.returns-then-is_alone-clause-step
@@ -23,11 +23,11 @@ wait-requires c =
     let b = c.args.parts.now.body in
     let f = c.args.fault in
     wait-sound c.steps_are_sound.ensures b (work.Runs (stage.Faulted f)) (work.Runs (stage.Faulted f)) c.requires
-    (fault-behind b f (λ none. true≢false (sym (c.is_alone.ensures.1 none) ∙ c.if-is_alone.false))) tt
+    (fault-after b f (λ none. true≢false (sym (c.is_alone.ensures.1 none) ∙ c.if-is_alone.false))) tt
 
 pub returns-clause-step : goal.returns-clause-step
 returns-clause-step c =
     let b = c.args.parts.now.body in
     let f = c.args.fault in
     wait-is b (work.Runs (stage.Faulted f)) (work.Runs (stage.Faulted f)) _ tt
-    (fault-behind b f (λ none. true≢false (sym (c.is_alone.ensures.1 none) ∙ c.if-is_alone.false))) c.wait.ensures.made
+    (fault-after b f (λ none. true≢false (sym (c.is_alone.ensures.1 none) ∙ c.if-is_alone.false))) c.wait.ensures.made

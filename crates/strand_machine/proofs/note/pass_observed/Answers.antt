@@ -1,6 +1,6 @@
 use Rattle.std.proofs.Common.{◌≡◌, IfOk, sym, subst}
 use Rattle.std.specs.Prelude.{OnOk}
-use Rattle.strand_meaning.specs.Observation.{step_notes}
+use Rattle.strand_meaning.specs.Observation.{step_observation}
 use Rattle.strand_machine.specs.Made.{made}
 use Rattle.strand_machine.specs.Noted.{with_step}
 use Rattle.strand_machine.specs.Stops.{IsStep}
@@ -16,6 +16,6 @@ pub returns-clause-step : goal.returns-clause-step
 returns-clause-step c =
     subst (λ (x : Work). IfOk c.work_observed.result (λ passed. IsStep (view_of c.args.parts.now.body x) (made c.work_observed.new.parts passed))) c.replace-work.ensures.value c.work_observed.ensures.step
 
-pub returns-clause-notes : goal.returns-clause-notes
-returns-clause-notes c =
-    subst (λ (x : Work). OnOk c.work_observed.result (c.work_observed.new.notes ≡ with_step c.args.at.now (step_notes (task_of c.args.parts.now.body x)) c.args.notes.now)) c.replace-work.ensures.value c.work_observed.ensures.notes
+pub returns-clause-observation : goal.returns-clause-observation
+returns-clause-observation c =
+    subst (λ (x : Work). OnOk c.work_observed.result (c.work_observed.new.observation ≡ with_step c.args.at.now (step_observation (task_of c.args.parts.now.body x)) c.args.observation.now)) c.replace-work.ensures.value c.work_observed.ensures.observation

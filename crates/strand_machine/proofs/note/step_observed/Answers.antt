@@ -1,5 +1,5 @@
 use Rattle.std.proofs.Common.{◌≡◌, sym, ap, ◌∙◌, subst}
-use Rattle.strand_meaning.specs.Observation.{step_notes}
+use Rattle.strand_meaning.specs.Observation.{step_observation}
 use Rattle.strand_machine.specs.Made.{made}
 use Rattle.strand_machine.specs.Noted.{with_step}
 use Rattle.strand_machine.specs.Stops.{IsStep}
@@ -19,7 +19,7 @@ returns-clause-step c =
     let same = ap (λ (q : Parts). view_of q.body q.work) c.deref_mut.ensures.value ∙ c.task.view_is in
     subst (λ (s : MoveOrStop). IsStep c.args.task s) (sym c.stepped.ensures) (subst (λ (t : TaskView). IsStep t (made c.pass_observed.new.parts c.in_ok-passed.passed)) same c.in_ok-passed.ensures.step)
 
-pub returns-clause-notes : goal.returns-clause-notes
-returns-clause-notes c =
+pub returns-clause-observation : goal.returns-clause-observation
+returns-clause-observation c =
     let same = ap (λ (q : Parts). view_of q.body q.work) c.deref_mut.ensures.value ∙ c.task.view_is in
-    subst (λ (t : TaskView). c.pass_observed.new.notes ≡ with_step c.args.at.now (step_notes t.task) c.args.notes.now) same c.in_ok-passed.ensures.notes
+    subst (λ (t : TaskView). c.pass_observed.new.observation ≡ with_step c.args.at.now (step_observation t.task) c.args.observation.now) same c.in_ok-passed.ensures.observation

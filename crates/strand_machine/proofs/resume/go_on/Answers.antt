@@ -18,12 +18,12 @@ use Rattle.strand_machine.proofs.resume.go_on.Goals as goal
 pub merge_all-requires-clause-many : goal.merge_all-requires-clause-many
 merge_all-requires-clause-many c =
     let b = c.args.parts.now.body in
-    let q = c.take_children-behind.ensures.parted in
+    let q = c.take_children-after.ensures.parted in
     sym (length-answer-tags c.args.answers) ∙ ap length c.requires.tags ∙ length-tags b.family.plan (awaited b.trace.handed)
-    ∙ ap (λ (x : Trace). length (awaited x.handed)) (sym q.is) ∙ ap length (awaited_parts q.children c.take_children-behind.result.items q.many) ∙ q.many
+    ∙ ap (λ (x : Trace). length (awaited x.handed)) (sym q.is) ∙ ap length (awaited_parts q.children c.take_children-after.result.items q.many) ∙ q.many
 
 pub merge_all-requires-clause-handed : goal.merge_all-requires-clause-handed
-merge_all-requires-clause-handed c = ap (λ (x : Trace). x.handed) c.take_children-behind.ensures.rest
+merge_all-requires-clause-handed c = ap (λ (x : Trace). x.handed) c.take_children-after.ensures.rest
 
 pub merge_all-requires-clause-works : goal.merge_all-requires-clause-works
 merge_all-requires-clause-works c = (c.args.parts.now.body.family.origin, c.requires.sound.works)
@@ -32,19 +32,19 @@ pub merge_all-requires-clause-targets : goal.merge_all-requires-clause-targets
 merge_all-requires-clause-targets c =
     let b = c.args.parts.now.body in
     let w = c.args.parts.now.work in
-    let q = c.take_children-behind.ensures.parted in
+    let q = c.take_children-after.ensures.parted in
     let sound = subst (λ (ps : List AwaitedChild). IsSoundWork b.family.plan b.family.origin ps (work_of b.family.plan w)) (sym (ap (λ (x : Trace). x.handed) q.is)) c.requires.sound.task.work in
-    work-targets b.family.plan q.children c.take_children-behind.result.items q.many b.family.origin (work_of b.family.plan w) sound
+    work-targets b.family.plan q.children c.take_children-after.result.items q.many b.family.origin (work_of b.family.plan w) sound
 
 pub cut_short-requires-clause-ends : goal.cut_short-requires-clause-ends
 cut_short-requires-clause-ends c =
     let b = c.args.parts.now.body in
     let w = c.args.parts.now.work in
-    let q = c.take_children-behind.ensures.parted in
-    let bs = c.take_children-behind.result.items in
+    let q = c.take_children-after.ensures.parted in
+    let bs = c.take_children-after.result.items in
     let after = merge_of c.merge_all.new.parts c.merge_all.new.heard in
     let parts = ap (λ (x : Trace). x.handed) q.is in
-    let h = taken-from b w _ _ c.args.answers after c.take_children-behind.ensures.rest c.in_ok-left.ensures.takes in
+    let h = taken-from b w _ _ c.args.answers after c.take_children-after.ensures.rest c.in_ok-left.ensures.takes in
     subst (λ (f : FamilyView). EndsShort f after) (sym (ap (λ (x : Body). x.family) c.in_ok-left.ensures.rest.body))
     (ends-short b w q.children bs c.args.answers after parts (own-children b q.children bs (answer_tags c.args.answers) parts q.many c.requires.tags) h c.answers_end.ensures c.requires.sound.task
     (answers-of b.family.plan b.trace.handed c.args.answers h.said c.requires.tags) (sym h.cut ∙ c.if-heard.true))
@@ -56,12 +56,12 @@ pub returns-then-heard-clause-went : goal.returns-then-heard-clause-went
 returns-then-heard-clause-went c =
     let b = c.args.parts.now.body in
     let w = c.args.parts.now.work in
-    let q = c.take_children-behind.ensures.parted in
-    let bs = c.take_children-behind.result.items in
+    let q = c.take_children-after.ensures.parted in
+    let bs = c.take_children-after.result.items in
     let after = merge_of c.merge_all.new.parts c.merge_all.new.heard in
     let next = view_of c.cut_short.new.parts.body c.cut_short.new.parts.work in
     let parts = ap (λ (x : Trace). x.handed) q.is in
-    let h = taken-from b w _ _ c.args.answers after c.take_children-behind.ensures.rest c.in_ok-left.ensures.takes in
+    let h = taken-from b w _ _ c.args.answers after c.take_children-after.ensures.rest c.in_ok-left.ensures.takes in
     went-short c.args.answers (view_of b w) next (sym h.cut ∙ c.if-heard.true)
     (short-on b w q.children bs c.args.answers after parts (own-children b q.children bs (answer_tags c.args.answers) parts q.many c.requires.tags) h next
     (subst (λ (x : Body). IsShort x.family after x.advanced next) c.in_ok-left.ensures.rest.body c.cut_short.ensures.short))
@@ -73,13 +73,13 @@ pub returns-clause-went : goal.returns-clause-went
 returns-clause-went c =
     let b = c.args.parts.now.body in
     let w = c.args.parts.now.work in
-    let q = c.take_children-behind.ensures.parted in
-    let bs = c.take_children-behind.result.items in
+    let q = c.take_children-after.ensures.parted in
+    let bs = c.take_children-after.result.items in
     let kept = c.merge_all.new.parts in
     let after = merge_of kept c.merge_all.new.heard in
     let next = c.goes_on.new.parts in
     let parts = ap (λ (x : Trace). x.handed) q.is in
-    let h = taken-from b w _ _ c.args.answers after c.take_children-behind.ensures.rest c.in_ok-left.ensures.takes in
+    let h = taken-from b w _ _ c.args.answers after c.take_children-after.ensures.rest c.in_ok-left.ensures.takes in
     let whole = sym h.cut ∙ c.if-heard.false in
     let takes = takes-whole b w q.children bs c.args.answers after c.answers_are_evaluations.ensures h whole in
     let body : next.body ≡ record b { trace = trace_of after; values = after.values; waiting = false } =
@@ -94,13 +94,13 @@ pub returns-clause-holds : goal.returns-clause-holds
 returns-clause-holds c =
     let b = c.args.parts.now.body in
     let w = c.args.parts.now.work in
-    let q = c.take_children-behind.ensures.parted in
-    let bs = c.take_children-behind.result.items in
+    let q = c.take_children-after.ensures.parted in
+    let bs = c.take_children-after.result.items in
     let kept = c.merge_all.new.parts in
     let after = merge_of kept c.merge_all.new.heard in
     let next = c.goes_on.new.parts in
     let parts = ap (λ (x : Trace). x.handed) q.is in
-    let h = taken-from b w _ _ c.args.answers after c.take_children-behind.ensures.rest c.in_ok-left.ensures.takes in
+    let h = taken-from b w _ _ c.args.answers after c.take_children-after.ensures.rest c.in_ok-left.ensures.takes in
     let takes = takes-whole b w q.children bs c.args.answers after c.answers_are_evaluations.ensures h (sym h.cut ∙ c.if-heard.false) in
     let body : next.body ≡ record b { trace = trace_of after; values = after.values; waiting = false } =
     c.in_ok-goes_on.ensures.body ∙ ap (λ (x : Body). record x { waiting = false }) (kept-body _ kept c.in_ok-left.ensures.rest) in

@@ -7,24 +7,24 @@ use Rattle.strand_machine.specs.Merge.{HasTargets, TakesAnswers, merge_of}
 use Rattle.strand_machine.specs.Parts.{awaited_child, awaited_children}
 use Rattle.strand_machine.specs.Stops.{answer_tags}
 use Rattle.strand_machine.specs.Tasks.{work_of}
-use Rattle.strand_machine.specs.declared.trace.Behind.{Behind}
+use Rattle.strand_machine.specs.declared.trace.AfterChild.{AfterChild}
 use Rattle.strand_machine.proofs.TakenAnswers.Cutting.{answers-next, answers-no-more, keeps-then, targets-then, works-then}
 use Rattle.strand_machine.proofs.resume.merge_all.Goals as goal
 
 pub loop-part-init : goal.loop-part-init
 loop-part-init c =
     let gives = c.into_iter-part-iterator.ensures.into_iter_gives in
-    let parts : into_iter_items c.into_iter-part-iterator.result ≡ c.args.behind.items = gives.0 in
+    let parts : into_iter_items c.into_iter-part-iterator.result ≡ c.args.after.items = gives.0 in
     let back : reverse c.reverse.new.self.items ≡ c.args.answers = ap reverse c.reverse.ensures.items ∙ reverse-reverse _ ∙ c.answers.view_is in
     let before = merge_of c.args.parts.now c.args.heard.now in
     record {
-      parts = gives.1 ∙ c.args.behind.ok.0 ∙ ap length (sym parts);
+      parts = gives.1 ∙ c.args.after.ok.0 ∙ ap length (sym parts);
       same = sym (length-reverse c.reverse.new.self.items) ∙ ap length back ∙ c.requires.many ∙ ap length (sym parts);
-      takes = λ after h. subst (λ (xs : List AnswerView). TakesAnswers (awaited_children (origins (answer_tags xs)) c.args.behind.items) xs before after) back
-          (subst (λ (bs : List Behind). TakesAnswers (awaited_children (origins (answer_tags (reverse c.reverse.new.self.items))) bs) (reverse c.reverse.new.self.items) before after) parts h);
+      takes = λ after h. subst (λ (xs : List AnswerView). TakesAnswers (awaited_children (origins (answer_tags xs)) c.args.after.items) xs before after) back
+          (subst (λ (bs : List AfterChild). TakesAnswers (awaited_children (origins (answer_tags (reverse c.reverse.new.self.items))) bs) (reverse c.reverse.new.self.items) before after) parts h);
       rest = record { body = refl; handed = c.requires.handed };
       works = c.requires.works;
-      targets = subst (λ (bs : List Behind). HasTargets bs (work_of c.args.parts.now.body.family.plan c.args.parts.now.work)) (sym parts) c.requires.targets;
+      targets = subst (λ (bs : List AfterChild). HasTargets bs (work_of c.args.parts.now.body.family.plan c.args.parts.now.work)) (sym parts) c.requires.targets;
     }
 
 pub merge_answer-requires-clause-handed : goal.merge_answer-requires-clause-handed
@@ -35,7 +35,7 @@ merge_answer-requires-clause-works c = c.loop-part.invariant.works
 
 pub merge_answer-requires-clause-target : goal.merge_answer-requires-clause-target
 merge_answer-requires-clause-target c =
-    let all = subst (λ (bs : List Behind). HasTargets bs (work_of c.loop-part.parts.body.family.plan c.loop-part.parts.work)) c.in-Some.ensures.steps.0 c.loop-part.invariant.targets in
+    let all = subst (λ (bs : List AfterChild). HasTargets bs (work_of c.loop-part.parts.body.family.plan c.loop-part.parts.work)) c.in-Some.ensures.steps.0 c.loop-part.invariant.targets in
     all.0
 
 pub unreachable-requires : goal.unreachable-requires
@@ -51,7 +51,7 @@ loop-part-preserved c =
     let parts = c.in-Some.ensures.steps in
     let shorter = ap length parts.0 in
     let popped : c.loop-part.left.items ≡ c.pop.new.self.items ++ c.in-Some-pop.answer ∷ [] = c.in-Some-pop.ensures.items in
-    let all = subst (λ (bs : List Behind). HasTargets bs (work_of c.loop-part.parts.body.family.plan c.loop-part.parts.work)) parts.0 was.targets in
+    let all = subst (λ (bs : List AfterChild). HasTargets bs (work_of c.loop-part.parts.body.family.plan c.loop-part.parts.work)) parts.0 was.targets in
     let front : reverse c.loop-part.left.items ≡ c.in-Some-pop.answer ∷ reverse c.pop.new.self.items = ap reverse popped ∙ reverse-append c.pop.new.self.items (c.in-Some-pop.answer ∷ []) in
     record {
       parts = omega (arith, was.parts, parts.1, shorter);

@@ -16,7 +16,7 @@ invariant-loop-part l =
       parts : into_iter_len l.part-iterator ≡ length (into_iter_items l.part-iterator);
       same : length l.left.items ≡ length (into_iter_items l.part-iterator);
       takes : (after : Merge) → TakesAnswers (awaited_children (origins (answer_tags rest)) (into_iter_items l.part-iterator)) rest (merge_of l.parts l.heard) after →
-          TakesAnswers (awaited_children (origins all) l.fn.behind.items) l.fn.answers (merge_of l.initial.parts l.initial.heard) after;
+          TakesAnswers (awaited_children (origins all) l.fn.after.items) l.fn.answers (merge_of l.initial.parts l.initial.heard) after;
       rest : KeepsRest l.initial.parts l.parts;
       works : Works l.parts.body.family.plan l.parts.work;
       targets : HasTargets (into_iter_items l.part-iterator) (work_of l.parts.body.family.plan l.parts.work);

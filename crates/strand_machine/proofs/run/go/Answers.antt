@@ -4,7 +4,7 @@ use Rattle.strand_meaning.specs.Left.{moves_left}
 use Rattle.strand_meaning.specs.Machine.{move}
 use Rattle.strand_moves.specs.Machines.{IsInstance, machine_of, path_of, unpassed}
 use Rattle.strand_moves.specs.Moves.{run_of}
-use Rattle.strand_moves.specs.declared.effects.Effects.TheVariants as shown
+use Rattle.strand_moves.specs.declared.effects.Effects.TheVariants as effect
 use Rattle.strand_moves.specs.declared.effects.MoveResult.{MoveResult}
 use Rattle.strand_moves.specs.declared.effects.MoveResult.TheVariants as moved
 use Rattle.strand_moves.specs.declared.instance.Instance.{Instance}
@@ -39,24 +39,24 @@ pub show_spawn-requires : goal.show_spawn-requires
 show_spawn-requires c =
     let l = c.loop-next in
     let s = c.in-Ok-Some.spawning in
-    let m = moved.Went (shown.Spawned s.event s.spawned) in
+    let m = moved.Went (effect.Spawned s.event s.spawned) in
     let e = c.in-Ok-Some.ensures in
     let k = one-more c.steps_are_sound.ensures c.moves_fall.ensures c.plan-plan.result.now _ l.parts.body l.instance c.plan-plan.ensures l.invariant c.row.new.self c.row.new.sink _ c.in-Ok.ensures c.row.new.self refl
     _ (ap option_copied c.in-Some.is) c.spawn.new.self m (rw c.in-Ok-Some.field-0-is at e.did) e.path e.sound in
-    went-sound (gone (with_trace l.parts.body c.row.new.sink)) k.before c.spawn.new.self _ m c.plan-plan.ensures k.last k.runs.sound c.steps_are_sound.ensures (shown.Spawned s.event s.spawned) refl k.path k.sound
+    went-sound (gone (with_trace l.parts.body c.row.new.sink)) k.before c.spawn.new.self _ m c.plan-plan.ensures k.last k.runs.sound c.steps_are_sound.ensures (effect.Spawned s.event s.spawned) refl k.path k.sound
     (rw c.in-Ok-Some.field-0-is at e.child)
 
 pub returns-in-Ok-Some-clause-step : goal.returns-in-Ok-Some-clause-step
 returns-in-Ok-Some-clause-step c =
     let l = c.loop-next in
     let s = c.in-Ok-Some.spawning in
-    let m = moved.Went (shown.Spawned s.event s.spawned) in
+    let m = moved.Went (effect.Spawned s.event s.spawned) in
     let e = c.in-Ok-Some.ensures in
     let b = gone (with_trace l.parts.body c.row.new.sink) in
     let k = one-more c.steps_are_sound.ensures c.moves_fall.ensures c.plan-plan.result.now _ l.parts.body l.instance c.plan-plan.ensures l.invariant c.row.new.self c.row.new.sink _ c.in-Ok.ensures c.row.new.self refl
     _ (ap option_copied c.in-Some.is) c.spawn.new.self m (rw c.in-Ok-Some.field-0-is at e.did) e.path e.sound in
     run-is-ok _ b k.before k.runs (made c.show_spawn.new.parts) c.show_spawn.result
-    (went-is b k.before c.spawn.new.self _ m c.plan-plan.ensures k.last k.runs.sound (made c.show_spawn.new.parts) (shown.Spawned s.event s.spawned) c.show_spawn.result refl c.show_spawn.ensures.step c.show_spawn.ensures.keeps)
+    (went-is b k.before c.spawn.new.self _ m c.plan-plan.ensures k.last k.runs.sound (made c.show_spawn.new.parts) (effect.Spawned s.event s.spawned) c.show_spawn.result refl c.show_spawn.ensures.step c.show_spawn.ensures.keeps)
 
 -- another move
 
@@ -90,7 +90,7 @@ pub show-requires : goal.show-requires
 show-requires c =
     let m = c.in-Ok-Went.ensures in
     let k = last (goal.at.show-requires c).After-instance-in-loop-next-1 _ c.make.new.self m.moves m.path m.sound in
-    went-sound (gone (with_trace c.loop-next.parts.body c.row.new.sink)) k.before c.make.new.self _ _ c.plan-plan.ensures k.last k.runs.sound c.steps_are_sound.ensures c.in-Ok-Went.shown c.in-Ok-Went.field-0-is k.path k.sound m.child
+    went-sound (gone (with_trace c.loop-next.parts.body c.row.new.sink)) k.before c.make.new.self _ _ c.plan-plan.ensures k.last k.runs.sound c.steps_are_sound.ensures c.in-Ok-Went.effects c.in-Ok-Went.field-0-is k.path k.sound m.child
 
 pub wait-requires : goal.wait-requires
 wait-requires c =
@@ -118,7 +118,7 @@ returns-in-Ok-Went-clause-step c =
     let k = last (goal.at.returns-in-Ok-Went-clause-step c).After-instance-in-loop-next-1 _ c.make.new.self m.moves m.path m.sound in
     let b = gone (with_trace c.loop-next.parts.body c.row.new.sink) in
     run-is-ok _ b k.before k.runs (made c.show.new.parts) c.show.result
-    (went-is b k.before c.make.new.self _ _ c.plan-plan.ensures k.last k.runs.sound (made c.show.new.parts) c.in-Ok-Went.shown c.show.result c.in-Ok-Went.field-0-is c.show.ensures.step c.show.ensures.keeps)
+    (went-is b k.before c.make.new.self _ _ c.plan-plan.ensures k.last k.runs.sound (made c.show.new.parts) c.in-Ok-Went.effects c.show.result c.in-Ok-Went.field-0-is c.show.ensures.step c.show.ensures.keeps)
 
 pub returns-in-Ok-Went-Synced-clause-step : goal.returns-in-Ok-Went-Synced-clause-step
 returns-in-Ok-Went-Synced-clause-step c =

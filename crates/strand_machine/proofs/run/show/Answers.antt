@@ -2,10 +2,10 @@ use Rattle.std.proofs.Common.{◌≡◌, ◌∙◌, IfOk, ap, refl, subst, sym}
 use Rattle.strand_meaning.specs.Task.{stops_at, child_in}
 use Rattle.strand_moves.specs.Moves.{effects_of}
 use Rattle.strand_moves.specs.declared.effects.Effects.{Effects}
-use Rattle.strand_moves.specs.declared.effects.Effects.TheVariants as shown
+use Rattle.strand_moves.specs.declared.effects.Effects.TheVariants as effect
 use Rattle.strand_moves.specs.declared.effects.LoopedChild.{LoopedChild}
 use Rattle.strand_moves.specs.declared.effects.SpawnedChild.{SpawnedChild}
-use Rattle.strand_machine.specs.Effects.{IsSoundShown, shown_task}
+use Rattle.strand_machine.specs.Effects.{HasSoundEffects, task_after_effects}
 use Rattle.strand_machine.specs.Made.{made}
 use Rattle.strand_machine.specs.Stops.{KeepsStep, step_of}
 use Rattle.strand_machine.specs.Tasks.{view_of, fresh_with, with_child}
@@ -22,10 +22,10 @@ use Rattle.strand_machine.proofs.run.show.Goals as goal
 -- nothing, or where a scope begins or has ended
 
 pub pass-requires : goal.pass-requires
-pass-requires c = quiet-sound c.args.parts.now.body c.args.instance c.args.shown c.in-Nothing.is c.requires
+pass-requires c = quiet-sound c.args.parts.now.body c.args.instance c.args.effects c.in-Nothing.is c.requires
 
 pub returns-in-Nothing-clause-step : goal.returns-in-Nothing-clause-step
-returns-in-Nothing-clause-step c = quiet-step c.args.parts.now.body c.args.instance c.args.shown _ c.in-Nothing.is c.pass.ensures.made
+returns-in-Nothing-clause-step c = quiet-step c.args.parts.now.body c.args.instance c.args.effects _ c.in-Nothing.is c.pass.ensures.made
 
 pub returns-in-Nothing-clause-keeps : goal.returns-in-Nothing-clause-keeps
 returns-in-Nothing-clause-keeps c =
@@ -35,11 +35,11 @@ returns-in-Nothing-clause-keeps c =
 -- an event
 
 pub pass-requires-in-Emitted : goal.pass-requires-in-Emitted
-pass-requires-in-Emitted c = emitted-sound c.args.parts.now.body c.args.instance c.args.shown c.in-Emitted.event c.emit.new.self c.in-Emitted.is c.in_ok-emit-in-Emitted.ensures c.requires
+pass-requires-in-Emitted c = emitted-sound c.args.parts.now.body c.args.instance c.args.effects c.in-Emitted.event c.emit.new.self c.in-Emitted.is c.in_ok-emit-in-Emitted.ensures c.requires
 
 pub returns-in-Emitted-clause-step : goal.returns-in-Emitted-clause-step
 returns-in-Emitted-clause-step c =
-    emitted-step c.args.parts.now.body c.args.instance c.args.shown c.in-Emitted.event c.emit.new.self _ c.in-Emitted.is c.in_ok-emit-in-Emitted.ensures c.pass-in-Emitted.ensures.made
+    emitted-step c.args.parts.now.body c.args.instance c.args.effects c.in-Emitted.event c.emit.new.self _ c.in-Emitted.is c.in_ok-emit-in-Emitted.ensures c.pass-in-Emitted.ensures.made
 
 pub returns-in-Emitted-clause-keeps : goal.returns-in-Emitted-clause-keeps
 returns-in-Emitted-clause-keeps c =
@@ -49,11 +49,11 @@ returns-in-Emitted-clause-keeps c =
 -- a sync
 
 pub pass-requires-in-Synced : goal.pass-requires-in-Synced
-pass-requires-in-Synced c = synced-sound c.args.parts.now.body c.args.instance c.args.shown c.in-Synced.event c.emit-in-Synced.new.self c.in-Synced.is c.in_ok-emit-in-Synced.ensures c.requires
+pass-requires-in-Synced c = synced-sound c.args.parts.now.body c.args.instance c.args.effects c.in-Synced.event c.emit-in-Synced.new.self c.in-Synced.is c.in_ok-emit-in-Synced.ensures c.requires
 
 pub returns-in-Synced-clause-step : goal.returns-in-Synced-clause-step
 returns-in-Synced-clause-step c =
-    synced-step c.args.parts.now.body c.args.instance c.args.shown c.in-Synced.event c.emit-in-Synced.new.self _ c.in-Synced.is c.in_ok-emit-in-Synced.ensures c.pass-in-Synced.ensures.made
+    synced-step c.args.parts.now.body c.args.instance c.args.effects c.in-Synced.event c.emit-in-Synced.new.self _ c.in-Synced.is c.in_ok-emit-in-Synced.ensures c.pass-in-Synced.ensures.made
 
 pub returns-in-Synced-clause-keeps : goal.returns-in-Synced-clause-keeps
 returns-in-Synced-clause-keeps c =
@@ -64,32 +64,32 @@ returns-in-Synced-clause-keeps c =
 
 pub show_spawn-requires : goal.show_spawn-requires
 show_spawn-requires c =
-    let is = c.in-Spawned.is ∙ ap (λ (o : SpawnedChild). shown.Spawned c.in-Spawned.event o) (sym c.unboxed-spawned.ensures) in subst (IsSoundShown c.args.parts.now.body c.args.instance) is c.requires
+    let is = c.in-Spawned.is ∙ ap (λ (o : SpawnedChild). effect.Spawned c.in-Spawned.event o) (sym c.unboxed-spawned.ensures) in subst (HasSoundEffects c.args.parts.now.body c.args.instance) is c.requires
 
 pub returns-in-Spawned-clause-step : goal.returns-in-Spawned-clause-step
 returns-in-Spawned-clause-step c =
     let b = c.args.parts.now.body in
     let i = c.args.instance in
-    let is = c.in-Spawned.is ∙ ap (λ (o : SpawnedChild). shown.Spawned c.in-Spawned.event o) (sym c.unboxed-spawned.ensures) in
-    subst (λ (s : Effects). IfOk c.show_spawn.result (λ passed. step_of (made c.show_spawn.new.parts passed) ≡ stops_at (child_in (effects_of s)) (shown_task b i s))) (sym is) c.show_spawn.ensures.step
+    let is = c.in-Spawned.is ∙ ap (λ (o : SpawnedChild). effect.Spawned c.in-Spawned.event o) (sym c.unboxed-spawned.ensures) in
+    subst (λ (s : Effects). IfOk c.show_spawn.result (λ passed. step_of (made c.show_spawn.new.parts passed) ≡ stops_at (child_in (effects_of s)) (task_after_effects b i s))) (sym is) c.show_spawn.ensures.step
 
 -- a loop
 
 pub spawn-requires-clause-known : goal.spawn-requires-clause-known
 spawn-requires-clause-known c =
-    looped-known c.args.parts.now.body c.args.instance c.args.shown c.in-Looped.event c.unboxed-child.result (c.in-Looped.is ∙ ap (λ (o : LoopedChild). shown.Looped c.in-Looped.event o) (sym c.unboxed-child.ensures)) c.requires
+    looped-known c.args.parts.now.body c.args.instance c.args.effects c.in-Looped.event c.unboxed-child.result (c.in-Looped.is ∙ ap (λ (o : LoopedChild). effect.Looped c.in-Looped.event o) (sym c.unboxed-child.ensures)) c.requires
 
 pub spawn-requires-clause-trail : goal.spawn-requires-clause-trail
 spawn-requires-clause-trail c =
-    looped-trail c.args.parts.now.body c.args.instance c.args.shown c.in-Looped.event c.unboxed-child.result (c.in-Looped.is ∙ ap (λ (o : LoopedChild). shown.Looped c.in-Looped.event o) (sym c.unboxed-child.ensures)) c.requires
+    looped-trail c.args.parts.now.body c.args.instance c.args.effects c.in-Looped.event c.unboxed-child.result (c.in-Looped.is ∙ ap (λ (o : LoopedChild). effect.Looped c.in-Looped.event o) (sym c.unboxed-child.ensures)) c.requires
 
 pub spawn-requires-clause-handed : goal.spawn-requires-clause-handed
 spawn-requires-clause-handed c =
-    looped-handed c.args.parts.now.body c.args.instance c.args.shown c.in-Looped.event c.unboxed-child.result (c.in-Looped.is ∙ ap (λ (o : LoopedChild). shown.Looped c.in-Looped.event o) (sym c.unboxed-child.ensures)) c.requires
+    looped-handed c.args.parts.now.body c.args.instance c.args.effects c.in-Looped.event c.unboxed-child.result (c.in-Looped.is ∙ ap (λ (o : LoopedChild). effect.Looped c.in-Looped.event o) (sym c.unboxed-child.ensures)) c.requires
 
 pub spawn-requires-clause-sound : goal.spawn-requires-clause-sound
 spawn-requires-clause-sound c =
-    looped-sound c.args.parts.now.body c.args.instance c.args.shown c.in-Looped.event c.unboxed-child.result c.emit-in-Looped.new.self (c.in-Looped.is ∙ ap (λ (o : LoopedChild). shown.Looped c.in-Looped.event o) (sym c.unboxed-child.ensures)) c.in_ok-emit-in-Looped.ensures c.requires
+    looped-sound c.args.parts.now.body c.args.instance c.args.effects c.in-Looped.event c.unboxed-child.result c.emit-in-Looped.new.self (c.in-Looped.is ∙ ap (λ (o : LoopedChild). effect.Looped c.in-Looped.event o) (sym c.unboxed-child.ensures)) c.in_ok-emit-in-Looped.ensures c.requires
 
 pub returns-clause-step : goal.returns-clause-step
 returns-clause-step c =
@@ -99,8 +99,8 @@ returns-clause-step c =
     let p = c.emit-in-Looped.new.self in
     made-ok c.spawn.new.parts c.spawn.result
     (λ (r : MoveOrStop). r ≡ step.Stops (stop.Spawn (fresh_with b.family.knows b.family.plan o.child.origin) (view_of (with_child (with_trace b p) o.child.origin (place.Looped o.target)) (work.Runs (stage.AtLoop i)))))
-    (λ (r : MoveOrStop). step_of r ≡ stops_at (child_in (effects_of c.args.shown)) (shown_task b i c.args.shown))
-    (λ r h. looped-step b i c.args.shown c.in-Looped.event o p r (c.in-Looped.is ∙ ap (λ (o : LoopedChild). shown.Looped c.in-Looped.event o) (sym c.unboxed-child.ensures)) c.in_ok-emit-in-Looped.ensures h) c.spawn.ensures.made
+    (λ (r : MoveOrStop). step_of r ≡ stops_at (child_in (effects_of c.args.effects)) (task_after_effects b i c.args.effects))
+    (λ r h. looped-step b i c.args.effects c.in-Looped.event o p r (c.in-Looped.is ∙ ap (λ (o : LoopedChild). effect.Looped c.in-Looped.event o) (sym c.unboxed-child.ensures)) c.in_ok-emit-in-Looped.ensures h) c.spawn.ensures.made
 
 pub returns-clause-keeps : goal.returns-clause-keeps
 returns-clause-keeps c =

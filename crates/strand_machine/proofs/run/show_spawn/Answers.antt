@@ -1,8 +1,8 @@
 use Rattle.std.proofs.Common.{◌≡◌, refl}
 use Rattle.strand_meaning.specs.Task.{stops_at, child_in}
 use Rattle.strand_moves.specs.Moves.{effects_of}
-use Rattle.strand_moves.specs.declared.effects.Effects.TheVariants as shown
-use Rattle.strand_machine.specs.Effects.{shown_task}
+use Rattle.strand_moves.specs.declared.effects.Effects.TheVariants as effect
+use Rattle.strand_machine.specs.Effects.{task_after_effects}
 use Rattle.strand_machine.specs.Stops.{KeepsStep, step_of}
 use Rattle.strand_machine.specs.Tasks.{view_of, fresh_with, with_child}
 use Rattle.strand_machine.specs.declared.destination.Destination.TheVariants as place
@@ -16,18 +16,18 @@ use Rattle.strand_machine.proofs.Moves.Moving.{spawned-known, spawned-trail, spa
 use Rattle.strand_machine.proofs.run.show_spawn.Goals as goal
 
 pub spawn-requires-clause-known : goal.spawn-requires-clause-known
-spawn-requires-clause-known c = let s = c.args.spawning in spawned-known c.args.parts.now.body c.args.instance (shown.Spawned s.event s.spawned) s.event s.spawned refl c.requires
+spawn-requires-clause-known c = let s = c.args.spawning in spawned-known c.args.parts.now.body c.args.instance (effect.Spawned s.event s.spawned) s.event s.spawned refl c.requires
 
 pub spawn-requires-clause-trail : goal.spawn-requires-clause-trail
-spawn-requires-clause-trail c = let s = c.args.spawning in spawned-trail c.args.parts.now.body c.args.instance (shown.Spawned s.event s.spawned) s.event s.spawned refl c.requires
+spawn-requires-clause-trail c = let s = c.args.spawning in spawned-trail c.args.parts.now.body c.args.instance (effect.Spawned s.event s.spawned) s.event s.spawned refl c.requires
 
 pub spawn-requires-clause-handed : goal.spawn-requires-clause-handed
-spawn-requires-clause-handed c = let s = c.args.spawning in spawned-handed c.args.parts.now.body c.args.instance (shown.Spawned s.event s.spawned) s.event s.spawned refl c.requires
+spawn-requires-clause-handed c = let s = c.args.spawning in spawned-handed c.args.parts.now.body c.args.instance (effect.Spawned s.event s.spawned) s.event s.spawned refl c.requires
 
 pub spawn-requires-clause-sound : goal.spawn-requires-clause-sound
 spawn-requires-clause-sound c =
     let s = c.args.spawning in
-    spawned-sound c.args.parts.now.body c.args.instance (shown.Spawned s.event s.spawned) s.event s.spawned c.emit.new.self refl c.in_ok-emit.ensures c.requires
+    spawned-sound c.args.parts.now.body c.args.instance (effect.Spawned s.event s.spawned) s.event s.spawned c.emit.new.self refl c.in_ok-emit.ensures c.requires
 
 pub returns-clause-step : goal.returns-clause-step
 returns-clause-step c =
@@ -38,8 +38,8 @@ returns-clause-step c =
     let p = c.emit.new.self in
     made-ok c.spawn.new.parts c.spawn.result
     (λ (r : MoveOrStop). r ≡ step.Stops (stop.Spawn (fresh_with b.family.knows b.family.plan o.child.origin) (view_of (with_child (with_trace b p) o.child.origin (place.Spawned o.height o.target)) (work.Runs (stage.Running i)))))
-    (λ (r : MoveOrStop). step_of r ≡ stops_at (child_in (effects_of (shown.Spawned s.event o))) (shown_task b i (shown.Spawned s.event o)))
-    (λ r h. spawned-step b i (shown.Spawned s.event o) s.event o p r refl c.in_ok-emit.ensures h) c.spawn.ensures.made
+    (λ (r : MoveOrStop). step_of r ≡ stops_at (child_in (effects_of (effect.Spawned s.event o))) (task_after_effects b i (effect.Spawned s.event o)))
+    (λ r h. spawned-step b i (effect.Spawned s.event o) s.event o p r refl c.in_ok-emit.ensures h) c.spawn.ensures.made
 
 pub returns-clause-keeps : goal.returns-clause-keeps
 returns-clause-keeps c =

@@ -1,4 +1,4 @@
-use Rattle.strand_meaning.proofs.NodesNoted.NodeAnswers.{answers_show_nothing}
+use Rattle.strand_meaning.proofs.NodesObserved.NodeAnswers.{answers_show_nothing}
 use Rattle.strand_meaning.proofs.laws.answers_show_nothing.Goals as goal
 
 pub returns : goal.returns

@@ -1,5 +1,5 @@
-use Rattle.strand_meaning.proofs.NodesNoted.Noted.{notes_begin}
-use Rattle.strand_meaning.proofs.laws.notes_begin.Goals as goal
+use Rattle.strand_meaning.proofs.NodesObserved.Noted.{observation_begins}
+use Rattle.strand_meaning.proofs.laws.observation_begins.Goals as goal
 
 pub returns : goal.returns
-returns c = notes_begin
+returns c = observation_begins

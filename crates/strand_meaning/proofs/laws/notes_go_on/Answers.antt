@@ -1,5 +1,5 @@
-use Rattle.strand_meaning.proofs.NodesNoted.Noted.{notes_go_on}
-use Rattle.strand_meaning.proofs.laws.notes_go_on.Goals as goal
+use Rattle.strand_meaning.proofs.NodesObserved.Noted.{observation_goes_on}
+use Rattle.strand_meaning.proofs.laws.observation_goes_on.Goals as goal
 
 pub returns : goal.returns
-returns c = notes_go_on
+returns c = observation_goes_on

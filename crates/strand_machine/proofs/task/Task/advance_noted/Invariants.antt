@@ -1,9 +1,9 @@
 use Rattle.strand_meaning.specs.Left.{moves_left}
-use Rattle.strand_machine.proofs.NodesNoted.Noting.{LeadsNoted}
+use Rattle.strand_machine.proofs.NodesObserved.Noting.{LeadsNoted}
 use Rattle.strand_machine.proofs.task.Task.advance_noted.Given as goal
 
-abbrev pub invariant-loop-notes : goal.invariant-loop-notes
-invariant-loop-notes l = LeadsNoted l.fn.self l.fn.at l.fn.eye l.task l.notes
+abbrev pub invariant-loop-observation : goal.invariant-loop-observation
+invariant-loop-observation l = LeadsNoted l.fn.self l.fn.at l.fn.eye l.task l.observation
 
-abbrev pub decreases-loop-notes : goal.decreases-loop-notes
-decreases-loop-notes l = moves_left l.task.task
+abbrev pub decreases-loop-observation : goal.decreases-loop-observation
+decreases-loop-observation l = moves_left l.task.task

@@ -12,7 +12,7 @@ returns-in-Some c =
     let found = c.in-Some.ensures.lookup in
     let there = rw l.invariant.block at (slice_get_read _ _ here.next c.in-Some.statement.now refl found.3.0 found.1) in
     let next = passes body here (record { entered = here.entered; next = here.next + 1 }) c.in-Some.statement.now there refl refl in
-    (record { first = sym l.invariant.left ∙ next.first; behind = next.behind }, l.invariant.block)
+    (record { first = sym l.invariant.left ∙ next.first; after = next.after }, l.invariant.block)
 
 pub loop-statement-preserved : goal.loop-statement-preserved
 loop-statement-preserved c =

@@ -23,8 +23,8 @@ returns-in-Some-clause-moves c =
 pub statement-requires-clause-goes_on : goal.statement-requires-clause-goes_on
 statement-requires-clause-goes_on c = let has = subst (λ (n : Option Stmt). HasPassedStatement c.args.plan.now c.args.self.now n) (ap option_copied c.in-Some.is) c.requires.passed in has.0
 
-pub statement-requires-clause-behind : goal.statement-requires-clause-behind
-statement-requires-clause-behind c = let has = subst (λ (n : Option Stmt). HasPassedStatement c.args.plan.now c.args.self.now n) (ap option_copied c.in-Some.is) c.requires.passed in has.1
+pub statement-requires-clause-after : goal.statement-requires-clause-after
+statement-requires-clause-after c = let has = subst (λ (n : Option Stmt). HasPassedStatement c.args.plan.now c.args.self.now n) (ap option_copied c.in-Some.is) c.requires.passed in has.1
 
 pub end_block-requires-clause-none : goal.end_block-requires-clause-none
 end_block-requires-clause-none c = subst (λ (n : Option Stmt). HasPassedStatement c.args.plan.now c.args.self.now n) (ap option_copied c.in-None.is) c.requires.passed

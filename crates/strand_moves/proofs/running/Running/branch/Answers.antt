@@ -13,18 +13,18 @@ use Rattle.strand_moves.proofs.OpenScopes.Exits.{quiet-exit}
 use Rattle.strand_moves.proofs.running.Running.branch.Goals as goal
 
 pub returns-in_err-holds-clause-shows : goal.returns-in_err-holds-clause-shows
-returns-in_err-holds-clause-shows c = λ plan st first second behind a.
+returns-in_err-holds-clause-shows c = λ plan st first second after a.
     let i = c.args.self.now in
     let d = value_of c.args.e.now i.top.env.variables in
     quiet-exit (acted plan (present_of i) (machine_of plan i) st (act.If c.args.e.now first second)) (present_pedigree (present_of i) (machine_of plan i)) _ c.from_residual.result c.in_err-holds.field-0.0
     (holding d) c.from_residual.ensures.1 c.in_err-holds.ensures (λ kind h. branch-fault plan (present_of i) (machine_of plan i) st c.args.e.now first second kind (holding-fault d kind h))
 
 pub returns-clause-shows : goal.returns-clause-shows
-returns-clause-shows c = λ plan st first second behind a.
+returns-clause-shows c = λ plan st first second after a.
     let i = c.args.self.now in
     let known = holding-known (value_of c.args.e.now i.top.env.variables) c.in_ok-holds.holds c.in_ok-holds.ensures in
     branch-into plan i st c.args.e.now known.0 c.enter.new.self known.1.0 first second c.in_ok-holds.holds (sym known.1.1) a
-    (c.in_ok-enter.ensures (statements_of plan i.top) st behind)
+    (c.in_ok-enter.ensures (statements_of plan i.top) st after)
 
 pub returns-clause-named : goal.returns-clause-named
 returns-clause-named c = λ plan.

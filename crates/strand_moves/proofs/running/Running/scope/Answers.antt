@@ -9,19 +9,19 @@ use Rattle.strand_moves.proofs.OpenScopes.Levels.{Begins, goes-in, in-moves}
 use Rattle.strand_moves.proofs.running.Running.scope.Goals as goal
 
 pub returns-then-len-plan-clause-shows : goal.returns-then-len-plan-clause-shows
-returns-then-len-plan-clause-shows c = λ st block behind is.
+returns-then-len-plan-clause-shows c = λ st block after is.
     let i = c.args.self.now in
     let plan = c.args.plan.now in
     let depth = ap (λ (p : PlanView). p.limits.depth) c.plan.view_is in
     scope-depth-fault plan (present_of i) (machine_of plan i) st block (is_not_below (length (present_of i) + 1) plan.limits.depth (omega arith))
 
 pub returns-clause-shows : goal.returns-clause-shows
-returns-clause-shows c = λ st block behind is.
+returns-clause-shows c = λ st block after is.
     let i = c.args.self.now in
     let plan = c.args.plan.now in
     let depth = ap (λ (p : PlanView). p.limits.depth) c.plan.view_is in
     let begins : Begins i c.go_in.new.self c.in_ok-inner.inner = (c.in_ok-go_in.ensures.levels, c.go_in.ensures.starts, c.go_in.ensures.others) in
-    rw (c.in_ok-inner.ensures.shared, c.in_ok-inner.ensures.path) (in-moves i c.go_in.new.self c.in_ok-inner.inner plan st block begins behind is (omega arith))
+    rw (c.in_ok-inner.ensures.shared, c.in_ok-inner.ensures.path) (in-moves i c.go_in.new.self c.in_ok-inner.inner plan st block begins after is (omega arith))
 
 pub returns-clause-into : goal.returns-clause-into
 returns-clause-into c =

@@ -9,7 +9,7 @@ use Rattle.strand_meaning.specs.Machine.{statement_move}
 use Rattle.strand_moves.proofs.Statements.Equations.{faults, let-is-set}
 use Rattle.strand_moves.proofs.OpenScopes.Exits.{shows-fault}
 use Rattle.strand_moves.proofs.Statements.FoundParts.{every-spawn, in_array, in_call, in_if, in_let, in_pfor, in_print, in_set, in_store, in_while, paid-finds}
-use Rattle.strand_moves.proofs.Statements.Paying.{act-is, shows-same, statement-paid, statement-unpaid, paid-behind}
+use Rattle.strand_moves.proofs.Statements.Paying.{act-is, shows-same, statement-paid, statement-unpaid, paid-after}
 use Rattle.strand_moves.proofs.Statements.Handing.{handed-acts, handed-child}
 use Rattle.strand_moves.proofs.Statements.QuickLemmas.{emitted-child, quiet-child}
 use Rattle.strand_moves.proofs.OpenScopes.Keeping.{here-is, keeps-into, keeps-paid, keeps-unless}
@@ -92,9 +92,9 @@ returns-in-If-clause-shows c =
     let p = c.pay.new.self in
     let st = c.args.statement.now in
     let is = act-is (act.If c.in-If.e c.in-If.field-1 c.in-If.field-2) st.act (variant.If c.in-If.e c.in-If.field-1 c.in-If.field-2) c.in-If.is (variant.rolls-If c.in-If.e c.in-If.field-1 c.in-If.field-2) in
-    let behind = paid-behind plan c.args.self.now p p.steps c.in_ok-pay.ensures.ok c.in_ok-pay.ensures.paid st c.requires.behind in
+    let after = paid-after plan c.args.self.now p p.steps c.in_ok-pay.ensures.ok c.in_ok-pay.ensures.paid st c.requires.after in
     statement-paid plan c.args.self.now p p.steps c.in_ok-pay.ensures.ok c.in_ok-pay.ensures.paid (here-is plan c.args.self.now c.requires.instance) st (act.If c.in-If.e c.in-If.field-1 c.in-If.field-2) c.branch-self.new.self c.quiet-in-If.result is
-    (rw c.quiet-in-If.ensures (c.branch-self.ensures.shows plan st c.in-If.field-1 c.in-If.field-2 behind is))
+    (rw c.quiet-in-If.ensures (c.branch-self.ensures.shows plan st c.in-If.field-1 c.in-If.field-2 after is))
 
 pub returns-in-While-clause-shows : goal.returns-in-While-clause-shows
 returns-in-While-clause-shows c =
@@ -102,9 +102,9 @@ returns-in-While-clause-shows c =
     let p = c.pay.new.self in
     let st = c.args.statement.now in
     let is = act-is (act.While c.in-While.e c.in-While.field-1) st.act (variant.While c.in-While.e c.in-While.field-1) c.in-While.is (variant.rolls-While c.in-While.e c.in-While.field-1) in
-    let behind = paid-behind plan c.args.self.now p p.steps c.in_ok-pay.ensures.ok c.in_ok-pay.ensures.paid st c.requires.behind in
+    let after = paid-after plan c.args.self.now p p.steps c.in_ok-pay.ensures.ok c.in_ok-pay.ensures.paid st c.requires.after in
     statement-paid plan c.args.self.now p p.steps c.in_ok-pay.ensures.ok c.in_ok-pay.ensures.paid (here-is plan c.args.self.now c.requires.instance) st (act.While c.in-While.e c.in-While.field-1) c.while_test.new.self c.quiet-in-While.result is
-    (rw c.quiet-in-While.ensures (c.while_test.ensures.shows plan st c.in-While.field-1 behind is))
+    (rw c.quiet-in-While.ensures (c.while_test.ensures.shows plan st c.in-While.field-1 after is))
 
 pub returns-in-Pfor-clause-shows : goal.returns-in-Pfor-clause-shows
 returns-in-Pfor-clause-shows c =
@@ -183,9 +183,9 @@ returns-in-Scope-clause-shows c =
     let p = c.pay.new.self in
     let st = c.args.statement.now in
     let is = act-is (act.Scope c.in-Scope.field-0) st.act (variant.Scope c.in-Scope.field-0) c.in-Scope.is (variant.rolls-Scope c.in-Scope.field-0) in
-    let behind = paid-behind plan c.args.self.now p p.steps c.in_ok-pay.ensures.ok c.in_ok-pay.ensures.paid st c.requires.behind in
+    let after = paid-after plan c.args.self.now p p.steps c.in_ok-pay.ensures.ok c.in_ok-pay.ensures.paid st c.requires.after in
     statement-paid plan c.args.self.now p p.steps c.in_ok-pay.ensures.ok c.in_ok-pay.ensures.paid (here-is plan c.args.self.now c.requires.instance) st (act.Scope c.in-Scope.field-0) c.scope.new.self c.scope.result is
-    (c.scope.ensures.shows st c.in-Scope.field-0 behind is)
+    (c.scope.ensures.shows st c.in-Scope.field-0 after is)
 
 pub returns-in-Scope-clause-keeps : goal.returns-in-Scope-clause-keeps
 returns-in-Scope-clause-keeps c =

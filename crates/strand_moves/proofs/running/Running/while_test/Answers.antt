@@ -13,20 +13,20 @@ use Rattle.strand_moves.proofs.OpenScopes.Exits.{quiet-exit}
 use Rattle.strand_moves.proofs.running.Running.while_test.Goals as goal
 
 pub returns-in_err-holds-clause-shows : goal.returns-in_err-holds-clause-shows
-returns-in_err-holds-clause-shows c = λ plan st body behind a.
+returns-in_err-holds-clause-shows c = λ plan st body after a.
     let i = c.args.self.now in
     let d = value_of c.args.e.now i.top.env.variables in
     quiet-exit (acted plan (present_of i) (machine_of plan i) st (act.While c.args.e.now body)) (present_pedigree (present_of i) (machine_of plan i)) _ c.from_residual.result c.in_err-holds.field-0.0
     (holding d) c.from_residual.ensures.1 c.in_err-holds.ensures (λ kind h. turn-fault plan (present_of i) (machine_of plan i) st c.args.e.now body kind (holding-fault d kind h))
 
 pub returns-in_ok-enter_loop-clause-shows : goal.returns-in_ok-enter_loop-clause-shows
-returns-in_ok-enter_loop-clause-shows c = λ plan st body behind a.
+returns-in_ok-enter_loop-clause-shows c = λ plan st body after a.
     let i = c.args.self.now in
     let known = holding-known (value_of c.args.e.now i.top.env.variables) c.in_ok-holds.holds c.in_ok-holds.ensures in
-    turn-into plan i st c.args.e.now known.0 c.enter_loop.new.self known.1.0 body (known.1.1 ∙ c.if-holds.true) a (c.in_ok-enter_loop.ensures (statements_of plan i.top) st behind)
+    turn-into plan i st c.args.e.now known.0 c.enter_loop.new.self known.1.0 body (known.1.1 ∙ c.if-holds.true) a (c.in_ok-enter_loop.ensures (statements_of plan i.top) st after)
 
 pub returns-else-holds-clause-shows : goal.returns-else-holds-clause-shows
-returns-else-holds-clause-shows c = λ plan st body behind a.
+returns-else-holds-clause-shows c = λ plan st body after a.
     let i = c.args.self.now in
     let known = holding-known (value_of c.args.e.now i.top.env.variables) c.in_ok-holds.holds c.in_ok-holds.ensures in
     no-turn plan (present_of i) (machine_of plan i) st c.args.e.now body known.0 known.1.0 (known.1.1 ∙ c.if-holds.false)

@@ -1,6 +1,6 @@
 -- A task that takes its children's answers shows nothing.
 use Rattle.std.proofs.Common.{◌≡◌, ℕ, true, false, List, [], ◌∷◌, Option, Some, None, Result, Ok, Err, refl, sym, ap, ◌∙◌}
-use Rattle.serial_meaning.specs.Runs.{Run, done, behind, ◌then◌}
+use Rattle.serial_meaning.specs.Runs.{Run, done, after_items, ◌then◌}
 use Rattle.serial_meaning.specs.Plan.{PlanView}
 use Rattle.serial_meaning.specs.Eval.{Evaluation, eval}
 use Rattle.serial_meaning.specs.Open.{Item, NodeFault, Own, ChildFaulted}
@@ -57,10 +57,10 @@ module _ (plan : PlanView) (child : Origin → Evaluation) (ps : List AwaitedChi
   stays (Ended (Err (Own f))) sound = ap (λ (s : InstanceState). stage_fault (resumed s)) (sym (takes-taken child sound.0 ps sound.1 (Ended (Err (Own f)))))
   stays (Ended (Err (ChildFaulted f))) sound = sym (after-none (Ended (Err (ChildFaulted f))) refl)
 
-stage-answers : (t : Task) (function : ℕ) (args : List Value) (path : List ℕ) (stage : InstanceState) (notes : Observation) → let u : Task = record t { origin = Instance function args path; work = Runs stage } in
-    IsTask u → IsOnWay notes u → IsOnWay notes (on (evaluations (eval u.plan) u.trace.handed) u)
-stage-answers t function args path stage notes is h = record {
-  node = h.node ∙ ap (behind notes.items) same;
+stage-answers : (t : Task) (function : ℕ) (args : List Value) (path : List ℕ) (stage : InstanceState) (observation : Observation) → let u : Task = record t { origin = Instance function args path; work = Runs stage } in
+    IsTask u → IsOnWay observation u → IsOnWay observation (on (evaluations (eval u.plan) u.trace.handed) u)
+stage-answers t function args path stage observation is h = record {
+  node = h.node ∙ ap (after_items observation.items) same;
   fault = h.fault ∙ stays t.plan (eval t.plan) t.trace.handed stage is.work.2;
   joined = h.joined;
 }
@@ -76,17 +76,17 @@ stage-answers t function args path stage notes is h = record {
         ap (λ (r : Run Item NodeFault Value). r then λ v. done (v ∷ [])) (rest-same u is stage)
         ∙ ap (λ (ps : List AwaitedChild). work_left t.plan (Instance function args path) ps (Runs taken_stage)) (sym (none-handed u is))
 
-pub answers_show_nothing : (t : Task) (notes : Observation) → IsTask t → IsInstance t.origin → IsOnWay notes t → IsOnWay notes (on (evaluations (eval t.plan) t.trace.handed) t)
-answers_show_nothing t notes is inst h = by_origin t.origin is inst h
+pub answers_show_nothing : (t : Task) (observation : Observation) → IsTask t → IsInstance t.origin → IsOnWay observation t → IsOnWay observation (on (evaluations (eval t.plan) t.trace.handed) t)
+answers_show_nothing t observation is inst h = by_origin t.origin is inst h
   where
-    by_origin : (o : Origin) → IsTask (record t { origin = o }) → IsInstance o → IsOnWay notes (record t { origin = o }) →
-        let u : Task = record t { origin = o } in IsOnWay notes (on (evaluations (eval u.plan) u.trace.handed) u)
+    by_origin : (o : Origin) → IsTask (record t { origin = o }) → IsInstance o → IsOnWay observation (record t { origin = o }) →
+        let u : Task = record t { origin = o } in IsOnWay observation (on (evaluations (eval u.plan) u.trace.handed) u)
     by_origin (Loop function rest first path range) is inst h = absurd inst
     by_origin (Instance function args path) is inst h = by_work t.work is h
       where
-        by_work : (work : Work) → IsTask (record t { origin = Instance function args path; work = work }) → IsOnWay notes (record t { origin = Instance function args path; work = work }) →
-            let u : Task = record t { origin = Instance function args path; work = work } in IsOnWay notes (on (evaluations (eval u.plan) u.trace.handed) u)
+        by_work : (work : Work) → IsTask (record t { origin = Instance function args path; work = work }) → IsOnWay observation (record t { origin = Instance function args path; work = work }) →
+            let u : Task = record t { origin = Instance function args path; work = work } in IsOnWay observation (on (evaluations (eval u.plan) u.trace.handed) u)
         by_work (Splits left) is h = absurd is.work.0
-        by_work (Runs stage) is h = stage-answers t function args path stage notes is h
+        by_work (Runs stage) is h = stage-answers t function args path stage observation is h
         by_work (Over v true) is h = absurd is.work.0
         by_work (Over v false) is h = absurd is.work.0

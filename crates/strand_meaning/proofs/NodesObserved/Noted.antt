@@ -1,7 +1,7 @@
 -- What is noted of a task on its way.
 use Rattle.std.proofs.Common.{◌≡◌, ℕ, Bool, true, false, List, [], ◌∷◌, ◌++◌, Option, Some, None, Result, Ok, Err, refl, sym, ap, ◌∙◌, subst, append_assoc, append-nil, length}
 use Rattle.script_grammar.specs.declared.tree.Function.{Function}
-use Rattle.serial_meaning.specs.Runs.{Run, done, behind, ◌then◌}
+use Rattle.serial_meaning.specs.Runs.{Run, done, after_items, ◌then◌}
 use Rattle.serial_meaning.specs.Functions.{function_at}
 use Rattle.serial_meaning.specs.Plan.{PlanView, functions_of}
 use Rattle.serial_meaning.specs.Eval.{Evaluation, path_of}
@@ -13,14 +13,14 @@ use Rattle.serial_meaning.specs.declared.origin.Origin.TheVariants.{Instance, Lo
 use Rattle.serial_meaning.specs.declared.answer.Outcome.{Outcome}
 use Rattle.strand_meaning.specs.Machine.{Effect, Opens, Closes, Emitted, Handed, Syncs, Loops, Machine, Reached, Stands, Gives, begun, move}
 use Rattle.strand_meaning.specs.Trace.{AwaitedChild, Trace, with_effects}
-use Rattle.strand_meaning.specs.Task.{InstanceState, Running, AtSync, AtLoop, Ended, Work, Splits, Runs, Over, Task, MoveOrStop, Passes, Stops, Stop, Spawn, Wait, End, IsNext, Now, Later, stage_after, child_in, stops_at, passing, moved, ends_unless, faults_behind, resumed, begun_stage, start, step}
+use Rattle.strand_meaning.specs.Task.{InstanceState, Running, AtSync, AtLoop, Ended, Work, Splits, Runs, Over, Task, MoveOrStop, Passes, Stops, Stop, Spawn, Wait, End, IsNext, Now, Later, stage_after, child_in, stops_at, passing, moved, ends_unless, faults_after, resumed, begun_stage, start, step}
 use Rattle.strand_meaning.specs.Rest.{children_of, rest_of_stage, rest_open}
 use Rattle.strand_meaning.specs.Laws.{IsSoundStep, IsOf}
 use Rattle.strand_meaning.specs.Sound.{AreDestinations, AreHalves, IsSoundStage, IsTask}
 use Rattle.strand_meaning.specs.Strands.{joined_fault}
-use Rattle.strand_meaning.specs.Observation.{IsInstance, work_left, Observation, no_notes, newest, also, effect_items, move_fault, stage_notes, step_notes, Shows, Now as ShownNow, Later as ShownLater, own_fault_of, stage_fault, IsOnWay, IsAllNoted, OnWay}
+use Rattle.strand_meaning.specs.Observation.{IsInstance, work_left, Observation, no_observation, newest, also, effect_items, move_fault, stage_observation, step_observation, Shows, Now as ShownNow, Later as ShownLater, own_fault_of, stage_fault, IsOnWay, IsAllNoted, OnWay}
 use Rattle.strand_meaning.proofs.UnfilledPending.Alike.{alike-effects, alike-takes}
-use Rattle.strand_meaning.proofs.SoundSteps.Closing.{behind-then}
+use Rattle.strand_meaning.proofs.SoundSteps.Closing.{after-then}
 use Rattle.strand_meaning.proofs.SoundSteps.Ends.{steps_are_sound}
 use Rattle.strand_meaning.proofs.Unfilled.Shown.{effect_parts}
 use Rattle.strand_meaning.proofs.Unfilled.SoundMoves.{sound-free, SoundEnd, sound-move}
@@ -41,8 +41,8 @@ also-assoc a b c =
     ∙ ap (λ (f : Option Fault). record { items = a.items ++ (b.items ++ c.items); fault = f; joined = newest (newest a.joined b.joined) c.joined }) (newest-assoc a.fault b.fault c.fault)
     ∙ ap (λ (f : Option Fault). record { items = a.items ++ (b.items ++ c.items); fault = newest a.fault (newest b.fault c.fault); joined = f }) (newest-assoc a.joined b.joined c.joined)
 
-pub also-nothing : (notes : Observation) → also notes no_notes ≡ notes
-also-nothing notes = ap (λ (l : List Item). record notes { items = l }) (append-nil notes.items)
+pub also-nothing : (observation : Observation) → also observation no_observation ≡ observation
+also-nothing observation = ap (λ (l : List Item). record observation { items = l }) (append-nil observation.items)
 
 -- A move
 
@@ -52,8 +52,8 @@ stage_moved ts (Ok (Stands k)) = stage_after ts k
 stage_moved ts (Ok (Gives v)) = Ended (Ok v)
 stage_moved ts (Err f) = Ended (Err (Own f))
 
-behind-behind : {A : Type 0} (xs ys : List Item) (r : Run Item NodeFault A) → behind xs (behind ys r) ≡ behind (xs ++ ys) r
-behind-behind xs ys r = ap (λ (l : List Item). record { items = l; ending = r.ending }) (sym (append_assoc xs ys r.items))
+after-after : {A : Type 0} (xs ys : List Item) (r : Run Item NodeFault A) → after_items xs (after_items ys r) ≡ after_items (xs ++ ys) r
+after-after xs ys r = ap (λ (l : List Item). record { items = l; ending = r.ending }) (sym (append_assoc xs ys r.items))
 
 after-fault : (ts : List Effect) (k : Machine) → stage_fault (stage_after ts k) ≡ None
 after-fault [] k = refl
@@ -70,10 +70,10 @@ moved-fault ts (Ok (Gives v)) = refl
 moved-fault ts (Err f) = refl
 
 -- a task's instance on its way, with these parts handed out
-record Way (plan : PlanView) (o : Origin) (ps : List AwaitedChild) (stage : InstanceState) (notes : Observation) : Type 0 where
-  node : opened plan o ≡ behind notes.items (work_left plan o ps (Runs stage))
-  fault : notes.fault ≡ stage_fault stage
-  joined : notes.joined ≡ None
+record Way (plan : PlanView) (o : Origin) (ps : List AwaitedChild) (stage : InstanceState) (observation : Observation) : Type 0 where
+  node : opened plan o ≡ after_items observation.items (work_left plan o ps (Runs stage))
+  fault : observation.fault ≡ stage_fault stage
+  joined : observation.joined ≡ None
 
 module _ (plan : PlanView) (o : Origin) where
   abbrev path : List ℕ
@@ -101,15 +101,15 @@ module _ (plan : PlanView) (o : Origin) where
             sym (ended-rest plan kids path 0 (ps ++ effect_parts ts) (halves-places (ps ++ effect_parts ts) (subst AreHalves (no-more fits.0) fits.1)) (Ok v)) ∙ to-after (Ended (Ok v))
         by_end (Err f) fits = sym (ended-rest plan kids path fits.1 (ps ++ effect_parts ts) (subst (AreDestinations fits.1) (no-more fits.0) fits.2) (Err (Own f))) ∙ to-after (Ended (Err (Own f)))
 
-    way-moved : (m : Machine) (notes : Observation) (ts : List Effect) (e : Result Reached Fault) → SoundEnd plan ps ts e →
-        rest_open plan kids path ps (Running m) ≡ behind (effect_items ts) (shown_with plan kids path ps ts e) → Way plan o ps (Running m) notes →
-        Way plan o (with_effects ts trace).handed (stage_moved ts e) (also notes (record { items = effect_items ts; fault = move_fault e; joined = None }))
-    way-moved m notes ts e fits leaves w = record {
+    way-moved : (m : Machine) (observation : Observation) (ts : List Effect) (e : Result Reached Fault) → SoundEnd plan ps ts e →
+        rest_open plan kids path ps (Running m) ≡ after_items (effect_items ts) (shown_with plan kids path ps ts e) → Way plan o ps (Running m) observation →
+        Way plan o (with_effects ts trace).handed (stage_moved ts e) (also observation (record { items = effect_items ts; fault = move_fault e; joined = None }))
+    way-moved m observation ts e fits leaves w = record {
       node =
           w.node
-          ∙ ap (λ (r : Run Item NodeFault Value). behind notes.items (r then all_of)) (leaves ∙ ap (behind (effect_items ts)) (lands ts e fits))
-          ∙ ap (behind notes.items) (behind-then (effect_items ts) (rest_open plan kids path (with_effects ts trace).handed (stage_moved ts e)) all_of)
-          ∙ behind-behind notes.items (effect_items ts) (rest_open plan kids path (with_effects ts trace).handed (stage_moved ts e) then all_of);
+          ∙ ap (λ (r : Run Item NodeFault Value). after_items observation.items (r then all_of)) (leaves ∙ ap (after_items (effect_items ts)) (lands ts e fits))
+          ∙ ap (after_items observation.items) (after-then (effect_items ts) (rest_open plan kids path (with_effects ts trace).handed (stage_moved ts e)) all_of)
+          ∙ after-after observation.items (effect_items ts) (rest_open plan kids path (with_effects ts trace).handed (stage_moved ts e) then all_of);
       fault = ap (λ (f : Option Fault). newest f (move_fault e)) w.fault ∙ moved-fault ts e;
       joined = w.joined;
     }
@@ -117,9 +117,9 @@ module _ (plan : PlanView) (o : Origin) where
         all_of : Value → Run Item NodeFault (List Value)
         all_of v = done (v ∷ [])
 
-pub stops_are_shown : (t : Task) (stop : Stop) → IsNext t stop → (notes : Observation) × Shows t notes stop
-stops_are_shown t stop (Now h) = (step_notes t, ShownNow h refl)
-stops_are_shown t stop (Later next h n) = let s = stops_are_shown next stop n in (also (step_notes t) s.0, ShownLater next s.0 h s.1 refl)
+pub stops_are_shown : (t : Task) (stop : Stop) → IsNext t stop → (observation : Observation) × Shows t observation stop
+stops_are_shown t stop (Now h) = (step_observation t, ShownNow h refl)
+stops_are_shown t stop (Later next h n) = let s = stops_are_shown next stop n in (also (step_observation t) s.0, ShownLater next s.0 h s.1 refl)
 
 -- The end
 
@@ -139,10 +139,10 @@ module _ (plan : PlanView) (o : Origin) (ps : List AwaitedChild) (height : ℕ) 
       by_end (Err x) = refl
 
   -- an end shows no more than the fault of a child
-  whole-ended : (notes : Observation) (e : Result Value NodeFault) → Way plan o ps (Ended e) notes → IsAllNoted plan o (also notes (stage_notes plan (path_of o) (Ended e)))
-  whole-ended notes e w = by_end e (w.node ∙ ap (behind notes.items) (ended-node e)) w.fault
+  whole-ended : (observation : Observation) (e : Result Value NodeFault) → Way plan o ps (Ended e) observation → IsAllNoted plan o (also observation (stage_observation plan (path_of o) (Ended e)))
+  whole-ended observation e w = by_end e (w.node ∙ ap (after_items observation.items) (ended-node e)) w.fault
     where
-      by_end : (e : Result Value NodeFault) → opened plan o ≡ record { items = notes.items ++ []; ending = all_ended e } → notes.fault ≡ own_fault_of e → IsAllNoted plan o (also notes (stage_notes plan (path_of o) (Ended e)))
+      by_end : (e : Result Value NodeFault) → opened plan o ≡ record { items = observation.items ++ []; ending = all_ended e } → observation.fault ≡ own_fault_of e → IsAllNoted plan o (also observation (stage_observation plan (path_of o) (Ended e)))
       by_end (Ok v) same fault = record {
         items = ap (λ (n : Node). n.items) same;
         fault = ap (λ (n : Node). own_fault_of n.ending) same ∙ sym fault;
@@ -163,12 +163,12 @@ module _ (plan : PlanView) (o : Origin) (ps : List AwaitedChild) (height : ℕ) 
 
 -- a step of a task of which this is noted after it
 abbrev OnStep : Observation → Task → MoveOrStop → Type 0
-OnStep notes t (Passes next) = IsOnWay notes next
-OnStep notes t (Stops stop) = OnWay notes t stop
+OnStep observation t (Passes next) = IsOnWay observation next
+OnStep observation t (Stops stop) = OnWay observation t stop
 
-ends-whole : (notes : Observation) (t : Task) → IsAllNoted t.plan t.origin notes → (f : Option Fault) (ended : Outcome) → OnStep notes t (ends_unless f t ended)
-ends-whole notes t h None ended = h
-ends-whole notes t h (Some f) ended = h
+ends-whole : (observation : Observation) (t : Task) → IsAllNoted t.plan t.origin observation → (f : Option Fault) (ended : Outcome) → OnStep observation t (ends_unless f t ended)
+ends-whole observation t h None ended = h
+ends-whole observation t h (Some f) ended = h
 
 module _ (t : Task) (function : ℕ) (args : List Value) (at : List ℕ) where
   abbrev own : Origin
@@ -181,15 +181,15 @@ module _ (t : Task) (function : ℕ) (args : List Value) (at : List ℕ) where
   abbrev Going : InstanceState → Observation → Type 0
   Going = Way t.plan own t.trace.handed
 
-  way-of : (stage : InstanceState) (notes : Observation) → IsOnWay notes (with_stage stage) → Going stage notes
-  way-of stage notes h = record { node = h.node; fault = h.fault; joined = h.joined }
+  way-of : (stage : InstanceState) (observation : Observation) → IsOnWay observation (with_stage stage) → Going stage observation
+  way-of stage observation h = record { node = h.node; fault = h.fault; joined = h.joined }
 
-  on-way : (trace : Trace) (waiting : Bool) (stage : InstanceState) (notes : Observation) → Way t.plan own trace.handed stage notes →
-      IsOnWay notes (record t { origin = own; trace = trace; work = Runs stage; waiting = waiting; advanced = true })
-  on-way trace waiting stage notes w = record { node = w.node; fault = w.fault; joined = w.joined }
+  on-way : (trace : Trace) (waiting : Bool) (stage : InstanceState) (observation : Observation) → Way t.plan own trace.handed stage observation →
+      IsOnWay observation (record t { origin = own; trace = trace; work = Runs stage; waiting = waiting; advanced = true })
+  on-way trace waiting stage observation w = record { node = w.node; fault = w.fault; joined = w.joined }
 
-  moves-on : (m : Machine) → IsTask (with_stage (Running m)) → (notes : Observation) → IsOnWay notes (with_stage (Running m)) → OnStep (also notes (step_notes (with_stage (Running m)))) (with_stage (Running m)) (step (with_stage (Running m)))
-  moves-on m is notes h = by_end r.items r.ending (way-moved t.plan own t.trace m notes r.items r.ending fits leaves (way-of (Running m) notes h))
+  moves-on : (m : Machine) → IsTask (with_stage (Running m)) → (observation : Observation) → IsOnWay observation (with_stage (Running m)) → OnStep (also observation (step_observation (with_stage (Running m)))) (with_stage (Running m)) (step (with_stage (Running m)))
+  moves-on m is observation h = by_end r.items r.ending (way-moved t.plan own t.trace m observation r.items r.ending fits leaves (way-of (Running m) observation h))
     where
       r : Run Effect Fault Reached
       r = move t.plan at m
@@ -203,18 +203,18 @@ module _ (t : Task) (function : ℕ) (args : List Value) (at : List ℕ) where
       fits : SoundEnd t.plan ps r.items r.ending
       fits = sound-move t.plan at is.clear ps m sound
 
-      leaves : rest_open t.plan (children_of t.plan own) at ps (Running m) ≡ behind (effect_items r.items) (shown_with t.plan (children_of t.plan own) at ps r.items r.ending)
+      leaves : rest_open t.plan (children_of t.plan own) at ps (Running m) ≡ after_items (effect_items r.items) (shown_with t.plan (children_of t.plan own) at ps r.items r.ending)
       leaves =
           open-move t.plan (children_of t.plan own) at (length m.below) ps sound.0 m (sound-free t.plan ps m sound) (none-known (children_of t.plan own) ps m sound.1.spawned sound.1.faulted)
           (λ e. (sound.1.leaving e).1)
 
       by_end : (ts : List Effect) (e : Result Reached Fault) →
-          let later : Observation = also notes (record { items = effect_items ts; fault = move_fault e; joined = None }) in
+          let later : Observation = also observation (record { items = effect_items ts; fault = move_fault e; joined = None }) in
           Way t.plan own (with_effects ts t.trace).handed (stage_moved ts e) later → OnStep later (with_stage (Running m)) (moved (with_stage (Running m)) ts e)
       by_end ts (Ok (Stands k)) w = by_child (child_in ts)
         where
           later : Observation
-          later = also notes (record { items = effect_items ts; fault = None; joined = None })
+          later = also observation (record { items = effect_items ts; fault = None; joined = None })
 
           by_child : (c : Option Origin) → OnStep later (with_stage (Running m)) (stops_at c (passing (with_stage (Running m)) ts (Runs (stage_after ts k))))
           by_child None = on-way (with_effects ts t.trace) t.waiting (stage_after ts k) later w
@@ -223,61 +223,61 @@ module _ (t : Task) (function : ℕ) (args : List Value) (at : List ℕ) where
       by_end ts (Err f) w = on-way (with_effects ts t.trace) t.waiting (Ended (Err (Own f))) _ w
 
   -- a wait shows nothing
-  waits-on : (stage : InstanceState) (notes : Observation) → IsOnWay notes (with_stage stage) → IsOnWay (also notes no_notes) (record t { origin = own; work = Runs stage; waiting = true; advanced = true })
-  waits-on stage notes h = on-way t.trace true stage (also notes no_notes) (subst (Going stage) (sym (also-nothing notes)) (way-of stage notes h))
+  waits-on : (stage : InstanceState) (observation : Observation) → IsOnWay observation (with_stage stage) → IsOnWay (also observation no_observation) (record t { origin = own; work = Runs stage; waiting = true; advanced = true })
+  waits-on stage observation h = on-way t.trace true stage (also observation no_observation) (subst (Going stage) (sym (also-nothing observation)) (way-of stage observation h))
 
-  ends-so : (e : Result Value NodeFault) (height : ℕ) → AreDestinations height t.trace.handed → (notes : Observation) → IsOnWay notes (with_stage (Ended e)) → IsAllNoted t.plan own (also notes (stage_notes t.plan at (Ended e)))
-  ends-so e height places notes h = whole-ended t.plan own t.trace.handed height places notes e (way-of (Ended e) notes h)
+  ends-so : (e : Result Value NodeFault) (height : ℕ) → AreDestinations height t.trace.handed → (observation : Observation) → IsOnWay observation (with_stage (Ended e)) → IsAllNoted t.plan own (also observation (stage_observation t.plan at (Ended e)))
+  ends-so e height places observation h = whole-ended t.plan own t.trace.handed height places observation e (way-of (Ended e) observation h)
 
-  stage-on : (stage : InstanceState) → IsTask (with_stage stage) → (notes : Observation) → IsOnWay notes (with_stage stage) → OnStep (also notes (step_notes (with_stage stage))) (with_stage stage) (step (with_stage stage))
-  stage-on (Running m) is notes h = moves-on m is notes h
-  stage-on (AtSync m) is notes h = waits-on (AtSync m) notes h
-  stage-on (AtLoop m) is notes h = waits-on (AtLoop m) notes h
-  stage-on (Ended (Ok v)) is notes h = ends-whole _ (with_stage (Ended (Ok v))) (ends-so (Ok v) 0 (halves-places t.trace.handed is.work.2) notes h) t.trace.fault _
-  stage-on (Ended (Err (Own f))) is notes h = by_parts t.trace.handed
+  stage-on : (stage : InstanceState) → IsTask (with_stage stage) → (observation : Observation) → IsOnWay observation (with_stage stage) → OnStep (also observation (step_observation (with_stage stage))) (with_stage stage) (step (with_stage stage))
+  stage-on (Running m) is observation h = moves-on m is observation h
+  stage-on (AtSync m) is observation h = waits-on (AtSync m) observation h
+  stage-on (AtLoop m) is observation h = waits-on (AtLoop m) observation h
+  stage-on (Ended (Ok v)) is observation h = ends-whole _ (with_stage (Ended (Ok v))) (ends-so (Ok v) 0 (halves-places t.trace.handed is.work.2) observation h) t.trace.fault _
+  stage-on (Ended (Err (Own f))) is observation h = by_parts t.trace.handed
     where
-      by_parts : (qs : List AwaitedChild) → OnStep (also notes no_notes) (with_stage (Ended (Err (Own f)))) (faults_behind qs (with_stage (Ended (Err (Own f)))) f)
-      by_parts [] = ends-whole _ (with_stage (Ended (Err (Own f)))) (ends-so (Err (Own f)) is.work.2.0 is.work.2.1 notes h) t.trace.fault _
-      by_parts (q ∷ qs) = waits-on (Ended (Err (Own f))) notes h
-  stage-on (Ended (Err (ChildFaulted f))) is notes h = ends-whole _ (with_stage (Ended (Err (ChildFaulted f)))) (ends-so (Err (ChildFaulted f)) 0 (subst (AreDestinations 0) (sym is.work.2) tt) notes h) t.trace.fault _
+      by_parts : (qs : List AwaitedChild) → OnStep (also observation no_observation) (with_stage (Ended (Err (Own f)))) (faults_after qs (with_stage (Ended (Err (Own f)))) f)
+      by_parts [] = ends-whole _ (with_stage (Ended (Err (Own f)))) (ends-so (Err (Own f)) is.work.2.0 is.work.2.1 observation h) t.trace.fault _
+      by_parts (q ∷ qs) = waits-on (Ended (Err (Own f))) observation h
+  stage-on (Ended (Err (ChildFaulted f))) is observation h = ends-whole _ (with_stage (Ended (Err (ChildFaulted f)))) (ends-so (Err (ChildFaulted f)) 0 (subst (AreDestinations 0) (sym is.work.2) tt) observation h) t.trace.fault _
 
-step-on : (t : Task) → IsTask t → IsInstance t.origin → (notes : Observation) → IsOnWay notes t → OnStep (also notes (step_notes t)) t (step t)
-step-on t is inst notes h = by_origin t.origin is inst h
+step-on : (t : Task) → IsTask t → IsInstance t.origin → (observation : Observation) → IsOnWay observation t → OnStep (also observation (step_observation t)) t (step t)
+step-on t is inst observation h = by_origin t.origin is inst h
   where
-    by_origin : (o : Origin) → IsTask (record t { origin = o }) → IsInstance o → IsOnWay notes (record t { origin = o }) → OnStep (also notes (step_notes (record t { origin = o }))) (record t { origin = o }) (step (record t { origin = o }))
+    by_origin : (o : Origin) → IsTask (record t { origin = o }) → IsInstance o → IsOnWay observation (record t { origin = o }) → OnStep (also observation (step_observation (record t { origin = o }))) (record t { origin = o }) (step (record t { origin = o }))
     by_origin (Loop function rest first at range) is inst h = absurd inst
     by_origin (Instance function args at) is inst h = by_work t.work is h
       where
-        by_work : (work : Work) → IsTask (record t { origin = Instance function args at; work = work }) → IsOnWay notes (record t { origin = Instance function args at; work = work }) →
-            let u : Task = record t { origin = Instance function args at; work = work } in OnStep (also notes (step_notes u)) u (step u)
+        by_work : (work : Work) → IsTask (record t { origin = Instance function args at; work = work }) → IsOnWay observation (record t { origin = Instance function args at; work = work }) →
+            let u : Task = record t { origin = Instance function args at; work = work } in OnStep (also observation (step_observation u)) u (step u)
         by_work (Splits left) is h = absurd is.work.0
-        by_work (Runs stage) is h = stage-on t function args at stage is notes h
+        by_work (Runs stage) is h = stage-on t function args at stage is observation h
         by_work (Over v true) is h = absurd is.work.0
         by_work (Over v false) is h = absurd is.work.0
 
 -- Up to the next stop
 
-on-further : (notes : Observation) (t next : Task) (stop : Stop) → IsOf t next → OnWay notes next stop → OnWay notes t stop
-on-further notes t next (Spawn child rest) of h = h
-on-further notes t next (Wait rest) of h = h
-on-further notes t next (End out ended) of h =
-    subst (λ (p : PlanView). IsAllNoted p t.origin notes) of.0 (subst (λ (o : Origin). IsAllNoted next.plan o notes) of.1 h)
+on-further : (observation : Observation) (t next : Task) (stop : Stop) → IsOf t next → OnWay observation next stop → OnWay observation t stop
+on-further observation t next (Spawn child rest) of h = h
+on-further observation t next (Wait rest) of h = h
+on-further observation t next (End out ended) of h =
+    subst (λ (p : PlanView). IsAllNoted p t.origin observation) of.0 (subst (λ (o : Origin). IsAllNoted next.plan o observation) of.1 h)
 
-pub notes_go_on : (t : Task) (notes later : Observation) (stop : Stop) → IsTask t → IsInstance t.origin → IsOnWay notes t → Shows t later stop → OnWay (also notes later) t stop
-notes_go_on t notes later stop is inst h (ShownNow e same) =
-    subst (λ (l : Observation). OnWay (also notes l) t stop) (sym same) (subst (OnStep (also notes (step_notes t)) t) e (step-on t is inst notes h))
-notes_go_on t notes later stop is inst h (ShownLater next more e shows same) =
+pub observation_goes_on : (t : Task) (observation later : Observation) (stop : Stop) → IsTask t → IsInstance t.origin → IsOnWay observation t → Shows t later stop → OnWay (also observation later) t stop
+observation_goes_on t observation later stop is inst h (ShownNow e same) =
+    subst (λ (l : Observation). OnWay (also observation l) t stop) (sym same) (subst (OnStep (also observation (step_observation t)) t) e (step-on t is inst observation h))
+observation_goes_on t observation later stop is inst h (ShownLater next more e shows same) =
     let of : IsOf t next = subst (KeepsStep t) e (step-keeps t) in
     let sound : IsTask next = subst (IsSoundStep t) e (steps_are_sound t is) in
-    let on : IsOnWay (also notes (step_notes t)) next = subst (OnStep (also notes (step_notes t)) t) e (step-on t is inst notes h) in
-    subst (λ (l : Observation). OnWay l t stop) (also-assoc notes (step_notes t) more ∙ ap (also notes) (sym same))
-    (on-further (also (also notes (step_notes t)) more) t next stop of (notes_go_on next (also notes (step_notes t)) more stop sound (subst IsInstance (sym of.1) inst) on shows))
+    let on : IsOnWay (also observation (step_observation t)) next = subst (OnStep (also observation (step_observation t)) t) e (step-on t is inst observation h) in
+    subst (λ (l : Observation). OnWay l t stop) (also-assoc observation (step_observation t) more ∙ ap (also observation) (sym same))
+    (on-further (also (also observation (step_observation t)) more) t next stop of (observation_goes_on next (also observation (step_observation t)) more stop sound (subst IsInstance (sym of.1) inst) on shows))
 
 -- The beginning
 
-pub notes_begin : (plan : PlanView) (o : Origin) → IsInstance o → IsOnWay no_notes (start plan o)
-notes_begin plan (Loop function rest first path range) inst = absurd inst
-notes_begin plan (Instance function args path) inst = record {
+pub observation_begins : (plan : PlanView) (o : Origin) → IsInstance o → IsOnWay no_observation (start plan o)
+observation_begins plan (Loop function rest first path range) inst = absurd inst
+observation_begins plan (Instance function args path) inst = record {
   node =
       begun-whole plan function args path
       ∙ ap (λ (r : Run Item NodeFault Value). r then λ v. done (v ∷ [])) (sym (halves-rest plan (children_of plan (Instance function args path)) path [] tt (begun plan function args)));

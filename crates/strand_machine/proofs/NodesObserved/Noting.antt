@@ -4,12 +4,12 @@ use Rattle.serial_meaning.specs.declared.event.Event.{Event}
 use Rattle.serial_meaning.specs.declared.event.Fault.{Fault}
 use Rattle.strand_meaning.specs.Laws.{MovesFall, StopsAreSound}
 use Rattle.strand_meaning.specs.Observation as meaning
-use Rattle.strand_meaning.specs.Observation.{newest, also, no_notes, step_notes, Shows, Now, Later}
+use Rattle.strand_meaning.specs.Observation.{newest, also, no_observation, step_observation, Shows, Now, Later}
 use Rattle.strand_meaning.specs.Sound.{IsTask}
 use Rattle.strand_meaning.specs.Strands.{own_events, events_at}
 use Rattle.strand_meaning.specs.Task.{Stop}
-use Rattle.strand_meaning.proofs.NodesNoted.Noted.{also-assoc}
-use Rattle.strand_meaning.proofs.NodesNoted.NoteWords.{events_at-append}
+use Rattle.strand_meaning.proofs.NodesObserved.Noted.{also-assoc}
+use Rattle.strand_meaning.proofs.NodesObserved.NoteWords.{events_at-append}
 use Rattle.strand_machine.specs.Eyes.{eye_after}
 use Rattle.strand_machine.specs.Noted.{IsNoted, with_step}
 use Rattle.strand_machine.specs.Made.{LeadsTo}
@@ -21,30 +21,30 @@ use Rattle.strand_machine.specs.declared.stop.MoveOrStop.{MoveOrStop as MadeStep
 use Rattle.strand_machine.specs.declared.stop.MoveOrStop.TheVariants as step-in
 use Rattle.strand_machine.specs.declared.stop.Stop.{Stop as MadeStop}
 use Rattle.strand_machine.proofs.NextStops.Advancing.{leads-start, leads-on, stops-there}
-use Rattle.strand_machine.proofs.NodesNoted.Eyes.{looks-append, own-append}
+use Rattle.strand_machine.proofs.NodesObserved.Eyes.{looks-append, own-append}
 
 newest-none : (f : Option Fault) → newest None f ≡ f
 newest-none None = refl
 newest-none (Some f) = refl
 
-also-nothing : (later : meaning.Observation) → later ≡ also no_notes later
+also-nothing : (later : meaning.Observation) → later ≡ also no_observation later
 also-nothing later =
     ap (λ (f : Option Fault). record later { fault = f }) (sym (newest-none later.fault)) ∙ ap (λ (f : Option Fault). record later { fault = newest None later.fault; joined = f }) (sym (newest-none later.joined))
 
 -- What comes next of a task comes next of the first one, after what is noted, of which the notes have what is of the pedigree j.
-pub record LeadsNoted (first : TaskView) (j : List ℕ) (before : Eye) (now : TaskView) (notes : Observed) : Type 0 where
+pub record LeadsNoted (first : TaskView) (j : List ℕ) (before : Eye) (now : TaskView) (observation : Observed) : Type 0 where
   pub leads : LeadsTo first now
   pub front : meaning.Observation
   pub shows : (later : meaning.Observation) (stop : Stop) → Shows now.task later stop → Shows first.task (also front later) stop
-  pub eye : notes.eye ≡ eye_after j before front.items
-  pub events : notes.events ≡ events_at j (own_events front.items)
-  pub fault : notes.fault ≡ front.fault
-  pub joined : notes.joined ≡ front.joined
+  pub eye : observation.eye ≡ eye_after j before front.items
+  pub events : observation.events ≡ events_at j (own_events front.items)
+  pub fault : observation.fault ≡ front.fault
+  pub joined : observation.joined ≡ front.joined
 
-pub noted-start : (t : TaskView) (j : List ℕ) (eye : Eye) (notes : Observed) → t.cut ≡ None → notes ≡ record { eye = eye; events = []; fault = None; joined = None } → LeadsNoted t j eye t notes
-noted-start t j eye notes goes h = record {
+pub noted-start : (t : TaskView) (j : List ℕ) (eye : Eye) (observation : Observed) → t.cut ≡ None → observation ≡ record { eye = eye; events = []; fault = None; joined = None } → LeadsNoted t j eye t observation
+noted-start t j eye observation goes h = record {
   leads = leads-start t goes;
-  front = no_notes;
+  front = no_observation;
   shows = λ later stop s. subst (λ (n : meaning.Observation). Shows t.task n stop) (also-nothing later) s;
   eye = ap (λ (n : Observed). n.eye) h;
   events = ap (λ (n : Observed). n.events) h;
@@ -52,9 +52,9 @@ noted-start t j eye notes goes h = record {
   joined = ap (λ (n : Observed). n.joined) h;
 }
 
-module _ (first : TaskView) (j : List ℕ) (eye : Eye) (now : TaskView) (notes after : Observed) (h : LeadsNoted first j eye now notes) (same : after ≡ with_step j (step_notes now.task) notes) where
+module _ (first : TaskView) (j : List ℕ) (eye : Eye) (now : TaskView) (observation after : Observed) (h : LeadsNoted first j eye now observation) (same : after ≡ with_step j (step_observation now.task) observation) where
   abbrev step-shows : meaning.Observation
-  step-shows = step_notes now.task
+  step-shows = step_observation now.task
 
   more-seen : after.eye ≡ eye_after j eye (h.front.items ++ step-shows.items)
   more-seen = ap (λ (n : Observed). n.eye) same ∙ ap (λ (e : Eye). eye_after j e step-shows.items) h.eye ∙ sym (looks-append j eye h.front.items step-shows.items)
@@ -85,7 +85,7 @@ module _ (first : TaskView) (j : List ℕ) (eye : Eye) (now : TaskView) (notes a
       let k : IsStep now (step-in.Stops stop) = subst (IsStep now) e g in
       record {
         stop = stops-there sounds first now s stop sound h.leads g e;
-        notes = also h.front step-shows;
+        observation = also h.front step-shows;
         shows = h.shows step-shows (stop_of stop) (Now k.is refl);
         eye = more-seen;
         events = more-events;

@@ -1,7 +1,7 @@
 use Rattle.std.proofs.Common.{◌≡◌, ℕ, ◌-◌, ◌++◌, ◌∷◌, [], List, Some, ap, sym, ◌∙◌, arith}
 use Rattle.strand_machine.specs.Eyes.{ahead_of}
-use Rattle.strand_machine.proofs.NodesNoted.Eyes.{ahead-other, ahead-same, rises-within}
-use Rattle.strand_machine.proofs.eye.first_of.Goals as goal
+use Rattle.strand_machine.proofs.NodesObserved.Eyes.{ahead-other, ahead-same, rises-within}
+use Rattle.strand_machine.proofs.eye.rises_to_first.Goals as goal
 
 pub returns-then-same : goal.returns-then-same
 returns-then-same c =

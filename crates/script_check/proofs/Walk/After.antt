@@ -20,13 +20,13 @@ turned true false c = refl
 turned false true c = refl
 turned false false c = refl
 
-pub behind_first : (functions : List Function) (s : Stmt) (ss : List Stmt) (state : WalkState) → state_after_all functions ss (state_after functions s state) ≡ state_after_all functions (s ∷ ss) state
-behind_first functions s ss state = ap (λ b. record (state_after_all functions (s ∷ ss) state) { keeps = b }) (turned (keeps_all ss) (keeps s) state.keeps)
+pub after_first : (functions : List Function) (s : Stmt) (ss : List Stmt) (state : WalkState) → state_after_all functions ss (state_after functions s state) ≡ state_after_all functions (s ∷ ss) state
+after_first functions s ss state = ap (λ b. record (state_after_all functions (s ∷ ss) state) { keeps = b }) (turned (keeps_all ss) (keeps s) state.keeps)
 
-pub one_behind : (functions : List Function) (ss : List Stmt) (i : ℕ) (s : Stmt) (state next : WalkState) → i < length ss → s ≡ get_or ss i s → next ≡ state_after functions s state →
+pub one_after : (functions : List Function) (ss : List Stmt) (i : ℕ) (s : Stmt) (state next : WalkState) → i < length ss → s ≡ get_or ss i s → next ≡ state_after functions s state →
     state_after_all functions (drop (i + 1) ss) next ≡ state_after_all functions (drop i ss) state
-one_behind functions ss i s state next h is e =
-    ap (state_after_all functions (drop (i + 1) ss)) e ∙ behind_first functions s (drop (i + 1) ss) state ∙ ap (λ l. state_after_all functions l state) (sym (at_index ss i s h is))
+one_after functions ss i s state next h is e =
+    ap (state_after_all functions (drop (i + 1) ss)) e ∙ after_first functions s (drop (i + 1) ss) state ∙ ap (λ l. state_after_all functions l state) (sym (at_index ss i s h is))
 
 pub one_judged : (functions : List Function) (in_block : Bool) (ss : List Stmt) (i : ℕ) (s : Stmt) (state next : WalkState) (before now : Option Violation) →
     i < length ss → s ≡ get_or ss i s → next ≡ state_after functions s state →
@@ -120,7 +120,7 @@ module _ (functions : List Function) (a : List Stmt) where
   scope_state state first last f l = l ∙ ap (λ (t : WalkState). record t { names = nobody; keeps = false }) f
 
 -- a statement of which this is told
-pub behind_by : (functions : List Function) (s : Stmt) (j : Judged) (kept : Bool) (state : WalkState) → judge s ≡ j → keeps s ≡ kept →
+pub after_by : (functions : List Function) (s : Stmt) (j : Judged) (kept : Bool) (state : WalkState) → judge s ≡ j → keeps s ≡ kept →
     state_after functions s state ≡ record { known = j.known functions state.known; names = j.after state.names; keeps = kept && state.keeps; before = state.before }
-behind_by functions s j kept state e k i =
+after_by functions s j kept state e k i =
     record { known = (e i).known functions state.known; names = (e i).after state.names; keeps = k i && state.keeps; before = state.before }
